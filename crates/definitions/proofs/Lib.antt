@@ -1,0 +1,7 @@
+pub mod Ring
+pub mod Members
+pub mod SortedLemmas
+pub mod Settled
+pub mod Soundness
+pub mod Bondareva
+pub mod Parts

@@ -1,0 +1,147 @@
+-- A coalition with one more player, and sums over parts of a coalition.
+use Rattle.std.proofs.Common.{◌≡◌, ◌≢◌, ◌⊎◌, ℕ, zero, suc, ◌+◌, ◌-◌, ◌*◌, ◌/◌, ◌%◌, ◌^◌, ◌<◌, ◌≤◌, Bool, true, false, not, cond, ℤ, pos, ◌+ℤ◌, ◌-ℤ◌, ◌≤ℤ◌, refl, sym, ap, ◌∙◌, inl, inr, arith, nat_eq, if◌then◌else◌}
+use Rattle.std.proofs.lemmas.Bool.{false≢true}
+use Rattle.std.proofs.lemmas.Bool.Decides.{nat_tests}
+use Rattle.std.proofs.lemmas.Nat.Bits.{bit_at-suc, bit_at_lowest, bit_at-lt, bit_at_ones_above, bit_at_above}
+use Rattle.std.proofs.Math.Nat.{pow-suc, mul_comm}
+use Rattle.std.specs.Int.{bit_at}
+use Rattle.definitions.proofs.Ring.{linear}
+use Rattle.definitions.proofs.Members.{has_player-singleton, has_player-singleton_other, has_player-grand_coalition, has_player-complement, sum_below-same, sum_below-add, sum_over-singleton}
+use Rattle.definitions.specs.Sums.{sum_below}
+use Rattle.definitions.specs.Coalitions.{has_player, singleton, grand_coalition, sum_over}
+
+pub same_or_other : (i j : ℕ) → (i ≡ j) ⊎ (i ≢ j)
+same_or_other i j = decide (nat_eq i j) refl
+  where
+    decide : (b : Bool) → nat_eq i j ≡ b → (i ≡ j) ⊎ (i ≢ j)
+    decide true e = inl (same i j e)
+      where
+        same : (i j : ℕ) → nat_eq i j ≡ true → i ≡ j
+        same i j e = grind (arith, nat_tests)
+    decide false e = inr (other i j e)
+      where
+        other : (i j : ℕ) → nat_eq i j ≡ false → i ≢ j
+        other i j e = grind (arith, nat_tests)
+
+-- ---- one more player
+
+double : (n : ℕ) → 2 ^ suc n ≡ 2 * 2 ^ n
+double n = pow-suc 2 n ∙ mul_comm (2 ^ n) 2
+
+bit_more_same : (s j : ℕ) → bit_at s j ≡ 0 → bit_at (s + 2 ^ j) j ≡ 1
+bit_more_same s zero h = omega (arith, bit_at_lowest s, bit_at_lowest (s + 1))
+bit_more_same s (suc j) h =
+    let p = double j in
+    let half : (s + 2 ^ suc j) / 2 ≡ s / 2 + 2 ^ j = omega arith in
+    let ih = bit_more_same (s / 2) j (sym (bit_at-suc s j) ∙ h) in
+    bit_at-suc (s + 2 ^ suc j) j ∙ ap (λ (m : ℕ). bit_at m j) half ∙ ih
+
+bit_more_other : (s j i : ℕ) → bit_at s j ≡ 0 → i ≢ j → bit_at (s + 2 ^ j) i ≡ bit_at s i
+bit_more_other s zero zero h ne = absurd (ne refl)
+bit_more_other s zero (suc i) h ne =
+    let low = bit_at_lowest s in
+    let half : (s + 1) / 2 ≡ s / 2 = omega arith in
+    bit_at-suc (s + 1) i ∙ ap (λ (m : ℕ). bit_at m i) half ∙ sym (bit_at-suc s i)
+bit_more_other s (suc j) zero h ne =
+    let p = double j in omega (arith, bit_at_lowest s, bit_at_lowest (s + 2 ^ suc j))
+bit_more_other s (suc j) (suc i) h ne =
+    let p = double j in
+    let half : (s + 2 ^ suc j) / 2 ≡ s / 2 + 2 ^ j = omega arith in
+    let ih = bit_more_other (s / 2) j i (sym (bit_at-suc s j) ∙ h) (λ e. ne (ap suc e)) in
+    bit_at-suc (s + 2 ^ suc j) i ∙ ap (λ (m : ℕ). bit_at m i) half ∙ ih ∙ sym (bit_at-suc s i)
+
+bit_zero : (s i : ℕ) → has_player s i ≡ false → bit_at s i ≡ 0
+bit_zero s i e = small (bit_at s i) (bit_at-lt s i) e
+  where
+    small : (b : ℕ) → b < 2 → nat_eq b 1 ≡ false → b ≡ 0
+    small b lt e = grind (arith, nat_tests)
+
+pub has_player-more_same : (s j : ℕ) → has_player s j ≡ false → has_player (s + 2 ^ j) j ≡ true
+has_player-more_same s j h = is_one (bit_at (s + 2 ^ j) j) (bit_more_same s j (bit_zero s j h))
+  where
+    is_one : (b : ℕ) → b ≡ 1 → nat_eq b 1 ≡ true
+    is_one b e = grind (arith, nat_tests)
+
+pub has_player-more_other : (s j i : ℕ) → has_player s j ≡ false → i ≢ j → has_player (s + 2 ^ j) i ≡ has_player s i
+has_player-more_other s j i h ne = ap (λ (b : ℕ). nat_eq b 1) (bit_more_other s j i (bit_zero s j h) ne)
+
+bit_more_lt : (n s j : ℕ) → s < 2 ^ n → j < n → bit_at s j ≡ 0 → s + 2 ^ j < 2 ^ n
+bit_more_lt zero s j lt k h = absurd (omega arith)
+bit_more_lt (suc n) s zero lt k h = let p = double n in omega (arith, bit_at_lowest s)
+bit_more_lt (suc n) s (suc j) lt k h =
+    let p = double n in
+    let q = double j in
+    let ih = bit_more_lt n (s / 2) j (omega arith) (omega arith) (sym (bit_at-suc s j) ∙ h) in
+    omega (arith, ih)
+
+pub more-lt : (n s j : ℕ) → s < 2 ^ n → j < n → has_player s j ≡ false → s + 2 ^ j < 2 ^ n
+more-lt n s j lt k h = bit_more_lt n s j lt k (bit_zero s j h)
+
+-- nobody past the last player
+pub has_player-past : (n s i : ℕ) → s < 2 ^ n → n ≤ i → has_player s i ≡ false
+has_player-past n s i h k = is_zero (bit_at s i) (bit_at_above s n i h k)
+  where
+    is_zero : (b : ℕ) → b ≡ 0 → nat_eq b 1 ≡ false
+    is_zero b e = grind (arith, nat_tests)
+
+-- all but one
+pub others_has : (n k i : ℕ) → singleton k < 2 ^ n → i < n → i ≢ k → has_player (grand_coalition n - singleton k) i ≡ true
+others_has n k i lt h ne = has_player-complement n (singleton k) i lt h ∙ ap not (has_player-singleton_other k i ne)
+
+pub others_lacks : (n k : ℕ) → singleton k < 2 ^ n → k < n → has_player (grand_coalition n - singleton k) k ≡ false
+others_lacks n k lt h = has_player-complement n (singleton k) k lt h ∙ ap not (has_player-singleton k)
+
+-- ---- sums
+
+pub sum_below-le : (n : ℕ) (f g : ℕ → ℤ) → ((i : ℕ) → i < n → f i ≤ℤ g i) → sum_below n f ≤ℤ sum_below n g
+sum_below-le zero f g h = omega (arith, linear)
+sum_below-le (suc n) f g h =
+    omega (arith, linear, sum_below-le n f g (λ i k. h i (omega arith)), h n (omega arith))
+
+-- the number of player i counts where it is a member
+abbrev pub part : (ℕ → ℤ) → ℕ → ℕ → ℤ
+part a s i = if has_player s i then a i else pos 0
+
+pub sum_over-more : (n s j : ℕ) (a : ℕ → ℤ) → j < n → has_player s j ≡ false → sum_over n a (s + 2 ^ j) ≡ sum_over n a s +ℤ a j
+sum_over-more n s j a k h =
+    sum_below-same n (part a (s + 2 ^ j)) (λ i. part a s i +ℤ part a (singleton j) i) here
+    ∙ sum_below-add n (part a s) (part a (singleton j))
+    ∙ ap (λ (z : ℤ). sum_over n a s +ℤ z) (sum_over-singleton n j a k)
+  where
+    new : (i : ℕ) → i ≡ j → part a (s + 2 ^ j) i ≡ part a s i +ℤ part a (singleton j) i
+    new i e = rw e (rw (has_player-more_same s j h, h, has_player-singleton j) (omega (arith, linear)))
+
+    old : (i : ℕ) → i ≢ j → part a (s + 2 ^ j) i ≡ part a s i +ℤ part a (singleton j) i
+    old i ne = rw (has_player-more_other s j i h ne, has_player-singleton_other j i ne) (omega (arith, linear))
+
+    here : (i : ℕ) → i < n → part a (s + 2 ^ j) i ≡ part a s i +ℤ part a (singleton j) i
+    here i lt = elim (same_or_other i j) [ inl e ↦ new i e | inr ne ↦ old i ne ]
+
+-- where no number is positive and s lies within t, t has no more than s
+part_le : (b c : Bool) (z : ℤ) → z ≤ℤ pos 0 → (b ≡ true → c ≡ true) → cond c z (pos 0) ≤ℤ cond b z (pos 0)
+part_le true true z low h = omega (arith, linear)
+part_le true false z low h = absurd (false≢true (h refl))
+part_le false true z low h = low
+part_le false false z low h = omega (arith, linear)
+
+pub sum_over-within : (n s t : ℕ) (a : ℕ → ℤ) → ((i : ℕ) → i < n → a i ≤ℤ pos 0) → ((i : ℕ) → i < n → has_player s i ≡ true → has_player t i ≡ true) → sum_over n a t ≤ℤ sum_over n a s
+sum_over-within n s t a low h =
+    sum_below-le n (part a t) (part a s) (λ i k. part_le (has_player s i) (has_player t i) (a i) (low i k) (h i k))
+
+-- the same beside a player of t that s lacks
+pub sum_over-within_but : (n s t j : ℕ) (a : ℕ → ℤ) → ((i : ℕ) → i < n → a i ≤ℤ pos 0) → ((i : ℕ) → i < n → has_player s i ≡ true → has_player t i ≡ true) → j < n → has_player s j ≡ false → has_player t j ≡ true → sum_over n a t ≤ℤ (sum_over n a s +ℤ a j)
+sum_over-within_but n s t j a low h k lacks has =
+    let le = sum_below-le n (part a t) (λ i. part a s i +ℤ part a (singleton j) i) here in
+    let both = sum_below-add n (part a s) (part a (singleton j)) in
+    omega (arith, linear, le, both, sum_over-singleton n j a k)
+  where
+    missing : (i : ℕ) → i ≡ j → part a t i ≤ℤ (part a s i +ℤ part a (singleton j) i)
+    missing i e = rw e (rw (lacks, has_player-singleton j, has) (omega (arith, linear)))
+
+    kept : (i : ℕ) → i < n → i ≢ j → part a t i ≤ℤ (part a s i +ℤ part a (singleton j) i)
+    kept i lt ne =
+        let le = part_le (has_player s i) (has_player t i) (a i) (low i lt) (h i lt) in
+        rw (has_player-singleton_other j i ne) (omega (arith, linear, le))
+
+    here : (i : ℕ) → i < n → part a t i ≤ℤ (part a s i +ℤ part a (singleton j) i)
+    here i lt = elim (same_or_other i j) [ inl e ↦ missing i e | inr ne ↦ kept i lt ne ]

@@ -1,0 +1,125 @@
+-- Certificates of the nucleolus (Kohlberg 1971, as a chain of levels).
+use Rattle.std.specs.Prelude.{◌≡◌, ◌≢◌, ◌⊎◌, ℕ, ◌+◌, ◌-◌, ◌^◌, ◌<◌, ◌≤◌, Bool, ◌&&◌, ◌||◌, not, IsTrue, nat_eq, List, [], ◌∷◌, ◌++◌, ℤ, pos, ◌+ℤ◌, ◌*ℤ◌, ◌≤ℤ◌, int_le, if◌then◌else◌, length, unsigned_abs}
+use Rattle.std.specs.List.{list_any, AllByRecursion}
+use Rattle.definitions.specs.Coalitions.{has_player, singleton, grand_coalition, weight_at, splits}
+use Rattle.definitions.specs.Games.{Game, Allocation, share, excess, InFamily}
+use Rattle.definitions.specs.declared.Family.{Family}
+use Rattle.definitions.specs.declared.Family.TheVariants.{Imputations}
+use Rattle.definitions.specs.declared.Mode.{Mode}
+use Rattle.definitions.specs.declared.Mode.TheVariants.{Players, Span}
+
+-- an excess, as a fraction, and weights on coalitions, on coalitions of earlier levels, and on players at their bound
+pub record Level : Type 0 where
+  pub excess_num : ℤ
+  pub excess_den : ℤ
+  pub coalitions : List (ℕ × ℤ)
+  pub earlier : List (ℕ × ℤ)
+  pub bounds : List (ℕ × ℤ)
+  pub total : ℤ
+
+-- ---- what levels fix
+
+-- s stands in the coalitions of some level
+abbrev pub is_listed : List Level → ℕ → Bool
+is_listed levels s = list_any (λ l. list_any (λ c. nat_eq c.0 s) l.coalitions) levels
+
+-- player i has a weight of at least 1 in the bounds of some level
+abbrev pub has_bound : List Level → ℕ → Bool
+has_bound levels i = list_any (λ l. list_any (λ b. nat_eq b.0 i && int_le (pos 1) b.1) l.bounds) levels
+
+-- mode players: i alone, all but i, or its bound fixes player i
+abbrev pub is_fixed : ℕ → List Level → ℕ → Bool
+is_fixed n levels i =
+    is_listed levels (singleton i) || is_listed levels (grand_coalition n - singleton i) || has_bound levels i
+
+abbrev pub is_free : ℕ → List Level → ℕ → Bool
+is_free n levels i = not (is_fixed n levels i)
+
+-- mode span: the vector of s is among the fixed ones
+abbrev pub IsFixedVector : ℕ → List Level → ℕ → Type 0
+IsFixedVector n levels s =
+    (s ≡ grand_coalition n) ⊎ (IsTrue (is_listed levels s) ⊎ ((i : ℕ) × (i < n) × (s ≡ singleton i) × IsTrue (has_bound levels i)))
+
+-- a nonzero multiple of the vector of s is an integer sum of vectors that the fact holds of
+abbrev pub InSpan : ℕ → (ℕ → Type 0) → ℕ → Type 0
+InSpan n Fixed s =
+    (m : ℤ) × (m ≢ pos 0) × (ps : List (ℕ × ℤ)) × AllByRecursion (λ p. Fixed p.0) ps × ((i : ℕ) → i < n → weight_at ps i ≡ (if has_player s i then m else pos 0))
+
+-- s is outside what the levels fix
+abbrev pub IsOutside : Mode → ℕ → List Level → ℕ → Type 0
+IsOutside Players n levels s = IsTrue (splits n (is_free n levels) s)
+IsOutside Span n levels s = (0 < s) × (s < grand_coalition n) × ¬ InSpan n (IsFixedVector n levels) s
+
+-- the levels fix everything
+abbrev pub IsAllFixed : Mode → ℕ → List Level → Type 0
+IsAllFixed Players n levels =
+    (i j : ℕ) → i < n → j < n → IsTrue (is_free n levels i) → IsTrue (is_free n levels j) → i ≡ j
+IsAllFixed Span n levels = (i : ℕ) → i < n → InSpan n (IsFixedVector n levels) (singleton i)
+
+-- ---- the form
+
+-- the keys ascend strictly, from low on
+abbrev pub Ascends : ℕ → List (ℕ × ℤ) → Type 0
+Ascends low [] = Unit {0}
+Ascends low (p ∷ ps) = (low ≤ p.0) × Ascends (p.0 + 1) ps
+
+abbrev pub IsSmall : ℤ → Type 0
+IsSmall z = unsigned_abs z < 2 ^ 63
+
+-- the form of a level behind the levels in front of it
+pub record LevelForm (n : ℕ) (front : List Level) (l : Level) : Type 0 where
+  pub fraction : pos 1 ≤ℤ l.excess_den
+  pub some : 1 ≤ length l.coalitions
+  pub few : length l.coalitions ≤ 65536
+  pub few_earlier : length l.earlier ≤ 65536
+  pub proper : AllByRecursion (λ c. (0 < c.0) × (c.0 < grand_coalition n)) l.coalitions
+  pub listed : AllByRecursion (λ c. IsTrue (is_listed front c.0)) l.earlier
+  pub players : AllByRecursion (λ b. b.0 < n) l.bounds
+  pub ascend : Ascends 0 l.coalitions
+  pub earlier_ascend : Ascends 0 l.earlier
+  pub bounds_ascend : Ascends 0 l.bounds
+  pub small : AllByRecursion (λ p. IsSmall p.1) (l.coalitions ++ l.earlier ++ l.bounds)
+  pub total_small : IsSmall l.total
+
+abbrev pub LevelsForm : ℕ → List Level → List Level → Type 0
+LevelsForm n front [] = Unit {0}
+LevelsForm n front (l ∷ levels) = LevelForm n front l × LevelsForm n (front ++ l ∷ []) levels
+
+-- the form of a certificate for n players
+pub record HasForm (mode : Mode) (n : ℕ) (levels : List Level) : Type 0 where
+  pub players : (mode ≡ Players) ⊎ (n ≤ 16)
+  pub few : length levels + 1 ≤ n
+  pub each : LevelsForm n [] levels
+
+-- ---- the conditions
+
+-- the weights of the pairs of player i, added
+abbrev pub number_at : List (ℕ × ℤ) → ℕ → ℤ
+number_at [] i = pos 0
+number_at (p ∷ ps) i = (if nat_eq p.0 i then p.1 else pos 0) +ℤ number_at ps i
+
+-- s has the excess of the level; at most that excess
+abbrev pub HasExcess : Game → Allocation → Level → ℕ → Type 0
+HasExcess g x l s = excess g x s *ℤ l.excess_den ≡ l.excess_num *ℤ x.den
+
+abbrev pub HasAtMostExcess : Game → Allocation → Level → ℕ → Type 0
+HasAtMostExcess g x l s = (excess g x s *ℤ l.excess_den) ≤ℤ (l.excess_num *ℤ x.den)
+
+-- what a level meets behind the levels in front of it
+pub record LevelHolds (mode : Mode) (family : Family) (g : Game) (x : Allocation) (front : List Level) (l : Level) : Type 0 where
+  pub excesses : AllByRecursion (λ c. HasExcess g x l c.0) l.coalitions
+  pub weights : AllByRecursion (λ c. pos 1 ≤ℤ c.1) l.coalitions
+  pub bound_weights : AllByRecursion (λ b. (pos 1 ≤ℤ b.1) ⊎ IsTrue (has_bound front b.0)) l.bounds
+  pub balanced : (i : ℕ) → i < g.players → weight_at l.coalitions i +ℤ weight_at l.earlier i +ℤ number_at l.bounds i ≡ l.total
+  pub tight : AllByRecursion (λ b. (share x b.0 ≡ x.den *ℤ g.worth (singleton b.0)) × (family ≡ Imputations)) l.bounds
+  pub outside : (s : ℕ) → s < 2 ^ g.players → IsOutside mode g.players front s → HasAtMostExcess g x l s
+
+-- each level meets its conditions, and all together fix everything
+abbrev pub LevelsHold : Mode → Family → Game → Allocation → List Level → List Level → Type 0
+LevelsHold mode family g x front [] = IsAllFixed mode g.players front
+LevelsHold mode family g x front (l ∷ levels) =
+    LevelHolds mode family g x front l × LevelsHold mode family g x (front ++ l ∷ []) levels
+
+-- a certificate of these levels certifies the shares
+abbrev pub Certifies : Mode → Family → Game → Allocation → List Level → Type 0
+Certifies mode family g x levels = InFamily family g x × LevelsHold mode family g x [] levels

@@ -1,0 +1,11 @@
+pub mod Sums
+pub mod Order
+pub mod Coalitions
+pub mod Games
+pub mod Balanced
+pub mod Classes
+pub mod Shapley
+pub mod Certificates
+pub mod Programs
+pub mod Theorems
+pub mod Failures

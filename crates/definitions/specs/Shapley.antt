@@ -1,0 +1,37 @@
+-- The Shapley value (Shapley 1953).
+use Rattle.std.specs.Prelude.{ℕ, zero, suc, ◌≡◌, ◌+◌, ◌*◌, ◌^◌, ◌<◌, List, [], ◌∷◌, map, nat_eq, ℤ, pos, ◌+ℤ◌, ◌-ℤ◌, ◌*ℤ◌, if◌then◌else◌}
+use Rattle.std.specs.List.{flat_map}
+use Rattle.definitions.specs.Games.{Game, Allocation, share, IsAllocation}
+
+-- each way to put x into the list
+abbrev pub insertions : ℕ → List ℕ → List (List ℕ)
+insertions x [] = (x ∷ []) ∷ []
+insertions x (y ∷ ys) = (x ∷ (y ∷ ys)) ∷ map (λ zs. y ∷ zs) (insertions x ys)
+
+-- the lists that hold each player below n once: those of one player less, with the last player put in at each place
+abbrev pub orders : ℕ → List (List ℕ)
+orders zero = [] ∷ []
+orders (suc n) = flat_map (insertions n) (orders n)
+
+-- what player i adds to the worth of those in front of it, where front are those in front of the list
+abbrev pub marginal_worth : (ℕ → ℤ) → ℕ → ℕ → List ℕ → ℤ
+marginal_worth v i front [] = pos 0
+marginal_worth v i front (p ∷ ps) =
+    if nat_eq p i then v (front + 2 ^ i) -ℤ v front else marginal_worth v i (front + 2 ^ p) ps
+
+-- the sum of what player i adds, over the orders in a list
+abbrev pub total_over : (ℕ → ℤ) → ℕ → List (List ℕ) → ℤ
+total_over v i [] = pos 0
+total_over v i (order ∷ orders) = marginal_worth v i 0 order +ℤ total_over v i orders
+
+-- the sum of what player i adds, over all orders: its Shapley share times n!
+abbrev pub shapley_total : Game → ℕ → ℤ
+shapley_total g i = total_over g.worth i (orders g.players)
+
+abbrev pub factorial : ℕ → ℕ
+factorial zero = 1
+factorial (suc n) = suc n * factorial n
+
+-- each player's share is its total over n!
+abbrev pub IsShapley : Game → Allocation → Type 0
+IsShapley g x = IsAllocation g x × ((i : ℕ) → i < g.players → share x i *ℤ pos (factorial g.players) ≡ x.den *ℤ shapley_total g i)

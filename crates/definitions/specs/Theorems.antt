@@ -1,0 +1,17 @@
+-- What the definitions imply. Each is the contract of a function of this crate.
+use Rattle.std.specs.Prelude.{ℕ, ℤ, List}
+use Rattle.definitions.specs.Games.{Game, Allocation, InCore, IsNucleolus}
+use Rattle.definitions.specs.Balanced.{IsBalancedOfExcessWorth}
+use Rattle.definitions.specs.Certificates.{Level, HasForm, Certifies}
+use Rattle.definitions.specs.declared.Family.{Family}
+use Rattle.definitions.specs.declared.Mode.{Mode}
+
+-- a certificate that meets its conditions certifies the nucleolus
+abbrev pub CertificatesAreSound : Type 0
+CertificatesAreSound =
+    (mode : Mode) (family : Family) (g : Game) (x : Allocation) (levels : List Level) → HasForm mode g.players levels → Certifies mode family g x levels → IsNucleolus family g x
+
+-- no core point has a balanced collection of excess worth beside it
+abbrev pub CollectionsBlock : Type 0
+CollectionsBlock =
+    (g : Game) (ps : List (ℕ × ℤ)) (k : ℤ) (x : Allocation) → IsBalancedOfExcessWorth g ps k → InCore g x → ⊥
