@@ -1,4 +1,8 @@
--- Balanced collections (Bondareva 1963, Shapley 1967).
+-- Balanced collections of excess worth, which show that a core is empty (Bondareva 1963, Shapley 1967).
+--
+--   AscendsFrom low ps           the masks ascend strictly, from above low
+--   Divides d z                  d divides the integer z
+--   IsBalancedOfExcessWorth      weights that add to k at each player, and are worth more than k times the grand coalition
 use Rattle.std.specs.Prelude.{◌≡◌, ℕ, ◌^◌, ◌<◌, ◌≤◌, List, [], ◌∷◌, ℤ, pos, ◌*ℤ◌, ◌<ℤ◌, ◌≤ℤ◌}
 use Rattle.std.specs.List.{AllByRecursion}
 use Rattle.definitions.specs.Sums.{weighted_sum}
@@ -10,6 +14,7 @@ abbrev pub AscendsFrom : ℕ → List (ℕ × ℤ) → Type 0
 AscendsFrom low [] = Unit {0}
 AscendsFrom low (p ∷ ps) = (low < p.0) × AscendsFrom p.0 ps
 
+-- d divides z
 abbrev pub Divides : ℕ → ℤ → Type 0
 Divides d z = (c : ℤ) × (z ≡ pos d *ℤ c)
 

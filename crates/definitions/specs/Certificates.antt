@@ -1,4 +1,13 @@
--- Certificates of the nucleolus (Kohlberg 1971, as a chain of levels).
+-- Certificates of the nucleolus: their form and their conditions (Kohlberg 1971, as a chain of levels).
+--
+--   Level                an excess, and weights on coalitions, on coalitions of earlier levels and on players at their bound
+--   is_fixed, is_free    mode players: what some levels have fixed of a player
+--   InSpan               mode span: a nonzero multiple of a coalition's vector is an integer sum of fixed vectors
+--   IsOutside            the coalition isn't fixed by the levels in front
+--   IsAllFixed           the levels fix everything
+--   HasForm              the form of a certificate
+--   LevelHolds           the conditions of one level behind the levels in front of it
+--   Certifies            all conditions of a certificate of these levels for these shares
 use Rattle.std.specs.Prelude.{◌≡◌, ◌≢◌, ◌⊎◌, ℕ, ◌+◌, ◌-◌, ◌^◌, ◌<◌, ◌≤◌, Bool, ◌&&◌, ◌||◌, not, IsTrue, nat_eq, List, [], ◌∷◌, ◌++◌, ℤ, pos, ◌+ℤ◌, ◌*ℤ◌, ◌≤ℤ◌, int_le, if◌then◌else◌, length, unsigned_abs}
 use Rattle.std.specs.List.{list_any, AllByRecursion}
 use Rattle.definitions.specs.Coalitions.{has_player, singleton, grand_coalition, weight_at, splits}
@@ -32,6 +41,7 @@ abbrev pub is_fixed : ℕ → List Level → ℕ → Bool
 is_fixed n levels i =
     is_listed levels (singleton i) || is_listed levels (grand_coalition n - singleton i) || has_bound levels i
 
+-- mode players: nothing fixes player i
 abbrev pub is_free : ℕ → List Level → ℕ → Bool
 is_free n levels i = not (is_fixed n levels i)
 
@@ -63,6 +73,7 @@ abbrev pub Ascends : ℕ → List (ℕ × ℤ) → Type 0
 Ascends low [] = Unit {0}
 Ascends low (p ∷ ps) = (low ≤ p.0) × Ascends (p.0 + 1) ps
 
+-- a weight or total of a certificate
 abbrev pub IsSmall : ℤ → Type 0
 IsSmall z = unsigned_abs z < 2 ^ 63
 
@@ -81,6 +92,7 @@ pub record LevelForm (n : ℕ) (front : List Level) (l : Level) : Type 0 where
   pub small : AllByRecursion (λ p. IsSmall p.1) (l.coalitions ++ l.earlier ++ l.bounds)
   pub total_small : IsSmall l.total
 
+-- each level has its form behind the levels in front of it
 abbrev pub LevelsForm : ℕ → List Level → List Level → Type 0
 LevelsForm n front [] = Unit {0}
 LevelsForm n front (l ∷ levels) = LevelForm n front l × LevelsForm n (front ++ l ∷ []) levels
@@ -98,21 +110,56 @@ abbrev pub number_at : List (ℕ × ℤ) → ℕ → ℤ
 number_at [] i = pos 0
 number_at (p ∷ ps) i = (if nat_eq p.0 i then p.1 else pos 0) +ℤ number_at ps i
 
--- s has the excess of the level; at most that excess
+-- s has the excess of the level
 abbrev pub HasExcess : Game → Allocation → Level → ℕ → Type 0
 HasExcess g x l s = excess g x s *ℤ l.excess_den ≡ l.excess_num *ℤ x.den
 
+-- s has at most the excess of the level
 abbrev pub HasAtMostExcess : Game → Allocation → Level → ℕ → Type 0
 HasAtMostExcess g x l s = (excess g x s *ℤ l.excess_den) ≤ℤ (l.excess_num *ℤ x.den)
 
+-- each coalition of the level has its excess
+abbrev pub Excesses : Game → Allocation → Level → Type 0
+Excesses g x l = AllByRecursion (λ c. HasExcess g x l c.0) l.coalitions
+
+-- each weight on a coalition is at least 1
+abbrev pub Weights : Level → Type 0
+Weights l = AllByRecursion (λ c. pos 1 ≤ℤ c.1) l.coalitions
+
+-- a weight on a bound is at least 1, or a level in front gave its player such a weight
+abbrev pub BoundWeighs : List Level → ℕ × ℤ → Type 0
+BoundWeighs front b = (pos 1 ≤ℤ b.1) ⊎ IsTrue (has_bound front b.0)
+
+abbrev pub BoundWeights : List Level → Level → Type 0
+BoundWeights front l = AllByRecursion (BoundWeighs front) l.bounds
+
+-- the weights of the level add to its total at player i, and at each player
+abbrev pub Balances : Level → ℕ → Type 0
+Balances l i = weight_at l.coalitions i +ℤ weight_at l.earlier i +ℤ number_at l.bounds i ≡ l.total
+
+abbrev pub IsBalanced : Game → Level → Type 0
+IsBalanced g l = (i : ℕ) → i < g.players → Balances l i
+
+-- a bound stands only on a player at its worth alone, and only for imputations
+abbrev pub IsTight : Family → Game → Allocation → ℕ × ℤ → Type 0
+IsTight family g x b = (share x b.0 ≡ x.den *ℤ g.worth (singleton b.0)) × (family ≡ Imputations)
+
+abbrev pub AreTight : Family → Game → Allocation → Level → Type 0
+AreTight family g x l = AllByRecursion (IsTight family g x) l.bounds
+
+-- no coalition outside has more than the excess of the level
+abbrev pub OutsideIsLow : Mode → Game → Allocation → List Level → Level → Type 0
+OutsideIsLow mode g x front l =
+    (s : ℕ) → s < 2 ^ g.players → IsOutside mode g.players front s → HasAtMostExcess g x l s
+
 -- what a level meets behind the levels in front of it
 pub record LevelHolds (mode : Mode) (family : Family) (g : Game) (x : Allocation) (front : List Level) (l : Level) : Type 0 where
-  pub excesses : AllByRecursion (λ c. HasExcess g x l c.0) l.coalitions
-  pub weights : AllByRecursion (λ c. pos 1 ≤ℤ c.1) l.coalitions
-  pub bound_weights : AllByRecursion (λ b. (pos 1 ≤ℤ b.1) ⊎ IsTrue (has_bound front b.0)) l.bounds
-  pub balanced : (i : ℕ) → i < g.players → weight_at l.coalitions i +ℤ weight_at l.earlier i +ℤ number_at l.bounds i ≡ l.total
-  pub tight : AllByRecursion (λ b. (share x b.0 ≡ x.den *ℤ g.worth (singleton b.0)) × (family ≡ Imputations)) l.bounds
-  pub outside : (s : ℕ) → s < 2 ^ g.players → IsOutside mode g.players front s → HasAtMostExcess g x l s
+  pub excesses : Excesses g x l
+  pub weights : Weights l
+  pub bound_weights : BoundWeights front l
+  pub balanced : IsBalanced g l
+  pub tight : AreTight family g x l
+  pub outside : OutsideIsLow mode g x front l
 
 -- each level meets its conditions, and all together fix everything
 abbrev pub LevelsHold : Mode → Family → Game → Allocation → List Level → List Level → Type 0

@@ -1,4 +1,13 @@
--- The worth of a coalition in each class of games, as a relation between what a class keeps and a game.
+-- The worth of a coalition in each class of games, from what the class keeps.
+-- Sources: Littlechild 1974 (airport games); O'Neill 1982 (bankruptcy games); Bird 1976 (tree games); Shapley and Shubik 1971 (assignment games).
+--
+--   table_worth worths s              the listed worth
+--   negated_worth v s                 minus the worth in another game: a game of costs
+--   airport_worth costs s             minus the greatest cost among the members
+--   bankruptcy_worth estate claims s  what the claims of the others leave of the estate
+--   IsTreeGame matrix g               each worth is minus the least cost of an attachment plan
+--   IsBirdPlan, IsBirdShares          the plan of least pairs, and what each player pays in it
+--   IsAssignmentGame matrix rows g    each worth is the greatest value of a matching
 use Rattle.std.specs.Prelude.{◌≡◌, ◌⊎◌, ℕ, zero, suc, ◌+◌, ◌-◌, ◌^◌, ◌<◌, ◌≤◌, IsTrue, Bool, false, not, ◌&&◌, ◌||◌, nat_eq, List, [], ◌∷◌, length, ℤ, pos, ◌-ℤ◌, neg_ℤ, slice_index, slice_index_or, if◌then◌else◌, max}
 use Rattle.std.specs.List.{AllByRecursion}
 use Rattle.std.specs.Int.{int_max}
@@ -31,6 +40,7 @@ bankruptcy_worth estate claims s =
 abbrev pub Matrix : Type 0
 Matrix = ℕ → ℕ → ℕ
 
+-- the entry of row i and column j
 abbrev pub entry : Matrix → ℕ → ℕ → ℕ
 entry matrix i j = matrix i j
 
@@ -51,6 +61,7 @@ abbrev pub is_point_of : ℕ → ℕ → Bool
 is_point_of s zero = false
 is_point_of s (suc i) = has_player s i
 
+-- the source alone
 abbrev pub is_source : ℕ → Bool
 is_source j = nat_eq j 0
 
@@ -64,6 +75,7 @@ IsAttachment connected waiting (p ∷ plan) =
 abbrev pub IsPlan : ℕ → List (ℕ × ℕ) → Type 0
 IsPlan s plan = IsAttachment is_source (is_point_of s) plan
 
+-- the entries of the pairs, added
 abbrev pub plan_cost : Matrix → List (ℕ × ℕ) → ℕ
 plan_cost matrix [] = 0
 plan_cost matrix (p ∷ plan) = entry matrix p.0 p.1 + plan_cost matrix plan
@@ -100,6 +112,7 @@ IsBirdShares matrix plan x =
 abbrev pub IsSymmetric : Matrix → Type 0
 IsSymmetric matrix = (i j : ℕ) → entry matrix i j ≡ entry matrix j i
 
+-- each worth is minus the least cost of an attachment plan
 abbrev pub IsTreeGame : Matrix → Game → Type 0
 IsTreeGame matrix g =
     (s : ℕ) → s < 2 ^ g.players → (cost : ℕ) × (g.worth s ≡ neg_ℤ (pos cost)) × IsLeastCost matrix s cost
@@ -112,6 +125,7 @@ IsMatching rows member [] = Unit {0}
 IsMatching rows member (p ∷ ps) =
     (p.0 < rows) × IsTrue (member p.0) × IsTrue (member (rows + p.1)) × IsMatching rows (removed (removed member p.0) (rows + p.1)) ps
 
+-- the entries of the pairs, added
 abbrev pub matching_value : Matrix → List (ℕ × ℕ) → ℕ
 matching_value matrix [] = 0
 matching_value matrix (p ∷ ps) = entry matrix p.0 p.1 + matching_value matrix ps
@@ -121,6 +135,7 @@ pub record IsGreatestValue (matrix : Matrix) (rows : ℕ) (s : ℕ) (value : ℕ
   pub reached : (ps : List (ℕ × ℕ)) × IsMatching rows (has_player s) ps × (value ≡ matching_value matrix ps)
   pub greatest : (ps : List (ℕ × ℕ)) → IsMatching rows (has_player s) ps → matching_value matrix ps ≤ value
 
+-- each worth is the greatest value of a matching
 abbrev pub IsAssignmentGame : Matrix → ℕ → Game → Type 0
 IsAssignmentGame matrix rows g =
     (s : ℕ) → s < 2 ^ g.players → (value : ℕ) × (g.worth s ≡ pos value) × IsGreatestValue matrix rows s value

@@ -1,4 +1,20 @@
--- Games with transferable worth, allocations, the core and the nucleolus.
+-- Games with transferable worth, allocations, the nucleolus and the core.
+-- Sources: Peleg and Sudhölter, Introduction to the Theory of Cooperative Games; for the nucleolus Schmeidler 1969.
+--
+--   Game                    players, and the worth of each coalition
+--   Allocation              a share of each player over a common denominator
+--   amount x s              what the members of s get together, over the denominator
+--   excess g x s            the worth of s less what its members get, over the denominator
+--   IsEfficient             the shares add to the worth of the grand coalition
+--   IsIndividuallyRational  each player gets at least its worth alone
+--   InFamily                an imputation, or a preimputation
+--   excess_list             the excesses of all proper coalitions, in mask order
+--   Beats                   the excesses from the greatest come before those of another allocation
+--   IsNucleolus             a member of the family that beats every other member
+--   Blocks, InCore          a coalition is worth more than its members get; none is
+--   IsChosenBlocker         the least mask among the coalitions of greatest positive excess
+--   IsSplitMaximum          the greatest excess over the coalitions that split a set of players
+--   IsGame, IsShares        the limits of the toolbox
 use Rattle.std.specs.Prelude.{◌≡◌, ℕ, ◌^◌, ◌<◌, ◌≤◌, List, length, map, IsTrue, ℤ, pos, ◌-ℤ◌, ◌*ℤ◌, ◌<ℤ◌, ◌≤ℤ◌, slice_index_or, unsigned_abs}
 use Rattle.definitions.specs.Sums.{IsGreatest}
 use Rattle.definitions.specs.Coalitions.{has_player, singleton, grand_coalition, proper_coalitions, sum_over, splits}
@@ -16,6 +32,7 @@ pub record Allocation : Type 0 where
   pub shares : List ℤ
   pub den : ℤ
 
+-- the share of player i, over the denominator
 abbrev pub share : Allocation → ℕ → ℤ
 share x i = slice_index_or x.shares i (pos 0)
 
@@ -27,6 +44,7 @@ amount x s = sum_over (length x.shares) (share x) s
 abbrev pub excess : Game → Allocation → ℕ → ℤ
 excess g x s = x.den *ℤ g.worth s -ℤ amount x s
 
+-- a share for each player, over a denominator of at least 1
 abbrev pub IsAllocation : Game → Allocation → Type 0
 IsAllocation g x = (length x.shares ≡ g.players) × (pos 1 ≤ℤ x.den)
 
@@ -38,6 +56,7 @@ IsEfficient g x = amount x (grand_coalition g.players) ≡ x.den *ℤ g.worth (g
 abbrev pub IsIndividuallyRational : Game → Allocation → Type 0
 IsIndividuallyRational g x = (i : ℕ) → i < g.players → (x.den *ℤ g.worth (singleton i)) ≤ℤ share x i
 
+-- an imputation; a preimputation
 abbrev pub InFamily : Family → Game → Allocation → Type 0
 InFamily Imputations g x = IsAllocation g x × IsEfficient g x × IsIndividuallyRational g x
 InFamily Preimputations g x = IsAllocation g x × IsEfficient g x
@@ -56,6 +75,7 @@ Beats g x y = ComesBefore (sorted (excess_list g x y.den)) (sorted (excess_list 
 abbrev pub IsSame : Game → Allocation → Allocation → Type 0
 IsSame g x y = (i : ℕ) → i < g.players → share x i *ℤ y.den ≡ share y i *ℤ x.den
 
+-- a member of the family that beats every member with other shares
 abbrev pub IsNucleolus : Family → Game → Allocation → Type 0
 IsNucleolus family g x =
     InFamily family g x × ((y : Allocation) → InFamily family g y → ¬ IsSame g x y → Beats g x y)
@@ -66,6 +86,7 @@ IsNucleolus family g x =
 abbrev pub Blocks : Game → Allocation → ℕ → Type 0
 Blocks g x s = amount x s <ℤ (x.den *ℤ g.worth s)
 
+-- efficient, and no coalition blocks
 abbrev pub InCore : Game → Allocation → Type 0
 InCore g x = IsAllocation g x × IsEfficient g x × ((s : ℕ) → s < 2 ^ g.players → ¬ Blocks g x s)
 

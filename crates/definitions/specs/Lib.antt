@@ -1,3 +1,4 @@
+-- To be read in this order.
 pub mod Sums
 pub mod Order
 pub mod Coalitions
@@ -6,6 +7,6 @@ pub mod Balanced
 pub mod Classes
 pub mod Shapley
 pub mod Certificates
+pub mod Failures
 pub mod Programs
 pub mod Theorems
-pub mod Failures

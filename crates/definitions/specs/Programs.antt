@@ -1,4 +1,12 @@
--- Linear programs in rows and columns.
+-- Linear programs in rows and columns, their solutions, bounds and optima.
+-- Source: any text on linear programming, as Chvátal, Linear Programming, 1983.
+--
+--   Program              rows with right sides, columns with an entry per row and a cost
+--   Solves               weights, each at least 0, that meet each row
+--   Bounds               multipliers by which no column's cost is above its value
+--   IsOptimal            weights that solve, multipliers that bound, and equal values
+--   HasNoSolution        no weights solve it
+--   HasRay               weights that sum to 0 in each row, of positive cost
 use Rattle.std.specs.Prelude.{◌≡◌, ℕ, ◌<◌, Bool, IsTrue, nat_eq, List, map, ℤ, pos, ◌*ℤ◌, ◌≤ℤ◌, slice_index_or}
 use Rattle.std.specs.List.{AllByRecursion, IsDistinct}
 use Rattle.definitions.specs.Sums.{sum_below, weighted_sum}
@@ -33,6 +41,7 @@ abbrev pub Bounds : Program → List ℤ → ℤ → Type 0
 Bounds p multipliers den =
     (pos 1 ≤ℤ den) × ((id : ℕ) → IsTrue (p.is_column id) → (den *ℤ p.cost id) ≤ℤ value_of p multipliers (p.entry id))
 
+-- weights that solve it and multipliers that bound it, of one value
 abbrev pub IsOptimal : Program → List (ℕ × ℤ) → ℤ → List ℤ → ℤ → Type 0
 IsOptimal p weights weight_den multipliers den =
     Solves p weights weight_den

@@ -1,4 +1,9 @@
 -- The Shapley value (Shapley 1953).
+--
+--   orders n             the lists that hold each player below n once
+--   marginal_worth       what a player adds to the worth of those in front of it in an order
+--   shapley_total g i    the sum of what player i adds, over all orders
+--   IsShapley g x        each share is the player's total over n!
 use Rattle.std.specs.Prelude.{ℕ, zero, suc, ◌≡◌, ◌+◌, ◌*◌, ◌^◌, ◌<◌, List, [], ◌∷◌, map, nat_eq, ℤ, pos, ◌+ℤ◌, ◌-ℤ◌, ◌*ℤ◌, if◌then◌else◌}
 use Rattle.std.specs.List.{flat_map}
 use Rattle.definitions.specs.Games.{Game, Allocation, share, IsAllocation}
@@ -28,6 +33,7 @@ total_over v i (order ∷ orders) = marginal_worth v i 0 order +ℤ total_over v
 abbrev pub shapley_total : Game → ℕ → ℤ
 shapley_total g i = total_over g.worth i (orders g.players)
 
+-- 1 * 2 * .. * n
 abbrev pub factorial : ℕ → ℕ
 factorial zero = 1
 factorial (suc n) = suc n * factorial n

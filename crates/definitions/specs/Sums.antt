@@ -1,4 +1,8 @@
 -- Sums of integers.
+--
+--   sum_below n f        f 0 + .. + f (n - 1)
+--   weighted_sum f ps    the sum of weight times f, over pairs of a key and a weight
+--   IsGreatest P f m     m is the greatest of the numbers f k, over the k that P holds of
 use Rattle.std.specs.Prelude.{◌≡◌, ℕ, zero, suc, List, [], ◌∷◌, ℤ, pos, ◌+ℤ◌, ◌*ℤ◌, ◌≤ℤ◌}
 
 -- f 0 + .. + f (n - 1)

@@ -1,4 +1,7 @@
--- What the definitions imply. Each is the contract of a function of this crate.
+-- What the definitions imply. Each statement is the contract of a function of this crate.
+--
+--   CertificatesAreSound   a certificate that meets its conditions certifies the nucleolus (Kohlberg 1971)
+--   CollectionsBlock       no core point stands beside a balanced collection of excess worth (Bondareva 1963, Shapley 1967)
 use Rattle.std.specs.Prelude.{ℕ, ℤ, List}
 use Rattle.definitions.specs.Games.{Game, Allocation, InCore, IsNucleolus}
 use Rattle.definitions.specs.Balanced.{IsBalancedOfExcessWorth}
