@@ -1,0 +1,191 @@
+//! Coalitions, the sets of players of a cooperative game, as masks of 64 bits.
+#![tactic(auto)]
+
+ghost use Rattle.std.specs.Prelude.{◌≡◌, ℕ, ◌+◌, ◌-◌, ◌^◌, ◌<◌, ◌≤◌, length, MatchOption, nat_eq, not, ◌||◌, ◌&&◌};
+ghost use Rattle.definitions.specs.Coalitions.{has_player, singleton, grand_coalition, members};
+ghost use Rattle.coalitions.specs.Masks.{all_masks};
+
+mod subsets;
+
+use arrayvec::ArrayVec;
+use std::marker::Model;
+pub use subsets::Subsets;
+
+/// A set of players: player i, from 0, is a member where the bit of value 2^i is set.
+#[derive(Clone, Copy, Debug, PartialEq, Eq, PartialOrd, Ord)]
+pub struct Coalition(pub u64);
+
+impl Model for Coalition {
+    ghost use Rattle.std.specs.Prelude.{ℕ, ◌<◌, ◌^◌};
+
+    ghost Value = { ℕ };
+
+    ghost view = { λ c. c.0 };
+
+    ghost invariant = { λ c. c.0 < 2 ^ 64 };
+
+    ghost inverse = { λ n. record { 0 = n } };
+}
+
+impl Coalition {
+    /// The coalition without members.
+    pub fn empty() -> Coalition
+        ensures { result ≡ 0 }
+    {
+        Coalition(0)
+    }
+
+    /// The coalition of player `i` alone.
+    pub fn single(i: u32) -> Coalition
+        requires { i < 64 }
+        ensures { result ≡ singleton i }
+    {
+        Coalition(1 << i)
+    }
+
+    /// The coalition of all of `n` players.
+    pub fn all(n: u32) -> Coalition
+        requires { n ≤ 64 }
+        ensures { result ≡ grand_coalition n }
+    {
+        if n == 64 {
+            Coalition(u64::MAX)
+        } else {
+            Coalition((1 << n) - 1)
+        }
+    }
+
+    /// Its members and player `i`.
+    pub fn with(self, i: u32) -> Coalition
+        requires { i < 64 }
+        ensures { (j : ℕ) → has_player result j ≡ (nat_eq j i || has_player self j) }
+    {
+        Coalition(self.0 | 1 << i)
+    }
+
+    /// Its members but player `i`.
+    pub fn without(self, i: u32) -> Coalition
+        requires { i < 64 }
+        ensures { (j : ℕ) → has_player result j ≡ (not (nat_eq j i) && has_player self j) }
+    {
+        Coalition(self.0 & !(1 << i))
+    }
+
+    /// Whether player `i` is a member.
+    pub fn contains(self, i: u32) -> bool
+        requires { i < 64 }
+        ensures { result ≡ has_player self i }
+    {
+        (self.0 >> i) & 1 == 1
+    }
+
+    /// The players of `n` that are not members.
+    pub fn complement(self, n: u32) -> Coalition
+        requires players { n ≤ 64 }
+        requires within { self < 2 ^ n }
+        ensures { result ≡ grand_coalition n - self }
+    {
+        Coalition(Coalition::all(n).0 - self.0)
+    }
+
+    /// The number of members.
+    pub fn len(self) -> u32
+        ensures { result ≡ length (members 64 self) }
+    {
+        self.0.count_ones()
+    }
+
+    /// The members, in ascending order.
+    pub fn members(self) -> ArrayVec<u32, 64>
+        ensures { result.items ≡ members 64 self }
+    {
+        let mut found = ArrayVec::new();
+        for i in 0..64u32 {
+            if self.contains(i) {
+                found.push(i);
+            }
+        }
+        found
+    }
+
+    /// The coalition of `n` players with the next greater mask; none after that of all.
+    pub fn next_mask(self, n: u32) -> Option<Coalition>
+        requires players { n ≤ 64 }
+        requires within { self < 2 ^ n }
+        ensures { MatchOption result (self ≡ grand_coalition n) (λ s. (s ≡ self + 1) × (s < 2 ^ n)) }
+    {
+        if self == Coalition::all(n) {
+            None
+        } else {
+            Some(Coalition(self.0 + 1))
+        }
+    }
+
+    /// Every coalition of `n` players, in ascending order of the masks, from 0 to 2^n - 1.
+    pub fn subsets(n: u32) -> Subsets
+        requires { n ≤ 64 }
+        ensures { result ≡ all_masks n }
+    {
+        Subsets::from_empty(n)
+    }
+}
+
+#[cfg(test)]
+mod tests {
+    use super::*;
+
+    #[test]
+    fn calls_answer_as_worked_by_hand(rt: HostRuntime) {
+        let pair = Coalition::single(0).with(63);
+        assert_eq!(rt; pair, Coalition(0x8000_0000_0000_0001));
+        assert_eq!(rt; pair.without(0), Coalition::single(63));
+        assert_eq!(rt; pair.without(5), pair);
+        assert_eq!(rt; pair.contains(63), true);
+        assert_eq!(rt; pair.contains(62), false);
+        assert_eq!(rt; pair.members().as_slice(), [0u32, 63].as_slice());
+        assert_eq!(rt; pair.complement(64), Coalition(0x7fff_ffff_ffff_fffe));
+        assert_eq!(rt; Coalition::empty().next_mask(64), Some(Coalition(1)));
+        for (set, n, len, complement, next) in [
+            (Coalition(0), 3, 0, Coalition(7), Some(Coalition(1))),
+            (Coalition(5), 3, 2, Coalition(2), Some(Coalition(6))),
+            (Coalition(7), 3, 3, Coalition(0), None),
+            (Coalition(u64::MAX), 64, 64, Coalition(0), None),
+            (
+                Coalition(u64::MAX - 1),
+                64,
+                63,
+                Coalition(1),
+                Some(Coalition::all(64)),
+            ),
+        ] {
+            assert_eq!(rt; set.len(), len, "members of {set:?}");
+            assert!(rt; n <= 64 && set <= Coalition::all(n));
+            assert_eq!(rt; set.complement(n), complement, "others than {set:?} of {n}");
+            assert_eq!(rt; set.next_mask(n), next, "after {set:?} of {n}");
+        }
+    }
+
+    /// The last of all masks, by a loop that reads the contract of `subsets`.
+    fn last_of(n: u32) -> Coalition
+        requires { n ≤ 64 }
+        ensures { result ≡ grand_coalition n }
+    {
+        let mut last = Coalition::empty();
+        for s in Coalition::subsets(n) {
+            last = s;
+        }
+        last
+    }
+
+    #[test]
+    fn subsets_come_in_ascending_order(rt: HostRuntime) {
+        let mut subsets = Coalition::subsets(2);
+        for mask in 0..4u64 {
+            assert_eq!(rt; subsets.next(), Some(Coalition(mask)));
+        }
+        assert_eq!(rt; subsets.next(), None);
+        assert_eq!(rt; Coalition::subsets(0).count(), 1);
+        assert_eq!(rt; Coalition::subsets(10).count(), 1024);
+        assert_eq!(rt; last_of(7), Coalition(127));
+    }
+}
