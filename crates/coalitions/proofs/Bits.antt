@@ -5,6 +5,7 @@ use Rattle.std.proofs.lemmas.Nat.Bits.{bit_at_set_same, bit_at_set_other, bit_at
 use Rattle.std.specs.Int.{bit_not}
 use Rattle.std.proofs.lemmas.Nat.{and_le_l}
 use Rattle.std.proofs.Math.Nat.{lt_of_le_of_lt}
+use lib.Bits.{or_lt}
 use mir.Syntax.{w64}
 use Rattle.definitions.specs.Coalitions.{has_player}
 
@@ -14,14 +15,14 @@ same_or_other j i = grind arith
 below_or_above : (j n : ℕ) → (j < n) ⊎ (n ≤ j)
 below_or_above j n = grind arith
 
-pub has_player-with : (s i j : ℕ) → i < 64 → has_player (bit_or s (1 * 2 ^ i % 2 ^ 64)) j ≡ (nat_eq j i || has_player s j)
-has_player-with s i j h = elim (same_or_other j i) [
+pub has_player_with : (s i j : ℕ) → i < 64 → has_player (bit_or s (1 * 2 ^ i % 2 ^ 64)) j ≡ (nat_eq j i || has_player s j)
+has_player_with s i j h = elim (same_or_other j i) [
   | inl same ↦ let a = bit_at_set_same w64 s i h in subst (λ (k : ℕ). has_player (bit_or s (1 * 2 ^ i % 2 ^ 64)) k ≡ (nat_eq k i || has_player s k)) (sym same) (grind (arith, nat_tests, a))
   | inr other ↦ let a = bit_at_set_other w64 s i h j other in grind (arith, nat_tests, a)
 ]
 
-pub has_player-without : (s i j : ℕ) → s < 2 ^ 64 → i < 64 → has_player (bit_and s (bit_not w64 (1 * 2 ^ i % 2 ^ 64))) j ≡ (not (nat_eq j i) && has_player s j)
-has_player-without s i j fits h = elim (same_or_other j i) [
+pub has_player_without : (s i j : ℕ) → s < 2 ^ 64 → i < 64 → has_player (bit_and s (bit_not w64 (1 * 2 ^ i % 2 ^ 64))) j ≡ (not (nat_eq j i) && has_player s j)
+has_player_without s i j fits h = elim (same_or_other j i) [
   | inl same ↦ let a = bit_at_clear_same w64 s i h in subst (λ (k : ℕ). has_player (bit_and s (bit_not w64 (1 * 2 ^ i % 2 ^ 64))) k ≡ (not (nat_eq k i) && has_player s k)) (sym same) (grind (arith, nat_tests, a))
   | inr other ↦ elim (below_or_above j 64) [
     | inl low ↦ let a = bit_at_clear_other w64 s i h j low other in grind (arith, nat_tests, a)
@@ -31,3 +32,6 @@ has_player-without s i j fits h = elim (same_or_other j i) [
         grind (arith, nat_tests, a, b)
   ]
 ]
+
+pub with_fits : (s i : ℕ) → s < 2 ^ 64 → i < 64 → bit_or s (1 * 2 ^ i % 2 ^ 64) < 2 ^ 64
+with_fits s i fits h = or_lt 64 s (1 * 2 ^ i % 2 ^ 64) fits (omega arith)

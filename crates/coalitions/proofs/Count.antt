@@ -1,5 +1,5 @@
 -- The number of members of a coalition is the number of bits that are set in its mask.
-use Rattle.std.proofs.Common.{◌≡◌, ℕ, zero, suc, ◌+◌, ◌*◌, ◌/◌, ◌%◌, ◌^◌, ◌<◌, Bool, true, false, [], ◌∷◌, length, length-append, add-one, add_comm, nat_eq, if◌then◌else◌, refl, sym, ap, ◌∙◌, arith}
+use Rattle.std.proofs.Common.{◌≡◌, ℕ, zero, suc, ◌+◌, ◌*◌, ◌%◌, ◌^◌, ◌<◌, Bool, true, false, [], ◌∷◌, length, length-append, add_comm, if◌then◌else◌, refl, sym, ap, ◌∙◌, arith}
 use Rattle.std.proofs.lemmas.Bool.Decides.{nat_tests}
 use Rattle.std.proofs.lemmas.Nat.{ones_cat, mod-pow-add}
 use Rattle.std.proofs.lemmas.Nat.Bits.{bit_at-lt}
@@ -43,5 +43,5 @@ length-members_mod (suc n) s =
         let bit : count_ones (bit_at s n) ≡ 0 = ap count_ones (bit_by_player s n false h) ∙ count_ones-zero in
         rw (members-more_no n s h, ones_mod-suc n s) (omega arith)
 
-pub length-members : (n s : ℕ) → s < 2 ^ n → length (members n s) ≡ count_ones s
-length-members n s h = length-members_mod n s ∙ ap count_ones (mod-eq_of_lt h)
+pub length_members : (n s : ℕ) → s < 2 ^ n → length (members n s) ≡ count_ones s
+length_members n s h = length-members_mod n s ∙ ap count_ones (mod-eq_of_lt h)

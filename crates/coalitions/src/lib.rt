@@ -2,10 +2,14 @@
 #![tactic(auto)]
 
 ghost use Rattle.std.specs.Prelude.{◌≡◌, ℕ, ◌+◌, ◌-◌, ◌^◌, ◌<◌, ◌≤◌, length, MatchOption, nat_eq, not, ◌||◌, ◌&&◌};
+ghost use Rattle.std.specs.Iterator.{YieldsFirst};
+ghost use Rattle.std.specs.Iterator.Runs.{YieldsInOrder};
 ghost use Rattle.definitions.specs.Coalitions.{has_player, singleton, grand_coalition, members};
 ghost use Rattle.coalitions.specs.Masks.{all_masks};
 
 mod subsets;
+#[cfg(test)]
+mod tests;
 
 use arrayvec::ArrayVec;
 use std::marker::Model;
@@ -56,6 +60,7 @@ impl Coalition {
     }
 
     /// Its members and player `i`.
+    #[tactic(auto, using(crate::proofs::Bits::has_player_with, crate::proofs::Bits::with_fits))]
     pub fn with(self, i: u32) -> Coalition
         requires { i < 64 }
         ensures { (j : ℕ) → has_player result j ≡ (nat_eq j i || has_player self j) }
@@ -64,6 +69,7 @@ impl Coalition {
     }
 
     /// Its members but player `i`.
+    #[tactic(auto, using(crate::proofs::Bits::has_player_without))]
     pub fn without(self, i: u32) -> Coalition
         requires { i < 64 }
         ensures { (j : ℕ) → has_player result j ≡ (not (nat_eq j i) && has_player self j) }
@@ -89,6 +95,7 @@ impl Coalition {
     }
 
     /// The number of members.
+    #[tactic(auto, using(crate::proofs::Count::length_members))]
     pub fn len(self) -> u32
         ensures { result ≡ length (members 64 self) }
     {
@@ -124,68 +131,10 @@ impl Coalition {
     /// Every coalition of `n` players, in ascending order of the masks, from 0 to 2^n - 1.
     pub fn subsets(n: u32) -> Subsets
         requires { n ≤ 64 }
-        ensures { result ≡ all_masks n }
+        ensures masks { result ≡ all_masks n }
+        ensures count { length result ≡ 2 ^ n }
+        ensures runs { YieldsInOrder (YieldsFirst {A = ℕ} (λ rest. rest)) (λ rest. rest) }
     {
         Subsets::from_empty(n)
-    }
-}
-
-#[cfg(test)]
-mod tests {
-    use super::*;
-
-    #[test]
-    fn calls_answer_as_worked_by_hand(rt: HostRuntime) {
-        let pair = Coalition::single(0).with(63);
-        assert_eq!(rt; pair, Coalition(0x8000_0000_0000_0001));
-        assert_eq!(rt; pair.without(0), Coalition::single(63));
-        assert_eq!(rt; pair.without(5), pair);
-        assert_eq!(rt; pair.contains(63), true);
-        assert_eq!(rt; pair.contains(62), false);
-        assert_eq!(rt; pair.members().as_slice(), [0u32, 63].as_slice());
-        assert_eq!(rt; pair.complement(64), Coalition(0x7fff_ffff_ffff_fffe));
-        assert_eq!(rt; Coalition::empty().next_mask(64), Some(Coalition(1)));
-        for (set, n, len, complement, next) in [
-            (Coalition(0), 3, 0, Coalition(7), Some(Coalition(1))),
-            (Coalition(5), 3, 2, Coalition(2), Some(Coalition(6))),
-            (Coalition(7), 3, 3, Coalition(0), None),
-            (Coalition(u64::MAX), 64, 64, Coalition(0), None),
-            (
-                Coalition(u64::MAX - 1),
-                64,
-                63,
-                Coalition(1),
-                Some(Coalition::all(64)),
-            ),
-        ] {
-            assert_eq!(rt; set.len(), len, "members of {set:?}");
-            assert!(rt; n <= 64 && set <= Coalition::all(n));
-            assert_eq!(rt; set.complement(n), complement, "others than {set:?} of {n}");
-            assert_eq!(rt; set.next_mask(n), next, "after {set:?} of {n}");
-        }
-    }
-
-    /// The last of all masks, by a loop that reads the contract of `subsets`.
-    fn last_of(n: u32) -> Coalition
-        requires { n ≤ 64 }
-        ensures { result ≡ grand_coalition n }
-    {
-        let mut last = Coalition::empty();
-        for s in Coalition::subsets(n) {
-            last = s;
-        }
-        last
-    }
-
-    #[test]
-    fn subsets_come_in_ascending_order(rt: HostRuntime) {
-        let mut subsets = Coalition::subsets(2);
-        for mask in 0..4u64 {
-            assert_eq!(rt; subsets.next(), Some(Coalition(mask)));
-        }
-        assert_eq!(rt; subsets.next(), None);
-        assert_eq!(rt; Coalition::subsets(0).count(), 1);
-        assert_eq!(rt; Coalition::subsets(10).count(), 1024);
-        assert_eq!(rt; last_of(7), Coalition(127));
     }
 }

@@ -7,7 +7,7 @@ use crate::Coalition;
 use std::marker::Model;
 
 /// An iterator over coalitions in ascending order of the masks, seen as the list of those that are left.
-#[derive(Drop)]
+#[derive(Debug, Drop)]
 pub struct Subsets {
     upcoming: Option<Coalition>,
     players: u32,
