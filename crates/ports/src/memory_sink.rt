@@ -1,0 +1,80 @@
+ghost use Rattle.std.specs.Prelude.{◌≡◌, ◌<◌, ◌-◌, length, min, [], IfOk, OnErr};
+ghost use Rattle.std.specs.Io.{WritesAtMost};
+ghost use Rattle.std.specs.Io.KnownBytes.{WriteAppends};
+ghost use Rattle.ports.specs.Causes.{HasCause};
+
+use crate::{Failed, Sink};
+use fractions::OutOfMemory;
+use std::alloc::Global;
+use std::marker::Model;
+
+/// Memory of a fixed capacity, which takes what fits. A write to a full sink fails.
+#[derive(Drop)]
+pub struct MemorySink {
+    bytes: Vec<u8>,
+    capacity: usize,
+    faults: u64,
+}
+
+impl Model for MemorySink {
+    ghost use Rattle.std.specs.Prelude.{◌≤◌, vec_len, vec_capacity};
+    ghost use Rattle.ports.specs.Taken.{Taken};
+
+    ghost Value = { Taken };
+
+    ghost view = { λ s. record { bytes = s.bytes.items; capacity = s.capacity; faults = s.faults } };
+
+    ghost invariant = { λ s. (vec_len s.bytes ≤ s.capacity) × (s.capacity ≤ vec_capacity s.bytes) };
+}
+
+impl MemorySink {
+    /// An empty sink for at most `capacity` bytes; its memory is taken now.
+    pub fn new(alloc: Global, capacity: usize) -> Result<MemorySink, OutOfMemory>
+        ensures { IfOk result (λ s. s ≡ record { bytes = []; capacity = capacity; faults = 0 }) }
+    {
+        let bytes = Vec::with_capacity(alloc, capacity)?;
+        Ok(MemorySink {
+            bytes,
+            capacity,
+            faults: 0,
+        })
+    }
+
+    /// The bytes taken so far.
+    pub fn taken(&self) -> &[u8]
+        ensures { result.now ≡ self.now.bytes }
+    {
+        self.bytes.as_slice()
+    }
+}
+
+impl Sink for MemorySink {
+    ghost use Rattle.std.specs.Prelude.{Some};
+
+    ghost taken = { λ s. Some s.bytes };
+
+    ghost faults = { λ s. s.faults };
+
+    /// Takes as many bytes of `piece` as fit. Fails exactly where none fits of a piece that isn't empty.
+    fn write(&mut self, piece: &[u8]) -> Result<usize, Failed>
+        ensures bound { WritesAtMost result piece.now }
+        ensures progress { IfOk result (λ n. 0 < length piece.now → 0 < n) }
+        ensures bytes { WriteAppends (Some self.old.bytes) (Some self.new.bytes) result piece.now }
+        ensures cause { HasCause self.old.faults self.new.faults result }
+        ensures count { IfOk result (λ n. n ≡ min (self.old.capacity - length self.old.bytes) (length piece.now)) }
+        ensures full { OnErr result ((length self.old.bytes ≡ self.old.capacity) × (0 < length piece.now)) }
+        ensures same_capacity { self.new.capacity ≡ self.old.capacity }
+    {
+        let room = self.capacity - self.bytes.len();
+        if room == 0 && !piece.is_empty() {
+            self.faults = self.faults.saturating_add(1);
+            return Err(Failed);
+        }
+        let count = room.min(piece.len());
+        match self.bytes.extend_from_slice(&piece[..count]) {
+            Ok(()) => Ok(count),
+            // What fits takes no memory.
+            Err(_) => unreachable!(),
+        }
+    }
+}

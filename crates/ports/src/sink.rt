@@ -1,0 +1,23 @@
+ghost use Rattle.std.specs.Prelude.{ℕ, List, Option, IfOk, length, ◌<◌};
+ghost use Rattle.std.specs.Io.{WritesAtMost};
+ghost use Rattle.std.specs.Io.KnownBytes.{WriteAppends};
+ghost use Rattle.ports.specs.Causes.{HasCause};
+
+use crate::Failed;
+
+/// Where bytes go to.
+pub trait Sink {
+    // The bytes taken so far, where the sink tells them.
+    ghost taken: { Self → Option (List ℕ) };
+    // How often a write failed; the last value stays.
+    ghost faults: { Self → ℕ };
+
+    /// Takes bytes from the front of `piece`, at least one where there is one, and gives their number.
+    ///
+    /// `Failed` comes only where the count of faults rises or stands at its last value, and keeps what was taken.
+    fn write(&mut self, piece: &[u8]) -> Result<usize, Failed>
+        ensures bound { WritesAtMost result piece.now }
+        ensures progress { IfOk result (λ n. 0 < length piece.now → 0 < n) }
+        ensures bytes { WriteAppends (taken self.old) (taken self.new) result piece.now }
+        ensures cause { HasCause (faults self.old) (faults self.new) result };
+}

@@ -1,0 +1,33 @@
+use crate::{Failed, MemorySink, MemorySource, Sink, Source};
+use std::test::Fail;
+
+fn read<S: Source>(source: &mut S, buf: &mut [u8]) -> Option<usize> {
+    source.read(buf).ok()
+}
+
+fn write<K: Sink>(sink: &mut K, piece: &[u8]) -> Option<usize> {
+    sink.write(piece).ok()
+}
+
+#[test]
+fn a_source_gives_its_bytes_in_order_and_then_ends(rt: HostRuntime) -> Result<(), Fail> {
+    let mut source = MemorySource::new(b"abcdef".to_vec(rt.alloc())?);
+    let mut buf = [0; 4];
+    for (count, front) in [(4, b"abcd"), (2, b"efcd"), (0, b"efcd")] {
+        assert_eq!(rt; read(&mut source, &mut buf), Some(count));
+        assert_eq!(rt; buf, *front);
+    }
+    Ok(())
+}
+
+#[test]
+fn a_sink_takes_what_fits_and_then_fails(rt: HostRuntime) -> Result<(), Fail> {
+    let mut sink = MemorySink::new(rt.alloc(), 5).ok().ok_or("memory")?;
+    for (count, taken) in [(Some(3), "abc"), (Some(2), "abcab"), (None, "abcab")] {
+        assert_eq!(rt; write(&mut sink, b"abc"), count);
+        assert!(rt; sink.taken() == taken.as_bytes());
+    }
+    assert_eq!(rt; sink.write(b""), Ok(0));
+    assert_eq!(rt; sink.write(b"a"), Err(Failed));
+    Ok(())
+}
