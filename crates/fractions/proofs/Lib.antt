@@ -1,0 +1,13 @@
+pub mod Determinants
+pub mod Exchanges
+pub mod WeightedSums
+pub mod Cramer
+pub mod Cancel
+pub mod DotProducts
+pub mod Units
+pub mod BasisWeights
+pub mod ExactPivot
+pub mod SingleEntry
+pub mod FirstBasis
+pub mod BasisChanges
+pub mod Membership

@@ -1,0 +1,3 @@
+pub mod Determinant
+pub mod Weighted
+pub mod Basis
