@@ -11,3 +11,10 @@ pub mod SingleEntry
 pub mod FirstBasis
 pub mod BasisChanges
 pub mod Membership
+pub mod Lists
+pub mod Sizes
+pub mod Sweeps
+pub mod Levels
+pub mod Bands
+pub mod Limits
+pub mod RowSteps

@@ -1,6 +1,9 @@
-//! The two plain refusals that other crates use too.
+//! Exact arithmetic on whole numbers: pivots, and the two plain refusals that other crates use too.
 #![tactic(auto)]
 
+mod matrix;
+
+pub use matrix::{Shape, pivot};
 use std::alloc::{AllocError, AllocFailed};
 
 /// Memory was not found.
