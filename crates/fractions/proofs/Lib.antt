@@ -18,3 +18,8 @@ pub mod Levels
 pub mod Bands
 pub mod Limits
 pub mod RowSteps
+pub mod LexicographicSigns
+pub mod Measures
+pub mod Objective
+pub mod PivotRows
+pub mod Duality

@@ -5,3 +5,6 @@ pub mod Sizes
 pub mod Bands
 pub mod Matrix
 pub mod Rows
+pub mod Lexicographic
+pub mod Measure
+pub mod Theorems

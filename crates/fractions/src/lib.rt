@@ -1,6 +1,7 @@
 //! Exact arithmetic on whole numbers: pivots, and the two plain refusals that other crates use too.
 #![tactic(auto)]
 
+pub mod laws;
 mod matrix;
 
 pub use matrix::{Shape, pivot};
