@@ -5,3 +5,7 @@ pub mod Settled
 pub mod Soundness
 pub mod Bondareva
 pub mod Parts
+mod Casts
+mod Masks
+mod Scans
+mod Examples

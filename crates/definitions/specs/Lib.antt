@@ -10,3 +10,5 @@ pub mod Certificates
 pub mod Failures
 pub mod Programs
 pub mod Theorems
+pub mod Failures
+pub mod Plain

@@ -4,6 +4,11 @@
 
 ghost use Rattle.definitions.specs.Theorems.{CertificatesAreSound, CollectionsBlock};
 
+pub mod blockers;
+pub mod excesses;
+pub mod order;
+pub mod table;
+
 /// The allocations that a nucleolus is compared with (Schmeidler 1969; for preimputations Sobolev 1975).
 #[derive(Clone, Copy, Debug, PartialEq, Eq)]
 pub enum Family {

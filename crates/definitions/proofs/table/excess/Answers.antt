@@ -1,0 +1,17 @@
+use Rattle.std.proofs.Common.{◌∙◌, arith}
+use Rattle.std.proofs.lemmas.Int.{ints}
+use mir.Syntax.{w64, w128}
+use Rattle.definitions.proofs.Casts.{cast_kept, difference_kept}
+use Rattle.definitions.proofs.table.excess.Goals as goal
+
+pub returns-clause-value : goal.returns-clause-value
+returns-clause-value c =
+    let den = cast_kept w128 c.den.result (omega (arith, ints)) in
+    let worth = cast_kept w64 c.worth.result (omega (arith, c.worth.ensures.small)) in
+    let kept = difference_kept c.product.result c.amount.result (omega (arith, c.product.ensures.small)) (omega (arith, c.amount.ensures.small)) in
+    kept ∙ cc
+
+pub returns-clause-small : goal.returns-clause-small
+returns-clause-small c =
+    let kept = difference_kept c.product.result c.amount.result (omega (arith, c.product.ensures.small)) (omega (arith, c.amount.ensures.small)) in
+    rw kept (omega (arith, ints, c.product.ensures.small, c.amount.ensures.small))

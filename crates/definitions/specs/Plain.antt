@@ -1,0 +1,32 @@
+-- What the plain programs take, so that 128 bits hold every number they meet, and the list of blocking coalitions.
+use Rattle.std.specs.Prelude.{◌≡◌, ℕ, ◌+◌, ◌^◌, ◌<◌, ◌≤◌, List, length, All, ℤ, pos, ◌*ℤ◌, ◌≤ℤ◌, int_lt, unsigned_abs}
+use Rattle.std.specs.List.{filter, range_with_len}
+use Rattle.definitions.specs.Games.{Game, Allocation, amount}
+use Rattle.definitions.specs.Classes.{table_worth}
+
+-- the worth of each coalition but the empty one, in mask order
+pub record WorthTable : Type 0 where
+  pub players : ℕ
+  pub worths : List ℤ
+
+-- the game of the listed worths
+abbrev pub game_of : WorthTable → Game
+game_of t = record { players = t.players; worth = table_worth t.worths }
+
+-- 1 to 16 players, one worth for each coalition but the empty one, and each below 2 ^ 46 in size
+pub record IsSmallTable (t : WorthTable) : Type 0 where
+  pub some : 1 ≤ t.players
+  pub few : t.players ≤ 16
+  pub each_once : length t.worths + 1 ≡ 2 ^ t.players
+  pub small : All (λ w. unsigned_abs w < 2 ^ 46) t.worths
+
+-- at most 16 shares, each below 2 ^ 84 in size, over a denominator from 1 to 2 ^ 38
+pub record IsSmallPoint (x : Allocation) : Type 0 where
+  pub few : length x.shares ≤ 16
+  pub positive : pos 1 ≤ℤ x.den
+  pub common : x.den ≤ℤ pos (2 ^ 38)
+  pub small : All (λ a. unsigned_abs a < 2 ^ 84) x.shares
+
+-- the masks of the coalitions that are worth more than their members get, in ascending order
+abbrev pub blocking_masks : Game → Allocation → List ℕ
+blocking_masks g x = filter (λ s. int_lt (amount x s) (x.den *ℤ g.worth s)) (range_with_len 0 (2 ^ g.players))

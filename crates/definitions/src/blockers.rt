@@ -1,0 +1,95 @@
+//! The coalitions that block a point, and the one that a report names.
+
+ghost use Rattle.std.specs.Prelude.{◌≡◌, ℕ, ◌^◌, ◌<◌, IfOk, MatchOption, unsigned_abs};
+ghost use Rattle.std.specs.Int.{int_max};
+ghost use Rattle.definitions.specs.Sums.{IsGreatest};
+ghost use Rattle.definitions.specs.Games.{excess, Blocks, IsChosenBlocker};
+ghost use Rattle.definitions.specs.Plain.{game_of, blocking_masks};
+
+use crate::table::{Point, Table, excess};
+use std::alloc::{AllocError, Global};
+
+/// The masks of the coalitions that are worth more than their members get, in ascending order.
+///
+/// Its one error is want of memory.
+pub fn blockers(alloc: Global, table: &Table, point: &Point) -> Result<Vec<u64>, AllocError>
+    ensures { IfOk result (λ masks. masks.items ≡ blocking_masks (game_of table.now) point.now) }
+{
+    let mut masks = Vec::new(alloc);
+    for coalition in 0..table.coalitions() {
+        if excess(table, point, coalition) > 0 {
+            masks.push(coalition)?;
+        }
+    }
+    Ok(masks)
+}
+
+fn greater(first: i128, second: i128) -> i128
+    requires first { unsigned_abs first < 2 ^ 89 }
+    requires second { unsigned_abs second < 2 ^ 89 }
+    ensures value { result ≡ int_max first second }
+    ensures small { unsigned_abs result < 2 ^ 89 }
+{
+    if first < second { second } else { first }
+}
+
+fn greatest_excess(table: &Table, point: &Point) -> i128
+    ensures value { IsGreatest
+        (λ s. s < 2 ^ table.now.players)
+        (excess (game_of table.now) point.now)
+        result }
+    ensures small { unsigned_abs result < 2 ^ 89 }
+{
+    let mut greatest = excess(table, point, 0);
+    for coalition in 1..table.coalitions() {
+        greatest = greater(greatest, excess(table, point, coalition));
+    }
+    greatest
+}
+
+/// The mask of the coalition of greatest excess, the least mask where there are several; `None`
+/// where no coalition blocks.
+pub fn chosen_blocker(table: &Table, point: &Point) -> Option<u64>
+    ensures { MatchOption result
+        ((s : ℕ) → s < 2 ^ table.now.players → ¬ Blocks (game_of table.now) point.now s)
+        (IsChosenBlocker (game_of table.now) point.now) }
+{
+    let greatest = greatest_excess(table, point);
+    if greatest <= 0 {
+        return None;
+    }
+    for coalition in 0..table.coalitions() {
+        if excess(table, point, coalition) == greatest {
+            return Some(coalition);
+        }
+    }
+    None
+}
+
+#[cfg(test)]
+mod tests {
+    use super::*;
+    use std::test::Fail;
+
+    #[test]
+    fn the_two_others_block_where_one_takes_all(rt: HostRuntime) -> Result<(), Fail> {
+        let majority = Table::new(3, &[0, 0, 1, 0, 1, 1, 1]);
+        let first_takes_all = Point::new(&[1, 0, 0], 1);
+        let thirds = Point::new(&[1, 1, 1], 3);
+        assert_eq!(rt; chosen_blocker(&majority, &first_takes_all), Some(0b110));
+        assert_eq!(rt; excess(&majority, &first_takes_all, 0b110), 1);
+        assert_eq!(rt; chosen_blocker(&majority, &thirds), Some(0b011), "of three the least mask");
+        let pairs = blockers(rt.alloc(), &majority, &thirds)?;
+        assert_eq!(rt; pairs.as_slice(), [0b011, 0b101, 0b110].as_slice());
+        Ok(())
+    }
+
+    #[test]
+    fn nobody_blocks_a_core_point(rt: HostRuntime) -> Result<(), Fail> {
+        let pair = Table::new(2, &[0, 0, 4]);
+        let halves = Point::new(&[2, 2], 1);
+        assert_eq!(rt; chosen_blocker(&pair, &halves), None);
+        assert_eq!(rt; blockers(rt.alloc(), &pair, &halves)?.len(), 0);
+        Ok(())
+    }
+}
