@@ -10,5 +10,4 @@ pub mod Certificates
 pub mod Failures
 pub mod Programs
 pub mod Theorems
-pub mod Failures
 pub mod Plain
