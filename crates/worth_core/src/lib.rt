@@ -1,0 +1,12 @@
+//! What every class of games offers, and the shares that games are compared with.
+#![tactic(auto)]
+
+mod best;
+mod shares;
+#[cfg(test)]
+mod tests;
+mod worth;
+
+pub use definitions::Family;
+pub use shares::Shares;
+pub use worth::Worth;

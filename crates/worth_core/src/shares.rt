@@ -1,0 +1,112 @@
+//! Shares of a worth over a common denominator.
+ghost use Rattle.std.specs.Prelude.{◌≡◌, ◌↔◌, ◌^◌, ◌<◌, length, unsigned_abs, pos, ◌-ℤ◌, ◌*ℤ◌, ◌≤ℤ◌, IsTrue, MatchOption, All};
+ghost use Rattle.definitions.specs.Games.{IsShares, share, amount};
+ghost use Rattle.worth_core.specs.Allocations.{allocation};
+
+use coalitions::Coalition;
+use std::marker::Model;
+
+/// The share of each player, as worth: a numerator over the common denominator.
+///
+/// There are 1 to 64 shares, the denominator is from 1 to 2^63, and each numerator is below 2^110 in size.
+#[derive(Debug, Drop)]
+pub struct Shares {
+    num: Vec<i128>,
+    den: i128,
+}
+
+impl Model for Shares {
+    ghost use Rattle.definitions.specs.Games.{Allocation, IsShares};
+    ghost use Rattle.worth_core.specs.Allocations.{allocation};
+
+    ghost Value = { Allocation };
+
+    ghost view = { λ s. allocation s.num.items s.den };
+
+    ghost invariant = { λ s. IsShares (allocation s.num.items s.den) };
+}
+
+impl Shares {
+    /// The shares with these numerators over this denominator; none exactly where a number is beyond its limit.
+    pub fn new(num: Vec<i128>, den: i128) -> Option<Shares>
+        ensures { let x = allocation num.items den in MatchOption result (¬ IsShares x) (λ y. (y ≡ x) × IsShares x) }
+    {
+        if num.is_empty() || num.len() > 64 {
+            return None;
+        }
+        if den < 1 || den > 1 << 63 {
+            return None;
+        }
+        if !all_small(&num) {
+            return None;
+        }
+        Some(Shares { num, den })
+    }
+
+    /// The number of shares.
+    pub fn players(&self) -> u32
+        ensures count { result ≡ length self.now.shares }
+        ensures shares { IsShares self.now }
+    {
+        self.num.len() as u32
+    }
+
+    /// The numerator of player `i`'s share.
+    pub fn num(&self, i: u32) -> i128
+        requires { i < length self.now.shares }
+        ensures value { result ≡ share self.now i }
+        ensures small { unsigned_abs result < 2 ^ 110 }
+    {
+        self.num[i as usize]
+    }
+
+    /// The common denominator.
+    pub fn den(&self) -> i128
+        ensures value { result ≡ self.now.den }
+        ensures positive { pos 1 ≤ℤ result }
+        ensures common { result ≤ℤ pos (2 ^ 63) }
+    {
+        self.den
+    }
+
+    /// What the members of a coalition get together, over the denominator.
+    pub fn sum_of(&self, s: Coalition) -> i128
+        ensures value { result ≡ amount self.now s }
+        ensures small { unsigned_abs result < 2 ^ 117 }
+    {
+        let mut sum: i128 = 0;
+        for i in 0..self.players() {
+            if s.contains(i) {
+                sum += self.num(i);
+            }
+        }
+        sum
+    }
+
+    /// What a coalition of that worth could do better by itself, over the denominator.
+    pub fn excess_over(&self, worth: i64, s: Coalition) -> i128
+        requires { unsigned_abs worth < 2 ^ 46 }
+        ensures value { result ≡ self.now.den *ℤ worth -ℤ amount self.now s }
+        ensures small { unsigned_abs result < 2 ^ 118 }
+    {
+        scaled(self.den(), worth) - self.sum_of(s)
+    }
+}
+
+/// Whether each numerator is below 2^110 in size.
+fn all_small(num: &[i128]) -> bool
+    ensures { IsTrue result ↔ All (λ z. unsigned_abs z < 2 ^ 110) num.now }
+{
+    num.iter().all(|z| z.unsigned_abs() < 1 << 110)
+}
+
+/// A worth over the denominator.
+fn scaled(den: i128, worth: i64) -> i128
+    requires positive { pos 1 ≤ℤ den }
+    requires common { den ≤ℤ pos (2 ^ 63) }
+    requires small { unsigned_abs worth < 2 ^ 46 }
+    ensures value { result ≡ den *ℤ worth }
+    ensures small { unsigned_abs result < 2 ^ 110 }
+{
+    den * worth as i128
+}
