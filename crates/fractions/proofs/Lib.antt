@@ -23,3 +23,4 @@ pub mod Measures
 pub mod Objective
 pub mod PivotRows
 pub mod Duality
+pub mod BasisPivots
