@@ -1,4 +1,4 @@
--- The definitions on small games.
+-- The definitions, computed on small games.
 use Rattle.std.proofs.Common.{◌≤◌, ◌≡◌, ◌⊎◌, ℕ, zero, suc, ◌<◌, Bool, true, false, List, [], ◌∷◌, ℤ, pos, negsuc, ◌+ℤ◌, ◌≤ℤ◌, refl, arith, inl, inr, rules, ◌&&◌, sym, ap, ◌∙◌, slice_index, slice_index_or, int_le, int_lt, not, ◌||◌, ◌*ℤ◌}
 use Rattle.std.proofs.lemmas.Bool.{false≢true}
 use Rattle.std.proofs.lemmas.Int.{ints}
@@ -14,14 +14,19 @@ use Rattle.definitions.specs.Balanced.{IsBalancedOfExcessWorth}
 use Rattle.definitions.specs.Classes.{table_worth, airport_worth, bankruptcy_worth, plan_cost, Matrix, IsMatching, matching_value}
 use Rattle.definitions.specs.Shapley.{shapley_total}
 
+-- ---- three players, of whom any two are worth 1
+
 abbrev majority : Game
 majority = record { players = 3; worth = table_worth (pos 0 ∷ (pos 0 ∷ (pos 1 ∷ (pos 0 ∷ (pos 1 ∷ (pos 1 ∷ (pos 1 ∷ []))))))) }
 
+-- player 1 has all
 abbrev first_takes_all : Allocation
 first_takes_all = record { shares = pos 1 ∷ (pos 0 ∷ (pos 0 ∷ [])); den = pos 1 }
 
 blocker_excess : excess majority first_takes_all 6 ≡ pos 1
-blocker_excess = cc
+blocker_excess = refl
+
+-- ---- an airport with the costs 2, 4, 6
 
 abbrev airport : Game
 airport = record { players = 3; worth = airport_worth (2 ∷ (4 ∷ (6 ∷ []))) }
@@ -46,6 +51,8 @@ other_sorted = refl
 fair_beats : Beats airport fair other
 fair_beats = search rules
 
+-- ---- totals over all orders, and an estate
+
 shapley_majority : shapley_total majority 0 ≡ pos 2
 shapley_majority = refl
 
@@ -54,6 +61,8 @@ shapley_airport = refl
 
 bankrupt : bankruptcy_worth 400 (100 ∷ (200 ∷ (300 ∷ []))) 6 ≡ pos 300
 bankrupt = refl
+
+-- ---- the chosen blocker of majority, by a test of each coalition
 
 -- a test passes at each number below n
 abbrev passes_below : ℕ → (ℕ → Bool) → Bool
@@ -169,6 +178,7 @@ house_matching = (search rules, refl, refl, (search rules, refl, refl, tt))
 house_value : matching_value house ((0, 1) ∷ ((1, 0) ∷ [])) ≡ 15
 house_value = refl
 
+-- the three pairs with weight 1 add to 2 at each player, and are worth 3
 pairs_collection : IsBalancedOfExcessWorth majority ((3, pos 1) ∷ ((5, pos 1) ∷ ((6, pos 1) ∷ []))) (pos 2)
 pairs_collection = record {
   positive = search rules;

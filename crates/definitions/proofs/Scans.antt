@@ -1,5 +1,6 @@
 -- What a scan over the numbers in ascending order knows, one number further on.
-use Rattle.std.proofs.Common.{◌≡◌, ◌⊎◌, ℕ, zero, suc, ◌+◌, ◌-◌, ◌^◌, ◌<◌, ◌≤◌, Bool, true, false, cond, List, [], ◌∷◌, ◌++◌, map, ℤ, pos, ◌-ℤ◌, ◌*ℤ◌, ◌<ℤ◌, ◌≤ℤ◌, int_lt, arith, refl, sym, ap, subst, ◌∙◌, inl, inr, add-one, append-nil}
+use Rattle.std.proofs.Common.{◌≡◌, ◌⊎◌, ℕ, zero, suc, ◌+◌, ◌-◌, ◌^◌, ◌<◌, ◌≤◌, ◌↔◌, IsTrue, Bool, true, false, cond, List, [], ◌∷◌, ◌++◌, map, ℤ, pos, ◌<ℤ◌, ◌≤ℤ◌, int_lt, arith, refl, sym, ap, subst, ◌∙◌, inl, inr, add-one, append-nil}
+use Rattle.std.proofs.lemmas.Bool.{false≢true}
 use Rattle.std.proofs.lemmas.Int.{ints, by_lt_z}
 use Rattle.std.proofs.lemmas.List.Elements.{filter-append}
 use Rattle.std.proofs.lemmas.List.FromFn.{map-range_with_len_more}
@@ -7,7 +8,7 @@ use Rattle.std.specs.Int.{int_max}
 use Rattle.std.specs.List.{filter, range_with_len}
 use Rattle.definitions.proofs.Ring.{linear}
 use Rattle.definitions.specs.Sums.{IsGreatest}
-use Rattle.definitions.specs.Games.{Game, Allocation, excess, amount, Blocks, IsChosenBlocker}
+use Rattle.definitions.specs.Games.{Game, Allocation, excess, Blocks, IsChosenBlocker}
 
 last_or_less : (t k : ℕ) → t < k + 1 → (t < k) ⊎ (t ≡ k)
 last_or_less t k h = grind arith
@@ -67,15 +68,18 @@ filter-failed test n xs ys fails before kept =
     let none = ap (λ (b : Bool). filter test (range_with_len 0 n) ++ cond b (n ∷ []) []) fails ∙ append-nil (filter test (range_with_len 0 n)) in
     cc
 
-positive-difference : (a b : ℤ) → int_lt (pos 0) (b -ℤ a) ≡ int_lt a b
-positive-difference a b =
-    by_lt_z a b
-    (λ lt. let d : pos 0 <ℤ (b -ℤ a) = omega (arith, ints) in grind (arith, ints))
-    (λ le. let d : (b -ℤ a) ≤ℤ pos 0 = omega (arith, ints) in grind (arith, ints))
+int_lt-true : (a b : ℤ) → a <ℤ b → int_lt a b ≡ true
+int_lt-true a b lt = grind (arith, ints)
 
--- a coalition blocks where its excess is positive
-pub blocks-test : (g : Game) (x : Allocation) (s : ℕ) (e : ℤ) → e ≡ excess g x s → int_lt (amount x s) (x.den *ℤ g.worth s) ≡ int_lt (pos 0) e
-blocks-test g x s e same = sym (ap (int_lt (pos 0)) same ∙ positive-difference (amount x s) (x.den *ℤ g.worth s))
+int_lt-false : (a b : ℤ) → b ≤ℤ a → int_lt a b ≡ false
+int_lt-false a b le = grind (arith, ints)
+
+-- the two tests of an order have one answer
+pub int_lt-from_test : (a b : ℤ) (r : Bool) → (IsTrue r ↔ (a <ℤ b)) → int_lt a b ≡ r
+int_lt-from_test a b true h = int_lt-true a b (h.0 refl)
+int_lt-from_test a b false h =
+    let le : b ≤ℤ a = by_lt_z a b (λ lt. absurd (false≢true (h.1 lt))) (λ le. le) in
+    int_lt-false a b le
 
 -- ---- the first mask of greatest excess
 

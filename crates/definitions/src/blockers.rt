@@ -1,6 +1,6 @@
 //! The coalitions that block a point, and the one that a report names.
 
-ghost use Rattle.std.specs.Prelude.{◌≡◌, ℕ, ◌^◌, ◌<◌, IfOk, MatchOption, unsigned_abs};
+ghost use Rattle.std.specs.Prelude.{◌≡◌, ◌↔◌, ℕ, ◌^◌, ◌<◌, IsTrue, IfOk, MatchOption, unsigned_abs};
 ghost use Rattle.std.specs.Int.{int_max};
 ghost use Rattle.definitions.specs.Sums.{IsGreatest};
 ghost use Rattle.definitions.specs.Games.{excess, Blocks, IsChosenBlocker};
@@ -8,6 +8,14 @@ ghost use Rattle.definitions.specs.Plain.{game_of, blocking_masks};
 
 use crate::table::{Point, Table, excess};
 use std::alloc::{AllocError, Global};
+
+/// Whether a coalition is worth more than its members get.
+pub fn blocks(table: &Table, point: &Point, coalition: u64) -> bool
+    requires { coalition < 2 ^ table.now.players }
+    ensures { IsTrue result ↔ Blocks (game_of table.now) point.now coalition }
+{
+    excess(table, point, coalition) > 0
+}
 
 /// The masks of the coalitions that are worth more than their members get, in ascending order.
 ///
@@ -17,7 +25,7 @@ pub fn blockers(alloc: Global, table: &Table, point: &Point) -> Result<Vec<u64>,
 {
     let mut masks = Vec::new(alloc);
     for coalition in 0..table.coalitions() {
-        if excess(table, point, coalition) > 0 {
+        if blocks(table, point, coalition) {
             masks.push(coalition)?;
         }
     }
@@ -78,7 +86,11 @@ mod tests {
         let thirds = Point::new(&[1, 1, 1], 3);
         assert_eq!(rt; chosen_blocker(&majority, &first_takes_all), Some(0b110));
         assert_eq!(rt; excess(&majority, &first_takes_all, 0b110), 1);
-        assert_eq!(rt; chosen_blocker(&majority, &thirds), Some(0b011), "of three the least mask");
+        assert_eq!(rt;
+            chosen_blocker(&majority, &thirds),
+            Some(0b011),
+            "of three the least mask"
+        );
         let pairs = blockers(rt.alloc(), &majority, &thirds)?;
         assert_eq!(rt; pairs.as_slice(), [0b011, 0b101, 0b110].as_slice());
         Ok(())

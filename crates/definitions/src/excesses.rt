@@ -72,7 +72,10 @@ mod tests {
         assert_eq!(rt; excesses.as_slice(), [-2, -5, -3, -5, -3, -2].as_slice());
         assert!(rt; beats(rt.alloc(), &airport, &fair, &other)?);
         assert!(rt; !beats(rt.alloc(), &airport, &other, &fair)?);
-        assert!(rt; !beats(rt.alloc(), &airport, &fair, &fair)?, "it doesn't beat itself");
+        assert!(rt;
+            !beats(rt.alloc(), &airport, &fair, &fair)?,
+            "it doesn't beat itself"
+        );
         Ok(())
     }
 
