@@ -2,16 +2,17 @@
 use Rattle.std.proofs.Common.{◌≡◌, ◌⊎◌, ℕ, zero, suc, ◌+◌, ◌-◌, ◌^◌, ◌<◌, ◌≤◌, true, List, [], ◌∷◌, ◌++◌, map, ℤ, pos, ◌+ℤ◌, ◌-ℤ◌, ◌*ℤ◌, ◌≤ℤ◌, ◌<ℤ◌, sym, ap, subst, ◌∙◌, inl, inr, arith}
 use Rattle.std.specs.List.{AllByRecursion, range_with_len}
 use Rattle.std.proofs.lemmas.Int.{by_lt_z}
-use Rattle.definitions.proofs.Ring.{linear, mul-subℤ, mul_assocℤ, mul-leℤ, mul-le_cancelℤ}
+use Rattle.definitions.proofs.Ring.{linear, mul-subℤ, mul_left_commℤ, mul-leℤ, mul-le_cancelℤ}
 use lib.IntN.{*ℤ_comm}
+use Rattle.definitions.proofs.Families.{allocation_of, efficient_of, individual_of}
 use Rattle.definitions.proofs.Members.{sum_over-combined}
 use Rattle.definitions.proofs.SortedLemmas.{SameOrLow, SomeAbove, ComesBefore-sorted}
 use Rattle.definitions.proofs.Settled.{Settled, Settled-none, Settled-more, level-sum, some_rises, Weighs, weighted_sum-low, weighted_sum-all_zero, weighted_sum-zero_terms, earlier_zero, inside_zero, all_fixed_zero}
 use Rattle.definitions.specs.Coalitions.{singleton, grand_coalition, sum_over, proper_coalitions}
-use Rattle.definitions.specs.Games.{Game, Allocation, share, amount, excess, Beats, IsSame, IsAllocation, IsEfficient, IsIndividuallyRational, InFamily, IsNucleolus}
+use Rattle.definitions.specs.Games.{Game, Allocation, share, amount, excess, Beats, IsSame, IsAllocation, IsEfficient, InFamily, IsNucleolus}
 use Rattle.definitions.specs.Certificates.{Level, LevelForm, LevelsForm, HasForm, LevelHolds, LevelsHold, HasExcess, IsOutside, Certifies, has_bound}
 use Rattle.definitions.specs.declared.Family.{Family}
-use Rattle.definitions.specs.declared.Family.TheVariants.{Imputations, Preimputations}
+use Rattle.definitions.specs.declared.Family.TheVariants.{Imputations}
 use Rattle.definitions.specs.declared.Mode.{Mode}
 
 -- ---- lists over the masks
@@ -44,31 +45,14 @@ gap-amount g x y s hx hy =
     sum_over-combined g.players (share x) (share y) y.den x.den s
     ∙ (let a = amount-at g x s hx in let b = amount-at g y s hy in cc)
 
-swap_dens : (p q v : ℤ) → p *ℤ (q *ℤ v) ≡ q *ℤ (p *ℤ v)
-swap_dens p q v = sym (mul_assocℤ p q v) ∙ ap (λ z. z *ℤ v) (*ℤ_comm p q) ∙ mul_assocℤ q p v
-
 -- the scaled excesses differ by the gap
 excess-gap : (g : Game) (x y : Allocation) (s : ℕ) → IsAllocation g x → IsAllocation g y → x.den *ℤ excess g y s ≡ y.den *ℤ excess g x s +ℤ sum_over g.players (gap x y) s
 excess-gap g x y s hx hy =
-    omega (arith, linear, gap-amount g x y s hx hy, mul-subℤ x.den (y.den *ℤ g.worth s) (amount y s), mul-subℤ y.den (x.den *ℤ g.worth s) (amount x s), swap_dens x.den y.den (g.worth s))
+    omega (arith, linear, gap-amount g x y s hx hy, mul-subℤ x.den (y.den *ℤ g.worth s) (amount y s), mul-subℤ y.den (x.den *ℤ g.worth s) (amount x s), mul_left_commℤ x.den y.den (g.worth s))
 
 gap-grand_coalition : (g : Game) (x y : Allocation) → IsAllocation g x → IsAllocation g y → IsEfficient g x → IsEfficient g y → sum_over g.players (gap x y) (grand_coalition g.players) ≡ pos 0
 gap-grand_coalition g x y hx hy ex ey =
-    omega (arith, linear, gap-amount g x y (grand_coalition g.players) hx hy, ap (λ z. y.den *ℤ z) ex, ap (λ z. x.den *ℤ z) ey, swap_dens x.den y.den (g.worth (grand_coalition g.players)))
-
--- ---- members of a family
-
-allocation_of : (family : Family) (g : Game) (x : Allocation) → InFamily family g x → IsAllocation g x
-allocation_of Imputations g x h = h.0
-allocation_of Preimputations g x h = h.0
-
-efficient_of : (family : Family) (g : Game) (x : Allocation) → InFamily family g x → IsEfficient g x
-efficient_of Imputations g x h = h.1
-efficient_of Preimputations g x h = h.1
-
-individual_of : (family : Family) (g : Game) (x : Allocation) → InFamily family g x → family ≡ Imputations → IsIndividuallyRational g x
-individual_of Imputations g x h e = h.2
-individual_of Preimputations g x h e = absurd (cc)
+    omega (arith, linear, gap-amount g x y (grand_coalition g.players) hx hy, ap (λ z. y.den *ℤ z) ex, ap (λ z. x.den *ℤ z) ey, mul_left_commℤ x.den y.den (g.worth (grand_coalition g.players)))
 
 -- ---- a level
 
@@ -79,7 +63,7 @@ bounds_low family g x y (p ∷ ps) hx hy within tight =
     let least = individual_of family g y hy tight.0.1 p.0 within.0 in
     let v = g.worth (singleton p.0) in
     let scaled = mul-leℤ x.den (y.den *ℤ v) (share y p.0) (omega (arith, linear, hx.1)) least in
-    (omega (arith, linear, scaled, ap (λ z. y.den *ℤ z) tight.0.0, swap_dens x.den y.den v), bounds_low family g x y ps hx hy within.1 tight.1)
+    (omega (arith, linear, scaled, ap (λ z. y.den *ℤ z) tight.0.0, mul_left_commℤ x.den y.den v), bounds_low family g x y ps hx hy within.1 tight.1)
 
 bounds_weigh : (n : ℕ) (d : ℕ → ℤ) (front : List Level) → Settled n d front → (ps : List (ℕ × ℤ)) → AllByRecursion (λ b. b.0 < n) ps → AllByRecursion (λ b. (pos 1 ≤ℤ b.1) ⊎ (has_bound front b.0 ≡ true)) ps → AllByRecursion (Weighs d) ps
 bounds_weigh n d front settled [] within h = tt

@@ -11,3 +11,4 @@ pub mod Failures
 pub mod Programs
 pub mod Theorems
 pub mod Plain
+pub mod Verdicts

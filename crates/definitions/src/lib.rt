@@ -8,6 +8,7 @@ pub mod blockers;
 pub mod excesses;
 pub mod order;
 pub mod table;
+pub mod verdicts;
 
 /// The allocations that a nucleolus is compared with (Schmeidler 1969; for preimputations Sobolev 1975).
 #[derive(Clone, Copy, Debug, PartialEq, Eq)]
