@@ -35,10 +35,6 @@ IsGreatest-more f k m h =
     (λ lt. rw (int_max-high m (f k) lt) (greatest-raised f k m h lt))
     (λ le. rw (int_max-low m (f k) le) (greatest-kept f k m h le))
 
-pub IsGreatest-first : (f : ℕ → ℤ) → IsGreatest (λ s. s < 1) f (f 0)
-IsGreatest-first f =
-    ((0, omega arith, refl), λ t lt. let same : t ≡ 0 = omega arith in subst (λ (u : ℕ). f u ≤ℤ f 0) (sym same) (omega (arith, ints)))
-
 -- ---- one mask more in a list
 
 range_with_len-suc : (a n j : ℕ) → a + n ≡ j → range_with_len a (suc n) ≡ range_with_len a n ++ j ∷ []
