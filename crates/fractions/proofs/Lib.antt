@@ -1,3 +1,4 @@
+pub mod Cases
 pub mod Determinants
 pub mod Exchanges
 pub mod WeightedSums
