@@ -1,5 +1,5 @@
 -- What a scan over the masks in ascending order knows of the masks behind it.
-use Rattle.std.proofs.Common.{◌≡◌, ◌⊎◌, ℕ, ◌+◌, ◌^◌, ◌<◌, ℤ, pos, ◌-ℤ◌, ◌*ℤ◌, ◌<ℤ◌, ◌≤ℤ◌, Option, Some, None, MatchOption, arith, refl, sym, ap, ◌∙◌, inl, inr, subst, to_z, of_z}
+use Rattle.std.proofs.Common.{◌≡◌, ◌⊎◌, ℕ, ◌+◌, ◌^◌, ◌<◌, ℤ, pos, ◌-ℤ◌, ◌*ℤ◌, ◌<ℤ◌, ◌≤ℤ◌, Option, Some, None, MatchOption, arith, sym, ap, ◌∙◌, inl, inr, subst, to_z, of_z}
 use mir.Syntax.{w64}
 use Rattle.std.proofs.lemmas.Int.{ints, by_lt_z}
 use Rattle.definitions.specs.Games.{Game, Allocation, amount, excess, IsGame, Blocks, IsChosenBlocker}
@@ -16,9 +16,6 @@ last_or_less t m k = grind arith
 all_next : (g : Game) (x : Allocation) (m : ℕ) (most : ℤ) → ((t : ℕ) → t < m → excess g x t ≤ℤ most) → excess g x m ≤ℤ most → (t : ℕ) → t < m + 1 → excess g x t ≤ℤ most
 all_next g x m most h here t k =
     elim (last_or_less t m k) [ inl less ↦ h t less | inr same ↦ subst (λ (u : ℕ). excess g x u ≤ℤ most) (sym same) here ]
-
-pub IsBestBelow-start : (g : Game) (x : Allocation) → IsBestBelow g x 0 None (pos 0)
-IsBestBelow-start g x = record { some = refl; all = λ t k. absurd (omega arith) }
 
 kept : (g : Game) (x : Allocation) (m : ℕ) (best : Option ℕ) (most : ℤ) → IsBestBelow g x m best most → excess g x m ≤ℤ most → IsBestBelow g x (m + 1) best most
 kept g x m None most h le = record { some = h.some; all = all_next g x m most h.all le }

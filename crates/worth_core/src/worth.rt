@@ -8,7 +8,7 @@ use coalitions::Coalition;
 
 /// A game with transferable worth.
 pub trait Worth {
-    // The game that is meant.
+    /// The game that is meant.
     ghost game: { Self → Game };
 
     /// The number of players, 1 to 64.
@@ -21,8 +21,9 @@ pub trait Worth {
         requires { s < 2 ^ (game self.now).players }
         ensures { result ≡ (game self.now).worth s };
 
-    /// The coalition of greatest excess that is worth more than its members get, the least mask where several have
-    /// that excess; none exactly where no coalition blocks the shares.
+    /// The coalition that blocks the shares most: it is worth more than its members get, no coalition has a greater
+    /// excess, and no lesser mask has as great a one. None exactly where no coalition blocks, as at a point of the
+    /// core (Gillies 1959).
     fn blocker(&self, x: &Shares) -> Option<Coalition>
         requires { length x.now.shares ≡ (game self.now).players }
         ensures { MatchOption result
