@@ -1,0 +1,12 @@
+pub mod Words
+pub mod Text
+pub mod Trees
+pub mod Table
+pub mod Document
+pub mod Refusals
+pub mod Judgement
+pub mod Lines
+pub mod Headline
+pub mod Outcome
+pub mod Stops
+pub mod Faults

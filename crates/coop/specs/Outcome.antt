@@ -1,0 +1,67 @@
+-- What stands when a run has ended: the status, what was printed, how far the input was read, and which call failed.
+use Rattle.std.specs.Prelude.{◌≡◌, ◌≢◌, ◌<◌, ◌+◌, ℕ, List, length, take, Option, Some, None, ⊤}
+use Rattle.std.specs.Io.KnownBytes.{Appends, Consumes, IsAtEnd}
+use Rattle.ports.specs.Causes.{Rose}
+use Rattle.coop.specs.Headline.{Answers}
+use Rattle.coop.specs.Lines.{line, status_of}
+use Rattle.coop.specs.Text.{document_limit}
+use Rattle.coop.specs.declared.answer.Answer.{Answer}
+use Rattle.coop.specs.declared.answer.Answer.TheVariants.{Usage, Refused, NotEfficient, Blocked, InCore}
+use Rattle.coop.specs.declared.refusal.Refusal.TheVariants.{TooLong, NotJson, Shape}
+use Rattle.coop.specs.declared.status.Status.{Status}
+use Rattle.coop.specs.declared.status.Status.TheVariants as status
+
+-- these are the bytes that were left, where the source tells them
+abbrev pub IsLeft : Option (List ℕ) → List ℕ → Type 0
+IsLeft None bytes = ⊤
+IsLeft (Some told) bytes = told ≡ bytes
+
+-- one byte more than a document may have was read
+abbrev pub ReadsPastLimit : Option (List ℕ) → Option (List ℕ) → Type 0
+ReadsPastLimit old new = (bytes : List ℕ) × Consumes old new bytes × (length bytes ≡ document_limit + 1)
+
+-- all was read
+abbrev pub ReadsAll : Option (List ℕ) → Option (List ℕ) → Type 0
+ReadsAll old new = ((bytes : List ℕ) × Consumes old new bytes) × IsAtEnd new
+
+-- how far the input was read for an answer
+abbrev pub ReadsFor : Answer → Option (List ℕ) → Option (List ℕ) → Type 0
+ReadsFor Usage old new = new ≡ old
+ReadsFor (Refused TooLong) old new = ReadsPastLimit old new
+ReadsFor (Refused NotJson) old new = ReadsAll old new
+ReadsFor (Refused Shape) old new = ReadsAll old new
+ReadsFor (NotEfficient sum total) old new = ReadsAll old new
+ReadsFor (Blocked s e) old new = ReadsAll old new
+ReadsFor InCore old new = ReadsAll old new
+
+-- the answer is right for the words and for the bytes that were left
+pub record IsRight (words : List (List ℕ)) (old new : Option (List ℕ)) (answer : Answer) : Type 0 where
+  pub bytes : List ℕ
+  pub left : IsLeft old bytes
+  pub answers : Answers words bytes answer
+  pub reads : ReadsFor answer old new
+
+-- the line of a right answer was printed, and the status goes with it
+abbrev pub Answered : List (List ℕ) → Option (List ℕ) → Option (List ℕ) → Option (List ℕ) → Option (List ℕ) → Status → Type 0
+Answered words old new taken_old taken_new s =
+    (answer : Answer) × IsRight words old new answer × (s ≡ status_of answer) × Appends taken_old taken_new (line answer)
+
+-- a proper front of the line of a right answer was printed
+abbrev pub CutShort : List (List ℕ) → Option (List ℕ) → Option (List ℕ) → Option (List ℕ) → Option (List ℕ) → Type 0
+CutShort words old new taken_old taken_new =
+    (answer : Answer) × IsRight words old new answer × ((n : ℕ) × (n < length (line answer)) × Appends taken_old taken_new (take n (line answer)))
+
+-- what stands after each status
+abbrev pub Ends : List (List ℕ) → Option (List ℕ) → Option (List ℕ) → Option (List ℕ) → Option (List ℕ) → Status → Type 0
+Ends words old new taken_old taken_new status.Done = Answered words old new taken_old taken_new status.Done
+Ends words old new taken_old taken_new status.Negative = Answered words old new taken_old taken_new status.Negative
+Ends words old new taken_old taken_new status.Usage = Answered words old new taken_old taken_new status.Usage
+Ends words old new taken_old taken_new status.Refused = Answered words old new taken_old taken_new status.Refused
+Ends words old new taken_old taken_new status.ReadFault = taken_new ≡ taken_old
+Ends words old new taken_old taken_new status.WriteFault = CutShort words old new taken_old taken_new
+Ends words old new taken_old taken_new status.OutOfMemory = taken_new ≡ taken_old
+
+-- the count rose at this status, and is as before after every other
+pub record IsCauseOf (fault : Status) (before now : ℕ) (s : Status) : Type 0 where
+  pub rose : s ≡ fault → Rose before now
+  pub quiet : s ≢ fault → now ≡ before

@@ -1,0 +1,47 @@
+//! Solves cooperative games: a command from the words, a document from standard input, a line to standard output.
+#![tactic(auto)]
+
+mod adapters;
+mod answer;
+mod document;
+mod judge;
+mod line;
+mod proposal;
+mod reading;
+mod refusal;
+mod run;
+mod status;
+mod stop;
+mod stream;
+mod table;
+#[cfg(test)]
+mod tests;
+mod words;
+
+use adapters::{StdSink, StdSource};
+use run::run;
+use status::Status;
+use std::io::ErrorKind;
+use std::process::ExitCode;
+use std::{env, io};
+
+// The words after the program's name.
+fn arguments(rt: &HostRuntime) -> io::Result<Vec<String>> {
+    let arguments = env::args(rt)?.skip(1).collect(rt.alloc())?;
+    Ok(arguments)
+}
+
+fn main(rt: HostRuntime) -> ExitCode {
+    let words = match arguments(&rt) {
+        Ok(words) => words,
+        Err(e) if e.kind() == ErrorKind::OutOfMemory => {
+            return ExitCode::from(Status::OutOfMemory as u8);
+        }
+        // One of them isn't UTF-8.
+        Err(_) => Vec::new(rt.alloc()),
+    };
+    let mut source = StdSource::new(rt.stdin());
+    let mut sink = StdSink::new(rt.stdout());
+    let status = run(rt.alloc(), &words, &mut source, &mut sink);
+    ExitCode::from(status as u8)
+}

@@ -1,0 +1,18 @@
+/// How a run ends, with the number that the program ends with.
+#[derive(Clone, Copy, Debug, PartialEq, Eq)]
+pub enum Status {
+    /// The positive answer was printed.
+    Done = 0,
+    /// The negative answer was printed.
+    Negative = 1,
+    /// The words name no command.
+    Usage = 2,
+    /// The input is no document of the command.
+    Refused = 3,
+    /// The input could not be read; nothing was printed.
+    ReadFault = 5,
+    /// The line could not be written to its end.
+    WriteFault = 6,
+    /// Memory was not found; nothing was printed.
+    OutOfMemory = 7,
+}

@@ -1,0 +1,48 @@
+//! Reading the input whole, and writing a line whole.
+ghost use Rattle.std.specs.Prelude.{◌≡◌, ◌+◌, ◌^◌, ◌<◌, ◌≤◌, ℕ, length, take, IfOk, OnOk, OnErr, vec_len};
+ghost use Rattle.std.specs.Io.KnownBytes.{Appends, Consumes, IsAtEnd};
+ghost use Rattle.ports.specs.Causes.{HasCause};
+ghost use Rattle.coop.specs.Stops.{IsFaultOf};
+
+use crate::stop::Stop;
+use ports::{Failed, Sink, Source};
+use std::alloc::Global;
+
+// How many bytes are asked for at once, at most.
+const PIECE: usize = 4096;
+
+/// The bytes up to the end of the source, or one byte more than the limit where there are as many.
+pub fn read_input<S: Source>(alloc: Global, source: &mut S, limit: usize) -> Result<Vec<u8>, Stop>
+    requires { limit < 2 ^ 40 }
+    ensures bytes { IfOk result (λ v. Consumes (S.left source.old) (S.left source.new) v.items) }
+    ensures most { IfOk result (λ v. vec_len v ≤ limit + 1) }
+    ensures end { IfOk result (λ v. vec_len v ≤ limit → IsAtEnd (S.left source.new)) }
+    ensures cause { IsFaultOf (S.faults source.old) (S.faults source.new) result }
+{
+    let mut input = Vec::new(alloc);
+    let mut buf = [0u8; PIECE];
+    'reading: while input.len() <= limit {
+        let room = PIECE.min(limit + 1 - input.len());
+        let Ok(count) = source.read(&mut buf[..room]) else {
+            return Err(Stop::Fault);
+        };
+        if count == 0 {
+            return Ok(input);
+        }
+        input.extend_from_slice(&buf[..count])?;
+    }
+    Ok(input)
+}
+
+/// Writes the whole line; where a write fails, the sink has taken a proper front of it.
+pub fn write_line<K: Sink>(sink: &mut K, line: &[u8]) -> Result<(), Failed>
+    ensures ok { OnOk result (Appends (K.taken sink.old) (K.taken sink.new) line.now) }
+    ensures err { OnErr result ((n : ℕ) × (n < length line.now) × Appends (K.taken sink.old) (K.taken sink.new) (take n line.now)) }
+    ensures cause { HasCause (K.faults sink.old) (K.faults sink.new) result }
+{
+    let mut at = 0;
+    'writing: while at < line.len() {
+        at += sink.write(&line[at..])?;
+    }
+    Ok(())
+}
