@@ -71,12 +71,31 @@ fn refuses_what_is_no_json(rt: HostRuntime) -> Result<(), Fail> {
     for input in [
         b"{\"game\":{\"class\":".as_slice(),
         b"\"\xff\"".as_slice(),
-        [b'['; 200].as_slice(),
         b"".as_slice(),
     ] {
         let line = "{\"number\":2,\"refused\":\"NotJson\"}\n";
         assert!(rt; is_refused(rt.alloc(), input, line)?, "{input:?}");
     }
+    Ok(())
+}
+
+// Arrays in arrays, that many deep.
+fn nested(alloc: Global, depth: usize) -> Result<Vec<u8>, Fail> {
+    let mut text = vec![in alloc; b'['; depth]?;
+    for _ in 0..depth {
+        text.push(b']')?;
+    }
+    Ok(text)
+}
+
+#[test]
+fn refuses_what_is_nested_deeper_than_is_read(rt: HostRuntime) -> Result<(), Fail> {
+    let alloc = rt.alloc();
+    let shape = "{\"number\":3,\"refused\":\"Shape\"}\n";
+    assert!(rt; is_refused(alloc, &nested(alloc, 127)?, shape)?);
+    let not_json = "{\"number\":2,\"refused\":\"NotJson\"}\n";
+    assert!(rt; is_refused(alloc, &nested(alloc, 128)?, not_json)?);
+    assert!(rt; is_refused(alloc, &nested(alloc, 200)?, not_json)?);
     Ok(())
 }
 
@@ -137,7 +156,7 @@ fn a_full_sink_ends_the_run_with_a_front_of_the_line(rt: HostRuntime) -> Result<
     let found = run_on(
         rt.alloc(),
         &["propose"],
-        CORE.as_bytes(),
+        BLOCKED.as_bytes(),
         10,
         "{\"answer\":",
     )?;
