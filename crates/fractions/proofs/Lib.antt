@@ -25,3 +25,8 @@ pub mod Objective
 pub mod PivotRows
 pub mod Duality
 pub mod BasisPivots
+pub mod Divisors
+pub mod Ratios
+pub mod Orders
+pub mod LowestTerms
+pub mod Operations

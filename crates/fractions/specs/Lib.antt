@@ -8,3 +8,5 @@ pub mod Rows
 pub mod Lexicographic
 pub mod Measure
 pub mod Theorems
+pub mod Divisors
+pub mod Fraction

@@ -1,9 +1,13 @@
 //! Exact arithmetic on whole numbers: pivots, and the two plain refusals that other crates use too.
 #![tactic(auto)]
 
+mod frac;
+mod gcd;
 pub mod laws;
 mod matrix;
+mod order;
 
+pub use frac::Frac;
 pub use matrix::{Shape, pivot};
 use std::alloc::{AllocError, AllocFailed};
 

@@ -1,0 +1,53 @@
+-- Fractions in lowest terms, their values, and when an operation's result has a form in 128 bits.
+--
+--   IsReduced f      the denominator is positive, and has no divisor above 1 in common with the numerator
+--   IsRatio f n d    f is n/d in lowest terms. There is one such f where d isn't 0, and none where it is
+--   HasNoForm n d    no pair of 128-bit numbers is n/d in lowest terms
+--   HasSum x y       every number that the sum of x and y takes has a form of 128 bits
+use Rattle.std.specs.Prelude.{◌≡◌, ◌≢◌, ℤ, pos, ◌+ℤ◌, ◌-ℤ◌, ◌*ℤ◌, ◌≤ℤ◌, unsigned_abs, int_div, FitsSigned}
+use Rattle.std.specs.Int.{w128}
+use Rattle.fractions.specs.Divisors.{gcd}
+
+-- a numerator over a denominator
+pub record Fraction : Type 0 where
+  pub num : ℤ
+  pub den : ℤ
+
+-- a positive denominator, and no common divisor above 1
+pub record IsReduced (f : Fraction) : Type 0 where
+  pub positive : pos 1 ≤ℤ f.den
+  pub lowest : gcd (unsigned_abs f.num) (unsigned_abs f.den) ≡ 1
+
+-- f is n/d in lowest terms
+pub record IsRatio (f : Fraction) (n d : ℤ) : Type 0 where
+  pub divisor : d ≢ pos 0
+  pub reduced : IsReduced f
+  pub same : f.num *ℤ d ≡ n *ℤ f.den
+
+-- both numbers have a form of 128 bits
+abbrev pub HasForm : Fraction → Type 0
+HasForm f = FitsSigned w128 f.num × FitsSigned w128 f.den
+
+-- no pair of 128-bit numbers is n/d in lowest terms
+abbrev pub HasNoForm : ℤ → ℤ → Type 0
+HasNoForm n d = (f : Fraction) → IsRatio f n d → ¬ HasForm f
+
+-- the greatest common divisor of two denominators
+abbrev pub common_divisor : Fraction → Fraction → ℤ
+common_divisor x y = pos (gcd (unsigned_abs x.den) (unsigned_abs y.den))
+
+-- over the least common denominator of x and y: their numerators, and the denominator
+pub record HasCommonForm (x y : Fraction) : Type 0 where
+  pub left : FitsSigned w128 (x.num *ℤ int_div y.den (common_divisor x y))
+  pub right : FitsSigned w128 (y.num *ℤ int_div x.den (common_divisor x y))
+  pub denominator : FitsSigned w128 (x.den *ℤ int_div y.den (common_divisor x y))
+
+-- the numbers that a sum takes have a form of 128 bits
+pub record HasSum (x y : Fraction) : Type 0 where
+  pub common : HasCommonForm x y
+  pub sum : FitsSigned w128 (x.num *ℤ int_div y.den (common_divisor x y) +ℤ y.num *ℤ int_div x.den (common_divisor x y))
+
+-- the numbers that a difference takes have a form of 128 bits
+pub record HasDifference (x y : Fraction) : Type 0 where
+  pub common : HasCommonForm x y
+  pub difference : FitsSigned w128 (x.num *ℤ int_div y.den (common_divisor x y) -ℤ y.num *ℤ int_div x.den (common_divisor x y))
