@@ -1,2 +1,3 @@
 pub mod Casts
 pub mod Scan
+pub mod SplitScan

@@ -3,10 +3,11 @@
 
 mod best;
 mod shares;
+mod splitting;
 #[cfg(test)]
 mod tests;
 mod worth;
 
 pub use definitions::Family;
 pub use shares::Shares;
-pub use worth::Worth;
+pub use worth::{Worth, scaled_excess};

@@ -1,6 +1,6 @@
 //! The limits of shares, and the blockers of small games.
 ghost use Rattle.std.specs.Prelude.{◌≡◌, ℕ, ◌^◌, ◌<◌, length, pos, false, MatchOption, slice_index_or, if◌then◌else◌};
-ghost use Rattle.definitions.specs.Games.{Blocks, IsChosenBlocker};
+ghost use Rattle.definitions.specs.Games.{Blocks, IsChosenBlocker, IsSplitMaximum, HasTwo, excess};
 
 use super::*;
 use coalitions::Coalition;
@@ -53,6 +53,39 @@ fn blockers_have_the_greatest_excess_and_the_least_mask(rt: HostRuntime) -> Resu
         assert_eq!(rt; x.players(), 3);
         assert_eq!(rt; blocker_of(&majority, &x), in_majority);
         assert_eq!(rt; blocker_of(&unanimity, &x), in_unanimity);
+    }
+    Ok(())
+}
+
+/// The greatest excess over the coalitions that split the free players, by the bound alone.
+fn split_bound_of<W: Worth>(game: &W, x: &Shares, free: Coalition) -> i128
+    requires shares { length x.now.shares ≡ (W.game game.now).players }
+    requires within { free < 2 ^ (W.game game.now).players }
+    requires two { HasTwo (W.game game.now).players free }
+    ensures { IsSplitMaximum (W.game game.now) x.now free result }
+{
+    game.split_bound(x, free)
+}
+
+#[test]
+fn split_bounds_pass_over_sets_that_hold_all_or_none(rt: HostRuntime) -> Result<(), Fail> {
+    let majority = SimpleGame {
+        wins: [false, false, false, true, false, true, true, true],
+    };
+    let unanimity = SimpleGame {
+        wins: [false, false, false, false, false, false, false, true],
+    };
+    for (num, den, of_all, of_two, in_unanimity, of_pair) in [
+        ([1, 0, 0], 1, 1, 1, 0, 0),
+        ([1, 1, 1], 3, 1, 1, -1, 1),
+        ([0, 0, -5], 2, 7, 7, 5, 2),
+    ] {
+        let x = Shares::new(num.to_vec(rt.alloc())?, den).ok_or("not shares")?;
+        assert_eq!(rt; x.players(), 3);
+        assert_eq!(rt; split_bound_of(&majority, &x, Coalition(7)), of_all);
+        assert_eq!(rt; split_bound_of(&majority, &x, Coalition(3)), of_two);
+        assert_eq!(rt; split_bound_of(&unanimity, &x, Coalition(7)), in_unanimity);
+        assert_eq!(rt; scaled_excess(&majority, &x, Coalition(3)), of_pair);
     }
     Ok(())
 }

@@ -1,9 +1,10 @@
 //! What a class of games offers.
 ghost use Rattle.std.specs.Prelude.{◌≡◌, ℕ, ◌^◌, ◌<◌, length, MatchOption};
-ghost use Rattle.definitions.specs.Games.{Game, IsGame, Blocks, IsChosenBlocker};
+ghost use Rattle.definitions.specs.Games.{Game, IsGame, Blocks, IsChosenBlocker, IsSplitMaximum, HasTwo, excess};
 
 use crate::Shares;
 use crate::best::Best;
+use crate::splitting::{raised, splits};
 use coalitions::Coalition;
 
 /// A game with transferable worth.
@@ -36,4 +37,32 @@ pub trait Worth {
         }
         best.coalition
     }
+
+    /// The greatest excess over the coalitions that hold some but not all of the players of `free`, over the
+    /// denominator of the shares.
+    fn split_bound(&self, x: &Shares, free: Coalition) -> i128
+        requires shares { length x.now.shares ≡ (game self.now).players }
+        requires within { free < 2 ^ (game self.now).players }
+        requires two { HasTwo (game self.now).players free }
+        ensures { IsSplitMaximum (game self.now) x.now free result }
+    {
+        let players = self.players();
+        let mut most = None;
+        for s in Coalition::subsets(players) {
+            if splits(s, free, players) {
+                most = raised(most, x.excess_over(self.worth(s), s));
+            }
+        }
+        most.unwrap()
+    }
+}
+
+/// What a coalition could do better by itself, over the denominator of the shares.
+pub fn scaled_excess<W: Worth>(game: &W, x: &Shares, s: Coalition) -> i128
+    requires shares { length x.now.shares ≡ (W.game game.now).players }
+    requires within { s < 2 ^ (W.game game.now).players }
+    ensures { result ≡ excess (W.game game.now) x.now s }
+{
+    game.players();
+    x.excess_over(game.worth(s), s)
 }

@@ -1,0 +1,66 @@
+use Rattle.std.proofs.Common.{◌≡◌, ◌∙◌, ℕ, ◌<◌, ◌^◌, ℤ, Bool, length, true, false, arith, rules, sym, ap, to_z, of_z}
+use Rattle.std.proofs.lemmas.List.{length_push}
+use Rattle.coalitions.proofs.Masks.{all_masks-turn, all_masks-end}
+use Rattle.worth_core.proofs.Scan.{excess_is}
+use Rattle.worth_core.proofs.SplitScan.{is_split, IsGreatestBelow-kept, IsGreatestBelow-more, IsSplitMaximum-from_scan, some-from_scan}
+use Rattle.definitions.specs.Games.{Game, Allocation, excess}
+use Rattle.worth_core.proofs.Casts.{cast_kept}
+use mir.Syntax.{w64, w128}
+use Rattle.worth_core.proofs.worth.Worth.split_bound.Goals as goal
+
+excess_at : (g : Game) (x : Allocation) (s m : ℕ) (e : ℤ) → s ≡ m → e ≡ excess g x s → e ≡ excess g x m
+excess_at g x s m e place same = same ∙ ap (excess g x) place
+
+split_at : (g : Game) (f s m : ℕ) (b r : Bool) → s ≡ m → r ≡ is_split g f s → r ≡ b → is_split g f m ≡ b
+split_at g f s m b r place same h = ap (is_split g f) (sym place) ∙ sym same ∙ h
+
+pub worth-requires : goal.worth-requires
+worth-requires g c =
+    let turn = all_masks-turn c.players-players.result _ c.loop-s.yielded _ (cc) c.loop-s.yielded_by _ _ c.in-Some.s c.in-Some.is c.next.ensures.steps in
+    rw c.players-players.ensures.count at turn.1
+
+pub excess_over-requires : goal.excess_over-requires
+excess_over-requires g c =
+    let turn = all_masks-turn c.players-players.result _ c.loop-s.yielded _ (cc) c.loop-s.yielded_by _ _ c.in-Some.s c.in-Some.is c.next.ensures.steps in
+    let small = c.players-players.ensures.laws.small c.in-Some.s (rw c.players-players.ensures.count at turn.1) in
+    let kept = cast_kept w64 c.worth.result (rw c.worth.ensures (omega arith)) in
+    rw (kept, c.worth.ensures) small
+
+pub loop-s-preserved-then-splits : goal.loop-s-preserved-then-splits
+loop-s-preserved-then-splits g c =
+    let game = g.Self.Worth.game c.args.self.now in
+    let x = c.args.x.now in
+    let s = c.in-Some.s in
+    let turn = all_masks-turn c.players-players.result _ c.loop-s.yielded _ (cc) c.loop-s.yielded_by _ _ s c.in-Some.is c.next.ensures.steps in
+    let within : s < 2 ^ game.players = rw c.players-players.ensures.count at turn.1 in
+    let here = excess_is game x s c.worth.result c.excess_over.result c.players-players.ensures.laws within c.worth.ensures c.excess_over.ensures.value in
+    let kept = cast_kept w128 c.excess_over.result (omega (arith, c.excess_over.ensures.small)) in
+    let cut = split_at game c.args.free s _ true c.splits.result turn.0 (rw c.players-players.ensures.count at c.splits.ensures) c.if-splits.true in
+    rw (length_push c.loop-s.yielded s, c.raised-most.ensures) (
+    IsGreatestBelow-more game x c.args.free (length c.loop-s.yielded) c.loop-s.most _ c.loop-s.invariant cut (excess_at game x s _ _ turn.0 (kept ∙ here))
+    )
+
+pub loop-s-preserved : goal.loop-s-preserved
+loop-s-preserved g c =
+    let game = g.Self.Worth.game c.args.self.now in
+    let s = c.in-Some.s in
+    let turn = all_masks-turn c.players-players.result _ c.loop-s.yielded _ (cc) c.loop-s.yielded_by _ _ s c.in-Some.is c.next.ensures.steps in
+    let whole = split_at game c.args.free s _ false c.splits.result turn.0 (rw c.players-players.ensures.count at c.splits.ensures) c.if-splits.false in
+    rw (length_push c.loop-s.yielded s) (
+    IsGreatestBelow-kept game c.args.x.now c.args.free (length c.loop-s.yielded) c.loop-s.most c.loop-s.invariant whole
+    )
+
+pub unwrap-requires : goal.unwrap-requires
+unwrap-requires g c =
+    let game = g.Self.Worth.game c.args.self.now in
+    let end = all_masks-end c.players-players.result _ c.loop-s.yielded _ (cc) c.loop-s.yielded_by _ _ c.in-None.is c.next.ensures.steps in
+    let all : length c.loop-s.yielded ≡ 2 ^ game.players = rw c.players-players.ensures.count at end in
+    some-from_scan game c.args.x.now c.args.free c.loop-s.most (rw all at c.loop-s.invariant) c.requires.two
+
+pub returns : goal.returns
+returns g c =
+    let game = g.Self.Worth.game c.args.self.now in
+    let end = all_masks-end c.players-players.result _ c.loop-s.yielded _ (cc) c.loop-s.yielded_by _ _ c.in-None.is c.next.ensures.steps in
+    let all : length c.loop-s.yielded ≡ 2 ^ game.players = rw c.players-players.ensures.count at end in
+    let kept : to_z w128 (of_z w128 c.unwrap.result) ≡ c.unwrap.result = search rules in
+    rw kept (IsSplitMaximum-from_scan game c.args.x.now c.args.free c.loop-s.most c.unwrap.result (rw all at c.loop-s.invariant) c.unwrap.ensures)
