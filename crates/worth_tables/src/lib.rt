@@ -1,0 +1,10 @@
+//! Games given by a table of worths, and games of costs.
+#![tactic(auto)]
+
+mod cost_game;
+mod table_game;
+#[cfg(test)]
+mod tests;
+
+pub use cost_game::CostGame;
+pub use table_game::{TableFault, TableGame};
