@@ -1,2 +1,3 @@
 pub mod Allocations
 pub mod Greatest
+pub mod SplitKinds

@@ -3,6 +3,7 @@
 
 mod best;
 mod shares;
+mod split_sums;
 mod splitting;
 #[cfg(test)]
 mod tests;
@@ -10,4 +11,5 @@ mod worth;
 
 pub use definitions::Family;
 pub use shares::Shares;
+pub use split_sums::SplitSums;
 pub use worth::{Worth, scaled_excess};
