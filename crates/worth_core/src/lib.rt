@@ -9,7 +9,9 @@ mod splitting;
 mod tests;
 mod worth;
 
+pub use best::Best;
 pub use definitions::Family;
 pub use shares::Shares;
 pub use split_sums::SplitSums;
+pub use splitting::raised;
 pub use worth::{Worth, scaled_excess};

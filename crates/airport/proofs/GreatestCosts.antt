@@ -1,0 +1,53 @@
+-- The greatest cost among members.
+use Rattle.std.proofs.Common.{◌≡◌, ◌⊎◌, ℕ, zero, suc, ◌-◌, ◌^◌, ◌<◌, ◌≤◌, Bool, true, false, cond, length, get_or, pos, refl, sym, ap, ◌∙◌, inl, inr, arith, max, unsigned_abs, neg_ℤ}
+use Rattle.std.proofs.lemmas.Bool.{false≢true}
+use Rattle.std.proofs.lemmas.Int.{ints}
+use Rattle.definitions.proofs.Members.{has_player-empty}
+use Rattle.definitions.specs.Coalitions.{has_player}
+use Rattle.definitions.specs.Games.{IsGame}
+use Rattle.definitions.specs.Classes.{greatest_cost}
+use Rattle.airport.specs.Airport.{Airport, IsAirport, airport_game}
+
+last_or_less : (k n : ℕ) → k < suc n → (k < n) ⊎ (k ≡ n)
+last_or_less k n h = grind arith
+
+pub greatest_cost-at_least : (n : ℕ) (cost : ℕ → ℕ) (s i : ℕ) → i < n → has_player s i ≡ true → cost i ≤ greatest_cost n cost s
+greatest_cost-at_least zero cost s i h k = absurd (omega arith)
+greatest_cost-at_least (suc n) cost s i h k = elim (last_or_less i n h) [
+  | inl less ↦ let ih = greatest_cost-at_least n cost s i less k in omega (arith, ih)
+  | inr same ↦ rw same (rw (← same) (rw k (omega arith)))
+]
+
+pub greatest_cost-at_most : (n : ℕ) (cost : ℕ → ℕ) (s m : ℕ) → ((i : ℕ) → i < n → has_player s i ≡ true → cost i ≤ m) → greatest_cost n cost s ≤ m
+greatest_cost-at_most zero cost s m h = omega arith
+greatest_cost-at_most (suc n) cost s m h =
+    let ih = greatest_cost-at_most n cost s m (λ i k. h i (omega arith)) in
+    let step : (b : Bool) → has_player s n ≡ b → max (greatest_cost n cost s) (cond b (cost n) 0) ≤ m = elim [
+      | true ↦ λ e. let here = h n (omega arith) e in omega (arith, ih, here)
+      | false ↦ λ e. omega (arith, ih)
+    ] in
+    step (has_player s n) refl
+
+pub greatest_cost-empty : (n : ℕ) (cost : ℕ → ℕ) → greatest_cost n cost 0 ≡ 0
+greatest_cost-empty n cost =
+    let none : (i : ℕ) → i < n → has_player 0 i ≡ true → cost i ≤ 0 = λ i h e. absurd (false≢true (sym (has_player-empty i) ∙ e)) in
+    omega (arith, greatest_cost-at_most n cost 0 0 none)
+
+negated_small : (m : ℕ) → m < 2 ^ 40 → unsigned_abs (neg_ℤ (pos m)) < 2 ^ 46
+negated_small m h = omega (arith, ints)
+
+pub cost_below : (a : Airport) → IsAirport a → (i : ℕ) → i < length a.costs → get_or a.costs i 0 < 2 ^ 40
+cost_below a h i k = h.small i 0 k
+
+pub IsGame-airport : (a : Airport) → IsAirport a → IsGame (airport_game a)
+IsGame-airport a h = record {
+  some = h.some;
+  few = h.few;
+  nobody = ap (λ (m : ℕ). neg_ℤ (pos m)) (greatest_cost-empty (length a.costs) (λ i. get_or a.costs i 0));
+  small = λ s lt. negated_small (greatest_cost (length a.costs) (λ i. get_or a.costs i 0) s) (less s);
+}
+  where
+    less : (s : ℕ) → greatest_cost (length a.costs) (λ i. get_or a.costs i 0) s < 2 ^ 40
+    less s = omega (arith, greatest_cost-at_most (length a.costs) (λ i. get_or a.costs i 0) s (2 ^ 40 - 1) (λ i k e. let c = cost_below a h i k in omega (arith, c)))
+
+pub ruleset game_laws = (IsGame-airport)

@@ -1,0 +1,38 @@
+-- Airport games: the costs, and the players in the order of their costs.
+use Rattle.std.specs.Prelude.{ℕ, ◌^◌, ◌<◌, ◌≤◌, List, length, ℤ, slice_index, All}
+use Rattle.definitions.specs.Games.{Game}
+use Rattle.definitions.specs.Classes.{airport_worth}
+use Rattle.orders.specs.Orders.{IsSortedOrder}
+use Rattle.airport.specs.Costs.{IsCost}
+use Rattle.airport.specs.declared.airport_game.AirportFault.{AirportFault}
+use Rattle.airport.specs.declared.airport_game.AirportFault.TheVariants.{Players, Number, Memory}
+
+-- the cost of each player, and the players sorted by cost and then by number
+pub record Airport : Type 0 where
+  pub costs : List ℕ
+  pub order : List ℕ
+
+-- an airport by its parts
+abbrev pub airport : List ℕ → List ℕ → Airport
+airport costs order = record { costs = costs; order = order }
+
+-- 1 to 64 costs below 2 ^ 40, and the players in order
+pub record IsAirport (a : Airport) : Type 0 where
+  pub some : 1 ≤ length a.costs
+  pub few : length a.costs ≤ 64
+  pub small : All (λ c. c < 2 ^ 40) a.costs
+  pub sorted : IsSortedOrder a.costs a.order
+
+-- minus the greatest cost among the members
+abbrev pub airport_game : Airport → Game
+airport_game a = record { players = length a.costs; worth = airport_worth a.costs }
+
+-- the player at place k of the order
+abbrev pub place : Airport → ℕ → ℕ
+place a k = slice_index a.order k
+
+-- why costs make no game: there aren't 1 to 64; or there are, and one isn't a cost; or there was no memory
+abbrev pub IsRefused : List ℤ → AirportFault → Type 0
+IsRefused costs Players = ¬ ((1 ≤ length costs) × (length costs ≤ 64))
+IsRefused costs Number = (1 ≤ length costs) × (length costs ≤ 64) × ¬ All IsCost costs
+IsRefused costs Memory = Unit {0}

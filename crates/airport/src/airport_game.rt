@@ -1,0 +1,101 @@
+//! The game of the players' costs.
+ghost use Rattle.std.specs.Prelude.{◌≡◌, ◌^◌, ◌<◌, length, map, pos, slice_index, ◌<ℤ◌, MatchResult};
+
+use crate::costs::{all_costs, greatest, kept};
+use coalitions::Coalition;
+use orders::sorted_players;
+use std::alloc::Global;
+use std::marker::Model;
+use worth_core::Worth;
+
+/// Why costs make no game. Where several causes apply, the first of them is answered.
+#[derive(Clone, Copy, Debug, PartialEq, Eq)]
+pub enum AirportFault {
+    /// There aren't 1 to 64 costs.
+    Players,
+    /// A cost is negative, or 2^40 or more.
+    Number,
+    /// There was no memory.
+    Memory,
+}
+
+/// The cost of each player, and the players sorted by cost and then by number.
+#[derive(Debug, Drop)]
+pub struct AirportGame {
+    costs: Vec<u64>,
+    order: Vec<u32>,
+}
+
+impl Model for AirportGame {
+    ghost use Rattle.airport.specs.Airport.{Airport, IsAirport, airport};
+
+    ghost Value = { Airport };
+
+    ghost view = { λ a. airport a.costs.items a.order.items };
+
+    ghost invariant = { λ a. IsAirport (airport a.costs.items a.order.items) };
+}
+
+impl AirportGame {
+    ghost use Rattle.airport.specs.Airport.{IsAirport, IsRefused, place};
+
+    /// The game of these costs.
+    pub fn new(alloc: Global, costs: Vec<i64>) -> Result<AirportGame, AirportFault>
+        ensures { MatchResult result (λ game. map pos game.costs ≡ costs.items) (IsRefused costs.items) }
+    {
+        if costs.is_empty() || costs.len() > 64 {
+            return Err(AirportFault::Players);
+        }
+        if !all_costs(&costs) {
+            return Err(AirportFault::Number);
+        }
+        let Ok(costs) = kept(alloc, &costs) else {
+            return Err(AirportFault::Memory);
+        };
+        let Ok(order) = sorted_players(alloc, &costs) else {
+            return Err(AirportFault::Memory);
+        };
+        Ok(AirportGame { costs, order })
+    }
+
+    /// The number of players, and so of places.
+    pub fn len(&self) -> u32
+        ensures count { result ≡ length self.now.costs }
+        ensures laws { IsAirport self.now }
+    {
+        self.costs.len() as u32
+    }
+
+    /// The cost of player `i`.
+    pub fn cost(&self, i: u32) -> i64
+        requires { i < length self.now.costs }
+        ensures value { result ≡ pos (slice_index self.now.costs i) }
+        ensures small { result <ℤ pos (2 ^ 40) }
+    {
+        self.costs[i as usize] as i64
+    }
+
+    /// The player at place `k` from the least cost; of equal costs the lesser player stands first.
+    pub fn place(&self, k: u32) -> u32
+        requires { k < length self.now.costs }
+        ensures value { result ≡ place self.now k }
+        ensures player { result < length self.now.costs }
+    {
+        self.order[k as usize]
+    }
+}
+
+impl Worth for AirportGame {
+    ghost use Rattle.airport.specs.Airport.{airport_game};
+
+    ghost game = { airport_game };
+
+    #[tactic(auto, using(crate::proofs::GreatestCosts::game_laws))]
+    fn players(&self) -> u32 {
+        self.costs.len() as u32
+    }
+
+    fn worth(&self, s: Coalition) -> i64 {
+        -(greatest(&self.costs, s) as i64)
+    }
+}
