@@ -1,11 +1,15 @@
 -- The greatest cost among members.
-use Rattle.std.proofs.Common.{◌≡◌, ◌⊎◌, ℕ, zero, suc, ◌-◌, ◌^◌, ◌<◌, ◌≤◌, Bool, true, false, cond, length, get_or, pos, refl, sym, ap, ◌∙◌, inl, inr, arith, max, unsigned_abs, neg_ℤ}
+use Rattle.std.proofs.Common.{◌≡◌, ◌⊎◌, ℕ, zero, suc, ◌+◌, ◌-◌, ◌^◌, ◌<◌, ◌≤◌, Bool, true, false, cond, length, get_or, pos, refl, sym, ap, ◌∙◌, inl, inr, arith, max, unsigned_abs, neg_ℤ}
 use Rattle.std.proofs.lemmas.Bool.{false≢true}
 use Rattle.std.proofs.lemmas.Int.{ints}
 use Rattle.definitions.proofs.Members.{has_player-empty}
 use Rattle.definitions.specs.Coalitions.{has_player}
 use Rattle.definitions.specs.Games.{IsGame}
 use Rattle.definitions.specs.Classes.{greatest_cost}
+use Rattle.definitions.proofs.Parts.{same_or_other, has_player-more_same, has_player-more_other}
+use Rattle.orders.specs.Orders.{front, IsOrder}
+use Rattle.orders.proofs.Fronts.{front-lacks, front-place}
+use Rattle.airport.proofs.Within.{IsWithin, IsWithin-lacks}
 use Rattle.airport.specs.Airport.{Airport, IsAirport, airport_game}
 
 last_or_less : (k n : ℕ) → k < suc n → (k < n) ⊎ (k ≡ n)
@@ -51,3 +55,25 @@ IsGame-airport a h = record {
     less s = omega (arith, greatest_cost-at_most (length a.costs) (λ i. get_or a.costs i 0) s (2 ^ 40 - 1) (λ i k e. let c = cost_below a h i k in omega (arith, c)))
 
 pub ruleset game_laws = (IsGame-airport)
+
+-- the players in front cost no more
+front-cost : (n : ℕ) (cost at : ℕ → ℕ) → IsOrder n cost at → (k : ℕ) → k < n → (i : ℕ) → has_player (front at k) i ≡ true → cost i ≤ cost (at k)
+front-cost n cost at o k lt i h =
+    let place = front-place n cost at o k i (omega arith) h in
+    let rising = o.rising place.0 k place.1 lt in
+    omega (arith, rising, ap cost place.2)
+
+-- the last player of a coalition in the order of the costs has the greatest cost
+pub greatest_cost-last : (n : ℕ) (cost at : ℕ → ℕ) → IsOrder n cost at → (k t : ℕ) → k < n → IsWithin n (front at k) t → greatest_cost n cost (t + 2 ^ at k) ≡ cost (at k)
+greatest_cost-last n cost at o k t lt within =
+    let lacks = IsWithin-lacks n (front at k) (at k) t (front-lacks n cost at o k k (omega arith) lt) within in
+    let high = greatest_cost-at_least n cost (t + 2 ^ at k) (at k) (o.below k lt) (has_player-more_same t (at k) lacks) in
+    let low = greatest_cost-at_most n cost (t + 2 ^ at k) (cost (at k)) (λ i below h. elim (same_or_other i (at k)) [
+      | inl same ↦ omega (arith, ap cost same)
+      | inr other ↦ front-cost n cost at o k lt i (within.1 i (sym (has_player-more_other t (at k) i lacks other) ∙ h))
+    ]) in
+    omega (arith, high, low)
+
+pub greatest_cost-front : (n : ℕ) (cost at : ℕ → ℕ) → IsOrder n cost at → (k t : ℕ) → k < n → IsWithin n (front at k) t → greatest_cost n cost t ≤ cost (at k)
+greatest_cost-front n cost at o k t lt within =
+    greatest_cost-at_most n cost t (cost (at k)) (λ i below h. front-cost n cost at o k lt i (within.1 i h))

@@ -1,1 +1,5 @@
 pub mod GreatestCosts
+pub mod Within
+pub mod Blocking
+pub mod Excesses
+pub mod Sizes

@@ -1,12 +1,12 @@
 //! The game of the players' costs.
-ghost use Rattle.std.specs.Prelude.{◌≡◌, ◌^◌, ◌<◌, length, map, pos, slice_index, ◌<ℤ◌, MatchResult};
+ghost use Rattle.std.specs.Prelude.{◌≡◌, ◌^◌, ◌<◌, length, map, pos, slice_index, ◌<ℤ◌, ◌≤ℤ◌, MatchResult};
 
 use crate::costs::{all_costs, greatest, kept};
 use coalitions::Coalition;
 use orders::sorted_players;
 use std::alloc::Global;
 use std::marker::Model;
-use worth_core::Worth;
+use worth_core::{Best, Shares, Worth, scaled};
 
 /// Why costs make no game. Where several causes apply, the first of them is answered.
 #[derive(Clone, Copy, Debug, PartialEq, Eq)]
@@ -70,6 +70,7 @@ impl AirportGame {
     pub fn cost(&self, i: u32) -> i64
         requires { i < length self.now.costs }
         ensures value { result ≡ pos (slice_index self.now.costs i) }
+        ensures positive { pos 0 ≤ℤ result }
         ensures small { result <ℤ pos (2 ^ 40) }
     {
         self.costs[i as usize] as i64
@@ -97,5 +98,23 @@ impl Worth for AirportGame {
 
     fn worth(&self, s: Coalition) -> i64 {
         -(greatest(&self.costs, s) as i64)
+    }
+
+    /// Found in one pass over the places: only the players who pay, up to some place, can be the one.
+    fn blocker(&self, x: &Shares) -> Option<Coalition> {
+        let den = x.den();
+        let mut payers = Coalition::empty();
+        let mut payment: i128 = 0;
+        let mut best = Best::none();
+        for k in 0..self.len() {
+            let player = self.place(k);
+            let share = x.num(player);
+            if share < 0 {
+                payers = payers.with(player);
+                payment -= share;
+                best = best.or(payers, payment - scaled(den, self.cost(player)));
+            }
+        }
+        best.coalition
     }
 }

@@ -100,8 +100,8 @@ fn all_small(num: &[i128]) -> bool
     num.iter().all(|z| z.unsigned_abs() < 1 << 110)
 }
 
-/// A worth over the denominator.
-fn scaled(den: i128, worth: i64) -> i128
+/// A worth over a denominator.
+pub fn scaled(den: i128, worth: i64) -> i128
     requires positive { pos 1 ≤ℤ den }
     requires common { den ≤ℤ pos (2 ^ 63) }
     requires small { unsigned_abs worth < 2 ^ 46 }
