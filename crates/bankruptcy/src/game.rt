@@ -1,0 +1,107 @@
+//! The game of an estate and the claims to it.
+ghost use Rattle.std.specs.Prelude.{◌≡◌, ◌^◌, ◌<◌, length, map, pos, slice_index, ◌<ℤ◌, MatchResult};
+
+use crate::claims;
+use coalitions::Coalition;
+use std::alloc::Global;
+use std::marker::Model;
+use worth_core::Worth;
+
+/// Why an estate and claims make no game. Where several causes apply, the first of them is answered.
+#[derive(Clone, Copy, Debug, PartialEq, Eq)]
+pub enum BankruptcyFault {
+    /// There aren't 1 to 64 claims.
+    Players,
+    /// The estate or a claim is negative, or 2^40 or more.
+    Number,
+    /// The estate is above the sum of the claims.
+    Estate,
+    /// There was no memory.
+    Memory,
+}
+
+/// An estate, and the claim of each player. A coalition is worth what the claims of the others leave of the estate.
+#[derive(Debug, Drop)]
+pub struct BankruptcyGame {
+    estate: u64,
+    claims: Vec<u64>,
+}
+
+impl Model for BankruptcyGame {
+    ghost use Rattle.bankruptcy.specs.Bankruptcy.{Bankruptcy, IsBankruptcy, bankruptcy};
+
+    ghost Value = { Bankruptcy };
+
+    ghost view = { λ b. bankruptcy b.estate b.claims.items };
+
+    ghost invariant = { λ b. IsBankruptcy (bankruptcy b.estate b.claims.items) };
+}
+
+impl BankruptcyGame {
+    ghost use Rattle.bankruptcy.specs.Bankruptcy.{IsBankruptcy, IsRefused};
+
+    /// The game of an estate and a claim for each player, as worth.
+    pub fn new(
+        alloc: Global,
+        estate: i64,
+        claims: Vec<i64>,
+    ) -> Result<BankruptcyGame, BankruptcyFault>
+        ensures { MatchResult result (λ b. (pos b.estate ≡ estate) × (map pos b.claims ≡ claims.items)) (IsRefused estate claims.items) }
+    {
+        if claims.is_empty() || claims.len() > 64 {
+            return Err(BankruptcyFault::Players);
+        }
+        if !claims::are_numbers(estate, &claims) {
+            return Err(BankruptcyFault::Number);
+        }
+        if claims::total(&claims) < estate as u64 {
+            return Err(BankruptcyFault::Estate);
+        }
+        let Ok(claims) = claims::naturals(alloc, &claims) else {
+            return Err(BankruptcyFault::Memory);
+        };
+        Ok(BankruptcyGame {
+            estate: estate as u64,
+            claims,
+        })
+    }
+
+    /// The estate, as worth.
+    pub fn estate(&self) -> i64
+        ensures value { result ≡ pos self.now.estate }
+        ensures small { result <ℤ pos (2 ^ 40) }
+        ensures laws { IsBankruptcy self.now }
+    {
+        self.estate as i64
+    }
+
+    /// The claim of player `i`, as worth.
+    pub fn claim(&self, i: u32) -> i64
+        requires { i < length self.now.claims }
+        ensures value { result ≡ pos (slice_index self.now.claims i) }
+        ensures small { result <ℤ pos (2 ^ 40) }
+    {
+        self.claims[i as usize] as i64
+    }
+}
+
+impl Worth for BankruptcyGame {
+    ghost use Rattle.bankruptcy.specs.Bankruptcy.{bankruptcy_game};
+
+    ghost game = { bankruptcy_game };
+
+    #[tactic(auto, using(crate::proofs::Laws::game_laws))]
+    fn players(&self) -> u32 {
+        self.claims.len() as u32
+    }
+
+    fn worth(&self, s: Coalition) -> i64 {
+        let others = s.complement(self.claims.len() as u32);
+        let taken = claims::sum_of(&self.claims, others);
+        if taken < self.estate {
+            (self.estate - taken) as i64
+        } else {
+            0
+        }
+    }
+}
