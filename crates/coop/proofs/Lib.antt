@@ -1,3 +1,4 @@
 pub mod Values
 pub mod NoFloats
+pub mod TableForm
 pub mod Right

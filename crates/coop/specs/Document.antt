@@ -5,7 +5,7 @@ use Rattle.std.specs.Str.{bytes_eq}
 use Rattle.serde_json.specs.Data.{Data}
 use Rattle.serde_json.specs.Find.{get}
 use Rattle.definitions.specs.Games.{Game, Allocation}
-use Rattle.coop.specs.Table.{Table, table_game}
+use Rattle.worth_tables.specs.Tables.{Table, table, table_game}
 use Rattle.coop.specs.Text.{document_limit, IsTextOf}
 use Rattle.coop.specs.Trees.{has_only, is_text, integer, integers_at}
 
@@ -37,7 +37,7 @@ are_worths n worths = (length worths + 1 == 2 ^ n) && list_all is_small worths
 
 -- the table of these worths
 abbrev pub table_with : ℕ → List ℤ → Option Table
-table_with n worths = if are_worths n worths then Some (record { players = n; worths = worths }) else None
+table_with n worths = if are_worths n worths then Some (table n worths) else None
 
 -- the number of players of a game
 abbrev pub players_of : Data → Option ℕ

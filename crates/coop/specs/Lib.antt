@@ -1,7 +1,6 @@
 pub mod Words
 pub mod Text
 pub mod Trees
-pub mod Table
 pub mod Document
 pub mod Refusals
 pub mod Judgement

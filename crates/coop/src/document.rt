@@ -5,13 +5,13 @@ ghost use Rattle.std.specs.Map.{keys_of};
 ghost use Rattle.serde_json.specs.View.{view};
 ghost use Rattle.serde_json.specs.Find.{get};
 ghost use Rattle.coop.specs.Trees.{has_only, is_text, integers, integer_list, integers_at};
-ghost use Rattle.coop.specs.Document.{is_document_key, is_game_key, players_in, players_of, is_table, table_of, proposal_of};
+ghost use Rattle.coop.specs.Document.{is_document_key, is_game_key, players_in, players_of, is_table, table_with, table_of, proposal_of};
 
 use crate::proposal::Proposal;
-use crate::table::TableGame;
 use fractions::OutOfMemory;
 use serde_json::{Map, Value};
 use std::alloc::Global;
+use worth_tables::TableGame;
 
 /// The proposal that a tree is the document of; none where it has another form.
 pub fn proposal_of(alloc: Global, tree: &Value) -> Result<Option<Proposal>, OutOfMemory>
@@ -44,7 +44,17 @@ fn table_of(alloc: Global, game: &Value) -> Result<Option<TableGame>, OutOfMemor
     let Some(worths) = integers_at(alloc, game, "worths")? else {
         return Ok(None);
     };
-    Ok(TableGame::new(players, worths))
+    Ok(table_with(alloc, players, worths))
+}
+
+// The table of these worths, where there is one for each coalition but the empty one and each is small.
+#[tactic(auto, using(crate::proofs::TableForm::table_made, crate::proofs::TableForm::table_refused))]
+fn table_with(alloc: Global, players: u32, worths: Vec<i64>) -> Option<TableGame>
+    requires some { 1 ≤ players }
+    requires few { players ≤ 16 }
+    ensures { result ≡ table_with players worths.items }
+{
+    TableGame::new(alloc, players, worths).ok()
 }
 
 fn is_table(game: &Value) -> bool

@@ -13,7 +13,6 @@ mod run;
 mod status;
 mod stop;
 mod stream;
-mod table;
 #[cfg(test)]
 mod tests;
 mod words;

@@ -1,11 +1,11 @@
 ghost use Rattle.std.specs.Prelude.{◌≡◌, ◌<◌, ◌^◌, length, All, unsigned_abs, IfOk};
 ghost use Rattle.coop.specs.Document.{proposal_with, allocation_of};
 
-use crate::table::TableGame;
 use fractions::OutOfMemory;
 use std::alloc::Global;
 use std::marker::Model;
 use worth_core::{Shares, Worth};
+use worth_tables::TableGame;
 
 /// A game given by a table, and a share of its worth for each player.
 #[derive(Drop)]

@@ -35,11 +35,11 @@ impl Model for TableGame {
 }
 
 impl TableGame {
-    ghost use Rattle.worth_tables.specs.Tables.{table, IsRefused};
+    ghost use Rattle.worth_tables.specs.Tables.{table, IsTable, IsRefused};
 
     /// The game of `n` players with these worths, in mask order from 1; no memory is taken.
     pub fn new(_alloc: Global, n: u32, worths: Vec<i64>) -> Result<TableGame, TableFault>
-        ensures { MatchResult result (λ t. t ≡ table n worths.items) (IsRefused (table n worths.items)) }
+        ensures { let kept = table n worths.items in MatchResult result (λ t. (t ≡ kept) × IsTable kept) (IsRefused kept) }
     {
         if n < 1 || n > 16 {
             return Err(TableFault::Players);
