@@ -10,3 +10,5 @@ pub mod Measure
 pub mod Theorems
 pub mod Divisors
 pub mod Fraction
+pub mod FractionTexts
+pub mod Digits

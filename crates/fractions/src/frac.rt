@@ -7,6 +7,8 @@ ghost use Rattle.std.specs.Option.{SomeIff};
 ghost use Rattle.std.specs.Ordering.{int_cmp};
 ghost use Rattle.fractions.specs.Fraction.{IsReduced, IsRatio, HasForm, HasNoForm, HasCommonForm, HasSum, HasDifference, common_divisor};
 
+mod text;
+
 use crate::OutOfRange;
 use crate::gcd::{gcd, positive_gcd};
 use crate::order::order;
@@ -165,7 +167,7 @@ fn ratio(num: i128, den: i128) -> Frac
 }
 
 /// The number of that size and sign, if it is in the range of `i128`.
-pub(crate) fn signed(negative: bool, size: u128) -> Option<i128>
+fn signed(negative: bool, size: u128) -> Option<i128>
     ensures { let z = if negative then neg_ℤ (pos size) else pos size in SomeIff result (FitsSigned w128 z) z }
 {
     if negative {

@@ -5,6 +5,7 @@ mod frac;
 mod gcd;
 pub mod laws;
 mod matrix;
+mod numerals;
 mod order;
 
 pub use frac::Frac;
