@@ -1,10 +1,10 @@
 -- The excess of a coalition, by its last player in the order of the costs.
-use Rattle.std.proofs.Common.{◌≡◌, ℕ, ◌+◌, ◌^◌, ◌<◌, false, length, get_or, ℤ, pos, ◌+ℤ◌, ◌-ℤ◌, ◌*ℤ◌, ◌≤ℤ◌, neg_ℤ, refl, sym, ap, ◌∙◌, arith, if◌then◌else◌}
+use Rattle.std.proofs.Common.{◌≡◌, ℕ, zero, suc, ◌+◌, ◌^◌, ◌<◌, Bool, true, false, cond, length, get_or, ℤ, pos, ◌+ℤ◌, ◌-ℤ◌, ◌*ℤ◌, ◌≤ℤ◌, neg_ℤ, refl, sym, ap, ◌∙◌, arith, if◌then◌else◌}
 use Rattle.std.proofs.lemmas.Int.{ints}
 use Rattle.definitions.proofs.Ring.{linear, mul-negℤ, mul-leℤ, mul-zeroℤ}
 use Rattle.definitions.proofs.Members.{has_player-empty, sum_below-zero}
 use Rattle.definitions.proofs.Parts.{sum_over-more}
-use Rattle.definitions.specs.Coalitions.{has_player}
+use Rattle.definitions.specs.Coalitions.{has_player, sum_over}
 use Rattle.definitions.specs.Classes.{greatest_cost}
 use Rattle.definitions.specs.Games.{Allocation, share, amount, excess}
 use Rattle.orders.specs.Orders.{front, IsOrder}
@@ -21,6 +21,21 @@ payment x s = neg_ℤ (amount x s)
 -- the cost of player i, over the denominator
 abbrev pub charge : Airport → Allocation → ℕ → ℤ
 charge a x i = x.den *ℤ pos (get_or a.costs i 0)
+
+-- what player i pays, over the denominator
+abbrev pub paid : Allocation → ℕ → ℤ
+paid x i = neg_ℤ (share x i)
+
+sum_over-negated : (n : ℕ) (a : ℕ → ℤ) (s : ℕ) → sum_over n (λ i. neg_ℤ (a i)) s ≡ neg_ℤ (sum_over n a s)
+sum_over-negated zero a s = refl
+sum_over-negated (suc n) a s = step (sum_over-negated n a s) (has_player s n)
+  where
+    step : sum_over n (λ i. neg_ℤ (a i)) s ≡ neg_ℤ (sum_over n a s) → (b : Bool) → sum_over n (λ i. neg_ℤ (a i)) s +ℤ cond b (neg_ℤ (a n)) (pos 0) ≡ neg_ℤ (sum_over n a s +ℤ cond b (a n) (pos 0))
+    step ih true = omega (arith, linear, ih)
+    step ih false = omega (arith, linear, ih)
+
+pub sum_over-paid : (n : ℕ) (x : Allocation) (s : ℕ) → length x.shares ≡ n → sum_over n (paid x) s ≡ payment x s
+sum_over-paid n x s count = sum_over-negated n (share x) s ∙ ap (λ (m : ℕ). neg_ℤ (sum_over m (share x) s)) (sym count)
 
 pub payment-more : (x : Allocation) (t i : ℕ) → i < length x.shares → has_player t i ≡ false → payment x (t + 2 ^ i) ≡ payment x t +ℤ neg_ℤ (share x i)
 payment-more x t i lt lacks =

@@ -3,3 +3,4 @@ pub mod Within
 pub mod Blocking
 pub mod Excesses
 pub mod Sizes
+pub mod Splitting

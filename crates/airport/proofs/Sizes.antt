@@ -36,3 +36,20 @@ charge-is d q r z c low high cost small value den =
 -- what is left, by its parts
 pub left-is : (p s c paid share charge e r : ℤ) → p ≡ paid → s ≡ share → c ≡ charge → e ≡ (paid +ℤ neg_ℤ share) -ℤ charge → r ≡ (p -ℤ s) -ℤ c → r ≡ e
 left-is p s c paid share charge e r is_paid is_share is_charge is_excess value = omega (arith, linear)
+
+-- minus a share
+pub paid-is : (s : ℤ) → unsigned_abs s < 2 ^ 110 → to_z w128 (of_z w128 (pos 0 -ℤ to_z w128 (of_z w128 s))) ≡ neg_ℤ s
+paid-is s small =
+    let kept = cast_kept w128 s (omega arith) in
+    let negated = cast_kept w128 (pos 0 -ℤ s) (omega (arith, ints)) in
+    rw kept (negated ∙ zero_less s)
+  where
+    zero_less : (s : ℤ) → pos 0 -ℤ s ≡ neg_ℤ s
+    zero_less s = omega (arith, linear)
+
+-- a payment of many players, less a charge
+pub rest-is : (m c : ℤ) → unsigned_abs m ≤ 2 ^ 118 → unsigned_abs c < 2 ^ 110 → to_z w128 (of_z w128 (to_z w128 (of_z w128 m) -ℤ to_z w128 (of_z w128 c))) ≡ m -ℤ c
+rest-is m c large small =
+    let a = cast_kept w128 m (omega arith) in
+    let b = cast_kept w128 c (omega arith) in
+    rw (a, b) (cast_kept w128 (m -ℤ c) (omega (arith, ints)))

@@ -6,7 +6,7 @@ use coalitions::Coalition;
 use orders::sorted_players;
 use std::alloc::Global;
 use std::marker::Model;
-use worth_core::{Best, Shares, Worth, scaled};
+use worth_core::{Best, Shares, SplitSums, Worth, raised, scaled};
 
 /// Why costs make no game. Where several causes apply, the first of them is answered.
 #[derive(Clone, Copy, Debug, PartialEq, Eq)]
@@ -116,5 +116,23 @@ impl Worth for AirportGame {
             }
         }
         best.coalition
+    }
+
+    /// Found in one pass over the places: a coalition whose last player stands at some place pays that player's cost,
+    /// and the others up to there are chosen by what they pay.
+    fn split_bound(&self, x: &Shares, free: Coalition) -> i128 {
+        let den = x.den();
+        let mut sums = SplitSums::new();
+        let mut unseen = free;
+        let mut most = None;
+        for k in 0..self.len() {
+            let player = self.place(k);
+            sums.add(free.contains(player), -x.num(player));
+            unseen = unseen.without(player);
+            if let Some(payment) = sums.best(unseen != Coalition::empty()) {
+                most = raised(most, payment - scaled(den, self.cost(player)));
+            }
+        }
+        most.unwrap()
     }
 }

@@ -32,7 +32,7 @@ some_below-at (suc n) i test lt h = elim (last_or_less i n lt) [
   | inr same ↦ rw (sym same) (rw h refl)
 ]
 
-is_split-singleton : (g : Game) (f i j : ℕ) → i < j → j < g.players → IsTrue (has_player f i) → IsTrue (has_player f j) → is_split g f (singleton i) ≡ true
+pub is_split-singleton : (g : Game) (f i j : ℕ) → i < j → j < g.players → IsTrue (has_player f i) → IsTrue (has_player f j) → is_split g f (singleton i) ≡ true
 is_split-singleton g f i j lt within hi hj =
     let has = some_below-at g.players i (λ k. has_player f k && has_player (singleton i) k) (omega arith) (rw (hi, has_player-singleton i) refl) in
     let lacks = some_below-at g.players j (λ k. has_player f k && not (has_player (singleton i) k)) within (rw (hj, has_player-singleton_other i j (λ e. omega arith)) refl) in
