@@ -1,1 +1,5 @@
 pub mod Laws
+pub mod Excesses
+pub mod LeastGreatest
+pub mod Totals
+pub mod Splits

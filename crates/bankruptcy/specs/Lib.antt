@@ -1,1 +1,2 @@
 pub mod Bankruptcy
+pub mod Arms

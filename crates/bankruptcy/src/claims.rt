@@ -51,7 +51,7 @@ pub(crate) fn sum_of(claims: &[u64], s: Coalition) -> u64
     requires few { length claims.now ≤ 64 }
     requires small { All (λ c. c < 2 ^ 40) claims.now }
     ensures value { pos result ≡ sum_over (length claims.now) (λ i. pos (slice_index claims.now i)) s }
-    ensures small { result ≤ 64 * 2 ^ 40 }
+    ensures small { result < 2 ^ 46 }
 {
     let mut sum: u64 = 0;
     for i in 0..claims.len() {

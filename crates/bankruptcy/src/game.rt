@@ -1,11 +1,12 @@
 //! The game of an estate and the claims to it.
-ghost use Rattle.std.specs.Prelude.{◌≡◌, ◌^◌, ◌<◌, length, map, pos, slice_index, ◌<ℤ◌, MatchResult};
+ghost use Rattle.std.specs.Prelude.{◌≡◌, ◌^◌, ◌<◌, length, map, pos, slice_index, ◌<ℤ◌, MatchResult, unsigned_abs};
 
+use crate::arms::Arm;
 use crate::claims;
 use coalitions::Coalition;
 use std::alloc::Global;
 use std::marker::Model;
-use worth_core::Worth;
+use worth_core::{Shares, Worth};
 
 /// Why an estate and claims make no game. Where several causes apply, the first of them is answered.
 #[derive(Clone, Copy, Debug, PartialEq, Eq)]
@@ -39,6 +40,7 @@ impl Model for BankruptcyGame {
 
 impl BankruptcyGame {
     ghost use Rattle.bankruptcy.specs.Bankruptcy.{IsBankruptcy, IsRefused};
+    ghost use Rattle.bankruptcy.specs.Arms.{estate_less_claims};
 
     /// The game of an estate and a claim for each player, as worth.
     pub fn new(
@@ -83,6 +85,15 @@ impl BankruptcyGame {
     {
         self.claims[i as usize] as i64
     }
+
+    /// The estate less all claims, which isn't positive.
+    pub(crate) fn estate_less_claims(&self) -> i64
+        ensures value { result ≡ estate_less_claims self.now }
+        ensures small { unsigned_abs result < 2 ^ 46 }
+    {
+        let everyone = Coalition::all(self.claims.len() as u32);
+        self.estate as i64 - claims::sum_of(&self.claims, everyone) as i64
+    }
 }
 
 impl Worth for BankruptcyGame {
@@ -103,5 +114,17 @@ impl Worth for BankruptcyGame {
         } else {
             0
         }
+    }
+
+    fn blocker(&self, x: &Shares) -> Option<Coalition> {
+        let nothing = Arm::nothing().greatest(self, x);
+        let rest = Arm::rest(x).greatest(self, x);
+        nothing.or(rest).blocking()
+    }
+
+    fn split_bound(&self, x: &Shares, free: Coalition) -> i128 {
+        let nothing = Arm::nothing().split_bound(self, x, free);
+        let rest = Arm::rest(x).split_bound(self, x, free);
+        nothing.max(rest)
     }
 }

@@ -1,6 +1,7 @@
 //! Bankruptcy games: a coalition gets what the claims of the others leave of the estate (O'Neill 1982).
 #![tactic(auto)]
 
+mod arms;
 mod claims;
 mod game;
 #[cfg(test)]
