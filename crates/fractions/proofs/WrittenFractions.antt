@@ -325,12 +325,14 @@ denominator_positive : (u : List ℕ) → is_unsigned_fraction u ≡ true → 0 
 unfolding test_by den_by
 denominator_positive u test = elim (test_or_not (has_slash u)) [
   | inl some ↦
-      let t = sym (by_parts u true (numerator_text u) (denominator_text u) some refl refl) ∙ test in
+      let t : test_by true (numerator_text u) (denominator_text u) ≡ true = sym (by_parts u true (numerator_text u) (denominator_text u) some refl refl) ∙ test in
       let r = and_parts _ _ (and_parts _ _ (and_parts _ _ t).0).1 in
-      let more : 1 < denominator u = subst (λ (x : ℕ). 1 < x) (sym (den_around u some)) (ltb-true _ _ r.1) in
-      omega arith
+      above (denominator u) (subst (λ (x : ℕ). 1 < x) (sym (den_around u some)) (ltb-true _ _ r.1))
   | inr none ↦ subst (λ (x : ℕ). 0 < x) (sym (den_alone u none)) (omega arith)
 ]
+  where
+    above : (n : ℕ) → 1 < n → 0 < n
+    above n h = omega arith
 
 one_from_test : (n : ℕ) → eqb n 1 ≡ true → n ≡ 1
 one_from_test n h = grind (arith, nat_tests)

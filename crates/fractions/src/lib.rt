@@ -7,6 +7,8 @@ pub mod laws;
 mod matrix;
 mod numerals;
 mod order;
+#[cfg(test)]
+mod tests;
 
 pub use frac::Frac;
 pub use matrix::{Shape, pivot};
