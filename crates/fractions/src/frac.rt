@@ -10,7 +10,7 @@ ghost use Rattle.fractions.specs.Fraction.{IsReduced, IsRatio, HasForm, HasNoFor
 mod text;
 
 use crate::OutOfRange;
-use crate::gcd::{gcd, positive_gcd};
+use crate::euclid::{gcd, positive_gcd};
 use crate::order::order;
 use std::cmp::Ordering;
 use std::marker::Model;
@@ -61,8 +61,7 @@ impl Frac {
 
     /// The numerator, with the fraction's sign.
     pub fn num(&self) -> i128
-        ensures value { result ≡ self.now.num }
-        ensures reduced { IsReduced self.now }
+        ensures { result ≡ self.now.num }
     {
         self.num
     }
@@ -71,6 +70,7 @@ impl Frac {
     pub fn den(&self) -> i128
         ensures value { result ≡ self.now.den }
         ensures positive { pos 1 ≤ℤ result }
+        ensures reduced { IsReduced self.now }
     {
         self.den
     }

@@ -1,8 +1,8 @@
 //! Exact arithmetic on whole numbers: pivots, and the two plain refusals that other crates use too.
 #![tactic(auto)]
 
+mod euclid;
 mod frac;
-mod gcd;
 pub mod laws;
 mod matrix;
 mod numerals;
@@ -10,6 +10,7 @@ mod order;
 #[cfg(test)]
 mod tests;
 
+pub use euclid::gcd;
 pub use frac::Frac;
 pub use matrix::{Shape, pivot};
 use std::alloc::{AllocError, AllocFailed};

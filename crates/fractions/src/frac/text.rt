@@ -6,7 +6,7 @@ ghost use Rattle.fractions.specs.FractionTexts.{before_slash, has_minus, without
 
 use super::{Frac, signed};
 use crate::OutOfMemory;
-use crate::gcd::gcd;
+use crate::euclid::gcd;
 use crate::numerals::{numeral, slash_or_len};
 use itoa::Buffer;
 use std::alloc::AllocError;

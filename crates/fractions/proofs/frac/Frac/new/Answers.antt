@@ -10,14 +10,14 @@ nonzero_div-unsigned_abs c =
     let fd = c.ranges.den in
     let apart : c.args.den ≢ pos 0 = omega (arith, ints) in
     let b = simp to_z-of_z at c.unsigned_abs-2.ensures.value in
-    divisor_positive c.args.den c.unsigned_abs.result c.unsigned_abs-2.result c.gcd-common.result apart b c.gcd-common.ensures
+    divisor_positive c.args.den c.unsigned_abs.result c.unsigned_abs-2.result c.gcd-common.result apart b c.gcd-common.ensures.value
 
 pub nonzero_div-unsigned_abs-2 : goal.nonzero_div-unsigned_abs-2
 nonzero_div-unsigned_abs-2 c =
     let fd = c.ranges.den in
     let apart : c.args.den ≢ pos 0 = omega (arith, ints) in
     let b = simp to_z-of_z at c.unsigned_abs-2.ensures.value in
-    divisor_positive c.args.den c.unsigned_abs.result c.unsigned_abs-2.result c.gcd-common.result apart b c.gcd-common.ensures
+    divisor_positive c.args.den c.unsigned_abs.result c.unsigned_abs-2.result c.gcd-common.result apart b c.gcd-common.ensures.value
 
 pub returns-in_err-num-clause-value : goal.returns-in_err-num-clause-value
 returns-in_err-num-clause-value c =
@@ -28,7 +28,7 @@ returns-in_err-num-clause-value c =
     let b = simp to_z-of_z at c.unsigned_abs-2.ensures.value in
     let size = simp to_z-of_z at c.unsigned_abs-3.ensures.value in
     let none = simp to_z-of_z at (c.in_err-num.ensures {u = tt}) in
-    rw c.from_residual.ensures (no_numerator c.args.num c.args.den c.unsigned_abs.result c.unsigned_abs-2.result c.gcd-common.result c.unsigned_abs-3.result apart a b c.gcd-common.ensures size none)
+    rw c.from_residual.ensures (no_numerator c.args.num c.args.den c.unsigned_abs.result c.unsigned_abs-2.result c.gcd-common.result c.unsigned_abs-3.result apart a b c.gcd-common.ensures.value size none)
 
 pub returns-in_err-den-clause-value : goal.returns-in_err-den-clause-value
 returns-in_err-den-clause-value c =
@@ -38,7 +38,7 @@ returns-in_err-den-clause-value c =
     let a = simp to_z-of_z at c.unsigned_abs.ensures.value in
     let b = simp to_z-of_z at c.unsigned_abs-2.ensures.value in
     let size = simp to_z-of_z at c.unsigned_abs-4.ensures.value in
-    rw c.from_residual-in_err-den.ensures (no_denominator c.args.num c.args.den c.unsigned_abs.result c.unsigned_abs-2.result c.gcd-common.result c.unsigned_abs-4.result apart a b c.gcd-common.ensures size (c.in_err-den.ensures {u = tt}))
+    rw c.from_residual-in_err-den.ensures (no_denominator c.args.num c.args.den c.unsigned_abs.result c.unsigned_abs-2.result c.gcd-common.result c.unsigned_abs-4.result apart a b c.gcd-common.ensures.value size (c.in_err-den.ensures {u = tt}))
 
 ratio : (c : goal.In_ok-den) → IsRatio (record { num = c.in_ok-num.num; den = c.in_ok-den.den }) c.args.num c.args.den
 ratio c =
@@ -51,7 +51,7 @@ ratio c =
     let t = simp to_z-of_z at c.unsigned_abs-4.ensures.value in
     let num = simp to_z-of_z at (c.in_ok-num.ensures {u = tt}) in
     ratio_by_sizes c.args.num c.args.den c.unsigned_abs.result c.unsigned_abs-2.result c.gcd-common.result c.unsigned_abs-3.result c.unsigned_abs-4.result c.in_ok-num.num c.in_ok-den.den
-    apart a b c.gcd-common.ensures s t num.1 (c.in_ok-den.ensures {u = tt}).1
+    apart a b c.gcd-common.ensures.value s t num.1 (c.in_ok-den.ensures {u = tt}).1
 
 pub invariant_of-result : goal.invariant_of-result
 invariant_of-result c =

@@ -1,6 +1,6 @@
 use Rattle.std.proofs.Common.{◌≡◌}
 use Rattle.fractions.specs.Divisors.{gcd}
-use Rattle.fractions.proofs.gcd.gcd.Given as goal
+use Rattle.fractions.proofs.euclid.gcd.Given as goal
 
 abbrev pub invariant-loop-y : goal.invariant-loop-y
 invariant-loop-y l = gcd l.x l.y ≡ gcd l.fn.a l.fn.b
