@@ -126,23 +126,34 @@ module _ (n seen p : ℕ) (pay e : ℕ → ℤ) (w c : ℤ) (next : IsNextPlayer
           | inl old ↦ omega (arith, linear, h.all s old)
           | inr (t, within, is) ↦ new_low payers best most h s t within is
         ];
-        found = (joined.0, omega arith, refl, omega (arith, linear, positive), λ s k same. elim (cases s k) [
-          | inl old ↦ absurd (omega (arith, linear, h.all s old))
-          | inr (t, within, is) ↦ new_least payers best most h s t within is same
-        ]);
+        found = (
+          joined.0,
+          omega arith,
+          refl,
+          omega (arith, linear, positive),
+          λ s k same. elim (cases s k) [
+            | inl old ↦ absurd (omega (arith, linear, h.all s old))
+            | inr (t, within, is) ↦ new_least payers best most h s t within is same
+          ],
+        );
       }
 
   passed_found : (payers : ℕ) (best : Option ℕ) (most : ℤ) → IsScanned n seen pay e payers best most → e (payers + 2 ^ p) ≤ℤ most
       → MatchOption best (most ≡ pos 0) (λ b. (b < 2 ^ n) × (b ≤ payers + 2 ^ p) × (e b ≡ most) × (pos 0 <ℤ most) × ((s : ℕ) → IsWithin n (seen + 2 ^ p) s → e s ≡ most → b ≤ s))
   passed_found payers None most h low = h.found
-  passed_found payers (Some b) most h low =
-      (h.found.0, omega (arith, h.found.1), h.found.2, h.found.3, λ s k same. elim (cases s k) [
-        | inl old ↦ h.found.4 s old same
-        | inr (t, within, is) ↦
-            let equal : e s ≡ e (payers + 2 ^ p) = omega (arith, linear, new_low payers (Some b) most h s t within is) in
-            let least = new_least payers (Some b) most h s t within is equal in
-            omega (arith, least, h.found.1)
-      ])
+  passed_found payers (Some b) most h low = (
+    h.found.0,
+    omega (arith, h.found.1),
+    h.found.2,
+    h.found.3,
+    λ s k same. elim (cases s k) [
+      | inl old ↦ h.found.4 s old same
+      | inr (t, within, is) ↦
+          let equal : e s ≡ e (payers + 2 ^ p) = omega (arith, linear, new_low payers (Some b) most h s t within is) in
+          let least = new_least payers (Some b) most h s t within is equal in
+          omega (arith, least, h.found.1)
+    ],
+  )
 
   passed : (payers : ℕ) (best : Option ℕ) (most : ℤ) → IsScanned n seen pay e payers best most → pos 0 <ℤ w → e (payers + 2 ^ p) ≤ℤ most → IsScanned n (seen + 2 ^ p) pay e (payers + 2 ^ p) best most
   passed payers best most h gt low = record {

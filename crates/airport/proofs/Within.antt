@@ -81,8 +81,10 @@ below_or_past i n = grind arith
 
 -- where all players are seen
 pub IsWithin-everybody : (n : ℕ) (number at : ℕ → ℕ) → IsOrder n number at → (s : ℕ) → s < 2 ^ n → IsWithin n (front at n) s
-IsWithin-everybody n number at o s lt =
-    (lt, λ i h. elim (below_or_past i n) [
-      | inl below ↦ ap (λ (m : ℕ). has_player m i) o.full ∙ has_player-grand_coalition n i below
-      | inr past ↦ absurd (false≢true (sym (has_player-past n s i lt past) ∙ h))
-    ])
+IsWithin-everybody n number at o s lt = (
+  lt,
+  λ i h. elim (below_or_past i n) [
+    | inl below ↦ ap (λ (m : ℕ). has_player m i) o.full ∙ has_player-grand_coalition n i below
+    | inr past ↦ absurd (false≢true (sym (has_player-past n s i lt past) ∙ h))
+  ],
+)
