@@ -11,7 +11,7 @@ use Rattle.orders.specs.Orders.{front, IsOrder}
 use Rattle.orders.proofs.Fronts.{front-lacks}
 use Rattle.airport.specs.Airport.{Airport, IsAirport, airport_game, place}
 use Rattle.airport.proofs.GreatestCosts.{IsGame-airport, greatest_cost-last, greatest_cost-front}
-use Rattle.airport.proofs.Within.{IsWithin, IsWithin-lacks}
+use Rattle.airport.proofs.Within.{IsWithin-lacks}
 use Rattle.airport.proofs.Blocking.{IsNextPlayer}
 
 -- what the members pay together, over the denominator

@@ -55,7 +55,8 @@ fn the_two_who_pay_nothing_gain_nothing(rt: HostRuntime) -> Result<(), Fail> {
     let costs = [2, 4, 6].to_vec(rt.alloc())?;
     let game = AirportGame::new(rt.alloc(), costs).map_err(|_| "no game")?;
     let x = Shares::new([0, 0, -6].to_vec(rt.alloc())?, 1).ok_or("not shares")?;
-    assert!(rt; game.len() == 3 && x.players() == 3);
+    assert_eq!(rt; x.players(), 3);
+    assert_eq!(rt; game.len(), 3);
     assert_eq!(rt; game.split_bound(&x, Coalition(7)), 0);
     Ok(())
 }
@@ -150,7 +151,7 @@ fn both_bodies_agree_on_all_small_games(rt: HostRuntime) -> Result<(), Fail> {
             for code in 0..2 * codes {
                 let num = coded(rt.alloc(), code / 2, n, [-3, 0, 1])?;
                 let x = Shares::new(num, i128::from(code % 2 + 1)).ok_or("not shares")?;
-                assert!(rt; slow.game.len() == n && x.players() == n);
+                assert!(rt; n <= 5 && slow.game.len() == n && x.players() == n);
                 assert_eq!(rt; slow.game.blocker(&x), slow.blocker(&x), "at {x:?}");
                 assert!(rt; are_same_bounds(&slow, &x), "at {x:?}");
             }

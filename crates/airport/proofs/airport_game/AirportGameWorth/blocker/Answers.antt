@@ -1,4 +1,4 @@
-use Rattle.std.proofs.Common.{◌≡◌, ◌≤◌, ◌<◌, ◌+◌, ◌*◌, ◌^◌, ◌-ℤ◌, ℕ, ℤ, pos, ◌<ℤ◌, ◌≤ℤ◌, neg_ℤ, to_z, Option, length, get_or, arith, refl, sym, ap, ◌∙◌, add-one, unsigned_abs}
+use Rattle.std.proofs.Common.{◌≡◌, ◌≤◌, ◌<◌, ◌+◌, ◌*◌, ◌^◌, ◌-ℤ◌, ℕ, ℤ, pos, ◌<ℤ◌, ◌≤ℤ◌, neg_ℤ, to_z, Option, length, get_or, arith, sym, ap, ◌∙◌, add-one, unsigned_abs}
 use Rattle.std.proofs.lemmas.Int.{ints}
 use mir.Syntax.{w128}
 use Rattle.definitions.proofs.Ring.{linear}

@@ -1,7 +1,5 @@
-use Rattle.std.proofs.Common.{◌≡◌, ◌≤◌, ◌<◌, ◌+◌, ◌*◌, ◌^◌, ◌&&◌, ◌-ℤ◌, ℕ, ℤ, Bool, not, pos, neg_ℤ, nat_eq, to_z, of_z, Option, IsSome, length, get_or, arith, rules, refl, sym, ap, ◌∙◌, add-one}
-use Rattle.std.proofs.lemmas.Int.{ints}
+use Rattle.std.proofs.Common.{◌≡◌, ◌<◌, ◌+◌, ◌^◌, ◌&&◌, ◌-ℤ◌, ℕ, ℤ, not, pos, neg_ℤ, nat_eq, to_z, of_z, Option, length, get_or, arith, rules, sym, ap, ◌∙◌, add-one}
 use mir.Syntax.{w128}
-use Rattle.definitions.proofs.Ring.{linear}
 use Rattle.definitions.specs.Coalitions.{has_player, splits}
 use Rattle.definitions.specs.Games.{excess, share}
 use Rattle.worth_core.specs.SplitKinds.{Sums, AreSplitSums}
