@@ -120,36 +120,29 @@ fn are_same_bounds(slow: &OverAllMasks, x: &Shares) -> bool
     same
 }
 
-/// The numbers that the lowest digits of a code stand for.
-fn coded<T: Copy>(
-    alloc: Global,
-    code: u32,
-    count: u32,
-    numbers: [T; 3],
-) -> Result<Vec<T>, AllocError> {
+/// The numbers that the lowest digits of a code stand for, where it is written to the base of their count.
+fn coded<T: Copy>(alloc: Global, code: u32, count: u32, numbers: &[T]) -> Result<Vec<T>, AllocError>
+    requires some { 0 < length numbers.now }
+    requires few { length numbers.now < 2 ^ 32 }
+{
     let mut rest = code;
     let mut found = Vec::new(alloc);
     for _ in 0..count {
-        found.push(numbers[rest as usize % 3])?;
-        rest /= 3;
+        found.push(numbers[rest as usize % numbers.len()])?;
+        rest /= numbers.len() as u32;
     }
     Ok(found)
 }
 
 #[test]
 fn both_bodies_agree_on_all_small_games(rt: HostRuntime) -> Result<(), Fail> {
-    for (n, codes, few_costs) in [
-        (1, 3, [0, 1, 3]),
-        (2, 9, [0, 2, 3]),
-        (3, 27, [1, 2, 3]),
-        (4, 81, [0, 1, 2]),
-    ] {
-        for code in 0..codes {
-            let costs = coded(rt.alloc(), code, n, few_costs)?;
+    for (n, games, points) in [(1, 4, 3), (2, 16, 9), (3, 64, 27), (4, 256, 81)] {
+        for code in 0..games {
+            let costs = coded(rt.alloc(), code, n, &[0, 1, 2, 3])?;
             let game = AirportGame::new(rt.alloc(), costs).map_err(|_| "no game")?;
             let slow = OverAllMasks { game };
-            for code in 0..2 * codes {
-                let num = coded(rt.alloc(), code / 2, n, [-3, 0, 1])?;
+            for code in 0..2 * points {
+                let num = coded(rt.alloc(), code / 2, n, &[-3, 0, 1])?;
                 let x = Shares::new(num, i128::from(code % 2 + 1)).ok_or("not shares")?;
                 assert!(rt; n <= 5 && slow.game.len() == n && x.players() == n);
                 assert_eq!(rt; slow.game.blocker(&x), slow.blocker(&x), "at {x:?}");
