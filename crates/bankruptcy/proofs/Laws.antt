@@ -35,7 +35,7 @@ sum_below-front : (n : ℕ) (f : ℕ → ℤ) → sum_below (suc n) f ≡ f 0 +�
 sum_below-front zero f = omega (arith, linear)
 sum_below-front (suc n) f = let ih = sum_below-front n f in omega (arith, linear, ih)
 
-pub sum-claims : (claims : List ℕ) → pos (sum claims) ≡ sum_below (length claims) (claim claims)
+sum-claims : (claims : List ℕ) → pos (sum claims) ≡ sum_below (length claims) (claim claims)
 sum-claims [] = refl
 sum-claims (c ∷ claims) =
     let step : sum (c ∷ claims) ≡ c + sum claims = sum_by-cons (λ (x : ℕ). x) c claims in
