@@ -4,3 +4,6 @@ pub mod SplitScan
 pub mod SeenSets
 pub mod SplitSteps
 pub mod SmallSums
+pub mod LeastMultiples
+pub mod SharedDivisors
+pub mod FineShares

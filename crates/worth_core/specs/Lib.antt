@@ -1,3 +1,5 @@
 pub mod Allocations
 pub mod Greatest
 pub mod SplitKinds
+pub mod Multiples
+pub mod LeastDenominators

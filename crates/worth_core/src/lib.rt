@@ -11,7 +11,7 @@ mod worth;
 
 pub use best::Best;
 pub use definitions::Family;
-pub use shares::{Shares, scaled};
+pub use shares::{Shares, SharesFault, scaled};
 pub use split_sums::SplitSums;
 pub use splitting::raised;
 pub use worth::{Worth, scaled_excess};

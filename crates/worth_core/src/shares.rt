@@ -3,7 +3,10 @@ ghost use Rattle.std.specs.Prelude.{◌≡◌, ◌↔◌, ◌^◌, ◌<◌, leng
 ghost use Rattle.definitions.specs.Games.{IsShares, share, amount};
 ghost use Rattle.worth_core.specs.Allocations.{allocation};
 
+mod fracs;
+
 use coalitions::Coalition;
+pub use fracs::SharesFault;
 use std::marker::Model;
 
 /// The share of each player, as worth: a numerator over the common denominator.
