@@ -1,9 +1,9 @@
 //! Shares from fractions, and as fractions in lowest terms.
-ghost use Rattle.std.specs.Prelude.{◌≡◌, ◌↔◌, ℕ, ◌^◌, ◌<◌, ◌≤◌, length, pos, ◌≤ℤ◌, unsigned_abs, IfOk, MatchOption};
+ghost use Rattle.std.specs.Prelude.{◌≡◌, ℕ, ◌^◌, ◌<◌, ◌≤◌, length, pos, ◌≤ℤ◌, unsigned_abs, IfOk, MatchOption};
 ghost use Rattle.std.specs.Option.{SomeIff};
 ghost use Rattle.definitions.specs.Coalitions.{grand_coalition};
 ghost use Rattle.definitions.specs.Games.{IsShares, share, amount};
-ghost use Rattle.fractions.specs.Fraction.{IsReduced, IsRatio};
+ghost use Rattle.fractions.specs.Fraction.{IsRatio};
 ghost use Rattle.worth_core.specs.LeastDenominators.{IsLeastDenominator, as_fractions, numerator_over, over, AreTooFine};
 ghost use Rattle.worth_core.specs.Multiples.{IsLeastMultiple};
 
