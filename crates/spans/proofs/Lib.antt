@@ -1,0 +1,4 @@
+pub mod Vectors
+pub mod Inside
+pub mod Grown
+pub mod Started
