@@ -1,0 +1,5 @@
+pub mod Forms
+pub mod Pairs
+pub mod FormScan
+pub mod Ratios
+pub mod Kept
