@@ -1,0 +1,9 @@
+pub mod Escaped
+pub mod Fronts
+pub mod Lexed
+pub mod Spelled
+pub mod Weights
+pub mod Integers
+pub mod Lighter
+pub mod Back
+pub mod Parts
