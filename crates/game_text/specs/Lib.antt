@@ -1,0 +1,12 @@
+pub mod Text
+pub mod Trees
+pub mod Shape
+pub mod Limits
+pub mod Names
+pub mod Coalitions
+pub mod Numbers
+pub use Rattle.serde_json.specs.Data
+pub use Rattle.serde_json.specs.Read
+pub use Rattle.serde_json.specs.Find
+pub use Rattle.serde_json.specs.View
+pub use Rattle.serde_json.specs.Errors

@@ -1,0 +1,19 @@
+-- The numbers of the refusals, in the order in which they are tested.
+use Rattle.std.specs.Prelude.{ℕ}
+use Rattle.game_text.specs.declared.refusal.Refusal.{Refusal}
+use Rattle.game_text.specs.declared.refusal.Refusal.TheVariants.{TooLong, NotJson, Shape, Players, Number, Names, Coalition, Estate, Matrix, Proposal, TooFine, Certificate}
+
+-- the place of a refusal in their order, from 1
+abbrev pub refusal_number : Refusal → ℕ
+refusal_number TooLong = 1
+refusal_number NotJson = 2
+refusal_number Shape = 3
+refusal_number Players = 4
+refusal_number Number = 5
+refusal_number Names = 6
+refusal_number Coalition = 7
+refusal_number Estate = 8
+refusal_number Matrix = 9
+refusal_number Proposal = 10
+refusal_number TooFine = 11
+refusal_number Certificate = 12

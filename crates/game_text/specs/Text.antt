@@ -1,0 +1,22 @@
+-- The text of a document: bytes, and the JSON tree that they are the text of.
+use Rattle.std.specs.Prelude.{◌≡◌, ◌==◌, ◌-◌, ◌&&◌, ℕ, List, length, take, slice_index, Some, None, if◌then◌else◌, IsUtf8, nat_lt}
+use Rattle.serde_json.specs.Data.{Data}
+use Rattle.serde_json.specs.Read.{read}
+use Rattle.game_text.specs.declared.command.Command.{Command}
+use Rattle.game_text.specs.declared.command.Command.TheVariants.{Propose}
+
+-- the most bytes that a document for a command may have
+abbrev pub document_limit : Command → ℕ
+document_limit Propose = 2097152
+
+-- the bytes without a newline at their end
+abbrev pub without_newline : List ℕ → List ℕ
+without_newline bytes = if nat_lt 0 (length bytes) && (slice_index bytes (length bytes - 1) == 10) then take (length bytes - 1) bytes else bytes
+
+-- the bytes are the text of this JSON tree
+abbrev pub IsTextOf : List ℕ → Data → Type 0
+IsTextOf bytes tree = IsUtf8 (without_newline bytes) × (read (without_newline bytes) ≡ Some tree)
+
+-- the bytes are no JSON, or are nested too deep
+abbrev pub IsNotJson : List ℕ → Type 0
+IsNotJson bytes = IsUtf8 (without_newline bytes) → read (without_newline bytes) ≡ None

@@ -1,0 +1,14 @@
+//! The classes of games that a document can name.
+
+/// The class that a document names.
+#[derive(Clone, Copy, Debug, PartialEq, Eq)]
+pub enum Class {
+    /// The worth of each coalition.
+    Table,
+    /// The cost of each coalition.
+    CostTable,
+    /// The cost of each player.
+    Airport,
+    /// An estate and the claim of each player.
+    Bankruptcy,
+}

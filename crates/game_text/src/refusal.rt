@@ -1,0 +1,41 @@
+//! Why a document is refused.
+ghost use Rattle.std.specs.Prelude.{◌≡◌};
+ghost use Rattle.game_text.specs.Numbers.{refusal_number};
+
+/// Why a document is refused. The refusals stand in the order in which they are tested, and the first that applies is given.
+#[derive(Clone, Copy, Debug, PartialEq, Eq)]
+pub enum Refusal {
+    /// It has more bytes than a document may have.
+    TooLong,
+    /// It is no JSON, or is nested too deep.
+    NotJson,
+    /// A value has another kind, a key or a word is unknown, or one is missing.
+    Shape,
+    /// There are too few or too many players, or numbers for them.
+    Players,
+    /// A number isn't an integer within its limits, or a share is no fraction text.
+    Number,
+    /// There isn't one good name for each player, or a coalition uses an unknown one.
+    Names,
+    /// A coalition is empty, names a player twice or one that isn't there, or is listed twice.
+    Coalition,
+    /// The estate is above the sum of the claims.
+    Estate,
+    /// A matrix has the wrong size, or isn't what its class asks for.
+    Matrix,
+    /// There isn't one share for each player.
+    Proposal,
+    /// The shares have too large a common denominator, or too large numerators over it.
+    TooFine,
+    /// The certificate hasn't its form.
+    Certificate,
+}
+
+impl Refusal {
+    /// The place of the refusal in their order, 1 to 12.
+    pub fn number(self) -> u32
+        ensures { result ≡ refusal_number self }
+    {
+        self as u32 + 1
+    }
+}
