@@ -43,9 +43,13 @@ abbrev pub mask_of : ℕ → List (List ℕ) → List Data → Option ℕ
 mask_of n names [] = None
 mask_of n names (d ∷ ds) = joined n names 0 (d ∷ ds)
 
--- the coalition of each pair of a sparse table
+-- the coalition of each pair of a sparse table of n players
 abbrev pub masks_by : ℕ → List (List ℕ) → Data → List (Option ℕ)
 masks_by n names game = map (λ pair. mask_of n names (sparse_members pair)) (parts_at (codes "sparse") game)
+
+-- the coalition of each pair of a sparse table
+abbrev pub masks : Data → List (Option ℕ)
+masks game = masks_by (players game) (names_of game) game
 
 -- it is the mask s
 abbrev pub is_mask : ℕ → Option ℕ → Bool
@@ -59,13 +63,13 @@ are_coalitions (None ∷ os) = false
 are_coalitions (Some s ∷ os) = not (list_any (is_mask s) os) && are_coalitions os
 
 -- each pair of a sparse table has a coalition, and no two have the same; other classes have no pairs
-abbrev pub has_coalitions_by : Option Class → ℕ → List (List ℕ) → Data → Bool
-has_coalitions_by None n names game = false
-has_coalitions_by (Some Table) n names game = are_coalitions (masks_by n names game)
-has_coalitions_by (Some CostTable) n names game = are_coalitions (masks_by n names game)
-has_coalitions_by (Some Airport) n names game = true
-has_coalitions_by (Some Bankruptcy) n names game = true
+abbrev pub has_coalitions_as : Option Class → Data → Bool
+has_coalitions_as None game = false
+has_coalitions_as (Some Table) game = are_coalitions (masks game)
+has_coalitions_as (Some CostTable) game = are_coalitions (masks game)
+has_coalitions_as (Some Airport) game = true
+has_coalitions_as (Some Bankruptcy) game = true
 
 -- each pair of a sparse table has a coalition of players, and no two have the same
 abbrev pub has_coalitions : Data → Bool
-has_coalitions game = has_coalitions_by (class_of game) (players game) (names_of game) game
+has_coalitions game = has_coalitions_as (class_of game) game

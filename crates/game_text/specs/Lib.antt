@@ -4,6 +4,11 @@ pub mod Shape
 pub mod Limits
 pub mod Names
 pub mod Coalitions
+pub mod Descriptions
+pub mod Slots
+pub mod Games
+pub mod Refusals
+pub mod Readings
 pub mod Numbers
 pub use Rattle.serde_json.specs.Data
 pub use Rattle.serde_json.specs.Read

@@ -1,0 +1,78 @@
+//! A game of one of the classes that a document can describe.
+use airport::AirportGame;
+use bankruptcy::BankruptcyGame;
+use coalitions::Coalition;
+use worth_core::{Shares, Worth};
+use worth_tables::{CostGame, TableGame};
+
+/// A game of one of the classes.
+#[derive(Debug, Drop)]
+pub enum Game {
+    /// The worth of each coalition.
+    Table(TableGame),
+    /// The cost of each coalition.
+    Cost(CostGame<TableGame>),
+    /// The cost of each player.
+    Airport(AirportGame),
+    /// An estate and the claim of each player.
+    Bankruptcy(BankruptcyGame),
+}
+
+impl Game {
+    ghost use Rattle.std.specs.Prelude.{◌≡◌};
+    ghost use Rattle.game_text.specs.Descriptions.{is_cost};
+    ghost use Rattle.game_text.specs.Games.{description_in};
+
+    /// Whether its numbers are costs, so that shares are read and printed as payments.
+    pub fn is_cost(&self) -> bool
+        ensures { result ≡ is_cost (description_in self.now) }
+    {
+        match self {
+            Game::Cost(_) | Game::Airport(_) => true,
+            Game::Table(_) | Game::Bankruptcy(_) => false,
+        }
+    }
+}
+
+impl Worth for Game {
+    ghost use Rattle.game_text.specs.Descriptions.{game_of};
+    ghost use Rattle.game_text.specs.Games.{description_in};
+
+    ghost game = { λ g. game_of (description_in g) };
+
+    fn players(&self) -> u32 {
+        match self {
+            Game::Table(game) => game.players(),
+            Game::Cost(game) => game.players(),
+            Game::Airport(game) => game.players(),
+            Game::Bankruptcy(game) => game.players(),
+        }
+    }
+
+    fn worth(&self, s: Coalition) -> i64 {
+        match self {
+            Game::Table(game) => game.worth(s),
+            Game::Cost(game) => game.worth(s),
+            Game::Airport(game) => game.worth(s),
+            Game::Bankruptcy(game) => game.worth(s),
+        }
+    }
+
+    fn blocker(&self, x: &Shares) -> Option<Coalition> {
+        match self {
+            Game::Table(game) => game.blocker(x),
+            Game::Cost(game) => game.blocker(x),
+            Game::Airport(game) => game.blocker(x),
+            Game::Bankruptcy(game) => game.blocker(x),
+        }
+    }
+
+    fn split_bound(&self, x: &Shares, free: Coalition) -> i128 {
+        match self {
+            Game::Table(game) => game.split_bound(x, free),
+            Game::Cost(game) => game.split_bound(x, free),
+            Game::Airport(game) => game.split_bound(x, free),
+            Game::Bankruptcy(game) => game.split_bound(x, free),
+        }
+    }
+}

@@ -1,0 +1,154 @@
+//! The numbers of a table.
+ghost use Rattle.std.specs.Prelude.{◌≡◌, ◌<◌, ◌≤◌, ◌-◌, ◌^◌, codes, map, length, replicate, drop, None, Some, false, IfOk, IfSome, IfNone, option_map, unwrap_or, if◌then◌else◌};
+ghost use Rattle.std.specs.List.{range_with_len};
+ghost use Rattle.serde_json.specs.View.{view};
+ghost use Rattle.serde_json.specs.Find.{get};
+ghost use Rattle.game_text.specs.Trees.{parts};
+ghost use Rattle.game_text.specs.Names.{sparse_members};
+ghost use Rattle.game_text.specs.Coalitions.{masks_by, mask_of, are_coalitions};
+ghost use Rattle.game_text.specs.Descriptions.{integer_or_zero, integers_at, integer_at, second_integer, sparse_number, numbers_by};
+ghost use Rattle.game_text.specs.Slots.{HasNumbers};
+
+use crate::masks::mask_of;
+use crate::names::{Names, sparse_members};
+use crate::trees::{integer, parts, parts_at};
+use fractions::OutOfMemory;
+use serde_json::Value;
+use std::alloc::Global;
+
+fn integers(alloc: Global, values: &[Value]) -> Result<Vec<i64>, OutOfMemory>
+    ensures { IfOk result (λ v. v.items ≡ map (λ d. integer_or_zero (view d)) values.now) }
+{
+    let mut found = Vec::new(alloc);
+    for value in values {
+        let n = integer(value).unwrap_or(0);
+        found.push(n)?;
+    }
+    Ok(found)
+}
+
+/// The integers of the array at a key.
+#[tactic(auto, using(crate::proofs::Values::map_views))]
+pub fn integers_at(alloc: Global, game: &Value, key: &str) -> Result<Vec<i64>, OutOfMemory>
+    ensures { IfOk result (λ v. v.items ≡ integers_at key.now (view game.now)) }
+{
+    integers(alloc, parts_at(game, key))
+}
+
+/// The integer at a key, and 0 where it is absent.
+pub fn integer_at(game: &Value, key: &str) -> i64
+    ensures { result ≡ integer_at key.now (view game.now) }
+{
+    match game.get(key) {
+        Some(value) => integer(value).unwrap_or(0),
+        None => 0,
+    }
+}
+
+fn second_integer(pair: &Value) -> i64
+    ensures { result ≡ second_integer (parts (view pair.now)) }
+{
+    match parts(pair) {
+        [_, number] => integer(number).unwrap_or(0),
+        _ => 0,
+    }
+}
+
+fn empty_slots(alloc: Global, count: usize) -> Result<Vec<Option<i64>>, OutOfMemory>
+    ensures { IfOk result (λ v. v.items ≡ replicate count None) }
+{
+    let mut slots = Vec::new(alloc);
+    for i in 0..count {
+        slots.push(None)?;
+    }
+    Ok(slots)
+}
+
+/// The slots with the number of each pair at the mask of its coalition. None where a pair has no coalition, or two have
+/// the same.
+fn filled(
+    players: u32,
+    names: &Names,
+    pairs: &[Value],
+    mut slots: Vec<Option<i64>>,
+) -> Option<Vec<Option<i64>>>
+    requires few { players ≤ 16 }
+    requires named { length names.now ≤ players }
+    requires empty { slots.items ≡ replicate (2 ^ players) None }
+    ensures none { IfNone result (are_coalitions (map (λ pair. mask_of players names.now (sparse_members pair)) (map view pairs.now)) ≡ false) }
+    ensures some { IfSome result (λ v. HasNumbers players names.now (map view pairs.now) v.items) }
+{
+    for pair in pairs {
+        let Some(s) = mask_of(players, names, sparse_members(pair)) else {
+            return None;
+        };
+        let at = s.0 as usize;
+        if slots[at].is_some() {
+            return None;
+        }
+        slots[at] = Some(second_integer(pair));
+    }
+    Some(slots)
+}
+
+/// The numbers of the slots, with `other` for the empty ones.
+fn numbers(alloc: Global, slots: &[Option<i64>], other: i64) -> Result<Vec<i64>, OutOfMemory>
+    ensures { IfOk result (λ v. v.items ≡ map (λ o. unwrap_or o other) slots.now) }
+{
+    let mut found = Vec::new(alloc);
+    for slot in slots {
+        found.push(slot.unwrap_or(other))?;
+    }
+    Ok(found)
+}
+
+#[tactic(auto, using(crate::proofs::Filling::whole_tail))]
+fn later_numbers(alloc: Global, slots: &[Option<i64>], other: i64) -> Result<Vec<i64>, OutOfMemory>
+    requires { 0 < length slots.now }
+    ensures { IfOk result (λ v. v.items ≡ map (λ o. unwrap_or o other) (drop 1 slots.now)) }
+{
+    let rest = &slots[1..];
+    numbers(alloc, rest, other)
+}
+
+/// The number of each mask from 1. None where a pair has no coalition, or two have the same.
+fn sparse_numbers(
+    alloc: Global,
+    players: u32,
+    names: &Names,
+    other: i64,
+    pairs: &[Value],
+) -> Result<Option<Vec<i64>>, OutOfMemory>
+    requires few { players ≤ 16 }
+    requires named { length names.now ≤ players }
+    ensures { IfOk result (λ o. option_map (λ v. v.items) o ≡ (if are_coalitions (map (λ pair. mask_of players names.now (sparse_members pair)) (map view pairs.now))
+        then Some (map (λ s. sparse_number players names.now other s (map view pairs.now)) (range_with_len 1 (2 ^ players - 1))) else None)) }
+{
+    let slots = empty_slots(alloc, 1 << players)?;
+    let Some(slots) = filled(players, names, pairs, slots) else {
+        return Ok(None);
+    };
+    let found = later_numbers(alloc, &slots, other)?;
+    Ok(Some(found))
+}
+
+/// The number of each coalition of a table, in mask order from 1. None where a pair of a sparse table has no coalition, or
+/// two have the same.
+pub fn table_numbers(
+    alloc: Global,
+    game: &Value,
+    count: u32,
+    names: &Names,
+) -> Result<Option<Vec<i64>>, OutOfMemory>
+    requires few { count ≤ 16 }
+    requires named { length names.now ≤ count }
+    ensures { IfOk result (λ o. option_map (λ v. v.items) o ≡ (if are_coalitions (masks_by count names.now (view game.now))
+        then Some (numbers_by (get (codes "sparse") (view game.now)) count names.now (view game.now)) else None)) }
+{
+    if game.get("sparse").is_none() {
+        let found = integers_at(alloc, game, "worths")?;
+        return Ok(Some(found));
+    }
+    let other = integer_at(game, "default");
+    sparse_numbers(alloc, count, names, other, parts_at(game, "sparse"))
+}
