@@ -4,3 +4,6 @@ pub mod NamesRead
 pub mod Joining
 pub mod Filling
 pub mod Sizes
+pub mod Payments
+pub mod LeastDenominators
+pub mod Chain

@@ -6,6 +6,9 @@ pub mod Names
 pub mod Coalitions
 pub mod Descriptions
 pub mod Slots
+pub mod Denominators
+pub mod Shares
+pub mod Documents
 pub mod Games
 pub mod Refusals
 pub mod Readings

@@ -1,13 +1,18 @@
 -- What the steps of reading a document give.
-use Rattle.std.specs.Prelude.{◌≡◌, ⊤, true, Option, Some, None}
+use Rattle.std.specs.Prelude.{◌≡◌, ⊤, true, ℕ, List, Option, Some, None}
 use Rattle.serde_json.specs.Data.{Data}
+use Rattle.serde_json.specs.View.{view}
+use Rattle.definitions.specs.Games.{Allocation}
 use Rattle.game_text.specs.Shape.{is_game_shaped}
 use Rattle.game_text.specs.Limits.{has_players, has_numbers}
 use Rattle.game_text.specs.Descriptions.{description_of}
 use Rattle.game_text.specs.Games.{description_in}
-use Rattle.game_text.specs.Refusals.{number_refusal}
+use Rattle.game_text.specs.Documents.{Contents, shares_for, contents_of}
+use Rattle.game_text.specs.Refusals.{number_refusal, game_refusal, needed_refusal, late_refusal, tree_refusal, IsRefused, IsDocument}
 use Rattle.game_text.specs.declared.class.Class.{Class}
 use Rattle.game_text.specs.declared.class.Class.TheVariants.{Table, CostTable, Airport, Bankruptcy}
+use Rattle.game_text.specs.declared.command.Command.{Command}
+use Rattle.game_text.specs.declared.document.Document.{Document}
 use Rattle.game_text.specs.declared.fault.TextFault.{TextFault}
 use Rattle.game_text.specs.declared.fault.TextFault.TheVariants.{Refused, Memory}
 use Rattle.game_text.specs.declared.game.Game.{Game}
@@ -36,3 +41,58 @@ pub record IsBuilt (game : Data) (g : Game) : Type 0 where
 abbrev pub IsBuildFault : Data → TextFault → Type 0
 IsBuildFault game (Refused r) = (rest : Option Refusal) → number_refusal game rest ≡ Some r
 IsBuildFault game Memory = ⊤
+
+-- the tests of the names, the coalitions and the estate pass, and this is the game that is described
+pub record IsGameReading (game : Data) (g : Game) : Type 0 where
+  pub passed : (rest : Option Refusal) → game_refusal game rest ≡ rest
+  pub same : description_in g ≡ description_of game
+
+-- the tests of the names, the coalitions and the estate refuse it so; want of memory is free
+abbrev pub IsGameFault : Data → TextFault → Type 0
+IsGameFault game (Refused r) = (rest : Option Refusal) → game_refusal game rest ≡ Some r
+IsGameFault game Memory = ⊤
+
+-- the tests of what the command needs beside the game pass, and these are the shares that it needs
+pub record IsNeededReading (command : Command) (game tree : Data) (shares : Option Allocation) : Type 0 where
+  pub passed : needed_refusal command game tree ≡ None
+  pub same : shares ≡ shares_for command game tree
+
+-- the tests of what the command needs beside the game refuse it so; want of memory is free
+abbrev pub IsNeededFault : Command → Data → Data → TextFault → Type 0
+IsNeededFault command game tree (Refused r) = needed_refusal command game tree ≡ Some r
+IsNeededFault command game tree Memory = ⊤
+
+-- what a document in memory says
+abbrev pub contents_in : Document → Contents
+contents_in d = record { game = description_in d.game; tree = view d.tree; shares = d.shares }
+
+-- the tests behind those of the shape, the players and the numbers pass, and this is what the tree says
+pub record IsLateReading (command : Command) (game tree : Data) (d : Document) : Type 0 where
+  pub passed : late_refusal command game tree ≡ None
+  pub described : description_in d.game ≡ description_of game
+  pub same : view d.tree ≡ game
+  pub shares : d.shares ≡ shares_for command game tree
+
+-- the tests behind those of the shape, the players and the numbers refuse it so; want of memory is free
+abbrev pub IsLateFault : Command → Data → Data → TextFault → Type 0
+IsLateFault command game tree (Refused r) = late_refusal command game tree ≡ Some r
+IsLateFault command game tree Memory = ⊤
+
+-- no test refuses the tree, and this is what it says
+pub record IsTreeReading (command : Command) (tree : Data) (d : Document) : Type 0 where
+  pub passed : tree_refusal command tree ≡ None
+  pub says : contents_in d ≡ contents_of command tree
+
+-- the first test that the tree doesn't pass refuses it so; want of memory is free
+abbrev pub IsTreeFault : Command → Data → TextFault → Type 0
+IsTreeFault command tree (Refused r) = tree_refusal command tree ≡ Some r
+IsTreeFault command tree Memory = ⊤
+
+-- no refusal applies to the bytes, and this is the document that they are the text of
+abbrev pub IsReading : Command → List ℕ → Document → Type 0
+IsReading command bytes d = IsDocument command bytes (contents_in d)
+
+-- the first refusal that applies to the bytes; want of memory is free
+abbrev pub IsFault : Command → List ℕ → TextFault → Type 0
+IsFault command bytes (Refused r) = IsRefused command bytes r
+IsFault command bytes Memory = ⊤

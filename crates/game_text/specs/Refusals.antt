@@ -1,11 +1,23 @@
 -- The first refusal that applies, and the document that isn't refused.
-use Rattle.std.specs.Prelude.{Bool, true, false, Option, Some, nat_le, sum}
+--
+--   tree_refusal  the first test that a JSON tree doesn't pass, in the order of their numbers
+--   IsRefused     the first refusal that applies to the bytes
+--   IsDocument    no refusal applies to the bytes, and this is what they say
+use Rattle.std.specs.Prelude.{◌≡◌, ◌<◌, ◌≤◌, ◌&&◌, ℕ, List, length, Bool, true, false, Option, Some, None, nat_le, sum}
 use Rattle.serde_json.specs.Data.{Data}
+use Rattle.game_text.specs.Text.{document_limit, IsTextOf, IsNotJson}
+use Rattle.game_text.specs.Shape.{is_shaped}
+use Rattle.game_text.specs.Limits.{players, has_players, has_numbers}
 use Rattle.game_text.specs.Names.{has_names}
 use Rattle.game_text.specs.Coalitions.{has_coalitions}
 use Rattle.game_text.specs.Descriptions.{Description, table, cost_table, airport, bankruptcy, description_of}
+use Rattle.game_text.specs.Shares.{has_share_numbers, has_shares_for, written_shares}
+use Rattle.game_text.specs.Denominators.{is_coarse}
+use Rattle.game_text.specs.Documents.{Contents, game_tree, contents_of}
+use Rattle.game_text.specs.declared.command.Command.{Command}
+use Rattle.game_text.specs.declared.command.Command.TheVariants.{Propose}
 use Rattle.game_text.specs.declared.refusal.Refusal.{Refusal}
-use Rattle.game_text.specs.declared.refusal.Refusal.TheVariants.{Names, Coalition, Estate}
+use Rattle.game_text.specs.declared.refusal.Refusal.TheVariants.{TooLong, NotJson, Shape, Players, Number, Names, Coalition, Estate, Proposal, TooFine}
 
 -- an estate is at most the sum of the claims
 abbrev pub is_covered : Description → Bool
@@ -28,3 +40,40 @@ number_refusal game rest =
 -- the tests of the names, the coalitions and the estate, and then the rest
 abbrev pub game_refusal : Data → Option Refusal → Option Refusal
 game_refusal game rest = unless (has_names game) Names (number_refusal game rest)
+
+-- each share that a command needs is an integer or a fraction text
+abbrev pub has_needed_numbers : Command → Data → Bool
+has_needed_numbers Propose tree = has_share_numbers tree
+
+-- the tests of what a command needs beside the game: as many shares as players, over a denominator that isn't too large
+abbrev pub needed_refusal : Command → Data → Data → Option Refusal
+needed_refusal Propose game tree =
+    unless (has_shares_for (players game) tree) Proposal (
+    unless (is_coarse (written_shares tree)) TooFine None)
+
+-- the tests behind those of the shape, the players and the numbers
+abbrev pub late_refusal : Command → Data → Data → Option Refusal
+late_refusal command game tree = game_refusal game (needed_refusal command game tree)
+
+-- the first test that a tree doesn't pass, in the order of their numbers
+abbrev pub tree_refusal : Command → Data → Option Refusal
+tree_refusal command tree =
+    unless (is_shaped command tree) Shape (
+    unless (has_players (game_tree tree)) Players (
+    unless (has_numbers (game_tree tree) && has_needed_numbers command tree) Number (late_refusal command (game_tree tree) tree)))
+
+-- bytes within the limit are the text of a tree that is refused so
+abbrev pub IsTreeRefused : Command → List ℕ → Refusal → Type 0
+IsTreeRefused command bytes r =
+    (length bytes ≤ document_limit command) × ((tree : Data) × IsTextOf bytes tree × (tree_refusal command tree ≡ Some r))
+
+-- the first refusal that applies
+abbrev pub IsRefused : Command → List ℕ → Refusal → Type 0
+IsRefused command bytes TooLong = document_limit command < length bytes
+IsRefused command bytes NotJson = (length bytes ≤ document_limit command) × IsNotJson bytes
+IsRefused command bytes r = IsTreeRefused command bytes r
+
+-- no refusal applies, and this is what the bytes say
+abbrev pub IsDocument : Command → List ℕ → Contents → Type 0
+IsDocument command bytes p =
+    (length bytes ≤ document_limit command) × ((tree : Data) × IsTextOf bytes tree × (tree_refusal command tree ≡ None) × (p ≡ contents_of command tree))

@@ -4,19 +4,24 @@
 mod building;
 mod class;
 mod command;
+mod document;
 mod fault;
 mod game;
 mod kind;
 mod limits;
 mod masks;
 mod names;
+mod reading;
 mod refusal;
 mod shape;
+mod shares;
 mod table;
 mod trees;
 
 pub use command::Command;
+pub use document::Document;
 pub use fault::TextFault;
 pub use game::Game;
 pub use kind::Kind;
+pub use reading::read_document;
 pub use refusal::Refusal;

@@ -1,0 +1,85 @@
+-- What reading the tree says of the bytes.
+use Rattle.std.proofs.Common.{◌≡◌, ◌≤◌, ◌&&◌, ℕ, List, length, Bool, true, false, Option, Some, None, Result, Ok, Err, MatchResult, ap, ◌∙◌, subst}
+use Rattle.std.specs.Prelude.{⊤}
+use Rattle.serde_json.specs.Data.{Data}
+use Rattle.game_text.specs.Text.{document_limit, IsTextOf}
+use Rattle.game_text.specs.Shape.{is_shaped}
+use Rattle.game_text.specs.Limits.{players, has_players, has_numbers}
+use Rattle.game_text.specs.Names.{has_names}
+use Rattle.game_text.specs.Coalitions.{has_coalitions}
+use Rattle.game_text.specs.Descriptions.{description_of}
+use Rattle.game_text.specs.Shares.{has_shares_for, written_shares}
+use Rattle.game_text.specs.Denominators.{is_coarse}
+use Rattle.game_text.specs.Documents.{game_tree}
+use Rattle.game_text.specs.Refusals.{unless, is_covered, number_refusal, game_refusal, has_needed_numbers, needed_refusal, late_refusal, tree_refusal, IsRefused}
+use Rattle.game_text.specs.Readings.{IsBuilt, IsBuildFault, IsGameReading, IsGameFault, IsTreeReading, IsTreeFault, IsReading, IsFault}
+use Rattle.game_text.specs.declared.command.Command.{Command}
+use Rattle.game_text.specs.declared.command.Command.TheVariants.{Propose}
+use Rattle.game_text.specs.declared.document.Document.{Document}
+use Rattle.game_text.specs.declared.fault.TextFault.{TextFault}
+use Rattle.game_text.specs.declared.fault.TextFault.TheVariants.{Refused, Memory}
+use Rattle.game_text.specs.declared.game.Game.{Game}
+use Rattle.game_text.specs.declared.refusal.Refusal.{Refusal}
+use Rattle.game_text.specs.declared.refusal.Refusal.TheVariants.{TooLong, NotJson, Shape, Players, Number, Names, Coalition, Estate, Matrix, Proposal, TooFine, Certificate}
+
+-- a refusal of the tree is behind the first two
+abbrev IsOfTree : Option Refusal → Type 0
+IsOfTree None = ⊤
+IsOfTree (Some TooLong) = ⊥
+IsOfTree (Some NotJson) = ⊥
+IsOfTree (Some r) = ⊤
+
+choose : (b : Bool) (r : Refusal) (x : Option Refusal) → IsOfTree x → IsOfTree (Some r) → IsOfTree (unless b r x)
+choose true r x p q = p
+choose false r x p q = q
+
+needed_of_tree : (command : Command) (game tree : Data) → IsOfTree (needed_refusal command game tree)
+needed_of_tree Propose game tree =
+    choose (has_shares_for (players game) tree) Proposal (unless (is_coarse (written_shares tree)) TooFine None) (choose (is_coarse (written_shares tree)) TooFine None tt tt) tt
+
+game_of_tree : (game : Data) (rest : Option Refusal) → IsOfTree rest → IsOfTree (game_refusal game rest)
+game_of_tree game rest p =
+    let estate = unless (is_covered (description_of game)) Estate rest in
+    choose (has_names game) Names (unless (has_coalitions game) Coalition estate) (choose (has_coalitions game) Coalition estate (choose (is_covered (description_of game)) Estate rest p tt) tt) tt
+
+of_tree : (command : Command) (tree : Data) → IsOfTree (tree_refusal command tree)
+of_tree command tree =
+    let game = game_tree tree in
+    let late = late_refusal command game tree in
+    let numbers = has_numbers game && has_needed_numbers command tree in
+    let number = unless numbers Number late in
+    choose (is_shaped command tree) Shape (unless (has_players game) Players number)
+    (choose (has_players game) Players number (choose numbers Number late (game_of_tree game (needed_refusal command game tree) (needed_of_tree command game tree)) tt) tt) tt
+
+refused_at : (command : Command) (bytes : List ℕ) (tree : Data) → length bytes ≤ document_limit command → IsTextOf bytes tree → (r : Refusal) → IsOfTree (Some r) → tree_refusal command tree ≡ Some r → IsRefused command bytes r
+refused_at command bytes tree h text TooLong k e = absurd k
+refused_at command bytes tree h text NotJson k e = absurd k
+refused_at command bytes tree h text Shape k e = (h, (tree, text, e))
+refused_at command bytes tree h text Players k e = (h, (tree, text, e))
+refused_at command bytes tree h text Number k e = (h, (tree, text, e))
+refused_at command bytes tree h text Names k e = (h, (tree, text, e))
+refused_at command bytes tree h text Coalition k e = (h, (tree, text, e))
+refused_at command bytes tree h text Estate k e = (h, (tree, text, e))
+refused_at command bytes tree h text Matrix k e = (h, (tree, text, e))
+refused_at command bytes tree h text Proposal k e = (h, (tree, text, e))
+refused_at command bytes tree h text TooFine k e = (h, (tree, text, e))
+refused_at command bytes tree h text Certificate k e = (h, (tree, text, e))
+
+fault_at : (command : Command) (bytes : List ℕ) (tree : Data) → length bytes ≤ document_limit command → IsTextOf bytes tree → (e : TextFault) → IsTreeFault command tree e → IsFault command bytes e
+fault_at command bytes tree h text (Refused r) e = refused_at command bytes tree h text r (subst IsOfTree e (of_tree command tree)) e
+fault_at command bytes tree h text Memory e = tt
+
+pub from_tree : (command : Command) (bytes : List ℕ) (tree : Data) → length bytes ≤ document_limit command → IsTextOf bytes tree → (r : Result Document TextFault) → MatchResult r (IsTreeReading command tree) (IsTreeFault command tree)
+    → MatchResult r (IsReading command bytes) (IsFault command bytes)
+from_tree command bytes tree h text (Ok d) m = (h, (tree, text, m.passed, m.says))
+from_tree command bytes tree h text (Err e) m = fault_at command bytes tree h text e m
+
+-- ---- behind the test of the names
+
+fault_behind : (game : Data) → has_names game ≡ true → (e : TextFault) → IsBuildFault game e → IsGameFault game e
+fault_behind game h (Refused r) e = λ rest. ap (λ b. unless b Names (number_refusal game rest)) h ∙ e rest
+fault_behind game h Memory e = tt
+
+pub behind_names : (game : Data) → has_names game ≡ true → (r : Result Game TextFault) → MatchResult r (IsBuilt game) (IsBuildFault game) → MatchResult r (IsGameReading game) (IsGameFault game)
+behind_names game h (Ok g) m = record { passed = λ rest. ap (λ b. unless b Names (number_refusal game rest)) h ∙ m.passed rest; same = m.same }
+behind_names game h (Err e) m = fault_behind game h e m

@@ -1,0 +1,12 @@
+use Rattle.std.proofs.Common.{◌≡◌, ◌≤◌, length, Some, subst, IsUtf8}
+use Rattle.serde_json.specs.Read.{read}
+use Rattle.serde_json.specs.View.{view}
+use Rattle.game_text.specs.Text.{IsTextOf}
+use Rattle.game_text.proofs.Chain.{from_tree}
+use Rattle.game_text.proofs.reading.read_document.Goals as goal
+
+pub returns : goal.returns
+returns c =
+    let tree = view c.in-Ok.tree in
+    let text : IsTextOf c.args.bytes.now tree = subst (λ s. IsUtf8 s × (read s ≡ Some tree)) c.without_newline.ensures c.in-Ok.ensures.ok in
+    from_tree c.args.command c.args.bytes.now tree (subst (λ n. length c.args.bytes.now ≤ n) c.document_limit.ensures c.if-bytes-document_limit.false) text c.document_of.result c.document_of.ensures

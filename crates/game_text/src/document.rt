@@ -1,0 +1,15 @@
+//! A document that isn't refused.
+use crate::game::Game;
+use serde_json::Value;
+use worth_core::Shares;
+
+/// A game and what is said of it.
+#[derive(Debug, Drop)]
+pub struct Document {
+    /// The game that is described.
+    pub game: Game,
+    /// The JSON tree of the game, as it was read.
+    pub tree: Value,
+    /// The proposed shares, as worth over their least common denominator; there for every command that needs them.
+    pub shares: Option<Shares>,
+}

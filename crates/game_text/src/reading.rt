@@ -1,0 +1,163 @@
+//! From the bytes of a document to what it says, or to its refusal.
+ghost use Rattle.std.specs.Prelude.{◌≡◌, ◌≤◌, MatchResult, IfOk, IfSome, Some, None, length, if◌then◌else◌};
+ghost use Rattle.serde_json.specs.View.{view};
+ghost use Rattle.game_text.specs.Descriptions.{description_of, is_cost};
+ghost use Rattle.game_text.specs.Limits.{players};
+ghost use Rattle.game_text.specs.Names.{has_names, names_of};
+ghost use Rattle.game_text.specs.Refusals.{has_needed_numbers};
+ghost use Rattle.game_text.specs.Text.{document_limit, without_newline};
+ghost use Rattle.game_text.specs.Readings.{HasSizes, IsFault, IsReading, IsTreeFault, IsTreeReading, IsLateFault, IsLateReading, IsGameFault, IsGameReading, IsNeededFault, IsNeededReading};
+
+use crate::building::game_of;
+use crate::command::Command;
+use crate::document::Document;
+use crate::fault::TextFault;
+use crate::game::Game;
+use crate::limits::{has_numbers, has_players, players};
+use crate::names::{Names, know_sparse, names_of};
+use crate::refusal::Refusal;
+use crate::shape::is_shaped;
+use crate::shares::{has_share_numbers, has_shares_for, shares_as_worth};
+use fractions::OutOfMemory;
+use serde_json::Value;
+use std::alloc::Global;
+use worth_core::Shares;
+
+/// The document that the bytes are the text of, or the first refusal that applies to them.
+pub fn read_document(alloc: Global, bytes: &[u8], command: Command) -> Result<Document, TextFault>
+    ensures { MatchResult result (IsReading command bytes.now) (IsFault command bytes.now) }
+{
+    if bytes.len() > document_limit(command) {
+        return Err(TextFault::Refused(Refusal::TooLong));
+    }
+    let tree = match Value::from_slice(alloc, without_newline(bytes)) {
+        Ok(tree) => tree,
+        Err(e) if e.is_memory() => return Err(TextFault::Memory),
+        Err(_) => return Err(TextFault::Refused(Refusal::NotJson)),
+    };
+    document_of(alloc, command, &tree)
+}
+
+fn document_limit(command: Command) -> usize
+    ensures { result ≡ document_limit command }
+{
+    match command {
+        Command::Propose => 2_097_152,
+    }
+}
+
+fn without_newline(bytes: &[u8]) -> &[u8]
+    ensures { result.now ≡ without_newline bytes.now }
+{
+    if bytes.is_empty() || bytes[bytes.len() - 1] != b'\n' {
+        return bytes;
+    }
+    &bytes[..bytes.len() - 1]
+}
+
+/// The document of a JSON tree.
+fn document_of(alloc: Global, command: Command, tree: &Value) -> Result<Document, TextFault>
+    ensures { MatchResult result (IsTreeReading command (view tree.now)) (IsTreeFault command (view tree.now)) }
+{
+    let shaped = is_shaped(command, tree);
+    let Some(game) = tree.get("game") else {
+        return Err(TextFault::Refused(Refusal::Shape));
+    };
+    if !shaped {
+        return Err(TextFault::Refused(Refusal::Shape));
+    }
+    if !has_players(game) {
+        return Err(TextFault::Refused(Refusal::Players));
+    }
+    if !has_numbers(game) || !has_needed_numbers(command, tree) {
+        return Err(TextFault::Refused(Refusal::Number));
+    }
+    late_document(alloc, command, game, tree)
+}
+
+fn has_needed_numbers(command: Command, tree: &Value) -> bool
+    ensures { result ≡ has_needed_numbers command (view tree.now) }
+{
+    match command {
+        Command::Propose => has_share_numbers(tree),
+    }
+}
+
+/// The document, behind the tests of the shape, the players and the numbers.
+fn late_document(
+    alloc: Global,
+    command: Command,
+    game: &Value,
+    tree: &Value,
+) -> Result<Document, TextFault>
+    requires { HasSizes (view game.now) }
+    ensures { MatchResult result (IsLateReading command (view game.now) (view tree.now)) (IsLateFault command (view game.now) (view tree.now)) }
+{
+    let described = match right_game(alloc, game) {
+        Ok(described) => described,
+        Err(e) => return Err(e),
+    };
+    let shares = match needed_shares(alloc, command, game, tree, described.is_cost()) {
+        Ok(shares) => shares,
+        Err(e) => return Err(e),
+    };
+    let Ok(copy) = game.clone() else {
+        return Err(TextFault::Memory);
+    };
+    Ok(Document {
+        game: described,
+        tree: copy,
+        shares,
+    })
+}
+
+/// The game, where its names, its coalitions and its estate are right.
+fn right_game(alloc: Global, game: &Value) -> Result<Game, TextFault>
+    requires { HasSizes (view game.now) }
+    ensures { MatchResult result (IsGameReading (view game.now)) (IsGameFault (view game.now)) }
+{
+    let Some(names) = right_names(alloc, game)? else {
+        return Err(TextFault::Refused(Refusal::Names));
+    };
+    game_of(alloc, game, &names)
+}
+
+/// The names of the players, where they are right and a sparse table uses no other.
+fn right_names<'a>(alloc: Global, game: &'a Value) -> Result<Option<Names<'a>>, OutOfMemory>
+    ensures few { IfOk result (λ o. IfSome o (λ names. length names ≤ players (view game.now))) }
+    ensures names { IfOk result (λ o. o ≡ (if has_names (view game.now) then Some (names_of (view game.now)) else None)) }
+{
+    let players = players(game);
+    let Some(names) = names_of(alloc, game, players)? else {
+        return Ok(None);
+    };
+    if !know_sparse(&names, game) {
+        return Ok(None);
+    }
+    Ok(Some(names))
+}
+
+/// The shares that a command needs, where there is one for each player and their denominator isn't too large.
+fn needed_shares(
+    alloc: Global,
+    command: Command,
+    game: &Value,
+    tree: &Value,
+    are_payments: bool,
+) -> Result<Option<Shares>, TextFault>
+    requires sizes { HasSizes (view game.now) }
+    requires sign { are_payments ≡ is_cost (description_of (view game.now)) }
+    ensures { MatchResult result (IsNeededReading command (view game.now) (view tree.now)) (IsNeededFault command (view game.now) (view tree.now)) }
+{
+    match command {
+        Command::Propose => {
+            if !has_shares_for(players(game), tree) {
+                return Err(TextFault::Refused(Refusal::Proposal));
+            }
+            let Some(shares) = shares_as_worth(alloc, tree, are_payments)? else {
+                return Err(TextFault::Refused(Refusal::TooFine));
+            };
+            Ok(Some(shares))
+        }
+    }
+}
