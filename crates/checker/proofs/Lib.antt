@@ -1,0 +1,10 @@
+pub mod Firsts
+pub mod Excesses
+pub mod Values
+pub mod Free
+pub mod Chain
+pub mod Judged
+pub mod Upshot
+pub mod SpanLaws
+pub mod SpanScan
+pub mod Outer

@@ -1,0 +1,14 @@
+use Rattle.std.proofs.Common.{◌∙◌, ap}
+use Rattle.definitions.specs.Games.{excess}
+use Rattle.checker.proofs.Excesses.{alone_within, excess-singleton}
+use Rattle.checker.proofs.Values.{kept}
+use Rattle.checker.proofs.conditions.excess_alone.Goals as goal
+
+pub scaled_excess-requires-clause-within : goal.scaled_excess-requires-clause-within
+scaled_excess-requires-clause-within g c = rw c.single.ensures (alone_within _ c.args.i c.requires.player)
+
+pub returns : goal.returns
+returns g c =
+    let game = g.W.Worth.game c.args.game.now in
+    let x = c.args.shares.now in
+    kept c.scaled_excess.result c.scaled_excess.type_inv ∙ c.scaled_excess.ensures ∙ ap (excess game x) c.single.ensures ∙ excess-singleton game x c.args.i c.requires.shares c.requires.player

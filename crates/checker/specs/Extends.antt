@@ -1,0 +1,31 @@
+-- A span that was extended, and spans of what levels fix.
+use Rattle.std.specs.Prelude.{◌≡◌, ◌⊎◌, ℕ, ◌^◌, ◌<◌, ◌&&◌, IsTrue, nat_eq, List, ℤ, pos, int_le}
+use Rattle.std.specs.List.{list_any, AllByRecursion}
+use Rattle.definitions.specs.Coalitions.{singleton}
+use Rattle.definitions.specs.Certificates.{Level, InSpan, IsFixedVector}
+use Rattle.spans.specs.Span.{IsKept}
+
+-- the new coalitions span what the old ones do and what was added, and are old or added
+pub record Extends (n : ℕ) (old new : List ℕ) (Added : ℕ → Type 0) : Type 0 where
+  pub still : (t : ℕ) → InSpan n (IsKept old) t → InSpan n (IsKept new) t
+  pub added : (t : ℕ) → Added t → InSpan n (IsKept new) t
+  pub only : (t : ℕ) → IsKept new t → IsKept old t ⊎ Added t
+
+-- t is a coalition of the pairs
+abbrev pub IsPaired : List (ℕ × ℤ) → ℕ → Type 0
+IsPaired ps t = IsTrue (list_any (λ c. nat_eq c.0 t) ps)
+
+-- player i has a weight of at least 1, and t is i alone
+abbrev pub IsBoundVector : ℕ → List (ℕ × ℤ) → ℕ → Type 0
+IsBoundVector n ps t =
+    (i : ℕ) × (i < n) × (t ≡ singleton i) × IsTrue (list_any (λ b. nat_eq b.0 i && int_le (pos 1) b.1) ps)
+
+-- coalitions span exactly what levels fix
+pub record SpansFixed (n : ℕ) (kept : List ℕ) (levels : List Level) : Type 0 where
+  pub inside : (s : ℕ) → InSpan n (IsKept kept) s → InSpan n (IsFixedVector n levels) s
+  pub outside : (s : ℕ) → InSpan n (IsFixedVector n levels) s → InSpan n (IsKept kept) s
+
+-- the coalitions and players of a level are of n players
+pub record IsOf (n : ℕ) (l : Level) : Type 0 where
+  pub coalitions : AllByRecursion (λ c. c.0 < 2 ^ n) l.coalitions
+  pub bounds : AllByRecursion (λ b. b.0 < n) l.bounds

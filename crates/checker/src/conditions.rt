@@ -1,0 +1,200 @@
+//! The conditions on shares and on one level, each by the first place that fails.
+
+ghost use Rattle.std.specs.Prelude.{◌≡◌, ℕ, ◌+ℤ◌, unsigned_abs, ◌^◌, ◌<◌, ◌≤◌, ◌⊎◌, pos, ◌-ℤ◌, ◌*ℤ◌, ◌≤ℤ◌, length, IsTrue, MatchOption};
+ghost use Rattle.std.specs.Bool.{Decides};
+ghost use Rattle.std.specs.List.{AllByRecursion};
+ghost use Rattle.definitions.specs.Coalitions.{singleton, weight_at};
+ghost use Rattle.definitions.specs.Games.{share, IsEfficient, IsIndividuallyRational};
+ghost use Rattle.definitions.specs.Certificates.{IsSmall, HasExcess, LevelForm, has_bound, number_at};
+ghost use Rattle.definitions.specs.Failures.{IsLeastFailing, IsFirstFailing, BoundWeighs, Balances, IsBalanced, IsTight, AreTight, Excesses};
+
+use coalitions::Coalition;
+use kohlberg::{Family, Level, bounds_at, weights_at};
+use std::cmp::Ordering;
+use worth_core::{Shares, Worth, scaled_excess};
+
+/// Whether the shares add to the worth of all.
+pub fn is_efficient<W: Worth>(game: &W, shares: &Shares) -> bool
+    requires { length shares.now.shares ≡ (W.game game.now).players }
+    ensures { Decides result (IsEfficient (W.game game.now) shares.now) }
+{
+    let all = Coalition::all(game.players());
+    scaled_excess(game, shares, all) == 0
+}
+
+/// What a player's worth alone exceeds its share by, over the denominator.
+pub fn excess_alone<W: Worth>(game: &W, shares: &Shares, i: u32) -> i128
+    requires shares { length shares.now.shares ≡ (W.game game.now).players }
+    requires player { i < (W.game game.now).players }
+    ensures { result ≡ shares.now.den *ℤ (W.game game.now).worth (singleton i) -ℤ share shares.now i }
+{
+    game.players();
+    scaled_excess(game, shares, Coalition::single(i))
+}
+
+/// The least player whose share is below its worth alone.
+pub fn first_short<W: Worth>(game: &W, shares: &Shares) -> Option<u32>
+    requires { length shares.now.shares ≡ (W.game game.now).players }
+    ensures { MatchOption result
+        (IsIndividuallyRational (W.game game.now) shares.now)
+        (IsLeastFailing (W.game game.now).players (λ i. (shares.now.den *ℤ (W.game game.now).worth (singleton i)) ≤ℤ share shares.now i)) }
+{
+    for i in 0..game.players() {
+        if excess_alone(game, shares, i) > 0 {
+            return Some(i);
+        }
+    }
+    None
+}
+
+/// Whether a coalition has the level's excess.
+fn has_excess<W: Worth>(game: &W, shares: &Shares, level: &Level, s: Coalition) -> bool
+    requires shares { length shares.now.shares ≡ (W.game game.now).players }
+    requires within { s < 2 ^ (W.game game.now).players }
+    ensures { Decides result (HasExcess (W.game game.now) shares.now level.now s) }
+{
+    level.order_of(scaled_excess(game, shares, s), shares.den()) == Ordering::Equal
+}
+
+/// The first coalition of a level that does not have its excess.
+pub fn first_wrong_excess<W: Worth>(game: &W, shares: &Shares, level: &Level) -> Option<Coalition>
+    requires shares { length shares.now.shares ≡ (W.game game.now).players }
+    requires within { AllByRecursion (λ c. c.0 < 2 ^ (W.game game.now).players) level.now.coalitions }
+    ensures { MatchOption result
+        (Excesses (W.game game.now) shares.now level.now)
+        (IsFirstFailing (λ c. HasExcess (W.game game.now) shares.now level.now c.0) level.now.coalitions) }
+{
+    for (s, _) in &level.coalitions {
+        if !has_excess(game, shares, level, *s) {
+            return Some(*s);
+        }
+    }
+    None
+}
+
+/// The first coalition whose weight is below 1.
+pub fn first_weightless(pairs: &[(Coalition, i128)]) -> Option<Coalition>
+    ensures { MatchOption result
+        (AllByRecursion (λ c. pos 1 ≤ℤ c.1) pairs.now)
+        (IsFirstFailing (λ c. pos 1 ≤ℤ c.1) pairs.now) }
+{
+    for (s, w) in pairs {
+        if *w < 1 {
+            return Some(*s);
+        }
+    }
+    None
+}
+
+/// Whether a weight on a player's bound is at least 1, or a level in front gave it such a weight.
+fn weighs(front: &[Level], i: u32, weight: i128) -> bool
+    ensures { Decides result ((pos 1 ≤ℤ weight) ⊎ IsTrue (has_bound front.now i)) }
+{
+    weight >= 1 || Level::has_bound(front, i)
+}
+
+/// The first player whose bound has a weight below 1, and had none of at least 1 before.
+pub fn first_weightless_bound(front: &[Level], bounds: &[(u32, i128)]) -> Option<u32>
+    ensures { MatchOption result
+        (AllByRecursion (BoundWeighs front.now) bounds.now)
+        (IsFirstFailing (BoundWeighs front.now) bounds.now) }
+{
+    for (i, w) in bounds {
+        if !weighs(front, *i, *w) {
+            return Some(*i);
+        }
+    }
+    None
+}
+
+/// Whether the weights of a level add to its total at a player.
+fn balances(level: &Level, i: u32) -> bool
+    requires player { i < 64 }
+    requires few { length level.now.coalitions ≤ 65536 }
+    requires few_earlier { length level.now.earlier ≤ 65536 }
+    requires few_bounds { length level.now.bounds ≤ 65536 }
+    requires small { AllByRecursion (λ p. IsSmall p.1) level.now.coalitions }
+    requires small_earlier { AllByRecursion (λ p. IsSmall p.1) level.now.earlier }
+    requires small_bounds { AllByRecursion (λ p. IsSmall p.1) level.now.bounds }
+    ensures { Decides result (Balances level.now i) }
+{
+    let coalitions = weights_at(&level.coalitions, i);
+    let earlier = weights_at(&level.earlier, i);
+    let bounds = bounds_at(&level.bounds, i);
+    is_same(sum(coalitions, earlier, bounds), total_of(level))
+}
+
+/// The total of a level.
+fn total_of(level: &Level) -> i128
+    ensures { result ≡ level.now.total }
+{
+    level.total
+}
+
+/// The sum of three numbers.
+fn sum(a: i128, b: i128, c: i128) -> i128
+    requires a_small { unsigned_abs a ≤ 2 ^ 79 }
+    requires b_small { unsigned_abs b ≤ 2 ^ 79 }
+    requires c_small { unsigned_abs c ≤ 2 ^ 79 }
+    ensures { result ≡ a +ℤ b +ℤ c }
+{
+    a + b + c
+}
+
+/// Whether two numbers are the same.
+fn is_same(a: i128, b: i128) -> bool
+    ensures { Decides result (a ≡ b) }
+{
+    a == b
+}
+
+/// The least player at which the weights of a level do not add to its total.
+pub fn first_unbalanced(n: u32, level: &Level) -> Option<u32>
+    requires players { n ≤ 64 }
+    requires few { length level.now.coalitions ≤ 65536 }
+    requires few_earlier { length level.now.earlier ≤ 65536 }
+    requires few_bounds { length level.now.bounds ≤ 65536 }
+    requires small { AllByRecursion (λ p. IsSmall p.1) level.now.coalitions }
+    requires small_earlier { AllByRecursion (λ p. IsSmall p.1) level.now.earlier }
+    requires small_bounds { AllByRecursion (λ p. IsSmall p.1) level.now.bounds }
+    ensures { MatchOption result
+        ((i : ℕ) → i < n → Balances level.now i)
+        (IsLeastFailing n (Balances level.now)) }
+{
+    for i in 0..n {
+        if !balances(level, i) {
+            return Some(i);
+        }
+    }
+    None
+}
+
+/// Whether a player is at its bound, and the family has bounds.
+fn is_tight<W: Worth>(game: &W, shares: &Shares, family: Family, i: u32) -> bool
+    requires shares { length shares.now.shares ≡ (W.game game.now).players }
+    requires player { i < (W.game game.now).players }
+    ensures { Decides result ((share shares.now i ≡ shares.now.den *ℤ (W.game game.now).worth (singleton i)) × (family ≡ Family.Imputations)) }
+{
+    family == Family::Imputations && excess_alone(game, shares, i) == 0
+}
+
+/// The first player in bounds that isn't at its bound.
+pub fn first_loose<W: Worth>(
+    game: &W,
+    shares: &Shares,
+    family: Family,
+    bounds: &[(u32, i128)],
+) -> Option<u32>
+    requires shares { length shares.now.shares ≡ (W.game game.now).players }
+    requires players { AllByRecursion (λ b. b.0 < (W.game game.now).players) bounds.now }
+    ensures { MatchOption result
+        (AllByRecursion (IsTight family (W.game game.now) shares.now) bounds.now)
+        (IsFirstFailing (IsTight family (W.game game.now) shares.now) bounds.now) }
+{
+    for (i, _) in bounds {
+        if !is_tight(game, shares, family, *i) {
+            return Some(*i);
+        }
+    }
+    None
+}

@@ -1,0 +1,180 @@
+//! Verdicts on worked certificates.
+
+use super::*;
+use coalitions::Coalition;
+use fractions::Frac;
+use std::test::Fail;
+use worth_tables::TableGame;
+
+/// The coalition of these players, who count from 1.
+macro_rules! of {
+    ($($player:literal),+) => {
+        Coalition($(1 << ($player - 1))|+)
+    };
+}
+
+/// A level of this excess.
+fn level(
+    rt: &HostRuntime,
+    excess: (i128, i128),
+    coalitions: &[(Coalition, i128)],
+    earlier: &[(Coalition, i128)],
+    bounds: &[(u32, i128)],
+    total: i128,
+) -> Result<Level, Fail> {
+    Ok(Level {
+        excess: Frac::new(excess.0, excess.1).ok_or("not a fraction")?,
+        coalitions: coalitions.to_vec(rt.alloc())?,
+        earlier: earlier.to_vec(rt.alloc())?,
+        bounds: bounds.to_vec(rt.alloc())?,
+        total,
+    })
+}
+
+/// The game of these worths.
+fn game(rt: &HostRuntime, players: u32, worths: &[i64]) -> Result<TableGame, Fail> {
+    Ok(TableGame::new(rt.alloc(), players, worths.to_vec(rt.alloc())?).map_err(|_| "no game")?)
+}
+
+/// The verdict on shares over a denominator, and on the certificate of these levels.
+fn verdict(
+    rt: &HostRuntime,
+    game: &TableGame,
+    family: Family,
+    shares: (&[i128], i128),
+    mode: Mode,
+    levels: Vec<Level>,
+) -> Result<Verdict, Fail> {
+    let x = Shares::new(shares.0.to_vec(rt.alloc())?, shares.1).ok_or("not shares")?;
+    let players = game.players();
+    let certificate = Certificate::new(players, mode, levels).map_err(|_| "malformed")?;
+    if x.players() != players {
+        Err("another number of shares")?;
+    }
+    Ok(check(game, family, &x, &certificate))
+}
+
+/// The assignment game with the values 5, 8 of the first player for the others' goods, and 7, 6 of the second.
+const ASSIGNMENT: [i64; 15] = [0, 0, 0, 0, 5, 7, 7, 0, 8, 6, 8, 0, 8, 7, 15];
+
+#[test]
+fn spans_certify_an_assignment_game(rt: HostRuntime) -> Result<(), Fail> {
+    let game = game(&rt, 4, &ASSIGNMENT)?;
+    let pairs = [(of![2, 3], 1), (of![1, 4], 1)];
+    let others = [(of![1, 3], 1), (of![2, 4], 1)];
+    let singles = [(of![1], 1), (of![3], 1)];
+    for (shares, den, first, last, wanted) in [
+        ([7, 7, 7, 9], 2, 0, 3, Verdict::Yes),
+        (
+            [2, 2, 5, 6],
+            1,
+            0,
+            2,
+            Verdict::No(Reason::NotAll { player: 0 }),
+        ),
+        (
+            [7, 7, 7, 9],
+            2,
+            1,
+            2,
+            Verdict::No(Reason::OutsideAbove {
+                level: 1,
+                excess: Frac::from_int(0),
+            }),
+        ),
+    ] {
+        let mut levels = Vec::new(rt.alloc());
+        if first < 1 {
+            levels.push(level(&rt, (0, 1), &pairs, &[], &[], 1)?)?;
+        }
+        levels.push(level(&rt, (-2, 1), &others, &[], &[], 1)?)?;
+        if last > 2 {
+            levels.push(level(&rt, (-7, 2), &singles, &[(of![1, 3], -1)], &[], 0)?)?;
+        }
+        let shares = (shares.as_slice(), den);
+        let found = verdict(&rt, &game, Family::Imputations, shares, Mode::Span, levels)?;
+        assert_eq!(rt; found, wanted);
+    }
+    Ok(())
+}
+
+#[test]
+fn a_prenucleolus_may_be_below_a_worth_alone(rt: HostRuntime) -> Result<(), Fail> {
+    let game = game(&rt, 3, &[0, 0, 4, 0, 0, 0, 0])?;
+    for (family, wanted) in [
+        (Family::Preimputations, Verdict::Yes),
+        (
+            Family::Imputations,
+            Verdict::No(Reason::NotIndividual { player: 2 }),
+        ),
+    ] {
+        let first = level(&rt, (2, 1), &[(of![1, 2], 1), (of![3], 1)], &[], &[], 1)?;
+        let pairs = [(of![1, 3], 1), (of![2, 3], 1)];
+        let second = level(&rt, (1, 1), &pairs, &[(of![3], -1)], &[], 1)?;
+        let levels = vec![in rt.alloc(); first, second]?;
+        let shares = ([1, 1, -2].as_slice(), 1);
+        let found = verdict(&rt, &game, family, shares, Mode::Span, levels)?;
+        assert_eq!(rt; found, wanted);
+    }
+    Ok(())
+}
+
+#[test]
+fn bounds_stand_for_imputations_alone(rt: HostRuntime) -> Result<(), Fail> {
+    let game = game(&rt, 3, &[0, 0, 4, 0, 0, 0, 0])?;
+    for (family, wanted) in [
+        (Family::Imputations, Verdict::Yes),
+        (
+            Family::Preimputations,
+            Verdict::No(Reason::BoundNotTight {
+                level: 1,
+                player: 2,
+            }),
+        ),
+    ] {
+        for mode in [Mode::Players, Mode::Span] {
+            let first = level(&rt, (4, 1), &[(of![1, 2], 1)], &[], &[(2, 1)], 1)?;
+            let singles = [(of![1], 1), (of![2], 1)];
+            let second = level(&rt, (0, 1), &singles, &[], &[(2, 1)], 1)?;
+            let levels = vec![in rt.alloc(); first, second]?;
+            let shares = ([0, 0, 0].as_slice(), 1);
+            assert_eq!(rt; verdict(&rt, &game, family, shares, mode, levels)?, wanted);
+        }
+    }
+    Ok(())
+}
+
+// The costs of an airport are 2, 4 and 6: a worth is what a coalition pays by itself, and a share what a player pays.
+#[test]
+fn players_certify_an_airport_game(rt: HostRuntime) -> Result<(), Fail> {
+    let game = game(&rt, 3, &[-2, -4, -4, -6, -6, -6, -6])?;
+    for (last, weight, wanted) in [
+        (-7, 1, Verdict::Yes),
+        (
+            -7,
+            2,
+            Verdict::No(Reason::Unbalanced {
+                level: 2,
+                player: 0,
+            }),
+        ),
+        (-9, 1, Verdict::No(Reason::NotEfficient)),
+    ] {
+        let first = level(&rt, (-1, 1), &[(of![1], 1), (of![2, 3], 1)], &[], &[], 1)?;
+        let pairs = [(of![1, 2], weight), (of![1, 3], 1)];
+        let second = level(&rt, (-3, 2), &pairs, &[(of![1], -1)], &[], 1)?;
+        let levels = vec![in rt.alloc(); first, second]?;
+        let shares = ([-2, -3, last], 2);
+        let shares = (shares.0.as_slice(), shares.1);
+        let found = verdict(
+            &rt,
+            &game,
+            Family::Imputations,
+            shares,
+            Mode::Players,
+            levels,
+        )?;
+        assert_eq!(rt; found, wanted);
+    }
+    Ok(())
+}
