@@ -134,11 +134,21 @@ fn coded<T: Copy>(alloc: Global, code: u32, count: u32, numbers: &[T]) -> Result
     Ok(found)
 }
 
+// Up to four players with every list of costs from 0 to 3, and five with the ascending ones.
 #[test]
 fn both_bodies_agree_on_all_small_games(rt: HostRuntime) -> Result<(), Fail> {
-    for (n, games, points) in [(1, 4, 3), (2, 16, 9), (3, 64, 27), (4, 256, 81)] {
+    for (n, games, points) in [
+        (1, 4, 3),
+        (2, 16, 9),
+        (3, 64, 27),
+        (4, 256, 81),
+        (5, 1024, 243),
+    ] {
         for code in 0..games {
             let costs = coded(rt.alloc(), code, n, &[0, 1, 2, 3])?;
+            if n == 5 && !costs.is_sorted() {
+                continue;
+            }
             let game = AirportGame::new(rt.alloc(), costs).map_err(|_| "no game")?;
             let slow = OverAllMasks { game };
             for code in 0..2 * points {
