@@ -1,5 +1,5 @@
 -- The levels from one on, behind those in front, decide all levels.
-use Rattle.std.proofs.Common.{ℕ, zero, suc, ◌+◌, ◌^◌, ◌<◌, ℤ, List, [], ◌∷◌, ◌++◌, length, take, drop, get_or, sym, subst, arith, inl, inr}
+use Rattle.std.proofs.Common.{◌≡◌, ℕ, zero, suc, ◌+◌, ◌-◌, ◌^◌, ◌<◌, ℤ, List, [], ◌∷◌, ◌++◌, length, take, drop, get_or, sym, ap, subst, ◌∙◌, arith, inl, inr}
 use Rattle.definitions.specs.Games.{Game, Allocation}
 use Rattle.definitions.specs.Certificates.{Level, LevelForm, LevelsForm, LevelHolds, LevelsHold}
 use Rattle.definitions.specs.Failures.{Reason, LevelFails, LevelsFail}
@@ -12,6 +12,9 @@ use Rattle.std.proofs.Math.Pow.{pow_pos}
 use Rattle.definitions.specs.Coalitions.{grand_coalition}
 use Rattle.spans.proofs.Inside.{all_map}
 use Rattle.checker.specs.Extends.{IsOf}
+use Rattle.checker.specs.Fixed.{IsOver, Fixes}
+use Rattle.checker.specs.declared.fixed.Fixed.{Fixed}
+use Rattle.checker.specs.declared.fixed.Fixed.TheVariants.{FreePlayers, Vectors}
 
 pub record SameLevels (mode : Mode) (family : Family) (g : Game) (x : Allocation) (levels : List Level) (i : ℕ) : Type 0 where
   pub holds : LevelsHold mode family g x (take i levels) (drop i levels) → LevelsHold mode family g x [] levels
@@ -56,3 +59,20 @@ SameLevels-more mode family g x levels i d lt here h = record {
 pub fails_here : (mode : Mode) (family : Family) (g : Game) (x : Allocation) (levels : List Level) (i : ℕ) (d : Level) → i < length levels → SameLevels mode family g x levels i → (r : Reason) → LevelFails mode family g x (i + 1) (take i levels) (get_or levels i d) r → LevelsFail mode family g x 1 [] levels r
 fails_here mode family g x levels i d lt h r k =
     h.fails r (subst (λ (ls : List Level). LevelsFail mode family g x (i + 1) (take i levels) ls r) (sym (drop-more levels i d lt)) (inl k))
+
+-- ---- what is carried
+
+pub over_from : (n : ℕ) (levels : List Level) (fixed : Fixed) → Fixes n levels fixed → IsOver n fixed
+over_from n levels (FreePlayers f) h = h.within
+over_from n levels (Vectors span) h = (h.0, h.1)
+
+pub Fixes-next : (n : ℕ) (levels : List Level) (i : ℕ) (d : Level) (fixed : Fixed) → i < length levels → Fixes n (take i levels ++ take (i + 1 - i) (drop i levels)) fixed → Fixes n (take (i + 1) levels) fixed
+Fixes-next n levels i d fixed lt h = subst (λ (ls : List Level). Fixes n ls fixed) next h
+  where
+    one : take (i + 1 - i) (drop i levels) ≡ get_or levels i d ∷ []
+    one =
+        let e : i + 1 - i ≡ 1 = omega arith in
+        ap (λ (k : ℕ). take k (drop i levels)) e ∙ ap (take 1) (drop-more levels i d lt)
+
+    next : take i levels ++ take (i + 1 - i) (drop i levels) ≡ take (i + 1) levels
+    next = ap (λ (ls : List Level). take i levels ++ ls) one ∙ sym (take-more levels i d lt)

@@ -10,6 +10,7 @@ use Rattle.definitions.specs.Coalitions.{has_player, some_below, splits}
 use Rattle.definitions.specs.Games.{Game, Allocation, excess, HasTwo, IsSplitMaximum}
 use Rattle.definitions.specs.Certificates.{Level, is_free, IsOutside, IsAllFixed}
 use Rattle.definitions.specs.Failures.{IsLeastUnfixed}
+use Rattle.checker.specs.Fixed.{IsFreeSet}
 use Rattle.definitions.specs.declared.Mode.TheVariants.{Players}
 
 -- ---- masks
@@ -59,11 +60,6 @@ some_below-true (suc n) p e = elim (or_either (p n) (some_below n p) e) [
 both : (a b : Bool) → (a && b) ≡ true → (a ≡ true) × (b ≡ true)
 both true b h = (refl, h)
 both false b h = absurd (false≢true h)
-
--- f is the set of the free players
-pub record IsFreeSet (n : ℕ) (levels : List Level) (f : ℕ) : Type 0 where
-  pub within : f < 2 ^ n
-  pub free : (i : ℕ) → has_player f i ≡ (nat_lt i n && is_free n levels i)
 
 pub free_at : (n : ℕ) (levels : List Level) (f i : ℕ) → IsFreeSet n levels f → i < n → has_player f i ≡ is_free n levels i
 free_at n levels f i h lt = h.free i ∙ passes (nat_lt i n) (is_free n levels i) (grind (arith, nat_tests))
@@ -137,16 +133,6 @@ two_found n f i None lt here before k =
       | inr high ↦ false≢true (sym (k b high bn) ∙ hb)
     ]
 two_found n f i (Some j) lt here before k = (i, j, omega (arith, k.0), k.1, here, k.2)
-
-pub outside_test : (a b : ℕ) (t : Bool) → b ≤ a → (nat_lt a b && t) ≡ false
-outside_test a b t le = first_false (nat_lt a b) t (grind (arith, nat_tests))
-  where
-    first_false : (p q : Bool) → p ≡ false → (p && q) ≡ false
-    first_false true q e = absurd (false≢true (sym e))
-    first_false false q e = refl
-
-pub free_set : (n m : ℕ) (levels : List Level) (f : ℕ) → n ≡ m → f < 2 ^ n → ((i : ℕ) → has_player f i ≡ (nat_lt i n && is_free n levels i)) → IsFreeSet m levels f
-free_set n m levels f e within free = subst (λ (k : ℕ). IsFreeSet k levels f) e (record { within = within; free = free })
 
 pub split_found : (g : Game) (x : Allocation) (levels : List Level) (f : ℕ) (m m' : ℤ) → IsFreeSet g.players levels f → m' ≡ m → IsSplitMaximum g x f m → IsGreatest (λ s. (s < 2 ^ g.players) × IsOutside Players g.players levels s) (excess g x) m'
 split_found g x levels f m m' h e top =

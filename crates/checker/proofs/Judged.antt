@@ -121,6 +121,10 @@ pub family_judged : (mode : Mode) (family : Family) (g : Game) (x : Allocation) 
 family_judged mode family g x levels None e h = absurd (false≢true e)
 family_judged mode family g x levels (Some r) e h = h mode levels
 
+pub no_failure : (P : Type 0) (Q : Reason → Type 0) (o : Option Reason) → is_some o ≡ false → MatchOption o P Q → P
+no_failure P Q None e h = h
+no_failure P Q (Some r) e h = absurd (false≢true (sym e))
+
 pub member_of : (family : Family) (g : Game) (x : Allocation) (o : Option Reason) (Q : Reason → Type 0) → is_some o ≡ false → MatchOption o (InFamily family g x) Q → InFamily family g x
 member_of family g x None Q e h = h
 member_of family g x (Some r) Q e h = absurd (false≢true (sym e))

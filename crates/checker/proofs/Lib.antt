@@ -8,3 +8,4 @@ pub mod Upshot
 pub mod SpanLaws
 pub mod SpanScan
 pub mod Outer
+pub mod Still

@@ -1,14 +1,14 @@
 -- What the loops that extend a span know, and what the span of levels is.
-use Rattle.std.proofs.Common.{◌≡◌, ◌⊎◌, ℕ, zero, suc, ◌+◌, ◌<◌, ◌≤◌, Bool, true, false, ◌&&◌, nat_eq, IsTrue, List, [], ◌∷◌, ◌++◌, length, take, get_or, ℤ, pos, int_le, refl, sym, ap, subst, ◌∙◌, arith, inl, inr}
+use Rattle.std.proofs.Common.{◌≡◌, ◌⊎◌, ℕ, zero, suc, ◌+◌, ◌<◌, ◌≤◌, Bool, true, false, ◌&&◌, ◌||◌, nat_eq, List, [], ◌∷◌, ◌++◌, length, take, get_or, ℤ, pos, int_le, refl, sym, ap, subst, ◌∙◌, arith, inl, inr}
 use Rattle.std.specs.List.{AllByRecursion, list_any}
 use Rattle.std.proofs.lemmas.Bool.{false≢true}
 use Rattle.std.proofs.lemmas.Bool.Decides.{nat_tests}
-use Rattle.std.proofs.lemmas.List.Folds.{list_any_more}
+use Rattle.std.proofs.lemmas.List.Folds.{list_any_more, list_any-append}
 use Rattle.definitions.specs.Coalitions.{singleton, grand_coalition}
 use Rattle.definitions.specs.Certificates.{Level, InSpan, IsFixedVector, is_listed, has_bound}
 use Rattle.spans.specs.Span.{IsKept}
 use Rattle.kohlberg.proofs.Pairs.{all_at}
-use Rattle.checker.specs.Extends.{Extends, IsPaired, IsBoundVector, SpansFixed}
+use Rattle.checker.specs.Extends.{Extends, IsPaired, IsBoundVector, IsLevelVector, SpansFixed}
 use Rattle.checker.proofs.SpanLaws.{span_trans, span_of_one, span_mono, Extends-same, Extends-none, Extends-add, Extends-more, or_cases, or_left, or_right, same_number}
 
 abbrev pub Grows : ℕ → List ℕ → List ℕ → ℕ → Type 0
@@ -79,24 +79,20 @@ bounds_end n old new ps i le h = subst (λ (qs : List (ℕ × ℤ)). Extends n o
 
 -- ---- levels
 
-abbrev pub IsLevelVector : ℕ → List Level → ℕ → Type 0
-IsLevelVector n levels t =
-    IsTrue (is_listed levels t) ⊎ ((i : ℕ) × (i < n) × (t ≡ singleton i) × IsTrue (has_bound levels i))
-
-pub levels_start : (n : ℕ) (levels : List Level) → Extends n (grand_coalition n ∷ []) (grand_coalition n ∷ []) (IsLevelVector n (take 0 levels))
-levels_start n levels = Extends-none n (grand_coalition n ∷ []) (IsLevelVector n (take 0 levels)) (λ t h. none t h)
+pub levels_start : (n : ℕ) (old : List ℕ) (levels : List Level) → Extends n old old (IsLevelVector n (take 0 levels))
+levels_start n old levels = Extends-none n old (IsLevelVector n (take 0 levels)) (λ t h. none t h)
   where
     none : (t : ℕ) → IsLevelVector n (take 0 levels) t → ⊥
     none t (inl h) = false≢true h
     none t (inr h) = false≢true h.3
 
-pub levels_more : (n : ℕ) (mid next new : List ℕ) (levels : List Level) (i : ℕ) (d : Level) → i < length levels → Extends n (grand_coalition n ∷ []) mid (IsLevelVector n (take i levels)) → Extends n mid next (IsPaired (get_or levels i d).coalitions) → Extends n next new (IsBoundVector n (get_or levels i d).bounds) → Extends n (grand_coalition n ∷ []) new (IsLevelVector n (take (i + 1) levels))
-levels_more n mid next new levels i d lt h paired bound =
+pub levels_more : (n : ℕ) (old mid next new : List ℕ) (levels : List Level) (i : ℕ) (d : Level) → i < length levels → Extends n old mid (IsLevelVector n (take i levels)) → Extends n mid next (IsPaired (get_or levels i d).coalitions) → Extends n next new (IsBoundVector n (get_or levels i d).bounds) → Extends n old new (IsLevelVector n (take (i + 1) levels))
+levels_more n old mid next new levels i d lt h paired bound =
     let l = get_or levels i d in
     let A = IsLevelVector n (take i levels) in
     let lists = λ (t : ℕ). list_any_more (λ (l : Level). list_any (λ c. nat_eq c.0 t) l.coalitions) levels i d lt in
     let bounds = λ (j : ℕ). list_any_more (λ (l : Level). list_any (λ b. nat_eq b.0 j && int_le (pos 1) b.1) l.bounds) levels i d lt in
-    let half : Extends n (grand_coalition n ∷ []) next (λ t. A t ⊎ IsPaired l.coalitions t) = Extends-more n (grand_coalition n ∷ []) mid next A (IsPaired l.coalitions) (λ t. A t ⊎ IsPaired l.coalitions t) h paired (λ t q. q) (λ t q. inl q) (λ t q. inr q) in
+    let half : Extends n old next (λ t. A t ⊎ IsPaired l.coalitions t) = Extends-more n old mid next A (IsPaired l.coalitions) (λ t. A t ⊎ IsPaired l.coalitions t) h paired (λ t q. q) (λ t q. inl q) (λ t q. inr q) in
     let parts : (t : ℕ) → IsLevelVector n (take (i + 1) levels) t → (A t ⊎ IsPaired l.coalitions t) ⊎ IsBoundVector n l.bounds t = λ t q. elim q [
       | inl listed ↦ elim (or_cases (is_listed (take i levels) t) (list_any (λ c. nat_eq c.0 t) l.coalitions) (sym (lists t) ∙ listed)) [ inl a ↦ inl (inl (inl a)) | inr b ↦ inl (inr b) ]
       | inr b ↦ elim (or_cases (has_bound (take i levels) b.0) (list_any (λ c. nat_eq c.0 b.0 && int_le (pos 1) c.1) l.bounds) (sym (bounds b.0) ∙ b.3)) [ inl a ↦ inl (inl (inr (b.0, b.1, b.2, a))) | inr k ↦ inr (b.0, b.1, b.2, k) ]
@@ -109,28 +105,62 @@ levels_more n mid next new levels i d lt h paired bound =
       | inr p ↦ inl (lists t ∙ or_right (is_listed (take i levels) t) (list_any (λ c. nat_eq c.0 t) l.coalitions) p)
     ] in
     let right : (t : ℕ) → IsBoundVector n l.bounds t → IsLevelVector n (take (i + 1) levels) t = λ t b. inr (b.0, b.1, b.2, bounds b.0 ∙ or_right (has_bound (take i levels) b.0) (list_any (λ c. nat_eq c.0 b.0 && int_le (pos 1) c.1) l.bounds) b.3) in
-    Extends-more n (grand_coalition n ∷ []) next new (λ t. A t ⊎ IsPaired l.coalitions t) (IsBoundVector n l.bounds) (IsLevelVector n (take (i + 1) levels)) half bound parts left right
+    Extends-more n old next new (λ t. A t ⊎ IsPaired l.coalitions t) (IsBoundVector n l.bounds) (IsLevelVector n (take (i + 1) levels)) half bound parts left right
 
-pub SpansFixed-from : (n : ℕ) (kept : List ℕ) (levels : List Level) → Extends n (grand_coalition n ∷ []) kept (IsLevelVector n levels) → SpansFixed n kept levels
-SpansFixed-from n kept levels h = record {
-  inside = λ s q. span_mono n (IsKept kept) (IsFixedVector n levels) s only q;
-  outside = λ s q. span_trans n (IsFixedVector n levels) (IsKept kept) s all q;
+-- no levels: the span of all players alone
+pub SpansFixed-start : (n : ℕ) → SpansFixed n (grand_coalition n ∷ []) []
+SpansFixed-start n = record {
+  inside = λ s q. span_mono n (IsKept (grand_coalition n ∷ [])) (IsFixedVector n []) s only q;
+  outside = λ s q. span_mono n (IsFixedVector n []) (IsKept (grand_coalition n ∷ [])) s all q;
 }
   where
-    only : (t : ℕ) → IsKept kept t → IsFixedVector n levels t
-    only t q = elim (h.only t q) [
-      | inl first ↦ elim (or_cases (nat_eq (grand_coalition n) t) false first) [ inl e ↦ inl (same_number (grand_coalition n) t e) | inr e ↦ absurd (false≢true e) ]
-      | inr rest ↦ elim rest [ inl listed ↦ inr (inl listed) | inr b ↦ inr (inr b) ]
+    only : (t : ℕ) → IsKept (grand_coalition n ∷ []) t → IsFixedVector n [] t
+    only t q = elim (or_cases (nat_eq (grand_coalition n) t) false q) [ inl e ↦ inl (same_number (grand_coalition n) t e) | inr e ↦ absurd (false≢true e) ]
+
+    all : (t : ℕ) → IsFixedVector n [] t → IsKept (grand_coalition n ∷ []) t
+    all t (inl e) = or_left (nat_eq (grand_coalition n) t) false (ap (nat_eq (grand_coalition n)) e ∙ test_here (grand_coalition n))
+    all t (inr (inl listed)) = absurd (false≢true listed)
+    all t (inr (inr b)) = absurd (false≢true b.3)
+
+-- more levels: what they fix is added
+pub SpansFixed-more : (n : ℕ) (old new : List ℕ) (front more : List Level) → SpansFixed n old front → Extends n old new (IsLevelVector n more) → SpansFixed n new (front ++ more)
+SpansFixed-more n old new front more h k = record {
+  inside = λ s q. span_trans n (IsKept new) (IsFixedVector n (front ++ more)) s only q;
+  outside = λ s q. span_trans n (IsFixedVector n (front ++ more)) (IsKept new) s all q;
+}
+  where
+    lists : (t : ℕ) → is_listed (front ++ more) t ≡ (is_listed front t || is_listed more t)
+    lists t = list_any-append (λ (l : Level). list_any (λ c. nat_eq c.0 t) l.coalitions) front more
+
+    bounds : (j : ℕ) → has_bound (front ++ more) j ≡ (has_bound front j || has_bound more j)
+    bounds j = list_any-append (λ (l : Level). list_any (λ b. nat_eq b.0 j && int_le (pos 1) b.1) l.bounds) front more
+
+    wider : (t : ℕ) → IsFixedVector n front t → IsFixedVector n (front ++ more) t
+    wider t (inl e) = inl e
+    wider t (inr (inl listed)) = inr (inl (lists t ∙ or_left (is_listed front t) (is_listed more t) listed))
+    wider t (inr (inr b)) = inr (inr (b.0, b.1, b.2, bounds b.0 ∙ or_left (has_bound front b.0) (has_bound more b.0) b.3))
+
+    added : (t : ℕ) → IsLevelVector n more t → IsFixedVector n (front ++ more) t
+    added t (inl listed) = inr (inl (lists t ∙ or_right (is_listed front t) (is_listed more t) listed))
+    added t (inr b) = inr (inr (b.0, b.1, b.2, bounds b.0 ∙ or_right (has_bound front b.0) (has_bound more b.0) b.3))
+
+    only : (t : ℕ) → IsKept new t → InSpan n (IsFixedVector n (front ++ more)) t
+    only t q = elim (k.only t q) [
+      | inl o ↦ span_mono n (IsFixedVector n front) (IsFixedVector n (front ++ more)) t wider (h.inside t (span_of_one n (IsKept old) t o))
+      | inr a ↦ span_of_one n (IsFixedVector n (front ++ more)) t (added t a)
     ]
 
-    all : (t : ℕ) → IsFixedVector n levels t → InSpan n (IsKept kept) t
-    all t (inl e) = h.still t (span_of_one n (IsKept (grand_coalition n ∷ [])) t (or_left (nat_eq (grand_coalition n) t) false (ap (nat_eq (grand_coalition n)) e ∙ test_here (grand_coalition n))))
-    all t (inr (inl listed)) = h.added t (inl listed)
-    all t (inr (inr b)) = h.added t (inr b)
+    before : (t : ℕ) → IsFixedVector n front t → InSpan n (IsKept new) t
+    before t q = k.still t (h.outside t (span_of_one n (IsFixedVector n front) t q))
 
-pub levels_end : (n : ℕ) (kept : List ℕ) (levels : List Level) (i : ℕ) → length levels ≤ i → Extends n (grand_coalition n ∷ []) kept (IsLevelVector n (take i levels)) → SpansFixed n kept levels
-levels_end n kept levels i le h =
-    SpansFixed-from n kept levels (subst (λ (ls : List Level). Extends n (grand_coalition n ∷ []) kept (IsLevelVector n ls)) (take_all levels i le) h)
+    all : (t : ℕ) → IsFixedVector n (front ++ more) t → InSpan n (IsKept new) t
+    all t (inl e) = before t (inl e)
+    all t (inr (inl listed)) = elim (or_cases (is_listed front t) (is_listed more t) (sym (lists t) ∙ listed)) [ inl a ↦ before t (inr (inl a)) | inr b ↦ k.added t (inl b) ]
+    all t (inr (inr b)) = elim (or_cases (has_bound front b.0) (has_bound more b.0) (sym (bounds b.0) ∙ b.3)) [ inl a ↦ before t (inr (inr (b.0, b.1, b.2, a))) | inr m ↦ k.added t (inr (b.0, b.1, b.2, m)) ]
+
+pub levels_end : (n : ℕ) (old kept : List ℕ) (levels : List Level) (i : ℕ) → length levels ≤ i → Extends n old kept (IsLevelVector n (take i levels)) → Extends n old kept (IsLevelVector n levels)
+levels_end n old kept levels i le h =
+    subst (λ (ls : List Level). Extends n old kept (IsLevelVector n ls)) (take_all levels i le) h
 
 pub pairs_step : (n m : ℕ) (old mid new : List ℕ) (ps : List (ℕ × ℤ)) (i : ℕ) (p : ℕ × ℤ) → m ≡ n → i < length ps → p ≡ get_or ps i p → Extends n old mid (IsPaired (take i ps)) → Grows m mid new p.0 → Extends n old new (IsPaired (take (i + 1) ps))
 pairs_step n m old mid new ps i p e lt is h grows =

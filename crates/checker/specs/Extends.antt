@@ -2,7 +2,7 @@
 use Rattle.std.specs.Prelude.{◌≡◌, ◌⊎◌, ℕ, ◌^◌, ◌<◌, ◌&&◌, IsTrue, nat_eq, List, ℤ, pos, int_le}
 use Rattle.std.specs.List.{list_any, AllByRecursion}
 use Rattle.definitions.specs.Coalitions.{singleton}
-use Rattle.definitions.specs.Certificates.{Level, InSpan, IsFixedVector}
+use Rattle.definitions.specs.Certificates.{Level, InSpan, IsFixedVector, is_listed, has_bound}
 use Rattle.spans.specs.Span.{IsKept}
 
 -- the new coalitions span what the old ones do and what was added, and are old or added
@@ -19,6 +19,11 @@ IsPaired ps t = IsTrue (list_any (λ c. nat_eq c.0 t) ps)
 abbrev pub IsBoundVector : ℕ → List (ℕ × ℤ) → ℕ → Type 0
 IsBoundVector n ps t =
     (i : ℕ) × (i < n) × (t ≡ singleton i) × IsTrue (list_any (λ b. nat_eq b.0 i && int_le (pos 1) b.1) ps)
+
+-- t is a coalition of levels, or a player alone that has a weight of at least 1 there
+abbrev pub IsLevelVector : ℕ → List Level → ℕ → Type 0
+IsLevelVector n levels t =
+    IsTrue (is_listed levels t) ⊎ ((i : ℕ) × (i < n) × (t ≡ singleton i) × IsTrue (has_bound levels i))
 
 -- coalitions span exactly what levels fix
 pub record SpansFixed (n : ℕ) (kept : List ℕ) (levels : List Level) : Type 0 where

@@ -2,6 +2,7 @@
 #![tactic(auto)]
 
 mod conditions;
+mod fixed;
 mod outside;
 mod spanned;
 #[cfg(test)]
@@ -12,10 +13,9 @@ ghost use Rattle.std.specs.Prelude.{◌≡◌, ◌⊎◌, ◌↔◌, ℕ, ◌+�
 ghost use Rattle.definitions.specs.Sums.{IsGreatest};
 ghost use Rattle.definitions.specs.Games.{excess, InFamily, IsNucleolus};
 ghost use Rattle.std.specs.Bool.{Decides};
-ghost use Rattle.std.specs.List.{AllByRecursion};
-ghost use Rattle.checker.specs.Extends.{IsOf};
+ghost use Rattle.checker.specs.Fixed.{mode_of, IsOver, Fixes};
 ghost use Rattle.definitions.specs.declared.Mode.{Mode};
-ghost use Rattle.definitions.specs.Certificates.{Level as LevelData, LevelForm, LevelsForm, IsOutside, HasAtMostExcess, LevelHolds, LevelsHold, Certifies, IsAllFixed};
+ghost use Rattle.definitions.specs.Certificates.{Level as LevelData, LevelForm, LevelsForm, IsOutside, OutsideIsLow, LevelHolds, LevelsHold, Certifies, IsAllFixed};
 ghost use Rattle.definitions.specs.Failures.{LevelFails, LevelsFail, IsFirstFailure};
 ghost use Rattle.checker.specs.Meaning.{Means, IsVerdict};
 
@@ -23,6 +23,7 @@ use crate::conditions::{
     first_loose, first_short, first_unbalanced, first_weightless, first_weightless_bound,
     first_wrong_excess, is_efficient,
 };
+use crate::fixed::Fixed;
 use crate::outside::{first_unfixed, greatest_outside};
 use kohlberg::{Certificate, Family, Level, Mode, ratio};
 use std::cmp::Ordering;
@@ -30,23 +31,16 @@ pub use verdicts::{Place, Reason, Verdict};
 use worth_core::{Shares, Worth};
 
 /// The greatest excess of a coalition outside, where it is above the level's.
-fn outside_above<W: Worth>(
-    game: &W,
-    shares: &Shares,
-    mode: Mode,
-    front: &[Level],
-    level: &Level,
-) -> Option<i128>
+fn outside_above<W: Worth>(game: &W, shares: &Shares, fixed: &Fixed, level: &Level) -> Option<i128>
     requires shares { length shares.now.shares ≡ (W.game game.now).players }
-    requires few { (mode ≡ Mode.Players) ⊎ ((W.game game.now).players ≤ 16) }
-    requires within { AllByRecursion (IsOf (W.game game.now).players) front.now }
+    requires over { IsOver (W.game game.now).players fixed.now }
     requires fraction { pos 1 ≤ℤ level.now.excess_den }
-    ensures { MatchOption result
-        ((s : ℕ) → s < 2 ^ (W.game game.now).players → IsOutside mode (W.game game.now).players front.now s → HasAtMostExcess (W.game game.now) shares.now level.now s)
-        (λ e. (¬ ((s : ℕ) → s < 2 ^ (W.game game.now).players → IsOutside mode (W.game game.now).players front.now s → HasAtMostExcess (W.game game.now) shares.now level.now s))
-        × IsGreatest (λ s. (s < 2 ^ (W.game game.now).players) × IsOutside mode (W.game game.now).players front.now s) (excess (W.game game.now) shares.now) e) }
+    ensures { (front : List LevelData) → Fixes (W.game game.now).players front fixed.now → MatchOption result
+        (OutsideIsLow (mode_of fixed.now) (W.game game.now) shares.now front level.now)
+        (λ e. (¬ OutsideIsLow (mode_of fixed.now) (W.game game.now) shares.now front level.now)
+        × IsGreatest (λ s. (s < 2 ^ (W.game game.now).players) × IsOutside (mode_of fixed.now) (W.game game.now).players front s) (excess (W.game game.now) shares.now) e) }
 {
-    match greatest_outside(game, shares, mode, front) {
+    match greatest_outside(game, shares, fixed) {
         None => None,
         Some(excess) => {
             if is_above(level, excess, shares.den()) {
@@ -71,18 +65,18 @@ fn level_failure<W: Worth>(
     game: &W,
     family: Family,
     shares: &Shares,
-    mode: Mode,
+    fixed: &Fixed,
     number: u32,
     front: &[Level],
     level: &Level,
 ) -> Option<Reason>
     requires shares { length shares.now.shares ≡ (W.game game.now).players }
-    requires few { (mode ≡ Mode.Players) ⊎ ((W.game game.now).players ≤ 16) }
-    requires within { AllByRecursion (IsOf (W.game game.now).players) front.now }
+    requires over { IsOver (W.game game.now).players fixed.now }
+    requires fixes { Fixes (W.game game.now).players front.now fixed.now }
     requires form { LevelForm (W.game game.now).players front.now level.now }
     ensures { MatchOption result
-        (LevelHolds mode family (W.game game.now) shares.now front.now level.now)
-        (Means shares.now (LevelFails mode family (W.game game.now) shares.now number front.now level.now)) }
+        (LevelHolds (mode_of fixed.now) family (W.game game.now) shares.now front.now level.now)
+        (Means shares.now (LevelFails (mode_of fixed.now) family (W.game game.now) shares.now number front.now level.now)) }
 {
     if let Some(coalition) = first_wrong_excess(game, shares, level) {
         return Some(Reason::WrongExcess {
@@ -114,7 +108,7 @@ fn level_failure<W: Worth>(
             player,
         });
     }
-    if let Some(excess) = outside_above(game, shares, mode, front, level) {
+    if let Some(excess) = outside_above(game, shares, fixed, level) {
         return Some(Reason::OutsideAbove {
             level: number,
             excess: ratio(excess, shares.den()),
@@ -139,12 +133,14 @@ fn levels_failure<W: Worth>(
         (LevelsHold mode family (W.game game.now) shares.now [] levels.now)
         (Means shares.now (LevelsFail mode family (W.game game.now) shares.now 1 [] levels.now)) }
 {
+    let players = game.players();
+    let mut fixed = Fixed::by_none(mode, players);
     for i in 0..levels.len() {
         let failure = level_failure(
             game,
             family,
             shares,
-            mode,
+            &fixed,
             i as u32 + 1,
             &levels[..i],
             &levels[i],
@@ -152,8 +148,9 @@ fn levels_failure<W: Worth>(
         if failure.is_some() {
             return failure;
         }
+        fixed = fixed.with(players, &levels[i..i + 1]);
     }
-    let player = first_unfixed(game.players(), mode, levels)?;
+    let player = first_unfixed(&fixed, players)?;
     Some(Reason::NotAll { player })
 }
 

@@ -1,46 +1,19 @@
 //! What is outside of what levels fix.
 
-ghost use Rattle.std.specs.Prelude.{◌≡◌, ◌⊎◌, ℕ, ◌^◌, ◌<◌, ◌≤◌, ◌&&◌, nat_lt, false, Some, length, IsTrue, MatchOption};
+ghost use Rattle.std.specs.Prelude.{◌≡◌, ℕ, List, ◌^◌, ◌<◌, ◌≤◌, false, length, IsTrue, MatchOption};
 ghost use Rattle.std.specs.Bool.{Decides};
 ghost use Rattle.definitions.specs.Sums.{IsGreatest};
 ghost use Rattle.definitions.specs.Coalitions.{has_player};
 ghost use Rattle.definitions.specs.Games.{excess, HasTwo};
-ghost use Rattle.std.specs.List.{AllByRecursion};
-ghost use Rattle.definitions.specs.Certificates.{is_fixed, is_free, IsOutside, IsAllFixed, InSpan, IsFixedVector};
-ghost use Rattle.checker.specs.Extends.{SpansFixed, IsOf};
+ghost use Rattle.definitions.specs.Certificates.{Level as LevelData, IsOutside, IsAllFixed};
+ghost use Rattle.checker.specs.Extends.{SpansFixed};
+ghost use Rattle.checker.specs.Fixed.{IsFreeSet, mode_of, IsOver, Fixes};
 ghost use Rattle.definitions.specs.Failures.{IsLeastUnfixed};
 
-use crate::spanned::fixed_span;
+use crate::fixed::Fixed;
 use coalitions::Coalition;
-use kohlberg::{Level, Mode, Span};
+use kohlberg::{Mode, Span};
 use worth_core::{Shares, Worth, raised};
-
-/// Whether levels fix a player: it alone, all but it, or its bound.
-fn is_fixed(n: u32, levels: &[Level], i: u32) -> bool
-    requires few { n ≤ 64 }
-    requires player { i < n }
-    ensures { result ≡ is_fixed n levels.now i }
-{
-    let singleton = Coalition::single(i);
-    Level::is_listed(levels, singleton)
-        || Level::is_listed(levels, singleton.complement(n))
-        || Level::has_bound(levels, i)
-}
-
-/// The players that levels don't fix.
-fn free_players(n: u32, levels: &[Level]) -> Coalition
-    requires { n ≤ 64 }
-    ensures within { result < 2 ^ n }
-    ensures free { (i : ℕ) → has_player result i ≡ (nat_lt i n && is_free n levels.now i) }
-{
-    let mut free = Coalition::empty();
-    for i in 0..n {
-        if !is_fixed(n, levels, i) {
-            free = free.with(i);
-        }
-    }
-    free
-}
 
 /// The least member from one number on.
 fn first_member(s: Coalition, from: u32, n: u32) -> Option<u32>
@@ -69,15 +42,14 @@ fn has_two(s: Coalition, n: u32) -> bool
 }
 
 /// The greatest scaled excess of a coalition that holds some but not all of the free players.
-fn greatest_split<W: Worth>(game: &W, shares: &Shares, levels: &[Level]) -> Option<i128>
-    requires { length shares.now.shares ≡ (W.game game.now).players }
-    ensures { MatchOption result
-        ((s : ℕ) → s < 2 ^ (W.game game.now).players → ¬ IsOutside Mode.Players (W.game game.now).players levels.now s)
-        (IsGreatest (λ s. (s < 2 ^ (W.game game.now).players) × IsOutside Mode.Players (W.game game.now).players levels.now s) (excess (W.game game.now) shares.now)) }
+fn greatest_split<W: Worth>(game: &W, shares: &Shares, free: Coalition) -> Option<i128>
+    requires shares { length shares.now.shares ≡ (W.game game.now).players }
+    requires within { free < 2 ^ (W.game game.now).players }
+    ensures { (levels : List LevelData) → IsFreeSet (W.game game.now).players levels free → MatchOption result
+        ((s : ℕ) → s < 2 ^ (W.game game.now).players → ¬ IsOutside Mode.Players (W.game game.now).players levels s)
+        (IsGreatest (λ s. (s < 2 ^ (W.game game.now).players) × IsOutside Mode.Players (W.game game.now).players levels s) (excess (W.game game.now) shares.now)) }
 {
-    let n = game.players();
-    let free = free_players(n, levels);
-    if has_two(free, n) {
+    if has_two(free, game.players()) {
         Some(game.split_bound(shares, free))
     } else {
         None
@@ -85,13 +57,12 @@ fn greatest_split<W: Worth>(game: &W, shares: &Shares, levels: &[Level]) -> Opti
 }
 
 /// The least free player, where two are free.
-fn first_free(n: u32, levels: &[Level]) -> Option<u32>
+fn first_free(free: Coalition, n: u32) -> Option<u32>
     requires { n ≤ 64 }
-    ensures { MatchOption result
-        (IsAllFixed Mode.Players n levels.now)
-        (λ i. (¬ IsAllFixed Mode.Players n levels.now) × IsLeastUnfixed Mode.Players n levels.now i) }
+    ensures { (levels : List LevelData) → IsFreeSet n levels free → MatchOption result
+        (IsAllFixed Mode.Players n levels)
+        (λ i. (¬ IsAllFixed Mode.Players n levels) × IsLeastUnfixed Mode.Players n levels i) }
 {
-    let free = free_players(n, levels);
     if has_two(free, n) {
         first_member(free, 0, n)
     } else {
@@ -99,49 +70,36 @@ fn first_free(n: u32, levels: &[Level]) -> Option<u32>
     }
 }
 
-/// Whether a coalition is inside the span of what levels fix.
-fn is_inside(span: &Span, levels: &[Level], s: Coalition) -> bool
-    requires within { s < 2 ^ span.now.players }
-    requires spans { SpansFixed span.now.players span.now.kept levels.now }
-    ensures { Decides result (InSpan span.now.players (IsFixedVector span.now.players levels.now) s) }
-{
-    span.holds(s)
-}
-
-/// The greatest scaled excess of a coalition outside of the span of what levels fix.
-fn greatest_unspanned<W: Worth>(game: &W, shares: &Shares, levels: &[Level]) -> Option<i128>
+/// The greatest scaled excess of a coalition outside of a span.
+fn greatest_unspanned<W: Worth>(game: &W, shares: &Shares, span: &Span) -> Option<i128>
     requires shares { length shares.now.shares ≡ (W.game game.now).players }
-    requires few { (W.game game.now).players ≤ 16 }
-    requires within { AllByRecursion (IsOf (W.game game.now).players) levels.now }
-    ensures { MatchOption result
-        ((s : ℕ) → s < 2 ^ (W.game game.now).players → ¬ IsOutside Mode.Span (W.game game.now).players levels.now s)
-        (IsGreatest (λ s. (s < 2 ^ (W.game game.now).players) × IsOutside Mode.Span (W.game game.now).players levels.now s) (excess (W.game game.now) shares.now)) }
+    requires players { span.now.players ≡ (W.game game.now).players }
+    ensures { (levels : List LevelData) → SpansFixed (W.game game.now).players span.now.kept levels → MatchOption result
+        ((s : ℕ) → s < 2 ^ (W.game game.now).players → ¬ IsOutside Mode.Span (W.game game.now).players levels s)
+        (IsGreatest (λ s. (s < 2 ^ (W.game game.now).players) × IsOutside Mode.Span (W.game game.now).players levels s) (excess (W.game game.now) shares.now)) }
 {
     let n = game.players();
-    let span = fixed_span(n, levels);
     let mut most: Option<i128> = None;
     let mut s = Coalition::empty();
     while let Some(next) = s.next_mask(n) {
         s = next;
-        if !is_inside(&span, levels, s) {
+        if !span.holds(s) {
             most = raised(most, shares.excess_over(game.worth(s), s));
         }
     }
     most
 }
 
-/// The least player that isn't inside the span of what levels fix.
-fn first_unspanned(n: u32, levels: &[Level]) -> Option<u32>
-    requires some { 1 ≤ n }
-    requires few { n ≤ 16 }
-    requires within { AllByRecursion (IsOf n) levels.now }
-    ensures { MatchOption result
-        (IsAllFixed Mode.Span n levels.now)
-        (λ i. (¬ IsAllFixed Mode.Span n levels.now) × IsLeastUnfixed Mode.Span n levels.now i) }
+/// The least player that is outside of a span.
+fn first_unspanned(span: &Span, n: u32) -> Option<u32>
+    requires few { n ≤ 64 }
+    requires players { span.now.players ≡ n }
+    ensures { (levels : List LevelData) → SpansFixed n span.now.kept levels → MatchOption result
+        (IsAllFixed Mode.Span n levels)
+        (λ i. (¬ IsAllFixed Mode.Span n levels) × IsLeastUnfixed Mode.Span n levels i) }
 {
-    let span = fixed_span(n, levels);
     for i in 0..n {
-        if !is_inside(&span, levels, Coalition::single(i)) {
+        if !span.holds(Coalition::single(i)) {
             return Some(i);
         }
     }
@@ -149,37 +107,29 @@ fn first_unspanned(n: u32, levels: &[Level]) -> Option<u32>
 }
 
 /// The greatest scaled excess of a coalition outside, if there is one.
-pub fn greatest_outside<W: Worth>(
-    game: &W,
-    shares: &Shares,
-    mode: Mode,
-    levels: &[Level],
-) -> Option<i128>
+pub fn greatest_outside<W: Worth>(game: &W, shares: &Shares, fixed: &Fixed) -> Option<i128>
     requires shares { length shares.now.shares ≡ (W.game game.now).players }
-    requires few { (mode ≡ Mode.Players) ⊎ ((W.game game.now).players ≤ 16) }
-    requires within { AllByRecursion (IsOf (W.game game.now).players) levels.now }
-    ensures { MatchOption result
-        ((s : ℕ) → s < 2 ^ (W.game game.now).players → ¬ IsOutside mode (W.game game.now).players levels.now s)
-        (IsGreatest (λ s. (s < 2 ^ (W.game game.now).players) × IsOutside mode (W.game game.now).players levels.now s) (excess (W.game game.now) shares.now)) }
+    requires over { IsOver (W.game game.now).players fixed.now }
+    ensures { (levels : List LevelData) → Fixes (W.game game.now).players levels fixed.now → MatchOption result
+        ((s : ℕ) → s < 2 ^ (W.game game.now).players → ¬ IsOutside (mode_of fixed.now) (W.game game.now).players levels s)
+        (IsGreatest (λ s. (s < 2 ^ (W.game game.now).players) × IsOutside (mode_of fixed.now) (W.game game.now).players levels s) (excess (W.game game.now) shares.now)) }
 {
-    match mode {
-        Mode::Players => greatest_split(game, shares, levels),
-        Mode::Span => greatest_unspanned(game, shares, levels),
+    match fixed {
+        Fixed::FreePlayers(free) => greatest_split(game, shares, *free),
+        Fixed::Vectors(span) => greatest_unspanned(game, shares, span),
     }
 }
 
-/// The least player that isn't fixed, where the levels don't fix everything.
-pub fn first_unfixed(n: u32, mode: Mode, levels: &[Level]) -> Option<u32>
-    requires some { 1 ≤ n }
+/// The least player that isn't fixed, where not everything is.
+pub fn first_unfixed(fixed: &Fixed, n: u32) -> Option<u32>
     requires small { n ≤ 64 }
-    requires few { (mode ≡ Mode.Players) ⊎ (n ≤ 16) }
-    requires within { AllByRecursion (IsOf n) levels.now }
-    ensures { MatchOption result
-        (IsAllFixed mode n levels.now)
-        (λ i. (¬ IsAllFixed mode n levels.now) × IsLeastUnfixed mode n levels.now i) }
+    requires over { IsOver n fixed.now }
+    ensures { (levels : List LevelData) → Fixes n levels fixed.now → MatchOption result
+        (IsAllFixed (mode_of fixed.now) n levels)
+        (λ i. (¬ IsAllFixed (mode_of fixed.now) n levels) × IsLeastUnfixed (mode_of fixed.now) n levels i) }
 {
-    match mode {
-        Mode::Players => first_free(n, levels),
-        Mode::Span => first_unspanned(n, levels),
+    match fixed {
+        Fixed::FreePlayers(free) => first_free(*free, n),
+        Fixed::Vectors(span) => first_unspanned(span, n),
     }
 }

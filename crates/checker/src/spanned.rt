@@ -1,9 +1,9 @@
-//! The span of what levels fix.
+//! Spans that take in what levels fix.
 
 ghost use Rattle.std.specs.Prelude.{◌≡◌, ◌⊎◌, ℕ, ◌^◌, ◌<◌, ◌≤◌, ◌&&◌, IsTrue, nat_eq, pos, int_le};
 ghost use Rattle.std.specs.List.{AllByRecursion, list_any};
 ghost use Rattle.definitions.specs.Coalitions.{singleton};
-ghost use Rattle.checker.specs.Extends.{Extends, IsPaired, IsBoundVector, SpansFixed, IsOf};
+ghost use Rattle.checker.specs.Extends.{Extends, IsPaired, IsBoundVector, IsLevelVector, IsOf};
 
 use coalitions::Coalition;
 use kohlberg::{Level, Span};
@@ -40,18 +40,15 @@ fn add_bounds(span: &mut Span, bounds: &[(u32, i128)])
     }
 }
 
-/// The span of N, of the levels' coalitions, and of the players at their bounds.
-pub fn fixed_span(n: u32, levels: &[Level]) -> Span
-    requires some { 1 ≤ n }
-    requires few { n ≤ 16 }
-    requires within { AllByRecursion (IsOf n) levels.now }
-    ensures players { result.players ≡ n }
-    ensures spans { SpansFixed n result.kept levels.now }
+/// Adds the coalitions of levels, and each player alone that has a weight of at least 1 there.
+pub fn add_levels(span: &mut Span, levels: &[Level])
+    requires few { span.old.players ≤ 16 }
+    requires within { AllByRecursion (IsOf span.old.players) levels.now }
+    ensures players { span.new.players ≡ span.old.players }
+    ensures extends { Extends span.old.players span.old.kept span.new.kept (IsLevelVector span.old.players levels.now) }
 {
-    let mut span = Span::new(n);
     for level in levels {
-        add_coalitions(&mut span, &level.coalitions);
-        add_bounds(&mut span, &level.bounds);
+        add_coalitions(span, &level.coalitions);
+        add_bounds(span, &level.bounds);
     }
-    span
 }

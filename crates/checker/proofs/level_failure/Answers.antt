@@ -2,7 +2,7 @@ use Rattle.std.proofs.Common.{◌≡◌, ◌++◌, to_z, of_z, arith, refl, rule
 use Rattle.definitions.specs.Certificates.{IsSmall}
 use Rattle.kohlberg.proofs.Forms.{all_left, all_right}
 use Rattle.checker.proofs.Judged.{ascending_few}
-use Rattle.checker.proofs.Values.{kept}
+use Rattle.kohlberg.proofs.Kept.{kept}
 use mir.Syntax.{w128}
 use Rattle.checker.proofs.level_failure.Goals as goal
 
@@ -34,4 +34,5 @@ returns-in-Some-outside_above g c =
     let above = c.in-Some-outside_above in
     let e : to_z w128 (of_z w128 above.excess) ≡ above.excess = search rules in
     let value = rw (kept c.den.result c.den.type_inv, e, c.den.ensures.value) at c.ratio.ensures.same in
-    (above.excess, value, (refl, c.in_default.ensures, search rules, search rules, search rules, search rules, above.ensures.0, above.ensures.1))
+    let outside = above.ensures c.args.front.now c.requires.fixes in
+    (above.excess, value, (refl, c.in_default.ensures, search rules, search rules, search rules, search rules, outside.0, outside.1))

@@ -1,7 +1,8 @@
 use Rattle.std.proofs.Common.{◌∙◌, ap, ℕ, ℤ, List}
 use Rattle.definitions.specs.Coalitions.{weight_at}
 use Rattle.definitions.specs.Certificates.{Level, number_at}
-use Rattle.checker.proofs.Values.{kept, decides_sum}
+use Rattle.checker.proofs.Values.{decides_sum}
+use Rattle.kohlberg.proofs.Kept.{kept}
 use Rattle.checker.proofs.conditions.balances.Goals as goal
 
 pub returns : goal.returns

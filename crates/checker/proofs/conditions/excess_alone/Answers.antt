@@ -1,7 +1,7 @@
 use Rattle.std.proofs.Common.{◌∙◌, ap}
 use Rattle.definitions.specs.Games.{excess}
 use Rattle.checker.proofs.Excesses.{alone_within, excess-singleton}
-use Rattle.checker.proofs.Values.{kept}
+use Rattle.kohlberg.proofs.Kept.{kept}
 use Rattle.checker.proofs.conditions.excess_alone.Goals as goal
 
 pub scaled_excess-requires-clause-within : goal.scaled_excess-requires-clause-within

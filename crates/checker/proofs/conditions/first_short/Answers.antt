@@ -2,7 +2,8 @@ use Rattle.std.proofs.Common.{◌≤ℤ◌, ◌*ℤ◌}
 use borrow.Author.Count.{below_more}
 use Rattle.definitions.specs.Coalitions.{singleton}
 use Rattle.definitions.specs.Games.{share}
-use Rattle.checker.proofs.Values.{kept, not_above}
+use Rattle.checker.proofs.Values.{not_above}
+use Rattle.kohlberg.proofs.Kept.{kept}
 use Rattle.checker.proofs.conditions.first_short.Goals as goal
 
 pub loop-i-preserved : goal.loop-i-preserved

@@ -1,4 +1,7 @@
 use Rattle.checker.proofs.outside.greatest_outside.Goals as goal
 
-pub returns-in-Span : goal.returns-in-Span
-returns-in-Span g c = rw c.in-Span.is c.greatest_unspanned.ensures
+pub returns-in-FreePlayers : goal.returns-in-FreePlayers
+returns-in-FreePlayers g c = rw c.in-FreePlayers.is c.greatest_split.ensures
+
+pub returns-in-Vectors : goal.returns-in-Vectors
+returns-in-Vectors g c = rw c.in-Vectors.is (λ levels h. c.greatest_unspanned.ensures levels h.2)

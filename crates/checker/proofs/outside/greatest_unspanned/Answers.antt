@@ -8,8 +8,8 @@ use Rattle.checker.proofs.outside.greatest_unspanned.Goals as goal
 pub loop-next-init : goal.loop-next-init
 loop-next-init g c = rw c.empty-s.ensures (IsTopUpTo-start _ _ _)
 
-pub loop-next-preserved-then-not-is_inside : goal.loop-next-preserved-then-not-is_inside
-loop-next-preserved-then-not-is_inside g c =
+pub loop-next-preserved-then-not-holds : goal.loop-next-preserved-then-not-holds
+loop-next-preserved-then-not-holds g c =
     let game = g.W.Worth.game c.args.game.now in
     let x = c.args.shares.now in
     let next = c.in-Some.next in
@@ -17,16 +17,16 @@ loop-next-preserved-then-not-is_inside g c =
     let within : next < 2 ^ game.players = rw c.players-n.ensures.count at step.1 in
     let here = excess_is game x next c.worth.result c.excess_over.result c.players-n.ensures.laws within c.worth.ensures c.excess_over.ensures.value in
     let kept = cast_kept w128 c.excess_over.result (omega (arith, c.excess_over.ensures.small)) in
-    rw c.raised-most.ensures (IsTopUpTo-more game x c.args.levels.now c.loop-next.s next c.loop-next.most _ c.loop-next.invariant step.0 within (outside_from c.is_inside.result c.fixed_span-span.result.players game.players next next c.args.levels.now (c.fixed_span-span.ensures.players ∙ c.players-n.ensures.count) refl c.is_inside.ensures c.if-not-is_inside.true) (kept ∙ here))
+    rw c.raised-most.ensures (IsTopUpTo-more game x c.args.span.now.kept c.loop-next.s next c.loop-next.most _ c.loop-next.invariant step.0 within (outside_from c.holds.result c.args.span.now.players game.players next next c.args.span.now.kept c.requires.players refl c.holds.ensures c.if-not-holds.true) (kept ∙ here))
 
 pub loop-next-preserved : goal.loop-next-preserved
 loop-next-preserved g c =
     let game = g.W.Worth.game c.args.game.now in
     let step = c.in-Some.ensures in
     let within : c.in-Some.next < 2 ^ game.players = rw c.players-n.ensures.count at step.1 in
-    IsTopUpTo-kept game c.args.shares.now c.args.levels.now c.loop-next.s c.in-Some.next c.loop-next.most c.loop-next.invariant step.0 within (inside_from c.is_inside.result c.fixed_span-span.result.players game.players c.in-Some.next c.in-Some.next c.args.levels.now (c.fixed_span-span.ensures.players ∙ c.players-n.ensures.count) refl c.is_inside.ensures c.if-not-is_inside.false)
+    IsTopUpTo-kept game c.args.shares.now c.args.span.now.kept c.loop-next.s c.in-Some.next c.loop-next.most c.loop-next.invariant step.0 within (inside_from c.holds.result c.args.span.now.players game.players c.in-Some.next c.in-Some.next c.args.span.now.kept c.requires.players refl c.holds.ensures c.if-not-holds.false)
 
 pub returns : goal.returns
 returns g c =
     let game = g.W.Worth.game c.args.game.now in
-    top_at_end game c.args.shares.now c.args.levels.now c.loop-next.s c.loop-next.most c.loop-next.invariant (rw c.players-n.ensures.count at c.in_default.ensures)
+    λ levels h. top_at_end game c.args.shares.now c.args.span.now.kept levels c.loop-next.s c.loop-next.most h c.loop-next.invariant (rw c.players-n.ensures.count at c.in_default.ensures)

@@ -1,0 +1,32 @@
+-- What levels fix, as it is carried from level to level.
+--
+--   IsFreeSet            a coalition of the players that no level fixes
+--   Fixes                what is carried stands for what levels fix
+use Rattle.std.specs.Prelude.{◌≡◌, ℕ, ◌^◌, ◌<◌, ◌≤◌, ◌&&◌, nat_lt, List}
+use Rattle.definitions.specs.Coalitions.{has_player}
+use Rattle.definitions.specs.Certificates.{Level, is_free}
+use Rattle.definitions.specs.declared.Mode.{Mode}
+use Rattle.definitions.specs.declared.Mode.TheVariants.{Players, Span}
+use Rattle.checker.specs.Extends.{SpansFixed}
+use Rattle.checker.specs.declared.fixed.Fixed.{Fixed}
+use Rattle.checker.specs.declared.fixed.Fixed.TheVariants.{FreePlayers, Vectors}
+
+-- f is the set of the players that no level fixes
+pub record IsFreeSet (n : ℕ) (levels : List Level) (f : ℕ) : Type 0 where
+  pub within : f < 2 ^ n
+  pub free : (i : ℕ) → has_player f i ≡ (nat_lt i n && is_free n levels i)
+
+-- the mode in which levels fix
+abbrev pub mode_of : Fixed → Mode
+mode_of (FreePlayers f) = Players
+mode_of (Vectors span) = Span
+
+-- what is carried is of n players
+abbrev pub IsOver : ℕ → Fixed → Type 0
+IsOver n (FreePlayers f) = f < 2 ^ n
+IsOver n (Vectors span) = (span.players ≡ n) × (n ≤ 16)
+
+-- what is carried is what levels fix
+abbrev pub Fixes : ℕ → List Level → Fixed → Type 0
+Fixes n levels (FreePlayers f) = IsFreeSet n levels f
+Fixes n levels (Vectors span) = (span.players ≡ n) × (n ≤ 16) × SpansFixed n span.kept levels

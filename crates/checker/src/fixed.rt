@@ -1,0 +1,80 @@
+//! What levels fix, carried from level to level.
+
+ghost use Rattle.std.specs.Prelude.{◌≡◌, ◌⊎◌, ◌++◌, [], ℕ, List, ◌^◌, ◌<◌, ◌≤◌, ◌&&◌, nat_lt, not};
+ghost use Rattle.std.specs.List.{AllByRecursion};
+ghost use Rattle.definitions.specs.Coalitions.{has_player};
+ghost use Rattle.definitions.specs.Certificates.{Level as LevelData, is_fixed};
+ghost use Rattle.checker.specs.Extends.{IsOf};
+ghost use Rattle.checker.specs.Fixed.{mode_of, IsOver, Fixes};
+
+use crate::spanned::add_levels;
+use coalitions::Coalition;
+use kohlberg::{Level, Mode, Span};
+
+/// What levels fix, by the mode of the certificate.
+#[derive(Drop)]
+pub enum Fixed {
+    /// Of the players, those that no level fixes.
+    FreePlayers(Coalition),
+    /// Of the vectors, the span of those that levels fix.
+    Vectors(Span),
+}
+
+impl Fixed {
+    /// What no level at all fixes.
+    pub fn by_none(mode: Mode, n: u32) -> Fixed
+        requires some { 1 ≤ n }
+        requires small { n ≤ 64 }
+        requires few { (mode ≡ Mode.Players) ⊎ (n ≤ 16) }
+        ensures mode { mode_of result ≡ mode }
+        ensures fixes { Fixes n [] result }
+    {
+        match mode {
+            Mode::Players => Fixed::FreePlayers(Coalition::all(n)),
+            Mode::Span => Fixed::Vectors(Span::new(n)),
+        }
+    }
+
+    /// What these levels fix too.
+    pub fn with(self, n: u32, levels: &[Level]) -> Fixed
+        requires small { n ≤ 64 }
+        requires over { IsOver n self }
+        requires within { AllByRecursion (IsOf n) levels.now }
+        ensures mode { mode_of result ≡ mode_of self }
+        ensures fixes { (front : List LevelData) → Fixes n front self → Fixes n (front ++ levels.now) result }
+    {
+        match self {
+            Fixed::FreePlayers(free) => Fixed::FreePlayers(still_free(free, n, levels)),
+            Fixed::Vectors(mut span) => {
+                add_levels(&mut span, levels);
+                Fixed::Vectors(span)
+            }
+        }
+    }
+}
+
+/// Whether levels fix a player: it alone, all but it, or its bound.
+fn is_fixed(n: u32, levels: &[Level], i: u32) -> bool
+    requires few { n ≤ 64 }
+    requires player { i < n }
+    ensures { result ≡ is_fixed n levels.now i }
+{
+    let singleton = Coalition::single(i);
+    Level::is_listed(levels, singleton)
+        || Level::is_listed(levels, singleton.complement(n))
+        || Level::has_bound(levels, i)
+}
+
+/// The players of a coalition that levels don't fix.
+fn still_free(free: Coalition, n: u32, levels: &[Level]) -> Coalition
+    requires { n ≤ 64 }
+    ensures { (i : ℕ) → has_player result i ≡ (has_player free i && not (nat_lt i n && is_fixed n levels.now i)) }
+{
+    let mut still = free;
+    for i in 0..n {
+        if is_fixed(n, levels, i) {
+            still = still.without(i);
+        }
+    }
+    still
+}
