@@ -1,0 +1,213 @@
+-- Lists of pairs by ascending key.
+use Rattle.std.proofs.Common.{◌≡◌, ◌≢◌, ◌⊎◌, ℕ, zero, suc, ◌+◌, ◌-◌, ◌^◌, ◌<◌, ◌≤◌, Bool, true, false, cond, nat_lt, List, [], ◌∷◌, length, ℤ, pos, ◌+ℤ◌, ◌-ℤ◌, if◌then◌else◌, refl, sym, ap, ◌∙◌, inl, inr, arith, ◌||◌}
+use Rattle.std.specs.List.{list_any, AllByRecursion}
+use Rattle.std.proofs.lemmas.Bool.{false≢true}
+use Rattle.std.proofs.lemmas.Bool.Decides.{nat_tests}
+use Rattle.std.proofs.Math.Pow.{pow-lt}
+use Rattle.definitions.proofs.Ring.{linear}
+use Rattle.definitions.proofs.Members.{has_player-empty, has_player-grand_coalition}
+use Rattle.definitions.proofs.Parts.{others_has, others_lacks}
+use Rattle.definitions.specs.Coalitions.{has_player, singleton, grand_coalition, weight_at}
+use Rattle.definitions.specs.Certificates.{Ascends}
+use Rattle.orders.specs.Orders.{IsOrder}
+use Rattle.orders.proofs.Fronts.{front-has, front-lacks}
+use Rattle.airport_scheme.specs.Levels.{with_pair, with_others, front_pair}
+
+-- ---- one pair more
+
+pub weight_at-with_pair : (s : ℕ) (w : ℤ) (ps : List (ℕ × ℤ)) (i : ℕ) → weight_at (with_pair s w ps) i ≡ (if has_player s i then w else pos 0) +ℤ weight_at ps i
+weight_at-with_pair s w [] i = refl
+weight_at-with_pair s w (p ∷ ps) i =
+    let ih = weight_at-with_pair s w ps i in
+    let step : (b : Bool) → weight_at (cond b ((s, w) ∷ (p ∷ ps)) (p ∷ with_pair s w ps)) i ≡ (if has_player s i then w else pos 0) +ℤ ((if has_player p.0 i then p.1 else pos 0) +ℤ weight_at ps i) = elim [
+      | true ↦ refl
+      | false ↦ omega (arith, linear, ih)
+    ] in
+    step (nat_lt s p.0)
+
+pub all-with_pair : (P : ℕ × ℤ → Type 0) (s : ℕ) (w : ℤ) (ps : List (ℕ × ℤ)) → P (s, w) → AllByRecursion P ps → AllByRecursion P (with_pair s w ps)
+all-with_pair P s w [] here h = (here, tt)
+all-with_pair P s w (p ∷ ps) here h =
+    let step : (b : Bool) → AllByRecursion P (cond b ((s, w) ∷ (p ∷ ps)) (p ∷ with_pair s w ps)) = elim [
+      | true ↦ (here, (h.0, h.1))
+      | false ↦ (h.0, all-with_pair P s w ps here h.1)
+    ] in
+    step (nat_lt s p.0)
+
+pub any-with_pair : (test : ℕ × ℤ → Bool) (s : ℕ) (w : ℤ) (ps : List (ℕ × ℤ)) → (test (s, w) ≡ true) ⊎ (list_any test ps ≡ true) → list_any test (with_pair s w ps) ≡ true
+any-with_pair test s w [] (inl h) = rw h refl
+any-with_pair test s w [] (inr h) = absurd (false≢true h)
+any-with_pair test s w (p ∷ ps) h =
+    let step : (b : Bool) → list_any test (cond b ((s, w) ∷ (p ∷ ps)) (p ∷ with_pair s w ps)) ≡ true = elim [
+      | true ↦ either (test (s, w)) (list_any test (p ∷ ps)) h
+      | false ↦ later (test p) h (λ k. any-with_pair test s w ps k)
+    ] in
+    step (nat_lt s p.0)
+  where
+    either : (a b : Bool) → (a ≡ true) ⊎ (b ≡ true) → (a || b) ≡ true
+    either true b h = refl
+    either false b (inl h) = absurd (false≢true h)
+    either false b (inr h) = h
+
+    later : (t : Bool) → (test (s, w) ≡ true) ⊎ ((t || list_any test ps) ≡ true) → ((test (s, w) ≡ true) ⊎ (list_any test ps ≡ true) → list_any test (with_pair s w ps) ≡ true) → (t || list_any test (with_pair s w ps)) ≡ true
+    later true h ih = refl
+    later false h ih = ih h
+
+pub length-with_pair : (s : ℕ) (w : ℤ) (ps : List (ℕ × ℤ)) → length (with_pair s w ps) ≡ suc (length ps)
+length-with_pair s w [] = refl
+length-with_pair s w (p ∷ ps) =
+    let ih = length-with_pair s w ps in
+    let step : (b : Bool) → length (cond b ((s, w) ∷ (p ∷ ps)) (p ∷ with_pair s w ps)) ≡ suc (suc (length ps)) = elim [
+      | true ↦ refl
+      | false ↦ ap suc ih
+    ] in
+    step (nat_lt s p.0)
+
+-- a new key keeps the keys apart
+pub ascends-with_pair : (low s : ℕ) (w : ℤ) (ps : List (ℕ × ℤ)) → low ≤ s → AllByRecursion (λ p. p.0 ≢ s) ps → Ascends low ps → Ascends low (with_pair s w ps)
+ascends-with_pair low s w [] le new h = (le, tt)
+ascends-with_pair low s w (p ∷ ps) le new h =
+    let ne = new.0 in
+    let step : (b : Bool) → nat_lt s p.0 ≡ b → Ascends low (cond b ((s, w) ∷ (p ∷ ps)) (p ∷ with_pair s w ps)) = elim [
+      | true ↦ λ e. (le, (less s p.0 e, h.1))
+      | false ↦ λ e. (h.0, ascends-with_pair (p.0 + 1) s w ps (more s p.0 e ne) new.1 h.1)
+    ] in
+    step (nat_lt s p.0) refl
+  where
+    less : (a b : ℕ) → nat_lt a b ≡ true → a + 1 ≤ b
+    less a b e = grind (arith, nat_tests)
+
+    more : (a b : ℕ) → nat_lt a b ≡ false → b ≢ a → b + 1 ≤ a
+    more a b e ne = differ a b (not_less a b e) ne
+      where
+        not_less : (a b : ℕ) → nat_lt a b ≡ false → b ≤ a
+        not_less a b e = grind (arith, nat_tests)
+
+        differ : (a b : ℕ) → b ≤ a → b ≢ a → b + 1 ≤ a
+        differ a b le ne = grind arith
+
+-- ---- all but one, for each of b players
+
+pub length-with_others : (n : ℕ) (at : ℕ → ℕ) (ps : List (ℕ × ℤ)) (i b : ℕ) → length (with_others n at ps i b) ≡ b + length ps
+length-with_others n at ps i zero = omega arith
+length-with_others n at ps i (suc b) =
+    length-with_pair (grand_coalition n - singleton (at (i + b))) (pos 1) (with_others n at ps i b) ∙ (let ih = length-with_others n at ps i b in omega (arith, ih))
+
+pub all-with_others : (P : ℕ × ℤ → Type 0) (n : ℕ) (at : ℕ → ℕ) (ps : List (ℕ × ℤ)) (i b : ℕ) → ((j : ℕ) → i ≤ j → j < i + b → P (grand_coalition n - singleton (at j), pos 1)) → AllByRecursion P ps → AllByRecursion P (with_others n at ps i b)
+all-with_others P n at ps i zero each h = h
+all-with_others P n at ps i (suc b) each h =
+    all-with_pair P (grand_coalition n - singleton (at (i + b))) (pos 1) (with_others n at ps i b) (each (i + b) (omega arith) (omega arith)) (all-with_others P n at ps i b (λ j le lt. each j le (omega arith)) h)
+
+pub any-with_others_start : (test : ℕ × ℤ → Bool) (n : ℕ) (at : ℕ → ℕ) (ps : List (ℕ × ℤ)) (i b : ℕ) → list_any test ps ≡ true → list_any test (with_others n at ps i b) ≡ true
+any-with_others_start test n at ps i zero h = h
+any-with_others_start test n at ps i (suc b) h =
+    any-with_pair test (grand_coalition n - singleton (at (i + b))) (pos 1) (with_others n at ps i b) (inr (any-with_others_start test n at ps i b h))
+
+pub any-with_others : (test : ℕ × ℤ → Bool) (n : ℕ) (at : ℕ → ℕ) (ps : List (ℕ × ℤ)) (i b j : ℕ) → i ≤ j → j < i + b → test (grand_coalition n - singleton (at j), pos 1) ≡ true → list_any test (with_others n at ps i b) ≡ true
+any-with_others test n at ps i zero j le lt h = absurd (omega arith)
+any-with_others test n at ps i (suc b) j le lt h =
+    any-with_pair test (grand_coalition n - singleton (at (i + b))) (pos 1) (with_others n at ps i b) (elim (last_or_less j (i + b) (omega arith)) [
+      | inl less ↦ inr (any-with_others test n at ps i b j le less h)
+      | inr same ↦ inl (rw (← same) h)
+    ])
+  where
+    last_or_less : (j k : ℕ) → j < suc k → (j < k) ⊎ (j ≡ k)
+    last_or_less j k h = grind arith
+
+order-apart : (n : ℕ) (cost at : ℕ → ℕ) → IsOrder n cost at → (j h : ℕ) → j < n → h < n → h ≢ j → at h ≢ at j
+order-apart n cost at o j h jn hn ne e = elim (order_cases h j ne) [ inl less ↦ o.apart h j less jn e | inr more ↦ o.apart j h more hn (sym e) ]
+  where
+    order_cases : (h j : ℕ) → h ≢ j → (h < j) ⊎ (j < h)
+    order_cases h j ne = grind arith
+
+-- who stands at another place is in all but one
+pub others-has : (n : ℕ) (cost at : ℕ → ℕ) → IsOrder n cost at → (j h : ℕ) → j < n → h < n → h ≢ j → has_player (grand_coalition n - singleton (at j)) (at h) ≡ true
+others-has n cost at o j h jn hn ne =
+    others_has n (at j) (at h) (pow-lt (o.below j jn)) (o.below h hn) (order-apart n cost at o j h jn hn ne)
+
+pub others-lacks : (n : ℕ) (cost at : ℕ → ℕ) → IsOrder n cost at → (j : ℕ) → j < n → has_player (grand_coalition n - singleton (at j)) (at j) ≡ false
+others-lacks n cost at o j jn = others_lacks n (at j) (pow-lt (o.below j jn)) (o.below j jn)
+
+-- the weights at a place outside the block and within it
+pub weight_at-outside : (n : ℕ) (cost at : ℕ → ℕ) → IsOrder n cost at → (ps : List (ℕ × ℤ)) (i b h : ℕ) → i + b ≤ n → h < n → (h < i) ⊎ (i + b ≤ h) → weight_at (with_others n at ps i b) (at h) ≡ weight_at ps (at h) +ℤ pos b
+weight_at-outside n cost at o ps i zero h le hn out = omega (arith, linear)
+weight_at-outside n cost at o ps i (suc b) h le hn out =
+    let has = others-has n cost at o (i + b) h (omega arith) hn (apart out) in
+    let ih = weight_at-outside n cost at o ps i b h (omega arith) hn (still out) in
+    weight_at-with_pair (grand_coalition n - singleton (at (i + b))) (pos 1) (with_others n at ps i b) (at h)
+    ∙ rw has (one_more (weight_at (with_others n at ps i b) (at h)) (weight_at ps (at h)) b ih)
+  where
+    apart : (h < i) ⊎ (i + suc b ≤ h) → h ≢ i + b
+    apart (inl lt) e = omega arith
+    apart (inr ge) e = omega arith
+
+    still : (h < i) ⊎ (i + suc b ≤ h) → (h < i) ⊎ (i + b ≤ h)
+    still (inl lt) = inl lt
+    still (inr ge) = inr (omega arith)
+
+    one_more : (u v : ℤ) (b : ℕ) → u ≡ v +ℤ pos b → pos 1 +ℤ u ≡ v +ℤ pos (suc b)
+    one_more u v b e = omega (arith, linear)
+
+pub weight_at-inside : (n : ℕ) (cost at : ℕ → ℕ) → IsOrder n cost at → (ps : List (ℕ × ℤ)) (i b h : ℕ) → i + b ≤ n → i ≤ h → h < i + b → weight_at (with_others n at ps i b) (at h) ≡ weight_at ps (at h) +ℤ pos b -ℤ pos 1
+weight_at-inside n cost at o ps i zero h le low high = absurd (omega arith)
+weight_at-inside n cost at o ps i (suc b) h le low high =
+    weight_at-with_pair (grand_coalition n - singleton (at (i + b))) (pos 1) (with_others n at ps i b) (at h)
+    ∙ elim (last_or_less h (i + b) (omega arith)) [
+      | inl less ↦ rw (others-has n cost at o (i + b) h (omega arith) (omega arith) (λ e. omega arith)) (one_more (weight_at (with_others n at ps i b) (at h)) (weight_at ps (at h)) b (weight_at-inside n cost at o ps i b h (omega arith) low less))
+      | inr same ↦ rw same (rw (others-lacks n cost at o (i + b) (omega arith)) (none_more (weight_at (with_others n at ps i b) (at (i + b))) (weight_at ps (at (i + b))) b (weight_at-outside n cost at o ps i b (i + b) (omega arith) (omega arith) (inr (omega arith)))))
+    ]
+  where
+    last_or_less : (j k : ℕ) → j < suc k → (j < k) ⊎ (j ≡ k)
+    last_or_less j k h = grind arith
+
+    one_more : (u v : ℤ) (b : ℕ) → u ≡ v +ℤ pos b -ℤ pos 1 → pos 1 +ℤ u ≡ v +ℤ pos (suc b) -ℤ pos 1
+    one_more u v b e = omega (arith, linear)
+
+    none_more : (u v : ℤ) (b : ℕ) → u ≡ v +ℤ pos b → pos 0 +ℤ u ≡ v +ℤ pos (suc b) -ℤ pos 1
+    none_more u v b e = omega (arith, linear)
+
+-- ---- in mask order
+
+-- each of the coalitions holds the player at a later place of the block
+held : (n : ℕ) (cost at : ℕ → ℕ) → IsOrder n cost at → (ps : List (ℕ × ℤ)) (i b h : ℕ) → i + b ≤ h → h < n → AllByRecursion (λ p. has_player p.0 (at h) ≡ true) ps → AllByRecursion (λ p. has_player p.0 (at h) ≡ true) (with_others n at ps i b)
+held n cost at o ps i b h le hn start =
+    all-with_others (λ p. has_player p.0 (at h) ≡ true) n at ps i b (λ j low high. others-has n cost at o j h (omega arith) hn (λ e. omega arith)) start
+
+new_key : (s h : ℕ) (ps : List (ℕ × ℤ)) → has_player s h ≡ false → AllByRecursion (λ p. has_player p.0 h ≡ true) ps → AllByRecursion (λ p. p.0 ≢ s) ps
+new_key s h [] lacks all = tt
+new_key s h (p ∷ ps) lacks all =
+    ((λ e. false≢true (sym lacks ∙ sym (ap (λ (t : ℕ). has_player t h) e) ∙ all.0)), new_key s h ps lacks all.1)
+
+pub ascends-with_others : (n : ℕ) (cost at : ℕ → ℕ) → IsOrder n cost at → (ps : List (ℕ × ℤ)) (i b : ℕ) → i + b ≤ n → ((h : ℕ) → i ≤ h → h < i + b → AllByRecursion (λ p. has_player p.0 (at h) ≡ true) ps) → Ascends 0 ps → Ascends 0 (with_others n at ps i b)
+ascends-with_others n cost at o ps i zero le start h = h
+ascends-with_others n cost at o ps i (suc b) le start h =
+    let lacks = others-lacks n cost at o (i + b) (omega arith) in
+    let all = held n cost at o ps i b (i + b) (omega arith) (omega arith) (start (i + b) (omega arith) (omega arith)) in
+    ascends-with_pair 0 (grand_coalition n - singleton (at (i + b))) (pos 1) (with_others n at ps i b) (omega arith) (new_key (grand_coalition n - singleton (at (i + b))) (at (i + b)) (with_others n at ps i b) lacks all)
+    (ascends-with_others n cost at o ps i b (omega arith) (λ k low high. start k low (omega arith)) h)
+
+-- ---- the first players as a pair
+
+pub weight_at-front : (n : ℕ) (cost at : ℕ → ℕ) → IsOrder n cost at → (k : ℕ) (w : ℤ) (t : Bool) (h : ℕ) → k ≤ n → h < k → weight_at (front_pair at k w t) (at h) ≡ cond t w (pos 0)
+weight_at-front n cost at o k w true h le lt = rw (front-has n cost at o k h lt le) (omega (arith, linear))
+weight_at-front n cost at o k w false h le lt = refl
+
+pub weight_at-front_past : (n : ℕ) (cost at : ℕ → ℕ) → IsOrder n cost at → (k : ℕ) (w : ℤ) (t : Bool) (h : ℕ) → k ≤ h → h < n → weight_at (front_pair at k w t) (at h) ≡ pos 0
+weight_at-front_past n cost at o k w true h le lt = rw (front-lacks n cost at o k h le lt) refl
+weight_at-front_past n cost at o k w false h le lt = refl
+
+-- a coalition that holds a player and lacks one is proper
+pub proper : (n s i j : ℕ) → s < 2 ^ n → has_player s i ≡ true → j < n → has_player s j ≡ false → (0 < s) × (s < grand_coalition n)
+proper n s i j small has jn lacks = (above s has, below s small lacks)
+  where
+    positive_or_zero : (s : ℕ) → (0 < s) ⊎ (s ≡ 0)
+    positive_or_zero s = grind arith
+
+    above : (s : ℕ) → has_player s i ≡ true → 0 < s
+    above s e = elim (positive_or_zero s) [ inl lt ↦ lt | inr zero_s ↦ absurd (false≢true (sym (has_player-empty i) ∙ sym (ap (λ (t : ℕ). has_player t i) zero_s) ∙ e)) ]
+
+    below_or_all : (s m : ℕ) → s < m → (s < m - 1) ⊎ (s ≡ m - 1)
+    below_or_all s m h = grind arith
+
+    below : (s : ℕ) → s < 2 ^ n → has_player s j ≡ false → s < grand_coalition n
+    below s lt e = elim (below_or_all s (2 ^ n) lt) [ inl less ↦ less | inr all ↦ absurd (false≢true (sym e ∙ ap (λ (t : ℕ). has_player t j) all ∙ has_player-grand_coalition n j jn)) ]

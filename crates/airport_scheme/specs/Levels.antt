@@ -1,0 +1,68 @@
+-- The levels that certify Littlechild's payments, one for each block of places that pay the same.
+--
+--   with_pair, with_others, front_pair   pairs of a coalition and a weight, in mask order
+--   IsRunEnd                             where a block ends
+--   IsBlock                              the level of a block
+--   IsChain, AreLevels                   the levels of the blocks
+--   IsSolved                             shares and a certificate that they are the nucleolus
+use Rattle.std.specs.Prelude.{◌≡◌, ℕ, zero, suc, ◌+◌, ◌-◌, ◌*◌, ◌<◌, ◌≤◌, Bool, nat_lt, List, [], ◌∷◌, length, ℤ, pos, negsuc, ◌-ℤ◌, ◌*ℤ◌, ◌<ℤ◌, ◌≤ℤ◌, neg_ℤ, if◌then◌else◌}
+use Rattle.std.specs.List.{AllByRecursion}
+use Rattle.definitions.specs.Coalitions.{singleton, grand_coalition}
+use Rattle.definitions.specs.Games.{Game, Allocation, InCore}
+use Rattle.definitions.specs.Certificates.{Level, Certifies}
+use Rattle.definitions.specs.declared.Family.{Family}
+use Rattle.definitions.specs.declared.Mode.TheVariants.{Players}
+use Rattle.kohlberg.specs.Certificate.{CertificateData}
+use Rattle.orders.specs.Orders.{front}
+
+-- a pair put in front of the first with a greater key
+abbrev pub with_pair : ℕ → ℤ → List (ℕ × ℤ) → List (ℕ × ℤ)
+with_pair s w [] = (s, w) ∷ []
+with_pair s w (p ∷ ps) = if nat_lt s p.0 then (s, w) ∷ (p ∷ ps) else p ∷ with_pair s w ps
+
+-- all but one, for each of b players from place i, put among pairs
+abbrev pub with_others : ℕ → (ℕ → ℕ) → List (ℕ × ℤ) → ℕ → ℕ → List (ℕ × ℤ)
+with_others n at ps i zero = ps
+with_others n at ps i (suc b) = with_pair (grand_coalition n - singleton (at (i + b))) (pos 1) (with_others n at ps i b)
+
+-- the first k players with a weight, or nothing
+abbrev pub front_pair : (ℕ → ℕ) → ℕ → ℤ → Bool → List (ℕ × ℤ)
+front_pair at k w given = if given then (front at k, w) ∷ [] else []
+
+-- the block that begins at place i ends at place k
+pub record IsRunEnd (n : ℕ) (pay : ℕ → ℤ) (i k : ℕ) : Type 0 where
+  pub some : i < k
+  pub within : k ≤ n
+  pub same : (j : ℕ) → i ≤ j → j < k → pay j ≡ pay i
+  pub until : k < n → pay k ≡ pay i → ⊥
+
+-- the level of the block from place i up to place k, where all pay the same and the next pays more
+pub record IsBlock (n : ℕ) (at : ℕ → ℕ) (pay : ℕ → ℤ) (den : ℤ) (i k : ℕ) (l : Level) : Type 0 where
+  pub two : i + 2 ≤ n
+  pub some : i < k
+  pub within : k ≤ n
+  pub same : (j : ℕ) → i ≤ j → j < k → pay j ≡ pay i
+  pub until : k < n → pay i <ℤ pay k
+  pub fraction : pos 1 ≤ℤ l.excess_den
+  pub excess : neg_ℤ (pay i) *ℤ l.excess_den ≡ l.excess_num *ℤ den
+  pub coalitions : l.coalitions ≡ with_others n at (front_pair at k (pos 1) (nat_lt k n)) i (k - i)
+  pub earlier : l.earlier ≡ front_pair at i (negsuc 0) (nat_lt 0 i)
+  pub bounds : l.bounds ≡ []
+  pub total : l.total ≡ (if nat_lt k n then pos (k - i) else pos (k - i) -ℤ pos 1)
+
+-- the levels of the blocks from place i up to place k
+abbrev pub IsChain : ℕ → (ℕ → ℕ) → (ℕ → ℤ) → ℤ → ℕ → List Level → ℕ → Type 0
+IsChain n at pay den i [] k = i ≡ k
+IsChain n at pay den i (l ∷ ls) k = (m : ℕ) × IsBlock n at pay den i m l × IsChain n at pay den m ls k
+
+-- the levels of all blocks that begin while two players are left
+abbrev pub AreLevels : ℕ → (ℕ → ℕ) → (ℕ → ℤ) → ℤ → List Level → Type 0
+AreLevels n at pay den levels = (k : ℕ) × IsChain n at pay den 0 levels k × (n ≤ k + 1)
+
+-- shares in the core and a certificate, in mode players, that they are the nucleolus and the prenucleolus of the game, with at most twice as many entries in a level as players
+pub record IsSolved (g : Game) (x : Allocation) (c : CertificateData) : Type 0 where
+  pub players : c.players ≡ g.players
+  pub mode : c.mode ≡ Players
+  pub certifies : (family : Family) → Certifies Players family g x c.levels
+  pub core : InCore g x
+  pub few : AllByRecursion (λ l. length l.coalitions + length l.earlier + length l.bounds ≤ 2 * g.players) c.levels
