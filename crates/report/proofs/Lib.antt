@@ -1,0 +1,4 @@
+pub mod NoFloats
+pub mod Depths
+pub mod AsciiFractions
+pub mod Newlines

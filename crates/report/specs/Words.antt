@@ -1,0 +1,27 @@
+-- The words that stand in a line.
+use Rattle.std.specs.Prelude.{ℕ, List, codes}
+use Rattle.game_text.specs.declared.refusal.Refusal.{Refusal}
+use Rattle.game_text.specs.declared.refusal.Refusal.TheVariants.{TooLong, NotJson, Shape, Players, Number, Names, Coalition, Estate, Matrix, Proposal, TooFine, Certificate}
+use Rattle.report.specs.declared.answer.UsageKind.{UsageKind}
+use Rattle.report.specs.declared.answer.UsageKind.TheVariants as usage
+
+-- the name of a refusal
+abbrev pub refusal_name : Refusal → List ℕ
+refusal_name TooLong = codes "TooLong"
+refusal_name NotJson = codes "NotJson"
+refusal_name Shape = codes "Shape"
+refusal_name Players = codes "Players"
+refusal_name Number = codes "Number"
+refusal_name Names = codes "Names"
+refusal_name Coalition = codes "Coalition"
+refusal_name Estate = codes "Estate"
+refusal_name Matrix = codes "Matrix"
+refusal_name Proposal = codes "Proposal"
+refusal_name TooFine = codes "TooFine"
+refusal_name Certificate = codes "Certificate"
+
+-- the word for what is wrong with the words of a command line
+abbrev pub usage_word : UsageKind → List ℕ
+usage_word usage.Words = codes "words"
+usage_word usage.Class = codes "class"
+usage_word usage.Players = codes "players"

@@ -1,0 +1,30 @@
+//! What is answered to the words of a command line and the bytes of its input.
+use coalitions::Coalition;
+use fractions::Frac;
+use game_text::Refusal;
+
+/// What is wrong with the words of a command line.
+#[derive(Clone, Copy, Debug, PartialEq, Eq)]
+pub enum UsageKind {
+    /// They name no command.
+    Words,
+    /// The class isn't one that is generated.
+    Class,
+    /// The number of players isn't one that the class has.
+    Players,
+}
+
+/// What is answered.
+#[derive(Debug, Drop)]
+pub enum Answer {
+    /// The shares are in the core.
+    InCore,
+    /// The shares add to `sum`, and all players together are worth, or pay, `total`.
+    NotEfficient { sum: Frac, total: i64 },
+    /// The coalition could do better by itself, by this excess of worth.
+    Blocked { coalition: Coalition, excess: Frac },
+    /// The words name no command.
+    Usage(UsageKind),
+    /// The input is no document.
+    Refused(Refusal),
+}

@@ -1,0 +1,13 @@
+//! Answers, and the line that is printed for each.
+#![tactic(auto)]
+
+mod answer;
+mod fraction;
+mod line;
+mod players;
+#[cfg(test)]
+mod tests;
+mod words;
+
+pub use answer::{Answer, UsageKind};
+pub use line::write_report;

@@ -1,0 +1,22 @@
+//! Coalitions as lists of players.
+ghost use Rattle.std.specs.Prelude.{◌≡◌, ◌+◌, map, IfOk};
+ghost use Rattle.serde_json.specs.Data.{number, unsigned};
+ghost use Rattle.serde_json.specs.View.{view};
+ghost use Rattle.definitions.specs.Coalitions.{members};
+
+use coalitions::Coalition;
+use fractions::OutOfMemory;
+use serde_json::Value;
+use std::alloc::Global;
+
+/// The members of a coalition, from 1 and ascending.
+pub fn player_numbers(alloc: Global, coalition: Coalition) -> Result<Vec<Value>, OutOfMemory>
+    ensures { IfOk result (λ v. map view v.items ≡ map (λ i. number (unsigned (i + 1))) (members 64 coalition)) }
+{
+    let members = coalition.members();
+    let mut numbers = Vec::new(alloc);
+    for i in members.as_slice() {
+        numbers.push(Value::from(u64::from(*i) + 1))?;
+    }
+    Ok(numbers)
+}
