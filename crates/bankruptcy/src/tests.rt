@@ -133,7 +133,8 @@ fn compare(rt: &impl Abort, game: &BankruptcyGame, x: &Shares) {
     }
 }
 
-// Up to three players with every list of claims from 0 to 3, and four and five with the ascending ones.
+// Up to three players with every list of claims from 0 to 3, and four and five with the ascending ones; of the points
+// of five players every seventh.
 #[test]
 fn own_bodies_answer_as_those_that_list_coalitions(rt: HostRuntime) -> Result<(), Fail> {
     for (n, lists, points) in [
@@ -153,6 +154,9 @@ fn own_bodies_answer_as_those_that_list_coalitions(rt: HostRuntime) -> Result<()
                     continue;
                 };
                 for point in 0..points {
+                    if n == 5 && point % 7 != 0 {
+                        continue;
+                    }
                     for den in [1, 2] {
                         let num = chosen(rt.alloc(), &[-1, 0, 2], point, n)?;
                         let x = Shares::new(num, den).ok_or("not shares")?;
