@@ -20,34 +20,12 @@ use Rattle.orders.proofs.Fronts.{front-has, front-lacks, front-lt, order-place}
 use Rattle.airport_scheme.specs.Scheme.{IsPaid}
 use Rattle.airport_scheme.specs.Levels.{with_others, front_pair, IsBlock, IsChain}
 use Rattle.airport_scheme.proofs.Excesses.{game_of, cost, amount-at, excess-outside, excess-core, excess-front, excess-others}
-use Rattle.airport_scheme.proofs.Pairs.{length-with_others, all-with_others, any-with_others, any-with_others_start, others-has, others-lacks, weight_at-outside, weight_at-inside, ascends-with_others, weight_at-front, weight_at-front_past, proper}
+use Rattle.kohlberg.proofs.Forms.{all_join}
+use Rattle.kohlberg.proofs.Listed.{or_true, listed_before, listed_here, same_test}
+use Rattle.kohlberg.proofs.Conditions.{proper, splits-two, level_excess, level_most}
+use Rattle.airport_scheme.proofs.Pairs.{length-with_others, all-with_others, any-with_others, any-with_others_start, others-has, others-lacks, weight_at-outside, weight_at-inside, ascends-with_others, weight_at-front, weight_at-front_past}
 
 -- ---- what the levels list
-
-list_any-append : {X : Type 0} (p : X → Bool) (xs ys : List X) → list_any p (xs ++ ys) ≡ (list_any p xs || list_any p ys)
-list_any-append p [] ys = refl
-list_any-append p (x ∷ xs) ys = elim_or (p x) (list_any p (xs ++ ys)) (list_any p xs) (list_any p ys) (list_any-append p xs ys)
-  where
-    elim_or : (a b c e : Bool) → b ≡ (c || e) → (a || b) ≡ ((a || c) || e)
-    elim_or true b c e h = refl
-    elim_or false b c e h = h
-
-or_true : (a b : Bool) → (a ≡ true) ⊎ (b ≡ true) → (a || b) ≡ true
-or_true true b h = refl
-or_true false b (inl h) = absurd (false≢true h)
-or_true false b (inr h) = h
-
-pub listed_before : (levels : List Level) (l : Level) (s : ℕ) → is_listed levels s ≡ true → is_listed (levels ++ l ∷ []) s ≡ true
-listed_before levels l s h =
-    list_any-append (λ l. list_any (λ c. nat_eq c.0 s) l.coalitions) levels (l ∷ []) ∙ or_true (is_listed levels s) (is_listed (l ∷ []) s) (inl h)
-
-pub listed_here : (levels : List Level) (l : Level) (s : ℕ) → list_any (λ c. nat_eq c.0 s) l.coalitions ≡ true → is_listed (levels ++ l ∷ []) s ≡ true
-listed_here levels l s h =
-    list_any-append (λ l. list_any (λ c. nat_eq c.0 s) l.coalitions) levels (l ∷ [])
-    ∙ or_true (is_listed levels s) (is_listed (l ∷ []) s) (inr (or_true (list_any (λ c. nat_eq c.0 s) l.coalitions) false (inl h)))
-
-pub same_test : (s : ℕ) → nat_eq s s ≡ true
-same_test s = grind (arith, nat_tests)
 
 lt_test : (a b : ℕ) → a < b → nat_lt a b ≡ true
 lt_test a b h = grind (arith, nat_tests)
@@ -98,29 +76,6 @@ free_place n at i h levels c e = elim (before_or_in i h) [
     unfree true b e h = refl
     unfree false true e h = refl
     unfree false false e h = absurd (false≢true h)
-
--- ---- a split
-
-pub some_below-true : (n : ℕ) (test : ℕ → Bool) → some_below n test ≡ true → (i : ℕ) × (i < n) × (test i ≡ true)
-some_below-true zero test e = absurd (false≢true e)
-some_below-true (suc n) test e =
-    let step : (b : Bool) → test n ≡ b → (b || some_below n test) ≡ true → (i : ℕ) × (i < suc n) × (test i ≡ true) = elim [
-      | true ↦ λ k h. (n, omega arith, k)
-      | false ↦ λ k h. let r = some_below-true n test h in (r.0, omega (arith, r.1), r.2)
-    ] in
-    step (test n) refl e
-
-pub and_left : (a b : Bool) → (a && b) ≡ true → a ≡ true
-and_left true b h = refl
-and_left false b h = h
-
-pub and_right : (a b : Bool) → (a && b) ≡ true → b ≡ true
-and_right true b h = h
-and_right false b h = absurd (false≢true h)
-
-pub not_true : (b : Bool) → not b ≡ true → b ≡ false
-not_true true h = absurd (false≢true h)
-not_true false h = refl
 
 -- ---- a level
 
@@ -183,10 +138,6 @@ ascends-front : (at : ℕ → ℕ) (k : ℕ) (w : ℤ) (t : Bool) → Ascends 0 
 ascends-front at k w true = (omega arith, tt)
 ascends-front at k w false = tt
 
-pub all-append : (P : ℕ × ℤ → Type 0) (xs ys : List (ℕ × ℤ)) → AllByRecursion P xs → AllByRecursion P ys → AllByRecursion P (xs ++ ys)
-all-append P [] ys h k = k
-all-append P (x ∷ xs) ys h k = (h.0, all-append P xs ys h.1 k)
-
 others_proper : (n : ℕ) (cost at : ℕ → ℕ) → IsOrder n cost at → 2 ≤ n → (j : ℕ) → j < n → (0 < grand_coalition n - singleton (at j)) × (grand_coalition n - singleton (at j) < grand_coalition n)
 others_proper n cost at o two j lt = with_other (other j lt two)
   where
@@ -223,7 +174,7 @@ block_form n cost at pay den i k levels l most o b c =
       ascend = rw b.coalitions (ascends-with_others n cost at o ps i (k - i) end (λ h low high. all-front (λ p. has_player p.0 (at h) ≡ true) at k (pos 1) (nat_lt k n) (λ e. front-has n cost at o k h (let some = b.some in omega arith) b.within)) (ascends-front at k (pos 1) (nat_lt k n)));
       earlier_ascend = rw b.earlier (ascends-front at i (negsuc 0) (nat_lt 0 i));
       bounds_ascend = rw b.bounds tt;
-      small = rw (b.coalitions, b.earlier, b.bounds) (all-append (λ p. IsSmall p.1) (with_others n at ps i (k - i) ++ front_pair at i (negsuc 0) (nat_lt 0 i)) [] (all-append (λ p. IsSmall p.1) (with_others n at ps i (k - i)) (front_pair at i (negsuc 0) (nat_lt 0 i)) (all-with_others (λ p. IsSmall p.1) n at ps i (k - i) (λ j low high. one_small) (all-front (λ p. IsSmall p.1) at k (pos 1) (nat_lt k n) (λ e. one_small))) (all-front (λ p. IsSmall p.1) at i (negsuc 0) (nat_lt 0 i) (λ e. minus_small))) tt);
+      small = rw (b.coalitions, b.earlier, b.bounds) (all_join (λ p. IsSmall p.1) (with_others n at ps i (k - i) ++ front_pair at i (negsuc 0) (nat_lt 0 i)) [] (all_join (λ p. IsSmall p.1) (with_others n at ps i (k - i)) (front_pair at i (negsuc 0) (nat_lt 0 i)) (all-with_others (λ p. IsSmall p.1) n at ps i (k - i) (λ j low high. one_small) (all-front (λ p. IsSmall p.1) at k (pos 1) (nat_lt k n) (λ e. one_small))) (all-front (λ p. IsSmall p.1) at i (negsuc 0) (nat_lt 0 i) (λ e. minus_small))) tt);
       total_small = rw b.total (total_small (nat_lt k n) (k - i) (let le = b.within in omega (arith, most)));
     }
   where
@@ -238,13 +189,6 @@ block_form n cost at pay den i k levels l most o b c =
     total_small false b h = omega (arith, ints)
 
 -- ---- the conditions of a level
-
-pub level_excess : (e p en ed den : ℤ) → e ≡ neg_ℤ p → neg_ℤ p *ℤ ed ≡ en *ℤ den → e *ℤ ed ≡ en *ℤ den
-level_excess e p en ed den h k = ap (λ (z : ℤ). z *ℤ ed) h ∙ k
-
-pub level_most : (e p en ed den : ℤ) → pos 1 ≤ℤ ed → e ≤ℤ neg_ℤ p → neg_ℤ p *ℤ ed ≡ en *ℤ den → (e *ℤ ed) ≤ℤ (en *ℤ den)
-level_most e p en ed den one h k =
-    omega (arith, linear, mul-leℤ ed e (neg_ℤ p) (omega (arith, linear)) h, *ℤ_comm ed e, *ℤ_comm ed (neg_ℤ p))
 
 -- the greatest cost is another's where the last block begins two places or more before the end
 last_costs : (costs : List ℕ) (at : ℕ → ℕ) (pay : ℕ → ℤ) (x : Allocation) (i k before : ℕ) (l : Level) → IsPaid costs at pay x → IsBlock (length costs) at pay x.den i k l → suc (suc before) ≡ length costs → k ≡ length costs → cost costs (at (suc before)) ≤ cost costs (at before)
@@ -303,13 +247,9 @@ block_holds family costs at pay x i k levels l p b c = record {
 
     outside_at : (s : ℕ) → s < 2 ^ length costs → splits (length costs) (is_free (length costs) levels) s ≡ true → (excess (game_of costs) x s *ℤ l.excess_den) ≤ℤ (l.excess_num *ℤ x.den)
     outside_at s small out =
-        let n = length costs in
-        let some_in = some_below n (λ j. is_free n levels j && has_player s j) in
-        let some_out = some_below n (λ j. is_free n levels j && not (has_player s j)) in
-        let a = some_below-true n (λ j. is_free n levels j && has_player s j) (and_left some_in some_out out) in
-        let d = some_below-true n (λ j. is_free n levels j && not (has_player s j)) (and_right some_in some_out out) in
-        let u = placed s true a.0 a.1 (and_left (is_free n levels a.0) (has_player s a.0) a.2) (and_right (is_free n levels a.0) (has_player s a.0) a.2) in
-        let v = placed s false d.0 d.1 (and_left (is_free n levels d.0) (not (has_player s d.0)) d.2) (not_true (has_player s d.0) (and_right (is_free n levels d.0) (not (has_player s d.0)) d.2)) in
+        let two = splits-two (length costs) (is_free (length costs) levels) s out in
+        let u = placed s true two.0 two.2 two.3 two.4 in
+        let v = placed s false two.1 two.5 two.6 two.7 in
         level_most (excess (game_of costs) x s) (pay i) l.excess_num l.excess_den x.den b.fraction (excess-outside costs at pay x p s i u.0 v.0 u.1 u.2 u.3 v.1 v.2 v.3) b.excess
 
 -- ---- all levels

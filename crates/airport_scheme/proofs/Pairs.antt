@@ -11,80 +11,9 @@ use Rattle.definitions.specs.Coalitions.{has_player, singleton, grand_coalition,
 use Rattle.definitions.specs.Certificates.{Ascends}
 use Rattle.orders.specs.Orders.{IsOrder}
 use Rattle.orders.proofs.Fronts.{front-has, front-lacks}
-use Rattle.airport_scheme.specs.Levels.{with_pair, with_others, front_pair}
-
--- ---- one pair more
-
-pub weight_at-with_pair : (s : ℕ) (w : ℤ) (ps : List (ℕ × ℤ)) (i : ℕ) → weight_at (with_pair s w ps) i ≡ (if has_player s i then w else pos 0) +ℤ weight_at ps i
-weight_at-with_pair s w [] i = refl
-weight_at-with_pair s w (p ∷ ps) i =
-    let ih = weight_at-with_pair s w ps i in
-    let step : (b : Bool) → weight_at (cond b ((s, w) ∷ (p ∷ ps)) (p ∷ with_pair s w ps)) i ≡ (if has_player s i then w else pos 0) +ℤ ((if has_player p.0 i then p.1 else pos 0) +ℤ weight_at ps i) = elim [
-      | true ↦ refl
-      | false ↦ omega (arith, linear, ih)
-    ] in
-    step (nat_lt s p.0)
-
-pub all-with_pair : (P : ℕ × ℤ → Type 0) (s : ℕ) (w : ℤ) (ps : List (ℕ × ℤ)) → P (s, w) → AllByRecursion P ps → AllByRecursion P (with_pair s w ps)
-all-with_pair P s w [] here h = (here, tt)
-all-with_pair P s w (p ∷ ps) here h =
-    let step : (b : Bool) → AllByRecursion P (cond b ((s, w) ∷ (p ∷ ps)) (p ∷ with_pair s w ps)) = elim [
-      | true ↦ (here, (h.0, h.1))
-      | false ↦ (h.0, all-with_pair P s w ps here h.1)
-    ] in
-    step (nat_lt s p.0)
-
-pub any-with_pair : (test : ℕ × ℤ → Bool) (s : ℕ) (w : ℤ) (ps : List (ℕ × ℤ)) → (test (s, w) ≡ true) ⊎ (list_any test ps ≡ true) → list_any test (with_pair s w ps) ≡ true
-any-with_pair test s w [] (inl h) = rw h refl
-any-with_pair test s w [] (inr h) = absurd (false≢true h)
-any-with_pair test s w (p ∷ ps) h =
-    let step : (b : Bool) → list_any test (cond b ((s, w) ∷ (p ∷ ps)) (p ∷ with_pair s w ps)) ≡ true = elim [
-      | true ↦ either (test (s, w)) (list_any test (p ∷ ps)) h
-      | false ↦ later (test p) h (λ k. any-with_pair test s w ps k)
-    ] in
-    step (nat_lt s p.0)
-  where
-    either : (a b : Bool) → (a ≡ true) ⊎ (b ≡ true) → (a || b) ≡ true
-    either true b h = refl
-    either false b (inl h) = absurd (false≢true h)
-    either false b (inr h) = h
-
-    later : (t : Bool) → (test (s, w) ≡ true) ⊎ ((t || list_any test ps) ≡ true) → ((test (s, w) ≡ true) ⊎ (list_any test ps ≡ true) → list_any test (with_pair s w ps) ≡ true) → (t || list_any test (with_pair s w ps)) ≡ true
-    later true h ih = refl
-    later false h ih = ih h
-
-pub length-with_pair : (s : ℕ) (w : ℤ) (ps : List (ℕ × ℤ)) → length (with_pair s w ps) ≡ suc (length ps)
-length-with_pair s w [] = refl
-length-with_pair s w (p ∷ ps) =
-    let ih = length-with_pair s w ps in
-    let step : (b : Bool) → length (cond b ((s, w) ∷ (p ∷ ps)) (p ∷ with_pair s w ps)) ≡ suc (suc (length ps)) = elim [
-      | true ↦ refl
-      | false ↦ ap suc ih
-    ] in
-    step (nat_lt s p.0)
-
--- a new key keeps the keys apart
-pub ascends-with_pair : (low s : ℕ) (w : ℤ) (ps : List (ℕ × ℤ)) → low ≤ s → AllByRecursion (λ p. p.0 ≢ s) ps → Ascends low ps → Ascends low (with_pair s w ps)
-ascends-with_pair low s w [] le new h = (le, tt)
-ascends-with_pair low s w (p ∷ ps) le new h =
-    let ne = new.0 in
-    let step : (b : Bool) → nat_lt s p.0 ≡ b → Ascends low (cond b ((s, w) ∷ (p ∷ ps)) (p ∷ with_pair s w ps)) = elim [
-      | true ↦ λ e. (le, (less s p.0 e, h.1))
-      | false ↦ λ e. (h.0, ascends-with_pair (p.0 + 1) s w ps (more s p.0 e ne) new.1 h.1)
-    ] in
-    step (nat_lt s p.0) refl
-  where
-    less : (a b : ℕ) → nat_lt a b ≡ true → a + 1 ≤ b
-    less a b e = grind (arith, nat_tests)
-
-    more : (a b : ℕ) → nat_lt a b ≡ false → b ≢ a → b + 1 ≤ a
-    more a b e ne = differ a b (not_less a b e) ne
-      where
-        not_less : (a b : ℕ) → nat_lt a b ≡ false → b ≤ a
-        not_less a b e = grind (arith, nat_tests)
-
-        differ : (a b : ℕ) → b ≤ a → b ≢ a → b + 1 ≤ a
-        differ a b le ne = grind arith
+use Rattle.kohlberg.specs.Pairs.{with_pair}
+use Rattle.kohlberg.proofs.WithPair.{weight_at-with_pair, all-with_pair, any-with_pair, length-with_pair, ascends-with_pair}
+use Rattle.airport_scheme.specs.Levels.{with_others, front_pair}
 
 -- ---- all but one, for each of b players
 
@@ -195,19 +124,3 @@ weight_at-front n cost at o k w false h le lt = refl
 pub weight_at-front_past : (n : ℕ) (cost at : ℕ → ℕ) → IsOrder n cost at → (k : ℕ) (w : ℤ) (t : Bool) (h : ℕ) → k ≤ h → h < n → weight_at (front_pair at k w t) (at h) ≡ pos 0
 weight_at-front_past n cost at o k w true h le lt = rw (front-lacks n cost at o k h le lt) refl
 weight_at-front_past n cost at o k w false h le lt = refl
-
--- a coalition that holds a player and lacks one is proper
-pub proper : (n s i j : ℕ) → s < 2 ^ n → has_player s i ≡ true → j < n → has_player s j ≡ false → (0 < s) × (s < grand_coalition n)
-proper n s i j small has jn lacks = (above s has, below s small lacks)
-  where
-    positive_or_zero : (s : ℕ) → (0 < s) ⊎ (s ≡ 0)
-    positive_or_zero s = grind arith
-
-    above : (s : ℕ) → has_player s i ≡ true → 0 < s
-    above s e = elim (positive_or_zero s) [ inl lt ↦ lt | inr zero_s ↦ absurd (false≢true (sym (has_player-empty i) ∙ sym (ap (λ (t : ℕ). has_player t i) zero_s) ∙ e)) ]
-
-    below_or_all : (s m : ℕ) → s < m → (s < m - 1) ⊎ (s ≡ m - 1)
-    below_or_all s m h = grind arith
-
-    below : (s : ℕ) → s < 2 ^ n → has_player s j ≡ false → s < grand_coalition n
-    below s lt e = elim (below_or_all s (2 ^ n) lt) [ inl less ↦ less | inr all ↦ absurd (false≢true (sym e ∙ ap (λ (t : ℕ). has_player t j) all ∙ has_player-grand_coalition n j jn)) ]

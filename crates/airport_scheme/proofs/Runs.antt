@@ -15,7 +15,8 @@ use lib.IntN.{*ℤ_comm}
 use Rattle.definitions.proofs.Ring.{ring_laws, linear, linear, mul-leℤ, mul-le_cancelℤ, mul-nonnegativeℤ}
 use Rattle.definitions.specs.Sums.{sum_below}
 use Rattle.airport_scheme.specs.Scheme.{size_of, IsTerm, IsLeastTerm, IsGrown, pay_at, IsPayment}
-use Rattle.airport_scheme.specs.Levels.{with_pair, with_others}
+use Rattle.kohlberg.specs.Pairs.{with_pair}
+use Rattle.airport_scheme.specs.Levels.{with_others}
 use Rattle.airport_scheme.proofs.Steps.{sum-block, sum-scaled, IsPart, IsNext, IsPart-start, IsPart-next, IsScheme-whole}
 
 -- ---- the least term

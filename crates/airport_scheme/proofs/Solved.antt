@@ -11,13 +11,14 @@ use Rattle.definitions.specs.Games.{Allocation, IsShares}
 use Rattle.definitions.specs.Certificates.{Level, HasForm}
 use Rattle.definitions.specs.declared.Mode.TheVariants.{Players}
 use Rattle.kohlberg.specs.Certificate.{CertificateData}
+use Rattle.kohlberg.specs.Solved.{IsSolved}
 use Rattle.worth_core.specs.Allocations.{allocation}
 use Rattle.airport.specs.Airport.{Airport, IsAirport, airport_game, place}
 use Rattle.orders.specs.Orders.{IsOrder, front}
 use Rattle.airport_scheme.specs.Scheme.{cost_at, IsScheme, IsPaid, IsPayment, IsByPlayer, pay_at}
 use Rattle.orders.proofs.Fronts.{front-lacks}
 use Rattle.airport_scheme.proofs.Places.{IsOrder-airport}
-use Rattle.airport_scheme.specs.Levels.{IsRunEnd, IsBlock, IsChain, AreLevels, IsSolved, front_pair}
+use Rattle.airport_scheme.specs.Levels.{IsRunEnd, IsBlock, IsChain, AreLevels, front_pair}
 use Rattle.airport_scheme.proofs.Pairs.{length-with_others}
 use Rattle.airport_scheme.proofs.Chains.{HasForm-chain, Certifies-chain, InCore-scheme, length-front}
 

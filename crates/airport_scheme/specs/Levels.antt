@@ -1,24 +1,14 @@
 -- The levels that certify Littlechild's payments, one for each block of places that pay the same.
 --
---   with_pair, with_others, front_pair   pairs of a coalition and a weight, in mask order
---   IsRunEnd                             where a block ends
---   IsBlock                              the level of a block
---   IsChain, AreLevels                   the levels of the blocks
---   IsSolved                             shares and a certificate that they are the nucleolus
-use Rattle.std.specs.Prelude.{◌≡◌, ℕ, zero, suc, ◌+◌, ◌-◌, ◌*◌, ◌<◌, ◌≤◌, Bool, nat_lt, List, [], ◌∷◌, length, ℤ, pos, negsuc, ◌-ℤ◌, ◌*ℤ◌, ◌<ℤ◌, ◌≤ℤ◌, neg_ℤ, if◌then◌else◌}
-use Rattle.std.specs.List.{AllByRecursion}
+--   with_others, front_pair   pairs of a coalition and a weight, in mask order
+--   IsRunEnd                  where a block ends
+--   IsBlock                   the level of a block
+--   IsChain, AreLevels        the levels of the blocks
+use Rattle.std.specs.Prelude.{◌≡◌, ℕ, zero, suc, ◌+◌, ◌-◌, ◌<◌, ◌≤◌, Bool, nat_lt, List, [], ◌∷◌, ℤ, pos, negsuc, ◌-ℤ◌, ◌*ℤ◌, ◌<ℤ◌, ◌≤ℤ◌, neg_ℤ, if◌then◌else◌}
 use Rattle.definitions.specs.Coalitions.{singleton, grand_coalition}
-use Rattle.definitions.specs.Games.{Game, Allocation, InCore}
-use Rattle.definitions.specs.Certificates.{Level, Certifies}
-use Rattle.definitions.specs.declared.Family.{Family}
-use Rattle.definitions.specs.declared.Mode.TheVariants.{Players}
-use Rattle.kohlberg.specs.Certificate.{CertificateData}
+use Rattle.definitions.specs.Certificates.{Level}
+use Rattle.kohlberg.specs.Pairs.{with_pair}
 use Rattle.orders.specs.Orders.{front}
-
--- a pair put in front of the first with a greater key
-abbrev pub with_pair : ℕ → ℤ → List (ℕ × ℤ) → List (ℕ × ℤ)
-with_pair s w [] = (s, w) ∷ []
-with_pair s w (p ∷ ps) = if nat_lt s p.0 then (s, w) ∷ (p ∷ ps) else p ∷ with_pair s w ps
 
 -- all but one, for each of b players from place i, put among pairs
 abbrev pub with_others : ℕ → (ℕ → ℕ) → List (ℕ × ℤ) → ℕ → ℕ → List (ℕ × ℤ)
@@ -58,11 +48,3 @@ IsChain n at pay den i (l ∷ ls) k = (m : ℕ) × IsBlock n at pay den i m l ×
 -- the levels of all blocks that begin while two players are left
 abbrev pub AreLevels : ℕ → (ℕ → ℕ) → (ℕ → ℤ) → ℤ → List Level → Type 0
 AreLevels n at pay den levels = (k : ℕ) × IsChain n at pay den 0 levels k × (n ≤ k + 1)
-
--- shares in the core and a certificate, in mode players, that they are the nucleolus and the prenucleolus of the game, with at most twice as many entries in a level as players
-pub record IsSolved (g : Game) (x : Allocation) (c : CertificateData) : Type 0 where
-  pub players : c.players ≡ g.players
-  pub mode : c.mode ≡ Players
-  pub certifies : (family : Family) → Certifies Players family g x c.levels
-  pub core : InCore g x
-  pub few : AllByRecursion (λ l. length l.coalitions + length l.earlier + length l.bounds ≤ 2 * g.players) c.levels

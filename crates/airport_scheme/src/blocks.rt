@@ -1,27 +1,15 @@
 //! The levels of the blocks, the runs of places that pay the same.
-ghost use Rattle.std.specs.Prelude.{◌≡◌, ◌+◌, ◌-◌, ◌^◌, ◌<◌, ◌≤◌, length, pos, unsigned_abs, IfOk, OnOk, nat_lt, [], ◌∷◌, if◌then◌else◌, All};
+ghost use Rattle.std.specs.Prelude.{◌≡◌, ◌+◌, ◌-◌, ◌^◌, ◌<◌, ◌≤◌, length, pos, unsigned_abs, IfOk, nat_lt, [], ◌∷◌, if◌then◌else◌, All};
 ghost use Rattle.airport.specs.Airport.{place};
 ghost use Rattle.orders.specs.Orders.{front};
 ghost use Rattle.airport_scheme.specs.Scheme.{cost_at, pay_at, IsPayment};
-ghost use Rattle.airport_scheme.specs.Levels.{IsRunEnd, IsBlock, AreLevels, with_pair, with_others, front_pair};
+ghost use Rattle.airport_scheme.specs.Levels.{IsRunEnd, IsBlock, AreLevels, with_others, front_pair};
 
 use crate::payments::Paid;
 use airport::AirportGame;
 use coalitions::Coalition;
-use kohlberg::{Level, ratio};
+use kohlberg::{Level, put_pair, ratio};
 use std::alloc::{AllocError, Global};
-
-/// Puts a pair of weight 1 in front of the first with a greater coalition.
-fn put(v: &mut Vec<(Coalition, i128)>, s: Coalition) -> Result<(), AllocError>
-    ensures { OnOk result (v.new.items ≡ with_pair s (pos 1) v.old.items) }
-{
-    let mut at = 0;
-    while at < v.len() && v[at].0 <= s {
-        at += 1;
-    }
-    v.insert(at, (s, 1))?;
-    Ok(())
-}
 
 /// A pair, or nothing.
 fn pair_if(
@@ -56,7 +44,7 @@ fn block_coalitions(
     let n = game.len();
     let mut v = pair_if(alloc, after, 1, k < n)?;
     for j in i..k {
-        put(&mut v, Coalition::single(game.place(j)).complement(n))?;
+        put_pair(&mut v, Coalition::single(game.place(j)).complement(n), 1)?;
     }
     Ok(v)
 }

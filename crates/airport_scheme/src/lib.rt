@@ -9,7 +9,7 @@ mod tests;
 
 ghost use Rattle.std.specs.Prelude.{IfOk};
 ghost use Rattle.airport.specs.Airport.{airport_game};
-ghost use Rattle.airport_scheme.specs.Levels.{IsSolved};
+ghost use Rattle.kohlberg.specs.Solved.{IsSolved};
 
 use crate::blocks::all_levels;
 use crate::payments::{by_place, by_player};

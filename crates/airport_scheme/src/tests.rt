@@ -1,7 +1,7 @@
 //! Costs whose shares and levels were worked by hand, and the verdicts of the checker.
 ghost use Rattle.std.specs.Prelude.{◌<◌, length, IfOk};
 ghost use Rattle.airport.specs.Airport.{airport_game};
-ghost use Rattle.airport_scheme.specs.Levels.{IsSolved};
+ghost use Rattle.kohlberg.specs.Solved.{IsSolved};
 
 use super::*;
 use checker::{Verdict, check};

@@ -3,3 +3,6 @@ pub mod Pairs
 pub mod FormScan
 pub mod Ratios
 pub mod Kept
+pub mod WithPair
+pub mod Listed
+pub mod Conditions

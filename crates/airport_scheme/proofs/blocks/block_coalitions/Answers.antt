@@ -13,5 +13,5 @@ complement-requires-clause-within c =
 pub loop-j-preserved : goal.loop-j-preserved
 loop-j-preserved c =
     let more = with_others_more (length c.args.game.now.costs) (place c.args.game.now) (front_pair (place c.args.game.now) c.args.k (pos 1) (nat_lt c.args.k (length c.args.game.now.costs))) c.args.i c.loop-j.j (omega (arith, c.loop-j.auto.j)) in
-    let put = c.in_ok-put.ensures {u = tt} in
+    let put = c.in_ok-put_pair.ensures {u = tt} in
     rw more (rw (c.complement.ensures, c.single.ensures, c.len-n.ensures.count, c.place.ensures.value, c.loop-j.invariant) at put)
