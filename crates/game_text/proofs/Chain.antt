@@ -11,7 +11,7 @@ use Rattle.game_text.specs.Descriptions.{description_of}
 use Rattle.game_text.specs.Shares.{has_shares_for, written_shares}
 use Rattle.game_text.specs.Denominators.{is_coarse}
 use Rattle.game_text.specs.Documents.{game_tree}
-use Rattle.game_text.specs.Refusals.{unless, is_covered, number_refusal, game_refusal, has_needed_numbers, needed_refusal, late_refusal, tree_refusal, IsRefused}
+use Rattle.game_text.specs.Refusals.{unless, is_covered, coalition_refusal, game_refusal, has_needed_numbers, needed_refusal, late_refusal, tree_refusal, IsRefused}
 use Rattle.game_text.specs.Readings.{IsBuilt, IsBuildFault, IsGameReading, IsGameFault, IsTreeReading, IsTreeFault, IsReading, IsFault}
 use Rattle.game_text.specs.declared.command.Command.{Command}
 use Rattle.game_text.specs.declared.command.Command.TheVariants.{Propose}
@@ -77,9 +77,9 @@ from_tree command bytes tree h text (Err e) m = fault_at command bytes tree h te
 -- ---- behind the test of the names
 
 fault_behind : (game : Data) → has_names game ≡ true → (e : TextFault) → IsBuildFault game e → IsGameFault game e
-fault_behind game h (Refused r) e = λ rest. ap (λ b. unless b Names (number_refusal game rest)) h ∙ e rest
+fault_behind game h (Refused r) e = λ rest. ap (λ b. unless b Names (coalition_refusal game rest)) h ∙ e rest
 fault_behind game h Memory e = tt
 
 pub behind_names : (game : Data) → has_names game ≡ true → (r : Result Game TextFault) → MatchResult r (IsBuilt game) (IsBuildFault game) → MatchResult r (IsGameReading game) (IsGameFault game)
-behind_names game h (Ok g) m = record { passed = λ rest. ap (λ b. unless b Names (number_refusal game rest)) h ∙ m.passed rest; same = m.same }
+behind_names game h (Ok g) m = record { passed = λ rest. ap (λ b. unless b Names (coalition_refusal game rest)) h ∙ m.passed rest; same = m.same }
 behind_names game h (Err e) m = fault_behind game h e m

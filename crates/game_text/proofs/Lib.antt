@@ -7,3 +7,4 @@ pub mod Sizes
 pub mod Payments
 pub mod LeastDenominators
 pub mod Chain
+pub mod Counts

@@ -8,7 +8,7 @@ use Rattle.game_text.specs.Limits.{has_players, has_numbers}
 use Rattle.game_text.specs.Descriptions.{description_of}
 use Rattle.game_text.specs.Games.{description_in}
 use Rattle.game_text.specs.Documents.{Contents, shares_for, contents_of}
-use Rattle.game_text.specs.Refusals.{number_refusal, game_refusal, needed_refusal, late_refusal, tree_refusal, IsRefused, IsDocument}
+use Rattle.game_text.specs.Refusals.{coalition_refusal, game_refusal, needed_refusal, late_refusal, tree_refusal, IsRefused, IsDocument}
 use Rattle.game_text.specs.declared.class.Class.{Class}
 use Rattle.game_text.specs.declared.class.Class.TheVariants.{Table, CostTable, Airport, Bankruptcy}
 use Rattle.game_text.specs.declared.command.Command.{Command}
@@ -34,12 +34,12 @@ IsTableClass (Some Bankruptcy) = ⊥
 
 -- the tests of the coalitions and of the estate pass, and this is the game that is described
 pub record IsBuilt (game : Data) (g : Game) : Type 0 where
-  pub passed : (rest : Option Refusal) → number_refusal game rest ≡ rest
+  pub passed : (rest : Option Refusal) → coalition_refusal game rest ≡ rest
   pub same : description_in g ≡ description_of game
 
 -- the tests of the coalitions and of the estate refuse it so; want of memory is free
 abbrev pub IsBuildFault : Data → TextFault → Type 0
-IsBuildFault game (Refused r) = (rest : Option Refusal) → number_refusal game rest ≡ Some r
+IsBuildFault game (Refused r) = (rest : Option Refusal) → coalition_refusal game rest ≡ Some r
 IsBuildFault game Memory = ⊤
 
 -- the tests of the names, the coalitions and the estate pass, and this is the game that is described

@@ -32,14 +32,14 @@ unless true r rest = rest
 unless false r rest = Some r
 
 -- the tests of the coalitions and of the estate, and then the rest
-abbrev pub number_refusal : Data → Option Refusal → Option Refusal
-number_refusal game rest =
+abbrev pub coalition_refusal : Data → Option Refusal → Option Refusal
+coalition_refusal game rest =
     unless (has_coalitions game) Coalition (
     unless (is_covered (description_of game)) Estate rest)
 
 -- the tests of the names, the coalitions and the estate, and then the rest
 abbrev pub game_refusal : Data → Option Refusal → Option Refusal
-game_refusal game rest = unless (has_names game) Names (number_refusal game rest)
+game_refusal game rest = unless (has_names game) Names (coalition_refusal game rest)
 
 -- each share that a command needs is an integer or a fraction text
 abbrev pub has_needed_numbers : Command → Data → Bool

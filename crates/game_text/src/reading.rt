@@ -1,7 +1,8 @@
 //! From the bytes of a document to what it says, or to its refusal.
 ghost use Rattle.std.specs.Prelude.{◌≡◌, ◌≤◌, MatchResult, IfOk, IfSome, Some, None, length, if◌then◌else◌};
 ghost use Rattle.serde_json.specs.View.{view};
-ghost use Rattle.game_text.specs.Descriptions.{description_of, is_cost};
+ghost use Rattle.game_text.specs.Descriptions.{description_of, game_of, is_cost};
+ghost use Rattle.game_text.specs.Games.{description_in};
 ghost use Rattle.game_text.specs.Limits.{players};
 ghost use Rattle.game_text.specs.Names.{has_names, names_of};
 ghost use Rattle.game_text.specs.Refusals.{has_needed_numbers};
@@ -23,9 +24,11 @@ use serde_json::Value;
 use std::alloc::Global;
 use worth_core::Shares;
 
-/// The document that the bytes are the text of, or the first refusal that applies to them.
+/// The document that the bytes are the text of, or the first refusal that applies to them. Where the command needs shares,
+/// there is one for each player of the game.
 pub fn read_document(alloc: Global, bytes: &[u8], command: Command) -> Result<Document, TextFault>
-    ensures { MatchResult result (IsReading command bytes.now) (IsFault command bytes.now) }
+    ensures reading { MatchResult result (IsReading command bytes.now) (IsFault command bytes.now) }
+    ensures count { IfOk result (λ d. IfSome d.shares (λ x. length x.shares ≡ (game_of (description_in d.game)).players)) }
 {
     if bytes.len() > document_limit(command) {
         return Err(TextFault::Refused(Refusal::TooLong));

@@ -1,0 +1,93 @@
+-- A document has a share for each player of its game.
+use Rattle.std.proofs.Common.{◌≡◌, ℕ, List, length, map, Bool, true, false, ◌&&◌, pos, neg_ℤ, Option, Some, None, Result, Ok, Err, MatchResult, IfOk, IfSome, unsigned_abs, codes, refl, sym, ap, ◌∙◌, subst}
+use Rattle.std.proofs.lemmas.Bool.{eqb-true}
+use Rattle.std.proofs.lemmas.List.{length-map}
+use Rattle.std.specs.Prelude.{⊤}
+use Rattle.serde_json.specs.Data.{Data}
+use Rattle.fractions.specs.Fraction.{Fraction}
+use Rattle.worth_core.specs.LeastDenominators.{numerator_over}
+use Rattle.game_text.specs.Trees.{parts_at}
+use Rattle.game_text.specs.Shape.{class_of, is_shaped}
+use Rattle.game_text.specs.Limits.{players, players_as, has_players, has_numbers}
+use Rattle.game_text.specs.Names.{has_names}
+use Rattle.game_text.specs.Coalitions.{has_coalitions}
+use Rattle.game_text.specs.Descriptions.{game_of, is_cost, integer_or_zero, integers_at, description_as, description_of}
+use Rattle.game_text.specs.Denominators.{least_denominator, over_least, is_coarse}
+use Rattle.game_text.specs.Shares.{as_worth, fraction_or_zero, has_shares_for, shares_of, written_shares}
+use Rattle.game_text.specs.Documents.{game_tree}
+use Rattle.game_text.specs.Games.{description_in}
+use Rattle.game_text.specs.Refusals.{unless, is_covered, has_needed_numbers, needed_refusal, tree_refusal}
+use Rattle.game_text.specs.Readings.{IsTreeReading, IsTreeFault}
+use Rattle.game_text.specs.declared.class.Class.{Class}
+use Rattle.game_text.specs.declared.class.Class.TheVariants.{Table, CostTable, Airport, Bankruptcy}
+use Rattle.game_text.specs.declared.command.Command.{Command}
+use Rattle.game_text.specs.declared.command.Command.TheVariants.{Propose}
+use Rattle.game_text.specs.declared.document.Document.{Document}
+use Rattle.game_text.specs.declared.fault.TextFault.{TextFault}
+use Rattle.game_text.specs.declared.refusal.Refusal.{Refusal}
+use Rattle.game_text.specs.declared.refusal.Refusal.TheVariants.{Shape, Players, Number, Names, Coalition, Estate, Proposal, TooFine}
+
+costs_length : (key : List ℕ) (game : Data) → length (map unsigned_abs (integers_at key game)) ≡ length (parts_at key game)
+costs_length key game = length-map (integers_at key game) unsigned_abs ∙ length-map (parts_at key game) integer_or_zero
+
+players_described : (game : Data) (c : Option Class) → c ≡ class_of game → (game_of (description_as c game)).players ≡ players_as c game
+players_described game None e = refl
+players_described game (Some Table) e = ap (λ k. players_as k game) (sym e)
+players_described game (Some CostTable) e = ap (λ k. players_as k game) (sym e)
+players_described game (Some Airport) e = costs_length (codes "costs") game
+players_described game (Some Bankruptcy) e = costs_length (codes "claims") game
+
+length_over : (fs : List Fraction) → length (over_least fs).shares ≡ length fs
+length_over fs = length-map fs (numerator_over (pos (least_denominator fs)))
+
+length_as_worth : (b : Bool) (fs : List Fraction) → length (as_worth b (over_least fs)).shares ≡ length fs
+length_as_worth true fs = length-map (over_least fs).shares neg_ℤ ∙ length_over fs
+length_as_worth false fs = length_over fs
+
+abbrev HasShareEach : Document → Type 0
+HasShareEach d = IfSome d.shares (λ x. length x.shares ≡ (game_of (description_in d.game)).players)
+
+shares_each : (game tree : Data) → has_shares_for (players game) tree ≡ true → length (shares_of game tree).shares ≡ (game_of (description_of game)).players
+shares_each game tree h =
+    length_as_worth (is_cost (description_of game)) (written_shares tree) ∙ length-map (parts_at (codes "shares") tree) fraction_or_zero ∙ eqb-true _ _ h
+    ∙ sym (players_described game (class_of game) refl)
+
+-- ---- the test of the number of shares passed
+
+abbrev IsPassed : Option Refusal → Type 0
+IsPassed None = ⊤
+IsPassed (Some r) = ⊥
+
+behind : (b : Bool) (r : Refusal) (x : Option Refusal) → IsPassed (unless b r x) → (b ≡ true) × IsPassed x
+behind true r x h = (refl, h)
+behind false r x h = absurd h
+
+needed_passed : (command : Command) (tree : Data) → IsPassed (tree_refusal command tree) → IsPassed (needed_refusal command (game_tree tree) tree)
+needed_passed command tree h =
+    let game = game_tree tree in
+    let needed = needed_refusal command game tree in
+    let estate = unless (is_covered (description_of game)) Estate needed in
+    let coalition = unless (has_coalitions game) Coalition estate in
+    let names = unless (has_names game) Names coalition in
+    let numbers = has_numbers game && has_needed_numbers command tree in
+    let number = unless numbers Number names in
+    let a = behind (is_shaped command tree) Shape (unless (has_players game) Players number) h in
+    let b = behind (has_players game) Players number a.1 in
+    let c = behind numbers Number names b.1 in
+    let d = behind (has_names game) Names coalition c.1 in
+    let e = behind (has_coalitions game) Coalition estate d.1 in
+    (behind (is_covered (description_of game)) Estate needed e.1).1
+
+has_share_each : (command : Command) (tree : Data) (d : Document) → IsTreeReading command tree d → HasShareEach d
+has_share_each Propose tree d m =
+    let game = game_tree tree in
+    let needed = needed_passed Propose tree (subst IsPassed (sym m.passed) tt) in
+    let enough = (behind (has_shares_for (players game) tree) Proposal (unless (is_coarse (written_shares tree)) TooFine None) needed).0 in
+    let shares : d.shares ≡ Some (shares_of game tree) = ap (λ c. c.shares) m.says in
+    let described : description_in d.game ≡ description_of game = ap (λ c. c.game) m.says in
+    subst (λ o. IfSome o (λ x. length x.shares ≡ (game_of (description_in d.game)).players)) (sym shares)
+    (shares_each game tree enough ∙ ap (λ k. (game_of k).players) (sym described))
+
+pub share_each : (command : Command) (tree : Data) (r : Result Document TextFault) → MatchResult r (IsTreeReading command tree) (IsTreeFault command tree) → IfOk r HasShareEach
+share_each command tree (Ok d) m = has_share_each command tree d m
+share_each command tree (Err e) m = tt
