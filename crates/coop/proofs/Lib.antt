@@ -1,4 +1,2 @@
-pub mod Values
-pub mod NoFloats
-pub mod TableForm
 pub mod Right
+pub mod SharesFit

@@ -1,24 +1,43 @@
--- The right judgement on an allocation.
-use Rattle.std.specs.Prelude.{◌≡◌, ℕ, ℤ, ◌*ℤ◌}
+-- The right judgement on what a document proposes.
+--
+--   printed    a number as it is printed: costs and payments are negative worth
+--   Judges     the answer is right for an allocation of a game
+--   JudgesAll  the answer is right for the game and the shares of a document
+use Rattle.std.specs.Prelude.{◌≡◌, ℕ, ℤ, neg_ℤ, Bool, Some, length, if◌then◌else◌}
 use Rattle.definitions.specs.Coalitions.{grand_coalition}
 use Rattle.definitions.specs.Games.{Game, Allocation, amount, excess, IsEfficient, IsChosenBlocker, InCore}
-use Rattle.coop.specs.declared.answer.Answer.{Answer}
-use Rattle.coop.specs.declared.answer.Answer.TheVariants.{Usage, Refused, NotEfficient, Blocked, InCore as Core}
+use Rattle.fractions.specs.Fraction.{Fraction, IsRatio}
+use Rattle.game_text.specs.Descriptions.{game_of, is_cost}
+use Rattle.game_text.specs.Documents.{Contents}
+use Rattle.report.specs.declared.answer.Answer.{Answer}
+use Rattle.report.specs.declared.answer.Answer.TheVariants.{InCore as Core, NotEfficient, Blocked, Usage, Refused}
 
--- what all players get together and what they are worth, over the denominator
-pub record IsInefficient (g : Game) (x : Allocation) (sum total : ℤ) : Type 0 where
+-- a number of worth as it is printed: its sign is turned where the numbers of the game are costs
+abbrev pub printed : Bool → ℤ → ℤ
+printed are_costs z = if are_costs then neg_ℤ z else z
+
+-- what all players get together, in lowest terms, and what they are worth, each as it is printed
+pub record IsInefficient (are_costs : Bool) (g : Game) (x : Allocation) (sum : Fraction) (total : ℤ) : Type 0 where
   pub differs : ¬ IsEfficient g x
-  pub adds : sum ≡ amount x (grand_coalition g.players)
-  pub worth_of_all : total ≡ x.den *ℤ g.worth (grand_coalition g.players)
+  pub adds : IsRatio sum (printed are_costs (amount x (grand_coalition g.players))) x.den
+  pub worth_of_all : total ≡ printed are_costs (g.worth (grand_coalition g.players))
 
--- the shares add to the worth of all, and this coalition is chosen of those that block
-abbrev pub IsBlockedBy : Game → Allocation → ℕ → ℤ → Type 0
-IsBlockedBy g x s e = IsEfficient g x × IsChosenBlocker g x s × (e ≡ excess g x s)
+-- the shares add to the worth of all, this coalition is chosen of those that block, and e is its excess in lowest terms
+abbrev pub IsBlockedBy : Game → Allocation → ℕ → Fraction → Type 0
+IsBlockedBy g x s e = IsEfficient g x × IsChosenBlocker g x s × IsRatio e (excess g x s) x.den
 
 -- the answer is the right judgement on an allocation
-abbrev pub Judges : Game → Allocation → Answer → Type 0
-Judges g x (NotEfficient sum total) = IsInefficient g x sum total
-Judges g x (Blocked s e) = IsBlockedBy g x s e
-Judges g x Core = InCore g x
-Judges g x Usage = ⊥
-Judges g x (Refused r) = ⊥
+abbrev pub Judges : Bool → Game → Allocation → Answer → Type 0
+Judges are_costs g x Core = InCore g x
+Judges are_costs g x (NotEfficient sum total) = IsInefficient are_costs g x sum total
+Judges are_costs g x (Blocked s e) = IsBlockedBy g x s e
+Judges are_costs g x (Usage kind) = ⊥
+Judges are_costs g x (Refused r) = ⊥
+
+-- there are these shares, and the answer is the right judgement on them
+abbrev pub JudgesAll : Contents → Answer → Type 0
+JudgesAll c answer = (x : Allocation) × (c.shares ≡ Some x) × Judges (is_cost c.game) (game_of c.game) x answer
+
+-- there is a share for each player
+abbrev pub HasShares : Contents → Type 0
+HasShares c = (x : Allocation) × (c.shares ≡ Some x) × (length x.shares ≡ (game_of c.game).players)

@@ -1,11 +1,5 @@
 pub mod Words
-pub mod Text
-pub mod Trees
-pub mod Document
-pub mod Refusals
 pub mod Judgement
-pub mod Lines
 pub mod Headline
 pub mod Outcome
 pub mod Stops
-pub mod Faults

@@ -3,11 +3,13 @@ use Rattle.std.specs.Prelude.{◌≡◌, ◌≢◌, ◌<◌, ◌+◌, ℕ, List,
 use Rattle.std.specs.Io.KnownBytes.{Appends, Consumes, IsAtEnd}
 use Rattle.ports.specs.Causes.{Rose}
 use Rattle.coop.specs.Headline.{Answers}
-use Rattle.coop.specs.Lines.{line, status_of}
-use Rattle.coop.specs.Text.{document_limit}
-use Rattle.coop.specs.declared.answer.Answer.{Answer}
-use Rattle.coop.specs.declared.answer.Answer.TheVariants.{Usage, Refused, NotEfficient, Blocked, InCore}
-use Rattle.coop.specs.declared.refusal.Refusal.TheVariants.{TooLong, NotJson, Shape}
+use Rattle.game_text.specs.Text.{document_limit}
+use Rattle.game_text.specs.declared.command.Command.TheVariants.{Propose}
+use Rattle.game_text.specs.declared.refusal.Refusal.{Refusal}
+use Rattle.game_text.specs.declared.refusal.Refusal.TheVariants.{TooLong}
+use Rattle.report.specs.Lines.{line}
+use Rattle.report.specs.declared.answer.Answer.{Answer}
+use Rattle.report.specs.declared.answer.Answer.TheVariants.{InCore, NotEfficient, Blocked, Usage, Refused}
 use Rattle.coop.specs.declared.status.Status.{Status}
 use Rattle.coop.specs.declared.status.Status.TheVariants as status
 
@@ -18,21 +20,32 @@ IsLeft (Some told) bytes = told ≡ bytes
 
 -- one byte more than a document may have was read
 abbrev pub ReadsPastLimit : Option (List ℕ) → Option (List ℕ) → Type 0
-ReadsPastLimit old new = (bytes : List ℕ) × Consumes old new bytes × (length bytes ≡ document_limit + 1)
+ReadsPastLimit old new = (bytes : List ℕ) × Consumes old new bytes × (length bytes ≡ document_limit Propose + 1)
 
 -- all was read
 abbrev pub ReadsAll : Option (List ℕ) → Option (List ℕ) → Type 0
 ReadsAll old new = ((bytes : List ℕ) × Consumes old new bytes) × IsAtEnd new
 
+-- how far the input was read for a refusal
+abbrev pub ReadsForRefusal : Refusal → Option (List ℕ) → Option (List ℕ) → Type 0
+ReadsForRefusal TooLong old new = ReadsPastLimit old new
+ReadsForRefusal r old new = ReadsAll old new
+
 -- how far the input was read for an answer
 abbrev pub ReadsFor : Answer → Option (List ℕ) → Option (List ℕ) → Type 0
-ReadsFor Usage old new = new ≡ old
-ReadsFor (Refused TooLong) old new = ReadsPastLimit old new
-ReadsFor (Refused NotJson) old new = ReadsAll old new
-ReadsFor (Refused Shape) old new = ReadsAll old new
+ReadsFor InCore old new = ReadsAll old new
 ReadsFor (NotEfficient sum total) old new = ReadsAll old new
 ReadsFor (Blocked s e) old new = ReadsAll old new
-ReadsFor InCore old new = ReadsAll old new
+ReadsFor (Usage kind) old new = new ≡ old
+ReadsFor (Refused r) old new = ReadsForRefusal r old new
+
+-- the status after an answer was printed
+abbrev pub status_of : Answer → Status
+status_of InCore = status.Done
+status_of (NotEfficient sum total) = status.Negative
+status_of (Blocked s e) = status.Negative
+status_of (Usage kind) = status.Usage
+status_of (Refused r) = status.Refused
 
 -- the answer is right for the words and for the bytes that were left
 pub record IsRight (words : List (List ℕ)) (old new : Option (List ℕ)) (answer : Answer) : Type 0 where

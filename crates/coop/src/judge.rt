@@ -1,39 +1,69 @@
 //! The judgement on an allocation.
-ghost use Rattle.std.specs.Prelude.{◌≡◌, length, IfOk};
-ghost use Rattle.coop.specs.Document.{game_of, allocation_of};
-ghost use Rattle.coop.specs.Judgement.{Judges};
+ghost use Rattle.std.specs.Prelude.{◌≡◌, ◌<◌, ◌^◌, length, pos, ◌≤ℤ◌, unsigned_abs};
+ghost use Rattle.fractions.specs.Fraction.{IsRatio};
+ghost use Rattle.game_text.specs.Readings.{contents_in};
+ghost use Rattle.coop.specs.Judgement.{printed, Judges, JudgesAll, HasShares};
 
-use crate::answer::Answer;
-use crate::proposal::Proposal;
 use coalitions::Coalition;
-use fractions::OutOfMemory;
-use std::alloc::Global;
+use fractions::Frac;
+use game_text::Document;
+use report::Answer;
 use worth_core::{Shares, Worth, scaled, scaled_excess};
 
 /// The judgement on what a document proposes.
-pub fn judge_proposal(alloc: Global, proposal: &Proposal) -> Result<Answer, OutOfMemory>
-    ensures { IfOk result (Judges (game_of proposal.now) (allocation_of proposal.now)) }
+pub fn judge_document(document: &Document) -> Answer
+    requires { HasShares (contents_in document.now) }
+    ensures { JudgesAll (contents_in document.now) result }
 {
-    let shares = proposal.shares(alloc)?;
-    Ok(judge(proposal.table(), &shares))
+    let Some(shares) = &document.shares else {
+        unreachable!()
+    };
+    judge(&document.game, shares, document.game.is_cost())
 }
 
 // Whether the shares add to the worth of all, and whether a coalition blocks them.
-fn judge<W: Worth>(game: &W, shares: &Shares) -> Answer
+fn judge<W: Worth>(game: &W, shares: &Shares, are_costs: bool) -> Answer
     requires { length shares.now.shares ≡ (W.game game.now).players }
-    ensures { Judges (W.game game.now) shares.now result }
+    ensures { Judges are_costs (W.game game.now) shares.now result }
 {
     let everyone = Coalition::all(game.players());
     let sum = shares.sum_of(everyone);
-    let total = scaled(shares.den(), game.worth(everyone));
-    if sum != total {
-        return Answer::NotEfficient { sum, total };
+    let total = game.worth(everyone);
+    if sum != scaled(shares.den(), total) {
+        return Answer::NotEfficient {
+            sum: over(printed_amount(sum, are_costs), shares.den()),
+            total: printed_worth(total, are_costs),
+        };
     }
     match game.blocker(shares) {
         Some(coalition) => Answer::Blocked {
             coalition,
-            excess: scaled_excess(game, shares, coalition),
+            excess: over(scaled_excess(game, shares, coalition), shares.den()),
         },
         None => Answer::InCore,
     }
+}
+
+// The fraction in lowest terms.
+fn over(num: i128, den: i128) -> Frac
+    requires { pos 1 ≤ℤ den }
+    ensures { IsRatio result num den }
+{
+    Frac::new(num, den).unwrap()
+}
+
+fn printed_amount(amount: i128, are_costs: bool) -> i128
+    requires { unsigned_abs amount < 2 ^ 117 }
+    ensures value { result ≡ printed are_costs amount }
+    ensures small { unsigned_abs result < 2 ^ 117 }
+{
+    if are_costs { -amount } else { amount }
+}
+
+fn printed_worth(worth: i64, are_costs: bool) -> i64
+    requires { unsigned_abs worth < 2 ^ 46 }
+    ensures value { result ≡ printed are_costs worth }
+    ensures small { unsigned_abs result < 2 ^ 46 }
+{
+    if are_costs { -worth } else { worth }
 }

@@ -2,13 +2,7 @@
 #![tactic(auto)]
 
 mod adapters;
-mod answer;
-mod document;
 mod judge;
-mod line;
-mod proposal;
-mod reading;
-mod refusal;
 mod run;
 mod status;
 mod stop;

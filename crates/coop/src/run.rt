@@ -4,16 +4,18 @@ ghost use Rattle.coop.specs.Outcome.{IsRight, Ends, IsCauseOf};
 ghost use Rattle.coop.specs.Stops.{IsFaultOf};
 ghost use Rattle.coop.specs.Words.{IsPropose};
 
-use crate::answer::Answer;
-use crate::judge::judge_proposal;
-use crate::line::{line_of, status_of, usage_line};
-use crate::reading::{LIMIT, Unread, read_proposal};
-use crate::status::Status;
+use crate::judge::judge_document;
+use crate::status::{Status, status_of};
 use crate::stop::Stop;
 use crate::stream::{read_input, write_line};
-use crate::words::is_propose;
+use crate::words::{is_propose, usage_line};
+use game_text::{Command, TextFault, read_document};
 use ports::{Sink, Source};
+use report::{Answer, write_report};
 use std::alloc::Global;
+
+// The most bytes that a document may have.
+const LIMIT: usize = 2_097_152;
 
 /// Runs the command of the words on the input of the source, and prints one line to the sink.
 ///
@@ -43,11 +45,12 @@ pub fn run<S: Source, K: Sink>(
         Err(Stop::Fault) => return Status::ReadFault,
         Err(Stop::Memory) => return Status::OutOfMemory,
     };
-    let Ok(line) = line_of(alloc, &answer) else {
+    let status = status_of(&answer);
+    let Ok(line) = write_report(alloc, answer) else {
         return Status::OutOfMemory;
     };
     match write_line(sink, &line) {
-        Ok(()) => status_of(&answer),
+        Ok(()) => status,
         Err(_) => Status::WriteFault,
     }
 }
@@ -58,13 +61,10 @@ fn answer<S: Source>(alloc: Global, source: &mut S) -> Result<Answer, Stop>
     ensures cause { IsFaultOf (S.faults source.old) (S.faults source.new) result }
 {
     let input = read_input(alloc, source, LIMIT)?;
-    let proposal = match read_proposal(alloc, &input) {
-        Ok(proposal) => proposal,
-        Err(Unread::Refused(refusal)) => return Ok(Answer::Refused(refusal)),
-        Err(Unread::Memory) => return Err(Stop::Memory),
+    let document = match read_document(alloc, &input, Command::Propose) {
+        Ok(document) => document,
+        Err(TextFault::Refused(refusal)) => return Ok(Answer::Refused(refusal)),
+        Err(TextFault::Memory) => return Err(Stop::Memory),
     };
-    let Ok(answer) = judge_proposal(alloc, &proposal) else {
-        return Err(Stop::Memory);
-    };
-    Ok(answer)
+    Ok(judge_document(&document))
 }

@@ -1,3 +1,8 @@
+ghost use Rattle.std.specs.Prelude.{◌≡◌};
+ghost use Rattle.coop.specs.Outcome.{status_of};
+
+use report::Answer;
+
 /// How a run ends, with the number that the program ends with.
 #[derive(Clone, Copy, Debug, PartialEq, Eq)]
 pub enum Status {
@@ -15,4 +20,16 @@ pub enum Status {
     WriteFault = 6,
     /// Memory was not found; nothing was printed.
     OutOfMemory = 7,
+}
+
+/// The status after an answer was printed.
+pub fn status_of(answer: &Answer) -> Status
+    ensures { result ≡ status_of answer.now }
+{
+    match answer {
+        Answer::InCore => Status::Done,
+        Answer::NotEfficient { .. } | Answer::Blocked { .. } => Status::Negative,
+        Answer::Usage(_) => Status::Usage,
+        Answer::Refused(_) => Status::Refused,
+    }
 }

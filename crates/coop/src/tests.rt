@@ -1,7 +1,7 @@
 //! Runs over sources and sinks in memory.
 use crate::run::run;
 use crate::status::Status;
-use ports::{Failed, MemorySink, MemorySource, Source};
+use ports::{FailingSink, FailingSource, MemorySink, MemorySource, Source};
 use std::alloc::Global;
 use std::test::Fail;
 
@@ -60,6 +60,56 @@ fn judges_the_worked_documents(rt: HostRuntime) -> Result<(), Fail> {
     Ok(())
 }
 
+#[test]
+fn judges_fractions_costs_and_named_players(rt: HostRuntime) -> Result<(), Fail> {
+    for (input, line, status) in [
+        (
+            "{\"game\":{\"class\":\"table\",\"players\":3,\"worths\":[0,0,1,0,1,1,1]},\"shares\":[\"1/3\",\"1/3\",\"1/3\"]}",
+            "{\"answer\":\"blocked\",\"coalition\":[1,2],\"excess\":\"1/3\"}\n",
+            Status::Negative,
+        ),
+        (
+            "{\"game\":{\"class\":\"airport\",\"costs\":[2,4,6]},\"shares\":[3,1,2]}",
+            "{\"answer\":\"blocked\",\"coalition\":[1],\"excess\":\"1\"}\n",
+            Status::Negative,
+        ),
+        (
+            "{\"game\":{\"class\":\"airport\",\"costs\":[2,4,6]},\"shares\":[3,1,\"1/2\"]}",
+            "{\"answer\":\"not efficient\",\"sum\":\"9/2\",\"total\":\"6\"}\n",
+            Status::Negative,
+        ),
+        (
+            "{\"game\":{\"class\":\"bankruptcy\",\"claims\":[100,200,300],\"estate\":200},\"shares\":[110,45,45]}",
+            "{\"answer\":\"blocked\",\"coalition\":[2,3],\"excess\":\"10\"}\n",
+            Status::Negative,
+        ),
+        (
+            "{\"game\":{\"class\":\"cost-table\",\"default\":18,\"names\":[\"Sales\",\"Ops\",\"Legal\",\"IT\",\"HR\"],\"players\":5,\"sparse\":[[[\"Sales\"],6],[[\"Ops\"],6],[[\"Legal\"],6],[[\"IT\"],6],[[\"HR\"],6],[[\"Sales\",\"Ops\",\"Legal\",\"IT\",\"HR\"],20]]},\"shares\":[6,5,4,3,2]}",
+            "{\"answer\":\"core\"}\n",
+            Status::Done,
+        ),
+        (
+            "{\"game\":{\"class\":\"cost-table\",\"default\":18,\"names\":[\"Sales\",\"Ops\",\"Legal\",\"IT\",\"HR\"],\"players\":5,\"sparse\":[[[\"Sales\"],6],[[\"Ops\"],6],[[\"Legal\"],6],[[\"IT\"],6],[[\"HR\"],6],[[\"Sales\",\"Ops\",\"Legal\",\"IT\",\"HR\"],20]]},\"shares\":[7,5,4,2,2]}",
+            "{\"answer\":\"blocked\",\"coalition\":[1],\"excess\":\"1\"}\n",
+            Status::Negative,
+        ),
+        (
+            "{\"game\":{\"class\":\"table\",\"names\":[\"a\"],\"players\":1,\"worths\":[5]},\"shares\":[\"5\"]}",
+            "{\"answer\":\"core\"}\n",
+            Status::Done,
+        ),
+        (
+            "{\"answer\":1,\"game\":{\"class\":\"table\",\"players\":1,\"worths\":[5]},\"shares\":[5]}",
+            "{\"answer\":\"core\"}\n",
+            Status::Done,
+        ),
+    ] {
+        let found = run_on(rt.alloc(), &["propose"], input.as_bytes(), 200, line)?;
+        assert_eq!(rt; found, (status, true), "on {input}");
+    }
+    Ok(())
+}
+
 // Whether a run of `propose` on this input refuses it by that line.
 fn is_refused(alloc: Global, input: &[u8], line: &str) -> Result<bool, Fail> {
     let found = run_on(alloc, &["propose"], input, 200, line)?;
@@ -100,23 +150,70 @@ fn refuses_what_is_nested_deeper_than_is_read(rt: HostRuntime) -> Result<(), Fai
 }
 
 #[test]
-fn refuses_other_forms(rt: HostRuntime) -> Result<(), Fail> {
-    for input in [
-        "[]",
-        "{\"game\":{\"class\":\"table\",\"names\":[\"a\"],\"players\":1,\"worths\":[5]},\"shares\":[5]}",
-        "{\"game\":{\"class\":\"table\",\"players\":1,\"worths\":[5]},\"shares\":[5],\"answer\":1}",
-        "{\"game\":{\"class\":\"table\",\"players\":1,\"worths\":[5]}}",
-        "{\"game\":{\"class\":\"airport\",\"players\":1,\"worths\":[5]},\"shares\":[5]}",
-        "{\"game\":{\"players\":1,\"worths\":[5]},\"shares\":[5]}",
-        "{\"game\":{\"class\":\"table\",\"players\":0,\"worths\":[]},\"shares\":[]}",
-        "{\"game\":{\"class\":\"table\",\"players\":17,\"worths\":[5]},\"shares\":[5]}",
-        "{\"game\":{\"class\":\"table\",\"players\":2,\"worths\":[5,6]},\"shares\":[5,6]}",
-        "{\"game\":{\"class\":\"table\",\"players\":1,\"worths\":[1099511627776]},\"shares\":[5]}",
-        "{\"game\":{\"class\":\"table\",\"players\":1,\"worths\":[5.0]},\"shares\":[5]}",
-        "{\"game\":{\"class\":\"table\",\"players\":1,\"worths\":[5]},\"shares\":[5,6]}",
-        "{\"game\":{\"class\":\"table\",\"players\":1,\"worths\":[5]},\"shares\":[\"5\"]}",
+fn refuses_each_for_its_first_reason(rt: HostRuntime) -> Result<(), Fail> {
+    for (input, line) in [
+        ("[]", "{\"number\":3,\"refused\":\"Shape\"}\n"),
+        (
+            "{\"game\":{\"class\":\"table\",\"players\":1,\"worths\":[5]},\"shares\":[5],\"answers\":1}",
+            "{\"number\":3,\"refused\":\"Shape\"}\n",
+        ),
+        (
+            "{\"game\":{\"class\":\"table\",\"players\":1,\"worths\":[5]}}",
+            "{\"number\":3,\"refused\":\"Shape\"}\n",
+        ),
+        (
+            "{\"game\":{\"class\":\"airport\",\"players\":1,\"worths\":[5]},\"shares\":[5]}",
+            "{\"number\":3,\"refused\":\"Shape\"}\n",
+        ),
+        (
+            "{\"game\":{\"players\":1,\"worths\":[5]},\"shares\":[5]}",
+            "{\"number\":3,\"refused\":\"Shape\"}\n",
+        ),
+        (
+            "{\"game\":{\"class\":\"table\",\"players\":0,\"worths\":[]},\"shares\":[]}",
+            "{\"number\":4,\"refused\":\"Players\"}\n",
+        ),
+        (
+            "{\"game\":{\"class\":\"table\",\"players\":17,\"worths\":[5]},\"shares\":[5]}",
+            "{\"number\":4,\"refused\":\"Players\"}\n",
+        ),
+        (
+            "{\"game\":{\"class\":\"table\",\"players\":2,\"worths\":[5,6]},\"shares\":[5,6]}",
+            "{\"number\":4,\"refused\":\"Players\"}\n",
+        ),
+        (
+            "{\"game\":{\"class\":\"table\",\"players\":1,\"worths\":[1099511627776]},\"shares\":[5]}",
+            "{\"number\":5,\"refused\":\"Number\"}\n",
+        ),
+        (
+            "{\"game\":{\"class\":\"table\",\"players\":1,\"worths\":[5.0]},\"shares\":[5]}",
+            "{\"number\":5,\"refused\":\"Number\"}\n",
+        ),
+        (
+            "{\"game\":{\"class\":\"table\",\"players\":1,\"worths\":[5]},\"shares\":[\"05\"]}",
+            "{\"number\":5,\"refused\":\"Number\"}\n",
+        ),
+        (
+            "{\"game\":{\"class\":\"table\",\"names\":[\"a\",\"a\"],\"players\":2,\"worths\":[1,2,7]},\"shares\":[3,4]}",
+            "{\"number\":6,\"refused\":\"Names\"}\n",
+        ),
+        (
+            "{\"game\":{\"class\":\"table\",\"default\":0,\"players\":2,\"sparse\":[[[1,1],7]]},\"shares\":[3,4]}",
+            "{\"number\":7,\"refused\":\"Coalition\"}\n",
+        ),
+        (
+            "{\"game\":{\"class\":\"bankruptcy\",\"claims\":[1,2],\"estate\":4},\"shares\":[2,2]}",
+            "{\"number\":8,\"refused\":\"Estate\"}\n",
+        ),
+        (
+            "{\"game\":{\"class\":\"table\",\"players\":1,\"worths\":[5]},\"shares\":[5,6]}",
+            "{\"number\":10,\"refused\":\"Proposal\"}\n",
+        ),
+        (
+            "{\"game\":{\"class\":\"table\",\"players\":1,\"worths\":[5]},\"shares\":[\"1/9223372036854775809\"]}",
+            "{\"number\":11,\"refused\":\"TooFine\"}\n",
+        ),
     ] {
-        let line = "{\"number\":3,\"refused\":\"Shape\"}\n";
         assert!(rt; is_refused(rt.alloc(), input.as_bytes(), line)?, "{input}");
     }
     Ok(())
@@ -164,33 +261,44 @@ fn a_full_sink_ends_the_run_with_a_front_of_the_line(rt: HostRuntime) -> Result<
     Ok(())
 }
 
-// Fails at each call.
-#[derive(Drop)]
-struct Unreadable {
-    faults: u64,
-}
-
-impl Source for Unreadable {
-    ghost use Rattle.std.specs.Prelude.{None};
-
-    ghost left = { λ _. None };
-
-    ghost faults = { λ s. s.faults };
-
-    fn read(&mut self, _: &mut [u8]) -> Result<usize, Failed> {
-        self.faults = self.faults.saturating_add(1);
-        Err(Failed)
-    }
-}
-
 #[test]
 fn a_failed_read_ends_the_run_with_nothing_printed(rt: HostRuntime) -> Result<(), Fail> {
     let alloc = rt.alloc();
     let words = words_of(alloc, &["propose"])?;
-    let mut source = Unreadable { faults: 0 };
-    let mut sink = MemorySink::new(alloc, 200).ok().ok_or("memory")?;
-    let status = run(alloc, &words, &mut source, &mut sink);
-    assert_eq!(rt; status, Status::ReadFault);
-    assert!(rt; sink.taken().is_empty());
+    for (fails, status) in [
+        (0, Status::ReadFault),
+        (3, Status::ReadFault),
+        (99, Status::Done),
+    ] {
+        let mut source = FailingSource::new(
+            CORE.as_bytes().to_vec(alloc)?,
+            9,
+            [fails].to_vec(alloc)?,
+        );
+        let mut sink = MemorySink::new(alloc, 200).ok().ok_or("memory")?;
+        let found = run(alloc, &words, &mut source, &mut sink);
+        assert_eq!(rt; found, status);
+        assert!(rt; sink.taken().is_empty() == (status == Status::ReadFault));
+    }
+    Ok(())
+}
+
+#[test]
+fn a_failed_write_ends_the_run_with_a_front_of_the_line(rt: HostRuntime) -> Result<(), Fail> {
+    let alloc = rt.alloc();
+    let words = words_of(alloc, &["propose"])?;
+    for (fails, status, line) in [
+        (0, Status::WriteFault, ""),
+        (2, Status::WriteFault, "{\"answer\":"),
+        (99, Status::Done, "{\"answer\":\"core\"}\n"),
+    ] {
+        let mut source = MemorySource::new(CORE.as_bytes().to_vec(alloc)?);
+        let mut sink = FailingSink::new(alloc, 200, 5, [fails].to_vec(alloc)?)
+            .ok()
+            .ok_or("memory")?;
+        let found = run(alloc, &words, &mut source, &mut sink);
+        assert_eq!(rt; found, status);
+        assert!(rt; sink.taken() == line.as_bytes());
+    }
     Ok(())
 }

@@ -1,2 +1,3 @@
 pub mod Causes
 pub mod Taken
+pub mod Failing

@@ -1,6 +1,8 @@
 //! Where a program's bytes come from and go to, with each failure counted.
 #![tactic(auto)]
 
+mod failing_sink;
+mod failing_source;
 mod memory_sink;
 mod memory_source;
 mod sink;
@@ -8,6 +10,8 @@ mod source;
 #[cfg(test)]
 mod tests;
 
+pub use failing_sink::FailingSink;
+pub use failing_source::FailingSource;
 pub use memory_sink::MemorySink;
 pub use memory_source::MemorySource;
 pub use sink::Sink;

@@ -1,4 +1,4 @@
-use crate::{Failed, MemorySink, MemorySource, Sink, Source};
+use crate::{Failed, FailingSink, FailingSource, MemorySink, MemorySource, Sink, Source};
 use std::test::Fail;
 
 fn read<S: Source>(source: &mut S, buf: &mut [u8]) -> Option<usize> {
@@ -29,5 +29,44 @@ fn a_sink_takes_what_fits_and_then_fails(rt: HostRuntime) -> Result<(), Fail> {
     }
     assert_eq!(rt; sink.write(b""), Ok(0));
     assert_eq!(rt; sink.write(b"a"), Err(Failed));
+    Ok(())
+}
+
+#[test]
+fn a_failing_source_loses_nothing_at_its_failures(rt: HostRuntime) -> Result<(), Fail> {
+    let fails = [1, 2].to_vec(rt.alloc())?;
+    let mut source = FailingSource::new(b"abcde".to_vec(rt.alloc())?, 2, fails);
+    let mut buf = [0; 4];
+    for (count, front) in [
+        (Some(2), b"ab\0\0"),
+        (None, b"ab\0\0"),
+        (None, b"ab\0\0"),
+        (Some(2), b"cd\0\0"),
+        (Some(1), b"ed\0\0"),
+        (Some(0), b"ed\0\0"),
+    ] {
+        assert_eq!(rt; read(&mut source, &mut buf), count);
+        assert_eq!(rt; buf, *front);
+    }
+    Ok(())
+}
+
+#[test]
+fn a_failing_sink_loses_nothing_at_its_failures(rt: HostRuntime) -> Result<(), Fail> {
+    let fails = [0, 2].to_vec(rt.alloc())?;
+    let mut sink = FailingSink::new(rt.alloc(), 5, 2, fails)
+        .ok()
+        .ok_or("memory")?;
+    for (count, taken) in [
+        (None, ""),
+        (Some(2), "ab"),
+        (None, "ab"),
+        (Some(2), "abab"),
+        (Some(1), "ababa"),
+        (None, "ababa"),
+    ] {
+        assert_eq!(rt; write(&mut sink, b"abc"), count);
+        assert!(rt; sink.taken() == taken.as_bytes());
+    }
     Ok(())
 }

@@ -1,6 +1,6 @@
 use Rattle.std.proofs.Common.{refl}
 use Rattle.serde_json.proofs.OnLiterals.{serde_json_on_literals}
-use Rattle.coop.proofs.line.usage_line.Goals as goal
+use Rattle.coop.proofs.words.usage_line.Goals as goal
 
 pub returns : goal.returns
 unfolding serde_json_on_literals

@@ -1,0 +1,106 @@
+ghost use Rattle.std.specs.Prelude.{◌≡◌, ◌⊎◌, ◌↔◌, ◌<◌, ◌≤◌, ◌-◌, length, min, [], IfOk, IsErr, IsTrue};
+ghost use Rattle.std.specs.Io.{WritesAtMost};
+ghost use Rattle.std.specs.Io.KnownBytes.{WriteAppends};
+ghost use Rattle.ports.specs.Causes.{HasCause};
+ghost use Rattle.ports.specs.Failing.{is_chosen, after};
+
+use crate::{Failed, Sink};
+use fractions::OutOfMemory;
+use std::alloc::Global;
+use std::marker::Model;
+
+/// Memory of a fixed capacity, which takes a few bytes at a time, with writes that fail. A write to a full sink fails too.
+#[derive(Drop)]
+pub struct FailingSink {
+    bytes: Vec<u8>,
+    capacity: usize,
+    piece: usize,
+    fails: Vec<u64>,
+    calls: u64,
+    faults: u64,
+}
+
+impl Model for FailingSink {
+    ghost use Rattle.std.specs.Prelude.{◌≤◌, vec_len, vec_capacity};
+    ghost use Rattle.ports.specs.Failing.{Held};
+
+    ghost Value = { Held };
+
+    ghost view = { λ s. record { bytes = s.bytes.items; capacity = s.capacity; piece = s.piece; fails = s.fails.items; calls = s.calls; faults = s.faults } };
+
+    ghost invariant = { λ s. (vec_len s.bytes ≤ s.capacity) × (s.capacity ≤ vec_capacity s.bytes) × (1 ≤ s.piece) };
+}
+
+impl FailingSink {
+    /// An empty sink for at most `capacity` bytes, which takes at most `piece` a call; its memory is taken now.
+    ///
+    /// The calls whose numbers, from 0, stand in `fails` fail and take nothing.
+    pub fn new(
+        alloc: Global,
+        capacity: usize,
+        piece: usize,
+        fails: Vec<u64>,
+    ) -> Result<FailingSink, OutOfMemory>
+        requires { 1 ≤ piece }
+        ensures { IfOk result (λ s. s ≡ record { bytes = []; capacity = capacity; piece = piece; fails = fails.items; calls = 0; faults = 0 }) }
+    {
+        let bytes = Vec::with_capacity(alloc, capacity)?;
+        Ok(FailingSink {
+            bytes,
+            capacity,
+            piece,
+            fails,
+            calls: 0,
+            faults: 0,
+        })
+    }
+
+    /// The bytes taken so far.
+    pub fn taken(&self) -> &[u8]
+        ensures { result.now ≡ self.now.bytes }
+    {
+        self.bytes.as_slice()
+    }
+}
+
+impl Sink for FailingSink {
+    ghost use Rattle.std.specs.Prelude.{Some};
+
+    ghost taken = { λ s. Some s.bytes };
+
+    ghost faults = { λ s. s.faults };
+
+    /// Takes as many bytes of `piece` as fit and are taken at once.
+    ///
+    /// Fails exactly at the chosen calls, and where none fits of a piece that isn't empty.
+    fn write(&mut self, piece: &[u8]) -> Result<usize, Failed>
+        ensures bound { WritesAtMost result piece.now }
+        ensures progress { IfOk result (λ n. 0 < length piece.now → 0 < n) }
+        ensures bytes { WriteAppends (Some self.old.bytes) (Some self.new.bytes) result piece.now }
+        ensures cause { HasCause self.old.faults self.new.faults result }
+        ensures chosen { IsErr result ↔ IsTrue (is_chosen self.old.fails self.old.calls) ⊎ ((length self.old.bytes ≡ self.old.capacity) × (0 < length piece.now)) }
+        ensures count { IfOk result (λ n. n ≡ min (self.old.capacity - length self.old.bytes) (min self.old.piece (length piece.now))) }
+        ensures next { self.new.calls ≡ after self.old.calls }
+        ensures same_capacity { self.new.capacity ≡ self.old.capacity }
+        ensures same_piece { self.new.piece ≡ self.old.piece }
+        ensures same_fails { self.new.fails ≡ self.old.fails }
+    {
+        let call = self.calls;
+        self.calls = call.saturating_add(1);
+        if self.fails.contains(&call) {
+            self.faults = self.faults.saturating_add(1);
+            return Err(Failed);
+        }
+        let room = self.capacity - self.bytes.len();
+        if room == 0 && !piece.is_empty() {
+            self.faults = self.faults.saturating_add(1);
+            return Err(Failed);
+        }
+        let count = room.min(self.piece).min(piece.len());
+        match self.bytes.extend_from_slice(&piece[..count]) {
+            Ok(()) => Ok(count),
+            // What fits takes no memory.
+            Err(_) => unreachable!(),
+        }
+    }
+}
