@@ -1,0 +1,13 @@
+-- To be read in this order.
+pub mod Program
+pub mod Entering
+pub mod Laws
+pub mod Answer
+pub mod Matrix
+pub mod Ratio
+pub mod Tableau
+pub mod Measure
+pub mod Improving
+pub mod Between
+pub mod Reduced
+pub mod Examples
