@@ -5,3 +5,10 @@ pub mod Ratios
 pub mod Tableaus
 pub mod Progress
 pub mod Steps
+pub mod Fills
+pub mod FreshRows
+pub mod Betweens
+pub mod Minors
+pub mod ListedWeights
+pub mod Ends
+pub mod Solutions
