@@ -12,3 +12,5 @@ pub mod Minors
 pub mod ListedWeights
 pub mod Ends
 pub mod Solutions
+pub mod CommonDivisors
+pub mod AnswerForm

@@ -78,7 +78,7 @@ ids_apart P ids xs d h j k id jn kn ne e f =
 pub is_column_at : (P : Program) (ids : List (Option ℕ)) (xs : List ℤ) (d : ℤ) → IsInverse P ids xs d → (j id : ℕ) → j < P.rows → id_at ids j ≡ Some id → IsTrue (P.is_column id)
 is_column_at P ids xs d h j id lt e = subst (IsId P) e (h.ids_of j lt)
 
-positive_nonneg : (u : ℕ) → pos 0 ≤ℤ pos (suc u)
+pub positive_nonneg : (u : ℕ) → pos 0 ≤ℤ pos (suc u)
 positive_nonneg u = omega (arith, ints)
 
 module _ (P : Program) (n : ℕ) (ids : List (Option ℕ)) (xs ts : List ℤ) (d : ℤ) (costs : List ℤ) (st : IsImproving P true n ids xs ts d costs) where
