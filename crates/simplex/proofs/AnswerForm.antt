@@ -1,5 +1,5 @@
 -- The weights of the last basis in lowest terms: they and its multipliers are an answer.
-use Rattle.std.proofs.Common.{◌≡◌, ◌≢◌, ℕ, zero, suc, ◌+◌, ◌*◌, ◌^◌, ◌<◌, ◌≤◌, true, IsTrue, List, length, map, nat_eq, Option, None, arith, refl, sym, ap, subst, ◌∙◌, ℤ, pos, negsuc, ◌+ℤ◌, ◌*ℤ◌, ◌<ℤ◌, ◌≤ℤ◌, unsigned_abs, mul_comm}
+use Rattle.std.proofs.Common.{◌≡◌, ◌≢◌, ℕ, zero, suc, ◌*◌, ◌^◌, ◌<◌, ◌≤◌, true, IsTrue, List, length, map, nat_eq, Option, arith, sym, ap, subst, ◌∙◌, ℤ, pos, negsuc, ◌+ℤ◌, ◌*ℤ◌, ◌<ℤ◌, ◌≤ℤ◌, unsigned_abs, mul_comm}
 use Prim.Native.Nat.{◌∣◌}
 use native.Mathlib.Nat.{pos_of_dvd_of_pos, le_of_dvd}
 use lib.IntN.{*ℤ_comm}
@@ -81,7 +81,7 @@ module _ (P : Program) (n : ℕ) (ids : List (Option ℕ)) (xs ts : List ℤ) (d
     ),
     b,
     *ℤ_comm (weighted_sum P.cost ws) mden ∙ ap (λ (z : ℤ). z *ℤ weighted_sum P.cost ws) (m.den_is ∙ sym r.den_is) ∙ turned r.common den (weighted_sum P.cost ws)
-    ∙ ap (λ (z : ℤ). den *ℤ z) (sums P.cost ∙ sym (value_right P n ids xs ts d costs st num mden m)) ∙ *ℤ_comm den (value_of P num P.right),
+        ∙ ap (λ (z : ℤ). den *ℤ z) (sums P.cost ∙ sym (value_right P n ids xs ts d costs st num mden m)) ∙ *ℤ_comm den (value_of P num P.right),
   )
 
 -- ---- its form

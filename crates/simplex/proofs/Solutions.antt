@@ -1,10 +1,9 @@
 -- The weights of a basis solve the program, and a direction of its second part is a ray.
-use Rattle.std.proofs.Common.{◌≡◌, ◌≢◌, ◌⊎◌, inl, inr, ℕ, zero, suc, ◌-◌, ◌<◌, true, false, IsTrue, List, ◌∷◌, map, nat_eq, Option, Some, None, arith, refl, sym, ap, subst, ◌∙◌, ℤ, pos, negsuc, ◌+ℤ◌, ◌-ℤ◌, ◌*ℤ◌, neg_ℤ, ◌<ℤ◌, ◌≤ℤ◌}
+use Rattle.std.proofs.Common.{◌≡◌, ◌≢◌, ℕ, zero, suc, ◌-◌, ◌<◌, true, false, IsTrue, List, ◌∷◌, nat_eq, Option, Some, None, arith, refl, sym, ap, subst, ◌∙◌, ℤ, pos, ◌+ℤ◌, ◌-ℤ◌, ◌*ℤ◌, neg_ℤ, ◌<ℤ◌, ◌≤ℤ◌}
 use Rattle.std.specs.List.{AllByRecursion, IsDistinct}
 use Rattle.std.proofs.lemmas.Int.{ints}
 use Rattle.definitions.proofs.Ring.{ring_laws, unit_laws, linear, mul-oneℤ, mul-zeroℤ}
 use Rattle.definitions.specs.Programs.{Program, value_of, HasRay}
-use Rattle.definitions.specs.Sums.{weighted_sum}
 use Rattle.fractions.proofs.BasisWeights.{weights}
 use Rattle.fractions.proofs.Units.{unit_same, unit_other}
 use Rattle.fractions.specs.Basis.{unit, dot, IsWithin}

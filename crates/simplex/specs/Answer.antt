@@ -8,8 +8,8 @@ use Rattle.std.specs.Prelude.{ℕ, ◌^◌, ◌≤◌, ◌<◌, ◌≡◌, List,
 use Prim.Native.Nat.{◌∣◌}
 use Rattle.std.specs.List.{AllByRecursion}
 use Rattle.definitions.specs.Programs.{Program, Solves, IsOptimal, HasNoSolution, HasRay}
-use Rattle.simplex.specs.declared.solve.LpFault.{LpFault}
-use Rattle.simplex.specs.declared.solve.LpFault.TheVariants.{NoSolution, Unbounded}
+use Rattle.simplex.specs.declared.solving.LpFault.{LpFault}
+use Rattle.simplex.specs.declared.solving.LpFault.TheVariants.{NoSolution, Unbounded}
 
 -- at most one weight per row, each positive and below 2^62, as the denominator is, and no number above 1 divides all of them
 pub record AreInForm (rows : ℕ) (weights : List (ℕ × ℤ)) (den : ℤ) : Type 0 where

@@ -1,0 +1,51 @@
+use Rattle.std.proofs.Common.{sym, subst, ◌∙◌}
+use Rattle.definitions.specs.Programs.{Program, HasNoSolution, HasRay}
+use Rattle.simplex.specs.Answer.{HasSolution, IsAnswer}
+use Rattle.simplex.specs.declared.multipliers.Multipliers.{Multipliers}
+use Rattle.simplex.proofs.AnswerForm.{is_answer}
+use Rattle.simplex.proofs.Minors.{tame_of}
+use Rattle.simplex.proofs.Tableaus
+use Rattle.simplex.proofs.Ends
+use Rattle.simplex.proofs.Solutions
+use Rattle.simplex.proofs.solving.solve_in.Goals as goal
+
+pub unreachable-requires : goal.unreachable-requires
+unreachable-requires g c =
+    let w = c.improve.new.work in
+    let e = c.in_default.ensures {u = tt} in
+    Ends.no_first_direction (g.C.Columns.program c.improve.new.columns) w.rows w.ids w.inverse w.tracked w.den w.costs e.state e.answer
+
+pub returns-then-has_added_weight-clause-answer : goal.returns-then-has_added_weight-clause-answer
+returns-then-has_added_weight-clause-answer g c =
+    let w = c.improve.new.work in
+    let m = c.in-Some._bounds in
+    let e = c.in-Some.ensures {u = tt} in
+    subst HasNoSolution e.same (Ends.no_solution (g.C.Columns.program c.improve.new.columns) w.rows w.ids w.inverse w.tracked w.den w.costs m.num.items m.den e.state e.answer.0 e.answer.1 (c.if-has_added_weight.ensures {u = tt}))
+
+pub returns-in_default-improve-clause-answer : goal.returns-in_default-improve-clause-answer
+returns-in_default-improve-clause-answer g c =
+    let P = g.C.Columns.program c.improve-2.new.columns in
+    let w = c.improve-2.new.work in
+    let e = c.in_default-improve.ensures {u = tt} in
+    let same = e.same ∙ c.loop-k.invariant.same in (
+      subst HasSolution same (Solutions.has_solution P w.rows w.ids w.inverse w.tracked w.den w.costs e.state),
+      subst HasRay same (Solutions.has_ray P w.rows w.ids w.inverse w.tracked w.den w.costs e.state e.answer),
+    )
+
+pub answer_of-requires-clause-small : goal.answer_of-requires-clause-small
+answer_of-requires-clause-small g c =
+    let w = c.improve-2.new.work in
+    let e = c.in-Some-improve.ensures {u = tt} in
+    Tableaus.den_small (g.C.Columns.program c.improve-2.new.columns) w.ids w.inverse w.den (tame_of (g.C.Columns.program c.improve-2.new.columns) (g.met.C.Columns.lawful c.improve-2.new.columns)) e.state.table.inverse
+
+pub returns-clause-answer : goal.returns-clause-answer
+returns-clause-answer g c =
+    let P = g.C.Columns.program c.improve-2.new.columns in
+    let w = c.improve-2.new.work in
+    let e = c.in-Some-improve.ensures {u = tt} in
+    let m = c.in-Some-improve.multipliers in
+    let o = c.answer_of.result in
+    let same = e.same ∙ c.loop-k.invariant.same in
+    subst (λ (m : Multipliers). IsAnswer (g.C.Columns.program c.args.columns.now) o.weights.items o.weight_den m.num.items m.den) (sym c.answer_of.ensures.multipliers)
+    (subst (λ (Q : Program). IsAnswer Q o.weights.items o.weight_den m.num.items m.den) same
+    (is_answer P w.rows w.ids w.inverse w.tracked w.den w.costs m.num.items m.den o.weights.items o.weight_den e.state e.answer.0 e.answer.1 c.answer_of.ensures.weights (tame_of P (g.met.C.Columns.lawful c.improve-2.new.columns))))

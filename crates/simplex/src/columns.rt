@@ -1,0 +1,114 @@
+//! Programs, as the simplex reads them.
+
+ghost use Rattle.std.specs.Prelude.{◌≡◌, ◌<◌, ◌≤◌, ℕ, IsTrue, MatchOption, true};
+ghost use Rattle.arrayvec.specs.ArrayVec.{array_vec_len};
+ghost use Rattle.definitions.specs.Programs.{Program, Bounds};
+ghost use Rattle.fractions.specs.Matrix.{weight_at};
+ghost use Rattle.simplex.specs.Entering.{IsEntering};
+ghost use Rattle.simplex.specs.Improving.{part_cost};
+ghost use Rattle.simplex.specs.Laws.{IsLawful};
+ghost use Rattle.simplex.specs.Program.{column, price, priced, right_side};
+ghost use Rattle.simplex.specs.Tableau.{IsId};
+
+use crate::multipliers::Multipliers;
+
+/// A program, known by its rows and columns: rows with right sides, and columns with an entry per row and a cost. It asks for
+/// weights on the columns, each at least 0, such that in each row the weighted entries sum to the right side, and among
+/// such weights for those of the greatest cost.
+///
+/// The first rows are those of at most 16 players, the others are level rows, and there are at most 31. No call changes the
+/// program. Its right sides are 0 or 1, and its costs are below 2^46 in size. It lies in one of two bands, so that each
+/// minor of it is below 2^58 in size:
+///
+/// - entries of a column, and the right sides, are all 0 or 1 or all 0 or -1, at most one of them in the level rows isn't
+///   0, and there are at most 15 level rows;
+/// - there are at most 15 rows, and the sizes of a column's entries sum to at most 14.
+pub trait Columns {
+    ghost program: { Self → Program };
+
+    ghost players: { Self → ℕ };
+
+    /// The number of rows.
+    fn rows(&self) -> u32
+        ensures { result ≡ (program self.now).rows };
+
+    /// The right side of a row.
+    fn right(&self, row: u32) -> i32
+        requires { row < (program self.now).rows }
+        ensures { result ≡ (program self.now).right row };
+
+    /// Whether `id` is the number of a column.
+    fn has(&self, id: u64) -> bool
+        ensures { result ≡ (program self.now).is_column id };
+
+    /// The entry of a column in a row.
+    fn entry(&self, id: u64, row: u32) -> i32
+        requires column { IsTrue ((program self.now).is_column id) }
+        requires row { row < (program self.now).rows }
+        ensures { result ≡ (program self.now).entry id row };
+
+    /// The cost of a column.
+    fn cost(&self, id: u64) -> i64
+        requires { IsTrue ((program self.now).is_column id) }
+        ensures { result ≡ (program self.now).cost id };
+
+    /// The least column whose cost is above the sum of multiplier times entry, and None exactly where there is no such
+    /// column. Without costs each cost counts as 0.
+    fn entering(&mut self, m: &Multipliers, with_costs: bool) -> Option<u64>
+        requires { array_vec_len m.now.num ≡ (program self.old).rows }
+        ensures same { program self.new ≡ program self.old }
+        ensures same_players { players self.new ≡ players self.old }
+        ensures answer { MatchOption result
+            (Bounds (priced (program self.old) with_costs) m.now.num.items m.now.den)
+            (λ id. IsEntering (priced (program self.old) with_costs) m.now.num.items m.now.den id) };
+
+    ghost lawful: { (s : Self) → IsLawful (players s) (program s) };
+}
+
+/// A column of the program, from its last row: so the level rows come first.
+pub(crate) fn load_column<C: Columns>(columns: &C, id: u64, n: usize) -> [i128; 32]
+    requires column { IsTrue ((C.program columns.now).is_column id) }
+    requires rows { n ≡ (C.program columns.now).rows }
+    ensures { (i : ℕ) → i < n → weight_at result i ≡ column (C.program columns.now) id i }
+{
+    let mut entries = [0; 32];
+    for i in 0..n {
+        entries[i] = i128::from(columns.entry(id, (n - 1 - i) as u32));
+    }
+    entries
+}
+
+/// The right sides, from the last row.
+pub(crate) fn load_right<C: Columns>(columns: &C, n: usize) -> [i128; 32]
+    requires { n ≡ (C.program columns.now).rows }
+    ensures { (i : ℕ) → i < n → weight_at result i ≡ right_side (C.program columns.now) i }
+{
+    let mut entries = [0; 32];
+    for i in 0..n {
+        entries[i] = i128::from(columns.right((n - 1 - i) as u32));
+    }
+    entries
+}
+
+/// The cost of a column, or 0 where costs don't count.
+pub(crate) fn price_of<C: Columns>(columns: &C, id: u64, with_costs: bool) -> i128
+    requires { IsTrue ((C.program columns.now).is_column id) }
+    ensures { result ≡ price (C.program columns.now) with_costs id }
+{
+    if with_costs {
+        i128::from(columns.cost(id))
+    } else {
+        0
+    }
+}
+
+/// The cost of what stands at a position in the second part, where an added unit costs nothing.
+pub(crate) fn cost_at<C: Columns>(columns: &C, id: Option<u64>) -> i128
+    requires { IsId (C.program columns.now) id }
+    ensures { result ≡ part_cost (C.program columns.now) true id }
+{
+    match id {
+        Some(id) => price_of(columns, id, true),
+        None => 0,
+    }
+}

@@ -1,6 +1,0 @@
-/// Why a program has no optimal weights.
-#[derive(Clone, Copy, Debug, PartialEq, Eq, Drop)]
-pub enum LpFault {
-    NoSolution,
-    Unbounded,
-}

@@ -1,0 +1,89 @@
+//! The call that solves a program.
+
+ghost use Rattle.std.specs.Prelude.{◌≡◌, ◌≤◌, IfOk, MatchResult};
+ghost use Rattle.simplex.specs.Answer.{IsAnswer, IsFault};
+ghost use Rattle.simplex.specs.Laws.{AreMinorsSmall};
+
+use crate::answer::{Optimal, answer_of};
+use crate::between::{drive_out, has_added_weight};
+use crate::columns::Columns;
+use crate::improve::improve;
+use crate::restart::restart;
+use crate::start::start;
+use crate::state::State;
+use fractions::OutOfMemory;
+use std::alloc::Global;
+
+/// Why a program has no optimal weights: no weights meet its rows, or some do and weights that sum to 0 in every row have a
+/// positive cost.
+#[derive(Clone, Copy, Debug, PartialEq, Eq)]
+pub enum LpFault {
+    NoSolution,
+    Unbounded,
+}
+
+/// What `solve` works in, for programs of one number of rows.
+#[derive(Drop)]
+pub struct Workspace {
+    state: Box<State>,
+}
+
+impl Workspace {
+    /// A workspace for programs of `rows` rows, from 1 to 31.
+    pub fn new(alloc: Global, rows: u32) -> Result<Workspace, OutOfMemory>
+        requires some { 1 ≤ rows }
+        requires few { rows ≤ 31 }
+        ensures { IfOk result (λ workspace. workspace.state.value.rows ≡ rows) }
+    {
+        match Box::new(alloc, State::new(rows as usize)) {
+            Ok(state) => Ok(Workspace { state }),
+            Err(_) => Err(OutOfMemory),
+        }
+    }
+}
+
+/// The best weights of a program, in a state for its number of rows.
+fn solve_in<C: Columns>(work: &mut State, columns: &mut C) -> Result<Optimal, LpFault>
+    requires { work.old.rows ≡ (C.program columns.old).rows }
+    ensures same { C.program columns.new ≡ C.program columns.old }
+    ensures same_players { C.players columns.new ≡ C.players columns.old }
+    ensures rows { work.new.rows ≡ work.old.rows }
+    ensures answer { MatchResult result
+        (λ o. IsAnswer (C.program columns.old) o.weights.items o.weight_den o.multipliers.num.items o.multipliers.den)
+        (λ fault. IsFault (C.program columns.old) fault) }
+{
+    start(work, columns);
+    let Some(_bounds) = improve(work, columns, false) else {
+        unreachable!();
+    };
+    if has_added_weight(work) {
+        return Err(LpFault::NoSolution);
+    }
+    let n = work.rows;
+    for k in 0..n {
+        drive_out(work, columns, k);
+    }
+    restart(work, columns);
+    let Some(multipliers) = improve(work, columns, true) else {
+        return Err(LpFault::Unbounded);
+    };
+    Ok(answer_of(work, multipliers))
+}
+
+/// The best weights of a program, and multipliers that show that no weights cost more: the weights meet the rows, no
+/// column has a cost above its multipliers' value, and the cost of the weights is the multipliers' value of the right sides.
+///
+/// `NoSolution` comes exactly where no weights meet the rows. `Unbounded` comes exactly where some weights meet the rows, and
+/// some weights, each at least 0, that sum to 0 in every row have a positive cost.
+pub fn solve<C: Columns>(workspace: &mut Workspace, columns: &mut C) -> Result<Optimal, LpFault>
+    requires { workspace.old.state.value.rows ≡ (C.program columns.old).rows }
+    ensures same { C.program columns.new ≡ C.program columns.old }
+    ensures same_players { C.players columns.new ≡ C.players columns.old }
+    ensures rows { workspace.new.state.value.rows ≡ workspace.old.state.value.rows }
+    ensures minors { AreMinorsSmall (C.program columns.old) }
+    ensures answer { MatchResult result
+        (λ o. IsAnswer (C.program columns.old) o.weights.items o.weight_den o.multipliers.num.items o.multipliers.den)
+        (λ fault. IsFault (C.program columns.old) fault) }
+{
+    solve_in(&mut workspace.state, columns)
+}
