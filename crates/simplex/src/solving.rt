@@ -13,6 +13,7 @@ use crate::start::start;
 use crate::state::State;
 use fractions::OutOfMemory;
 use std::alloc::Global;
+use std::marker::Model;
 
 /// Why a program has no optimal weights: no weights meet its rows, or some do and weights that sum to 0 in every row have a
 /// positive cost.
@@ -22,10 +23,18 @@ pub enum LpFault {
     Unbounded,
 }
 
-/// What `solve` works in, for programs of one number of rows.
+/// What `solve` works in, for programs of one number of rows. Contracts see that number.
 #[derive(Drop)]
 pub struct Workspace {
     state: Box<State>,
+}
+
+impl Model for Workspace {
+    ghost use Rattle.std.specs.Prelude.{ℕ};
+
+    ghost Value = { ℕ };
+
+    ghost view = { λ workspace. workspace.state.value.rows };
 }
 
 impl Workspace {
@@ -33,7 +42,7 @@ impl Workspace {
     pub fn new(alloc: Global, rows: u32) -> Result<Workspace, OutOfMemory>
         requires some { 1 ≤ rows }
         requires few { rows ≤ 31 }
-        ensures { IfOk result (λ workspace. workspace.state.value.rows ≡ rows) }
+        ensures { IfOk result (λ workspace. workspace ≡ rows) }
     {
         match Box::new(alloc, State::new(rows as usize)) {
             Ok(state) => Ok(Workspace { state }),
@@ -76,10 +85,10 @@ fn solve_in<C: Columns>(work: &mut State, columns: &mut C) -> Result<Optimal, Lp
 /// `NoSolution` comes exactly where no weights meet the rows. `Unbounded` comes exactly where some weights meet the rows, and
 /// some weights, each at least 0, that sum to 0 in every row have a positive cost.
 pub fn solve<C: Columns>(workspace: &mut Workspace, columns: &mut C) -> Result<Optimal, LpFault>
-    requires { workspace.old.state.value.rows ≡ (C.program columns.old).rows }
+    requires { workspace.old ≡ (C.program columns.old).rows }
     ensures same { C.program columns.new ≡ C.program columns.old }
     ensures same_players { C.players columns.new ≡ C.players columns.old }
-    ensures rows { workspace.new.state.value.rows ≡ workspace.old.state.value.rows }
+    ensures rows { workspace.new ≡ workspace.old }
     ensures minors { AreMinorsSmall (C.program columns.old) }
     ensures answer { MatchResult result
         (λ o. IsAnswer (C.program columns.old) o.weights.items o.weight_den o.multipliers.num.items o.multipliers.den)
