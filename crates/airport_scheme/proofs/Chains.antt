@@ -1,15 +1,14 @@
 -- The levels of the blocks have the form of a certificate, and certify the payments.
-use Rattle.std.proofs.Common.{◌≡◌, ◌≢◌, ◌⊎◌, ℕ, zero, suc, ◌+◌, ◌-◌, ◌^◌, ◌<◌, ◌≤◌, Bool, true, false, not, cond, ◌&&◌, ◌||◌, nat_lt, nat_eq, List, [], ◌∷◌, ◌++◌, length, ℤ, pos, negsuc, ◌+ℤ◌, ◌-ℤ◌, ◌*ℤ◌, neg_ℤ, ◌≤ℤ◌, refl, sym, ap, ◌∙◌, inl, inr, arith}
+use Rattle.std.proofs.Common.{◌≡◌, ◌≢◌, ◌⊎◌, ℕ, zero, suc, ◌+◌, ◌-◌, ◌^◌, ◌<◌, ◌≤◌, Bool, true, false, not, cond, ◌||◌, nat_lt, nat_eq, List, [], ◌∷◌, ◌++◌, length, ℤ, pos, negsuc, ◌+ℤ◌, ◌-ℤ◌, ◌*ℤ◌, neg_ℤ, ◌≤ℤ◌, refl, sym, ap, ◌∙◌, inl, inr, arith}
 use Rattle.std.specs.List.{list_any, AllByRecursion}
 use Rattle.std.proofs.lemmas.Bool.{false≢true}
 use Rattle.std.proofs.lemmas.Bool.Decides.{nat_tests}
 use Rattle.std.proofs.lemmas.Int.{ints}
 use Rattle.std.proofs.Math.Pow.{pow-lt}
-use lib.IntN.{*ℤ_comm}
-use Rattle.definitions.proofs.Ring.{linear, mul-leℤ, mul-le_cancelℤ}
+use Rattle.definitions.proofs.Ring.{linear, mul-le_cancelℤ}
 use Rattle.definitions.proofs.Members.{sum_over-singleton}
 use Rattle.definitions.specs.Sums.{sum_below}
-use Rattle.definitions.specs.Coalitions.{has_player, singleton, grand_coalition, weight_at, some_below, splits}
+use Rattle.definitions.specs.Coalitions.{has_player, singleton, grand_coalition, weight_at, splits}
 use Rattle.definitions.specs.Games.{Allocation, share, excess, IsEfficient, IsIndividuallyRational, InFamily, InCore}
 use Rattle.definitions.specs.Certificates.{Level, is_listed, has_bound, is_free, number_at, Ascends, IsSmall, LevelForm, LevelsForm, HasForm, LevelHolds, LevelsHold, HasExcess, Certifies}
 use Rattle.definitions.specs.declared.Family.{Family}

@@ -1,17 +1,14 @@
 -- Lists of pairs by ascending key.
-use Rattle.std.proofs.Common.{◌≡◌, ◌≢◌, ◌⊎◌, ℕ, zero, suc, ◌+◌, ◌-◌, ◌^◌, ◌<◌, ◌≤◌, Bool, true, false, cond, nat_lt, List, [], ◌∷◌, length, ℤ, pos, ◌+ℤ◌, ◌-ℤ◌, if◌then◌else◌, refl, sym, ap, ◌∙◌, inl, inr, arith, ◌||◌}
+use Rattle.std.proofs.Common.{◌≡◌, ◌≢◌, ◌⊎◌, ℕ, zero, suc, ◌+◌, ◌-◌, ◌<◌, ◌≤◌, Bool, true, false, cond, List, [], ◌∷◌, length, ℤ, pos, ◌+ℤ◌, ◌-ℤ◌, refl, sym, ap, ◌∙◌, inl, inr, arith}
 use Rattle.std.specs.List.{list_any, AllByRecursion}
 use Rattle.std.proofs.lemmas.Bool.{false≢true}
-use Rattle.std.proofs.lemmas.Bool.Decides.{nat_tests}
 use Rattle.std.proofs.Math.Pow.{pow-lt}
 use Rattle.definitions.proofs.Ring.{linear}
-use Rattle.definitions.proofs.Members.{has_player-empty, has_player-grand_coalition}
 use Rattle.definitions.proofs.Parts.{others_has, others_lacks}
 use Rattle.definitions.specs.Coalitions.{has_player, singleton, grand_coalition, weight_at}
 use Rattle.definitions.specs.Certificates.{Ascends}
 use Rattle.orders.specs.Orders.{IsOrder}
 use Rattle.orders.proofs.Fronts.{front-has, front-lacks}
-use Rattle.kohlberg.specs.Pairs.{with_pair}
 use Rattle.kohlberg.proofs.WithPair.{weight_at-with_pair, all-with_pair, any-with_pair, length-with_pair, ascends-with_pair}
 use Rattle.airport_scheme.specs.Levels.{with_others, front_pair}
 
