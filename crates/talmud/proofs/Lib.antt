@@ -1,0 +1,10 @@
+pub mod Worths
+pub mod Cuts
+pub mod Keys
+pub mod ByPlace
+pub mod Excesses
+pub mod Chains
+pub mod Sharing
+pub mod Making
+pub mod Awarded
+pub mod Solved

@@ -1,0 +1,86 @@
+-- What the code made is a certified answer.
+use Rattle.std.proofs.Common.{◌≡◌, ◌⊎◌, ℕ, ◌+◌, ◌-◌, ◌*◌, ◌≤◌, Bool, List, [], ◌∷◌, ◌++◌, length, map, Option, Some, None, MatchOption, IsSome, Result, Ok, Err, MatchResult, IsOk, ℤ, pos, refl, sym, ap, subst, inl, inr, arith}
+use Rattle.std.specs.List.{AllByRecursion}
+use Rattle.definitions.specs.Games.{Allocation}
+use Rattle.definitions.specs.Certificates.{Level, HasForm}
+use Rattle.definitions.specs.declared.Mode.TheVariants.{Players}
+use Rattle.kohlberg.specs.Certificate.{CertificateData}
+use Rattle.kohlberg.specs.Solved.{IsSolved}
+use Rattle.kohlberg.proofs.Forms.{all_join}
+use Rattle.bankruptcy.specs.Bankruptcy.{Bankruptcy, IsBankruptcy, bankruptcy_game}
+use Rattle.talmud.specs.Rule.{cut_claims, cut, is_little}
+use Rattle.talmud.specs.Division.{OrderedClaims, IsOrderedClaims, place, IsDivision, award}
+use Rattle.worth_core.specs.Allocations.{allocation}
+use Rattle.talmud.specs.Levels.{key_of, IsRestLevel, AreHalves, AreLevels, AreRuleLevels}
+use Rattle.talmud.proofs.ByPlace.{IsRule}
+use Rattle.talmud.proofs.Keys.{length-keys, length-both}
+use Rattle.talmud.proofs.Chains.{HasForm-rule, Certifies-rule, InCore-rule}
+use Rattle.talmud.proofs.Awarded.{IsAwarded, IsAwarded-awards, IsRule-division, little-is, IsHalfOrder-rule}
+
+-- ---- at most twice as many entries in a level as players
+
+abbrev HasFew : ℕ → Level → Type 0
+HasFew n l = length l.coalitions + length l.earlier + length l.bounds ≤ 2 * n
+
+few_halves : (n : ℕ) (claim at : ℕ → ℕ) (m i k : ℕ) (levels : List Level) → m ≤ n → AreHalves n claim at m i levels k → AllByRecursion (HasFew n) levels
+few_halves n claim at m i k [] le chain = tt
+few_halves n claim at m i k (l ∷ levels) le (h, b, chain) = (here, few_halves n claim at m h k levels le chain)
+  where
+    here : HasFew n l
+    here =
+        let count = ap length b.coalitions in
+        let both = length-both n at i (h - i) in
+        let early = ap length b.earlier in
+        let none = ap length b.bounds in
+        let within = b.end.within in
+        omega (arith, count, both, early, none)
+
+few_rest : (n : ℕ) (at : ℕ → ℕ) (m : ℕ) (gain : Bool) (t den : ℤ) (l : Level) → IsRestLevel n at m gain t den l → HasFew n l
+few_rest n at m gain t den l b =
+    let count = ap length b.coalitions in
+    let keys = length-keys (key_of n at gain) m (n - m) in
+    let early = ap length b.earlier in
+    let others = length-keys (key_of n at gain) 0 m in
+    let none = ap length b.bounds in
+    let two = b.two in
+    omega (arith, count, keys, early, others, none)
+
+few_entries : (n : ℕ) (claim at : ℕ → ℕ) (m : ℕ) (gain : Bool) (t den : ℤ) (levels : List Level) → m ≤ n → AreLevels n claim at m gain t den levels → AllByRecursion (HasFew n) levels
+few_entries n claim at m gain t den levels le (inl (k, chain, end)) = few_halves n claim at m 0 k levels le chain
+few_entries n claim at m gain t den levels le (inr (ls, l, e, chain, b)) = rw e (all_join (HasFew n) ls (l ∷ []) (few_halves n claim at m 0 m ls le chain) (few_rest n at m gain t den l b, tt))
+
+-- ---- the answer
+
+pub is_some : {X : Type 0} (A : Type 0) (P : X → Type 0) (o : Option X) → MatchOption o (A → ⊥) P → A → IsSome o
+is_some A P None h a = absurd (h a)
+is_some A P (Some y) h a = refl
+
+pub is_ok : {X E : Type 0} (A : Type 0) (P : X → Type 0) (r : Result X E) → MatchResult r P (λ e. A → ⊥) → A → IsOk r
+is_ok A P (Ok y) h a = refl
+is_ok A P (Err e) h a = absurd (h a)
+
+-- the shares of a division are those of the rule
+pub rule_of : (b : Bankruptcy) (c : OrderedClaims) (gain : Bool) (m h t : ℕ) (x : Allocation) → IsOrderedClaims c → c.cuts ≡ cut_claims b.estate b.claims → IsDivision b.estate c gain m h t → x ≡ allocation (map (λ d. pos (award gain h t d)) c.cuts) (pos (2 * h)) → IsRule b.estate b.claims (place c) m gain (pos t) x
+rule_of b c gain m h t x o e d is =
+    IsRule-division b.estate b.claims c gain m h t x o e d (subst (IsAwarded b.estate b.claims gain h t) (sym is) (IsAwarded-awards b.estate b.claims c.cuts gain h t e))
+
+-- what was made for a list of cut claims
+pub AreLevels-cut : (estate : ℕ) (claims cuts : List ℕ) (at : ℕ → ℕ) (m : ℕ) (gain : Bool) (t den : ℤ) (levels : List Level) → cuts ≡ cut_claims estate claims → length cuts ≡ length claims → AreLevels (length cuts) (λ i. Rattle.std.specs.List.slice_index cuts i) at m gain t den levels → AreLevels (length claims) (cut estate claims) at m gain t den levels
+AreLevels-cut estate claims cuts at m gain t den levels e long h =
+    subst (λ (n : ℕ). AreLevels n (cut estate claims) at m gain t den levels) long (subst (λ (ds : List ℕ). AreLevels (length cuts) (λ i. Rattle.std.specs.List.slice_index ds i) at m gain t den levels) e h)
+
+pub levels-formed : (b : Bankruptcy) → IsBankruptcy b → (at : ℕ → ℕ) (m : ℕ) (gain : Bool) (t den : ℤ) (x : Allocation) (levels : List Level) → IsRule b.estate b.claims at m gain t x → AreLevels (length b.claims) (cut b.estate b.claims) at m gain t den levels → HasForm Players (length b.claims) levels
+levels-formed b h at m gain t den x levels r made = HasForm-rule (length b.claims) (cut b.estate b.claims) at m gain t den levels h.some h.few r.within r.order made
+
+pub solved : (b : Bankruptcy) (at : ℕ → ℕ) (m : ℕ) (gain : Bool) (t : ℤ) (x : Allocation) (levels : List Level) (c : CertificateData) → IsRule b.estate b.claims at m gain t x → AreLevels (length b.claims) (cut b.estate b.claims) at m gain t x.den levels → c ≡ record { players = length b.claims; mode = Players; levels = levels } → IsSolved (bankruptcy_game b) x c
+solved b at m gain t x levels c r made e = subst (IsSolved (bankruptcy_game b) x) (sym e) (record {
+  players = refl;
+  mode = refl;
+  certifies = λ family. Certifies-rule family b.estate b.claims at m gain t x levels r made;
+  core = InCore-rule b.estate b.claims at m gain t x r;
+  few = few_entries (length b.claims) (cut b.estate b.claims) at m gain t x.den levels r.within made;
+})
+
+pub AreRuleLevels-rule : (estate : ℕ) (claims : List ℕ) (at : ℕ → ℕ) (m : ℕ) (gain : Bool) (t : ℤ) (x : Allocation) (levels : List Level) → IsRule estate claims at m gain t x → AreLevels (length claims) (cut estate claims) at m gain t x.den levels → AreRuleLevels estate claims x levels
+AreRuleLevels-rule estate claims at m gain t x levels r made =
+    (at, m, t, IsHalfOrder-rule estate claims at m gain t x r, subst (λ (g : Bool). AreLevels (length claims) (cut estate claims) at m g t x.den levels) (little-is estate claims at m gain t x r) made)

@@ -1,0 +1,77 @@
+use Rattle.std.proofs.Common.{◌≡◌, ◌*◌, ◌^◌, ◌<◌, ◌≤◌, ℕ, List, length, map, ℤ, pos, unsigned_abs, to_z, of_z, arith, ap, sym, subst, ◌∙◌}
+use Rattle.std.proofs.lemmas.Int.{ints}
+use Rattle.worth_core.proofs.Casts.{cast_kept}
+use Rattle.kohlberg.proofs.Kept.{kept}
+use mir.Syntax.{w64, w128}
+use Rattle.definitions.specs.Games.{IsShares}
+use Rattle.definitions.specs.Certificates.{HasForm}
+use Rattle.definitions.specs.declared.Mode.TheVariants.{Players}
+use Rattle.worth_core.specs.Allocations.{allocation}
+use Rattle.talmud.specs.Rule.{cut}
+use Rattle.talmud.specs.Levels.{AreLevels}
+use Rattle.talmud.specs.Division.{place, IsOrderedClaims, IsDivision, award}
+use Rattle.talmud.proofs.Cuts.{length-cut, all-cut_low, cut-enough}
+use Rattle.talmud.proofs.Awarded.{IsShares-awards, IsTalmud-rule}
+use Rattle.talmud.proofs.Solved.{is_some, is_ok, rule_of, AreLevels-cut, levels-formed, solved, AreRuleLevels-rule}
+use Rattle.talmud.proofs.solve.Goals as goal
+
+cast_back : (z : ℤ) (e : ℕ) → z ≡ pos e → e < 2 ^ 40 → unsigned_abs (to_z w64 (of_z w64 z)) ≡ e
+cast_back z e same h = rw same (ap unsigned_abs (cast_kept w64 (pos e) (omega (arith, h))))
+
+pub new-division-requires-clause-cut : goal.new-division-requires-clause-cut
+new-division-requires-clause-cut c =
+    let b = c.args.game.now in
+    rw (cast_back c.estate.result b.estate c.estate.ensures.value c.estate.ensures.laws.estate_small) (all-cut_low b.estate b.claims c.in_ok-claims.claims.cuts c.in_ok-claims.ensures.cuts)
+
+pub new-division-requires-clause-enough : goal.new-division-requires-clause-enough
+new-division-requires-clause-enough c =
+    let b = c.args.game.now in
+    rw (cast_back c.estate.result b.estate c.estate.ensures.value c.estate.ensures.laws.estate_small) (cut-enough b c.estate.ensures.laws c.in_ok-claims.claims.cuts c.in_ok-claims.ensures.cuts)
+
+pub unwrap-shares-requires : goal.unwrap-shares-requires
+unwrap-shares-requires c =
+    let d = c.new-division.result in
+    let ordered = subst IsOrderedClaims c.claims.view_is c.claims.invariant in
+    let den : to_z w128 (of_z w128 c.den.result) ≡ pos (2 * d.half_den) = kept c.den.result c.den.type_inv ∙ c.den.ensures in
+    let new = rw (den, c.in_ok-num.ensures {u = tt}) at c.new-2.ensures in
+    is_some (IsShares (allocation (map (λ e. pos (award d.gain d.half_den d.bound e)) c.in_ok-claims.claims.cuts) (pos (2 * d.half_den)))) _ c.new-2.result new (IsShares-awards c.in_ok-claims.claims d.gain d.half_den d.bound ordered d.some d.few)
+
+pub unwrap-certificate-requires : goal.unwrap-certificate-requires
+unwrap-certificate-requires c =
+    let b = c.args.game.now in
+    let laws = c.estate.ensures.laws in
+    let d = c.new-division.result in
+    let claims = c.in_ok-claims.claims in
+    let ordered = subst IsOrderedClaims c.claims.view_is c.claims.invariant in
+    let den : to_z w128 (of_z w128 c.den.result) ≡ pos (2 * d.half_den) = kept c.den.result c.den.type_inv ∙ c.den.ensures in
+    let shares = rw (den, c.in_ok-num.ensures {u = tt}, c.unwrap-shares.ensures) at c.new-2.ensures in
+    let division = rw (cast_back c.estate.result b.estate c.estate.ensures.value laws.estate_small) at c.new-division.ensures in
+    let rule = rule_of b claims d.gain d.half d.half_den d.bound c.unwrap-shares.result ordered c.in_ok-claims.ensures.cuts division shares.0 in
+    let long = length-cut b.estate b.claims claims.cuts c.in_ok-claims.ensures.cuts in
+    let levels = c.in_ok-levels.levels.items in
+    let made = AreLevels-cut b.estate b.claims claims.cuts (place claims) d.half d.gain (pos d.bound) (pos (2 * d.half_den)) levels c.in_ok-claims.ensures.cuts long (c.in_ok-levels.ensures {u = tt}) in
+    let new = rw c.players.ensures.count at c.new-3.ensures in
+    is_ok (HasForm Players (length b.claims) levels) (λ e. (e ≡ record { players = length b.claims; mode = Players; levels = levels }) × HasForm Players (length b.claims) levels) c.new-3.result new (levels-formed b laws (place claims) d.half d.gain (pos d.bound) (pos (2 * d.half_den)) c.unwrap-shares.result levels rule made)
+
+pub returns : goal.returns
+returns c =
+    let b = c.args.game.now in
+    let laws = c.estate.ensures.laws in
+    let d = c.new-division.result in
+    let claims = c.in_ok-claims.claims in
+    let ordered = subst IsOrderedClaims c.claims.view_is c.claims.invariant in
+    let den : to_z w128 (of_z w128 c.den.result) ≡ pos (2 * d.half_den) = kept c.den.result c.den.type_inv ∙ c.den.ensures in
+    let shares = rw (den, c.in_ok-num.ensures {u = tt}, c.unwrap-shares.ensures) at c.new-2.ensures in
+    let division = rw (cast_back c.estate.result b.estate c.estate.ensures.value laws.estate_small) at c.new-division.ensures in
+    let x = c.unwrap-shares.result in
+    let rule = rule_of b claims d.gain d.half d.half_den d.bound x ordered c.in_ok-claims.ensures.cuts division shares.0 in
+    let long = length-cut b.estate b.claims claims.cuts c.in_ok-claims.ensures.cuts in
+    let levels = c.in_ok-levels.levels.items in
+    let made = AreLevels-cut b.estate b.claims claims.cuts (place claims) d.half d.gain (pos d.bound) (pos (2 * d.half_den)) levels c.in_ok-claims.ensures.cuts long (c.in_ok-levels.ensures {u = tt}) in
+    let over = subst (λ (q : ℤ). AreLevels (length b.claims) (cut b.estate b.claims) (place claims) d.half d.gain (pos d.bound) q levels) (sym (ap (λ (y : Rattle.definitions.specs.Games.Allocation). y.den) shares.0)) made in
+    let certificate = rw (c.players.ensures.count, c.unwrap-certificate.ensures) at c.new-3.ensures in
+    record {
+      solved = solved b (place claims) d.half d.gain (pos d.bound) x levels c.unwrap-certificate.result rule over certificate.0;
+      rule = IsTalmud-rule b.estate b.claims (place claims) d.half d.gain (pos d.bound) x rule;
+      levels = rw certificate.0 (AreRuleLevels-rule b.estate b.claims (place claims) d.half d.gain (pos d.bound) x levels rule over);
+    }

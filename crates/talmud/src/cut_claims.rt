@@ -1,0 +1,94 @@
+//! The claims, cut to the estate, and the players in the order of these.
+ghost use Rattle.std.specs.Prelude.{◌≡◌, ◌^◌, ◌<◌, length, pos, slice_index, IfOk};
+ghost use Rattle.definitions.specs.Sums.{sum_below};
+ghost use Rattle.bankruptcy.specs.Bankruptcy.{IsBankruptcy};
+ghost use Rattle.talmud.specs.Rule.{cut_claims};
+
+use bankruptcy::BankruptcyGame;
+use orders::sorted_players;
+use std::alloc::{AllocError, Global};
+use std::marker::Model;
+use worth_core::Worth;
+
+/// The claims, cut to the estate, and the players in the order of these.
+#[derive(Drop)]
+pub struct CutClaims {
+    cuts: Vec<u64>,
+    order: Vec<u32>,
+}
+
+impl Model for CutClaims {
+    ghost use Rattle.talmud.specs.Division.{OrderedClaims, IsOrderedClaims, ordered_claims};
+
+    ghost Value = { OrderedClaims };
+
+    ghost view = { λ c. ordered_claims c.cuts.items c.order.items };
+
+    ghost invariant = { λ c. IsOrderedClaims (ordered_claims c.cuts.items c.order.items) };
+}
+
+impl CutClaims {
+    ghost use Rattle.talmud.specs.Division.{IsOrderedClaims, place};
+
+    /// The claims of a game, each cut to its estate.
+    pub fn new(alloc: Global, game: &BankruptcyGame) -> Result<CutClaims, AllocError>
+        ensures cuts { IfOk result (λ c. c.cuts ≡ cut_claims game.now.estate game.now.claims) }
+        ensures laws { IsBankruptcy game.now }
+    {
+        let cuts = cuts(alloc, game)?;
+        let order = sorted_players(alloc, &cuts)?;
+        Ok(CutClaims { cuts, order })
+    }
+
+    /// The number of claims, and so of places.
+    pub fn len(&self) -> u32
+        ensures count { result ≡ length self.now.cuts }
+        ensures laws { IsOrderedClaims self.now }
+    {
+        self.cuts.len() as u32
+    }
+
+    /// The cut claim of player `i`.
+    pub fn cut(&self, i: u32) -> u64
+        requires { i < length self.now.cuts }
+        ensures value { result ≡ slice_index self.now.cuts i }
+        ensures small { result < 2 ^ 40 }
+    {
+        self.cuts[i as usize]
+    }
+
+    /// The player at place `k` from the least cut claim; of equal ones the lesser player stands first.
+    pub fn place(&self, k: u32) -> u32
+        requires { k < length self.now.cuts }
+        ensures value { result ≡ place self.now k }
+        ensures player { result < length self.now.cuts }
+    {
+        self.order[k as usize]
+    }
+
+    /// The sum of the cut claims.
+    pub fn total(&self) -> u64
+        ensures value { pos result ≡ sum_below (length self.now.cuts) (λ i. pos (slice_index self.now.cuts i)) }
+        ensures small { result < 2 ^ 46 }
+    {
+        let mut total: u64 = 0;
+        for i in 0..self.len() {
+            total += self.cut(i);
+        }
+        total
+    }
+}
+
+/// The claims, each cut to the estate.
+fn cuts(alloc: Global, game: &BankruptcyGame) -> Result<Vec<u64>, AllocError>
+    ensures cuts { IfOk result (λ v. v.items ≡ cut_claims game.now.estate game.now.claims) }
+    ensures laws { IsBankruptcy game.now }
+{
+    let estate = game.estate() as u64;
+    let mut cuts = Vec::new(alloc);
+    for i in 0..game.players() {
+        let claim = game.claim(i) as u64;
+        cuts.push(claim.min(estate))?;
+    }
+    Ok(cuts)
+}

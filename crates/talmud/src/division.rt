@@ -1,0 +1,123 @@
+//! How the estate is divided: who gets half of its claim, and what the others get or lose.
+//!
+//! With the cut claims `d` in ascending order, of `n` players, and with `S` the estate or, where that is more than half of
+//! the claims, what they are above it: the player at place `m` gets (or loses) `d_m / 2` as long as `(n - m) d_m` is at most
+//! `2 S - (d_0 + .. + d_(m-1))`. The others get (or lose) `(2 S - (d_0 + .. + d_(m-1))) / (2 (n - m))`.
+ghost use Rattle.std.specs.Prelude.{◌≡◌, ◌-◌, ◌*◌, ◌^◌, ◌<◌, ◌≤◌, length, map, pos, ◌≤ℤ◌, slice_index, IfOk, All};
+ghost use Rattle.talmud.specs.Division.{IsSplit, IsSide, IsDivision, place, claim_at, claim_sum, divided, award};
+
+use crate::cut_claims::CutClaims;
+use std::alloc::{AllocError, Global};
+
+/// How many players get half of their claims, and what is left of twice the sum that is divided.
+#[derive(Clone, Copy)]
+struct Split {
+    half: u32,
+    left: u64,
+}
+
+/// The division of an estate among claims.
+#[derive(Clone, Copy)]
+pub struct Division {
+    /// Whether the estate is at most half of the claims, so that the bound is on what players get and not on what they lose.
+    pub gain: bool,
+    /// How many players, in the order of the claims, get half of them.
+    pub half: u32,
+    /// Half the denominator.
+    pub half_den: u64,
+    /// What each of the other players gets or loses, over the denominator.
+    pub bound: u64,
+    ghost some: { 1 ≤ half_den },
+    ghost few: { half_den ≤ 64 },
+    ghost small: { bound < 2 ^ 48 },
+}
+
+impl Division {
+    /// The division of an estate among claims of at most the estate.
+    pub fn new(estate: u64, claims: &CutClaims) -> Division
+        requires small { estate < 2 ^ 40 }
+        requires cut { All (λ c. c ≤ estate) claims.now.cuts }
+        requires enough { pos estate ≤ℤ claim_sum claims.now }
+        ensures { IsDivision estate claims.now result.gain result.half result.half_den result.bound }
+    {
+        let total = claims.total();
+        if 2 * estate <= total {
+            Division::of_side(estate, claims, true, estate)
+        } else {
+            Division::of_side(estate, claims, false, total - estate)
+        }
+    }
+
+    /// The division where so much is got or lost by halves.
+    fn of_side(estate: u64, claims: &CutClaims, gain: bool, amount: u64) -> Division
+        requires small { estate < 2 ^ 40 }
+        requires cut { All (λ c. c ≤ estate) claims.now.cuts }
+        requires side { IsSide estate claims.now gain }
+        requires divided { pos amount ≡ divided estate claims.now gain }
+        requires amount { amount < 2 ^ 46 }
+        ensures { IsDivision estate claims.now result.gain result.half result.half_den result.bound }
+    {
+        let n = claims.len();
+        let split = half_players(claims, 2 * amount);
+        if split.half < n {
+            Division {
+                gain,
+                half: split.half,
+                half_den: (n - split.half) as u64,
+                bound: split.left,
+            }
+        } else {
+            Division {
+                gain,
+                half: n,
+                half_den: 1,
+                bound: estate,
+            }
+        }
+    }
+
+    /// The denominator of the shares.
+    pub fn den(self) -> i128
+        ensures { result ≡ pos (2 * self.half_den) }
+    {
+        2 * self.half_den as i128
+    }
+
+    /// The share of each player, over the denominator.
+    pub fn awards(self, alloc: Global, claims: &CutClaims) -> Result<Vec<i128>, AllocError>
+        ensures { IfOk result (λ v. v.items ≡ map (λ c. pos (award self.gain self.half_den self.bound c)) claims.now.cuts) }
+    {
+        let mut num = Vec::new(alloc);
+        for i in 0..claims.len() {
+            num.push(self.award(claims.cut(i)) as i128)?;
+        }
+        Ok(num)
+    }
+
+    /// The share of a claim, over the denominator.
+    fn award(self, claim: u64) -> u64
+        requires { claim < 2 ^ 40 }
+        ensures value { result ≡ award self.gain self.half_den self.bound claim }
+        ensures small { result < 2 ^ 48 }
+    {
+        let half = claim * self.half_den;
+        let part = half.min(self.bound);
+        if self.gain { part } else { 2 * half - part }
+    }
+}
+
+/// Players get half of their claims as long as the next claim, for each of those behind, is at most what is left.
+fn half_players(claims: &CutClaims, double: u64) -> Split
+    requires { double < 2 ^ 47 }
+    ensures split { IsSplit (length claims.now.cuts) (claim_at claims.now) double result.half result.left }
+    ensures stop { result.half < length claims.now.cuts → result.left < claim_at claims.now result.half * (length claims.now.cuts - result.half) }
+{
+    let n = claims.len();
+    let mut half = 0;
+    let mut left = double;
+    while half < n && claims.cut(claims.place(half)) * (n - half) as u64 <= left {
+        left -= claims.cut(claims.place(half));
+        half += 1;
+    }
+    Split { half, left }
+}
