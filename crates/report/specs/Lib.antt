@@ -1,2 +1,4 @@
 pub mod Words
+pub mod Values
+pub mod Verdicts
 pub mod Lines

@@ -1,4 +1,5 @@
 //! What is answered to the words of a command line and the bytes of its input.
+use checker::Verdict;
 use coalitions::Coalition;
 use fractions::Frac;
 use game_text::Refusal;
@@ -23,7 +24,9 @@ pub enum Answer {
     NotEfficient { sum: Frac, total: i64 },
     /// The coalition could do better by itself, by this excess of worth.
     Blocked { coalition: Coalition, excess: Frac },
-    /// The words name no command.
+    /// Whether a certificate shows that shares are the nucleolus, or why not.
+    Verdict(Verdict),
+    /// The words name no command, or not for this game.
     Usage(UsageKind),
     /// The input is no document.
     Refused(Refusal),

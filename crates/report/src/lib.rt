@@ -7,6 +7,7 @@ mod line;
 mod players;
 #[cfg(test)]
 mod tests;
+mod verdict;
 mod words;
 
 pub use answer::{Answer, UsageKind};

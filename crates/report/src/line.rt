@@ -8,6 +8,7 @@ ghost use Rattle.report.specs.Lines.{answer_tree, line};
 use crate::answer::{Answer, UsageKind};
 use crate::fraction::text_of;
 use crate::players::player_numbers;
+use crate::verdict::verdict_tree;
 use crate::words::{refusal_name, usage_word};
 use coalitions::Coalition;
 use fractions::{Frac, OutOfMemory};
@@ -36,6 +37,7 @@ fn tree_of(alloc: Global, answer: &Answer) -> Result<Value, OutOfMemory>
         Answer::InCore => core_tree(alloc),
         Answer::NotEfficient { sum, total } => not_efficient_tree(alloc, sum, *total),
         Answer::Blocked { coalition, excess } => blocked_tree(alloc, *coalition, excess),
+        Answer::Verdict(verdict) => verdict_tree(alloc, *verdict),
         Answer::Usage(kind) => usage_tree(alloc, *kind),
         Answer::Refused(refusal) => refused_tree(alloc, *refusal),
     }

@@ -1,4 +1,5 @@
 use crate::{Answer, UsageKind, write_report};
+use checker::{Place, Reason, Verdict};
 use coalitions::Coalition;
 use fractions::Frac;
 use game_text::Refusal;
@@ -27,6 +28,69 @@ fn judgements_have_their_lines(rt: HostRuntime) -> Result<(), Fail> {
     };
     let line = "{\"answer\":\"blocked\",\"coalition\":[1,3,8],\"excess\":\"3\"}\n";
     assert!(rt; has_line(rt.alloc(), blocked, line)?);
+    Ok(())
+}
+
+#[test]
+fn verdicts_have_their_lines(rt: HostRuntime) -> Result<(), Fail> {
+    let yes = "{\"answer\":\"yes\"}\n";
+    assert!(rt; has_line(rt.alloc(), Answer::Verdict(Verdict::Yes), yes)?);
+    for (reason, line) in [
+        (Reason::NotEfficient, "{\"answer\":\"no\",\"reason\":1}\n"),
+        (
+            Reason::NotIndividual { player: 2 },
+            "{\"answer\":\"no\",\"player\":3,\"reason\":2}\n",
+        ),
+        (
+            Reason::WrongExcess {
+                level: 1,
+                coalition: Coalition(0b1000_0101),
+            },
+            "{\"answer\":\"no\",\"coalition\":[1,3,8],\"level\":1,\"reason\":3}\n",
+        ),
+        (
+            Reason::WeightSign {
+                level: 63,
+                place: Place::Coalition(Coalition(1 << 63)),
+            },
+            "{\"answer\":\"no\",\"coalition\":[64],\"level\":63,\"reason\":4}\n",
+        ),
+        (
+            Reason::WeightSign {
+                level: 2,
+                place: Place::Player(0),
+            },
+            "{\"answer\":\"no\",\"level\":2,\"player\":1,\"reason\":4}\n",
+        ),
+        (
+            Reason::Unbalanced {
+                level: 2,
+                player: 0,
+            },
+            "{\"answer\":\"no\",\"level\":2,\"player\":1,\"reason\":5}\n",
+        ),
+        (
+            Reason::BoundNotTight {
+                level: 3,
+                player: 63,
+            },
+            "{\"answer\":\"no\",\"level\":3,\"player\":64,\"reason\":6}\n",
+        ),
+        (
+            Reason::OutsideAbove {
+                level: 1,
+                excess: Frac::new(-3, 2).ok_or("a fraction")?,
+            },
+            "{\"answer\":\"no\",\"excess\":\"-3/2\",\"level\":1,\"reason\":7}\n",
+        ),
+        (
+            Reason::NotAll { player: 0 },
+            "{\"answer\":\"no\",\"player\":1,\"reason\":8}\n",
+        ),
+    ] {
+        let verdict = Answer::Verdict(Verdict::No(reason));
+        assert!(rt; has_line(rt.alloc(), verdict, line)?, "{line}");
+    }
     Ok(())
 }
 

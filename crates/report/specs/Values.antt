@@ -1,0 +1,27 @@
+-- Fractions, players and coalitions as JSON.
+use Rattle.std.specs.Prelude.{ℕ, ℤ, pos, ◌+◌, List, map}
+use Rattle.serde_json.specs.Data.{Data, number, unsigned, string, array}
+use Rattle.serde_json.specs.View.{items_of}
+use Rattle.definitions.specs.Coalitions.{members}
+use Rattle.fractions.specs.Fraction.{Fraction}
+use Rattle.fractions.specs.FractionTexts.{fraction_text}
+
+-- the text of a fraction
+abbrev pub fraction_data : Fraction → Data
+fraction_data f = string (fraction_text f)
+
+-- the text of an integer
+abbrev pub integer_data : ℤ → Data
+integer_data z = fraction_data (record { num = z; den = pos 1 })
+
+-- a level, or the number of a refusal or a reason
+abbrev pub count_data : ℕ → Data
+count_data n = number (unsigned n)
+
+-- a player, from 1
+abbrev pub player_data : ℕ → Data
+player_data i = number (unsigned (i + 1))
+
+-- the members of a coalition, from 1 and ascending
+abbrev pub player_numbers : ℕ → Data
+player_numbers s = array (items_of (map player_data (members 64 s)))

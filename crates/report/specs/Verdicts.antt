@@ -1,0 +1,51 @@
+-- What is printed for a verdict. Levels and players count from 1, reasons from 1 in the order in which conditions are tested.
+use Rattle.std.specs.Prelude.{ℕ, codes}
+use Rattle.serde_json.specs.Data.{Data, string, object, member, no_members}
+use Rattle.fractions.specs.Fraction.{Fraction}
+use Rattle.checker.specs.declared.verdicts.Verdict.{Verdict}
+use Rattle.checker.specs.declared.verdicts.Verdict.TheVariants.{Yes, No}
+use Rattle.checker.specs.declared.verdicts.Place.TheVariants.{Coalition, Player}
+use Rattle.checker.specs.declared.verdicts.Reason.{Reason}
+use Rattle.checker.specs.declared.verdicts.Reason.TheVariants.{NotEfficient, NotIndividual, WrongExcess, WeightSign, Unbalanced, BoundNotTight, OutsideAbove, NotAll}
+use Rattle.report.specs.Values.{fraction_data, count_data, player_data, player_numbers}
+
+-- a reason without a place
+abbrev pub no_alone : ℕ → Data
+no_alone reason = object (member (codes "answer") (string (codes "no")) (member (codes "reason") (count_data reason) no_members))
+
+-- a reason with a player
+abbrev pub no_at_player : ℕ → ℕ → Data
+no_at_player reason i =
+    object (member (codes "answer") (string (codes "no")) (member (codes "player") (player_data i) (member (codes "reason") (count_data reason) no_members)))
+
+-- a reason with a level and a coalition
+abbrev pub no_at_coalition : ℕ → ℕ → ℕ → Data
+no_at_coalition reason j s =
+    object (member (codes "answer") (string (codes "no")) (member (codes "coalition") (player_numbers s) (member (codes "level") (count_data j) (member (codes "reason") (count_data reason) no_members))))
+
+-- a reason with a level and a player
+abbrev pub no_at_level : ℕ → ℕ → ℕ → Data
+no_at_level reason j i =
+    object (member (codes "answer") (string (codes "no")) (member (codes "level") (count_data j) (member (codes "player") (player_data i) (member (codes "reason") (count_data reason) no_members))))
+
+-- a reason with a level and the greatest excess of a coalition outside
+abbrev pub no_above : ℕ → ℕ → Fraction → Data
+no_above reason j e =
+    object (member (codes "answer") (string (codes "no")) (member (codes "excess") (fraction_data e) (member (codes "level") (count_data j) (member (codes "reason") (count_data reason) no_members))))
+
+-- the first condition that fails
+abbrev pub reason_tree : Reason → Data
+reason_tree NotEfficient = no_alone 1
+reason_tree (NotIndividual i) = no_at_player 2 i
+reason_tree (WrongExcess j s) = no_at_coalition 3 j s
+reason_tree (WeightSign j (Coalition s)) = no_at_coalition 4 j s
+reason_tree (WeightSign j (Player i)) = no_at_level 4 j i
+reason_tree (Unbalanced j i) = no_at_level 5 j i
+reason_tree (BoundNotTight j i) = no_at_level 6 j i
+reason_tree (OutsideAbove j e) = no_above 7 j e
+reason_tree (NotAll i) = no_at_player 8 i
+
+-- yes, or no and why
+abbrev pub verdict_tree : Verdict → Data
+verdict_tree Yes = object (member (codes "answer") (string (codes "yes")) no_members)
+verdict_tree (No r) = reason_tree r
