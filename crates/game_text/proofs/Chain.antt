@@ -1,7 +1,10 @@
 -- What reading the tree says of the bytes.
-use Rattle.std.proofs.Common.{◌≡◌, ◌≤◌, ◌&&◌, ℕ, List, length, Bool, true, false, Option, Some, None, Result, Ok, Err, MatchResult, ap, ◌∙◌, subst}
+use Rattle.std.proofs.Common.{◌≡◌, ◌≤◌, ◌&&◌, ℕ, List, length, Bool, true, false, Option, Some, None, Result, Ok, Err, MatchResult, codes, ap, ◌∙◌, subst}
 use Rattle.std.specs.Prelude.{⊤}
 use Rattle.serde_json.specs.Data.{Data}
+use Rattle.serde_json.specs.Find.{get}
+use Rattle.game_text.specs.Trees.{passes}
+use Rattle.game_text.specs.Certificates.{has_form}
 use Rattle.game_text.specs.Text.{document_limit, IsTextOf}
 use Rattle.game_text.specs.Shape.{is_shaped}
 use Rattle.game_text.specs.Limits.{players, has_players, has_numbers}
@@ -11,10 +14,10 @@ use Rattle.game_text.specs.Descriptions.{description_of}
 use Rattle.game_text.specs.Shares.{has_shares_for, written_shares}
 use Rattle.game_text.specs.Denominators.{is_coarse}
 use Rattle.game_text.specs.Documents.{game_tree}
-use Rattle.game_text.specs.Refusals.{unless, is_covered, coalition_refusal, game_refusal, has_needed_numbers, needed_refusal, late_refusal, tree_refusal, IsRefused}
+use Rattle.game_text.specs.Refusals.{unless, is_covered, coalition_refusal, game_refusal, has_needed_numbers, proposal_refusal, share_refusal, certificate_refusal, needed_refusal, late_refusal, tree_refusal, IsRefused}
 use Rattle.game_text.specs.Readings.{IsBuilt, IsBuildFault, IsGameReading, IsGameFault, IsTreeReading, IsTreeFault, IsReading, IsFault}
 use Rattle.game_text.specs.declared.command.Command.{Command}
-use Rattle.game_text.specs.declared.command.Command.TheVariants.{Propose}
+use Rattle.game_text.specs.declared.command.Command.TheVariants.{Nucleolus, Prenucleolus, Propose, Check}
 use Rattle.game_text.specs.declared.document.Document.{Document}
 use Rattle.game_text.specs.declared.fault.TextFault.{TextFault}
 use Rattle.game_text.specs.declared.fault.TextFault.TheVariants.{Refused, Memory}
@@ -33,9 +36,24 @@ choose : (b : Bool) (r : Refusal) (x : Option Refusal) → IsOfTree x → IsOfTr
 choose true r x p q = p
 choose false r x p q = q
 
+certificate_of_tree : (command : Command) (game tree : Data) → IsOfTree (certificate_refusal command game tree)
+certificate_of_tree Nucleolus game tree = tt
+certificate_of_tree Prenucleolus game tree = tt
+certificate_of_tree Propose game tree = tt
+certificate_of_tree Check game tree = choose (passes (has_form (players game)) (get (codes "certificate") tree)) Certificate None tt tt
+
+proposal_of_tree : (game tree : Data) (rest : Option Refusal) → IsOfTree rest → IsOfTree (proposal_refusal game tree rest)
+proposal_of_tree game tree rest p =
+    choose (has_shares_for (players game) tree) Proposal (unless (is_coarse (written_shares tree)) TooFine rest) (choose (is_coarse (written_shares tree)) TooFine rest p tt) tt
+
+share_of_tree : (command : Command) (game tree : Data) (rest : Option Refusal) → IsOfTree rest → IsOfTree (share_refusal command game tree rest)
+share_of_tree Nucleolus game tree rest p = p
+share_of_tree Prenucleolus game tree rest p = p
+share_of_tree Propose game tree rest p = proposal_of_tree game tree rest p
+share_of_tree Check game tree rest p = proposal_of_tree game tree rest p
+
 needed_of_tree : (command : Command) (game tree : Data) → IsOfTree (needed_refusal command game tree)
-needed_of_tree Propose game tree =
-    choose (has_shares_for (players game) tree) Proposal (unless (is_coarse (written_shares tree)) TooFine None) (choose (is_coarse (written_shares tree)) TooFine None tt tt) tt
+needed_of_tree command game tree = share_of_tree command game tree (certificate_refusal command game tree) (certificate_of_tree command game tree)
 
 game_of_tree : (game : Data) (rest : Option Refusal) → IsOfTree rest → IsOfTree (game_refusal game rest)
 game_of_tree game rest p =

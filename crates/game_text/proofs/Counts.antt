@@ -1,4 +1,4 @@
--- A document has a share for each player of its game.
+-- A document has a share for each player of its game, and a certificate for its players.
 use Rattle.std.proofs.Common.{◌≡◌, ℕ, List, length, map, Bool, true, false, ◌&&◌, pos, neg_ℤ, Option, Some, None, Result, Ok, Err, MatchResult, IfOk, IfSome, unsigned_abs, codes, refl, sym, ap, ◌∙◌, subst}
 use Rattle.std.proofs.lemmas.Bool.{eqb-true}
 use Rattle.std.proofs.lemmas.List.{length-map}
@@ -14,14 +14,14 @@ use Rattle.game_text.specs.Coalitions.{has_coalitions}
 use Rattle.game_text.specs.Descriptions.{game_of, is_cost, integer_or_zero, integers_at, description_as, description_of}
 use Rattle.game_text.specs.Denominators.{least_denominator, over_least, is_coarse}
 use Rattle.game_text.specs.Shares.{as_worth, fraction_or_zero, has_shares_for, shares_of, written_shares}
-use Rattle.game_text.specs.Documents.{game_tree}
+use Rattle.game_text.specs.Documents.{game_tree, certificate_for}
 use Rattle.game_text.specs.Games.{description_in}
-use Rattle.game_text.specs.Refusals.{unless, is_covered, has_needed_numbers, needed_refusal, tree_refusal}
+use Rattle.game_text.specs.Refusals.{unless, is_covered, has_needed_numbers, proposal_refusal, certificate_refusal, needed_refusal, tree_refusal}
 use Rattle.game_text.specs.Readings.{IsTreeReading, IsTreeFault}
 use Rattle.game_text.specs.declared.class.Class.{Class}
 use Rattle.game_text.specs.declared.class.Class.TheVariants.{Table, CostTable, Airport, Bankruptcy}
 use Rattle.game_text.specs.declared.command.Command.{Command}
-use Rattle.game_text.specs.declared.command.Command.TheVariants.{Propose}
+use Rattle.game_text.specs.declared.command.Command.TheVariants.{Nucleolus, Prenucleolus, Propose, Check}
 use Rattle.game_text.specs.declared.document.Document.{Document}
 use Rattle.game_text.specs.declared.fault.TextFault.{TextFault}
 use Rattle.game_text.specs.declared.refusal.Refusal.{Refusal}
@@ -78,16 +78,52 @@ needed_passed command tree h =
     let e = behind (has_coalitions game) Coalition estate d.1 in
     (behind (is_covered (description_of game)) Estate needed e.1).1
 
+enough_shares : (game tree : Data) (rest : Option Refusal) → IsPassed (proposal_refusal game tree rest) → has_shares_for (players game) tree ≡ true
+enough_shares game tree rest h = (behind (has_shares_for (players game) tree) Proposal (unless (is_coarse (written_shares tree)) TooFine rest) h).0
+
+abbrev described : (command : Command) (tree : Data) (d : Document) → IsTreeReading command tree d → description_in d.game ≡ description_of (game_tree tree)
+described command tree d m = ap (λ c. c.game) m.says
+
+abbrev tests_passed : (command : Command) (tree : Data) (d : Document) → IsTreeReading command tree d → IsPassed (needed_refusal command (game_tree tree) tree)
+tests_passed command tree d m = needed_passed command tree (subst IsPassed (sym m.passed) tt)
+
+no_shares : (d : Document) → d.shares ≡ None → HasShareEach d
+no_shares d e = subst (λ o. IfSome o (λ x. length x.shares ≡ (game_of (description_in d.game)).players)) (sym e) tt
+
+some_shares : (tree : Data) (d : Document) → d.shares ≡ Some (shares_of (game_tree tree) tree) → description_in d.game ≡ description_of (game_tree tree) → has_shares_for (players (game_tree tree)) tree ≡ true → HasShareEach d
+some_shares tree d e same enough =
+    subst (λ o. IfSome o (λ x. length x.shares ≡ (game_of (description_in d.game)).players)) (sym e)
+    (shares_each (game_tree tree) tree enough ∙ ap (λ k. (game_of k).players) (sym same))
+
 has_share_each : (command : Command) (tree : Data) (d : Document) → IsTreeReading command tree d → HasShareEach d
-has_share_each Propose tree d m =
-    let game = game_tree tree in
-    let needed = needed_passed Propose tree (subst IsPassed (sym m.passed) tt) in
-    let enough = (behind (has_shares_for (players game) tree) Proposal (unless (is_coarse (written_shares tree)) TooFine None) needed).0 in
-    let shares : d.shares ≡ Some (shares_of game tree) = ap (λ c. c.shares) m.says in
-    let described : description_in d.game ≡ description_of game = ap (λ c. c.game) m.says in
-    subst (λ o. IfSome o (λ x. length x.shares ≡ (game_of (description_in d.game)).players)) (sym shares)
-    (shares_each game tree enough ∙ ap (λ k. (game_of k).players) (sym described))
+has_share_each Nucleolus tree d m = no_shares d (ap (λ c. c.shares) m.says)
+has_share_each Prenucleolus tree d m = no_shares d (ap (λ c. c.shares) m.says)
+has_share_each Propose tree d m = some_shares tree d (ap (λ c. c.shares) m.says) (described Propose tree d m) (enough_shares (game_tree tree) tree None (tests_passed Propose tree d m))
+has_share_each Check tree d m =
+    some_shares tree d (ap (λ c. c.shares) m.says) (described Check tree d m)
+    (enough_shares (game_tree tree) tree (certificate_refusal Check (game_tree tree) tree) (tests_passed Check tree d m))
 
 pub share_each : (command : Command) (tree : Data) (r : Result Document TextFault) → MatchResult r (IsTreeReading command tree) (IsTreeFault command tree) → IfOk r HasShareEach
 share_each command tree (Ok d) m = has_share_each command tree d m
 share_each command tree (Err e) m = tt
+
+-- ---- the players of the certificate
+
+abbrev HasItsPlayers : Document → Type 0
+HasItsPlayers d = IfSome d.certificate (λ c. c.players ≡ (game_of (description_in d.game)).players)
+
+no_certificate : (d : Document) → d.certificate ≡ None → HasItsPlayers d
+no_certificate d e = subst (λ o. IfSome o (λ c. c.players ≡ (game_of (description_in d.game)).players)) (sym e) tt
+
+has_its_players : (command : Command) (tree : Data) (d : Document) → IsTreeReading command tree d → HasItsPlayers d
+has_its_players Nucleolus tree d m = no_certificate d (ap (λ c. c.certificate) m.says)
+has_its_players Prenucleolus tree d m = no_certificate d (ap (λ c. c.certificate) m.says)
+has_its_players Propose tree d m = no_certificate d (ap (λ c. c.certificate) m.says)
+has_its_players Check tree d m =
+    let certificate : d.certificate ≡ certificate_for Check (game_tree tree) tree = ap (λ c. c.certificate) m.says in
+    subst (λ o. IfSome o (λ c. c.players ≡ (game_of (description_in d.game)).players)) (sym certificate)
+    (sym (players_described (game_tree tree) (class_of (game_tree tree)) refl) ∙ ap (λ k. (game_of k).players) (sym (described Check tree d m)))
+
+pub its_players : (command : Command) (tree : Data) (r : Result Document TextFault) → MatchResult r (IsTreeReading command tree) (IsTreeFault command tree) → IfOk r HasItsPlayers
+its_players command tree (Ok d) m = has_its_players command tree d m
+its_players command tree (Err e) m = tt

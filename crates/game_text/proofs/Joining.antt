@@ -29,7 +29,7 @@ join_below n s i h small e = add_below i n s h small (no_bit s i e)
 abbrev pub rest : List Value → ℕ → List Data
 rest vs i = map view (drop i vs)
 
-rest_step : (vs : List Value) (i : ℕ) (v : Value) → i < length vs → v ≡ get_or vs i v → rest vs i ≡ view v ∷ rest vs (i + 1)
+pub rest_step : (vs : List Value) (i : ℕ) (v : Value) → i < length vs → v ≡ get_or vs i v → rest vs i ≡ view v ∷ rest vs (i + 1)
 rest_step vs i v h at = ap (map view) (drop-cons vs i v h) ∙ ap (λ w. view w ∷ map view (drop (suc i) vs)) (sym at) ∙ ap (λ k. view v ∷ map view (drop k vs)) (sym (add-one i))
 
 module _ (n : ℕ) (names : List (List ℕ)) (whole : Option ℕ) (vs : List Value) (i s : ℕ) (v : Value) (h : i < length vs) (at : v ≡ get_or vs i v) (goes : whole ≡ joined n names s (rest vs i)) where

@@ -37,7 +37,7 @@ text_or_zero : (s : List ℕ) (o : Option Fraction) → o ≡ parsed s → IsRed
 text_or_zero s None e = whole_reduced (pos 0)
 text_or_zero s (Some f) e = read_fraction_is_reduced s f e
 
-written_or_zero : (d : Data) (o : Option (List ℕ)) → IsReduced (or_zero (written_share d o))
+pub written_or_zero : (d : Data) (o : Option (List ℕ)) → IsReduced (or_zero (written_share d o))
 written_or_zero d None = whole_or_zero (integer d)
 written_or_zero d (Some s) = text_or_zero s (parsed s) refl
 

@@ -1,27 +1,62 @@
 -- What a document that isn't refused says.
-use Rattle.std.specs.Prelude.{codes, Option, Some, unwrap_or}
+use Rattle.std.specs.Prelude.{codes, Option, Some, None, unwrap_or}
 use Rattle.serde_json.specs.Data.{Data, null}
 use Rattle.serde_json.specs.Find.{get}
 use Rattle.definitions.specs.Games.{Allocation}
+use Rattle.definitions.specs.declared.Family.{Family}
+use Rattle.definitions.specs.declared.Family.TheVariants.{Imputations}
+use Rattle.kohlberg.specs.Certificate.{CertificateData}
+use Rattle.game_text.specs.Limits.{players}
 use Rattle.game_text.specs.Descriptions.{Description, description_of}
 use Rattle.game_text.specs.Shares.{shares_of}
+use Rattle.game_text.specs.CertificateShape.{family_of}
+use Rattle.game_text.specs.Certificates.{certificate_of}
 use Rattle.game_text.specs.declared.command.Command.{Command}
-use Rattle.game_text.specs.declared.command.Command.TheVariants.{Propose}
+use Rattle.game_text.specs.declared.command.Command.TheVariants.{Nucleolus, Prenucleolus, Propose, Check}
 
--- a game, the JSON tree that describes it, and the shares that are proposed, where the command needs them
+-- a game, the JSON tree that describes it, and the family, the shares and the certificate, where the command needs them
 pub record Contents : Type 0 where
   pub game : Description
   pub tree : Data
+  pub family : Option Family
   pub shares : Option Allocation
+  pub certificate : Option CertificateData
 
 -- the tree of the game
 abbrev pub game_tree : Data → Data
 game_tree tree = unwrap_or (get (codes "game") tree) null
 
+-- the tree of the certificate
+abbrev pub certificate_tree : Data → Data
+certificate_tree tree = unwrap_or (get (codes "certificate") tree) null
+
+-- the family that a command needs
+abbrev pub family_for : Command → Data → Option Family
+family_for Nucleolus tree = None
+family_for Prenucleolus tree = None
+family_for Propose tree = None
+family_for Check tree = Some (unwrap_or (family_of tree) Imputations)
+
 -- the shares that a command needs
 abbrev pub shares_for : Command → Data → Data → Option Allocation
+shares_for Nucleolus game tree = None
+shares_for Prenucleolus game tree = None
 shares_for Propose game tree = Some (shares_of game tree)
+shares_for Check game tree = Some (shares_of game tree)
+
+-- the certificate that a command needs
+abbrev pub certificate_for : Command → Data → Data → Option CertificateData
+certificate_for Nucleolus game tree = None
+certificate_for Prenucleolus game tree = None
+certificate_for Propose game tree = None
+certificate_for Check game tree = Some (certificate_of (players game) (certificate_tree tree))
 
 -- what the tree of a document says to a command
 abbrev pub contents_of : Command → Data → Contents
-contents_of command tree = record { game = description_of (game_tree tree); tree = game_tree tree; shares = shares_for command (game_tree tree) tree }
+contents_of command tree = record {
+  game = description_of (game_tree tree);
+  tree = game_tree tree;
+  family = family_for command tree;
+  shares = shares_for command (game_tree tree) tree;
+  certificate = certificate_for command (game_tree tree) tree;
+}

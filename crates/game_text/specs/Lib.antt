@@ -8,6 +8,9 @@ pub mod Descriptions
 pub mod Slots
 pub mod Denominators
 pub mod Shares
+pub mod CertificateShape
+pub mod Levels
+pub mod Certificates
 pub mod Documents
 pub mod Games
 pub mod Refusals

@@ -3,12 +3,14 @@ use Rattle.std.specs.Prelude.{◌≡◌, ⊤, true, ℕ, List, Option, Some, Non
 use Rattle.serde_json.specs.Data.{Data}
 use Rattle.serde_json.specs.View.{view}
 use Rattle.definitions.specs.Games.{Allocation}
+use Rattle.kohlberg.specs.Certificate.{CertificateData}
 use Rattle.game_text.specs.Shape.{is_game_shaped}
 use Rattle.game_text.specs.Limits.{has_players, has_numbers}
 use Rattle.game_text.specs.Descriptions.{description_of}
 use Rattle.game_text.specs.Games.{description_in}
-use Rattle.game_text.specs.Documents.{Contents, shares_for, contents_of}
-use Rattle.game_text.specs.Refusals.{coalition_refusal, game_refusal, needed_refusal, late_refusal, tree_refusal, IsRefused, IsDocument}
+use Rattle.game_text.specs.Shares.{shares_of}
+use Rattle.game_text.specs.Documents.{Contents, family_for, shares_for, certificate_for, contents_of}
+use Rattle.game_text.specs.Refusals.{coalition_refusal, game_refusal, proposal_refusal, share_refusal, certificate_refusal, late_refusal, tree_refusal, IsRefused, IsDocument}
 use Rattle.game_text.specs.declared.class.Class.{Class}
 use Rattle.game_text.specs.declared.class.Class.TheVariants.{Table, CostTable, Airport, Bankruptcy}
 use Rattle.game_text.specs.declared.command.Command.{Command}
@@ -52,26 +54,48 @@ abbrev pub IsGameFault : Data → TextFault → Type 0
 IsGameFault game (Refused r) = (rest : Option Refusal) → game_refusal game rest ≡ Some r
 IsGameFault game Memory = ⊤
 
--- the tests of what the command needs beside the game pass, and these are the shares that it needs
-pub record IsNeededReading (command : Command) (game tree : Data) (shares : Option Allocation) : Type 0 where
-  pub passed : needed_refusal command game tree ≡ None
+-- the tests of the shares pass, and these are the shares
+pub record IsProposal (game tree : Data) (x : Allocation) : Type 0 where
+  pub passed : (rest : Option Refusal) → proposal_refusal game tree rest ≡ rest
+  pub same : x ≡ shares_of game tree
+
+-- the tests of the shares refuse it so; want of memory is free
+abbrev pub IsProposalFault : Data → Data → TextFault → Type 0
+IsProposalFault game tree (Refused r) = (rest : Option Refusal) → proposal_refusal game tree rest ≡ Some r
+IsProposalFault game tree Memory = ⊤
+
+-- the tests of the shares that the command needs pass, and these are the shares that it needs
+pub record IsShareReading (command : Command) (game tree : Data) (shares : Option Allocation) : Type 0 where
+  pub passed : (rest : Option Refusal) → share_refusal command game tree rest ≡ rest
   pub same : shares ≡ shares_for command game tree
 
--- the tests of what the command needs beside the game refuse it so; want of memory is free
-abbrev pub IsNeededFault : Command → Data → Data → TextFault → Type 0
-IsNeededFault command game tree (Refused r) = needed_refusal command game tree ≡ Some r
-IsNeededFault command game tree Memory = ⊤
+-- the tests of the shares that the command needs refuse it so; want of memory is free
+abbrev pub IsShareFault : Command → Data → Data → TextFault → Type 0
+IsShareFault command game tree (Refused r) = (rest : Option Refusal) → share_refusal command game tree rest ≡ Some r
+IsShareFault command game tree Memory = ⊤
+
+-- the test of the certificate that the command needs passes, and this is the certificate that it needs
+pub record IsCertificateReading (command : Command) (game tree : Data) (certificate : Option CertificateData) : Type 0 where
+  pub passed : certificate_refusal command game tree ≡ None
+  pub same : certificate ≡ certificate_for command game tree
+
+-- the test of the certificate that the command needs refuses it so; want of memory is free
+abbrev pub IsCertificateFault : Command → Data → Data → TextFault → Type 0
+IsCertificateFault command game tree (Refused r) = certificate_refusal command game tree ≡ Some r
+IsCertificateFault command game tree Memory = ⊤
 
 -- what a document in memory says
 abbrev pub contents_in : Document → Contents
-contents_in d = record { game = description_in d.game; tree = view d.tree; shares = d.shares }
+contents_in d = record { game = description_in d.game; tree = view d.tree; family = d.family; shares = d.shares; certificate = d.certificate }
 
 -- the tests behind those of the shape, the players and the numbers pass, and this is what the tree says
 pub record IsLateReading (command : Command) (game tree : Data) (d : Document) : Type 0 where
   pub passed : late_refusal command game tree ≡ None
   pub described : description_in d.game ≡ description_of game
   pub same : view d.tree ≡ game
+  pub family : d.family ≡ family_for command tree
   pub shares : d.shares ≡ shares_for command game tree
+  pub certificate : d.certificate ≡ certificate_for command game tree
 
 -- the tests behind those of the shape, the players and the numbers refuse it so; want of memory is free
 abbrev pub IsLateFault : Command → Data → Data → TextFault → Type 0

@@ -3,8 +3,10 @@
 --   tree_refusal  the first test that a JSON tree doesn't pass, in the order of their numbers
 --   IsRefused     the first refusal that applies to the bytes
 --   IsDocument    no refusal applies to the bytes, and this is what they say
-use Rattle.std.specs.Prelude.{◌≡◌, ◌<◌, ◌≤◌, ◌&&◌, ℕ, List, length, Bool, true, false, Option, Some, None, nat_le, sum}
+use Rattle.std.specs.Prelude.{◌≡◌, ◌<◌, ◌≤◌, ◌&&◌, ℕ, codes, List, length, Bool, true, false, Option, Some, None, nat_le, sum}
 use Rattle.serde_json.specs.Data.{Data}
+use Rattle.serde_json.specs.Find.{get}
+use Rattle.game_text.specs.Trees.{passes}
 use Rattle.game_text.specs.Text.{document_limit, IsTextOf, IsNotJson}
 use Rattle.game_text.specs.Shape.{is_shaped}
 use Rattle.game_text.specs.Limits.{players, has_players, has_numbers}
@@ -13,11 +15,12 @@ use Rattle.game_text.specs.Coalitions.{has_coalitions}
 use Rattle.game_text.specs.Descriptions.{Description, table, cost_table, airport, bankruptcy, description_of}
 use Rattle.game_text.specs.Shares.{has_share_numbers, has_shares_for, written_shares}
 use Rattle.game_text.specs.Denominators.{is_coarse}
+use Rattle.game_text.specs.Certificates.{has_form}
 use Rattle.game_text.specs.Documents.{Contents, game_tree, contents_of}
 use Rattle.game_text.specs.declared.command.Command.{Command}
-use Rattle.game_text.specs.declared.command.Command.TheVariants.{Propose}
+use Rattle.game_text.specs.declared.command.Command.TheVariants.{Nucleolus, Prenucleolus, Propose, Check}
 use Rattle.game_text.specs.declared.refusal.Refusal.{Refusal}
-use Rattle.game_text.specs.declared.refusal.Refusal.TheVariants.{TooLong, NotJson, Shape, Players, Number, Names, Coalition, Estate, Proposal, TooFine}
+use Rattle.game_text.specs.declared.refusal.Refusal.TheVariants.{TooLong, NotJson, Shape, Players, Number, Names, Coalition, Estate, Proposal, TooFine, Certificate}
 
 -- an estate is at most the sum of the claims
 abbrev pub is_covered : Description → Bool
@@ -43,13 +46,34 @@ game_refusal game rest = unless (has_names game) Names (coalition_refusal game r
 
 -- each share that a command needs is an integer or a fraction text
 abbrev pub has_needed_numbers : Command → Data → Bool
+has_needed_numbers Nucleolus tree = true
+has_needed_numbers Prenucleolus tree = true
 has_needed_numbers Propose tree = has_share_numbers tree
+has_needed_numbers Check tree = has_share_numbers tree
 
--- the tests of what a command needs beside the game: as many shares as players, over a denominator that isn't too large
-abbrev pub needed_refusal : Command → Data → Data → Option Refusal
-needed_refusal Propose game tree =
+-- as many shares as players, over a denominator that isn't too large, and then the rest
+abbrev pub proposal_refusal : Data → Data → Option Refusal → Option Refusal
+proposal_refusal game tree rest =
     unless (has_shares_for (players game) tree) Proposal (
-    unless (is_coarse (written_shares tree)) TooFine None)
+    unless (is_coarse (written_shares tree)) TooFine rest)
+
+-- the tests of the shares that a command needs, and then the rest
+abbrev pub share_refusal : Command → Data → Data → Option Refusal → Option Refusal
+share_refusal Nucleolus game tree rest = rest
+share_refusal Prenucleolus game tree rest = rest
+share_refusal Propose game tree rest = proposal_refusal game tree rest
+share_refusal Check game tree rest = proposal_refusal game tree rest
+
+-- the test of the certificate that a command needs
+abbrev pub certificate_refusal : Command → Data → Data → Option Refusal
+certificate_refusal Nucleolus game tree = None
+certificate_refusal Prenucleolus game tree = None
+certificate_refusal Propose game tree = None
+certificate_refusal Check game tree = unless (passes (has_form (players game)) (get (codes "certificate") tree)) Certificate None
+
+-- the tests of what a command needs beside the game
+abbrev pub needed_refusal : Command → Data → Data → Option Refusal
+needed_refusal command game tree = share_refusal command game tree (certificate_refusal command game tree)
 
 -- the tests behind those of the shape, the players and the numbers
 abbrev pub late_refusal : Command → Data → Data → Option Refusal

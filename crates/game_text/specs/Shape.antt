@@ -3,16 +3,17 @@
 --   class_of        the class that a game names
 --   is_game_shaped  a game has the keys and kinds of its class
 --   is_shaped       a document has the keys and kinds that a command needs
-use Rattle.std.specs.Prelude.{ℕ, List, codes, Bool, false, ◌&&◌, ◌||◌, Option, Some, None, is_none, option_and_then, if◌then◌else◌}
+use Rattle.std.specs.Prelude.{ℕ, List, codes, Bool, true, false, ◌&&◌, ◌||◌, Option, Some, None, is_some, is_none, option_and_then, if◌then◌else◌}
 use Rattle.std.specs.List.{list_all}
 use Rattle.std.specs.Str.{bytes_eq}
 use Rattle.serde_json.specs.Data.{Data}
 use Rattle.serde_json.specs.Find.{get, as_str}
 use Rattle.game_text.specs.Trees.{keys, passes, passes_if_there, is_number, is_text, is_array_of, is_pair_of}
+use Rattle.game_text.specs.CertificateShape.{family_of, is_certificate}
 use Rattle.game_text.specs.declared.class.Class.{Class}
 use Rattle.game_text.specs.declared.class.Class.TheVariants.{Table, CostTable, Airport, Bankruptcy}
 use Rattle.game_text.specs.declared.command.Command.{Command}
-use Rattle.game_text.specs.declared.command.Command.TheVariants.{Propose}
+use Rattle.game_text.specs.declared.command.Command.TheVariants.{Nucleolus, Prenucleolus, Propose, Check}
 
 -- the keys of a document
 abbrev pub is_document_key : List ℕ → Bool
@@ -78,9 +79,16 @@ is_shaped_as (Some Bankruptcy) game = is_bankruptcy_shaped game
 abbrev pub is_game_shaped : Data → Bool
 is_game_shaped game = passes_if_there (is_array_of is_text) (get (codes "names") game) && is_shaped_as (class_of game) game
 
+-- shares are numbers and texts
+abbrev pub has_shares : Data → Bool
+has_shares tree = passes (is_array_of is_member) (get (codes "shares") tree)
+
 -- the values that the command needs beside the game
 abbrev pub has_needed : Command → Data → Bool
-has_needed Propose tree = passes (is_array_of is_member) (get (codes "shares") tree)
+has_needed Nucleolus tree = true
+has_needed Prenucleolus tree = true
+has_needed Propose tree = has_shares tree
+has_needed Check tree = has_shares tree && is_some (family_of tree) && passes is_certificate (get (codes "certificate") tree)
 
 -- an object with keys of a document, a game, and what the command needs; what is no object has no game
 abbrev pub is_shaped : Command → Data → Bool

@@ -3,11 +3,14 @@ use Rattle.std.specs.Prelude.{◌≡◌, ◌==◌, ◌-◌, ◌&&◌, ℕ, List,
 use Rattle.serde_json.specs.Data.{Data}
 use Rattle.serde_json.specs.Read.{read}
 use Rattle.game_text.specs.declared.command.Command.{Command}
-use Rattle.game_text.specs.declared.command.Command.TheVariants.{Propose}
+use Rattle.game_text.specs.declared.command.Command.TheVariants.{Nucleolus, Prenucleolus, Propose, Check}
 
 -- the most bytes that a document for a command may have
 abbrev pub document_limit : Command → ℕ
+document_limit Nucleolus = 2097152
+document_limit Prenucleolus = 2097152
 document_limit Propose = 2097152
+document_limit Check = 8388608
 
 -- the bytes without a newline at their end
 abbrev pub without_newline : List ℕ → List ℕ

@@ -1,5 +1,7 @@
 //! A document that isn't refused.
 use crate::game::Game;
+use definitions::Family;
+use kohlberg::Certificate;
 use serde_json::Value;
 use worth_core::Shares;
 
@@ -10,6 +12,10 @@ pub struct Document {
     pub game: Game,
     /// The JSON tree of the game, as it was read.
     pub tree: Value,
+    /// The family that the answer names; there for every command that needs it.
+    pub family: Option<Family>,
     /// The proposed shares, as worth over their least common denominator; there for every command that needs them.
     pub shares: Option<Shares>,
+    /// The certificate that the shares are best in the family; there for every command that needs it.
+    pub certificate: Option<Certificate>,
 }

@@ -1,13 +1,17 @@
 //! Documents of cooperative games: the game and the proposed shares, or the first refusal that applies.
 #![tactic(auto)]
 
+mod ascending;
 mod building;
+mod certificate_shape;
+mod certificates;
 mod class;
 mod command;
 mod document;
 mod fault;
 mod game;
 mod kind;
+mod levels;
 mod limits;
 mod masks;
 mod names;

@@ -10,7 +10,7 @@ use coalitions::Coalition;
 use serde_json::Value;
 
 /// The player that a number from 1 to `players` names.
-fn numbered_player(players: u32, number: i64) -> Option<u32>
+pub fn numbered_player(players: u32, number: i64) -> Option<u32>
     ensures player { result ≡ numbered_player players number }
     ensures within { IfSome result (λ i. i < players) }
 {

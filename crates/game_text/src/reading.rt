@@ -1,15 +1,21 @@
 //! From the bytes of a document to what it says, or to its refusal.
-ghost use Rattle.std.specs.Prelude.{◌≡◌, ◌≤◌, MatchResult, IfOk, IfSome, Some, None, length, if◌then◌else◌};
+ghost use Rattle.std.specs.Prelude.{◌≡◌, ◌≤◌, MatchResult, IfOk, IfSome, Some, None, codes, length, if◌then◌else◌};
 ghost use Rattle.serde_json.specs.View.{view};
+ghost use Rattle.serde_json.specs.Find.{get};
+ghost use Rattle.game_text.specs.Trees.{passes};
+ghost use Rattle.game_text.specs.Certificates.{has_form, certificate_of};
+ghost use Rattle.game_text.specs.Documents.{certificate_tree, family_for};
 ghost use Rattle.game_text.specs.Descriptions.{description_of, game_of, is_cost};
 ghost use Rattle.game_text.specs.Games.{description_in};
 ghost use Rattle.game_text.specs.Limits.{players};
 ghost use Rattle.game_text.specs.Names.{has_names, names_of};
 ghost use Rattle.game_text.specs.Refusals.{has_needed_numbers};
 ghost use Rattle.game_text.specs.Text.{document_limit, without_newline};
-ghost use Rattle.game_text.specs.Readings.{HasSizes, IsFault, IsReading, IsTreeFault, IsTreeReading, IsLateFault, IsLateReading, IsGameFault, IsGameReading, IsNeededFault, IsNeededReading};
+ghost use Rattle.game_text.specs.Readings.{HasSizes, IsFault, IsReading, IsTreeFault, IsTreeReading, IsLateFault, IsLateReading, IsGameFault, IsGameReading, IsProposal, IsProposalFault, IsShareReading, IsShareFault, IsCertificateReading, IsCertificateFault};
 
 use crate::building::game_of;
+use crate::certificate_shape::family_of;
+use crate::certificates::certificate_of;
 use crate::command::Command;
 use crate::document::Document;
 use crate::fault::TextFault;
@@ -19,16 +25,19 @@ use crate::names::{Names, know_sparse, names_of};
 use crate::refusal::Refusal;
 use crate::shape::is_shaped;
 use crate::shares::{has_share_numbers, has_shares_for, shares_as_worth};
+use definitions::Family;
 use fractions::OutOfMemory;
+use kohlberg::Certificate;
 use serde_json::Value;
 use std::alloc::Global;
 use worth_core::Shares;
 
 /// The document that the bytes are the text of, or the first refusal that applies to them. Where the command needs shares,
-/// there is one for each player of the game.
+/// there is one for each player of the game; where it needs a certificate, it is one for the players of the game.
 pub fn read_document(alloc: Global, bytes: &[u8], command: Command) -> Result<Document, TextFault>
     ensures reading { MatchResult result (IsReading command bytes.now) (IsFault command bytes.now) }
     ensures count { IfOk result (λ d. IfSome d.shares (λ x. length x.shares ≡ (game_of (description_in d.game)).players)) }
+    ensures players { IfOk result (λ d. IfSome d.certificate (λ c. c.players ≡ (game_of (description_in d.game)).players)) }
 {
     if bytes.len() > document_limit(command) {
         return Err(TextFault::Refused(Refusal::TooLong));
@@ -45,7 +54,8 @@ fn document_limit(command: Command) -> usize
     ensures { result ≡ document_limit command }
 {
     match command {
-        Command::Propose => 2_097_152,
+        Command::Nucleolus | Command::Prenucleolus | Command::Propose => 2_097_152,
+        Command::Check => 8_388_608,
     }
 }
 
@@ -82,7 +92,8 @@ fn has_needed_numbers(command: Command, tree: &Value) -> bool
     ensures { result ≡ has_needed_numbers command (view tree.now) }
 {
     match command {
-        Command::Propose => has_share_numbers(tree),
+        Command::Propose | Command::Check => has_share_numbers(tree),
+        Command::Nucleolus | Command::Prenucleolus => true,
     }
 }
 
@@ -104,13 +115,19 @@ fn late_document(
         Ok(shares) => shares,
         Err(e) => return Err(e),
     };
+    let certificate = match needed_certificate(alloc, command, game, tree) {
+        Ok(certificate) => certificate,
+        Err(e) => return Err(e),
+    };
     let Ok(copy) = game.clone() else {
         return Err(TextFault::Memory);
     };
     Ok(Document {
         game: described,
         tree: copy,
+        family: needed_family(command, tree),
         shares,
+        certificate,
     })
 }
 
@@ -140,7 +157,36 @@ fn right_names<'a>(alloc: Global, game: &'a Value) -> Result<Option<Names<'a>>, 
     Ok(Some(names))
 }
 
-/// The shares that a command needs, where there is one for each player and their denominator isn't too large.
+fn needed_family(command: Command, tree: &Value) -> Option<Family>
+    ensures { result ≡ family_for command (view tree.now) }
+{
+    match command {
+        Command::Check => Some(family_of(tree).unwrap_or(Family::Imputations)),
+        Command::Nucleolus | Command::Prenucleolus | Command::Propose => None,
+    }
+}
+
+/// The proposed shares, where there is one for each player and their denominator isn't too large.
+fn right_shares(
+    alloc: Global,
+    game: &Value,
+    tree: &Value,
+    are_payments: bool,
+) -> Result<Shares, TextFault>
+    requires sizes { HasSizes (view game.now) }
+    requires sign { are_payments ≡ is_cost (description_of (view game.now)) }
+    ensures { MatchResult result (IsProposal (view game.now) (view tree.now)) (IsProposalFault (view game.now) (view tree.now)) }
+{
+    if !has_shares_for(players(game), tree) {
+        return Err(TextFault::Refused(Refusal::Proposal));
+    }
+    let Some(shares) = shares_as_worth(alloc, tree, are_payments)? else {
+        return Err(TextFault::Refused(Refusal::TooFine));
+    };
+    Ok(shares)
+}
+
+/// The shares that a command needs.
 fn needed_shares(
     alloc: Global,
     command: Command,
@@ -150,17 +196,51 @@ fn needed_shares(
 ) -> Result<Option<Shares>, TextFault>
     requires sizes { HasSizes (view game.now) }
     requires sign { are_payments ≡ is_cost (description_of (view game.now)) }
-    ensures { MatchResult result (IsNeededReading command (view game.now) (view tree.now)) (IsNeededFault command (view game.now) (view tree.now)) }
+    ensures { MatchResult result (IsShareReading command (view game.now) (view tree.now)) (IsShareFault command (view game.now) (view tree.now)) }
 {
     match command {
-        Command::Propose => {
-            if !has_shares_for(players(game), tree) {
-                return Err(TextFault::Refused(Refusal::Proposal));
-            }
-            let Some(shares) = shares_as_worth(alloc, tree, are_payments)? else {
-                return Err(TextFault::Refused(Refusal::TooFine));
-            };
+        Command::Propose | Command::Check => {
+            let shares = right_shares(alloc, game, tree, are_payments)?;
             Ok(Some(shares))
         }
+        Command::Nucleolus | Command::Prenucleolus => Ok(None),
+    }
+}
+
+/// The certificate for `players` players, where it has its form.
+fn right_certificate(
+    alloc: Global,
+    players: u32,
+    tree: &Value,
+) -> Result<Option<Certificate>, OutOfMemory>
+    requires some { 1 ≤ players }
+    requires few { players ≤ 64 }
+    ensures { IfOk result (λ o. o ≡ (if passes (has_form players) (get (codes "certificate") (view tree.now))
+        then Some (certificate_of players (certificate_tree (view tree.now))) else None)) }
+{
+    match tree.get("certificate") {
+        Some(certificate) => certificate_of(alloc, players, certificate),
+        None => Ok(None),
+    }
+}
+
+/// The certificate that a command needs, where it has its form.
+fn needed_certificate(
+    alloc: Global,
+    command: Command,
+    game: &Value,
+    tree: &Value,
+) -> Result<Option<Certificate>, TextFault>
+    requires { HasSizes (view game.now) }
+    ensures { MatchResult result (IsCertificateReading command (view game.now) (view tree.now)) (IsCertificateFault command (view game.now) (view tree.now)) }
+{
+    match command {
+        Command::Check => {
+            let Some(certificate) = right_certificate(alloc, players(game) as u32, tree)? else {
+                return Err(TextFault::Refused(Refusal::Certificate));
+            };
+            Ok(Some(certificate))
+        }
+        Command::Nucleolus | Command::Prenucleolus | Command::Propose => Ok(None),
     }
 }

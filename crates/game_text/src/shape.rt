@@ -5,11 +5,13 @@ ghost use Rattle.std.specs.Map.{keys_of};
 ghost use Rattle.serde_json.specs.View.{view};
 ghost use Rattle.serde_json.specs.Find.{get};
 ghost use Rattle.game_text.specs.Trees.{is_array_of, is_number, is_text, keys, passes, passes_if_there};
-ghost use Rattle.game_text.specs.Shape.{is_document_key, is_table_key, is_airport_key, is_bankruptcy_key, class_named, class_of, is_member, is_sparse_pair, lists_worths, lists_coalitions, is_table_shaped, is_airport_shaped, is_bankruptcy_shaped, is_shaped_as, is_game_shaped, has_needed, is_shaped};
+ghost use Rattle.game_text.specs.CertificateShape.{is_certificate};
+ghost use Rattle.game_text.specs.Shape.{is_document_key, is_table_key, is_airport_key, is_bankruptcy_key, class_named, class_of, is_member, is_sparse_pair, lists_worths, lists_coalitions, is_table_shaped, is_airport_shaped, is_bankruptcy_shaped, is_shaped_as, is_game_shaped, has_shares, has_needed, is_shaped};
 
+use crate::certificate_shape::{family_of, is_certificate};
 use crate::class::Class;
 use crate::command::Command;
-use crate::trees::{are_numbers, are_texts, is_number, is_text, parts};
+use crate::trees::{are_texts, has_number, is_array_of_numbers, is_number, is_text, parts};
 use serde_json::{Map, Value};
 
 fn is_document_key(key: &str) -> bool
@@ -70,13 +72,6 @@ fn is_array_of_texts(value: &Value) -> bool
     ensures { result ≡ is_array_of is_text (view value.now) }
 {
     value.is_array() && are_texts(parts(value))
-}
-
-#[tactic(auto, using(crate::proofs::Values::all_views))]
-fn is_array_of_numbers(value: &Value) -> bool
-    ensures { result ≡ is_array_of is_number (view value.now) }
-{
-    value.is_array() && are_numbers(parts(value))
 }
 
 fn is_member(value: &Value) -> bool
@@ -193,15 +188,6 @@ fn has_numbers(game: &Value, key: &str) -> bool
     }
 }
 
-fn has_number(game: &Value, key: &str) -> bool
-    ensures { result ≡ passes is_number (get key.now (view game.now)) }
-{
-    match game.get(key) {
-        Some(value) => is_number(value),
-        None => false,
-    }
-}
-
 fn lists_worths(game: &Value) -> bool
     ensures { result ≡ lists_worths (view game.now) }
 {
@@ -287,11 +273,20 @@ fn has_shaped_game(tree: &Value) -> bool
     }
 }
 
-fn has_members(tree: &Value, key: &str) -> bool
-    ensures { result ≡ passes (is_array_of is_member) (get key.now (view tree.now)) }
+fn has_shares(tree: &Value) -> bool
+    ensures { result ≡ has_shares (view tree.now) }
 {
-    match tree.get(key) {
+    match tree.get("shares") {
         Some(value) => is_array_of_members(value),
+        None => false,
+    }
+}
+
+fn has_shaped_certificate(tree: &Value) -> bool
+    ensures { result ≡ passes is_certificate (get (codes "certificate") (view tree.now)) }
+{
+    match tree.get("certificate") {
+        Some(value) => is_certificate(value),
         None => false,
     }
 }
@@ -300,7 +295,11 @@ fn has_needed(command: Command, tree: &Value) -> bool
     ensures { result ≡ has_needed command (view tree.now) }
 {
     match command {
-        Command::Propose => has_members(tree, "shares"),
+        Command::Nucleolus | Command::Prenucleolus => true,
+        Command::Propose => has_shares(tree),
+        Command::Check => {
+            has_shares(tree) && family_of(tree).is_some() && has_shaped_certificate(tree)
+        }
     }
 }
 

@@ -30,7 +30,8 @@ fn share_of(value: &Value) -> Option<Frac>
     }
 }
 
-fn is_share(value: &Value) -> bool
+/// Whether it is an integer or a fraction text.
+pub fn is_share(value: &Value) -> bool
     ensures { result ≡ is_share (view value.now) }
 {
     share_of(value).is_some()
@@ -57,7 +58,8 @@ pub fn has_shares_for(players: usize, tree: &Value) -> bool
     parts_at(tree, "shares").len() == players
 }
 
-fn fraction_or_zero(value: &Value) -> Frac
+/// The fraction that is written, and 0 where it is none.
+pub fn fraction_or_zero(value: &Value) -> Frac
     ensures { result ≡ fraction_or_zero (view value.now) }
 {
     share_of(value).unwrap_or(Frac::from_int(0))

@@ -45,7 +45,8 @@ pub fn integer_at(game: &Value, key: &str) -> i64
     }
 }
 
-fn second_integer(pair: &Value) -> i64
+/// The integer of the second of two items, and 0 where there is none.
+pub fn second_integer(pair: &Value) -> i64
     ensures { result ≡ second_integer (parts (view pair.now)) }
 {
     match parts(pair) {

@@ -2,7 +2,8 @@
 ghost use Rattle.std.specs.Prelude.{◌≡◌, map, is_some};
 ghost use Rattle.std.specs.List.{list_all};
 ghost use Rattle.serde_json.specs.View.{view};
-ghost use Rattle.game_text.specs.Trees.{parts, parts_at, is_number, is_text, integer, text_of};
+ghost use Rattle.serde_json.specs.Find.{get};
+ghost use Rattle.game_text.specs.Trees.{parts, parts_at, passes, is_array_of, is_number, is_text, integer, text_of};
 
 use serde_json::Value;
 
@@ -52,6 +53,34 @@ pub fn are_numbers(values: &[Value]) -> bool
     ensures { result ≡ list_all (λ v. is_number (view v)) values.now }
 {
     values.iter().all(|v| is_number(v))
+}
+
+/// Whether it is an array of numbers.
+#[tactic(auto, using(crate::proofs::Values::all_views))]
+pub fn is_array_of_numbers(value: &Value) -> bool
+    ensures { result ≡ is_array_of is_number (view value.now) }
+{
+    value.is_array() && are_numbers(parts(value))
+}
+
+/// Whether there is a number at a key.
+pub fn has_number(value: &Value, key: &str) -> bool
+    ensures { result ≡ passes is_number (get key.now (view value.now)) }
+{
+    match value.get(key) {
+        Some(part) => is_number(part),
+        None => false,
+    }
+}
+
+/// Whether there is a text at a key.
+pub fn has_text(value: &Value, key: &str) -> bool
+    ensures { result ≡ passes is_text (get key.now (view value.now)) }
+{
+    match value.get(key) {
+        Some(part) => is_text(part),
+        None => false,
+    }
 }
 
 /// The integer that a number is.

@@ -3,7 +3,7 @@ use Rattle.serde_json.specs.Read.{read}
 use Rattle.serde_json.specs.View.{view}
 use Rattle.game_text.specs.Text.{IsTextOf}
 use Rattle.game_text.proofs.Chain.{from_tree}
-use Rattle.game_text.proofs.Counts.{share_each}
+use Rattle.game_text.proofs.Counts.{share_each, its_players}
 use Rattle.game_text.proofs.reading.read_document.Goals as goal
 
 pub returns-clause-reading : goal.returns-clause-reading
@@ -14,3 +14,6 @@ returns-clause-reading c =
 
 pub returns-clause-count : goal.returns-clause-count
 returns-clause-count c = share_each c.args.command (view c.in-Ok.tree) c.document_of.result c.document_of.ensures
+
+pub returns-clause-players : goal.returns-clause-players
+returns-clause-players c = its_players c.args.command (view c.in-Ok.tree) c.document_of.result c.document_of.ensures
