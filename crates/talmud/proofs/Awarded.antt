@@ -1,10 +1,10 @@
 -- The shares that a division gives are those of the rule.
-use Rattle.std.proofs.Common.{◌≡◌, ◌≢◌, ◌⊎◌, ℕ, zero, suc, ◌+◌, ◌-◌, ◌*◌, ◌^◌, ◌<◌, ◌≤◌, Bool, true, false, cond, List, length, get_or, map, min, int_le, int_lt, ℤ, pos, ◌+ℤ◌, ◌-ℤ◌, ◌*ℤ◌, ◌<ℤ◌, ◌≤ℤ◌, unsigned_abs, refl, sym, ap, subst, ◌∙◌, inl, inr, arith}
+use Rattle.std.proofs.Common.{◌≡◌, ◌≢◌, ◌⊎◌, ℕ, zero, suc, ◌-◌, ◌*◌, ◌^◌, ◌<◌, ◌≤◌, Bool, true, false, cond, List, length, get_or, map, min, int_le, int_lt, ℤ, pos, ◌+ℤ◌, ◌-ℤ◌, ◌*ℤ◌, ◌<ℤ◌, ◌≤ℤ◌, unsigned_abs, refl, sym, ap, subst, ◌∙◌, inl, inr, arith}
 use Rattle.std.specs.Int.{int_min}
 use Rattle.std.proofs.lemmas.Int.{ints}
 use Rattle.std.proofs.lemmas.List.{length-map, get_or-map}
 use Rattle.std.proofs.Math.Nat.{mul-le-mul}
-use Rattle.definitions.proofs.Ring.{linear, mul-addℤ, mul-subℤ, mul-zeroℤ, add-mulℤ}
+use Rattle.definitions.proofs.Ring.{linear, mul-addℤ, mul-subℤ, mul-zeroℤ}
 use Rattle.definitions.proofs.Members.{sum_below-same}
 use Rattle.definitions.specs.Sums.{sum_below}
 use Rattle.definitions.specs.Games.{Allocation, share, IsShares}
@@ -13,7 +13,7 @@ use Rattle.orders.specs.Orders.{IsOrder}
 use Rattle.orders.proofs.Fronts.{order-place}
 use Rattle.talmud.specs.Rule.{cut_claims, cut, cut_sum, loss, is_little, part, IsTalmud}
 use Rattle.talmud.specs.Levels.{IsHalfOrder}
-use Rattle.talmud.specs.Division.{OrderedClaims, IsOrderedClaims, place, claim_at, claim_sum, divided, IsSide, IsDivision, award}
+use Rattle.talmud.specs.Division.{OrderedClaims, IsOrderedClaims, place, claim_at, claim_sum, divided, IsDivision, award}
 use Rattle.talmud.proofs.Cuts.{length-cut, claim_sum-cut}
 use Rattle.talmud.proofs.ByPlace.{IsRule}
 

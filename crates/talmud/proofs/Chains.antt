@@ -1,11 +1,11 @@
 -- The levels of the rule have the form of a certificate, and certify the shares.
-use Rattle.std.proofs.Common.{◌≡◌, ◌≢◌, ◌⊎◌, ℕ, zero, suc, ◌+◌, ◌-◌, ◌^◌, ◌<◌, ◌≤◌, Bool, true, false, not, cond, ◌&&◌, ◌||◌, nat_eq, List, [], ◌∷◌, ◌++◌, length, ℤ, pos, ◌+ℤ◌, ◌-ℤ◌, ◌*ℤ◌, neg_ℤ, ◌≤ℤ◌, refl, sym, ap, subst, ◌∙◌, inl, inr, arith}
+use Rattle.std.proofs.Common.{◌≡◌, ◌≢◌, ◌⊎◌, ℕ, zero, suc, ◌+◌, ◌-◌, ◌^◌, ◌<◌, ◌≤◌, Bool, true, false, not, cond, ◌||◌, nat_eq, List, [], ◌∷◌, ◌++◌, length, ℤ, pos, ◌+ℤ◌, ◌-ℤ◌, ◌*ℤ◌, neg_ℤ, ◌≤ℤ◌, refl, sym, ap, subst, ◌∙◌, inl, inr, arith}
 use Rattle.std.proofs.lemmas.Bool.{false≢true}
 use Rattle.std.proofs.lemmas.Int.{ints}
 use Rattle.std.proofs.Math.Pow.{pow-lt}
 use Rattle.definitions.proofs.Ring.{ring_laws, linear, add-mulℤ}
 use Rattle.definitions.proofs.Members.{sum_over-grand_coalition, sum_over-singleton}
-use Rattle.definitions.specs.Coalitions.{has_player, singleton, grand_coalition, weight_at, some_below, splits}
+use Rattle.definitions.specs.Coalitions.{singleton, grand_coalition, weight_at, splits}
 use Rattle.definitions.specs.Games.{Allocation, share, amount, excess, IsEfficient, IsIndividuallyRational, InFamily, InCore}
 use Rattle.definitions.specs.Certificates.{Level, is_listed, has_bound, is_free, number_at, Ascends, IsSmall, LevelForm, LevelsForm, HasForm, LevelHolds, LevelsHold, HasExcess, Certifies}
 use Rattle.definitions.specs.declared.Family.{Family}

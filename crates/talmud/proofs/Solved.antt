@@ -1,5 +1,5 @@
 -- What the code made is a certified answer.
-use Rattle.std.proofs.Common.{◌≡◌, ◌⊎◌, ℕ, ◌+◌, ◌-◌, ◌*◌, ◌≤◌, Bool, List, [], ◌∷◌, ◌++◌, length, map, Option, Some, None, MatchOption, IsSome, Result, Ok, Err, MatchResult, IsOk, ℤ, pos, refl, sym, ap, subst, inl, inr, arith}
+use Rattle.std.proofs.Common.{◌≡◌, ℕ, ◌+◌, ◌-◌, ◌*◌, ◌≤◌, Bool, List, [], ◌∷◌, length, map, Option, Some, None, MatchOption, IsSome, Result, Ok, Err, MatchResult, IsOk, ℤ, pos, refl, sym, ap, subst, inl, inr, arith}
 use Rattle.std.specs.List.{AllByRecursion}
 use Rattle.definitions.specs.Games.{Allocation}
 use Rattle.definitions.specs.Certificates.{Level, HasForm}
@@ -8,7 +8,7 @@ use Rattle.kohlberg.specs.Certificate.{CertificateData}
 use Rattle.kohlberg.specs.Solved.{IsSolved}
 use Rattle.kohlberg.proofs.Forms.{all_join}
 use Rattle.bankruptcy.specs.Bankruptcy.{Bankruptcy, IsBankruptcy, bankruptcy_game}
-use Rattle.talmud.specs.Rule.{cut_claims, cut, is_little}
+use Rattle.talmud.specs.Rule.{cut_claims, cut}
 use Rattle.talmud.specs.Division.{OrderedClaims, IsOrderedClaims, place, IsDivision, award}
 use Rattle.worth_core.specs.Allocations.{allocation}
 use Rattle.talmud.specs.Levels.{key_of, IsRestLevel, AreHalves, AreLevels, AreRuleLevels}

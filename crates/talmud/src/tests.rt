@@ -42,7 +42,8 @@ fn is_certified(s: &Solution) -> bool
 
 /// Whether player `i` gets so much.
 fn gets(s: &Solution, i: u32, share: (i128, i128)) -> bool {
-    i < s.shares.players() && Some(ratio(s.shares.num(i), s.shares.den())) == Frac::new(share.0, share.1)
+    i < s.shares.players()
+        && Some(ratio(s.shares.num(i), s.shares.den())) == Frac::new(share.0, share.1)
 }
 
 /// Whether a level has this excess over a denominator, these coalitions and earlier ones, all of weight 1, no bounds, and
@@ -75,9 +76,7 @@ fn are_masks(pairs: &[(Coalition, i128)], masks: &[u64]) -> bool {
 }
 
 #[test]
-fn claims_of_100_and_200_and_300_are_shared_as_in_the_talmud(
-    rt: HostRuntime,
-) -> Result<(), Fail> {
+fn claims_of_100_and_200_and_300_are_shared_as_in_the_talmud(rt: HostRuntime) -> Result<(), Fail> {
     for (estate, shares) in [
         (0, [(0, 1), (0, 1), (0, 1)]),
         (100, [(100, 3), (100, 3), (100, 3)]),
@@ -88,7 +87,10 @@ fn claims_of_100_and_200_and_300_are_shared_as_in_the_talmud(
     ] {
         let s = solved(rt.alloc(), estate, &[100, 200, 300])?;
         for i in 0..3u32 {
-            assert!(rt; gets(&s, i, shares[i as usize]), "player {i} of estate {estate}");
+            assert!(rt;
+                gets(&s, i, shares[i as usize]),
+                "player {i} of estate {estate}"
+            );
         }
         assert!(rt; is_certified(&s), "estate {estate}");
     }
@@ -120,8 +122,24 @@ fn estate_of_half_the_claims_has_a_level_for_each_claim(rt: HostRuntime) -> Resu
     let s = solved(rt.alloc(), 300, &[200, 100, 200, 100])?;
     let levels = s.certificate.levels();
     assert_eq!(rt; levels.len(), 2);
-    assert!(rt; is_level(&levels[0], (-50, 1), &[0b0010, 0b0111, 0b1000, 0b1101], &[], 2));
-    assert!(rt; is_level(&levels[1], (-100, 1), &[0b0001, 0b0100, 0b1011, 0b1110], &[], 2));
+    assert!(rt;
+        is_level(
+            &levels[0],
+            (-50, 1),
+            &[0b0010, 0b0111, 0b1000, 0b1101],
+            &[],
+            2
+        )
+    );
+    assert!(rt;
+        is_level(
+            &levels[1],
+            (-100, 1),
+            &[0b0001, 0b0100, 0b1011, 0b1110],
+            &[],
+            2
+        )
+    );
     assert!(rt; is_certified(&s));
     Ok(())
 }
@@ -157,7 +175,10 @@ fn two_players_have_one_level_with_each_alone(rt: HostRuntime) -> Result<(), Fai
         assert!(rt; gets(&s, 1, shares[1]), "estate {estate}");
         let levels = s.certificate.levels();
         assert_eq!(rt; levels.len(), 1);
-        assert!(rt; is_level(&levels[0], excess, &[0b01, 0b10], &[], 1), "estate {estate}");
+        assert!(rt;
+            is_level(&levels[0], excess, &[0b01, 0b10], &[], 1),
+            "estate {estate}"
+        );
         assert!(rt; is_certified(&s), "estate {estate}");
     }
     Ok(())
@@ -168,7 +189,10 @@ fn equal_claims_of_64_players_are_shared_equally(rt: HostRuntime) -> Result<(), 
     for estate in [1, 1600, 6399] {
         let s = solved(rt.alloc(), estate, &[100; 64])?;
         for i in 0..64 {
-            assert!(rt; gets(&s, i, (estate as i128, 64)), "player {i} of estate {estate}");
+            assert!(rt;
+                gets(&s, i, (estate as i128, 64)),
+                "player {i} of estate {estate}"
+            );
         }
         assert!(rt; is_certified(&s), "estate {estate}");
     }
@@ -226,8 +250,11 @@ fn plain_shares(
 
 /// Whether each player gets so much over 24.
 fn gets_all(s: &Solution, shares: &[i128]) -> bool {
-    for i in 0..shares.len() {
-        if !gets(s, i as u32, (shares[i], 24)) {
+    if s.shares.players() as usize != shares.len() {
+        return false;
+    }
+    for i in 0..s.shares.players() {
+        if !gets(s, i, (shares[i as usize], 24)) {
             return false;
         }
     }
@@ -243,21 +270,21 @@ fn agrees(alloc: Global, estate: i64, claims: &[i64]) -> Result<bool, Fail> {
 
 #[test]
 fn shares_at_each_estate_are_those_of_the_plain_rule(rt: HostRuntime) -> Result<(), Fail> {
-    for (n, claims, most) in [
-        (1, [3, 0, 0, 0], 3),
-        (2, [1, 1, 0, 0], 2),
-        (2, [0, 2, 0, 0], 2),
-        (2, [4, 1, 0, 0], 5),
-        (3, [0, 0, 3, 0], 3),
-        (3, [1, 2, 3, 0], 6),
-        (3, [2, 2, 2, 0], 6),
-        (3, [5, 1, 5, 0], 11),
-        (4, [1, 2, 3, 4], 10),
-        (4, [3, 2, 2, 3], 10),
-        (4, [0, 1, 6, 6], 13),
+    for (claims, most) in [
+        (&[3][..], 3),
+        (&[1, 1][..], 2),
+        (&[0, 2][..], 2),
+        (&[4, 1][..], 5),
+        (&[0, 0, 3][..], 3),
+        (&[1, 2, 3][..], 6),
+        (&[2, 2, 2][..], 6),
+        (&[5, 1, 5][..], 11),
+        (&[1, 2, 3, 4][..], 10),
+        (&[3, 2, 2, 3][..], 10),
+        (&[0, 1, 6, 6][..], 13),
     ] {
         for estate in 0..=most {
-            let agrees = agrees(rt.alloc(), estate, &claims[..n])?;
+            let agrees = agrees(rt.alloc(), estate, claims)?;
             assert!(rt; agrees, "estate {estate} of {claims:?}");
         }
     }

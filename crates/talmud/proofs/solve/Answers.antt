@@ -1,5 +1,4 @@
-use Rattle.std.proofs.Common.{◌≡◌, ◌*◌, ◌^◌, ◌<◌, ◌≤◌, ℕ, List, length, map, ℤ, pos, unsigned_abs, to_z, of_z, arith, ap, sym, subst, ◌∙◌}
-use Rattle.std.proofs.lemmas.Int.{ints}
+use Rattle.std.proofs.Common.{◌≡◌, ◌*◌, ◌^◌, ◌<◌, ℕ, length, map, ℤ, pos, unsigned_abs, to_z, of_z, arith, ap, sym, subst, ◌∙◌}
 use Rattle.worth_core.proofs.Casts.{cast_kept}
 use Rattle.kohlberg.proofs.Kept.{kept}
 use mir.Syntax.{w64, w128}
@@ -9,7 +8,7 @@ use Rattle.definitions.specs.declared.Mode.TheVariants.{Players}
 use Rattle.worth_core.specs.Allocations.{allocation}
 use Rattle.talmud.specs.Rule.{cut}
 use Rattle.talmud.specs.Levels.{AreLevels}
-use Rattle.talmud.specs.Division.{place, IsOrderedClaims, IsDivision, award}
+use Rattle.talmud.specs.Division.{place, IsOrderedClaims, award}
 use Rattle.talmud.proofs.Cuts.{length-cut, all-cut_low, cut-enough}
 use Rattle.talmud.proofs.Awarded.{IsShares-awards, IsTalmud-rule}
 use Rattle.talmud.proofs.Solved.{is_some, is_ok, rule_of, AreLevels-cut, levels-formed, solved, AreRuleLevels-rule}

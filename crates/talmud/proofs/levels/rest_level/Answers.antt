@@ -1,4 +1,4 @@
-use Rattle.std.proofs.Common.{◌≡◌, ◌-◌, ◌*◌, ◌^◌, ◌<◌, ℕ, ℤ, pos, ◌-ℤ◌, neg_ℤ, to_z, of_z, unsigned_abs, arith, ap, ◌∙◌}
+use Rattle.std.proofs.Common.{◌≡◌, ◌-◌, ◌*◌, ◌^◌, ◌<◌, ℕ, ℤ, pos, ◌-ℤ◌, neg_ℤ, to_z, of_z, unsigned_abs, arith, ◌∙◌}
 use Rattle.std.proofs.lemmas.Int.{ints, to_z_pos}
 use Rattle.worth_core.proofs.Casts.{cast_kept}
 use Rattle.kohlberg.proofs.Kept.{kept}
