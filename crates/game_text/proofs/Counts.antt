@@ -1,23 +1,21 @@
 -- A document has a share for each player of its game, and a certificate for its players.
-use Rattle.std.proofs.Common.{◌≡◌, ℕ, List, length, map, Bool, true, false, ◌&&◌, pos, neg_ℤ, Option, Some, None, Result, Ok, Err, MatchResult, IfOk, IfSome, unsigned_abs, codes, refl, sym, ap, ◌∙◌, subst}
+use Rattle.std.proofs.Common.{◌≡◌, ℕ, List, length, map, Bool, true, false, pos, neg_ℤ, Option, Some, None, Result, Ok, Err, MatchResult, IfOk, IfSome, unsigned_abs, codes, refl, sym, ap, ◌∙◌, subst}
 use Rattle.std.proofs.lemmas.Bool.{eqb-true}
 use Rattle.std.proofs.lemmas.List.{length-map}
-use Rattle.std.specs.Prelude.{⊤}
 use Rattle.serde_json.specs.Data.{Data}
 use Rattle.fractions.specs.Fraction.{Fraction}
 use Rattle.worth_core.specs.LeastDenominators.{numerator_over}
 use Rattle.game_text.specs.Trees.{parts_at}
-use Rattle.game_text.specs.Shape.{class_of, is_shaped}
-use Rattle.game_text.specs.Limits.{players, players_as, has_players, has_numbers}
-use Rattle.game_text.specs.Names.{has_names}
-use Rattle.game_text.specs.Coalitions.{has_coalitions}
+use Rattle.game_text.specs.Shape.{class_of}
+use Rattle.game_text.specs.Limits.{players, players_as}
 use Rattle.game_text.specs.Descriptions.{game_of, is_cost, integer_or_zero, integers_at, description_as, description_of}
 use Rattle.game_text.specs.Denominators.{least_denominator, over_least, is_coarse}
 use Rattle.game_text.specs.Shares.{as_worth, fraction_or_zero, has_shares_for, shares_of, written_shares}
 use Rattle.game_text.specs.Documents.{game_tree, certificate_for}
 use Rattle.game_text.specs.Games.{description_in}
-use Rattle.game_text.specs.Refusals.{unless, is_covered, has_needed_numbers, proposal_refusal, certificate_refusal, needed_refusal, tree_refusal}
+use Rattle.game_text.specs.Refusals.{unless, proposal_refusal, certificate_refusal, needed_refusal}
 use Rattle.game_text.specs.Readings.{IsTreeReading, IsTreeFault}
+use Rattle.game_text.proofs.Passed.{IsPassed, behind, passed_tests}
 use Rattle.game_text.specs.declared.class.Class.{Class}
 use Rattle.game_text.specs.declared.class.Class.TheVariants.{Table, CostTable, Airport, Bankruptcy}
 use Rattle.game_text.specs.declared.command.Command.{Command}
@@ -25,7 +23,7 @@ use Rattle.game_text.specs.declared.command.Command.TheVariants.{Nucleolus, Pren
 use Rattle.game_text.specs.declared.document.Document.{Document}
 use Rattle.game_text.specs.declared.fault.TextFault.{TextFault}
 use Rattle.game_text.specs.declared.refusal.Refusal.{Refusal}
-use Rattle.game_text.specs.declared.refusal.Refusal.TheVariants.{Shape, Players, Number, Names, Coalition, Estate, Proposal, TooFine}
+use Rattle.game_text.specs.declared.refusal.Refusal.TheVariants.{Proposal, TooFine}
 
 costs_length : (key : List ℕ) (game : Data) → length (map unsigned_abs (integers_at key game)) ≡ length (parts_at key game)
 costs_length key game = length-map (integers_at key game) unsigned_abs ∙ length-map (parts_at key game) integer_or_zero
@@ -54,30 +52,6 @@ shares_each game tree h =
 
 -- ---- the test of the number of shares passed
 
-abbrev IsPassed : Option Refusal → Type 0
-IsPassed None = ⊤
-IsPassed (Some r) = ⊥
-
-behind : (b : Bool) (r : Refusal) (x : Option Refusal) → IsPassed (unless b r x) → (b ≡ true) × IsPassed x
-behind true r x h = (refl, h)
-behind false r x h = absurd h
-
-needed_passed : (command : Command) (tree : Data) → IsPassed (tree_refusal command tree) → IsPassed (needed_refusal command (game_tree tree) tree)
-needed_passed command tree h =
-    let game = game_tree tree in
-    let needed = needed_refusal command game tree in
-    let estate = unless (is_covered (description_of game)) Estate needed in
-    let coalition = unless (has_coalitions game) Coalition estate in
-    let names = unless (has_names game) Names coalition in
-    let numbers = has_numbers game && has_needed_numbers command tree in
-    let number = unless numbers Number names in
-    let a = behind (is_shaped command tree) Shape (unless (has_players game) Players number) h in
-    let b = behind (has_players game) Players number a.1 in
-    let c = behind numbers Number names b.1 in
-    let d = behind (has_names game) Names coalition c.1 in
-    let e = behind (has_coalitions game) Coalition estate d.1 in
-    (behind (is_covered (description_of game)) Estate needed e.1).1
-
 enough_shares : (game tree : Data) (rest : Option Refusal) → IsPassed (proposal_refusal game tree rest) → has_shares_for (players game) tree ≡ true
 enough_shares game tree rest h = (behind (has_shares_for (players game) tree) Proposal (unless (is_coarse (written_shares tree)) TooFine rest) h).0
 
@@ -85,7 +59,7 @@ abbrev described : (command : Command) (tree : Data) (d : Document) → IsTreeRe
 described command tree d m = ap (λ c. c.game) m.says
 
 abbrev tests_passed : (command : Command) (tree : Data) (d : Document) → IsTreeReading command tree d → IsPassed (needed_refusal command (game_tree tree) tree)
-tests_passed command tree d m = needed_passed command tree (subst IsPassed (sym m.passed) tt)
+tests_passed command tree d m = (passed_tests command tree m.passed).needed
 
 no_shares : (d : Document) → d.shares ≡ None → HasShareEach d
 no_shares d e = subst (λ o. IfSome o (λ x. length x.shares ≡ (game_of (description_in d.game)).players)) (sym e) tt

@@ -9,4 +9,8 @@ pub mod Payments
 pub mod LeastDenominators
 pub mod FormTests
 pub mod Chain
+pub mod Passed
 pub mod Counts
+pub mod PlainTrees
+pub mod GameTrees
+pub mod KeptTrees

@@ -2,7 +2,7 @@
 --
 --   coalition_of  the mask of the coalition whose players are listed by number
 --   level_of      what the tree of a level describes, where no test refuses it
-use Rattle.std.specs.Prelude.{◌+◌, ◌-◌, ◌^◌, ℕ, ℤ, pos, negsuc, codes, List, [], ◌∷◌, map, Bool, ◌&&◌, Option, Some, None, option_and_then, option_map, unwrap_or, nat_lt, nat_le, if◌then◌else◌}
+use Rattle.std.specs.Prelude.{◌+◌, ◌-◌, ◌^◌, ℕ, ℤ, pos, negsuc, codes, List, [], ◌∷◌, map, ◌&&◌, Option, Some, None, option_and_then, option_map, unwrap_or, nat_lt, nat_le, if◌then◌else◌}
 use Rattle.serde_json.specs.Data.{Data}
 use Rattle.serde_json.specs.Find.{get}
 use Rattle.definitions.specs.Certificates.{Level}

@@ -15,6 +15,7 @@ pub mod Documents
 pub mod Games
 pub mod Refusals
 pub mod Readings
+pub mod Kept
 pub mod Numbers
 pub use Rattle.serde_json.specs.Data
 pub use Rattle.serde_json.specs.Read

@@ -7,6 +7,7 @@ ghost use Rattle.game_text.specs.Certificates.{has_form, certificate_of};
 ghost use Rattle.game_text.specs.Documents.{certificate_tree, family_for};
 ghost use Rattle.game_text.specs.Descriptions.{description_of, game_of, is_cost};
 ghost use Rattle.game_text.specs.Games.{description_in};
+ghost use Rattle.game_text.specs.Kept.{IsKept};
 ghost use Rattle.game_text.specs.Limits.{players};
 ghost use Rattle.game_text.specs.Names.{has_names, names_of};
 ghost use Rattle.game_text.specs.Refusals.{has_needed_numbers};
@@ -37,6 +38,7 @@ use worth_core::Shares;
 pub fn read_document(alloc: Global, bytes: &[u8], command: Command) -> Result<Document, TextFault>
     ensures reading { MatchResult result (IsReading command bytes.now) (IsFault command bytes.now) }
     ensures count { IfOk result (λ d. IfSome d.shares (λ x. length x.shares ≡ (game_of (description_in d.game)).players)) }
+    ensures kept { IfOk result (λ d. IsKept bytes.now (view d.tree)) }
     ensures players { IfOk result (λ d. IfSome d.certificate (λ c. c.players ≡ (game_of (description_in d.game)).players)) }
 {
     if bytes.len() > document_limit(command) {

@@ -1,0 +1,263 @@
+-- The tree of a game that isn't refused holds no float and is nested at most 8 deep.
+use Rattle.std.proofs.Common.{◌≡◌, ℕ, ◌+◌, ◌≤◌, ℤ, codes, List, [], ◌∷◌, map, Bool, true, not, ◌&&◌, ◌||◌, Option, Some, None, is_some, is_none, option_map, option_and_then, refl, ap, subst, arith}
+use Rattle.std.specs.List.{list_all, list_any, AllByRecursion}
+use Rattle.std.specs.Prelude.{unwrap_or}
+use Rattle.std.specs.Str.{bytes_eq}
+use Rattle.std.proofs.lemmas.Bool.{false≢true, and_parts}
+use Rattle.serde_json.specs.Data.{Data, null, boolean, number, string, array, object}
+use Rattle.serde_json.specs.Find.{get, as_str, as_array, as_object}
+use Rattle.json_texts.specs.Exact.{IsOrdered}
+use Rattle.game_text.specs.Trees.{parts, parts_at, keys, passes, passes_if_there, is_number, is_text, is_array_of, are_two, integer}
+use Rattle.game_text.specs.Shape.{class_named, class_of, is_member, is_sparse_pair, is_table_key, is_airport_key, is_bankruptcy_key, lists_worths, lists_coalitions, is_table_shaped, is_shaped_as, is_game_shaped}
+use Rattle.game_text.specs.Limits.{table_players, players_at, players, has_worths_for, has_players_as, has_players, if_integer, is_small, is_small_cost, is_worth, is_cost, second_passes, has_worth, has_table_numbers, has_numbers_as, has_numbers}
+use Rattle.game_text.specs.Names.{names_of, first_parts, sparse_members}
+use Rattle.game_text.specs.Coalitions.{numbered_player, player_of, join, joined, mask_of, is_mask, are_coalitions, masks, has_coalitions_as, has_coalitions}
+use Rattle.game_text.specs.declared.class.Class.{Class}
+use Rattle.game_text.specs.declared.class.Class.TheVariants.{Table, CostTable, Airport, Bankruptcy}
+use Rattle.game_text.proofs.PlainTrees.{IsPlain, plain_text, plain_integer, plain_array, all_plain, plain_object, has_members, IsPlainAt, at_key, either}
+
+-- ---- numbers
+
+integer_if : (test : ℤ → Bool) (o : Option ℤ) → if_integer test o ≡ true → is_some o ≡ true
+integer_if test None h = absurd (false≢true h)
+integer_if test (Some z) h = refl
+
+plain_worth : (m : ℕ) (d : Data) → is_worth d ≡ true → IsPlain m d
+plain_worth m d h = plain_integer m d (integer_if is_small (integer d) h)
+
+plain_cost : (m : ℕ) (d : Data) → is_cost d ≡ true → IsPlain m d
+plain_cost m d h = plain_integer m d (integer_if is_small_cost (integer d) h)
+
+-- ---- coalitions of a sparse table
+
+some_first : (f : ℤ → Option ℕ) (o : Option ℤ) → is_some (option_and_then f o) ≡ true → is_some o ≡ true
+some_first f None h = absurd (false≢true h)
+some_first f (Some z) h = refl
+
+plain_member : (n : ℕ) (names : List (List ℕ)) (d : Data) → is_some (player_of n names d) ≡ true → IsPlain 0 d
+plain_member n names null h = absurd (false≢true h)
+plain_member n names (boolean b) h = absurd (false≢true h)
+plain_member n names (number k) h = plain_integer 0 (number k) (some_first (numbered_player n) (integer (number k)) h)
+plain_member n names (string s) h = plain_text 0 (string s) refl
+plain_member n names (array ds) h = absurd (false≢true h)
+plain_member n names (object ms) h = absurd (false≢true h)
+
+record Joins (n : ℕ) (names : List (List ℕ)) (o : Option ℕ) (ds : List Data) : Type 0 where
+  player : is_some o ≡ true
+  mask : ℕ
+  rest : is_some (joined n names mask ds) ≡ true
+
+with_mask : (n : ℕ) (names : List (List ℕ)) (i : ℕ) (o : Option ℕ) (ds : List Data) → is_some (option_and_then (λ t. joined n names t ds) o) ≡ true → Joins n names (Some i) ds
+with_mask n names i None ds h = absurd (false≢true h)
+with_mask n names i (Some t) ds h = record { player = refl; mask = t; rest = h }
+
+joins : (n : ℕ) (names : List (List ℕ)) (s : ℕ) (o : Option ℕ) (ds : List Data) → is_some (option_and_then (λ t. joined n names t ds) (option_and_then (join s) o)) ≡ true → Joins n names o ds
+joins n names s None ds h = absurd (false≢true h)
+joins n names s (Some i) ds h = with_mask n names i (join s i) ds h
+
+plain_joined : (n : ℕ) (names : List (List ℕ)) (s : ℕ) (ds : List Data) → is_some (joined n names s ds) ≡ true → AllByRecursion (IsPlain 0) ds
+plain_joined n names s [] h = tt
+plain_joined n names s (d ∷ ds) h = let j = joins n names s (player_of n names d) ds h in (plain_member n names d j.player, plain_joined n names j.mask ds j.rest)
+
+plain_mask : (n : ℕ) (names : List (List ℕ)) (ds : List Data) → is_some (mask_of n names ds) ≡ true → AllByRecursion (IsPlain 0) ds
+plain_mask n names [] h = tt
+plain_mask n names (d ∷ ds) h = plain_joined n names 0 (d ∷ ds) h
+
+is_pair : (d : Data) → is_sparse_pair d ≡ true → is_some (as_array d) ≡ true
+is_pair null h = absurd (false≢true h)
+is_pair (boolean b) h = absurd (false≢true h)
+is_pair (number n) h = absurd (false≢true h)
+is_pair (string s) h = absurd (false≢true h)
+is_pair (array ds) h = refl
+is_pair (object ms) h = absurd (false≢true h)
+
+pair_parts : (n : ℕ) (names : List (List ℕ)) (xs : List Data) → are_two (is_array_of is_member) is_number xs ≡ true → second_passes is_worth xs ≡ true → is_some (mask_of n names (first_parts xs)) ≡ true → AllByRecursion (IsPlain 1) xs
+pair_parts n names [] h w m = tt
+pair_parts n names (x ∷ []) h w m = absurd (false≢true h)
+pair_parts n names (x ∷ y ∷ []) h w m =
+    let both = and_parts (is_array_of is_member x) (is_number y) h in
+    let kinds = and_parts (is_some (as_array x)) (list_all is_member (parts x)) both.0 in
+    (plain_array 0 x kinds.0 (plain_mask n names (parts x) m), (plain_worth 1 y w, tt))
+pair_parts n names (x ∷ y ∷ z ∷ xs) h w m = absurd (false≢true h)
+
+record IsFront (o : Option ℕ) (os : List (Option ℕ)) : Type 0 where
+  first : is_some o ≡ true
+  rest : are_coalitions os ≡ true
+
+front : (o : Option ℕ) (os : List (Option ℕ)) → are_coalitions (o ∷ os) ≡ true → IsFront o os
+front None os h = absurd (false≢true h)
+front (Some s) os h = record { first = refl; rest = (and_parts (not (list_any (is_mask s) os)) (are_coalitions os) h).1 }
+
+plain_pairs : (n : ℕ) (names : List (List ℕ)) (pairs : List Data) → list_all is_sparse_pair pairs ≡ true → list_all has_worth pairs ≡ true → are_coalitions (map (λ pair. mask_of n names (sparse_members pair)) pairs) ≡ true → AllByRecursion (IsPlain 2) pairs
+plain_pairs n names [] h w m = tt
+plain_pairs n names (pair ∷ pairs) h w m =
+    let shaped = and_parts (is_sparse_pair pair) (list_all is_sparse_pair pairs) h in
+    let worths = and_parts (has_worth pair) (list_all has_worth pairs) w in
+    let coalitions = front (mask_of n names (sparse_members pair)) (map (λ p. mask_of n names (sparse_members p)) pairs) m in
+    (plain_array 1 pair (is_pair pair shaped.0) (pair_parts n names (parts pair) shaped.0 worths.0 coalitions.first), plain_pairs n names pairs shaped.1 worths.1 coalitions.rest)
+
+-- ---- what stands at a key
+
+at_there : (test : Data → Bool) (key : List ℕ) (d e : Data) → passes test (get key d) ≡ true → get key d ≡ Some e → test e ≡ true
+at_there test key d e h g = subst (λ o. passes test o ≡ true) g h
+
+at_if_there : (test : Data → Bool) (key : List ℕ) (d e : Data) → passes_if_there test (get key d) ≡ true → get key d ≡ Some e → test e ≡ true
+at_if_there test key d e h g = subst (λ o. passes_if_there test o ≡ true) g h
+
+parts_there : (key : List ℕ) (d e : Data) → get key d ≡ Some e → parts_at key d ≡ parts e
+parts_there key d e g = ap (λ o. unwrap_or (option_map parts o) []) g
+
+plain_numbers : (test : Data → Bool) → ((e : Data) → test e ≡ true → IsPlain 0 e) → (key : List ℕ) (d : Data) → passes (is_array_of is_number) (get key d) ≡ true → list_all test (parts_at key d) ≡ true → IsPlainAt 1 key d
+plain_numbers test good key d h w e g =
+    let kinds = and_parts (is_some (as_array e)) (list_all is_number (parts e)) (at_there (is_array_of is_number) key d e h g) in
+    plain_array 0 e kinds.0 (all_plain 0 test good (parts e) (subst (λ l. list_all test l ≡ true) (parts_there key d e g) w))
+
+plain_names : (m : ℕ) (d : Data) → passes_if_there (is_array_of is_text) (get (codes "names") d) ≡ true → IsPlainAt (m + 1) (codes "names") d
+plain_names m d h e g =
+    let kinds = and_parts (is_some (as_array e)) (list_all is_text (parts e)) (at_if_there (is_array_of is_text) (codes "names") d e h g) in
+    plain_array m e kinds.0 (all_plain m is_text (plain_text m) (parts e) kinds.1)
+
+class_text : (d : Data) (c : Class) → option_and_then class_named (as_str d) ≡ Some c → is_text d ≡ true
+class_text null c h = absurd (cc h)
+class_text (boolean b) c h = absurd (cc h)
+class_text (number n) c h = absurd (cc h)
+class_text (string s) c h = refl
+class_text (array ds) c h = absurd (cc h)
+class_text (object ms) c h = absurd (cc h)
+
+plain_class : (m : ℕ) (d : Data) (c : Class) → class_of d ≡ Some c → IsPlainAt m (codes "class") d
+plain_class m d c h e g = plain_text m e (class_text e c (subst (λ o. option_and_then class_named (option_and_then as_str o) ≡ Some c) g h))
+
+has_class : (o : Option Data) (c : Class) → option_and_then class_named (option_and_then as_str o) ≡ Some c → is_some o ≡ true
+has_class None c h = absurd (cc h)
+has_class (Some d) c h = refl
+
+member_of : (key : List ℕ) (d : Data) (o : Option Data) → get key d ≡ o → is_some o ≡ true → is_some (as_object d) ≡ true
+member_of key d None g h = absurd (false≢true h)
+member_of key d (Some e) g h = has_members key d e g
+
+is_object : (d : Data) (c : Class) → class_of d ≡ Some c → is_some (as_object d) ≡ true
+is_object d c h = member_of (codes "class") d (get (codes "class") d) refl (has_class (get (codes "class") d) c h)
+
+-- ---- airport and bankruptcy
+
+named : (game : Data) → is_game_shaped game ≡ true → passes_if_there (is_array_of is_text) (get (codes "names") game) ≡ true
+named game h = (and_parts (passes_if_there (is_array_of is_text) (get (codes "names") game)) (is_shaped_as (class_of game) game) h).0
+
+shaped_as : (game : Data) (c : Class) → class_of game ≡ Some c → is_game_shaped game ≡ true → is_shaped_as (Some c) game ≡ true
+shaped_as game c e h = subst (λ o. is_shaped_as o game ≡ true) e (and_parts (passes_if_there (is_array_of is_text) (get (codes "names") game)) (is_shaped_as (class_of game) game) h).1
+
+deeper : (m k : ℕ) (d : Data) → m ≤ k → IsPlain m d → IsPlain k d
+deeper m k d h p = record { whole = p.whole; shallow = omega (arith, h, p.shallow) }
+
+at_deeper : (m k : ℕ) (key : List ℕ) (d : Data) → m ≤ k → IsPlainAt m key d → IsPlainAt k key d
+at_deeper m k key d h p e g = deeper m k e h (p e g)
+
+airport_member : (game : Data) → IsPlainAt 3 (codes "class") game → IsPlainAt 3 (codes "costs") game → IsPlainAt 3 (codes "names") game
+    → (k : List ℕ) (e : Data) → is_airport_key k ≡ true → get k game ≡ Some e → IsPlain 3 e
+airport_member game class costs names k e h g =
+    either (bytes_eq k (codes "class") || bytes_eq k (codes "costs")) (bytes_eq k (codes "names")) h
+    (λ h. either (bytes_eq k (codes "class")) (bytes_eq k (codes "costs")) h (λ h. at_key 3 (codes "class") k game e class h g) (λ h. at_key 3 (codes "costs") k game e costs h g))
+    (λ h. at_key 3 (codes "names") k game e names h g)
+
+plain_airport : (game : Data) → IsOrdered game → class_of game ≡ Some Airport → is_game_shaped game ≡ true → has_numbers_as (Some Airport) game ≡ true → IsPlain 4 game
+plain_airport game o c h w =
+    let shape = and_parts (list_all is_airport_key (keys game)) (passes (is_array_of is_number) (get (codes "costs") game)) (shaped_as game Airport c h) in
+    plain_object 3 is_airport_key game o (is_object game Airport c) shape.0
+    (airport_member game (plain_class 3 game Airport c) (at_deeper 1 3 (codes "costs") game (omega arith) (plain_numbers is_cost (plain_cost 0) (codes "costs") game shape.1 w)) (plain_names 2 game (named game h)))
+
+bankruptcy_member : (game : Data) → IsPlainAt 3 (codes "class") game → IsPlainAt 3 (codes "claims") game → IsPlainAt 3 (codes "estate") game → IsPlainAt 3 (codes "names") game
+    → (k : List ℕ) (e : Data) → is_bankruptcy_key k ≡ true → get k game ≡ Some e → IsPlain 3 e
+bankruptcy_member game class claims estate names k e h g =
+    either (bytes_eq k (codes "class") || bytes_eq k (codes "claims") || bytes_eq k (codes "estate")) (bytes_eq k (codes "names")) h
+    (λ h. either (bytes_eq k (codes "class") || bytes_eq k (codes "claims")) (bytes_eq k (codes "estate")) h
+    (λ h. either (bytes_eq k (codes "class")) (bytes_eq k (codes "claims")) h (λ h. at_key 3 (codes "class") k game e class h g) (λ h. at_key 3 (codes "claims") k game e claims h g))
+    (λ h. at_key 3 (codes "estate") k game e estate h g))
+    (λ h. at_key 3 (codes "names") k game e names h g)
+
+plain_bankruptcy : (game : Data) → IsOrdered game → class_of game ≡ Some Bankruptcy → is_game_shaped game ≡ true → has_numbers_as (Some Bankruptcy) game ≡ true → IsPlain 4 game
+plain_bankruptcy game o c h w =
+    let shape = and_parts (list_all is_bankruptcy_key (keys game) && passes is_number (get (codes "estate") game)) (passes (is_array_of is_number) (get (codes "claims") game)) (shaped_as game Bankruptcy c h) in
+    let front = and_parts (list_all is_bankruptcy_key (keys game)) (passes is_number (get (codes "estate") game)) shape.0 in
+    let numbers = and_parts (passes is_cost (get (codes "estate") game)) (list_all is_cost (parts_at (codes "claims") game)) w in
+    plain_object 3 is_bankruptcy_key game o (is_object game Bankruptcy c) front.0
+    (bankruptcy_member game (plain_class 3 game Bankruptcy c) (at_deeper 1 3 (codes "claims") game (omega arith) (plain_numbers is_cost (plain_cost 0) (codes "claims") game shape.1 numbers.1))
+    (λ e g. plain_cost 3 e (at_there is_cost (codes "estate") game e numbers.0 g)) (plain_names 2 game (named game h)))
+
+-- ---- tables
+
+integer_at_key : (o : Option Data) → is_some (option_and_then table_players (option_and_then integer o)) ≡ true → passes (λ d. is_some (integer d)) o ≡ true
+integer_at_key None h = absurd (false≢true h)
+integer_at_key (Some d) h = some_first table_players (integer d) h
+
+count_there : (game : Data) (o : Option ℕ) → has_worths_for game o ≡ true → is_some o ≡ true
+count_there game None h = absurd (false≢true h)
+count_there game (Some n) h = refl
+
+plain_players : (m : ℕ) (game : Data) → has_worths_for game (players_at game) ≡ true → IsPlainAt m (codes "players") game
+plain_players m game h e g =
+    plain_integer m e (at_there (λ d. is_some (integer d)) (codes "players") game e (integer_at_key (get (codes "players") game) (count_there game (players_at game) h)) g)
+
+none_some : {P : Type 0} (o : Option Data) (e : Data) → is_none o ≡ true → o ≡ Some e → P
+none_some None e h g = absurd (cc g)
+none_some (Some d) e h g = absurd (false≢true h)
+
+plain_worths : (game : Data) → (lists_worths game || lists_coalitions game) ≡ true → list_all is_worth (parts_at (codes "worths") game) ≡ true → IsPlainAt 1 (codes "worths") game
+plain_worths game h w e g =
+    either (lists_worths game) (lists_coalitions game) h
+    (λ h. let a = and_parts (passes (is_array_of is_number) (get (codes "worths") game) && is_none (get (codes "sparse") game)) (is_none (get (codes "default") game)) h in
+    let b = and_parts (passes (is_array_of is_number) (get (codes "worths") game)) (is_none (get (codes "sparse") game)) a.0 in
+    plain_numbers is_worth (plain_worth 0) (codes "worths") game b.0 w e g)
+    (λ h. let a = and_parts (passes (is_array_of is_sparse_pair) (get (codes "sparse") game) && is_none (get (codes "worths") game)) (passes_if_there is_number (get (codes "default") game)) h in
+    let b = and_parts (passes (is_array_of is_sparse_pair) (get (codes "sparse") game)) (is_none (get (codes "worths") game)) a.0 in
+    none_some (get (codes "worths") game) e b.1 g)
+
+plain_sparse : (game : Data) → (lists_worths game || lists_coalitions game) ≡ true → list_all has_worth (parts_at (codes "sparse") game) ≡ true → are_coalitions (masks game) ≡ true → IsPlainAt 3 (codes "sparse") game
+plain_sparse game h w m e g =
+    either (lists_worths game) (lists_coalitions game) h
+    (λ h. let a = and_parts (passes (is_array_of is_number) (get (codes "worths") game) && is_none (get (codes "sparse") game)) (is_none (get (codes "default") game)) h in
+    let b = and_parts (passes (is_array_of is_number) (get (codes "worths") game)) (is_none (get (codes "sparse") game)) a.0 in
+    none_some (get (codes "sparse") game) e b.1 g)
+    (λ h. let a = and_parts (passes (is_array_of is_sparse_pair) (get (codes "sparse") game) && is_none (get (codes "worths") game)) (passes_if_there is_number (get (codes "default") game)) h in
+    let b = and_parts (passes (is_array_of is_sparse_pair) (get (codes "sparse") game)) (is_none (get (codes "worths") game)) a.0 in
+    let kinds = and_parts (is_some (as_array e)) (list_all is_sparse_pair (parts e)) (at_there (is_array_of is_sparse_pair) (codes "sparse") game e b.0 g) in
+    let there = parts_there (codes "sparse") game e g in
+    plain_array 2 e kinds.0 (plain_pairs (players game) (names_of game) (parts e) kinds.1 (subst (λ l. list_all has_worth l ≡ true) there w)
+    (subst (λ l. are_coalitions (map (λ pair. mask_of (players game) (names_of game) (sparse_members pair)) l) ≡ true) there m)))
+
+table_member : (game : Data) → IsPlainAt 3 (codes "class") game → IsPlainAt 3 (codes "default") game → IsPlainAt 3 (codes "names") game → IsPlainAt 3 (codes "players") game → IsPlainAt 3 (codes "sparse") game
+    → IsPlainAt 3 (codes "worths") game → (k : List ℕ) (e : Data) → is_table_key k ≡ true → get k game ≡ Some e → IsPlain 3 e
+table_member game class default names players sparse worths k e h g =
+    either (bytes_eq k (codes "class") || bytes_eq k (codes "default") || bytes_eq k (codes "names") || bytes_eq k (codes "players") || bytes_eq k (codes "sparse")) (bytes_eq k (codes "worths")) h
+    (λ h. either (bytes_eq k (codes "class") || bytes_eq k (codes "default") || bytes_eq k (codes "names") || bytes_eq k (codes "players")) (bytes_eq k (codes "sparse")) h
+    (λ h. either (bytes_eq k (codes "class") || bytes_eq k (codes "default") || bytes_eq k (codes "names")) (bytes_eq k (codes "players")) h
+    (λ h. either (bytes_eq k (codes "class") || bytes_eq k (codes "default")) (bytes_eq k (codes "names")) h
+    (λ h. either (bytes_eq k (codes "class")) (bytes_eq k (codes "default")) h (λ h. at_key 3 (codes "class") k game e class h g) (λ h. at_key 3 (codes "default") k game e default h g))
+    (λ h. at_key 3 (codes "names") k game e names h g))
+    (λ h. at_key 3 (codes "players") k game e players h g))
+    (λ h. at_key 3 (codes "sparse") k game e sparse h g))
+    (λ h. at_key 3 (codes "worths") k game e worths h g)
+
+plain_table : (game : Data) (c : Class) → IsOrdered game → class_of game ≡ Some c → is_game_shaped game ≡ true → is_table_shaped game ≡ true → has_worths_for game (players_at game) ≡ true → has_table_numbers game ≡ true
+    → are_coalitions (masks game) ≡ true → IsPlain 4 game
+plain_table game c o e h t n w m =
+    let shape = and_parts (list_all is_table_key (keys game) && passes is_number (get (codes "players") game)) (lists_worths game || lists_coalitions game) t in
+    let front = and_parts (list_all is_table_key (keys game)) (passes is_number (get (codes "players") game)) shape.0 in
+    let numbers = and_parts (list_all is_worth (parts_at (codes "worths") game) && list_all has_worth (parts_at (codes "sparse") game)) (passes_if_there is_worth (get (codes "default") game)) w in
+    let listed = and_parts (list_all is_worth (parts_at (codes "worths") game)) (list_all has_worth (parts_at (codes "sparse") game)) numbers.0 in
+    plain_object 3 is_table_key game o (is_object game c e) front.0
+    (table_member game (plain_class 3 game c e) (λ d g. plain_worth 3 d (at_if_there is_worth (codes "default") game d numbers.1 g)) (plain_names 2 game (named game h)) (plain_players 3 game n)
+    (plain_sparse game shape.1 listed.1 m) (at_deeper 1 3 (codes "worths") game (omega arith) (plain_worths game shape.1 listed.0)))
+
+-- ---- all classes
+
+plain_as : (game : Data) (c : Option Class) → IsOrdered game → class_of game ≡ c → is_game_shaped game ≡ true → has_players_as c game ≡ true → has_numbers_as c game ≡ true → has_coalitions_as c game ≡ true → IsPlain 4 game
+plain_as game None o e h n w m = absurd (false≢true n)
+plain_as game (Some Table) o e h n w m = plain_table game Table o e h (shaped_as game Table e h) n w m
+plain_as game (Some CostTable) o e h n w m = plain_table game CostTable o e h (shaped_as game CostTable e h) n w m
+plain_as game (Some Airport) o e h n w m = plain_airport game o e h w
+plain_as game (Some Bankruptcy) o e h n w m = plain_bankruptcy game o e h w
+
+-- the tree of a game of any class holds no float and is nested at most 4 deep
+pub plain_game : (game : Data) → IsOrdered game → is_game_shaped game ≡ true → has_players game ≡ true → has_numbers game ≡ true → has_coalitions game ≡ true → IsPlain 4 game
+plain_game game o h n w m = plain_as game (class_of game) o refl h n w m
