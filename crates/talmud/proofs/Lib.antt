@@ -3,6 +3,9 @@ pub mod Cuts
 pub mod Keys
 pub mod ByPlace
 pub mod Excesses
+pub mod Covering
+pub mod HalfLevels
+pub mod RestLevel
 pub mod Chains
 pub mod Sharing
 pub mod Making

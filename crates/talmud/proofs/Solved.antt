@@ -1,5 +1,5 @@
 -- What the code made is a certified answer.
-use Rattle.std.proofs.Common.{◌≡◌, ℕ, ◌+◌, ◌-◌, ◌*◌, ◌≤◌, Bool, List, [], ◌∷◌, length, map, Option, Some, None, MatchOption, IsSome, Result, Ok, Err, MatchResult, IsOk, ℤ, pos, refl, sym, ap, subst, inl, inr, arith}
+use Rattle.std.proofs.Common.{◌≡◌, ℕ, ◌+◌, ◌-◌, ◌*◌, ◌≤◌, Bool, List, [], ◌∷◌, length, map, slice_index, Option, Some, None, MatchOption, IsSome, Result, Ok, Err, MatchResult, IsOk, ℤ, pos, refl, sym, ap, subst, inl, inr, arith}
 use Rattle.std.specs.List.{AllByRecursion}
 use Rattle.definitions.specs.Games.{Allocation}
 use Rattle.definitions.specs.Certificates.{Level, HasForm}
@@ -13,6 +13,7 @@ use Rattle.talmud.specs.Division.{OrderedClaims, IsOrderedClaims, place, IsDivis
 use Rattle.worth_core.specs.Allocations.{allocation}
 use Rattle.talmud.specs.Levels.{key_of, IsRestLevel, AreHalves, AreLevels, AreRuleLevels}
 use Rattle.talmud.proofs.ByPlace.{IsRule}
+use Rattle.talmud.proofs.Cuts.{length-cut}
 use Rattle.talmud.proofs.Keys.{length-keys, length-both}
 use Rattle.talmud.proofs.Chains.{HasForm-rule, Certifies-rule, InCore-rule}
 use Rattle.talmud.proofs.Awarded.{IsAwarded, IsAwarded-awards, IsRule-division, little-is, IsHalfOrder-rule}
@@ -59,28 +60,33 @@ pub is_ok : {X E : Type 0} (A : Type 0) (P : X → Type 0) (r : Result X E) → 
 is_ok A P (Ok y) h a = refl
 is_ok A P (Err e) h a = absurd (h a)
 
--- the shares of a division are those of the rule
-pub rule_of : (b : Bankruptcy) (c : OrderedClaims) (gain : Bool) (m h t : ℕ) (x : Allocation) → IsOrderedClaims c → c.cuts ≡ cut_claims b.estate b.claims → IsDivision b.estate c gain m h t → x ≡ allocation (map (λ d. pos (award gain h t d)) c.cuts) (pos (2 * h)) → IsRule b.estate b.claims (place c) m gain (pos t) x
-rule_of b c gain m h t x o e d is =
-    IsRule-division b.estate b.claims c gain m h t x o e d (subst (IsAwarded b.estate b.claims gain h t) (sym is) (IsAwarded-awards b.estate b.claims c.cuts gain h t e))
+AreLevels-cut : (estate : ℕ) (claims cuts : List ℕ) (at : ℕ → ℕ) (m : ℕ) (gain : Bool) (t den : ℤ) (levels : List Level) → cuts ≡ cut_claims estate claims → AreLevels (length cuts) (slice_index cuts) at m gain t den levels → AreLevels (length claims) (cut estate claims) at m gain t den levels
+AreLevels-cut estate claims cuts at m gain t den levels e h =
+    subst (λ (n : ℕ). AreLevels n (cut estate claims) at m gain t den levels) (length-cut estate claims cuts e) (subst (λ (ds : List ℕ). AreLevels (length cuts) (slice_index ds) at m gain t den levels) e h)
 
--- what was made for a list of cut claims
-pub AreLevels-cut : (estate : ℕ) (claims cuts : List ℕ) (at : ℕ → ℕ) (m : ℕ) (gain : Bool) (t den : ℤ) (levels : List Level) → cuts ≡ cut_claims estate claims → length cuts ≡ length claims → AreLevels (length cuts) (λ i. Rattle.std.specs.List.slice_index cuts i) at m gain t den levels → AreLevels (length claims) (cut estate claims) at m gain t den levels
-AreLevels-cut estate claims cuts at m gain t den levels e long h =
-    subst (λ (n : ℕ). AreLevels n (cut estate claims) at m gain t den levels) long (subst (λ (ds : List ℕ). AreLevels (length cuts) (λ i. Rattle.std.specs.List.slice_index ds i) at m gain t den levels) e h)
+-- shares by the rule, and their levels
+pub record IsMade (b : Bankruptcy) (at : ℕ → ℕ) (m : ℕ) (gain : Bool) (t : ℤ) (x : Allocation) (levels : List Level) : Type 0 where
+  pub rule : IsRule b.estate b.claims at m gain t x
+  pub chain : AreLevels (length b.claims) (cut b.estate b.claims) at m gain t x.den levels
 
-pub levels-formed : (b : Bankruptcy) → IsBankruptcy b → (at : ℕ → ℕ) (m : ℕ) (gain : Bool) (t den : ℤ) (x : Allocation) (levels : List Level) → IsRule b.estate b.claims at m gain t x → AreLevels (length b.claims) (cut b.estate b.claims) at m gain t den levels → HasForm Players (length b.claims) levels
-levels-formed b h at m gain t den x levels r made = HasForm-rule (length b.claims) (cut b.estate b.claims) at m gain t den levels h.some h.few r.within r.order made
+pub made : (b : Bankruptcy) (c : OrderedClaims) (gain : Bool) (m h t : ℕ) (x : Allocation) (levels : List Level) → IsOrderedClaims c → c.cuts ≡ cut_claims b.estate b.claims → IsDivision b.estate c gain m h t → x ≡ allocation (map (λ d. pos (award gain h t d)) c.cuts) (pos (2 * h)) → AreLevels (length c.cuts) (slice_index c.cuts) (place c) m gain (pos t) (pos (2 * h)) levels → IsMade b (place c) m gain (pos t) x levels
+made b c gain m h t x levels o e d is l = record {
+  rule = IsRule-division b.estate b.claims c gain m h t x o e d (subst (IsAwarded b.estate b.claims gain h t) (sym is) (IsAwarded-awards b.estate b.claims c.cuts gain h t e));
+  chain = subst (λ (q : ℤ). AreLevels (length b.claims) (cut b.estate b.claims) (place c) m gain (pos t) q levels) (sym (ap (λ (y : Allocation). y.den) is)) (AreLevels-cut b.estate b.claims c.cuts (place c) m gain (pos t) (pos (2 * h)) levels e l);
+}
 
-pub solved : (b : Bankruptcy) (at : ℕ → ℕ) (m : ℕ) (gain : Bool) (t : ℤ) (x : Allocation) (levels : List Level) (c : CertificateData) → IsRule b.estate b.claims at m gain t x → AreLevels (length b.claims) (cut b.estate b.claims) at m gain t x.den levels → c ≡ record { players = length b.claims; mode = Players; levels = levels } → IsSolved (bankruptcy_game b) x c
-solved b at m gain t x levels c r made e = subst (IsSolved (bankruptcy_game b) x) (sym e) (record {
+pub levels-formed : (b : Bankruptcy) → IsBankruptcy b → (at : ℕ → ℕ) (m : ℕ) (gain : Bool) (t : ℤ) (x : Allocation) (levels : List Level) → IsMade b at m gain t x levels → HasForm Players (length b.claims) levels
+levels-formed b h at m gain t x levels k = HasForm-rule (length b.claims) (cut b.estate b.claims) at m gain t x.den levels h.some h.few k.rule.within k.rule.order k.chain
+
+pub solved : (b : Bankruptcy) (at : ℕ → ℕ) (m : ℕ) (gain : Bool) (t : ℤ) (x : Allocation) (levels : List Level) (c : CertificateData) → IsMade b at m gain t x levels → c ≡ record { players = length b.claims; mode = Players; levels = levels } → IsSolved (bankruptcy_game b) x c
+solved b at m gain t x levels c k e = subst (IsSolved (bankruptcy_game b) x) (sym e) (record {
   players = refl;
   mode = refl;
-  certifies = λ family. Certifies-rule family b.estate b.claims at m gain t x levels r made;
-  core = InCore-rule b.estate b.claims at m gain t x r;
-  few = few_entries (length b.claims) (cut b.estate b.claims) at m gain t x.den levels r.within made;
+  certifies = λ family. Certifies-rule family b.estate b.claims at m gain t x levels k.rule k.chain;
+  core = InCore-rule b.estate b.claims at m gain t x k.rule;
+  few = few_entries (length b.claims) (cut b.estate b.claims) at m gain t x.den levels k.rule.within k.chain;
 })
 
-pub AreRuleLevels-rule : (estate : ℕ) (claims : List ℕ) (at : ℕ → ℕ) (m : ℕ) (gain : Bool) (t : ℤ) (x : Allocation) (levels : List Level) → IsRule estate claims at m gain t x → AreLevels (length claims) (cut estate claims) at m gain t x.den levels → AreRuleLevels estate claims x levels
-AreRuleLevels-rule estate claims at m gain t x levels r made =
-    (at, m, t, IsHalfOrder-rule estate claims at m gain t x r, subst (λ (g : Bool). AreLevels (length claims) (cut estate claims) at m g t x.den levels) (little-is estate claims at m gain t x r) made)
+pub AreRuleLevels-made : (b : Bankruptcy) (at : ℕ → ℕ) (m : ℕ) (gain : Bool) (t : ℤ) (x : Allocation) (levels : List Level) → IsMade b at m gain t x levels → AreRuleLevels b.estate b.claims x levels
+AreRuleLevels-made b at m gain t x levels k =
+    (at, m, t, IsHalfOrder-rule b.estate b.claims at m gain t x k.rule, subst (λ (g : Bool). AreLevels (length b.claims) (cut b.estate b.claims) at m g t x.den levels) (little-is b.estate b.claims at m gain t x k.rule) k.chain)

@@ -1,4 +1,4 @@
-use Rattle.std.proofs.Common.{◌≡◌, ◌*◌, ◌^◌, ◌<◌, ℕ, length, map, ℤ, pos, unsigned_abs, to_z, of_z, arith, ap, sym, subst, ◌∙◌}
+use Rattle.std.proofs.Common.{◌≡◌, ◌*◌, ◌^◌, ◌<◌, ℕ, length, map, ℤ, pos, unsigned_abs, to_z, of_z, arith, ap, subst, ◌∙◌}
 use Rattle.worth_core.proofs.Casts.{cast_kept}
 use Rattle.kohlberg.proofs.Kept.{kept}
 use mir.Syntax.{w64, w128}
@@ -6,12 +6,10 @@ use Rattle.definitions.specs.Games.{IsShares}
 use Rattle.definitions.specs.Certificates.{HasForm}
 use Rattle.definitions.specs.declared.Mode.TheVariants.{Players}
 use Rattle.worth_core.specs.Allocations.{allocation}
-use Rattle.talmud.specs.Rule.{cut}
-use Rattle.talmud.specs.Levels.{AreLevels}
 use Rattle.talmud.specs.Division.{place, IsOrderedClaims, award}
-use Rattle.talmud.proofs.Cuts.{length-cut, all-cut_low, cut-enough}
+use Rattle.talmud.proofs.Cuts.{all-cut_low, cut-enough}
 use Rattle.talmud.proofs.Awarded.{IsShares-awards, IsTalmud-rule}
-use Rattle.talmud.proofs.Solved.{is_some, is_ok, rule_of, AreLevels-cut, levels-formed, solved, AreRuleLevels-rule}
+use Rattle.talmud.proofs.Solved.{is_some, is_ok, made, levels-formed, solved, AreRuleLevels-made}
 use Rattle.talmud.proofs.solve.Goals as goal
 
 cast_back : (z : ℤ) (e : ℕ) → z ≡ pos e → e < 2 ^ 40 → unsigned_abs (to_z w64 (of_z w64 z)) ≡ e
@@ -45,12 +43,10 @@ unwrap-certificate-requires c =
     let den : to_z w128 (of_z w128 c.den.result) ≡ pos (2 * d.half_den) = kept c.den.result c.den.type_inv ∙ c.den.ensures in
     let shares = rw (den, c.in_ok-num.ensures {u = tt}, c.unwrap-shares.ensures) at c.new-2.ensures in
     let division = rw (cast_back c.estate.result b.estate c.estate.ensures.value laws.estate_small) at c.new-division.ensures in
-    let rule = rule_of b claims d.gain d.half d.half_den d.bound c.unwrap-shares.result ordered c.in_ok-claims.ensures.cuts division shares.0 in
-    let long = length-cut b.estate b.claims claims.cuts c.in_ok-claims.ensures.cuts in
     let levels = c.in_ok-levels.levels.items in
-    let made = AreLevels-cut b.estate b.claims claims.cuts (place claims) d.half d.gain (pos d.bound) (pos (2 * d.half_den)) levels c.in_ok-claims.ensures.cuts long (c.in_ok-levels.ensures {u = tt}) in
+    let all = made b claims d.gain d.half d.half_den d.bound c.unwrap-shares.result levels ordered c.in_ok-claims.ensures.cuts division shares.0 (c.in_ok-levels.ensures {u = tt}) in
     let new = rw c.players.ensures.count at c.new-3.ensures in
-    is_ok (HasForm Players (length b.claims) levels) (λ e. (e ≡ record { players = length b.claims; mode = Players; levels = levels }) × HasForm Players (length b.claims) levels) c.new-3.result new (levels-formed b laws (place claims) d.half d.gain (pos d.bound) (pos (2 * d.half_den)) c.unwrap-shares.result levels rule made)
+    is_ok (HasForm Players (length b.claims) levels) (λ e. (e ≡ record { players = length b.claims; mode = Players; levels = levels }) × HasForm Players (length b.claims) levels) c.new-3.result new (levels-formed b laws (place claims) d.half d.gain (pos d.bound) c.unwrap-shares.result levels all)
 
 pub returns : goal.returns
 returns c =
@@ -62,15 +58,11 @@ returns c =
     let den : to_z w128 (of_z w128 c.den.result) ≡ pos (2 * d.half_den) = kept c.den.result c.den.type_inv ∙ c.den.ensures in
     let shares = rw (den, c.in_ok-num.ensures {u = tt}, c.unwrap-shares.ensures) at c.new-2.ensures in
     let division = rw (cast_back c.estate.result b.estate c.estate.ensures.value laws.estate_small) at c.new-division.ensures in
-    let x = c.unwrap-shares.result in
-    let rule = rule_of b claims d.gain d.half d.half_den d.bound x ordered c.in_ok-claims.ensures.cuts division shares.0 in
-    let long = length-cut b.estate b.claims claims.cuts c.in_ok-claims.ensures.cuts in
     let levels = c.in_ok-levels.levels.items in
-    let made = AreLevels-cut b.estate b.claims claims.cuts (place claims) d.half d.gain (pos d.bound) (pos (2 * d.half_den)) levels c.in_ok-claims.ensures.cuts long (c.in_ok-levels.ensures {u = tt}) in
-    let over = subst (λ (q : ℤ). AreLevels (length b.claims) (cut b.estate b.claims) (place claims) d.half d.gain (pos d.bound) q levels) (sym (ap (λ (y : Rattle.definitions.specs.Games.Allocation). y.den) shares.0)) made in
+    let all = made b claims d.gain d.half d.half_den d.bound c.unwrap-shares.result levels ordered c.in_ok-claims.ensures.cuts division shares.0 (c.in_ok-levels.ensures {u = tt}) in
     let certificate = rw (c.players.ensures.count, c.unwrap-certificate.ensures) at c.new-3.ensures in
     record {
-      solved = solved b (place claims) d.half d.gain (pos d.bound) x levels c.unwrap-certificate.result rule over certificate.0;
-      rule = IsTalmud-rule b.estate b.claims (place claims) d.half d.gain (pos d.bound) x rule;
-      levels = rw certificate.0 (AreRuleLevels-rule b.estate b.claims (place claims) d.half d.gain (pos d.bound) x levels rule over);
+      solved = solved b (place claims) d.half d.gain (pos d.bound) c.unwrap-shares.result levels c.unwrap-certificate.result all certificate.0;
+      rule = IsTalmud-rule b.estate b.claims (place claims) d.half d.gain (pos d.bound) c.unwrap-shares.result all.rule;
+      levels = rw certificate.0 (AreRuleLevels-made b (place claims) d.half d.gain (pos d.bound) c.unwrap-shares.result levels all);
     }
