@@ -1,25 +1,18 @@
 -- No answer's tree is nested deeper than is read.
-use Rattle.std.proofs.Common.{◌≡◌, ℕ, ◌≤◌, List, [], ◌∷◌, map, refl, arith, ap, max}
-use Rattle.serde_json.specs.Data.{Data, depth, items_depth}
+use Rattle.std.proofs.Common.{◌≤◌, arith}
+use Rattle.serde_json.specs.Data.{depth}
 use Rattle.serde_json.specs.Read.{max_depth}
-use Rattle.serde_json.specs.View.{items_of}
-use Rattle.definitions.specs.Coalitions.{members}
+use Rattle.serde_json.specs.View.{view}
 use Rattle.checker.specs.declared.verdicts.Verdict.{Verdict}
 use Rattle.checker.specs.declared.verdicts.Verdict.TheVariants.{Yes, No}
 use Rattle.checker.specs.declared.verdicts.Place.TheVariants.{Coalition, Player}
 use Rattle.checker.specs.declared.verdicts.Reason.TheVariants.{NotEfficient as not_efficient, NotIndividual, WrongExcess, WeightSign, Unbalanced, BoundNotTight, OutsideAbove, NotAll}
-use Rattle.report.specs.Values.{player_data, player_numbers}
 use Rattle.report.specs.Verdicts.{verdict_tree}
+use Rattle.report.specs.Limits.{IsPrintable}
 use Rattle.report.specs.Lines.{answer_tree}
 use Rattle.report.specs.declared.answer.Answer.{Answer}
-use Rattle.report.specs.declared.answer.Answer.TheVariants.{InCore, NotEfficient, Blocked, Verdict as verdict, Usage, Refused}
-
-players_depth : (ps : List ℕ) → items_depth (items_of (map player_data ps)) ≡ 0
-players_depth [] = refl
-players_depth (p ∷ ps) = ap (max 0) (players_depth ps)
-
-coalition_depth : (s : ℕ) → depth (player_numbers s) ≡ 1
-coalition_depth s = rw (players_depth (members 64 s)) refl
+use Rattle.report.specs.declared.answer.Answer.TheVariants.{Nucleolus, InCore, NotEfficient, Blocked, Verdict as verdict, Usage, Refused}
+use Rattle.report.proofs.CertificateDepths.{coalition_depth, nucleolus_depth}
 
 verdict_depth : (v : Verdict) → depth (verdict_tree v) ≤ max_depth
 verdict_depth Yes = omega arith
@@ -33,10 +26,11 @@ verdict_depth (No (BoundNotTight j i)) = omega arith
 verdict_depth (No (OutsideAbove j e)) = omega arith
 verdict_depth (No (NotAll i)) = omega arith
 
-pub shallow : (a : Answer) → depth (answer_tree a) ≤ max_depth
-shallow InCore = omega arith
-shallow (NotEfficient sum total) = omega arith
-shallow (Blocked s e) = omega (arith, coalition_depth s)
-shallow (verdict v) = verdict_depth v
-shallow (Usage kind) = omega arith
-shallow (Refused r) = omega arith
+pub shallow : (a : Answer) → IsPrintable a → depth (answer_tree a) ≤ max_depth
+shallow (Nucleolus family tree is_cost x c) h = omega (arith, nucleolus_depth family (view tree) is_cost x c h.1)
+shallow InCore h = omega arith
+shallow (NotEfficient sum total) h = omega arith
+shallow (Blocked s e) h = omega (arith, coalition_depth s)
+shallow (verdict v) h = verdict_depth v
+shallow (Usage kind) h = omega arith
+shallow (Refused r) h = omega arith

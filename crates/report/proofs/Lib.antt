@@ -1,3 +1,9 @@
+pub mod Lists
+pub mod LowestTerms
+pub mod TextViews
+pub mod PrintableLevels
+pub mod CertificateDepths
+pub mod CertificateNumbers
 pub mod NoFloats
 pub mod Depths
 pub mod AsciiFractions

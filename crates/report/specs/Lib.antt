@@ -1,4 +1,7 @@
 pub mod Words
 pub mod Values
 pub mod Verdicts
+pub mod Certificates
+pub mod ShareLists
+pub mod Limits
 pub mod Lines

@@ -1,19 +1,36 @@
 -- The line that is printed for an answer.
 --
---   answer_tree  the JSON tree of an answer, its keys ascending
---   line         its compact text, and a newline
-use Rattle.std.specs.Prelude.{ℕ, List, [], ◌∷◌, ◌++◌, codes}
+--   nucleolus_tree  the JSON tree of a nucleolus, its keys ascending
+--   answer_tree     the JSON tree of an answer, its keys ascending
+--   line            its compact text, and a newline
+use Rattle.std.specs.Prelude.{ℕ, Bool, List, [], ◌∷◌, ◌++◌, codes}
 use Rattle.serde_json.specs.Data.{Data, string, object, member, no_members}
+use Rattle.serde_json.specs.View.{view}
 use Rattle.serde_json.specs.Written.{compact_text}
+use Rattle.definitions.specs.Games.{Allocation}
+use Rattle.definitions.specs.declared.Family.{Family}
 use Rattle.game_text.specs.Numbers.{refusal_number}
+use Rattle.kohlberg.specs.Certificate.{CertificateData}
 use Rattle.report.specs.Values.{fraction_data, integer_data, count_data, player_numbers}
 use Rattle.report.specs.Verdicts.{verdict_tree}
-use Rattle.report.specs.Words.{refusal_name, usage_word}
+use Rattle.report.specs.Certificates.{certificate_tree}
+use Rattle.report.specs.ShareLists.{share_list}
+use Rattle.report.specs.Words.{refusal_name, usage_word, family_word}
 use Rattle.report.specs.declared.answer.Answer.{Answer}
-use Rattle.report.specs.declared.answer.Answer.TheVariants.{InCore, NotEfficient, Blocked, Verdict, Usage, Refused}
+use Rattle.report.specs.declared.answer.Answer.TheVariants.{Nucleolus, InCore, NotEfficient, Blocked, Verdict, Usage, Refused}
+
+-- the object that is printed for the nucleolus or prenucleolus of a game, its keys ascending
+abbrev pub nucleolus_tree : Family → Data → Bool → Allocation → CertificateData → Data
+nucleolus_tree family game is_cost x c =
+    object
+    (member (codes "answer") (string (family_word family))
+    (member (codes "certificate") (certificate_tree c)
+    (member (codes "game") game
+    (member (codes "shares") (share_list is_cost x) no_members))))
 
 -- the object that is printed for an answer, its keys ascending
 abbrev pub answer_tree : Answer → Data
+answer_tree (Nucleolus family tree is_cost x c) = nucleolus_tree family (view tree) is_cost x c
 answer_tree InCore = object (member (codes "answer") (string (codes "core")) no_members)
 answer_tree (NotEfficient sum total) =
     object (member (codes "answer") (string (codes "not efficient")) (member (codes "sum") (fraction_data sum) (member (codes "total") (integer_data total) no_members)))

@@ -1,5 +1,5 @@
 -- Fractions, players and coalitions as JSON.
-use Rattle.std.specs.Prelude.{ℕ, ℤ, pos, ◌+◌, List, map}
+use Rattle.std.specs.Prelude.{ℕ, ℤ, pos, ◌+◌, map}
 use Rattle.serde_json.specs.Data.{Data, number, unsigned, string, array}
 use Rattle.serde_json.specs.View.{items_of}
 use Rattle.definitions.specs.Coalitions.{members}

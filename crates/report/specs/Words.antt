@@ -1,5 +1,9 @@
 -- The words that stand in a line.
 use Rattle.std.specs.Prelude.{ℕ, List, codes}
+use Rattle.definitions.specs.declared.Family.{Family}
+use Rattle.definitions.specs.declared.Family.TheVariants.{Imputations, Preimputations}
+use Rattle.definitions.specs.declared.Mode.{Mode}
+use Rattle.definitions.specs.declared.Mode.TheVariants as mode
 use Rattle.game_text.specs.declared.refusal.Refusal.{Refusal}
 use Rattle.game_text.specs.declared.refusal.Refusal.TheVariants.{TooLong, NotJson, Shape, Players, Number, Names, Coalition, Estate, Matrix, Proposal, TooFine, Certificate}
 use Rattle.report.specs.declared.answer.UsageKind.{UsageKind}
@@ -25,3 +29,13 @@ abbrev pub usage_word : UsageKind → List ℕ
 usage_word usage.Words = codes "words"
 usage_word usage.Class = codes "class"
 usage_word usage.Players = codes "players"
+
+-- the word for the allocations among which an answer is the best: the imputations, or all preimputations
+abbrev pub family_word : Family → List ℕ
+family_word Imputations = codes "nucleolus"
+family_word Preimputations = codes "prenucleolus"
+
+-- the word for what the levels of a certificate fix
+abbrev pub mode_word : Mode → List ℕ
+mode_word mode.Players = codes "players"
+mode_word mode.Span = codes "span"

@@ -3,6 +3,9 @@ use checker::Verdict;
 use coalitions::Coalition;
 use fractions::Frac;
 use game_text::Refusal;
+use kohlberg::Certificate;
+use serde_json::Value;
+use worth_core::{Family, Shares};
 
 /// What is wrong with the words of a command line.
 #[derive(Clone, Copy, Debug, PartialEq, Eq)]
@@ -18,12 +21,27 @@ pub enum UsageKind {
 /// What is answered.
 #[derive(Debug, Drop)]
 pub enum Answer {
+    /// The nucleolus or prenucleolus of the game with this JSON tree: the shares as worth, printed as payments where
+    /// `is_cost`, and their certificate.
+    Nucleolus {
+        family: Family,
+        tree: Value,
+        is_cost: bool,
+        shares: Shares,
+        certificate: Certificate,
+    },
     /// The shares are in the core.
     InCore,
     /// The shares add to `sum`, and all players together are worth, or pay, `total`.
-    NotEfficient { sum: Frac, total: i64 },
+    NotEfficient {
+        sum: Frac,
+        total: i64,
+    },
     /// The coalition could do better by itself, by this excess of worth.
-    Blocked { coalition: Coalition, excess: Frac },
+    Blocked {
+        coalition: Coalition,
+        excess: Frac,
+    },
     /// Whether a certificate shows that shares are the nucleolus, or why not.
     Verdict(Verdict),
     /// The words name no command, or not for this game.

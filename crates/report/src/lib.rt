@@ -2,9 +2,13 @@
 #![tactic(auto)]
 
 mod answer;
+mod certificate;
 mod fraction;
 mod line;
+mod nucleolus;
+mod objects;
 mod players;
+mod shares;
 #[cfg(test)]
 mod tests;
 mod verdict;

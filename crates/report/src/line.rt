@@ -3,10 +3,12 @@ ghost use Rattle.std.specs.Prelude.{◌≡◌, IfOk, IsUtf8, Some};
 ghost use Rattle.serde_json.specs.Read.{read};
 ghost use Rattle.serde_json.specs.View.{view};
 ghost use Rattle.game_text.specs.Text.{without_newline};
+ghost use Rattle.report.specs.Limits.{IsPrintable};
 ghost use Rattle.report.specs.Lines.{answer_tree, line};
 
 use crate::answer::{Answer, UsageKind};
 use crate::fraction::text_of;
+use crate::nucleolus::nucleolus_tree;
 use crate::players::player_numbers;
 use crate::verdict::verdict_tree;
 use crate::words::{refusal_name, usage_word};
@@ -18,28 +20,36 @@ use std::alloc::Global;
 
 /// The line of an answer: compact JSON with ascending keys, and a newline.
 pub fn write_report(alloc: Global, answer: Answer) -> Result<Vec<u8>, OutOfMemory>
+    requires { IsPrintable answer }
     ensures text { IfOk result (λ v. v.items ≡ line answer) }
     // What stands in front of the newline is JSON, and reads as the tree that was written.
     ensures utf8 { IfOk result (λ v. IsUtf8 (without_newline v.items)) }
     ensures reads_back { IfOk result (λ v. read (without_newline v.items) ≡ Some (answer_tree answer)) }
 {
-    let tree = tree_of(alloc, &answer)?;
+    let tree = tree_of(alloc, answer)?;
     let mut text = tree.to_vec(alloc)?;
     text.push(b'\n')?;
     Ok(text)
 }
 
 /// The JSON tree of an answer.
-fn tree_of(alloc: Global, answer: &Answer) -> Result<Value, OutOfMemory>
-    ensures { IfOk result (λ v. view v ≡ answer_tree answer.now) }
+fn tree_of(alloc: Global, answer: Answer) -> Result<Value, OutOfMemory>
+    ensures { IfOk result (λ v. view v ≡ answer_tree answer) }
 {
     match answer {
+        Answer::Nucleolus {
+            family,
+            tree,
+            is_cost,
+            shares,
+            certificate,
+        } => nucleolus_tree(alloc, family, tree, is_cost, &shares, &certificate),
         Answer::InCore => core_tree(alloc),
-        Answer::NotEfficient { sum, total } => not_efficient_tree(alloc, sum, *total),
-        Answer::Blocked { coalition, excess } => blocked_tree(alloc, *coalition, excess),
-        Answer::Verdict(verdict) => verdict_tree(alloc, *verdict),
-        Answer::Usage(kind) => usage_tree(alloc, *kind),
-        Answer::Refused(refusal) => refused_tree(alloc, *refusal),
+        Answer::NotEfficient { sum, total } => not_efficient_tree(alloc, &sum, total),
+        Answer::Blocked { coalition, excess } => blocked_tree(alloc, coalition, &excess),
+        Answer::Verdict(verdict) => verdict_tree(alloc, verdict),
+        Answer::Usage(kind) => usage_tree(alloc, kind),
+        Answer::Refused(refusal) => refused_tree(alloc, refusal),
     }
 }
 

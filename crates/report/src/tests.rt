@@ -1,3 +1,7 @@
+ghost use Rattle.report.specs.Limits.{IsPrintable};
+
+mod nucleolus;
+
 use crate::{Answer, UsageKind, write_report};
 use checker::{Place, Reason, Verdict};
 use coalitions::Coalition;
@@ -7,7 +11,9 @@ use std::alloc::Global;
 use std::test::Fail;
 
 // Whether that line is written for the answer.
-fn has_line(alloc: Global, answer: Answer, line: &str) -> Result<bool, Fail> {
+fn has_line(alloc: Global, answer: Answer, line: &str) -> Result<bool, Fail>
+    requires { IsPrintable answer }
+{
     let written = write_report(alloc, answer).ok().ok_or("memory")?;
     Ok(written.as_slice() == line.as_bytes())
 }

@@ -1,9 +1,10 @@
 //! Words of a line.
 ghost use Rattle.std.specs.Prelude.{◌≡◌};
-ghost use Rattle.report.specs.Words.{refusal_name, usage_word};
+ghost use Rattle.report.specs.Words.{refusal_name, usage_word, family_word, mode_word};
 
 use crate::answer::UsageKind;
 use game_text::Refusal;
+use kohlberg::{Family, Mode};
 
 /// The name of a refusal.
 pub fn refusal_name(refusal: Refusal) -> &'static str
@@ -33,5 +34,25 @@ pub fn usage_word(kind: UsageKind) -> &'static str
         UsageKind::Words => "words",
         UsageKind::Class => "class",
         UsageKind::Players => "players",
+    }
+}
+
+/// The word for the best of the imputations, or of the preimputations.
+pub fn family_word(family: Family) -> &'static str
+    ensures { result.now ≡ family_word family }
+{
+    match family {
+        Family::Imputations => "nucleolus",
+        Family::Preimputations => "prenucleolus",
+    }
+}
+
+/// The word for what the levels of a certificate fix.
+pub fn mode_word(mode: Mode) -> &'static str
+    ensures { result.now ≡ mode_word mode }
+{
+    match mode {
+        Mode::Players => "players",
+        Mode::Span => "span",
     }
 }

@@ -10,7 +10,7 @@ use Rattle.report.proofs.line.write_report.Goals as goal
 
 pub returns-clause-text : goal.returns-clause-text
 returns-clause-text c =
-    let text = c.in_ok-text.ensures.text (rw c.in_ok-tree.ensures (no_float c.args.answer)) ∙ ap compact_text c.in_ok-tree.ensures in
+    let text = c.in_ok-text.ensures.text (rw c.in_ok-tree.ensures (no_float c.args.answer c.requires)) ∙ ap compact_text c.in_ok-tree.ensures in
     c.in_ok-push.ensures.items ∙ ap (λ (l : List ℕ). l ++ 10 ∷ []) text
 
 pub returns-clause-utf8 : goal.returns-clause-utf8
@@ -21,4 +21,4 @@ returns-clause-utf8 c =
 pub returns-clause-reads_back : goal.returns-clause-reads_back
 returns-clause-reads_back c =
     let front = ap without_newline c.in_ok-push.ensures.items ∙ without_added _ in
-    ap read front ∙ c.in_ok-text.ensures.reads_back (rw c.in_ok-tree.ensures (shallow c.args.answer)) ∙ ap Some c.in_ok-tree.ensures
+    ap read front ∙ c.in_ok-text.ensures.reads_back (rw c.in_ok-tree.ensures (shallow c.args.answer c.requires)) ∙ ap Some c.in_ok-tree.ensures

@@ -1,0 +1,57 @@
+-- A certificate as JSON, each object's keys ascending.
+--
+--   weight_data       a weight, or a total
+--   coalition_pair    a coalition and its weight
+--   bound_pair        a player and the weight of its bound
+--   level_tree        a level
+--   certificate_tree  the levels and the mode
+use Rattle.std.specs.Prelude.{ℕ, ℤ, List, map, codes}
+use Rattle.serde_json.specs.Data.{Data, number, string, array, object, item, no_items, member, no_members}
+use Rattle.serde_json.specs.Find.{of_integer}
+use Rattle.serde_json.specs.View.{items_of}
+use Rattle.definitions.specs.Certificates.{Level}
+use Rattle.fractions.specs.Fraction.{Fraction}
+use Rattle.kohlberg.specs.Certificate.{CertificateData}
+use Rattle.report.specs.Values.{fraction_data, player_data, player_numbers}
+use Rattle.report.specs.Words.{mode_word}
+
+-- a weight, or a total
+abbrev pub weight_data : ℤ → Data
+weight_data z = number (of_integer z)
+
+-- a coalition and its weight
+abbrev pub coalition_pair : ℕ × ℤ → Data
+coalition_pair p = array (item (player_numbers p.0) (item (weight_data p.1) no_items))
+
+-- a player and the weight of its bound
+abbrev pub bound_pair : ℕ × ℤ → Data
+bound_pair p = array (item (player_data p.0) (item (weight_data p.1) no_items))
+
+-- coalitions and their weights
+abbrev pub coalition_pairs : List (ℕ × ℤ) → Data
+coalition_pairs ps = array (items_of (map coalition_pair ps))
+
+-- players and the weights of their bounds
+abbrev pub bound_pairs : List (ℕ × ℤ) → Data
+bound_pairs ps = array (items_of (map bound_pair ps))
+
+-- the excess of a level, as a fraction
+abbrev pub excess_of : Level → Fraction
+excess_of l = record { num = l.excess_num; den = l.excess_den }
+
+-- a level
+abbrev pub level_tree : Level → Data
+level_tree l =
+    object
+    (member (codes "bounds") (bound_pairs l.bounds)
+    (member (codes "coalitions") (coalition_pairs l.coalitions)
+    (member (codes "earlier") (coalition_pairs l.earlier)
+    (member (codes "excess") (fraction_data (excess_of l))
+    (member (codes "total") (weight_data l.total) no_members)))))
+
+-- the levels, from the first, and the mode
+abbrev pub certificate_tree : CertificateData → Data
+certificate_tree c =
+    object
+    (member (codes "levels") (array (items_of (map level_tree c.levels)))
+    (member (codes "mode") (string (mode_word c.mode)) no_members))

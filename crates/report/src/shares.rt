@@ -1,0 +1,41 @@
+//! Lists of shares.
+ghost use Rattle.std.specs.Prelude.{◌≡◌, ◌^◌, ◌<◌, pos, ◌≤ℤ◌, unsigned_abs, map, IfOk};
+ghost use Rattle.serde_json.specs.View.{view};
+ghost use Rattle.report.specs.ShareLists.{as_printed, share_data};
+
+use crate::fraction::text_of;
+use fractions::OutOfMemory;
+use kohlberg::ratio;
+use serde_json::Value;
+use std::alloc::Global;
+use worth_core::Shares;
+
+/// The texts of the shares, in lowest terms; where the game is one of costs, of the payments.
+pub fn share_texts(alloc: Global, shares: &Shares, is_cost: bool) -> Result<Vec<Value>, OutOfMemory>
+    ensures { IfOk result (λ v. map view v.items ≡ map (share_data is_cost shares.now.den) shares.now.shares) }
+{
+    let mut texts = Vec::new(alloc);
+    for i in 0..shares.players() {
+        let text = share_text(alloc, shares.num(i), shares.den(), is_cost)?;
+        texts.push(text)?;
+    }
+    Ok(texts)
+}
+
+fn share_text(alloc: Global, num: i128, den: i128, is_cost: bool) -> Result<Value, OutOfMemory>
+    requires positive { pos 1 ≤ℤ den }
+    requires small { unsigned_abs num < 2 ^ 110 }
+    ensures { IfOk result (λ v. view v ≡ share_data is_cost den num) }
+{
+    let share = ratio(as_printed(num, is_cost), den);
+    let text = text_of(alloc, &share)?;
+    Ok(Value::String(text))
+}
+
+fn as_printed(num: i128, is_cost: bool) -> i128
+    requires { unsigned_abs num < 2 ^ 110 }
+    ensures value { result ≡ as_printed is_cost num }
+    ensures small { unsigned_abs result < 2 ^ 110 }
+{
+    if is_cost { -num } else { num }
+}
