@@ -1,12 +1,12 @@
 -- The weights of the last basis in lowest terms: they and its multipliers are an answer.
-use Rattle.std.proofs.Common.{◌≡◌, ◌≢◌, ℕ, zero, suc, ◌*◌, ◌^◌, ◌<◌, ◌≤◌, true, IsTrue, List, length, map, nat_eq, Option, arith, sym, ap, subst, ◌∙◌, ℤ, pos, negsuc, ◌+ℤ◌, ◌*ℤ◌, ◌<ℤ◌, ◌≤ℤ◌, unsigned_abs, mul_comm}
+use Rattle.std.proofs.Common.{◌≡◌, ℕ, zero, suc, ◌*◌, ◌^◌, ◌<◌, ◌≤◌, true, IsTrue, List, length, map, nat_eq, Option, arith, sym, ap, subst, ◌∙◌, ℤ, pos, negsuc, ◌+ℤ◌, ◌*ℤ◌, ◌<ℤ◌, ◌≤ℤ◌, unsigned_abs, mul_comm}
 use Prim.Native.Nat.{◌∣◌}
 use native.Mathlib.Nat.{pos_of_dvd_of_pos, le_of_dvd}
 use lib.IntN.{*ℤ_comm}
 use Rattle.std.specs.List.{AllByRecursion, IsDistinct}
 use Rattle.std.proofs.Math.Nat.{mul-dvd-mul_right}
 use Rattle.std.proofs.lemmas.Int.{ints, unsigned_abs-mul}
-use Rattle.definitions.proofs.Ring.{ring_laws, unit_laws, linear, mul-zeroℤ}
+use Rattle.definitions.proofs.Ring.{ring_laws, unit_laws, mul-zeroℤ}
 use Rattle.definitions.specs.Programs.{Program, value_of, Bounds, IsOptimal}
 use Rattle.definitions.specs.Sums.{weighted_sum}
 use Rattle.fractions.proofs.Cancel.{cancel}
@@ -18,8 +18,9 @@ use Rattle.simplex.specs.Reduced.{listed, AreReduced}
 use Rattle.simplex.specs.Tableau.{IsTame, id_at}
 use Rattle.simplex.proofs.Ends.{no_ray}
 use Rattle.simplex.proofs.ListedWeights.{listed_all, listed_sum, listed_count, listed_distinct, listed_divisible, on_id}
-use Rattle.simplex.proofs.Solutions.{right_rows, right_nonneg, right_clear, value_right, ids_apart, is_column_at, positive_nonneg}
+use Rattle.simplex.proofs.Solutions.{right_rows, right_nonneg, right_clear, value_right, ids_apart, is_column_at, suc_nonneg}
 use Rattle.simplex.proofs.Tableaus.{right_small, den_small}
+use Rattle.simplex.proofs.Signs.{positive_apart, at_least_one, positive_size}
 
 -- ---- numbers over a common divisor
 quotient_nonneg : (c w z : ℤ) → pos 0 <ℤ c → c *ℤ w ≡ z → pos 0 ≤ℤ z → pos 0 ≤ℤ w
@@ -35,9 +36,6 @@ quotient_positive (pos zero) (negsuc w) z p e h = absurd (omega (arith, ints))
 quotient_positive (pos (suc c)) (negsuc w) z p e h = absurd (omega (arith, ints))
 quotient_positive (negsuc c) (negsuc w) z p e h = absurd (omega (arith, ints))
 
-positive_apart : (z : ℤ) → pos 0 <ℤ z → z ≢ pos 0
-positive_apart z h e = omega (arith, ints)
-
 times_dot : (n : ℕ) (c : ℤ) (w v s : ℕ → ℤ) → ((k : ℕ) → k < n → c *ℤ w k ≡ v k) → c *ℤ dot n w s ≡ dot n v s
 times_dot zero c w v s h = simp unit_laws
 times_dot (suc n) c w v s h = split c (dot n w s) (w n) (s n) ∙ ap (λ (z : ℤ). z +ℤ (c *ℤ w n) *ℤ s n) (times_dot n c w v s (λ k lt. h k (omega arith))) ∙ ap (λ (z : ℤ). dot n v s +ℤ z *ℤ s n) (h n (omega arith))
@@ -50,9 +48,6 @@ assoc c d r = simp ring_laws
 
 turned : (c d v : ℤ) → (c *ℤ d) *ℤ v ≡ d *ℤ (c *ℤ v)
 turned c d v = simp ring_laws
-
-at_least_one : (d : ℤ) → pos 0 <ℤ d → pos 1 ≤ℤ d
-at_least_one d h = omega (arith, linear)
 
 module _ (P : Program) (n : ℕ) (ids : List (Option ℕ)) (xs ts : List ℤ) (d : ℤ) (costs num : List ℤ) (mden : ℤ) (ws : List (ℕ × ℤ)) (den : ℤ)
     (st : IsImproving P true n ids xs ts d costs) (m : AreMultipliers xs costs n d num mden) (b : Bounds P num mden) (r : AreReduced n ids ts d ws den) where
@@ -72,7 +67,7 @@ module _ (P : Program) (n : ℕ) (ids : List (Option ℕ)) (xs ts : List ℤ) (d
   is_optimal = (
     (
       (
-        subst (AllByRecursion (λ w. IsTrue (P.is_column w.0) × (pos 0 ≤ℤ w.1))) (sym list_is) (listed_all (λ w. IsTrue (P.is_column w.0) × (pos 0 ≤ℤ w.1)) ids r.shares P.rows (λ j id u lt e f. (is_column_at P ids xs d st.table.inverse j id lt e, positive_nonneg u))),
+        subst (AllByRecursion (λ w. IsTrue (P.is_column w.0) × (pos 0 ≤ℤ w.1))) (sym list_is) (listed_all (λ w. IsTrue (P.is_column w.0) × (pos 0 ≤ℤ w.1)) ids r.shares P.rows (λ j id u lt e f. (is_column_at P ids xs d st.table.inverse j id lt e, suc_nonneg u))),
         subst (λ (l : List (ℕ × ℤ)). IsDistinct nat_eq (map (λ (w : ℕ × ℤ). w.0) l)) (sym list_is) (listed_distinct ids r.shares P.rows (ids_apart P ids xs d st.table.inverse)),
       ),
       at_least_one den (quotient_positive r.common den d r.is_common.positive r.den_is st.table.positive),
@@ -86,14 +81,14 @@ module _ (P : Program) (n : ℕ) (ids : List (Option ℕ)) (xs ts : List ℤ) (d
 
 -- ---- its form
 factor_le : (c w z : ℤ) → pos 0 <ℤ c → c *ℤ w ≡ z → unsigned_abs w ≤ unsigned_abs z
-factor_le c w z p e = subst (λ (t : ℕ). unsigned_abs w ≤ t) (sym (unsigned_abs-mul c w) ∙ ap unsigned_abs e) (grows (unsigned_abs c) (unsigned_abs w) (size_pos c p))
+factor_le c w z p e = subst (λ (t : ℕ). unsigned_abs w ≤ t) (sym (unsigned_abs-mul c w) ∙ ap unsigned_abs e) (grows (unsigned_abs c) (unsigned_abs w) (positive_size c p))
   where
     grows : (a b : ℕ) → 0 < a → b ≤ a * b
     grows zero b h = absurd (omega arith)
     grows (suc a) b h = omega arith
 
-    size_pos : (c : ℤ) → pos 0 <ℤ c → 0 < unsigned_abs c
-    size_pos c h = omega (arith, ints)
+    positive_size : (c : ℤ) → pos 0 <ℤ c → 0 < unsigned_abs c
+    positive_size c h = omega (arith, ints)
 
 below_62 : (a b : ℕ) → a ≤ b → b ≤ 2 ^ 58 → a < 2 ^ 62
 below_62 a b h k = omega arith
@@ -109,8 +104,8 @@ one_of (suc (suc g)) c p q h = absurd (omega arith)
 zero_share : (c w z : ℤ) → pos 0 <ℤ c → c *ℤ w ≡ z → z ≡ pos 0 → w ≡ pos 0
 zero_share c w z p e h = cancel c w (pos 0) (positive_apart c p) (e ∙ h ∙ sym (mul-zeroℤ c))
 
-positive_is : (u : ℕ) → pos 1 ≤ℤ pos (suc u)
-positive_is u = omega (arith, ints)
+suc_positive : (u : ℕ) → pos 1 ≤ℤ pos (suc u)
+suc_positive u = omega (arith, ints)
 
 module _ (P : Program) (n : ℕ) (ids : List (Option ℕ)) (xs ts : List ℤ) (d : ℤ) (costs num : List ℤ) (mden : ℤ) (ws : List (ℕ × ℤ)) (den : ℤ)
     (st : IsImproving P true n ids xs ts d costs) (m : AreMultipliers xs costs n d num mden) (b : Bounds P num mden) (r : AreReduced n ids ts d ws den) (tame : IsTame P) where
@@ -135,16 +130,13 @@ module _ (P : Program) (n : ℕ) (ids : List (Option ℕ)) (xs ts : List ℤ) (d
   lowest_terms g h k =
       let whole = r.is_common.greatest (g * unsigned_abs r.common) (times_both (pos g) r.common den d r.den_is h)
       (λ j jl. let lt' = subst (λ (t : ℕ). j < t) st.rows_is jl in times_both (pos g) r.common (r.shares j) (entry_at 32 ts j 0) (share_at j lt') (shares_divisible g k j lt')) in
-      let cp = size_pos r.common r.is_common.positive in
-      one_of g (unsigned_abs r.common) cp (pos_of_dvd_of_pos h (size_pos den (quotient_positive r.common den d r.is_common.positive r.den_is st.table.positive))) (le_of_dvd cp whole)
-    where
-      size_pos : (c : ℤ) → pos 0 <ℤ c → 0 < unsigned_abs c
-      size_pos c h = omega (arith, ints)
+      let cp = positive_size r.common r.is_common.positive in
+      one_of g (unsigned_abs r.common) cp (pos_of_dvd_of_pos h (positive_size den (quotient_positive r.common den d r.is_common.positive r.den_is st.table.positive))) (le_of_dvd cp whole)
 
   form : AreInForm P.rows ws den
   form = record {
     count = subst (λ (l : List (ℕ × ℤ)). length l ≤ P.rows) (sym listed_is) (listed_count ids r.shares P.rows);
-    positive = subst (AllByRecursion (λ w. pos 1 ≤ℤ w.1)) (sym listed_is) (listed_all (λ w. pos 1 ≤ℤ w.1) ids r.shares P.rows (λ j id u lt e f. positive_is u));
+    positive = subst (AllByRecursion (λ w. pos 1 ≤ℤ w.1)) (sym listed_is) (listed_all (λ w. pos 1 ≤ℤ w.1) ids r.shares P.rows (λ j id u lt e f. suc_positive u));
     small = subst (AllByRecursion (λ w. unsigned_abs w.1 < 2 ^ 62)) (sym listed_is) (listed_all (λ w. unsigned_abs w.1 < 2 ^ 62) ids r.shares P.rows (λ j id u lt e f. subst (λ (z : ℤ). unsigned_abs z < 2 ^ 62) f (share_small j lt)));
     den_small = below_62 (unsigned_abs den) (unsigned_abs d) (factor_le r.common den d r.is_common.positive r.den_is) (den_small P ids xs d tame st.table.inverse);
     lowest = lowest_terms;

@@ -9,12 +9,17 @@ use Rattle.fractions.specs.Lexicographic.{IsLexPositive, IsLexNonnegative}
 use Rattle.definitions.specs.Sums.{sum_below}
 use Rattle.simplex.specs.Measure.{cut}
 use Rattle.simplex.specs.Program.{flipped}
+use lib.IntN.{*ℤ_comm}
 
 pub dot_cong : (n : ℕ) (a b s t : ℕ → ℤ) → ((i : ℕ) → i < n → a i ≡ b i) → ((i : ℕ) → i < n → s i ≡ t i) → dot n a s ≡ dot n b t
 dot_cong zero a b s t h k = refl
 dot_cong (suc n) a b s t h k =
     ap (λ (z : ℤ). z +ℤ a n *ℤ s n) (dot_cong n a b s t (λ i lt. h i (omega arith)) (λ i lt. k i (omega arith)))
     ∙ ap (λ (z : ℤ). dot n b t +ℤ z *ℤ s n) (h n (omega arith)) ∙ ap (λ (z : ℤ). dot n b t +ℤ b n *ℤ z) (k n (omega arith))
+
+pub dot_comm : (n : ℕ) (a b : ℕ → ℤ) → dot n a b ≡ dot n b a
+dot_comm zero a b = refl
+dot_comm (suc n) a b = ap (λ (z : ℤ). z +ℤ a n *ℤ b n) (dot_comm n a b) ∙ ap (λ (z : ℤ). dot n b a +ℤ z) (*ℤ_comm (a n) (b n))
 
 -- the sum of products, as the definitions write it
 pub sum_dot : (n : ℕ) (a f : ℕ → ℤ) → sum_below n (λ r. a r *ℤ f r) ≡ dot n a f
@@ -38,9 +43,6 @@ dot_swap n zero c x s = dot_zero_right n c
 dot_swap n (suc m) c x s = dot_add n c (λ k. dot m (x k) s) (λ k. x k m) (s m) ∙ ap (λ (z : ℤ). z +ℤ dot n c (λ k. x k m) *ℤ s m) (dot_swap n m c x s)
 
 -- ---- columns read from the last row
-pub below_or : (j n : ℕ) → (j < n) ⊎ (n ≤ j)
-below_or j n = grind arith
-
 cond_in : (j n : ℕ) (u v : ℤ) → j < n → cond (nat_lt j n) u v ≡ u
 cond_in j n u v lt = grind (arith, nat_tests)
 

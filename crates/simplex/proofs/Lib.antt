@@ -1,3 +1,4 @@
+pub mod Signs
 pub mod Sizes
 pub mod Positions
 pub mod DotProducts
@@ -7,7 +8,9 @@ pub mod Progress
 pub mod Steps
 pub mod Fills
 pub mod FreshRows
-pub mod Betweens
+pub mod Started
+pub mod Asked
+pub mod Exchanged
 pub mod Minors
 pub mod ListedWeights
 pub mod Ends

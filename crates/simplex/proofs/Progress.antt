@@ -1,5 +1,5 @@
 -- One step of the simplex: the rows stay, and what the objective can still go up is less.
-use Rattle.std.proofs.Common.{◌≡◌, ◌≢◌, inl, inr, ℕ, zero, suc, ◌*◌, ◌^◌, ◌<◌, ◌≤◌, List, arith, refl, sym, ap, subst, ◌∙◌, ℤ, pos, negsuc, ◌+ℤ◌, ◌-ℤ◌, ◌*ℤ◌, ◌<ℤ◌, unsigned_abs, mul-le-mul}
+use Rattle.std.proofs.Common.{◌≡◌, ◌≢◌, inl, inr, ℕ, zero, suc, ◌*◌, ◌^◌, ◌<◌, ◌≤◌, List, arith, refl, sym, ap, subst, ◌∙◌, ℤ, pos, ◌+ℤ◌, ◌-ℤ◌, ◌*ℤ◌, ◌<ℤ◌, unsigned_abs, mul-le-mul}
 use Rattle.std.proofs.lemmas.Int.{ints, unsigned_abs-mul}
 use Rattle.definitions.proofs.Ring.{unit_laws}
 use Rattle.fractions.proofs.LexicographicSigns.{positive_or_zero}
@@ -17,18 +17,13 @@ use Rattle.definitions.specs.Programs.{Program}
 use Rattle.simplex.specs.Laws.{first_columns}
 use Rattle.simplex.specs.Tableau.{target, IsTracked, AreNonneg}
 use Rattle.simplex.specs.Measure.{cut, objective_at, objective_room}
-use Rattle.simplex.proofs.DotProducts.{dot_cong, below_or, cut_in, cut_out, nonneg_same, positive_same}
-
-pub positive_is : (z : ℤ) → pos 0 <ℤ z → (u : ℕ) × (z ≡ pos u) × (0 < u)
-positive_is (pos u) h = (u, refl, omega (arith, ints))
-positive_is (negsuc u) h = absurd (omega (arith, ints))
+use Rattle.simplex.proofs.DotProducts.{dot_cong, cut_in, cut_out, nonneg_same, positive_same}
+use Rattle.simplex.proofs.Signs.{positive_is, positive_apart, positive_size}
+use Rattle.fractions.proofs.Cases.{below_or}
 
 all_zero : (n : ℕ) (a : ℕ → ℤ) (m : ℕ) (f : ℕ → Column) → ((j : ℕ) → j < m → dot n a (f j) ≡ pos 0) → AllByRecursion (λ c. dot n a c ≡ pos 0) (first_columns m f)
 all_zero n a zero f h = tt
 all_zero n a (suc m) f h = (h 0 (omega arith), all_zero n a m (λ k. f (suc k)) (λ j lt. h (suc j) (omega arith)))
-
-positive_apart : (z : ℤ) → pos 0 <ℤ z → z ≢ pos 0
-positive_apart z h e = omega (arith, ints)
 
 -- ---- the rows
 module _ (P : Program) (xs ts ys : List ℤ) (d : ℤ) (t : IsTracked P xs ts) (s : Column) (within : IsWithin P.rows s)
@@ -98,9 +93,6 @@ step_at n d e r z z' a h j = elim (below_or j n) [
   | inl lt ↦ ap (λ (t : ℤ). d *ℤ t) (cut_in n z' j lt) ∙ h j lt ∙ sym (ap (λ (t : ℤ). e *ℤ t +ℤ r *ℤ cut n a j) (cut_in n z j lt) ∙ ap (λ (t : ℤ). e *ℤ z j +ℤ r *ℤ t) (cut_in n a j lt))
   | inr ge ↦ ap (λ (t : ℤ). d *ℤ t) (cut_out n z' j ge) ∙ zeros d e r ∙ sym (ap (λ (t : ℤ). e *ℤ t +ℤ r *ℤ cut n a j) (cut_out n z j ge) ∙ ap (λ (t : ℤ). e *ℤ pos 0 +ℤ r *ℤ t) (cut_out n a j ge))
 ]
-
-positive_size : (r : ℤ) → pos 0 <ℤ r → 0 < unsigned_abs r
-positive_size r h = omega (arith, ints)
 
 of_size : (r : ℤ) → pos 0 <ℤ r → r ≡ pos (unsigned_abs r)
 of_size r h = omega (arith, ints)

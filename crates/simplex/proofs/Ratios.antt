@@ -1,11 +1,12 @@
 -- The lexicographic comparison of ratios, and the least of them.
-use Rattle.std.proofs.Common.{◌≡◌, ◌⊎◌, inl, inr, ℕ, zero, suc, ◌+◌, ◌<◌, List, arith, refl, sym, ap, subst, ◌∙◌, ℤ, pos, negsuc, ◌+ℤ◌, ◌-ℤ◌, ◌*ℤ◌, ◌<ℤ◌, ◌≤ℤ◌, Option, Some, None}
+use Rattle.std.proofs.Common.{◌≡◌, inl, inr, ℕ, zero, suc, ◌+◌, ◌<◌, List, arith, refl, sym, ap, subst, ◌∙◌, ℤ, pos, ◌+ℤ◌, ◌-ℤ◌, ◌*ℤ◌, ◌<ℤ◌, ◌≤ℤ◌, Option, Some, None}
 use Rattle.std.proofs.lemmas.Int.{ints}
 use Rattle.definitions.proofs.Ring.{ring_laws, linear}
 use Rattle.fractions.proofs.LexicographicSigns.{joined_nonnegative}
 use Rattle.fractions.specs.Lexicographic.{IsLexPositive, IsLexNonnegative}
 use Rattle.fractions.specs.Matrix.{entry_at, weight_at}
 use Rattle.simplex.specs.Ratio.{ratio_gap, IsLeast, NonePositive, IsChoice}
+use Rattle.simplex.proofs.Signs.{last_one, positive_is, not_both}
 
 -- ---- lexicographic signs by the first place that isn't 0
 pub positive_at : (m j : ℕ) (a : ℕ → ℤ) → j < m → ((i : ℕ) → i < j → a i ≡ pos 0) → pos 0 <ℤ a j → IsLexPositive m a
@@ -37,23 +38,16 @@ before ts ys n k p j lt h l = positive_at (suc n) j (ratio_gap ts ys p k) lt (λ
 pub not_before : (ts ys : List ℤ) (n k p j : ℕ) → j < suc n → ((i : ℕ) → i < j → ratio_gap ts ys k p i ≡ pos 0) → (weight_at ys k *ℤ entry_at 32 ts p j) <ℤ (weight_at ys p *ℤ entry_at 32 ts k j) → IsLexNonnegative (suc n) (ratio_gap ts ys k p)
 not_before ts ys n k p j lt h l = nonneg_of (suc n) (ratio_gap ts ys k p) (positive_at (suc n) j (ratio_gap ts ys k p) lt h (gap_less (weight_at ys k *ℤ entry_at 32 ts p j) (weight_at ys p *ℤ entry_at 32 ts k j) l))
 
-last_or : (i n : ℕ) → i < n + 1 → (i ≡ n) ⊎ (i < n)
-last_or i n h = grind arith
-
 between : (a b : ℤ) → b ≤ℤ a → a ≤ℤ b → a ≡ b
 between a b h k = omega (arith, ints)
 
 pub same_so_far : (ts ys : List ℤ) (k p j : ℕ) → ((i : ℕ) → i < j → ratio_gap ts ys k p i ≡ pos 0) → (weight_at ys k *ℤ entry_at 32 ts p j) ≤ℤ (weight_at ys p *ℤ entry_at 32 ts k j) → (weight_at ys p *ℤ entry_at 32 ts k j) ≤ℤ (weight_at ys k *ℤ entry_at 32 ts p j) → (i : ℕ) → i < j + 1 → ratio_gap ts ys k p i ≡ pos 0
-same_so_far ts ys k p j h e f i lt = elim (last_or i j lt) [
+same_so_far ts ys k p j h e f i lt = elim (last_one i j lt) [
   | inl same ↦ ap (ratio_gap ts ys k p) same ∙ gap_none (weight_at ys p *ℤ entry_at 32 ts k j) (weight_at ys k *ℤ entry_at 32 ts p j) (between _ _ e f)
   | inr less ↦ h i less
 ]
 
 -- ---- the least ratio
-positive_is : (z : ℤ) → pos 0 <ℤ z → (u : ℕ) × (z ≡ pos u) × (0 < u)
-positive_is (pos u) h = (u, refl, omega (arith, ints))
-positive_is (negsuc u) h = absurd (omega (arith, ints))
-
 ring_step : (yj yk yp tj tk tp : ℤ) → yp *ℤ (yk *ℤ tj -ℤ yj *ℤ tk) ≡ yk *ℤ (yp *ℤ tj -ℤ yj *ℤ tp) +ℤ yj *ℤ (yk *ℤ tp -ℤ yp *ℤ tk)
 ring_step yj yk yp tj tk tp = simp ring_laws (omega (arith, linear))
 
@@ -76,20 +70,17 @@ itself ts ys n k = nonneg_zero (suc n) (ratio_gap ts ys k k) (λ i lt. gap_none 
 -- a position without a positive weight changes nothing
 pub none_more : (ys : List ℤ) (k : ℕ) → weight_at ys k ≤ℤ pos 0 → NonePositive ys k → NonePositive ys (k + 1)
 none_more ys k z h = record {
-  none = λ j lt p. elim (last_or j k lt) [
-    | inl e ↦ never (weight_at ys j) (subst (λ (t : ℕ). weight_at ys t ≤ℤ pos 0) (sym e) z) p
+  none = λ j lt p. elim (last_one j k lt) [
+    | inl e ↦ not_both (weight_at ys j) (subst (λ (t : ℕ). weight_at ys t ≤ℤ pos 0) (sym e) z) p
     | inr l ↦ h.none j l p
   ];
 }
-  where
-    never : (a : ℤ) → a ≤ℤ pos 0 → pos 0 <ℤ a → ⊥
-    never a h p = omega (arith, linear)
 
 pub least_more : (ts ys : List ℤ) (n k p : ℕ) → (pos 0 <ℤ weight_at ys k → IsLexNonnegative (suc n) (ratio_gap ts ys k p)) → IsLeast ts ys n k p → IsLeast ts ys n (k + 1) p
 least_more ts ys n k p z h = record {
   place = h.place;
   positive = h.positive;
-  least = λ j lt pj. elim (last_or j k lt) [
+  least = λ j lt pj. elim (last_one j k lt) [
     | inl e ↦ subst (λ (t : ℕ). IsLexNonnegative (suc n) (ratio_gap ts ys t p)) (sym e) (z (subst (λ (t : ℕ). pos 0 <ℤ weight_at ys t) e pj))
     | inr l ↦ h.least j l pj
   ];
@@ -99,7 +90,7 @@ pub least_first : (ts ys : List ℤ) (n k : ℕ) → k < n → pos 0 <ℤ weight
 least_first ts ys n k lt pk h = record {
   place = lt;
   positive = pk;
-  least = λ j lj pj. elim (last_or j k lj) [
+  least = λ j lj pj. elim (last_one j k lj) [
     | inl e ↦ subst (λ (t : ℕ). IsLexNonnegative (suc n) (ratio_gap ts ys t k)) (sym e) (itself ts ys n k)
     | inr l ↦ absurd (h.none j l pj)
   ];
@@ -109,7 +100,7 @@ pub least_next : (ts ys : List ℤ) (n k p : ℕ) → k < n → pos 0 <ℤ weigh
 least_next ts ys n k p lt pk less h = record {
   place = lt;
   positive = pk;
-  least = λ j lj pj. elim (last_or j k lj) [
+  least = λ j lj pj. elim (last_one j k lj) [
     | inl e ↦ subst (λ (t : ℕ). IsLexNonnegative (suc n) (ratio_gap ts ys t k)) (sym e) (itself ts ys n k)
     | inr l ↦ through ts ys n j k p pj pk h.positive (h.least j l pj) (nonneg_of (suc n) (ratio_gap ts ys p k) less)
   ];
@@ -117,7 +108,4 @@ least_next ts ys n k p lt pk less h = record {
 
 pub choice_more : (ts ys : List ℤ) (n k : ℕ) (best : Option ℕ) → weight_at ys k ≤ℤ pos 0 → IsChoice ts ys n k best → IsChoice ts ys n (k + 1) best
 choice_more ts ys n k None z h = none_more ys k z h
-choice_more ts ys n k (Some p) z h = least_more ts ys n k p (λ pk. absurd (never (weight_at ys k) z pk)) h
-  where
-    never : (a : ℤ) → a ≤ℤ pos 0 → pos 0 <ℤ a → ⊥
-    never a h p = omega (arith, linear)
+choice_more ts ys n k (Some p) z h = least_more ts ys n k p (λ pk. absurd (not_both (weight_at ys k) z pk)) h

@@ -16,12 +16,13 @@ use Rattle.simplex.specs.Laws.{first_columns}
 use Rattle.simplex.specs.Program.{column, right_side}
 use Rattle.simplex.specs.Reduced.{listed}
 use Rattle.simplex.specs.Tableau.{id_at, IsId, place, placed, IsInverse}
-use Rattle.simplex.proofs.DotProducts.{dot_cong, flipped_at, flipped_within}
+use Rattle.simplex.proofs.DotProducts.{dot_cong, flipped_at, flipped_within, dot_comm}
 use Rattle.simplex.proofs.Ends.{lex_first, neg_le, objective_right}
 use Rattle.simplex.proofs.FreshRows.{own_at}
 use Rattle.simplex.proofs.ListedWeights.{listed_all, listed_sum, listed_distinct, on_id, differ, all_new}
 use Rattle.simplex.proofs.Steps.{value_is}
 use Rattle.simplex.proofs.Tableaus.{of_within, place_of}
+use Rattle.simplex.proofs.Signs.{turned_below, at_least_one, positive_nonneg, not_both}
 
 dot_products : (n : ℕ) (a b s t : ℕ → ℤ) → ((k : ℕ) → k < n → a k *ℤ s k ≡ b k *ℤ t k) → dot n a s ≡ dot n b t
 dot_products zero a b s t h = refl
@@ -41,15 +42,12 @@ weigh_cols (suc n) f w i = ap (λ (z : ℤ). w 0 *ℤ f 0 i +ℤ z) (weigh_cols 
 turn : (n i : ℕ) → i < n → n - 1 - (n - 1 - i) ≡ i
 turn n i lt = omega arith
 
-turn_small : (n i : ℕ) → i < n → n - 1 - i < n
-turn_small n i lt = omega arith
-
 both_zero : (a b c : ℤ) → a ≡ pos 0 → a *ℤ b ≡ a *ℤ c
 both_zero a b c e = simp (e, unit_laws)
 
 on_place : (P : Program) (k : ℕ) (o : Option ℕ) (w : ℤ) (i : ℕ) → i < P.rows → (o ≡ None → w ≡ pos 0) → w *ℤ place P k o (P.rows - 1 - i) ≡ w *ℤ on_id (λ id. P.entry id i) o
 on_place P k None w i lt h = both_zero w _ _ (h refl)
-on_place P k (Some id) w i lt h = ap (λ (z : ℤ). w *ℤ z) (flipped_at P.rows (P.entry id) (P.rows - 1 - i) (turn_small P.rows i lt) ∙ ap (P.entry id) (turn P.rows i lt))
+on_place P k (Some id) w i lt h = ap (λ (z : ℤ). w *ℤ z) (flipped_at P.rows (P.entry id) (P.rows - 1 - i) (turned_below P.rows i lt) ∙ ap (P.entry id) (turn P.rows i lt))
 
 -- d times an entry of a column is the sum of the basis's entries with the column's weights, if the added units have weight 0
 pub spread : (P : Program) (ids : List (Option ℕ)) (xs : List ℤ) (d : ℤ) (s : Column) (w : ℕ → ℤ) → IsInverse P ids xs d → IsWithin P.rows s → ((k : ℕ) → k < P.rows → w k ≡ dot P.rows (entry_at 32 xs k) s) → ((k : ℕ) → k < P.rows → id_at ids k ≡ None → w k ≡ pos 0)
@@ -77,8 +75,8 @@ ids_apart P ids xs d h j k id jn kn ne e f =
 pub is_column_at : (P : Program) (ids : List (Option ℕ)) (xs : List ℤ) (d : ℤ) → IsInverse P ids xs d → (j id : ℕ) → j < P.rows → id_at ids j ≡ Some id → IsTrue (P.is_column id)
 is_column_at P ids xs d h j id lt e = subst (IsId P) e (h.ids_of j lt)
 
-pub positive_nonneg : (u : ℕ) → pos 0 ≤ℤ pos (suc u)
-positive_nonneg u = omega (arith, ints)
+pub suc_nonneg : (u : ℕ) → pos 0 ≤ℤ pos (suc u)
+suc_nonneg u = omega (arith, ints)
 
 module _ (P : Program) (n : ℕ) (ids : List (Option ℕ)) (xs ts : List ℤ) (d : ℤ) (costs : List ℤ) (st : IsImproving P true n ids xs ts d costs) where
   pub right_clear : (k : ℕ) → k < P.rows → id_at ids k ≡ None → entry_at 32 ts k 0 ≡ pos 0
@@ -87,13 +85,13 @@ module _ (P : Program) (n : ℕ) (ids : List (Option ℕ)) (xs ts : List ℤ) (d
   pub right_rows : (i : ℕ) → i < P.rows → dot P.rows (λ k. entry_at 32 ts k 0) (λ k. on_id (λ id. P.entry id i) (id_at ids k)) ≡ d *ℤ P.right i
   right_rows i lt =
       spread P ids xs d (right_side P) (λ k. entry_at 32 ts k 0) st.table.inverse (flipped_within P.rows P.right) (λ k l. st.table.tracked.tracked k 0 l (omega arith)) right_clear i lt
-      ∙ ap (λ (z : ℤ). d *ℤ z) (flipped_at P.rows P.right (P.rows - 1 - i) (turn_small P.rows i lt) ∙ ap P.right (turn P.rows i lt))
+      ∙ ap (λ (z : ℤ). d *ℤ z) (flipped_at P.rows P.right (P.rows - 1 - i) (turned_below P.rows i lt) ∙ ap P.right (turn P.rows i lt))
 
   pub right_nonneg : (k : ℕ) → k < P.rows → pos 0 ≤ℤ entry_at 32 ts k 0
   right_nonneg k lt = lex_first (entry_at 32 ts k 0) (st.nonneg.rows k lt)
 
   listed_weights : (w : ℕ → ℤ) → AllByRecursion (λ v. IsTrue (P.is_column v.0) × (pos 0 ≤ℤ v.1)) (listed ids w P.rows)
-  listed_weights w = listed_all (λ v. IsTrue (P.is_column v.0) × (pos 0 ≤ℤ v.1)) ids w P.rows (λ j id u lt e f. (is_column_at P ids xs d st.table.inverse j id lt e, positive_nonneg u))
+  listed_weights w = listed_all (λ v. IsTrue (P.is_column v.0) × (pos 0 ≤ℤ v.1)) ids w P.rows (λ j id u lt e f. (is_column_at P ids xs d st.table.inverse j id lt e, suc_nonneg u))
 
   pub has_solution : HasSolution P
   has_solution = record {
@@ -105,9 +103,6 @@ module _ (P : Program) (n : ℕ) (ids : List (Option ℕ)) (xs ts : List ℤ) (d
       λ i lt. listed_sum (λ id. P.entry id i) ids (λ k. entry_at 32 ts k 0) P.rows right_nonneg ∙ right_rows i lt,
     );
   }
-    where
-      at_least_one : (d : ℤ) → pos 0 <ℤ d → pos 1 ≤ℤ d
-      at_least_one d h = omega (arith, linear)
 
   cost_on : (k : ℕ) → k < P.rows → on_id P.cost (id_at ids k) ≡ weight_at costs k
   cost_on k lt = same (id_at ids k) ∙ sym (st.costs_are k lt)
@@ -115,10 +110,6 @@ module _ (P : Program) (n : ℕ) (ids : List (Option ℕ)) (xs ts : List ℤ) (d
       same : (o : Option ℕ) → on_id P.cost o ≡ part_cost P true o
       same None = refl
       same (Some id) = refl
-
-  dot_comm : (n : ℕ) (a b : ℕ → ℤ) → dot n a b ≡ dot n b a
-  dot_comm zero a b = refl
-  dot_comm (suc n) a b = ap (λ (z : ℤ). z +ℤ a n *ℤ b n) (dot_comm n a b) ∙ ap (λ (z : ℤ). dot n b a +ℤ z) (Rattle.std.proofs.Math.IntN.*ℤ_comm (a n) (b n))
 
   pub cost_sum : (w : ℕ → ℤ) → dot P.rows w (λ k. on_id P.cost (id_at ids k)) ≡ dot P.rows (weight_at costs) w
   cost_sum w = dot_cong P.rows w w (λ k. on_id P.cost (id_at ids k)) (weight_at costs) (λ k lt. refl) cost_on ∙ dot_comm P.rows w (weight_at costs)
@@ -139,19 +130,13 @@ module _ (P : Program) (n : ℕ) (ids : List (Option ℕ)) (xs ts : List ℤ) (d
   some_left : (a b : ℤ) → b <ℤ a → pos 1 ≤ℤ (a -ℤ b)
   some_left a b h = omega (arith, linear)
 
-  less_le : (a : ℤ) → pos 0 <ℤ a → pos 0 ≤ℤ a
-  less_le a h = omega (arith, linear)
-
   -- the column of a direction isn't in the basis
   direction_new : (r : HasDirection P true xs d costs) (j id : ℕ) → j < P.rows → id_at ids j ≡ Some id → r.id ≢ id
   direction_new r j id lt e same =
       never d (dot P.rows (entry_at 32 xs j) (column P r.id)) (unit j j) (ap (λ (t : ℕ). dot P.rows (entry_at 32 xs j) (column P t)) same ∙ own_weight P ids xs d id j j st.table.inverse lt lt e) (unit_same j) st.table.positive (r.lowers j lt)
     where
       never : (d a u : ℤ) → a ≡ d *ℤ u → u ≡ pos 1 → pos 0 <ℤ d → a ≤ℤ pos 0 → ⊥
-      never d a u e f p h = below d p (subst (λ (z : ℤ). z ≤ℤ pos 0) (e ∙ ap (λ (z : ℤ). d *ℤ z) f ∙ mul-oneℤ d) h)
-        where
-          below : (d : ℤ) → pos 0 <ℤ d → d ≤ℤ pos 0 → ⊥
-          below d p h = omega (arith, linear)
+      never d a u e f p h = not_both d (subst (λ (z : ℤ). z ≤ℤ pos 0) (e ∙ ap (λ (z : ℤ). d *ℤ z) f ∙ mul-oneℤ d) h) p
 
   pub has_ray : HasDirection P true xs d costs → HasRay P
   unfolding IsDistinct
@@ -162,13 +147,13 @@ module _ (P : Program) (n : ℕ) (ids : List (Option ℕ)) (xs ts : List ℤ) (d
       let lowered = λ (k : ℕ) (lt : k < P.rows). neg_le (y k) (r.lowers k lt) in (
         (r.id, d) ∷ listed ids m P.rows,
         (
-          ((r.is_column, less_le d st.table.positive), listed_weights m),
+          ((r.is_column, positive_nonneg d st.table.positive), listed_weights m),
           (all_new r.id (listed ids m P.rows) (listed_all (λ v. nat_eq r.id v.0 ≡ false) ids m P.rows (λ j id u lt e f. differ r.id id (direction_new r j id lt e))), listed_distinct ids m P.rows (ids_apart P ids xs d st.table.inverse)),
         ),
         λ i lt. ap (λ (z : ℤ). d *ℤ P.entry r.id i +ℤ z) (listed_sum (λ id. P.entry id i) ids m P.rows lowered ∙ neg_dot P.rows y (λ k. on_id (λ id. P.entry id i) (id_at ids k)))
             ∙ none_left (d *ℤ P.entry r.id i) (dot P.rows y (λ k. on_id (λ id. P.entry id i) (id_at ids k)))
             (sym (spread P ids xs d s y st.table.inverse (flipped_within P.rows (P.entry r.id)) (λ k l. refl) (λ k l h. (st.silent refl k l h).columns r.id r.is_column) i lt
-            ∙ ap (λ (z : ℤ). d *ℤ z) (flipped_at P.rows (P.entry r.id) (P.rows - 1 - i) (turn_small P.rows i lt) ∙ ap (P.entry r.id) (turn P.rows i lt)))),
+            ∙ ap (λ (z : ℤ). d *ℤ z) (flipped_at P.rows (P.entry r.id) (P.rows - 1 - i) (turned_below P.rows i lt) ∙ ap (P.entry r.id) (turn P.rows i lt)))),
         subst (λ (z : ℤ). pos 1 ≤ℤ z)
             (sym (ap (λ (z : ℤ). d *ℤ P.cost r.id +ℤ z) (listed_sum P.cost ids m P.rows lowered ∙ neg_dot P.rows y (λ k. on_id P.cost (id_at ids k)) ∙ ap neg_ℤ (cost_sum y))))
             (some_left (d *ℤ P.cost r.id) (dot P.rows (weight_at costs) y) r.above),
