@@ -1,0 +1,66 @@
+-- The lists of columns that the programs are made of.
+--
+--   listed            the first n columns of a sequence
+--   earlier_columns   two columns for each coalition of a level
+--   singles, minuses  the columns of the players alone, and these negated
+--   AreOuter          the columns of the coalitions outside
+--   balanced_columns  those of the balanced program
+use Rattle.std.specs.Prelude.{◌≡◌, ℕ, zero, suc, ◌+◌, ◌<◌, Bool, true, false, ◌&&◌, nat_lt, List, [], ◌∷◌, ◌++◌, length, ℤ, pos, ◌-ℤ◌, if◌then◌else◌, Option, Some, None}
+use Rattle.definitions.specs.Coalitions.{singleton}
+use Rattle.definitions.specs.Games.{Game}
+use Rattle.definitions.specs.Certificates.{Level, has_bound, IsOutside}
+use Rattle.definitions.specs.declared.Family.{Family}
+use Rattle.definitions.specs.declared.Mode.TheVariants.{Span}
+use Rattle.separation.specs.Stage.{is_imputations}
+use Rattle.separation.specs.Kept.{column_at}
+use Rattle.separation.specs.declared.column.Column.{Column}
+
+-- the first n of a sequence
+abbrev pub listed : ℕ → (ℕ → Option Column) → List (Option Column)
+listed zero f = []
+listed (suc n) f = listed n f ++ f n ∷ []
+
+-- the column of a coalition at its worth, and this negated
+abbrev pub plain : Game → ℕ → Option ℕ → Column
+plain g s level = record { coalition = s; level = level; negated = false; cost = g.worth s }
+
+abbrev pub minus : Game → ℕ → Option ℕ → Column
+minus g s level = record { coalition = s; level = level; negated = true; cost = pos 0 -ℤ g.worth s }
+
+-- both columns of each coalition, in the row of its level
+abbrev pub earlier_columns : Game → List (ℕ × ℕ) → List (Option Column)
+earlier_columns g [] = []
+earlier_columns g (c ∷ cs) = Some (plain g c.0 (Some c.1)) ∷ (Some (minus g c.0 (Some c.1)) ∷ earlier_columns g cs)
+
+-- both columns of all players
+abbrev pub whole_columns : Game → ℕ → List (Option Column)
+whole_columns g s = Some (plain g s None) ∷ (Some (minus g s None) ∷ [])
+
+-- the column of player i alone, for imputations
+abbrev pub single : Family → Game → ℕ → Option Column
+single family g i = if is_imputations family then Some (plain g (singleton i) None) else None
+
+-- the same negated, where levels have bound the player
+abbrev pub bound : Family → Game → List Level → ℕ → Option Column
+bound family g front i =
+    if is_imputations family && has_bound front i then Some (minus g (singleton i) None) else None
+
+-- the column of coalition s, where it is outside
+abbrev pub IsOuter : Game → List Level → ℕ → Option Column → Type 0
+IsOuter g front s None = ¬ IsOutside Span g.players front s
+IsOuter g front s (Some c) = IsOutside Span g.players front s × (c ≡ plain g s (Some (length front)))
+
+-- a column for each of the first n coalitions, if it is outside
+pub record AreOuter (g : Game) (front : List Level) (n : ℕ) (columns : List (Option Column)) : Type 0 where
+  pub count : length columns ≡ n
+  pub outer : (s : ℕ) → s < n → IsOuter g front s (column_at columns s)
+
+-- columns, and those of the coalitions outside behind them
+pub record EndsOuter (g : Game) (front : List Level) (n : ℕ) (columns longer : List (Option Column)) : Type 0 where
+  pub outers : List (Option Column)
+  pub are : AreOuter g front n outers
+  pub longer_is : longer ≡ columns ++ outers
+
+-- the column of coalition s, unless that is empty
+abbrev pub balanced_column : Game → ℕ → Option Column
+balanced_column g s = if nat_lt 0 s then Some (plain g s None) else None

@@ -1,0 +1,62 @@
+-- What multipliers make of columns.
+--
+--   player_multiplier   the multiplier of a player, or 0 past the players
+--   eight               the multipliers of the members of a coalition of eight players
+--   AreSums             the tables of the first and the next eight players
+--   column_value        the sum of multiplier times entry
+--   Rises, IsFirst      a column's cost is above its value; the first such
+use Rattle.std.specs.Prelude.{◌≡◌, ℕ, ◌+◌, ◌<◌, ◌≤◌, Bool, true, false, nat_lt, List, length, ℤ, pos, ◌*ℤ◌, ◌<ℤ◌, if◌then◌else◌, slice_index_or, Option, Some, None}
+use Rattle.definitions.specs.Sums.{sum_below}
+use Rattle.definitions.specs.Coalitions.{has_player}
+use Rattle.separation.specs.Kept.{column_entry, column_at}
+use Rattle.separation.specs.declared.column.Column.{Column}
+
+abbrev pub multiplier_at : List ℤ → ℕ → ℤ
+multiplier_at num r = slice_index_or num r (pos 0)
+
+-- the multiplier of player i, or 0 past n players
+abbrev pub player_multiplier : List ℤ → ℕ → ℕ → ℤ
+player_multiplier num n i = if nat_lt i n then multiplier_at num i else pos 0
+
+-- the multiplier of the i-th of the eight players from `first` on, if s has it
+abbrev pub member_multiplier : List ℤ → ℕ → ℕ → ℕ → ℕ → ℤ
+member_multiplier num n first s i = if has_player s i then player_multiplier num n (first + i) else pos 0
+
+-- the multipliers of the members of a coalition of the eight players from `first` on
+abbrev pub eight : List ℤ → ℕ → ℕ → ℕ → ℤ
+eight num n first s = sum_below 8 (member_multiplier num n first s)
+
+-- a table of such sums
+abbrev pub IsTable : List ℤ → ℕ → ℕ → List ℤ → Type 0
+IsTable num n first table = (s : ℕ) → s < 256 → slice_index_or table s (pos 0) ≡ eight num n first s
+
+-- those of the first eight players, and of the next eight
+pub record AreSums (num : List ℤ) (n : ℕ) (low high : List ℤ) : Type 0 where
+  pub few : n ≤ 16
+  pub low_is : IsTable num n 0 low
+  pub high_is : IsTable num n 8 high
+
+-- the multiplier of a column's level row
+abbrev pub level_multiplier : List ℤ → ℕ → Option ℕ → ℤ
+level_multiplier num n None = pos 0
+level_multiplier num n (Some l) = multiplier_at num (n + l)
+
+-- the sum of multiplier times entry
+abbrev pub column_value : List ℤ → ℕ → Column → ℤ
+column_value num n c = sum_below (length num) (λ r. multiplier_at num r *ℤ column_entry n c r)
+
+-- what a cost counts for, with costs or without them
+abbrev pub counted : Bool → ℤ → ℤ
+counted true cost = cost
+counted false cost = pos 0
+
+-- a column whose cost is above its value
+abbrev pub Rises : List ℤ → ℤ → ℕ → Bool → Option Column → Type 0
+Rises num den n with_costs None = ⊥
+Rises num den n with_costs (Some c) = column_value num n c <ℤ (den *ℤ counted with_costs c.cost)
+
+-- the first column whose cost is above its value
+pub record IsFirst (num : List ℤ) (den : ℤ) (n : ℕ) (with_costs : Bool) (columns : List (Option Column)) (id : ℕ) : Type 0 where
+  pub place : id < length columns
+  pub rises : Rises num den n with_costs (column_at columns id)
+  pub least : (j : ℕ) → j < id → ¬ Rises num den n with_costs (column_at columns j)

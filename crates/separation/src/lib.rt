@@ -1,0 +1,5 @@
+//! The programs of the nucleolus and of the core as columns, from which the simplex picks.
+#![tactic(auto)]
+
+mod column;
+mod sums;

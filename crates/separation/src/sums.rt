@@ -1,0 +1,151 @@
+//! What multipliers make of columns. The multipliers of a coalition's members are added by two tables, one for the members
+//! among the first eight players and one for those among the next eight, so that a coalition costs one addition.
+
+ghost use Rattle.std.specs.Prelude.{◌≡◌, ℕ, ◌+◌, ◌*◌, ◌^◌, ◌<◌, ◌≤◌, length, List, ℤ, pos, ◌*ℤ◌, slice_index_or, unsigned_abs, MatchOption};
+ghost use Rattle.std.specs.Bool.{Decides};
+ghost use Rattle.std.specs.Option.{ForSome};
+ghost use Rattle.definitions.specs.Coalitions.{sum_over};
+ghost use Rattle.separation.specs.Values.{multiplier_at, player_multiplier, member_multiplier, eight, IsTable, AreSums, level_multiplier, column_value, counted, Rises, IsFirst};
+
+use crate::column::Column;
+use coalitions::Coalition;
+use simplex::Multipliers;
+
+/// The multiplier of player `i`, and 0 past `n` players.
+fn player_multiplier(m: &Multipliers, n: u32, i: u32) -> i128
+    requires { n ≤ length m.now.num.items }
+    ensures value { result ≡ player_multiplier m.now.num.items n i }
+    ensures small { unsigned_abs result < 2 ^ 110 }
+{
+    if i < n { m.num[i as usize] } else { 0 }
+}
+
+/// The multiplier of the `i`-th of the eight players from `first` on, if the coalition has it, and otherwise 0.
+fn member_multiplier(m: &Multipliers, n: u32, first: u32, s: Coalition, i: u32) -> i128
+    requires count { n ≤ length m.now.num.items }
+    requires first { first ≤ 8 }
+    requires player { i < 8 }
+    ensures value { result ≡ member_multiplier m.now.num.items n first s i }
+    ensures small { unsigned_abs result < 2 ^ 110 }
+{
+    if s.contains(i) {
+        player_multiplier(m, n, first + i)
+    } else {
+        0
+    }
+}
+
+/// The multipliers of the members of a coalition of the eight players from `first` on, added.
+fn eight(m: &Multipliers, n: u32, first: u32, s: Coalition) -> i128
+    requires count { n ≤ length m.now.num.items }
+    requires first { first ≤ 8 }
+    ensures value { result ≡ eight m.now.num.items n first s }
+    ensures small { unsigned_abs result ≤ 2 ^ 113 }
+{
+    let mut sum = 0;
+    for i in 0..8 {
+        sum += member_multiplier(m, n, first, s, i);
+    }
+    sum
+}
+
+/// The multipliers of each coalition of the eight players from `first` on.
+fn table(m: &Multipliers, n: u32, first: u32) -> [i128; 256]
+    requires count { n ≤ length m.now.num.items }
+    requires first { first ≤ 8 }
+    ensures value { IsTable m.now.num.items n first result }
+    ensures small { (k : ℕ) → unsigned_abs (slice_index_or result k (pos 0)) ≤ 2 ^ 113 }
+{
+    let mut sums = [0; 256];
+    for s in 0..256 {
+        sums[s] = eight(m, n, first, Coalition(s as u64));
+    }
+    sums
+}
+
+/// The multipliers of each coalition of the first eight players, and of each coalition of the next eight.
+pub(crate) struct Sums {
+    low: [i128; 256],
+    high: [i128; 256],
+    ghost low_small: { (k : ℕ) → unsigned_abs (slice_index_or low k (pos 0)) ≤ 2 ^ 113 },
+    ghost high_small: { (k : ℕ) → unsigned_abs (slice_index_or high k (pos 0)) ≤ 2 ^ 113 },
+}
+
+impl Sums {
+    /// The sums of the multipliers of at most 16 players.
+    pub(crate) fn new(m: &Multipliers, n: u32) -> Sums
+        requires count { n ≤ length m.now.num.items }
+        requires few { n ≤ 16 }
+        ensures { AreSums m.now.num.items n result.low result.high }
+    {
+        Sums {
+            low: table(m, n, 0),
+            high: table(m, n, 8),
+        }
+    }
+
+    /// The multipliers of a coalition's members, added.
+    fn of(&self, s: Coalition) -> i128
+        ensures value { (num : List ℤ) (n : ℕ) → AreSums num n self.now.low self.now.high → result ≡ sum_over n (multiplier_at num) s }
+        ensures small { unsigned_abs result ≤ 2 ^ 114 }
+    {
+        self.low[(s.0 % 256) as usize] + self.high[(s.0 / 256 % 256) as usize]
+    }
+}
+
+/// The multiplier of a column's level row, and 0 without one.
+fn level_multiplier(m: &Multipliers, n: u32, level: Option<u32>) -> i128
+    requires few { n ≤ 16 }
+    requires within { ForSome level (λ l. n + l < length m.now.num.items) }
+    ensures value { result ≡ level_multiplier m.now.num.items n level }
+    ensures small { unsigned_abs result < 2 ^ 110 }
+{
+    match level {
+        Some(l) => m.num[(n + l) as usize],
+        None => 0,
+    }
+}
+
+/// The sum of multiplier times entry of a column.
+fn value(column: Column, m: &Multipliers, n: u32, sums: &Sums) -> i128
+    requires within { ForSome column.level (λ l. n + l < length m.now.num.items) }
+    requires players { n ≤ length m.now.num.items }
+    requires sums { AreSums m.now.num.items n sums.now.low sums.now.high }
+    ensures value { result ≡ column_value m.now.num.items n column }
+    ensures small { unsigned_abs result ≤ 2 ^ 115 }
+{
+    let plain = sums.of(column.coalition) + level_multiplier(m, n, column.level);
+    if column.negated { -plain } else { plain }
+}
+
+/// A cost over the multipliers' denominator, or 0 where costs don't count.
+fn bar(m: &Multipliers, cost: i64, with_costs: bool) -> i128
+    requires { unsigned_abs cost < 2 ^ 46 }
+    ensures { result ≡ m.now.den *ℤ counted with_costs cost }
+{
+    if with_costs {
+        m.den * i128::from(cost)
+    } else {
+        0
+    }
+}
+
+/// Whether there is a column and its cost is above its value.
+fn rises(
+    column: Option<Column>,
+    m: &Multipliers,
+    n: u32,
+    sums: &Sums,
+    with_costs: bool,
+) -> bool
+    requires within { ForSome column (λ c. ForSome c.level (λ l. n + l < length m.now.num.items)) }
+    requires small { ForSome column (λ c. unsigned_abs c.cost < 2 ^ 46) }
+    requires players { n ≤ length m.now.num.items }
+    requires sums { AreSums m.now.num.items n sums.now.low sums.now.high }
+    ensures { Decides result (Rises m.now.num.items m.now.den n with_costs column) }
+{
+    match column {
+        Some(column) => value(column, m, n, sums) < bar(m, column.cost, with_costs),
+        None => false,
+    }
+}
