@@ -1,0 +1,5 @@
+pub mod LowestTerms
+pub mod OverLeast
+pub mod Signs
+pub mod ShareTexts
+pub mod Again

@@ -1,0 +1,5 @@
+use Rattle.reading_back.proofs.ShareTexts.{listed_items, listed_members}
+use Rattle.reading_back.proofs.share_lists_are_arrays.Goals as goal
+
+pub returns : goal.returns
+returns c = λ b x. (listed_members b x.den x.shares, listed_items _)

@@ -1,0 +1,2 @@
+pub mod ShareLists
+pub mod ReadBack

@@ -1,0 +1,39 @@
+-- What is read of a printed list of shares.
+--
+--   ShareListsAreArrays  it is an array of texts, one a share
+--   SharesAreReadBack    the shares that are read of it are those that were printed
+use Rattle.std.specs.Prelude.{◌≡◌, codes, length, map, Bool, true}
+use Rattle.serde_json.specs.Data.{Data}
+use Rattle.definitions.specs.Games.{Game, Allocation, IsAllocation, IsSame, IsShares}
+use Rattle.game_text.specs.Denominators.{is_coarse, over_least}
+use Rattle.game_text.specs.Shape.{is_member}
+use Rattle.game_text.specs.Shares.{has_share_numbers, has_shares_for, written_shares, as_worth}
+use Rattle.game_text.specs.Trees.{is_array_of, parts, parts_at}
+use Rattle.reading_back.specs.ShareLists.{printed_share, share_data, share_list}
+
+-- a printed list has the kind of a list of shares, and its parts are the texts of the shares
+abbrev pub ShareListsAreArrays : Type 0
+ShareListsAreArrays = (is_cost : Bool) (x : Allocation) →
+    (is_array_of is_member (share_list is_cost x) ≡ true)
+    × (parts (share_list is_cost x) ≡ map (share_data is_cost x.den) x.shares)
+
+-- y is within the limits of shares, and has the shares of x in each game that x is an allocation of
+pub record IsAgain (x y : Allocation) : Type 0 where
+  pub within : IsShares y
+  pub many : length y.shares ≡ length x.shares
+  pub allocation : (g : Game) → IsAllocation g x → IsAllocation g y
+  pub same : (g : Game) → IsAllocation g x → IsSame g x y
+
+-- the tree passes each test of its shares, and the shares that are read are those of x
+pub record AreReadBack (is_cost : Bool) (x : Allocation) (tree : Data) : Type 0 where
+  pub numbers : has_share_numbers tree ≡ true
+  pub enough : has_shares_for (length x.shares) tree ≡ true
+  pub written : written_shares tree ≡ map (printed_share is_cost x.den) x.shares
+  pub coarse : is_coarse (written_shares tree) ≡ true
+  pub again : IsAgain x (as_worth is_cost (over_least (written_shares tree)))
+
+-- where the shares of a tree are the texts of the shares of x, these are read
+abbrev pub SharesAreReadBack : Type 0
+SharesAreReadBack = (is_cost : Bool) (x : Allocation) (tree : Data) → IsShares x
+    → parts_at (codes "shares") tree ≡ map (share_data is_cost x.den) x.shares
+    → AreReadBack is_cost x tree

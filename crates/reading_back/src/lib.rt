@@ -1,0 +1,15 @@
+//! What is printed of shares is read back as the same shares. Each function's contract is a theorem, and its body is
+//! empty.
+#![tactic(auto)]
+
+ghost use Rattle.reading_back.specs.ReadBack.{SharesAreReadBack, ShareListsAreArrays};
+
+/// A printed list of shares is an array of texts.
+pub fn share_lists_are_arrays()
+    ensures { ShareListsAreArrays }
+{}
+
+/// The shares of a printed list are read as the shares that were printed, over their least common denominator.
+pub fn shares_are_read_back()
+    ensures { SharesAreReadBack }
+{}
