@@ -1,2 +1,3 @@
 pub mod ShareLists
 pub mod ReadBack
+pub mod SameShares

@@ -3,6 +3,7 @@
 #![tactic(auto)]
 
 ghost use Rattle.reading_back.specs.ReadBack.{SharesAreReadBack, ShareListsAreArrays};
+ghost use Rattle.reading_back.specs.SameShares.{SameSharesStayInTheFamily, SameSharesCertify};
 
 /// A printed list of shares is an array of texts.
 pub fn share_lists_are_arrays()
@@ -12,4 +13,14 @@ pub fn share_lists_are_arrays()
 /// The shares of a printed list are read as the shares that were printed, over their least common denominator.
 pub fn shares_are_read_back()
     ensures { SharesAreReadBack }
+{}
+
+/// An imputation's shares over another denominator are an imputation, and a preimputation's a preimputation.
+pub fn same_shares_stay_in_the_family()
+    ensures { SameSharesStayInTheFamily }
+{}
+
+/// A certificate of shares certifies the same shares over another denominator.
+pub fn same_shares_certify()
+    ensures { SameSharesCertify }
 {}
