@@ -5,3 +5,5 @@ pub mod ShareTexts
 pub mod Again
 pub mod SameShares
 pub mod SameLevels
+pub mod ScaledLists
+pub mod SameNucleolus

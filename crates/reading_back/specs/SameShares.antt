@@ -2,8 +2,9 @@
 --
 --   SameSharesStayInTheFamily  membership of a family
 --   SameSharesCertify          what a certificate certifies
+--   SameSharesAreTheNucleolus  the nucleolus
 use Rattle.std.specs.Prelude.{List}
-use Rattle.definitions.specs.Games.{Game, Allocation, IsAllocation, InFamily, IsSame}
+use Rattle.definitions.specs.Games.{Game, Allocation, IsAllocation, InFamily, IsSame, IsNucleolus}
 use Rattle.definitions.specs.Certificates.{Level, Certifies}
 use Rattle.definitions.specs.declared.Family.{Family}
 use Rattle.definitions.specs.declared.Mode.{Mode}
@@ -17,3 +18,8 @@ SameSharesStayInTheFamily = (family : Family) (g : Game) (x y : Allocation)
 abbrev pub SameSharesCertify : Type 0
 SameSharesCertify = (mode : Mode) (family : Family) (g : Game) (x y : Allocation) (levels : List Level)
     → IsAllocation g y → IsSame g x y → Certifies mode family g x levels → Certifies mode family g y levels
+
+-- the shares of the nucleolus over another denominator are the nucleolus
+abbrev pub SameSharesAreTheNucleolus : Type 0
+SameSharesAreTheNucleolus = (family : Family) (g : Game) (x y : Allocation)
+    → IsAllocation g y → IsSame g x y → IsNucleolus family g x → IsNucleolus family g y

@@ -3,7 +3,7 @@
 #![tactic(auto)]
 
 ghost use Rattle.reading_back.specs.ReadBack.{SharesAreReadBack, ShareListsAreArrays};
-ghost use Rattle.reading_back.specs.SameShares.{SameSharesStayInTheFamily, SameSharesCertify};
+ghost use Rattle.reading_back.specs.SameShares.{SameSharesStayInTheFamily, SameSharesCertify, SameSharesAreTheNucleolus};
 
 /// A printed list of shares is an array of texts.
 pub fn share_lists_are_arrays()
@@ -23,4 +23,9 @@ pub fn same_shares_stay_in_the_family()
 /// A certificate of shares certifies the same shares over another denominator.
 pub fn same_shares_certify()
     ensures { SameSharesCertify }
+{}
+
+/// The shares of the nucleolus over another denominator are the nucleolus (Schmeidler 1969).
+pub fn same_shares_are_the_nucleolus()
+    ensures { SameSharesAreTheNucleolus }
 {}
