@@ -1,2 +1,3 @@
 pub mod Right
-pub mod SharesFit
+pub mod Needs
+pub mod Solved

@@ -1,22 +1,20 @@
 -- The answer is right for the words and the bytes that were left.
-use Rattle.std.proofs.Common.{ℕ, ◌+◌, ◌<◌, ◌≤◌, List, [], ◌∷◌, ◌++◌, length, codes, Option, Some, None, refl, ap, ◌∙◌, append-nil, length-append, arith}
+use Rattle.std.proofs.Common.{◌≡◌, ℕ, ◌+◌, ◌<◌, ◌≤◌, List, [], ◌∷◌, ◌++◌, length, Option, Some, None, refl, ap, ◌∙◌, append-nil, length-append, arith}
 use Rattle.std.specs.Io.KnownBytes.{Consumes, IsAtEnd}
 use Rattle.game_text.specs.Documents.{Contents}
 use Rattle.game_text.specs.Refusals.{IsRefused, IsDocument}
 use Rattle.game_text.specs.Text.{document_limit}
+use Rattle.game_text.specs.declared.command.Command.{Command}
 use Rattle.game_text.specs.declared.command.Command.TheVariants as command
 use Rattle.game_text.specs.declared.refusal.Refusal.{Refusal}
-use Rattle.game_text.specs.declared.refusal.Refusal.TheVariants.{TooLong, NotJson, Shape, Players, Number, Names, Coalition, Estate, Matrix, Proposal, TooFine, Certificate}
+use Rattle.game_text.specs.declared.refusal.Refusal.TheVariants as refusal
 use Rattle.report.specs.declared.answer.Answer.{Answer}
-use Rattle.report.specs.declared.answer.Answer.TheVariants.{InCore, NotEfficient, Blocked, Usage, Refused}
-use Rattle.report.specs.declared.answer.UsageKind.TheVariants as usage
-use Rattle.coop.specs.Judgement.{JudgesAll}
+use Rattle.report.specs.declared.answer.Answer.TheVariants.{Nucleolus, InCore, NotEfficient, Blocked, Verdict, Usage, Refused}
+use Rattle.report.specs.declared.answer.UsageKind.{UsageKind}
+use Rattle.report.specs.declared.answer.UsageKind.TheVariants.{Words, Class, Players}
+use Rattle.coop.specs.Headline.{AnswersTo, IsServed}
 use Rattle.coop.specs.Outcome.{IsLeft, IsRight, ReadsAll, ReadsForRefusal}
-use Rattle.coop.specs.Words.{IsPropose}
-
--- the words of the command
-abbrev propose : List (List ℕ)
-propose = codes "propose" ∷ []
+use Rattle.coop.specs.Words.{word_of, IsNoCommand, Names}
 
 -- where all was read, what was read is what was left
 IsLeft-all : (old new : Option (List ℕ)) (input : List ℕ) → Consumes old new input → IsAtEnd new → IsLeft old input
@@ -24,45 +22,81 @@ IsLeft-all None new input p end = tt
 IsLeft-all (Some x) None input p end = absurd p
 IsLeft-all (Some x) (Some y) input p end = p ∙ ap (λ l. input ++ l) end ∙ append-nil input
 
-right_too_long : (old new : Option (List ℕ)) (input : List ℕ) → Consumes old new input → length input ≤ document_limit command.Propose + 1 → document_limit command.Propose < length input
-    → IsRight propose old new (Refused TooLong)
-right_too_long None new input p most long = record { bytes = input; left = tt; answers = (refl, long); reads = (input, tt, omega arith) }
-right_too_long (Some x) None input p most long = absurd p
-right_too_long (Some x) (Some y) input p most long =
-    record { bytes = x; left = refl; answers = (refl, omega (arith, ap length p, length-append input y)); reads = (input, p, omega arith) }
+-- ---- refusals
 
-right_whole : (old new : Option (List ℕ)) (input : List ℕ) → Consumes old new input → IsAtEnd new → (r : Refusal) → IsRefused command.Propose input r → (ReadsAll old new → ReadsForRefusal r old new)
-    → IsRight propose old new (Refused r)
-right_whole old new input p end r refused reads =
-    record { bytes = input; left = IsLeft-all old new input p end; answers = (refl, refused); reads = reads ((input, p), end) }
+module _ (given : Command) where
+  right_too_long : (old new : Option (List ℕ)) (input : List ℕ) → Consumes old new input → length input ≤ document_limit given + 1 → document_limit given < length input
+      → IsRight (word_of given ∷ []) old new (Refused refusal.TooLong)
+  right_too_long None new input p most long = record { bytes = input; left = tt; answers = (given, (refl, long)); reads = (given, (refl, (input, tt, omega arith))) }
+  right_too_long (Some x) None input p most long = absurd p
+  right_too_long (Some x) (Some y) input p most long =
+      record { bytes = x; left = refl; answers = (given, (refl, omega (arith, ap length p, length-append input y))); reads = (given, (refl, (input, p, omega arith))) }
 
-pub right_refusal : (old new : Option (List ℕ)) (input : List ℕ) → Consumes old new input → length input ≤ document_limit command.Propose + 1 → (length input ≤ document_limit command.Propose → IsAtEnd new) → (r : Refusal) → IsRefused command.Propose input r
-    → IsRight propose old new (Refused r)
-right_refusal old new input p most end TooLong long = right_too_long old new input p most long
-right_refusal old new input p most end NotJson refused = right_whole old new input p (end refused.0) NotJson refused (λ h. h)
-right_refusal old new input p most end Shape refused = right_whole old new input p (end refused.0) Shape refused (λ h. h)
-right_refusal old new input p most end Players refused = right_whole old new input p (end refused.0) Players refused (λ h. h)
-right_refusal old new input p most end Number refused = right_whole old new input p (end refused.0) Number refused (λ h. h)
-right_refusal old new input p most end Names refused = right_whole old new input p (end refused.0) Names refused (λ h. h)
-right_refusal old new input p most end Coalition refused = right_whole old new input p (end refused.0) Coalition refused (λ h. h)
-right_refusal old new input p most end Estate refused = right_whole old new input p (end refused.0) Estate refused (λ h. h)
-right_refusal old new input p most end Matrix refused = right_whole old new input p (end refused.0) Matrix refused (λ h. h)
-right_refusal old new input p most end Proposal refused = right_whole old new input p (end refused.0) Proposal refused (λ h. h)
-right_refusal old new input p most end TooFine refused = right_whole old new input p (end refused.0) TooFine refused (λ h. h)
-right_refusal old new input p most end Certificate refused = right_whole old new input p (end refused.0) Certificate refused (λ h. h)
+  right_whole : (old new : Option (List ℕ)) (input : List ℕ) → Consumes old new input → IsAtEnd new → (r : Refusal) → IsRefused given input r → (ReadsAll old new → ReadsForRefusal r (word_of given ∷ []) old new)
+      → IsRight (word_of given ∷ []) old new (Refused r)
+  right_whole old new input p end r refused reads =
+      record { bytes = input; left = IsLeft-all old new input p end; answers = (given, (refl, refused)); reads = reads ((input, p), end) }
 
-pub right_verdict : (old new : Option (List ℕ)) (input : List ℕ) → Consumes old new input → (length input ≤ document_limit command.Propose → IsAtEnd new) → (c : Contents) → IsDocument command.Propose input c
-    → (a : Answer) → JudgesAll c a → IsRight propose old new a
-right_verdict old new input p end c document (Usage kind) judged = absurd judged.2
-right_verdict old new input p end c document (Refused r) judged = absurd judged.2
-right_verdict old new input p end c document (NotEfficient sum total) judged =
-    record { bytes = input; left = IsLeft-all old new input p (end document.0); answers = (refl, (c, document, judged)); reads = ((input, p), end document.0) }
-right_verdict old new input p end c document (Blocked s e) judged =
-    record { bytes = input; left = IsLeft-all old new input p (end document.0); answers = (refl, (c, document, judged)); reads = ((input, p), end document.0) }
-right_verdict old new input p end c document InCore judged =
-    record { bytes = input; left = IsLeft-all old new input p (end document.0); answers = (refl, (c, document, judged)); reads = ((input, p), end document.0) }
+  pub right_refusal : (old new : Option (List ℕ)) (input : List ℕ) → Consumes old new input → length input ≤ document_limit given + 1 → (length input ≤ document_limit given → IsAtEnd new) → (r : Refusal) → IsRefused given input r
+      → IsRight (word_of given ∷ []) old new (Refused r)
+  right_refusal old new input p most end refusal.TooLong long = right_too_long old new input p most long
+  right_refusal old new input p most end refusal.NotJson refused = right_whole old new input p (end refused.0) refusal.NotJson refused (λ h. h)
+  right_refusal old new input p most end refusal.Shape refused = right_whole old new input p (end refused.0) refusal.Shape refused (λ h. h)
+  right_refusal old new input p most end refusal.Players refused = right_whole old new input p (end refused.0) refusal.Players refused (λ h. h)
+  right_refusal old new input p most end refusal.Number refused = right_whole old new input p (end refused.0) refusal.Number refused (λ h. h)
+  right_refusal old new input p most end refusal.Names refused = right_whole old new input p (end refused.0) refusal.Names refused (λ h. h)
+  right_refusal old new input p most end refusal.Coalition refused = right_whole old new input p (end refused.0) refusal.Coalition refused (λ h. h)
+  right_refusal old new input p most end refusal.Estate refused = right_whole old new input p (end refused.0) refusal.Estate refused (λ h. h)
+  right_refusal old new input p most end refusal.Matrix refused = right_whole old new input p (end refused.0) refusal.Matrix refused (λ h. h)
+  right_refusal old new input p most end refusal.Proposal refused = right_whole old new input p (end refused.0) refusal.Proposal refused (λ h. h)
+  right_refusal old new input p most end refusal.TooFine refused = right_whole old new input p (end refused.0) refusal.TooFine refused (λ h. h)
+  right_refusal old new input p most end refusal.Certificate refused = right_whole old new input p (end refused.0) refusal.Certificate refused (λ h. h)
 
--- other words get Usage, and nothing is read
-pub right_usage : (words : List (List ℕ)) (old : Option (List ℕ)) → ¬ IsPropose words → IsRight words old old (Usage usage.Words)
-right_usage words None h = record { bytes = []; left = tt; answers = (refl, h); reads = refl }
-right_usage words (Some x) h = record { bytes = x; left = refl; answers = (refl, h); reads = refl }
+-- ---- answers to a document
+
+-- no document is answered with Usage of words
+no_words : (given : Command) (d : Contents) → AnswersTo given d (Usage Words) → ⊥
+no_words command.Nucleolus d h = h
+no_words command.Prenucleolus d h = h
+no_words command.Propose d h = h.2
+no_words command.Check d h = h
+
+-- nor with a refusal
+no_refusal : (given : Command) (d : Contents) (r : Refusal) → AnswersTo given d (Refused r) → ⊥
+no_refusal command.Nucleolus d r h = h
+no_refusal command.Prenucleolus d r h = h
+no_refusal command.Propose d r h = h.2
+no_refusal command.Check d r h = h
+
+module _ (given : Command) (old new : Option (List ℕ)) (input : List ℕ) (p : Consumes old new input) (end : length input ≤ document_limit given → IsAtEnd new) (d : Contents) (document : IsDocument given input d) where
+  left : IsLeft old input
+  left = IsLeft-all old new input p (end document.0)
+
+  read : ReadsAll old new
+  read = ((input, p), end document.0)
+
+  served : (a : Answer) → AnswersTo given d a → IsServed (word_of given ∷ []) input a
+  served a right = (given, (refl, (d, (document, right))))
+
+  pub right_answer : (a : Answer) → AnswersTo given d a → IsRight (word_of given ∷ []) old new a
+  right_answer (Nucleolus family tree are_costs x c) right = record { bytes = input; left = left; answers = served (Nucleolus family tree are_costs x c) right; reads = read }
+  right_answer InCore right = record { bytes = input; left = left; answers = served InCore right; reads = read }
+  right_answer (NotEfficient sum total) right = record { bytes = input; left = left; answers = served (NotEfficient sum total) right; reads = read }
+  right_answer (Blocked s e) right = record { bytes = input; left = left; answers = served (Blocked s e) right; reads = read }
+  right_answer (Verdict v) right = record { bytes = input; left = left; answers = served (Verdict v) right; reads = read }
+  right_answer (Usage Words) right = absurd (no_words given d right)
+  right_answer (Usage Class) right = record { bytes = input; left = left; answers = served (Usage Class) right; reads = read }
+  right_answer (Usage Players) right = record { bytes = input; left = left; answers = served (Usage Players) right; reads = read }
+  right_answer (Refused r) right = absurd (no_refusal given d r right)
+
+-- ---- other words
+
+-- where no command is found, the words are none
+pub no_command : (words : List (List ℕ)) (o : Option Command) → Names words o → ((given : Command) → o ≡ Some given → ⊥) → IsNoCommand words
+no_command words None h none = h
+no_command words (Some given) h none = absurd (none given refl)
+
+-- words that are no command get Usage, and nothing is read
+pub right_usage : (words : List (List ℕ)) (old : Option (List ℕ)) → IsNoCommand words → IsRight words old old (Usage Words)
+right_usage words None h = record { bytes = []; left = tt; answers = h; reads = refl }
+right_usage words (Some x) h = record { bytes = x; left = refl; answers = h; reads = refl }

@@ -1,22 +1,50 @@
 -- The headline: the answer to the words of a command line and the bytes of its input.
+--
+--   AnswersTo  the answer is right for a command and its document
+--   Answers    the answer is right for the words and the bytes
 use Rattle.std.specs.Prelude.{◌≡◌, ℕ, List}
+use Rattle.definitions.specs.declared.Family.TheVariants.{Imputations, Preimputations}
 use Rattle.game_text.specs.Documents.{Contents}
 use Rattle.game_text.specs.Refusals.{IsDocument, IsRefused}
-use Rattle.game_text.specs.declared.command.Command.TheVariants.{Propose}
+use Rattle.game_text.specs.declared.command.Command.{Command}
+use Rattle.game_text.specs.declared.refusal.Refusal.{Refusal}
+use Rattle.game_text.specs.declared.command.Command.TheVariants.{Nucleolus as NucleolusWord, Prenucleolus as PrenucleolusWord, Propose, Check}
 use Rattle.report.specs.declared.answer.Answer.{Answer}
-use Rattle.report.specs.declared.answer.Answer.TheVariants.{InCore, NotEfficient, Blocked, Usage, Refused}
-use Rattle.report.specs.declared.answer.UsageKind.TheVariants.{Words}
-use Rattle.coop.specs.Words.{IsPropose}
+use Rattle.report.specs.declared.answer.Answer.TheVariants.{Nucleolus, InCore, NotEfficient, Blocked, Verdict, Usage, Refused}
+use Rattle.report.specs.declared.answer.UsageKind.{UsageKind}
+use Rattle.report.specs.declared.answer.UsageKind.TheVariants.{Words, Class, Players}
+use Rattle.coop.specs.Words.{IsCommand, IsNoCommand}
 use Rattle.coop.specs.Judgement.{JudgesAll}
+use Rattle.coop.specs.Checks.{Checks}
+use Rattle.coop.specs.Solution.{Solves}
 
--- the input is a document, and the answer is the right judgement on what it proposes
-abbrev pub IsVerdict : List ℕ → Answer → Type 0
-IsVerdict bytes answer = (c : Contents) × IsDocument Propose bytes c × JudgesAll c answer
+-- the answer is right for a command and what its document says
+abbrev pub AnswersTo : Command → Contents → Answer → Type 0
+AnswersTo NucleolusWord d answer = Solves Imputations d answer
+AnswersTo PrenucleolusWord d answer = Solves Preimputations d answer
+AnswersTo Propose d answer = JudgesAll d answer
+AnswersTo Check d answer = Checks d answer
 
--- words other than those of a command get Usage; with the words of the command, an input that is no document is refused, and what a document proposes is judged
+-- the words are a command, the bytes are a document of it, and the answer is right for both
+abbrev pub IsServed : List (List ℕ) → List ℕ → Answer → Type 0
+IsServed words bytes answer = (command : Command) × (IsCommand words command × ((d : Contents) × (IsDocument command bytes d × AnswersTo command d answer)))
+
+-- Usage of words where they are no command, and of anything else only beside a document
+abbrev pub IsMisused : UsageKind → List (List ℕ) → List ℕ → Type 0
+IsMisused Words words bytes = IsNoCommand words
+IsMisused Class words bytes = IsServed words bytes (Usage Class)
+IsMisused Players words bytes = IsServed words bytes (Usage Players)
+
+-- the words are a command, and this is the first refusal that applies to the bytes
+abbrev pub IsTurnedAway : List (List ℕ) → List ℕ → Refusal → Type 0
+IsTurnedAway words bytes r = (command : Command) × (IsCommand words command × IsRefused command bytes r)
+
+-- the answer is right for the words and the bytes
 abbrev pub Answers : List (List ℕ) → List ℕ → Answer → Type 0
-Answers words bytes InCore = IsPropose words × IsVerdict bytes InCore
-Answers words bytes (NotEfficient sum total) = IsPropose words × IsVerdict bytes (NotEfficient sum total)
-Answers words bytes (Blocked s e) = IsPropose words × IsVerdict bytes (Blocked s e)
-Answers words bytes (Usage kind) = (kind ≡ Words) × ¬ IsPropose words
-Answers words bytes (Refused r) = IsPropose words × IsRefused Propose bytes r
+Answers words bytes (Nucleolus family tree are_costs x c) = IsServed words bytes (Nucleolus family tree are_costs x c)
+Answers words bytes InCore = IsServed words bytes InCore
+Answers words bytes (NotEfficient sum total) = IsServed words bytes (NotEfficient sum total)
+Answers words bytes (Blocked s e) = IsServed words bytes (Blocked s e)
+Answers words bytes (Verdict v) = IsServed words bytes (Verdict v)
+Answers words bytes (Usage kind) = IsMisused kind words bytes
+Answers words bytes (Refused r) = IsTurnedAway words bytes r

@@ -4,12 +4,17 @@ use Rattle.std.specs.Io.KnownBytes.{Appends, Consumes, IsAtEnd}
 use Rattle.ports.specs.Causes.{Rose}
 use Rattle.coop.specs.Headline.{Answers}
 use Rattle.game_text.specs.Text.{document_limit}
-use Rattle.game_text.specs.declared.command.Command.TheVariants.{Propose}
+use Rattle.game_text.specs.declared.command.Command.{Command}
 use Rattle.game_text.specs.declared.refusal.Refusal.{Refusal}
 use Rattle.game_text.specs.declared.refusal.Refusal.TheVariants.{TooLong}
 use Rattle.report.specs.Lines.{line}
 use Rattle.report.specs.declared.answer.Answer.{Answer}
-use Rattle.report.specs.declared.answer.Answer.TheVariants.{InCore, NotEfficient, Blocked, Usage, Refused}
+use Rattle.report.specs.declared.answer.Answer.TheVariants.{Nucleolus, InCore, NotEfficient, Blocked, Verdict, Usage, Refused}
+use Rattle.report.specs.declared.answer.UsageKind.{UsageKind}
+use Rattle.report.specs.declared.answer.UsageKind.TheVariants.{Words, Class, Players}
+use Rattle.checker.specs.declared.verdicts.Verdict.{Verdict as CheckVerdict}
+use Rattle.checker.specs.declared.verdicts.Verdict.TheVariants.{Yes, No}
+use Rattle.coop.specs.Words.{IsCommand}
 use Rattle.coop.specs.declared.status.Status.{Status}
 use Rattle.coop.specs.declared.status.Status.TheVariants as status
 
@@ -18,32 +23,47 @@ abbrev pub IsLeft : Option (List ℕ) → List ℕ → Type 0
 IsLeft None bytes = ⊤
 IsLeft (Some told) bytes = told ≡ bytes
 
--- one byte more than a document may have was read
-abbrev pub ReadsPastLimit : Option (List ℕ) → Option (List ℕ) → Type 0
-ReadsPastLimit old new = (bytes : List ℕ) × Consumes old new bytes × (length bytes ≡ document_limit Propose + 1)
+-- one byte more than a document of the command may have was read
+abbrev pub ReadsPastLimit : Command → Option (List ℕ) → Option (List ℕ) → Type 0
+ReadsPastLimit command old new = (bytes : List ℕ) × Consumes old new bytes × (length bytes ≡ document_limit command + 1)
 
 -- all was read
 abbrev pub ReadsAll : Option (List ℕ) → Option (List ℕ) → Type 0
 ReadsAll old new = ((bytes : List ℕ) × Consumes old new bytes) × IsAtEnd new
 
 -- how far the input was read for a refusal
-abbrev pub ReadsForRefusal : Refusal → Option (List ℕ) → Option (List ℕ) → Type 0
-ReadsForRefusal TooLong old new = ReadsPastLimit old new
-ReadsForRefusal r old new = ReadsAll old new
+abbrev pub ReadsForRefusal : Refusal → List (List ℕ) → Option (List ℕ) → Option (List ℕ) → Type 0
+ReadsForRefusal TooLong words old new = (command : Command) × (IsCommand words command × ReadsPastLimit command old new)
+ReadsForRefusal r words old new = ReadsAll old new
+
+-- how far the input was read for words or a document that are misused
+abbrev pub ReadsForUsage : UsageKind → Option (List ℕ) → Option (List ℕ) → Type 0
+ReadsForUsage Words old new = new ≡ old
+ReadsForUsage Class old new = ReadsAll old new
+ReadsForUsage Players old new = ReadsAll old new
 
 -- how far the input was read for an answer
-abbrev pub ReadsFor : Answer → Option (List ℕ) → Option (List ℕ) → Type 0
-ReadsFor InCore old new = ReadsAll old new
-ReadsFor (NotEfficient sum total) old new = ReadsAll old new
-ReadsFor (Blocked s e) old new = ReadsAll old new
-ReadsFor (Usage kind) old new = new ≡ old
-ReadsFor (Refused r) old new = ReadsForRefusal r old new
+abbrev pub ReadsFor : Answer → List (List ℕ) → Option (List ℕ) → Option (List ℕ) → Type 0
+ReadsFor (Nucleolus family tree are_costs x c) words old new = ReadsAll old new
+ReadsFor InCore words old new = ReadsAll old new
+ReadsFor (NotEfficient sum total) words old new = ReadsAll old new
+ReadsFor (Blocked s e) words old new = ReadsAll old new
+ReadsFor (Verdict v) words old new = ReadsAll old new
+ReadsFor (Usage kind) words old new = ReadsForUsage kind old new
+ReadsFor (Refused r) words old new = ReadsForRefusal r words old new
+
+-- the status after a verdict was printed
+abbrev pub verdict_status : CheckVerdict → Status
+verdict_status Yes = status.Done
+verdict_status (No r) = status.Negative
 
 -- the status after an answer was printed
 abbrev pub status_of : Answer → Status
+status_of (Nucleolus family tree are_costs x c) = status.Done
 status_of InCore = status.Done
 status_of (NotEfficient sum total) = status.Negative
 status_of (Blocked s e) = status.Negative
+status_of (Verdict v) = verdict_status v
 status_of (Usage kind) = status.Usage
 status_of (Refused r) = status.Refused
 
@@ -52,7 +72,7 @@ pub record IsRight (words : List (List ℕ)) (old new : Option (List ℕ)) (answ
   pub bytes : List ℕ
   pub left : IsLeft old bytes
   pub answers : Answers words bytes answer
-  pub reads : ReadsFor answer old new
+  pub reads : ReadsFor answer words old new
 
 -- the line of a right answer was printed, and the status goes with it
 abbrev pub Answered : List (List ℕ) → Option (List ℕ) → Option (List ℕ) → Option (List ℕ) → Option (List ℕ) → Status → Type 0

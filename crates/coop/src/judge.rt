@@ -2,6 +2,7 @@
 ghost use Rattle.std.specs.Prelude.{◌≡◌, ◌<◌, ◌^◌, length, pos, ◌≤ℤ◌, unsigned_abs};
 ghost use Rattle.fractions.specs.Fraction.{IsRatio};
 ghost use Rattle.game_text.specs.Readings.{contents_in};
+ghost use Rattle.report.specs.Limits.{IsPrintable};
 ghost use Rattle.coop.specs.Judgement.{printed, Judges, JudgesAll, HasShares};
 
 use coalitions::Coalition;
@@ -13,7 +14,8 @@ use worth_core::{Shares, Worth, scaled, scaled_excess};
 /// The judgement on what a document proposes.
 pub fn judge_document(document: &Document) -> Answer
     requires { HasShares (contents_in document.now) }
-    ensures { JudgesAll (contents_in document.now) result }
+    ensures judges { JudgesAll (contents_in document.now) result }
+    ensures printable { IsPrintable result }
 {
     let Some(shares) = &document.shares else {
         unreachable!()
@@ -24,7 +26,8 @@ pub fn judge_document(document: &Document) -> Answer
 // Whether the shares add to the worth of all, and whether a coalition blocks them.
 fn judge<W: Worth>(game: &W, shares: &Shares, are_costs: bool) -> Answer
     requires { length shares.now.shares ≡ (W.game game.now).players }
-    ensures { Judges are_costs (W.game game.now) shares.now result }
+    ensures judges { Judges are_costs (W.game game.now) shares.now result }
+    ensures printable { IsPrintable result }
 {
     let everyone = Coalition::all(game.players());
     let sum = shares.sum_of(everyone);

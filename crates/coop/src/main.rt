@@ -2,8 +2,10 @@
 #![tactic(auto)]
 
 mod adapters;
+mod check;
 mod judge;
 mod run;
+mod solve;
 mod status;
 mod stop;
 mod stream;

@@ -1,21 +1,27 @@
 //! From the words and the input to the status and the line.
-ghost use Rattle.std.specs.Prelude.{◌≡◌, ◌⊎◌, [], ◌∷◌, codes, map, string_bytes, IfOk};
+ghost use Rattle.std.specs.Prelude.{◌≡◌, ◌⊎◌, ◌^◌, ◌<◌, [], ◌∷◌, map, string_bytes, IfOk};
+ghost use Rattle.report.specs.Limits.{IsPrintable};
+ghost use Rattle.game_text.specs.Text.{document_limit};
+ghost use Rattle.game_text.specs.Readings.{contents_in};
+ghost use Rattle.coop.specs.Headline.{AnswersTo};
+ghost use Rattle.coop.specs.Needs.{HasNeeded};
 ghost use Rattle.coop.specs.Outcome.{IsRight, Ends, IsCauseOf};
 ghost use Rattle.coop.specs.Stops.{IsFaultOf};
-ghost use Rattle.coop.specs.Words.{IsPropose};
+ghost use Rattle.coop.specs.Words.{word_of, IsNoCommand};
 
+use crate::check::check_document;
 use crate::judge::judge_document;
+use crate::solve::solve_document;
 use crate::status::{Status, status_of};
 use crate::stop::Stop;
 use crate::stream::{read_input, write_line};
-use crate::words::{is_propose, usage_line};
-use game_text::{Command, TextFault, read_document};
+use crate::words::{command_of, usage_line};
+use fractions::OutOfMemory;
+use game_text::{Command, Document, TextFault, read_document};
 use ports::{Sink, Source};
 use report::{Answer, write_report};
 use std::alloc::Global;
-
-// The most bytes that a document may have.
-const LIMIT: usize = 2_097_152;
+use worth_core::Family;
 
 /// Runs the command of the words on the input of the source, and prints one line to the sink.
 ///
@@ -32,15 +38,15 @@ pub fn run<S: Source, K: Sink>(
     ensures read { IsCauseOf Status.ReadFault (S.faults source.old) (S.faults source.new) result }
     ensures write { IsCauseOf Status.WriteFault (K.faults sink.old) (K.faults sink.new) result }
     // For other words no memory is taken.
-    ensures other_words { ¬ IsPropose (map string_bytes words.now) → (result ≡ Status.Usage) ⊎ (result ≡ Status.WriteFault) }
+    ensures other_words { IsNoCommand (map string_bytes words.now) → (result ≡ Status.Usage) ⊎ (result ≡ Status.WriteFault) }
 {
-    if !is_propose(words) {
+    let Some(command) = command_of(words) else {
         return match write_line(sink, usage_line()) {
             Ok(()) => Status::Usage,
             Err(_) => Status::WriteFault,
         };
-    }
-    let answer = match answer(alloc, source) {
+    };
+    let answer = match answer(alloc, command, source) {
         Ok(answer) => answer,
         Err(Stop::Fault) => return Status::ReadFault,
         Err(Stop::Memory) => return Status::OutOfMemory,
@@ -55,16 +61,45 @@ pub fn run<S: Source, K: Sink>(
     }
 }
 
-// The answer to `propose` on the input of the source.
-fn answer<S: Source>(alloc: Global, source: &mut S) -> Result<Answer, Stop>
-    ensures right { IfOk result (IsRight (codes "propose" ∷ []) (S.left source.old) (S.left source.new)) }
+// The most bytes that a document of the command may have.
+fn limit_of(command: Command) -> usize
+    ensures value { result ≡ document_limit command }
+    ensures small { result < 2 ^ 40 }
+{
+    match command {
+        Command::Check => 8_388_608,
+        Command::Nucleolus | Command::Prenucleolus | Command::Propose => 2_097_152,
+    }
+}
+
+// The answer to the command on the input of the source.
+fn answer<S: Source>(alloc: Global, command: Command, source: &mut S) -> Result<Answer, Stop>
+    ensures right { IfOk result (IsRight (word_of command ∷ []) (S.left source.old) (S.left source.new)) }
+    ensures printable { IfOk result IsPrintable }
     ensures cause { IsFaultOf (S.faults source.old) (S.faults source.new) result }
 {
-    let input = read_input(alloc, source, LIMIT)?;
-    let document = match read_document(alloc, &input, Command::Propose) {
+    let input = read_input(alloc, source, limit_of(command))?;
+    let document = match read_document(alloc, &input, command) {
         Ok(document) => document,
         Err(TextFault::Refused(refusal)) => return Ok(Answer::Refused(refusal)),
         Err(TextFault::Memory) => return Err(Stop::Memory),
     };
-    Ok(judge_document(&document))
+    let Ok(answer) = answer_to(alloc, command, document) else {
+        return Err(Stop::Memory);
+    };
+    Ok(answer)
+}
+
+// The answer to the command on its document.
+fn answer_to(alloc: Global, command: Command, document: Document) -> Result<Answer, OutOfMemory>
+    requires { HasNeeded command (contents_in document) }
+    ensures right { IfOk result (AnswersTo command (contents_in document)) }
+    ensures printable { IfOk result IsPrintable }
+{
+    match command {
+        Command::Nucleolus => solve_document(alloc, document, Family::Imputations),
+        Command::Prenucleolus => solve_document(alloc, document, Family::Preimputations),
+        Command::Propose => Ok(judge_document(&document)),
+        Command::Check => Ok(check_document(&document)),
+    }
 }

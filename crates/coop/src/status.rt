@@ -1,6 +1,7 @@
 ghost use Rattle.std.specs.Prelude.{◌≡◌};
 ghost use Rattle.coop.specs.Outcome.{status_of};
 
+use checker::Verdict;
 use report::Answer;
 
 /// How a run ends, with the number that the program ends with.
@@ -10,7 +11,7 @@ pub enum Status {
     Done = 0,
     /// The negative answer was printed.
     Negative = 1,
-    /// The words name no command.
+    /// The words are no command, or the command has no answer for the class of the game.
     Usage = 2,
     /// The input is no document of the command.
     Refused = 3,
@@ -27,8 +28,10 @@ pub fn status_of(answer: &Answer) -> Status
     ensures { result ≡ status_of answer.now }
 {
     match answer {
-        Answer::InCore => Status::Done,
-        Answer::NotEfficient { .. } | Answer::Blocked { .. } => Status::Negative,
+        Answer::Nucleolus { .. } | Answer::InCore | Answer::Verdict(Verdict::Yes) => Status::Done,
+        Answer::NotEfficient { .. } | Answer::Blocked { .. } | Answer::Verdict(Verdict::No(_)) => {
+            Status::Negative
+        }
         Answer::Usage(_) => Status::Usage,
         Answer::Refused(_) => Status::Refused,
     }

@@ -1,17 +1,24 @@
 //! The words of a command line.
-ghost use Rattle.std.specs.Prelude.{◌≡◌, ◌↔◌, IsTrue, map, string_bytes};
+ghost use Rattle.std.specs.Prelude.{◌≡◌, map, string_bytes};
 ghost use Rattle.report.specs.Lines.{line};
-ghost use Rattle.coop.specs.Words.{IsPropose};
+ghost use Rattle.coop.specs.Words.{Names};
 
+use game_text::Command;
 use report::{Answer, UsageKind};
 
-/// Whether the words are the one command, `propose`.
-pub fn is_propose(words: &[String]) -> bool
-    ensures { IsTrue result ↔ IsPropose (map string_bytes words.now) }
+/// The command of the words: the one word `nucleolus`, `prenucleolus`, `propose` or `check`.
+pub fn command_of(words: &[String]) -> Option<Command>
+    ensures { Names (map string_bytes words.now) result }
 {
-    match words {
-        [word] => word.as_str() == "propose",
-        _ => false,
+    let [word] = words else {
+        return None;
+    };
+    match word.as_str() {
+        "nucleolus" => Some(Command::Nucleolus),
+        "prenucleolus" => Some(Command::Prenucleolus),
+        "propose" => Some(Command::Propose),
+        "check" => Some(Command::Check),
+        _ => None,
     }
 }
 

@@ -9,8 +9,8 @@ use Rattle.worth_core.proofs.Casts.{cast_kept}
 use Rattle.coop.specs.Judgement.{printed}
 use Rattle.coop.proofs.judge.judge.Goals as goal
 
-pub returns-then-sum-scaled : goal.returns-then-sum-scaled
-returns-then-sum-scaled g c =
+pub returns-then-sum-scaled-clause-judges : goal.returns-then-sum-scaled-clause-judges
+returns-then-sum-scaled-clause-judges g c =
     let game = g.W.Worth.game c.args.game.now in
     let x = c.args.shares.now in
     let scale_kept = cast_kept w128 c.den.result (omega (arith, ints, c.den.ensures.positive, c.den.ensures.common)) in

@@ -1,0 +1,49 @@
+-- A document gives what its command needs.
+use Rattle.std.proofs.Common.{◌≡◌, ℕ, List, length, Option, Some, None, IfSome, subst, ap}
+use Rattle.definitions.specs.Games.{Allocation}
+use Rattle.game_text.specs.Descriptions.{game_of}
+use Rattle.game_text.specs.Documents.{Contents, contents_of}
+use Rattle.game_text.specs.Refusals.{IsDocument}
+use Rattle.game_text.specs.Kept.{IsKept}
+use Rattle.game_text.specs.declared.command.Command.{Command}
+use Rattle.game_text.specs.declared.command.Command.TheVariants as command
+use Rattle.kohlberg.specs.Certificate.{CertificateData}
+use Rattle.coop.specs.Judgement.{HasShares}
+use Rattle.coop.specs.Checks.{IsComplete}
+use Rattle.coop.specs.Needs.{IsPlain, HasNeeded}
+
+-- the value that there is keeps to what is said of it
+kept : {T : Type 0} (P : T → Type 0) (o : Option T) (t : T) → o ≡ Some t → IfSome o P → P t
+kept P o t e h = subst (λ o. IfSome o P) e h
+
+module _ (bytes : List ℕ) (d : Contents) where
+  has_shares : IsDocument command.Propose bytes d → IfSome d.shares (λ (x : Allocation). length x.shares ≡ (game_of d.game).players) → HasShares d
+  has_shares document fit =
+      let given = ap (λ (c : Contents). c.shares) document.1.3 in
+      (_, given, kept _ _ _ given fit)
+
+  is_complete : IsDocument command.Check bytes d → IfSome d.shares (λ (x : Allocation). length x.shares ≡ (game_of d.game).players) → IfSome d.certificate (λ (c : CertificateData). c.players ≡ (game_of d.game).players) → IsComplete d
+  is_complete document fit certified =
+      let family = ap (λ (c : Contents). c.family) document.1.3 in
+      let shares = ap (λ (c : Contents). c.shares) document.1.3 in
+      let certificate = ap (λ (c : Contents). c.certificate) document.1.3 in
+      record {
+        family = _;
+        shares = _;
+        certificate = _;
+        evidence = record { family = family; shares = shares; certificate = certificate };
+        share_each = kept _ _ _ shares fit;
+        players = kept _ _ _ certificate certified;
+      }
+
+  -- the tree of the game was read, so it can be printed
+  plain : IsKept bytes d.tree → IsPlain d.tree
+  plain k = record { whole = k.whole; shallow = k.shallow }
+
+  pub has_needed : (given : Command) → IsDocument given bytes d
+      → IfSome d.shares (λ (x : Allocation). length x.shares ≡ (game_of d.game).players) → IfSome d.certificate (λ (c : CertificateData). c.players ≡ (game_of d.game).players) → IsKept bytes d.tree
+      → HasNeeded given d
+  has_needed command.Nucleolus document fit certified k = plain k
+  has_needed command.Prenucleolus document fit certified k = plain k
+  has_needed command.Propose document fit certified k = has_shares document fit
+  has_needed command.Check document fit certified k = is_complete document fit certified

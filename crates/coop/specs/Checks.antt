@@ -1,0 +1,44 @@
+-- The right verdict on the certificate of a document.
+--
+--   HasEvidence  the family, the shares and the certificate that a document gives
+--   IsComplete   a document gives them for its players
+--   Checks       the answer is the right verdict
+use Rattle.std.specs.Prelude.{◌≡◌, length, Some}
+use Rattle.definitions.specs.Games.{Allocation}
+use Rattle.definitions.specs.declared.Family.{Family}
+use Rattle.kohlberg.specs.Certificate.{CertificateData}
+use Rattle.checker.specs.Meaning.{IsVerdict}
+use Rattle.checker.specs.declared.verdicts.Verdict.{Verdict as CheckVerdict}
+use Rattle.game_text.specs.Descriptions.{game_of}
+use Rattle.game_text.specs.Documents.{Contents}
+use Rattle.report.specs.declared.answer.Answer.{Answer}
+use Rattle.report.specs.declared.answer.Answer.TheVariants.{Nucleolus, InCore, NotEfficient, Blocked, Verdict, Usage, Refused}
+
+-- the family, the shares and the certificate of a document that was to be checked
+pub record HasEvidence (d : Contents) (f : Family) (x : Allocation) (c : CertificateData) : Type 0 where
+  pub family : d.family ≡ Some f
+  pub shares : d.shares ≡ Some x
+  pub certificate : d.certificate ≡ Some c
+
+-- a document gives a family, and shares and a certificate for its players
+pub record IsComplete (d : Contents) : Type 0 where
+  pub family : Family
+  pub shares : Allocation
+  pub certificate : CertificateData
+  pub evidence : HasEvidence d family shares certificate
+  pub share_each : length shares.shares ≡ (game_of d.game).players
+  pub players : certificate.players ≡ (game_of d.game).players
+
+-- yes where the certificate meets all conditions for the shares, and no with the first that fails
+abbrev pub IsCheckedAs : Contents → CheckVerdict → Type 0
+IsCheckedAs d v = (family : Family) × ((x : Allocation) × ((c : CertificateData) × (HasEvidence d family x c × IsVerdict c.mode family (game_of d.game) x c.levels v)))
+
+-- the answer is the right verdict on the certificate of a document
+abbrev pub Checks : Contents → Answer → Type 0
+Checks d (Nucleolus f tree are_costs x c) = ⊥
+Checks d InCore = ⊥
+Checks d (NotEfficient sum total) = ⊥
+Checks d (Blocked s e) = ⊥
+Checks d (Verdict v) = IsCheckedAs d v
+Checks d (Usage kind) = ⊥
+Checks d (Refused r) = ⊥

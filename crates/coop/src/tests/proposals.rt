@@ -1,0 +1,80 @@
+//! Proposals that are judged.
+use super::{BLOCKED, CORE, run_on};
+use crate::status::Status;
+use std::test::Fail;
+
+#[test]
+fn judges_the_worked_documents(rt: HostRuntime) -> Result<(), Fail> {
+    for (input, line, status) in [
+        (
+            BLOCKED,
+            "{\"answer\":\"blocked\",\"coalition\":[2,3],\"excess\":\"1\"}\n",
+            Status::Negative,
+        ),
+        (
+            "{\"game\":{\"class\":\"table\",\"players\":3,\"worths\":[0,0,1,0,1,1,1]},\"shares\":[1,1,0]}",
+            "{\"answer\":\"not efficient\",\"sum\":\"2\",\"total\":\"1\"}\n",
+            Status::Negative,
+        ),
+        (CORE, "{\"answer\":\"core\"}\n", Status::Done),
+        (
+            "{\"game\":{\"class\":\"table\",\"players\":1,\"worths\":[5]},\"shares\":[5]}\n",
+            "{\"answer\":\"core\"}\n",
+            Status::Done,
+        ),
+    ] {
+        let found = run_on(rt.alloc(), &["propose"], input.as_bytes(), 200, line)?;
+        assert_eq!(rt; found, (status, true), "on {input}");
+    }
+    Ok(())
+}
+
+#[test]
+fn judges_fractions_costs_and_named_players(rt: HostRuntime) -> Result<(), Fail> {
+    for (input, line, status) in [
+        (
+            "{\"game\":{\"class\":\"table\",\"players\":3,\"worths\":[0,0,1,0,1,1,1]},\"shares\":[\"1/3\",\"1/3\",\"1/3\"]}",
+            "{\"answer\":\"blocked\",\"coalition\":[1,2],\"excess\":\"1/3\"}\n",
+            Status::Negative,
+        ),
+        (
+            "{\"game\":{\"class\":\"airport\",\"costs\":[2,4,6]},\"shares\":[3,1,2]}",
+            "{\"answer\":\"blocked\",\"coalition\":[1],\"excess\":\"1\"}\n",
+            Status::Negative,
+        ),
+        (
+            "{\"game\":{\"class\":\"airport\",\"costs\":[2,4,6]},\"shares\":[3,1,\"1/2\"]}",
+            "{\"answer\":\"not efficient\",\"sum\":\"9/2\",\"total\":\"6\"}\n",
+            Status::Negative,
+        ),
+        (
+            "{\"game\":{\"class\":\"bankruptcy\",\"claims\":[100,200,300],\"estate\":200},\"shares\":[110,45,45]}",
+            "{\"answer\":\"blocked\",\"coalition\":[2,3],\"excess\":\"10\"}\n",
+            Status::Negative,
+        ),
+        (
+            "{\"game\":{\"class\":\"cost-table\",\"default\":18,\"names\":[\"Sales\",\"Ops\",\"Legal\",\"IT\",\"HR\"],\"players\":5,\"sparse\":[[[\"Sales\"],6],[[\"Ops\"],6],[[\"Legal\"],6],[[\"IT\"],6],[[\"HR\"],6],[[\"Sales\",\"Ops\",\"Legal\",\"IT\",\"HR\"],20]]},\"shares\":[6,5,4,3,2]}",
+            "{\"answer\":\"core\"}\n",
+            Status::Done,
+        ),
+        (
+            "{\"game\":{\"class\":\"cost-table\",\"default\":18,\"names\":[\"Sales\",\"Ops\",\"Legal\",\"IT\",\"HR\"],\"players\":5,\"sparse\":[[[\"Sales\"],6],[[\"Ops\"],6],[[\"Legal\"],6],[[\"IT\"],6],[[\"HR\"],6],[[\"Sales\",\"Ops\",\"Legal\",\"IT\",\"HR\"],20]]},\"shares\":[7,5,4,2,2]}",
+            "{\"answer\":\"blocked\",\"coalition\":[1],\"excess\":\"1\"}\n",
+            Status::Negative,
+        ),
+        (
+            "{\"game\":{\"class\":\"table\",\"names\":[\"a\"],\"players\":1,\"worths\":[5]},\"shares\":[\"5\"]}",
+            "{\"answer\":\"core\"}\n",
+            Status::Done,
+        ),
+        (
+            "{\"answer\":1,\"game\":{\"class\":\"table\",\"players\":1,\"worths\":[5]},\"shares\":[5]}",
+            "{\"answer\":\"core\"}\n",
+            Status::Done,
+        ),
+    ] {
+        let found = run_on(rt.alloc(), &["propose"], input.as_bytes(), 200, line)?;
+        assert_eq!(rt; found, (status, true), "on {input}");
+    }
+    Ok(())
+}

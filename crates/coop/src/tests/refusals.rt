@@ -1,0 +1,147 @@
+//! Documents that are refused, and words that are no command.
+use super::{run_on, words_of};
+use crate::run::run;
+use crate::status::Status;
+use ports::{MemorySink, MemorySource, Source};
+use std::alloc::Global;
+use std::test::Fail;
+
+// Whether a run of `propose` on this input refuses it by that line.
+fn is_refused(alloc: Global, input: &[u8], line: &str) -> Result<bool, Fail> {
+    let found = run_on(alloc, &["propose"], input, 200, line)?;
+    Ok(found == (Status::Refused, true))
+}
+
+#[test]
+fn refuses_what_is_no_json(rt: HostRuntime) -> Result<(), Fail> {
+    for input in [
+        b"{\"game\":{\"class\":".as_slice(),
+        b"\"\xff\"".as_slice(),
+        b"".as_slice(),
+    ] {
+        let line = "{\"number\":2,\"refused\":\"NotJson\"}\n";
+        assert!(rt; is_refused(rt.alloc(), input, line)?, "{input:?}");
+    }
+    Ok(())
+}
+
+// Arrays in arrays, that many deep.
+fn nested(alloc: Global, depth: usize) -> Result<Vec<u8>, Fail> {
+    let mut text = vec![in alloc; b'['; depth]?;
+    for _ in 0..depth {
+        text.push(b']')?;
+    }
+    Ok(text)
+}
+
+#[test]
+fn refuses_what_is_nested_deeper_than_is_read(rt: HostRuntime) -> Result<(), Fail> {
+    let alloc = rt.alloc();
+    let shape = "{\"number\":3,\"refused\":\"Shape\"}\n";
+    assert!(rt; is_refused(alloc, &nested(alloc, 127)?, shape)?);
+    let not_json = "{\"number\":2,\"refused\":\"NotJson\"}\n";
+    assert!(rt; is_refused(alloc, &nested(alloc, 128)?, not_json)?);
+    assert!(rt; is_refused(alloc, &nested(alloc, 200)?, not_json)?);
+    Ok(())
+}
+
+#[test]
+fn refuses_each_for_its_first_reason(rt: HostRuntime) -> Result<(), Fail> {
+    for (input, line) in [
+        ("[]", "{\"number\":3,\"refused\":\"Shape\"}\n"),
+        (
+            "{\"game\":{\"class\":\"table\",\"players\":1,\"worths\":[5]},\"shares\":[5],\"answers\":1}",
+            "{\"number\":3,\"refused\":\"Shape\"}\n",
+        ),
+        (
+            "{\"game\":{\"class\":\"table\",\"players\":1,\"worths\":[5]}}",
+            "{\"number\":3,\"refused\":\"Shape\"}\n",
+        ),
+        (
+            "{\"game\":{\"class\":\"airport\",\"players\":1,\"worths\":[5]},\"shares\":[5]}",
+            "{\"number\":3,\"refused\":\"Shape\"}\n",
+        ),
+        (
+            "{\"game\":{\"players\":1,\"worths\":[5]},\"shares\":[5]}",
+            "{\"number\":3,\"refused\":\"Shape\"}\n",
+        ),
+        (
+            "{\"game\":{\"class\":\"table\",\"players\":0,\"worths\":[]},\"shares\":[]}",
+            "{\"number\":4,\"refused\":\"Players\"}\n",
+        ),
+        (
+            "{\"game\":{\"class\":\"table\",\"players\":17,\"worths\":[5]},\"shares\":[5]}",
+            "{\"number\":4,\"refused\":\"Players\"}\n",
+        ),
+        (
+            "{\"game\":{\"class\":\"table\",\"players\":2,\"worths\":[5,6]},\"shares\":[5,6]}",
+            "{\"number\":4,\"refused\":\"Players\"}\n",
+        ),
+        (
+            "{\"game\":{\"class\":\"table\",\"players\":1,\"worths\":[1099511627776]},\"shares\":[5]}",
+            "{\"number\":5,\"refused\":\"Number\"}\n",
+        ),
+        (
+            "{\"game\":{\"class\":\"table\",\"players\":1,\"worths\":[5.0]},\"shares\":[5]}",
+            "{\"number\":5,\"refused\":\"Number\"}\n",
+        ),
+        (
+            "{\"game\":{\"class\":\"table\",\"players\":1,\"worths\":[5]},\"shares\":[\"05\"]}",
+            "{\"number\":5,\"refused\":\"Number\"}\n",
+        ),
+        (
+            "{\"game\":{\"class\":\"table\",\"names\":[\"a\",\"a\"],\"players\":2,\"worths\":[1,2,7]},\"shares\":[3,4]}",
+            "{\"number\":6,\"refused\":\"Names\"}\n",
+        ),
+        (
+            "{\"game\":{\"class\":\"table\",\"default\":0,\"players\":2,\"sparse\":[[[1,1],7]]},\"shares\":[3,4]}",
+            "{\"number\":7,\"refused\":\"Coalition\"}\n",
+        ),
+        (
+            "{\"game\":{\"class\":\"bankruptcy\",\"claims\":[1,2],\"estate\":4},\"shares\":[2,2]}",
+            "{\"number\":8,\"refused\":\"Estate\"}\n",
+        ),
+        (
+            "{\"game\":{\"class\":\"table\",\"players\":1,\"worths\":[5]},\"shares\":[5,6]}",
+            "{\"number\":10,\"refused\":\"Proposal\"}\n",
+        ),
+        (
+            "{\"game\":{\"class\":\"table\",\"players\":1,\"worths\":[5]},\"shares\":[\"1/9223372036854775809\"]}",
+            "{\"number\":11,\"refused\":\"TooFine\"}\n",
+        ),
+    ] {
+        assert!(rt; is_refused(rt.alloc(), input.as_bytes(), line)?, "{input}");
+    }
+    Ok(())
+}
+
+#[test]
+fn refuses_one_byte_past_the_limit_and_not_the_limit_itself(rt: HostRuntime) -> Result<(), Fail> {
+    let alloc = rt.alloc();
+    let blanks = vec![in alloc; b' '; 2_097_153]?;
+    let too_long = "{\"number\":1,\"refused\":\"TooLong\"}\n";
+    assert!(rt; is_refused(alloc, &blanks, too_long)?);
+    let not_json = "{\"number\":2,\"refused\":\"NotJson\"}\n";
+    assert!(rt; is_refused(alloc, &blanks[1..], not_json)?);
+    Ok(())
+}
+
+// Whether a run on these words answers Usage, prints its line, and reads nothing.
+fn is_usage(alloc: Global, words: &[&str]) -> Result<bool, Fail> {
+    let words = words_of(alloc, words)?;
+    let mut source = MemorySource::new(b"[]".to_vec(alloc)?);
+    let mut sink = MemorySink::new(alloc, 200).ok().ok_or("memory")?;
+    let status = run(alloc, &words, &mut source, &mut sink);
+    let is_printed = sink.taken() == b"{\"usage\":\"words\"}\n".as_slice();
+    Ok(status == Status::Usage && is_printed && source.read(&mut [0; 4]) == Ok(2))
+}
+
+#[test]
+fn other_words_read_nothing(rt: HostRuntime) -> Result<(), Fail> {
+    assert!(rt; is_usage(rt.alloc(), &[])?);
+    assert!(rt; is_usage(rt.alloc(), &["core"])?);
+    assert!(rt; is_usage(rt.alloc(), &["Nucleolus"])?);
+    assert!(rt; is_usage(rt.alloc(), &["check", "check"])?);
+    assert!(rt; is_usage(rt.alloc(), &["propose", "x"])?);
+    Ok(())
+}
