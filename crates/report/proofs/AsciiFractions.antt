@@ -10,7 +10,7 @@ use Rattle.std.proofs.lemmas.Str.Ascii.{IsAscii-nil, IsAscii-cons}
 use Rattle.fractions.specs.Fraction.{Fraction}
 use Rattle.fractions.specs.FractionTexts.{is_i128, is_fraction_text, text_fraction, parsed, fraction_text}
 
-below : (n limit : ℕ) → nat_lt n limit ≡ true → n < limit
+pub below : (n limit : ℕ) → nat_lt n limit ≡ true → n < limit
 below n limit h = grind (arith, nat_tests)
 
 signed_ascii : (z : ℤ) → is_i128 z ≡ true → IsAscii (signed_decimal z)
@@ -29,7 +29,11 @@ fits true true false f g num den e = absurd (cc)
 fits true false c f g num den e = absurd (cc)
 fits false b c f g num den e = absurd (cc)
 
+-- both numbers of a fraction that was read have a form of 128 bits
+pub numbers_fit : (s : List ℕ) (f : Fraction) → parsed s ≡ Some f → (is_i128 f.num ≡ true) × (is_i128 f.den ≡ true)
+numbers_fit s f e = fits (is_fraction_text s) (is_i128 (text_fraction s).num) (is_i128 (text_fraction s).den) (text_fraction s) f refl refl e
+
 pub fraction_text_ascii : (s : List ℕ) (f : Fraction) → parsed s ≡ Some f → IsAscii (fraction_text f)
 fraction_text_ascii s f e =
-    let small = fits (is_fraction_text s) (is_i128 (text_fraction s).num) (is_i128 (text_fraction s).den) (text_fraction s) f refl refl e in
+    let small = numbers_fit s f e in
     IsAscii-append _ _ (signed_ascii f.num small.0) (denominator_ascii f.den (int_eq f.den (pos 1)) small.1)

@@ -4,6 +4,11 @@ pub mod TextViews
 pub mod PrintableLevels
 pub mod CertificateDepths
 pub mod CertificateNumbers
+pub mod Lengths
+pub mod ExactTrees
+pub mod LowestTexts
+pub mod CertificateLengths
+pub mod Readers
 pub mod NoFloats
 pub mod Depths
 pub mod AsciiFractions

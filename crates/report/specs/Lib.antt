@@ -5,3 +5,4 @@ pub mod Certificates
 pub mod ShareLists
 pub mod Limits
 pub mod Lines
+pub mod ReadingBack

@@ -4,6 +4,7 @@
 mod answer;
 mod certificate;
 mod fraction;
+mod laws;
 mod line;
 mod nucleolus;
 mod objects;
@@ -15,4 +16,5 @@ mod verdict;
 mod words;
 
 pub use answer::{Answer, UsageKind};
+pub use laws::{nucleoli_are_read_back, nucleoli_are_short};
 pub use line::write_report;

@@ -1,0 +1,62 @@
+-- What a reader finds in the tree of a nucleolus.
+use Rattle.std.proofs.Common.{◌≡◌, ℕ, ◌+◌, ◌^◌, ◌<◌, ◌≤◌, Bool, true, false, List, [], ◌∷◌, ◌++◌, length, refl, arith, subst, sym, ℤ, pos, ◌≤ℤ◌, unsigned_abs}
+use Rattle.std.specs.List.{AllByRecursion}
+use Rattle.std.proofs.lemmas.Int.{ints}
+use Rattle.serde_json.specs.Data.{depth}
+use Rattle.definitions.specs.Games.{Allocation, IsShares}
+use Rattle.definitions.specs.Certificates.{Level, LevelsForm}
+use Rattle.json_texts.specs.Exact.{IsExact, WrittenIsReadBack}
+use Rattle.report.specs.ShareLists.{as_printed, printed_share}
+use Rattle.report.specs.ReadingBack.{IsReadBack, ExcessesAreReadBack, SharesAreReadBack, NucleoliAreReadBack, NucleoliAreShort}
+use Rattle.report.specs.Lines.{nucleolus_tree}
+use Rattle.report.proofs.Lists.{all_also, all_at_places}
+use Rattle.report.proofs.PrintableLevels.{small_level}
+use Rattle.report.proofs.LowestTexts.{lowest_read_back}
+use Rattle.report.proofs.CertificateDepths.{nucleolus_depth}
+use Rattle.report.proofs.ExactTrees.{IsPrintableLevel, nucleolus_exact}
+use Rattle.report.proofs.CertificateLengths.{IsShortLevel, nucleolus_length}
+
+printable_levels : (n : ℕ) (front levels : List Level) → n ≤ 64 → LevelsForm n front levels → AllByRecursion IsPrintableLevel levels
+printable_levels n front [] few h = tt
+printable_levels n front (l ∷ levels) few h = (
+  record { small = small_level n front l h.0; players = all_also (λ b. b.0 < n) (λ b. b.0 < 64) l.bounds (λ b lt. omega (arith, lt, few)) h.0.players },
+  printable_levels n (front ++ l ∷ []) levels few h.1,
+)
+
+size_as_printed : (is_cost : Bool) (z : ℤ) → unsigned_abs (as_printed is_cost z) ≡ unsigned_abs z
+size_as_printed true z = omega (arith, ints)
+size_as_printed false z = refl
+
+share_read_back : (is_cost : Bool) (d z : ℤ) → pos 1 ≤ℤ d → d ≤ℤ pos (2 ^ 63) → unsigned_abs z < 2 ^ 110 → IsReadBack (printed_share is_cost d z)
+share_read_back is_cost d z low high h = lowest_read_back (as_printed is_cost z) d low high (subst (λ (n : ℕ). n < 2 ^ 110) (sym (size_as_printed is_cost z)) h)
+
+shares_read_back : (is_cost : Bool) (x : Allocation) → IsShares x → SharesAreReadBack is_cost x
+shares_read_back is_cost x h =
+    all_also (λ z. unsigned_abs z < 2 ^ 110) (λ z. IsReadBack (printed_share is_cost x.den z)) x.shares (λ z small. share_read_back is_cost x.den z h.positive h.common small)
+    (all_at_places (λ z. unsigned_abs z < 2 ^ 110) (pos 0) x.shares h.small)
+
+pub says : WrittenIsReadBack → NucleoliAreReadBack
+says back family game is_cost x c shares certificate exact shallow =
+    let tree = nucleolus_tree family game is_cost x c in
+    let tree_exact : IsExact tree = nucleolus_exact family game is_cost x c (printable_levels c.players [] c.levels certificate.few certificate.form.each) exact in
+    let deep : depth tree ≤ 9 = nucleolus_depth family game is_cost x c shallow in (
+      record {
+        exact = tree_exact;
+        shallow = deep;
+        read_back = back tree tree_exact (omega (arith, deep));
+        has_answer = refl;
+        has_certificate = refl;
+        has_game = refl;
+        has_shares = refl;
+      },
+      shares_read_back is_cost x shares,
+    )
+
+short_levels : (levels : List Level) → AllByRecursion IsPrintableLevel levels → ExcessesAreReadBack levels → AllByRecursion (λ l. length l.coalitions + length l.earlier + length l.bounds ≤ 128) levels → AllByRecursion IsShortLevel levels
+short_levels [] h k few = tt
+short_levels (l ∷ levels) h k few = (record { printable = h.0; excess = k.0; few = few.0 }, short_levels levels h.1 k.1 few.1)
+
+pub short : NucleoliAreShort
+short family game is_cost x c shares certificate excesses few =
+    nucleolus_length family game is_cost x c (omega (arith, certificate.form.few, certificate.few)) shares.few
+    (short_levels c.levels (printable_levels c.players [] c.levels certificate.few certificate.form.each) excesses few) (shares_read_back is_cost x shares)
