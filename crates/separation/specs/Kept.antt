@@ -5,7 +5,7 @@
 --   AreSmall         costs below 2^46, and level rows that are there
 --   kept_lawful      such a program keeps the laws
 use Rattle.std.specs.Prelude.{◌≡◌, ◌⊎◌, ℕ, ◌+◌, ◌-◌, ◌^◌, ◌<◌, ◌≤◌, Bool, true, false, IsTrue, nat_eq, nat_lt, List, ℤ, pos, ◌-ℤ◌, if◌then◌else◌, slice_index_or, Option, Some, None, unsigned_abs}
-use Rattle.std.specs.Option.{ForSome}
+use Rattle.std.specs.Option.{ForSome, is_some}
 use Rattle.definitions.specs.Coalitions.{has_player}
 use Rattle.definitions.specs.Programs.{Program}
 use Rattle.separation.specs.Stage.{signed}
@@ -28,10 +28,6 @@ column_entry n c r = signed c.negated (if has_entry n c.coalition c.level r then
 abbrev pub column_at : List (Option Column) → ℕ → Option Column
 column_at columns id = slice_index_or columns id None
 
-abbrev pub is_kept : Option Column → Bool
-is_kept None = false
-is_kept (Some c) = true
-
 abbrev pub entry_at : ℕ → Option Column → ℕ → ℤ
 entry_at n None r = pos 0
 entry_at n (Some c) r = column_entry n c r
@@ -51,7 +47,7 @@ kept_program players levels columns =
     record {
       rows = players + levels;
       right = right_at players levels;
-      is_column = λ id. is_kept (column_at columns id);
+      is_column = λ id. is_some (column_at columns id);
       entry = λ id r. entry_at players (column_at columns id) r;
       cost = λ id. cost_at (column_at columns id);
     }

@@ -1,12 +1,12 @@
 -- A program of kept columns lies within the laws of the simplex.
 use Rattle.std.specs.Prelude.{◌≡◌, ◌⊎◌, ℕ, ◌+◌, ◌-◌, ◌≤◌, ◌<◌, Bool, true, false, IsTrue, nat_eq, nat_lt, cond, List, ℤ, pos, negsuc, ◌-ℤ◌, Option, Some, None, refl, ◌^◌, unsigned_abs}
 use Rattle.std.proofs.Common.{inl, inr, arith}
+use Rattle.std.proofs.lemmas.Bool.{false≢true}
 use Rattle.std.proofs.lemmas.Bool.Decides.{nat_tests}
-use Rattle.std.specs.Option.{ForSome}
+use Rattle.std.specs.Option.{ForSome, is_some}
 use Rattle.simplex.specs.Laws.{IsSparse, IsLawful}
 use Rattle.separation.specs.Stage.{signed}
-use Rattle.separation.specs.Kept.{is_level, has_entry, column_entry, column_at, is_kept, entry_at, cost_at, right_at, kept_program, AreSmall}
-use Rattle.separation.specs.Same.{LawfulProgram}
+use Rattle.separation.specs.Kept.{is_level, has_entry, column_entry, column_at, entry_at, cost_at, right_at, kept_program, AreSmall}
 use Rattle.separation.specs.declared.column.Column.{Column}
 
 abbrev sign_of : Bool → ℤ
@@ -47,8 +47,8 @@ column_sparse n rows c = record {
         let t : nat_lt i n ≡ false = grind (arith, nat_tests) in
         rw t (rw e (nothing c.negated))
 
-kept_sparse : (n rows : ℕ) (o : Option Column) → IsTrue (is_kept o) → IsSparse n rows (entry_at n o)
-kept_sparse n rows None h = absurd (elim h [ ])
+kept_sparse : (n rows : ℕ) (o : Option Column) → IsTrue (is_some o) → IsSparse n rows (entry_at n o)
+kept_sparse n rows None h = absurd (false≢true h)
 kept_sparse n rows (Some c) h = column_sparse n rows c
 
 right_either : (n levels r : ℕ) → (right_at n levels r ≡ pos 0) ⊎ (right_at n levels r ≡ pos 1)
@@ -87,8 +87,3 @@ kept_lawful players levels columns few few_levels small = record {
   rights = λ i lt. right_either players levels i;
   costs = λ id is. cost_small (column_at columns id) (small.costs id);
 }
-
--- the program of kept columns, within the laws
-abbrev pub kept : (players levels : ℕ) (columns : List (Option Column)) → players ≤ 16 → levels ≤ 15 → AreSmall levels columns → LawfulProgram
-kept players levels columns few few_levels small =
-    record { players = players; program = kept_program players levels columns; lawful = kept_lawful players levels columns few few_levels small }

@@ -2,16 +2,18 @@
 --
 --   listed            the first n columns of a sequence
 --   earlier_columns   two columns for each coalition of a level
---   singles, minuses  the columns of the players alone, and these negated
+--   single, bound     the column of a player alone, and this negated
 --   AreOuter          the columns of the coalitions outside
---   balanced_columns  those of the balanced program
-use Rattle.std.specs.Prelude.{◌≡◌, ℕ, zero, suc, ◌+◌, ◌<◌, Bool, true, false, ◌&&◌, nat_lt, List, [], ◌∷◌, ◌++◌, length, ℤ, pos, ◌-ℤ◌, if◌then◌else◌, Option, Some, None}
-use Rattle.definitions.specs.Coalitions.{singleton}
+--   inner_columns     the columns in front of these
+--   balanced_column   a column of the balanced program
+use Rattle.std.specs.Prelude.{◌≡◌, ℕ, zero, suc, ◌+◌, ◌<◌, Bool, true, false, ◌&&◌, nat_lt, ◌^◌, List, [], ◌∷◌, ◌++◌, length, ℤ, pos, ◌-ℤ◌, if◌then◌else◌, Option, Some, None}
+use Rattle.std.specs.List.{AllByRecursion}
+use Rattle.definitions.specs.Coalitions.{singleton, grand_coalition}
 use Rattle.definitions.specs.Games.{Game}
 use Rattle.definitions.specs.Certificates.{Level, has_bound, IsOutside}
 use Rattle.definitions.specs.declared.Family.{Family}
 use Rattle.definitions.specs.declared.Mode.TheVariants.{Span}
-use Rattle.separation.specs.Stage.{is_imputations}
+use Rattle.separation.specs.Stage.{is_imputations, earlier_of}
 use Rattle.separation.specs.Kept.{column_at}
 use Rattle.separation.specs.declared.column.Column.{Column}
 
@@ -55,12 +57,21 @@ pub record AreOuter (g : Game) (front : List Level) (n : ℕ) (columns : List (O
   pub count : length columns ≡ n
   pub outer : (s : ℕ) → s < n → IsOuter g front s (column_at columns s)
 
--- columns, and those of the coalitions outside behind them
+-- columns, and behind them those of the coalitions outside
 pub record EndsOuter (g : Game) (front : List Level) (n : ℕ) (columns longer : List (Option Column)) : Type 0 where
   pub outers : List (Option Column)
   pub are : AreOuter g front n outers
   pub longer_is : longer ≡ columns ++ outers
 
+-- the columns of all players, of the levels' coalitions and of the players alone
+abbrev pub inner_columns : Family → Game → List Level → List (Option Column)
+inner_columns family g front =
+    whole_columns g (grand_coalition g.players) ++ earlier_columns g (earlier_of 0 front) ++ listed g.players (single family g) ++ listed g.players (bound family g front)
+
 -- the column of coalition s, unless that is empty
 abbrev pub balanced_column : Game → ℕ → Option Column
 balanced_column g s = if nat_lt 0 s then Some (plain g s None) else None
+
+-- the coalitions of a level are of n players
+pub record AreWithin (n : ℕ) (l : Level) : Type 0 where
+  pub coalitions : AllByRecursion (λ c. c.0 < 2 ^ n) l.coalitions

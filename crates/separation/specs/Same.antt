@@ -3,7 +3,6 @@
 --   IsSame              the same rows, right sides and columns, with the same entries and costs
 --   IsSpanOf            coalitions span exactly what levels fix
 --   IsStage             the stage program behind levels, whose coalitions outside are those of span mode
---   LawfulProgram       a program, its number of players, and that it keeps the laws
 use Rattle.std.specs.Prelude.{◌≡◌, ◌↔◌, ℕ, ◌<◌, ◌^◌, Bool, IsTrue, List}
 use Rattle.std.specs.Bool.{Decides}
 use Rattle.definitions.specs.Games.{Game}
@@ -11,7 +10,6 @@ use Rattle.definitions.specs.Certificates.{Level, InSpan, IsFixedVector, IsOutsi
 use Rattle.definitions.specs.Programs.{Program}
 use Rattle.definitions.specs.declared.Family.{Family}
 use Rattle.definitions.specs.declared.Mode.TheVariants.{Span}
-use Rattle.simplex.specs.Laws.{IsLawful}
 use Rattle.spans.specs.Span.{IsKept}
 use Rattle.separation.specs.Stage.{stage_program}
 
@@ -33,9 +31,3 @@ pub record IsStage (family : Family) (g : Game) (front : List Level) (p : Progra
   pub outside : ℕ → Bool
   pub decides : (s : ℕ) → Decides (outside s) (IsOutside Span g.players front s)
   pub same : IsSame p (stage_program family g front outside)
-
--- a program and its number of players, within the laws
-pub record LawfulProgram : Type 0 where
-  pub players : ℕ
-  pub program : Program
-  pub lawful : IsLawful players program

@@ -5,7 +5,7 @@
 --   AreSums             the tables of the first and the next eight players
 --   column_value        the sum of multiplier times entry
 --   Rises, IsFirst      a column's cost is above its value; the first such
-use Rattle.std.specs.Prelude.{◌≡◌, ℕ, ◌+◌, ◌<◌, ◌≤◌, Bool, true, false, nat_lt, List, length, ℤ, pos, ◌*ℤ◌, ◌<ℤ◌, if◌then◌else◌, slice_index_or, Option, Some, None}
+use Rattle.std.specs.Prelude.{◌≡◌, ℕ, ◌+◌, ◌<◌, ◌≤◌, Bool, true, false, nat_lt, List, length, ℤ, pos, ◌*ℤ◌, ◌<ℤ◌, if◌then◌else◌, slice_index_or, Option, Some, None, ◌^◌, unsigned_abs}
 use Rattle.definitions.specs.Sums.{sum_below}
 use Rattle.definitions.specs.Coalitions.{has_player}
 use Rattle.separation.specs.Kept.{column_entry, column_at}
@@ -23,12 +23,17 @@ abbrev pub member_multiplier : List ℤ → ℕ → ℕ → ℕ → ℕ → ℤ
 member_multiplier num n first s i = if has_player s i then player_multiplier num n (first + i) else pos 0
 
 -- the multipliers of the members of a coalition of the eight players from `first` on
-abbrev pub eight : List ℤ → ℕ → ℕ → ℕ → ℤ
+unfoldable pub eight : List ℤ → ℕ → ℕ → ℕ → ℤ
 eight num n first s = sum_below 8 (member_multiplier num n first s)
+
+-- a number is such a sum, and small
+pub record IsEight (num : List ℤ) (n first s : ℕ) (z : ℤ) : Type 0 where
+  pub value : z ≡ eight num n first s
+  pub small : unsigned_abs z ≤ 2 ^ 113
 
 -- a table of such sums
 abbrev pub IsTable : List ℤ → ℕ → ℕ → List ℤ → Type 0
-IsTable num n first table = (s : ℕ) → s < 256 → slice_index_or table s (pos 0) ≡ eight num n first s
+IsTable num n first table = (s : ℕ) → s < 256 → IsEight num n first s (slice_index_or table s (pos 0))
 
 -- those of the first eight players, and of the next eight
 pub record AreSums (num : List ℤ) (n : ℕ) (low high : List ℤ) : Type 0 where

@@ -2,4 +2,8 @@
 #![tactic(auto)]
 
 mod column;
+mod earlier;
+mod listed;
 mod sums;
+
+pub use listed::Listed;

@@ -5,6 +5,7 @@ ghost use Rattle.std.specs.Prelude.{◌≡◌, ℕ, ◌+◌, ◌*◌, ◌^◌, �
 ghost use Rattle.std.specs.Bool.{Decides};
 ghost use Rattle.std.specs.Option.{ForSome};
 ghost use Rattle.definitions.specs.Coalitions.{sum_over};
+ghost use Rattle.separation.specs.Kept.{column_at};
 ghost use Rattle.separation.specs.Values.{multiplier_at, player_multiplier, member_multiplier, eight, IsTable, AreSums, level_multiplier, column_value, counted, Rises, IsFirst};
 
 use crate::column::Column;
@@ -53,8 +54,7 @@ fn eight(m: &Multipliers, n: u32, first: u32, s: Coalition) -> i128
 fn table(m: &Multipliers, n: u32, first: u32) -> [i128; 256]
     requires count { n ≤ length m.now.num.items }
     requires first { first ≤ 8 }
-    ensures value { IsTable m.now.num.items n first result }
-    ensures small { (k : ℕ) → unsigned_abs (slice_index_or result k (pos 0)) ≤ 2 ^ 113 }
+    ensures { IsTable m.now.num.items n first result }
 {
     let mut sums = [0; 256];
     for s in 0..256 {
@@ -64,11 +64,12 @@ fn table(m: &Multipliers, n: u32, first: u32) -> [i128; 256]
 }
 
 /// The multipliers of each coalition of the first eight players, and of each coalition of the next eight.
+#[derive(Drop)]
 pub(crate) struct Sums {
     low: [i128; 256],
     high: [i128; 256],
-    ghost low_small: { (k : ℕ) → unsigned_abs (slice_index_or low k (pos 0)) ≤ 2 ^ 113 },
-    ghost high_small: { (k : ℕ) → unsigned_abs (slice_index_or high k (pos 0)) ≤ 2 ^ 113 },
+    ghost low_small: { (k : ℕ) → k < 256 → unsigned_abs (slice_index_or low k (pos 0)) ≤ 2 ^ 113 },
+    ghost high_small: { (k : ℕ) → k < 256 → unsigned_abs (slice_index_or high k (pos 0)) ≤ 2 ^ 113 },
 }
 
 impl Sums {
@@ -145,7 +146,34 @@ fn rises(
     ensures { Decides result (Rises m.now.num.items m.now.den n with_costs column) }
 {
     match column {
-        Some(column) => value(column, m, n, sums) < bar(m, column.cost, with_costs),
+        Some(column) => {
+            let cost = column.cost;
+            value(column, m, n, sums) < bar(m, cost, with_costs)
+        }
         None => false,
     }
+}
+
+/// The number of the first column whose cost is above its value, without costs as if each were 0.
+pub(crate) fn first_rising(
+    columns: &[Option<Column>],
+    m: &Multipliers,
+    n: u32,
+    sums: &Sums,
+    with_costs: bool,
+) -> Option<u64>
+    requires within { (id : ℕ) → ForSome (column_at columns.now id) (λ c. ForSome c.level (λ l. n + l < length m.now.num.items)) }
+    requires small { (id : ℕ) → ForSome (column_at columns.now id) (λ c. unsigned_abs c.cost < 2 ^ 46) }
+    requires players { n ≤ length m.now.num.items }
+    requires sums { AreSums m.now.num.items n sums.now.low sums.now.high }
+    ensures { MatchOption result
+        ((id : ℕ) → ¬ Rises m.now.num.items m.now.den n with_costs (column_at columns.now id))
+        (IsFirst m.now.num.items m.now.den n with_costs columns.now) }
+{
+    for id in 0..columns.len() {
+        if rises(columns[id], m, n, sums, with_costs) {
+            return Some(id as u64);
+        }
+    }
+    None
 }

@@ -1,0 +1,4 @@
+pub mod Valued
+pub mod Filled
+pub mod Entered
+pub mod Pushed

@@ -1,0 +1,146 @@
+-- The value of a column from two tables of sums and one multiplier.
+use Rattle.std.proofs.Common.{◌≡◌, ◌⊎◌, ℕ, zero, suc, ◌+◌, ◌-◌, ◌*◌, ◌/◌, ◌%◌, ◌^◌, ◌<◌, ◌≤◌, Bool, true, false, cond, List, length, ℤ, pos, ◌+ℤ◌, ◌-ℤ◌, ◌*ℤ◌, refl, sym, ap, ◌∙◌, inl, inr, arith, nat_eq, nat_lt, if◌then◌else◌, slice_index_or, Option, Some, None, unsigned_abs}
+use Rattle.std.proofs.lemmas.Bool.Decides.{nat_tests}
+use Rattle.std.proofs.lemmas.Nat.Bits.{bit_at_cat_low, bit_at_cat_high}
+use Rattle.std.specs.Int.{bit_at}
+use Rattle.std.specs.Option.{ForSome}
+use Rattle.definitions.proofs.Ring.{linear, mul-zeroℤ, mul-oneℤ, mul-subℤ}
+use Rattle.definitions.proofs.Members.{sum_below-same, sum_below-zero}
+use Rattle.definitions.specs.Sums.{sum_below}
+use Rattle.definitions.specs.Coalitions.{has_player, sum_over}
+use Rattle.separation.specs.Stage.{signed}
+use Rattle.separation.specs.Kept.{is_level, has_entry, column_entry}
+use Rattle.separation.specs.Values.{multiplier_at, player_multiplier, member_multiplier, eight, IsTable, AreSums, level_multiplier, column_value}
+use Rattle.separation.specs.declared.column.Column.{Column}
+
+pub sum_below-split : (n j : ℕ) (f : ℕ → ℤ) → sum_below (n + j) f ≡ sum_below n f +ℤ sum_below j (λ k. f (n + k))
+sum_below-split n zero f = let e : n + 0 ≡ n = omega arith in rw e (omega (arith, linear))
+sum_below-split n (suc j) f =
+    let e : n + suc j ≡ suc (n + j) = omega arith in
+    rw e (omega (arith, linear, sum_below-split n j f))
+
+-- ---- the tables
+
+low_bit : (s i : ℕ) → i < 8 → bit_at (s % 256) i ≡ bit_at s i
+low_bit s i h =
+    let e : s / 256 * 2 ^ 8 + s % 256 ≡ s = omega arith in
+    sym (bit_at_cat_low (s / 256) 8 (s % 256) i h) ∙ ap (λ (t : ℕ). bit_at t i) e
+
+high_bit : (s i : ℕ) → i < 8 → bit_at (s / 256 % 256) i ≡ bit_at s (8 + i)
+high_bit s i h =
+    let e : s / 256 * 2 ^ 8 + s % 256 ≡ s = omega arith in
+    let d : 8 + i - 8 ≡ i = omega arith in
+    low_bit (s / 256) i h
+    ∙ ap (λ (t : ℕ). bit_at (s / 256) t) (sym d)
+    ∙ sym (bit_at_cat_high (s / 256) 8 (s % 256) (8 + i) (omega arith) (omega arith))
+    ∙ ap (λ (t : ℕ). bit_at t (8 + i)) e
+
+-- the multiplier of player i, if s has it
+abbrev at : List ℤ → ℕ → ℕ → ℕ → ℤ
+at num n s i = if has_player s i then player_multiplier num n i else pos 0
+
+low_at : (num : List ℤ) (n s i : ℕ) → i < 8 → member_multiplier num n 0 (s % 256) i ≡ at num n s i
+low_at num n s i h =
+    let e : 0 + i ≡ i = omega arith in
+    ap (λ (b : ℕ). cond (nat_eq b 1) (player_multiplier num n (0 + i)) (pos 0)) (low_bit s i h)
+    ∙ ap (λ (t : ℕ). cond (has_player s i) (player_multiplier num n t) (pos 0)) e
+
+high_at : (num : List ℤ) (n s i : ℕ) → i < 8 → member_multiplier num n 8 (s / 256 % 256) i ≡ at num n s (8 + i)
+high_at num n s i h = ap (λ (b : ℕ). cond (nat_eq b 1) (player_multiplier num n (8 + i)) (pos 0)) (high_bit s i h)
+
+players_at : (num : List ℤ) (n s i : ℕ) → i < n → at num n s i ≡ (if has_player s i then multiplier_at num i else pos 0)
+players_at num n s i h = let t : nat_lt i n ≡ true = grind (arith, nat_tests) in ap (λ (b : Bool). cond (has_player s i) (cond b (multiplier_at num i) (pos 0)) (pos 0)) t
+
+past_at : (num : List ℤ) (n s k : ℕ) → at num n s (n + k) ≡ pos 0
+past_at num n s k =
+    let t : nat_lt (n + k) n ≡ false = grind (arith, nat_tests) in
+    ap (λ (b : Bool). cond (has_player s (n + k)) (cond b (multiplier_at num (n + k)) (pos 0)) (pos 0)) t ∙ same (has_player s (n + k))
+  where
+    same : (b : Bool) → cond b (pos 0) (pos 0) ≡ pos 0
+    same true = refl
+    same false = refl
+
+all_at : (num : List ℤ) (n s : ℕ) → n ≤ 16 → sum_below 16 (at num n s) ≡ sum_over n (multiplier_at num) s
+all_at num n s few =
+    let e : 16 ≡ n + (16 - n) = omega arith in
+    let split = sum_below-split n (16 - n) (at num n s) in
+    let first = sum_below-same n (at num n s) (λ i. if has_player s i then multiplier_at num i else pos 0) (λ i h. players_at num n s i h) in
+    let rest = sum_below-zero (16 - n) (λ k. at num n s (n + k)) (λ k h. past_at num n s k) in
+    ap (λ (t : ℕ). sum_below t (at num n s)) e ∙ split ∙ none (sum_below n (at num n s)) _ _ first rest
+  where
+    none : (a b c : ℤ) → a ≡ b → c ≡ pos 0 → a +ℤ c ≡ b
+    none a b c e f = omega (arith, linear)
+
+eight-is : (num : List ℤ) (n first s : ℕ) → eight num n first s ≡ sum_below 8 (member_multiplier num n first s)
+unfolding eight
+eight-is num n first s = refl
+
+pub sums_at : (num : List ℤ) (n s : ℕ) (low high : List ℤ) → AreSums num n low high → slice_index_or low (s % 256) (pos 0) +ℤ slice_index_or high (s / 256 % 256) (pos 0) ≡ sum_over n (multiplier_at num) s
+sums_at num n s low high h =
+    let a = (h.low_is (s % 256) (omega arith)).value ∙ eight-is num n 0 (s % 256) ∙ sum_below-same 8 (member_multiplier num n 0 (s % 256)) (at num n s) (λ i lt. low_at num n s i lt) in
+    let b = (h.high_is (s / 256 % 256) (omega arith)).value ∙ eight-is num n 8 (s / 256 % 256) ∙ sum_below-same 8 (member_multiplier num n 8 (s / 256 % 256)) (λ i. at num n s (8 + i)) (λ i lt. high_at num n s i lt) in
+    added _ _ _ _ a b ∙ sym (sum_below-split 8 8 (at num n s)) ∙ all_at num n s h.few
+  where
+    added : (p q u v : ℤ) → p ≡ u → q ≡ v → p +ℤ q ≡ u +ℤ v
+    added p q u v e f = omega (arith, linear)
+
+-- ---- the rows
+
+times_bit : (b : Bool) (z : ℤ) → z *ℤ cond b (pos 1) (pos 0) ≡ cond b z (pos 0)
+times_bit true z = mul-oneℤ z
+times_bit false z = mul-zeroℤ z
+
+signed_sum : (n : ℕ) (y f : ℕ → ℤ) (b : Bool) → sum_below n (λ r. y r *ℤ signed b (f r)) ≡ signed b (sum_below n (λ r. y r *ℤ f r))
+signed_sum n y f false = refl
+signed_sum zero y f true = refl
+signed_sum (suc n) y f true =
+    omega (arith, linear, signed_sum n y f true, mul-subℤ (y n) (pos 0) (f n), mul-zeroℤ (y n))
+
+picked : (j l : ℕ) (y : ℕ → ℤ) → l < j → sum_below j (λ k. if nat_eq l k then y k else pos 0) ≡ y l
+picked zero l y h = absurd (omega arith)
+picked (suc j) l y h = elim (last_or l j h) [
+  | inl less ↦
+      let v : nat_eq l j ≡ false = grind (arith, nat_tests) in
+      rw v (omega (arith, linear, picked j l y less))
+  | inr same ↦
+      let v : nat_eq l j ≡ true = grind (arith, nat_tests) in
+      let none = sum_below-zero j (λ k. if nat_eq l k then y k else pos 0) (λ k lt. other l j k y same lt) in
+      rw v (omega (arith, linear, none, ap y same))
+]
+  where
+    last_or : (l j : ℕ) → l < suc j → (l < j) ⊎ (l ≡ j)
+    last_or l j h = grind arith
+
+    other : (l j k : ℕ) (y : ℕ → ℤ) → l ≡ j → k < j → cond (nat_eq l k) (y k) (pos 0) ≡ pos 0
+    other l j k y same lt = let v : nat_eq l k ≡ false = grind (arith, nat_tests) in rw v refl
+
+level_sum : (num : List ℤ) (n j : ℕ) (level : Option ℕ) → ForSome level (λ l. l < j) → sum_below j (λ k. if is_level level k then multiplier_at num (n + k) else pos 0) ≡ level_multiplier num n level
+level_sum num n j None h = sum_below-zero j (λ k. pos 0) (λ k lt. refl)
+level_sum num n j (Some l) h = picked j l (λ k. multiplier_at num (n + k)) (h l refl)
+
+-- the value of the column that isn't negated
+plain_sum : (num : List ℤ) (n j s : ℕ) (level : Option ℕ) → ForSome level (λ l. l < j)
+    → sum_below (n + j) (λ r. multiplier_at num r *ℤ (if has_entry n s level r then pos 1 else pos 0)) ≡ sum_over n (multiplier_at num) s +ℤ level_multiplier num n level
+plain_sum num n j s level h =
+    let f : ℕ → ℤ = λ r. multiplier_at num r *ℤ (if has_entry n s level r then pos 1 else pos 0) in
+    let split = sum_below-split n j f in
+    let first = sum_below-same n f (λ i. if has_player s i then multiplier_at num i else pos 0) members in
+    let second = sum_below-same j (λ k. f (n + k)) (λ k. if is_level level k then multiplier_at num (n + k) else pos 0) levels in
+    let third = level_sum num n j level h in
+    omega (arith, linear, split, first, second, third)
+  where
+    members : (i : ℕ) → i < n → multiplier_at num i *ℤ (if has_entry n s level i then pos 1 else pos 0) ≡ (if has_player s i then multiplier_at num i else pos 0)
+    members i lt = let t : nat_lt i n ≡ true = grind (arith, nat_tests) in rw t (times_bit (has_player s i) (multiplier_at num i))
+
+    levels : (k : ℕ) → k < j → multiplier_at num (n + k) *ℤ (if has_entry n s level (n + k) then pos 1 else pos 0) ≡ (if is_level level k then multiplier_at num (n + k) else pos 0)
+    levels k lt =
+        let t : nat_lt (n + k) n ≡ false = grind (arith, nat_tests) in
+        let e : n + k - n ≡ k = omega arith in
+        rw t (rw e (times_bit (is_level level k) (multiplier_at num (n + k))))
+
+pub value_is : (num : List ℤ) (n : ℕ) (c : Column) → n ≤ length num → ForSome c.level (λ l. n + l < length num) → column_value num n c ≡ signed c.negated (sum_over n (multiplier_at num) c.coalition +ℤ level_multiplier num n c.level)
+value_is num n c le h =
+    let e : length num ≡ n + (length num - n) = omega arith in
+    signed_sum (length num) (multiplier_at num) (λ r. if has_entry n c.coalition c.level r then pos 1 else pos 0) c.negated
+    ∙ ap (signed c.negated) (ap (λ (t : ℕ). sum_below t (λ r. multiplier_at num r *ℤ (if has_entry n c.coalition c.level r then pos 1 else pos 0))) e
+    ∙ plain_sum num n (length num - n) c.coalition c.level (λ l is. let lt = h l is in omega arith))

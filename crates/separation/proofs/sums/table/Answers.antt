@@ -1,0 +1,20 @@
+use Rattle.std.proofs.Common.{◌≡◌, ◌+◌, ◌^◌, ◌<◌, ◌≤◌, ℕ, ℤ, pos, List, length, length-set, slice_index_or, unsigned_abs, to_z, of_z, arith, sym, ap, ◌∙◌, subst, refl}
+use Rattle.worth_core.proofs.Casts.{cast_kept}
+use mir.Syntax.{w128}
+use Rattle.separation.specs.Values.{eight, IsEight}
+use Rattle.separation.proofs.Filled.{filled_below}
+use Rattle.separation.proofs.sums.table.Goals as goal
+
+pub loop-s-init : goal.loop-s-init
+loop-s-init c = record { len = refl; done = λ k lt. absurd (omega arith) }
+
+pub loop-s-preserved : goal.loop-s-preserved
+loop-s-preserved c =
+    let P = IsEight c.args.m.now.num.items c.args.n c.args.first in
+    let is = c.eight.ensures in
+    let e : to_z w128 (of_z w128 c.eight.result) ≡ c.eight.result = cast_kept w128 c.eight.result (omega (arith, is.small)) in
+    let len : c.loop-s.s < length c.loop-s.sums = subst (λ (t : ℕ). c.loop-s.s < t) (sym c.loop-s.invariant.len) c.loop-s-test.true in
+    rw e (record {
+      len = length-set c.loop-s.sums c.loop-s.s c.eight.result ∙ c.loop-s.invariant.len;
+      done = filled_below P c.loop-s.sums c.loop-s.s c.eight.result len (record { value = is.value; small = is.small }) c.loop-s.invariant.done;
+    })

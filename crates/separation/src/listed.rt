@@ -1,0 +1,93 @@
+//! A program whose columns are kept in a list, each under its number.
+
+ghost use Rattle.std.specs.Prelude.{◌≡◌, ◌≤◌};
+ghost use Rattle.separation.specs.Kept.{column_at, kept_program, AreSmall};
+
+use crate::column::Column;
+use crate::sums::{Sums, first_rising};
+use simplex::{Columns, Multipliers};
+
+/// A program with all its columns, the level rows behind those of the players.
+#[derive(Drop)]
+pub struct Listed {
+    players: u32,
+    levels: u32,
+    columns: Vec<Option<Column>>,
+    ghost few_players: { players ≤ 16 },
+    ghost few_levels: { levels ≤ 15 },
+    ghost small: { AreSmall levels columns.items },
+}
+
+/// The column under a number.
+fn column_at(columns: &[Option<Column>], id: u64) -> Option<Column>
+    ensures { result ≡ column_at columns.now id }
+{
+    if id < columns.len() as u64 {
+        columns[id as usize]
+    } else {
+        None
+    }
+}
+
+impl Listed {
+    /// The program of these columns, each under its place, with so many rows of players and of levels.
+    pub(crate) fn of(players: u32, levels: u32, columns: Vec<Option<Column>>) -> Listed
+        requires few { players ≤ 16 }
+        requires few_levels { levels ≤ 15 }
+        requires small { AreSmall levels columns.items }
+        ensures players { result.players ≡ players }
+        ensures levels { result.levels ≡ levels }
+        ensures columns { result.columns.items ≡ columns.items }
+    {
+        Listed {
+            players,
+            levels,
+            columns,
+        }
+    }
+}
+
+impl Columns for Listed {
+    ghost use Rattle.separation.specs.Lawful.{kept_lawful};
+
+    ghost program = { λ l. kept_program l.players l.levels l.columns.items };
+
+    ghost players = { λ l. l.players };
+
+    ghost lawful = { λ l. kept_lawful l.players l.levels l.columns.items l.few_players l.few_levels l.small };
+
+    fn rows(&self) -> u32 {
+        self.players + self.levels
+    }
+
+    fn right(&self, row: u32) -> i32 {
+        if self.levels == 0 || row + 1 == self.players + self.levels {
+            1
+        } else {
+            0
+        }
+    }
+
+    fn has(&self, id: u64) -> bool {
+        column_at(&self.columns, id).is_some()
+    }
+
+    fn entry(&self, id: u64, row: u32) -> i32 {
+        match column_at(&self.columns, id) {
+            Some(column) => column.entry(self.players, row),
+            None => 0,
+        }
+    }
+
+    fn cost(&self, id: u64) -> i64 {
+        match column_at(&self.columns, id) {
+            Some(column) => column.cost,
+            None => 0,
+        }
+    }
+
+    fn entering(&mut self, m: &Multipliers, with_costs: bool) -> Option<u64> {
+        let sums = Sums::new(m, self.players);
+        first_rising(&self.columns, m, self.players, &sums, with_costs)
+    }
+}
