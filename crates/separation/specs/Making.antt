@@ -66,7 +66,7 @@ pub record EndsOuter (g : Game) (front : List Level) (n : ℕ) (columns longer :
 -- the columns of all players, of the levels' coalitions and of the players alone
 abbrev pub inner_columns : Family → Game → List Level → List (Option Column)
 inner_columns family g front =
-    whole_columns g (grand_coalition g.players) ++ earlier_columns g (earlier_of 0 front) ++ listed g.players (single family g) ++ listed g.players (bound family g front)
+    ((whole_columns g (grand_coalition g.players) ++ earlier_columns g (earlier_of 0 front)) ++ listed g.players (single family g)) ++ listed g.players (bound family g front)
 
 -- the column of coalition s, unless that is empty
 abbrev pub balanced_column : Game → ℕ → Option Column

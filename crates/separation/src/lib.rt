@@ -1,9 +1,11 @@
 //! The programs of the nucleolus and of the core as columns, from which the simplex picks.
 #![tactic(auto)]
 
+mod balanced;
 mod column;
 mod earlier;
 mod listed;
+mod stage;
 mod sums;
 
 pub use listed::Listed;

@@ -1,0 +1,109 @@
+-- What stands under a number of a list of columns, against a program.
+use Rattle.std.proofs.Common.{◌≡◌, ◌⊎◌, ℕ, zero, suc, ◌+◌, ◌-◌, ◌<◌, ◌≤◌, ◌^◌, Bool, true, false, cond, IsTrue, List, [], ◌∷◌, ◌++◌, length, length-append, get_or, refl, sym, ap, ◌∙◌, subst, inl, inr, arith, nat_eq, nat_lt, if◌then◌else◌, ℤ, pos, Option, Some, None, unsigned_abs}
+use Rattle.std.proofs.lemmas.Bool.{false≢true}
+use Rattle.std.proofs.lemmas.Bool.Decides.{nat_tests}
+use Rattle.std.proofs.lemmas.List.{get_or-append_right, get_or_append_left}
+use Rattle.std.proofs.Math.ListN.{get_or-eq_default}
+use Rattle.std.specs.Option.{ForSome, is_some}
+use Rattle.definitions.specs.Coalitions.{has_player}
+use Rattle.definitions.specs.Programs.{Program}
+use Rattle.separation.specs.Stage.{signed, plus_entry}
+use Rattle.separation.specs.Kept.{is_level, has_entry, column_entry, column_at, entry_at, cost_at, right_at, kept_program, AreSmall}
+use Rattle.separation.specs.Same.{IsSame}
+use Rattle.separation.specs.Making.{listed}
+use Rattle.separation.specs.declared.column.Column.{Column}
+
+-- a column is that of the program under the number, and small
+pub record Fits (n levels : ℕ) (q : Program) (id : ℕ) (c : Column) : Type 0 where
+  pub is_column : q.is_column id ≡ true
+  pub entry : (r : ℕ) → r < q.rows → column_entry n c r ≡ q.entry id r
+  pub cost : c.cost ≡ q.cost id
+  pub small : unsigned_abs c.cost < 2 ^ 46
+  pub level : ForSome c.level (λ l. l < levels)
+
+-- what stands under a number is what the program has there
+abbrev pub SameAt : ℕ → ℕ → Program → ℕ → Option Column → Type 0
+SameAt n levels q id None = q.is_column id ≡ false
+SameAt n levels q id (Some c) = Fits n levels q id c
+
+column_same : (n levels : ℕ) (q : Program) (id : ℕ) (o : Option Column) → SameAt n levels q id o → is_some o ≡ q.is_column id
+column_same n levels q id None h = sym h
+column_same n levels q id (Some c) h = sym h.is_column
+
+entry_same : (n levels : ℕ) (q : Program) (id r : ℕ) (o : Option Column) → SameAt n levels q id o → IsTrue (q.is_column id) → r < q.rows → entry_at n o r ≡ q.entry id r
+entry_same n levels q id r None h is lt = absurd (false≢true (sym h ∙ is))
+entry_same n levels q id r (Some c) h is lt = h.entry r lt
+
+cost_same : (n levels : ℕ) (q : Program) (id : ℕ) (o : Option Column) → SameAt n levels q id o → IsTrue (q.is_column id) → cost_at o ≡ q.cost id
+cost_same n levels q id None h is = absurd (false≢true (sym h ∙ is))
+cost_same n levels q id (Some c) h is = h.cost
+
+cost_small : (n levels : ℕ) (q : Program) (id : ℕ) (o : Option Column) → SameAt n levels q id o → ForSome o (λ c. unsigned_abs c.cost < 2 ^ 46)
+cost_small n levels q id o h c e = let fits = subst (SameAt n levels q id) e h in fits.small
+
+level_there : (n levels : ℕ) (q : Program) (id : ℕ) (o : Option Column) → SameAt n levels q id o → ForSome o (λ c. ForSome c.level (λ l. l < levels))
+level_there n levels q id o h c e = let fits = subst (SameAt n levels q id) e h in fits.level
+
+pub same_program : (n levels : ℕ) (columns : List (Option Column)) (q : Program) → n + levels ≡ q.rows → ((r : ℕ) → r < q.rows → right_at n levels r ≡ q.right r) → ((id : ℕ) → SameAt n levels q id (column_at columns id)) → IsSame (kept_program n levels columns) q
+same_program n levels columns q rows right at = record {
+  rows = rows;
+  right = right;
+  columns = λ id. column_same n levels q id (column_at columns id) (at id);
+  entry = λ id r is lt. entry_same n levels q id r (column_at columns id) (at id) is lt;
+  cost = λ id is. cost_same n levels q id (column_at columns id) (at id) is;
+}
+
+pub small_columns : (n levels : ℕ) (columns : List (Option Column)) (q : Program) → ((id : ℕ) → SameAt n levels q id (column_at columns id)) → AreSmall levels columns
+small_columns n levels columns q at = record {
+  costs = λ id. cost_small n levels q id (column_at columns id) (at id);
+  rows = λ id. level_there n levels q id (column_at columns id) (at id);
+}
+
+-- ---- lists
+
+pub length-listed : (n : ℕ) (f : ℕ → Option Column) → length (listed n f) ≡ n
+length-listed zero f = refl
+length-listed (suc n) f = length-append (listed n f) (f n ∷ []) ∙ (let h = length-listed n f in omega (arith, h))
+
+pub listed_at : (n i : ℕ) (f : ℕ → Option Column) → i < n → column_at (listed n f) i ≡ f i
+listed_at zero i f lt = absurd (omega arith)
+listed_at (suc n) i f lt = elim (last_or i n lt) [
+  | inl less ↦
+      let long = length-listed n f in
+      get_or_append_left (listed n f) (f n ∷ []) None i (omega (arith, long)) ∙ listed_at n i f less
+  | inr same ↦
+      let e : i - n ≡ 0 = omega (arith, same) in
+      get_or-append_right (listed n f) (f n ∷ []) n i None (length-listed n f) (omega (arith, same)) ∙ ap (column_at (f n ∷ [])) e ∙ ap f (sym same)
+]
+  where
+    last_or : (i n : ℕ) → i < suc n → (i < n) ⊎ (i ≡ n)
+    last_or i n h = grind arith
+
+pub past_at : (columns : List (Option Column)) (i : ℕ) → length columns ≤ i → column_at columns i ≡ None
+past_at columns i le = get_or-eq_default columns None le
+
+-- ---- entries
+
+pub level_entry : (n s l r : ℕ) → (if has_entry n s (Some l) r then pos 1 else pos 0) ≡ plus_entry n s l r
+level_entry n s l r = by_row (nat_lt r n) refl
+  where
+    by_row : (b : Bool) → nat_lt r n ≡ b → cond (cond (nat_lt r n) (has_player s r) (nat_eq l (r - n))) (pos 1) (pos 0) ≡ cond (nat_lt r n) (cond (has_player s r) (pos 1) (pos 0)) (cond (nat_eq r (n + l)) (pos 1) (pos 0))
+    by_row true e = rw e refl
+    by_row false e = let t : nat_eq l (r - n) ≡ nat_eq r (n + l) = same n l r e in rw e (rw t refl)
+      where
+        both : (n l r : ℕ) → n ≤ r → (nat_eq l (r - n) ≡ nat_eq r (n + l))
+        both n l r le = test (nat_eq r (n + l)) refl
+          where
+            test : (b : Bool) → nat_eq r (n + l) ≡ b → nat_eq l (r - n) ≡ nat_eq r (n + l)
+            test true e = let t : nat_eq l (r - n) ≡ true = grind (arith, nat_tests) in t ∙ sym e
+            test false e = let t : nat_eq l (r - n) ≡ false = grind (arith, nat_tests) in t ∙ sym e
+
+        same : (n l r : ℕ) → nat_lt r n ≡ false → nat_eq l (r - n) ≡ nat_eq r (n + l)
+        same n l r e = let le : n ≤ r = grind (arith, nat_tests) in both n l r le
+
+pub no_level_entry : (n s row r : ℕ) → r < n + row → (if has_entry n s None r then pos 1 else pos 0) ≡ plus_entry n s row r
+no_level_entry n s row r lt = by_row (nat_lt r n) refl
+  where
+    by_row : (b : Bool) → nat_lt r n ≡ b → cond (cond (nat_lt r n) (has_player s r) false) (pos 1) (pos 0) ≡ cond (nat_lt r n) (cond (has_player s r) (pos 1) (pos 0)) (cond (nat_eq r (n + row)) (pos 1) (pos 0))
+    by_row true e = rw e refl
+    by_row false e = let t : nat_eq r (n + row) ≡ false = grind (arith, nat_tests) in rw e (rw t refl)

@@ -1,0 +1,309 @@
+-- The columns of a stage, each under its number, are its program.
+use Rattle.std.proofs.Common.{◌≡◌, ◌⊎◌, ℕ, zero, suc, ◌+◌, ◌-◌, ◌<◌, ◌≤◌, ◌^◌, Bool, true, false, cond, ◌&&◌, IsTrue, List, [], ◌∷◌, ◌++◌, length, length-append, map, get_or, refl, sym, ap, ◌∙◌, subst, inl, inr, arith, nat_eq, nat_lt, if◌then◌else◌, ℤ, pos, ◌-ℤ◌, Option, Some, None, unsigned_abs}
+use Rattle.std.proofs.lemmas.Bool.Decides.{nat_tests}
+use Rattle.std.proofs.lemmas.Int.{ints}
+use Rattle.std.proofs.lemmas.List.{get_or-append_right, get_or_append_left}
+use Rattle.std.proofs.Math.Pow.{pow-lt, pow-sub-lt}
+use Rattle.std.specs.List.{AllByRecursion}
+use Rattle.std.specs.Option.{ForSome, is_some}
+use Rattle.definitions.specs.Coalitions.{singleton, grand_coalition}
+use Rattle.definitions.specs.Games.{Game, IsGame}
+use Rattle.definitions.specs.Certificates.{Level, LevelForm, LevelsForm, has_bound}
+use Rattle.definitions.specs.Programs.{Program}
+use Rattle.definitions.specs.declared.Family.{Family}
+use Rattle.separation.specs.Stage.{Column as StageColumn, signed, entry_of, earlier_of, doubled, settled_columns, further_column, no_column, column, is_imputations, is_further, stage_program}
+use Rattle.separation.specs.Kept.{column_entry, column_at, right_at, kept_program, AreSmall}
+use Rattle.separation.specs.Same.{IsSame, IsStage}
+use Rattle.separation.specs.Making.{listed, plain, minus, earlier_columns, whole_columns, single, bound, IsOuter, AreOuter, EndsOuter, inner_columns, AreWithin}
+use Rattle.separation.specs.declared.column.Column.{Column}
+use Rattle.separation.proofs.Slots.{SameAt, same_program, small_columns, length-listed, listed_at, past_at, level_entry, no_level_entry}
+use Rattle.separation.proofs.Outside.{has_column, decides}
+
+-- ---- the levels' coalitions
+
+all_pairs : {X Y : Type 0} (P : Y → Type 0) (f : X → Y) (Q : X → Type 0) (xs : List X) → ((x : X) → Q x → P (f x)) → AllByRecursion Q xs → AllByRecursion P (map f xs)
+all_pairs P f Q [] step h = tt
+all_pairs P f Q (x ∷ xs) step h = (step x h.0, all_pairs P f Q xs step h.1)
+
+all_join : {X : Type 0} (P : X → Type 0) (xs ys : List X) → AllByRecursion P xs → AllByRecursion P ys → AllByRecursion P (xs ++ ys)
+all_join P [] ys h k = k
+all_join P (x ∷ xs) ys h k = (h.0, all_join P xs ys h.1 k)
+
+all_weaken : {X : Type 0} (P Q : X → Type 0) (xs : List X) → ((x : X) → P x → Q x) → AllByRecursion P xs → AllByRecursion Q xs
+all_weaken P Q [] f h = tt
+all_weaken P Q (x ∷ xs) f h = (f x h.0, all_weaken P Q xs f h.1)
+
+-- a coalition of n players, in one of the first j levels
+abbrev IsEarlier : ℕ → ℕ → ℕ × ℕ → Type 0
+IsEarlier n j c = (c.0 < 2 ^ n) × (c.1 < j)
+
+earlier_all : (n k : ℕ) (levels : List Level) → AllByRecursion (AreWithin n) levels → AllByRecursion (IsEarlier n (k + length levels)) (earlier_of k levels)
+earlier_all n k [] h = tt
+earlier_all n k (l ∷ levels) h =
+    all_join (IsEarlier n (k + length (l ∷ levels))) (map (λ c. (c.0, k)) l.coalitions) (earlier_of (k + 1) levels)
+    (all_pairs (IsEarlier n (k + length (l ∷ levels))) (λ c. (c.0, k)) (λ c. c.0 < 2 ^ n) l.coalitions (λ c lt. (lt, omega arith)) h.0.coalitions)
+    (all_weaken (IsEarlier n ((k + 1) + length levels)) (IsEarlier n (k + length (l ∷ levels))) (earlier_of (k + 1) levels) (λ c e. (e.0, more k c.1 (length levels) e.1)) (earlier_all n (k + 1) levels h.1))
+  where
+    more : (k c j : ℕ) → c < (k + 1) + j → c < k + suc j
+    more k c j h = omega arith
+
+proper_within : (n : ℕ) (ps : List (ℕ × ℤ)) → AllByRecursion (λ c. (0 < c.0) × (c.0 < grand_coalition n)) ps → AllByRecursion (λ c. c.0 < 2 ^ n) ps
+proper_within n ps h = all_weaken (λ c. (0 < c.0) × (c.0 < grand_coalition n)) (λ c. c.0 < 2 ^ n) ps (λ c e. below (2 ^ n) c.0 e.1) h
+  where
+    below : (m s : ℕ) → s < m - 1 → s < m
+    below m s h = omega arith
+
+pub levels_within : (n : ℕ) (front levels : List Level) → LevelsForm n front levels → AllByRecursion (AreWithin n) levels
+levels_within n front [] h = tt
+levels_within n front (l ∷ levels) h = (record { coalitions = proper_within n l.coalitions h.0.proper }, levels_within n (front ++ l ∷ []) levels h.1)
+
+-- ---- columns, and those of the program
+
+-- a column is that of the program's table, and small
+record Like (g : Game) (k : ℕ) (c : Column) (sc : StageColumn) : Type 0 where
+  entry : (r : ℕ) → r < g.players + (k + 1) → column_entry g.players c r ≡ entry_of g.players sc r
+  cost : c.cost ≡ signed sc.minus (g.worth sc.mask)
+  small : unsigned_abs c.cost < 2 ^ 46
+  level : ForSome c.level (λ l. l < k + 1)
+
+abbrev Found : Game → ℕ → Option Column → StageColumn → Type 0
+Found g k None sc = ⊥
+Found g k (Some c) sc = Like g k c sc
+
+negated_small : (z : ℤ) → unsigned_abs z < 2 ^ 46 → unsigned_abs (pos 0 -ℤ z) < 2 ^ 46
+negated_small z h = omega (arith, ints)
+
+some_level : (l j : ℕ) → l < j → ForSome (Some l) (λ l. l < j)
+some_level l j h m e = subst (λ (t : ℕ). t < j) (inside l m e) h
+  where
+    or_zero : Option ℕ → ℕ
+    or_zero None = 0
+    or_zero (Some t) = t
+
+    inside : (l m : ℕ) → Some l ≡ Some m → l ≡ m
+    inside l m e = ap or_zero e
+
+no_level : (j : ℕ) → ForSome None (λ l. l < j)
+no_level j m e = absurd (none m e)
+  where
+    is_there : Option ℕ → Type 0
+    is_there None = Unit {0}
+    is_there (Some t) = ⊥
+
+    none : (m : ℕ) → None ≡ Some m → ⊥
+    none m e = subst is_there e tt
+
+plain_level : (g : Game) (k s l : ℕ) → IsGame g → s < 2 ^ g.players → l < k + 1 → Like g k (plain g s (Some l)) (record { mask = s; row = l; minus = false })
+plain_level g k s l game lt within = record {
+  entry = λ r h. level_entry g.players s l r;
+  cost = refl;
+  small = game.small s lt;
+  level = some_level l (k + 1) within;
+}
+
+minus_level : (g : Game) (k s l : ℕ) → IsGame g → s < 2 ^ g.players → l < k + 1 → Like g k (minus g s (Some l)) (record { mask = s; row = l; minus = true })
+minus_level g k s l game lt within = record {
+  entry = λ r h. ap (signed true) (level_entry g.players s l r);
+  cost = refl;
+  small = negated_small (g.worth s) (game.small s lt);
+  level = some_level l (k + 1) within;
+}
+
+plain_none : (g : Game) (k s : ℕ) → IsGame g → s < 2 ^ g.players → Like g k (plain g s None) (record { mask = s; row = k + 1; minus = false })
+plain_none g k s game lt = record {
+  entry = λ r h. no_level_entry g.players s (k + 1) r h;
+  cost = refl;
+  small = game.small s lt;
+  level = no_level (k + 1);
+}
+
+minus_none : (g : Game) (k s : ℕ) → IsGame g → s < 2 ^ g.players → Like g k (minus g s None) (record { mask = s; row = k + 1; minus = true })
+minus_none g k s game lt = record {
+  entry = λ r h. ap (signed true) (no_level_entry g.players s (k + 1) r h);
+  cost = refl;
+  small = negated_small (g.worth s) (game.small s lt);
+  level = no_level (k + 1);
+}
+
+earlier_found : (g : Game) (k : ℕ) (cs : List (ℕ × ℕ)) (j : ℕ) → IsGame g → AllByRecursion (IsEarlier g.players k) cs → j < length (doubled cs) → Found g k (column_at (earlier_columns g cs) j) (get_or (doubled cs) j no_column)
+earlier_found g k [] j game h lt = absurd (omega arith)
+earlier_found g k (c ∷ cs) zero game h lt = plain_level g k c.0 c.1 game h.0.0 (let e = h.0.1 in omega (arith, e))
+earlier_found g k (c ∷ cs) (suc zero) game h lt = minus_level g k c.0 c.1 game h.0.0 (let e = h.0.1 in omega (arith, e))
+earlier_found g k (c ∷ cs) (suc (suc j)) game h lt = earlier_found g k cs j game h.1 (omega arith)
+
+length-earlier : (g : Game) (cs : List (ℕ × ℕ)) → length (earlier_columns g cs) ≡ length (doubled cs)
+length-earlier g [] = refl
+length-earlier g (c ∷ cs) = ap (λ (t : ℕ). suc (suc t)) (length-earlier g cs)
+
+grand_within : (n : ℕ) → grand_coalition n < 2 ^ n
+grand_within n = let one : 0 < 1 = omega arith in pow-sub-lt n one
+
+module _ (family : Family) (g : Game) (front : List Level) (game : IsGame g) (within : AllByRecursion (AreWithin g.players) front) (outers : List (Option Column)) (are : AreOuter g front (2 ^ g.players) outers) where
+  abbrev n : ℕ
+  n = g.players
+
+  abbrev k : ℕ
+  k = length front
+
+  abbrev b : ℕ
+  b = length (settled_columns g.players front)
+
+  abbrev q : Program
+  q = stage_program family g front (has_column outers)
+
+  abbrev settled : List (Option Column)
+  settled = whole_columns g (grand_coalition g.players) ++ earlier_columns g (earlier_of 0 front)
+
+  length-settled : length settled ≡ b
+  length-settled = ap (λ (t : ℕ). suc (suc t)) (length-earlier g (earlier_of 0 front))
+
+  settled_found : (id : ℕ) → id < b → Found g k (column_at settled id) (get_or (settled_columns g.players front) id no_column)
+  settled_found zero lt = plain_none g k (grand_coalition g.players) game (grand_within g.players)
+  settled_found (suc zero) lt = minus_none g k (grand_coalition g.players) game (grand_within g.players)
+  settled_found (suc (suc j)) lt =
+      let e : 0 + length front ≡ length front = omega arith in
+      earlier_found g k (earlier_of 0 front) j game (subst (λ (t : ℕ). AllByRecursion (IsEarlier g.players t) (earlier_of 0 front)) e (earlier_all g.players 0 front within)) (omega arith)
+
+  from_settled : (id : ℕ) (o : Option Column) → id < b → Found g k o (get_or (settled_columns g.players front) id no_column) → SameAt n (k + 1) q id o
+  from_settled id None lt h = absurd h
+  from_settled id (Some c) lt h =
+      let t : nat_lt id b ≡ true = grind (arith, nat_tests) in
+      record { is_column = rw t refl; entry = rw t h.entry; cost = rw t h.cost; small = h.small; level = h.level }
+
+  abbrev FurtherAt : ℕ → Option Column → Type 0
+  FurtherAt i None = is_further family g.players front (has_column outers) i ≡ false
+  FurtherAt i (Some c) = (is_further family g.players front (has_column outers) i ≡ true) × Like g k c (further_column g.players k i)
+
+  from_further : (id : ℕ) (o : Option Column) → b ≤ id → FurtherAt (id - b) o → SameAt n (k + 1) q id o
+  from_further id None le h = let t : nat_lt id b ≡ false = grind (arith, nat_tests) in rw t h
+  from_further id (Some c) le h =
+      let t : nat_lt id b ≡ false = grind (arith, nat_tests) in
+      record { is_column = rw t h.0; entry = rw t h.1.entry; cost = rw t h.1.cost; small = h.1.small; level = h.1.level }
+
+  single_at : (i : ℕ) → i < n → FurtherAt i (single family g i)
+  single_at i lt = by_family (is_imputations family) refl
+    where
+      t : nat_lt i g.players ≡ true
+      t = grind (arith, nat_tests)
+
+      by_family : (x : Bool) → is_imputations family ≡ x → FurtherAt i (single family g i)
+      by_family true e = rw e (rw t (e, plain_none g k (singleton i) game (pow-lt lt)))
+      by_family false e = rw e (rw t e)
+
+  bound_at : (i : ℕ) → n ≤ i → i < n + n → FurtherAt i (bound family g front (i - n))
+  bound_at i le lt = by_test (is_imputations family && has_bound front (i - g.players)) refl
+    where
+      t : nat_lt i g.players ≡ false
+      t = grind (arith, nat_tests)
+
+      u : nat_lt i (g.players + g.players) ≡ true
+      u = grind (arith, nat_tests)
+
+      by_test : (x : Bool) → (is_imputations family && has_bound front (i - g.players)) ≡ x → FurtherAt i (bound family g front (i - n))
+      by_test true e = rw e (rw t (rw u (e, minus_none g k (singleton (i - g.players)) game (pow-lt (omega arith)))))
+      by_test false e = rw e (rw t (rw u e))
+
+  outer_at : (i : ℕ) → n + n ≤ i → (o : Option Column) → column_at outers (i - (n + n)) ≡ o → (IsOuter g front (i - (n + n)) o × (i - (n + n) < 2 ^ n)) ⊎ (o ≡ None) → FurtherAt i o
+  outer_at i le None is h =
+      let t : nat_lt i g.players ≡ false = grind (arith, nat_tests) in
+      let u : nat_lt i (g.players + g.players) ≡ false = grind (arith, nat_tests) in
+      rw t (rw u (ap is_some is))
+  outer_at i le (Some c) is (inl h) =
+      let t : nat_lt i g.players ≡ false = grind (arith, nat_tests) in
+      let u : nat_lt i (g.players + g.players) ≡ false = grind (arith, nat_tests) in
+      rw t (rw u (ap is_some is, subst (λ (x : Column). Like g k x (record { mask = i - (n + n); row = k; minus = false })) (sym h.0.1) (plain_level g k (i - (n + n)) k game h.1 (omega arith))))
+  outer_at i le (Some c) is (inr e) = absurd (subst is_there e tt)
+    where
+      is_there : Option Column → Type 0
+      is_there None = ⊥
+      is_there (Some x) = Unit {0}
+
+  outer_or : (s : ℕ) → (IsOuter g front s (column_at outers s) × (s < 2 ^ n)) ⊎ (column_at outers s ≡ None)
+  outer_or s = elim (within_or s (2 ^ n)) [
+    | inl lt ↦ inl (are.outer s lt, lt)
+    | inr le ↦ let long = are.count in inr (past_at outers s (omega (arith, long, le)))
+  ]
+    where
+      within_or : (s m : ℕ) → (s < m) ⊎ (m ≤ s)
+      within_or s m = grind arith
+
+  abbrev singles : List (Option Column)
+  singles = listed g.players (single family g)
+
+  abbrev bounds : List (Option Column)
+  bounds = listed g.players (bound family g front)
+
+  abbrev all : List (Option Column)
+  all = ((settled ++ singles) ++ bounds) ++ outers
+
+  length-two : length (settled ++ singles) ≡ b + n
+  length-two = length-append settled singles ∙ (let x = length-settled in let y = length-listed g.players (single family g) in omega (arith, x, y))
+
+  length-three : length ((settled ++ singles) ++ bounds) ≡ b + n + n
+  length-three = length-append (settled ++ singles) bounds ∙ (let x = length-two in let y = length-listed g.players (bound family g front) in omega (arith, x, y))
+
+  at_number : (id : ℕ) → SameAt n (k + 1) q id (column_at all id)
+  at_number id = elim (four id b n) [
+    | inl lt ↦
+        let e : column_at all id ≡ column_at settled id =
+          get_or_append_left ((settled ++ singles) ++ bounds) outers None id (let x = length-three in omega (arith, x, lt))
+          ∙ get_or_append_left (settled ++ singles) bounds None id (let x = length-two in omega (arith, x, lt))
+          ∙ get_or_append_left settled singles None id (let x = length-settled in omega (arith, x, lt)) in
+        subst (SameAt n (k + 1) q id) (sym e) (from_settled id (column_at settled id) lt (settled_found id lt))
+    | inr (inl h) ↦
+        let e : column_at all id ≡ single family g (id - b) =
+          get_or_append_left ((settled ++ singles) ++ bounds) outers None id (let x = length-three in omega (arith, x, h.1))
+          ∙ get_or_append_left (settled ++ singles) bounds None id (let x = length-two in omega (arith, x, h.1))
+          ∙ get_or-append_right settled singles b id None length-settled h.0
+          ∙ listed_at g.players (id - b) (single family g) (omega (arith, h.0, h.1)) in
+        subst (SameAt n (k + 1) q id) (sym e) (from_further id (single family g (id - b)) h.0 (single_at (id - b) (omega (arith, h.0, h.1))))
+    | inr (inr (inl h)) ↦
+        let d : id - (b + n) ≡ id - b - n = omega (arith, h.0) in
+        let e : column_at all id ≡ bound family g front (id - b - n) =
+          get_or_append_left ((settled ++ singles) ++ bounds) outers None id (let x = length-three in omega (arith, x, h.1))
+          ∙ get_or-append_right (settled ++ singles) bounds (b + n) id None length-two h.0
+          ∙ ap (column_at bounds) d
+          ∙ listed_at g.players (id - b - n) (bound family g front) (omega (arith, h.0, h.1)) in
+        subst (SameAt n (k + 1) q id) (sym e) (from_further id (bound family g front (id - b - n)) (omega (arith, h.0)) (bound_at (id - b) (omega (arith, h.0)) (omega (arith, h.0, h.1))))
+    | inr (inr (inr le)) ↦
+        let d : id - (b + n + n) ≡ id - b - (n + n) = omega (arith, le) in
+        let e : column_at all id ≡ column_at outers (id - b - (n + n)) =
+          get_or-append_right ((settled ++ singles) ++ bounds) outers (b + n + n) id None length-three le
+          ∙ ap (column_at outers) d in
+        subst (SameAt n (k + 1) q id) (sym e) (from_further id (column_at outers (id - b - (n + n))) (omega (arith, le)) (outer_at (id - b) (omega (arith, le)) (column_at outers (id - b - (n + n))) refl (outer_or (id - b - (n + n)))))
+  ]
+    where
+      four : (id b n : ℕ) → (id < b) ⊎ (((b ≤ id) × (id < b + n)) ⊎ (((b + n ≤ id) × (id < b + n + n)) ⊎ (b + n + n ≤ id)))
+      four id b n = elim (less_or id b) [
+        | inl lt ↦ inl lt
+        | inr le ↦ elim (less_or id (b + n)) [
+          | inl lt ↦ inr (inl (le, lt))
+          | inr le' ↦ elim (less_or id (b + n + n)) [
+            | inl lt ↦ inr (inr (inl (le', lt)))
+            | inr le'' ↦ inr (inr (inr le''))
+          ]
+        ]
+      ]
+        where
+          less_or : (i m : ℕ) → (i < m) ⊎ (m ≤ i)
+          less_or i m = grind arith
+
+  right_same : (r : ℕ) → right_at n (k + 1) r ≡ q.right r
+  right_same r = by_row (nat_eq r (g.players + length front)) refl
+    where
+      none : nat_eq (length front + 1) 0 ≡ false
+      none = grind (arith, nat_tests)
+
+      by_row : (x : Bool) → nat_eq r (g.players + length front) ≡ x → right_at n (k + 1) r ≡ q.right r
+      by_row true e = let t : nat_eq (r + 1) (g.players + (length front + 1)) ≡ true = grind (arith, nat_tests) in rw none (rw t (rw e refl))
+      by_row false e = let t : nat_eq (r + 1) (g.players + (length front + 1)) ≡ false = grind (arith, nat_tests) in rw none (rw t (rw e refl))
+
+  pub stage_of : IsStage family g front (kept_program g.players (length front + 1) (inner_columns family g front ++ outers))
+  stage_of = record {
+    outside = has_column outers;
+    decides = decides g front outers are;
+    same = same_program n (k + 1) all q refl (λ r lt. right_same r) at_number;
+  }
+
+  pub stage_small : AreSmall (length front + 1) (inner_columns family g front ++ outers)
+  stage_small = small_columns n (k + 1) all q at_number

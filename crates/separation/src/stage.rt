@@ -1,0 +1,108 @@
+//! The stage programs of the nucleolus.
+
+ghost use Rattle.std.specs.Prelude.{◌≡◌, ◌+◌, ◌<◌, ◌≤◌, ◌^◌, ◌++◌, length, IfOk, OnOk};
+ghost use Rattle.std.specs.List.{AllByRecursion};
+ghost use Rattle.definitions.specs.Certificates.{HasForm};
+ghost use Rattle.definitions.specs.declared.Mode.{Mode};
+ghost use Rattle.separation.specs.Kept.{AreSmall};
+ghost use Rattle.separation.specs.Same.{IsSpanOf, IsStage};
+ghost use Rattle.separation.specs.Making.{AreWithin, IsOuter, EndsOuter, inner_columns};
+
+use crate::column::Column;
+use crate::earlier::{plain, push_bounds, push_earlier, push_singles, push_whole};
+use crate::listed::Listed;
+use coalitions::Coalition;
+use fractions::OutOfMemory;
+use kohlberg::{Family, Level, Span};
+use simplex::Columns;
+use std::alloc::{AllocError, Global};
+use worth_core::Worth;
+
+/// The column of a coalition, where it is outside.
+fn outer<W: Worth>(game: &W, levels: &[Level], span: &Span, s: Coalition) -> Option<Column>
+    requires few { length levels.now ≤ 16 }
+    requires within { s < 2 ^ (W.game game.now).players }
+    requires players { span.now.players ≡ (W.game game.now).players }
+    requires spans { IsSpanOf (W.game game.now).players span.now.kept levels.now }
+    ensures { IsOuter (W.game game.now) levels.now s result }
+{
+    if span.holds(s) {
+        None
+    } else {
+        Some(plain(game, s, Some(levels.len() as u32)))
+    }
+}
+
+/// Adds the columns of the coalitions outside, each under its mask.
+fn push_outer<W: Worth>(
+    columns: &mut Vec<Option<Column>>,
+    game: &W,
+    levels: &[Level],
+    span: &Span,
+) -> Result<(), AllocError>
+    requires few_players { (W.game game.now).players ≤ 16 }
+    requires few { length levels.now ≤ 16 }
+    requires players { span.now.players ≡ (W.game game.now).players }
+    requires spans { IsSpanOf (W.game game.now).players span.now.kept levels.now }
+    ensures { OnOk result (EndsOuter (W.game game.now) levels.now (2 ^ (W.game game.now).players) columns.old.items columns.new.items) }
+{
+    for s in 0..1u64 << game.players() {
+        columns.push(outer(game, levels, span, Coalition(s)))?;
+    }
+    Ok(())
+}
+
+/// The columns of a stage, each under its number.
+fn stage_columns<W: Worth>(
+    alloc: Global,
+    game: &W,
+    family: Family,
+    levels: &[Level],
+    span: &Span,
+) -> Result<Vec<Option<Column>>, AllocError>
+    requires few_players { (W.game game.now).players ≤ 16 }
+    requires few { length levels.now ≤ 16 }
+    requires within { AllByRecursion (AreWithin (W.game game.now).players) levels.now }
+    requires players { span.now.players ≡ (W.game game.now).players }
+    requires spans { IsSpanOf (W.game game.now).players span.now.kept levels.now }
+    ensures { IfOk result (λ v. EndsOuter (W.game game.now) levels.now (2 ^ (W.game game.now).players) (inner_columns family (W.game game.now) levels.now) v.items) }
+{
+    let mut columns = Vec::new(alloc);
+    push_whole(&mut columns, game)?;
+    push_earlier(&mut columns, game, levels)?;
+    push_singles(&mut columns, game, family)?;
+    push_bounds(&mut columns, game, family, levels)?;
+    push_outer(&mut columns, game, levels, span)?;
+    Ok(columns)
+}
+
+impl Listed {
+    /// The stage program of a game of 2 to 16 players behind levels, with every column kept (Kopelowitz 1967): its weights
+    /// are those of the next level, and its multipliers the shares and the excesses of the levels.
+    ///
+    /// There are at most n - 2 levels, in the form of a certificate. `span` holds exactly the coalitions of whose vector a
+    /// nonzero multiple is an integer sum of the vectors that the levels fix. The one error is want of memory.
+    pub fn stage<W: Worth>(
+        alloc: Global,
+        game: &W,
+        family: Family,
+        levels: &[Level],
+        span: &Span,
+    ) -> Result<Listed, OutOfMemory>
+        requires few { (W.game game.now).players ≤ 16 }
+        requires form { HasForm Mode.Span (W.game game.now).players levels.now }
+        requires count { length levels.now + 2 ≤ (W.game game.now).players }
+        requires players { span.now.players ≡ (W.game game.now).players }
+        requires spans { IsSpanOf (W.game game.now).players span.now.kept levels.now }
+        ensures { IfOk result (λ l. (⟦<Listed as Columns>⟧.players l ≡ (W.game game.now).players)
+            × IsStage family (W.game game.now) levels.now (⟦<Listed as Columns>⟧.program l)) }
+    {
+        match stage_columns(alloc, game, family, levels, span) {
+            Ok(columns) => {
+                let players = game.players();
+                Ok(Listed::of(players, levels.len() as u32 + 1, columns))
+            }
+            Err(_) => Err(OutOfMemory),
+        }
+    }
+}
