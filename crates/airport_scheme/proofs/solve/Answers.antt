@@ -26,7 +26,7 @@ unwrap-certificate-requires c =
     let laws = c.in_ok-paid.ensures.laws in
     let levels = c.in_ok-levels.levels.items in
     let new = rw c.len.ensures.count at c.new-2.ensures in
-    is_ok (HasForm Players (length a.costs) levels) (λ d. (d ≡ record { players = length a.costs; mode = Players; levels = levels }) × HasForm Players (length a.costs) levels) c.new-2.result new (levels-formed a laws (pay_at c.in_ok-paid.paid.pay.items) c.in_ok-paid.paid.den levels (c.in_ok-levels.ensures {u = tt}))
+    is_ok (HasForm Players (length a.costs) levels) (λ d. (d ≡ record { players = length a.costs; mode = Players; levels = levels }) × HasForm Players (length a.costs) levels) c.new-2.result new (levels-formed a laws (pay_at c.in_ok-paid.paid.pay.items) c.in_ok-paid.paid.den levels (c.in_ok-levels.ensures.levels))
 
 pub returns : goal.returns
 returns c =
@@ -37,4 +37,7 @@ returns c =
     let num = rw c.deref.ensures.value at (c.in_ok-num.ensures {u = tt}) in
     let shares = rw (den, c.unwrap-shares.ensures) at c.new.ensures in
     let certificate = rw (c.len.ensures.count, c.unwrap-certificate.ensures) at c.new-2.ensures in
-    solved c.args.game.now c.in_ok-paid.ensures.laws c.in_ok-paid.paid.pay.items c.in_ok-num.num.items c.in_ok-paid.paid.den c.unwrap-shares.result c.in_ok-levels.levels.items c.unwrap-certificate.result payment num shares.0 (c.in_ok-levels.ensures {u = tt}) certificate.0
+    record {
+      solved = solved c.args.game.now c.in_ok-paid.ensures.laws c.in_ok-paid.paid.pay.items c.in_ok-num.num.items c.in_ok-paid.paid.den c.unwrap-shares.result c.in_ok-levels.levels.items c.unwrap-certificate.result payment num shares.0 (c.in_ok-levels.ensures.levels) certificate.0;
+      lowest = rw certificate.0 c.in_ok-levels.ensures.lowest;
+    }

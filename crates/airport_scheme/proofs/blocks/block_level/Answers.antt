@@ -29,8 +29,8 @@ less_one n h = rw (to_z_pos w128 n (omega (arith, h))) (cast_kept w128 (pos n -�
 excess_is : (r p d num den : ℤ) → r ≡ p → num *ℤ den ≡ neg_ℤ r *ℤ d → neg_ℤ p *ℤ d ≡ num *ℤ den
 excess_is r p d num den e h = rw (← e) (sym h)
 
-pub returns : goal.returns
-returns c =
+pub returns-clause-block : goal.returns-clause-block
+returns-clause-block c =
     let lt : c.args.i < length c.args.paid.now.pay.items = omega (arith, c.requires.two, c.requires.payment.long) in
     let small = small_at c.args.paid.now.pay.items c.args.i c.index.result.now lt c.requires.payment.small c.index.ensures in
     let same = read c.args.paid.now.pay.items c.args.i c.index.result.now lt c.index.ensures in
