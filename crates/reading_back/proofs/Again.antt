@@ -15,7 +15,7 @@ use Rattle.game_text.specs.Shares.{is_share, written_shares, fraction_or_zero, a
 use Rattle.game_text.specs.Trees.{parts_at}
 use Rattle.game_text.proofs.LeastDenominators.{least_denominator_is}
 use Rattle.reading_back.specs.ReadBack.{IsAgain, AreReadBack}
-use Rattle.reading_back.specs.ShareLists.{as_printed, printed_share, share_data}
+use Rattle.report.specs.ShareLists.{as_printed, printed_share, share_data}
 use Rattle.reading_back.proofs.OverLeast.{same_value, no_larger, all_reduced, least_below, divides_least}
 use Rattle.reading_back.proofs.ShareTexts.{printed_ratio, shares_read, all_shares}
 use Rattle.reading_back.proofs.Signs.{printed_size, printed_twice, printed_times, worth_share, worth_length, worth_denominator}

@@ -7,3 +7,4 @@ pub mod SameShares
 pub mod SameLevels
 pub mod ScaledLists
 pub mod SameNucleolus
+pub mod CoalitionTexts

@@ -7,7 +7,7 @@ use Rattle.fractions.specs.Fraction.{Fraction, IsRatio}
 use Rattle.fractions.proofs.Cancel.{cancel, quot_exact}
 use Rattle.fractions.proofs.Divisors.{gcd_positive, right_quotient}
 use Rattle.fractions.proofs.LowestTerms.{lowest, lowest_is}
-use Rattle.reading_back.specs.ShareLists.{in_lowest_terms}
+use Rattle.report.specs.ShareLists.{in_lowest_terms}
 
 pub apart : (d : ℤ) → pos 1 ≤ℤ d → d ≢ pos 0
 apart d h e = omega (arith, ints)

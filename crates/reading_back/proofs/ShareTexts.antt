@@ -14,7 +14,7 @@ use Rattle.fractions.proofs.WrittenFractions.{read_back}
 use Rattle.game_text.specs.Shape.{is_member}
 use Rattle.game_text.specs.Shares.{share_of, is_share, fraction_or_zero}
 use Rattle.game_text.specs.Trees.{listed}
-use Rattle.reading_back.specs.ShareLists.{as_printed, printed_share, share_data}
+use Rattle.report.specs.ShareLists.{as_printed, printed_share, share_data}
 use Rattle.reading_back.proofs.LowestTerms.{lowest_ratio}
 use Rattle.reading_back.proofs.OverLeast.{divides, size_positive, no_greater}
 use Rattle.reading_back.proofs.Signs.{printed_size}

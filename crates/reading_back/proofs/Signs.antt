@@ -4,7 +4,7 @@ use Rattle.std.proofs.lemmas.List.{get_or-map, length-map}
 use Rattle.definitions.proofs.Ring.{neg-mulℤ}
 use Rattle.definitions.specs.Games.{Allocation, share}
 use Rattle.game_text.specs.Shares.{as_worth}
-use Rattle.reading_back.specs.ShareLists.{as_printed}
+use Rattle.report.specs.ShareLists.{as_printed}
 use lib.IntN.{neg_ℤ-neg_ℤ}
 
 turned_size : (z : ℤ) → unsigned_abs (neg_ℤ z) ≡ unsigned_abs z

@@ -1,3 +1,2 @@
-pub mod ShareLists
 pub mod ReadBack
 pub mod SameShares

@@ -9,7 +9,7 @@ use Rattle.game_text.specs.Denominators.{is_coarse, over_least}
 use Rattle.game_text.specs.Shape.{is_member}
 use Rattle.game_text.specs.Shares.{has_share_numbers, has_shares_for, written_shares, as_worth}
 use Rattle.game_text.specs.Trees.{is_array_of, parts, parts_at}
-use Rattle.reading_back.specs.ShareLists.{printed_share, share_data, share_list}
+use Rattle.report.specs.ShareLists.{printed_share, share_data, share_list}
 
 -- a printed list has the kind of a list of shares, and its parts are the texts of the shares
 abbrev pub ShareListsAreArrays : Type 0
