@@ -1,11 +1,10 @@
 -- The members of a coalition, printed by number, are read as its mask.
-use Rattle.std.proofs.Common.{◌≡◌, ℕ, zero, suc, ◌+◌, ◌-◌, ◌*◌, ◌/◌, ◌%◌, ◌^◌, ◌<◌, ◌≤◌, Bool, true, false, List, [], ◌∷◌, ◌++◌, map, Option, Some, None, option_map, option_and_then, pos, nat_lt, nat_le, if◌then◌else◌, ◌&&◌, refl, sym, ap, subst, ◌∙◌, arith, add-one, add_comm, add-zero, le_refl, mod-eq_of_lt}
+use Rattle.std.proofs.Common.{◌≡◌, ℕ, zero, suc, ◌+◌, ◌-◌, ◌*◌, ◌%◌, ◌^◌, ◌<◌, ◌≤◌, Bool, true, false, List, [], ◌∷◌, ◌++◌, map, Some, None, option_map, option_and_then, pos, nat_lt, nat_le, if◌then◌else◌, ◌&&◌, refl, sym, ap, subst, ◌∙◌, arith, add-one, add_comm, add-zero, le_refl, mod-eq_of_lt}
 use Rattle.std.proofs.lemmas.Bool.{and_from, lt-ltb, le-leb}
 use Rattle.std.proofs.lemmas.Bool.Decides.{nat_tests}
 use Rattle.std.proofs.lemmas.Nat.{mod-pow-add}
 use Rattle.std.proofs.lemmas.Nat.Bits.{bit_at-lt}
 use Rattle.std.specs.Int.{bit_at}
-use Rattle.serde_json.specs.Data.{Data}
 use Rattle.definitions.specs.Coalitions.{has_player, members}
 use Rattle.definitions.proofs.Members.{members-zero, members-more_yes, members-more_no}
 use Rattle.definitions.proofs.Parts.{has_player-past}

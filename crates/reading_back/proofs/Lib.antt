@@ -8,3 +8,6 @@ pub mod SameLevels
 pub mod ScaledLists
 pub mod SameNucleolus
 pub mod CoalitionTexts
+pub mod WeightTexts
+pub mod LevelTrees
+pub mod CertificateTrees

@@ -1,8 +1,9 @@
-//! What is printed of shares is read back as the same shares. Each function's contract is a theorem, and its body is
-//! empty.
+//! What is printed of shares is read back as the same shares, and what is printed of a certificate as that certificate.
+//! Each function's contract is a theorem, and its body is empty.
 #![tactic(auto)]
 
 ghost use Rattle.reading_back.specs.ReadBack.{SharesAreReadBack, ShareListsAreArrays};
+ghost use Rattle.reading_back.specs.CertificatesReadBack.{CertificatesAreReadBack};
 ghost use Rattle.reading_back.specs.SameShares.{SameSharesStayInTheFamily, SameSharesCertify, SameSharesAreTheNucleolus};
 
 /// A printed list of shares is an array of texts.
@@ -13,6 +14,11 @@ pub fn share_lists_are_arrays()
 /// The shares of a printed list are read as the shares that were printed, over their least common denominator.
 pub fn shares_are_read_back()
     ensures { SharesAreReadBack }
+{}
+
+/// A printed certificate is read as the certificate that was printed, where each level's excess is in lowest terms.
+pub fn certificates_are_read_back()
+    ensures { CertificatesAreReadBack }
 {}
 
 /// An imputation's shares over another denominator are an imputation, and a preimputation's a preimputation.

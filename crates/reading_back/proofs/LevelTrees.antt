@@ -1,0 +1,77 @@
+-- A level that was printed is read as that level.
+use Rattle.std.proofs.Common.{◌≡◌, ℕ, ◌≤◌, Bool, true, ◌&&◌, List, Option, Some, ℤ, pos, codes, refl, ap, ◌∙◌}
+use Rattle.std.specs.Prelude.{is_some, unwrap_or}
+use Rattle.std.specs.List.{list_all, AllByRecursion}
+use Rattle.std.proofs.lemmas.Bool.{and_from}
+use Rattle.serde_json.specs.Find.{get}
+use Rattle.definitions.specs.Certificates.{Level, IsSmall}
+use Rattle.fractions.specs.Fraction.{Fraction}
+use Rattle.fractions.proofs.WrittenFractions.{read_back}
+use Rattle.game_text.specs.Trees.{keys, passes, parts_at, is_number, is_text, is_array_of}
+use Rattle.game_text.specs.CertificateShape.{is_level_key, is_level, is_weighted_coalition, is_weighted_player}
+use Rattle.game_text.specs.Shares.{share_of, is_share}
+use Rattle.game_text.specs.Levels.{level_of, weighted_coalition, weighted_player}
+use Rattle.game_text.specs.Certificates.{is_integer, is_written, lists_coalition, lists_player}
+use Rattle.report.specs.Certificates.{coalition_pair, bound_pair, excess_of, level_tree}
+use Rattle.report.specs.Values.{fraction_data}
+use Rattle.reading_back.specs.CertificatesReadBack.{HasLowestExcess}
+use Rattle.reading_back.proofs.WeightTexts.{IsWeighted, IsBound, weight_read, coalition_pair_read, coalition_pair_listed, coalition_pair_shaped, bound_pair_read, bound_pair_listed, bound_pair_shaped, all_read, all_pass, every_pass}
+
+-- what makes a level of n players one that is read back
+pub record IsReadable (n : ℕ) (l : Level) : Type 0 where
+  pub excess : HasLowestExcess l
+  pub coalitions : AllByRecursion (IsWeighted n) l.coalitions
+  pub earlier : AllByRecursion (IsWeighted n) l.earlier
+  pub bounds : AllByRecursion (IsBound n) l.bounds
+  pub total : IsSmall l.total
+
+excess_read : (l : Level) → HasLowestExcess l → share_of (fraction_data (excess_of l)) ≡ Some (excess_of l)
+excess_read l h = read_back (excess_of l) h.reduced h.fits
+
+-- ---- the level
+
+abbrev level : Fraction → List (ℕ × ℤ) → List (ℕ × ℤ) → List (ℕ × ℤ) → ℤ → Level
+level f cs es bs z = record { excess_num = f.num; excess_den = f.den; coalitions = cs; earlier = es; bounds = bs; total = z }
+
+pub level_read : (n : ℕ) → n ≤ 64 → (l : Level) → IsReadable n l → level_of n (level_tree l) ≡ l
+level_read n m l h =
+    let f = ap (λ (o : Option Fraction). unwrap_or o (record { num = pos 0; den = pos 1 })) (excess_read l h.excess) in
+    let cs = all_read (IsWeighted n) coalition_pair (weighted_coalition n) (coalition_pair_read n m) l.coalitions h.coalitions in
+    let es = all_read (IsWeighted n) coalition_pair (weighted_coalition n) (coalition_pair_read n m) l.earlier h.earlier in
+    let bs = all_read (IsBound n) bound_pair (weighted_player n) (bound_pair_read n m) l.bounds h.bounds in
+    let z = ap (λ (o : Option ℤ). unwrap_or o (pos 0)) (weight_read l.total h.total) in
+    ap (λ g. level g (level_of n (level_tree l)).coalitions (level_of n (level_tree l)).earlier (level_of n (level_tree l)).bounds (level_of n (level_tree l)).total) f
+    ∙ ap (λ ps. level (excess_of l) ps (level_of n (level_tree l)).earlier (level_of n (level_tree l)).bounds (level_of n (level_tree l)).total) cs
+    ∙ ap (λ ps. level (excess_of l) l.coalitions ps (level_of n (level_tree l)).bounds (level_of n (level_tree l)).total) es
+    ∙ ap (λ ps. level (excess_of l) l.coalitions l.earlier ps (level_of n (level_tree l)).total) bs
+    ∙ ap (λ t. level (excess_of l) l.coalitions l.earlier l.bounds t) z
+
+-- ---- its tests
+
+five : (a b c d e : Bool) → a ≡ true → b ≡ true → c ≡ true → d ≡ true → e ≡ true → (a && b && c && d && e) ≡ true
+five a b c d e p q r s t = and_from (a && b && c && d) e (and_from (a && b && c) d (and_from (a && b) c (and_from a b p q) r) s) t
+
+pub level_written : (n : ℕ) → n ≤ 64 → (l : Level) → IsReadable n l → is_written n (level_tree l) ≡ true
+level_written n m l h =
+    let d = level_tree l in
+    five (passes is_share (get (codes "excess") d)) (list_all (lists_coalition n) (parts_at (codes "coalitions") d)) (list_all (lists_coalition n) (parts_at (codes "earlier") d))
+    (list_all (lists_player n) (parts_at (codes "bounds") d)) (passes is_integer (get (codes "total") d))
+    (ap is_some (excess_read l h.excess))
+    (all_pass (IsWeighted n) coalition_pair (lists_coalition n) (coalition_pair_listed n m) l.coalitions h.coalitions)
+    (all_pass (IsWeighted n) coalition_pair (lists_coalition n) (coalition_pair_listed n m) l.earlier h.earlier)
+    (all_pass (IsBound n) bound_pair (lists_player n) (bound_pair_listed n m) l.bounds h.bounds)
+    (ap is_some (weight_read l.total h.total))
+
+pub level_shaped : (l : Level) → is_level (level_tree l) ≡ true
+level_shaped l =
+    let d = level_tree l in
+    and_from (list_all is_level_key (keys d) && passes (is_array_of is_weighted_player) (get (codes "bounds") d) && passes (is_array_of is_weighted_coalition) (get (codes "coalitions") d) && passes (is_array_of is_weighted_coalition) (get (codes "earlier") d) && passes is_text (get (codes "excess") d))
+    (passes is_number (get (codes "total") d))
+    (five (list_all is_level_key (keys d)) (passes (is_array_of is_weighted_player) (get (codes "bounds") d)) (passes (is_array_of is_weighted_coalition) (get (codes "coalitions") d)) (passes (is_array_of is_weighted_coalition) (get (codes "earlier") d))
+    (passes is_text (get (codes "excess") d))
+    refl
+    (every_pass bound_pair is_weighted_player bound_pair_shaped l.bounds)
+    (every_pass coalition_pair is_weighted_coalition coalition_pair_shaped l.coalitions)
+    (every_pass coalition_pair is_weighted_coalition coalition_pair_shaped l.earlier)
+    refl)
+    refl
