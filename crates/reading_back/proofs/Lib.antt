@@ -11,3 +11,5 @@ pub mod CoalitionTexts
 pub mod WeightTexts
 pub mod LevelTrees
 pub mod CertificateTrees
+pub mod AcceptedGames
+pub mod NucleolusTrees

@@ -1,3 +1,4 @@
 pub mod ReadBack
 pub mod CertificatesReadBack
+pub mod DocumentsReadBack
 pub mod SameShares

@@ -1,9 +1,11 @@
-//! What is printed of shares is read back as the same shares, and what is printed of a certificate as that certificate.
-//! Each function's contract is a theorem, and its body is empty.
+//! What is printed of shares is read back as the same shares, what is printed of a certificate as that certificate, and
+//! what is printed of a nucleolus as a document of its game, with its family, its shares and its certificate. Each
+//! function's contract is a theorem, and its body is empty.
 #![tactic(auto)]
 
 ghost use Rattle.reading_back.specs.ReadBack.{SharesAreReadBack, ShareListsAreArrays};
 ghost use Rattle.reading_back.specs.CertificatesReadBack.{CertificatesAreReadBack};
+ghost use Rattle.reading_back.specs.DocumentsReadBack.{PrintedNucleolusIsADocument};
 ghost use Rattle.reading_back.specs.SameShares.{SameSharesStayInTheFamily, SameSharesCertify, SameSharesAreTheNucleolus};
 
 /// A printed list of shares is an array of texts.
@@ -19,6 +21,12 @@ pub fn shares_are_read_back()
 /// A printed certificate is read as the certificate that was printed, where each level's excess is in lowest terms.
 pub fn certificates_are_read_back()
     ensures { CertificatesAreReadBack }
+{}
+
+/// What is printed of the nucleolus or the prenucleolus of a game is not refused where it is checked, and is read with the
+/// same game, family and certificate, and with the same shares, perhaps over another denominator.
+pub fn printed_nucleolus_is_a_document()
+    ensures { PrintedNucleolusIsADocument }
 {}
 
 /// An imputation's shares over another denominator are an imputation, and a preimputation's a preimputation.

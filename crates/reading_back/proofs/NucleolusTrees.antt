@@ -1,0 +1,119 @@
+-- A nucleolus that was printed is read with its game, its family, its shares and its certificate.
+use Rattle.std.proofs.Common.{◌≡◌, length, map, Bool, true, ◌&&◌, Option, Some, None, codes, refl, sym, ap, ◌∙◌, subst}
+use Rattle.std.specs.Prelude.{is_some, unwrap_or}
+use Rattle.std.specs.List.{list_all}
+use Rattle.std.proofs.lemmas.Bool.{and_from}
+use Rattle.serde_json.specs.Data.{Data}
+use Rattle.serde_json.specs.Find.{get}
+use Rattle.definitions.specs.Games.{Allocation, IsShares}
+use Rattle.definitions.specs.declared.Family.{Family}
+use Rattle.definitions.specs.declared.Family.TheVariants.{Imputations, Preimputations}
+use Rattle.kohlberg.specs.Certificate.{CertificateData, IsCertificate}
+use Rattle.game_text.specs.Trees.{keys, passes, parts_at}
+use Rattle.game_text.specs.CertificateShape.{family_of, is_certificate}
+use Rattle.game_text.specs.Shape.{is_document_key, is_game_shaped, has_shares, has_needed, is_shaped}
+use Rattle.game_text.specs.Limits.{players, has_players, has_numbers}
+use Rattle.game_text.specs.Names.{has_names}
+use Rattle.game_text.specs.Coalitions.{has_coalitions}
+use Rattle.game_text.specs.Descriptions.{game_of, is_cost, description_of}
+use Rattle.game_text.specs.Shares.{has_share_numbers, has_shares_for, written_shares, as_worth, shares_of}
+use Rattle.game_text.specs.Denominators.{is_coarse, over_least}
+use Rattle.game_text.specs.Certificates.{has_form, certificate_of}
+use Rattle.game_text.specs.Documents.{contents_of, game_tree}
+use Rattle.game_text.specs.Refusals.{unless, is_covered, certificate_refusal, needed_refusal, late_refusal, tree_refusal}
+use Rattle.game_text.specs.declared.command.Command.{Command}
+use Rattle.game_text.specs.declared.command.Command.TheVariants.{Check}
+use Rattle.game_text.specs.declared.refusal.Refusal.{Refusal}
+use Rattle.game_text.specs.declared.refusal.Refusal.TheVariants.{Shape, Players, Number, Names, Coalition, Estate, Proposal, TooFine, Certificate}
+use Rattle.report.specs.Certificates.{certificate_tree}
+use Rattle.report.specs.ShareLists.{share_data}
+use Rattle.report.specs.Lines.{nucleolus_tree}
+use Rattle.reading_back.specs.ReadBack.{IsAgain, AreReadBack}
+use Rattle.reading_back.specs.CertificatesReadBack.{AreInLowestTerms, IsReadAs}
+use Rattle.reading_back.specs.DocumentsReadBack.{IsReadOf}
+use Rattle.reading_back.proofs.ShareTexts.{listed_items, listed_members}
+use Rattle.reading_back.proofs.Again.{are_read_back}
+use Rattle.reading_back.proofs.CertificateTrees.{certificate_read}
+use Rattle.reading_back.proofs.AcceptedGames.{IsAccepted, accepted, players_described}
+
+go_on : (b : Bool) (r : Refusal) (rest : Option Refusal) → b ≡ true → rest ≡ None → unless b r rest ≡ None
+go_on b r rest e h = ap (λ t. unless t r rest) e ∙ h
+
+module _ (family : Family) (game : Data) (b : Bool) (x : Allocation) (c : CertificateData) where
+  abbrev printed : Data
+  printed = nucleolus_tree family game b x c
+
+  family_read : family_of printed ≡ Some family
+  family_read = named family
+    where
+      named : (f : Family) → family_of (nucleolus_tree f game b x c) ≡ Some f
+      named Imputations = refl
+      named Preimputations = refl
+
+  shares_written : parts_at (codes "shares") printed ≡ map (share_data b x.den) x.shares
+  shares_written = listed_items (map (share_data b x.den) x.shares)
+
+  module _ (accept : IsAccepted game) (shares : AreReadBack b x printed) (read : IsReadAs c (certificate_tree c)) (each : length x.shares ≡ players game) (same : c.players ≡ players game) where
+    needed : has_needed Check printed ≡ true
+    needed =
+        and_from (has_shares printed && is_some (family_of printed)) (passes is_certificate (get (codes "certificate") printed))
+        (and_from (has_shares printed) (is_some (family_of printed)) (listed_members b x.den x.shares) (ap is_some family_read)) read.shaped
+
+    shaped : is_shaped Check printed ≡ true
+    shaped =
+        and_from (list_all is_document_key (keys printed) && passes is_game_shaped (get (codes "game") printed)) (has_needed Check printed)
+        (and_from (list_all is_document_key (keys printed)) (passes is_game_shaped (get (codes "game") printed)) refl accept.shaped) needed
+
+    certified : certificate_refusal Check game printed ≡ None
+    certified =
+        go_on (passes (has_form (players game)) (get (codes "certificate") printed)) Certificate None
+        (subst (λ n. has_form n (certificate_tree c) ≡ true) same read.formed) refl
+
+    proposed : needed_refusal Check game printed ≡ None
+    proposed =
+        let rest = certificate_refusal Check game printed in
+        go_on (has_shares_for (players game) printed) Proposal (unless (is_coarse (written_shares printed)) TooFine rest)
+        (subst (λ n. has_shares_for n printed ≡ true) each shares.enough) (go_on (is_coarse (written_shares printed)) TooFine rest shares.coarse certified)
+
+    late : late_refusal Check game printed ≡ None
+    late =
+        let rest = needed_refusal Check game printed in
+        let estate = unless (is_covered (description_of game)) Estate rest in
+        go_on (has_names game) Names (unless (has_coalitions game) Coalition estate) accept.names
+        (go_on (has_coalitions game) Coalition estate accept.coalitions (go_on (is_covered (description_of game)) Estate rest accept.covered proposed))
+
+    pub not_refused : tree_refusal Check printed ≡ None
+    not_refused =
+        let numbers = has_numbers game && has_share_numbers printed in
+        let number = unless numbers Number (late_refusal Check game printed) in
+        go_on (is_shaped Check printed) Shape (unless (has_players game) Players number) shaped
+        (go_on (has_players game) Players number accept.players
+        (go_on numbers Number (late_refusal Check game printed) (and_from (has_numbers game) (has_share_numbers printed) accept.numbers shares.numbers) late))
+
+    certificate : certificate_of (players game) (certificate_tree c) ≡ c
+    certificate = ap (λ n. certificate_of n (certificate_tree c)) (sym same) ∙ read.same
+
+    pub contents : b ≡ is_cost (description_of game) → IsReadOf family game x c (contents_of Check printed)
+    contents e = record {
+      game = refl;
+      tree = refl;
+      family = ap (λ o. Some (unwrap_or o Imputations)) family_read;
+      shares = (shares_of game printed, refl, subst (λ t. IsAgain x (as_worth t (over_least (written_shares printed)))) e shares.again);
+      certificate = ap Some certificate;
+    }
+
+pub printed_is_read : (command : Command) (document : Data) (family : Family) (x : Allocation) (c : CertificateData)
+    → tree_refusal command document ≡ None
+    → IsShares x → length x.shares ≡ (game_of (description_of (game_tree document))).players
+    → IsCertificate c → c.players ≡ (game_of (description_of (game_tree document))).players → AreInLowestTerms c.levels
+    → (tree_refusal Check (nucleolus_tree family (game_tree document) (is_cost (description_of (game_tree document))) x c) ≡ None)
+    × IsReadOf family (game_tree document) x c (contents_of Check (nucleolus_tree family (game_tree document) (is_cost (description_of (game_tree document))) x c))
+printed_is_read command document family x c passed s each h same e =
+    let game = game_tree document in
+    let b = is_cost (description_of game) in
+    let accept = accepted command document passed in
+    let shares = are_read_back b x (nucleolus_tree family game b x c) s (shares_written family game b x c) in
+    let read = certificate_read c h e in
+    let of_each = each ∙ players_described game in
+    let of_same = same ∙ players_described game in
+    (not_refused family game b x c accept shares read of_each of_same, contents family game b x c accept shares read of_each of_same refl)
