@@ -1,5 +1,7 @@
 //! The levels: one for each claim of the players who get half of it, and one for the other players.
 ghost use Rattle.std.specs.Prelude.{◌≡◌, ◌⊎◌, ℕ, ◌+◌, ◌-◌, ◌*◌, ◌<◌, ◌≤◌, length, pos, ◌-ℤ◌, slice_index, IfOk, if◌then◌else◌};
+ghost use Rattle.std.specs.List.{AllByRecursion};
+ghost use Rattle.fractions.specs.Fraction.{IsReduced, HasForm};
 ghost use Rattle.definitions.specs.Coalitions.{singleton, grand_coalition};
 ghost use Rattle.talmud.specs.Division.{place};
 ghost use Rattle.talmud.specs.Levels.{with_keys, with_both, key_of, IsHalfEnd, IsHalfLevel, AreHalves, IsRestLevel, AreLevels};
@@ -80,7 +82,8 @@ fn half_level(alloc: Global, claims: &CutClaims, i: u32, k: u32) -> Result<Level
     requires two { i + 2 ≤ length claims.now.cuts }
     requires some { i < k }
     requires within { k ≤ length claims.now.cuts }
-    ensures { IfOk result (λ l. (m : ℕ) → IsHalfEnd (length claims.now.cuts) (slice_index claims.now.cuts) (place claims.now) m i k → IsHalfLevel (length claims.now.cuts) (slice_index claims.now.cuts) (place claims.now) m i k l) }
+    ensures level { IfOk result (λ l. (m : ℕ) → IsHalfEnd (length claims.now.cuts) (slice_index claims.now.cuts) (place claims.now) m i k → IsHalfLevel (length claims.now.cuts) (slice_index claims.now.cuts) (place claims.now) m i k l) }
+    ensures lowest { IfOk result (λ l. IsReduced (record { num = l.excess_num; den = l.excess_den }) × HasForm (record { num = l.excess_num; den = l.excess_den })) }
 {
     let claim = claims.cut(claims.place(i));
     let coalitions = both(alloc, claims, i, k)?;
@@ -103,7 +106,8 @@ fn rest_total(n: u32, alone: bool) -> i128
 /// The level of the players who aren't half players.
 fn rest_level(alloc: Global, claims: &CutClaims, division: Division) -> Result<Level, AllocError>
     requires { division.half + 2 ≤ length claims.now.cuts }
-    ensures { IfOk result (λ l. IsRestLevel (length claims.now.cuts) (place claims.now) division.half division.gain (pos division.bound) (pos (2 * division.half_den)) l) }
+    ensures level { IfOk result (λ l. IsRestLevel (length claims.now.cuts) (place claims.now) division.half division.gain (pos division.bound) (pos (2 * division.half_den)) l) }
+    ensures lowest { IfOk result (λ l. IsReduced (record { num = l.excess_num; den = l.excess_den }) × HasForm (record { num = l.excess_num; den = l.excess_den })) }
 {
     let n = claims.len();
     let gain = division.gain;
@@ -121,7 +125,8 @@ fn rest_level(alloc: Global, claims: &CutClaims, division: Division) -> Result<L
 /// The levels of the half players while two players are left.
 fn half_levels(alloc: Global, claims: &CutClaims, m: u32) -> Result<Vec<Level>, AllocError>
     requires { m ≤ length claims.now.cuts }
-    ensures { IfOk result (λ v. (k : ℕ) × AreHalves (length claims.now.cuts) (slice_index claims.now.cuts) (place claims.now) m 0 v.items k × ((k ≡ m) ⊎ (length claims.now.cuts ≤ k + 1))) }
+    ensures levels { IfOk result (λ v. (k : ℕ) × AreHalves (length claims.now.cuts) (slice_index claims.now.cuts) (place claims.now) m 0 v.items k × ((k ≡ m) ⊎ (length claims.now.cuts ≤ k + 1))) }
+    ensures lowest { IfOk result (λ v. AllByRecursion (λ l. IsReduced (record { num = l.excess_num; den = l.excess_den }) × HasForm (record { num = l.excess_num; den = l.excess_den })) v.items) }
 {
     let n = claims.len();
     let mut levels = Vec::new(alloc);
@@ -141,7 +146,8 @@ pub fn all_levels(
     division: Division,
 ) -> Result<Vec<Level>, AllocError>
     requires { division.half ≤ length claims.now.cuts }
-    ensures { IfOk result (λ v. AreLevels (length claims.now.cuts) (slice_index claims.now.cuts) (place claims.now) division.half division.gain (pos division.bound) (pos (2 * division.half_den)) v.items) }
+    ensures levels { IfOk result (λ v. AreLevels (length claims.now.cuts) (slice_index claims.now.cuts) (place claims.now) division.half division.gain (pos division.bound) (pos (2 * division.half_den)) v.items) }
+    ensures lowest { IfOk result (λ v. AllByRecursion (λ l. IsReduced (record { num = l.excess_num; den = l.excess_den }) × HasForm (record { num = l.excess_num; den = l.excess_den })) v.items) }
 {
     let n = claims.len();
     let mut levels = half_levels(alloc, claims, division.half)?;

@@ -9,6 +9,8 @@ mod levels;
 mod tests;
 
 ghost use Rattle.std.specs.Prelude.{IfOk};
+ghost use Rattle.std.specs.List.{AllByRecursion};
+ghost use Rattle.fractions.specs.Fraction.{IsReduced, HasForm};
 ghost use Rattle.bankruptcy.specs.Bankruptcy.{bankruptcy_game};
 ghost use Rattle.kohlberg.specs.Solved.{IsSolved};
 ghost use Rattle.talmud.specs.Rule.{IsTalmud};
@@ -31,11 +33,14 @@ use worth_core::{Shares, Worth};
 /// Each claim is first cut to the estate. Where the estate is at most half of the claims, each player gets half of its
 /// claim or an amount that is the same for all, whichever is less; elsewhere each loses so much of its claim.
 ///
+/// The excess of each level is a fraction in lowest terms with parts of 128 bits.
+///
 /// Its one error is want of memory.
 pub fn solve(alloc: Global, game: &BankruptcyGame) -> Result<(Shares, Certificate), OutOfMemory>
     ensures solved { IfOk result (λ solution. IsSolved (bankruptcy_game game.now) solution.0 solution.1) }
     ensures rule { IfOk result (λ solution. IsTalmud game.now.estate game.now.claims solution.0) }
     ensures levels { IfOk result (λ solution. AreRuleLevels game.now.estate game.now.claims solution.0 solution.1.levels) }
+    ensures lowest { IfOk result (λ solution. AllByRecursion (λ l. IsReduced (record { num = l.excess_num; den = l.excess_den }) × HasForm (record { num = l.excess_num; den = l.excess_den })) solution.1.levels) }
 {
     let claims = CutClaims::new(alloc, game)?;
     let division = Division::new(game.estate() as u64, &claims);

@@ -44,7 +44,7 @@ unwrap-certificate-requires c =
     let shares = rw (den, c.in_ok-num.ensures {u = tt}, c.unwrap-shares.ensures) at c.new-2.ensures in
     let division = rw (cast_back c.estate.result b.estate c.estate.ensures.value laws.estate_small) at c.new-division.ensures in
     let levels = c.in_ok-levels.levels.items in
-    let all = made b claims d.gain d.half d.half_den d.bound c.unwrap-shares.result levels ordered c.in_ok-claims.ensures.cuts division shares.0 (c.in_ok-levels.ensures {u = tt}) in
+    let all = made b claims d.gain d.half d.half_den d.bound c.unwrap-shares.result levels ordered c.in_ok-claims.ensures.cuts division shares.0 (c.in_ok-levels.ensures.levels) in
     let new = rw c.players.ensures.count at c.new-3.ensures in
     is_ok (HasForm Players (length b.claims) levels) (λ e. (e ≡ record { players = length b.claims; mode = Players; levels = levels }) × HasForm Players (length b.claims) levels) c.new-3.result new (levels-formed b laws (place claims) d.half d.gain (pos d.bound) c.unwrap-shares.result levels all)
 
@@ -59,10 +59,11 @@ returns c =
     let shares = rw (den, c.in_ok-num.ensures {u = tt}, c.unwrap-shares.ensures) at c.new-2.ensures in
     let division = rw (cast_back c.estate.result b.estate c.estate.ensures.value laws.estate_small) at c.new-division.ensures in
     let levels = c.in_ok-levels.levels.items in
-    let all = made b claims d.gain d.half d.half_den d.bound c.unwrap-shares.result levels ordered c.in_ok-claims.ensures.cuts division shares.0 (c.in_ok-levels.ensures {u = tt}) in
+    let all = made b claims d.gain d.half d.half_den d.bound c.unwrap-shares.result levels ordered c.in_ok-claims.ensures.cuts division shares.0 (c.in_ok-levels.ensures.levels) in
     let certificate = rw (c.players.ensures.count, c.unwrap-certificate.ensures) at c.new-3.ensures in
     record {
       solved = solved b (place claims) d.half d.gain (pos d.bound) c.unwrap-shares.result levels c.unwrap-certificate.result all certificate.0;
       rule = IsTalmud-rule b.estate b.claims (place claims) d.half d.gain (pos d.bound) c.unwrap-shares.result all.rule;
       levels = rw certificate.0 (AreRuleLevels-made b (place claims) d.half d.gain (pos d.bound) c.unwrap-shares.result levels all);
+      lowest = rw certificate.0 c.in_ok-levels.ensures.lowest;
     }

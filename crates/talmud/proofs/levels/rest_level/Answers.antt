@@ -17,8 +17,8 @@ negated t h = rw (to_z_pos w128 t (omega arith)) (cast_kept w128 (pos 0 -ℤ pos
 minus_none : (n : ℕ) → n - 0 ≡ n
 minus_none n = omega arith
 
-pub returns : goal.returns
-returns c =
+pub returns-clause-level : goal.returns-clause-level
+returns-clause-level c =
     let d = c.args.division in
     let few = d.few in
     let small = d.small in
