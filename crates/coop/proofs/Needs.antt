@@ -1,16 +1,17 @@
 -- A document gives what its command needs.
-use Rattle.std.proofs.Common.{◌≡◌, ℕ, List, length, Option, Some, None, IfSome, subst, ap}
+use Rattle.std.proofs.Common.{◌≡◌, ℕ, List, length, Option, Some, None, IfSome, subst, ap, ◌≤◌, arith}
 use Rattle.definitions.specs.Games.{Allocation}
 use Rattle.game_text.specs.Descriptions.{game_of}
 use Rattle.game_text.specs.Documents.{Contents, contents_of}
 use Rattle.game_text.specs.Refusals.{IsDocument}
+use Rattle.game_text.specs.Text.{document_limit}
 use Rattle.game_text.specs.Kept.{IsKept}
 use Rattle.game_text.specs.declared.command.Command.{Command}
 use Rattle.game_text.specs.declared.command.Command.TheVariants as command
 use Rattle.kohlberg.specs.Certificate.{CertificateData}
 use Rattle.coop.specs.Judgement.{HasShares}
 use Rattle.coop.specs.Checks.{IsComplete}
-use Rattle.coop.specs.Needs.{IsPlain, HasNeeded}
+use Rattle.coop.specs.Needs.{IsAccepted, HasNeeded}
 
 -- the value that there is keeps to what is said of it
 kept : {T : Type 0} (P : T → Type 0) (o : Option T) (t : T) → o ≡ Some t → IfSome o P → P t
@@ -36,14 +37,24 @@ module _ (bytes : List ℕ) (d : Contents) where
         players = kept _ _ _ certificate certified;
       }
 
-  -- the tree of the game was read, so it can be printed
-  plain : IsKept bytes d.tree → IsPlain d.tree
-  plain k = record { whole = k.whole; shallow = k.shallow }
+  -- no test refused the document, and what was read can be printed again
+  accepted : (given : Command) → IsDocument given bytes d → document_limit given ≤ document_limit command.Nucleolus → IsKept bytes d.tree → IsAccepted d
+  accepted given document limit k = record {
+    command = given;
+    document = document.1.0;
+    passed = document.1.2;
+    described = ap (λ (c : Contents). c.game) document.1.3;
+    same = ap (λ (c : Contents). c.tree) document.1.3;
+    exact = k.exact;
+    whole = k.whole;
+    shallow = k.shallow;
+    short = omega (arith, document.0, limit, k.shorter);
+  }
 
   pub has_needed : (given : Command) → IsDocument given bytes d
       → IfSome d.shares (λ (x : Allocation). length x.shares ≡ (game_of d.game).players) → IfSome d.certificate (λ (c : CertificateData). c.players ≡ (game_of d.game).players) → IsKept bytes d.tree
       → HasNeeded given d
-  has_needed command.Nucleolus document fit certified k = plain k
-  has_needed command.Prenucleolus document fit certified k = plain k
+  has_needed command.Nucleolus document fit certified k = accepted command.Nucleolus document (omega arith) k
+  has_needed command.Prenucleolus document fit certified k = accepted command.Prenucleolus document (omega arith) k
   has_needed command.Propose document fit certified k = has_shares document fit
   has_needed command.Check document fit certified k = is_complete document fit certified

@@ -4,5 +4,6 @@ pub mod Checks
 pub mod Solution
 pub mod Needs
 pub mod Headline
+pub mod ReadBack
 pub mod Outcome
 pub mod Stops

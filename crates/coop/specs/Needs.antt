@@ -1,21 +1,35 @@
 -- What the document of a command gives beside its game.
-use Rattle.std.specs.Prelude.{◌≡◌, ◌≤◌, false}
+--
+--   IsAccepted  no test refused the document of a game, and its tree can be printed again
+--   HasNeeded   what the command needs
+use Rattle.std.specs.Prelude.{◌≡◌, ◌≤◌, length, false, None}
 use Rattle.serde_json.specs.Data.{Data, depth}
-use Rattle.serde_json.specs.Written.{has_float}
-use Rattle.game_text.specs.Documents.{Contents}
+use Rattle.serde_json.specs.Written.{compact_text, has_float}
+use Rattle.json_texts.specs.Exact.{IsExact}
+use Rattle.game_text.specs.Descriptions.{description_of}
+use Rattle.game_text.specs.Documents.{Contents, game_tree}
+use Rattle.game_text.specs.Refusals.{tree_refusal}
+use Rattle.game_text.specs.Text.{document_limit}
 use Rattle.game_text.specs.declared.command.Command.{Command}
 use Rattle.game_text.specs.declared.command.Command.TheVariants.{Nucleolus, Prenucleolus, Propose, Check}
 use Rattle.coop.specs.Judgement.{HasShares}
 use Rattle.coop.specs.Checks.{IsComplete}
 
--- a tree of a game that can be printed: no number but integers, and at most 8 deep
-pub record IsPlain (tree : Data) : Type 0 where
-  pub whole : has_float tree ≡ false
-  pub shallow : depth tree ≤ 8
+-- no test of a command refused the document of the game, whose tree has no number but integers, is nested at most 8 deep, and is written within the limit
+pub record IsAccepted (d : Contents) : Type 0 where
+  pub command : Command
+  pub document : Data
+  pub passed : tree_refusal command document ≡ None
+  pub described : d.game ≡ description_of (game_tree document)
+  pub same : d.tree ≡ game_tree document
+  pub exact : IsExact d.tree
+  pub whole : has_float d.tree ≡ false
+  pub shallow : depth d.tree ≤ 8
+  pub short : length (compact_text d.tree) ≤ document_limit Nucleolus
 
 -- what the command needs
 abbrev pub HasNeeded : Command → Contents → Type 0
-HasNeeded Nucleolus d = IsPlain d.tree
-HasNeeded Prenucleolus d = IsPlain d.tree
+HasNeeded Nucleolus d = IsAccepted d
+HasNeeded Prenucleolus d = IsAccepted d
 HasNeeded Propose d = HasShares d
 HasNeeded Check d = IsComplete d

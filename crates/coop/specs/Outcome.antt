@@ -3,6 +3,7 @@ use Rattle.std.specs.Prelude.{◌≡◌, ◌≢◌, ◌<◌, ◌+◌, ℕ, List,
 use Rattle.std.specs.Io.KnownBytes.{Appends, Consumes, IsAtEnd}
 use Rattle.ports.specs.Causes.{Rose}
 use Rattle.coop.specs.Headline.{Answers}
+use Rattle.coop.specs.ReadBack.{IsReadBack}
 use Rattle.game_text.specs.Text.{document_limit}
 use Rattle.game_text.specs.declared.command.Command.{Command}
 use Rattle.game_text.specs.declared.refusal.Refusal.{Refusal}
@@ -74,10 +75,10 @@ pub record IsRight (words : List (List ℕ)) (old new : Option (List ℕ)) (answ
   pub answers : Answers words bytes answer
   pub reads : ReadsFor answer words old new
 
--- the line of a right answer was printed, and the status goes with it
+-- the line of a right answer was printed, and the status goes with it; the line of a nucleolus is read back
 abbrev pub Answered : List (List ℕ) → Option (List ℕ) → Option (List ℕ) → Option (List ℕ) → Option (List ℕ) → Status → Type 0
 Answered words old new taken_old taken_new s =
-    (answer : Answer) × IsRight words old new answer × (s ≡ status_of answer) × Appends taken_old taken_new (line answer)
+    (answer : Answer) × IsRight words old new answer × (s ≡ status_of answer) × Appends taken_old taken_new (line answer) × IsReadBack answer
 
 -- a proper front of the line of a right answer was printed
 abbrev pub CutShort : List (List ℕ) → Option (List ℕ) → Option (List ℕ) → Option (List ℕ) → Option (List ℕ) → Type 0

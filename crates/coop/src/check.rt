@@ -2,6 +2,7 @@
 ghost use Rattle.game_text.specs.Readings.{contents_in};
 ghost use Rattle.report.specs.Limits.{IsPrintable};
 ghost use Rattle.coop.specs.Checks.{Checks, IsComplete};
+ghost use Rattle.coop.specs.ReadBack.{CanBeRead};
 
 use checker::check;
 use game_text::Document;
@@ -12,6 +13,7 @@ pub fn check_document(document: &Document) -> Answer
     requires { IsComplete (contents_in document.now) }
     ensures checks { Checks (contents_in document.now) result }
     ensures printable { IsPrintable result }
+    ensures readable { CanBeRead result }
 {
     let (Some(family), Some(shares), Some(certificate)) = (
         document.family,

@@ -6,6 +6,7 @@ ghost use Rattle.game_text.specs.Readings.{contents_in};
 ghost use Rattle.coop.specs.Headline.{AnswersTo};
 ghost use Rattle.coop.specs.Needs.{HasNeeded};
 ghost use Rattle.coop.specs.Outcome.{IsRight, Ends, IsCauseOf};
+ghost use Rattle.coop.specs.ReadBack.{CanBeRead};
 ghost use Rattle.coop.specs.Stops.{IsFaultOf};
 ghost use Rattle.coop.specs.Words.{word_of, IsNoCommand};
 
@@ -76,6 +77,7 @@ fn limit_of(command: Command) -> usize
 fn answer<S: Source>(alloc: Global, command: Command, source: &mut S) -> Result<Answer, Stop>
     ensures right { IfOk result (IsRight (word_of command ∷ []) (S.left source.old) (S.left source.new)) }
     ensures printable { IfOk result IsPrintable }
+    ensures readable { IfOk result CanBeRead }
     ensures cause { IsFaultOf (S.faults source.old) (S.faults source.new) result }
 {
     let input = read_input(alloc, source, limit_of(command))?;
@@ -95,6 +97,7 @@ fn answer_to(alloc: Global, command: Command, document: Document) -> Result<Answ
     requires { HasNeeded command (contents_in document) }
     ensures right { IfOk result (AnswersTo command (contents_in document)) }
     ensures printable { IfOk result IsPrintable }
+    ensures readable { IfOk result CanBeRead }
 {
     match command {
         Command::Nucleolus => solve_document(alloc, document, Family::Imputations),

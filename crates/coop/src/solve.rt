@@ -1,12 +1,14 @@
 //! The nucleolus of the game of a document.
 ghost use Rattle.std.specs.Prelude.{IfOk, MatchOption};
-ghost use Rattle.kohlberg.specs.Solved.{IsSolved};
+ghost use Rattle.definitions.specs.Games.{IsShares};
+ghost use Rattle.kohlberg.specs.Certificate.{IsCertificate};
 ghost use Rattle.game_text.specs.Descriptions.{game_of};
 ghost use Rattle.game_text.specs.Games.{description_in};
 ghost use Rattle.game_text.specs.Readings.{contents_in};
 ghost use Rattle.report.specs.Limits.{IsPrintable};
-ghost use Rattle.coop.specs.Needs.{IsPlain};
-ghost use Rattle.coop.specs.Solution.{HasScheme, Solves};
+ghost use Rattle.coop.specs.Needs.{IsAccepted};
+ghost use Rattle.coop.specs.ReadBack.{CanBeRead};
+ghost use Rattle.coop.specs.Solution.{HasScheme, IsFound, Solves};
 
 use fractions::OutOfMemory;
 use game_text::{Document, Game};
@@ -23,16 +25,16 @@ pub fn solve_document(
     document: Document,
     family: Family,
 ) -> Result<Answer, OutOfMemory>
-    requires { IsPlain (contents_in document).tree }
+    requires { IsAccepted (contents_in document) }
     ensures solves { IfOk result (Solves family (contents_in document)) }
     ensures printable { IfOk result IsPrintable }
+    ensures readable { IfOk result CanBeRead }
 {
     let is_cost = document.game.is_cost();
     let Some((shares, certificate)) = by_scheme(alloc, &document.game)? else {
         return Ok(Answer::Usage(UsageKind::Class));
     };
-    // The form of the levels is part of what makes them evidence.
-    certificate.levels();
+    keep_their_limits(&shares, &certificate);
     Ok(Answer::Nucleolus {
         family,
         tree: document.tree,
@@ -44,11 +46,21 @@ pub fn solve_document(
 
 // What the scheme of the game's class finds, and nothing for a class without one.
 fn by_scheme(alloc: Global, game: &Game) -> Result<Option<(Shares, Certificate)>, OutOfMemory>
-    ensures { IfOk result (λ found. MatchOption found (¬ HasScheme (description_in game.now)) (λ s. IsSolved (game_of (description_in game.now)) s.0 s.1)) }
+    ensures { IfOk result (λ found. MatchOption found (¬ HasScheme (description_in game.now)) (λ s. IsFound (game_of (description_in game.now)) s.0 s.1)) }
 {
     match game {
         Game::Airport(game) => Ok(Some(airport_scheme::solve(alloc, game)?)),
         Game::Bankruptcy(game) => Ok(Some(talmud::solve(alloc, game)?)),
         Game::Table(_) | Game::Cost(_) => Ok(None),
     }
+}
+
+// Shares and certificates are within their limits by their types; these calls say so.
+fn keep_their_limits(shares: &Shares, certificate: &Certificate)
+    ensures shares { IsShares shares.now }
+    ensures certificate { IsCertificate certificate.now }
+{
+    shares.players();
+    certificate.players();
+    certificate.levels();
 }

@@ -72,6 +72,16 @@ fn judges_fractions_costs_and_named_players(rt: HostRuntime) -> Result<(), Fail>
             "{\"answer\":\"core\"}\n",
             Status::Done,
         ),
+        (
+            "{\"game\":{\"class\":\"table\",\"players\":2,\"worths\":[0,0,1099511627775]},\"shares\":[\"1099511627775/2\",\"1099511627775/2\"]}",
+            "{\"answer\":\"core\"}\n",
+            Status::Done,
+        ),
+        (
+            "{\"game\":{\"class\":\"table\",\"players\":3,\"sparse\":[[[1,2],6],[[3,2,1],12]]},\"shares\":[\"9/2\",\"9/2\",3]}",
+            "{\"answer\":\"core\"}\n",
+            Status::Done,
+        ),
     ] {
         let found = run_on(rt.alloc(), &["propose"], input.as_bytes(), 200, line)?;
         assert_eq!(rt; found, (status, true), "on {input}");

@@ -109,6 +109,30 @@ fn refuses_each_for_its_first_reason(rt: HostRuntime) -> Result<(), Fail> {
             "{\"game\":{\"class\":\"table\",\"players\":1,\"worths\":[5]},\"shares\":[\"1/9223372036854775809\"]}",
             "{\"number\":11,\"refused\":\"TooFine\"}\n",
         ),
+        (
+            "{\"game\":{\"class\":\"table\",\"players\":3,\"sparse\":[[[1,2],6],[[3,2,1],12],[[2,1],6]]},\"shares\":[4,4,4]}",
+            "{\"number\":7,\"refused\":\"Coalition\"}\n",
+        ),
+        (
+            "{\"game\":{\"class\":\"table\",\"players\":3,\"worths\":[0,0,1,0,1,1]},\"shares\":[1,0,0]}",
+            "{\"number\":4,\"refused\":\"Players\"}\n",
+        ),
+        (
+            "{\"game\":{\"class\":\"table\",\"players\":2,\"worths\":[0,0,1099511627776]},\"shares\":[1,0]}",
+            "{\"number\":5,\"refused\":\"Number\"}\n",
+        ),
+        (
+            "{\"game\":{\"claims\":[100,200,300],\"class\":\"bankruptcy\",\"estate\":200},\"shares\":[\"2/4\",0,0]}",
+            "{\"number\":5,\"refused\":\"Number\"}\n",
+        ),
+        (
+            "{\"game\":{\"claims\":[100,200,300],\"class\":\"bankruptcy\",\"estate\":200},\"shares\":[100,100]}",
+            "{\"number\":10,\"refused\":\"Proposal\"}\n",
+        ),
+        (
+            "{\"game\":{\"clas\":\"airport\",\"costs\":[2,4,6]},\"shares\":[1,2,3]}",
+            "{\"number\":3,\"refused\":\"Shape\"}\n",
+        ),
     ] {
         assert!(rt; is_refused(rt.alloc(), input.as_bytes(), line)?, "{input}");
     }

@@ -1,0 +1,100 @@
+-- The line of what a scheme found can be checked.
+use Rattle.std.proofs.Common.{◌≡◌, ℕ, ◌+◌, ◌*◌, ◌≤◌, List, [], ◌∷◌, length, Bool, Some, None, sym, ap, subst, ◌∙◌, length-append, arith}
+use Rattle.std.specs.List.{AllByRecursion}
+use Rattle.serde_json.specs.Data.{Data}
+use Rattle.serde_json.specs.View.{view}
+use Rattle.serde_json.specs.Written.{compact_text}
+use Rattle.serde_json.specs.declared.value.Value.{Value}
+use Rattle.definitions.specs.Games.{Game, Allocation, IsAllocation, IsShares}
+use Rattle.definitions.specs.Certificates.{Level, Certifies}
+use Rattle.definitions.specs.declared.Family.{Family}
+use Rattle.definitions.specs.declared.Family.TheVariants.{Preimputations}
+use Rattle.definitions.specs.declared.Mode.{Mode}
+use Rattle.fractions.specs.Fraction.{IsReduced, HasForm}
+use Rattle.fractions.proofs.WrittenFractions.{read_back}
+use Rattle.kohlberg.specs.Certificate.{CertificateData, IsCertificate}
+use Rattle.game_text.specs.Descriptions.{description_of, game_of, is_cost}
+use Rattle.game_text.specs.Documents.{Contents, game_tree, contents_of}
+use Rattle.game_text.specs.Refusals.{tree_refusal}
+use Rattle.game_text.specs.Text.{document_limit}
+use Rattle.game_text.specs.declared.command.Command.TheVariants as command
+use Rattle.report.specs.Certificates.{excess_of}
+use Rattle.report.specs.Lines.{nucleolus_tree, line}
+use Rattle.report.specs.ReadingBack.{ExcessesAreReadBack}
+use Rattle.report.specs.declared.answer.Answer.TheVariants.{Nucleolus}
+use Rattle.report.proofs.Readers.{short}
+use Rattle.reading_back.specs.CertificatesReadBack.{AreInLowestTerms}
+use Rattle.reading_back.specs.DocumentsReadBack.{IsReadOf}
+use Rattle.reading_back.proofs.NucleolusTrees.{printed_is_read}
+use Rattle.reading_back.proofs.SameLevels.{same_certify}
+use Rattle.coop.specs.Checks.{HasEvidence}
+use Rattle.coop.specs.Needs.{IsAccepted}
+use Rattle.coop.specs.ReadBack.{SaysSame, CanBeChecked}
+use Rattle.coop.specs.Solution.{IsFound}
+
+-- ---- the levels
+
+all_lowest : (ls : List Level) → AllByRecursion (λ l. IsReduced (excess_of l) × HasForm (excess_of l)) ls → AreInLowestTerms ls
+all_lowest [] h = tt
+all_lowest (l ∷ ls) h = (record { reduced = h.0.0; fits = h.0.1 }, all_lowest ls h.1)
+
+all_read_back : (ls : List Level) → AllByRecursion (λ l. IsReduced (excess_of l) × HasForm (excess_of l)) ls → ExcessesAreReadBack ls
+all_read_back [] h = tt
+all_read_back (l ∷ ls) h = (read_back (excess_of l) h.0.0 h.0.1, all_read_back ls h.1)
+
+all_few : (n : ℕ) → n ≤ 64 → (ls : List Level) → AllByRecursion (λ l. length l.coalitions + length l.earlier + length l.bounds ≤ 2 * n) ls → AllByRecursion (λ l. length l.coalitions + length l.earlier + length l.bounds ≤ 128) ls
+all_few n few [] h = tt
+all_few n few (l ∷ ls) h = (omega (arith, h.0), all_few n few ls h.1)
+
+-- ---- the line
+
+module _ (family : Family) (d : Contents) (value : Value) (are_costs : Bool) (x : Allocation) (c : CertificateData)
+    (accepted : IsAccepted d) (same : view value ≡ d.tree) (signs : are_costs ≡ is_cost d.game)
+    (s : IsShares x) (h : IsCertificate c) (found : IsFound (game_of d.game) x c) where
+  allocation : IsAllocation (game_of d.game) x
+  allocation = (found.solved.certifies Preimputations).0.0
+
+  certified : Certifies c.mode family (game_of d.game) x c.levels
+  certified = subst (λ (m : Mode). Certifies m family (game_of d.game) x c.levels) (sym found.solved.mode) (found.solved.certifies family)
+
+  -- the game of the document, its tree and its signs are those that are printed
+  printed_game : game_tree accepted.document ≡ view value
+  printed_game = sym (same ∙ accepted.same)
+
+  printed_signs : is_cost (description_of (game_tree accepted.document)) ≡ are_costs
+  printed_signs = sym (signs ∙ ap is_cost accepted.described)
+
+  abbrev Reads : Data → Bool → Type 0
+  Reads g b = (tree_refusal command.Check (nucleolus_tree family g b x c) ≡ None) × IsReadOf family g x c (contents_of command.Check (nucleolus_tree family g b x c))
+
+  is_read : Reads (view value) are_costs
+  is_read =
+      let counted = ap (λ e. (game_of e).players) accepted.described in
+      let first : Reads (game_tree accepted.document) (is_cost (description_of (game_tree accepted.document))) = printed_is_read accepted.command accepted.document family x c accepted.passed s (allocation.0 ∙ counted) h (found.solved.players ∙ counted) (all_lowest c.levels found.lowest) in
+      let second : Reads (view value) (is_cost (description_of (game_tree accepted.document))) = subst (λ (g : Data). Reads g (is_cost (description_of (game_tree accepted.document)))) printed_game first in
+      subst (λ (b : Bool). Reads (view value) b) printed_signs second
+
+  -- the line is short
+  is_short : length (line (Nucleolus family value are_costs x c)) ≤ document_limit command.Check
+  is_short =
+      let players = found.solved.players in
+      let text = short family (view value) are_costs x c s h (all_read_back c.levels found.lowest) (all_few (game_of d.game).players (omega (arith, players, h.few)) c.levels found.solved.few) in
+      let game = subst (λ (t : Data). length (compact_text t) ≤ document_limit command.Nucleolus) (sym same) accepted.short in
+      omega (arith, text, game, length-append (compact_text (nucleolus_tree family (view value) are_costs x c)) (10 ∷ []))
+
+  says : (e : Contents) → IsReadOf family (view value) x c e → SaysSame family (view value) x c e
+  says e of =
+      let again = of.shares.2 in
+      let games : d.game ≡ e.game = accepted.described ∙ ap description_of printed_game ∙ sym of.game in
+      let here = subst (λ g. IsAllocation (game_of g) x) games allocation in
+      record {
+        tree = of.tree;
+        game = of.game;
+        shares = of.shares.0;
+        evidence = record { family = of.family; shares = of.shares.1; certificate = of.certificate };
+        same = again.same (game_of e.game) here;
+        certifies = same_certify c.mode family (game_of e.game) x of.shares.0 c.levels (again.allocation (game_of e.game) here) (again.same (game_of e.game) here) (subst (λ g. Certifies c.mode family (game_of g) x c.levels) games certified);
+      }
+
+  pub can_be_checked : CanBeChecked (Nucleolus family value are_costs x c) family (view value) x c
+  can_be_checked = record { short = is_short; passed = is_read.0; says = says _ is_read.1 }
