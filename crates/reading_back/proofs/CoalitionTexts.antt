@@ -11,7 +11,7 @@ use Rattle.definitions.proofs.Parts.{has_player-past}
 use Rattle.game_text.specs.Trees.{parts, integer}
 use Rattle.game_text.specs.Levels.{number_above, number_between, numbers_above, mask_by_numbers, coalition_of}
 use Rattle.report.specs.Values.{player_data, player_numbers}
-use Rattle.reading_back.proofs.ShareTexts.{listed_items}
+use Rattle.game_text.proofs.Values.{listed-items_of}
 
 -- ---- the members ascend
 
@@ -103,6 +103,6 @@ numbers_read low n (i ∷ is) m h =
 -- the printed members are read as the coalition
 pub coalition_read : (n s : ℕ) → n ≤ 64 → s < 2 ^ n → coalition_of n (parts (player_numbers s)) ≡ Some s
 coalition_read n s m h =
-    ap (coalition_of n) (listed_items (map player_data (members 64 s)) ∙ ap (map player_data) (members_of_all n s m h))
+    ap (coalition_of n) (listed-items_of (map player_data (members 64 s)) ∙ ap (map player_data) (members_of_all n s m h))
     ∙ ap (option_map mask_by_numbers) (numbers_read 0 n (members n s) m (members_ascend n s))
     ∙ ap Some (mask_of_members n s ∙ mod-eq_of_lt h)

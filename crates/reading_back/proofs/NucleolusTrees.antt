@@ -31,7 +31,8 @@ use Rattle.report.specs.Lines.{nucleolus_tree}
 use Rattle.reading_back.specs.ReadBack.{IsAgain, AreReadBack}
 use Rattle.reading_back.specs.CertificatesReadBack.{AreInLowestTerms, IsReadAs}
 use Rattle.reading_back.specs.DocumentsReadBack.{IsReadOf}
-use Rattle.reading_back.proofs.ShareTexts.{listed_items, listed_members}
+use Rattle.game_text.proofs.Values.{listed-items_of}
+use Rattle.reading_back.proofs.ShareTexts.{listed_members}
 use Rattle.reading_back.proofs.Again.{are_read_back}
 use Rattle.reading_back.proofs.CertificateTrees.{certificate_read}
 use Rattle.reading_back.proofs.AcceptedGames.{IsAccepted, accepted, players_described}
@@ -51,7 +52,7 @@ module _ (family : Family) (game : Data) (b : Bool) (x : Allocation) (c : Certif
       named Preimputations = refl
 
   shares_written : parts_at (codes "shares") printed ≡ map (share_data b x.den) x.shares
-  shares_written = listed_items (map (share_data b x.den) x.shares)
+  shares_written = listed-items_of (map (share_data b x.den) x.shares)
 
   module _ (accept : IsAccepted game) (shares : AreReadBack b x printed) (read : IsReadAs c (certificate_tree c)) (each : length x.shares ≡ players game) (same : c.players ≡ players game) where
     needed : has_needed Check printed ≡ true

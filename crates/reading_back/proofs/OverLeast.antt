@@ -15,7 +15,7 @@ use Rattle.worth_core.specs.LeastDenominators.{IsWholeTimes, numerator_over}
 use Rattle.worth_core.proofs.LeastMultiples.{denominator_divides}
 use Rattle.game_text.proofs.LeastDenominators.{least_denominator_is}
 use Rattle.game_text.specs.Denominators.{least_denominator}
-use Rattle.reading_back.proofs.LowestTerms.{apart}
+use Rattle.report.proofs.LowestTerms.{apart}
 
 -- ---- a fraction f that is n over d, and a number m that its denominator divides
 

@@ -7,13 +7,13 @@ use Rattle.std.proofs.lemmas.Bool.{and_from}
 use Rattle.std.proofs.lemmas.Int.{ints, unsigned_abs-mul, fits_signed_from_abs}
 use Rattle.std.proofs.lemmas.List.Elements.{All-head, All-tail}
 use Rattle.std.proofs.lemmas.Nat.Gcd.{le_of_dvd}
-use Rattle.serde_json.specs.Data.{Data}
 use Rattle.serde_json.specs.View.{items_of}
 use Rattle.fractions.specs.Fraction.{Fraction, IsRatio, HasForm}
 use Rattle.fractions.proofs.WrittenFractions.{read_back}
 use Rattle.game_text.specs.Shape.{is_member}
 use Rattle.game_text.specs.Shares.{share_of, is_share, fraction_or_zero}
 use Rattle.game_text.specs.Trees.{listed}
+use Rattle.game_text.proofs.Values.{listed-items_of}
 use Rattle.report.specs.ShareLists.{as_printed, printed_share, share_data}
 use Rattle.reading_back.proofs.LowestTerms.{lowest_ratio}
 use Rattle.reading_back.proofs.OverLeast.{divides, size_positive, no_greater}
@@ -65,13 +65,9 @@ all_shares b d p q (z ∷ zs) h =
 
 -- ---- the list
 
-pub listed_items : (ds : List Data) → listed (items_of ds) ≡ ds
-listed_items [] = refl
-listed_items (d ∷ ds) = ap (λ (es : List Data). d ∷ es) (listed_items ds)
-
 all_members : (b : Bool) (d : ℤ) (zs : List ℤ) → list_all is_member (map (share_data b d) zs) ≡ true
 all_members b d [] = refl
 all_members b d (z ∷ zs) = all_members b d zs
 
 pub listed_members : (b : Bool) (d : ℤ) (zs : List ℤ) → list_all is_member (listed (items_of (map (share_data b d) zs))) ≡ true
-listed_members b d zs = ap (list_all is_member) (listed_items (map (share_data b d) zs)) ∙ all_members b d zs
+listed_members b d zs = ap (list_all is_member) (listed-items_of (map (share_data b d) zs)) ∙ all_members b d zs

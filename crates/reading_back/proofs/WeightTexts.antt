@@ -16,7 +16,7 @@ use Rattle.game_text.specs.Levels.{coalition_of, weighted_coalition, first_playe
 use Rattle.game_text.specs.Certificates.{is_integer, lists_coalition, lists_player}
 use Rattle.report.specs.Certificates.{weight_data, coalition_pair, bound_pair}
 use Rattle.report.specs.Values.{player_data, player_numbers}
-use Rattle.reading_back.proofs.ShareTexts.{listed_items}
+use Rattle.game_text.proofs.Values.{listed-items_of}
 use Rattle.reading_back.proofs.CoalitionTexts.{if_passed, player_read, coalition_read}
 
 -- ---- one number
@@ -57,7 +57,7 @@ numbers_pass (i ∷ is) = numbers_pass is
 pub coalition_pair_shaped : (p : ℕ × ℤ) → is_weighted_coalition (coalition_pair p) ≡ true
 coalition_pair_shaped p =
     and_from (is_array_of is_number (player_numbers p.0)) (is_number (weight_data p.1))
-    (ap (list_all is_number) (listed_items (map player_data (members 64 p.0))) ∙ numbers_pass (members 64 p.0)) refl
+    (ap (list_all is_number) (listed-items_of (map player_data (members 64 p.0))) ∙ numbers_pass (members 64 p.0)) refl
 
 -- ---- a player and the weight of its bound
 

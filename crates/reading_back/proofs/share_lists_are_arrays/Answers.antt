@@ -1,5 +1,6 @@
-use Rattle.reading_back.proofs.ShareTexts.{listed_items, listed_members}
+use Rattle.game_text.proofs.Values.{listed-items_of}
+use Rattle.reading_back.proofs.ShareTexts.{listed_members}
 use Rattle.reading_back.proofs.share_lists_are_arrays.Goals as goal
 
 pub returns : goal.returns
-returns c = λ b x. (listed_members b x.den x.shares, listed_items _)
+returns c = λ b x. (listed_members b x.den x.shares, listed-items_of _)
