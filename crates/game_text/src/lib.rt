@@ -1,4 +1,4 @@
-//! Documents of cooperative games: the game and the proposed shares, or the first refusal that applies.
+//! Documents of cooperative games: the game and what a command needs beside it, or the first refusal that applies.
 #![tactic(auto)]
 
 mod ascending;

@@ -35,6 +35,8 @@ use worth_core::Shares;
 
 /// The document that the bytes are the text of, or the first refusal that applies to them. Where the command needs shares,
 /// there is one for each player of the game; where it needs a certificate, it is one for the players of the game.
+///
+/// The kept tree of the game holds no float, is nested at most 8 deep, and is written in no more bytes than were read.
 pub fn read_document(alloc: Global, bytes: &[u8], command: Command) -> Result<Document, TextFault>
     ensures reading { MatchResult result (IsReading command bytes.now) (IsFault command bytes.now) }
     ensures count { IfOk result (λ d. IfSome d.shares (λ x. length x.shares ≡ (game_of (description_in d.game)).players)) }
