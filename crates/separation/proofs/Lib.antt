@@ -5,3 +5,4 @@ pub mod Pushed
 pub mod Slots
 pub mod Outside
 pub mod Staged
+pub mod Balance

@@ -107,3 +107,17 @@ no_level_entry n s row r lt = by_row (nat_lt r n) refl
     by_row : (b : Bool) → nat_lt r n ≡ b → cond (cond (nat_lt r n) (has_player s r) false) (pos 1) (pos 0) ≡ cond (nat_lt r n) (cond (has_player s r) (pos 1) (pos 0)) (cond (nat_eq r (n + row)) (pos 1) (pos 0))
     by_row true e = rw e refl
     by_row false e = let t : nat_eq r (n + row) ≡ false = grind (arith, nat_tests) in rw e (rw t refl)
+
+-- the entry of a player row
+pub member_entry : (n s r : ℕ) → r < n → (if has_entry n s None r then pos 1 else pos 0) ≡ (if has_player s r then pos 1 else pos 0)
+member_entry n s r lt = let t : nat_lt r n ≡ true = grind (arith, nat_tests) in rw t refl
+
+pub no_level : (j : ℕ) → ForSome None (λ l. l < j)
+no_level j m e = absurd (none m e)
+  where
+    is_there : Option ℕ → Type 0
+    is_there None = Unit {0}
+    is_there (Some t) = ⊥
+
+    none : (m : ℕ) → None ≡ Some m → ⊥
+    none m e = subst is_there e tt

@@ -16,7 +16,7 @@ use Rattle.separation.specs.Kept.{column_entry, column_at, right_at, kept_progra
 use Rattle.separation.specs.Same.{IsSame, IsStage}
 use Rattle.separation.specs.Making.{listed, plain, minus, earlier_columns, whole_columns, single, bound, IsOuter, AreOuter, EndsOuter, inner_columns, AreWithin}
 use Rattle.separation.specs.declared.column.Column.{Column}
-use Rattle.separation.proofs.Slots.{SameAt, same_program, small_columns, length-listed, listed_at, past_at, level_entry, no_level_entry}
+use Rattle.separation.proofs.Slots.{SameAt, same_program, small_columns, length-listed, listed_at, past_at, level_entry, no_level_entry, no_level}
 use Rattle.separation.proofs.Outside.{has_column, decides}
 
 -- ---- the levels' coalitions
@@ -82,16 +82,6 @@ some_level l j h m e = subst (λ (t : ℕ). t < j) (inside l m e) h
 
     inside : (l m : ℕ) → Some l ≡ Some m → l ≡ m
     inside l m e = ap or_zero e
-
-no_level : (j : ℕ) → ForSome None (λ l. l < j)
-no_level j m e = absurd (none m e)
-  where
-    is_there : Option ℕ → Type 0
-    is_there None = Unit {0}
-    is_there (Some t) = ⊥
-
-    none : (m : ℕ) → None ≡ Some m → ⊥
-    none m e = subst is_there e tt
 
 plain_level : (g : Game) (k s l : ℕ) → IsGame g → s < 2 ^ g.players → l < k + 1 → Like g k (plain g s (Some l)) (record { mask = s; row = l; minus = false })
 plain_level g k s l game lt within = record {
@@ -246,30 +236,30 @@ module _ (family : Family) (g : Game) (front : List Level) (game : IsGame g) (wi
   at_number id = elim (four id b n) [
     | inl lt ↦
         let e : column_at all id ≡ column_at settled id =
-          get_or_append_left ((settled ++ singles) ++ bounds) outers None id (let x = length-three in omega (arith, x, lt))
-          ∙ get_or_append_left (settled ++ singles) bounds None id (let x = length-two in omega (arith, x, lt))
-          ∙ get_or_append_left settled singles None id (let x = length-settled in omega (arith, x, lt)) in
+        get_or_append_left ((settled ++ singles) ++ bounds) outers None id (let x = length-three in omega (arith, x, lt))
+        ∙ get_or_append_left (settled ++ singles) bounds None id (let x = length-two in omega (arith, x, lt))
+        ∙ get_or_append_left settled singles None id (let x = length-settled in omega (arith, x, lt)) in
         subst (SameAt n (k + 1) q id) (sym e) (from_settled id (column_at settled id) lt (settled_found id lt))
     | inr (inl h) ↦
         let e : column_at all id ≡ single family g (id - b) =
-          get_or_append_left ((settled ++ singles) ++ bounds) outers None id (let x = length-three in omega (arith, x, h.1))
-          ∙ get_or_append_left (settled ++ singles) bounds None id (let x = length-two in omega (arith, x, h.1))
-          ∙ get_or-append_right settled singles b id None length-settled h.0
-          ∙ listed_at g.players (id - b) (single family g) (omega (arith, h.0, h.1)) in
+        get_or_append_left ((settled ++ singles) ++ bounds) outers None id (let x = length-three in omega (arith, x, h.1))
+        ∙ get_or_append_left (settled ++ singles) bounds None id (let x = length-two in omega (arith, x, h.1))
+        ∙ get_or-append_right settled singles b id None length-settled h.0
+        ∙ listed_at g.players (id - b) (single family g) (omega (arith, h.0, h.1)) in
         subst (SameAt n (k + 1) q id) (sym e) (from_further id (single family g (id - b)) h.0 (single_at (id - b) (omega (arith, h.0, h.1))))
     | inr (inr (inl h)) ↦
         let d : id - (b + n) ≡ id - b - n = omega (arith, h.0) in
         let e : column_at all id ≡ bound family g front (id - b - n) =
-          get_or_append_left ((settled ++ singles) ++ bounds) outers None id (let x = length-three in omega (arith, x, h.1))
-          ∙ get_or-append_right (settled ++ singles) bounds (b + n) id None length-two h.0
-          ∙ ap (column_at bounds) d
-          ∙ listed_at g.players (id - b - n) (bound family g front) (omega (arith, h.0, h.1)) in
+        get_or_append_left ((settled ++ singles) ++ bounds) outers None id (let x = length-three in omega (arith, x, h.1))
+        ∙ get_or-append_right (settled ++ singles) bounds (b + n) id None length-two h.0
+        ∙ ap (column_at bounds) d
+        ∙ listed_at g.players (id - b - n) (bound family g front) (omega (arith, h.0, h.1)) in
         subst (SameAt n (k + 1) q id) (sym e) (from_further id (bound family g front (id - b - n)) (omega (arith, h.0)) (bound_at (id - b) (omega (arith, h.0)) (omega (arith, h.0, h.1))))
     | inr (inr (inr le)) ↦
         let d : id - (b + n + n) ≡ id - b - (n + n) = omega (arith, le) in
         let e : column_at all id ≡ column_at outers (id - b - (n + n)) =
-          get_or-append_right ((settled ++ singles) ++ bounds) outers (b + n + n) id None length-three le
-          ∙ ap (column_at outers) d in
+        get_or-append_right ((settled ++ singles) ++ bounds) outers (b + n + n) id None length-three le
+        ∙ ap (column_at outers) d in
         subst (SameAt n (k + 1) q id) (sym e) (from_further id (column_at outers (id - b - (n + n))) (omega (arith, le)) (outer_at (id - b) (omega (arith, le)) (column_at outers (id - b - (n + n))) refl (outer_or (id - b - (n + n)))))
   ]
     where

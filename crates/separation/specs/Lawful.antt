@@ -65,9 +65,9 @@ right_sparse n levels = record {
   is_sign = inl refl;
   entry = λ i lt. right_either n levels i;
   one = λ i j le ij lt.
-    let t : nat_eq levels 0 ≡ false = grind (arith, nat_tests) in
-    let u : nat_eq (i + 1) (n + levels) ≡ false = grind (arith, nat_tests) in
-    inl (rw t (rw u refl));
+      let t : nat_eq levels 0 ≡ false = grind (arith, nat_tests) in
+      let u : nat_eq (i + 1) (n + levels) ≡ false = grind (arith, nat_tests) in
+      inl (rw t (rw u refl));
 }
 
 cost_small : (o : Option Column) → ForSome o (λ c. unsigned_abs c.cost < 2 ^ 46) → unsigned_abs (cost_at o) < 2 ^ 46

@@ -2,7 +2,6 @@
 
 ghost use Rattle.std.specs.Prelude.{◌≡◌, ◌≤◌, ◌<◌, ◌^◌, pos, ◌-ℤ◌, true, false, unsigned_abs};
 
-
 use coalitions::Coalition;
 
 /// The vector of a coalition in the player rows and a 1 in one level row or none, and the worth of the coalition as cost;

@@ -132,13 +132,7 @@ fn bar(m: &Multipliers, cost: i64, with_costs: bool) -> i128
 }
 
 /// Whether there is a column and its cost is above its value.
-fn rises(
-    column: Option<Column>,
-    m: &Multipliers,
-    n: u32,
-    sums: &Sums,
-    with_costs: bool,
-) -> bool
+fn rises(column: Option<Column>, m: &Multipliers, n: u32, sums: &Sums, with_costs: bool) -> bool
     requires within { ForSome column (λ c. ForSome c.level (λ l. n + l < length m.now.num.items)) }
     requires small { ForSome column (λ c. unsigned_abs c.cost < 2 ^ 46) }
     requires players { n ≤ length m.now.num.items }
