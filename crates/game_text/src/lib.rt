@@ -4,7 +4,11 @@
 mod ascending;
 mod building;
 mod certificate_shape;
+#[cfg(test)]
+mod certificate_tests;
 mod certificates;
+#[cfg(test)]
+mod check_tests;
 mod class;
 mod command;
 mod document;
@@ -12,6 +16,8 @@ mod fault;
 mod game;
 mod kind;
 mod levels;
+#[cfg(test)]
+mod limit_tests;
 mod limits;
 mod masks;
 mod names;
@@ -20,6 +26,8 @@ mod refusal;
 mod shape;
 mod shares;
 mod table;
+#[cfg(test)]
+mod tests;
 mod trees;
 
 pub use command::Command;

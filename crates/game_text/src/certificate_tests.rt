@@ -1,0 +1,300 @@
+//! Certificates in documents, line by line of their form.
+use super::*;
+use std::alloc::Global;
+use std::test::Fail;
+
+/// An airport game of three players.
+pub const AIRPORT: &str = "{\"class\":\"airport\",\"costs\":[2,4,6]}";
+
+// The text of a document with all four keys.
+pub fn whole_document(
+    alloc: Global,
+    answer: &str,
+    certificate: &str,
+    game: &str,
+    shares: &str,
+) -> Result<String, Fail> {
+    let mut text = String::from_str(alloc, "{\"answer\":")?;
+    text.push_str(answer)?;
+    text.push_str(",\"certificate\":")?;
+    text.push_str(certificate)?;
+    text.push_str(",\"game\":")?;
+    text.push_str(game)?;
+    text.push_str(",\"shares\":")?;
+    text.push_str(shares)?;
+    text.push_str("}")?;
+    Ok(text)
+}
+
+// The text of a certificate of these levels, in mode players.
+fn certificate(alloc: Global, levels: &str) -> Result<String, Fail> {
+    let mut text = String::from_str(alloc, "{\"levels\":[")?;
+    text.push_str(levels)?;
+    text.push_str("],\"mode\":\"players\"}")?;
+    Ok(text)
+}
+
+// Why a document with all four keys isn't one to check.
+pub fn check_fault(
+    alloc: Global,
+    answer: &str,
+    certificate: &str,
+    game: &str,
+    shares: &str,
+) -> Result<Option<TextFault>, Fail> {
+    let text = whole_document(alloc, answer, certificate, game, shares)?;
+    Ok(read_document(alloc, text.as_bytes(), Command::Check).err())
+}
+
+// The text of a level, with another value at one key.
+fn level_with(alloc: Global, key: &str, value: &str) -> Result<String, Fail> {
+    let mut text = String::from_str(alloc, "{")?;
+    for (name, usual, end) in [
+        ("bounds", "[]", ","),
+        ("coalitions", "[[[1],1],[[2,3],1]]", ","),
+        ("earlier", "[]", ","),
+        ("excess", "\"-1\"", ","),
+        ("total", "1", "}"),
+    ] {
+        text.push_str("\"")?;
+        text.push_str(name)?;
+        text.push_str("\":")?;
+        text.push_str(if name == key { value } else { usual })?;
+        text.push_str(end)?;
+    }
+    Ok(text)
+}
+
+// Why a certificate of these levels isn't one for three players.
+fn fault_of_levels(alloc: Global, levels: &str) -> Result<Option<TextFault>, Fail> {
+    let text = certificate(alloc, levels)?;
+    check_fault(alloc, "\"nucleolus\"", &text, AIRPORT, "[1,1,1]")
+}
+
+#[test]
+fn each_line_of_the_form_of_a_level_is_tested(rt: HostRuntime) -> Result<(), Fail> {
+    for (key, value, refusal) in [
+        ("excess", "\"2/4\"", Some(Refusal::Certificate)),
+        (
+            "excess",
+            "\"170141183460469231731687303715884105727\"",
+            None,
+        ),
+        (
+            "excess",
+            "\"170141183460469231731687303715884105728\"",
+            Some(Refusal::Certificate),
+        ),
+        ("coalitions", "[[[],1]]", Some(Refusal::Certificate)),
+        ("coalitions", "[[[0],1]]", Some(Refusal::Certificate)),
+        ("coalitions", "[[[4],1]]", Some(Refusal::Certificate)),
+        ("coalitions", "[[[-1],1]]", Some(Refusal::Certificate)),
+        ("coalitions", "[[[1.5],1]]", Some(Refusal::Certificate)),
+        ("coalitions", "[[[1,1],1]]", Some(Refusal::Certificate)),
+        ("coalitions", "[[[2,1],1]]", Some(Refusal::Certificate)),
+        ("coalitions", "[[[1,2,3],1]]", Some(Refusal::Certificate)),
+        ("coalitions", "[]", Some(Refusal::Certificate)),
+        (
+            "coalitions",
+            "[[[2,3],1],[[1],1]]",
+            Some(Refusal::Certificate),
+        ),
+        (
+            "coalitions",
+            "[[[1],1],[[1],1]]",
+            Some(Refusal::Certificate),
+        ),
+        ("earlier", "[[[1],1]]", Some(Refusal::Certificate)),
+        ("bounds", "[[1,1],[3,0]]", None),
+        ("bounds", "[[3,1],[1,1]]", Some(Refusal::Certificate)),
+        ("bounds", "[[1,1],[1,1]]", Some(Refusal::Certificate)),
+        ("bounds", "[[0,1]]", Some(Refusal::Certificate)),
+        ("bounds", "[[4,1]]", Some(Refusal::Certificate)),
+        ("bounds", "[[1.5,1]]", Some(Refusal::Certificate)),
+    ] {
+        let level = level_with(rt.alloc(), key, value)?;
+        let fault = fault_of_levels(rt.alloc(), &level)?;
+        assert_eq!(rt; fault, refusal.map(TextFault::Refused), "on {level}");
+    }
+    Ok(())
+}
+
+#[test]
+fn weights_and_totals_are_integers_below_2_to_63(rt: HostRuntime) -> Result<(), Fail> {
+    for (key, value, refusal) in [
+        ("total", "9223372036854775807", None),
+        ("coalitions", "[[[1],9223372036854775807],[[2,3],1]]", None),
+        ("bounds", "[[1,9223372036854775807]]", None),
+        ("total", "9223372036854775808", Some(Refusal::Certificate)),
+        (
+            "coalitions",
+            "[[[1],9223372036854775808],[[2,3],1]]",
+            Some(Refusal::Certificate),
+        ),
+        (
+            "bounds",
+            "[[1,9223372036854775808]]",
+            Some(Refusal::Certificate),
+        ),
+        ("total", "-9223372036854775807", None),
+        ("coalitions", "[[[1],-9223372036854775807],[[2,3],1]]", None),
+        ("bounds", "[[1,-9223372036854775807]]", None),
+        ("total", "-9223372036854775808", Some(Refusal::Certificate)),
+        (
+            "coalitions",
+            "[[[1],-9223372036854775808],[[2,3],1]]",
+            Some(Refusal::Certificate),
+        ),
+        (
+            "bounds",
+            "[[1,-9223372036854775808]]",
+            Some(Refusal::Certificate),
+        ),
+        ("total", "1.5", Some(Refusal::Certificate)),
+        (
+            "coalitions",
+            "[[[1],1.5],[[2,3],1]]",
+            Some(Refusal::Certificate),
+        ),
+        ("bounds", "[[1,1.5]]", Some(Refusal::Certificate)),
+        ("total", "1e2", Some(Refusal::Certificate)),
+        (
+            "coalitions",
+            "[[[1],1e2],[[2,3],1]]",
+            Some(Refusal::Certificate),
+        ),
+        ("bounds", "[[1,1e2]]", Some(Refusal::Certificate)),
+    ] {
+        let level = level_with(rt.alloc(), key, value)?;
+        let fault = fault_of_levels(rt.alloc(), &level)?;
+        assert_eq!(rt; fault, refusal.map(TextFault::Refused), "on {level}");
+    }
+    Ok(())
+}
+
+#[test]
+fn earlier_coalitions_stand_in_earlier_levels(rt: HostRuntime) -> Result<(), Fail> {
+    for (earlier, refusal) in [
+        ("[[[1],9223372036854775807]]", None),
+        ("[[[1],9223372036854775808]]", Some(Refusal::Certificate)),
+        ("[[[1],-9223372036854775807]]", None),
+        ("[[[1],-9223372036854775808]]", Some(Refusal::Certificate)),
+        ("[[[1],1.5]]", Some(Refusal::Certificate)),
+        ("[[[1],1e2]]", Some(Refusal::Certificate)),
+        ("[]", None),
+        ("[[[1],1],[[2,3],-1]]", None),
+        ("[[[2,3],1],[[1],-1]]", Some(Refusal::Certificate)),
+        ("[[[3,2],1]]", Some(Refusal::Certificate)),
+        ("[[[1,2],1]]", Some(Refusal::Certificate)),
+        ("[[[1],1],[[1],1]]", Some(Refusal::Certificate)),
+    ] {
+        let mut levels = level_with(rt.alloc(), "", "")?;
+        levels.push_str(",{\"bounds\":[],\"coalitions\":[[[1,2],1]],\"earlier\":")?;
+        levels.push_str(earlier)?;
+        levels.push_str(",\"excess\":\"-2\",\"total\":1}")?;
+        let fault = fault_of_levels(rt.alloc(), &levels)?;
+        assert_eq!(rt; fault, refusal.map(TextFault::Refused), "on {levels}");
+    }
+    Ok(())
+}
+
+#[test]
+fn there_are_fewer_levels_than_players(rt: HostRuntime) -> Result<(), Fail> {
+    let mut levels = level_with(rt.alloc(), "", "")?;
+    assert_eq!(rt; fault_of_levels(rt.alloc(), "")?, None);
+    assert_eq!(rt; fault_of_levels(rt.alloc(), &levels)?, None);
+    let one = level_with(rt.alloc(), "", "")?;
+    levels.push_str(",")?;
+    levels.push_str(&one)?;
+    assert_eq!(rt; fault_of_levels(rt.alloc(), &levels)?, None);
+    levels.push_str(",")?;
+    levels.push_str(&one)?;
+    assert_eq!(rt;
+        fault_of_levels(rt.alloc(), &levels)?,
+        Some(TextFault::Refused(Refusal::Certificate))
+    );
+    Ok(())
+}
+
+#[test]
+fn other_kinds_keys_and_words_of_certificates_are_refused(rt: HostRuntime) -> Result<(), Fail> {
+    for (answer, certificate) in [
+        ("\"nucleolus\"", "[]"),
+        ("\"nucleolus\"", "{\"levels\":[]}"),
+        ("\"nucleolus\"", "{\"mode\":\"players\"}"),
+        (
+            "\"nucleolus\"",
+            "{\"levels\":[],\"mode\":\"players\",\"total\":0}",
+        ),
+        (
+            "\"nucleolus\"",
+            "{\"levels\":[{\"bounds\":[],\"coalitions\":[[[1],1],[[2,3],1]],\"earlier\":[],\"excess\":\"-1\",\"total\":1}],\"mode\":\"Span\"}",
+        ),
+        (
+            "\"nucleolus\"",
+            "{\"levels\":[{\"bounds\":[],\"coalitions\":[[[1],1],[[2,3],1]],\"earlier\":[],\"excess\":\"-1\",\"total\":1}],\"mode\":1}",
+        ),
+        ("\"nucleolus\"", "{\"levels\":{},\"mode\":\"span\"}"),
+        ("\"nucleolus\"", "{\"levels\":[[]],\"mode\":\"players\"}"),
+        (
+            "\"nucleolus\"",
+            "{\"levels\":[{\"bounds\":[],\"coalitions\":[[[1],1]],\"earlier\":[],\"excess\":\"-1\"}],\"mode\":\"players\"}",
+        ),
+        (
+            "\"nucleolus\"",
+            "{\"levels\":[{\"bounds\":[],\"coalitions\":[[[1],1]],\"earlier\":[],\"excess\":\"-1\",\"mode\":\"span\",\"total\":1}],\"mode\":\"players\"}",
+        ),
+        (
+            "\"nucleolus\"",
+            "{\"levels\":[{\"bounds\":[],\"coalitions\":[[[1],1],[[2,3],1]],\"earlier\":[],\"excess\":-1,\"total\":1}],\"mode\":\"players\"}",
+        ),
+        (
+            "\"nucleolus\"",
+            "{\"levels\":[{\"bounds\":[],\"coalitions\":[[[1],1],[[2,3],1]],\"earlier\":[],\"excess\":\"-1\",\"total\":\"1\"}],\"mode\":\"players\"}",
+        ),
+        (
+            "\"nucleolus\"",
+            "{\"levels\":[{\"bounds\":[],\"coalitions\":[[[1],1,1]],\"earlier\":[],\"excess\":\"-1\",\"total\":1}],\"mode\":\"players\"}",
+        ),
+        (
+            "\"nucleolus\"",
+            "{\"levels\":[{\"bounds\":[],\"coalitions\":[[[1]]],\"earlier\":[],\"excess\":\"-1\",\"total\":1}],\"mode\":\"players\"}",
+        ),
+        (
+            "\"nucleolus\"",
+            "{\"levels\":[{\"bounds\":[],\"coalitions\":[[1,1]],\"earlier\":[],\"excess\":\"-1\",\"total\":1}],\"mode\":\"players\"}",
+        ),
+        (
+            "\"nucleolus\"",
+            "{\"levels\":[{\"bounds\":[],\"coalitions\":[[[\"a\"],1]],\"earlier\":[],\"excess\":\"-1\",\"total\":1}],\"mode\":\"players\"}",
+        ),
+        (
+            "\"nucleolus\"",
+            "{\"levels\":[{\"bounds\":[],\"coalitions\":[[[1],1],[[2,3],1]],\"earlier\":[[[1],\"1\"]],\"excess\":\"-1\",\"total\":1}],\"mode\":\"players\"}",
+        ),
+        (
+            "\"nucleolus\"",
+            "{\"levels\":[{\"bounds\":[[[1],1]],\"coalitions\":[[[1],1],[[2,3],1]],\"earlier\":[],\"excess\":\"-1\",\"total\":1}],\"mode\":\"players\"}",
+        ),
+        (
+            "\"nucleolus\"",
+            "{\"levels\":[{\"bounds\":[[1,1,1]],\"coalitions\":[[[1],1],[[2,3],1]],\"earlier\":[],\"excess\":\"-1\",\"total\":1}],\"mode\":\"players\"}",
+        ),
+        (
+            "\"core\"",
+            "{\"levels\":[{\"bounds\":[],\"coalitions\":[[[1],1],[[2,3],1]],\"earlier\":[],\"excess\":\"-1\",\"total\":1}],\"mode\":\"players\"}",
+        ),
+        (
+            "1",
+            "{\"levels\":[{\"bounds\":[],\"coalitions\":[[[1],1],[[2,3],1]],\"earlier\":[],\"excess\":\"-1\",\"total\":1}],\"mode\":\"players\"}",
+        ),
+    ] {
+        let fault = check_fault(rt.alloc(), answer, certificate, AIRPORT, "[1,1,1]")?;
+        assert_eq!(rt;
+            fault,
+            Some(TextFault::Refused(Refusal::Shape)),
+            "on {answer} and {certificate}"
+        );
+    }
+    Ok(())
+}

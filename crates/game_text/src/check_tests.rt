@@ -1,0 +1,231 @@
+//! Documents for the commands that find and check a nucleolus.
+use super::*;
+use crate::certificate_tests::{AIRPORT, check_fault, whole_document};
+use coalitions::Coalition;
+use definitions::{Family, Mode};
+use std::alloc::Global;
+use std::test::Fail;
+
+#[test]
+fn certificates_are_tested_last(rt: HostRuntime) -> Result<(), Fail> {
+    for (certificate, game, shares, refusal) in [
+        (
+            "{\"levels\":[{\"bounds\":[[1]],\"coalitions\":[],\"earlier\":[],\"excess\":\"-1\",\"total\":1}],\"mode\":\"players\"}",
+            "{\"class\":\"airport\",\"costs\":[]}",
+            "[1]",
+            Refusal::Shape,
+        ),
+        (
+            "{\"levels\":[{\"bounds\":[],\"coalitions\":[],\"earlier\":[],\"excess\":\"-1\",\"total\":1}],\"mode\":\"players\"}",
+            "{\"class\":\"airport\",\"costs\":[]}",
+            "[1.5]",
+            Refusal::Players,
+        ),
+        (
+            "{\"levels\":[{\"bounds\":[],\"coalitions\":[],\"earlier\":[],\"excess\":\"-1\",\"total\":1}],\"mode\":\"players\"}",
+            "{\"class\":\"airport\",\"costs\":[2,4,6]}",
+            "[1.5]",
+            Refusal::Number,
+        ),
+        (
+            "{\"levels\":[{\"bounds\":[],\"coalitions\":[],\"earlier\":[],\"excess\":\"-1\",\"total\":1}],\"mode\":\"players\"}",
+            "{\"class\":\"airport\",\"costs\":[2,4,6],\"names\":[]}",
+            "[1,1,1]",
+            Refusal::Names,
+        ),
+        (
+            "{\"levels\":[{\"bounds\":[],\"coalitions\":[],\"earlier\":[],\"excess\":\"-1\",\"total\":1}],\"mode\":\"players\"}",
+            "{\"class\":\"airport\",\"costs\":[2,4,6]}",
+            "[1,1]",
+            Refusal::Proposal,
+        ),
+        (
+            "{\"levels\":[{\"bounds\":[],\"coalitions\":[],\"earlier\":[],\"excess\":\"-1\",\"total\":1}],\"mode\":\"players\"}",
+            "{\"class\":\"airport\",\"costs\":[2,4,6]}",
+            "[\"1/9223372036854775809\",0,0]",
+            Refusal::TooFine,
+        ),
+        (
+            "{\"levels\":[{\"bounds\":[],\"coalitions\":[],\"earlier\":[],\"excess\":\"-1\",\"total\":1}],\"mode\":\"players\"}",
+            "{\"class\":\"airport\",\"costs\":[2,4,6]}",
+            "[1,1,1]",
+            Refusal::Certificate,
+        ),
+    ] {
+        let fault = check_fault(rt.alloc(), "\"nucleolus\"", certificate, game, shares)?;
+        assert_eq!(rt;
+            fault,
+            Some(TextFault::Refused(refusal)),
+            "on {certificate} and {game}"
+        );
+    }
+    Ok(())
+}
+
+#[test]
+fn mode_span_is_for_at_most_16_players(rt: HostRuntime) -> Result<(), Fail> {
+    for (players, certificate, refusal) in [
+        (
+            17,
+            "{\"levels\":[],\"mode\":\"span\"}",
+            Some(Refusal::Certificate),
+        ),
+        (17, "{\"levels\":[],\"mode\":\"players\"}", None),
+        (16, "{\"levels\":[],\"mode\":\"span\"}", None),
+    ] {
+        let ones = ones(rt.alloc(), players)?;
+        let mut game = String::from_str(rt.alloc(), "{\"class\":\"airport\",\"costs\":")?;
+        game.push_str(&ones)?;
+        game.push_str("}")?;
+        let fault = check_fault(rt.alloc(), "\"nucleolus\"", certificate, &game, &ones)?;
+        assert_eq!(rt;
+            fault,
+            refusal.map(TextFault::Refused),
+            "{players} and {certificate}"
+        );
+    }
+    Ok(())
+}
+
+// The text of an array of ones.
+fn ones(alloc: Global, count: u32) -> Result<String, Fail> {
+    let mut text = String::from_str(alloc, "[1")?;
+    for i in 1..count {
+        text.push_str(",1")?;
+    }
+    text.push_str("]")?;
+    Ok(text)
+}
+
+// What a command doesn't need isn't looked at; but each key is known.
+#[test]
+fn commands_look_at_what_they_need(rt: HostRuntime) {
+    for (command, text, refusal) in [
+        (
+            Command::Nucleolus,
+            "{\"answer\":1,\"certificate\":[],\"game\":{\"class\":\"airport\",\"costs\":[2,4,6]},\"shares\":null}",
+            None,
+        ),
+        (
+            Command::Prenucleolus,
+            "{\"game\":{\"class\":\"airport\",\"costs\":[2,4,6]}}",
+            None,
+        ),
+        (
+            Command::Nucleolus,
+            "{\"game\":{\"class\":\"airport\",\"costs\":[2,4,6]},\"share\":null}",
+            Some(Refusal::Shape),
+        ),
+        (
+            Command::Nucleolus,
+            "{\"shares\":[1,1,1]}",
+            Some(Refusal::Shape),
+        ),
+        (
+            Command::Prenucleolus,
+            "{\"game\":{\"class\":\"airport\",\"costs\":[-1]},\"shares\":[1.5]}",
+            Some(Refusal::Number),
+        ),
+        (
+            Command::Propose,
+            "{\"answer\":1,\"certificate\":[],\"game\":{\"class\":\"airport\",\"costs\":[2,4,6]},\"shares\":[1,1,1]}",
+            None,
+        ),
+        (
+            Command::Check,
+            "{\"certificate\":{\"levels\":[],\"mode\":\"span\"},\"game\":{\"class\":\"airport\",\"costs\":[2,4,6]},\"shares\":[1,1,1]}",
+            Some(Refusal::Shape),
+        ),
+        (
+            Command::Check,
+            "{\"answer\":\"nucleolus\",\"game\":{\"class\":\"airport\",\"costs\":[2,4,6]},\"shares\":[1,1,1]}",
+            Some(Refusal::Shape),
+        ),
+        (
+            Command::Check,
+            "{\"answer\":\"nucleolus\",\"certificate\":{\"levels\":[],\"mode\":\"span\"},\"game\":{\"class\":\"airport\",\"costs\":[2,4,6]}}",
+            Some(Refusal::Shape),
+        ),
+        (
+            Command::Check,
+            "{\"answer\":\"nucleolus\",\"certificate\":{\"levels\":[],\"mode\":\"span\"},\"shares\":[1,1,1]}",
+            Some(Refusal::Shape),
+        ),
+        (
+            Command::Check,
+            "{\"answer\":\"nucleolus\",\"certificate\":{\"levels\":[],\"mode\":\"span\"},\"game\":{\"class\":\"airport\",\"costs\":[2,4,6]},\"shares\":[1,1,1]}\n",
+            None,
+        ),
+    ] {
+        let fault = read_document(rt.alloc(), text.as_bytes(), command).err();
+        assert_eq!(rt;
+            fault,
+            refusal.map(TextFault::Refused),
+            "{command:?} on {text}"
+        );
+    }
+}
+
+#[test]
+fn documents_to_check_have_at_most_8_mib(rt: HostRuntime) -> Result<(), Fail> {
+    let long = vec![in rt.alloc(); b' '; 8_388_609]?;
+    for (command, count, refusal) in [
+        (Command::Check, 8_388_609, Refusal::TooLong),
+        (Command::Check, 8_388_608, Refusal::NotJson),
+        (Command::Nucleolus, 2_097_153, Refusal::TooLong),
+        (Command::Nucleolus, 2_097_152, Refusal::NotJson),
+        (Command::Prenucleolus, 2_097_153, Refusal::TooLong),
+    ] {
+        let fault = read_document(rt.alloc(), &long[..count], command).err();
+        assert_eq!(rt;
+            fault,
+            Some(TextFault::Refused(refusal)),
+            "{command:?} of {count}"
+        );
+    }
+    Ok(())
+}
+
+const TWO_LEVELS: &str =
+    "{\"levels\":[{\"bounds\":[],\"coalitions\":[[[1],1],[[2,3],1]],\"earlier\":[],\"excess\":\"-1\",\"total\":1},{\"bounds\":[],\"coalitions\":[[[1,2],1],[[1,3],1]],\"earlier\":[[[1],-1]],\"excess\":\"-3/2\",\"total\":1}],\"mode\":\"players\"}";
+
+#[test]
+fn a_certificate_is_read_whole(rt: HostRuntime) -> Result<(), Fail> {
+    let answer = "\"prenucleolus\"";
+    let shares = "[\"1\",\"3/2\",\"7/2\"]";
+    let text = whole_document(rt.alloc(), answer, TWO_LEVELS, AIRPORT, shares)?;
+    let read = read_document(rt.alloc(), text.as_bytes(), Command::Check)?;
+    assert_eq!(rt; read.family, Some(Family::Preimputations));
+    let x = read.shares.ok_or("no shares")?;
+    assert!(rt; x.players() == 3);
+    assert_eq!(rt;
+        [x.num(0), x.num(1), x.num(2), x.den()].as_slice(),
+        [-2, -3, -7, 2].as_slice()
+    );
+    let found = read.certificate.ok_or("no certificate")?;
+    assert_eq!(rt; found.players(), 3);
+    assert_eq!(rt; found.mode(), Mode::Players);
+    let [first, second] = found.levels() else {
+        return Err(Fail::from("not two levels"));
+    };
+    assert_eq!(rt;
+        (first.excess.num(), first.excess.den(), first.total),
+        (-1, 1, 1)
+    );
+    assert_eq!(rt;
+        first.coalitions.as_slice(),
+        [(Coalition(1), 1), (Coalition(6), 1)].as_slice()
+    );
+    assert!(rt; first.earlier.is_empty() && first.bounds.is_empty());
+    assert_eq!(rt;
+        (second.excess.num(), second.excess.den(), second.total),
+        (-3, 2, 1)
+    );
+    assert_eq!(rt;
+        second.coalitions.as_slice(),
+        [(Coalition(3), 1), (Coalition(5), 1)].as_slice()
+    );
+    assert_eq!(rt; second.earlier.as_slice(), [(Coalition(1), -1)].as_slice());
+    assert!(rt; second.bounds.is_empty());
+    Ok(())
+}

@@ -1,0 +1,268 @@
+//! Games, shares, names and coalitions at their limits and past them.
+use super::*;
+use crate::tests::fault_in;
+use std::alloc::Global;
+use std::test::Fail;
+
+#[test]
+fn games_keep_their_limits(rt: HostRuntime) -> Result<(), Fail> {
+    for (game, shares, refusal) in [
+        (
+            "{\"class\":\"table\",\"players\":0,\"sparse\":[]}",
+            "[]",
+            Some(Refusal::Players),
+        ),
+        (
+            "{\"class\":\"table\",\"players\":16,\"sparse\":[]}",
+            "[0,0,0,0,0,0,0,0,0,0,0,0,0,0,0,0]",
+            None,
+        ),
+        (
+            "{\"class\":\"table\",\"players\":17,\"sparse\":[]}",
+            "[]",
+            Some(Refusal::Players),
+        ),
+        (
+            "{\"class\":\"table\",\"players\":1.0,\"sparse\":[]}",
+            "[0]",
+            Some(Refusal::Players),
+        ),
+        (
+            "{\"class\":\"table\",\"players\":2,\"worths\":[1,2]}",
+            "[0,0]",
+            Some(Refusal::Players),
+        ),
+        (
+            "{\"class\":\"table\",\"players\":2,\"worths\":[1,2,3]}",
+            "[0,0]",
+            None,
+        ),
+        (
+            "{\"class\":\"table\",\"players\":2,\"worths\":[1,2,3,4]}",
+            "[0,0]",
+            Some(Refusal::Players),
+        ),
+        (
+            "{\"claims\":[],\"class\":\"bankruptcy\",\"estate\":0}",
+            "[]",
+            Some(Refusal::Players),
+        ),
+        (
+            "{\"class\":\"airport\",\"costs\":[1,1,1,1,1,1,1,1,1,1,1,1,1,1,1,1,1,1,1,1,1,1,1,1,1,1,1,1,1,1,1,1,1,1,1,1,1,1,1,1,1,1,1,1,1,1,1,1,1,1,1,1,1,1,1,1,1,1,1,1,1,1,1,1]}",
+            "[1,1,1,1,1,1,1,1,1,1,1,1,1,1,1,1,1,1,1,1,1,1,1,1,1,1,1,1,1,1,1,1,1,1,1,1,1,1,1,1,1,1,1,1,1,1,1,1,1,1,1,1,1,1,1,1,1,1,1,1,1,1,1,1]",
+            None,
+        ),
+        (
+            "{\"class\":\"airport\",\"costs\":[1,1,1,1,1,1,1,1,1,1,1,1,1,1,1,1,1,1,1,1,1,1,1,1,1,1,1,1,1,1,1,1,1,1,1,1,1,1,1,1,1,1,1,1,1,1,1,1,1,1,1,1,1,1,1,1,1,1,1,1,1,1,1,1,1]}",
+            "[1,1,1,1,1,1,1,1,1,1,1,1,1,1,1,1,1,1,1,1,1,1,1,1,1,1,1,1,1,1,1,1,1,1,1,1,1,1,1,1,1,1,1,1,1,1,1,1,1,1,1,1,1,1,1,1,1,1,1,1,1,1,1,1,1]",
+            Some(Refusal::Players),
+        ),
+        (
+            "{\"class\":\"table\",\"players\":1,\"worths\":[1099511627775]}",
+            "[0]",
+            None,
+        ),
+        (
+            "{\"class\":\"table\",\"players\":1,\"worths\":[1099511627776]}",
+            "[0]",
+            Some(Refusal::Number),
+        ),
+        (
+            "{\"class\":\"table\",\"players\":1,\"worths\":[-1099511627775]}",
+            "[0]",
+            None,
+        ),
+        (
+            "{\"class\":\"table\",\"players\":1,\"worths\":[-1099511627776]}",
+            "[0]",
+            Some(Refusal::Number),
+        ),
+        (
+            "{\"class\":\"table\",\"default\":1099511627776,\"players\":1,\"sparse\":[]}",
+            "[0]",
+            Some(Refusal::Number),
+        ),
+        (
+            "{\"class\":\"table\",\"players\":1,\"worths\":[1e2]}",
+            "[0]",
+            Some(Refusal::Number),
+        ),
+        ("{\"class\":\"airport\",\"costs\":[0]}", "[0]", None),
+        (
+            "{\"class\":\"airport\",\"costs\":[-1]}",
+            "[0]",
+            Some(Refusal::Number),
+        ),
+        (
+            "{\"class\":\"airport\",\"costs\":[1099511627776]}",
+            "[0]",
+            Some(Refusal::Number),
+        ),
+        (
+            "{\"claims\":[0],\"class\":\"bankruptcy\",\"estate\":-1}",
+            "[0]",
+            Some(Refusal::Number),
+        ),
+        (
+            "{\"claims\":[1099511627776],\"class\":\"bankruptcy\",\"estate\":0}",
+            "[0]",
+            Some(Refusal::Number),
+        ),
+        (
+            "{\"claims\":[1,2],\"class\":\"bankruptcy\",\"estate\":3}",
+            "[0,0]",
+            None,
+        ),
+        (
+            "{\"claims\":[1,2],\"class\":\"bankruptcy\",\"estate\":4}",
+            "[0,0]",
+            Some(Refusal::Estate),
+        ),
+        (
+            "{\"class\":\"airport\",\"costs\":[1,2]}",
+            "[0,0,0]",
+            Some(Refusal::Proposal),
+        ),
+        (
+            "{\"class\":\"airport\",\"costs\":[1,2]}",
+            "[0]",
+            Some(Refusal::Proposal),
+        ),
+    ] {
+        let fault = fault_in(rt.alloc(), game, shares)?;
+        assert_eq!(rt;
+            fault,
+            refusal.map(TextFault::Refused),
+            "on {game} and {shares}"
+        );
+    }
+    Ok(())
+}
+
+const ONE_PLAYER: &str = "{\"class\":\"airport\",\"costs\":[1]}";
+
+#[test]
+fn shares_are_texts_of_fractions_within_their_limits(rt: HostRuntime) -> Result<(), Fail> {
+    for (shares, refusal) in [
+        ("[1.5]", Some(Refusal::Number)),
+        ("[\"2/4\"]", Some(Refusal::Number)),
+        ("[\"+1\"]", Some(Refusal::Number)),
+        ("[\"-0\"]", Some(Refusal::Number)),
+        ("[\"01\"]", Some(Refusal::Number)),
+        ("[\"1/1\"]", Some(Refusal::Number)),
+        ("[\"0/5\"]", Some(Refusal::Number)),
+        ("[\" 1\"]", Some(Refusal::Number)),
+        ("[\"1/\"]", Some(Refusal::Number)),
+        ("[\"\"]", Some(Refusal::Number)),
+        ("[-0]", Some(Refusal::Number)),
+        ("[9223372036854775808]", Some(Refusal::Number)),
+        (
+            "[\"170141183460469231731687303715884105728\"]",
+            Some(Refusal::Number),
+        ),
+        (
+            "[\"170141183460469231731687303715884105727\"]",
+            Some(Refusal::TooFine),
+        ),
+        (
+            "[\"-170141183460469231731687303715884105728\"]",
+            Some(Refusal::TooFine),
+        ),
+        (
+            "[\"-170141183460469231731687303715884105729\"]",
+            Some(Refusal::Number),
+        ),
+        (
+            "[\"1/170141183460469231731687303715884105728\"]",
+            Some(Refusal::Number),
+        ),
+        (
+            "[\"1/170141183460469231731687303715884105727\"]",
+            Some(Refusal::TooFine),
+        ),
+        ("[\"1/9223372036854775808\"]", None),
+        ("[\"1/9223372036854775809\"]", Some(Refusal::TooFine)),
+        ("[\"1298074214633706907132624082305023\"]", None),
+        (
+            "[\"1298074214633706907132624082305024\"]",
+            Some(Refusal::TooFine),
+        ),
+        (
+            "[\"-1298074214633706907132624082305024\"]",
+            Some(Refusal::TooFine),
+        ),
+    ] {
+        let fault = fault_in(rt.alloc(), ONE_PLAYER, shares)?;
+        assert_eq!(rt; fault, refusal.map(TextFault::Refused), "on {shares}");
+    }
+    Ok(())
+}
+
+#[test]
+fn names_have_1_to_64_bytes(rt: HostRuntime) -> Result<(), Fail> {
+    for (names, refusal) in [
+        (
+            "[\"xxxxxxxxxxxxxxxxxxxxxxxxxxxxxxxxxxxxxxxxxxxxxxxxxxxxxxxxxxxxxxxx\"]",
+            None,
+        ),
+        (
+            "[\"xxxxxxxxxxxxxxxxxxxxxxxxxxxxxxxxxxxxxxxxxxxxxxxxxxxxxxxxxxxxxxxxx\"]",
+            Some(Refusal::Names),
+        ),
+        ("[\"éééééééééééééééééééééééééééééééé\"]", None),
+        (
+            "[\"ééééééééééééééééééééééééééééééééé\"]",
+            Some(Refusal::Names),
+        ),
+        ("[\"\"]", Some(Refusal::Names)),
+        ("[]", Some(Refusal::Names)),
+        ("[\"a\",\"b\"]", Some(Refusal::Names)),
+    ] {
+        let fault = fault_in(rt.alloc(), &named(rt.alloc(), names)?, "[1]")?;
+        assert_eq!(rt; fault, refusal.map(TextFault::Refused), "on {names}");
+    }
+    Ok(())
+}
+
+#[test]
+fn sparse_coalitions_are_sets_of_players(rt: HostRuntime) -> Result<(), Fail> {
+    for (pairs, refusal) in [
+        (
+            "[[\"Ann\"],1],[[2,\"Élodie\"],2],[[\"Bob\",\"Ann\"],3]",
+            None,
+        ),
+        ("[[\"ann\"],1]", Some(Refusal::Names)),
+        ("[[\"Elodie\"],1]", Some(Refusal::Names)),
+        ("[[],1]", Some(Refusal::Coalition)),
+        ("[[0],1]", Some(Refusal::Coalition)),
+        ("[[4],1]", Some(Refusal::Coalition)),
+        ("[[1.5],1]", Some(Refusal::Coalition)),
+        ("[[-1],1]", Some(Refusal::Coalition)),
+        ("[[1,2,1],1]", Some(Refusal::Coalition)),
+        ("[[\"Ann\",1],1]", Some(Refusal::Coalition)),
+        ("[[\"Ann\",\"Bob\"],1],[[2,1],1]", Some(Refusal::Coalition)),
+        ("[[1,2],1],[[1,2],1]", Some(Refusal::Coalition)),
+    ] {
+        let fault = fault_in(rt.alloc(), &sparse(rt.alloc(), pairs)?, "[1,1,1]")?;
+        assert_eq!(rt; fault, refusal.map(TextFault::Refused), "on {pairs}");
+    }
+    Ok(())
+}
+
+// An airport game of one player with these names.
+fn named(alloc: Global, names: &str) -> Result<String, Fail> {
+    let mut text = String::from_str(alloc, "{\"class\":\"airport\",\"costs\":[1],\"names\":")?;
+    text.push_str(names)?;
+    text.push_str("}")?;
+    Ok(text)
+}
+
+// A sparse table of the costs of three players with names.
+fn sparse(alloc: Global, pairs: &str) -> Result<String, Fail> {
+    let front =
+        "{\"class\":\"cost-table\",\"names\":[\"Ann\",\"Bob\",\"Élodie\"],\"players\":3,\"sparse\":[";
+    let mut text = String::from_str(alloc, front)?;
+    text.push_str(pairs)?;
+    text.push_str("]}")?;
+    Ok(text)
+}

@@ -1,0 +1,288 @@
+//! Documents that are refused, and what the others say.
+use super::*;
+use coalitions::Coalition;
+use std::alloc::Global;
+use std::process::Abort;
+use std::test::Fail;
+use worth_core::Worth;
+
+// The text of a document of this game and these shares.
+fn document(alloc: Global, game: &str, shares: &str) -> Result<String, Fail> {
+    let mut text = String::from_str(alloc, "{\"game\":")?;
+    text.push_str(game)?;
+    text.push_str(",\"shares\":")?;
+    text.push_str(shares)?;
+    text.push_str("}")?;
+    Ok(text)
+}
+
+// Why bytes give no document.
+fn fault_of(alloc: Global, bytes: &[u8]) -> Option<TextFault> {
+    read_document(alloc, bytes, Command::Propose).err()
+}
+
+// Why this game and these shares give no document.
+pub fn fault_in(alloc: Global, game: &str, shares: &str) -> Result<Option<TextFault>, Fail> {
+    let text = document(alloc, game, shares)?;
+    Ok(fault_of(alloc, text.as_bytes()))
+}
+
+#[test]
+fn other_kinds_keys_and_words_are_refused(rt: HostRuntime) {
+    for text in [
+        "[]",
+        "{\"shares\":[1]}",
+        "{\"game\":{\"class\":\"airport\",\"costs\":[1]}}",
+        "{\"game\":[],\"shares\":[1]}",
+        "{\"game\":{\"class\":\"airport\",\"costs\":[1]},\"price\":1,\"shares\":[1]}",
+        "{\"game\":{\"clas\":\"airport\",\"costs\":[1]},\"shares\":[1]}",
+        "{\"game\":{\"class\":1,\"costs\":[1]},\"shares\":[1]}",
+        "{\"game\":{\"class\":\"airports\",\"costs\":[1]},\"shares\":[1]}",
+        "{\"game\":{\"class\":\"tree\",\"matrix\":[[0,1],[1,0]]},\"shares\":[1]}",
+        "{\"game\":{\"class\":\"assignment\",\"matrix\":[[1]]},\"shares\":[1,1]}",
+        "{\"game\":{\"class\":\"airport\",\"costs\":1},\"shares\":[1]}",
+        "{\"game\":{\"class\":\"airport\",\"costs\":[\"1\"]},\"shares\":[1]}",
+        "{\"game\":{\"class\":\"airport\",\"costs\":[1],\"players\":1},\"shares\":[1]}",
+        "{\"game\":{\"class\":\"airport\",\"costs\":[1],\"names\":[\"a\",1]},\"shares\":[1]}",
+        "{\"game\":{\"claims\":[1],\"class\":\"bankruptcy\"},\"shares\":[1]}",
+        "{\"game\":{\"claims\":[1],\"class\":\"bankruptcy\",\"estate\":\"1\"},\"shares\":[1]}",
+        "{\"game\":{\"class\":\"table\",\"worths\":[1]},\"shares\":[1]}",
+        "{\"game\":{\"class\":\"table\",\"players\":\"1\",\"worths\":[1]},\"shares\":[1]}",
+        "{\"game\":{\"class\":\"table\",\"players\":1},\"shares\":[1]}",
+        "{\"game\":{\"class\":\"table\",\"players\":1,\"sparse\":[],\"worths\":[1]},\"shares\":[1]}",
+        "{\"game\":{\"class\":\"table\",\"default\":0,\"players\":1,\"worths\":[1]},\"shares\":[1]}",
+        "{\"game\":{\"class\":\"table\",\"default\":\"0\",\"players\":1,\"sparse\":[]},\"shares\":[1]}",
+        "{\"game\":{\"class\":\"cost-table\",\"players\":1,\"sparse\":[[[1],1,1]]},\"shares\":[1]}",
+        "{\"game\":{\"class\":\"cost-table\",\"players\":1,\"sparse\":[[1,1]]},\"shares\":[1]}",
+        "{\"game\":{\"class\":\"cost-table\",\"players\":1,\"sparse\":[[[null],1]]},\"shares\":[1]}",
+        "{\"game\":{\"class\":\"airport\",\"costs\":[1]},\"shares\":[null]}",
+        "{\"game\":{\"class\":\"airport\",\"costs\":[1]},\"shares\":1}",
+    ] {
+        let fault = fault_of(rt.alloc(), text.as_bytes());
+        assert_eq!(rt;
+            fault,
+            Some(TextFault::Refused(Refusal::Shape)),
+            "on {text}"
+        );
+    }
+}
+
+#[test]
+fn of_two_refusals_the_first_is_given(rt: HostRuntime) -> Result<(), Fail> {
+    for (game, shares, refusal) in [
+        (
+            "{\"class\":\"airport\",\"cost\":[],\"costs\":[]}",
+            "[1]",
+            Refusal::Shape,
+        ),
+        (
+            "{\"class\":\"table\",\"players\":0,\"sparse\":[[[1],1,1]]}",
+            "[\"2/4\"]",
+            Refusal::Shape,
+        ),
+        (
+            "{\"class\":\"airport\",\"costs\":[]}",
+            "[\"2/4\"]",
+            Refusal::Players,
+        ),
+        (
+            "{\"class\":\"table\",\"players\":2,\"worths\":[0.5]}",
+            "[1]",
+            Refusal::Players,
+        ),
+        (
+            "{\"class\":\"airport\",\"costs\":[-1],\"names\":[]}",
+            "[1]",
+            Refusal::Number,
+        ),
+        (
+            "{\"class\":\"table\",\"players\":3,\"sparse\":[[[],1.5]]}",
+            "[1]",
+            Refusal::Number,
+        ),
+        (
+            "{\"class\":\"airport\",\"costs\":[1],\"names\":[]}",
+            "[1.5,1]",
+            Refusal::Number,
+        ),
+        (
+            "{\"claims\":[1],\"class\":\"bankruptcy\",\"estate\":2}",
+            "[\"+1\"]",
+            Refusal::Number,
+        ),
+        (
+            "{\"class\":\"table\",\"names\":[\"a\"],\"players\":3,\"sparse\":[[[],1]]}",
+            "[1]",
+            Refusal::Names,
+        ),
+        (
+            "{\"class\":\"table\",\"players\":3,\"sparse\":[[[1,1],1],[[\"a\"],1]]}",
+            "[1,2,3]",
+            Refusal::Names,
+        ),
+        (
+            "{\"claims\":[1],\"class\":\"bankruptcy\",\"estate\":2,\"names\":[\"\"]}",
+            "[1]",
+            Refusal::Names,
+        ),
+        (
+            "{\"class\":\"table\",\"players\":3,\"sparse\":[[[1,2],6],[[3,2,1],12],[[2,1],6]]}",
+            "[1,2]",
+            Refusal::Coalition,
+        ),
+        (
+            "{\"claims\":[100,200,300],\"class\":\"bankruptcy\",\"estate\":601}",
+            "[1,2]",
+            Refusal::Estate,
+        ),
+        (
+            "{\"claims\":[100,200,300],\"class\":\"bankruptcy\",\"estate\":601}",
+            "[\"1/9223372036854775809\",0,0]",
+            Refusal::Estate,
+        ),
+        (
+            "{\"class\":\"airport\",\"costs\":[2,4,6]}",
+            "[\"1/9223372036854775809\",0]",
+            Refusal::Proposal,
+        ),
+    ] {
+        let fault = fault_in(rt.alloc(), game, shares)?;
+        assert_eq!(rt;
+            fault,
+            Some(TextFault::Refused(refusal)),
+            "on {game} and {shares}"
+        );
+    }
+    Ok(())
+}
+
+#[test]
+fn bytes_are_json_of_at_most_2_mib(rt: HostRuntime) -> Result<(), Fail> {
+    let long = vec![in rt.alloc(); b' '; 2_097_153]?;
+    for (bytes, refusal) in [
+        (&long[..], Refusal::TooLong),
+        (&long[..2_097_152], Refusal::NotJson),
+        (b"".as_slice(), Refusal::NotJson),
+        (b"{\"game\":{\"class\":".as_slice(), Refusal::NotJson),
+        (b"{\"game\":{},}".as_slice(), Refusal::NotJson),
+        (b"\"\xff\"".as_slice(), Refusal::NotJson),
+        (b"[1e999]".as_slice(), Refusal::NotJson),
+    ] {
+        assert_eq!(rt;
+            fault_of(rt.alloc(), bytes),
+            Some(TextFault::Refused(refusal))
+        );
+    }
+    Ok(())
+}
+
+// Of a key that comes twice the last counts. A newline may stand at the end.
+#[test]
+fn the_last_of_two_equal_keys_counts(rt: HostRuntime) {
+    for (text, refusal) in [
+        (
+            "{\"game\":{\"class\":\"airport\",\"costs\":[]},\"game\":{\"class\":\"airport\",\"costs\":[1]},\"shares\":[1]}\n",
+            None,
+        ),
+        (
+            "{\"game\":{\"class\":\"airport\",\"costs\":[1]},\"game\":{\"class\":\"airport\",\"costs\":[]},\"shares\":[1]}",
+            Some(Refusal::Players),
+        ),
+        (
+            "{\"game\":{\"class\":\"airport\",\"costs\":[],\"costs\":[1]},\"shares\":[1],\"shares\":[2,3]}",
+            Some(Refusal::Proposal),
+        ),
+    ] {
+        let fault = fault_of(rt.alloc(), text.as_bytes());
+        assert_eq!(rt; fault, refusal.map(TextFault::Refused), "on {text}");
+    }
+}
+
+// The worth of each coalition, in mask order.
+fn worths_of(rt: &impl Abort, alloc: Global, game: &Game) -> Result<Vec<i64>, Fail> {
+    let players = game.players();
+    let mut worths = Vec::new(alloc);
+    for s in Coalition::subsets(players) {
+        assert!(rt; s <= Coalition::all(players));
+        worths.push(game.worth(s))?;
+    }
+    Ok(worths)
+}
+
+#[test]
+fn payments_are_negated_shares_over_the_least_denominator(rt: HostRuntime) -> Result<(), Fail> {
+    let game = "{\"class\":\"airport\",\"costs\":[2,4,6]}";
+    let text = document(rt.alloc(), game, "[\"3/4\",-1,\"5/6\"]")?;
+    let read = read_document(rt.alloc(), text.as_bytes(), Command::Propose)?;
+    let x = read.shares.ok_or("no shares")?;
+    assert!(rt; x.players() == 3 && read.game.players() == 3);
+    assert!(rt; read.game.is_cost());
+    assert_eq!(rt;
+        [x.num(0), x.num(1), x.num(2), x.den()].as_slice(),
+        [-9, 12, -10, 12].as_slice()
+    );
+    let worths = worths_of(&rt, rt.alloc(), &read.game)?;
+    assert_eq!(rt;
+        worths.as_slice(),
+        [0, -2, -4, -4, -6, -6, -6, -6].as_slice()
+    );
+    Ok(())
+}
+
+#[test]
+fn sparse_tables_list_some_coalitions_by_names(rt: HostRuntime) -> Result<(), Fail> {
+    let game =
+        "{\"class\":\"table\",\"default\":-5,\"names\":[\"a\",\"b\"],\"players\":2,\"sparse\":[[[\"b\",1],7]]}";
+    let text = document(rt.alloc(), game, "[\"1/3\",\"-1/3\"]")?;
+    let read = read_document(rt.alloc(), text.as_bytes(), Command::Propose)?;
+    let x = read.shares.ok_or("no shares")?;
+    assert!(rt; x.players() == 2 && read.game.players() == 2);
+    assert!(rt; !read.game.is_cost());
+    assert_eq!(rt;
+        [x.num(0), x.num(1), x.den()].as_slice(),
+        [1, -1, 3].as_slice()
+    );
+    let worths = worths_of(&rt, rt.alloc(), &read.game)?;
+    assert_eq!(rt; worths.as_slice(), [0, -5, -5, 7].as_slice());
+    Ok(())
+}
+
+// The worked proposals: who is blocked by whom.
+#[test]
+fn games_answer_with_the_bodies_of_their_classes(rt: HostRuntime) -> Result<(), Fail> {
+    for (game, shares, blocker) in [
+        (
+            "{\"class\":\"airport\",\"costs\":[2,4,6]}",
+            "[3,1,2]",
+            Some(Coalition(1)),
+        ),
+        (
+            "{\"claims\":[100,200,300],\"class\":\"bankruptcy\",\"estate\":200}",
+            "[110,45,45]",
+            Some(Coalition(6)),
+        ),
+        (
+            "{\"class\":\"table\",\"players\":3,\"worths\":[0,0,1,0,1,1,1]}",
+            "[\"1/3\",\"1/3\",\"1/3\"]",
+            Some(Coalition(3)),
+        ),
+        (
+            "{\"class\":\"cost-table\",\"players\":3,\"worths\":[2,2,3,2,3,3,4]}",
+            "[1,1,2]",
+            None,
+        ),
+    ] {
+        let text = document(rt.alloc(), game, shares)?;
+        let read = read_document(rt.alloc(), text.as_bytes(), Command::Propose)?;
+        let x = read.shares.ok_or("no shares")?;
+        assert!(rt; x.players() == 3 && read.game.players() == 3);
+        assert_eq!(rt; read.game.blocker(&x), blocker, "on {game}");
+    }
+    Ok(())
+}
+
+#[test]
+fn refusals_are_numbered_from_1(rt: HostRuntime) {
+    assert_eq!(rt; Refusal::TooLong.number(), 1);
+    assert_eq!(rt; Refusal::Certificate.number(), 12);
+}
