@@ -1,6 +1,7 @@
 //! Documents for the commands that find and check a nucleolus.
 use super::*;
 use crate::certificate_tests::{AIRPORT, check_fault, whole_document};
+use crate::tests::blanks;
 use coalitions::Coalition;
 use definitions::{Family, Mode};
 use std::alloc::Global;
@@ -168,7 +169,6 @@ fn commands_look_at_what_they_need(rt: HostRuntime) {
 
 #[test]
 fn documents_to_check_have_at_most_8_mib(rt: HostRuntime) -> Result<(), Fail> {
-    let long = vec![in rt.alloc(); b' '; 8_388_609]?;
     for (command, count, refusal) in [
         (Command::Check, 8_388_609, Refusal::TooLong),
         (Command::Check, 8_388_608, Refusal::NotJson),
@@ -176,7 +176,8 @@ fn documents_to_check_have_at_most_8_mib(rt: HostRuntime) -> Result<(), Fail> {
         (Command::Nucleolus, 2_097_152, Refusal::NotJson),
         (Command::Prenucleolus, 2_097_153, Refusal::TooLong),
     ] {
-        let fault = read_document(rt.alloc(), &long[..count], command).err();
+        let bytes = blanks(rt.alloc(), count)?;
+        let fault = read_document(rt.alloc(), &bytes, command).err();
         assert_eq!(rt;
             fault,
             Some(TextFault::Refused(refusal)),

@@ -21,6 +21,11 @@ fn fault_of(alloc: Global, bytes: &[u8]) -> Option<TextFault> {
     read_document(alloc, bytes, Command::Propose).err()
 }
 
+// That many blanks.
+pub fn blanks(alloc: Global, count: usize) -> Result<Vec<u8>, Fail> {
+    Ok(vec![in alloc; b' '; count]?)
+}
+
 // Why this game and these shares give no document.
 pub fn fault_in(alloc: Global, game: &str, shares: &str) -> Result<Option<TextFault>, Fail> {
     let text = document(alloc, game, shares)?;
@@ -157,11 +162,21 @@ fn of_two_refusals_the_first_is_given(rt: HostRuntime) -> Result<(), Fail> {
 }
 
 #[test]
-fn bytes_are_json_of_at_most_2_mib(rt: HostRuntime) -> Result<(), Fail> {
-    let long = vec![in rt.alloc(); b' '; 2_097_153]?;
+fn bytes_are_at_most_2_mib(rt: HostRuntime) -> Result<(), Fail> {
+    for (count, refusal) in [
+        (2_097_153, Refusal::TooLong),
+        (2_097_152, Refusal::NotJson),
+    ] {
+        let bytes = blanks(rt.alloc(), count)?;
+        let fault = fault_of(rt.alloc(), &bytes);
+        assert_eq!(rt; fault, Some(TextFault::Refused(refusal)));
+    }
+    Ok(())
+}
+
+#[test]
+fn bytes_are_json(rt: HostRuntime) {
     for (bytes, refusal) in [
-        (&long[..], Refusal::TooLong),
-        (&long[..2_097_152], Refusal::NotJson),
         (b"".as_slice(), Refusal::NotJson),
         (b"{\"game\":{\"class\":".as_slice(), Refusal::NotJson),
         (b"{\"game\":{},}".as_slice(), Refusal::NotJson),
@@ -173,7 +188,6 @@ fn bytes_are_json_of_at_most_2_mib(rt: HostRuntime) -> Result<(), Fail> {
             Some(TextFault::Refused(refusal))
         );
     }
-    Ok(())
 }
 
 // Of a key that comes twice the last counts. A newline may stand at the end.
