@@ -163,10 +163,7 @@ fn of_two_refusals_the_first_is_given(rt: HostRuntime) -> Result<(), Fail> {
 
 #[test]
 fn bytes_are_at_most_2_mib(rt: HostRuntime) -> Result<(), Fail> {
-    for (count, refusal) in [
-        (2_097_153, Refusal::TooLong),
-        (2_097_152, Refusal::NotJson),
-    ] {
+    for (count, refusal) in [(2_097_153, Refusal::TooLong), (2_097_152, Refusal::NotJson)] {
         let bytes = blanks(rt.alloc(), count)?;
         let fault = fault_of(rt.alloc(), &bytes);
         assert_eq!(rt; fault, Some(TextFault::Refused(refusal)));
