@@ -1,5 +1,5 @@
 -- What a scan over the masks knows of the greatest excess of the coalitions outside of a span behind it.
-use Rattle.std.proofs.Common.{◌≡◌, ◌⊎◌, ℕ, zero, suc, ◌+◌, ◌^◌, ◌<◌, ◌≤◌, Bool, true, false, cond, List, [], ℤ, pos, ◌≤ℤ◌, Option, Some, None, MatchOption, arith, refl, sym, ap, subst, ◌∙◌, inl, inr, int_lt}
+use Rattle.std.proofs.Common.{◌≡◌, ◌⊎◌, ℕ, zero, suc, ◌+◌, ◌^◌, ◌<◌, ◌≤◌, Bool, true, false, cond, List, [], length, ℤ, pos, ◌≤ℤ◌, Option, Some, None, MatchOption, arith, refl, sym, ap, subst, ◌∙◌, inl, inr, int_lt}
 use Rattle.std.specs.Bool.{Decides}
 use Rattle.std.proofs.lemmas.Int.{ints}
 use Rattle.std.proofs.lemmas.Bool.{false≢true}
@@ -91,6 +91,9 @@ spanned_all n kept levels h all = λ i lt. h.inside (singleton i) (all i lt)
 pub inside_from : (b : Bool) (m n s t : ℕ) (kept : List ℕ) → m ≡ n → s ≡ t → Decides b (InSpan m (IsKept kept) s) → b ≡ true → InSpan n (IsKept kept) t
 inside_from b m n s t kept e f h k =
     subst (λ (q : ℕ). InSpan q (IsKept kept) t) e (subst (λ (u : ℕ). InSpan m (IsKept kept) u) f (h.0 k))
+
+pub room_of : (b : Bool) (m n : ℕ) (kept : List ℕ) → m ≡ n → (b ≡ false → length kept < m) → b ≡ false → length kept < n
+room_of b m n kept e h k = subst (λ (q : ℕ). length kept < q) e (h k)
 
 pub outside_from : (b : Bool) (m n s t : ℕ) (kept : List ℕ) → m ≡ n → s ≡ t → Decides b (InSpan m (IsKept kept) s) → b ≡ false → ¬ InSpan n (IsKept kept) t
 outside_from b m n s t kept e f h k q =

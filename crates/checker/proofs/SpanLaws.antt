@@ -1,5 +1,5 @@
 -- Spans of spans, and a span with one coalition more.
-use Rattle.std.proofs.Common.{◌≡◌, ◌≢◌, ◌⊎◌, ℕ, ◌<◌, Bool, true, false, cond, ◌||◌, nat_eq, List, [], ◌∷◌, ◌++◌, ℤ, pos, ◌+ℤ◌, ◌*ℤ◌, refl, sym, ap, subst, ◌∙◌, arith, inl, inr, if◌then◌else◌}
+use Rattle.std.proofs.Common.{◌≡◌, ◌≢◌, ◌⊎◌, ℕ, ◌<◌, Bool, true, false, cond, ◌||◌, nat_eq, List, [], ◌∷◌, ◌++◌, ℤ, pos, ◌+ℤ◌, ◌*ℤ◌, refl, sym, ap, subst, ◌∙◌, arith, inl, inr, append_assoc, if◌then◌else◌}
 use Rattle.std.specs.List.{AllByRecursion, list_any}
 use Rattle.std.proofs.lemmas.Bool.{false≢true}
 use Rattle.std.proofs.lemmas.Bool.Decides.{nat_tests}
@@ -147,21 +147,31 @@ kept_cases (u ∷ us) s t h = elim (or_cases (nat_eq u t) (list_any (λ v. nat_e
 
 pub Extends-same : (n : ℕ) (old new : List ℕ) (A C : ℕ → Type 0) → Extends n old new A → ((t : ℕ) → C t → A t) → ((t : ℕ) → A t → C t) → Extends n old new C
 Extends-same n old new A C h to from = record {
+  more = h.more;
+  longer = h.longer;
   still = h.still;
   added = λ t q. h.added t (to t q);
   only = λ t q. elim (h.only t q) [ inl o ↦ inl o | inr a ↦ inr (from t a) ];
 }
 
+append_none : (xs : List ℕ) → xs ++ [] ≡ xs
+append_none [] = refl
+append_none (x ∷ xs) = ap (λ ys. x ∷ ys) (append_none xs)
+
 pub Extends-none : (n : ℕ) (old : List ℕ) (A : ℕ → Type 0) → ((t : ℕ) → A t → ⊥) → Extends n old old A
-Extends-none n old A h = record { still = λ t k. k; added = λ t k. absurd (h t k); only = λ t k. inl k }
+Extends-none n old A h = record { more = []; longer = sym (append_none old); still = λ t k. k; added = λ t k. absurd (h t k); only = λ t k. inl k }
 
 pub Extends-add : (n : ℕ) (old new : List ℕ) (s : ℕ) → (InSpan n (IsKept old) s × (new ≡ old)) ⊎ ((¬ InSpan n (IsKept old) s) × (new ≡ old ++ s ∷ [])) → Extends n old new (λ t. t ≡ s)
 Extends-add n old new s (inl (inside, same)) = record {
+  more = [];
+  longer = same ∙ sym (append_none old);
   still = λ t k. subst (λ (l : List ℕ). InSpan n (IsKept l) t) (sym same) k;
   added = λ t e. subst (λ (u : ℕ). InSpan n (IsKept new) u) (sym e) (subst (λ (l : List ℕ). InSpan n (IsKept l) s) (sym same) inside);
   only = λ t k. inl (subst (λ (l : List ℕ). IsKept l t) same k);
 }
 Extends-add n old new s (inr (out, grown)) = record {
+  more = s ∷ [];
+  longer = grown;
   still = λ t k. subst (λ (l : List ℕ). InSpan n (IsKept l) t) (sym grown) (span_mono n (IsKept old) (IsKept (old ++ s ∷ [])) t (λ u q. kept_still old s u q) k);
   added = λ t e. subst (λ (u : ℕ). InSpan n (IsKept new) u) (sym e) (subst (λ (l : List ℕ). InSpan n (IsKept l) s) (sym grown) (span_of_one n (IsKept (old ++ s ∷ [])) s (kept_last old s)));
   only = λ t k. kept_cases old s t (subst (λ (l : List ℕ). IsKept l t) grown k);
@@ -169,6 +179,8 @@ Extends-add n old new s (inr (out, grown)) = record {
 
 pub Extends-more : (n : ℕ) (old mid new : List ℕ) (A B C : ℕ → Type 0) → Extends n old mid A → Extends n mid new B → ((t : ℕ) → C t → A t ⊎ B t) → ((t : ℕ) → A t → C t) → ((t : ℕ) → B t → C t) → Extends n old new C
 Extends-more n old mid new A B C h k parts left right = record {
+  more = h.more ++ k.more;
+  longer = k.longer ∙ ap (λ (l : List ℕ). l ++ k.more) h.longer ∙ append_assoc old h.more k.more;
   still = λ t q. k.still t (h.still t q);
   added = λ t q. elim (parts t q) [ inl a ↦ k.still t (h.added t a) | inr b ↦ k.added t b ];
   only = λ t q. elim (k.only t q) [

@@ -1,12 +1,14 @@
 -- A span that was extended, and spans of what levels fix.
-use Rattle.std.specs.Prelude.{◌≡◌, ◌⊎◌, ℕ, ◌^◌, ◌<◌, ◌&&◌, IsTrue, nat_eq, List, ℤ, pos, int_le}
+use Rattle.std.specs.Prelude.{◌≡◌, ◌⊎◌, ℕ, ◌^◌, ◌<◌, ◌&&◌, IsTrue, nat_eq, List, ◌++◌, ℤ, pos, int_le}
 use Rattle.std.specs.List.{list_any, AllByRecursion}
 use Rattle.definitions.specs.Coalitions.{singleton}
 use Rattle.definitions.specs.Certificates.{Level, InSpan, IsFixedVector, is_listed, has_bound}
 use Rattle.spans.specs.Span.{IsKept}
 
--- the new coalitions span what the old ones do and what was added, and are old or added
+-- the new coalitions span what the old ones do and what was added, and are the old ones and then some that were added
 pub record Extends (n : ℕ) (old new : List ℕ) (Added : ℕ → Type 0) : Type 0 where
+  pub more : List ℕ
+  pub longer : new ≡ old ++ more
   pub still : (t : ℕ) → InSpan n (IsKept old) t → InSpan n (IsKept new) t
   pub added : (t : ℕ) → Added t → InSpan n (IsKept new) t
   pub only : (t : ℕ) → IsKept new t → IsKept old t ⊎ Added t

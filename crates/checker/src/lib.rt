@@ -26,6 +26,8 @@ use crate::conditions::{
 use crate::fixed::Fixed;
 use crate::outside::{first_unfixed, greatest_outside};
 use kohlberg::{Certificate, Family, Level, Mode, ratio};
+pub use outside::first_unspanned;
+pub use spanned::add_levels;
 use std::cmp::Ordering;
 pub use verdicts::{Place, Reason, Verdict};
 use worth_core::{Shares, Worth};

@@ -1,6 +1,6 @@
 //! What is outside of what levels fix.
 
-ghost use Rattle.std.specs.Prelude.{◌≡◌, ℕ, List, ◌^◌, ◌<◌, ◌≤◌, false, length, IsTrue, MatchOption};
+ghost use Rattle.std.specs.Prelude.{◌≡◌, ℕ, List, ◌^◌, ◌<◌, ◌≤◌, false, length, IsTrue, MatchOption, ⊤};
 ghost use Rattle.std.specs.Bool.{Decides};
 ghost use Rattle.definitions.specs.Sums.{IsGreatest};
 ghost use Rattle.definitions.specs.Coalitions.{has_player};
@@ -90,13 +90,15 @@ fn greatest_unspanned<W: Worth>(game: &W, shares: &Shares, span: &Span) -> Optio
     most
 }
 
-/// The least player that is outside of a span.
-fn first_unspanned(span: &Span, n: u32) -> Option<u32>
+/// The least of `n` players, at most 64, of whose vector no nonzero multiple is an integer sum of the kept vectors. It
+/// always answers. Where there is one, fewer coalitions are kept than there are players.
+pub fn first_unspanned(span: &Span, n: u32) -> Option<u32>
     requires few { n ≤ 64 }
     requires players { span.now.players ≡ n }
-    ensures { (levels : List LevelData) → SpansFixed n span.now.kept levels → MatchOption result
+    ensures least { (levels : List LevelData) → SpansFixed n span.now.kept levels → MatchOption result
         (IsAllFixed Mode.Span n levels)
         (λ i. (¬ IsAllFixed Mode.Span n levels) × IsLeastUnfixed Mode.Span n levels i) }
+    ensures room { MatchOption result ⊤ (λ _. length span.now.kept < n) }
 {
     for i in 0..n {
         if !span.holds(Coalition::single(i)) {

@@ -40,7 +40,8 @@ fn add_bounds(span: &mut Span, bounds: &[(u32, i128)])
     }
 }
 
-/// Adds the coalitions of levels, and each player alone that has a weight of at least 1 there.
+/// Adds what levels of a certificate in mode span fix: their coalitions, and each player alone that has a weight of at
+/// least 1 there. It always answers.
 pub fn add_levels(span: &mut Span, levels: &[Level])
     requires few { span.old.players ≤ 16 }
     requires within { AllByRecursion (IsOf span.old.players) levels.now }

@@ -17,14 +17,14 @@ loop-next-preserved-then-not-holds g c =
     let within : next < 2 ^ game.players = rw c.players-n.ensures.count at step.1 in
     let here = excess_is game x next c.worth.result c.excess_over.result c.players-n.ensures.laws within c.worth.ensures c.excess_over.ensures.value in
     let kept = cast_kept w128 c.excess_over.result (omega (arith, c.excess_over.ensures.small)) in
-    rw c.raised-most.ensures (IsTopUpTo-more game x c.args.span.now.kept c.loop-next.s next c.loop-next.most _ c.loop-next.invariant step.0 within (outside_from c.holds.result c.args.span.now.players game.players next next c.args.span.now.kept c.requires.players refl c.holds.ensures c.if-not-holds.true) (kept ∙ here))
+    rw c.raised-most.ensures (IsTopUpTo-more game x c.args.span.now.kept c.loop-next.s next c.loop-next.most _ c.loop-next.invariant step.0 within (outside_from c.holds.result c.args.span.now.players game.players next next c.args.span.now.kept c.requires.players refl c.holds.ensures.value c.if-not-holds.true) (kept ∙ here))
 
 pub loop-next-preserved : goal.loop-next-preserved
 loop-next-preserved g c =
     let game = g.W.Worth.game c.args.game.now in
     let step = c.in-Some.ensures in
     let within : c.in-Some.next < 2 ^ game.players = rw c.players-n.ensures.count at step.1 in
-    IsTopUpTo-kept game c.args.shares.now c.args.span.now.kept c.loop-next.s c.in-Some.next c.loop-next.most c.loop-next.invariant step.0 within (inside_from c.holds.result c.args.span.now.players game.players c.in-Some.next c.in-Some.next c.args.span.now.kept c.requires.players refl c.holds.ensures c.if-not-holds.false)
+    IsTopUpTo-kept game c.args.shares.now c.args.span.now.kept c.loop-next.s c.in-Some.next c.loop-next.most c.loop-next.invariant step.0 within (inside_from c.holds.result c.args.span.now.players game.players c.in-Some.next c.in-Some.next c.args.span.now.kept c.requires.players refl c.holds.ensures.value c.if-not-holds.false)
 
 pub returns : goal.returns
 returns g c =
