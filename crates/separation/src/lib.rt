@@ -7,5 +7,7 @@ mod earlier;
 mod listed;
 mod stage;
 mod sums;
+#[cfg(test)]
+mod tests;
 
 pub use listed::Listed;
