@@ -1,0 +1,53 @@
+-- The stage program behind levels that leave a player has an optimum: some weights solve it, and no ray raises its cost.
+use Rattle.std.proofs.Common.{◌≡◌, ◌≢◌, ◌⊎◌, ℕ, ◌^◌, ◌<◌, Bool, true, false, cond, List, [], ◌∷◌, ℤ, pos, ◌+ℤ◌, refl, inl, inr, arith}
+use Rattle.std.proofs.Math.Pow.{pow_pos, pow-lt}
+use Rattle.definitions.proofs.Ring.{linear}
+use Rattle.definitions.specs.Coalitions.{has_player, singleton, grand_coalition}
+use Rattle.definitions.specs.Games.{Game}
+use Rattle.definitions.specs.Certificates.{Level, InSpan, IsFixedVector, IsOutside}
+use Rattle.definitions.specs.Programs.{Program}
+use Rattle.definitions.specs.declared.Family.{Family}
+use Rattle.definitions.specs.declared.Mode.TheVariants.{Span}
+use Rattle.simplex.specs.Answer.{IsAnswer, IsFault}
+use Rattle.simplex.specs.declared.solving.LpFault.{LpFault}
+use Rattle.simplex.specs.declared.solving.LpFault.TheVariants.{NoSolution, Unbounded}
+use Rattle.separation.specs.Stage.{stage_program}
+use Rattle.separation.specs.Same.{IsStage}
+use Rattle.nested_programs.specs.Stages.{IsLeft, IsBest, IsBounded}
+use Rattle.nested_programs.proofs.Start.{some_solution}
+use Rattle.nested_programs.proofs.SamePrograms.{ray_same, no_solution_same, answer_same}
+
+one_apart : pos 1 ≢ pos 0
+one_apart e = omega (arith, linear, e)
+
+all_spanned : (n : ℕ) (levels : List Level) (s : ℕ) → s ≡ grand_coalition n → InSpan n (IsFixedVector n levels) s
+all_spanned n levels s e = (pos 1, one_apart, (s, pos 1) ∷ [], (inl e, tt), λ i lt. alone (has_player s i))
+  where
+    alone : (b : Bool) → cond b (pos 1) (pos 0) +ℤ pos 0 ≡ cond b (pos 1) (pos 0)
+    alone true = refl
+    alone false = refl
+
+-- a player alone that isn't spanned is outside
+pub left_outside : (n : ℕ) (levels : List Level) (left : IsLeft n levels) → IsOutside Span n levels (singleton left.player)
+left_outside n levels left = (pow_pos left.player, less (or_all (singleton left.player) (pow-lt left.below)), left.apart)
+  where
+    or_all : (s : ℕ) → s < 2 ^ n → (s < grand_coalition n) ⊎ (s ≡ grand_coalition n)
+    or_all s lt = grind arith
+
+    less : (singleton left.player < grand_coalition n) ⊎ (singleton left.player ≡ grand_coalition n) → singleton left.player < grand_coalition n
+    less (inl lt) = lt
+    less (inr e) = absurd (left.apart (all_spanned n levels (singleton left.player) e))
+
+-- neither fault comes
+pub no_fault : (family : Family) (g : Game) (levels : List Level) (p : Program) (fault : LpFault) → IsStage family g levels p → IsLeft g.players levels → IsBounded family g levels → IsFault p fault → ⊥
+no_fault family g levels p NoSolution stage left bounded none =
+    some_solution family g levels stage.outside (singleton left.player) (λ s o. (stage.decides s).1 o) (left_outside g.players levels left) (no_solution_same p (stage_program family g levels stage.outside) stage.same none)
+no_fault family g levels p Unbounded stage left bounded (solution, ray) =
+    bounded stage.outside (λ s o. (stage.decides s).0 o) (ray_same p (stage_program family g levels stage.outside) stage.same ray)
+
+pub best_of_answer : (family : Family) (g : Game) (levels : List Level) (p : Program) (ws : List (ℕ × ℤ)) (weight_den : ℤ) (m : List ℤ) (den : ℤ) → IsStage family g levels p → IsAnswer p ws weight_den m den → IsBest family g levels ws weight_den m den
+best_of_answer family g levels p ws weight_den m den stage answer = record {
+  outside = stage.outside;
+  decides = stage.decides;
+  answer = answer_same p (stage_program family g levels stage.outside) stage.same ws weight_den m den answer;
+}

@@ -1,0 +1,85 @@
+-- The coalitions of the levels of a chain are distinct: each was outside what the levels in front fix, and within a level the masks ascend.
+use Rattle.std.proofs.Common.{◌≡◌, ℕ, ◌+◌, ◌<◌, Bool, true, false, nat_eq, List, [], ◌∷◌, ◌++◌, map, ℤ, refl, inl, inr, arith}
+use Rattle.std.proofs.lemmas.Bool.Decides.{nat_tests}
+use Rattle.std.specs.List.{list_any, AllByRecursion, IsDistinct}
+use Rattle.checker.proofs.SpanLaws.{span_of_one}
+use Rattle.definitions.specs.Games.{Game}
+use Rattle.definitions.specs.Certificates.{Level, is_listed, IsFixedVector, IsOutside, Ascends, LevelsForm}
+use Rattle.definitions.specs.declared.Family.{Family}
+use Rattle.definitions.specs.declared.Mode.TheVariants.{Span}
+use Rattle.separation.specs.Stage.{earlier_of}
+use Rattle.nested_programs.specs.Chain.{Stage, levels_of, IsChain}
+use Rattle.nested_programs.proofs.Reading.{all_join, all_weaken}
+use Rattle.nested_programs.proofs.Advance.{or_left, or_right, any_left}
+use Rattle.nested_programs.proofs.Form.{level_outside}
+use Rattle.nested_programs.proofs.PairKeys.{all_rows}
+
+-- ---- lists
+
+absent : (b : Bool) → (b ≡ true → ⊥) → b ≡ false
+absent true h = absurd (h refl)
+absent false h = refl
+
+any_right : {X : Type 0} (p : X → Bool) (xs ys : List X) → list_any p ys ≡ true → list_any p (xs ++ ys) ≡ true
+any_right p [] ys h = h
+any_right p (x ∷ xs) ys h = or_right (p x) (list_any p (xs ++ ys)) (any_right p xs ys h)
+
+less_apart : (s t : ℕ) → s < t → nat_eq s t ≡ false
+less_apart s t h = grind (arith, nat_tests)
+
+-- no coalition of cs is that of a pair of ys
+abbrev Misses : List (ℕ × ℤ) → List (ℕ × ℕ) → Type 0
+Misses cs ys = AllByRecursion (λ y. list_any (λ c. nat_eq c.0 y.0) cs ≡ true → ⊥) ys
+
+misses_first : (c : ℕ × ℤ) (cs : List (ℕ × ℤ)) (ys : List (ℕ × ℕ)) → Misses (c ∷ cs) ys → AllByRecursion (λ y. nat_eq c.0 y ≡ false) (map (λ (y : ℕ × ℕ). y.0) ys)
+misses_first c cs [] h = tt
+misses_first c cs (y ∷ ys) h =
+    (absent (nat_eq c.0 y.0) (λ e. h.0 (or_left (nat_eq c.0 y.0) (list_any (λ d. nat_eq d.0 y.0) cs) e)), misses_first c cs ys h.1)
+
+misses_rest : (c : ℕ × ℤ) (cs : List (ℕ × ℤ)) (ys : List (ℕ × ℕ)) → Misses (c ∷ cs) ys → Misses cs ys
+misses_rest c cs ys h =
+    all_weaken (λ y. list_any (λ d. nat_eq d.0 y.0) (c ∷ cs) ≡ true → ⊥) (λ y. list_any (λ d. nat_eq d.0 y.0) cs ≡ true → ⊥) ys (λ y none e. none (or_right (nat_eq c.0 y.0) (list_any (λ d. nat_eq d.0 y.0) cs) e)) h
+
+first_apart : (s low k : ℕ) (cs : List (ℕ × ℤ)) (ys : List (ℕ × ℕ)) → s < low → Ascends low cs → AllByRecursion (λ y. nat_eq s y ≡ false) (map (λ (y : ℕ × ℕ). y.0) ys) → AllByRecursion (λ y. nat_eq s y ≡ false) (map (λ (y : ℕ × ℕ). y.0) (map (λ (c : ℕ × ℤ). (c.0, k)) cs ++ ys))
+first_apart s low k [] ys lt h rest = rest
+first_apart s low k (c ∷ cs) ys lt h rest =
+    let le = h.0 in
+    (less_apart s c.0 (omega (arith, lt, le)), first_apart s (c.0 + 1) k cs ys (omega (arith, lt, le)) h.1 rest)
+
+level_distinct : (low k : ℕ) (cs : List (ℕ × ℤ)) (ys : List (ℕ × ℕ)) → Ascends low cs → Misses cs ys → IsDistinct nat_eq (map (λ (y : ℕ × ℕ). y.0) ys) → IsDistinct nat_eq (map (λ (y : ℕ × ℕ). y.0) (map (λ (c : ℕ × ℤ). (c.0, k)) cs ++ ys))
+unfolding IsDistinct
+level_distinct low k [] ys h miss rest = rest
+level_distinct low k (c ∷ cs) ys h miss rest =
+    (first_apart c.0 (c.0 + 1) k cs ys (omega arith) h.1 (misses_first c cs ys miss), level_distinct (c.0 + 1) k cs ys h.1 (misses_rest c cs ys miss) rest)
+
+-- ---- chains
+
+-- the coalition isn't listed in the levels
+abbrev Unlisted : List Level → ℕ → Type 0
+Unlisted front s = is_listed front s ≡ true → ⊥
+
+outside_unlisted : (n : ℕ) (front : List Level) (s : ℕ) → IsOutside Span n front s → Unlisted front s
+outside_unlisted n front s o listed = o.2 (span_of_one n (IsFixedVector n front) s (inr (inl listed)))
+
+chain_unlisted : (family : Family) (g : Game) (front : List Level) (k : ℕ) (ts : List Stage) → IsChain family g front ts → AllByRecursion (λ c. Unlisted front c.0) (earlier_of k (levels_of ts))
+chain_unlisted family g front k [] chain = tt
+chain_unlisted family g front k (t ∷ ts) chain =
+    all_join (λ c. Unlisted front c.0) (map (λ c. (c.0, k)) t.level.coalitions) (earlier_of (k + 1) (levels_of ts))
+    (all_rows (Unlisted front) k t.level.coalitions (all_weaken (λ c. IsOutside Span g.players front c.0) (λ c. Unlisted front c.0) t.level.coalitions (λ c o. outside_unlisted g.players front c.0 o) (level_outside family g front t chain.0)))
+    (all_weaken (λ c. Unlisted (front ++ t.level ∷ []) c.0) (λ c. Unlisted front c.0) (earlier_of (k + 1) (levels_of ts)) (λ c none listed. none (any_left (λ l. list_any (λ d. nat_eq d.0 c.0) l.coalitions) front (t.level ∷ []) listed)) (chain_unlisted family g (front ++ t.level ∷ []) (k + 1) ts chain.1))
+
+chain_misses : (family : Family) (g : Game) (front : List Level) (k : ℕ) (t : Stage) (ts : List Stage) → IsChain family g (front ++ t.level ∷ []) ts → Misses t.level.coalitions (earlier_of k (levels_of ts))
+chain_misses family g front k t ts chain =
+    all_weaken (λ c. Unlisted (front ++ t.level ∷ []) c.0) (λ c. list_any (λ d. nat_eq d.0 c.0) t.level.coalitions ≡ true → ⊥) (earlier_of k (levels_of ts))
+    (λ c none here. none (any_right (λ l. list_any (λ d. nat_eq d.0 c.0) l.coalitions) front (t.level ∷ []) (or_left (list_any (λ d. nat_eq d.0 c.0) t.level.coalitions) false here)))
+    (chain_unlisted family g (front ++ t.level ∷ []) k ts chain)
+
+distinct_behind : (family : Family) (g : Game) (front : List Level) (k : ℕ) (ts : List Stage) → IsChain family g front ts → LevelsForm g.players front (levels_of ts) → IsDistinct nat_eq (map (λ c. c.0) (earlier_of k (levels_of ts)))
+unfolding IsDistinct
+distinct_behind family g front k [] chain form = tt
+distinct_behind family g front k (t ∷ ts) chain form =
+    level_distinct 0 k t.level.coalitions (earlier_of (k + 1) (levels_of ts)) form.0.ascend (chain_misses family g front (k + 1) t ts chain.1) (distinct_behind family g (front ++ t.level ∷ []) (k + 1) ts chain.1 form.1)
+
+-- the coalitions of the levels of a chain are distinct
+pub chain_distinct : (family : Family) (g : Game) (ts : List Stage) → IsChain family g [] ts → LevelsForm g.players [] (levels_of ts) → IsDistinct nat_eq (map (λ c. c.0) (earlier_of 0 (levels_of ts)))
+chain_distinct family g ts chain form = distinct_behind family g [] 0 ts chain form

@@ -1,0 +1,84 @@
+-- What the loop over the stages knows where it begins, in a turn, and where it ends.
+use Rattle.std.proofs.Common.{◌≡◌, ℕ, suc, ◌-◌, ◌^◌, ◌<◌, ◌≤◌, Bool, true, false, List, [], ◌∷◌, ◌++◌, length, take, drop, ℤ, Option, Some, None, MatchOption, is_some, refl, sym, ap, subst, ◌∙◌, arith}
+use Rattle.std.specs.Prelude.{⊤}
+use Rattle.std.specs.List.{AllByRecursion}
+use Rattle.std.proofs.lemmas.Bool.{false≢true}
+use Rattle.definitions.specs.Coalitions.{grand_coalition}
+use Rattle.definitions.specs.Games.{Game}
+use Rattle.definitions.specs.Certificates.{Level, LevelForm, LevelsForm, IsAllFixed}
+use Rattle.definitions.specs.Failures.{IsLeastUnfixed}
+use Rattle.definitions.specs.declared.Family.{Family}
+use Rattle.definitions.specs.declared.Mode.TheVariants.{Span}
+use Rattle.simplex.specs.declared.multipliers.Multipliers.{Multipliers}
+use Rattle.checker.specs.Extends.{Extends, IsLevelVector, IsOf}
+use Rattle.checker.proofs.Excesses.{everyone_within}
+use Rattle.nested_programs.specs.Answer.{HasMember}
+use Rattle.nested_programs.specs.Numbers.{IsLevelOf}
+use Rattle.nested_programs.specs.Stages.{IsLeft, IsBest, AreUnderway, AreDone}
+use Rattle.nested_programs.proofs.StageSteps.{start}
+
+pub started : (family : Family) (g : Game) (levels : List Level) (kept : List ℕ) → levels ≡ [] → kept ≡ grand_coalition g.players ∷ [] → 1 ≤ g.players → HasMember family g → AreUnderway family g levels kept None
+started family g levels kept e f some member =
+    subst (λ ls. AreUnderway family g ls kept None) (sym e) (subst (λ ks. AreUnderway family g [] ks None) (sym f) (start family g some member))
+
+abbrev Unspanned : ℕ → List Level → Option ℕ → Type 0
+Unspanned n levels o =
+    MatchOption o (IsAllFixed Span n levels) (λ i. (¬ IsAllFixed Span n levels) × IsLeastUnfixed Span n levels i)
+
+pub left_of : (n : ℕ) (levels : List Level) (o : Option ℕ) (b : Bool) → b ≡ is_some o → b ≡ true → Unspanned n levels o → IsLeft n levels
+left_of n levels None b e t h = absurd (false≢true (sym e ∙ t))
+left_of n levels (Some i) b e t h = record { player = i; below = h.1.0; apart = h.1.1 }
+
+pub room_of : (n : ℕ) (kept : List ℕ) (o : Option ℕ) (b : Bool) → b ≡ is_some o → b ≡ true → MatchOption o ⊤ (λ i. length kept < n) → length kept < n
+room_of n kept None b e t h = absurd (false≢true (sym e ∙ t))
+room_of n kept (Some i) b e t h = h
+
+pub all_of : (n : ℕ) (levels : List Level) (o : Option ℕ) (b : Bool) → b ≡ is_some o → b ≡ false → Unspanned n levels o → IsAllFixed Span n levels
+all_of n levels None b e t h = h
+all_of n levels (Some i) b e t h = absurd (false≢true (sym t ∙ e))
+
+pub forms_few : (n : ℕ) (front levels : List Level) → LevelsForm n front levels → AllByRecursion (λ l. length l.coalitions ≤ 65536) levels
+forms_few n front [] h = tt
+forms_few n front (l ∷ levels) h = (h.0.few, forms_few n (front ++ l ∷ []) levels h.1)
+
+within : (n : ℕ) (cs : List (ℕ × ℤ)) → AllByRecursion (λ c. (0 < c.0) × (c.0 < grand_coalition n)) cs → AllByRecursion (λ c. c.0 < 2 ^ n) cs
+within n [] h = tt
+within n (c ∷ cs) h = (let top = everyone_within n in omega (arith, h.0.1, top), within n cs h.1)
+
+pub level_within : (n : ℕ) (front : List Level) (l : Level) → LevelForm n front l → IsOf n l
+level_within n front l h = record { coalitions = within n l.coalitions h.proper; bounds = h.players }
+
+-- the part of a list behind its old elements is the new one
+pub new_only : (xs ys : List Level) (x : Level) (k : ℕ) → ys ≡ xs ++ x ∷ [] → k ≡ length xs → take (length ys - k) (drop k ys) ≡ x ∷ []
+new_only xs ys x k e f = ap (λ us. take (length us - k) (drop k us)) e ∙ ap (λ (j : ℕ). take (length (xs ++ x ∷ []) - j) (drop j (xs ++ x ∷ []))) f ∙ behind xs
+  where
+    behind : (us : List Level) → take (length (us ++ x ∷ []) - length us) (drop (length us) (us ++ x ∷ [])) ≡ x ∷ []
+    behind [] = refl
+    behind (u ∷ us) = let e : suc (length (us ++ x ∷ [])) - suc (length us) ≡ length (us ++ x ∷ []) - length us = omega arith in rw e (behind us)
+
+-- ---- facts of a turn, at the players of the game and the levels so far
+
+pub best_at : (family : Family) (g : Game) (shown levels : List Level) (ws : List (ℕ × ℤ)) (wden : ℤ) (m : List ℤ) (den : ℤ) → shown ≡ levels → IsBest family g shown ws wden m den → IsBest family g levels ws wden m den
+best_at family g shown levels ws wden m den e h = subst (λ ls. IsBest family g ls ws wden m den) e h
+
+pub level_at : (k n : ℕ) (shown levels : List Level) (ws : List (ℕ × ℤ)) (m : List ℤ) (den : ℤ) (l : Level) → k ≡ n → shown ≡ levels → IsLevelOf k shown ws m den l → IsLevelOf n levels ws m den l
+level_at k n shown levels ws m den l e f h =
+    subst (λ (j : ℕ). IsLevelOf j levels ws m den l) e (subst (λ ls. IsLevelOf k ls ws m den l) f h)
+
+pub extends_at : (k n : ℕ) (old new : List ℕ) (shown added : List Level) → k ≡ n → shown ≡ added → Extends k old new (IsLevelVector k shown) → Extends n old new (IsLevelVector n added)
+extends_at k n old new shown added e f h =
+    subst (λ (j : ℕ). Extends j old new (IsLevelVector j added)) e (subst (λ ls. Extends k old new (IsLevelVector k ls)) f h)
+
+pub within_at : (k n : ℕ) (shown : List Level) (l : Level) → k ≡ n → shown ≡ l ∷ [] → IsOf n l → AllByRecursion (IsOf k) shown
+within_at k n shown l e f h =
+    subst (AllByRecursion (IsOf k)) (sym f) (subst (λ (j : ℕ). IsOf j l) (sym e) h, tt)
+
+pub ended : (family : Family) (g : Game) (levels : List Level) (kept : List ℕ) (last : Option Multipliers) → AreUnderway family g levels kept last → IsAllFixed Span g.players levels → AreDone family g levels last
+ended family g levels kept last h all = record {
+  stages = h.stages;
+  form = h.form;
+  few = h.few;
+  lowest = h.lowest;
+  all = all;
+  count = h.count;
+}

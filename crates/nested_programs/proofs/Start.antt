@@ -1,0 +1,215 @@
+-- A stage program has a solution where a coalition is outside, and the first has no endless ray where the family has a member.
+use Rattle.std.proofs.Common.{◌≡◌, ◌≢◌, ◌⊎◌, ℕ, zero, suc, ◌+◌, ◌-◌, ◌^◌, ◌<◌, ◌≤◌, Bool, true, false, not, cond, IsTrue, List, [], ◌∷◌, length, ℤ, pos, ◌+ℤ◌, ◌-ℤ◌, ◌*ℤ◌, ◌≤ℤ◌, refl, sym, ap, ◌∙◌, inl, inr, arith, nat_eq, nat_lt, if◌then◌else◌}
+use Rattle.std.proofs.lemmas.Int.{by_lt_z}
+use Rattle.std.proofs.lemmas.Bool.{false≢true}
+use Rattle.std.proofs.lemmas.Bool.Decides.{nat_tests}
+use Rattle.std.specs.List.{AllByRecursion, IsDistinct}
+use Rattle.definitions.proofs.Ring.{linear, mul-addℤ, mul-oneℤ}
+use Rattle.definitions.proofs.Members.{has_player-grand_coalition, has_player-complement, sum_below-same, sum_over-grand_coalition}
+use Rattle.definitions.specs.Coalitions.{has_player, singleton, grand_coalition, sum_over, weight_at}
+use Rattle.definitions.specs.Games.{Game, Allocation, share, amount, IsAllocation, IsEfficient, InFamily}
+use Rattle.definitions.specs.Certificates.{Level, IsFixedVector, InSpan, IsOutside}
+use lib.IntN.{*ℤ_comm}
+use Rattle.definitions.specs.Programs.{Bounds, HasRay, HasNoSolution, Solves}
+use Rattle.definitions.specs.declared.Family.{Family}
+use Rattle.definitions.specs.declared.Family.TheVariants.{Imputations, Preimputations}
+use Rattle.definitions.specs.declared.Mode.TheVariants.{Span}
+use Rattle.separation.specs.Stage.{plus_entry, entry_of, settled_columns, column, is_imputations, stage_program}
+use Rattle.nested_programs.specs.Reading.{share_of, excess_of}
+use Rattle.nested_programs.specs.Chain.{outer_id}
+use Rattle.nested_programs.proofs.Reading.{of_reading, test_of}
+use Rattle.nested_programs.proofs.Slack.{no_ray}
+use Rattle.nested_programs.proofs.Advance.{column_outer}
+use Rattle.nested_programs.proofs.Chain.{tabulate, tabulate-at, sum_over-same}
+
+-- ---- the others of an outside coalition are outside
+
+abbrev negated : List (ℕ × ℤ) → List (ℕ × ℤ)
+negated [] = []
+negated (p ∷ ps) = (p.0, pos 0 -ℤ p.1) ∷ negated ps
+
+weight_at-negated : (ps : List (ℕ × ℤ)) (i : ℕ) → weight_at (negated ps) i ≡ pos 0 -ℤ weight_at ps i
+weight_at-negated [] i = refl
+weight_at-negated (p ∷ ps) i = step (has_player p.0 i) (weight_at-negated ps i)
+  where
+    step : (b : Bool) → weight_at (negated ps) i ≡ pos 0 -ℤ weight_at ps i → cond b (pos 0 -ℤ p.1) (pos 0) +ℤ weight_at (negated ps) i ≡ pos 0 -ℤ (cond b p.1 (pos 0) +ℤ weight_at ps i)
+    step true h = omega (arith, linear, h)
+    step false h = omega (arith, linear, h)
+
+all_negated : (P : ℕ → Type 0) (ps : List (ℕ × ℤ)) → AllByRecursion (λ p. P p.0) ps → AllByRecursion (λ p. P p.0) (negated ps)
+all_negated P [] h = tt
+all_negated P (p ∷ ps) h = (h.0, all_negated P ps h.1)
+
+others_spanned : (n : ℕ) (front : List Level) (s : ℕ) → s < 2 ^ n → InSpan n (IsFixedVector n front) (grand_coalition n - s) → InSpan n (IsFixedVector n front) s
+others_spanned n front s small (k, ne, ps, fixed, sums) =
+    (k, ne, (grand_coalition n, k) ∷ negated ps, (inl refl, all_negated (IsFixedVector n front) ps fixed), λ i h. rw (has_player-grand_coalition n i h) (step (has_player s i) (weight_at (negated ps) i) (weight_at ps i) (weight_at-negated ps i) (sums i h ∙ ap (λ (b : Bool). cond b k (pos 0)) (has_player-complement n s i small h))))
+  where
+    step : (b : Bool) (u w : ℤ) → u ≡ pos 0 -ℤ w → w ≡ cond (not b) k (pos 0) → k +ℤ u ≡ cond b k (pos 0)
+    step true u w h e = omega (arith, linear, h, e)
+    step false u w h e = omega (arith, linear, h, e)
+
+pub others_outside : (n : ℕ) (front : List Level) (s : ℕ) → IsOutside Span n front s → IsOutside Span n front (grand_coalition n - s)
+others_outside n front s (low, high, apart) =
+    (omega arith, omega arith, λ spanned. apart (others_spanned n front s (omega arith) spanned))
+
+-- ---- a solution
+
+abbrev half : ℕ → List Level → ℕ → List (ℕ × ℤ)
+half n front s = (1, pos 1) ∷ ((outer_id n front s, pos 1) ∷ ((outer_id n front (grand_coalition n - s), pos 1) ∷ []))
+
+half_row : (n k s r : ℕ) → s < 2 ^ n → r < n + (k + 1) → (pos 0 -ℤ plus_entry n (grand_coalition n) (k + 1) r) +ℤ (plus_entry n s k r +ℤ plus_entry n (grand_coalition n - s) k r) ≡ (if nat_eq r (n + k) then pos 1 else pos 0) +ℤ (if nat_eq r (n + k) then pos 1 else pos 0)
+half_row n k s r small h = elim (test_of (nat_lt r n)) [
+  | inl below ↦
+      let lt : r < n = grind (arith, nat_tests) in
+      let u : nat_eq r (n + k) ≡ false = grind (arith, nat_tests) in
+      rw below (rw u (rw (has_player-grand_coalition n r lt) (rw (has_player-complement n s r small lt) (member (has_player s r)))))
+  | inr past ↦
+      let u : nat_eq r (n + (k + 1)) ≡ false = grind (arith, nat_tests) in
+      rw past (rw u (last (nat_eq r (n + k))))
+]
+  where
+    member : (b : Bool) → (pos 0 -ℤ pos 1) +ℤ (cond b (pos 1) (pos 0) +ℤ cond (not b) (pos 1) (pos 0)) ≡ pos 0 +ℤ pos 0
+    member true = refl
+    member false = refl
+
+    last : (b : Bool) → (pos 0 -ℤ pos 0) +ℤ (cond b (pos 1) (pos 0) +ℤ cond b (pos 1) (pos 0)) ≡ cond b (pos 1) (pos 0) +ℤ cond b (pos 1) (pos 0)
+    last true = refl
+    last false = refl
+
+outer_column : (family : Family) (g : Game) (front : List Level) (outside : ℕ → Bool) (s : ℕ) → IsTrue (outside s) → IsTrue ((stage_program family g front outside).is_column (outer_id g.players front s))
+outer_column family g front outside s o =
+    let n : ℕ = g.players in
+    let len : ℕ = length (settled_columns n front) in
+    let t : nat_lt (len + (n + n + s)) len ≡ false = grind (arith, nat_tests) in
+    let v : len + (n + n + s) - len ≡ n + n + s = omega arith in
+    let t' : nat_lt (n + n + s) n ≡ false = grind (arith, nat_tests) in
+    let u : nat_lt (n + n + s) (n + n) ≡ false = grind (arith, nat_tests) in
+    let w : n + n + s - (n + n) ≡ s = omega arith in
+    rw t (rw v (rw t' (rw u (rw w o))))
+
+-- ---- the first stage
+
+some_bound : (N : ℕ) (f : ℕ → ℤ) → (b : ℤ) × ((s : ℕ) → s < N → f s ≤ℤ b)
+some_bound zero f = (pos 0, λ s h. absurd (omega arith))
+some_bound (suc N) f =
+    let ih = some_bound N f in
+    by_lt_z ih.0 (f N)
+    (λ up. (f N, λ s h. elim (last_or_less s N h) [ inl less ↦ omega (arith, linear, up, ih.1 s less) | inr same ↦ omega (arith, linear, ap f same) ]))
+    (λ low. (ih.0, λ s h. elim (last_or_less s N h) [ inl less ↦ ih.1 s less | inr same ↦ omega (arith, linear, low, ap f same) ]))
+  where
+    last_or_less : (k n : ℕ) → k < suc n → (k < n) ⊎ (k ≡ n)
+    last_or_less k n h = grind arith
+
+pub first_bounds : (family : Family) (g : Game) (outside : ℕ → Bool) (y : Allocation) → ((s : ℕ) → IsTrue (outside s) → s < 2 ^ g.players) → InFamily family g y → (m : List ℤ) × Bounds (stage_program family g [] outside) m y.den
+first_bounds family g outside y within member = (
+  m,
+  of_reading family g [] outside m y.den (record {
+    positive = (allocation family member).1;
+    whole = sum_below-same n (share_of m) (share y) shares ∙ sym (sum_over-grand_coalition n (share y)) ∙ sym (at (grand_coalition n)) ∙ efficient family member;
+    settled = tt;
+    single = λ f i h. omega (arith, linear, individual family member f i h, shares i h);
+    bound = λ f i h b. absurd (false≢true b);
+    outer = λ s o. omega (arith, linear, big.1 s (within s o), last, sum_over-same n (share_of m) (share y) s shares);
+  }),
+)
+  where
+    n : ℕ
+    n = g.players
+
+    big : (b : ℤ) × ((s : ℕ) → s < 2 ^ n → (y.den *ℤ g.worth s -ℤ sum_over n (share y) s) ≤ℤ b)
+    big = some_bound (2 ^ n) (λ s. y.den *ℤ g.worth s -ℤ sum_over n (share y) s)
+
+    f : ℕ → ℤ
+    f r = if nat_lt r n then share y r else big.0
+
+    m : List ℤ
+    m = tabulate 0 (n + 1) f
+
+    shares : (i : ℕ) → i < n → share_of m i ≡ share y i
+    shares i h =
+        let t : nat_lt i n ≡ true = grind (arith, nat_tests) in
+        let e : 0 + i ≡ i = omega arith in
+        tabulate-at 0 (n + 1) f i (omega arith) ∙ rw e (rw t refl)
+
+    last : excess_of n m 0 ≡ big.0
+    last =
+        let e : 0 + (n + 0) ≡ n + 0 = omega arith in
+        let t : nat_lt (n + 0) n ≡ false = grind (arith, nat_tests) in
+        tabulate-at 0 (n + 1) f (n + 0) (omega arith) ∙ rw e (rw t refl)
+
+    allocation : (family : Family) → InFamily family g y → IsAllocation g y
+    allocation Imputations h = h.0
+    allocation Preimputations h = h.0
+
+    efficient : (family : Family) → InFamily family g y → IsEfficient g y
+    efficient Imputations h = h.1
+    efficient Preimputations h = h.1
+
+    individual : (family : Family) → InFamily family g y → family ≡ Imputations → (i : ℕ) → i < g.players → (y.den *ℤ g.worth (singleton i)) ≤ℤ share y i
+    individual Imputations h e = h.2
+    individual Preimputations h e = absurd (no e)
+      where
+        no : Preimputations ≡ Imputations → ⊥
+        no e = false≢true (ap is_imputations e)
+
+    at : (s : ℕ) → amount y s ≡ sum_over n (share y) s
+    at s = ap (λ (z : ℕ). sum_over z (share y) s) (allocation family member).0
+
+-- where the family has a member, the first stage has no endless ray
+pub first_no_ray : (family : Family) (g : Game) (outside : ℕ → Bool) (y : Allocation) → ((s : ℕ) → IsTrue (outside s) → s < 2 ^ g.players) → InFamily family g y → HasRay (stage_program family g [] outside) → ⊥
+first_no_ray family g outside y within member ray =
+    let found = first_bounds family g outside y within member in
+    no_ray (stage_program family g [] outside) found.0 y.den found.1 ray
+
+-- ---- the solution
+
+column_whole : (n : ℕ) (front : List Level) → column n front 1 ≡ record { mask = grand_coalition n; row = length front + 1; minus = true }
+column_whole n front = let t : nat_lt 1 (length (settled_columns n front)) ≡ true = grind (arith, nat_tests) in rw t refl
+
+whole_column : (family : Family) (g : Game) (front : List Level) (outside : ℕ → Bool) → IsTrue ((stage_program family g front outside).is_column 1)
+whole_column family g front outside = let t : nat_lt 1 (length (settled_columns g.players front)) ≡ true = grind (arith, nat_tests) in rw t refl
+
+not_own_other : (n s : ℕ) → 0 < n → s < 2 ^ n → s ≢ grand_coalition n - s
+not_own_other n s some small e = opposite (has_player s 0) (ap (λ (z : ℕ). has_player z 0) e ∙ has_player-complement n s 0 small some)
+  where
+    opposite : (b : Bool) → b ≡ not b → ⊥
+    opposite true h = false≢true (sym h)
+    opposite false h = false≢true h
+
+half_distinct : (n : ℕ) (front : List Level) (s : ℕ) → 0 < n → s < 2 ^ n → IsDistinct nat_eq (1 ∷ (outer_id n front s ∷ (outer_id n front (grand_coalition n - s) ∷ [])))
+unfolding IsDistinct
+half_distinct n front s some small =
+    let ne = not_own_other n s some small in
+    let long : 2 ≤ length (settled_columns n front) = omega arith in
+    let a : nat_eq 1 (outer_id n front s) ≡ false = grind (arith, nat_tests) in
+    let b : nat_eq 1 (outer_id n front (grand_coalition n - s)) ≡ false = grind (arith, nat_tests) in
+    let c : nat_eq (outer_id n front s) (outer_id n front (grand_coalition n - s)) ≡ false = grind (arith, nat_tests) in
+    ((a, (b, tt)), ((c, tt), (tt, tt)))
+
+row_sum : (a b c u v w : ℤ) → a ≡ u → b ≡ v → c ≡ w → pos 1 *ℤ a +ℤ (pos 1 *ℤ b +ℤ (pos 1 *ℤ c +ℤ pos 0)) ≡ u +ℤ (v +ℤ w)
+row_sum a b c u v w h k l = omega (arith, linear, h, k, l, one a, one b, one c)
+  where
+    one : (z : ℤ) → pos 1 *ℤ z ≡ z
+    one z = *ℤ_comm (pos 1) z ∙ mul-oneℤ z
+
+twice : (z : ℤ) → z +ℤ z ≡ pos 2 *ℤ z
+twice z = sym (*ℤ_comm (pos 2) z ∙ mul-addℤ z (pos 1) (pos 1) ∙ omega (arith, linear, mul-oneℤ z))
+
+-- the coalition and its others at half a weight each, and all players at minus a half
+pub solution : (family : Family) (g : Game) (front : List Level) (outside : ℕ → Bool) (s : ℕ) → IsOutside Span g.players front s → IsTrue (outside s) → IsTrue (outside (grand_coalition g.players - s)) → Solves (stage_program family g front outside) (half g.players front s) (pos 2)
+solution family g front outside s o here others =
+    let n : ℕ = g.players in
+    let small : s < 2 ^ n = omega (arith, o.0, o.1) in
+    let some : 0 < n = positive n (omega (arith, o.0, o.1)) in (
+      (((whole_column family g front outside, omega (arith, linear)), ((outer_column family g front outside s here, omega (arith, linear)), ((outer_column family g front outside (grand_coalition n - s) others, omega (arith, linear)), tt))), half_distinct n front s some small),
+      omega (arith, linear),
+      λ r h. row_sum _ _ _ (pos 0 -ℤ plus_entry n (grand_coalition n) (length front + 1) r) (plus_entry n s (length front) r) (plus_entry n (grand_coalition n - s) (length front) r) (ap (λ c. entry_of n c r) (column_whole n front)) (ap (λ c. entry_of n c r) (column_outer n front s)) (ap (λ c. entry_of n c r) (column_outer n front (grand_coalition n - s))) ∙ half_row n (length front) s r small h ∙ twice (if nat_eq r (n + length front) then pos 1 else pos 0),
+    )
+  where
+    positive : (n : ℕ) → 0 < grand_coalition n → 0 < n
+    positive zero h = absurd (omega arith)
+    positive (suc n) h = omega arith
+
+pub some_solution : (family : Family) (g : Game) (front : List Level) (outside : ℕ → Bool) (s : ℕ) → ((u : ℕ) → IsOutside Span g.players front u → IsTrue (outside u)) → IsOutside Span g.players front s → HasNoSolution (stage_program family g front outside) → ⊥
+some_solution family g front outside s all o none =
+    none (half g.players front s) (pos 2) (solution family g front outside s o (all s o) (all (grand_coalition g.players - s) (others_outside g.players front s o)))

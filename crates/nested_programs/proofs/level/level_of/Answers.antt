@@ -1,0 +1,52 @@
+use Rattle.std.proofs.Common.{◌≡◌, ℕ, ◌+◌, ◌*◌, length, get_or, ℤ, pos, to_z, of_z, ap, subst, ◌∙◌, arith}
+use Rattle.std.proofs.lemmas.Int.{ints}
+use mir.Syntax.{w128}
+use Rattle.worth_core.proofs.Casts.{cast_kept}
+use Rattle.fractions.specs.Fraction.{Fraction, IsRatio}
+use Rattle.separation.specs.Stage.{earlier_of}
+use Rattle.nested_programs.specs.Numbers.{first_single, outer_pairs, net, earlier_pairs, bound_pairs, placed}
+use Rattle.nested_programs.proofs.LevelPasses.{earlier_few}
+use Rattle.nested_programs.proofs.level.level_of.Goals as goal
+
+pub overflow_mul-first : goal.overflow_mul-first
+overflow_mul-first c =
+    let few = earlier_few 0 c.args.front.now c.requires.small in
+    omega (arith, few, c.count.ensures, c.requires.few, c.requires.levels)
+
+pub overflow_add-first : goal.overflow_add-first
+overflow_add-first c =
+    let few = earlier_few 0 c.args.front.now c.requires.small in
+    omega (arith, few, c.count.ensures, c.requires.few, c.requires.levels)
+
+pub overflow_add-first-2 : goal.overflow_add-first-2
+overflow_add-first-2 c =
+    let few = earlier_few 0 c.args.front.now c.requires.small in
+    omega (arith, few, c.count.ensures, c.requires.few, c.requires.levels, c.from.ensures)
+
+pub bound_numbers-requires-clause-small : goal.bound_numbers-requires-clause-small
+bound_numbers-requires-clause-small c =
+    let few = earlier_few 0 c.args.front.now c.requires.small in
+    omega (arith, few, c.count.ensures, c.requires.few, c.requires.levels)
+
+same_ratio : (f : Fraction) (a a' b b' : ℤ) → a ≡ a' → b ≡ b' → IsRatio f a b → IsRatio f a' b'
+same_ratio f a a' b b' e h r = subst (λ (z : ℤ). IsRatio f z b') e (subst (λ (z : ℤ). IsRatio f a z) h r)
+
+pub returns-clause-level : goal.returns-clause-level
+returns-clause-level c =
+    let front = c.args.front.now in
+    let ws = c.as_slice-weights.result.now in
+    let same = c.as_slice-weights.ensures.value in
+    let first : 2 + 2 * c.count.result ≡ first_single front = ap (λ (k : ℕ). 2 + 2 * k) c.count.ensures in
+    let past : 2 + 2 * c.count.result + 2 * c.from.result ≡ first_single front + (c.args.n + c.args.n) = omega (arith, c.count.ensures, c.from.ensures) in
+    let best = c.args.best.now.multipliers in
+    let place = c.args.n + length front in
+    let optimum = cast_kept w128 (get_or best.num.items place (pos 0)) (omega (arith, ints, best.num_small place)) in
+    let read : get_or c.deref.result.now place (pos 0) ≡ get_or best.num.items place (pos 0) = ap (λ us. get_or us place (pos 0)) c.deref.ensures.0 in
+    let den = cast_kept w128 best.den (omega (arith, ints, best.den_small)) in
+    record {
+      excess = same_ratio c.ratio.result _ _ _ _ (ap (λ z. to_z w128 (of_z w128 z)) read ∙ optimum) den c.ratio.ensures;
+      coalitions = c.in_ok-outer_numbers.ensures {u = tt} ∙ ap (λ (k : ℕ). placed (outer_pairs k ws)) past ∙ ap (λ us. placed (outer_pairs (first_single front + (c.args.n + c.args.n)) us)) same;
+      earlier = c.in_ok-earlier_numbers.ensures {u = tt} ∙ ap (λ us. placed (earlier_pairs us 2 (earlier_of 0 front))) same;
+      bounds = c.in_ok-bound_numbers.ensures {u = tt} ∙ ap (λ (k : ℕ). bound_pairs ws k c.args.n c.args.n) first ∙ ap (λ us. bound_pairs us (first_single front) c.args.n c.args.n) same;
+      total = cast_kept w128 c.net_of.result (omega (arith, ints, c.net_of.ensures.small)) ∙ c.net_of.ensures.value ∙ ap (λ us. net us 1 0) same;
+    }

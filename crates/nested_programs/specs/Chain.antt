@@ -1,0 +1,72 @@
+-- Chains of stages, each optimal behind the levels that the stages in front gave.
+use Rattle.std.specs.Prelude.{◌≡◌, ◌⊎◌, ℕ, ◌+◌, ◌<◌, Bool, IsTrue, List, [], ◌∷◌, ◌++◌, length, ℤ, pos, ◌+ℤ◌, ◌-ℤ◌, ◌*ℤ◌, ◌≤ℤ◌, Decides}
+use Rattle.std.specs.List.{AllByRecursion}
+use Rattle.definitions.specs.Sums.{weighted_sum}
+use Rattle.definitions.specs.Coalitions.{weight_at}
+use Rattle.definitions.specs.Games.{Game, Allocation, share}
+use Rattle.definitions.specs.Certificates.{Level, is_listed, has_bound, number_at, IsOutside}
+use Rattle.definitions.specs.Programs.{IsOptimal}
+use Rattle.definitions.specs.declared.Family.{Family}
+use Rattle.definitions.specs.declared.Family.TheVariants.{Imputations}
+use Rattle.definitions.specs.declared.Mode.TheVariants.{Span}
+use Rattle.separation.specs.Stage.{settled_columns, entry_of, column, stage_program}
+use Rattle.nested_programs.specs.Reading.{share_of, excess_of}
+
+-- the number of the column of player i alone, and that of an outside coalition
+abbrev pub single_id : ℕ → List Level → ℕ → ℕ
+single_id n front i = length (settled_columns n front) + i
+
+abbrev pub outer_id : ℕ → List Level → ℕ → ℕ
+outer_id n front s = length (settled_columns n front) + (n + n + s)
+
+-- a column has a weight of at least 1
+abbrev pub HasWeight : List (ℕ × ℤ) → ℕ → Type 0
+HasWeight [] id = ⊥
+HasWeight (w ∷ ws) id = ((w.0 ≡ id) × (pos 1 ≤ℤ w.1)) ⊎ HasWeight ws id
+
+-- A level takes its coalitions and bounds from weights of a stage. What it holds of each player, less its total, is what the weights sum to in the player's row.
+pub record Follows (family : Family) (g : Game) (front : List Level) (weights : List (ℕ × ℤ)) (l : Level) : Type 0 where
+  pub coalitions : AllByRecursion (λ c. (pos 1 ≤ℤ c.1) × HasWeight weights (outer_id g.players front c.0)) l.coalitions
+  pub bounds : AllByRecursion (λ b. (b.0 < g.players) × (((pos 1 ≤ℤ b.1) × HasWeight weights (single_id g.players front b.0)) ⊎ ((family ≡ Imputations) × IsTrue (has_bound front b.0)))) l.bounds
+  pub all_coalitions : (s : ℕ) → HasWeight weights (outer_id g.players front s) → IsTrue (is_listed (l ∷ []) s)
+  pub all_bounds : (i : ℕ) → i < g.players → HasWeight weights (single_id g.players front i) → IsTrue (has_bound (front ++ l ∷ []) i)
+  pub sums : (i : ℕ) → i < g.players → weight_at l.coalitions i +ℤ weight_at l.earlier i +ℤ number_at l.bounds i -ℤ l.total ≡ weighted_sum (λ id. entry_of g.players (column g.players front id) i) weights
+
+pub record Stage : Type 0 where
+  pub level : Level
+  pub outside : ℕ → Bool
+  pub weights : List (ℕ × ℤ)
+  pub weight_den : ℤ
+  pub multipliers : List ℤ
+  pub den : ℤ
+
+pub record StageHolds (family : Family) (g : Game) (front : List Level) (t : Stage) : Type 0 where
+  pub decides : (s : ℕ) → Decides (t.outside s) (IsOutside Span g.players front s)
+  pub optimal : IsOptimal (stage_program family g front t.outside) t.weights t.weight_den t.multipliers t.den
+  pub follows : Follows family g front t.weights t.level
+
+abbrev pub levels_of : List Stage → List Level
+levels_of [] = []
+levels_of (t ∷ ts) = t.level ∷ levels_of ts
+
+-- each stage is optimal behind the levels of those in front
+abbrev pub IsChain : Family → Game → List Level → List Stage → Type 0
+IsChain family g front [] = Unit {0}
+IsChain family g front (t ∷ ts) = StageHolds family g front t × IsChain family g (front ++ t.level ∷ []) ts
+
+-- the last of the stages t and ts
+abbrev pub last_of : Stage → List Stage → Stage
+last_of t [] = t
+last_of t (t' ∷ ts) = last_of t' ts
+
+-- the shares are the multipliers of the players' rows
+pub record IsReadFrom (g : Game) (m : List ℤ) (den : ℤ) (x : Allocation) : Type 0 where
+  pub players : length x.shares ≡ g.players
+  pub shares : (i : ℕ) → i < g.players → share x i ≡ share_of m i
+  pub common : x.den ≡ den
+
+-- the levels' excesses are the multipliers of the level rows, from row k on, as fractions
+abbrev pub HaveExcesses : Game → List ℤ → ℤ → ℕ → List Level → Type 0
+HaveExcesses g m den k [] = Unit {0}
+HaveExcesses g m den k (l ∷ levels) =
+    (l.excess_num *ℤ den ≡ excess_of g.players m k *ℤ l.excess_den) × (pos 1 ≤ℤ l.excess_den) × HaveExcesses g m den (k + 1) levels

@@ -1,0 +1,132 @@
+//! The level that optimal weights of a stage are.
+ghost use Rattle.std.specs.Prelude.{◌≡◌, ◌+◌, ◌^◌, ◌≤◌, length, IfOk, OnOk};
+ghost use Rattle.std.specs.List.{AllByRecursion};
+ghost use Rattle.arrayvec.specs.ArrayVec.{array_vec_len};
+ghost use Rattle.separation.specs.Stage.{earlier_of};
+ghost use Rattle.nested_programs.specs.Answer.{IsLowest};
+ghost use Rattle.nested_programs.specs.Numbers.{AreNumbers, outer_pairs, earlier_pairs, level_pairs, bound_pairs, placed_behind, placed, IsLevelOf};
+
+use crate::numbers::net_of;
+use coalitions::Coalition;
+use kohlberg::{Level, put_pair, ratio};
+use simplex::Optimal;
+use std::alloc::{AllocError, Global};
+
+/// The number of coalitions of the levels.
+fn count(levels: &[Level]) -> u64
+    requires few { length levels.now ≤ 14 }
+    requires small { AllByRecursion (λ l. length l.coalitions ≤ 65536) levels.now }
+    ensures { result ≡ length (earlier_of 0 levels.now) }
+{
+    let mut count: u64 = 0;
+    for level in levels {
+        count += level.coalitions.len() as u64;
+    }
+    count
+}
+
+/// The coalitions outside that have a number, in mask order, where `first` is the number of the column of the empty one.
+fn outer_numbers(
+    alloc: Global,
+    weights: &[(u64, i128)],
+    first: u64,
+) -> Result<Vec<(Coalition, i128)>, AllocError>
+    ensures { IfOk result (λ v. v.items ≡ placed (outer_pairs first weights.now)) }
+{
+    let mut coalitions = Vec::new(alloc);
+    for (id, weight) in weights {
+        if first <= *id {
+            put_pair(&mut coalitions, Coalition(*id - first), *weight)?;
+        }
+    }
+    Ok(coalitions)
+}
+
+/// Puts the coalitions of a level in front whose net number isn't 0 in mask order, where `first` is the number of the column
+/// of its first.
+fn put_level(
+    earlier: &mut Vec<(Coalition, i128)>,
+    weights: &[(u64, i128)],
+    first: u64,
+    pairs: &[(Coalition, i128)],
+) -> Result<(), AllocError>
+    requires weights { AreNumbers weights.now }
+    requires small { first ≤ 2 ^ 32 }
+    requires few { length pairs.now ≤ 65536 }
+    ensures { OnOk result (earlier.new.items ≡ placed_behind earlier.old.items (level_pairs weights.now first pairs.now)) }
+{
+    for k in 0..pairs.len() {
+        let id = first + 2 * k as u64;
+        let number = net_of(weights, id, id + 1);
+        if number != 0 {
+            put_pair(earlier, pairs[k].0, number)?;
+        }
+    }
+    Ok(())
+}
+
+/// The coalitions of the levels in front whose net number isn't 0, in mask order.
+fn earlier_numbers(
+    alloc: Global,
+    weights: &[(u64, i128)],
+    front: &[Level],
+) -> Result<Vec<(Coalition, i128)>, AllocError>
+    requires weights { AreNumbers weights.now }
+    requires few { length front.now ≤ 14 }
+    requires small { AllByRecursion (λ l. length l.coalitions ≤ 65536) front.now }
+    ensures { IfOk result (λ v. v.items ≡ placed (earlier_pairs weights.now 2 (earlier_of 0 front.now))) }
+{
+    let mut earlier = Vec::new(alloc);
+    let mut id: u64 = 2;
+    for level in front {
+        put_level(&mut earlier, weights, id, &level.coalitions)?;
+        id += 2 * level.coalitions.len() as u64;
+    }
+    Ok(earlier)
+}
+
+/// The players whose bound has a net number that isn't 0, where `first` is the number of the column of the first alone.
+fn bound_numbers(
+    alloc: Global,
+    weights: &[(u64, i128)],
+    first: u64,
+    n: u32,
+) -> Result<Vec<(u32, i128)>, AllocError>
+    requires weights { AreNumbers weights.now }
+    requires small { first ≤ 2 ^ 32 }
+    requires few { n ≤ 16 }
+    ensures { IfOk result (λ v. v.items ≡ bound_pairs weights.now first n n) }
+{
+    let mut bounds = Vec::new(alloc);
+    for i in 0..n {
+        let id = first + u64::from(i);
+        let number = net_of(weights, id, id + u64::from(n));
+        if number != 0 {
+            bounds.push((i, number))?;
+        }
+    }
+    Ok(bounds)
+}
+
+/// The level of the optimum of a stage behind these levels: the coalitions, earlier coalitions and bounds with a number, and
+/// the optimum as excess.
+pub fn level_of(alloc: Global, n: u32, front: &[Level], best: &Optimal) -> Result<Level, AllocError>
+    requires few { n ≤ 16 }
+    requires levels { length front.now + 2 ≤ n }
+    requires small { AllByRecursion (λ l. length l.coalitions ≤ 65536) front.now }
+    requires weights { AreNumbers best.now.weights.items }
+    requires multipliers { array_vec_len best.now.multipliers.num ≡ n + (length front.now + 1) }
+    ensures lowest { IfOk result IsLowest }
+    ensures level { IfOk result (λ l. IsLevelOf n front.now best.now.weights.items best.now.multipliers.num.items best.now.multipliers.den l) }
+{
+    let weights = best.weights.as_slice();
+    let first = 2 + 2 * count(front);
+    let optimum = best.multipliers.num[n as usize + front.len()];
+    Ok(Level {
+        excess: ratio(optimum, best.multipliers.den),
+        coalitions: outer_numbers(alloc, weights, first + 2 * u64::from(n))?,
+        earlier: earlier_numbers(alloc, weights, front)?,
+        bounds: bound_numbers(alloc, weights, first, n)?,
+        total: net_of(weights, 1, 0),
+    })
+}

@@ -1,0 +1,49 @@
+//! The nucleolus and the prenucleolus of any game of at most 16 players, by nested linear programs (Kopelowitz 1967,
+//! Maschler, Peleg and Shapley 1979).
+//!
+//! Each stage looks for the least greatest excess of the coalitions that the levels in front don't fix. Its optimal weights
+//! are the next level of the certificate, and its optimal multipliers are shares, and excesses of the levels so far. After
+//! at most one stage less than there are players everything is fixed, and the shares of the last stage are the answer.
+#![tactic(auto)]
+
+mod found;
+mod level;
+mod numbers;
+mod point;
+mod singles;
+mod stages;
+#[cfg(test)]
+mod tests;
+
+ghost use Rattle.std.specs.Prelude.{◌≤◌, IfOk, MatchResult};
+ghost use Rattle.nested_programs.specs.Answer.{IsFound, IsFault};
+
+use crate::point::point_of;
+use crate::singles::too_dear;
+pub use found::{Found, NestedFault};
+use kohlberg::Family;
+use std::alloc::Global;
+use worth_core::Worth;
+
+/// The nucleolus of a game of at most 16 players for the imputations, or its prenucleolus for the preimputations, with a
+/// certificate in mode span (Schmeidler 1969, Kohlberg 1971). Each level has fewer entries in its three lists than there
+/// are players twice, and its excess is a fraction in lowest terms with parts of 128 bits.
+///
+/// `NoImputation` comes exactly where the family is the imputations and the worths of the players alone add to more than
+/// the worth of all; it carries both. `TooMany` comes exactly where there are more than 16 players, and `Memory` for want of
+/// memory.
+pub fn solve<W: Worth>(alloc: Global, game: &W, family: Family) -> Result<Found, NestedFault>
+    ensures answer { MatchResult result (IsFound family (W.game game.now)) (IsFault (W.game game.now)) }
+    ensures few { IfOk result (λ _. (W.game game.now).players ≤ 16) }
+{
+    if game.players() > 16 {
+        return Err(NestedFault::TooMany);
+    }
+    if let Some((singles, total)) = too_dear(game, family) {
+        return Ok(Found::NoImputation { singles, total });
+    }
+    match point_of(alloc, game, family) {
+        Ok((shares, certificate)) => Ok(Found::Point(shares, certificate)),
+        Err(_) => Err(NestedFault::Memory),
+    }
+}

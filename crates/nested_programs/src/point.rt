@@ -1,0 +1,58 @@
+//! The shares of the last stage, and their certificate.
+ghost use Rattle.std.specs.Prelude.{◌≡◌, ◌≤◌, [], ◌∷◌, length, pos, IfOk, IfSome, MatchOption};
+ghost use Rattle.definitions.specs.Coalitions.{grand_coalition};
+ghost use Rattle.worth_core.specs.Allocations.{allocation};
+ghost use Rattle.nested_programs.specs.Answer.{HasMember, IsPoint};
+ghost use Rattle.nested_programs.specs.Chain.{IsReadFrom};
+
+use crate::stages::all_stages;
+use coalitions::Coalition;
+use fractions::OutOfMemory;
+use kohlberg::{Certificate, Family, Mode};
+use simplex::Multipliers;
+use std::alloc::{AllocError, Global};
+use worth_core::{Shares, Worth};
+
+/// The shares that are the multipliers of the players' rows, over their denominator. Without multipliers it is one share, the
+/// worth of all.
+fn shares_of<W: Worth>(
+    alloc: Global,
+    game: &W,
+    last: &Option<Multipliers>,
+) -> Result<Shares, AllocError>
+    requires { IfSome last.now (λ m. (W.game game.now).players ≤ length m.num.items) }
+    ensures { let g = W.game game.now in IfOk result (λ x. MatchOption last.now
+        (x ≡ allocation (g.worth (grand_coalition g.players) ∷ []) (pos 1))
+        (λ m. IsReadFrom g m.num.items m.den x)) }
+{
+    let n = game.players();
+    let mut num = Vec::new(alloc);
+    match last {
+        None => {
+            num.push(i128::from(game.worth(Coalition::all(n))))?;
+            Ok(Shares::new(num, 1).unwrap())
+        }
+        Some(multipliers) => {
+            for i in 0..n as usize {
+                num.push(multipliers.num[i])?;
+            }
+            Ok(Shares::new(num, multipliers.den).unwrap())
+        }
+    }
+}
+
+/// The nucleolus or prenucleolus of a game of at most 16 players whose family has a member, with its certificate.
+pub fn point_of<W: Worth>(
+    alloc: Global,
+    game: &W,
+    family: Family,
+) -> Result<(Shares, Certificate), OutOfMemory>
+    requires few { (W.game game.now).players ≤ 16 }
+    requires member { HasMember family (W.game game.now) }
+    ensures { IfOk result (λ point. IsPoint family (W.game game.now) point.0 point.1) }
+{
+    let (levels, last) = all_stages(alloc, game, family)?;
+    let shares = shares_of(alloc, game, &last)?;
+    let certificate = Certificate::new(game.players(), Mode::Span, levels).unwrap();
+    Ok((shares, certificate))
+}
