@@ -11,7 +11,7 @@ use Rattle.report.specs.Verdicts.{verdict_tree}
 use Rattle.report.specs.Limits.{IsPrintable}
 use Rattle.report.specs.Lines.{answer_tree}
 use Rattle.report.specs.declared.answer.Answer.{Answer}
-use Rattle.report.specs.declared.answer.Answer.TheVariants.{Nucleolus, InCore, NotEfficient, Blocked, Verdict as verdict, Usage, Refused}
+use Rattle.report.specs.declared.answer.Answer.TheVariants.{Nucleolus, NoImputation, InCore, NotEfficient, Blocked, Verdict as verdict, Usage, Refused}
 use Rattle.report.proofs.CertificateDepths.{coalition_depth, nucleolus_depth}
 
 verdict_depth : (v : Verdict) → depth (verdict_tree v) ≤ max_depth
@@ -28,6 +28,7 @@ verdict_depth (No (NotAll i)) = omega arith
 
 pub shallow : (a : Answer) → IsPrintable a → depth (answer_tree a) ≤ max_depth
 shallow (Nucleolus family tree is_cost x c) h = omega (arith, nucleolus_depth family (view tree) is_cost x c h.1)
+shallow (NoImputation singles total) h = omega arith
 shallow InCore h = omega arith
 shallow (NotEfficient sum total) h = omega arith
 shallow (Blocked s e) h = omega (arith, coalition_depth s)

@@ -10,7 +10,7 @@ use Rattle.report.specs.Verdicts.{verdict_tree}
 use Rattle.report.specs.Limits.{IsPrintable}
 use Rattle.report.specs.Lines.{answer_tree}
 use Rattle.report.specs.declared.answer.Answer.{Answer}
-use Rattle.report.specs.declared.answer.Answer.TheVariants.{Nucleolus, InCore, NotEfficient, Blocked, Verdict as verdict, Usage, Refused}
+use Rattle.report.specs.declared.answer.Answer.TheVariants.{Nucleolus, NoImputation, InCore, NotEfficient, Blocked, Verdict as verdict, Usage, Refused}
 use Rattle.report.proofs.CertificateNumbers.{coalition_whole, nucleolus_whole}
 
 verdict_has_float : (v : Verdict) → has_float (verdict_tree v) ≡ false
@@ -27,6 +27,7 @@ verdict_has_float (No (NotAll i)) = refl
 
 pub no_float : (a : Answer) → IsPrintable a → has_float (answer_tree a) ≡ false
 no_float (Nucleolus family tree is_cost x c) h = nucleolus_whole family (view tree) is_cost x c h.0
+no_float (NoImputation singles total) h = refl
 no_float InCore h = refl
 no_float (NotEfficient sum total) h = refl
 no_float (Blocked s e) h = rw (coalition_whole s) refl

@@ -17,7 +17,7 @@ use Rattle.report.specs.Certificates.{certificate_tree}
 use Rattle.report.specs.ShareLists.{share_list}
 use Rattle.report.specs.Words.{refusal_name, usage_word, family_word}
 use Rattle.report.specs.declared.answer.Answer.{Answer}
-use Rattle.report.specs.declared.answer.Answer.TheVariants.{Nucleolus, InCore, NotEfficient, Blocked, Verdict, Usage, Refused}
+use Rattle.report.specs.declared.answer.Answer.TheVariants.{Nucleolus, NoImputation, InCore, NotEfficient, Blocked, Verdict, Usage, Refused}
 
 -- the object that is printed for the nucleolus or prenucleolus of a game, its keys ascending
 abbrev pub nucleolus_tree : Family → Data → Bool → Allocation → CertificateData → Data
@@ -31,6 +31,8 @@ nucleolus_tree family game is_cost x c =
 -- the object that is printed for an answer, its keys ascending
 abbrev pub answer_tree : Answer → Data
 answer_tree (Nucleolus family tree is_cost x c) = nucleolus_tree family (view tree) is_cost x c
+answer_tree (NoImputation singles total) =
+    object (member (codes "answer") (string (codes "no imputation")) (member (codes "singles") (integer_data singles) (member (codes "total") (integer_data total) no_members)))
 answer_tree InCore = object (member (codes "answer") (string (codes "core")) no_members)
 answer_tree (NotEfficient sum total) =
     object (member (codes "answer") (string (codes "not efficient")) (member (codes "sum") (fraction_data sum) (member (codes "total") (integer_data total) no_members)))

@@ -30,6 +30,12 @@ pub enum Answer {
         shares: Shares,
         certificate: Certificate,
     },
+    /// There is no imputation: the players alone are worth `singles` together, more than the `total` of all. Where the
+    /// numbers are costs, the players alone pay `singles` together, less than the `total` of all.
+    NoImputation {
+        singles: i64,
+        total: i64,
+    },
     /// The shares are in the core.
     InCore,
     /// The shares add to `sum`, and all players together are worth, or pay, `total`.
@@ -44,7 +50,7 @@ pub enum Answer {
     },
     /// Whether a certificate shows that shares are the nucleolus, or why not.
     Verdict(Verdict),
-    /// The words name no command, or not for this game.
+    /// What is wrong with the words of the command line.
     Usage(UsageKind),
     /// The input is no document.
     Refused(Refusal),

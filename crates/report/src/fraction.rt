@@ -1,5 +1,5 @@
 //! Fractions as texts of a line.
-ghost use Rattle.std.specs.Prelude.{◌≡◌, IfOk, string_bytes};
+ghost use Rattle.std.specs.Prelude.{◌≡◌, pos, IfOk, string_bytes};
 ghost use Rattle.fractions.specs.FractionTexts.{fraction_text};
 
 use fractions::{Frac, OutOfMemory};
@@ -16,4 +16,11 @@ pub fn text_of(alloc: Global, value: &Frac) -> Result<String, OutOfMemory>
         unreachable!()
     };
     Ok(text)
+}
+
+/// The text of an integer.
+pub fn integer_text(alloc: Global, value: i64) -> Result<String, OutOfMemory>
+    ensures { IfOk result (λ s. string_bytes s ≡ fraction_text (record { num = value; den = pos 1 })) }
+{
+    text_of(alloc, &Frac::from_int(i128::from(value)))
 }

@@ -7,7 +7,7 @@ ghost use Rattle.report.specs.Limits.{IsPrintable};
 ghost use Rattle.report.specs.Lines.{answer_tree, line};
 
 use crate::answer::{Answer, UsageKind};
-use crate::fraction::text_of;
+use crate::fraction::{integer_text, text_of};
 use crate::nucleolus::nucleolus_tree;
 use crate::players::player_numbers;
 use crate::verdict::verdict_tree;
@@ -44,6 +44,7 @@ fn tree_of(alloc: Global, answer: Answer) -> Result<Value, OutOfMemory>
             shares,
             certificate,
         } => nucleolus_tree(alloc, family, tree, is_cost, &shares, &certificate),
+        Answer::NoImputation { singles, total } => no_imputation_tree(alloc, singles, total),
         Answer::InCore => core_tree(alloc),
         Answer::NotEfficient { sum, total } => not_efficient_tree(alloc, &sum, total),
         Answer::Blocked { coalition, excess } => blocked_tree(alloc, coalition, &excess),
@@ -51,6 +52,15 @@ fn tree_of(alloc: Global, answer: Answer) -> Result<Value, OutOfMemory>
         Answer::Usage(kind) => usage_tree(alloc, kind),
         Answer::Refused(refusal) => refused_tree(alloc, refusal),
     }
+}
+
+fn no_imputation_tree(alloc: Global, singles: i64, total: i64) -> Result<Value, OutOfMemory>
+    ensures { IfOk result (λ v. view v ≡ answer_tree (Answer.NoImputation singles total)) }
+{
+    let singles = integer_text(alloc, singles)?;
+    let total = integer_text(alloc, total)?;
+    let tree = json!(in alloc; {"answer": "no imputation", "singles": singles, "total": total})?;
+    Ok(tree)
 }
 
 fn core_tree(alloc: Global) -> Result<Value, OutOfMemory>
@@ -64,7 +74,7 @@ fn not_efficient_tree(alloc: Global, sum: &Frac, total: i64) -> Result<Value, Ou
     ensures { IfOk result (λ v. view v ≡ answer_tree (Answer.NotEfficient sum.now total)) }
 {
     let sum = text_of(alloc, sum)?;
-    let total = text_of(alloc, &Frac::from_int(i128::from(total)))?;
+    let total = integer_text(alloc, total)?;
     let tree = json!(in alloc; {"answer": "not efficient", "sum": sum, "total": total})?;
     Ok(tree)
 }

@@ -28,6 +28,12 @@ fn judgements_have_their_lines(rt: HostRuntime) -> Result<(), Fail> {
     };
     let line = "{\"answer\":\"not efficient\",\"sum\":\"-1/2\",\"total\":\"-7\"}\n";
     assert!(rt; has_line(rt.alloc(), inefficient, line)?);
+    let none = Answer::NoImputation {
+        singles: 6,
+        total: 5,
+    };
+    let line = "{\"answer\":\"no imputation\",\"singles\":\"6\",\"total\":\"5\"}\n";
+    assert!(rt; has_line(rt.alloc(), none, line)?);
     let blocked = Answer::Blocked {
         coalition: Coalition(0b1000_0101),
         excess: Frac::from_int(3),
