@@ -1,8 +1,8 @@
 -- A document gives what its command needs.
-use Rattle.std.proofs.Common.{◌≡◌, ℕ, List, length, Option, Some, None, IfSome, subst, ap, ◌≤◌, arith}
+use Rattle.std.proofs.Common.{◌≡◌, ℕ, List, length, Option, Some, IfSome, subst, ap, ◌≤◌, arith}
 use Rattle.definitions.specs.Games.{Allocation}
 use Rattle.game_text.specs.Descriptions.{game_of}
-use Rattle.game_text.specs.Documents.{Contents, contents_of}
+use Rattle.game_text.specs.Documents.{Contents}
 use Rattle.game_text.specs.Refusals.{IsDocument}
 use Rattle.game_text.specs.Text.{document_limit}
 use Rattle.game_text.specs.Kept.{IsKept}

@@ -6,13 +6,14 @@ use Rattle.game_text.specs.Text.{without_newline}
 use Rattle.game_text.specs.declared.command.Command.TheVariants as command
 use Rattle.report.specs.Lines.{answer_tree, line}
 use Rattle.report.specs.declared.answer.Answer.{Answer}
-use Rattle.report.specs.declared.answer.Answer.TheVariants.{Nucleolus, InCore, NotEfficient, Blocked, Verdict, Usage, Refused}
+use Rattle.report.specs.declared.answer.Answer.TheVariants.{Nucleolus, NoImputation, InCore, NotEfficient, Blocked, Verdict, Usage, Refused}
 use Rattle.coop.specs.ReadBack.{CanBeRead, IsReadBack}
 
 pub is_read_back : (answer : Answer) → CanBeRead answer → IsUtf8 (without_newline (line answer)) → read (without_newline (line answer)) ≡ Some (answer_tree answer) → IsReadBack answer
 is_read_back (Nucleolus family tree are_costs x c) can utf8 same =
     let answer = Nucleolus family tree are_costs x c in
     (contents_of command.Check (answer_tree answer), ((can.short, (answer_tree answer, (utf8, same), can.passed, refl)), can.says))
+is_read_back (NoImputation singles total) can utf8 same = tt
 is_read_back InCore can utf8 same = tt
 is_read_back (NotEfficient sum total) can utf8 same = tt
 is_read_back (Blocked s e) can utf8 same = tt

@@ -1,15 +1,14 @@
--- The line of what a scheme found can be checked.
-use Rattle.std.proofs.Common.{◌≡◌, ℕ, ◌+◌, ◌*◌, ◌≤◌, List, [], ◌∷◌, length, Bool, Some, None, sym, ap, subst, ◌∙◌, length-append, arith}
+-- The line of what a solver found can be checked.
+use Rattle.std.proofs.Common.{◌≡◌, ℕ, ◌+◌, ◌*◌, ◌≤◌, List, [], ◌∷◌, length, Bool, None, sym, ap, subst, ◌∙◌, length-append, arith}
 use Rattle.std.specs.List.{AllByRecursion}
 use Rattle.serde_json.specs.Data.{Data}
 use Rattle.serde_json.specs.View.{view}
 use Rattle.serde_json.specs.Written.{compact_text}
 use Rattle.serde_json.specs.declared.value.Value.{Value}
-use Rattle.definitions.specs.Games.{Game, Allocation, IsAllocation, IsShares}
+use Rattle.definitions.specs.Games.{Game, Allocation, IsAllocation, InFamily, IsShares}
 use Rattle.definitions.specs.Certificates.{Level, Certifies}
 use Rattle.definitions.specs.declared.Family.{Family}
-use Rattle.definitions.specs.declared.Family.TheVariants.{Preimputations}
-use Rattle.definitions.specs.declared.Mode.{Mode}
+use Rattle.definitions.specs.declared.Family.TheVariants.{Imputations, Preimputations}
 use Rattle.fractions.specs.Fraction.{IsReduced, HasForm}
 use Rattle.fractions.proofs.WrittenFractions.{read_back}
 use Rattle.kohlberg.specs.Certificate.{CertificateData, IsCertificate}
@@ -27,7 +26,6 @@ use Rattle.reading_back.specs.CertificatesReadBack.{AreInLowestTerms}
 use Rattle.reading_back.specs.DocumentsReadBack.{IsReadOf}
 use Rattle.reading_back.proofs.NucleolusTrees.{printed_is_read}
 use Rattle.reading_back.proofs.SameLevels.{same_certify}
-use Rattle.coop.specs.Checks.{HasEvidence}
 use Rattle.coop.specs.Needs.{IsAccepted}
 use Rattle.coop.specs.ReadBack.{SaysSame, CanBeChecked}
 use Rattle.coop.specs.Solution.{IsFound}
@@ -46,16 +44,22 @@ all_few : (n : ℕ) → n ≤ 64 → (ls : List Level) → AllByRecursion (λ l.
 all_few n few [] h = tt
 all_few n few (l ∷ ls) h = (omega (arith, h.0), all_few n few ls h.1)
 
+-- ---- the shares
+
+allocated : (family : Family) (g : Game) (x : Allocation) → InFamily family g x → IsAllocation g x
+allocated Imputations g x h = h.0
+allocated Preimputations g x h = h.0
+
 -- ---- the line
 
 module _ (family : Family) (d : Contents) (value : Value) (are_costs : Bool) (x : Allocation) (c : CertificateData)
     (accepted : IsAccepted d) (same : view value ≡ d.tree) (signs : are_costs ≡ is_cost d.game)
-    (s : IsShares x) (h : IsCertificate c) (found : IsFound (game_of d.game) x c) where
+    (s : IsShares x) (h : IsCertificate c) (found : IsFound family (game_of d.game) x c) where
   allocation : IsAllocation (game_of d.game) x
-  allocation = (found.solved.certifies Preimputations).0.0
+  allocation = allocated family (game_of d.game) x found.certifies.0
 
   certified : Certifies c.mode family (game_of d.game) x c.levels
-  certified = subst (λ (m : Mode). Certifies m family (game_of d.game) x c.levels) (sym found.solved.mode) (found.solved.certifies family)
+  certified = found.certifies
 
   -- the game of the document, its tree and its signs are those that are printed
   printed_game : game_tree accepted.document ≡ view value
@@ -70,15 +74,15 @@ module _ (family : Family) (d : Contents) (value : Value) (are_costs : Bool) (x 
   is_read : Reads (view value) are_costs
   is_read =
       let counted = ap (λ e. (game_of e).players) accepted.described in
-      let first : Reads (game_tree accepted.document) (is_cost (description_of (game_tree accepted.document))) = printed_is_read accepted.command accepted.document family x c accepted.passed s (allocation.0 ∙ counted) h (found.solved.players ∙ counted) (all_lowest c.levels found.lowest) in
+      let first : Reads (game_tree accepted.document) (is_cost (description_of (game_tree accepted.document))) = printed_is_read accepted.command accepted.document family x c accepted.passed s (allocation.0 ∙ counted) h (found.players ∙ counted) (all_lowest c.levels found.lowest) in
       let second : Reads (view value) (is_cost (description_of (game_tree accepted.document))) = subst (λ (g : Data). Reads g (is_cost (description_of (game_tree accepted.document)))) printed_game first in
       subst (λ (b : Bool). Reads (view value) b) printed_signs second
 
   -- the line is short
   is_short : length (line (Nucleolus family value are_costs x c)) ≤ document_limit command.Check
   is_short =
-      let players = found.solved.players in
-      let text = short family (view value) are_costs x c s h (all_read_back c.levels found.lowest) (all_few (game_of d.game).players (omega (arith, players, h.few)) c.levels found.solved.few) in
+      let players = found.players in
+      let text = short family (view value) are_costs x c s h (all_read_back c.levels found.lowest) (all_few (game_of d.game).players (omega (arith, players, h.few)) c.levels found.few) in
       let game = subst (λ (t : Data). length (compact_text t) ≤ document_limit command.Nucleolus) (sym same) accepted.short in
       omega (arith, text, game, length-append (compact_text (nucleolus_tree family (view value) are_costs x c)) (10 ∷ []))
 

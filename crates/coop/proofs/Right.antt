@@ -9,9 +9,9 @@ use Rattle.game_text.specs.declared.command.Command.TheVariants as command
 use Rattle.game_text.specs.declared.refusal.Refusal.{Refusal}
 use Rattle.game_text.specs.declared.refusal.Refusal.TheVariants as refusal
 use Rattle.report.specs.declared.answer.Answer.{Answer}
-use Rattle.report.specs.declared.answer.Answer.TheVariants.{Nucleolus, InCore, NotEfficient, Blocked, Verdict, Usage, Refused}
+use Rattle.report.specs.declared.answer.Answer.TheVariants.{Nucleolus, NoImputation, InCore, NotEfficient, Blocked, Verdict, Usage, Refused}
 use Rattle.report.specs.declared.answer.UsageKind.{UsageKind}
-use Rattle.report.specs.declared.answer.UsageKind.TheVariants.{Words, Class, Players}
+use Rattle.report.specs.declared.answer.UsageKind.TheVariants.{Words}
 use Rattle.coop.specs.Headline.{AnswersTo, IsServed}
 use Rattle.coop.specs.Outcome.{IsLeft, IsRight, ReadsAll, ReadsForRefusal}
 use Rattle.coop.specs.Words.{word_of, IsNoCommand, Names}
@@ -54,12 +54,12 @@ module _ (given : Command) where
 
 -- ---- answers to a document
 
--- no document is answered with Usage of words
-no_words : (given : Command) (d : Contents) → AnswersTo given d (Usage Words) → ⊥
-no_words command.Nucleolus d h = h
-no_words command.Prenucleolus d h = h
-no_words command.Propose d h = h.2
-no_words command.Check d h = h
+-- no document is answered with Usage
+no_usage : (given : Command) (d : Contents) (kind : UsageKind) → AnswersTo given d (Usage kind) → ⊥
+no_usage command.Nucleolus d kind h = h
+no_usage command.Prenucleolus d kind h = h
+no_usage command.Propose d kind h = h.2
+no_usage command.Check d kind h = h
 
 -- nor with a refusal
 no_refusal : (given : Command) (d : Contents) (r : Refusal) → AnswersTo given d (Refused r) → ⊥
@@ -80,13 +80,12 @@ module _ (given : Command) (old new : Option (List ℕ)) (input : List ℕ) (p :
 
   pub right_answer : (a : Answer) → AnswersTo given d a → IsRight (word_of given ∷ []) old new a
   right_answer (Nucleolus family tree are_costs x c) right = record { bytes = input; left = left; answers = served (Nucleolus family tree are_costs x c) right; reads = read }
+  right_answer (NoImputation singles total) right = record { bytes = input; left = left; answers = served (NoImputation singles total) right; reads = read }
   right_answer InCore right = record { bytes = input; left = left; answers = served InCore right; reads = read }
   right_answer (NotEfficient sum total) right = record { bytes = input; left = left; answers = served (NotEfficient sum total) right; reads = read }
   right_answer (Blocked s e) right = record { bytes = input; left = left; answers = served (Blocked s e) right; reads = read }
   right_answer (Verdict v) right = record { bytes = input; left = left; answers = served (Verdict v) right; reads = read }
-  right_answer (Usage Words) right = absurd (no_words given d right)
-  right_answer (Usage Class) right = record { bytes = input; left = left; answers = served (Usage Class) right; reads = read }
-  right_answer (Usage Players) right = record { bytes = input; left = left; answers = served (Usage Players) right; reads = read }
+  right_answer (Usage kind) right = absurd (no_usage given d kind right)
   right_answer (Refused r) right = absurd (no_refusal given d r right)
 
 -- ---- other words

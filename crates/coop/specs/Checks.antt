@@ -12,7 +12,7 @@ use Rattle.checker.specs.declared.verdicts.Verdict.{Verdict as CheckVerdict}
 use Rattle.game_text.specs.Descriptions.{game_of}
 use Rattle.game_text.specs.Documents.{Contents}
 use Rattle.report.specs.declared.answer.Answer.{Answer}
-use Rattle.report.specs.declared.answer.Answer.TheVariants.{Nucleolus, InCore, NotEfficient, Blocked, Verdict, Usage, Refused}
+use Rattle.report.specs.declared.answer.Answer.TheVariants.{Nucleolus, NoImputation, InCore, NotEfficient, Blocked, Verdict, Usage, Refused}
 
 -- the family, the shares and the certificate of a document that was to be checked
 pub record HasEvidence (d : Contents) (f : Family) (x : Allocation) (c : CertificateData) : Type 0 where
@@ -36,6 +36,7 @@ IsCheckedAs d v = (family : Family) × ((x : Allocation) × ((c : CertificateDat
 -- the answer is the right verdict on the certificate of a document
 abbrev pub Checks : Contents → Answer → Type 0
 Checks d (Nucleolus f tree are_costs x c) = ⊥
+Checks d (NoImputation singles total) = ⊥
 Checks d InCore = ⊥
 Checks d (NotEfficient sum total) = ⊥
 Checks d (Blocked s e) = ⊥

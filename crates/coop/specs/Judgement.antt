@@ -10,7 +10,7 @@ use Rattle.fractions.specs.Fraction.{Fraction, IsRatio}
 use Rattle.game_text.specs.Descriptions.{game_of, is_cost}
 use Rattle.game_text.specs.Documents.{Contents}
 use Rattle.report.specs.declared.answer.Answer.{Answer}
-use Rattle.report.specs.declared.answer.Answer.TheVariants.{Nucleolus, InCore as Core, NotEfficient, Blocked, Verdict, Usage, Refused}
+use Rattle.report.specs.declared.answer.Answer.TheVariants.{Nucleolus, NoImputation, InCore as Core, NotEfficient, Blocked, Verdict, Usage, Refused}
 
 -- a number of worth as it is printed: its sign is turned where the numbers of the game are costs
 abbrev pub printed : Bool → ℤ → ℤ
@@ -32,6 +32,7 @@ Judges are_costs g x Core = InCore g x
 Judges are_costs g x (NotEfficient sum total) = IsInefficient are_costs g x sum total
 Judges are_costs g x (Blocked s e) = IsBlockedBy g x s e
 Judges are_costs g x (Nucleolus family tree costs y c) = ⊥
+Judges are_costs g x (NoImputation singles total) = ⊥
 Judges are_costs g x (Verdict v) = ⊥
 Judges are_costs g x (Usage kind) = ⊥
 Judges are_costs g x (Refused r) = ⊥

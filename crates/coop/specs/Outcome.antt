@@ -10,9 +10,7 @@ use Rattle.game_text.specs.declared.refusal.Refusal.{Refusal}
 use Rattle.game_text.specs.declared.refusal.Refusal.TheVariants.{TooLong}
 use Rattle.report.specs.Lines.{line}
 use Rattle.report.specs.declared.answer.Answer.{Answer}
-use Rattle.report.specs.declared.answer.Answer.TheVariants.{Nucleolus, InCore, NotEfficient, Blocked, Verdict, Usage, Refused}
-use Rattle.report.specs.declared.answer.UsageKind.{UsageKind}
-use Rattle.report.specs.declared.answer.UsageKind.TheVariants.{Words, Class, Players}
+use Rattle.report.specs.declared.answer.Answer.TheVariants.{Nucleolus, NoImputation, InCore, NotEfficient, Blocked, Verdict, Usage, Refused}
 use Rattle.checker.specs.declared.verdicts.Verdict.{Verdict as CheckVerdict}
 use Rattle.checker.specs.declared.verdicts.Verdict.TheVariants.{Yes, No}
 use Rattle.coop.specs.Words.{IsCommand}
@@ -37,20 +35,15 @@ abbrev pub ReadsForRefusal : Refusal → List (List ℕ) → Option (List ℕ) �
 ReadsForRefusal TooLong words old new = (command : Command) × (IsCommand words command × ReadsPastLimit command old new)
 ReadsForRefusal r words old new = ReadsAll old new
 
--- how far the input was read for words or a document that are misused
-abbrev pub ReadsForUsage : UsageKind → Option (List ℕ) → Option (List ℕ) → Type 0
-ReadsForUsage Words old new = new ≡ old
-ReadsForUsage Class old new = ReadsAll old new
-ReadsForUsage Players old new = ReadsAll old new
-
 -- how far the input was read for an answer
 abbrev pub ReadsFor : Answer → List (List ℕ) → Option (List ℕ) → Option (List ℕ) → Type 0
 ReadsFor (Nucleolus family tree are_costs x c) words old new = ReadsAll old new
+ReadsFor (NoImputation singles total) words old new = ReadsAll old new
 ReadsFor InCore words old new = ReadsAll old new
 ReadsFor (NotEfficient sum total) words old new = ReadsAll old new
 ReadsFor (Blocked s e) words old new = ReadsAll old new
 ReadsFor (Verdict v) words old new = ReadsAll old new
-ReadsFor (Usage kind) words old new = ReadsForUsage kind old new
+ReadsFor (Usage kind) words old new = new ≡ old
 ReadsFor (Refused r) words old new = ReadsForRefusal r words old new
 
 -- the status after a verdict was printed
@@ -61,6 +54,7 @@ verdict_status (No r) = status.Negative
 -- the status after an answer was printed
 abbrev pub status_of : Answer → Status
 status_of (Nucleolus family tree are_costs x c) = status.Done
+status_of (NoImputation singles total) = status.Negative
 status_of InCore = status.Done
 status_of (NotEfficient sum total) = status.Negative
 status_of (Blocked s e) = status.Negative

@@ -17,7 +17,7 @@ use Rattle.game_text.specs.Text.{document_limit}
 use Rattle.game_text.specs.declared.command.Command.TheVariants.{Check}
 use Rattle.report.specs.Lines.{answer_tree, line}
 use Rattle.report.specs.declared.answer.Answer.{Answer}
-use Rattle.report.specs.declared.answer.Answer.TheVariants.{Nucleolus, InCore, NotEfficient, Blocked, Verdict, Usage, Refused}
+use Rattle.report.specs.declared.answer.Answer.TheVariants.{Nucleolus, NoImputation, InCore, NotEfficient, Blocked, Verdict, Usage, Refused}
 use Rattle.coop.specs.Checks.{HasEvidence}
 
 -- the document gives the game of this tree, the family, the same shares over some denominator, and the certificate, which certifies them
@@ -38,6 +38,7 @@ pub record CanBeChecked (answer : Answer) (f : Family) (printed : Data) (x : All
 -- the tree of a nucleolus can be checked
 abbrev pub CanBeRead : Answer → Type 0
 CanBeRead (Nucleolus family tree are_costs x c) = CanBeChecked (Nucleolus family tree are_costs x c) family (view tree) x c
+CanBeRead (NoImputation singles total) = ⊤
 CanBeRead InCore = ⊤
 CanBeRead (NotEfficient sum total) = ⊤
 CanBeRead (Blocked s e) = ⊤
@@ -49,6 +50,7 @@ CanBeRead (Refused r) = ⊤
 abbrev pub IsReadBack : Answer → Type 0
 IsReadBack (Nucleolus family tree are_costs x c) =
     (d : Contents) × (IsDocument Check (line (Nucleolus family tree are_costs x c)) d × SaysSame family (view tree) x c d)
+IsReadBack (NoImputation singles total) = ⊤
 IsReadBack InCore = ⊤
 IsReadBack (NotEfficient sum total) = ⊤
 IsReadBack (Blocked s e) = ⊤

@@ -66,10 +66,11 @@ fn printed_amount(amount: i128, are_costs: bool) -> i128
     if are_costs { -amount } else { amount }
 }
 
-fn printed_worth(worth: i64, are_costs: bool) -> i64
-    requires { unsigned_abs worth < 2 ^ 46 }
+/// A worth as it is printed.
+pub fn printed_worth(worth: i64, are_costs: bool) -> i64
+    requires { unsigned_abs worth < 2 ^ 63 }
     ensures value { result ≡ printed are_costs worth }
-    ensures small { unsigned_abs result < 2 ^ 46 }
+    ensures small { unsigned_abs result < 2 ^ 63 }
 {
     if are_costs { -worth } else { worth }
 }

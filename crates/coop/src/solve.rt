@@ -1,5 +1,5 @@
 //! The nucleolus of the game of a document.
-ghost use Rattle.std.specs.Prelude.{IfOk, MatchOption};
+ghost use Rattle.std.specs.Prelude.{◌≡◌, ◌≤◌, IfOk};
 ghost use Rattle.definitions.specs.Games.{IsShares};
 ghost use Rattle.kohlberg.specs.Certificate.{IsCertificate};
 ghost use Rattle.game_text.specs.Descriptions.{game_of};
@@ -8,18 +8,20 @@ ghost use Rattle.game_text.specs.Readings.{contents_in};
 ghost use Rattle.report.specs.Limits.{IsPrintable};
 ghost use Rattle.coop.specs.Needs.{IsAccepted};
 ghost use Rattle.coop.specs.ReadBack.{CanBeRead};
-ghost use Rattle.coop.specs.Solution.{HasScheme, IsFound, Solves};
+ghost use Rattle.coop.specs.Solution.{HasFewPlayers, IsFoundFor, Solves};
 
+use crate::judge::printed_worth;
 use fractions::OutOfMemory;
 use game_text::{Document, Game};
 use kohlberg::Certificate;
-use report::{Answer, UsageKind};
+use nested_programs::{Found, NestedFault};
+use report::Answer;
 use std::alloc::Global;
-use worth_core::{Family, Shares};
+use worth_core::{Family, Shares, Worth};
 
-/// The nucleolus of the game of a document, or its prenucleolus, with its certificate.
+/// The nucleolus of the game of a document, or its prenucleolus, with its certificate; or that there is no imputation.
 ///
-/// Airport and bankruptcy games have schemes of their own; for other classes the answer is Usage.
+/// Airport and bankruptcy games have schemes of their own, and tables are solved by nested linear programs.
 pub fn solve_document(
     alloc: Global,
     document: Document,
@@ -31,27 +33,53 @@ pub fn solve_document(
     ensures readable { IfOk result CanBeRead }
 {
     let is_cost = document.game.is_cost();
-    let Some((shares, certificate)) = by_scheme(alloc, &document.game)? else {
-        return Ok(Answer::Usage(UsageKind::Class));
-    };
-    keep_their_limits(&shares, &certificate);
-    Ok(Answer::Nucleolus {
-        family,
-        tree: document.tree,
-        is_cost,
-        shares,
-        certificate,
-    })
+    document.game.players();
+    match found_for(alloc, &document.game, family)? {
+        Found::Point(shares, certificate) => {
+            keep_their_limits(&shares, &certificate);
+            Ok(Answer::Nucleolus {
+                family,
+                tree: document.tree,
+                is_cost,
+                shares,
+                certificate,
+            })
+        }
+        Found::NoImputation { singles, total } => Ok(Answer::NoImputation {
+            singles: printed_worth(singles, is_cost),
+            total: printed_worth(total, is_cost),
+        }),
+    }
 }
 
-// What the scheme of the game's class finds, and nothing for a class without one.
-fn by_scheme(alloc: Global, game: &Game) -> Result<Option<(Shares, Certificate)>, OutOfMemory>
-    ensures { IfOk result (λ found. MatchOption found (¬ HasScheme (description_in game.now)) (λ s. IsFound (game_of (description_in game.now)) s.0 s.1)) }
+// What the scheme of the game's class finds, and what the nested programs find for a table.
+fn found_for(alloc: Global, game: &Game, family: Family) -> Result<Found, OutOfMemory>
+    requires { HasFewPlayers (description_in game.now) }
+    ensures { IfOk result (IsFoundFor family (game_of (description_in game.now))) }
 {
     match game {
-        Game::Airport(game) => Ok(Some(airport_scheme::solve(alloc, game)?)),
-        Game::Bankruptcy(game) => Ok(Some(talmud::solve(alloc, game)?)),
-        Game::Table(_) | Game::Cost(_) => Ok(None),
+        Game::Airport(game) => Ok(point(airport_scheme::solve(alloc, game)?)),
+        Game::Bankruptcy(game) => Ok(point(talmud::solve(alloc, game)?)),
+        Game::Table(game) => by_programs(alloc, game, family),
+        Game::Cost(game) => by_programs(alloc, game, family),
+    }
+}
+
+fn point(solution: (Shares, Certificate)) -> Found
+    ensures { result ≡ Found.Point solution.0 solution.1 }
+{
+    Found::Point(solution.0, solution.1)
+}
+
+// What the nested programs find for a game of few players.
+fn by_programs<W: Worth>(alloc: Global, game: &W, family: Family) -> Result<Found, OutOfMemory>
+    requires { (W.game game.now).players ≤ 16 }
+    ensures { IfOk result (IsFoundFor family (W.game game.now)) }
+{
+    match nested_programs::solve(alloc, game, family) {
+        Ok(found) => Ok(found),
+        Err(NestedFault::Memory) => Err(OutOfMemory),
+        Err(NestedFault::TooMany) => unreachable!(),
     }
 }
 

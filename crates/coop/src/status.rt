@@ -11,7 +11,7 @@ pub enum Status {
     Done = 0,
     /// The negative answer was printed.
     Negative = 1,
-    /// The words are no command, or the command has no answer for the class of the game.
+    /// The words are no command.
     Usage = 2,
     /// The input is no document of the command.
     Refused = 3,
@@ -29,9 +29,10 @@ pub fn status_of(answer: &Answer) -> Status
 {
     match answer {
         Answer::Nucleolus { .. } | Answer::InCore | Answer::Verdict(Verdict::Yes) => Status::Done,
-        Answer::NotEfficient { .. } | Answer::Blocked { .. } | Answer::Verdict(Verdict::No(_)) => {
-            Status::Negative
-        }
+        Answer::NoImputation { .. }
+        | Answer::NotEfficient { .. }
+        | Answer::Blocked { .. }
+        | Answer::Verdict(Verdict::No(_)) => Status::Negative,
         Answer::Usage(_) => Status::Usage,
         Answer::Refused(_) => Status::Refused,
     }

@@ -4,6 +4,7 @@ mod faults;
 mod nucleolus;
 mod proposals;
 mod refusals;
+mod tables;
 mod two_refusals;
 
 use crate::run::run;

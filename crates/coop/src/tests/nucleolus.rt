@@ -97,21 +97,6 @@ fn the_scheme_names_both_families_and_keeps_the_document_of_the_game(
 }
 
 #[test]
-fn other_classes_are_not_solved_yet(rt: HostRuntime) -> Result<(), Fail> {
-    let class = "{\"usage\":\"class\"}\n";
-    for input in [
-        "{\"game\":{\"class\":\"table\",\"players\":2,\"worths\":[1,2,7]}}",
-        "{\"game\":{\"class\":\"cost-table\",\"players\":2,\"worths\":[3,4,5]}}",
-    ] {
-        for command in ["nucleolus", "prenucleolus"] {
-            let found = run_on(rt.alloc(), &[command], input.as_bytes(), 100, class)?;
-            assert_eq!(rt; found, (Status::Usage, true), "on {input}");
-        }
-    }
-    Ok(())
-}
-
-#[test]
 fn refuses_an_estate_above_the_claims(rt: HostRuntime) -> Result<(), Fail> {
     let input = "{\"game\":{\"claims\":[100,200,300],\"class\":\"bankruptcy\",\"estate\":601}}";
     let line = "{\"number\":8,\"refused\":\"Estate\"}\n";

@@ -1,15 +1,35 @@
-use Rattle.std.proofs.Common.{refl}
+use Rattle.std.proofs.Common.{refl, sym, subst, rules}
+use Rattle.game_text.specs.Descriptions.{game_of}
+use Rattle.game_text.specs.Documents.{game_tree}
 use Rattle.game_text.specs.Readings.{contents_in}
+use Rattle.coop.specs.Solution.{HasFewPlayers}
+use Rattle.coop.proofs.FewPlayers.{few_players}
 use Rattle.coop.proofs.Solved.{is_solution}
+use Rattle.coop.proofs.NoImputation.{is_above, no_imputation}
 use Rattle.coop.proofs.Readable.{can_be_checked}
 use Rattle.coop.proofs.solve.solve_document.Goals as goal
 
-pub returns-clause-solves : goal.returns-clause-solves
-returns-clause-solves c =
-    let found = rw c.in-Some.is at c.in_ok-shares.ensures in
-    (refl, is_solution c.args.family (contents_in c.args.document) c.is_cost-is_cost.result c.in-Some.shares c.in-Some.certificate c.in-Some.certificate.levels c.is_cost-is_cost.ensures found.solved refl c.keep_their_limits.ensures.certificate.form)
+pub found_for-requires : goal.found_for-requires
+found_for-requires c = subst HasFewPlayers (sym c.requires.described) (few_players (game_tree c.requires.document))
 
-pub returns-clause-readable : goal.returns-clause-readable
-returns-clause-readable c =
-    let found = rw c.in-Some.is at c.in_ok-shares.ensures in
-    can_be_checked c.args.family (contents_in c.args.document) c.args.document.tree c.is_cost-is_cost.result c.in-Some.shares c.in-Some.certificate c.requires refl c.is_cost-is_cost.ensures c.keep_their_limits.ensures.shares c.keep_their_limits.ensures.certificate found
+pub returns-in-Point-clause-solves : goal.returns-in-Point-clause-solves
+returns-in-Point-clause-solves c =
+    let found = rw c.in-Point.is at c.in_ok-shares.ensures in
+    (refl, is_solution c.args.family (contents_in c.args.document) c.is_cost-is_cost.result c.in-Point.shares c.in-Point.certificate c.in-Point.certificate.levels c.is_cost-is_cost.ensures found refl c.keep_their_limits.ensures.certificate.form)
+
+pub returns-in-Point-clause-readable : goal.returns-in-Point-clause-readable
+returns-in-Point-clause-readable c =
+    let found = rw c.in-Point.is at c.in_ok-shares.ensures in
+    can_be_checked c.args.family (contents_in c.args.document) c.args.document.tree c.is_cost-is_cost.result c.in-Point.shares c.in-Point.certificate c.requires refl c.is_cost-is_cost.ensures c.keep_their_limits.ensures.shares c.keep_their_limits.ensures.certificate found
+
+pub returns-in-NoImputation-clause-solves : goal.returns-in-NoImputation-clause-solves
+returns-in-NoImputation-clause-solves c =
+    let g = game_of (contents_in c.args.document).game in
+    let dear = rw c.in-NoImputation.is at c.in_ok-shares.ensures in
+    record {
+      imputations = dear.imputations;
+      alone_is = search rules;
+      total_is = search rules;
+      above = is_above c.args.family g c.in-NoImputation.singles c.in-NoImputation.total dear;
+      none = no_imputation c.args.family g c.in-NoImputation.singles c.in-NoImputation.total dear;
+    }

@@ -1,0 +1,147 @@
+//! The nucleolus of tables and of cost tables, its certificate read back, and tables without an imputation.
+use super::{printed, run_on};
+use crate::status::Status;
+use std::alloc::Global;
+use std::test::Fail;
+
+const DEPARTMENTS: &str =
+    "{\"game\":{\"class\":\"cost-table\",\"default\":18,\"names\":[\"Sales\",\"Ops\",\"Legal\",\"IT\",\"HR\"],\"players\":5,\"sparse\":[[[\"Sales\"],6],[[\"Ops\"],6],[[\"Legal\"],6],[[\"IT\"],6],[[\"HR\"],6],[[\"Sales\",\"Ops\",\"Legal\",\"IT\",\"HR\"],20]]}}";
+
+#[test]
+fn prints_shares_of_tables_that_are_checked(rt: HostRuntime) -> Result<(), Fail> {
+    for (command, input, end) in [
+        (
+            "nucleolus",
+            "{\"game\":{\"class\":\"table\",\"players\":2,\"worths\":[1,2,7]}}",
+            "\"shares\":[\"3\",\"4\"]}\n",
+        ),
+        (
+            "nucleolus",
+            DEPARTMENTS,
+            "\"shares\":[\"4\",\"4\",\"4\",\"4\",\"4\"]}\n",
+        ),
+        (
+            "prenucleolus",
+            DEPARTMENTS,
+            "\"shares\":[\"4\",\"4\",\"4\",\"4\",\"4\"]}\n",
+        ),
+        (
+            "nucleolus",
+            "{\"game\":{\"class\":\"table\",\"players\":3,\"worths\":[0,0,1,0,1,1,1]}}",
+            "\"shares\":[\"1/3\",\"1/3\",\"1/3\"]}\n",
+        ),
+        (
+            "nucleolus",
+            "{\"game\":{\"class\":\"table\",\"players\":3,\"worths\":[0,0,4,0,0,0,0]}}",
+            "\"shares\":[\"0\",\"0\",\"0\"]}\n",
+        ),
+        (
+            "prenucleolus",
+            "{\"game\":{\"class\":\"table\",\"players\":3,\"worths\":[0,0,4,0,0,0,0]}}",
+            "\"shares\":[\"1\",\"1\",\"-2\"]}\n",
+        ),
+        (
+            "nucleolus",
+            "{\"game\":{\"class\":\"table\",\"players\":2,\"worths\":[0,0,1099511627775]}}",
+            "\"shares\":[\"1099511627775/2\",\"1099511627775/2\"]}\n",
+        ),
+        (
+            "nucleolus",
+            "{\"game\":{\"class\":\"table\",\"players\":3,\"sparse\":[[[1,2],6],[[3,2,1],12]]}}",
+            "\"shares\":[\"9/2\",\"9/2\",\"3\"]}\n",
+        ),
+        (
+            "nucleolus",
+            "{\"game\":{\"class\":\"table\",\"players\":10,\"sparse\":[[[1,2,3,4,5,6,7,8,9,10],1099511627775]]}}",
+            "\"shares\":[\"219902325555/2\",\"219902325555/2\",\"219902325555/2\",\"219902325555/2\",\"219902325555/2\",\"219902325555/2\",\"219902325555/2\",\"219902325555/2\",\"219902325555/2\",\"219902325555/2\"]}\n",
+        ),
+        (
+            "prenucleolus",
+            "{\"game\":{\"class\":\"table\",\"players\":2,\"worths\":[3,3,5]}}",
+            "\"shares\":[\"5/2\",\"5/2\"]}\n",
+        ),
+        (
+            "prenucleolus",
+            "{\"game\":{\"class\":\"cost-table\",\"players\":2,\"worths\":[1,1,5]}}",
+            "\"shares\":[\"5/2\",\"5/2\"]}\n",
+        ),
+    ] {
+        let (status, line) = printed(rt.alloc(), command, input.as_bytes())?;
+        assert_eq!(rt; status, Status::Done);
+        assert!(rt; line.ends_with(end.as_bytes()), "{command} of {input}");
+        let checked = run_on(rt.alloc(), &["check"], &line, 100, "{\"answer\":\"yes\"}\n")?;
+        assert_eq!(rt; checked, (Status::Done, true), "{command} of {input}");
+    }
+    Ok(())
+}
+
+#[test]
+fn one_player_gets_all_without_a_level(rt: HostRuntime) -> Result<(), Fail> {
+    let input = "{\"game\":{\"class\":\"table\",\"players\":1,\"worths\":[5]}}";
+    let line =
+        "{\"answer\":\"nucleolus\",\"certificate\":{\"levels\":[],\"mode\":\"span\"},\"game\":{\"class\":\"table\",\"players\":1,\"worths\":[5]},\"shares\":[\"5\"]}\n";
+    let found = run_on(rt.alloc(), &["nucleolus"], input.as_bytes(), 200, line)?;
+    assert_eq!(rt; found, (Status::Done, true));
+    Ok(())
+}
+
+#[test]
+fn players_who_have_more_alone_have_no_imputation(rt: HostRuntime) -> Result<(), Fail> {
+    for (input, line) in [
+        (
+            "{\"game\":{\"class\":\"table\",\"players\":2,\"worths\":[3,3,5]}}",
+            "{\"answer\":\"no imputation\",\"singles\":\"6\",\"total\":\"5\"}\n",
+        ),
+        (
+            "{\"game\":{\"class\":\"cost-table\",\"players\":2,\"worths\":[1,1,5]}}",
+            "{\"answer\":\"no imputation\",\"singles\":\"2\",\"total\":\"5\"}\n",
+        ),
+    ] {
+        let found = run_on(rt.alloc(), &["nucleolus"], input.as_bytes(), 100, line)?;
+        assert_eq!(rt; found, (Status::Negative, true), "on {input}");
+    }
+    Ok(())
+}
+
+// Whether `nucleolus` and `prenucleolus` refuse this input by that line.
+fn is_refused(alloc: Global, input: &[u8], line: &str) -> Result<bool, Fail> {
+    let imputations = run_on(alloc, &["nucleolus"], input, 100, line)?;
+    let preimputations = run_on(alloc, &["prenucleolus"], input, 100, line)?;
+    Ok(imputations == (Status::Refused, true) && preimputations == (Status::Refused, true))
+}
+
+#[test]
+fn refuses_tables_that_are_none(rt: HostRuntime) -> Result<(), Fail> {
+    for (input, line) in [
+        (
+            "{\"game\":{\"class\":\"table\",\"players\":2,\"worths\":[0,0,1099511627776]}}",
+            "{\"number\":5,\"refused\":\"Number\"}\n",
+        ),
+        (
+            "{\"game\":{\"class\":\"table\",\"players\":3,\"worths\":[0,0,0,0,0,0]}}",
+            "{\"number\":4,\"refused\":\"Players\"}\n",
+        ),
+        (
+            "{\"game\":{\"class\":",
+            "{\"number\":2,\"refused\":\"NotJson\"}\n",
+        ),
+        (
+            "{\"game\":{\"class\":\"table\",\"players\":3,\"sparse\":[[[1,2],6],[[3,2,1],12],[[2,1],6]]}}",
+            "{\"number\":7,\"refused\":\"Coalition\"}\n",
+        ),
+    ] {
+        assert!(rt; is_refused(rt.alloc(), input.as_bytes(), line)?, "{input}");
+    }
+    Ok(())
+}
+
+#[test]
+fn reads_to_the_limit_and_one_byte_more_is_too_long(rt: HostRuntime) -> Result<(), Fail> {
+    let alloc = rt.alloc();
+    let blanks = vec![in alloc; b' '; 2_097_153]?;
+    let too_long = "{\"number\":1,\"refused\":\"TooLong\"}\n";
+    assert!(rt; is_refused(alloc, &blanks, too_long)?);
+    let not_json = "{\"number\":2,\"refused\":\"NotJson\"}\n";
+    assert!(rt; is_refused(alloc, &blanks[1..], not_json)?);
+    Ok(())
+}
