@@ -69,6 +69,32 @@ IsTopUpTo-more g x kept s next (Some m) e h step lt out same = record { within =
     pick true q = ((next, omega arith, out, same), bound e (omega (arith, ints)) (omega (arith, ints)))
     pick false q = ((h.found.0.0, omega (arith, h.found.0.1), h.found.0.2, h.found.0.3), bound m (omega (arith, ints)) (omega (arith, ints)))
 
+abbrev pub IsMore : Option ℤ → ℤ → Bool → Type 0
+IsMore most e b = MatchOption most (b ≡ true) (λ m. b ≡ int_lt m e)
+
+-- a mask whose excess isn't more than the greatest so far changes nothing
+pub IsTopUpTo-below : (g : Game) (x : Allocation) (kept : List ℕ) (s next : ℕ) (most : Option ℤ) (e : ℤ) (b : Bool) → IsTopUpTo g x kept s most → next ≡ s + 1 → next < 2 ^ g.players → e ≡ excess g x next → IsMore most e b → b ≡ false → IsTopUpTo g x kept next most
+IsTopUpTo-below g x kept s next None e b h step lt same more off = absurd (false≢true (sym off ∙ more))
+IsTopUpTo-below g x kept s next (Some m) e b h step lt same more off = record {
+  within = lt;
+  found = (
+    (h.found.0.0, omega (arith, h.found.0.1), h.found.0.2, h.found.0.3),
+    λ t k o. elim (last t s next step k) [
+      | inl less ↦ h.found.1 t less o
+      | inr here ↦ let low = at_top g x next t e same here in let not_more : int_lt m e ≡ false = sym more ∙ off in omega (arith, ints, low, not_more)
+    ],
+  );
+}
+
+at_most : (m e : ℤ) → int_lt m e ≡ true → cond (int_lt m e) e m ≡ e
+at_most m e h = ap (λ (b : Bool). cond b e m) h
+
+-- a mask that isn't inside and has more is the new greatest
+pub IsTopUpTo-new : (g : Game) (x : Allocation) (kept : List ℕ) (s next : ℕ) (most : Option ℤ) (e : ℤ) (b : Bool) → IsTopUpTo g x kept s most → next ≡ s + 1 → next < 2 ^ g.players → ¬ Inside g kept next → e ≡ excess g x next → IsMore most e b → b ≡ true → IsTopUpTo g x kept next (Some e)
+IsTopUpTo-new g x kept s next None e b h step lt out same more on = IsTopUpTo-more g x kept s next None e h step lt out same
+IsTopUpTo-new g x kept s next (Some m) e b h step lt out same more on =
+    subst (λ (z : ℤ). IsTopUpTo g x kept next (Some z)) (at_most m e (sym more ∙ on)) (IsTopUpTo-more g x kept s next (Some m) e h step lt out same)
+
 proper : (g : Game) (kept : List ℕ) (levels : List Level) (t : ℕ) → SpansFixed g.players kept levels → t < 2 ^ g.players → ¬ Inside g kept t → IsOutside Span g.players levels t
 proper g kept levels t h lt out =
     let some : t ≡ 0 → ⊥ = λ e. out (subst (Inside g kept) (sym e) (inside-empty g kept)) in

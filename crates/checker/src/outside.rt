@@ -1,6 +1,6 @@
 //! What is outside of what levels fix.
 
-ghost use Rattle.std.specs.Prelude.{◌≡◌, ℕ, List, ◌^◌, ◌<◌, ◌≤◌, false, length, IsTrue, MatchOption, ⊤};
+ghost use Rattle.std.specs.Prelude.{◌≡◌, ℕ, List, ◌^◌, ◌<◌, ◌≤◌, true, false, int_lt, length, IsTrue, MatchOption, ⊤};
 ghost use Rattle.std.specs.Bool.{Decides};
 ghost use Rattle.definitions.specs.Sums.{IsGreatest};
 ghost use Rattle.definitions.specs.Coalitions.{has_player};
@@ -70,7 +70,18 @@ fn first_free(free: Coalition, n: u32) -> Option<u32>
     }
 }
 
-/// The greatest scaled excess of a coalition outside of a span.
+/// Whether a number is more than the greatest so far, or the first.
+fn is_more(most: Option<i128>, excess: i128) -> bool
+    ensures { MatchOption most (result ≡ true) (λ m. result ≡ int_lt m excess) }
+{
+    match most {
+        None => true,
+        Some(most) => most < excess,
+    }
+}
+
+/// The greatest scaled excess of a coalition outside of a span. The span is asked only about coalitions that have more than
+/// the greatest so far, since asking it costs the most.
 fn greatest_unspanned<W: Worth>(game: &W, shares: &Shares, span: &Span) -> Option<i128>
     requires shares { length shares.now.shares ≡ (W.game game.now).players }
     requires players { span.now.players ≡ (W.game game.now).players }
@@ -83,8 +94,9 @@ fn greatest_unspanned<W: Worth>(game: &W, shares: &Shares, span: &Span) -> Optio
     let mut s = Coalition::empty();
     while let Some(next) = s.next_mask(n) {
         s = next;
-        if !span.holds(s) {
-            most = raised(most, shares.excess_over(game.worth(s), s));
+        let excess = shares.excess_over(game.worth(s), s);
+        if is_more(most, excess) && !span.holds(s) {
+            most = Some(excess);
         }
     }
     most
