@@ -178,3 +178,115 @@ fn players_certify_an_airport_game(rt: HostRuntime) -> Result<(), Fail> {
     }
     Ok(())
 }
+
+// Two share 2 and are worth nothing alone: a level that certifies equal shares, spoilt in one place each.
+#[test]
+fn each_condition_of_a_level_fails_in_both_modes(rt: HostRuntime) -> Result<(), Fail> {
+    let game = game(&rt, 2, &[0, 0, 2])?;
+    for mode in [Mode::Players, Mode::Span] {
+        for (shares, excess, weights, bounds, total, wanted) in [
+            ([1, 1], -1, [1, 1], [].as_slice(), 1, Verdict::Yes),
+            (
+                [1, 2],
+                -1,
+                [1, 1],
+                [].as_slice(),
+                1,
+                Verdict::No(Reason::NotEfficient),
+            ),
+            (
+                [-1, 3],
+                -1,
+                [1, 1],
+                [].as_slice(),
+                1,
+                Verdict::No(Reason::NotIndividual { player: 0 }),
+            ),
+            (
+                [1, 1],
+                -2,
+                [1, 1],
+                [].as_slice(),
+                1,
+                Verdict::No(Reason::WrongExcess {
+                    level: 1,
+                    coalition: of![1],
+                }),
+            ),
+            (
+                [1, 1],
+                -1,
+                [0, 1],
+                [].as_slice(),
+                1,
+                Verdict::No(Reason::WeightSign {
+                    level: 1,
+                    place: Place::Coalition(of![1]),
+                }),
+            ),
+            (
+                [1, 1],
+                -1,
+                [1, 1],
+                [(0, 0)].as_slice(),
+                1,
+                Verdict::No(Reason::WeightSign {
+                    level: 1,
+                    place: Place::Player(0),
+                }),
+            ),
+            (
+                [1, 1],
+                -1,
+                [2, 1],
+                [].as_slice(),
+                1,
+                Verdict::No(Reason::Unbalanced {
+                    level: 1,
+                    player: 0,
+                }),
+            ),
+            (
+                [1, 1],
+                -1,
+                [1, 2],
+                [(0, 1)].as_slice(),
+                2,
+                Verdict::No(Reason::BoundNotTight {
+                    level: 1,
+                    player: 0,
+                }),
+            ),
+        ] {
+            let pairs = [(of![1], weights[0]), (of![2], weights[1])];
+            let only = level(&rt, (excess, 1), &pairs, &[], bounds, total)?;
+            let levels = vec![in rt.alloc(); only]?;
+            let shares = (shares.as_slice(), 1);
+            let found = verdict(&rt, &game, Family::Imputations, shares, mode, levels)?;
+            assert_eq!(rt; found, wanted);
+        }
+    }
+    Ok(())
+}
+
+#[test]
+fn what_is_outside_or_left_is_found_in_both_modes(rt: HostRuntime) -> Result<(), Fail> {
+    let game = game(&rt, 3, &[0, 0, 0, 0, 0, 0, 3])?;
+    let shares = [1, 1, 1];
+    for mode in [Mode::Players, Mode::Span] {
+        let pairs = [(of![1, 2], 1), (of![1, 3], 1), (of![2, 3], 1)];
+        let only = level(&rt, (-2, 1), &pairs, &[], &[], 2)?;
+        let levels = vec![in rt.alloc(); only]?;
+        let family = Family::Imputations;
+        let found = verdict(&rt, &game, family, (shares.as_slice(), 1), mode, levels)?;
+        let wanted = Reason::OutsideAbove {
+            level: 1,
+            excess: Frac::from_int(-1),
+        };
+        assert_eq!(rt; found, Verdict::No(wanted));
+        let none = Vec::new(rt.alloc());
+        let found = verdict(&rt, &game, family, (shares.as_slice(), 1), mode, none)?;
+        assert_eq!(rt; found, Verdict::No(Reason::NotAll { player: 0 }));
+    }
+    Ok(())
+}
