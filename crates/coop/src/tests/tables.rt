@@ -17,6 +17,11 @@ fn prints_shares_of_tables_that_are_checked(rt: HostRuntime) -> Result<(), Fail>
         ),
         (
             "nucleolus",
+            "{\"game\":{\"class\":\"table\",\"players\":1,\"worths\":[5]}}",
+            "\"shares\":[\"5\"]}\n",
+        ),
+        (
+            "nucleolus",
             DEPARTMENTS,
             "\"shares\":[\"4\",\"4\",\"4\",\"4\",\"4\"]}\n",
         ),
