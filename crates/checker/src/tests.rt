@@ -179,92 +179,50 @@ fn players_certify_an_airport_game(rt: HostRuntime) -> Result<(), Fail> {
     Ok(())
 }
 
-// Two share 2 and are worth nothing alone: a level that certifies equal shares, spoilt in one place each.
+/// The verdict where two share 2 and are worth nothing alone, on a level of both alone.
+fn on_two(
+    rt: &HostRuntime,
+    mode: Mode,
+    shares: [i128; 2],
+    excess: i128,
+    weights: [i128; 2],
+    bounds: &[(u32, i128)],
+    total: i128,
+) -> Result<Verdict, Fail> {
+    let game = game(rt, 2, &[0, 0, 2])?;
+    let pairs = [(of![1], weights[0]), (of![2], weights[1])];
+    let only = level(rt, (excess, 1), &pairs, &[], bounds, total)?;
+    let levels = vec![in rt.alloc(); only]?;
+    let shares = (shares.as_slice(), 1);
+    verdict(rt, &game, Family::Imputations, shares, mode, levels)
+}
+
 #[test]
 fn each_condition_of_a_level_fails_in_both_modes(rt: HostRuntime) -> Result<(), Fail> {
-    let game = game(&rt, 2, &[0, 0, 2])?;
+    let (level, player) = (1, 0);
+    let coalition = of![1];
     for mode in [Mode::Players, Mode::Span] {
-        for (shares, excess, weights, bounds, total, wanted) in [
-            ([1, 1], -1, [1, 1], [].as_slice(), 1, Verdict::Yes),
-            (
-                [1, 2],
-                -1,
-                [1, 1],
-                [].as_slice(),
-                1,
-                Verdict::No(Reason::NotEfficient),
-            ),
-            (
-                [-1, 3],
-                -1,
-                [1, 1],
-                [].as_slice(),
-                1,
-                Verdict::No(Reason::NotIndividual { player: 0 }),
-            ),
-            (
-                [1, 1],
-                -2,
-                [1, 1],
-                [].as_slice(),
-                1,
-                Verdict::No(Reason::WrongExcess {
-                    level: 1,
-                    coalition: of![1],
-                }),
-            ),
-            (
-                [1, 1],
-                -1,
-                [0, 1],
-                [].as_slice(),
-                1,
-                Verdict::No(Reason::WeightSign {
-                    level: 1,
-                    place: Place::Coalition(of![1]),
-                }),
-            ),
-            (
-                [1, 1],
-                -1,
-                [1, 1],
-                [(0, 0)].as_slice(),
-                1,
-                Verdict::No(Reason::WeightSign {
-                    level: 1,
-                    place: Place::Player(0),
-                }),
-            ),
-            (
-                [1, 1],
-                -1,
-                [2, 1],
-                [].as_slice(),
-                1,
-                Verdict::No(Reason::Unbalanced {
-                    level: 1,
-                    player: 0,
-                }),
-            ),
-            (
-                [1, 1],
-                -1,
-                [1, 2],
-                [(0, 1)].as_slice(),
-                2,
-                Verdict::No(Reason::BoundNotTight {
-                    level: 1,
-                    player: 0,
-                }),
-            ),
-        ] {
-            let pairs = [(of![1], weights[0]), (of![2], weights[1])];
-            let only = level(&rt, (excess, 1), &pairs, &[], bounds, total)?;
-            let levels = vec![in rt.alloc(); only]?;
-            let shares = (shares.as_slice(), 1);
-            let found = verdict(&rt, &game, Family::Imputations, shares, mode, levels)?;
-            assert_eq!(rt; found, wanted);
-        }
+        let found = on_two(&rt, mode, [1, 1], -1, [1, 1], &[], 1)?;
+        assert_eq!(rt; found, Verdict::Yes);
+        let found = on_two(&rt, mode, [1, 2], -1, [1, 1], &[], 1)?;
+        assert_eq!(rt; found, Verdict::No(Reason::NotEfficient));
+        let found = on_two(&rt, mode, [-1, 3], -1, [1, 1], &[], 1)?;
+        assert_eq!(rt; found, Verdict::No(Reason::NotIndividual { player }));
+        let found = on_two(&rt, mode, [1, 1], -2, [1, 1], &[], 1)?;
+        assert_eq!(rt;
+            found,
+            Verdict::No(Reason::WrongExcess { level, coalition })
+        );
+        let found = on_two(&rt, mode, [1, 1], -1, [0, 1], &[], 1)?;
+        let place = Place::Coalition(coalition);
+        assert_eq!(rt; found, Verdict::No(Reason::WeightSign { level, place }));
+        let found = on_two(&rt, mode, [1, 1], -1, [1, 1], &[(0, 0)], 1)?;
+        let place = Place::Player(player);
+        assert_eq!(rt; found, Verdict::No(Reason::WeightSign { level, place }));
+        let found = on_two(&rt, mode, [1, 1], -1, [2, 1], &[], 1)?;
+        assert_eq!(rt; found, Verdict::No(Reason::Unbalanced { level, player }));
+        let found = on_two(&rt, mode, [1, 1], -1, [1, 2], &[(0, 1)], 2)?;
+        assert_eq!(rt; found, Verdict::No(Reason::BoundNotTight { level, player }));
     }
     Ok(())
 }
