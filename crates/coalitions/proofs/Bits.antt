@@ -8,12 +8,7 @@ use Rattle.std.proofs.Math.Nat.{lt_of_le_of_lt}
 use lib.Bits.{or_lt}
 use mir.Syntax.{w64}
 use Rattle.definitions.specs.Coalitions.{has_player}
-
-same_or_other : (j i : ℕ) → (j ≡ i) ⊎ (j ≢ i)
-same_or_other j i = grind arith
-
-below_or_above : (j n : ℕ) → (j < n) ⊎ (n ≤ j)
-below_or_above j n = grind arith
+use Rattle.definitions.proofs.Cases.{same_or_other, below_or_above}
 
 pub has_player_with : (s i j : ℕ) → i < 64 → has_player (bit_or s (1 * 2 ^ i % 2 ^ 64)) j ≡ (nat_eq j i || has_player s j)
 has_player_with s i j h = elim (same_or_other j i) [

@@ -16,7 +16,7 @@ ones_mod-suc n s =
     let cut : s % 2 ^ (n + 1) ≡ bit_at s n * 2 ^ n + s % 2 ^ n = rw (add_comm n 1) (mod-pow-add s 1 n) in
     ap count_ones cut ∙ ones_cat n (bit_at s n) (s % 2 ^ n) (mod-lt s (pow_pos n))
 
-bit_by_player : (s n : ℕ) (b : Bool) → has_player s n ≡ b → bit_at s n ≡ (if b then 1 else 0)
+pub bit_by_player : (s n : ℕ) (b : Bool) → has_player s n ≡ b → bit_at s n ≡ (if b then 1 else 0)
 bit_by_player s n b h = grind (arith, nat_tests, bit_at-lt s n)
 
 count_ones-zero : count_ones 0 ≡ 0

@@ -1,3 +1,4 @@
 pub mod Bits
 pub mod Count
 pub mod Masks
+pub mod GrayOrder

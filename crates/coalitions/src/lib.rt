@@ -6,12 +6,15 @@ ghost use Rattle.std.specs.Iterator.{YieldsFirst};
 ghost use Rattle.std.specs.Iterator.Runs.{YieldsInOrder};
 ghost use Rattle.definitions.specs.Coalitions.{has_player, singleton, grand_coalition, members};
 ghost use Rattle.coalitions.specs.Masks.{all_masks};
+ghost use Rattle.coalitions.specs.GrayOrder.{gray_mask, gray_steps, IsFlip, IsOnce};
 
+mod gray;
 mod subsets;
 #[cfg(test)]
 mod tests;
 
 use arrayvec::ArrayVec;
+pub use gray::{Gray, GrayStep};
 use std::marker::Model;
 pub use subsets::Subsets;
 
@@ -136,5 +139,19 @@ impl Coalition {
         ensures runs { YieldsInOrder (YieldsFirst {A = ℕ} (λ rest. rest)) (λ rest. rest) }
     {
         Subsets::from_empty(n)
+    }
+
+    /// Every coalition of `n` players once, in Gray order (Gray 1953), each with the player in which it differs from the
+    /// one before.
+    pub fn gray(n: u32) -> Gray
+        requires { n ≤ 16 }
+        ensures steps { result ≡ gray_steps n }
+        ensures count { length result ≡ 2 ^ n }
+        ensures within { (k : ℕ) → k < 2 ^ n → gray_mask k < 2 ^ n }
+        ensures flips { (k : ℕ) → k < 2 ^ n → IsFlip n k }
+        ensures once { (s : ℕ) → s < 2 ^ n → IsOnce n s }
+        ensures runs { YieldsInOrder (YieldsFirst {A = GrayStep} (λ rest. rest)) (λ rest. rest) }
+    {
+        Gray::from_empty(n)
     }
 }

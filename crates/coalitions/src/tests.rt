@@ -58,3 +58,15 @@ fn subsets_come_in_ascending_order(rt: HostRuntime) {
     assert_eq!(rt; Coalition::subsets(10).count(), 1024);
     assert_eq!(rt; last_of(7), Coalition(127));
 }
+
+#[test]
+fn gray_order_of_two_players(rt: HostRuntime) {
+    let mut steps = Coalition::gray(2);
+    for (mask, flipped) in [(0u64, None), (1, Some(0)), (3, Some(1)), (2, Some(0))] {
+        let mask = Coalition(mask);
+        assert_eq!(rt; steps.next(), Some(GrayStep { mask, flipped }));
+    }
+    assert_eq!(rt; steps.next(), None);
+    assert_eq!(rt; Coalition::gray(0).count(), 1);
+    assert_eq!(rt; Coalition::gray(16).count(), 65536);
+}

@@ -3,16 +3,18 @@ use Rattle.std.proofs.Common.{◌≤◌, ◌≡◌, ◌⊎◌, ℕ, zero, suc, �
 use Rattle.std.proofs.lemmas.Bool.{false≢true}
 use Rattle.std.proofs.lemmas.Int.{ints}
 use Rattle.definitions.specs.Order.{sorted}
-use Rattle.definitions.specs.Coalitions.{has_player, singleton, weight_at, splits}
+use Rattle.definitions.specs.Coalitions.{has_player, singleton, weight_at, splits, members}
 use Rattle.definitions.specs.Games.{Game, Allocation, share, excess, excess_list, Beats, IsChosenBlocker, InFamily, IsNucleolus}
 use Rattle.definitions.specs.Certificates.{Level, HasForm, LevelHolds, Certifies, is_free, number_at}
 use Rattle.definitions.proofs.Soundness.{IsNucleolus-from_certificate}
 use Rattle.definitions.specs.declared.Family.TheVariants.{Imputations}
+use Rattle.definitions.specs.declared.Measure.TheVariants.{Plain, PerHead}
 use Rattle.definitions.specs.declared.Mode.TheVariants.{Players}
 use Rattle.std.specs.Ordering.{int_eq}
 use Rattle.definitions.specs.Balanced.{IsBalancedOfExcessWorth}
 use Rattle.definitions.specs.Classes.{table_worth, airport_worth, bankruptcy_worth, plan_cost, Matrix, IsMatching, matching_value}
 use Rattle.definitions.specs.Shapley.{shapley_total}
+use Rattle.definitions.proofs.Cases.{less_or_last, from_not}
 
 -- ---- three players, of whom any two are worth 1
 
@@ -39,17 +41,43 @@ fair = record { shares = negsuc 1 ∷ (negsuc 2 ∷ (negsuc 6 ∷ [])); den = po
 abbrev other : Allocation
 other = record { shares = negsuc 0 ∷ (negsuc 1 ∷ (negsuc 2 ∷ [])); den = pos 1 }
 
-fair_list : excess_list airport fair (pos 1) ≡ negsuc 1 ∷ (negsuc 4 ∷ (negsuc 2 ∷ (negsuc 4 ∷ (negsuc 2 ∷ (negsuc 1 ∷ [])))))
+fair_list : excess_list Plain airport fair (pos 1) ≡ negsuc 1 ∷ (negsuc 4 ∷ (negsuc 2 ∷ (negsuc 4 ∷ (negsuc 2 ∷ (negsuc 1 ∷ [])))))
 fair_list = refl
 
-fair_sorted : sorted (excess_list airport fair (pos 1)) ≡ negsuc 1 ∷ (negsuc 1 ∷ (negsuc 2 ∷ (negsuc 2 ∷ (negsuc 4 ∷ (negsuc 4 ∷ [])))))
+fair_sorted : sorted (excess_list Plain airport fair (pos 1)) ≡ negsuc 1 ∷ (negsuc 1 ∷ (negsuc 2 ∷ (negsuc 2 ∷ (negsuc 4 ∷ (negsuc 4 ∷ [])))))
 fair_sorted = refl
 
-other_sorted : sorted (excess_list airport other (pos 2)) ≡ negsuc 1 ∷ (negsuc 1 ∷ (negsuc 1 ∷ (negsuc 3 ∷ (negsuc 3 ∷ (negsuc 5 ∷ [])))))
+other_sorted : sorted (excess_list Plain airport other (pos 2)) ≡ negsuc 1 ∷ (negsuc 1 ∷ (negsuc 1 ∷ (negsuc 3 ∷ (negsuc 3 ∷ (negsuc 5 ∷ [])))))
 other_sorted = refl
 
-fair_beats : Beats airport fair other
+fair_beats : Beats Plain airport fair other
 fair_beats = search rules
+
+-- ---- excess per head: the first two are worth 6 together, and all three 12
+
+abbrev savings : Game
+savings = record { players = 3; worth = table_worth (pos 0 ∷ (pos 0 ∷ (pos 6 ∷ (pos 0 ∷ (pos 0 ∷ (pos 0 ∷ (pos 12 ∷ []))))))) }
+
+-- shares 5, 5, 2
+abbrev by_head : Allocation
+by_head = record { shares = pos 5 ∷ (pos 5 ∷ (pos 2 ∷ [])); den = pos 1 }
+
+-- shares 9/2, 9/2, 3
+abbrev plain : Allocation
+plain = record { shares = pos 9 ∷ (pos 9 ∷ (pos 6 ∷ [])); den = pos 2 }
+
+-- -5, -5, -2, -2, -7/2 and -7/2, times 720720
+by_head_list : excess_list PerHead savings by_head (pos 1) ≡ negsuc 3603599 ∷ (negsuc 3603599 ∷ (negsuc 1441439 ∷ (negsuc 1441439 ∷ (negsuc 2522519 ∷ (negsuc 2522519 ∷ [])))))
+unfolding members
+by_head_list = refl
+
+plain_list : excess_list PerHead savings plain (pos 1) ≡ negsuc 6486479 ∷ (negsuc 6486479 ∷ (negsuc 2162159 ∷ (negsuc 4324319 ∷ (negsuc 5405399 ∷ (negsuc 5405399 ∷ [])))))
+unfolding members
+plain_list = refl
+
+by_head_beats : Beats PerHead savings by_head plain
+unfolding members
+by_head_beats = search rules
 
 -- ---- totals over all orders, and an estate
 
@@ -74,15 +102,12 @@ passes_below-at zero test h t lt = absurd (omega arith)
 passes_below-at (suc n) test h t lt =
     let step : (b c : Bool) → b ≡ passes_below n test → c ≡ test n → (b && c) ≡ true → test t ≡ true = elim [
       | true ↦ elim [
-        | true ↦ λ p q e. elim (lt_cases t n lt) [ inl less ↦ passes_below-at n test (sym p) t less | inr same ↦ ap test same ∙ sym q ]
+        | true ↦ λ p q e. elim (less_or_last t n lt) [ inl less ↦ passes_below-at n test (sym p) t less | inr same ↦ ap test same ∙ sym q ]
         | false ↦ λ p q e. absurd (false≢true e)
       ]
       | false ↦ λ c p q e. absurd (false≢true e)
     ] in
     step (passes_below n test) (test n) refl refl h
-  where
-    lt_cases : (t n : ℕ) → t < suc n → (t < n) ⊎ (t ≡ n)
-    lt_cases t n lt = grind arith
 
 chosen : IsChosenBlocker majority first_takes_all 6
 chosen = record {
@@ -115,7 +140,7 @@ from_either : (b : Bool) (u v : ℤ) → (not b || int_le u v) ≡ true → b �
 from_either true u v e h = omega (arith, ints)
 from_either false u v e h = absurd (false≢true h)
 
-first_holds : LevelHolds Players Imputations airport fair [] first_level
+first_holds : LevelHolds Players Imputations Plain airport fair [] first_level
 first_holds = record {
   excesses = (refl, (refl, tt));
   weights = search rules;
@@ -125,7 +150,7 @@ first_holds = record {
   outside = λ s h out. from_either _ _ _ (passes_below-at 8 (bounds_outside [] first_level) refl s h) out;
 }
 
-second_holds : LevelHolds Players Imputations airport fair (first_level ∷ []) second_level
+second_holds : LevelHolds Players Imputations Plain airport fair (first_level ∷ []) second_level
 second_holds = record {
   excesses = (refl, (refl, tt));
   weights = search rules;
@@ -138,15 +163,11 @@ second_holds = record {
 -- after both levels no player is free
 none_free : (i : ℕ) → i < 3 → is_free 3 (first_level ∷ (second_level ∷ [])) i ≡ false
 none_free i h = from_not _ (passes_below-at 3 (λ i. not (is_free 3 (first_level ∷ (second_level ∷ [])) i)) refl i h)
-  where
-    from_not : (b : Bool) → not b ≡ true → b ≡ false
-    from_not true e = absurd (false≢true e)
-    from_not false e = refl
 
 fair_imputation : InFamily Imputations airport fair
 fair_imputation = ((refl, search rules), refl, λ i h. let e = passes_below-at 3 (λ i. int_le (fair.den *ℤ airport.worth (singleton i)) (share fair i)) refl i h in omega (arith, ints, e))
 
-fair_certified : Certifies Players Imputations airport fair (first_level ∷ (second_level ∷ []))
+fair_certified : Certifies Players Imputations Plain airport fair (first_level ∷ (second_level ∷ []))
 fair_certified =
     (fair_imputation, (first_holds, (second_holds, λ i j hi hj fi fj. absurd (false≢true (sym (none_free i hi) ∙ fi)))))
 
@@ -154,8 +175,8 @@ fair_form : HasForm Players 3 (first_level ∷ (second_level ∷ []))
 fair_form = record { players = inl refl; few = omega arith; each = (record { fraction = search rules; some = search rules; few = search rules; few_earlier = search rules; proper = search rules; listed = tt; players = tt; ascend = search rules; earlier_ascend = tt; bounds_ascend = tt; small = search rules; total_small = search rules }, (record { fraction = search rules; some = search rules; few = search rules; few_earlier = search rules; proper = search rules; listed = (refl, tt); players = tt; ascend = search rules; earlier_ascend = search rules; bounds_ascend = tt; small = search rules; total_small = search rules }, tt)) }
 
 -- so the payments 1, 3/2, 7/2 are the nucleolus
-fair_nucleolus : IsNucleolus Imputations airport fair
-fair_nucleolus = IsNucleolus-from_certificate Players Imputations airport fair (first_level ∷ (second_level ∷ [])) fair_form fair_certified
+fair_nucleolus : IsNucleolus Imputations Plain airport fair
+fair_nucleolus = IsNucleolus-from_certificate Players Imputations Plain airport fair (first_level ∷ (second_level ∷ [])) (inl refl) fair_form fair_certified
 
 -- ---- plans, matchings, collections
 

@@ -1,12 +1,13 @@
 -- Members of coalitions, and sums over them.
-use Rattle.std.proofs.Common.{◌≡◌, ◌≢◌, ◌⊎◌, ℕ, zero, suc, ◌+◌, ◌-◌, ◌*◌, ◌/◌, ◌^◌, ◌<◌, ◌≤◌, Bool, true, false, not, cond, List, [], ◌∷◌, ◌++◌, add-one, ℤ, pos, ◌+ℤ◌, ◌-ℤ◌, ◌*ℤ◌, refl, sym, ap, ◌∙◌, inl, inr, arith, nat_eq, if◌then◌else◌}
+use Rattle.std.proofs.Common.{◌≡◌, ◌≢◌, ◌⊎◌, ℕ, zero, suc, ◌+◌, ◌-◌, ◌*◌, ◌/◌, ◌^◌, ◌<◌, ◌≤◌, Bool, true, false, not, cond, List, [], ◌∷◌, ◌++◌, add-one, ℤ, pos, ◌+ℤ◌, ◌-ℤ◌, ◌*ℤ◌, ◌≤ℤ◌, refl, sym, ap, ◌∙◌, inl, inr, arith, nat_eq, if◌then◌else◌}
 use Rattle.std.proofs.lemmas.Bool.Decides.{nat_tests}
 use Rattle.std.proofs.lemmas.Nat.Bits.{bit_at-suc, bit_at-zero, bit_at-pow_same, bit_at-pow_other, bit_at_ones, bit_at_lowest}
 use Rattle.std.proofs.Math.Nat.{pow-suc, mul_comm, le_refl}
 use Rattle.std.specs.Int.{bit_at}
-use Rattle.definitions.proofs.Ring.{linear, add-mulℤ, mul-addℤ, mul-zeroℤ, zero-mulℤ}
+use Rattle.definitions.proofs.Ring.{linear, add-mulℤ, mul-addℤ, mul-zeroℤ, zero-mulℤ, mul-oneℤ}
 use Rattle.definitions.specs.Sums.{sum_below, weighted_sum}
 use Rattle.definitions.specs.Coalitions.{has_player, singleton, grand_coalition, sum_over, weight_at, members}
+use Rattle.definitions.proofs.Cases.{less_or_last}
 
 -- ---- bits
 
@@ -44,6 +45,16 @@ has_player-complement n s i h k = opposite (bit_at (2 ^ n - 1 - s) i) (bit_at s 
     opposite : (a b : ℕ) → a + b ≡ 1 → nat_eq a 1 ≡ not (nat_eq b 1)
     opposite a b e = grind (arith, nat_tests)
 
+-- ---- numbers at members alone
+
+pub times_bit : (b : Bool) (z : ℤ) → z *ℤ cond b (pos 1) (pos 0) ≡ cond b z (pos 0)
+times_bit true z = mul-oneℤ z
+times_bit false z = mul-zeroℤ z
+
+pub zero_either : (b : Bool) (z : ℤ) → z ≡ pos 0 → cond b z (pos 0) ≡ pos 0
+zero_either true z e = e
+zero_either false z e = refl
+
 -- ---- sums
 
 pub sum_below-same : (n : ℕ) (f g : ℕ → ℤ) → ((i : ℕ) → i < n → f i ≡ g i) → sum_below n f ≡ sum_below n g
@@ -66,6 +77,28 @@ sum_below-times zero f c = sym (mul-zeroℤ c)
 sum_below-times (suc n) f c = omega (arith, linear, sum_below-times n f c, mul-addℤ c (sum_below n f) (f n))
 
 -- a combination of two shares of each player
+pub sum_below-split : (n j : ℕ) (f : ℕ → ℤ) → sum_below (n + j) f ≡ sum_below n f +ℤ sum_below j (λ k. f (n + k))
+sum_below-split n zero f = let e : n + 0 ≡ n = omega arith in rw e (omega (arith, linear))
+sum_below-split n (suc j) f =
+    let e : n + suc j ≡ suc (n + j) = omega arith in
+    rw e (omega (arith, linear, sum_below-split n j f))
+
+pub sum_below-front : (n : ℕ) (f : ℕ → ℤ) → sum_below (suc n) f ≡ f 0 +ℤ sum_below n (λ i. f (suc i))
+sum_below-front zero f = omega (arith, linear)
+sum_below-front (suc n) f = let ih = sum_below-front n f in omega (arith, linear, ih)
+
+pub sum_over-nonnegative : (n s : ℕ) (f : ℕ → ℤ) → ((i : ℕ) → i < n → pos 0 ≤ℤ f i) → pos 0 ≤ℤ sum_over n f s
+sum_over-nonnegative zero s f low = omega (arith, linear)
+sum_over-nonnegative (suc n) s f low =
+    let ih = sum_over-nonnegative n s f (λ i h. low i (omega arith)) in
+    let here = low n (omega arith) in
+    let step : (b : Bool) → pos 0 ≤ℤ (sum_over n f s +ℤ cond b (f n) (pos 0)) = elim [ true ↦ omega (arith, linear) | false ↦ omega (arith, linear) ] in
+    step (has_player s n)
+
+pub weight_at-append : (ps qs : List (ℕ × ℤ)) (i : ℕ) → weight_at (ps ++ qs) i ≡ weight_at ps i +ℤ weight_at qs i
+weight_at-append [] qs i = omega (arith, linear)
+weight_at-append (p ∷ ps) qs i = omega (arith, linear, weight_at-append ps qs i)
+
 pub sum_over-combined : (n : ℕ) (a b : ℕ → ℤ) (p q : ℤ) (s : ℕ) → sum_over n (λ i. p *ℤ a i -ℤ q *ℤ b i) s ≡ p *ℤ sum_over n a s -ℤ q *ℤ sum_over n b s
 sum_over-combined zero a b p q s = omega (arith, linear, mul-zeroℤ p, mul-zeroℤ q)
 sum_over-combined (suc n) a b p q s =
@@ -87,12 +120,9 @@ sum_over-apart n k a h =
     ne : (i : ℕ) → i < n → i ≢ k
     ne i lt e = omega arith
 
-last_or_less : (k n : ℕ) → k < suc n → (k < n) ⊎ (k ≡ n)
-last_or_less k n h = grind arith
-
 pub sum_over-singleton : (n k : ℕ) (a : ℕ → ℤ) → k < n → sum_over n a (singleton k) ≡ a k
 sum_over-singleton zero k a h = absurd (omega arith)
-sum_over-singleton (suc n) k a h = elim (last_or_less k n h) [
+sum_over-singleton (suc n) k a h = elim (less_or_last k n h) [
   | inl less ↦ rw (has_player-singleton_other k n (λ e. omega arith)) (omega (arith, linear, sum_over-singleton n k a less))
   | inr same ↦ rw (sym same) (rw (has_player-singleton k) (omega (arith, linear, sum_over-apart k k a (le_refl k))))
 ]
@@ -111,7 +141,7 @@ sum_over-complement n s a h =
 
 -- ---- the exchange of the two sums
 
-weighted_sum-add : (f g : ℕ → ℤ) (ps : List (ℕ × ℤ)) → weighted_sum (λ s. f s +ℤ g s) ps ≡ weighted_sum f ps +ℤ weighted_sum g ps
+pub weighted_sum-add : (f g : ℕ → ℤ) (ps : List (ℕ × ℤ)) → weighted_sum (λ s. f s +ℤ g s) ps ≡ weighted_sum f ps +ℤ weighted_sum g ps
 weighted_sum-add f g [] = refl
 weighted_sum-add f g (p ∷ ps) = omega (arith, linear, weighted_sum-add f g ps, mul-addℤ p.1 (f p.0) (g p.0))
 
@@ -125,7 +155,7 @@ weighted_sum-one n a (p ∷ ps) =
     ] in
     step (has_player p.0 n)
 
-weighted_sum-zero : (ps : List (ℕ × ℤ)) → weighted_sum (λ s. pos 0) ps ≡ pos 0
+pub weighted_sum-zero : (ps : List (ℕ × ℤ)) → weighted_sum (λ s. pos 0) ps ≡ pos 0
 weighted_sum-zero [] = refl
 weighted_sum-zero (p ∷ ps) = omega (arith, linear, weighted_sum-zero ps, mul-zeroℤ p.1)
 

@@ -1,27 +1,15 @@
 -- A coalition with one more player, and sums over parts of a coalition.
-use Rattle.std.proofs.Common.{◌≡◌, ◌≢◌, ◌⊎◌, ℕ, zero, suc, ◌+◌, ◌-◌, ◌*◌, ◌/◌, ◌^◌, ◌<◌, ◌≤◌, Bool, true, false, not, cond, ℤ, pos, ◌+ℤ◌, ◌≤ℤ◌, refl, sym, ap, ◌∙◌, inl, inr, arith, nat_eq, if◌then◌else◌}
+use Rattle.std.proofs.Common.{◌≡◌, ◌≢◌, ◌⊎◌, ℕ, zero, suc, ◌+◌, ◌-◌, ◌*◌, ◌/◌, ◌^◌, ◌<◌, ◌≤◌, Bool, true, false, not, ◌||◌, cond, ℤ, pos, ◌+ℤ◌, ◌≤ℤ◌, refl, sym, ap, ◌∙◌, inl, inr, arith, nat_eq, if◌then◌else◌}
 use Rattle.std.proofs.lemmas.Bool.{false≢true}
 use Rattle.std.proofs.lemmas.Bool.Decides.{nat_tests}
-use Rattle.std.proofs.lemmas.Nat.Bits.{bit_at-suc, bit_at_lowest, bit_at-lt, bit_at_above}
+use Rattle.std.proofs.lemmas.Nat.Bits.{bit_at-suc, bit_at_lowest, bit_at-lt, bit_at_above, same_from_bits}
 use Rattle.std.proofs.Math.Nat.{pow-suc, mul_comm}
 use Rattle.std.specs.Int.{bit_at}
 use Rattle.definitions.proofs.Ring.{linear}
 use Rattle.definitions.proofs.Members.{has_player-singleton, has_player-singleton_other, has_player-complement, sum_below-same, sum_below-add, sum_over-singleton}
 use Rattle.definitions.specs.Sums.{sum_below}
 use Rattle.definitions.specs.Coalitions.{has_player, singleton, grand_coalition, sum_over}
-
-pub same_or_other : (i j : ℕ) → (i ≡ j) ⊎ (i ≢ j)
-same_or_other i j = decide (nat_eq i j) refl
-  where
-    decide : (b : Bool) → nat_eq i j ≡ b → (i ≡ j) ⊎ (i ≢ j)
-    decide true e = inl (same i j e)
-      where
-        same : (i j : ℕ) → nat_eq i j ≡ true → i ≡ j
-        same i j e = grind (arith, nat_tests)
-    decide false e = inr (other i j e)
-      where
-        other : (i j : ℕ) → nat_eq i j ≡ false → i ≢ j
-        other i j e = grind (arith, nat_tests)
+use Rattle.definitions.proofs.Cases.{same_or_other, zero_bit, same_bit, nat_eq-equal, nat_eq-other}
 
 -- ---- one more player
 
@@ -51,10 +39,7 @@ bit_more_other s (suc j) (suc i) h ne =
     bit_at-suc (s + 2 ^ suc j) i ∙ ap (λ (m : ℕ). bit_at m i) half ∙ ih ∙ sym (bit_at-suc s i)
 
 bit_zero : (s i : ℕ) → has_player s i ≡ false → bit_at s i ≡ 0
-bit_zero s i e = small (bit_at s i) (bit_at-lt s i) e
-  where
-    small : (b : ℕ) → b < 2 → nat_eq b 1 ≡ false → b ≡ 0
-    small b lt e = grind (arith, nat_tests)
+bit_zero s i e = zero_bit (bit_at s i) (bit_at-lt s i) e
 
 pub has_player-more_same : (s j : ℕ) → has_player s j ≡ false → has_player (s + 2 ^ j) j ≡ true
 has_player-more_same s j h = is_one (bit_at (s + 2 ^ j) j) (bit_more_same s j (bit_zero s j h))
@@ -76,6 +61,18 @@ bit_more_lt (suc n) s (suc j) lt k h =
 
 pub more-lt : (n s j : ℕ) → s < 2 ^ n → j < n → has_player s j ≡ false → s + 2 ^ j < 2 ^ n
 more-lt n s j lt k h = bit_more_lt n s j lt k (bit_zero s j h)
+
+-- coalitions of the same players are the same
+pub same_coalition : (s t : ℕ) → ((i : ℕ) → has_player s i ≡ has_player t i) → s ≡ t
+same_coalition s t h =
+    same_from_bits s t (λ i. same_bit (bit_at s i) (bit_at t i) (bit_at-lt s i) (bit_at-lt t i) (h i))
+
+-- the coalition with one player more, by its players
+pub more-is : (s i r : ℕ) → has_player s i ≡ false → ((j : ℕ) → has_player r j ≡ (nat_eq j i || has_player s j)) → r ≡ s + 2 ^ i
+more-is s i r lacks h = same_coalition r (s + 2 ^ i) (λ j. elim (same_or_other j i) [
+  | inl same ↦ h j ∙ rw (nat_eq-equal j i same) (sym (ap (has_player (s + 2 ^ i)) same ∙ has_player-more_same s i lacks))
+  | inr other ↦ h j ∙ rw (nat_eq-other j i other) (sym (has_player-more_other s i j lacks other))
+])
 
 -- nobody past the last player
 pub has_player-past : (n s i : ℕ) → s < 2 ^ n → n ≤ i → has_player s i ≡ false

@@ -54,6 +54,9 @@ mul-oneℤ a = omega (arith, ints)
 pub one-mulℤ : (a : ℤ) → pos 1 *ℤ a ≡ a
 one-mulℤ a = omega (arith, ints)
 
+pub zero-subℤ : (a : ℤ) → pos 0 -ℤ a ≡ neg_ℤ a
+zero-subℤ a = omega (arith, ints)
+
 pub neg_zero : neg_ℤ (pos 0) ≡ pos 0
 neg_zero = refl
 

@@ -9,19 +9,17 @@ use Rattle.std.specs.List.{filter, range_with_len}
 use Rattle.definitions.proofs.Ring.{linear}
 use Rattle.definitions.specs.Sums.{IsGreatest}
 use Rattle.definitions.specs.Games.{Game, Allocation, excess, Blocks, IsChosenBlocker}
-
-last_or_less : (t k : ℕ) → t < k + 1 → (t < k) ⊎ (t ≡ k)
-last_or_less t k h = grind arith
+use Rattle.definitions.proofs.Cases.{less_or_last_of}
 
 -- ---- the greatest so far
 
 greatest-kept : (f : ℕ → ℤ) (k : ℕ) (m : ℤ) → IsGreatest (λ s. s < k) f m → f k ≤ℤ m → IsGreatest (λ s. s < k + 1) f m
 greatest-kept f k m h le =
-    ((h.0.0, omega (arith, h.0.1), h.0.2), λ t lt. elim (last_or_less t k lt) [ inl less ↦ h.1 t less | inr same ↦ subst (λ (u : ℕ). f u ≤ℤ m) (sym same) le ])
+    ((h.0.0, omega (arith, h.0.1), h.0.2), λ t lt. elim (less_or_last_of t k lt) [ inl less ↦ h.1 t less | inr same ↦ subst (λ (u : ℕ). f u ≤ℤ m) (sym same) le ])
 
 greatest-raised : (f : ℕ → ℤ) (k : ℕ) (m : ℤ) → IsGreatest (λ s. s < k) f m → m <ℤ f k → IsGreatest (λ s. s < k + 1) f (f k)
 greatest-raised f k m h lt =
-    ((k, omega arith, refl), λ t below. elim (last_or_less t k below) [ inl less ↦ omega (arith, ints, h.1 t less) | inr same ↦ subst (λ (u : ℕ). f u ≤ℤ f k) (sym same) (omega (arith, ints)) ])
+    ((k, omega arith, refl), λ t below. elim (less_or_last_of t k below) [ inl less ↦ omega (arith, ints, h.1 t less) | inr same ↦ subst (λ (u : ℕ). f u ≤ℤ f k) (sym same) (omega (arith, ints)) ])
 
 int_max-high : (a b : ℤ) → a <ℤ b → int_max a b ≡ b
 int_max-high a b h = grind (arith, ints)
@@ -64,10 +62,10 @@ filter-failed test n xs ys fails before kept =
     let none = ap (λ (b : Bool). filter test (range_with_len 0 n) ++ cond b (n ∷ []) []) fails ∙ append-nil (filter test (range_with_len 0 n)) in
     cc
 
-int_lt-true : (a b : ℤ) → a <ℤ b → int_lt a b ≡ true
+pub int_lt-true : (a b : ℤ) → a <ℤ b → int_lt a b ≡ true
 int_lt-true a b lt = grind (arith, ints)
 
-int_lt-false : (a b : ℤ) → b ≤ℤ a → int_lt a b ≡ false
+pub int_lt-false : (a b : ℤ) → b ≤ℤ a → int_lt a b ≡ false
 int_lt-false a b le = grind (arith, ints)
 
 -- the two tests of an order have one answer
@@ -82,7 +80,7 @@ int_lt-from_test a b false h =
 -- a number at most m that isn't m joins those below m
 pub below-more : (f : ℕ → ℤ) (k : ℕ) (m : ℤ) → ((t : ℕ) → t < k → f t <ℤ m) → f k ≤ℤ m → (f k ≡ m → ⊥) → (t : ℕ) → t < k + 1 → f t <ℤ m
 below-more f k m h le differs t below =
-    elim (last_or_less t k below) [ inl less ↦ h t less | inr same ↦ subst (λ (u : ℕ). f u <ℤ m) (sym same) (by_lt_z (f k) m (λ lt. lt) (λ ge. absurd (differs (omega (arith, ints))))) ]
+    elim (less_or_last_of t k below) [ inl less ↦ h t less | inr same ↦ subst (λ (u : ℕ). f u <ℤ m) (sym same) (by_lt_z (f k) m (λ lt. lt) (λ ge. absurd (differs (omega (arith, ints))))) ]
 
 pub none_blocks : (g : Game) (x : Allocation) (m : ℤ) → IsGreatest (λ s. s < 2 ^ g.players) (excess g x) m → m ≤ℤ pos 0 → (s : ℕ) → s < 2 ^ g.players → ¬ Blocks g x s
 none_blocks g x m h low s lt blocks = omega (arith, linear, h.1 s lt, blocks)

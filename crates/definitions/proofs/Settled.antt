@@ -5,13 +5,16 @@ use Rattle.std.proofs.lemmas.Int.{by_lt_z}
 use Rattle.std.proofs.lemmas.Bool.{false≢true}
 use Rattle.std.proofs.lemmas.Bool.Decides.{nat_tests}
 use Rattle.definitions.proofs.Ring.{linear, add-mulℤ, mul-zeroℤ, zero-mulℤ, mul-leℤ, mul-cancelℤ, sub-mulℤ}
-use Rattle.definitions.proofs.Members.{has_player-singleton, has_player-complement, sum_below-same, sum_below-zero, sum_below-add, sum_below-times, sum_over-grand_coalition, sum_over-singleton, sum_over-complement, weighted_sum-sum_over}
+use Rattle.definitions.proofs.Members.{has_player-singleton, has_player-complement, sum_below-same, sum_below-zero, sum_below-add, sum_below-times, sum_over-grand_coalition, sum_over-singleton, sum_over-complement, weighted_sum-sum_over, zero_either}
 use Rattle.definitions.specs.Sums.{sum_below, weighted_sum}
 use Rattle.definitions.specs.Coalitions.{has_player, singleton, grand_coalition, sum_over, weight_at, some_below, splits}
 use Rattle.definitions.specs.Certificates.{Level, is_listed, has_bound, is_fixed, is_free, number_at, IsFixedVector, InSpan, IsOutside, IsAllFixed}
 use Rattle.definitions.specs.declared.Mode.{Mode}
 use Rattle.definitions.specs.declared.Mode.TheVariants.{Players, Span}
 use Rattle.std.proofs.Math.Pow.{pow-lt}
+use Rattle.definitions.proofs.Cases.{less_or_last, nat_eq-same, or_cases, not_true, nat_eq-less}
+use Rattle.definitions.proofs.Splits.{some_below-false}
+use Rattle.definitions.proofs.Masks.{singleton-within}
 
 -- ---- weighted sums of numbers that aren't positive
 
@@ -53,21 +56,12 @@ sum_below-one_out n k w d h =
     other : (i : ℕ) → i < n → nat_eq k i ≡ false
     other i lt = grind (arith, nat_tests)
 
-last_or_less : (k n : ℕ) → k < suc n → (k < n) ⊎ (k ≡ n)
-last_or_less k n h = grind arith
-
-same_test : (n : ℕ) → nat_eq n n ≡ true
-same_test n = grind (arith, nat_tests)
-
-other_test : (k n : ℕ) → k < n → nat_eq k n ≡ false
-other_test k n h = grind (arith, nat_tests)
-
 -- the number of one player, times its weight
 sum_below-one : (n k : ℕ) (w : ℤ) (d : ℕ → ℤ) → k < n → sum_below n (λ i. (if nat_eq k i then w else pos 0) *ℤ d i) ≡ w *ℤ d k
 sum_below-one zero k w d h = absurd (omega arith)
-sum_below-one (suc n) k w d h = elim (last_or_less k n h) [
-  | inl less ↦ rw (other_test k n less) (omega (arith, linear, sum_below-one n k w d less, zero-mulℤ (d n)))
-  | inr same ↦ rw same (rw (same_test n) (omega (arith, linear, sum_below-one_out n n w d (omega arith))))
+sum_below-one (suc n) k w d h = elim (less_or_last k n h) [
+  | inl less ↦ rw (nat_eq-less k n less) (omega (arith, linear, sum_below-one n k w d less, zero-mulℤ (d n)))
+  | inr same ↦ rw same (rw (nat_eq-same n) (omega (arith, linear, sum_below-one_out n n w d (omega arith))))
 ]
 
 weighted_sum-number_at : (n : ℕ) (d : ℕ → ℤ) (ps : List (ℕ × ℤ)) → AllByRecursion (λ b. b.0 < n) ps → weighted_sum d ps ≡ sum_below n (λ i. number_at ps i *ℤ d i)
@@ -124,10 +118,6 @@ list_any-append p (x ∷ xs) ys = elim_or (p x) (list_any p (xs ++ ys)) (list_an
     elim_or true b c e h = refl
     elim_or false b c e h = h
 
-or_cases : (a b : Bool) → (a || b) ≡ true → (a ≡ true) ⊎ (b ≡ true)
-or_cases true b h = inl refl
-or_cases false b h = inr h
-
 -- a coalition of the pairs, each of whose numbers is 0
 listed_zero : (f : ℕ → ℤ) (ps : List (ℕ × ℤ)) (s : ℕ) → AllByRecursion (λ p. f p.0 ≡ pos 0) ps → list_any (λ c. nat_eq c.0 s) ps ≡ true → f s ≡ pos 0
 listed_zero f [] s h e = absurd (false≢true e)
@@ -168,32 +158,13 @@ Settled-more n d front l settled zeros bounds = record {
 
 -- ---- mode players
 
-some_below-false : (n : ℕ) (test : ℕ → Bool) → some_below n test ≡ false → (i : ℕ) → i < n → test i ≡ false
-some_below-false zero test e i h = absurd (omega arith)
-some_below-false (suc n) test e i h =
-    elim (last_or_less i n h) [
-      | inl less ↦ some_below-false n test (or_right (test n) (some_below n test) e) i less
-      | inr same ↦ ap test same ∙ or_left (test n) (some_below n test) e
-    ]
-  where
-    or_right : (a b : Bool) → (a || b) ≡ false → b ≡ false
-    or_right true b e = absurd (false≢true (sym e))
-    or_right false b e = e
-
-    or_left : (a b : Bool) → (a || b) ≡ false → a ≡ false
-    or_left true b e = absurd (false≢true (sym e))
-    or_left false b e = refl
-
-alone_below : (n i : ℕ) → i < n → singleton i < 2 ^ n
-alone_below n i h = pow-lt h
-
 -- a player that is fixed differs by nothing
 fixed_zero : (n : ℕ) (d : ℕ → ℤ) (front : List Level) → Settled n d front → sum_over n d (grand_coalition n) ≡ pos 0 → (i : ℕ) → i < n → is_fixed n front i ≡ true → d i ≡ pos 0
 fixed_zero n d front settled all i h e =
     elim (or_cases (is_listed front (singleton i) || is_listed front (grand_coalition n - singleton i)) (has_bound front i) e) [
       | inl a ↦ elim (or_cases (is_listed front (singleton i)) (is_listed front (grand_coalition n - singleton i)) a) [
         | inl b ↦ sym (sum_over-singleton n i d h) ∙ settled.listed (singleton i) b
-        | inr b ↦ omega (arith, linear, settled.listed (grand_coalition n - singleton i) b, sum_over-complement n (singleton i) d (alone_below n i h), sum_over-singleton n i d h, sum_over-grand_coalition n d)
+        | inr b ↦ omega (arith, linear, settled.listed (grand_coalition n - singleton i) b, sum_over-complement n (singleton i) d (singleton-within n i h), sum_over-singleton n i d h, sum_over-grand_coalition n d)
       ]
       | inr a ↦ settled.bounded i h a
     ]
@@ -276,11 +247,7 @@ span_zero n d front settled all s (m, ne, ps, fixed, sums) =
 -- a coalition that isn't outside differs by nothing
 pub inside_zero : (mode : Mode) (n : ℕ) (d : ℕ → ℤ) (front : List Level) → Settled n d front → sum_over n d (grand_coalition n) ≡ pos 0 → (s : ℕ) → 0 < s → s < grand_coalition n → ¬ IsOutside mode n front s → sum_over n d s ≡ pos 0
 inside_zero Players n d front settled all s low high not_outside =
-    unsplit_zero n d front settled all s (is_false (splits n (is_free n front) s) not_outside)
-  where
-    is_false : (b : Bool) → ¬ (b ≡ true) → b ≡ false
-    is_false true k = absurd (k refl)
-    is_false false k = refl
+    unsplit_zero n d front settled all s (not_true (splits n (is_free n front) s) not_outside)
 inside_zero Span n d front settled all s low high not_outside =
     by_lt_z (pos 0) (sum_over n d s)
     (λ up. absurd (not_outside (low, high, λ spanned. omega (arith, linear, up, span_zero n d front settled all s spanned))))
@@ -288,21 +255,17 @@ inside_zero Span n d front settled all s low high not_outside =
     (λ down. absurd (not_outside (low, high, λ spanned. omega (arith, linear, down, span_zero n d front settled all s spanned))))
     (λ ge. omega (arith, linear, le, ge)))
 
-zero_either : (b : Bool) (z : ℤ) → z ≡ pos 0 → cond b z (pos 0) ≡ pos 0
-zero_either true z e = e
-zero_either false z e = refl
-
 -- where everything is fixed, no player differs
 pub all_fixed_zero : (mode : Mode) (n : ℕ) (d : ℕ → ℤ) (front : List Level) → Settled n d front → sum_over n d (grand_coalition n) ≡ pos 0 → IsAllFixed mode n front → (i : ℕ) → i < n → d i ≡ pos 0
 all_fixed_zero Players n d front settled all one i h = elim (free_or_fixed n front i) [
   | inl free ↦
       let same : (j : ℕ) → j < n → (i ≡ j) ⊎ (d j ≡ pos 0) = λ j k. elim (free_or_fixed n front j) [ inl a ↦ inl (one i j h k free a) | inr a ↦ inr (fixed_zero n d front settled all j k a) ] in
       let others : (j : ℕ) → j < n → (if has_player (grand_coalition n - singleton i) j then d j else pos 0) ≡ pos 0 = λ j k.
-      rw (has_player-complement n (singleton i) j (alone_below n i h) k) (elim (same j k) [
+      rw (has_player-complement n (singleton i) j (singleton-within n i h) k) (elim (same j k) [
         | inl e ↦ rw (sym e) (rw (has_player-singleton i) refl)
         | inr e ↦ zero_either (not (has_player (singleton i) j)) (d j) e
       ]) in
-      omega (arith, linear, sum_below-zero n (λ j. if has_player (grand_coalition n - singleton i) j then d j else pos 0) others, sum_over-complement n (singleton i) d (alone_below n i h), sum_over-singleton n i d h, sum_over-grand_coalition n d, all)
+      omega (arith, linear, sum_below-zero n (λ j. if has_player (grand_coalition n - singleton i) j then d j else pos 0) others, sum_over-complement n (singleton i) d (singleton-within n i h), sum_over-singleton n i d h, sum_over-grand_coalition n d, all)
   | inr fixed ↦ fixed_zero n d front settled all i h fixed
 ]
 all_fixed_zero Span n d front settled all spanned i h =

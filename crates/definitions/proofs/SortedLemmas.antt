@@ -1,5 +1,5 @@
 -- Two lists of one length. Where each number of the first is at most the number at its place in the second, or at most e, and the second has more numbers above e, the sorted first list comes before the sorted second.
-use Rattle.std.proofs.Common.{◌≡◌, ◌⊎◌, ℕ, suc, ◌+◌, ◌<◌, ◌≤◌, Bool, true, false, cond, List, [], ◌∷◌, length, ℤ, ◌<ℤ◌, ◌≤ℤ◌, int_lt, refl, ap, ◌∙◌, inl, inr, arith}
+use Rattle.std.proofs.Common.{◌≡◌, ◌⊎◌, ℕ, suc, ◌+◌, ◌<◌, ◌≤◌, Bool, true, false, cond, List, [], ◌∷◌, length, ℤ, ◌<ℤ◌, ◌≤ℤ◌, int_lt, refl, ap, inl, inr, arith}
 use Rattle.std.proofs.lemmas.Int.{ints}
 use Rattle.definitions.specs.Order.{with_number, sorted, IsLesser, ComesBefore}
 
@@ -82,10 +82,6 @@ length-with_number f (x ∷ xs) =
       | false ↦ ap suc ih
     ] in
     step (int_lt x f)
-
-pub length-sorted : (xs : List ℤ) → length (sorted xs) ≡ length xs
-length-sorted [] = refl
-length-sorted (x ∷ xs) = length-with_number x (sorted xs) ∙ ap suc (length-sorted xs)
 
 -- nothing is above e where the list falls from e
 EachUnder-low : (e m : ℤ) (xs ys : List ℤ) → m ≤ℤ e → FallsFrom m xs → length xs ≡ length ys → EachUnder e xs ys

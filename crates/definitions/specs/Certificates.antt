@@ -2,7 +2,7 @@
 --
 --   Level                an excess, and weights on coalitions, on coalitions of earlier levels and on players at their bound
 --   is_fixed, is_free    mode players: what some levels have fixed of a player
---   InSpan               mode span: a nonzero multiple of a coalition's vector is an integer sum of fixed vectors
+--   InSpan               mode span: a coalition's vector is in the rational span of the fixed vectors
 --   IsOutside            the coalition isn't fixed by the levels in front
 --   IsAllFixed           the levels fix everything
 --   HasForm              the form of a certificate
@@ -11,9 +11,11 @@
 use Rattle.std.specs.Prelude.{◌≡◌, ◌≢◌, ◌⊎◌, ℕ, ◌+◌, ◌-◌, ◌^◌, ◌<◌, ◌≤◌, Bool, ◌&&◌, ◌||◌, not, IsTrue, nat_eq, List, [], ◌∷◌, ◌++◌, ℤ, pos, ◌+ℤ◌, ◌*ℤ◌, ◌≤ℤ◌, int_le, if◌then◌else◌, length, unsigned_abs}
 use Rattle.std.specs.List.{list_any, AllByRecursion}
 use Rattle.definitions.specs.Coalitions.{has_player, singleton, grand_coalition, weight_at, splits}
-use Rattle.definitions.specs.Games.{Game, Allocation, share, excess, InFamily}
+use Rattle.definitions.specs.Measures.{measured_den}
+use Rattle.definitions.specs.Games.{Game, Allocation, share, measured_excess, InFamily}
 use Rattle.definitions.specs.declared.Family.{Family}
 use Rattle.definitions.specs.declared.Family.TheVariants.{Imputations}
+use Rattle.definitions.specs.declared.Measure.{Measure}
 use Rattle.definitions.specs.declared.Mode.{Mode}
 use Rattle.definitions.specs.declared.Mode.TheVariants.{Players, Span}
 
@@ -50,7 +52,7 @@ abbrev pub IsFixedVector : ℕ → List Level → ℕ → Type 0
 IsFixedVector n levels s =
     (s ≡ grand_coalition n) ⊎ (IsTrue (is_listed levels s) ⊎ ((i : ℕ) × (i < n) × (s ≡ singleton i) × IsTrue (has_bound levels i)))
 
--- a nonzero multiple of the vector of s is an integer sum of vectors that the fact holds of
+-- the vector of s, times an integer that isn't 0, is a sum of integer multiples of vectors that the fact holds of
 abbrev pub InSpan : ℕ → (ℕ → Type 0) → ℕ → Type 0
 InSpan n Fixed s =
     (m : ℤ) × (m ≢ pos 0) × (ps : List (ℕ × ℤ)) × AllByRecursion (λ p. Fixed p.0) ps × ((i : ℕ) → i < n → weight_at ps i ≡ (if has_player s i then m else pos 0))
@@ -110,17 +112,18 @@ abbrev pub number_at : List (ℕ × ℤ) → ℕ → ℤ
 number_at [] i = pos 0
 number_at (p ∷ ps) i = (if nat_eq p.0 i then p.1 else pos 0) +ℤ number_at ps i
 
--- s has the excess of the level
-abbrev pub HasExcess : Game → Allocation → Level → ℕ → Type 0
-HasExcess g x l s = excess g x s *ℤ l.excess_den ≡ l.excess_num *ℤ x.den
+-- s has the excess of the level, by the measure
+abbrev pub HasExcess : Measure → Game → Allocation → Level → ℕ → Type 0
+HasExcess measure g x l s = measured_excess measure g x s *ℤ l.excess_den ≡ l.excess_num *ℤ measured_den measure x.den
 
 -- s has at most the excess of the level
-abbrev pub HasAtMostExcess : Game → Allocation → Level → ℕ → Type 0
-HasAtMostExcess g x l s = (excess g x s *ℤ l.excess_den) ≤ℤ (l.excess_num *ℤ x.den)
+abbrev pub HasAtMostExcess : Measure → Game → Allocation → Level → ℕ → Type 0
+HasAtMostExcess measure g x l s =
+    (measured_excess measure g x s *ℤ l.excess_den) ≤ℤ (l.excess_num *ℤ measured_den measure x.den)
 
 -- each coalition of the level has its excess
-abbrev pub Excesses : Game → Allocation → Level → Type 0
-Excesses g x l = AllByRecursion (λ c. HasExcess g x l c.0) l.coalitions
+abbrev pub Excesses : Measure → Game → Allocation → Level → Type 0
+Excesses measure g x l = AllByRecursion (λ c. HasExcess measure g x l c.0) l.coalitions
 
 -- each weight on a coalition is at least 1
 abbrev pub Weights : Level → Type 0
@@ -148,25 +151,25 @@ abbrev pub AreTight : Family → Game → Allocation → Level → Type 0
 AreTight family g x l = AllByRecursion (IsTight family g x) l.bounds
 
 -- no coalition outside has more than the excess of the level
-abbrev pub OutsideIsLow : Mode → Game → Allocation → List Level → Level → Type 0
-OutsideIsLow mode g x front l =
-    (s : ℕ) → s < 2 ^ g.players → IsOutside mode g.players front s → HasAtMostExcess g x l s
+abbrev pub OutsideIsLow : Mode → Measure → Game → Allocation → List Level → Level → Type 0
+OutsideIsLow mode measure g x front l =
+    (s : ℕ) → s < 2 ^ g.players → IsOutside mode g.players front s → HasAtMostExcess measure g x l s
 
 -- what a level meets behind the levels in front of it
-pub record LevelHolds (mode : Mode) (family : Family) (g : Game) (x : Allocation) (front : List Level) (l : Level) : Type 0 where
-  pub excesses : Excesses g x l
+pub record LevelHolds (mode : Mode) (family : Family) (measure : Measure) (g : Game) (x : Allocation) (front : List Level) (l : Level) : Type 0 where
+  pub excesses : Excesses measure g x l
   pub weights : Weights l
   pub bound_weights : BoundWeights front l
   pub balanced : IsBalanced g l
   pub tight : AreTight family g x l
-  pub outside : OutsideIsLow mode g x front l
+  pub outside : OutsideIsLow mode measure g x front l
 
 -- each level meets its conditions, and all together fix everything
-abbrev pub LevelsHold : Mode → Family → Game → Allocation → List Level → List Level → Type 0
-LevelsHold mode family g x front [] = IsAllFixed mode g.players front
-LevelsHold mode family g x front (l ∷ levels) =
-    LevelHolds mode family g x front l × LevelsHold mode family g x (front ++ l ∷ []) levels
+abbrev pub LevelsHold : Mode → Family → Measure → Game → Allocation → List Level → List Level → Type 0
+LevelsHold mode family measure g x front [] = IsAllFixed mode g.players front
+LevelsHold mode family measure g x front (l ∷ levels) =
+    LevelHolds mode family measure g x front l × LevelsHold mode family measure g x (front ++ l ∷ []) levels
 
 -- a certificate of these levels certifies the shares
-abbrev pub Certifies : Mode → Family → Game → Allocation → List Level → Type 0
-Certifies mode family g x levels = InFamily family g x × LevelsHold mode family g x [] levels
+abbrev pub Certifies : Mode → Family → Measure → Game → Allocation → List Level → Type 0
+Certifies mode family measure g x levels = InFamily family g x × LevelsHold mode family measure g x [] levels

@@ -1,14 +1,15 @@
 -- The worth of a coalition in each class of games, from what the class keeps.
--- Sources: Littlechild 1974 (airport games); O'Neill 1982 (bankruptcy games); Bird 1976 (tree games); Shapley and Shubik 1971 (assignment games).
+-- Sources: Littlechild 1974 (airport games); O'Neill 1982 (bankruptcy games); Bird 1976 (tree games); Shapley and Shubik 1971 (assignment games), 1954 (voting games).
 --
 --   table_worth worths s              the listed worth
 --   negated_worth v s                 minus the worth in another game: a game of costs
 --   airport_worth costs s             minus the greatest cost among the members
 --   bankruptcy_worth estate claims s  what the claims of the others leave of the estate
+--   voting_worth quota weights s      1 where the members' weights sum to at least the quota, and 0 otherwise
 --   IsTreeGame matrix g               each worth is minus the least cost of an attachment plan
 --   IsBirdPlan, IsBirdShares          the plan of least pairs, and what each player pays in it
 --   IsAssignmentGame matrix rows g    each worth is the greatest value of a matching
-use Rattle.std.specs.Prelude.{◌≡◌, ◌⊎◌, ℕ, zero, suc, ◌+◌, ◌-◌, ◌^◌, ◌<◌, ◌≤◌, IsTrue, Bool, false, not, ◌&&◌, ◌||◌, nat_eq, List, [], ◌∷◌, length, ℤ, pos, ◌-ℤ◌, neg_ℤ, slice_index, slice_index_or, if◌then◌else◌, max}
+use Rattle.std.specs.Prelude.{◌≡◌, ◌⊎◌, ℕ, zero, suc, ◌+◌, ◌-◌, ◌^◌, ◌<◌, ◌≤◌, IsTrue, Bool, false, not, ◌&&◌, ◌||◌, nat_eq, List, [], ◌∷◌, length, ℤ, pos, ◌-ℤ◌, neg_ℤ, slice_index, slice_index_or, if◌then◌else◌, max, int_le}
 use Rattle.std.specs.List.{AllByRecursion}
 use Rattle.std.specs.Int.{int_max}
 use Rattle.definitions.specs.Coalitions.{has_player, grand_coalition, sum_over}
@@ -35,6 +36,11 @@ airport_worth costs s = neg_ℤ (pos (greatest_cost (length costs) (slice_index 
 abbrev pub bankruptcy_worth : ℕ → List ℕ → ℕ → ℤ
 bankruptcy_worth estate claims s =
     int_max (pos 0) (pos estate -ℤ sum_over (length claims) (λ i. pos (slice_index claims i)) (grand_coalition (length claims) - s))
+
+-- Shapley and Shubik 1954: 1 where the members' weights sum to at least the quota
+abbrev pub voting_worth : ℕ → List ℕ → ℕ → ℤ
+voting_worth quota weights s =
+    if int_le (pos quota) (sum_over (length weights) (λ i. pos (slice_index weights i)) s) then pos 1 else pos 0
 
 -- an entry for each row and column
 abbrev pub Matrix : Type 0

@@ -9,7 +9,8 @@
 --   weight_at ps i       the weights of the coalitions that hold player i, added
 --   splits n test s      s holds some but not all of the players that pass the test
 --   members n s          the members below n, in ascending order
-use Rattle.std.specs.Prelude.{ℕ, zero, suc, ◌-◌, ◌^◌, Bool, false, ◌&&◌, ◌||◌, not, nat_eq, List, [], ◌∷◌, ℤ, pos, ◌+ℤ◌, if◌then◌else◌, ◌++◌}
+--   size s               the number of members
+use Rattle.std.specs.Prelude.{ℕ, zero, suc, ◌-◌, ◌^◌, Bool, false, ◌&&◌, ◌||◌, not, nat_eq, List, [], ◌∷◌, length, ℤ, pos, ◌+ℤ◌, if◌then◌else◌, ◌++◌}
 use Rattle.std.specs.Int.{bit_at}
 use Rattle.std.specs.List.{range_with_len}
 use Rattle.definitions.specs.Sums.{sum_below}
@@ -53,3 +54,7 @@ splits n test s =
 unfoldable pub members : ℕ → ℕ → List ℕ
 members zero s = []
 members (suc n) s = if has_player s n then members n s ++ n ∷ [] else members n s
+
+-- the number of members, who are at most 64
+abbrev pub size : ℕ → ℕ
+size s = length (members 64 s)

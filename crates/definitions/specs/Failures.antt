@@ -8,11 +8,12 @@
 use Rattle.std.specs.Prelude.{◌≡◌, ◌⊎◌, ℕ, ◌+◌, ◌^◌, ◌<◌, IsTrue, List, [], ◌∷◌, ◌++◌, ℤ, pos, ◌*ℤ◌, ◌≤ℤ◌}
 use Rattle.definitions.specs.Sums.{IsGreatest}
 use Rattle.definitions.specs.Coalitions.{singleton}
-use Rattle.definitions.specs.Games.{Game, Allocation, share, excess, IsEfficient, InFamily}
+use Rattle.definitions.specs.Games.{Game, Allocation, share, measured_excess, IsEfficient, InFamily}
 pub use Rattle.definitions.specs.Certificates.{Excesses, Weights, BoundWeighs, BoundWeights, Balances, IsBalanced, IsTight, AreTight, OutsideIsLow}
 use Rattle.definitions.specs.Certificates.{Level, is_free, IsOutside, IsAllFixed, InSpan, IsFixedVector, HasExcess, LevelHolds}
 use Rattle.definitions.specs.declared.Family.{Family}
 use Rattle.definitions.specs.declared.Family.TheVariants.{Imputations}
+use Rattle.definitions.specs.declared.Measure.{Measure}
 use Rattle.definitions.specs.declared.Mode.{Mode}
 use Rattle.definitions.specs.declared.Mode.TheVariants.{Players, Span}
 
@@ -38,29 +39,29 @@ IsFirstFailing P [] k = ⊥
 IsFirstFailing P (p ∷ ps) k = (¬ P p × (k ≡ p.0)) ⊎ (P p × IsFirstFailing P ps k)
 
 -- level k, behind the levels in front, fails for this reason
-abbrev pub LevelFails : Mode → Family → Game → Allocation → ℕ → List Level → Level → Reason → Type 0
-LevelFails mode family g x k front l not_efficient = ⊥
-LevelFails mode family g x k front l (not_individual i) = ⊥
-LevelFails mode family g x k front l (wrong_excess j s) =
-    (j ≡ k) × IsFirstFailing (λ c. HasExcess g x l c.0) l.coalitions s
-LevelFails mode family g x k front l (coalition_sign j s) =
-    (j ≡ k) × Excesses g x l × IsFirstFailing (λ c. pos 1 ≤ℤ c.1) l.coalitions s
-LevelFails mode family g x k front l (player_sign j i) =
-    (j ≡ k) × Excesses g x l × Weights l × IsFirstFailing (BoundWeighs front) l.bounds i
-LevelFails mode family g x k front l (unbalanced j i) =
-    (j ≡ k) × Excesses g x l × Weights l × BoundWeights front l × IsLeastFailing g.players (Balances l) i
-LevelFails mode family g x k front l (bound_not_tight j i) =
-    (j ≡ k) × Excesses g x l × Weights l × BoundWeights front l × IsBalanced g l × IsFirstFailing (IsTight family g x) l.bounds i
-LevelFails mode family g x k front l (outside_above j e) =
+abbrev pub LevelFails : Mode → Family → Measure → Game → Allocation → ℕ → List Level → Level → Reason → Type 0
+LevelFails mode family measure g x k front l not_efficient = ⊥
+LevelFails mode family measure g x k front l (not_individual i) = ⊥
+LevelFails mode family measure g x k front l (wrong_excess j s) =
+    (j ≡ k) × IsFirstFailing (λ c. HasExcess measure g x l c.0) l.coalitions s
+LevelFails mode family measure g x k front l (coalition_sign j s) =
+    (j ≡ k) × Excesses measure g x l × IsFirstFailing (λ c. pos 1 ≤ℤ c.1) l.coalitions s
+LevelFails mode family measure g x k front l (player_sign j i) =
+    (j ≡ k) × Excesses measure g x l × Weights l × IsFirstFailing (BoundWeighs front) l.bounds i
+LevelFails mode family measure g x k front l (unbalanced j i) =
+    (j ≡ k) × Excesses measure g x l × Weights l × BoundWeights front l × IsLeastFailing g.players (Balances l) i
+LevelFails mode family measure g x k front l (bound_not_tight j i) =
+    (j ≡ k) × Excesses measure g x l × Weights l × BoundWeights front l × IsBalanced g l × IsFirstFailing (IsTight family g x) l.bounds i
+LevelFails mode family measure g x k front l (outside_above j e) =
     (j ≡ k)
-    × Excesses g x l
+    × Excesses measure g x l
     × Weights l
     × BoundWeights front l
     × IsBalanced g l
     × AreTight family g x l
-    × ¬ OutsideIsLow mode g x front l
-    × IsGreatest (λ s. (s < 2 ^ g.players) × IsOutside mode g.players front s) (excess g x) e
-LevelFails mode family g x k front l (not_all i) = ⊥
+    × ¬ OutsideIsLow mode measure g x front l
+    × IsGreatest (λ s. (s < 2 ^ g.players) × IsOutside mode g.players front s) (measured_excess measure g x) e
+LevelFails mode family measure g x k front l (not_all i) = ⊥
 
 -- i is the least player that isn't fixed
 abbrev pub IsLeastUnfixed : Mode → ℕ → List Level → ℕ → Type 0
@@ -74,14 +75,14 @@ NotAllFixed mode g levels (not_all i) = ¬ IsAllFixed mode g.players levels × I
 NotAllFixed mode g levels _ = ⊥
 
 -- the first failure among the levels from level k on, and of what they fix
-abbrev pub LevelsFail : Mode → Family → Game → Allocation → ℕ → List Level → List Level → Reason → Type 0
-LevelsFail mode family g x k front [] r = NotAllFixed mode g front r
-LevelsFail mode family g x k front (l ∷ levels) r =
-    LevelFails mode family g x k front l r ⊎ (LevelHolds mode family g x front l × LevelsFail mode family g x (k + 1) (front ++ l ∷ []) levels r)
+abbrev pub LevelsFail : Mode → Family → Measure → Game → Allocation → ℕ → List Level → List Level → Reason → Type 0
+LevelsFail mode family measure g x k front [] r = NotAllFixed mode g front r
+LevelsFail mode family measure g x k front (l ∷ levels) r =
+    LevelFails mode family measure g x k front l r ⊎ (LevelHolds mode family measure g x front l × LevelsFail mode family measure g x (k + 1) (front ++ l ∷ []) levels r)
 
 -- the first condition that fails: of the shares, of a level, or of what all levels fix
-abbrev pub IsFirstFailure : Mode → Family → Game → Allocation → List Level → Reason → Type 0
-IsFirstFailure mode family g x levels not_efficient = ¬ IsEfficient g x
-IsFirstFailure mode family g x levels (not_individual i) =
+abbrev pub IsFirstFailure : Mode → Family → Measure → Game → Allocation → List Level → Reason → Type 0
+IsFirstFailure mode family measure g x levels not_efficient = ¬ IsEfficient g x
+IsFirstFailure mode family measure g x levels (not_individual i) =
     IsEfficient g x × (family ≡ Imputations) × IsLeastFailing g.players (λ i. (x.den *ℤ g.worth (singleton i)) ≤ℤ share x i) i
-IsFirstFailure mode family g x levels r = InFamily family g x × LevelsFail mode family g x 1 [] levels r
+IsFirstFailure mode family measure g x levels r = InFamily family g x × LevelsFail mode family measure g x 1 [] levels r

@@ -8,19 +8,23 @@
 --   IsEfficient             the shares add to the worth of the grand coalition
 --   IsIndividuallyRational  each player gets at least its worth alone
 --   InFamily                an imputation, or a preimputation
---   excess_list             the excesses of all proper coalitions, in mask order
+--   measured_excess         the excess of s by a measure
+--   excess_list             the measured excesses of all proper coalitions, in mask order
 --   Beats                   the excesses from the greatest come before those of another allocation
 --   IsNucleolus             a member of the family that beats every other member
 --   Blocks, InCore          a coalition is worth more than its members get; none is
 --   IsChosenBlocker         the least mask among the coalitions of greatest positive excess
 --   IsSplitMaximum          the greatest excess over the coalitions that split a set of players
+--   IsMeasuredMaximum       the greatest measured excess over these coalitions
 --   IsGame, IsShares        the limits of the toolbox
 use Rattle.std.specs.Prelude.{◌≡◌, ℕ, ◌^◌, ◌<◌, ◌≤◌, List, length, map, IsTrue, ℤ, pos, ◌-ℤ◌, ◌*ℤ◌, ◌<ℤ◌, ◌≤ℤ◌, slice_index_or, unsigned_abs}
 use Rattle.definitions.specs.Sums.{IsGreatest}
 use Rattle.definitions.specs.Coalitions.{has_player, singleton, grand_coalition, proper_coalitions, sum_over, splits}
+use Rattle.definitions.specs.Measures.{measured}
 use Rattle.definitions.specs.Order.{sorted, ComesBefore}
 use Rattle.definitions.specs.declared.Family.{Family}
 use Rattle.definitions.specs.declared.Family.TheVariants.{Imputations, Preimputations}
+use Rattle.definitions.specs.declared.Measure.{Measure}
 
 -- players 0 .. n - 1, and the worth of each coalition
 pub record Game : Type 0 where
@@ -61,24 +65,30 @@ abbrev pub InFamily : Family → Game → Allocation → Type 0
 InFamily Imputations g x = IsAllocation g x × IsEfficient g x × IsIndividuallyRational g x
 InFamily Preimputations g x = IsAllocation g x × IsEfficient g x
 
--- ---- the nucleolus (Schmeidler 1969)
+-- ---- the nucleolus (Schmeidler 1969; per head Grotte 1970)
 
--- the excesses over all coalitions but the empty one and that of all, at a scale
-abbrev pub excess_list : Game → Allocation → ℤ → List ℤ
-excess_list g x scale = map (λ s. scale *ℤ excess g x s) (proper_coalitions g.players)
+-- the excess of s by the measure
+abbrev pub measured_excess : Measure → Game → Allocation → ℕ → ℤ
+measured_excess measure g x s = measured measure s (excess g x s)
 
--- over one denominator, the excesses of x from the greatest come before those of y
-abbrev pub Beats : Game → Allocation → Allocation → Type 0
-Beats g x y = ComesBefore (sorted (excess_list g x y.den)) (sorted (excess_list g y x.den))
+-- the measured excesses over all coalitions but the empty one and that of all, at a scale. Textbooks list these two as well,
+-- which have the excess 0 at every efficient allocation
+abbrev pub excess_list : Measure → Game → Allocation → ℤ → List ℤ
+excess_list measure g x scale = map (λ s. scale *ℤ measured_excess measure g x s) (proper_coalitions g.players)
+
+-- over one denominator, the measured excesses of x from the greatest come before those of y
+abbrev pub Beats : Measure → Game → Allocation → Allocation → Type 0
+Beats measure g x y =
+    ComesBefore (sorted (excess_list measure g x y.den)) (sorted (excess_list measure g y x.den))
 
 -- the same shares
 abbrev pub IsSame : Game → Allocation → Allocation → Type 0
 IsSame g x y = (i : ℕ) → i < g.players → share x i *ℤ y.den ≡ share y i *ℤ x.den
 
--- a member of the family that beats every member with other shares
-abbrev pub IsNucleolus : Family → Game → Allocation → Type 0
-IsNucleolus family g x =
-    InFamily family g x × ((y : Allocation) → InFamily family g y → ¬ IsSame g x y → Beats g x y)
+-- a member of the family that beats every member with other shares: the minimum of textbooks, and that it is the only one
+abbrev pub IsNucleolus : Family → Measure → Game → Allocation → Type 0
+IsNucleolus family measure g x =
+    InFamily family g x × ((y : Allocation) → InFamily family g y → ¬ IsSame g x y → Beats measure g x y)
 
 -- ---- the core
 
@@ -101,6 +111,11 @@ pub record IsChosenBlocker (g : Game) (x : Allocation) (s : ℕ) : Type 0 where
 abbrev pub IsSplitMaximum : Game → Allocation → ℕ → ℤ → Type 0
 IsSplitMaximum g x f m =
     IsGreatest (λ s. (s < 2 ^ g.players) × IsTrue (splits g.players (has_player f) s)) (excess g x) m
+
+-- the greatest measured excess over these coalitions
+abbrev pub IsMeasuredMaximum : Measure → Game → Allocation → ℕ → ℤ → Type 0
+IsMeasuredMaximum measure g x f m =
+    IsGreatest (λ s. (s < 2 ^ g.players) × IsTrue (splits g.players (has_player f) s)) (measured_excess measure g x) m
 
 -- f has at least two players
 abbrev pub HasTwo : ℕ → ℕ → Type 0

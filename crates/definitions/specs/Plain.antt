@@ -3,6 +3,8 @@ use Rattle.std.specs.Prelude.{◌≡◌, ℕ, ◌+◌, ◌^◌, ◌<◌, ◌≤�
 use Rattle.std.specs.List.{filter, range_with_len}
 use Rattle.definitions.specs.Games.{Game, Allocation, amount}
 use Rattle.definitions.specs.Classes.{table_worth}
+use Rattle.definitions.specs.declared.Measure.{Measure}
+use Rattle.definitions.specs.declared.Measure.TheVariants.{Plain, PerHead}
 
 -- the worth of each coalition but the empty one, in mask order
 pub record WorthTable : Type 0 where
@@ -26,6 +28,26 @@ pub record IsSmallPoint (x : Allocation) : Type 0 where
   pub positive : pos 1 ≤ℤ x.den
   pub common : x.den ≤ℤ pos (2 ^ 38)
   pub small : All (λ a. unsigned_abs a < 2 ^ 84) x.shares
+
+-- each share below 2 ^ 74 in size, over a denominator of at most 2 ^ 28
+pub record IsSmallerPoint (x : Allocation) : Type 0 where
+  pub common : x.den ≤ℤ pos (2 ^ 28)
+  pub small : All (λ a. unsigned_abs a < 2 ^ 74) x.shares
+
+-- excesses of the point have the measure: per head they are up to 720720 times as great
+abbrev pub Fits : Measure → Allocation → Type 0
+Fits Plain x = Unit {0}
+Fits PerHead x = IsSmallerPoint x
+
+-- the greatest size of a scale
+abbrev pub scale_limit : Measure → ℕ
+scale_limit Plain = 2 ^ 38
+scale_limit PerHead = 2 ^ 28
+
+-- measured excesses are below this in size
+abbrev pub excess_limit : Measure → ℕ
+excess_limit Plain = 2 ^ 89
+excess_limit PerHead = 2 ^ 99
 
 -- the masks of the coalitions that are worth more than their members get, in ascending order
 abbrev pub blocking_masks : Game → Allocation → List ℕ

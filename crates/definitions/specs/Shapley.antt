@@ -1,12 +1,24 @@
 -- The Shapley value (Shapley 1953).
 --
---   orders n             the lists that hold each player below n once
+--   IsOrder n order      the list holds each player below n once
+--   orders n             those lists
 --   marginal_worth       what a player adds to the worth of those in front of it in an order
 --   shapley_total g i    the sum of what player i adds, over all orders
 --   IsShapley g x        each share is the player's total over n!
-use Rattle.std.specs.Prelude.{ℕ, zero, suc, ◌≡◌, ◌+◌, ◌*◌, ◌^◌, ◌<◌, List, [], ◌∷◌, map, nat_eq, ℤ, pos, ◌+ℤ◌, ◌-ℤ◌, ◌*ℤ◌, if◌then◌else◌}
-use Rattle.std.specs.List.{flat_map}
+use Rattle.std.specs.Prelude.{ℕ, zero, suc, ◌≡◌, ◌+◌, ◌*◌, ◌^◌, ◌<◌, List, [], ◌∷◌, map, nat_eq, ℤ, pos, ◌+ℤ◌, ◌-ℤ◌, ◌*ℤ◌, if◌then◌else◌, length, false}
+use Rattle.std.specs.List.{flat_map, AllByRecursion}
 use Rattle.definitions.specs.Games.{Game, Allocation, share, IsAllocation}
+
+-- no number stands twice
+abbrev pub AllDiffer : List ℕ → Type 0
+AllDiffer [] = Unit {0}
+AllDiffer (x ∷ xs) = AllByRecursion (λ y. nat_eq x y ≡ false) xs × AllDiffer xs
+
+-- n players below n, and no player twice
+pub record IsOrder (n : ℕ) (order : List ℕ) : Type 0 where
+  pub all : length order ≡ n
+  pub below : AllByRecursion (λ p. p < n) order
+  pub once : AllDiffer order
 
 -- each way to put x into the list
 abbrev pub insertions : ℕ → List ℕ → List (List ℕ)

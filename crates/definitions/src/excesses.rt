@@ -1,58 +1,122 @@
-//! The excess list of a point, and which of two points comes first (Schmeidler 1969).
+//! The excess list of a point, and which of two points comes first (Schmeidler 1969; per head
+//! Grotte 1970).
 
-ghost use Rattle.std.specs.Prelude.{◌≡◌, ◌↔◌, ◌^◌, ◌<◌, ◌≤◌, ◌*ℤ◌, IsTrue, IfOk, unsigned_abs};
-ghost use Rattle.definitions.specs.Games.{excess_list, Beats};
-ghost use Rattle.definitions.specs.Plain.{game_of};
+ghost use Rattle.std.specs.Prelude.{◌≡◌, ◌↔◌, ◌*◌, ◌/◌, ◌^◌, ◌<◌, ◌≤◌, pos, ◌*ℤ◌, IsTrue, IfOk, unsigned_abs};
+ghost use Rattle.definitions.specs.Coalitions.{size};
+ghost use Rattle.definitions.specs.Measures.{measured};
+ghost use Rattle.definitions.specs.Games.{measured_excess, excess_list, Beats};
+ghost use Rattle.definitions.specs.Plain.{game_of, Fits, scale_limit, excess_limit};
 
+use crate::Measure;
 use crate::order::{comes_before, sorted};
-use crate::table::{Point, Table, excess};
+use crate::table::{Point, Table, excess, has_player};
 use std::alloc::{AllocError, Global};
 
+/// The number of members.
+fn size(coalition: u64) -> u32
+    ensures value { result ≡ size coalition }
+    ensures few { result ≤ 64 }
+{
+    let mut count = 0;
+    for player in 0..64u32 {
+        if has_player(coalition, player) {
+            count += 1;
+        }
+    }
+    count
+}
+
+/// What an excess per head is times the excess, over 720720.
+fn head_weight(coalition: u64) -> u32
+    requires { 1 ≤ size coalition }
+    ensures value { result ≡ 720720 / size coalition }
+    ensures small { result ≤ 720720 }
+{
+    720720 / size(coalition)
+}
+
+/// A number times what an excess per head is times the excess.
+fn per_head(coalition: u64, excess: i128) -> i128
+    requires some { 1 ≤ size coalition }
+    requires small { unsigned_abs excess < 2 ^ 79 }
+    ensures value { result ≡ measured Measure.PerHead coalition excess }
+    ensures small { unsigned_abs result < 2 ^ 99 }
+{
+    head_weight(coalition) as i128 * excess
+}
+
+/// The excess of a coalition by the measure: per head, 720720 times the excess over the number of
+/// members, which are at most 16.
+pub fn measured_excess(measure: Measure, table: &Table, point: &Point, coalition: u64) -> i128
+    requires some { 0 < coalition }
+    requires within { coalition < 2 ^ table.now.players }
+    requires fits { Fits measure point.now }
+    ensures value { result ≡ measured_excess measure (game_of table.now) point.now coalition }
+    ensures small { unsigned_abs result < excess_limit measure }
+{
+    let excess = excess(table, point, coalition);
+    match measure {
+        Measure::Plain => excess,
+        Measure::PerHead => per_head(coalition, excess),
+    }
+}
+
 fn scaled(scale: i128, excess: i128) -> i128
-    requires scale { unsigned_abs scale ≤ 2 ^ 38 }
-    requires excess { unsigned_abs excess < 2 ^ 89 }
+    requires { unsigned_abs scale * unsigned_abs excess < 2 ^ 127 }
     ensures value { result ≡ scale *ℤ excess }
     ensures small { unsigned_abs result < 2 ^ 127 }
 {
     scale * excess
 }
 
-/// The excesses of all coalitions but the empty one and that of all players, in mask order and
-/// over the point's denominator, each times a scale.
+/// The measured excesses of all coalitions but the empty one and that of all players, in mask order
+/// and over the point's denominator, each times a scale.
 ///
 /// Its one error is want of memory.
 pub fn excess_list(
     alloc: Global,
+    measure: Measure,
     table: &Table,
     point: &Point,
     scale: i128,
 ) -> Result<Vec<i128>, AllocError>
-    requires { unsigned_abs scale ≤ 2 ^ 38 }
+    requires scale { unsigned_abs scale ≤ scale_limit measure }
+    requires fits { Fits measure point.now }
     ensures { IfOk result
-        (λ list. list.items ≡ excess_list (game_of table.now) point.now scale) }
+        (λ list. list.items ≡ excess_list measure (game_of table.now) point.now scale) }
 {
     let mut list = Vec::new(alloc);
     for coalition in 1..table.coalitions() - 1 {
-        list.push(scaled(scale, excess(table, point, coalition)))?;
+        let excess = measured_excess(measure, table, point, coalition);
+        list.push(scaled(scale, excess))?;
     }
     Ok(list)
 }
 
-/// Whether the sorted excess list of the first point comes before that of the second, both over
-/// the product of the two denominators.
+/// Whether the sorted excess list of the first point comes before that of the second by the measure,
+/// both over the product of the two denominators.
 ///
 /// Its one error is want of memory.
 pub fn beats(
     alloc: Global,
+    measure: Measure,
     table: &Table,
     first: &Point,
     second: &Point,
 ) -> Result<bool, AllocError>
+    requires first { Fits measure first.now }
+    requires second { Fits measure second.now }
     ensures { IfOk result
-        (λ before. IsTrue before ↔ Beats (game_of table.now) first.now second.now) }
+        (λ before. IsTrue before ↔ Beats measure (game_of table.now) first.now second.now) }
 {
-    let ours = sorted(alloc, &excess_list(alloc, table, first, second.den())?)?;
-    let theirs = sorted(alloc, &excess_list(alloc, table, second, first.den())?)?;
+    let ours = sorted(
+        alloc,
+        &excess_list(alloc, measure, table, first, second.den())?,
+    )?;
+    let theirs = sorted(
+        alloc,
+        &excess_list(alloc, measure, table, second, first.den())?,
+    )?;
     Ok(comes_before(&ours, &theirs))
 }
 
@@ -68,12 +132,12 @@ mod tests {
         let airport = Table::new(3, &[-2, -4, -4, -6, -6, -6, -6]);
         let fair = Point::new(&[-2, -3, -7], 2);
         let other = Point::new(&[-1, -2, -3], 1);
-        let excesses = excess_list(rt.alloc(), &airport, &fair, 1)?;
+        let excesses = excess_list(rt.alloc(), Measure::Plain, &airport, &fair, 1)?;
         assert_eq!(rt; excesses.as_slice(), [-2, -5, -3, -5, -3, -2].as_slice());
-        assert!(rt; beats(rt.alloc(), &airport, &fair, &other)?);
-        assert!(rt; !beats(rt.alloc(), &airport, &other, &fair)?);
+        assert!(rt; beats(rt.alloc(), Measure::Plain, &airport, &fair, &other)?);
+        assert!(rt; !beats(rt.alloc(), Measure::Plain, &airport, &other, &fair)?);
         assert!(rt;
-            !beats(rt.alloc(), &airport, &fair, &fair)?,
+            !beats(rt.alloc(), Measure::Plain, &airport, &fair, &fair)?,
             "it doesn't beat itself"
         );
         Ok(())
@@ -86,8 +150,27 @@ mod tests {
         let pair = Table::new(3, &[0, 0, 4, 0, 0, 0, 0]);
         let nothing = Point::new(&[0, 0, 0], 1);
         let paid = Point::new(&[1, 1, -2], 1);
-        assert!(rt; beats(rt.alloc(), &pair, &paid, &nothing)?);
-        assert!(rt; !beats(rt.alloc(), &pair, &nothing, &paid)?);
+        assert!(rt; beats(rt.alloc(), Measure::Plain, &pair, &paid, &nothing)?);
+        assert!(rt; !beats(rt.alloc(), Measure::Plain, &pair, &nothing, &paid)?);
+        Ok(())
+    }
+
+    // The first two are worth 6 together, and all three 12. Per head the shares 5, 5, 2 beat
+    // 9/2, 9/2, 3, which are better by the plain excess.
+    #[test]
+    fn excess_per_head_prefers_other_shares(rt: HostRuntime) -> Result<(), Fail> {
+        let savings = Table::new(3, &[0, 0, 6, 0, 0, 0, 12]);
+        let by_head = Point::new(&[5, 5, 2], 1);
+        let plain = Point::new(&[9, 9, 6], 2);
+        let list = excess_list(rt.alloc(), Measure::PerHead, &savings, &by_head, 1)?;
+        assert_eq!(rt;
+            list.as_slice(),
+            [-3603600, -3603600, -1441440, -1441440, -2522520, -2522520].as_slice(),
+            "-5, -5, -2, -2, -7/2 and -7/2 over 720720"
+        );
+        assert!(rt; beats(rt.alloc(), Measure::PerHead, &savings, &by_head, &plain)?);
+        assert!(rt; !beats(rt.alloc(), Measure::PerHead, &savings, &plain, &by_head)?);
+        assert!(rt; beats(rt.alloc(), Measure::Plain, &savings, &plain, &by_head)?);
         Ok(())
     }
 }

@@ -3,7 +3,7 @@
 ghost use Rattle.std.specs.Prelude.{◌≡◌, ◌^◌, ◌<◌, ◌≤◌, length, pos, ◌*ℤ◌, ◌≤ℤ◌, unsigned_abs};
 ghost use Rattle.definitions.specs.Coalitions.{has_player};
 ghost use Rattle.definitions.specs.Games.{share, amount, excess};
-ghost use Rattle.definitions.specs.Plain.{game_of};
+ghost use Rattle.definitions.specs.Plain.{game_of, IsSmallerPoint};
 
 use std::marker::Model;
 
@@ -114,6 +114,7 @@ impl<'a> Point<'a> {
     pub(crate) fn amount(&self, coalition: u64) -> i128
         ensures value { result ≡ amount self.now coalition }
         ensures small { unsigned_abs result ≤ 2 ^ 88 }
+        ensures few { length self.now.shares ≤ 16 }
     {
         let mut sum: i128 = 0;
         for player in 0..self.players() {
@@ -125,7 +126,7 @@ impl<'a> Point<'a> {
     }
 }
 
-fn has_player(coalition: u64, player: u32) -> bool
+pub(crate) fn has_player(coalition: u64, player: u32) -> bool
     requires { player < 64 }
     ensures { result ≡ has_player coalition player }
 {
@@ -147,6 +148,7 @@ pub fn excess(table: &Table, point: &Point, coalition: u64) -> i128
     requires { coalition < 2 ^ table.now.players }
     ensures value { result ≡ excess (game_of table.now) point.now coalition }
     ensures small { unsigned_abs result < 2 ^ 89 }
+    ensures smaller { IsSmallerPoint point.now → unsigned_abs result < 2 ^ 79 }
 {
     product(point.den(), table.worth(coalition)) - point.amount(coalition)
 }

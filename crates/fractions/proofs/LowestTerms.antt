@@ -10,6 +10,7 @@ use Rattle.fractions.proofs.Divisors.{gcd_of_one, gcd_positive, gcd_of_quotients
 use Rattle.fractions.proofs.Ratios.{one_ratio}
 use Rattle.fractions.specs.Divisors.{gcd}
 use Rattle.fractions.specs.Fraction.{Fraction, IsReduced, IsRatio, HasForm, HasNoForm}
+use Rattle.definitions.proofs.Cancel.{size_positive}
 
 -- the number of a size, below 0 where the test is true
 abbrev pub with_sign : Bool → ℕ → ℤ
@@ -46,11 +47,6 @@ positive_quotient : (g q b : ℕ) → 0 < b → g * q ≡ b → pos 1 ≤ℤ pos
 positive_quotient g zero b h e = absurd (omega arith)
 positive_quotient g (suc q) b h e = omega (arith, ints)
 
-size_positive : (d : ℤ) → d ≢ pos 0 → 0 < unsigned_abs d
-size_positive (pos zero) h = absurd (h refl)
-size_positive (pos (suc d)) h = omega arith
-size_positive (negsuc d) h = omega arith
-
 -- n/d in lowest terms
 abbrev pub lowest : ℤ → ℤ → Fraction
 lowest n d = record {
@@ -80,22 +76,21 @@ lowest_is n d h = record {
   same = lowest_value n d;
 }
 
-pub divisor_positive : (d : ℤ) (a b g : ℕ) → d ≢ pos 0 → b ≡ unsigned_abs d → g ≡ gcd a b → 0 < g
-divisor_positive d a b g h e f = subst (λ (k : ℕ). 0 < k) (sym f) (gcd_positive a b (subst (λ (k : ℕ). 0 < k) (sym e) (size_positive d h)))
+pub divisor_positive : (n d : ℤ) (g : ℕ) → d ≢ pos 0 → g ≡ gcd (unsigned_abs n) (unsigned_abs d) → 0 < g
+divisor_positive n d g h e = subst (λ (k : ℕ). 0 < k) (sym e) (gcd_positive (unsigned_abs n) (unsigned_abs d) (size_positive d h))
 
-lowest_by_sizes : (n d : ℤ) (a b g : ℕ) (x y : ℤ) → a ≡ unsigned_abs n → b ≡ unsigned_abs d → g ≡ gcd a b → x ≡ with_sign (opposite n d) (unsigned_abs n / g) → y ≡ pos (unsigned_abs d / g)
+lowest_by_sizes : (n d : ℤ) (g : ℕ) (x y : ℤ) → g ≡ gcd (unsigned_abs n) (unsigned_abs d) → x ≡ with_sign (opposite n d) (unsigned_abs n / g) → y ≡ pos (unsigned_abs d / g)
     → (x ≡ (lowest n d).num) × (y ≡ (lowest n d).den)
-lowest_by_sizes n d a b g x y ea eb eg ex ey =
-    let same : g ≡ gcd (unsigned_abs n) (unsigned_abs d) = eg ∙ ap (λ (m : ℕ). gcd m b) ea ∙ ap (λ (m : ℕ). gcd (unsigned_abs n) m) eb in (
-      ex ∙ ap (λ (m : ℕ). with_sign (opposite n d) (unsigned_abs n / m)) same,
-      ey ∙ ap (λ (m : ℕ). pos (unsigned_abs d / m)) same,
-    )
+lowest_by_sizes n d g x y e ex ey = (
+  ex ∙ ap (λ (m : ℕ). with_sign (opposite n d) (unsigned_abs n / m)) e,
+  ey ∙ ap (λ (m : ℕ). pos (unsigned_abs d / m)) e,
+)
 
 -- the ratio of the sizes over their divisor, with a sign
-pub ratio_by_sizes : (n d : ℤ) (a b g s t : ℕ) (x y : ℤ) → d ≢ pos 0 → a ≡ unsigned_abs n → b ≡ unsigned_abs d → g ≡ gcd a b → s ≡ unsigned_abs n → t ≡ unsigned_abs d → x ≡ with_sign (opposite n d) (s / g) → y ≡ pos (t / g)
+pub ratio_by_sizes : (n d : ℤ) (g s t : ℕ) (x y : ℤ) → d ≢ pos 0 → g ≡ gcd (unsigned_abs n) (unsigned_abs d) → s ≡ unsigned_abs n → t ≡ unsigned_abs d → x ≡ with_sign (opposite n d) (s / g) → y ≡ pos (t / g)
     → IsRatio (record { num = x; den = y }) n d
-ratio_by_sizes n d a b g s t x y h ea eb eg es et ex ey =
-    let same = lowest_by_sizes n d a b g x y ea eb eg (ex ∙ ap (λ (m : ℕ). with_sign (opposite n d) (m / g)) es) (ey ∙ ap (λ (m : ℕ). pos (m / g)) et) in
+ratio_by_sizes n d g s t x y h e es et ex ey =
+    let same = lowest_by_sizes n d g x y e (ex ∙ ap (λ (m : ℕ). with_sign (opposite n d) (m / g)) es) (ey ∙ ap (λ (m : ℕ). pos (m / g)) et) in
     subst (λ (z : ℤ). IsRatio (record { num = z; den = y }) n d) (sym same.0) (subst (λ (z : ℤ). IsRatio (record { num = (lowest n d).num; den = z }) n d) (sym same.1) (lowest_is n d h))
 
 -- no form, where the form in lowest terms is none
@@ -105,14 +100,14 @@ no_form f n d h none g k fits = none (subst HasForm (one_ratio g f n d k h) fits
 no_lowest_form : (n d : ℤ) → d ≢ pos 0 → (HasForm (lowest n d) → ⊥) → HasNoForm n d
 no_lowest_form n d h none = no_form (lowest n d) n d (lowest_is n d h) none
 
-pub no_numerator : (n d : ℤ) (a b g s : ℕ) → d ≢ pos 0 → a ≡ unsigned_abs n → b ≡ unsigned_abs d → g ≡ gcd a b → s ≡ unsigned_abs n → (FitsSigned w128 (with_sign (opposite n d) (s / g)) → ⊥) → HasNoForm n d
-no_numerator n d a b g s h ea eb eg es none =
-    let same = lowest_by_sizes n d a b g (with_sign (opposite n d) (s / g)) (pos (unsigned_abs d / g)) ea eb eg (ap (λ (m : ℕ). with_sign (opposite n d) (m / g)) es) refl in
+pub no_numerator : (n d : ℤ) (g s : ℕ) → d ≢ pos 0 → g ≡ gcd (unsigned_abs n) (unsigned_abs d) → s ≡ unsigned_abs n → (FitsSigned w128 (with_sign (opposite n d) (s / g)) → ⊥) → HasNoForm n d
+no_numerator n d g s h e es none =
+    let same = lowest_by_sizes n d g (with_sign (opposite n d) (s / g)) (pos (unsigned_abs d / g)) e (ap (λ (m : ℕ). with_sign (opposite n d) (m / g)) es) refl in
     no_lowest_form n d h (λ f. none (subst (FitsSigned w128) (sym same.0) f.0))
 
-pub no_denominator : (n d : ℤ) (a b g t : ℕ) → d ≢ pos 0 → a ≡ unsigned_abs n → b ≡ unsigned_abs d → g ≡ gcd a b → t ≡ unsigned_abs d → (FitsSigned w128 (pos (t / g)) → ⊥) → HasNoForm n d
-no_denominator n d a b g t h ea eb eg et none =
-    let same = lowest_by_sizes n d a b g (with_sign (opposite n d) (unsigned_abs n / g)) (pos (t / g)) ea eb eg refl (ap (λ (m : ℕ). pos (m / g)) et) in
+pub no_denominator : (n d : ℤ) (g t : ℕ) → d ≢ pos 0 → g ≡ gcd (unsigned_abs n) (unsigned_abs d) → t ≡ unsigned_abs d → (FitsSigned w128 (pos (t / g)) → ⊥) → HasNoForm n d
+no_denominator n d g t h e et none =
+    let same = lowest_by_sizes n d g (with_sign (opposite n d) (unsigned_abs n / g)) (pos (t / g)) e refl (ap (λ (m : ℕ). pos (m / g)) et) in
     no_lowest_form n d h (λ f. none (subst (FitsSigned w128) (sym same.1) f.1))
 
 -- ---- whole numbers

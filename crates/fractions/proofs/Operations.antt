@@ -2,18 +2,18 @@
 use Rattle.std.proofs.Common.{◌≡◌, ◌≢◌, ℕ, zero, suc, ◌*◌, ◌/◌, ◌<◌, arith, refl, sym, ap, subst, ◌∙◌, ℤ, pos, negsuc, ◌+ℤ◌, ◌-ℤ◌, ◌*ℤ◌, ◌≤ℤ◌, ◌^◌, unsigned_abs, int_div, FitsSigned, Result, Ok, Err, MatchResult}
 use lib.IntN.{*ℤ_comm}
 use mir.Syntax.{w128}
-use Rattle.std.proofs.lemmas.Int.{ints}
+use Rattle.std.proofs.lemmas.Int.{ints, quot_fits}
 use Rattle.definitions.proofs.Ring.{ring_laws, linear}
-use Rattle.fractions.proofs.Cancel.{quot_exact}
+use Rattle.definitions.proofs.Cancel.{quot_exact}
 use Rattle.fractions.proofs.Divisors.{gcd_positive, gcd_le, gcd_swap, left_quotient, right_quotient}
-use Rattle.fractions.proofs.Ratios.{apart, ratio_of_same, product_ratio, product_value, product_apart, product_positive}
+use Rattle.fractions.proofs.Ratios.{apart, size_of, ratio_of_same, product_ratio, product_value, product_apart, product_positive}
 use Rattle.fractions.proofs.LowestTerms.{lowest, lowest_is, no_form}
 use Rattle.fractions.specs.Divisors.{gcd}
-use Rattle.fractions.specs.Fraction.{Fraction, IsReduced, IsRatio, HasForm, HasNoForm, HasCommonForm, common_divisor}
+use Rattle.fractions.specs.Fraction.{Fraction, IsReduced, IsRatio, HasNoForm, HasCommonForm, common_divisor}
 
 -- ---- the common divisor of two positive numbers
 
-pub common_positive : (b d : ℤ) → pos 1 ≤ℤ d → 0 < gcd (unsigned_abs b) (unsigned_abs d)
+common_positive : (b d : ℤ) → pos 1 ≤ℤ d → 0 < gcd (unsigned_abs b) (unsigned_abs d)
 common_positive b d h = gcd_positive (unsigned_abs b) (unsigned_abs d) (omega (arith, ints))
 
 pub common_small : (b d : ℤ) → pos 1 ≤ℤ d → FitsSigned w128 d → gcd (unsigned_abs b) (unsigned_abs d) < 2 ^ 127
@@ -23,10 +23,7 @@ divided : (b : ℤ) (g : ℕ) → pos 1 ≤ℤ b → 0 < g → g * (unsigned_abs
 divided b g h p e = whole ∙ ap (λ (z : ℤ). pos g *ℤ z) (sym (quot_exact b (pos g) (pos (unsigned_abs b / g)) whole (some g p)))
   where
     whole : b ≡ pos g *ℤ pos (unsigned_abs b / g)
-    whole = size b h ∙ ap pos (sym e)
-      where
-        size : (b : ℤ) → pos 1 ≤ℤ b → b ≡ pos (unsigned_abs b)
-        size b h = omega (arith, ints)
+    whole = size_of b h ∙ ap pos (sym e)
 
     some : (g : ℕ) → 0 < g → pos g ≢ pos 0
     some g p e = omega (arith, ints)
@@ -65,28 +62,59 @@ difference_value a b c d g p q e f =
     sorted : (a *ℤ q -ℤ c *ℤ p) *ℤ (b *ℤ (g *ℤ q)) ≡ (a *ℤ (g *ℤ q) -ℤ c *ℤ (g *ℤ p)) *ℤ (b *ℤ q)
     sorted = simp ring_laws (omega (arith, linear))
 
-pub sum_ratio : (x y f : Fraction) → pos 1 ≤ℤ x.den → pos 1 ≤ℤ y.den
-    → IsRatio f (x.num *ℤ int_div y.den (common_divisor x y) +ℤ y.num *ℤ int_div x.den (common_divisor x y)) (x.den *ℤ int_div y.den (common_divisor x y))
+-- two numerators over the least common denominator, and that denominator
+abbrev pub AreOver : Fraction → Fraction → ℤ → ℤ → ℤ → Type 0
+AreOver x y l r d = ◌≡◌ {A = ℤ × ℤ × ℤ} (l, r, d) (x.num *ℤ int_div y.den (common_divisor x y), y.num *ℤ int_div x.den (common_divisor x y), x.den *ℤ int_div y.den (common_divisor x y))
+
+-- a sum or a difference of two fractions is the one of their numerators over a common multiple
+abbrev Combines : (ℤ → ℤ → ℤ) → Type 0
+Combines op = (a b c d g p q : ℤ) → b ≡ g *ℤ p → d ≡ g *ℤ q → op (a *ℤ q) (c *ℤ p) *ℤ (b *ℤ d) ≡ op (a *ℤ d) (c *ℤ b) *ℤ (b *ℤ q)
+
+combined_ratio : (op : ℤ → ℤ → ℤ) → Combines op → (x y f : Fraction) (l r d n : ℤ) → pos 1 ≤ℤ x.den → pos 1 ≤ℤ y.den → AreOver x y l r d → n ≡ op l r → IsRatio f n d
+    → IsRatio f (op (x.num *ℤ y.den) (y.num *ℤ x.den)) (x.den *ℤ y.den)
+combined_ratio op value x y f l r d n h k over total is =
+    ratio_of_same f _ _ _ _ (product_apart x.den y.den (apart x.den h) (apart y.den k))
+    (value x.num x.den y.num y.den (common_divisor x y) (int_div x.den (common_divisor x y)) (int_div y.den (common_divisor x y)) (left_divided x.den y.den h k) (right_divided x.den y.den k))
+    (subst (λ (t : ℤ × ℤ × ℤ). IsRatio f (op t.0 t.1) t.2) over (subst (λ (z : ℤ). IsRatio f z d) total is))
+
+pub sum_ratio : (x y f : Fraction) (l r d n : ℤ) → pos 1 ≤ℤ x.den → pos 1 ≤ℤ y.den → AreOver x y l r d → n ≡ l +ℤ r → IsRatio f n d
     → IsRatio f (x.num *ℤ y.den +ℤ y.num *ℤ x.den) (x.den *ℤ y.den)
-sum_ratio x y f h k is =
-    ratio_of_same f _ _ _ _ (product_apart x.den y.den (apart x.den h) (apart y.den k))
-    (sum_value x.num x.den y.num y.den (common_divisor x y) (int_div x.den (common_divisor x y)) (int_div y.den (common_divisor x y)) (left_divided x.den y.den h k) (right_divided x.den y.den k)) is
+sum_ratio = combined_ratio (λ u v. u +ℤ v) sum_value
 
-pub difference_ratio : (x y f : Fraction) → pos 1 ≤ℤ x.den → pos 1 ≤ℤ y.den
-    → IsRatio f (x.num *ℤ int_div y.den (common_divisor x y) -ℤ y.num *ℤ int_div x.den (common_divisor x y)) (x.den *ℤ int_div y.den (common_divisor x y))
+pub difference_ratio : (x y f : Fraction) (l r d n : ℤ) → pos 1 ≤ℤ x.den → pos 1 ≤ℤ y.den → AreOver x y l r d → n ≡ l -ℤ r → IsRatio f n d
     → IsRatio f (x.num *ℤ y.den -ℤ y.num *ℤ x.den) (x.den *ℤ y.den)
-difference_ratio x y f h k is =
-    ratio_of_same f _ _ _ _ (product_apart x.den y.den (apart x.den h) (apart y.den k))
-    (difference_value x.num x.den y.num y.den (common_divisor x y) (int_div x.den (common_divisor x y)) (int_div y.den (common_divisor x y)) (left_divided x.den y.den h k) (right_divided x.den y.den k)) is
+difference_ratio = combined_ratio (λ u v. u -ℤ v) difference_value
 
-pub common_denominator_positive : (x y : Fraction) → pos 1 ≤ℤ x.den → pos 1 ≤ℤ y.den → pos 1 ≤ℤ (x.den *ℤ int_div y.den (common_divisor x y))
-common_denominator_positive x y h k = product_positive x.den (int_div y.den (common_divisor x y)) h (right_quotient_positive x.den y.den k)
+pub common_denominator_positive : (x y : Fraction) (l r d : ℤ) → pos 1 ≤ℤ x.den → pos 1 ≤ℤ y.den → AreOver x y l r d → pos 1 ≤ℤ d
+common_denominator_positive x y l r d h k over =
+    subst (λ (t : ℤ × ℤ × ℤ). pos 1 ≤ℤ t.2) (sym over) (product_positive x.den (int_div y.den (common_divisor x y)) h (right_quotient_positive x.den y.den k))
+
+-- the common divisor of two denominators as computed, and the quotients of the two by it
+pub record IsDivisor (x y : Fraction) (g : ℤ) : Type 0 where
+  pub same : g ≡ common_divisor x y
+  pub positive : pos 1 ≤ℤ g
+  pub fits : FitsSigned w128 g
+  pub left : FitsSigned w128 x.den
+  pub right : FitsSigned w128 y.den
+  pub left_part : FitsSigned w128 (int_div x.den g)
+  pub right_part : FitsSigned w128 (int_div y.den g)
+
+pub is_divisor : (x y : Fraction) (g : ℤ) → IsReduced y → FitsSigned w128 x.den → FitsSigned w128 y.den → FitsSigned w128 g → g ≡ common_divisor x y → IsDivisor x y g
+is_divisor x y g ry fx fy fg e =
+    let p = common_positive x.den y.den ry.positive in
+    record {
+      same = e;
+      positive = omega (arith, ints);
+      fits = fg;
+      left = fx;
+      right = fy;
+      left_part = quot_fits w128 x.den g fx (omega (arith, ints));
+      right_part = quot_fits w128 y.den g fy (omega (arith, ints));
+    }
 
 -- both numerators over the least common denominator, and that denominator
 abbrev pub IsCommonForm : Fraction → Fraction → ℤ → ℤ → ℤ → Type 0
-IsCommonForm x y l r d =
-    HasCommonForm x y
-    × ◌≡◌ {A = ℤ × ℤ × ℤ} (l, r, d) (x.num *ℤ int_div y.den (common_divisor x y), y.num *ℤ int_div x.den (common_divisor x y), x.den *ℤ int_div y.den (common_divisor x y))
+IsCommonForm x y l r d = HasCommonForm x y × AreOver x y l r d
 
 pub common_form : (x y : Fraction) (g l r d : ℤ) → g ≡ common_divisor x y
     → FitsSigned w128 (x.num *ℤ int_div y.den g) × (l ≡ x.num *ℤ int_div y.den g)
@@ -112,10 +140,6 @@ pub mul_ratio : (x y p q : Fraction) → IsReduced x → IsReduced y → IsRatio
 mul_ratio x y p q rx ry hp hq =
     subst (λ (z : ℤ). IsRatio (record { num = p.num *ℤ q.num; den = p.den *ℤ q.den }) (x.num *ℤ y.num) z) (*ℤ_comm y.den x.den)
     (product_ratio p q x.num y.den y.num x.den hp hq rx.lowest ry.lowest)
-
-pub mul_no_form : (x y p q : Fraction) → IsReduced x → IsReduced y → IsRatio p x.num y.den → IsRatio q y.num x.den
-    → (HasForm (record { num = p.num *ℤ q.num; den = p.den *ℤ q.den }) → ⊥) → HasNoForm (x.num *ℤ y.num) (x.den *ℤ y.den)
-mul_no_form x y p q rx ry hp hq none = no_form _ (x.num *ℤ y.num) (x.den *ℤ y.den) (mul_ratio x y p q rx ry hp hq) none
 
 -- ---- quotients: of a/c times d/b
 

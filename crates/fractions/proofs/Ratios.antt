@@ -3,8 +3,8 @@ use Rattle.std.proofs.Common.{◌≡◌, ◌≢◌, ℕ, zero, suc, ◌*◌, ari
 use Prim.Native.Nat.{◌∣◌}
 use Rattle.std.proofs.lemmas.Int.{ints, unsigned_abs-mul}
 use native.Mathlib.Nat.{dvd-mul_left, dvd-mul_right}
-use Rattle.definitions.proofs.Ring.{ring_laws, linear}
-use Rattle.fractions.proofs.Cancel.{cancel}
+use Rattle.definitions.proofs.Ring.{ring_laws, linear, mul-zeroℤ}
+use Rattle.definitions.proofs.Cancel.{cancel}
 use Rattle.fractions.proofs.Divisors.{gcd_swap, divides_other, gcd_of_divisors, gcd_of_products, same_denominator}
 use Rattle.fractions.specs.Divisors.{gcd}
 use Rattle.fractions.specs.Fraction.{Fraction, IsReduced, IsRatio}
@@ -12,7 +12,7 @@ use Rattle.fractions.specs.Fraction.{Fraction, IsReduced, IsRatio}
 pub apart : (d : ℤ) → pos 1 ≤ℤ d → d ≢ pos 0
 apart d h e = omega (arith, ints)
 
-size_of : (d : ℤ) → pos 1 ≤ℤ d → d ≡ pos (unsigned_abs d)
+pub size_of : (d : ℤ) → pos 1 ≤ℤ d → d ≡ pos (unsigned_abs d)
 size_of d h = omega (arith, ints)
 
 -- ---- the equation of two ratios, without their divisor
@@ -99,10 +99,7 @@ denominator_divides f n d h =
 -- ---- products
 
 pub product_apart : (a b : ℤ) → a ≢ pos 0 → b ≢ pos 0 → a *ℤ b ≢ pos 0
-product_apart a b h k e = k (cancel a b (pos 0) h (e ∙ sym (none a)))
-  where
-    none : (a : ℤ) → a *ℤ pos 0 ≡ pos 0
-    none a = omega (arith, ints)
+product_apart a b h k e = k (cancel a b (pos 0) h (e ∙ sym (mul-zeroℤ a)))
 
 pub product_positive : (a b : ℤ) → pos 1 ≤ℤ a → pos 1 ≤ℤ b → pos 1 ≤ℤ (a *ℤ b)
 product_positive (pos (suc a)) (pos (suc b)) h k = omega (arith, ints)

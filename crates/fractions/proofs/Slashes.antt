@@ -9,9 +9,6 @@ use Rattle.std.proofs.lemmas.List.Sums.{prefix_len-le-length, prefix_len_passes,
 use Rattle.std.proofs.Math.Seq.{take-append_seam, drop-cons}
 use Rattle.fractions.specs.FractionTexts.{before_slash, has_slash, numerator_text, denominator_text}
 
-no_slash : (c : ℕ) → c ≢ 47 → not (eqb c 47) ≡ true
-no_slash c h = grind (arith, nat_tests)
-
 a_slash : (c : ℕ) → not (eqb c 47) ≡ false → c ≡ 47
 a_slash c h = grind (arith, nat_tests)
 

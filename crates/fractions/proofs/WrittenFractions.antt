@@ -7,13 +7,14 @@ use Rattle.std.specs.Char.{is_ascii_digit}
 use Rattle.std.specs.Str.Parse.{digits_value}
 use Rattle.std.proofs.lemmas.Int.{ints}
 use Rattle.std.proofs.lemmas.List.{append-nil}
-use Rattle.std.proofs.lemmas.Bool.{and_parts, and_from, false≢true, ltb-true}
+use Rattle.std.proofs.lemmas.Bool.{and_parts, and_from, ltb-true}
 use Rattle.std.proofs.lemmas.Bool.Decides.{nat_tests, Decides-int_eq}
 use Rattle.fractions.proofs.DecimalTexts.{digits_value-decimal, decimal_digits, is_numeral-decimal, decimal-numeral}
 use Rattle.fractions.proofs.Slashes.{alone_has_slash, alone_numerator, around_has_slash, around_numerator, around_denominator, joined_alone, joined_around}
 use Rattle.fractions.specs.Divisors.{gcd}
 use Rattle.fractions.specs.Fraction.{Fraction, IsReduced, HasForm}
 use Rattle.fractions.specs.FractionTexts.{is_numeral, has_slash, numerator_text, denominator_text, numerator, denominator, is_unsigned_fraction, has_minus, without_minus, is_signed_fraction, signed_fraction, is_i128, parsed, fraction_text}
+use Rattle.definitions.proofs.Cases.{true_or_false, from_not}
 
 -- ---- the test by its parts: whether there is a slash, and what stands before and behind it
 
@@ -105,16 +106,12 @@ read_text n d h k p g = elim (one_or_more d p) [
 
 -- ---- and back: a text is what is written of its parts
 
-test_or_not : (b : Bool) → (b ≡ true) ⊎ (b ≡ false)
-test_or_not true = inl refl
-test_or_not false = inr refl
-
 more_than_one : (d : ℕ) → 1 < d → d ≢ 1
 more_than_one d h e = omega arith
 
 pub text_of_parts : (u : List ℕ) → is_unsigned_fraction u ≡ true → numerator u < 2 ^ 128 → denominator u < 2 ^ 128 → unsigned_text (numerator u) (denominator u) ≡ u
 unfolding test_by den_by
-text_of_parts u test h k = elim (test_or_not (has_slash u)) [
+text_of_parts u test h k = elim (true_or_false (has_slash u)) [
   | inl some ↦
       let t = sym (by_parts u true (numerator_text u) (denominator_text u) some refl refl) ∙ test in
       let p = and_parts _ _ t in
@@ -149,10 +146,6 @@ test_from_fits : (z : ℤ) → FitsSigned w128 z → is_i128 z ≡ true
 test_from_fits (pos n) h = less_test n (2 ^ 127) (omega (arith, ints))
 test_from_fits (negsuc n) h = less_test n (2 ^ 127) (omega (arith, ints))
 
-not_true : (b : Bool) → not b ≡ true → b ≡ false
-not_true true h = absurd (false≢true h)
-not_true false h = refl
-
 not_false : (b : Bool) → b ≡ false → not b ≡ true
 not_false b e = ap not e
 
@@ -167,7 +160,7 @@ passes_parsed m u h =
     let r = and_parts _ _ q.0 in
     record {
       test = r.0;
-      signed = not_true (m && eqb (numerator u) 0) r.1;
+      signed = from_not (m && eqb (numerator u) 0) r.1;
       num = fits_from_test _ q.1;
       den = fits_from_test _ p.1;
     }
@@ -183,13 +176,6 @@ by_sign : (s : List ℕ) (m : Bool) (u : List ℕ) → m ≡ has_minus s → u �
 unfolding parsed_as passes
 by_sign s m u e f = sym (ap (λ (b : Bool). parsed_as b u) e ∙ ap (λ (x : List ℕ). parsed_as (has_minus s) x) f)
 
-pub parsed_none : (s : List ℕ) (m : Bool) (u : List ℕ) → m ≡ has_minus s → u ≡ without_minus s → (IsParsed m u → ⊥) → None ≡ parsed s
-unfolding parsed_as
-parsed_none s m u e f never = elim (test_or_not (passes m u)) [
-  | inl t ↦ absurd (never (passes_parsed m u t))
-  | inr t ↦ sym (by_sign s m u e f ∙ ap (λ (b : Bool). cond b (Some (signed_fraction m u)) None) t)
-]
-
 pub parsed_some : (s : List ℕ) (m : Bool) (u : List ℕ) → m ≡ has_minus s → u ≡ without_minus s → IsParsed m u → Some (signed_fraction m u) ≡ parsed s
 unfolding parsed_as
 parsed_some s m u e f h = sym (by_sign s m u e f ∙ ap (λ (b : Bool). cond b (Some (signed_fraction m u)) None) (parsed_passes m u h))
@@ -204,9 +190,9 @@ numbers_small m u h = (numerator_small m (numerator u) h.num, numerator_small fa
 -- ---- with a sign
 
 den_test : (d : ℕ) → int_eq (pos d) (pos 1) ≡ eqb d 1
-den_test d = elim (test_or_not (eqb d 1)) [
+den_test d = elim (true_or_false (eqb d 1)) [
   | inl t ↦ (Decides-int_eq (pos d) (pos 1)).1 (ap pos (one_of d t)) ∙ sym t
-  | inr t ↦ elim (test_or_not (int_eq (pos d) (pos 1))) [
+  | inr t ↦ elim (true_or_false (int_eq (pos d) (pos 1))) [
     | inl s ↦ absurd (none_of d t (same d 1 ((Decides-int_eq (pos d) (pos 1)).0 s)))
     | inr s ↦ s ∙ sym t
   ]
@@ -323,7 +309,7 @@ one_text s true u e f h =
 
 denominator_positive : (u : List ℕ) → is_unsigned_fraction u ≡ true → 0 < denominator u
 unfolding test_by den_by
-denominator_positive u test = elim (test_or_not (has_slash u)) [
+denominator_positive u test = elim (true_or_false (has_slash u)) [
   | inl some ↦
       let t : test_by true (numerator_text u) (denominator_text u) ≡ true = sym (by_parts u true (numerator_text u) (denominator_text u) some refl refl) ∙ test in
       let r = and_parts _ _ (and_parts _ _ (and_parts _ _ t).0).1 in
@@ -352,7 +338,7 @@ parsed_reduced m u test =
 -- what is read as a fraction is one of these
 parsed_is : (s : List ℕ) (f : Fraction) → Some f ≡ parsed s → IsParsed (has_minus s) (without_minus s) × (f ≡ signed_fraction (has_minus s) (without_minus s))
 unfolding parsed_as
-parsed_is s f e = elim (test_or_not (passes (has_minus s) (without_minus s))) [
+parsed_is s f e = elim (true_or_false (passes (has_minus s) (without_minus s))) [
   | inl t ↦ (passes_parsed (has_minus s) (without_minus s) t, same f _ (e ∙ by_sign s (has_minus s) (without_minus s) refl refl ∙ ap (λ (b : Bool). cond b (Some (signed_fraction (has_minus s) (without_minus s))) None) t))
   | inr t ↦ absurd (never f (e ∙ by_sign s (has_minus s) (without_minus s) refl refl ∙ ap (λ (b : Bool). cond b (Some (signed_fraction (has_minus s) (without_minus s))) None) t))
 ]

@@ -1,13 +1,3 @@
-pub mod Determinant
-pub mod Weighted
-pub mod Basis
-pub mod Sizes
-pub mod Bands
-pub mod Matrix
-pub mod Rows
-pub mod Lexicographic
-pub mod Measure
-pub mod Theorems
 pub mod Divisors
 pub mod Fraction
 pub mod FractionTexts

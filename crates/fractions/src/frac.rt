@@ -1,11 +1,11 @@
 //! Exact fractions in lowest terms, with a numerator and a denominator of 128 bits.
 
-ghost use Rattle.std.specs.Prelude.{◌≡◌, ◌≢◌, ◌↔◌, Bool, pos, neg_ℤ, ◌+ℤ◌, ◌-ℤ◌, ◌*ℤ◌, ◌≤ℤ◌, unsigned_abs, int_div, FitsSigned, if◌then◌else◌, IsSome, IsOk, IfOk, MatchOption, MatchResult};
+ghost use Rattle.std.specs.Prelude.{◌≡◌, ◌≢◌, ◌↔◌, pos, neg_ℤ, ◌+ℤ◌, ◌-ℤ◌, ◌*ℤ◌, ◌≤ℤ◌, int_div, FitsSigned, if◌then◌else◌, IsSome, IsOk, IfOk, MatchOption, MatchResult};
 ghost use Rattle.std.specs.Int.{w128};
 ghost use Rattle.std.specs.Result.{OkIff};
 ghost use Rattle.std.specs.Option.{SomeIff};
 ghost use Rattle.std.specs.Ordering.{int_cmp};
-ghost use Rattle.fractions.specs.Fraction.{IsReduced, IsRatio, HasForm, HasNoForm, HasCommonForm, HasSum, HasDifference, common_divisor};
+ghost use Rattle.fractions.specs.Fraction.{IsReduced, IsRatio, HasNoForm, HasCommonForm, HasSum, HasDifference, common_divisor};
 
 mod text;
 
@@ -75,8 +75,8 @@ impl Frac {
         self.den
     }
 
-    /// The sum. With g the greatest common divisor of both denominators b and d, `OutOfRange` exactly where
-    /// a·(d/g), c·(b/g), their sum or b·(d/g) leaves the range of `i128`.
+    /// The sum. `OutOfRange` exactly where, over the least common denominator of the two, a numerator, the sum of the
+    /// numerators or the denominator itself leaves the range of `i128`.
     pub fn add(&self, other: &Frac) -> Result<Frac, OutOfRange>
         ensures value { IfOk result
             (λ f. IsRatio f (self.now.num *ℤ other.now.den +ℤ other.now.num *ℤ self.now.den)
@@ -88,8 +88,8 @@ impl Frac {
         Ok(ratio(num, den))
     }
 
-    /// The difference. With g the greatest common divisor of both denominators b and d, `OutOfRange` exactly where
-    /// a·(d/g), c·(b/g), their difference or b·(d/g) leaves the range of `i128`.
+    /// The difference. `OutOfRange` exactly where, over the least common denominator of the two, a numerator, the
+    /// difference of the numerators or the denominator itself leaves the range of `i128`.
     pub fn sub(&self, other: &Frac) -> Result<Frac, OutOfRange>
         ensures value { IfOk result
             (λ f. IsRatio f (self.now.num *ℤ other.now.den -ℤ other.now.num *ℤ self.now.den)

@@ -1,10 +1,8 @@
-//! Exact arithmetic on whole numbers: pivots, and the two plain refusals that other crates use too.
+//! Exact fractions of 128 bits and their texts; and the two plain refusals that other crates use too.
 #![tactic(auto)]
 
 mod euclid;
 mod frac;
-pub mod laws;
-mod matrix;
 mod numerals;
 mod order;
 #[cfg(test)]
@@ -12,7 +10,6 @@ mod tests;
 
 pub use euclid::gcd;
 pub use frac::Frac;
-pub use matrix::{Shape, pivot};
 use std::alloc::{AllocError, AllocFailed};
 
 /// Memory was not found.

@@ -1,16 +1,14 @@
 -- The first players of an order.
-use Rattle.std.proofs.Common.{◌≡◌, ◌≢◌, ◌⊎◌, ℕ, zero, suc, ◌+◌, ◌^◌, ◌<◌, ◌≤◌, true, false, ℤ, ◌+ℤ◌, refl, sym, ap, ◌∙◌, inl, inr, arith}
+use Rattle.std.proofs.Common.{◌≡◌, ◌≢◌, ℕ, zero, suc, ◌+◌, ◌^◌, ◌<◌, ◌≤◌, true, false, ℤ, ◌+ℤ◌, refl, sym, ap, ◌∙◌, inl, inr, arith}
 use Rattle.std.proofs.lemmas.Bool.{false≢true}
 use Rattle.std.proofs.Math.Pow.{pow_pos}
 use Rattle.definitions.proofs.Ring.{linear}
 use Rattle.definitions.proofs.Members.{has_player-empty, has_player-grand_coalition}
-use Rattle.definitions.proofs.Parts.{same_or_other, has_player-more_same, has_player-more_other, more-lt, sum_over-more}
+use Rattle.definitions.proofs.Parts.{has_player-more_same, has_player-more_other, more-lt, sum_over-more}
 use Rattle.definitions.specs.Sums.{sum_below}
 use Rattle.definitions.specs.Coalitions.{has_player, sum_over}
 use Rattle.orders.specs.Orders.{front, IsOrder}
-
-last_or_less : (k n : ℕ) → k < suc n → (k < n) ⊎ (k ≡ n)
-last_or_less k n h = grind arith
+use Rattle.definitions.proofs.Cases.{less_or_last, same_or_other}
 
 -- a player of a later place isn't among the first
 pub front-lacks : (n : ℕ) (cost at : ℕ → ℕ) → IsOrder n cost at → (k j : ℕ) → k ≤ j → j < n → has_player (front at k) (at j) ≡ false
@@ -25,7 +23,7 @@ pub front-has : (n : ℕ) (cost at : ℕ → ℕ) → IsOrder n cost at → (k j
 front-has n cost at o zero j lt le = absurd (omega arith)
 front-has n cost at o (suc k) j lt le =
     let here = front-lacks n cost at o k k (omega arith) (omega arith) in
-    elim (last_or_less j k lt) [
+    elim (less_or_last j k lt) [
       | inl less ↦ has_player-more_other (front at k) (at k) (at j) here (λ e. o.apart j k less (omega arith) e) ∙ front-has n cost at o k j less (omega arith)
       | inr same ↦ ap (λ (i : ℕ). has_player (front at k + 2 ^ at k) (at i)) same ∙ has_player-more_same (front at k) (at k) here
     ]

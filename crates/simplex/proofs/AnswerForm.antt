@@ -6,12 +6,12 @@ use lib.IntN.{*ℤ_comm}
 use Rattle.std.specs.List.{AllByRecursion, IsDistinct}
 use Rattle.std.proofs.Math.Nat.{mul-dvd-mul_right}
 use Rattle.std.proofs.lemmas.Int.{ints, unsigned_abs-mul}
-use Rattle.definitions.proofs.Ring.{ring_laws, unit_laws, mul-zeroℤ}
+use Rattle.definitions.proofs.Ring.{ring_laws, unit_laws, mul-zeroℤ, mul_assocℤ}
 use Rattle.definitions.specs.Programs.{Program, value_of, Bounds, IsOptimal}
 use Rattle.definitions.specs.Sums.{weighted_sum}
-use Rattle.fractions.proofs.Cancel.{cancel}
-use Rattle.fractions.specs.Basis.{dot}
-use Rattle.fractions.specs.Matrix.{entry_at}
+use Rattle.definitions.proofs.Cancel.{cancel}
+use Rattle.determinants.specs.Basis.{dot}
+use Rattle.determinants.specs.Matrix.{entry_at}
 use Rattle.simplex.specs.Answer.{AreInForm, IsAnswer}
 use Rattle.simplex.specs.Improving.{AreMultipliers, IsImproving}
 use Rattle.simplex.specs.Reduced.{listed, AreReduced}
@@ -20,7 +20,8 @@ use Rattle.simplex.proofs.Ends.{no_ray}
 use Rattle.simplex.proofs.ListedWeights.{listed_all, listed_sum, listed_count, listed_distinct, listed_divisible, on_id}
 use Rattle.simplex.proofs.Solutions.{right_rows, right_nonneg, right_clear, value_right, ids_apart, is_column_at, suc_nonneg}
 use Rattle.simplex.proofs.Tableaus.{right_small, den_small}
-use Rattle.simplex.proofs.Signs.{positive_apart, at_least_one, positive_size}
+use Rattle.simplex.proofs.Signs.{positive_apart, at_least_one}
+use Rattle.determinants.proofs.Measures.{size_positive}
 
 -- ---- numbers over a common divisor
 quotient_nonneg : (c w z : ℤ) → pos 0 <ℤ c → c *ℤ w ≡ z → pos 0 ≤ℤ z → pos 0 ≤ℤ w
@@ -42,9 +43,6 @@ times_dot (suc n) c w v s h = split c (dot n w s) (w n) (s n) ∙ ap (λ (z : �
   where
     split : (c a w s : ℤ) → c *ℤ (a +ℤ w *ℤ s) ≡ c *ℤ a +ℤ (c *ℤ w) *ℤ s
     split c a w s = simp ring_laws
-
-assoc : (c d r : ℤ) → (c *ℤ d) *ℤ r ≡ c *ℤ (d *ℤ r)
-assoc c d r = simp ring_laws
 
 turned : (c d v : ℤ) → (c *ℤ d) *ℤ v ≡ d *ℤ (c *ℤ v)
 turned c d v = simp ring_laws
@@ -72,7 +70,7 @@ module _ (P : Program) (n : ℕ) (ids : List (Option ℕ)) (xs ts : List ℤ) (d
       ),
       at_least_one den (quotient_positive r.common den d r.is_common.positive r.den_is st.table.positive),
       λ i lt. cancel r.common (weighted_sum (λ id. P.entry id i) ws) (den *ℤ P.right i) (positive_apart r.common r.is_common.positive)
-          (sums (λ id. P.entry id i) ∙ right_rows P n ids xs ts d costs st i lt ∙ ap (λ (z : ℤ). z *ℤ P.right i) (sym r.den_is) ∙ assoc r.common den (P.right i)),
+          (sums (λ id. P.entry id i) ∙ right_rows P n ids xs ts d costs st i lt ∙ ap (λ (z : ℤ). z *ℤ P.right i) (sym r.den_is) ∙ mul_assocℤ r.common den (P.right i)),
     ),
     b,
     *ℤ_comm (weighted_sum P.cost ws) mden ∙ ap (λ (z : ℤ). z *ℤ weighted_sum P.cost ws) (m.den_is ∙ sym r.den_is) ∙ turned r.common den (weighted_sum P.cost ws)
@@ -81,14 +79,11 @@ module _ (P : Program) (n : ℕ) (ids : List (Option ℕ)) (xs ts : List ℤ) (d
 
 -- ---- its form
 factor_le : (c w z : ℤ) → pos 0 <ℤ c → c *ℤ w ≡ z → unsigned_abs w ≤ unsigned_abs z
-factor_le c w z p e = subst (λ (t : ℕ). unsigned_abs w ≤ t) (sym (unsigned_abs-mul c w) ∙ ap unsigned_abs e) (grows (unsigned_abs c) (unsigned_abs w) (positive_size c p))
+factor_le c w z p e = subst (λ (t : ℕ). unsigned_abs w ≤ t) (sym (unsigned_abs-mul c w) ∙ ap unsigned_abs e) (grows (unsigned_abs c) (unsigned_abs w) (size_positive c p))
   where
     grows : (a b : ℕ) → 0 < a → b ≤ a * b
     grows zero b h = absurd (omega arith)
     grows (suc a) b h = omega arith
-
-    positive_size : (c : ℤ) → pos 0 <ℤ c → 0 < unsigned_abs c
-    positive_size c h = omega (arith, ints)
 
 below_62 : (a b : ℕ) → a ≤ b → b ≤ 2 ^ 58 → a < 2 ^ 62
 below_62 a b h k = omega arith
@@ -130,8 +125,8 @@ module _ (P : Program) (n : ℕ) (ids : List (Option ℕ)) (xs ts : List ℤ) (d
   lowest_terms g h k =
       let whole = r.is_common.greatest (g * unsigned_abs r.common) (times_both (pos g) r.common den d r.den_is h)
       (λ j jl. let lt' = subst (λ (t : ℕ). j < t) st.rows_is jl in times_both (pos g) r.common (r.shares j) (entry_at 32 ts j 0) (share_at j lt') (shares_divisible g k j lt')) in
-      let cp = positive_size r.common r.is_common.positive in
-      one_of g (unsigned_abs r.common) cp (pos_of_dvd_of_pos h (positive_size den (quotient_positive r.common den d r.is_common.positive r.den_is st.table.positive))) (le_of_dvd cp whole)
+      let cp = size_positive r.common r.is_common.positive in
+      one_of g (unsigned_abs r.common) cp (pos_of_dvd_of_pos h (size_positive den (quotient_positive r.common den d r.is_common.positive r.den_is st.table.positive))) (le_of_dvd cp whole)
 
   form : AreInForm P.rows ws den
   form = record {

@@ -1,15 +1,16 @@
 -- The common divisor of the denominator and the weights.
-use Rattle.std.proofs.Common.{length, set, get_or-set_same, get_or-set_other, ◌≡◌, ◌≢◌, inl, inr, ℕ, suc, ◌+◌, ◌*◌, ◌/◌, ◌^◌, ◌<◌, ◌≤◌, List, slice_index_or, arith, refl, sym, ap, subst, ◌∙◌, ℤ, pos, negsuc, ◌*ℤ◌, neg_ℤ, ◌<ℤ◌, unsigned_abs, int_div, le_trans}
+use Rattle.std.proofs.Common.{length, set, get_or-set_same, get_or-set_other, ◌≡◌, ◌≢◌, inl, inr, ℕ, suc, ◌+◌, ◌*◌, ◌/◌, ◌^◌, ◌<◌, ◌≤◌, List, slice_index_or, arith, sym, ap, subst, ◌∙◌, ℤ, pos, negsuc, ◌*ℤ◌, neg_ℤ, ◌<ℤ◌, unsigned_abs, int_div, le_trans}
 use Prim.Native.Nat.{◌∣◌}
 use Rattle.std.specs.Int.{IsGcd}
 use Rattle.std.proofs.lemmas.Int.{ints}
 use Rattle.std.proofs.lemmas.Nat.Gcd.{dvd_refl, dvd_trans}
 use native.Mathlib.Nat.{pos_of_dvd_of_pos, le_of_dvd, mul-div_cancel'}
 use Rattle.definitions.proofs.Ring.{ring_laws}
-use Rattle.fractions.proofs.Cancel.{quot_exact}
-use Rattle.fractions.specs.Matrix.{entry_at, weight_at}
+use Rattle.definitions.proofs.Cancel.{quot_exact}
+use Rattle.determinants.specs.Matrix.{entry_at, weight_at}
 use Rattle.simplex.specs.Reduced.{IsCommon, IsMultiple}
-use Rattle.simplex.proofs.Signs.{last_one, positive_apart}
+use Rattle.simplex.proofs.Signs.{positive_apart}
+use Rattle.definitions.proofs.Cases.{last_or_less_of}
 
 pub record CommonSoFar (d : ℕ) (ts : List ℤ) (k c : ℕ) : Type 0 where
   pub positive : 0 < c
@@ -34,15 +35,12 @@ common_next d ts k c z g e h s =
       positive = pos_of_dvd_of_pos h.0 s.positive;
       small = le_trans (le_of_dvd s.positive h.0) s.small;
       den = dvd_trans g h.0 s.den;
-      weights = λ j lt. elim (last_one j k lt) [
+      weights = λ j lt. elim (last_or_less_of j k lt) [
         | inl same ↦ subst (λ (t : ℕ). g ∣ unsigned_abs (entry_at 32 ts t 0)) (sym same) (subst (λ (t : ℕ). g ∣ t) here h.1)
         | inr less ↦ dvd_trans g h.0 (s.weights j less)
       ];
       greatest = λ t a b. h.2 t (s.greatest t a (λ j lt. b j (omega arith))) (subst (λ (u : ℕ). t ∣ u) (sym here) (b k (omega arith)));
     }
-
-size_pos : (c : ℕ) → unsigned_abs (pos c) ≡ c
-size_pos c = refl
 
 positive_pos : (c : ℕ) → 0 < c → pos 0 <ℤ pos c
 positive_pos c h = omega (arith, ints)
@@ -78,7 +76,7 @@ is_multiple ts n d c k h lt = record { divides = subst (λ (t : ℕ). unsigned_a
 
 pub next_share : (ts shares : List ℤ) (c : ℤ) (k : ℕ) (v : ℤ) → k < length shares → c *ℤ v ≡ slice_index_or ts (32 * k) (pos 0) → ((j : ℕ) → j < k → c *ℤ weight_at shares j ≡ entry_at 32 ts j 0)
     → (j : ℕ) → j < k + 1 → c *ℤ weight_at (set shares k v) j ≡ entry_at 32 ts j 0
-next_share ts shares c k v len e done j lt = elim (last_one j k lt) [
+next_share ts shares c k v len e done j lt = elim (last_or_less_of j k lt) [
   | inl same ↦ ap (λ (t : ℕ). c *ℤ weight_at (set shares k v) t) same ∙ ap (λ (z : ℤ). c *ℤ z) (get_or-set_same shares k v (pos 0) len) ∙ e
       ∙ ap (λ (t : ℕ). slice_index_or ts t (pos 0)) (omega arith) ∙ ap (λ (t : ℕ). entry_at 32 ts t 0) (sym same)
   | inr less ↦ let ne : j ≢ k = omega arith in ap (λ (z : ℤ). c *ℤ z) (get_or-set_other shares k j v (pos 0) ne) ∙ done j less

@@ -2,20 +2,14 @@
 use Rattle.std.proofs.Common.{◌≡◌, ◌⊎◌, inl, inr, ℕ, zero, suc, ◌+◌, ◌-◌, ◌*◌, ◌<◌, ◌≤◌, cond, nat_lt, arith, refl, sym, ap, subst, ◌∙◌, ℤ, pos, ◌+ℤ◌, ◌-ℤ◌, ◌*ℤ◌, unsigned_abs}
 use Rattle.std.proofs.lemmas.Bool.Decides.{nat_tests}
 use Rattle.definitions.proofs.Ring.{ring_laws, unit_laws, linear}
-use Rattle.fractions.proofs.DotProducts.{backwards, dot_backwards}
-use Rattle.fractions.specs.Determinant.{Column}
-use Rattle.fractions.specs.Basis.{dot, IsWithin}
-use Rattle.fractions.specs.Lexicographic.{IsLexPositive, IsLexNonnegative}
+use Rattle.determinants.proofs.DotProducts.{backwards, dot_backwards, dot_cong, zero_row}
+use Rattle.determinants.specs.Determinant.{Column}
+use Rattle.determinants.specs.Basis.{dot, IsWithin}
+use Rattle.determinants.specs.Lexicographic.{IsLexPositive, IsLexNonnegative}
 use Rattle.definitions.specs.Sums.{sum_below}
 use Rattle.simplex.specs.Measure.{cut}
 use Rattle.simplex.specs.Program.{flipped}
 use lib.IntN.{*ℤ_comm}
-
-pub dot_cong : (n : ℕ) (a b s t : ℕ → ℤ) → ((i : ℕ) → i < n → a i ≡ b i) → ((i : ℕ) → i < n → s i ≡ t i) → dot n a s ≡ dot n b t
-dot_cong zero a b s t h k = refl
-dot_cong (suc n) a b s t h k =
-    ap (λ (z : ℤ). z +ℤ a n *ℤ s n) (dot_cong n a b s t (λ i lt. h i (omega arith)) (λ i lt. k i (omega arith)))
-    ∙ ap (λ (z : ℤ). dot n b t +ℤ z *ℤ s n) (h n (omega arith)) ∙ ap (λ (z : ℤ). dot n b t +ℤ b n *ℤ z) (k n (omega arith))
 
 pub dot_comm : (n : ℕ) (a b : ℕ → ℤ) → dot n a b ≡ dot n b a
 dot_comm zero a b = refl
@@ -26,10 +20,6 @@ pub sum_dot : (n : ℕ) (a f : ℕ → ℤ) → sum_below n (λ r. a r *ℤ f r)
 sum_dot zero a f = refl
 sum_dot (suc n) a f = ap (λ (z : ℤ). z +ℤ a n *ℤ f n) (sum_dot n a f)
 
-dot_zero_right : (n : ℕ) (c : ℕ → ℤ) → dot n c (λ k. pos 0) ≡ pos 0
-dot_zero_right zero c = refl
-dot_zero_right (suc n) c = simp (dot_zero_right n c, unit_laws)
-
 dot_add : (n : ℕ) (c a b : ℕ → ℤ) (t : ℤ) → dot n c (λ k. a k +ℤ b k *ℤ t) ≡ dot n c a +ℤ dot n c b *ℤ t
 dot_add zero c a b t = simp unit_laws
 dot_add (suc n) c a b t = ap (λ (z : ℤ). z +ℤ c n *ℤ (a n +ℤ b n *ℤ t)) (dot_add n c a b t) ∙ step (dot n c a) (dot n c b) (c n) (a n) (b n) t
@@ -39,7 +29,7 @@ dot_add (suc n) c a b t = ap (λ (z : ℤ). z +ℤ c n *ℤ (a n +ℤ b n *ℤ t
 
 -- the two orders of a double sum
 pub dot_swap : (n m : ℕ) (c : ℕ → ℤ) (x : ℕ → ℕ → ℤ) (s : Column) → dot n c (λ k. dot m (x k) s) ≡ dot m (λ i. dot n c (λ k. x k i)) s
-dot_swap n zero c x s = dot_zero_right n c
+dot_swap n zero c x s = zero_row n c
 dot_swap n (suc m) c x s = dot_add n c (λ k. dot m (x k) s) (λ k. x k m) (s m) ∙ ap (λ (z : ℤ). z +ℤ dot n c (λ k. x k m) *ℤ s m) (dot_swap n m c x s)
 
 -- ---- columns read from the last row

@@ -5,17 +5,17 @@ use Rattle.definitions.proofs.Members.{sum_below-zero}
 use Rattle.definitions.proofs.Ring.{ring_laws, unit_laws, linear, mul-leℤ, mul-zeroℤ, one-mulℤ}
 use Rattle.definitions.specs.Programs.{Program, value_of, Bounds, HasNoSolution, HasRay}
 use Rattle.definitions.specs.Sums.{weighted_sum}
-use Rattle.fractions.proofs.Cases.{last_or}
-use Rattle.fractions.proofs.Duality.{weak_duality}
-use Rattle.fractions.proofs.Objective.{objective}
-use Rattle.fractions.specs.Basis.{dot}
-use Rattle.fractions.specs.Matrix.{entry_at, weight_at}
+use Rattle.definitions.proofs.Cases.{last_or_less}
+use Rattle.determinants.proofs.Duality.{weak_duality}
+use Rattle.determinants.proofs.Objective.{objective}
+use Rattle.determinants.specs.Basis.{dot}
+use Rattle.determinants.specs.Matrix.{entry_at, weight_at}
 use Rattle.simplex.specs.Between.{HasAddedWeight}
 use Rattle.simplex.specs.Improving.{part_cost, AreMultipliers, IsImproving, HasDirection}
 use Rattle.simplex.specs.Program.{column, right_side, price, priced}
 use Rattle.simplex.specs.Tableau.{id_at}
-use Rattle.simplex.proofs.DotProducts.{dot_cong}
 use Rattle.simplex.proofs.Steps.{value_is}
+use Rattle.determinants.proofs.DotProducts.{dot_cong}
 
 -- ---- signs of products and of sums
 times_nonneg : (a b : ℤ) → pos 0 ≤ℤ a → pos 0 ≤ℤ b → pos 0 ≤ℤ (a *ℤ b)
@@ -53,7 +53,7 @@ sum_second a b h k = omega (arith, linear)
 -- a sum without a positive part and with a negative one
 dot_negative : (n : ℕ) (a b : ℕ → ℤ) (j : ℕ) → j < n → ((k : ℕ) → k < n → (a k *ℤ b k) ≤ℤ pos 0) → (a j *ℤ b j) <ℤ pos 0 → dot n a b <ℤ pos 0
 dot_negative zero a b j lt h p = absurd (omega arith)
-dot_negative (suc n) a b j lt h p = elim (last_or j n lt) [
+dot_negative (suc n) a b j lt h p = elim (last_or_less j n lt) [
   | inl e ↦ sum_first (dot n a b) (a n *ℤ b n) (dot_nonpos n a b (λ k l. h k (omega arith))) (subst (λ (t : ℕ). (a t *ℤ b t) <ℤ pos 0) e p)
   | inr l ↦ sum_second (dot n a b) (a n *ℤ b n) (dot_negative n a b j l (λ k q. h k (omega arith)) p) (h n (omega arith))
 ]

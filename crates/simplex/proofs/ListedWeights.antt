@@ -2,13 +2,12 @@
 use Rattle.std.proofs.Common.{◌≡◌, ◌≢◌, inl, inr, ℕ, zero, suc, ◌+◌, ◌<◌, ◌≤◌, false, List, [], ◌∷◌, ◌++◌, length, length-append, map, nat_eq, Option, Some, None, arith, refl, sym, ap, subst, ◌∙◌, ℤ, pos, negsuc, ◌+ℤ◌, ◌*ℤ◌, ◌≤ℤ◌, unsigned_abs}
 use Prim.Native.Nat.{◌∣◌}
 use Rattle.std.specs.List.{AllByRecursion, IsDistinct}
-use Rattle.std.proofs.lemmas.Bool.Decides.{nat_tests}
 use Rattle.std.proofs.lemmas.Int.{ints}
 use Rattle.std.proofs.lemmas.Nat.Gcd.{dvd-zero}
 use Rattle.definitions.proofs.Ring.{unit_laws, linear}
 use Rattle.definitions.specs.Sums.{weighted_sum}
-use Rattle.fractions.proofs.Cases.{last_or}
-use Rattle.fractions.specs.Basis.{dot}
+use Rattle.definitions.proofs.Cases.{last_or_less, nat_eq-other}
+use Rattle.determinants.specs.Basis.{dot}
 use Rattle.simplex.specs.Reduced.{with_weight, listed}
 use Rattle.simplex.specs.Tableau.{id_at}
 
@@ -75,9 +74,6 @@ numbers ws = map (λ (w : ℕ × ℤ). w.0) ws
 abbrev IsNew : ℕ → List (ℕ × ℤ) → Type 0
 IsNew id ws = AllByRecursion (λ i. nat_eq id i ≡ false) (numbers ws)
 
-pub differ : (a b : ℕ) → a ≢ b → nat_eq a b ≡ false
-differ a b h = grind (arith, nat_tests)
-
 pub all_new : (id : ℕ) (ws : List (ℕ × ℤ)) → AllByRecursion (λ w. nat_eq id w.0 ≡ false) ws → AllByRecursion (λ i. nat_eq id i ≡ false) (map (λ (w : ℕ × ℤ). w.0) ws)
 all_new id [] h = tt
 all_new id (w ∷ ws) h = (h.0, all_new id ws h.1)
@@ -102,7 +98,7 @@ unfolding IsDistinct
 listed_distinct ids w zero h = tt
 listed_distinct ids w (suc k) h =
     with_distinct (id_at ids k) (w k) (listed ids w k)
-    (λ id e. listed_all (λ v. nat_eq v.0 id ≡ false) ids w k (λ j i u lt f g. differ i id (λ same. h j k id (omega arith) (omega arith) (omega arith) (f ∙ ap Some same) e)))
+    (λ id e. listed_all (λ v. nat_eq v.0 id ≡ false) ids w k (λ j i u lt f g. nat_eq-other i id (λ same. h j k id (omega arith) (omega arith) (omega arith) (f ∙ ap Some same) e)))
     (listed_distinct ids w k (λ i j id il jl ne e f. h i j id (omega arith) (omega arith) ne e f))
 
 -- ---- what divides all of them divides each weight
@@ -128,7 +124,7 @@ divisible_at g (Some id) (negsuc w) ws p z h = absurd (omega (arith, ints))
 
 pub listed_divisible : (g : ℕ) (ids : List (Option ℕ)) (w : ℕ → ℤ) (n : ℕ) → ((k : ℕ) → k < n → pos 0 ≤ℤ w k) → ((k : ℕ) → k < n → id_at ids k ≡ None → w k ≡ pos 0) → AllByRecursion (λ w. g ∣ unsigned_abs w.1) (listed ids w n) → (k : ℕ) → k < n → g ∣ unsigned_abs (w k)
 listed_divisible g ids w zero p z h k lt = absurd (omega arith)
-listed_divisible g ids w (suc n) p z h k lt = elim (last_or k n lt) [
+listed_divisible g ids w (suc n) p z h k lt = elim (last_or_less k n lt) [
   | inl e ↦ subst (λ (t : ℕ). g ∣ unsigned_abs (w t)) (sym e) (divisible_at g (id_at ids n) (w n) (listed ids w n) (p n (omega arith)) (z n (omega arith)) h)
   | inr l ↦ listed_divisible g ids w n (λ k q. p k (omega arith)) (λ k q. z k (omega arith)) (divisible_with g (id_at ids n) (w n) (listed ids w n) h) k l
 ]

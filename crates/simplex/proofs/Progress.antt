@@ -2,24 +2,26 @@
 use Rattle.std.proofs.Common.{◌≡◌, ◌≢◌, inl, inr, ℕ, zero, suc, ◌*◌, ◌^◌, ◌<◌, ◌≤◌, List, arith, refl, sym, ap, subst, ◌∙◌, ℤ, pos, ◌+ℤ◌, ◌-ℤ◌, ◌*ℤ◌, ◌<ℤ◌, unsigned_abs, mul-le-mul}
 use Rattle.std.proofs.lemmas.Int.{ints, unsigned_abs-mul}
 use Rattle.definitions.proofs.Ring.{unit_laws}
-use Rattle.fractions.proofs.LexicographicSigns.{positive_or_zero}
-use Rattle.fractions.proofs.Measures.{room_left_falls}
+use Rattle.determinants.proofs.LexicographicSigns.{positive_or_zero}
+use Rattle.determinants.proofs.Measures.{room_left_falls, size_positive}
 use Rattle.std.specs.List.{AllByRecursion}
-use Rattle.fractions.proofs.PivotRows.{rows_stay, none_at_basis}
-use Rattle.fractions.proofs.Objective.{objective, objective_pivoted}
-use Rattle.fractions.specs.Determinant.{Column}
-use Rattle.fractions.specs.Basis.{dot, IsWithin, pivoted}
-use Rattle.fractions.specs.Lexicographic.{IsLexPositive, IsLexNonnegative}
-use Rattle.fractions.specs.Matrix.{limit, entry_at, weight_at, IsPivoted}
+use Rattle.determinants.proofs.PivotRows.{rows_stay, none_at_basis}
+use Rattle.determinants.proofs.Objective.{objective, objective_pivoted}
+use Rattle.determinants.specs.Determinant.{Column}
+use Rattle.determinants.specs.Basis.{dot, IsWithin, pivoted}
+use Rattle.determinants.specs.Lexicographic.{IsLexPositive, IsLexNonnegative}
+use Rattle.determinants.specs.Matrix.{limit, entry_at, weight_at, IsPivoted}
 use Rattle.simplex.specs.Matrix.{AreSmall, IsSmall}
 use Rattle.simplex.specs.Ratio.{ratio_gap, IsLeast}
 use Rattle.definitions.specs.Programs.{Program}
 use Rattle.simplex.specs.Laws.{first_columns}
 use Rattle.simplex.specs.Tableau.{target, IsTracked, AreNonneg}
 use Rattle.simplex.specs.Measure.{cut, objective_at, objective_room}
-use Rattle.simplex.proofs.DotProducts.{dot_cong, cut_in, cut_out, nonneg_same, positive_same}
-use Rattle.simplex.proofs.Signs.{positive_is, positive_apart, positive_size}
-use Rattle.fractions.proofs.Cases.{below_or}
+use Rattle.simplex.proofs.DotProducts.{cut_in, cut_out, nonneg_same, positive_same}
+use Rattle.simplex.proofs.Signs.{positive_is, positive_apart}
+use Rattle.definitions.proofs.Cases.{below_or_above}
+use Rattle.determinants.proofs.DotProducts.{dot_cong}
+use Rattle.determinants.proofs.BasisPivots.{pivoted_same}
 
 all_zero : (n : ℕ) (a : ℕ → ℤ) (m : ℕ) (f : ℕ → Column) → ((j : ℕ) → j < m → dot n a (f j) ≡ pos 0) → AllByRecursion (λ c. dot n a c ≡ pos 0) (first_columns m f)
 all_zero n a zero f h = tt
@@ -49,12 +51,6 @@ module _ (P : Program) (xs ts ys : List ℤ) (d : ℤ) (t : IsTracked P xs ts) (
       step : (yp yk tk tp yp' yk' tk' tp' : ℤ) → yp ≡ yp' → yk ≡ yk' → tk ≡ tk' → tp ≡ tp' → yp *ℤ tk -ℤ yk *ℤ tp ≡ yp' *ℤ tk' -ℤ yk' *ℤ tp'
       step yp yk tk tp yp' yk' tk' tp' e f g h = simp (e, f, g, h)
 
-  pivoted_same : (k i : ℕ) → k < P.rows → pivoted d (entry_at 32 xs) p (weight_at ys) k i ≡ pivoted d (entry_at 32 xs) p (λ k. dot P.rows (entry_at 32 xs k) s) k i
-  pivoted_same k i kn = step _ _ _ _ _ _ _ (ys_is p least.place) (ys_is k kn)
-    where
-      step : (yp yk yp' yk' a b c : ℤ) → yp ≡ yp' → yk ≡ yk' → (yp *ℤ a -ℤ yk *ℤ b) +ℤ c ≡ (yp' *ℤ a -ℤ yk' *ℤ b) +ℤ c
-      step yp yk yp' yk' a b c e f = simp (e, f)
-
   pub next_rows : (xs' ts' : List ℤ) → pos 0 <ℤ d → IsPivoted 32 xs ys d P.rows P.rows p xs' → ((k j : ℕ) → k < P.rows → j < suc P.rows → entry_at 32 ts' k j ≡ dot P.rows (entry_at 32 xs' k) (target P t.refs j)) → AreNonneg P ts'
   next_rows xs' ts' dp q tracked' =
       let du = positive_is d dp in
@@ -62,7 +58,7 @@ module _ (P : Program) (xs ts ys : List ℤ) (d : ℤ) (t : IsTracked P xs ts) (
       record {
         rows = λ k kn. nonneg_same (suc P.rows) (λ j. dot P.rows (entry_at 32 xs' k) (target P t.refs j)) (entry_at 32 ts' k) (λ j lt. sym (tracked' k j kn lt))
             (rows_stay P.rows (suc P.rows) p du.0 yu.0 (entry_at 32 xs) (entry_at 32 xs') s (target P t.refs) du.2 yu.2 yu.1
-            (λ k i kn jn. ap (λ (z : ℤ). z *ℤ entry_at 32 xs' k i) (sym du.1) ∙ q.entries k i kn jn ∙ pivoted_same k i kn ∙ ap (λ (z : ℤ). pivoted z (entry_at 32 xs) p (λ k. dot P.rows (entry_at 32 xs k) s) k i) du.1)
+            (λ k i kn jn. ap (λ (z : ℤ). z *ℤ entry_at 32 xs' k i) (sym du.1) ∙ q.entries k i kn jn ∙ pivoted_same d (entry_at 32 xs) p (weight_at ys) (λ k. dot P.rows (entry_at 32 xs k) s) k i (ys_is p least.place) (ys_is k kn) ∙ ap (λ (z : ℤ). pivoted z (entry_at 32 xs) p (λ k. dot P.rows (entry_at 32 xs k) s) k i) du.1)
             least.place tracked_row
             (λ k kn pk. nonneg_same (suc P.rows) (ratio_gap ts ys k p) _ (λ j lt. gap_same k j kn lt) (least.least k kn (subst (λ (z : ℤ). pos 0 <ℤ z) (sym (ys_is k kn)) pk)))
             k kn);
@@ -77,7 +73,7 @@ sum_small (suc n) a b h k = step n (dot n a b) (a n *ℤ b n) (sum_small n a b (
     step n s z h k = omega (arith, ints)
 
 pub objective_small : (n : ℕ) (costs ts : List ℤ) (j : ℕ) → n ≤ 31 → IsSmall costs n (2 ^ 46) → AreSmall ts n (suc n) → unsigned_abs (cut (suc n) (objective_at n costs ts) j) ≤ 2 ^ 110
-objective_small n costs ts j le h k = elim (below_or j (suc n)) [
+objective_small n costs ts j le h k = elim (below_or_above j (suc n)) [
   | inl lt ↦ subst (λ (z : ℤ). unsigned_abs z ≤ 2 ^ 110) (sym (cut_in (suc n) (objective_at n costs ts) j lt)) (large n _ le (sum_small n (weight_at costs) (λ k. entry_at 32 ts k j) h.entries (λ i il. k.entries i j il lt)))
   | inr ge ↦ subst (λ (z : ℤ). unsigned_abs z ≤ 2 ^ 110) (sym (cut_out (suc n) (objective_at n costs ts) j ge)) (omega arith)
 ]
@@ -89,7 +85,7 @@ zeros : (d e r : ℤ) → d *ℤ pos 0 ≡ e *ℤ pos 0 +ℤ r *ℤ pos 0
 zeros d e r = simp unit_laws
 
 step_at : (n : ℕ) (d e r : ℤ) (z z' a : ℕ → ℤ) → ((j : ℕ) → j < n → d *ℤ z' j ≡ e *ℤ z j +ℤ r *ℤ a j) → (j : ℕ) → d *ℤ cut n z' j ≡ e *ℤ cut n z j +ℤ r *ℤ cut n a j
-step_at n d e r z z' a h j = elim (below_or j n) [
+step_at n d e r z z' a h j = elim (below_or_above j n) [
   | inl lt ↦ ap (λ (t : ℤ). d *ℤ t) (cut_in n z' j lt) ∙ h j lt ∙ sym (ap (λ (t : ℤ). e *ℤ t +ℤ r *ℤ cut n a j) (cut_in n z j lt) ∙ ap (λ (t : ℤ). e *ℤ z j +ℤ r *ℤ t) (cut_in n a j lt))
   | inr ge ↦ ap (λ (t : ℤ). d *ℤ t) (cut_out n z' j ge) ∙ zeros d e r ∙ sym (ap (λ (t : ℤ). e *ℤ t +ℤ r *ℤ cut n a j) (cut_out n z j ge) ∙ ap (λ (t : ℤ). e *ℤ pos 0 +ℤ r *ℤ t) (cut_out n a j ge))
 ]
@@ -105,7 +101,7 @@ pub falls : (n : ℕ) (costs costs' ts ts' : List ℤ) (d d' r : ℤ) (a : ℕ �
 unfolding objective_room
 falls n costs costs' ts ts' d d' r a le hc hc' ht ht' dp d'p rp sd sd' h lex =
     room_left_falls (suc n) (unsigned_abs r) d d' (cut (suc n) (objective_at n costs ts)) (cut (suc n) (objective_at n costs' ts')) (cut (suc n) a) dp d'p sd sd'
-    (λ j. objective_small n costs ts j le hc ht) (λ j. objective_small n costs' ts' j le hc' ht') (positive_size r rp)
+    (λ j. objective_small n costs ts j le hc ht) (λ j. objective_small n costs' ts' j le hc' ht') (size_positive r rp)
     (λ j. step_at (suc n) d d' r (objective_at n costs ts) (objective_at n costs' ts') a h j ∙ ap (λ (z : ℤ). d' *ℤ cut (suc n) (objective_at n costs ts) j +ℤ z *ℤ cut (suc n) a j) (of_size r rp))
     (positive_same (suc n) a (cut (suc n) a) (λ j lt. sym (cut_in (suc n) a j lt)) lex)
 

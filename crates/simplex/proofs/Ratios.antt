@@ -2,11 +2,13 @@
 use Rattle.std.proofs.Common.{◌≡◌, inl, inr, ℕ, zero, suc, ◌+◌, ◌<◌, List, arith, refl, sym, ap, subst, ◌∙◌, ℤ, pos, ◌+ℤ◌, ◌-ℤ◌, ◌*ℤ◌, ◌<ℤ◌, ◌≤ℤ◌, Option, Some, None}
 use Rattle.std.proofs.lemmas.Int.{ints}
 use Rattle.definitions.proofs.Ring.{ring_laws, linear}
-use Rattle.fractions.proofs.LexicographicSigns.{joined_nonnegative}
-use Rattle.fractions.specs.Lexicographic.{IsLexPositive, IsLexNonnegative}
-use Rattle.fractions.specs.Matrix.{entry_at, weight_at}
+use Rattle.determinants.proofs.LexicographicSigns.{joined_nonnegative}
+use Rattle.determinants.specs.Lexicographic.{IsLexPositive, IsLexNonnegative}
+use Rattle.determinants.specs.Matrix.{entry_at, weight_at}
 use Rattle.simplex.specs.Ratio.{ratio_gap, IsLeast, NonePositive, IsChoice}
-use Rattle.simplex.proofs.Signs.{last_one, positive_is, not_both}
+use Rattle.simplex.proofs.Signs.{positive_is, not_both}
+use Rattle.definitions.proofs.Cases.{last_or_less_of}
+use Rattle.definitions.proofs.Cancel.{gap_of}
 
 -- ---- lexicographic signs by the first place that isn't 0
 pub positive_at : (m j : ℕ) (a : ℕ → ℤ) → j < m → ((i : ℕ) → i < j → a i ≡ pos 0) → pos 0 <ℤ a j → IsLexPositive m a
@@ -26,9 +28,6 @@ nonneg_zero (suc m) a h = inr (h 0 (omega arith), nonneg_zero m (λ i. a (suc i)
 gap_less : (a b : ℤ) → a <ℤ b → pos 0 <ℤ (b -ℤ a)
 gap_less a b h = omega (arith, linear)
 
-gap_none : (a b : ℤ) → a ≡ b → a -ℤ b ≡ pos 0
-gap_none a b e = omega (arith, linear)
-
 gap_turned : (a b : ℤ) → a -ℤ b ≡ pos 0 → b -ℤ a ≡ pos 0
 gap_turned a b e = omega (arith, linear)
 
@@ -42,8 +41,8 @@ between : (a b : ℤ) → b ≤ℤ a → a ≤ℤ b → a ≡ b
 between a b h k = omega (arith, ints)
 
 pub same_so_far : (ts ys : List ℤ) (k p j : ℕ) → ((i : ℕ) → i < j → ratio_gap ts ys k p i ≡ pos 0) → (weight_at ys k *ℤ entry_at 32 ts p j) ≤ℤ (weight_at ys p *ℤ entry_at 32 ts k j) → (weight_at ys p *ℤ entry_at 32 ts k j) ≤ℤ (weight_at ys k *ℤ entry_at 32 ts p j) → (i : ℕ) → i < j + 1 → ratio_gap ts ys k p i ≡ pos 0
-same_so_far ts ys k p j h e f i lt = elim (last_one i j lt) [
-  | inl same ↦ ap (ratio_gap ts ys k p) same ∙ gap_none (weight_at ys p *ℤ entry_at 32 ts k j) (weight_at ys k *ℤ entry_at 32 ts p j) (between _ _ e f)
+same_so_far ts ys k p j h e f i lt = elim (last_or_less_of i j lt) [
+  | inl same ↦ ap (ratio_gap ts ys k p) same ∙ gap_of (weight_at ys p *ℤ entry_at 32 ts k j) (weight_at ys k *ℤ entry_at 32 ts p j) (between _ _ e f)
   | inr less ↦ h i less
 ]
 
@@ -65,12 +64,12 @@ through ts ys n j k p hj hk hp a b =
         (subst (λ (z : ℤ). yp *ℤ (yk *ℤ tj -ℤ yj *ℤ tk) ≡ yk *ℤ (yp *ℤ tj -ℤ yj *ℤ tp) +ℤ z *ℤ (yk *ℤ tp -ℤ yp *ℤ tk)) e (ring_step yj yk yp tj tk tp)))
 
 itself : (ts ys : List ℤ) (n k : ℕ) → IsLexNonnegative (suc n) (ratio_gap ts ys k k)
-itself ts ys n k = nonneg_zero (suc n) (ratio_gap ts ys k k) (λ i lt. gap_none _ (weight_at ys k *ℤ entry_at 32 ts k i) refl)
+itself ts ys n k = nonneg_zero (suc n) (ratio_gap ts ys k k) (λ i lt. gap_of _ (weight_at ys k *ℤ entry_at 32 ts k i) refl)
 
 -- a position without a positive weight changes nothing
 pub none_more : (ys : List ℤ) (k : ℕ) → weight_at ys k ≤ℤ pos 0 → NonePositive ys k → NonePositive ys (k + 1)
 none_more ys k z h = record {
-  none = λ j lt p. elim (last_one j k lt) [
+  none = λ j lt p. elim (last_or_less_of j k lt) [
     | inl e ↦ not_both (weight_at ys j) (subst (λ (t : ℕ). weight_at ys t ≤ℤ pos 0) (sym e) z) p
     | inr l ↦ h.none j l p
   ];
@@ -80,7 +79,7 @@ pub least_more : (ts ys : List ℤ) (n k p : ℕ) → (pos 0 <ℤ weight_at ys k
 least_more ts ys n k p z h = record {
   place = h.place;
   positive = h.positive;
-  least = λ j lt pj. elim (last_one j k lt) [
+  least = λ j lt pj. elim (last_or_less_of j k lt) [
     | inl e ↦ subst (λ (t : ℕ). IsLexNonnegative (suc n) (ratio_gap ts ys t p)) (sym e) (z (subst (λ (t : ℕ). pos 0 <ℤ weight_at ys t) e pj))
     | inr l ↦ h.least j l pj
   ];
@@ -90,7 +89,7 @@ pub least_first : (ts ys : List ℤ) (n k : ℕ) → k < n → pos 0 <ℤ weight
 least_first ts ys n k lt pk h = record {
   place = lt;
   positive = pk;
-  least = λ j lj pj. elim (last_one j k lj) [
+  least = λ j lj pj. elim (last_or_less_of j k lj) [
     | inl e ↦ subst (λ (t : ℕ). IsLexNonnegative (suc n) (ratio_gap ts ys t k)) (sym e) (itself ts ys n k)
     | inr l ↦ absurd (h.none j l pj)
   ];
@@ -100,7 +99,7 @@ pub least_next : (ts ys : List ℤ) (n k p : ℕ) → k < n → pos 0 <ℤ weigh
 least_next ts ys n k p lt pk less h = record {
   place = lt;
   positive = pk;
-  least = λ j lj pj. elim (last_one j k lj) [
+  least = λ j lj pj. elim (last_or_less_of j k lj) [
     | inl e ↦ subst (λ (t : ℕ). IsLexNonnegative (suc n) (ratio_gap ts ys t k)) (sym e) (itself ts ys n k)
     | inr l ↦ through ts ys n j k p pj pk h.positive (h.least j l pj) (nonneg_of (suc n) (ratio_gap ts ys p k) less)
   ];

@@ -1,13 +1,7 @@
 -- Cases of numbers, and what a sign says.
-use Rattle.std.proofs.Common.{◌≡◌, ◌≢◌, ◌⊎◌, ℕ, ◌+◌, ◌-◌, ◌<◌, Some, None, arith, refl, ℤ, pos, negsuc, ◌<ℤ◌, ◌≤ℤ◌, unsigned_abs}
+use Rattle.std.proofs.Common.{◌≡◌, ◌≢◌, ℕ, ◌-◌, ◌<◌, Some, None, arith, refl, ℤ, pos, negsuc, ◌<ℤ◌, ◌≤ℤ◌}
 use Rattle.std.proofs.lemmas.Int.{ints}
 use Rattle.definitions.proofs.Ring.{linear}
-
-pub same_or : (i k : ℕ) → (i ≡ k) ⊎ (i ≢ k)
-same_or i k = grind arith
-
-pub last_one : (i n : ℕ) → i < n + 1 → (i ≡ n) ⊎ (i < n)
-last_one i n h = grind arith
 
 pub turned_below : (n i : ℕ) → i < n → n - 1 - i < n
 turned_below n i lt = omega arith
@@ -22,14 +16,8 @@ positive_is (negsuc u) h = absurd (omega (arith, ints))
 pub positive_apart : (z : ℤ) → pos 0 <ℤ z → z ≢ pos 0
 positive_apart z h e = omega (arith, ints)
 
-pub positive_size : (z : ℤ) → pos 0 <ℤ z → 0 < unsigned_abs z
-positive_size z h = omega (arith, ints)
-
 pub at_least_one : (z : ℤ) → pos 0 <ℤ z → pos 1 ≤ℤ z
 at_least_one z h = omega (arith, linear)
-
-pub positive_nonneg : (z : ℤ) → pos 0 <ℤ z → pos 0 ≤ℤ z
-positive_nonneg z h = omega (arith, linear)
 
 pub not_both : (z : ℤ) → z ≤ℤ pos 0 → pos 0 <ℤ z → ⊥
 not_both z h p = omega (arith, linear)

@@ -4,36 +4,33 @@ use Rattle.std.specs.List.{AllByRecursion, IsDistinct}
 use Rattle.std.proofs.lemmas.Int.{ints}
 use Rattle.definitions.proofs.Ring.{ring_laws, unit_laws, linear, mul-oneℤ, mul-zeroℤ}
 use Rattle.definitions.specs.Programs.{Program, value_of, HasRay}
-use Rattle.fractions.proofs.BasisWeights.{weights}
-use Rattle.fractions.proofs.Units.{unit_same, unit_other}
-use Rattle.fractions.specs.Basis.{unit, dot, IsWithin}
-use Rattle.fractions.specs.Determinant.{Column}
-use Rattle.fractions.specs.Matrix.{entry_at, weight_at}
-use Rattle.fractions.specs.Weighted.{weigh}
+use Rattle.determinants.proofs.BasisWeights.{weights}
+use Rattle.determinants.proofs.Units.{unit_same, unit_other}
+use Rattle.determinants.specs.Basis.{unit, dot, IsWithin}
+use Rattle.determinants.specs.Determinant.{Column}
+use Rattle.determinants.specs.Matrix.{entry_at, weight_at}
+use Rattle.determinants.specs.Weighted.{weigh}
 use Rattle.simplex.specs.Answer.{HasSolution}
 use Rattle.simplex.specs.Improving.{part_cost, AreMultipliers, IsImproving, HasDirection}
 use Rattle.simplex.specs.Laws.{first_columns}
 use Rattle.simplex.specs.Program.{column, right_side}
 use Rattle.simplex.specs.Reduced.{listed}
 use Rattle.simplex.specs.Tableau.{id_at, IsId, place, placed, IsInverse}
-use Rattle.simplex.proofs.DotProducts.{dot_cong, flipped_at, flipped_within, dot_comm}
+use Rattle.simplex.proofs.DotProducts.{flipped_at, flipped_within, dot_comm}
 use Rattle.simplex.proofs.Ends.{lex_first, neg_le, objective_right}
 use Rattle.simplex.proofs.FreshRows.{own_at}
-use Rattle.simplex.proofs.ListedWeights.{listed_all, listed_sum, listed_distinct, on_id, differ, all_new}
+use Rattle.simplex.proofs.ListedWeights.{listed_all, listed_sum, listed_distinct, on_id, all_new}
 use Rattle.simplex.proofs.Steps.{value_is}
 use Rattle.simplex.proofs.Tableaus.{of_within, place_of}
-use Rattle.simplex.proofs.Signs.{turned_below, at_least_one, positive_nonneg, not_both}
+use Rattle.simplex.proofs.Signs.{turned_below, at_least_one, not_both}
+use Rattle.determinants.proofs.DotProducts.{dot_front, dot_cong}
+use Rattle.definitions.proofs.Cases.{nat_eq-other}
+use Rattle.determinants.proofs.LexicographicSigns.{less_le}
+use Rattle.definitions.proofs.Cancel.{gap_of}
 
 dot_products : (n : ℕ) (a b s t : ℕ → ℤ) → ((k : ℕ) → k < n → a k *ℤ s k ≡ b k *ℤ t k) → dot n a s ≡ dot n b t
 dot_products zero a b s t h = refl
 dot_products (suc n) a b s t h = ap (λ (z : ℤ). z +ℤ a n *ℤ s n) (dot_products n a b s t (λ k lt. h k (omega arith))) ∙ ap (λ (z : ℤ). dot n b t +ℤ z) (h n (omega arith))
-
-dot_front : (n : ℕ) (a s : ℕ → ℤ) → dot (suc n) a s ≡ a 0 *ℤ s 0 +ℤ dot n (λ i. a (suc i)) (λ i. s (suc i))
-dot_front zero a s = simp unit_laws
-dot_front (suc n) a s = ap (λ (z : ℤ). z +ℤ a (suc n) *ℤ s (suc n)) (dot_front n a s) ∙ step (a 0 *ℤ s 0) (dot n (λ i. a (suc i)) (λ i. s (suc i))) (a (suc n) *ℤ s (suc n))
-  where
-    step : (p q r : ℤ) → (p +ℤ q) +ℤ r ≡ p +ℤ (q +ℤ r)
-    step p q r = omega (arith, linear)
 
 weigh_cols : (n : ℕ) (f : ℕ → Column) (w : ℕ → ℤ) (i : ℕ) → weigh (λ c. c i) w (first_columns n f) ≡ dot n w (λ k. f k i)
 weigh_cols zero f w i = refl
@@ -124,9 +121,6 @@ module _ (P : Program) (n : ℕ) (ids : List (Option ℕ)) (xs ts : List ℤ) (d
   gap : (a b c : ℤ) → b ≡ c → a +ℤ neg_ℤ b ≡ a -ℤ c
   gap a b c e = ap (λ (z : ℤ). a -ℤ z) e
 
-  none_left : (a b : ℤ) → a ≡ b → a -ℤ b ≡ pos 0
-  none_left a b e = omega (arith, linear)
-
   some_left : (a b : ℤ) → b <ℤ a → pos 1 ≤ℤ (a -ℤ b)
   some_left a b h = omega (arith, linear)
 
@@ -147,11 +141,11 @@ module _ (P : Program) (n : ℕ) (ids : List (Option ℕ)) (xs ts : List ℤ) (d
       let lowered = λ (k : ℕ) (lt : k < P.rows). neg_le (y k) (r.lowers k lt) in (
         (r.id, d) ∷ listed ids m P.rows,
         (
-          ((r.is_column, positive_nonneg d st.table.positive), listed_weights m),
-          (all_new r.id (listed ids m P.rows) (listed_all (λ v. nat_eq r.id v.0 ≡ false) ids m P.rows (λ j id u lt e f. differ r.id id (direction_new r j id lt e))), listed_distinct ids m P.rows (ids_apart P ids xs d st.table.inverse)),
+          ((r.is_column, less_le d st.table.positive), listed_weights m),
+          (all_new r.id (listed ids m P.rows) (listed_all (λ v. nat_eq r.id v.0 ≡ false) ids m P.rows (λ j id u lt e f. nat_eq-other r.id id (direction_new r j id lt e))), listed_distinct ids m P.rows (ids_apart P ids xs d st.table.inverse)),
         ),
         λ i lt. ap (λ (z : ℤ). d *ℤ P.entry r.id i +ℤ z) (listed_sum (λ id. P.entry id i) ids m P.rows lowered ∙ neg_dot P.rows y (λ k. on_id (λ id. P.entry id i) (id_at ids k)))
-            ∙ none_left (d *ℤ P.entry r.id i) (dot P.rows y (λ k. on_id (λ id. P.entry id i) (id_at ids k)))
+            ∙ gap_of (d *ℤ P.entry r.id i) (dot P.rows y (λ k. on_id (λ id. P.entry id i) (id_at ids k)))
             (sym (spread P ids xs d s y st.table.inverse (flipped_within P.rows (P.entry r.id)) (λ k l. refl) (λ k l h. (st.silent refl k l h).columns r.id r.is_column) i lt
             ∙ ap (λ (z : ℤ). d *ℤ z) (flipped_at P.rows (P.entry r.id) (P.rows - 1 - i) (turned_below P.rows i lt) ∙ ap (P.entry r.id) (turn P.rows i lt)))),
         subst (λ (z : ℤ). pos 1 ≤ℤ z)

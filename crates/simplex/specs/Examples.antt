@@ -1,39 +1,34 @@
--- Small programs that keep the laws, for tests.
-use Rattle.std.specs.Prelude.{ℕ, ◌<◌, ◌≡◌, ◌⊎◌, ◌^◌, true, false, cond, nat_eq, nat_lt, ℤ, pos, negsuc, refl, unsigned_abs}
-use Rattle.std.proofs.Common.{inl, inr, arith}
+-- Examples, for the tests alone: small programs of one row, which keep the laws.
+use Rattle.std.specs.Prelude.{ℕ, Bool, ◌<◌, ◌≡◌, ◌⊎◌, ◌^◌, true, false, cond, nat_eq, nat_lt, ℤ, pos, negsuc, refl, unsigned_abs}
+use Rattle.std.proofs.Common.{inl, inr}
+use Rattle.std.proofs.Math.Nat.{le_trans, le_of_lt, not-le_of_lt}
 use lib.Dec.{lit≤, lit<}
 use Rattle.definitions.specs.Programs.{Program}
 use Rattle.simplex.specs.Laws.{IsSparse, IsLawful}
 
 constant : (z : ℤ) → (z ≡ pos 1) ⊎ (z ≡ negsuc 0) → IsSparse 1 1 (λ i. z)
-constant z h = record { sign = z; is_sign = h; entry = λ i lt. inr refl; one = λ i j le ij lt. absurd (omega arith) }
+constant z h = record { sign = z; is_sign = h; entry = λ i lt. inr refl; one = λ i j le ij lt. absurd (not-le_of_lt lt (le_trans le (le_of_lt ij))) }
 
--- right side 1, and one column with entry 1 and cost -3
-abbrev pub one_column : Program
-one_column = record { rows = 1; right = λ i. pos 1; is_column = λ id. nat_eq id 0; entry = λ id i. pos 1; cost = λ id. negsuc 2 }
+-- right side 1, and one column: with entry -1 and cost 0 where the test is true, or else with entry 1 and cost -3
+abbrev pub one_column : Bool → Program
+one_column opposite = record { rows = 1; right = λ i. pos 1; is_column = λ id. nat_eq id 0; entry = λ id i. cond opposite (negsuc 0) (pos 1); cost = λ id. cond opposite (pos 0) (negsuc 2) }
 
-pub one_column_lawful : IsLawful 1 one_column
-one_column_lawful = record {
+either : (opposite : Bool) → IsSparse 1 1 (λ i. cond opposite (negsuc 0) (pos 1))
+either true = constant (negsuc 0) (inr refl)
+either false = constant (pos 1) (inl refl)
+
+few : (opposite : Bool) → unsigned_abs (cond opposite (pos 0) (negsuc 2)) < 2 ^ 46
+few true = lit< tt
+few false = lit< tt
+
+pub one_column_lawful : (opposite : Bool) → IsLawful 1 (one_column opposite)
+one_column_lawful opposite = record {
   players_few = lit≤ tt;
   players_within = lit≤ tt;
   rows_few = lit≤ tt;
-  band = inl (record { levels = lit≤ tt; columns = λ id c. constant (pos 1) (inl refl); right = constant (pos 1) (inl refl) });
+  band = inl (record { levels = lit≤ tt; columns = λ id c. either opposite; right = constant (pos 1) (inl refl) });
   rights = λ i lt. inr refl;
-  costs = λ id c. lit< tt;
-}
-
--- right side 1, and one column with entry -1
-abbrev pub opposite : Program
-opposite = record { rows = 1; right = λ i. pos 1; is_column = λ id. nat_eq id 0; entry = λ id i. negsuc 0; cost = λ id. pos 0 }
-
-pub opposite_lawful : IsLawful 1 opposite
-opposite_lawful = record {
-  players_few = lit≤ tt;
-  players_within = lit≤ tt;
-  rows_few = lit≤ tt;
-  band = inl (record { levels = lit≤ tt; columns = λ id c. constant (negsuc 0) (inr refl); right = constant (pos 1) (inl refl) });
-  rights = λ i lt. inr refl;
-  costs = λ id c. lit< tt;
+  costs = λ id c. few opposite;
 }
 
 -- right side 0, and columns with entry 1 and cost 1, and with entry -1 and cost 0

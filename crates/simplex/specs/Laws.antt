@@ -6,7 +6,7 @@
 --   AreMinorsSmall   each determinant of columns, units and at most one right side is below 2^58
 use Rattle.std.specs.Prelude.{ℕ, zero, suc, ◌+◌, ◌^◌, ◌≤◌, ◌<◌, ◌≡◌, ◌⊎◌, IsTrue, cond, nat_eq, List, [], ◌∷◌, ℤ, pos, negsuc, unsigned_abs}
 use Rattle.definitions.specs.Programs.{Program}
-use Rattle.fractions.specs.Determinant.{Column, det}
+use Rattle.determinants.specs.Determinant.{Column, det}
 use Rattle.simplex.specs.Program.{right_side, IsOf}
 
 -- all entries 0 or 1, or all 0 or -1, and from row `players` on at most one that isn't 0

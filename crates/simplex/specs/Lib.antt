@@ -1,4 +1,4 @@
--- To be read in this order.
+-- To be read in this order. From Matrix on they are for the private functions, and the last for the tests.
 pub mod Program
 pub mod Entering
 pub mod Laws

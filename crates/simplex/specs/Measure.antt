@@ -1,8 +1,9 @@
+-- For the private functions of this crate.
 -- How far the objective can still go up, as one natural number.
 use Rattle.std.specs.Prelude.{ℕ, suc, cond, nat_lt, ℤ, pos, List}
-use Rattle.fractions.specs.Basis.{dot}
-use Rattle.fractions.specs.Matrix.{entry_at, weight_at}
-use Rattle.fractions.specs.Measure.{room_left}
+use Rattle.determinants.specs.Basis.{dot}
+use Rattle.determinants.specs.Matrix.{entry_at, weight_at}
+use Rattle.determinants.specs.Measure.{room_left}
 
 -- the first m numbers, and 0 from there on
 abbrev pub cut : ℕ → (ℕ → ℤ) → ℕ → ℤ

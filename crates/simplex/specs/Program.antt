@@ -6,8 +6,8 @@
 --   IsOf          a column of the program, or the unit of one of its rows
 use Rattle.std.specs.Prelude.{ℕ, ◌-◌, ◌<◌, ◌≡◌, ◌⊎◌, Bool, true, false, IsTrue, cond, nat_lt, ℤ, pos}
 use Rattle.definitions.specs.Programs.{Program}
-use Rattle.fractions.specs.Determinant.{Column}
-use Rattle.fractions.specs.Basis.{unit}
+use Rattle.determinants.specs.Determinant.{Column}
+use Rattle.determinants.specs.Basis.{unit}
 
 -- the cost of a column, or 0 where costs don't count
 abbrev pub price : Program → Bool → ℕ → ℤ

@@ -1,7 +1,8 @@
+-- For the private functions of this crate.
 -- The position that a column replaces: that of the lexicographically least ratio (Dantzig, Orden and Wolfe 1955).
 use Rattle.std.specs.Prelude.{ℕ, suc, ◌<◌, ℤ, pos, ◌-ℤ◌, ◌*ℤ◌, ◌<ℤ◌, List, Option, Some, None}
-use Rattle.fractions.specs.Lexicographic.{IsLexNonnegative}
-use Rattle.fractions.specs.Matrix.{entry_at, weight_at}
+use Rattle.determinants.specs.Lexicographic.{IsLexNonnegative}
+use Rattle.determinants.specs.Matrix.{entry_at, weight_at}
 
 -- how much more the ratio of row k is than that of row p, times their weights
 abbrev pub ratio_gap : List ℤ → List ℤ → ℕ → ℕ → ℕ → ℤ

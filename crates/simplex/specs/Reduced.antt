@@ -1,3 +1,4 @@
+-- For the private functions of this crate.
 -- The weights of a basis as the list of an answer, in lowest terms.
 --
 --   listed       the columns that have a positive weight, by their positions
@@ -5,7 +6,7 @@
 --   AreReduced   the listed weights and the denominator over their greatest common divisor
 use Rattle.std.specs.Prelude.{ℕ, zero, suc, ◌<◌, ◌≡◌, Bool, true, false, cond, ℤ, pos, negsuc, ◌*ℤ◌, ◌<ℤ◌, List, [], ◌∷◌, ◌++◌, Option, Some, None, unsigned_abs}
 use Prim.Native.Nat.{◌∣◌}
-use Rattle.fractions.specs.Matrix.{entry_at}
+use Rattle.determinants.specs.Matrix.{entry_at}
 use Rattle.simplex.specs.Tableau.{id_at}
 
 -- whether a number is positive

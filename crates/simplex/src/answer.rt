@@ -2,7 +2,7 @@
 
 ghost use Rattle.std.specs.Prelude.{◌≡◌, ◌<◌, ◌≤◌, ◌*ℤ◌, ◌<ℤ◌, ℕ, pos, unsigned_abs};
 ghost use Rattle.arrayvec.specs.ArrayVec.{array_vec_len};
-ghost use Rattle.fractions.specs.Matrix.{limit, entry_at, weight_at};
+ghost use Rattle.determinants.specs.Matrix.{limit, entry_at, weight_at};
 ghost use Rattle.simplex.specs.Reduced.{AreReduced, IsCommon, IsMultiple, listed, with_weight};
 
 use crate::multipliers::Multipliers;
@@ -13,8 +13,8 @@ use fractions::gcd;
 /// Optimal weights and optimal multipliers.
 ///
 /// Each weight stands beside the number of its column, as a whole number over `weight_den`. The weights are positive and
-/// the columns distinct, and there are at most as many as the program has rows. `weight_den` is at least 1, it and each
-/// weight are below 2^62, and no number above 1 divides them all.
+/// the columns distinct, and there are at most as many as the program has rows. All weights and `weight_den`, which is at
+/// least 1, are less than 2^62 and have no common divisor but 1.
 #[derive(Drop)]
 pub struct Optimal {
     pub weights: ArrayVec<(u64, i128), 31>,

@@ -1,9 +1,9 @@
 //! Programs, as the simplex reads them.
 
-ghost use Rattle.std.specs.Prelude.{◌≡◌, ◌<◌, ◌≤◌, ℕ, IsTrue, MatchOption, true};
+ghost use Rattle.std.specs.Prelude.{◌≡◌, ◌<◌, ℕ, IsTrue, MatchOption, true};
 ghost use Rattle.arrayvec.specs.ArrayVec.{array_vec_len};
 ghost use Rattle.definitions.specs.Programs.{Program, Bounds};
-ghost use Rattle.fractions.specs.Matrix.{weight_at};
+ghost use Rattle.determinants.specs.Matrix.{weight_at};
 ghost use Rattle.simplex.specs.Entering.{IsEntering};
 ghost use Rattle.simplex.specs.Improving.{part_cost};
 ghost use Rattle.simplex.specs.Laws.{IsLawful};
@@ -12,9 +12,8 @@ ghost use Rattle.simplex.specs.Tableau.{IsId};
 
 use crate::multipliers::Multipliers;
 
-/// A program, known by its rows and columns: rows with right sides, and columns with an entry per row and a cost. It asks for
-/// weights on the columns, each at least 0, such that in each row the weighted entries sum to the right side, and among
-/// such weights for those of the greatest cost.
+/// A linear program in standard form, known by its rows and columns. A row has a right side; a column has a cost, and an
+/// entry in each row. Sought are nonnegative weights of the columns that meet every right side, at the greatest total cost.
 ///
 /// The first rows are those of at most 16 players, the others are level rows, and there are at most 31. No call changes the
 /// program. Its right sides are 0 or 1, and its costs are below 2^46 in size. It lies in one of two bands, so that each
@@ -52,8 +51,8 @@ pub trait Columns {
         requires { IsTrue ((program self.now).is_column id) }
         ensures { result ≡ (program self.now).cost id };
 
-    /// The least column whose cost is above the sum of multiplier times entry, and None exactly where there is no such
-    /// column. Without costs each cost counts as 0.
+    /// The column of least number that costs more than its value under the multipliers; none exactly where no column does.
+    /// Without costs each column counts as costing 0.
     fn entering(&mut self, m: &Multipliers, with_costs: bool) -> Option<u64>
         requires { array_vec_len m.now.num ≡ (program self.old).rows }
         ensures same { program self.new ≡ program self.old }

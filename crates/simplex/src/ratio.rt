@@ -4,9 +4,9 @@
 //! T_k is the tracked row. The row of k is less than that of p where y_p·T_k - y_k·T_p is negative at the first place that
 //! isn't 0. Two rows are never equal in all places, since a reference basis stands in them.
 
-ghost use Rattle.std.specs.Prelude.{◌≡◌, ◌<◌, ◌≤◌, ◌+◌, suc, MatchBool};
-ghost use Rattle.fractions.specs.Lexicographic.{IsLexPositive, IsLexNonnegative};
-ghost use Rattle.fractions.specs.Matrix.{limit};
+ghost use Rattle.std.specs.Prelude.{◌<◌, ◌≤◌, ◌+◌, suc, MatchBool};
+ghost use Rattle.determinants.specs.Lexicographic.{IsLexPositive, IsLexNonnegative};
+ghost use Rattle.determinants.specs.Matrix.{limit};
 ghost use Rattle.simplex.specs.Matrix.{AreSmall, IsSmall};
 ghost use Rattle.simplex.specs.Ratio.{IsChoice, ratio_gap};
 

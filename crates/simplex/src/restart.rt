@@ -1,7 +1,7 @@
 //! The start of the second part: the basis that the first part found is its own reference.
 
 ghost use Rattle.std.specs.Prelude.{◌≡◌, ◌≤◌, ◌<◌, ℕ, true};
-ghost use Rattle.fractions.specs.Matrix.{entry_at, weight_at};
+ghost use Rattle.determinants.specs.Matrix.{entry_at, weight_at};
 ghost use Rattle.simplex.specs.Between.{IsBetween};
 ghost use Rattle.simplex.specs.Improving.{IsImproving};
 

@@ -79,11 +79,11 @@ fn solve_in<C: Columns>(work: &mut State, columns: &mut C) -> Result<Optimal, Lp
     Ok(answer_of(work, multipliers))
 }
 
-/// The best weights of a program, and multipliers that show that no weights cost more: the weights meet the rows, no
-/// column has a cost above its multipliers' value, and the cost of the weights is the multipliers' value of the right sides.
+/// The best weights of a program, and multipliers that show that they are best: the weights solve the program, the
+/// multipliers bound it, and both have one value.
 ///
-/// `NoSolution` comes exactly where no weights meet the rows. `Unbounded` comes exactly where some weights meet the rows, and
-/// some weights, each at least 0, that sum to 0 in every row have a positive cost.
+/// `NoSolution` exactly where nothing solves the program. `Unbounded` exactly where something does, and a ray, which adds
+/// nothing in any row, has a cost above 0.
 pub fn solve<C: Columns>(workspace: &mut Workspace, columns: &mut C) -> Result<Optimal, LpFault>
     requires { workspace.old ≡ (C.program columns.old).rows }
     ensures same { C.program columns.new ≡ C.program columns.old }

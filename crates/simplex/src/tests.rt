@@ -1,18 +1,21 @@
 //! Programs of one row.
 
-ghost use Rattle.simplex.specs.Examples.{one_column, one_column_lawful, opposite, opposite_lawful, two_ways, two_ways_lawful};
+ghost use Rattle.simplex.specs.Examples.{one_column, one_column_lawful, two_ways, two_ways_lawful};
 
 use crate::{Columns, LpFault, Multipliers, Workspace, solve};
 
+/// A row with right side 1, and one column: with entry -1 and cost 0 where `opposite`, or else with entry 1 and cost -3.
 #[derive(Drop)]
-struct OneColumn;
+struct OneColumn {
+    opposite: bool,
+}
 
 impl Columns for OneColumn {
-    ghost program = { λ s. one_column };
+    ghost program = { λ s. one_column s.opposite };
 
     ghost players = { λ s. 1 };
 
-    ghost lawful = { λ s. one_column_lawful };
+    ghost lawful = { λ s. one_column_lawful s.opposite };
 
     fn rows(&self) -> u32 {
         1
@@ -27,53 +30,20 @@ impl Columns for OneColumn {
     }
 
     fn entry(&self, _id: u64, _row: u32) -> i32 {
-        1
+        if self.opposite { -1 } else { 1 }
     }
 
     fn cost(&self, _id: u64) -> i64 {
-        -3
+        if self.opposite { 0 } else { -3 }
     }
 
     fn entering(&mut self, m: &Multipliers, with_costs: bool) -> Option<u64> {
         let value = m.num[0];
+        if self.opposite {
+            return if value > 0 { Some(0) } else { None };
+        }
         let cost = if with_costs { -3 * m.den } else { 0 };
         if value < cost { Some(0) } else { None }
-    }
-}
-
-#[derive(Drop)]
-struct Opposite;
-
-impl Columns for Opposite {
-    ghost program = { λ s. opposite };
-
-    ghost players = { λ s. 1 };
-
-    ghost lawful = { λ s. opposite_lawful };
-
-    fn rows(&self) -> u32 {
-        1
-    }
-
-    fn right(&self, _row: u32) -> i32 {
-        1
-    }
-
-    fn has(&self, id: u64) -> bool {
-        id == 0
-    }
-
-    fn entry(&self, _id: u64, _row: u32) -> i32 {
-        -1
-    }
-
-    fn cost(&self, _id: u64) -> i64 {
-        0
-    }
-
-    fn entering(&mut self, m: &Multipliers, _with_costs: bool) -> Option<u64> {
-        let value = m.num[0];
-        if value > 0 { Some(0) } else { None }
     }
 }
 
@@ -119,7 +89,7 @@ impl Columns for TwoWays {
 
 #[test]
 fn one_weight(rt: HostRuntime) {
-    let mut program = OneColumn;
+    let mut program = OneColumn { opposite: false };
     let Ok(mut work) = Workspace::new(rt.alloc(), 1) else {
         panic!(&rt; "no memory");
     };
@@ -136,7 +106,7 @@ fn one_weight(rt: HostRuntime) {
 
 #[test]
 fn no_solution(rt: HostRuntime) {
-    let mut program = Opposite;
+    let mut program = OneColumn { opposite: true };
     let Ok(mut work) = Workspace::new(rt.alloc(), 1) else {
         panic!(&rt; "no memory");
     };

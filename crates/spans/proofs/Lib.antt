@@ -2,3 +2,4 @@ pub mod Vectors
 pub mod Inside
 pub mod Grown
 pub mod Started
+pub mod Marks

@@ -92,3 +92,41 @@ fn holds_what_a_plain_search_finds(rt: HostRuntime) {
         }
     }
 }
+
+/// The first coalition of 16 players of which the marks and the span say different things.
+fn first_unlike(outside: &Outside, span: &Span) -> Option<Coalition>
+    requires { span.now.players ≡ 16 }
+{
+    for mask in 1..65535 {
+        let s = Coalition(mask);
+        if outside.contains(s) == span.holds(s) {
+            return Some(s);
+        }
+    }
+    None
+}
+
+/// The same, of the span of all of 16 players and three coalitions more.
+fn first_unlike_of(a: Coalition, b: Coalition, c: Coalition) -> Option<Coalition>
+    requires a { a < 65536 }
+    requires b { b < 65536 }
+    requires c { c < 65536 }
+{
+    let mut span = Span::new(16);
+    span.add(a);
+    span.add(b);
+    span.add(c);
+    let mut outside = Outside::all(16);
+    outside.clear(&span);
+    first_unlike(&outside, &span)
+}
+
+#[test]
+fn marks_agree_with_the_span(rt: HostRuntime) {
+    let found = first_unlike_of(Coalition(3), Coalition(700), Coalition(0x8001));
+    assert_eq!(rt; found, None);
+    let found = first_unlike_of(Coalition(4), Coalition(0x8000), Coalition(0x5555));
+    assert_eq!(rt; found, None);
+    assert_eq!(rt; Outside::all(16).contains(Coalition(0)), false);
+    assert_eq!(rt; Outside::all(16).contains(Coalition(65535)), false);
+}

@@ -1,11 +1,8 @@
 -- Casts that lose nothing, and the size of a product.
-use Rattle.std.proofs.Common.{◌≡◌, ◌^◌, ◌<◌, ◌≤◌, ℤ, pos, ◌*ℤ◌, ◌≤ℤ◌, unsigned_abs, to_z, of_z, to_z-of_z, arith, mul-le-mul}
-use Rattle.std.proofs.lemmas.Int.{ints, unsigned_abs-mul, fits_signed_from_abs}
-use mir.Syntax.{w64, w128, Width}
-use mir.Val.{hbits}
-
-pub cast_kept : (w : Width) (z : ℤ) → unsigned_abs z < 2 ^ hbits w → to_z w (of_z w z) ≡ z
-cast_kept w z h = to_z-of_z (fits_signed_from_abs w z h)
+use Rattle.std.proofs.Common.{◌≡◌, ◌^◌, ◌<◌, ◌≤◌, ℤ, pos, ◌*ℤ◌, ◌≤ℤ◌, unsigned_abs, to_z, of_z, arith, mul-le-mul}
+use Rattle.std.proofs.lemmas.Int.{ints, unsigned_abs-mul}
+use mir.Syntax.{w64, w128}
+use Rattle.definitions.proofs.Casts.{cast_kept}
 
 pub product_small : (d v : ℤ) → pos 1 ≤ℤ d → d ≤ℤ pos (2 ^ 63) → unsigned_abs v < 2 ^ 46 → unsigned_abs (d *ℤ v) < 2 ^ 110
 product_small d v low high h =

@@ -1,6 +1,5 @@
 -- Fractions over their least common denominator are shares, or too fine for that.
-use Rattle.std.proofs.Common.{◌≡◌, ℕ, ◌<◌, ◌≤◌, ◌^◌, arith, sym, ap, subst, ◌∙◌, List, [], ◌∷◌, ◌++◌, ◌+◌, length, get_or, take, map, All, ℤ, pos, negsuc, ◌≤ℤ◌, unsigned_abs}
-use Rattle.std.proofs.lemmas.Int.{ints}
+use Rattle.std.proofs.Common.{◌≡◌, ℕ, ◌<◌, ◌≤◌, ◌^◌, arith, sym, ap, subst, ◌∙◌, List, [], ◌∷◌, ◌++◌, ◌+◌, length, get_or, take, map, All, ℤ, pos, ◌≤ℤ◌, unsigned_abs}
 use Rattle.std.proofs.lemmas.List.{length-map, get_or-map, take_more, map-append}
 use Rattle.definitions.specs.Games.{IsShares}
 use Rattle.fractions.specs.Fraction.{Fraction}
@@ -16,10 +15,6 @@ fine_shares fs d zs e some few positive common small = record {
   common = common;
   small = λ i lt. small i (pos 0) lt;
 }
-
-pub too_fine_denominator : (fs : List Fraction) → ((e : ℕ) → IsLeastDenominator fs (pos e) → 2 ^ 63 < e) → AreTooFine fs
-too_fine_denominator fs large (pos e) k shares = let lt = large e k in let le = shares.common in omega (arith, ints)
-too_fine_denominator fs large (negsuc e) k shares = let p = k.positive in omega (arith, ints)
 
 pub too_fine_numerator : (fs : List Fraction) (d : ℤ) (i : ℕ) (f : Fraction) → IsLeastDenominator fs d → i < length fs → f ≡ get_or fs i f → (unsigned_abs (numerator_over d f) < 2 ^ 110 → ⊥) → AreTooFine fs
 too_fine_numerator fs d i f h lt is large e k shares =

@@ -1,5 +1,5 @@
 -- Least common multiples of numbers, and the least common denominator of fractions, one by one.
-use Rattle.std.proofs.Common.{◌≡◌, ℕ, zero, suc, ◌+◌, ◌*◌, ◌/◌, ◌<◌, ◌≤◌, ◌^◌, arith, sym, ap, subst, ◌∙◌, List, length, get_or, take, All, ℤ, pos, ◌≤ℤ◌, unsigned_abs, mul_comm}
+use Rattle.std.proofs.Common.{◌≡◌, ℕ, zero, suc, ◌+◌, ◌*◌, ◌/◌, ◌<◌, ◌≤◌, ◌^◌, arith, sym, ap, subst, ◌∙◌, List, length, get_or, take, All, ℤ, pos, unsigned_abs, mul_comm}
 use Prim.Native.Nat.{◌∣◌}
 use Rattle.std.proofs.lemmas.Int.{ints}
 use Rattle.std.proofs.lemmas.Nat.Gcd.{dvd_trans, dvd_antisymm, le_of_dvd}
@@ -11,6 +11,7 @@ use Rattle.fractions.specs.Fraction.{Fraction, IsReduced}
 use Rattle.fractions.proofs.Divisors.{gcd_is, gcd-mul, gcd_swap, gcd_positive, divides_other, left_quotient, right_quotient}
 use Rattle.worth_core.specs.Multiples.{IsLeastMultiple}
 use Rattle.worth_core.specs.LeastDenominators.{IsWholeTimes, IsLeastDenominator}
+use Rattle.fractions.proofs.Ratios.{size_of}
 
 -- ---- the least common multiple of two numbers
 
@@ -75,7 +76,7 @@ pub record IsFrontDenominator (fs : List Fraction) (i d : ℕ) : Type 0 where
 whole_multiple : (f : Fraction) (d m : ℕ) → d ∣ m → IsWholeTimes d f → IsWholeTimes m f
 whole_multiple f d m h w = dvd_trans (unsigned_abs f.den) w (mul-dvd-mul_right d h (unsigned_abs f.num))
 
-all_multiple : (fs : List Fraction) (d m : ℕ) → d ∣ m → All (IsWholeTimes d) fs → All (IsWholeTimes m) fs
+pub all_multiple : (fs : List Fraction) (d m : ℕ) → d ∣ m → All (IsWholeTimes d) fs → All (IsWholeTimes m) fs
 all_multiple fs d m h w = λ k f lt. whole_multiple (get_or fs k f) d m h (w k f lt)
 
 -- in lowest terms, the denominator divides
@@ -117,7 +118,4 @@ front_too_large fs i d e b f lt is r h eb pb large k =
 
 -- there is one
 pub one_denominator : (fs : List Fraction) (d e : ℤ) → IsLeastDenominator fs d → IsLeastDenominator fs e → d ≡ e
-one_denominator fs d e h k = size d h.positive ∙ ap pos (dvd_antisymm (h.least (unsigned_abs e) k.common) (k.least (unsigned_abs d) h.common)) ∙ sym (size e k.positive)
-  where
-    size : (d : ℤ) → pos 1 ≤ℤ d → d ≡ pos (unsigned_abs d)
-    size d h = omega (arith, ints)
+one_denominator fs d e h k = size_of d h.positive ∙ ap pos (dvd_antisymm (h.least (unsigned_abs e) k.common) (k.least (unsigned_abs d) h.common)) ∙ sym (size_of e k.positive)

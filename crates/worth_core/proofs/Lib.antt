@@ -1,6 +1,8 @@
 pub mod Casts
 pub mod Scan
 pub mod SplitScan
+pub mod TopScan
+pub mod DividedNumbers
 pub mod SeenSets
 pub mod SplitSteps
 pub mod SmallSums

@@ -1,21 +1,19 @@
 -- What a scan over the masks in ascending order knows of the masks behind it.
-use Rattle.std.proofs.Common.{◌≡◌, ◌⊎◌, ℕ, ◌+◌, ◌^◌, ◌<◌, ℤ, pos, ◌-ℤ◌, ◌*ℤ◌, ◌<ℤ◌, ◌≤ℤ◌, Option, Some, None, MatchOption, arith, sym, ap, ◌∙◌, inl, inr, subst, to_z, of_z}
+use Rattle.std.proofs.Common.{◌≡◌, ℕ, ◌+◌, ◌^◌, ◌<◌, ℤ, pos, ◌-ℤ◌, ◌*ℤ◌, ◌<ℤ◌, ◌≤ℤ◌, Option, Some, None, MatchOption, arith, sym, ap, ◌∙◌, inl, inr, subst, to_z, of_z}
 use mir.Syntax.{w64}
 use Rattle.std.proofs.lemmas.Int.{ints, by_lt_z}
 use Rattle.definitions.specs.Games.{Game, Allocation, amount, excess, IsGame, Blocks, IsChosenBlocker}
-use Rattle.worth_core.proofs.Casts.{cast_kept}
+use Rattle.definitions.proofs.Cases.{less_or_last_of}
+use Rattle.definitions.proofs.Casts.{cast_kept}
 
 -- best is the chosen one among the masks below m, and most its excess, 0 where there is none
 pub record IsBestBelow (g : Game) (x : Allocation) (m : ℕ) (best : Option ℕ) (most : ℤ) : Type 0 where
   pub some : MatchOption best (most ≡ pos 0) (λ b. (b < m) × (most ≡ excess g x b) × (pos 0 <ℤ most) × ((t : ℕ) → t < b → excess g x t <ℤ most))
   pub all : (t : ℕ) → t < m → excess g x t ≤ℤ most
 
-last_or_less : (t m : ℕ) → t < m + 1 → (t < m) ⊎ (t ≡ m)
-last_or_less t m k = grind arith
-
 all_next : (g : Game) (x : Allocation) (m : ℕ) (most : ℤ) → ((t : ℕ) → t < m → excess g x t ≤ℤ most) → excess g x m ≤ℤ most → (t : ℕ) → t < m + 1 → excess g x t ≤ℤ most
 all_next g x m most h here t k =
-    elim (last_or_less t m k) [ inl less ↦ h t less | inr same ↦ subst (λ (u : ℕ). excess g x u ≤ℤ most) (sym same) here ]
+    elim (less_or_last_of t m k) [ inl less ↦ h t less | inr same ↦ subst (λ (u : ℕ). excess g x u ≤ℤ most) (sym same) here ]
 
 kept : (g : Game) (x : Allocation) (m : ℕ) (best : Option ℕ) (most : ℤ) → IsBestBelow g x m best most → excess g x m ≤ℤ most → IsBestBelow g x (m + 1) best most
 kept g x m None most h le = record { some = h.some; all = all_next g x m most h.all le }

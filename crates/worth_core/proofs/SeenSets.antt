@@ -5,9 +5,11 @@ use Rattle.std.proofs.lemmas.Bool.Decides.{nat_tests}
 use Rattle.std.proofs.lemmas.Nat.Bits.{bit_at-suc, bit_at_lowest}
 use Rattle.std.proofs.Math.Nat.{pow-suc, mul_comm}
 use Rattle.std.specs.Int.{bit_at}
-use Rattle.definitions.proofs.Parts.{same_or_other, has_player-more_same, has_player-more_other, more-lt}
+use Rattle.definitions.proofs.Parts.{has_player-more_same, has_player-more_other, more-lt}
 use Rattle.definitions.specs.Coalitions.{has_player, some_below}
 use Rattle.worth_core.specs.SplitKinds.{holds_some, lacks_some, IsSeenSet}
+use Rattle.definitions.proofs.Cases.{or_false, less_or_last, same_or_other}
+use Rattle.definitions.proofs.Splits.{some_below-same}
 
 -- ---- a set with a player is a set without it, and that player
 
@@ -45,30 +47,17 @@ or_last = elim [
 or_inner : (x s b : Bool) → (x || (s || b)) ≡ ((x || s) || b)
 or_inner = elim [ true ↦ λ s b. refl | false ↦ λ s b. refl ]
 
-or_false : (x : Bool) → (x || false) ≡ x
-or_false = elim [ true ↦ refl | false ↦ refl ]
-
-last_or_less : (k n : ℕ) → k < suc n → (k < n) ⊎ (k ≡ n)
-last_or_less k n h = grind arith
-
-some_below-same : (n : ℕ) (p q : ℕ → Bool) → ((j : ℕ) → j < n → q j ≡ p j) → some_below n q ≡ some_below n p
-some_below-same zero p q h = refl
-some_below-same (suc n) p q h =
-    let ih = some_below-same n p q (λ j k. h j (omega arith)) in
-    let here = h n (omega arith) in
-    cc
-
 -- where the tests differ at i alone
 some_below-more : (n i : ℕ) (p q : ℕ → Bool) (b : Bool) → i < n → ((j : ℕ) → j ≢ i → q j ≡ p j) → q i ≡ (p i || b) → some_below n q ≡ (some_below n p || b)
 some_below-more zero i p q b lt h here = absurd (omega arith)
-some_below-more (suc n) i p q b lt h here = elim (last_or_less i n lt) [
+some_below-more (suc n) i p q b lt h here = elim (less_or_last i n lt) [
   | inl less ↦
       let ih = some_below-more n i p q b less h here in
       let top : q n ≡ p n = h n (λ e. omega arith) in
       let law = or_inner (p n) (some_below n p) b in
       cc
   | inr same ↦
-      let low = some_below-same n p q (λ j k. h j (λ e. omega arith)) in
+      let low = some_below-same n q p (λ j k. h j (λ e. omega arith)) in
       let top : q n ≡ (p n || b) = subst (λ (k : ℕ). q k ≡ (p k || b)) same here in
       let law = or_last (p n) (some_below n p) b in
       cc

@@ -5,8 +5,10 @@ use Rattle.std.proofs.lemmas.Bool.{false≢true}
 use Rattle.std.proofs.Math.Pow.{pow-lt}
 use Rattle.definitions.specs.Coalitions.{has_player, singleton, some_below, splits}
 use Rattle.definitions.specs.Games.{Game, Allocation, excess, IsSplitMaximum, HasTwo}
-use Rattle.definitions.proofs.Members.{has_player-singleton, has_player-singleton_other}
+use Rattle.definitions.proofs.Members.{has_player-empty}
 use Rattle.worth_core.specs.Greatest.{max_so_far}
+use Rattle.definitions.proofs.Cases.{less_or_last, less_or_last_of, or_true}
+use Rattle.definitions.proofs.Splits.{splits-singleton}
 
 abbrev pub is_split : Game → ℕ → ℕ → Bool
 is_split g f t = splits g.players (has_player f) t
@@ -15,35 +17,30 @@ is_split g f t = splits g.players (has_player f) t
 pub record IsGreatestBelow (g : Game) (x : Allocation) (f m : ℕ) (most : Option ℤ) : Type 0 where
   pub found : MatchOption most ((t : ℕ) → t < m → is_split g f t ≡ false) (λ e. ((t : ℕ) × (t < m) × (is_split g f t ≡ true) × (e ≡ excess g x t)) × ((t : ℕ) → t < m → is_split g f t ≡ true → excess g x t ≤ℤ e))
 
-last_or_less : (k n : ℕ) → k < suc n → (k < n) ⊎ (k ≡ n)
-last_or_less k n h = grind arith
-
-last : (t m : ℕ) → t < m + 1 → (t < m) ⊎ (t ≡ m)
-last t m k = grind arith
-
-or_true : (a : Bool) → (a || true) ≡ true
-or_true true = refl
-or_true false = refl
-
-some_below-at : (n i : ℕ) (test : ℕ → Bool) → i < n → test i ≡ true → some_below n test ≡ true
-some_below-at zero i test lt h = absurd (omega arith)
-some_below-at (suc n) i test lt h = elim (last_or_less i n lt) [
-  | inl less ↦ rw (some_below-at n i test less h) (or_true (test n))
-  | inr same ↦ rw (sym same) (rw h refl)
-]
-
 pub is_split-singleton : (g : Game) (f i j : ℕ) → i < j → j < g.players → IsTrue (has_player f i) → IsTrue (has_player f j) → is_split g f (singleton i) ≡ true
-is_split-singleton g f i j lt within hi hj =
-    let has = some_below-at g.players i (λ k. has_player f k && has_player (singleton i) k) (omega arith) (rw (hi, has_player-singleton i) refl) in
-    let lacks = some_below-at g.players j (λ k. has_player f k && not (has_player (singleton i) k)) within (rw (hj, has_player-singleton_other i j (λ e. omega arith)) refl) in
-    rw (has, lacks) refl
+is_split-singleton g f i j lt within hi hj = splits-singleton g.players f i j lt within hi hj
+
+-- the empty coalition doesn't split
+none_below : (n : ℕ) (test : ℕ → Bool) → ((i : ℕ) → test i ≡ false) → some_below n test ≡ false
+none_below zero test h = refl
+none_below (suc n) test h = rw (h n) (none_below n test h)
+
+pub is_split-empty : (g : Game) (f : ℕ) → is_split g f 0 ≡ true → ⊥
+is_split-empty g f e = false≢true (sym none ∙ e)
+  where
+    and_false : (a b : Bool) → b ≡ false → (a && b) ≡ false
+    and_false true b h = h
+    and_false false b h = refl
+
+    none : is_split g f 0 ≡ false
+    none = rw (none_below g.players (λ i. has_player f i && has_player 0 i) (λ i. and_false (has_player f i) (has_player 0 i) (has_player-empty i))) refl
 
 -- a step of the scan to a mask that doesn't split
 pub IsGreatestBelow-kept : (g : Game) (x : Allocation) (f m : ℕ) (most : Option ℤ) → IsGreatestBelow g x f m most → is_split g f m ≡ false → IsGreatestBelow g x f (m + 1) most
 IsGreatestBelow-kept g x f m None h whole =
-    record { found = λ t k. elim (last t m k) [ inl less ↦ h.found t less | inr same ↦ ap (is_split g f) same ∙ whole ] }
+    record { found = λ t k. elim (less_or_last_of t m k) [ inl less ↦ h.found t less | inr same ↦ ap (is_split g f) same ∙ whole ] }
 IsGreatestBelow-kept g x f m (Some e) h whole = record {
-  found = ((h.found.0.0, omega (arith, h.found.0.1), h.found.0.2, h.found.0.3), λ t k cut. elim (last t m k) [ inl less ↦ h.found.1 t less cut | inr same ↦ absurd (false≢true (sym whole ∙ sym (ap (is_split g f) same) ∙ cut)) ]);
+  found = ((h.found.0.0, omega (arith, h.found.0.1), h.found.0.2, h.found.0.3), λ t k cut. elim (less_or_last_of t m k) [ inl less ↦ h.found.1 t less cut | inr same ↦ absurd (false≢true (sym whole ∙ sym (ap (is_split g f) same) ∙ cut)) ]);
 }
 
 at_top : (g : Game) (x : Allocation) (m t : ℕ) (e : ℤ) → e ≡ excess g x m → t ≡ m → excess g x t ≤ℤ e
@@ -52,12 +49,12 @@ at_top g x m t e same here = let k = ap (excess g x) here in omega (arith, ints,
 -- and to one that does
 pub IsGreatestBelow-more : (g : Game) (x : Allocation) (f m : ℕ) (most : Option ℤ) (e : ℤ) → IsGreatestBelow g x f m most → is_split g f m ≡ true → e ≡ excess g x m → IsGreatestBelow g x f (m + 1) (Some (max_so_far most e))
 IsGreatestBelow-more g x f m None e h cut same = record {
-  found = ((m, omega arith, cut, same), λ t k too. elim (last t m k) [ inl less ↦ absurd (false≢true (sym (h.found t less) ∙ too)) | inr here ↦ at_top g x m t e same here ]);
+  found = ((m, omega arith, cut, same), λ t k too. elim (less_or_last_of t m k) [ inl less ↦ absurd (false≢true (sym (h.found t less) ∙ too)) | inr here ↦ at_top g x m t e same here ]);
 }
 IsGreatestBelow-more g x f m (Some e') e h cut same = record { found = pick (int_lt e' e) refl }
   where
     bound : (b : ℤ) → e' ≤ℤ b → e ≤ℤ b → (t : ℕ) → t < m + 1 → is_split g f t ≡ true → excess g x t ≤ℤ b
-    bound b old new t k too = elim (last t m k) [
+    bound b old new t k too = elim (less_or_last_of t m k) [
       | inl less ↦ let low = h.found.1 t less too in omega (arith, ints, low)
       | inr here ↦ let low = at_top g x m t e same here in omega (arith, ints, low)
     ]

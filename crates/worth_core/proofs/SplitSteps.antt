@@ -1,15 +1,15 @@
 -- The greatest sums over the sets of seen players of a kind, with one more player seen.
-use Rattle.std.proofs.Common.{◌≡◌, ◌⊎◌, ℕ, zero, suc, ◌+◌, ◌^◌, ◌<◌, Bool, true, false, cond, not, ◌&&◌, ◌||◌, ℤ, pos, ◌+ℤ◌, ◌≤ℤ◌, int_lt, Option, None, Some, MatchOption, refl, sym, ap, subst, ◌∙◌, inl, inr, arith, if◌then◌else◌}
+use Rattle.std.proofs.Common.{◌≡◌, ◌⊎◌, ℕ, zero, suc, ◌+◌, ◌^◌, ◌<◌, Bool, true, false, not, ◌&&◌, ◌||◌, ℤ, pos, ◌+ℤ◌, ◌≤ℤ◌, Option, None, Some, MatchOption, refl, sym, ap, subst, ◌∙◌, inl, inr, arith, if◌then◌else◌}
 use Rattle.std.proofs.lemmas.Bool.{false≢true}
 use Rattle.std.proofs.lemmas.Int.{ints}
 use Rattle.std.proofs.Math.Pow.{pow_pos}
-use Rattle.std.specs.Int.{int_max}
 use Rattle.definitions.proofs.Members.{has_player-empty, sum_below-zero}
 use Rattle.definitions.proofs.Parts.{sum_over-more}
 use Rattle.definitions.specs.Coalitions.{has_player, some_below, sum_over}
 use Rattle.definitions.specs.Sums.{IsGreatest}
 use Rattle.worth_core.specs.SplitKinds.{holds_some, lacks_some, IsSeenSet, IsGreatestSum, Sums, AreSplitSums, greater_sum, longer_sum}
 use Rattle.worth_core.proofs.SeenSets.{IsSeenSet-without, IsSeenSet-with, IsSeenSet-cases, IsSeenSet-lacks}
+use Rattle.definitions.proofs.Cases.{int_max-cases, or_cases, or_true, or_false, and_false}
 
 -- ---- greatest numbers over sets of any kind
 
@@ -21,14 +21,6 @@ IsGreatestOf P v x = MatchOption x ((s : ℕ) → ¬ P s) (λ m. IsGreatest P v 
 abbrev IsUnion : (ℕ → Type 0) → (ℕ → Type 0) → (ℕ → Type 0) → Type 0
 IsUnion P Q R = ((s : ℕ) → R s → P s ⊎ Q s) × ((s : ℕ) → P s → R s) × ((s : ℕ) → Q s → R s)
 
-max-cases : (a b : ℤ) → ((int_max a b ≡ a) × (b ≤ℤ a)) ⊎ ((int_max a b ≡ b) × (a ≤ℤ b))
-max-cases a b =
-    let step : (t : Bool) → int_lt b a ≡ t → ((cond t a b ≡ a) × (b ≤ℤ a)) ⊎ ((cond t a b ≡ b) × (a ≤ℤ b)) = elim [
-      | true ↦ λ e. inl (refl, omega (arith, ints))
-      | false ↦ λ e. inr (refl, omega (arith, ints))
-    ] in
-    step (int_lt b a) refl
-
 le_trans : (a b c : ℤ) → a ≤ℤ b → b ≤ℤ c → a ≤ℤ c
 le_trans a b c h k = omega (arith, ints)
 
@@ -38,7 +30,7 @@ joined P Q R v None (Some k) hx hy u =
     ((hy.0.0, u.2 hy.0.0 hy.0.1, hy.0.2), λ s r. elim (u.0 s r) [ inl p ↦ absurd (hx s p) | inr q ↦ hy.1 s q ])
 joined P Q R v (Some m) None hx hy u =
     ((hx.0.0, u.1 hx.0.0 hx.0.1, hx.0.2), λ s r. elim (u.0 s r) [ inl p ↦ hx.1 s p | inr q ↦ absurd (hy s q) ])
-joined P Q R v (Some m) (Some k) hx hy u = elim (max-cases m k) [
+joined P Q R v (Some m) (Some k) hx hy u = elim (int_max-cases m k) [
   | inl (e, le) ↦ rw e ((hx.0.0, u.1 hx.0.0 hx.0.1, hx.0.2), λ s r. elim (u.0 s r) [ inl p ↦ hx.1 s p | inr q ↦ le_trans (v s) k m (hy.1 s q) le ])
   | inr (e, le) ↦ rw e ((hy.0.0, u.2 hy.0.0 hy.0.1, hy.0.2), λ s r. elim (u.0 s r) [ inl p ↦ le_trans (v s) m k (hx.1 s p) le | inr q ↦ hy.1 s q ])
 ]
@@ -83,16 +75,10 @@ one_more_of n i a f seen b w test x y lt new is number =
 both_kinds : (n : ℕ) (a : ℕ → ℤ) (f seen : ℕ) (p q r : Test) (x y : Option ℤ) → ((h l : Bool) → r h l ≡ (p h l || q h l)) → IsGreatestSum n a f seen p x → IsGreatestSum n a f seen q y → IsGreatestSum n a f seen r (greater_sum x y)
 both_kinds n a f seen p q r x y same hx hy =
     joined (IsSeenSet n f seen p) (IsSeenSet n f seen q) (IsSeenSet n f seen r) (sum_over n a) x y hx hy (
-      λ s k. elim (either _ _ (sym (same (holds_some n f s) (lacks_some n f seen s)) ∙ k.2)) [ inl one ↦ inl (k.0, k.1, one) | inr other ↦ inr (k.0, k.1, other) ],
+      λ s k. elim (or_cases _ _ (sym (same (holds_some n f s) (lacks_some n f seen s)) ∙ k.2)) [ inl one ↦ inl (k.0, k.1, one) | inr other ↦ inr (k.0, k.1, other) ],
       λ s k. (k.0, k.1, same (holds_some n f s) (lacks_some n f seen s) ∙ ap (λ (b : Bool). b || q (holds_some n f s) (lacks_some n f seen s)) k.2),
       λ s k. (k.0, k.1, same (holds_some n f s) (lacks_some n f seen s) ∙ ap (λ (b : Bool). p (holds_some n f s) (lacks_some n f seen s) || b) k.2 ∙ or_true (p (holds_some n f s) (lacks_some n f seen s))),
     )
-  where
-    either : (c d : Bool) → (c || d) ≡ true → (c ≡ true) ⊎ (d ≡ true)
-    either = elim [ true ↦ λ d e. inl refl | false ↦ λ d e. inr e ]
-
-    or_true : (c : Bool) → (c || true) ≡ true
-    or_true = elim [ true ↦ refl | false ↦ refl ]
 
 -- a test that passes at the same answers
 same_kind : (n : ℕ) (a : ℕ → ℤ) (f seen : ℕ) (p r : Test) (x : Option ℤ) → ((h l : Bool) → r h l ≡ p h l) → IsGreatestSum n a f seen p x → IsGreatestSum n a f seen r x
@@ -106,9 +92,6 @@ no_kind n a f seen p never = λ s k. false≢true (sym (never (holds_some n f s)
 
 holds_one : (h l : Bool) → (h && (l || true)) ≡ ((h && not l) || (h && l))
 holds_one = elim [ true ↦ elim [ true ↦ refl | false ↦ refl ] | false ↦ λ l. refl ]
-
-or_false : (b : Bool) → (b || false) ≡ b
-or_false = elim [ true ↦ refl | false ↦ refl ]
 
 -- ---- the steps
 
@@ -127,9 +110,6 @@ AreSplitSums-new n a f = record {
     none_below : (n : ℕ) (test : ℕ → Bool) → ((i : ℕ) → test i ≡ false) → some_below n test ≡ false
     none_below zero test h = refl
     none_below (suc n) test h = rw (h n) (none_below n test h)
-
-    and_false : (b : Bool) → (b && false) ≡ false
-    and_false = elim [ true ↦ refl | false ↦ refl ]
 
     holds_nobody : (s : ℕ) → ((i : ℕ) → has_player s i ≡ false) → holds_some n f s ≡ false
     holds_nobody s h = none_below n (λ i. has_player f i && has_player s i) (λ i. rw (h i) (and_false (has_player f i)))

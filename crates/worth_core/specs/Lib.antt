@@ -3,3 +3,4 @@ pub mod Greatest
 pub mod SplitKinds
 pub mod Multiples
 pub mod LeastDenominators
+pub mod Measured

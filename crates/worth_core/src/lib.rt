@@ -2,6 +2,8 @@
 #![tactic(auto)]
 
 mod best;
+mod measured;
+mod ratios;
 mod shares;
 mod split_sums;
 mod splitting;
@@ -9,9 +11,15 @@ mod splitting;
 mod tests;
 mod worth;
 
+pub use definitions::{Family, Measure};
+pub use measured::{Divisor, measured_bound};
+pub use shares::{Shares, SharesFault};
+pub use worth::{Worth, scaled_excess};
+
+// For the crates above.
 pub use best::Best;
-pub use definitions::Family;
-pub use shares::{Shares, SharesFault, scaled};
+pub use measured::{Divided, is_more, kept_or_new};
+pub use ratios::ratio;
+pub use shares::scaled;
 pub use split_sums::SplitSums;
 pub use splitting::raised;
-pub use worth::{Worth, scaled_excess};

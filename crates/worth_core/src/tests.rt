@@ -1,9 +1,10 @@
 //! The limits of shares, and the blockers of small games.
 ghost use Rattle.std.specs.Prelude.{◌≡◌, ℕ, ◌^◌, ◌<◌, length, pos, false, MatchOption, slice_index_or, if◌then◌else◌};
-ghost use Rattle.definitions.specs.Games.{Blocks, IsChosenBlocker, IsSplitMaximum, HasTwo, excess};
+ghost use Rattle.definitions.specs.Games.{Blocks, IsChosenBlocker, IsSplitMaximum, HasTwo};
 
 use super::*;
 use coalitions::Coalition;
+use fractions::Frac;
 use std::test::Fail;
 
 /// Three players, of whom some coalitions win 1 together and the others nothing.
@@ -87,6 +88,32 @@ fn split_bounds_pass_over_sets_that_hold_all_or_none(rt: HostRuntime) -> Result<
         assert_eq!(rt; split_bound_of(&unanimity, &x, Coalition(7)), in_unanimity);
         assert_eq!(rt; scaled_excess(&majority, &x, Coalition(3)), of_pair);
     }
+    Ok(())
+}
+
+#[test]
+fn bounds_per_head_divide_by_the_members(rt: HostRuntime) -> Result<(), Fail> {
+    let majority = SimpleGame {
+        wins: [false, false, false, true, false, true, true, true],
+    };
+    for (num, den, plain, by_head) in [
+        ([1, 1, 1], 3, (1, 3), (1, 6)),
+        ([0, 0, -5], 2, (7, 2), (5, 2)),
+    ] {
+        let x = Shares::new(num.to_vec(rt.alloc())?, den).ok_or("not shares")?;
+        assert_eq!(rt; x.players(), 3);
+        let all = Coalition(7);
+        assert_eq!(rt;
+            Some(measured_bound(&majority, &x, all, Measure::Plain)),
+            Frac::new(plain.0, plain.1)
+        );
+        assert_eq!(rt;
+            Some(measured_bound(&majority, &x, all, Measure::PerHead)),
+            Frac::new(by_head.0, by_head.1)
+        );
+    }
+    assert_eq!(rt; Measure::Plain.divisor(Coalition(6)), 1);
+    assert_eq!(rt; Measure::PerHead.divisor(Coalition(6)), 2);
     Ok(())
 }
 

@@ -63,6 +63,6 @@ pub fn scaled_excess<W: Worth>(game: &W, x: &Shares, s: Coalition) -> i128
     requires within { s < 2 ^ (W.game game.now).players }
     ensures { result ≡ excess (W.game game.now) x.now s }
 {
-    game.players();
+    game.players(); // Brings the laws of the game.
     x.excess_over(game.worth(s), s)
 }

@@ -36,7 +36,7 @@ impl<W: Worth> Worth for CostGame<W> {
     }
 
     fn worth(&self, s: Coalition) -> i64 {
-        self.inner.players();
+        self.inner.players(); // Brings the laws of the game.
         -self.inner.worth(s)
     }
 }

@@ -18,15 +18,15 @@ use std::alloc::Global;
 /// Why fractions aren't shares.
 #[derive(Clone, Copy, Debug, PartialEq, Eq)]
 pub enum SharesFault {
-    /// Their least common denominator is above 2^63, or a numerator over it reaches 2^110 in size.
+    /// Over their least common denominator a limit of `Shares` fails.
     TooFine,
     /// Memory was not found.
     Memory,
 }
 
 impl Shares {
-    /// The fractions over their least common denominator. `TooFine` exactly where that denominator is above 2^63 or a
-    /// numerator over it reaches 2^110 in size.
+    /// The fractions over their least common denominator. `TooFine` exactly where it is more than 2^63, or where some
+    /// numerator over it isn't below 2^110 in size.
     pub fn from_fracs(alloc: Global, shares: &[Frac]) -> Result<Shares, SharesFault>
         requires some { 1 ≤ length shares.now }
         requires few { length shares.now ≤ 64 }

@@ -1,7 +1,7 @@
 use Rattle.std.proofs.Common.{rules, FitsSigned}
 use mir.Syntax.{w128}
 use Rattle.std.proofs.lemmas.Int.{to_z-of_z}
-use Rattle.fractions.specs.Matrix.{weight_at}
+use Rattle.determinants.specs.Matrix.{weight_at}
 use Rattle.simplex.proofs.answer.answer_of.Goals as goal
 
 pub share-requires-clause-divides : goal.share-requires-clause-divides

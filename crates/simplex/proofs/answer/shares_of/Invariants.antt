@@ -1,5 +1,5 @@
 use Rattle.std.proofs.Common.{◌≡◌, ◌<◌, ℕ, length, ◌*ℤ◌}
-use Rattle.fractions.specs.Matrix.{entry_at, weight_at}
+use Rattle.determinants.specs.Matrix.{entry_at, weight_at}
 use Rattle.simplex.proofs.answer.shares_of.Given as goal
 
 abbrev pub invariant-loop-k : goal.invariant-loop-k

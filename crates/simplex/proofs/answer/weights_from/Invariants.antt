@@ -1,5 +1,5 @@
 use Rattle.std.proofs.Common.{◌≡◌, ◌≤◌, length}
-use Rattle.fractions.specs.Matrix.{weight_at}
+use Rattle.determinants.specs.Matrix.{weight_at}
 use Rattle.simplex.specs.Reduced.{listed}
 use Rattle.simplex.proofs.answer.weights_from.Given as goal
 

@@ -1,5 +1,5 @@
 use Rattle.std.proofs.Common.{◌≡◌, ℕ, ◌<◌, length}
-use Rattle.fractions.specs.Matrix.{weight_at}
+use Rattle.determinants.specs.Matrix.{weight_at}
 use Rattle.simplex.specs.Program.{column}
 use Rattle.simplex.proofs.columns.load_column.Given as goal
 

@@ -1,9 +1,11 @@
 use Rattle.std.proofs.Common.{rules, [], ◌≡◌, length, ◌∙◌, FitsSigned}
 use mir.Syntax.{w128}
 use Rattle.std.proofs.lemmas.Int.{to_z-of_z}
-use Rattle.simplex.proofs.Steps.{Step}
+use Rattle.simplex.specs.Improving.{AreMultipliers}
 use Rattle.simplex.proofs.Minors.{tame_of}
 use Rattle.simplex.proofs.Steps
+use Rattle.simplex.proofs.improve.improve.Given.{Over}
+use Rattle.simplex.proofs.improve.improve.Goals.{After-multipliers_of-m, In-Some-least_ratio}
 use Rattle.simplex.proofs.improve.improve.Goals as goal
 
 pub multipliers_of-m-requires-clause-small : goal.multipliers_of-m-requires-clause-small
@@ -32,35 +34,35 @@ least_ratio-requires-clause-small g c =
     let w = c.loop-id.work in
     Steps.tracked_small (g.C.Columns.program c.loop-id.columns) c.args.with_costs w.rows w.ids w.inverse w.tracked w.den w.costs (tame_of (g.C.Columns.program c.loop-id.columns) (g.met.C.Columns.lawful c.loop-id.columns)) c.loop-id.invariant.state
 
+multipliers : (g : Over) (c : After-multipliers_of-m g) → AreMultipliers c.loop-id.work.inverse c.loop-id.work.costs c.loop-id.work.rows c.loop-id.work.den c.multipliers_of-m.result.num.items c.multipliers_of-m.result.den
+multipliers g c =
+    let fd : FitsSigned w128 c.loop-id.work.den = search rules in
+    simp to_z-of_z at c.multipliers_of-m.ensures
+
 pub weights_of-weights-requires-clause-column_small : goal.weights_of-weights-requires-clause-column_small
 weights_of-weights-requires-clause-column_small g c =
     let w = c.loop-id.work in
-    let fd : FitsSigned w128 w.den = search rules in
     let m = c.multipliers_of-m.result in
-    let are = simp to_z-of_z at c.multipliers_of-m.ensures in
     let enter = c.in-Some.ensures {u = tt} in
-    Steps.loaded_small (g.C.Columns.program c.loop-id.columns) (g.C.Columns.program c.entering.new.self) c.args.with_costs w.rows w.ids w.inverse w.tracked w.den w.costs c.load_column-column.result [] m.num.items m.den c.in-Some.id enter.same (tame_of (g.C.Columns.program c.entering.new.self) (g.met.C.Columns.lawful c.entering.new.self)) c.loop-id.invariant.state are enter.answer c.load_column-column.ensures
+    Steps.loaded_small (g.C.Columns.program c.loop-id.columns) (g.C.Columns.program c.entering.new.self) c.args.with_costs w.rows w.ids w.inverse w.tracked w.den w.costs c.load_column-column.result [] m.num.items m.den c.in-Some.id enter.same (tame_of (g.C.Columns.program c.entering.new.self) (g.met.C.Columns.lawful c.entering.new.self)) c.loop-id.invariant.state (multipliers g (goal.at.weights_of-weights-requires-clause-column_small g c).After-multipliers_of-m) enter.answer c.load_column-column.ensures
 
 pub least_ratio-requires-clause-weights_small : goal.least_ratio-requires-clause-weights_small
 least_ratio-requires-clause-weights_small g c =
     let w = c.loop-id.work in
-    let fd : FitsSigned w128 w.den = search rules in
     let m = c.multipliers_of-m.result in
-    let are = simp to_z-of_z at c.multipliers_of-m.ensures in
     let enter = c.in-Some.ensures {u = tt} in
-    Steps.ratio_small (g.C.Columns.program c.loop-id.columns) (g.C.Columns.program c.entering.new.self) c.args.with_costs w.rows w.ids w.inverse w.tracked w.den w.costs c.load_column-column.result c.weights_of-weights.result m.num.items m.den c.in-Some.id enter.same (tame_of (g.C.Columns.program c.entering.new.self) (g.met.C.Columns.lawful c.entering.new.self)) c.loop-id.invariant.state are enter.answer c.load_column-column.ensures c.weights_of-weights.ensures
+    Steps.ratio_small (g.C.Columns.program c.loop-id.columns) (g.C.Columns.program c.entering.new.self) c.args.with_costs w.rows w.ids w.inverse w.tracked w.den w.costs c.load_column-column.result c.weights_of-weights.result m.num.items m.den c.in-Some.id enter.same (tame_of (g.C.Columns.program c.entering.new.self) (g.met.C.Columns.lawful c.entering.new.self)) c.loop-id.invariant.state (multipliers g (goal.at.least_ratio-requires-clause-weights_small g c).After-multipliers_of-m) enter.answer c.load_column-column.ensures c.weights_of-weights.ensures
 
 pub returns-in_default-least_ratio-clause-answer : goal.returns-in_default-least_ratio-clause-answer
 returns-in_default-least_ratio-clause-answer g c =
     let w = c.loop-id.work in
-    let fd : FitsSigned w128 w.den = search rules in
     let m = c.multipliers_of-m.result in
-    let are = simp to_z-of_z at c.multipliers_of-m.ensures in
     let enter = c.in-Some.ensures {u = tt} in
-    Steps.endless (g.C.Columns.program c.loop-id.columns) (g.C.Columns.program c.entering.new.self) c.args.with_costs w.rows w.ids w.inverse w.tracked w.den w.costs c.load_column-column.result c.weights_of-weights.result m.num.items m.den c.in-Some.id enter.same (tame_of (g.C.Columns.program c.entering.new.self) (g.met.C.Columns.lawful c.entering.new.self)) c.loop-id.invariant.state are enter.answer c.load_column-column.ensures c.weights_of-weights.ensures (c.in_default-least_ratio.ensures {u = tt})
+    Steps.endless (g.C.Columns.program c.loop-id.columns) (g.C.Columns.program c.entering.new.self) c.args.with_costs w.rows w.ids w.inverse w.tracked w.den w.costs c.load_column-column.result c.weights_of-weights.result m.num.items m.den c.in-Some.id enter.same (tame_of (g.C.Columns.program c.entering.new.self) (g.met.C.Columns.lawful c.entering.new.self)) c.loop-id.invariant.state (multipliers g (goal.at.returns-in_default-least_ratio-clause-answer g c).After-multipliers_of-m) enter.answer c.load_column-column.ensures c.weights_of-weights.ensures (c.in_default-least_ratio.ensures {u = tt})
 
-pub replace-requires-clause-can : goal.replace-requires-clause-can
-replace-requires-clause-can g c =
+-- the facts of a step
+step : (g : Over) (c : In-Some-least_ratio g) → let w = c.loop-id.work in Steps.Step (g.C.Columns.program c.entering.new.self) c.args.with_costs w.rows w.ids w.inverse w.tracked w.den w.costs c.weights_of-weights.result c.in-Some.id c.in-Some-least_ratio.p
+step g c =
     let w = c.loop-id.work in
     let fd : FitsSigned w128 w.den = search rules in
     let m = c.multipliers_of-m.result in
@@ -69,33 +71,27 @@ replace-requires-clause-can g c =
     let len_ids : length w.ids ≡ 32 = w.ids_count in
     let len_costs : length w.costs ≡ 32 = w.costs_count in
     let p = c.in-Some-least_ratio.p in
-    let s = Steps.step_of (g.C.Columns.program c.loop-id.columns) (g.C.Columns.program c.entering.new.self) c.args.with_costs w.rows w.ids w.inverse w.tracked w.den w.costs c.load_column-column.result c.weights_of-weights.result m.num.items m.den c.in-Some.id enter.same (tame_of (g.C.Columns.program c.entering.new.self) (g.met.C.Columns.lawful c.entering.new.self)) c.loop-id.invariant.state are enter.answer c.load_column-column.ensures c.weights_of-weights.ensures p (c.in-Some-least_ratio.ensures {u = tt}) len_ids len_costs in
+    Steps.step_of (g.C.Columns.program c.loop-id.columns) (g.C.Columns.program c.entering.new.self) c.args.with_costs w.rows w.ids w.inverse w.tracked w.den w.costs c.load_column-column.result c.weights_of-weights.result m.num.items m.den c.in-Some.id enter.same (tame_of (g.C.Columns.program c.entering.new.self) (g.met.C.Columns.lawful c.entering.new.self)) c.loop-id.invariant.state are enter.answer c.load_column-column.ensures c.weights_of-weights.ensures p (c.in-Some-least_ratio.ensures {u = tt}) len_ids len_costs
+
+pub replace-requires-clause-can : goal.replace-requires-clause-can
+replace-requires-clause-can g c =
+    let w = c.loop-id.work in
+    let p = c.in-Some-least_ratio.p in
+    let s = step g (goal.at.replace-requires-clause-can g c).In-Some-least_ratio in
     Steps.can (g.C.Columns.program c.entering.new.self) c.args.with_costs w.rows w.ids w.inverse w.tracked w.den w.costs c.weights_of-weights.result c.in-Some.id p s
 
 pub replace-requires-clause-can_track : goal.replace-requires-clause-can_track
 replace-requires-clause-can_track g c =
     let w = c.loop-id.work in
-    let fd : FitsSigned w128 w.den = search rules in
-    let m = c.multipliers_of-m.result in
-    let are = simp to_z-of_z at c.multipliers_of-m.ensures in
-    let enter = c.in-Some.ensures {u = tt} in
-    let len_ids : length w.ids ≡ 32 = w.ids_count in
-    let len_costs : length w.costs ≡ 32 = w.costs_count in
     let p = c.in-Some-least_ratio.p in
-    let s = Steps.step_of (g.C.Columns.program c.loop-id.columns) (g.C.Columns.program c.entering.new.self) c.args.with_costs w.rows w.ids w.inverse w.tracked w.den w.costs c.load_column-column.result c.weights_of-weights.result m.num.items m.den c.in-Some.id enter.same (tame_of (g.C.Columns.program c.entering.new.self) (g.met.C.Columns.lawful c.entering.new.self)) c.loop-id.invariant.state are enter.answer c.load_column-column.ensures c.weights_of-weights.ensures p (c.in-Some-least_ratio.ensures {u = tt}) len_ids len_costs in
+    let s = step g (goal.at.replace-requires-clause-can_track g c).In-Some-least_ratio in
     Steps.can_track (g.C.Columns.program c.entering.new.self) c.args.with_costs w.rows w.ids w.inverse w.tracked w.den w.costs c.weights_of-weights.result c.in-Some.id p s
 
 pub loop-id-smaller : goal.loop-id-smaller
 loop-id-smaller g c =
     let w = c.loop-id.work in
-    let fd : FitsSigned w128 w.den = search rules in
-    let m = c.multipliers_of-m.result in
-    let are = simp to_z-of_z at c.multipliers_of-m.ensures in
-    let enter = c.in-Some.ensures {u = tt} in
-    let len_ids : length w.ids ≡ 32 = w.ids_count in
-    let len_costs : length w.costs ≡ 32 = w.costs_count in
     let p = c.in-Some-least_ratio.p in
-    let s = Steps.step_of (g.C.Columns.program c.loop-id.columns) (g.C.Columns.program c.entering.new.self) c.args.with_costs w.rows w.ids w.inverse w.tracked w.den w.costs c.load_column-column.result c.weights_of-weights.result m.num.items m.den c.in-Some.id enter.same (tame_of (g.C.Columns.program c.entering.new.self) (g.met.C.Columns.lawful c.entering.new.self)) c.loop-id.invariant.state are enter.answer c.load_column-column.ensures c.weights_of-weights.ensures p (c.in-Some-least_ratio.ensures {u = tt}) len_ids len_costs in
+    let s = step g (goal.at.loop-id-smaller g c).In-Some-least_ratio in
     let fc : FitsSigned w128 c.price_of-cost.result = search rules in
     let r = simp to_z-of_z at c.replace.ensures in
     let v = c.replace.new.self in
@@ -105,20 +101,14 @@ loop-id-smaller g c =
 pub loop-id-preserved : goal.loop-id-preserved
 loop-id-preserved g c =
     let w = c.loop-id.work in
-    let fd : FitsSigned w128 w.den = search rules in
-    let m = c.multipliers_of-m.result in
-    let are = simp to_z-of_z at c.multipliers_of-m.ensures in
-    let enter = c.in-Some.ensures {u = tt} in
-    let len_ids : length w.ids ≡ 32 = w.ids_count in
-    let len_costs : length w.costs ≡ 32 = w.costs_count in
     let p = c.in-Some-least_ratio.p in
-    let s = Steps.step_of (g.C.Columns.program c.loop-id.columns) (g.C.Columns.program c.entering.new.self) c.args.with_costs w.rows w.ids w.inverse w.tracked w.den w.costs c.load_column-column.result c.weights_of-weights.result m.num.items m.den c.in-Some.id enter.same (tame_of (g.C.Columns.program c.entering.new.self) (g.met.C.Columns.lawful c.entering.new.self)) c.loop-id.invariant.state are enter.answer c.load_column-column.ensures c.weights_of-weights.ensures p (c.in-Some-least_ratio.ensures {u = tt}) len_ids len_costs in
+    let s = step g (goal.at.loop-id-preserved g c).In-Some-least_ratio in
     let fc : FitsSigned w128 c.price_of-cost.result = search rules in
     let r = simp to_z-of_z at c.replace.ensures in
     let v = c.replace.new.self in
     record {
-      same = enter.same ∙ c.loop-id.invariant.same;
-      same_players = enter.same_players ∙ c.loop-id.invariant.same_players;
+      same = (c.in-Some.ensures {u = tt}).same ∙ c.loop-id.invariant.same;
+      same_players = (c.in-Some.ensures {u = tt}).same_players ∙ c.loop-id.invariant.same_players;
       state = Steps.replaced_state (g.C.Columns.program c.entering.new.self) c.args.with_costs w.rows v.rows w.ids v.ids v.inverse v.tracked v.den w.costs v.costs c.weights_of-weights.result c.in-Some.id p c.price_of-cost.result r.rows r.ids r.den r.costs
           (Steps.next_state (g.C.Columns.program c.entering.new.self) c.args.with_costs w.rows w.ids w.inverse w.tracked w.den w.costs c.weights_of-weights.result c.in-Some.id p s v.inverse v.tracked c.price_of-cost.result c.price_of-cost.ensures r.inverse r.tracked);
     }

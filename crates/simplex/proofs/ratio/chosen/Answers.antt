@@ -1,8 +1,8 @@
 use Rattle.std.proofs.Common.{rules, FitsSigned, pos, slice_index_or, subst, MatchBool, suc}
 use mir.Syntax.{w128}
 use Rattle.std.proofs.lemmas.Int.{to_z-of_z}
-use Rattle.fractions.specs.Lexicographic.{IsLexPositive, IsLexNonnegative}
-use Rattle.fractions.specs.Matrix.{weight_at}
+use Rattle.determinants.specs.Lexicographic.{IsLexPositive, IsLexNonnegative}
+use Rattle.determinants.specs.Matrix.{weight_at}
 use Rattle.simplex.specs.Ratio.{IsChoice, ratio_gap, IsLeast}
 use Rattle.simplex.proofs.Sizes.{more_is, at_most_is}
 use Rattle.simplex.proofs.Ratios.{least_first, least_next, least_more, choice_more}

@@ -3,9 +3,10 @@ use mir.Syntax.{w128}
 use Rattle.std.proofs.lemmas.Int.{to_z-of_z}
 use Rattle.simplex.proofs.Fills
 use Rattle.simplex.proofs.start.tracked_of.Goals as goal
+use Rattle.determinants.proofs.Lists.{zeros_at}
 
 pub loop-k-init : goal.loop-k-init
-loop-k-init c = record { len = search rules; first = λ j lt. absurd (omega arith); own = λ j i lt. absurd (omega arith); rest = λ m le. Fills.zeros_at 1024 m }
+loop-k-init c = record { len = search rules; first = λ j lt. absurd (omega arith); own = λ j i lt. absurd (omega arith); rest = λ m le. zeros_at 1024 m }
 
 pub loop-k-preserved : goal.loop-k-preserved
 loop-k-preserved c =

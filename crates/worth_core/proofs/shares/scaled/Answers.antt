@@ -1,8 +1,9 @@
 use Rattle.std.proofs.Common.{arith, ◌*ℤ◌}
 use Rattle.std.proofs.lemmas.Int.{fits_signed_from_abs}
-use Rattle.worth_core.proofs.Casts.{cast_kept, product_small, scaled_value}
+use Rattle.worth_core.proofs.Casts.{product_small, scaled_value}
 use mir.Syntax.{w128}
 use Rattle.worth_core.proofs.shares.scaled.Goals as goal
+use Rattle.definitions.proofs.Casts.{cast_kept}
 
 pub overflow_mul-result : goal.overflow_mul-result
 overflow_mul-result c =

@@ -1,8 +1,8 @@
 use Rattle.std.proofs.Common.{◌∙◌, sym, arith}
-use Rattle.worth_core.proofs.Casts.{cast_kept}
 use Rattle.worth_core.proofs.SplitSteps.{AreSplitSums-free, AreSplitSums-other}
 use mir.Syntax.{w128}
 use Rattle.worth_core.proofs.split_sums.SplitSums.add.Goals as goal
+use Rattle.definitions.proofs.Casts.{cast_kept}
 
 pub returns-then-is_free-clause-sums : goal.returns-then-is_free-clause-sums
 returns-then-is_free-clause-sums c = λ n a f seen i lt new is number h.

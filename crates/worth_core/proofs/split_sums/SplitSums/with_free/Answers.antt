@@ -1,9 +1,9 @@
 use Rattle.std.proofs.Common.{ap, arith, ◌+◌, ◌≤◌}
 use Rattle.worth_core.specs.SplitKinds.{Sums}
-use Rattle.worth_core.proofs.Casts.{cast_kept}
 use Rattle.worth_core.proofs.SmallSums.{IsSmallSum-either, IsSmallSum-longer, IsSmallSum-up}
 use mir.Syntax.{w128}
 use Rattle.worth_core.proofs.split_sums.SplitSums.with_free.Goals as goal
+use Rattle.definitions.proofs.Casts.{cast_kept}
 
 pub longer-requires-2-clause-room : goal.longer-requires-2-clause-room
 longer-requires-2-clause-room c =

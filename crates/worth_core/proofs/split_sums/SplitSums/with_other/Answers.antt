@@ -1,9 +1,9 @@
 use Rattle.std.proofs.Common.{ap, arith}
 use Rattle.worth_core.specs.SplitKinds.{Sums}
-use Rattle.worth_core.proofs.Casts.{cast_kept}
 use Rattle.worth_core.proofs.SmallSums.{IsSmallSum-next}
 use mir.Syntax.{w128}
 use Rattle.worth_core.proofs.split_sums.SplitSums.with_other.Goals as goal
+use Rattle.definitions.proofs.Casts.{cast_kept}
 
 pub invariant_of-result : goal.invariant_of-result
 invariant_of-result c =

@@ -2,9 +2,9 @@ use Rattle.std.proofs.Common.{arith, ◌≡◌, ◌∙◌, ◌<◌, ◌^◌, len
 use Rattle.std.proofs.lemmas.List.{length_push}
 use Rattle.coalitions.proofs.Masks.{all_masks-turn, all_masks-end}
 use Rattle.worth_core.proofs.Scan.{IsBestBelow-next, blocker-from_scan, excess_is}
-use Rattle.worth_core.proofs.Casts.{cast_kept}
 use mir.Syntax.{w64, w128}
 use Rattle.worth_core.proofs.worth.Worth.blocker.Goals as goal
+use Rattle.definitions.proofs.Casts.{cast_kept}
 
 pub worth-requires : goal.worth-requires
 worth-requires g c =

@@ -4,9 +4,9 @@ use Rattle.coalitions.proofs.Masks.{all_masks-turn, all_masks-end}
 use Rattle.worth_core.proofs.Scan.{excess_is}
 use Rattle.worth_core.proofs.SplitScan.{is_split, IsGreatestBelow-kept, IsGreatestBelow-more, IsSplitMaximum-from_scan, some-from_scan}
 use Rattle.definitions.specs.Games.{Game, Allocation, excess}
-use Rattle.worth_core.proofs.Casts.{cast_kept}
 use mir.Syntax.{w64, w128}
 use Rattle.worth_core.proofs.worth.Worth.split_bound.Goals as goal
+use Rattle.definitions.proofs.Casts.{cast_kept}
 
 excess_at : (g : Game) (x : Allocation) (s m : ℕ) (e : ℤ) → s ≡ m → e ≡ excess g x s → e ≡ excess g x m
 excess_at g x s m e place same = same ∙ ap (excess g x) place
