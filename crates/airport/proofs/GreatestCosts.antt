@@ -1,23 +1,21 @@
 -- The greatest cost among members.
-use Rattle.std.proofs.Common.{◌≡◌, ◌⊎◌, ℕ, zero, suc, ◌+◌, ◌-◌, ◌^◌, ◌<◌, ◌≤◌, Bool, true, false, cond, length, get_or, pos, refl, sym, ap, ◌∙◌, inl, inr, arith, max, unsigned_abs, neg_ℤ}
+use Rattle.std.proofs.Common.{◌≡◌, ℕ, zero, suc, ◌+◌, ◌-◌, ◌^◌, ◌<◌, ◌≤◌, Bool, true, false, cond, length, get_or, pos, refl, sym, ap, ◌∙◌, inl, inr, arith, max, unsigned_abs, neg_ℤ}
 use Rattle.std.proofs.lemmas.Bool.{false≢true}
 use Rattle.std.proofs.lemmas.Int.{ints}
 use Rattle.definitions.proofs.Members.{has_player-empty}
 use Rattle.definitions.specs.Coalitions.{has_player}
 use Rattle.definitions.specs.Games.{IsGame}
 use Rattle.definitions.specs.Classes.{greatest_cost}
-use Rattle.definitions.proofs.Parts.{same_or_other, has_player-more_same, has_player-more_other}
+use Rattle.definitions.proofs.Parts.{has_player-more_same, has_player-more_other}
 use Rattle.orders.specs.Orders.{front, IsOrder}
 use Rattle.orders.proofs.Fronts.{front-lacks, front-place}
 use Rattle.airport.proofs.Within.{IsWithin, IsWithin-lacks}
 use Rattle.airport.specs.Airport.{Airport, IsAirport, airport_game}
-
-last_or_less : (k n : ℕ) → k < suc n → (k < n) ⊎ (k ≡ n)
-last_or_less k n h = grind arith
+use Rattle.definitions.proofs.Cases.{less_or_last, same_or_other}
 
 pub greatest_cost-at_least : (n : ℕ) (cost : ℕ → ℕ) (s i : ℕ) → i < n → has_player s i ≡ true → cost i ≤ greatest_cost n cost s
 greatest_cost-at_least zero cost s i h k = absurd (omega arith)
-greatest_cost-at_least (suc n) cost s i h k = elim (last_or_less i n h) [
+greatest_cost-at_least (suc n) cost s i h k = elim (less_or_last i n h) [
   | inl less ↦ let ih = greatest_cost-at_least n cost s i less k in omega (arith, ih)
   | inr same ↦ rw same (rw (← same) (rw k (omega arith)))
 ]

@@ -2,8 +2,8 @@
 use Rattle.std.proofs.Common.{◌≡◌, ◌+◌, ◌*◌, ◌^◌, ◌<◌, ◌≤◌, ℕ, ℤ, pos, ◌-ℤ◌, ◌+ℤ◌, ◌*ℤ◌, ◌<ℤ◌, ◌≤ℤ◌, neg_ℤ, unsigned_abs, to_z, of_z, FitsSigned, ap, ◌∙◌, arith}
 use Rattle.std.proofs.lemmas.Int.{ints, fits_signed_from_abs}
 use mir.Syntax.{w64, w128}
-use Rattle.definitions.proofs.Ring.{linear}
-use Rattle.worth_core.proofs.Casts.{cast_kept}
+use Rattle.definitions.proofs.Ring.{linear, zero-subℤ}
+use Rattle.definitions.proofs.Casts.{cast_kept}
 
 pub paid-more : (p s : ℤ) (k : ℕ) → unsigned_abs p ≤ k * 2 ^ 110 → k < 64 → unsigned_abs s < 2 ^ 110 → to_z w128 (of_z w128 (p -ℤ to_z w128 (of_z w128 s))) ≡ p -ℤ s
 paid-more p s k large few small =
@@ -42,10 +42,7 @@ pub paid-is : (s : ℤ) → unsigned_abs s < 2 ^ 110 → to_z w128 (of_z w128 (p
 paid-is s small =
     let kept = cast_kept w128 s (omega arith) in
     let negated = cast_kept w128 (pos 0 -ℤ s) (omega (arith, ints)) in
-    rw kept (negated ∙ zero_less s)
-  where
-    zero_less : (s : ℤ) → pos 0 -ℤ s ≡ neg_ℤ s
-    zero_less s = omega (arith, linear)
+    rw kept (negated ∙ zero-subℤ s)
 
 -- a payment of many players, less a charge
 pub rest-is : (m c : ℤ) → unsigned_abs m ≤ 2 ^ 118 → unsigned_abs c < 2 ^ 110 → to_z w128 (of_z w128 (to_z w128 (of_z w128 m) -ℤ to_z w128 (of_z w128 c))) ≡ m -ℤ c

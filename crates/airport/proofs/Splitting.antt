@@ -1,34 +1,23 @@
 -- A scan over the players from the least cost keeps a bound of the excesses of the splitting coalitions of the players seen, which some coalition reaches.
-use Rattle.std.proofs.Common.{◌≡◌, ◌⊎◌, ℕ, zero, suc, ◌+◌, ◌^◌, ◌<◌, ◌≤◌, Bool, true, false, not, ◌&&◌, ◌||◌, cond, nat_eq, IsSome, ℤ, ◌-ℤ◌, ◌≤ℤ◌, Option, Some, None, MatchOption, int_lt, refl, sym, ap, ◌∙◌, inl, inr, arith}
+use Rattle.std.proofs.Common.{◌≡◌, ℕ, zero, suc, ◌+◌, ◌^◌, ◌<◌, Bool, true, false, not, ◌&&◌, ◌||◌, cond, nat_eq, IsSome, ℤ, ◌-ℤ◌, ◌≤ℤ◌, Option, Some, None, MatchOption, int_lt, refl, sym, ap, ◌∙◌, inl, inr, arith}
 use Rattle.std.proofs.lemmas.Bool.{false≢true}
 use Rattle.std.proofs.lemmas.Bool.Decides.{nat_tests}
 use Rattle.std.proofs.lemmas.Int.{ints}
 use Rattle.std.proofs.Math.Pow.{pow-lt}
 use Rattle.definitions.proofs.Ring.{linear}
 use Rattle.definitions.proofs.Members.{has_player-empty}
-use Rattle.definitions.proofs.Parts.{same_or_other, has_player-more_same, has_player-more_other, has_player-past}
+use Rattle.definitions.proofs.Parts.{has_player-more_same, has_player-more_other, has_player-past, same_coalition}
 use Rattle.definitions.specs.Coalitions.{has_player, singleton, some_below, splits, sum_over}
 use Rattle.definitions.specs.Games.{Game, Allocation, excess, IsSplitMaximum, HasTwo}
 use Rattle.worth_core.specs.Greatest.{max_so_far}
 use Rattle.worth_core.specs.SplitKinds.{holds_some, lacks_some, IsGreatestSum}
 use Rattle.worth_core.proofs.SplitScan.{is_split, is_split-singleton}
-use Rattle.airport.proofs.Within.{IsWithin, IsWithin-cases, IsWithin-nobody, same_coalition}
+use Rattle.airport.proofs.Within.{IsWithin, IsWithin-cases, IsWithin-nobody}
 use Rattle.airport.proofs.Blocking.{IsNextPlayer}
+use Rattle.definitions.proofs.Cases.{below_or_above, and_false, same_or_other}
+use Rattle.definitions.proofs.Splits.{some_below-same, some_below-false, some_below-none}
 
 -- ---- whether some player passes a test
-
-last_or_less : (k n : ℕ) → k < suc n → (k < n) ⊎ (k ≡ n)
-last_or_less k n h = grind arith
-
-below_or_past : (i n : ℕ) → (i < n) ⊎ (n ≤ i)
-below_or_past i n = grind arith
-
-some_below-same : (n : ℕ) (p q : ℕ → Bool) → ((i : ℕ) → i < n → p i ≡ q i) → some_below n p ≡ some_below n q
-some_below-same zero p q h = refl
-some_below-same (suc n) p q h =
-    let ih = some_below-same n p q (λ i k. h i (omega arith)) in
-    let here = h n (omega arith) in
-    cc
 
 some_below-or : (n : ℕ) (p q : ℕ → Bool) → some_below n (λ i. p i || q i) ≡ (some_below n p || some_below n q)
 some_below-or zero p q = refl
@@ -41,23 +30,6 @@ some_below-or (suc n) p q =
     law false true false d = refl
     law false false c d = refl
 
-or_part : (a b : Bool) → (a || b) ≡ false → (a ≡ false) × (b ≡ false)
-or_part true b h = absurd (false≢true (sym h))
-or_part false b h = (refl, h)
-
-some_below-none : (n : ℕ) (p : ℕ → Bool) → some_below n p ≡ false → (i : ℕ) → i < n → p i ≡ false
-some_below-none zero p h i lt = absurd (omega arith)
-some_below-none (suc n) p h i lt =
-    let parts = or_part (p n) (some_below n p) h in
-    elim (last_or_less i n lt) [ inl less ↦ some_below-none n p parts.1 i less | inr same ↦ ap p same ∙ parts.0 ]
-
-nobody : (n : ℕ) (p : ℕ → Bool) → ((i : ℕ) → i < n → p i ≡ false) → some_below n p ≡ false
-nobody zero p h = refl
-nobody (suc n) p h =
-    let ih = nobody n p (λ i k. h i (omega arith)) in
-    let here = h n (omega arith) in
-    rw (here, ih) refl
-
 -- ---- the free players that aren't seen
 
 -- some player of f isn't seen
@@ -69,8 +41,8 @@ pub some_unseen-is : (n f seen u : ℕ) → f < 2 ^ n → ((i : ℕ) → has_pla
 some_unseen-is n f seen u lt h = decide (some_unseen n f seen) refl
   where
     none : some_unseen n f seen ≡ false → u ≡ 0
-    none e = same_coalition u 0 (λ i. elim (below_or_past i n) [
-      | inl below ↦ h i ∙ some_below-none n (λ i. has_player f i && not (has_player seen i)) e i below ∙ sym (has_player-empty i)
+    none e = same_coalition u 0 (λ i. elim (below_or_above i n) [
+      | inl below ↦ h i ∙ some_below-false n (λ i. has_player f i && not (has_player seen i)) e i below ∙ sym (has_player-empty i)
       | inr past ↦ h i ∙ ap (λ (b : Bool). b && not (has_player seen i)) (has_player-past n f i lt past) ∙ sym (has_player-empty i)
     ])
 
@@ -81,7 +53,7 @@ some_unseen-is n f seen u lt h = decide (some_unseen n f seen) refl
     other u ne = grind (arith, nat_tests)
 
     empty : u ≡ 0 → some_unseen n f seen ≡ false
-    empty e = nobody n (λ i. has_player f i && not (has_player seen i)) (λ i k. sym (h i) ∙ ap (λ (m : ℕ). has_player m i) e ∙ has_player-empty i)
+    empty e = some_below-none n (λ i. has_player f i && not (has_player seen i)) (λ i k. sym (h i) ∙ ap (λ (m : ℕ). has_player m i) e ∙ has_player-empty i)
 
     decide : (b : Bool) → some_unseen n f seen ≡ b → not (nat_eq u 0) ≡ some_unseen n f seen
     decide true e = other u (λ z. false≢true (sym (empty z) ∙ e)) ∙ sym e
@@ -102,10 +74,6 @@ unseen-more f seen p u v new h k j = elim (same_or_other j p) [
   | inr other ↦ k j ∙ there j other
 ]
   where
-    and_false : (b : Bool) → (b && false) ≡ false
-    and_false true = refl
-    and_false false = refl
-
     itself : (j p : ℕ) → j ≡ p → not (nat_eq j p) ≡ false
     itself j p e = grind (arith, nat_tests)
 
@@ -162,12 +130,8 @@ pub IsFrontBound-start : (n f : ℕ) (e : ℕ → ℤ) → IsFrontBound n 0 (spl
 IsFrontBound-start n f e =
     record { found = λ s within cut. false≢true (sym (ap (splits n (has_player f)) (IsWithin-nobody n s within) ∙ whole) ∙ cut) }
   where
-    and_false : (b : Bool) → (b && false) ≡ false
-    and_false true = refl
-    and_false false = refl
-
     whole : splits n (has_player f) 0 ≡ false
-    whole = ap (λ (b : Bool). b && some_below n (λ i. has_player f i && not (has_player 0 i))) (nobody n (λ i. has_player f i && has_player 0 i) (λ i k. ap (λ (b : Bool). has_player f i && b) (has_player-empty i) ∙ and_false (has_player f i)))
+    whole = ap (λ (b : Bool). b && some_below n (λ i. has_player f i && not (has_player 0 i))) (some_below-none n (λ i. has_player f i && has_player 0 i) (λ i k. ap (λ (b : Bool). has_player f i && b) (has_player-empty i) ∙ and_false (has_player f i)))
 
 -- no coalition of the players seen splits
 pub IsFrontBound-kept : (n seen next : ℕ) (split : ℕ → Bool) (pay e : ℕ → ℤ) (most : Option ℤ) → IsFrontBound n seen split e most → IsBestPayment n next split pay None → IsFrontBound n next split e most

@@ -1,14 +1,12 @@
 -- Coalitions of the players seen so far, with one more player seen.
-use Rattle.std.proofs.Common.{◌≡◌, ◌⊎◌, ℕ, ◌+◌, ◌^◌, ◌<◌, ◌≤◌, Bool, true, false, ◌||◌, nat_eq, refl, sym, ap, ◌∙◌, inl, inr, arith}
+use Rattle.std.proofs.Common.{◌≡◌, ◌⊎◌, ℕ, ◌+◌, ◌^◌, ◌<◌, Bool, true, false, refl, sym, ap, ◌∙◌, inl, inr}
 use Rattle.std.proofs.lemmas.Bool.{false≢true}
-use Rattle.std.proofs.lemmas.Bool.Decides.{nat_tests}
-use Rattle.std.proofs.lemmas.Nat.Bits.{same_from_bits, bit_at-lt}
-use Rattle.std.specs.Int.{bit_at}
 use Rattle.definitions.proofs.Members.{has_player-empty, has_player-grand_coalition}
-use Rattle.definitions.proofs.Parts.{same_or_other, has_player-more_same, has_player-more_other, has_player-past}
+use Rattle.definitions.proofs.Parts.{has_player-past, same_coalition}
 use Rattle.definitions.specs.Coalitions.{has_player}
 use Rattle.worth_core.proofs.SeenSets.{IsSeenSet-cases, IsSeenSet-with, IsSeenSet-without, IsSeenSet-lacks}
 use Rattle.orders.specs.Orders.{front, IsOrder}
+use Rattle.definitions.proofs.Cases.{below_or_above}
 
 -- a coalition of n players, all of whom are seen
 abbrev pub IsWithin : ℕ → ℕ → ℕ → Type 0
@@ -33,41 +31,6 @@ pub IsWithin-lacks : (n seen i t : ℕ) → has_player seen i ≡ false → IsWi
 IsWithin-lacks n seen i t new h =
     IsSeenSet-lacks n 0 seen i (λ holds lacks. true) t new (h.0, h.1, refl)
 
--- ---- by their players
-
-same_bit : (a b : ℕ) → a < 2 → b < 2 → nat_eq a 1 ≡ nat_eq b 1 → a ≡ b
-same_bit a b h k e = grind (arith, nat_tests)
-
--- coalitions of the same players are the same
-pub same_coalition : (s t : ℕ) → ((i : ℕ) → has_player s i ≡ has_player t i) → s ≡ t
-same_coalition s t h =
-    same_from_bits s t (λ i. same_bit (bit_at s i) (bit_at t i) (bit_at-lt s i) (bit_at-lt t i) (h i))
-
--- the coalition with one player more, by its players
-pub more-is : (s i r : ℕ) → has_player s i ≡ false → ((j : ℕ) → has_player r j ≡ (nat_eq j i || has_player s j)) → r ≡ s + 2 ^ i
-more-is s i r lacks h = same_coalition r (s + 2 ^ i) (λ j. elim (same_or_other j i) [
-  | inl same ↦ h j ∙ new j same
-  | inr other ↦ h j ∙ old j other
-])
-  where
-    new : (j : ℕ) → j ≡ i → (nat_eq j i || has_player s j) ≡ has_player (s + 2 ^ i) j
-    new j e = rw e (law (nat_eq i i) (has_player s i) (test i) ∙ sym (has_player-more_same s i lacks))
-      where
-        test : (i : ℕ) → nat_eq i i ≡ true
-        test i = grind (arith, nat_tests)
-
-        law : (b c : Bool) → b ≡ true → (b || c) ≡ true
-        law b c e = rw e refl
-
-    old : (j : ℕ) → (j ≡ i → ⊥) → (nat_eq j i || has_player s j) ≡ has_player (s + 2 ^ i) j
-    old j ne = law (nat_eq j i) (has_player s j) (test j i ne) ∙ sym (has_player-more_other s i j lacks ne)
-      where
-        test : (j i : ℕ) → (j ≡ i → ⊥) → nat_eq j i ≡ false
-        test j i ne = grind (arith, nat_tests)
-
-        law : (b c : Bool) → b ≡ false → (b || c) ≡ c
-        law b c e = rw e refl
-
 -- where nobody is seen
 pub IsWithin-nobody : (n s : ℕ) → IsWithin n 0 s → s ≡ 0
 IsWithin-nobody n s h = same_coalition s 0 (λ i. decide i (has_player s i) refl)
@@ -76,14 +39,11 @@ IsWithin-nobody n s h = same_coalition s 0 (λ i. decide i (has_player s i) refl
     decide i true e = absurd (false≢true (sym (has_player-empty i) ∙ h.1 i e))
     decide i false e = e ∙ sym (has_player-empty i)
 
-below_or_past : (i n : ℕ) → (i < n) ⊎ (n ≤ i)
-below_or_past i n = grind arith
-
 -- where all players are seen
 pub IsWithin-everybody : (n : ℕ) (number at : ℕ → ℕ) → IsOrder n number at → (s : ℕ) → s < 2 ^ n → IsWithin n (front at n) s
 IsWithin-everybody n number at o s lt = (
   lt,
-  λ i h. elim (below_or_past i n) [
+  λ i h. elim (below_or_above i n) [
     | inl below ↦ ap (λ (m : ℕ). has_player m i) o.full ∙ has_player-grand_coalition n i below
     | inr past ↦ absurd (false≢true (sym (has_player-past n s i lt past) ∙ h))
   ],

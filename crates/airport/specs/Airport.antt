@@ -1,8 +1,8 @@
 -- Airport games: the costs, and the players in the order of their costs.
-use Rattle.std.specs.Prelude.{ℕ, ◌^◌, ◌<◌, ◌≤◌, List, length, ℤ, slice_index, All}
+use Rattle.std.specs.Prelude.{ℕ, ◌≤◌, List, length, ℤ, slice_index, All}
 use Rattle.definitions.specs.Games.{Game}
 use Rattle.definitions.specs.Classes.{airport_worth}
-use Rattle.orders.specs.Orders.{IsSortedOrder}
+use Rattle.orders.specs.Ordered.{IsOrdered, ordered_numbers}
 use Rattle.airport.specs.Costs.{IsCost}
 use Rattle.airport.specs.declared.airport_game.AirportFault.{AirportFault}
 use Rattle.airport.specs.declared.airport_game.AirportFault.TheVariants.{Players, Number, Memory}
@@ -17,11 +17,8 @@ abbrev pub airport : List ℕ → List ℕ → Airport
 airport costs order = record { costs = costs; order = order }
 
 -- 1 to 64 costs below 2 ^ 40, and the players in order
-pub record IsAirport (a : Airport) : Type 0 where
-  pub some : 1 ≤ length a.costs
-  pub few : length a.costs ≤ 64
-  pub small : All (λ c. c < 2 ^ 40) a.costs
-  pub sorted : IsSortedOrder a.costs a.order
+abbrev pub IsAirport : Airport → Type 0
+IsAirport a = IsOrdered (ordered_numbers a.costs a.order)
 
 -- minus the greatest cost among the members
 abbrev pub airport_game : Airport → Game

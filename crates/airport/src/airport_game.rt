@@ -1,9 +1,9 @@
 //! The game of the players' costs.
 ghost use Rattle.std.specs.Prelude.{◌≡◌, ◌^◌, ◌<◌, length, map, pos, slice_index, ◌<ℤ◌, ◌≤ℤ◌, MatchResult};
 
-use crate::costs::{all_costs, greatest, kept};
+use crate::costs::greatest;
 use coalitions::Coalition;
-use orders::sorted_players;
+use orders::{Ordered, are_numbers, naturals};
 use std::alloc::Global;
 use std::marker::Model;
 use worth_core::{Best, Shares, SplitSums, Worth, raised, scaled};
@@ -22,8 +22,7 @@ pub enum AirportFault {
 /// The cost of each player, and the players sorted by cost and then by number.
 #[derive(Debug, Drop)]
 pub struct AirportGame {
-    costs: Vec<u64>,
-    order: Vec<u32>,
+    costs: Ordered,
 }
 
 impl Model for AirportGame {
@@ -31,31 +30,31 @@ impl Model for AirportGame {
 
     ghost Value = { Airport };
 
-    ghost view = { λ a. airport a.costs.items a.order.items };
+    ghost view = { λ a. airport a.costs.numbers a.costs.order };
 
-    ghost invariant = { λ a. IsAirport (airport a.costs.items a.order.items) };
+    ghost invariant = { λ a. IsAirport (airport a.costs.numbers a.costs.order) };
 }
 
 impl AirportGame {
     ghost use Rattle.airport.specs.Airport.{IsAirport, IsRefused, place};
 
-    /// The game of these costs.
+    /// The game of 1 to 64 costs, each from 0 to below 2^40; else the first cause in the order of `AirportFault`.
     pub fn new(alloc: Global, costs: Vec<i64>) -> Result<AirportGame, AirportFault>
         ensures { MatchResult result (λ game. map pos game.costs ≡ costs.items) (IsRefused costs.items) }
     {
         if costs.is_empty() || costs.len() > 64 {
             return Err(AirportFault::Players);
         }
-        if !all_costs(&costs) {
+        if !are_numbers(&costs) {
             return Err(AirportFault::Number);
         }
-        let Ok(costs) = kept(alloc, &costs) else {
+        let Ok(costs) = naturals(alloc, &costs) else {
             return Err(AirportFault::Memory);
         };
-        let Ok(order) = sorted_players(alloc, &costs) else {
+        let Ok(costs) = Ordered::new(alloc, costs) else {
             return Err(AirportFault::Memory);
         };
-        Ok(AirportGame { costs, order })
+        Ok(AirportGame { costs })
     }
 
     /// The number of players, and so of places.
@@ -63,7 +62,7 @@ impl AirportGame {
         ensures count { result ≡ length self.now.costs }
         ensures laws { IsAirport self.now }
     {
-        self.costs.len() as u32
+        self.costs.len()
     }
 
     /// The cost of player `i`.
@@ -73,7 +72,7 @@ impl AirportGame {
         ensures positive { pos 0 ≤ℤ result }
         ensures small { result <ℤ pos (2 ^ 40) }
     {
-        self.costs[i as usize] as i64
+        self.costs.number(i) as i64
     }
 
     /// The player at place `k` from the least cost; of equal costs the lesser player stands first.
@@ -82,7 +81,7 @@ impl AirportGame {
         ensures value { result ≡ place self.now k }
         ensures player { result < length self.now.costs }
     {
-        self.order[k as usize]
+        self.costs.place(k)
     }
 }
 
@@ -93,7 +92,7 @@ impl Worth for AirportGame {
 
     #[tactic(auto, using(crate::proofs::GreatestCosts::game_laws))]
     fn players(&self) -> u32 {
-        self.costs.len() as u32
+        self.costs.len()
     }
 
     fn worth(&self, s: Coalition) -> i64 {

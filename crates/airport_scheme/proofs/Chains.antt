@@ -2,7 +2,6 @@
 use Rattle.std.proofs.Common.{◌≡◌, ◌≢◌, ◌⊎◌, ℕ, zero, suc, ◌+◌, ◌-◌, ◌^◌, ◌<◌, ◌≤◌, Bool, true, false, not, cond, ◌||◌, nat_lt, nat_eq, List, [], ◌∷◌, ◌++◌, length, ℤ, pos, negsuc, ◌+ℤ◌, ◌-ℤ◌, ◌*ℤ◌, neg_ℤ, ◌≤ℤ◌, refl, sym, ap, ◌∙◌, inl, inr, arith}
 use Rattle.std.specs.List.{list_any, AllByRecursion}
 use Rattle.std.proofs.lemmas.Bool.{false≢true}
-use Rattle.std.proofs.lemmas.Bool.Decides.{nat_tests}
 use Rattle.std.proofs.lemmas.Int.{ints}
 use Rattle.std.proofs.Math.Pow.{pow-lt}
 use Rattle.definitions.proofs.Ring.{linear, mul-le_cancelℤ}
@@ -19,21 +18,15 @@ use Rattle.orders.proofs.Fronts.{front-has, front-lacks, front-lt, order-place}
 use Rattle.airport_scheme.specs.Scheme.{IsPaid}
 use Rattle.airport_scheme.specs.Levels.{with_others, front_pair, IsBlock, IsChain}
 use Rattle.airport_scheme.proofs.Excesses.{game_of, cost, amount-at, excess-outside, excess-core, excess-front, excess-others}
-use Rattle.kohlberg.proofs.Forms.{all_join}
-use Rattle.kohlberg.proofs.Listed.{or_true, listed_before, listed_here, same_test}
+use Rattle.kohlberg.proofs.Listed.{or_true, listed_before, listed_here}
 use Rattle.kohlberg.proofs.Conditions.{proper, splits-two, level_excess, level_most}
 use Rattle.airport_scheme.proofs.Pairs.{length-with_others, all-with_others, any-with_others, any-with_others_start, others-has, others-lacks, weight_at-outside, weight_at-inside, ascends-with_others, weight_at-front, weight_at-front_past}
+use Rattle.definitions.specs.declared.Measure.TheVariants.{Plain}
+use Rattle.definitions.proofs.Cases.{from_nat_lt, next_or_last, nat_eq-same, below_or_above, nat_lt-less}
+use Rattle.definitions.proofs.Alls.{all_join}
+use Rattle.definitions.proofs.UnitWeights.{one_small, one_le}
 
 -- ---- what the levels list
-
-lt_test : (a b : ℕ) → a < b → nat_lt a b ≡ true
-lt_test a b h = grind (arith, nat_tests)
-
-lt_from : (a b : ℕ) → nat_lt a b ≡ true → a < b
-lt_from a b h = grind (arith, nat_tests)
-
-ge_from : (a b : ℕ) → nat_lt a b ≡ false → b ≤ a
-ge_from a b h = grind (arith, nat_tests)
 
 -- the levels list all but each of the first i, and the first i
 pub record Covers (n : ℕ) (at : ℕ → ℕ) (i : ℕ) (levels : List Level) : Type 0 where
@@ -45,32 +38,26 @@ Covers-none n at = record { others = λ j lt. absurd (omega arith); fronts = λ 
 
 pub Covers-more : (n : ℕ) (at : ℕ → ℕ) (pay : ℕ → ℤ) (den : ℤ) (i k : ℕ) (levels : List Level) (l : Level) → IsBlock n at pay den i k l → Covers n at i levels → Covers n at k (levels ++ l ∷ [])
 Covers-more n at pay den i k levels l b h = record {
-  others = λ j lt. elim (before_or_in i j) [
+  others = λ j lt. elim (below_or_above j i) [
     | inl less ↦ listed_before levels l (grand_coalition n - singleton (at j)) (h.others j less)
     | inr low ↦
         let m = grand_coalition n - singleton (at j) in
-        listed_here levels l m (rw b.coalitions (any-with_others (λ c. nat_eq c.0 m) n at (front_pair at k (pos 1) (nat_lt k n)) i (k - i) j low (omega (arith, b.some)) (same_test m)))
+        listed_here levels l m (rw b.coalitions (any-with_others (λ c. nat_eq c.0 m) n at (front_pair at k (pos 1) (nat_lt k n)) i (k - i) j low (omega (arith, b.some)) (nat_eq-same m)))
   ];
-  fronts = λ lt le. listed_here levels l (front at k) (rw b.coalitions (any-with_others_start (λ c. nat_eq c.0 (front at k)) n at (front_pair at k (pos 1) (nat_lt k n)) i (k - i) (starts (nat_lt k n) (lt_test k n le))));
+  fronts = λ lt le. listed_here levels l (front at k) (rw b.coalitions (any-with_others_start (λ c. nat_eq c.0 (front at k)) n at (front_pair at k (pos 1) (nat_lt k n)) i (k - i) (starts (nat_lt k n) (nat_lt-less k n le))));
 }
   where
-    before_or_in : (i j : ℕ) → (j < i) ⊎ (i ≤ j)
-    before_or_in i j = grind arith
-
     starts : (t : Bool) → t ≡ true → list_any (λ c. nat_eq c.0 (front at k)) (front_pair at k (pos 1) t) ≡ true
-    starts true e = or_true (nat_eq (front at k) (front at k)) false (inl (same_test (front at k)))
+    starts true e = or_true (nat_eq (front at k) (front at k)) false (inl (nat_eq-same (front at k)))
     starts false e = absurd (false≢true e)
 
 -- who is free stands behind the first i
 free_place : (n : ℕ) (at : ℕ → ℕ) (i h : ℕ) (levels : List Level) → Covers n at i levels → is_free n levels (at h) ≡ true → i ≤ h
-free_place n at i h levels c e = elim (before_or_in i h) [
+free_place n at i h levels c e = elim (below_or_above h i) [
   | inl less ↦ absurd (false≢true (sym (unfree (is_listed levels (singleton (at h))) (is_listed levels (grand_coalition n - singleton (at h))) (has_bound levels (at h)) (c.others h less)) ∙ e))
   | inr low ↦ low
 ]
   where
-    before_or_in : (i j : ℕ) → (j < i) ⊎ (i ≤ j)
-    before_or_in i j = grind arith
-
     unfree : (a b e : Bool) → b ≡ true → not ((a || b) || e) ≡ false
     unfree true b e h = refl
     unfree false true e h = refl
@@ -88,7 +75,7 @@ balanced_at n cost at o i k h t e some le hn = elim (place_cases i k h) [
       let first = weight_at-outside n cost at o (front_pair at k (pos 1) t) i (k - i) h (within_end n i k some le) hn (inl less) in
       let start = weight_at-front n cost at o k (pos 1) t h le (omega arith) in
       let early = weight_at-front n cost at o i (negsuc 0) (nat_lt 0 i) h (omega arith) less in
-      let minus : cond (nat_lt 0 i) (negsuc 0) (pos 0) ≡ negsuc 0 = rw (lt_test 0 i (omega arith)) refl in
+      let minus : cond (nat_lt 0 i) (negsuc 0) (pos 0) ≡ negsuc 0 = rw (nat_lt-less 0 i (omega arith)) refl in
       before t (weight_at (with_others n at (front_pair at k (pos 1) t) i (k - i)) (at h)) (weight_at (front_pair at k (pos 1) t) (at h)) (weight_at (front_pair at i (negsuc 0) (nat_lt 0 i)) (at h)) (k - i) first start (early ∙ minus)
   | inr (inl (low, high)) ↦
       let first = weight_at-inside n cost at o (front_pair at k (pos 1) t) i (k - i) h (within_end n i k some le) low (omega (arith, high)) in
@@ -99,7 +86,7 @@ balanced_at n cost at o i k h t e some le hn = elim (place_cases i k h) [
       let first = weight_at-outside n cost at o (front_pair at k (pos 1) t) i (k - i) h (within_end n i k some le) hn (inr (omega arith)) in
       let start = weight_at-front_past n cost at o k (pos 1) t h high hn in
       let early = weight_at-front_past n cost at o i (negsuc 0) (nat_lt 0 i) h (omega arith) hn in
-      let inner : t ≡ true = sym e ∙ lt_test k n (omega arith) in
+      let inner : t ≡ true = sym e ∙ nat_lt-less k n (omega arith) in
       rw inner (behind (weight_at (with_others n at (front_pair at k (pos 1) true) i (k - i)) (at h)) (weight_at (front_pair at k (pos 1) true) (at h)) (weight_at (front_pair at i (negsuc 0) (nat_lt 0 i)) (at h)) (k - i) (rw inner at first) (rw inner at start) early)
 ]
   where
@@ -167,8 +154,8 @@ block_form n cost at pay den i k levels l most o b c =
       some = (let some = b.some in omega (arith, count));
       few = (let le = b.within in omega (arith, count, short));
       few_earlier = rw b.earlier (omega (arith, early_short));
-      proper = rw b.coalitions (all-with_others (λ c. (0 < c.0) × (c.0 < grand_coalition n)) n at ps i (k - i) (λ j low high. others_proper n cost at o (let two = b.two in omega arith) j (omega arith)) (all-front (λ c. (0 < c.0) × (c.0 < grand_coalition n)) at k (pos 1) (nat_lt k n) (λ e. front_proper n cost at o k (let some = b.some in omega arith) (lt_from k n e))));
-      listed = rw b.earlier (all-front (λ c. is_listed levels c.0 ≡ true) at i (negsuc 0) (nat_lt 0 i) (λ e. c.fronts (lt_from 0 i e) (let two = b.two in omega arith)));
+      proper = rw b.coalitions (all-with_others (λ c. (0 < c.0) × (c.0 < grand_coalition n)) n at ps i (k - i) (λ j low high. others_proper n cost at o (let two = b.two in omega arith) j (omega arith)) (all-front (λ c. (0 < c.0) × (c.0 < grand_coalition n)) at k (pos 1) (nat_lt k n) (λ e. front_proper n cost at o k (let some = b.some in omega arith) (from_nat_lt k n e))));
+      listed = rw b.earlier (all-front (λ c. is_listed levels c.0 ≡ true) at i (negsuc 0) (nat_lt 0 i) (λ e. c.fronts (from_nat_lt 0 i e) (let two = b.two in omega arith)));
       players = rw b.bounds tt;
       ascend = rw b.coalitions (ascends-with_others n cost at o ps i (k - i) end (λ h low high. all-front (λ p. has_player p.0 (at h) ≡ true) at k (pos 1) (nat_lt k n) (λ e. front-has n cost at o k h (let some = b.some in omega arith) b.within)) (ascends-front at k (pos 1) (nat_lt k n)));
       earlier_ascend = rw b.earlier (ascends-front at i (negsuc 0) (nat_lt 0 i));
@@ -177,9 +164,6 @@ block_form n cost at pay den i k levels l most o b c =
       total_small = rw b.total (total_small (nat_lt k n) (k - i) (let le = b.within in omega (arith, most)));
     }
   where
-    one_small : IsSmall (pos 1)
-    one_small = omega arith
-
     minus_small : IsSmall (negsuc 0)
     minus_small = omega arith
 
@@ -205,16 +189,13 @@ last_costs costs at pay x i k before l p b end all =
 
 others_excess : (costs : List ℕ) (at : ℕ → ℕ) (pay : ℕ → ℤ) (x : Allocation) (i k j : ℕ) (l : Level) → IsPaid costs at pay x → IsBlock (length costs) at pay x.den i k l → i ≤ j → j < k → excess (game_of costs) x (grand_coalition (length costs) - singleton (at j)) ≡ neg_ℤ (pay i)
 others_excess costs at pay x i k j l p b low high =
-    (elim (last_or_less j (length costs) (let le = b.within in omega arith)) [
+    (elim (next_or_last j (length costs) (let le = b.within in omega arith)) [
       | inl less ↦ excess-others costs at pay x p j (length costs - 1) (length costs - 1) (omega arith) (omega arith) (λ e. omega arith) (omega arith) (omega arith)
       | inr last ↦ excess-others costs at pay x p j (length costs - 2) (suc (length costs - 2)) (omega arith) (omega arith) (λ e. omega (arith, two)) (omega (arith, two)) (last_costs costs at pay x i k (length costs - 2) l p b (omega (arith, two)) (let le = b.within in omega arith))
     ]) ∙ ap neg_ℤ (b.same j low high)
   where
     two : 2 ≤ length costs
     two = let t = b.two in omega arith
-
-    last_or_less : (j n : ℕ) → j < n → (suc j < n) ⊎ (suc j ≡ n)
-    last_or_less j n h = grind arith
 
 front_excess : (costs : List ℕ) (at : ℕ → ℕ) (pay : ℕ → ℤ) (x : Allocation) (i k : ℕ) (l : Level) → IsPaid costs at pay x → IsBlock (length costs) at pay x.den i k l → k < length costs → excess (game_of costs) x (front at k) ≡ neg_ℤ (pay i)
 front_excess costs at pay x i zero l p b lt = absurd (let some = b.some in omega arith)
@@ -225,9 +206,9 @@ front_excess costs at pay x i (suc k) l p b lt =
     let e = excess-front costs at pay x p k (omega arith) in
     omega (arith, linear, same, tight, e)
 
-pub block_holds : (family : Family) (costs : List ℕ) (at : ℕ → ℕ) (pay : ℕ → ℤ) (x : Allocation) (i k : ℕ) (levels : List Level) (l : Level) → IsPaid costs at pay x → IsBlock (length costs) at pay x.den i k l → Covers (length costs) at i levels → LevelHolds Players family (game_of costs) x levels l
+pub block_holds : (family : Family) (costs : List ℕ) (at : ℕ → ℕ) (pay : ℕ → ℤ) (x : Allocation) (i k : ℕ) (levels : List Level) (l : Level) → IsPaid costs at pay x → IsBlock (length costs) at pay x.den i k l → Covers (length costs) at i levels → LevelHolds Players family Plain (game_of costs) x levels l
 block_holds family costs at pay x i k levels l p b c = record {
-  excesses = rw b.coalitions (all-with_others (λ c. HasExcess (game_of costs) x l c.0) (length costs) at (front_pair at k (pos 1) (nat_lt k (length costs))) i (k - i) (λ j low high. level_excess (excess (game_of costs) x (grand_coalition (length costs) - singleton (at j))) (pay i) l.excess_num l.excess_den x.den (others_excess costs at pay x i k j l p b low (omega arith)) b.excess) (all-front (λ c. HasExcess (game_of costs) x l c.0) at k (pos 1) (nat_lt k (length costs)) (λ e. level_excess (excess (game_of costs) x (front at k)) (pay i) l.excess_num l.excess_den x.den (front_excess costs at pay x i k l p b (lt_from k (length costs) e)) b.excess)));
+  excesses = rw b.coalitions (all-with_others (λ c. HasExcess Plain (game_of costs) x l c.0) (length costs) at (front_pair at k (pos 1) (nat_lt k (length costs))) i (k - i) (λ j low high. level_excess (excess (game_of costs) x (grand_coalition (length costs) - singleton (at j))) (pay i) l.excess_num l.excess_den x.den (others_excess costs at pay x i k j l p b low (omega arith)) b.excess) (all-front (λ c. HasExcess Plain (game_of costs) x l c.0) at k (pos 1) (nat_lt k (length costs)) (λ e. level_excess (excess (game_of costs) x (front at k)) (pay i) l.excess_num l.excess_den x.den (front_excess costs at pay x i k l p b (from_nat_lt k (length costs) e)) b.excess)));
   weights = rw b.coalitions (all-with_others (λ c. pos 1 ≤ℤ c.1) (length costs) at (front_pair at k (pos 1) (nat_lt k (length costs))) i (k - i) (λ j low high. one_le) (all-front (λ c. pos 1 ≤ℤ c.1) at k (pos 1) (nat_lt k (length costs)) (λ e. one_le)));
   bound_weights = rw b.bounds tt;
   balanced = level_balanced (length costs) (cost costs) at pay x.den i k l p.order b;
@@ -235,9 +216,6 @@ block_holds family costs at pay x i k levels l p b c = record {
   outside = outside_at;
 }
   where
-    one_le : pos 1 ≤ℤ pos 1
-    one_le = omega (arith, ints)
-
     placed : (s : ℕ) (t : Bool) (j : ℕ) → j < length costs → is_free (length costs) levels j ≡ true → has_player s j ≡ t → (h : ℕ) × (i ≤ h) × (h < length costs) × (has_player s (at h) ≡ t)
     placed s t j lt free has =
         let r = order-place (length costs) (cost costs) at p.order j lt in
@@ -274,7 +252,7 @@ HasForm-chain n cost at pay den k levels one most o chain = record {
   each = levels_form n cost at pay den 0 k [] levels most o chain (Covers-none n at);
 }
 
-levels_hold : (family : Family) (costs : List ℕ) (at : ℕ → ℕ) (pay : ℕ → ℤ) (x : Allocation) (i k : ℕ) (front levels : List Level) → IsPaid costs at pay x → IsChain (length costs) at pay x.den i levels k → length costs ≤ k + 1 → Covers (length costs) at i front → LevelsHold Players family (game_of costs) x front levels
+levels_hold : (family : Family) (costs : List ℕ) (at : ℕ → ℕ) (pay : ℕ → ℤ) (x : Allocation) (i k : ℕ) (front levels : List Level) → IsPaid costs at pay x → IsChain (length costs) at pay x.den i levels k → length costs ≤ k + 1 → Covers (length costs) at i front → LevelsHold Players family Plain (game_of costs) x front levels
 levels_hold family costs at pay x i k front [] p chain end c = all_fixed
   where
     one_place : (a b : ℕ) → i ≤ a → a < length costs → i ≤ b → b < length costs → a ≡ b
@@ -318,6 +296,6 @@ pub InCore-scheme : (costs : List ℕ) (at : ℕ → ℕ) (pay : ℕ → ℤ) (x
 InCore-scheme costs at pay x some p =
     ((p.players, p.scheme.positive), efficient costs at pay x some p, λ s lt blocks. let e = excess-core costs at pay x p s in omega (arith, linear, e, blocks))
 
-pub Certifies-chain : (family : Family) (costs : List ℕ) (at : ℕ → ℕ) (pay : ℕ → ℤ) (x : Allocation) (k : ℕ) (levels : List Level) → 1 ≤ length costs → IsPaid costs at pay x → IsChain (length costs) at pay x.den 0 levels k → length costs ≤ k + 1 → Certifies Players family (game_of costs) x levels
+pub Certifies-chain : (family : Family) (costs : List ℕ) (at : ℕ → ℕ) (pay : ℕ → ℤ) (x : Allocation) (k : ℕ) (levels : List Level) → 1 ≤ length costs → IsPaid costs at pay x → IsChain (length costs) at pay x.den 0 levels k → length costs ≤ k + 1 → Certifies Players family Plain (game_of costs) x levels
 Certifies-chain family costs at pay x k levels some p chain end =
     (in_family family costs at pay x some p, levels_hold family costs at pay x 0 k [] levels p chain end (Covers-none (length costs) at))

@@ -1,5 +1,5 @@
 -- The excesses at the payments.
-use Rattle.std.proofs.Common.{◌≡◌, ◌≢◌, ◌⊎◌, ℕ, zero, suc, ◌-◌, ◌^◌, ◌<◌, ◌≤◌, Bool, true, false, List, length, get_or, ℤ, pos, ◌-ℤ◌, ◌*ℤ◌, neg_ℤ, ◌≤ℤ◌, refl, sym, ap, ◌∙◌, inl, inr, arith}
+use Rattle.std.proofs.Common.{◌≡◌, ◌≢◌, ◌⊎◌, ℕ, zero, suc, ◌-◌, ◌^◌, ◌<◌, ◌≤◌, true, false, List, length, get_or, ℤ, pos, ◌-ℤ◌, ◌*ℤ◌, neg_ℤ, ◌≤ℤ◌, refl, sym, ap, ◌∙◌, inl, inr, arith}
 use Rattle.std.proofs.lemmas.Bool.{false≢true}
 use Rattle.std.proofs.lemmas.Int.{ints}
 use Rattle.std.proofs.Math.Pow.{pow-lt}
@@ -14,6 +14,7 @@ use Rattle.orders.specs.Orders.{front, IsOrder}
 use Rattle.airport.proofs.GreatestCosts.{greatest_cost-at_least, greatest_cost-at_most}
 use Rattle.orders.proofs.Fronts.{front-has, front-lacks, front-place, order-place, sum_over-front}
 use Rattle.airport_scheme.specs.Scheme.{IsScheme, IsPaid}
+use Rattle.definitions.proofs.Cases.{next_or_last, true_or_false, less_or_greater}
 
 abbrev pub game_of : List ℕ → Game
 game_of costs = record { players = length costs; worth = airport_worth costs }
@@ -55,24 +56,17 @@ room n c pay den s k lt = elim (next_or_last k n lt) [
   | inl more ↦ omega (arith, linear, s.under k more, s.least k lt)
   | inr last ↦ let e : sum_below (suc k) pay ≡ sum_below n pay = ap (λ (m : ℕ). sum_below m pay) last in omega (arith, linear, e, s.all k last)
 ]
-  where
-    next_or_last : (k n : ℕ) → k < n → (suc k < n) ⊎ (suc k ≡ n)
-    next_or_last k n lt = grind arith
 
 -- ---- the last place of a coalition
 
 abbrev IsWithin : ℕ → ℕ → ℕ → Type 0
 IsWithin n s t = (i : ℕ) → i < n → has_player s i ≡ true → has_player t i ≡ true
 
-bool_cases : (b : Bool) → (b ≡ true) ⊎ (b ≡ false)
-bool_cases true = inl refl
-bool_cases false = inr refl
-
 pub last_place : (n : ℕ) (cost at : ℕ → ℕ) → IsOrder n cost at → (s m : ℕ) → m ≤ n → IsWithin n s (front at m) → ((k : ℕ) × (k < m) × (has_player s (at k) ≡ true) × IsWithin n s (front at (suc k))) ⊎ IsWithin n s 0
 last_place n cost at o s zero le h = inr h
 last_place n cost at o s (suc k) le h =
     let here = front-lacks n cost at o k k (omega arith) (omega arith) in
-    elim (bool_cases (has_player s (at k))) [
+    elim (true_or_false (has_player s (at k))) [
       | inl yes_k ↦ inl (k, omega arith, yes_k, h)
       | inr no_k ↦
           let less : IsWithin n s (front at k) = λ i lt e. sym (has_player-more_other (front at k) (at k) i here (λ same. false≢true (sym no_k ∙ sym (ap (λ (j : ℕ). has_player s j) same) ∙ e))) ∙ h i lt e in
@@ -202,10 +196,7 @@ excess-others costs at pay x p j m last lt mn ne end top =
     omega (arith, linear, worth-is x.den (cost costs (at last)) g (omega (arith, least, top)) most, parts, mine, whole, p.shares j lt, p.scheme.all last end, amount-at costs at pay x p s)
   where
     apart : at m ≢ at j
-    apart e = elim (order_cases m j ne) [ inl less ↦ p.order.apart m j less lt e | inr more ↦ p.order.apart j m more mn (sym e) ]
-      where
-        order_cases : (m j : ℕ) → m ≢ j → (m < j) ⊎ (j < m)
-        order_cases m j ne = grind arith
+    apart e = elim (less_or_greater m j ne) [ inl less ↦ p.order.apart m j less lt e | inr more ↦ p.order.apart j m more mn (sym e) ]
 
     most_at : (i : ℕ) → i < length costs → has_player (grand_coalition (length costs) - singleton (at j)) i ≡ true → cost costs i ≤ cost costs (at last)
     most_at i h e =

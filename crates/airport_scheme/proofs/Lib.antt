@@ -5,4 +5,5 @@ pub mod Chains
 pub mod Steps
 pub mod Runs
 pub mod Sizes
+pub mod Exactly
 pub mod Solved

@@ -11,6 +11,7 @@ use Rattle.orders.specs.Orders.{IsOrder}
 use Rattle.orders.proofs.Fronts.{front-has, front-lacks}
 use Rattle.kohlberg.proofs.WithPair.{weight_at-with_pair, all-with_pair, any-with_pair, length-with_pair, ascends-with_pair}
 use Rattle.airport_scheme.specs.Levels.{with_others, front_pair}
+use Rattle.definitions.proofs.Cases.{less_or_last, less_or_greater, outside_fewer}
 
 -- ---- all but one, for each of b players
 
@@ -32,19 +33,13 @@ any-with_others_start test n at ps i (suc b) h =
 pub any-with_others : (test : ℕ × ℤ → Bool) (n : ℕ) (at : ℕ → ℕ) (ps : List (ℕ × ℤ)) (i b j : ℕ) → i ≤ j → j < i + b → test (grand_coalition n - singleton (at j), pos 1) ≡ true → list_any test (with_others n at ps i b) ≡ true
 any-with_others test n at ps i zero j le lt h = absurd (omega arith)
 any-with_others test n at ps i (suc b) j le lt h =
-    any-with_pair test (grand_coalition n - singleton (at (i + b))) (pos 1) (with_others n at ps i b) (elim (last_or_less j (i + b) (omega arith)) [
+    any-with_pair test (grand_coalition n - singleton (at (i + b))) (pos 1) (with_others n at ps i b) (elim (less_or_last j (i + b) (omega arith)) [
       | inl less ↦ inr (any-with_others test n at ps i b j le less h)
       | inr same ↦ inl (rw (← same) h)
     ])
-  where
-    last_or_less : (j k : ℕ) → j < suc k → (j < k) ⊎ (j ≡ k)
-    last_or_less j k h = grind arith
 
 order-apart : (n : ℕ) (cost at : ℕ → ℕ) → IsOrder n cost at → (j h : ℕ) → j < n → h < n → h ≢ j → at h ≢ at j
-order-apart n cost at o j h jn hn ne e = elim (order_cases h j ne) [ inl less ↦ o.apart h j less jn e | inr more ↦ o.apart j h more hn (sym e) ]
-  where
-    order_cases : (h j : ℕ) → h ≢ j → (h < j) ⊎ (j < h)
-    order_cases h j ne = grind arith
+order-apart n cost at o j h jn hn ne e = elim (less_or_greater h j ne) [ inl less ↦ o.apart h j less jn e | inr more ↦ o.apart j h more hn (sym e) ]
 
 -- who stands at another place is in all but one
 pub others-has : (n : ℕ) (cost at : ℕ → ℕ) → IsOrder n cost at → (j h : ℕ) → j < n → h < n → h ≢ j → has_player (grand_coalition n - singleton (at j)) (at h) ≡ true
@@ -59,17 +54,13 @@ pub weight_at-outside : (n : ℕ) (cost at : ℕ → ℕ) → IsOrder n cost at 
 weight_at-outside n cost at o ps i zero h le hn out = omega (arith, linear)
 weight_at-outside n cost at o ps i (suc b) h le hn out =
     let has = others-has n cost at o (i + b) h (omega arith) hn (apart out) in
-    let ih = weight_at-outside n cost at o ps i b h (omega arith) hn (still out) in
+    let ih = weight_at-outside n cost at o ps i b h (omega arith) hn (outside_fewer h i b out) in
     weight_at-with_pair (grand_coalition n - singleton (at (i + b))) (pos 1) (with_others n at ps i b) (at h)
     ∙ rw has (one_more (weight_at (with_others n at ps i b) (at h)) (weight_at ps (at h)) b ih)
   where
     apart : (h < i) ⊎ (i + suc b ≤ h) → h ≢ i + b
     apart (inl lt) e = omega arith
     apart (inr ge) e = omega arith
-
-    still : (h < i) ⊎ (i + suc b ≤ h) → (h < i) ⊎ (i + b ≤ h)
-    still (inl lt) = inl lt
-    still (inr ge) = inr (omega arith)
 
     one_more : (u v : ℤ) (b : ℕ) → u ≡ v +ℤ pos b → pos 1 +ℤ u ≡ v +ℤ pos (suc b)
     one_more u v b e = omega (arith, linear)
@@ -78,14 +69,11 @@ pub weight_at-inside : (n : ℕ) (cost at : ℕ → ℕ) → IsOrder n cost at �
 weight_at-inside n cost at o ps i zero h le low high = absurd (omega arith)
 weight_at-inside n cost at o ps i (suc b) h le low high =
     weight_at-with_pair (grand_coalition n - singleton (at (i + b))) (pos 1) (with_others n at ps i b) (at h)
-    ∙ elim (last_or_less h (i + b) (omega arith)) [
+    ∙ elim (less_or_last h (i + b) (omega arith)) [
       | inl less ↦ rw (others-has n cost at o (i + b) h (omega arith) (omega arith) (λ e. omega arith)) (one_more (weight_at (with_others n at ps i b) (at h)) (weight_at ps (at h)) b (weight_at-inside n cost at o ps i b h (omega arith) low less))
       | inr same ↦ rw same (rw (others-lacks n cost at o (i + b) (omega arith)) (none_more (weight_at (with_others n at ps i b) (at (i + b))) (weight_at ps (at (i + b))) b (weight_at-outside n cost at o ps i b (i + b) (omega arith) (omega arith) (inr (omega arith)))))
     ]
   where
-    last_or_less : (j k : ℕ) → j < suc k → (j < k) ⊎ (j ≡ k)
-    last_or_less j k h = grind arith
-
     one_more : (u v : ℤ) (b : ℕ) → u ≡ v +ℤ pos b -ℤ pos 1 → pos 1 +ℤ u ≡ v +ℤ pos (suc b) -ℤ pos 1
     one_more u v b e = omega (arith, linear)
 

@@ -18,12 +18,9 @@ use Rattle.airport_scheme.specs.Scheme.{size_of, IsTerm, IsLeastTerm, IsGrown, p
 use Rattle.kohlberg.specs.Pairs.{with_pair}
 use Rattle.airport_scheme.specs.Levels.{with_others}
 use Rattle.airport_scheme.proofs.Steps.{sum-block, sum-scaled, IsPart, IsNext, IsPart-start, IsPart-next, IsScheme-whole}
+use Rattle.definitions.proofs.Cases.{less_or_last_of, next_or_last, nat_lt-less}
 
 -- ---- the least term
-
--- r over m is less than s over k
-abbrev pub IsLessTerm : ℤ → ℤ → ℤ → ℤ → Type 0
-IsLessTerm r m s k = (r *ℤ k) <ℤ (s *ℤ m)
 
 -- from a term that is less than another one, at most as much as all that the other is
 less_passes : (r m s k t j : ℤ) → pos 1 ≤ℤ m → pos 1 ≤ℤ k → pos 0 ≤ℤ j → (r *ℤ k) ≤ℤ (s *ℤ m) → (j *ℤ s) ≤ℤ (k *ℤ t) → (j *ℤ r) ≤ℤ (m *ℤ t)
@@ -63,10 +60,7 @@ IsBest-start n c den paid i last m r e t = record {
 
 last_place : (j l n : ℕ) → (j < l + 1) ⊎ (j + 1 ≡ n) → ((j < l) ⊎ (j + 1 ≡ n)) ⊎ (j ≡ l)
 last_place j l n (inr h) = inl (inr h)
-last_place j l n (inl h) = elim (split j l h) [ inl a ↦ inl (inl a) | inr a ↦ inr a ]
-  where
-    split : (j l : ℕ) → j < l + 1 → (j < l) ⊎ (j ≡ l)
-    split j l h = grind arith
+last_place j l n (inl h) = elim (less_or_last_of j l h) [ inl a ↦ inl (inl a) | inr a ↦ inr a ]
 
 pub IsBest-kept : (n : ℕ) (c : ℕ → ℕ) (den paid : ℤ) (i l best : ℕ) (m r k s : ℤ) → IsBest n c den paid i l best m r → IsTerm n c den paid i l k s → (r *ℤ k) ≤ℤ (s *ℤ m) → IsBest n c den paid i (l + 1) best m r
 IsBest-kept n c den paid i l best m r k s b t le = record {
@@ -192,19 +186,13 @@ next_of n c pay den paid i b m r sum least =
     record {
       within = omega arith;
       rate = t.rate ∙ ap (λ (z : ℤ). den *ℤ pos (c (i + b)) -ℤ z) sum;
-      size = elim (end_cases (i + b) n within) [ inl lt ↦ inl (lt, t.size ∙ ap pos (inner_size b lt)) | inr e ↦ inr (e, t.size ∙ ap pos (outer_size b e)) ];
+      size = elim (next_or_last (i + b) n within) [ inl lt ↦ inl (lt, t.size ∙ ap pos (inner_size b lt)) | inr e ↦ inr (e, t.size ∙ ap pos (outer_size b e)) ];
       inner = λ d lt. let h = least.least (i + d) (omega arith) (omega arith) in rw (inner_size d lt, sum) at h;
       outer = λ d e. let h = least.least (i + d) (omega arith) (omega arith) in rw (outer_size d e, sum) at h;
     }
   where
-    end_cases : (l n : ℕ) → l < n → (suc l < n) ⊎ (suc l ≡ n)
-    end_cases l n h = grind arith
-
     inner_size : (d : ℕ) → suc (i + d) < n → size_of n i (i + d) ≡ d + 2
-    inner_size d lt = rw (lt_test (i + d + 1) n (omega arith)) (omega arith)
-      where
-        lt_test : (a b : ℕ) → a < b → nat_lt a b ≡ true
-        lt_test a b h = grind (arith, nat_tests)
+    inner_size d lt = rw (nat_lt-less (i + d + 1) n (omega arith)) (omega arith)
 
     outer_size : (d : ℕ) → suc (i + d) ≡ n → size_of n i (i + d) ≡ suc d
     outer_size d e = rw (ge_test (i + d + 1) n (omega arith)) (omega arith)
@@ -284,16 +272,13 @@ grown_from old scaled new m r count d long each e same = record {
 pub by_player_next : (n : ℕ) (cost at : ℕ → ℕ) (pay : ℕ → ℤ) (num : List ℤ) (k : ℕ) (v : ℤ) → IsOrder n cost at → k < n → v ≡ neg_ℤ (pay k) → unsigned_abs (pay k) < 2 ^ 104 → length num ≡ n → ((j : ℕ) → j < k → get_or num (at j) (pos 0) ≡ neg_ℤ (pay j)) → All (λ z. unsigned_abs z < 2 ^ 110) num → (length (set num (at k) v) ≡ n) × ((j : ℕ) → j < k + 1 → get_or (set num (at k) v) (at j) (pos 0) ≡ neg_ℤ (pay j)) × All (λ z. unsigned_abs z < 2 ^ 110) (set num (at k) v)
 by_player_next n cost at pay num k v o lt e small long each all = (
   length-set num (at k) v ∙ long,
-  (λ j h. elim (last_or_less j k h) [
+  (λ j h. elim (less_or_last_of j k h) [
     | inl less ↦ get_or-set_other num (at k) (at j) v (pos 0) (λ same. o.apart j k less lt same) ∙ each j less
     | inr same ↦ rw same (get_or-set_same num (at k) v (pos 0) (rw long (o.below k lt)) ∙ e)
   ]),
   All-set (λ z. unsigned_abs z < 2 ^ 110) num (at k) v (rw e (negated (pay k) small)) all,
 )
   where
-    last_or_less : (j k : ℕ) → j < k + 1 → (j < k) ⊎ (j ≡ k)
-    last_or_less j k h = grind arith
-
     negated : (z : ℤ) → unsigned_abs z < 2 ^ 104 → unsigned_abs (neg_ℤ z) < 2 ^ 110
     negated z h = omega (arith, ints)
 

@@ -2,8 +2,9 @@
 use Rattle.std.proofs.Common.{◌≡◌, ℕ, ◌-◌, ◌^◌, ◌<◌, ◌≤◌, ℤ, pos, ◌-ℤ◌, ◌*ℤ◌, ◌≤ℤ◌, ◌<ℤ◌, unsigned_abs, neg_ℤ, to_z, of_z, arith, ap, sym, refl, zero, suc, List, [], ◌∷◌, length, get_or, ◌∙◌}
 use Rattle.std.proofs.Math.Nat.{mul-le-mul}
 use Rattle.std.proofs.lemmas.Int.{ints, unsigned_abs-mul}
-use Rattle.worth_core.proofs.Casts.{cast_kept}
 use mir.Syntax.{w64, w128}
+use Rattle.definitions.proofs.Casts.{cast_kept}
+use Rattle.definitions.proofs.Ring.{zero-subℤ}
 
 pub product_small : (a b : ℤ) → unsigned_abs a < 2 ^ 112 → unsigned_abs b < 2 ^ 7 → unsigned_abs (a *ℤ b) < 2 ^ 119
 product_small a b h k =
@@ -41,13 +42,10 @@ rest_value den cost paid a b c d e =
 pub negated_value : (z : ℤ) → unsigned_abs z < 2 ^ 104 → to_z w128 (of_z w128 (pos 0 -ℤ to_z w128 (of_z w128 z))) ≡ neg_ℤ z
 negated_value z h =
     let u : to_z w128 (of_z w128 z) ≡ z = cast_kept w128 z (omega arith) in
-    rw u (cast_kept w128 (pos 0 -ℤ z) (small z h) ∙ minus z)
+    rw u (cast_kept w128 (pos 0 -ℤ z) (small z h) ∙ zero-subℤ z)
   where
     small : (z : ℤ) → unsigned_abs z < 2 ^ 104 → unsigned_abs (pos 0 -ℤ z) < 2 ^ 127
     small z h = omega (arith, ints)
-
-    minus : (z : ℤ) → pos 0 -ℤ z ≡ neg_ℤ z
-    minus z = omega (arith, ints)
 
 pub same_small : (a b : ℤ) → unsigned_abs a < 2 ^ 104 → unsigned_abs b < 2 ^ 104 → of_z w128 a ≡ of_z w128 b → a ≡ b
 same_small a b h k e =

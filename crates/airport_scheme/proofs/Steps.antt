@@ -1,9 +1,10 @@
 -- One step of Littlechild's scheme.
 use Rattle.std.proofs.Common.{◌≡◌, ◌⊎◌, ℕ, zero, suc, ◌+◌, ◌-◌, ◌<◌, ◌≤◌, ℤ, pos, ◌+ℤ◌, ◌-ℤ◌, ◌*ℤ◌, ◌≤ℤ◌, ◌<ℤ◌, refl, sym, ap, ◌∙◌, inl, inr, arith, add-zero, add-suc, add_assoc}
 use Rattle.std.proofs.lemmas.Int.{ints, by_lt_z}
-use Rattle.definitions.proofs.Ring.{ring_laws, linear, linear, mul-leℤ, add-mulℤ, mul-subℤ, mul-nonnegativeℤ, mul-positiveℤ}
+use Rattle.definitions.proofs.Ring.{ring_laws, linear, linear, mul-leℤ, add-mulℤ, mul-subℤ, mul-nonnegativeℤ, mul-positiveℤ, one-mulℤ}
 use Rattle.definitions.specs.Sums.{sum_below}
 use Rattle.airport_scheme.specs.Scheme.{IsScheme}
+use Rattle.definitions.proofs.Cases.{below_or_above, less_same_or_greater}
 
 -- what is left of the cost at place l
 abbrev pub left : (ℕ → ℕ) → (ℕ → ℤ) → ℤ → ℕ → ℕ → ℤ
@@ -66,21 +67,12 @@ sum-block i g r (suc b) h =
     added : (u v a : ℤ) (b : ℕ) → u ≡ a +ℤ pos b *ℤ r → v ≡ r → u +ℤ v ≡ a +ℤ pos (suc b) *ℤ r
     added u v a b e f =
         let p : pos (suc b) ≡ pos b +ℤ pos 1 = omega (arith, ints) in
-        rw p (omega (arith, linear, e, f, add-mulℤ (pos b) (pos 1) r, one_times r))
-      where
-        one_times : (z : ℤ) → pos 1 *ℤ z ≡ z
-        one_times z = omega (arith, ints)
+        rw p (omega (arith, linear, e, f, add-mulℤ (pos b) (pos 1) r, one-mulℤ r))
 
 split_place : (i b j : ℕ) → j < i + suc b → (j < i) ⊎ ((d : ℕ) × (d < suc b) × (j ≡ i + d))
-split_place i b j lt = elim (cases i j) [ inl less ↦ inl less | inr ge ↦ inr (j - i, omega arith, omega arith) ]
-  where
-    cases : (i j : ℕ) → (j < i) ⊎ (i ≤ j)
-    cases i j = grind arith
+split_place i b j lt = elim (below_or_above j i) [ inl less ↦ inl less | inr ge ↦ inr (j - i, omega arith, omega arith) ]
 
 -- ---- the step over plain numbers
-
-one_times : (z : ℤ) → pos 1 *ℤ z ≡ z
-one_times z = omega (arith, ints)
 
 times_down : (m a b : ℤ) → pos 1 ≤ℤ m → (m *ℤ a) <ℤ (m *ℤ b) → a <ℤ b
 times_down m a b one h =
@@ -99,7 +91,7 @@ tight_scaled m x p den C h =
 under_new : (m x s t r den C y : ℤ) → t ≡ s +ℤ pos 1 → y ≡ m *ℤ x +ℤ s *ℤ r → (t *ℤ r) ≤ℤ (m *ℤ (den *ℤ C -ℤ x)) → (y +ℤ r) ≤ℤ ((den *ℤ m) *ℤ C)
 under_new m x s t r den C y e f h =
     let g = ap (λ (z : ℤ). z *ℤ r) e ∙ add-mulℤ s (pos 1) r in
-    let u = one_times r in
+    let u = one-mulℤ r in
     let k : (t *ℤ r) ≤ℤ (m *ℤ (den *ℤ C) -ℤ m *ℤ x) = omega (arith, linear, h, mul-subℤ m (den *ℤ C) x) in
     let a : m *ℤ (den *ℤ C) ≡ (den *ℤ m) *ℤ C = simp ring_laws in
     omega (arith, linear)
@@ -114,7 +106,7 @@ room_new m x s t u r den C y e f h =
 here_new : (m x s r den C y : ℤ) → m ≡ s +ℤ pos 1 → r ≡ den *ℤ C -ℤ x → y ≡ m *ℤ x +ℤ s *ℤ r → y +ℤ r ≡ (den *ℤ m) *ℤ C
 here_new m x s r den C y e h f =
     let g = ap (λ (z : ℤ). z *ℤ r) e ∙ add-mulℤ s (pos 1) r in
-    let u = one_times r in
+    let u = one-mulℤ r in
     let k = ap (λ (z : ℤ). m *ℤ z) h ∙ mul-subℤ m (den *ℤ C) x in
     let a : m *ℤ (den *ℤ C) ≡ (den *ℤ m) *ℤ C = simp ring_laws in
     omega (arith, linear)
@@ -149,7 +141,7 @@ IsPart-next n c pay den i b rate m r more p q before block = record {
   up = λ k lt. elim (split_place i b k lt) [ inl less ↦ up_before k less | inr d ↦ rw (d.2, block d.0 d.1) (omega (arith, ints)) ];
   rises = λ j k lt le. rising j k lt (split_place i b j (omega arith)) (split_place i b k le);
   under = λ k lt le. elim (split_place i b k lt) [ inl less ↦ under_before k less le | inr d ↦ under_block k d.0 d.1 d.2 le ];
-  tight = λ k lt up. tight_at k lt up (place_cases i (suc k));
+  tight = λ k lt up. tight_at k lt up (less_same_or_greater (suc k) i);
   here = λ k e lt. here_at k (place_of k e) lt;
   room = λ d lt. let q_in = q.inner (suc b + d) (omega arith) in room_new m (sum_below i pay) (pos (suc b)) (pos (d + 2)) (pos (suc b + d + 2)) r den (pos (c (i + suc b + d))) (sum_below (i + suc b) more) (omega (arith, ints)) whole (rw (add_assoc i (suc b) d) q_in);
   end = λ d e. let q_out = q.outer (suc b + d) (omega arith) in room_new m (sum_below i pay) (pos (suc b)) (pos (suc d)) (pos (suc (suc b + d))) r den (pos (c (i + suc b + d))) (sum_below (i + suc b) more) (omega (arith, ints)) whole (rw (add_assoc i (suc b) d) q_out);
@@ -173,9 +165,6 @@ IsPart-next n c pay den i b rate m r more p q before block = record {
 
     place_of : (k : ℕ) → suc k ≡ i + suc b → k ≡ i + b
     place_of k e = omega arith
-
-    place_cases : (i k : ℕ) → (k < i) ⊎ ((k ≡ i) ⊎ (i < k))
-    place_cases i k = grind arith
 
     least_before : (k : ℕ) → k < i → pos 0 ≤ℤ more k
     least_before k lt = rw (before k lt) (mul-nonnegativeℤ m (pay k) (omega (arith, linear, one)) (p.least k lt))

@@ -4,11 +4,16 @@
 --   IsRunEnd                  where a block ends
 --   IsBlock                   the level of a block
 --   IsChain, AreLevels        the levels of the blocks
-use Rattle.std.specs.Prelude.{◌≡◌, ℕ, zero, suc, ◌+◌, ◌-◌, ◌<◌, ◌≤◌, Bool, nat_lt, List, [], ◌∷◌, ℤ, pos, negsuc, ◌-ℤ◌, ◌*ℤ◌, ◌<ℤ◌, ◌≤ℤ◌, neg_ℤ, if◌then◌else◌}
+--   IsOfBlock, IsInFront      the pairs of the level of a block
+--   IsBlockLevel, AreBlockLevels   the level of a block, and those of the blocks, by what their lists hold
+--   AreSchemeLevels           the levels of the scheme, for shares that it gives
+use Rattle.std.specs.Prelude.{◌≡◌, ◌⊎◌, ℕ, zero, suc, ◌+◌, ◌-◌, ◌<◌, ◌≤◌, Bool, nat_lt, List, [], ◌∷◌, length, ℤ, pos, negsuc, ◌-ℤ◌, ◌*ℤ◌, ◌<ℤ◌, ◌≤ℤ◌, neg_ℤ, if◌then◌else◌}
 use Rattle.definitions.specs.Coalitions.{singleton, grand_coalition}
+use Rattle.definitions.specs.Games.{Allocation}
 use Rattle.definitions.specs.Certificates.{Level}
-use Rattle.kohlberg.specs.Pairs.{with_pair}
+use Rattle.kohlberg.specs.Pairs.{with_pair, AreExactly}
 use Rattle.orders.specs.Orders.{front}
+use Rattle.airport_scheme.specs.Scheme.{IsPaid}
 
 -- all but one, for each of b players from place i, put among pairs
 abbrev pub with_others : ℕ → (ℕ → ℕ) → List (ℕ × ℤ) → ℕ → ℕ → List (ℕ × ℤ)
@@ -48,3 +53,38 @@ IsChain n at pay den i (l ∷ ls) k = (m : ℕ) × IsBlock n at pay den i m l ×
 -- the levels of all blocks that begin while two players are left
 abbrev pub AreLevels : ℕ → (ℕ → ℕ) → (ℕ → ℤ) → ℤ → List Level → Type 0
 AreLevels n at pay den levels = (k : ℕ) × IsChain n at pay den 0 levels k × (n ≤ k + 1)
+
+-- ---- the same levels, by what their lists hold
+
+-- all but one of the players of the block from place i up to place k, or the first k players where others follow, with weight 1
+abbrev pub IsOfBlock : ℕ → (ℕ → ℕ) → ℕ → ℕ → ℕ → ℤ → Type 0
+IsOfBlock n at i k s w =
+    (((j : ℕ) × (i ≤ j) × (j < k) × (s ≡ grand_coalition n - singleton (at j))) ⊎ ((k < n) × (s ≡ front at k))) × (w ≡ pos 1)
+
+-- the first i players, where there are some, with weight -1
+abbrev pub IsInFront : (ℕ → ℕ) → ℕ → ℕ → ℤ → Type 0
+IsInFront at i s w = (0 < i) × (s ≡ front at i) × (w ≡ negsuc 0)
+
+-- the level of the block from place i up to place k: all of it pays the same and the next pays more; the excess is minus that payment over the denominator, and the total is the number of its players, one less where it is the last
+pub record IsBlockLevel (n : ℕ) (at : ℕ → ℕ) (pay : ℕ → ℤ) (den : ℤ) (i k : ℕ) (l : Level) : Type 0 where
+  pub two : i + 2 ≤ n
+  pub some : i < k
+  pub within : k ≤ n
+  pub same : (j : ℕ) → i ≤ j → j < k → pay j ≡ pay i
+  pub until : k < n → pay i <ℤ pay k
+  pub fraction : pos 1 ≤ℤ l.excess_den
+  pub excess : neg_ℤ (pay i) *ℤ l.excess_den ≡ l.excess_num *ℤ den
+  pub coalitions : AreExactly (IsOfBlock n at i k) l.coalitions
+  pub earlier : AreExactly (IsInFront at i) l.earlier
+  pub bounds : l.bounds ≡ []
+  pub total : l.total ≡ (if nat_lt k n then pos (k - i) else pos (k - i) -ℤ pos 1)
+
+-- the levels of the blocks from place i up to place k
+abbrev pub AreBlockLevels : ℕ → (ℕ → ℕ) → (ℕ → ℤ) → ℤ → ℕ → List Level → ℕ → Type 0
+AreBlockLevels n at pay den i [] k = i ≡ k
+AreBlockLevels n at pay den i (l ∷ ls) k = (m : ℕ) × IsBlockLevel n at pay den i m l × AreBlockLevels n at pay den m ls k
+
+-- the levels of the scheme's payments, for the shares that give each player minus its payment: those of all blocks that begin while two players are left
+abbrev pub AreSchemeLevels : List ℕ → (ℕ → ℕ) → Allocation → List Level → Type 0
+AreSchemeLevels costs at x levels =
+    (pay : ℕ → ℤ) × IsPaid costs at pay x × ((k : ℕ) × AreBlockLevels (length costs) at pay x.den 0 levels k × (length costs ≤ k + 1))

@@ -1,7 +1,7 @@
 //! The levels of the blocks, the runs of places that pay the same.
 ghost use Rattle.std.specs.Prelude.{◌≡◌, ◌+◌, ◌-◌, ◌^◌, ◌<◌, ◌≤◌, length, pos, unsigned_abs, IfOk, nat_lt, [], ◌∷◌, if◌then◌else◌, All};
 ghost use Rattle.std.specs.List.{AllByRecursion};
-ghost use Rattle.fractions.specs.Fraction.{IsReduced, HasForm};
+ghost use Rattle.kohlberg.specs.Solved.{IsLowest};
 ghost use Rattle.airport.specs.Airport.{place};
 ghost use Rattle.orders.specs.Orders.{front};
 ghost use Rattle.airport_scheme.specs.Scheme.{cost_at, pay_at, IsPayment};
@@ -86,7 +86,7 @@ fn block_level(
     requires before { before ≡ front (place game.now) i }
     requires after { after ≡ front (place game.now) k }
     ensures block { IfOk result (λ l. IsBlock (length game.now.costs) (place game.now) (pay_at paid.now.pay.items) paid.now.den i k l) }
-    ensures lowest { IfOk result (λ l. IsReduced (record { num = l.excess_num; den = l.excess_den }) × HasForm (record { num = l.excess_num; den = l.excess_den })) }
+    ensures lowest { IfOk result IsLowest }
 {
     let coalitions = block_coalitions(alloc, game, i, k, after)?;
     let earlier = pair_if(alloc, before, -1, i > 0)?;
@@ -106,7 +106,7 @@ fn block_level(
 pub fn all_levels(alloc: Global, game: &AirportGame, paid: &Paid) -> Result<Vec<Level>, AllocError>
     requires payment { IsPayment (length game.now.costs) (cost_at game.now) paid.now.pay.items paid.now.den }
     ensures levels { IfOk result (λ v. AreLevels (length game.now.costs) (place game.now) (pay_at paid.now.pay.items) paid.now.den v.items) }
-    ensures lowest { IfOk result (λ v. AllByRecursion (λ l. IsReduced (record { num = l.excess_num; den = l.excess_den }) × HasForm (record { num = l.excess_num; den = l.excess_den })) v.items) }
+    ensures lowest { IfOk result (λ v. AllByRecursion IsLowest v.items) }
 {
     let n = game.len();
     let mut levels = Vec::new(alloc);

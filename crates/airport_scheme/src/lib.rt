@@ -8,10 +8,13 @@ mod rates;
 mod tests;
 
 ghost use Rattle.std.specs.Prelude.{IfOk};
-ghost use Rattle.std.specs.List.{AllByRecursion};
-ghost use Rattle.fractions.specs.Fraction.{IsReduced, HasForm};
-ghost use Rattle.airport.specs.Airport.{airport_game};
+ghost use Rattle.definitions.specs.Games.{InCore};
+ghost use Rattle.definitions.specs.declared.Family.{Family};
+ghost use Rattle.definitions.specs.declared.Measure.TheVariants.{Plain};
+ghost use Rattle.definitions.specs.declared.Mode.TheVariants.{Players};
+ghost use Rattle.airport.specs.Airport.{airport_game, place};
 ghost use Rattle.kohlberg.specs.Solved.{IsSolved};
+ghost use Rattle.airport_scheme.specs.Levels.{AreSchemeLevels};
 
 use crate::blocks::all_levels;
 use crate::payments::{by_place, by_player};
@@ -23,13 +26,18 @@ use std::alloc::Global;
 use worth_core::Shares;
 
 /// The nucleolus of an airport game of 1 to 64 players, which is its prenucleolus too and lies in the core, and the
-/// certificate for both, in mode players and with no bounds (Littlechild 1974). The excess of each level is a fraction in
-/// lowest terms with parts of 128 bits.
+/// certificate for both, in mode players and with no bounds (Littlechild 1974).
+///
+/// Each level is that of a block, of players in a row in the order of their costs who pay the same. Its excess is minus what
+/// each of them pays, a fraction in lowest terms with parts of 128 bits. It lists all players but one of the block, for each,
+/// and all players up to the block's end where others follow, each with weight 1; and the players in front of the block with
+/// weight -1.
 ///
 /// Its one error is want of memory.
 pub fn solve(alloc: Global, game: &AirportGame) -> Result<(Shares, Certificate), OutOfMemory>
-    ensures solved { IfOk result (λ solution. IsSolved (airport_game game.now) solution.0 solution.1) }
-    ensures lowest { IfOk result (λ solution. AllByRecursion (λ l. IsReduced (record { num = l.excess_num; den = l.excess_den }) × HasForm (record { num = l.excess_num; den = l.excess_den })) solution.1.levels) }
+    ensures solved { IfOk result (λ solution. (family : Family) → IsSolved Players family Plain (airport_game game.now) solution.0 solution.1) }
+    ensures core { IfOk result (λ solution. InCore (airport_game game.now) solution.0) }
+    ensures levels { IfOk result (λ solution. AreSchemeLevels game.now.costs (place game.now) solution.0 solution.1.levels) }
 {
     let paid = by_place(alloc, game)?;
     let levels = all_levels(alloc, game, &paid)?;

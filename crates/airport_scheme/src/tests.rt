@@ -1,6 +1,9 @@
 //! Costs whose shares and levels were worked by hand, and the verdicts of the checker.
 ghost use Rattle.std.specs.Prelude.{◌<◌, length, IfOk};
 ghost use Rattle.airport.specs.Airport.{airport_game};
+ghost use Rattle.definitions.specs.declared.Family.{Family};
+ghost use Rattle.definitions.specs.declared.Measure.TheVariants.{Plain};
+ghost use Rattle.definitions.specs.declared.Mode.TheVariants.{Players};
 ghost use Rattle.kohlberg.specs.Solved.{IsSolved};
 
 use super::*;
@@ -9,6 +12,7 @@ use coalitions::Coalition;
 use fractions::Frac;
 use kohlberg::{Family, Level, ratio};
 use std::test::Fail;
+use worth_core::Measure;
 
 /// The game of these costs, and what solves it.
 #[derive(Drop)]
@@ -19,11 +23,13 @@ struct Solution {
 }
 
 fn solved(alloc: Global, costs: &[i64]) -> Result<Solution, Fail>
-    ensures { IfOk result (λ s. IsSolved (airport_game s.game) s.shares s.certificate) }
+    ensures { IfOk result (λ s. (family : Family) → IsSolved Players family Plain (airport_game s.game) s.shares s.certificate) }
 {
     let costs = costs.to_vec(alloc)?;
     let game = AirportGame::new(alloc, costs).map_err(|_| "no game")?;
-    let (shares, certificate) = solve(alloc, &game).map_err(|_| "no memory")?;
+    let Ok((shares, certificate)) = solve(alloc, &game) else {
+        return Err(Fail::from("no memory"));
+    };
     Ok(Solution {
         game,
         shares,
@@ -33,10 +39,22 @@ fn solved(alloc: Global, costs: &[i64]) -> Result<Solution, Fail>
 
 /// Whether the checker says Yes to the certificate, for both families.
 fn is_certified(s: &Solution) -> bool
-    requires { IsSolved (airport_game s.now.game) s.now.shares s.now.certificate }
+    requires { (family : Family) → IsSolved Players family Plain (airport_game s.now.game) s.now.shares s.now.certificate }
 {
-    check(&s.game, Family::Imputations, &s.shares, &s.certificate) == Verdict::Yes
-        && check(&s.game, Family::Preimputations, &s.shares, &s.certificate) == Verdict::Yes
+    check(
+        &s.game,
+        Family::Imputations,
+        Measure::Plain,
+        &s.shares,
+        &s.certificate,
+    ) == Verdict::Yes
+        && check(
+            &s.game,
+            Family::Preimputations,
+            Measure::Plain,
+            &s.shares,
+            &s.certificate,
+        ) == Verdict::Yes
 }
 
 /// What a player pays.

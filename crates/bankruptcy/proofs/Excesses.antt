@@ -8,7 +8,8 @@ use Rattle.definitions.specs.Coalitions.{has_player, grand_coalition, sum_over}
 use Rattle.definitions.specs.Games.{Allocation, share, amount, excess}
 use Rattle.bankruptcy.specs.Bankruptcy.{Bankruptcy, bankruptcy_game}
 use Rattle.bankruptcy.specs.Arms.{arm_at}
-use Rattle.bankruptcy.proofs.Laws.{claim, max-cases}
+use Rattle.bankruptcy.proofs.Laws.{claim}
+use Rattle.definitions.proofs.Cases.{int_max-cases}
 
 -- ---- sums of differences
 
@@ -26,15 +27,15 @@ sum_over-scaled (suc n) s q d x =
 -- ---- the greater of the two
 
 scaled_max : (q w y : ℤ) → pos 1 ≤ℤ q → q *ℤ int_max (pos 0) w -ℤ y ≡ int_max (neg_ℤ y) (q *ℤ w -ℤ y)
-scaled_max q w y h = elim (max-cases (pos 0) w) [
+scaled_max q w y h = elim (int_max-cases (pos 0) w) [
   | inl (e, low) ↦
       let le = mul-leℤ q w (pos 0) (omega (arith, linear)) low in
       let none = mul-zeroℤ q in
-      rw e (elim (max-cases (neg_ℤ y) (q *ℤ w -ℤ y)) [ inl a ↦ omega (arith, linear, a.0) | inr a ↦ omega (arith, linear, a.0, a.1) ])
+      rw e (elim (int_max-cases (neg_ℤ y) (q *ℤ w -ℤ y)) [ inl a ↦ omega (arith, linear, a.0) | inr a ↦ omega (arith, linear, a.0, a.1) ])
   | inr (e, high) ↦
       let le = mul-leℤ q (pos 0) w (omega (arith, linear)) high in
       let none = mul-zeroℤ q in
-      rw e (elim (max-cases (neg_ℤ y) (q *ℤ w -ℤ y)) [ inl a ↦ omega (arith, linear, a.0, a.1) | inr a ↦ omega (arith, linear, a.0) ])
+      rw e (elim (int_max-cases (neg_ℤ y) (q *ℤ w -ℤ y)) [ inl a ↦ omega (arith, linear, a.0, a.1) | inr a ↦ omega (arith, linear, a.0) ])
 ]
 
 arm-alone : (f : ℤ) (b : Bankruptcy) (x : Allocation) (s : ℕ) → s < 2 ^ length b.claims → arm_at f b x s ≡ f *ℤ (pos b.estate -ℤ sum_over (length b.claims) (claim b.claims) (grand_coalition (length b.claims) - s)) -ℤ sum_over (length b.claims) (share x) s

@@ -1,41 +1,20 @@
 -- A bankruptcy game is a game of the toolbox.
-use Rattle.std.proofs.Common.{◌≡◌, ◌⊎◌, ℕ, zero, suc, ◌+◌, ◌-◌, ◌^◌, ◌<◌, Bool, true, false, cond, List, [], ◌∷◌, length, get_or, sum, ℤ, pos, ◌+ℤ◌, ◌-ℤ◌, ◌≤ℤ◌, int_lt, unsigned_abs, refl, sym, ap, ◌∙◌, inl, inr, arith}
+use Rattle.std.proofs.Common.{◌≡◌, ℕ, ◌+◌, ◌-◌, ◌^◌, ◌<◌, List, [], ◌∷◌, length, get_or, sum, ℤ, pos, ◌+ℤ◌, ◌-ℤ◌, ◌≤ℤ◌, unsigned_abs, refl, sym, ap, ◌∙◌, inl, inr, arith}
 use Rattle.std.proofs.lemmas.List.Sums.{sum_by-cons}
 use Rattle.std.specs.Int.{int_max}
 use Rattle.std.proofs.lemmas.Int.{ints}
-use Rattle.definitions.proofs.Ring.{linear}
-use Rattle.definitions.proofs.Members.{sum_over-grand_coalition}
+use Rattle.definitions.proofs.Members.{sum_over-grand_coalition, sum_over-nonnegative, sum_below-front}
 use Rattle.definitions.specs.Sums.{sum_below}
-use Rattle.definitions.specs.Coalitions.{has_player, grand_coalition, sum_over}
+use Rattle.definitions.specs.Coalitions.{grand_coalition, sum_over}
 use Rattle.definitions.specs.Games.{IsGame}
 use Rattle.bankruptcy.specs.Bankruptcy.{Bankruptcy, IsBankruptcy, bankruptcy_game}
+use Rattle.definitions.proofs.Cases.{int_max-cases}
+use Rattle.std.proofs.Math.Nat.{sub-zero}
 
 abbrev pub claim : List ℕ → ℕ → ℤ
 claim claims i = pos (get_or claims i 0)
 
--- the greater of two numbers
-pub max-cases : (a b : ℤ) → ((int_max a b ≡ a) × (b ≤ℤ a)) ⊎ ((int_max a b ≡ b) × (a ≤ℤ b))
-max-cases a b =
-    let step : (t : Bool) → int_lt b a ≡ t → ((cond t a b ≡ a) × (b ≤ℤ a)) ⊎ ((cond t a b ≡ b) × (a ≤ℤ b)) = elim [
-      | true ↦ λ e. inl (refl, omega (arith, ints))
-      | false ↦ λ e. inr (refl, omega (arith, ints))
-    ] in
-    step (int_lt b a) refl
-
--- a sum of numbers that are at least 0
-sum-nonnegative : (n s : ℕ) (f : ℕ → ℤ) → ((i : ℕ) → i < n → pos 0 ≤ℤ f i) → pos 0 ≤ℤ sum_over n f s
-sum-nonnegative zero s f low = omega (arith, linear)
-sum-nonnegative (suc n) s f low =
-    let ih = sum-nonnegative n s f (λ i h. low i (omega arith)) in
-    let here = low n (omega arith) in
-    let step : (b : Bool) → pos 0 ≤ℤ (sum_over n f s +ℤ cond b (f n) (pos 0)) = elim [ true ↦ omega (arith, linear) | false ↦ omega (arith, linear) ] in
-    step (has_player s n)
-
-sum_below-front : (n : ℕ) (f : ℕ → ℤ) → sum_below (suc n) f ≡ f 0 +ℤ sum_below n (λ i. f (suc i))
-sum_below-front zero f = omega (arith, linear)
-sum_below-front (suc n) f = let ih = sum_below-front n f in omega (arith, linear, ih)
-
-sum-claims : (claims : List ℕ) → pos (sum claims) ≡ sum_below (length claims) (claim claims)
+pub sum-claims : (claims : List ℕ) → pos (sum claims) ≡ sum_below (length claims) (claim claims)
 sum-claims [] = refl
 sum-claims (c ∷ claims) =
     let step : sum (c ∷ claims) ≡ c + sum claims = sum_by-cons (λ (x : ℕ). x) c claims in
@@ -51,20 +30,17 @@ pub IsGame-bankruptcy : (b : Bankruptcy) → IsBankruptcy b → IsGame (bankrupt
 IsGame-bankruptcy b h = record {
   some = h.some;
   few = h.few;
-  nobody = nobody (sum_over (length b.claims) (claim b.claims) (grand_coalition (length b.claims) - 0)) (ap (sum_over (length b.claims) (claim b.claims)) (minus_none (grand_coalition (length b.claims))) ∙ sum_over-grand_coalition (length b.claims) (claim b.claims) ∙ sym (sum-claims b.claims));
-  small = λ s lt. small (sum_over (length b.claims) (claim b.claims) (grand_coalition (length b.claims) - s)) (sum-nonnegative (length b.claims) (grand_coalition (length b.claims) - s) (claim b.claims) (λ i k. natural (get_or b.claims i 0)));
+  nobody = nobody (sum_over (length b.claims) (claim b.claims) (grand_coalition (length b.claims) - 0)) (ap (sum_over (length b.claims) (claim b.claims)) (sub-zero (grand_coalition (length b.claims))) ∙ sum_over-grand_coalition (length b.claims) (claim b.claims) ∙ sym (sum-claims b.claims));
+  small = λ s lt. small (sum_over (length b.claims) (claim b.claims) (grand_coalition (length b.claims) - s)) (sum_over-nonnegative (length b.claims) (grand_coalition (length b.claims) - s) (claim b.claims) (λ i k. natural (get_or b.claims i 0)));
 }
   where
-    minus_none : (n : ℕ) → n - 0 ≡ n
-    minus_none n = omega arith
-
     natural : (c : ℕ) → pos 0 ≤ℤ pos c
     natural c = omega (arith, ints)
 
     nobody : (u : ℤ) → u ≡ pos (sum b.claims) → int_max (pos 0) (pos b.estate -ℤ u) ≡ pos 0
-    nobody u e = let enough = h.enough in elim (max-cases (pos 0) (pos b.estate -ℤ u)) [ inl a ↦ a.0 | inr a ↦ omega (arith, ints, a.0, a.1) ]
+    nobody u e = let enough = h.enough in elim (int_max-cases (pos 0) (pos b.estate -ℤ u)) [ inl a ↦ a.0 | inr a ↦ omega (arith, ints, a.0, a.1) ]
 
     small : (u : ℤ) → pos 0 ≤ℤ u → unsigned_abs (int_max (pos 0) (pos b.estate -ℤ u)) < 2 ^ 46
-    small u low = let few = h.estate_small in elim (max-cases (pos 0) (pos b.estate -ℤ u)) [ inl a ↦ rw a.0 (omega arith) | inr a ↦ rw a.0 (omega (arith, ints, a.1)) ]
+    small u low = let few = h.estate_small in elim (int_max-cases (pos 0) (pos b.estate -ℤ u)) [ inl a ↦ rw a.0 (omega arith) | inr a ↦ rw a.0 (omega (arith, ints, a.1)) ]
 
 pub ruleset game_laws = (IsGame-bankruptcy)

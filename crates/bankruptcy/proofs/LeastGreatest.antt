@@ -7,20 +7,18 @@ use Rattle.std.proofs.Math.Nat.{pow-suc}
 use Rattle.std.specs.Int.{bit_at}
 use Rattle.definitions.proofs.Ring.{linear}
 use Rattle.definitions.proofs.Members.{has_player-empty, sum_below-zero}
-use Rattle.definitions.proofs.Parts.{same_or_other, has_player-more_same, has_player-more_other, has_player-past, sum_over-more}
+use Rattle.definitions.proofs.Parts.{has_player-more_same, has_player-more_other, has_player-past, sum_over-more}
 use Rattle.definitions.specs.Coalitions.{has_player, sum_over}
 use Rattle.definitions.specs.Games.{Game, Allocation, excess, Blocks, IsChosenBlocker}
 use Rattle.bankruptcy.specs.Arms.{IsLeastGreatest}
+use Rattle.definitions.proofs.Cases.{same_bit, below_or_above, same_or_other}
 
 -- ---- a coalition with one player more
-
-bit_from_test : (b c : ℕ) → b < 2 → c < 2 → nat_eq b 1 ≡ nat_eq c 1 → b ≡ c
-bit_from_test b c low small h = grind (arith, nat_tests)
 
 -- by its members it is the sum of the masks
 pub mask_with : (r c i : ℕ) → c < 2 ^ i → ((j : ℕ) → has_player r j ≡ (nat_eq j i || has_player c j)) → r ≡ c + 2 ^ i
 mask_with r c i below h =
-    same_from_bits r (c + 2 ^ i) (λ j. bit_from_test (bit_at r j) (bit_at (c + 2 ^ i) j) (bit_at-lt r j) (bit_at-lt (c + 2 ^ i) j) (h j ∙ sym (members j)))
+    same_from_bits r (c + 2 ^ i) (λ j. same_bit (bit_at r j) (bit_at (c + 2 ^ i) j) (bit_at-lt r j) (bit_at-lt (c + 2 ^ i) j) (h j ∙ sym (members j)))
   where
     lacks : has_player c i ≡ false
     lacks = has_player-past i c i below (omega arith)
@@ -60,9 +58,6 @@ next_pow i = let p = pow-suc 2 i in rw (add-one i) (omega arith)
 low_or_high : (i t : ℕ) → t < 2 ^ (i + 1) → (t < 2 ^ i) ⊎ ((u : ℕ) × (u < 2 ^ i) × (t ≡ u + 2 ^ i))
 low_or_high i t h = decide (below_or_above t (2 ^ i))
   where
-    below_or_above : (t k : ℕ) → (t < k) ⊎ (k ≤ t)
-    below_or_above t k = grind arith
-
     decide : (t < 2 ^ i) ⊎ (2 ^ i ≤ t) → (t < 2 ^ i) ⊎ ((u : ℕ) × (u < 2 ^ i) × (t ≡ u + 2 ^ i))
     decide (inl low) = inl low
     decide (inr high) = let p = next_pow i in inr (t - 2 ^ i, omega arith, omega arith)

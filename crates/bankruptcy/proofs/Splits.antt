@@ -1,46 +1,18 @@
 -- The greatest sum over the coalitions that hold some but not all of some players, where all players are seen.
-use Rattle.std.proofs.Common.{◌≡◌, ◌⊎◌, ℕ, zero, suc, ◌+◌, ◌^◌, ◌<◌, ◌≤◌, Bool, true, false, not, ◌&&◌, ◌||◌, IsTrue, ℤ, ◌+ℤ◌, ◌≤ℤ◌, Option, Some, None, IsSome, refl, sym, ap, ◌∙◌, inl, inr, arith}
+use Rattle.std.proofs.Common.{◌≡◌, ℕ, ◌+◌, ◌^◌, ◌<◌, Bool, true, false, not, ◌&&◌, ◌||◌, IsTrue, ℤ, ◌+ℤ◌, ◌≤ℤ◌, Option, Some, None, IsSome, refl, sym, ap, ◌∙◌, inl, inr, arith}
 use Rattle.std.proofs.lemmas.Bool.{false≢true}
 use Rattle.std.proofs.Math.Pow.{pow-lt, pow_pos}
 use Rattle.std.specs.Int.{int_max}
 use Rattle.definitions.proofs.Ring.{linear}
-use Rattle.definitions.proofs.Members.{has_player-grand_coalition, has_player-singleton, has_player-singleton_other}
+use Rattle.definitions.proofs.Members.{has_player-grand_coalition}
 use Rattle.definitions.proofs.Parts.{has_player-past}
-use Rattle.definitions.specs.Coalitions.{has_player, singleton, grand_coalition, some_below, splits}
+use Rattle.definitions.specs.Coalitions.{has_player, singleton, grand_coalition, splits}
 use Rattle.definitions.specs.Games.{Game, Allocation, excess, HasTwo, IsSplitMaximum}
 use Rattle.worth_core.specs.SplitKinds.{holds_some, lacks_some, IsSeenSet, IsGreatestSum}
 use Rattle.bankruptcy.specs.Arms.{IsSplitGreatest}
-use Rattle.bankruptcy.proofs.Laws.{max-cases}
 use Rattle.bankruptcy.proofs.LeastGreatest.{linear_at, next_pow}
-
--- ---- where some number passes a test
-
-last_or_less : (k n : ℕ) → k < suc n → (k < n) ⊎ (k ≡ n)
-last_or_less k n h = grind arith
-
-or_true : (a : Bool) → (a || true) ≡ true
-or_true = elim [ true ↦ refl | false ↦ refl ]
-
-some_below-at : (n i : ℕ) (test : ℕ → Bool) → i < n → test i ≡ true → some_below n test ≡ true
-some_below-at zero i test lt h = absurd (omega arith)
-some_below-at (suc n) i test lt h = elim (last_or_less i n lt) [
-  | inl less ↦ rw (some_below-at n i test less h) (or_true (test n))
-  | inr same ↦ rw (sym same) (rw h refl)
-]
-
-some_below-same : (n : ℕ) (p q : ℕ → Bool) → ((i : ℕ) → i < n → q i ≡ p i) → some_below n q ≡ some_below n p
-some_below-same zero p q h = refl
-some_below-same (suc n) p q h =
-    let ih = some_below-same n p q (λ i k. h i (omega arith)) in
-    let here = h n (omega arith) in
-    cc
-
--- of two players of f, the first alone is a coalition that splits f
-splits-singleton : (n f i j : ℕ) → i < j → j < n → has_player f i ≡ true → has_player f j ≡ true → splits n (has_player f) (singleton i) ≡ true
-splits-singleton n f i j lt within hi hj =
-    let holds = some_below-at n i (λ k. has_player f k && has_player (singleton i) k) (omega arith) (rw (hi, has_player-singleton i) refl) in
-    let lacks = some_below-at n j (λ k. has_player f k && not (has_player (singleton i) k)) within (rw (hj, has_player-singleton_other i j (λ e. omega arith)) refl) in
-    rw (holds, lacks) refl
+use Rattle.definitions.proofs.Cases.{and_true, or_false, below_or_above, int_max-cases}
+use Rattle.definitions.proofs.Splits.{some_below-same, splits-singleton}
 
 -- ---- where all players are seen
 
@@ -48,15 +20,9 @@ splits-singleton n f i j lt within hi hj =
 abbrev both : Bool → Bool → Bool
 both holds lacks = holds && (lacks || false)
 
-and_true : (a : Bool) → (a && true) ≡ a
-and_true = elim [ true ↦ refl | false ↦ refl ]
-
-or_false : (a : Bool) → (a || false) ≡ a
-or_false = elim [ true ↦ refl | false ↦ refl ]
-
 both-splits : (n f s : ℕ) → both (holds_some n f s) (lacks_some n f (grand_coalition n) s) ≡ splits n (has_player f) s
 both-splits n f s =
-    ap (λ (b : Bool). holds_some n f s && b) (or_false (lacks_some n f (grand_coalition n) s) ∙ some_below-same n (λ i. has_player f i && not (has_player s i)) (λ i. (has_player f i && has_player (grand_coalition n) i) && not (has_player s i)) here)
+    ap (λ (b : Bool). holds_some n f s && b) (or_false (lacks_some n f (grand_coalition n) s) ∙ some_below-same n (λ i. (has_player f i && has_player (grand_coalition n) i) && not (has_player s i)) (λ i. has_player f i && not (has_player s i)) here)
   where
     here : (i : ℕ) → i < n → ((has_player f i && has_player (grand_coalition n) i) && not (has_player s i)) ≡ (has_player f i && not (has_player s i))
     here i lt = rw (has_player-grand_coalition n i lt, and_true (has_player f i)) refl
@@ -71,9 +37,6 @@ grand_coalition-lacks i = has_player-past i (grand_coalition i) i (omega (arith,
 IsSeenSet-all : (n f s : ℕ) → s < 2 ^ n → splits n (has_player f) s ≡ true → IsSeenSet n f (grand_coalition n) both s
 IsSeenSet-all n f s lt h = (lt, λ i has. seen i has, both-splits n f s ∙ h)
   where
-    below_or_above : (i n : ℕ) → (i < n) ⊎ (n ≤ i)
-    below_or_above i n = grind arith
-
     seen : (i : ℕ) → has_player s i ≡ true → has_player (grand_coalition n) i ≡ true
     seen i has = elim (below_or_above i n) [
       | inl below ↦ has_player-grand_coalition n i below
@@ -95,7 +58,7 @@ IsSplitGreatest-sum base n a f m k h e = (
 
 -- the greatest of the greater of two numbers
 pub IsSplitMaximum-greater : (g : Game) (x : Allocation) (f : ℕ) (v w : ℕ → ℤ) (m k r : ℤ) → ((s : ℕ) → s < 2 ^ g.players → excess g x s ≡ int_max (v s) (w s)) → IsSplitGreatest v g.players f m → IsSplitGreatest w g.players f k → r ≡ int_max m k → IsSplitMaximum g x f r
-IsSplitMaximum-greater g x f v w m k r same hv hw e = elim (max-cases m k) [
+IsSplitMaximum-greater g x f v w m k r same hv hw e = elim (int_max-cases m k) [
   | inl (greater, le) ↦ ((hv.0.0, hv.0.1, at_first greater le), bounded (omega (arith, linear, e, greater)) (omega (arith, linear, e, greater, le)))
   | inr (greater, le) ↦ ((hw.0.0, hw.0.1, at_second greater le), bounded (omega (arith, linear, e, greater, le)) (omega (arith, linear, e, greater)))
 ]
@@ -105,7 +68,7 @@ IsSplitMaximum-greater g x f v w m k r same hv hw e = elim (max-cases m k) [
         let s = hv.0.0 in
         let low = hw.1 s hv.0.1 in
         let here = same s hv.0.1.0 in
-        elim (max-cases (v s) (w s)) [
+        elim (int_max-cases (v s) (w s)) [
           | inl a ↦ omega (arith, linear, e, greater, hv.0.2, here, a.0)
           | inr a ↦ omega (arith, linear, e, greater, le, hv.0.2, here, a.0, a.1, low)
         ]
@@ -115,7 +78,7 @@ IsSplitMaximum-greater g x f v w m k r same hv hw e = elim (max-cases m k) [
         let s = hw.0.0 in
         let low = hv.1 s hw.0.1 in
         let here = same s hw.0.1.0 in
-        elim (max-cases (v s) (w s)) [
+        elim (int_max-cases (v s) (w s)) [
           | inl a ↦ omega (arith, linear, e, greater, le, hw.0.2, here, a.0, a.1, low)
           | inr a ↦ omega (arith, linear, e, greater, hw.0.2, here, a.0)
         ]
@@ -125,7 +88,7 @@ IsSplitMaximum-greater g x f v w m k r same hv hw e = elim (max-cases m k) [
         let here = same s p.0 in
         let low = hv.1 s p in
         let lower = hw.1 s p in
-        elim (max-cases (v s) (w s)) [
+        elim (int_max-cases (v s) (w s)) [
           | inl a ↦ omega (arith, linear, here, a.0, low, first)
           | inr a ↦ omega (arith, linear, here, a.0, lower, second)
         ]

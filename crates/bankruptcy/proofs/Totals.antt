@@ -4,9 +4,9 @@ use Rattle.std.proofs.lemmas.Int.{ints, to_z_pos}
 use Rattle.definitions.proofs.Members.{sum_over-grand_coalition}
 use Rattle.definitions.specs.Sums.{sum_below}
 use Rattle.definitions.specs.Coalitions.{grand_coalition, sum_over}
-use Rattle.worth_core.proofs.Casts.{cast_kept}
 use Rattle.bankruptcy.proofs.Laws.{claim}
 use mir.Syntax.{w64}
+use Rattle.definitions.proofs.Casts.{cast_kept}
 
 pub difference_kept : (e u : ℕ) → e < 2 ^ 40 → u < 2 ^ 46 → to_z w64 (of_z w64 (to_z w64 e -ℤ to_z w64 u)) ≡ pos e -ℤ pos u
 difference_kept e u h k =

@@ -1,8 +1,9 @@
 -- Bankruptcy games: an estate, and claims to it.
-use Rattle.std.specs.Prelude.{ℕ, ◌^◌, ◌<◌, ◌≤◌, List, length, All, ℤ, pos, ◌<ℤ◌, ◌≤ℤ◌, sum, unsigned_abs}
+use Rattle.std.specs.Prelude.{ℕ, ◌^◌, ◌<◌, ◌≤◌, List, length, All, ℤ, pos, ◌<ℤ◌, sum, unsigned_abs}
 use Rattle.std.specs.List.{sum_by}
 use Rattle.definitions.specs.Games.{Game}
 use Rattle.definitions.specs.Classes.{bankruptcy_worth}
+use Rattle.orders.specs.Numbers.{IsNumber}
 use Rattle.bankruptcy.specs.declared.game.BankruptcyFault.{BankruptcyFault}
 use Rattle.bankruptcy.specs.declared.game.BankruptcyFault.TheVariants.{Players, Number, Estate, Memory}
 
@@ -28,10 +29,6 @@ abbrev pub bankruptcy_game : Bankruptcy → Game
 bankruptcy_game b = record { players = length b.claims; worth = bankruptcy_worth b.estate b.claims }
 
 -- ---- what the constructor refuses
-
--- from 0 to below 2 ^ 40
-abbrev pub IsNumber : ℤ → Type 0
-IsNumber z = (pos 0 ≤ℤ z) × (z <ℤ pos (2 ^ 40))
 
 -- there are 1 to 64 claims
 abbrev pub HavePlayers : List ℤ → Type 0

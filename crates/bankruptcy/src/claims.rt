@@ -1,24 +1,18 @@
-//! Claims: their limits, their sums, and how they are kept.
-ghost use Rattle.std.specs.Prelude.{◌≡◌, ◌↔◌, ◌*◌, ◌^◌, ◌<◌, ◌≤◌, length, map, pos, slice_index, All, IfOk, IsTrue, unsigned_abs};
+//! Claims: their limits and their sums.
+ghost use Rattle.std.specs.Prelude.{◌≡◌, ◌↔◌, ◌^◌, ◌<◌, ◌≤◌, length, pos, slice_index, All, IsTrue, unsigned_abs};
 ghost use Rattle.std.specs.List.{sum_by};
 ghost use Rattle.definitions.specs.Coalitions.{sum_over};
-ghost use Rattle.bankruptcy.specs.Bankruptcy.{AreNumbers, IsNumber};
+ghost use Rattle.orders.specs.Numbers.{IsNumber};
+ghost use Rattle.bankruptcy.specs.Bankruptcy.{AreNumbers};
 
 use coalitions::Coalition;
-use std::alloc::{AllocError, Global};
+use orders::is_number;
 
 /// Whether the estate and each claim are from 0 to below 2^40.
 pub(crate) fn are_numbers(estate: i64, claims: &[i64]) -> bool
     ensures { IsTrue result ↔ AreNumbers estate claims.now }
 {
-    is_number(estate) && claims.iter().all(|c| is_number(*c))
-}
-
-/// Whether a number is from 0 to below 2^40.
-fn is_number(z: i64) -> bool
-    ensures { IsTrue result ↔ IsNumber z }
-{
-    z >= 0 && z < 1 << 40
+    is_number(estate) && orders::are_numbers(claims)
 }
 
 /// What all claim together.
@@ -32,18 +26,6 @@ pub(crate) fn total(claims: &[i64]) -> u64
         total += c.unsigned_abs();
     }
     total
-}
-
-/// The claims as natural numbers.
-pub(crate) fn naturals(alloc: Global, claims: &[i64]) -> Result<Vec<u64>, AllocError>
-    requires { All IsNumber claims.now }
-    ensures { IfOk result (λ v. (map pos v.items ≡ claims.now) × All (λ c. c < 2 ^ 40) v.items) }
-{
-    let mut kept = Vec::new(alloc);
-    for c in claims {
-        kept.push(*c as u64)?;
-    }
-    Ok(kept)
 }
 
 /// What the members of a coalition claim together.

@@ -42,7 +42,8 @@ impl BankruptcyGame {
     ghost use Rattle.bankruptcy.specs.Bankruptcy.{IsBankruptcy, IsRefused};
     ghost use Rattle.bankruptcy.specs.Arms.{estate_less_claims};
 
-    /// The game of an estate and a claim for each player, as worth.
+    /// The game of an estate and 1 to 64 claims, each from 0 to below 2^40 as worth, where the estate is at most the sum of
+    /// the claims; else the first cause in the order of `BankruptcyFault`.
     pub fn new(
         alloc: Global,
         estate: i64,
@@ -59,7 +60,7 @@ impl BankruptcyGame {
         if claims::total(&claims) < estate as u64 {
             return Err(BankruptcyFault::Estate);
         }
-        let Ok(claims) = claims::naturals(alloc, &claims) else {
+        let Ok(claims) = orders::naturals(alloc, &claims) else {
             return Err(BankruptcyFault::Memory);
         };
         Ok(BankruptcyGame {

@@ -1,70 +1,45 @@
 -- The levels from one on, behind those in front, decide all levels.
-use Rattle.std.proofs.Common.{◌≡◌, ℕ, zero, suc, ◌+◌, ◌-◌, ◌^◌, ◌<◌, ℤ, List, [], ◌∷◌, ◌++◌, length, take, drop, get_or, sym, ap, subst, ◌∙◌, arith, inl, inr}
+use Rattle.std.proofs.Common.{◌≡◌, ℕ, ◌+◌, ◌-◌, ◌<◌, List, [], ◌∷◌, ◌++◌, length, take, drop, get_or, sym, ap, subst, ◌∙◌, arith, inl, inr}
 use Rattle.definitions.specs.Games.{Game, Allocation}
-use Rattle.definitions.specs.Certificates.{Level, LevelForm, LevelsForm, LevelHolds, LevelsHold}
+use Rattle.definitions.specs.Certificates.{Level, LevelsForm, LevelHolds, LevelsHold}
 use Rattle.definitions.specs.Failures.{Reason, LevelFails, LevelsFail}
 use Rattle.definitions.specs.declared.Family.{Family}
+use Rattle.definitions.specs.declared.Measure.{Measure}
 use Rattle.definitions.specs.declared.Mode.{Mode}
 use Rattle.kohlberg.proofs.Pairs.{drop-more}
 use Rattle.kohlberg.proofs.FormScan.{take-more}
 use Rattle.std.specs.List.{AllByRecursion}
-use Rattle.std.proofs.Math.Pow.{pow_pos}
-use Rattle.definitions.specs.Coalitions.{grand_coalition}
-use Rattle.spans.proofs.Inside.{all_map}
-use Rattle.checker.specs.Extends.{IsOf}
-use Rattle.checker.specs.Fixed.{IsOver, Fixes}
+use Rattle.kohlberg.specs.Extends.{IsOf}
+use Rattle.checker.specs.Fixed.{Fixes}
 use Rattle.checker.specs.declared.fixed.Fixed.{Fixed}
-use Rattle.checker.specs.declared.fixed.Fixed.TheVariants.{FreePlayers, Vectors}
+use Rattle.kohlberg.proofs.SpanScan.{level_within}
 
-pub record SameLevels (mode : Mode) (family : Family) (g : Game) (x : Allocation) (levels : List Level) (i : ℕ) : Type 0 where
-  pub holds : LevelsHold mode family g x (take i levels) (drop i levels) → LevelsHold mode family g x [] levels
-  pub fails : (r : Reason) → LevelsFail mode family g x (i + 1) (take i levels) (drop i levels) r → LevelsFail mode family g x 1 [] levels r
+pub record SameLevels (mode : Mode) (family : Family) (measure : Measure) (g : Game) (x : Allocation) (levels : List Level) (i : ℕ) : Type 0 where
+  pub holds : LevelsHold mode family measure g x (take i levels) (drop i levels) → LevelsHold mode family measure g x [] levels
+  pub fails : (r : Reason) → LevelsFail mode family measure g x (i + 1) (take i levels) (drop i levels) r → LevelsFail mode family measure g x 1 [] levels r
   pub form : LevelsForm g.players (take i levels) (drop i levels)
   pub within : AllByRecursion (IsOf g.players) levels
 
-everyone_below : (n : ℕ) → grand_coalition n < 2 ^ n
-everyone_below n = omega (arith, pow_pos n)
-
-level_of : (n : ℕ) (front : List Level) (l : Level) → LevelForm n front l → IsOf n l
-level_of n front l f = record {
-  coalitions = all_map (λ (c : ℕ × ℤ). (0 < c.0) × (c.0 < grand_coalition n)) (λ c. c.0 < 2 ^ n) l.coalitions (λ c q. omega (arith, q.1, everyone_below n)) f.proper;
-  bounds = f.players;
-}
-
 levels_of : (n : ℕ) (front levels : List Level) → LevelsForm n front levels → AllByRecursion (IsOf n) levels
 levels_of n front [] f = tt
-levels_of n front (l ∷ levels) f = (level_of n front l f.0, levels_of n (front ++ l ∷ []) levels f.1)
+levels_of n front (l ∷ levels) f = (level_within n front l f.0, levels_of n (front ++ l ∷ []) levels f.1)
 
-pub all_take : {X : Type 0} (P : X → Type 0) (xs : List X) (i : ℕ) → AllByRecursion P xs → AllByRecursion P (take i xs)
-all_take P [] zero h = tt
-all_take P [] (suc i) h = tt
-all_take P (x ∷ xs) zero h = tt
-all_take P (x ∷ xs) (suc i) h = (h.0, all_take P xs i h.1)
+pub SameLevels-start : (mode : Mode) (family : Family) (measure : Measure) (g : Game) (x : Allocation) (levels : List Level) → LevelsForm g.players [] levels → SameLevels mode family measure g x levels 0
+SameLevels-start mode family measure g x levels f = record { holds = λ h. h; fails = λ r h. h; form = f; within = levels_of g.players [] levels f }
 
-pub SameLevels-start : (mode : Mode) (family : Family) (g : Game) (x : Allocation) (levels : List Level) → LevelsForm g.players [] levels → SameLevels mode family g x levels 0
-SameLevels-start mode family g x levels f = record { holds = λ h. h; fails = λ r h. h; form = f; within = levels_of g.players [] levels f }
-
-pub form_at : (mode : Mode) (family : Family) (g : Game) (x : Allocation) (levels : List Level) (i : ℕ) (d : Level) → i < length levels → SameLevels mode family g x levels i → LevelForm g.players (take i levels) (get_or levels i d)
-form_at mode family g x levels i d lt h =
-    (subst (λ (ls : List Level). LevelsForm g.players (take i levels) ls) (drop-more levels i d lt) h.form).0
-
-pub SameLevels-more : (mode : Mode) (family : Family) (g : Game) (x : Allocation) (levels : List Level) (i : ℕ) (d : Level) → i < length levels → LevelHolds mode family g x (take i levels) (get_or levels i d) → SameLevels mode family g x levels i → SameLevels mode family g x levels (i + 1)
-SameLevels-more mode family g x levels i d lt here h = record {
-  holds = λ k. h.holds (subst (λ (ls : List Level). LevelsHold mode family g x (take i levels) ls) (sym (drop-more levels i d lt)) (here, subst (λ (f : List Level). LevelsHold mode family g x f (drop (i + 1) levels)) (take-more levels i d lt) k));
-  fails = λ r k. h.fails r (subst (λ (ls : List Level). LevelsFail mode family g x (i + 1) (take i levels) ls r) (sym (drop-more levels i d lt)) (inr (here, subst (λ (f : List Level). LevelsFail mode family g x (i + 1 + 1) f (drop (i + 1) levels) r) (take-more levels i d lt) k)));
+pub SameLevels-more : (mode : Mode) (family : Family) (measure : Measure) (g : Game) (x : Allocation) (levels : List Level) (i : ℕ) (d : Level) → i < length levels → LevelHolds mode family measure g x (take i levels) (get_or levels i d) → SameLevels mode family measure g x levels i → SameLevels mode family measure g x levels (i + 1)
+SameLevels-more mode family measure g x levels i d lt here h = record {
+  holds = λ k. h.holds (subst (λ (ls : List Level). LevelsHold mode family measure g x (take i levels) ls) (sym (drop-more levels i d lt)) (here, subst (λ (f : List Level). LevelsHold mode family measure g x f (drop (i + 1) levels)) (take-more levels i d lt) k));
+  fails = λ r k. h.fails r (subst (λ (ls : List Level). LevelsFail mode family measure g x (i + 1) (take i levels) ls r) (sym (drop-more levels i d lt)) (inr (here, subst (λ (f : List Level). LevelsFail mode family measure g x (i + 1 + 1) f (drop (i + 1) levels) r) (take-more levels i d lt) k)));
   form = subst (λ (f : List Level). LevelsForm g.players f (drop (i + 1) levels)) (sym (take-more levels i d lt)) (subst (λ (ls : List Level). LevelsForm g.players (take i levels) ls) (drop-more levels i d lt) h.form).1;
   within = h.within;
 }
 
-pub fails_here : (mode : Mode) (family : Family) (g : Game) (x : Allocation) (levels : List Level) (i : ℕ) (d : Level) → i < length levels → SameLevels mode family g x levels i → (r : Reason) → LevelFails mode family g x (i + 1) (take i levels) (get_or levels i d) r → LevelsFail mode family g x 1 [] levels r
-fails_here mode family g x levels i d lt h r k =
-    h.fails r (subst (λ (ls : List Level). LevelsFail mode family g x (i + 1) (take i levels) ls r) (sym (drop-more levels i d lt)) (inl k))
+pub fails_here : (mode : Mode) (family : Family) (measure : Measure) (g : Game) (x : Allocation) (levels : List Level) (i : ℕ) (d : Level) → i < length levels → SameLevels mode family measure g x levels i → (r : Reason) → LevelFails mode family measure g x (i + 1) (take i levels) (get_or levels i d) r → LevelsFail mode family measure g x 1 [] levels r
+fails_here mode family measure g x levels i d lt h r k =
+    h.fails r (subst (λ (ls : List Level). LevelsFail mode family measure g x (i + 1) (take i levels) ls r) (sym (drop-more levels i d lt)) (inl k))
 
 -- ---- what is carried
-
-pub over_from : (n : ℕ) (levels : List Level) (fixed : Fixed) → Fixes n levels fixed → IsOver n fixed
-over_from n levels (FreePlayers f) h = h.within
-over_from n levels (Vectors span) h = (h.0, h.1)
 
 pub Fixes-next : (n : ℕ) (levels : List Level) (i : ℕ) (d : Level) (fixed : Fixed) → i < length levels → Fixes n (take i levels ++ take (i + 1 - i) (drop i levels)) fixed → Fixes n (take (i + 1) levels) fixed
 Fixes-next n levels i d fixed lt h = subst (λ (ls : List Level). Fixes n ls fixed) next h

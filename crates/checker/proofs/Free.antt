@@ -1,5 +1,5 @@
 -- The free players as a mask.
-use Rattle.std.proofs.Common.{◌≡◌, ◌⊎◌, ℕ, zero, suc, ◌+◌, ◌*◌, ◌/◌, ◌%◌, ◌^◌, ◌<◌, ◌≤◌, Bool, true, false, not, ◌&&◌, ◌||◌, nat_lt, nat_eq, IsTrue, Option, Some, None, MatchOption, ℤ, List, arith, refl, sym, ap, subst, ◌∙◌, inl, inr, div-add-mod', mod-lt}
+use Rattle.std.proofs.Common.{◌≡◌, ℕ, ◌+◌, ◌*◌, ◌/◌, ◌%◌, ◌^◌, ◌<◌, ◌≤◌, Bool, true, false, not, ◌&&◌, nat_lt, IsTrue, Option, Some, None, MatchOption, ℤ, List, arith, refl, sym, ap, subst, ◌∙◌, inl, inr, div-add-mod', mod-lt}
 use Rattle.std.specs.Int.{bit_at}
 use Rattle.std.proofs.Math.Pow.{pow_pos}
 use Rattle.std.proofs.lemmas.Bool.{false≢true}
@@ -7,16 +7,19 @@ use Rattle.std.proofs.lemmas.Bool.Decides.{nat_tests}
 use Rattle.std.proofs.lemmas.Nat.Bits.{bit_at_cat_low, bit_at_above, same_from_bits, bit_at-lt}
 use Rattle.definitions.specs.Sums.{IsGreatest}
 use Rattle.definitions.specs.Coalitions.{has_player, some_below, splits}
-use Rattle.definitions.specs.Games.{Game, Allocation, excess, HasTwo, IsSplitMaximum}
+use Rattle.definitions.specs.Games.{Game, Allocation, measured_excess, HasTwo, IsMeasuredMaximum}
 use Rattle.definitions.specs.Certificates.{Level, is_free, IsOutside, IsAllFixed}
 use Rattle.definitions.specs.Failures.{IsLeastUnfixed}
 use Rattle.checker.specs.Fixed.{IsFreeSet}
+use Rattle.checker.specs.Meaning.{IsGreatestOutside}
+use Rattle.fractions.specs.Fraction.{Fraction}
+use Rattle.worth_core.specs.Measured.{IsMeasuredBound}
+use Rattle.definitions.specs.declared.Measure.{Measure}
 use Rattle.definitions.specs.declared.Mode.TheVariants.{Players}
+use Rattle.definitions.proofs.Cases.{below_or_above, zero_bit, and_parts, less_same_or_greater}
+use Rattle.definitions.proofs.Splits.{some_below-same, some_below-true}
 
 -- ---- masks
-
-below_or_above : (j n : ℕ) → (j < n) ⊎ (n ≤ j)
-below_or_above j n = grind arith
 
 pub below_from_bits : (n s : ℕ) → ((j : ℕ) → n ≤ j → bit_at s j ≡ 0) → s < 2 ^ n
 below_from_bits n s h =
@@ -30,36 +33,8 @@ below_from_bits n s h =
 
 pub within_from_players : (n s : ℕ) → ((j : ℕ) → n ≤ j → has_player s j ≡ false) → s < 2 ^ n
 within_from_players n s h = below_from_bits n s (λ j le. zero_bit (bit_at s j) (bit_at-lt s j) (h j le))
-  where
-    zero_bit : (b : ℕ) → b < 2 → nat_eq b 1 ≡ false → b ≡ 0
-    zero_bit b lt e = grind (arith, nat_tests)
 
 -- ---- tests below n
-
-last_or_less : (k n : ℕ) → k < suc n → (k < n) ⊎ (k ≡ n)
-last_or_less k n h = grind arith
-
-pub some_below-same : (n : ℕ) (p q : ℕ → Bool) → ((i : ℕ) → i < n → p i ≡ q i) → some_below n p ≡ some_below n q
-some_below-same zero p q h = refl
-some_below-same (suc n) p q h =
-    let here = h n (omega arith) in
-    let rest = some_below-same n p q (λ i lt. h i (omega arith)) in
-    cc
-
-pub some_below-true : (n : ℕ) (p : ℕ → Bool) → some_below n p ≡ true → (i : ℕ) × (i < n) × (p i ≡ true)
-some_below-true zero p e = absurd (false≢true e)
-some_below-true (suc n) p e = elim (or_either (p n) (some_below n p) e) [
-  | inl here ↦ (n, omega arith, here)
-  | inr rest ↦ let found = some_below-true n p rest in (found.0, omega (arith, found.1), found.2)
-]
-  where
-    or_either : (a b : Bool) → (a || b) ≡ true → (a ≡ true) ⊎ (b ≡ true)
-    or_either true b h = inl refl
-    or_either false b h = inr h
-
-both : (a b : Bool) → (a && b) ≡ true → (a ≡ true) × (b ≡ true)
-both true b h = (refl, h)
-both false b h = absurd (false≢true h)
 
 pub free_at : (n : ℕ) (levels : List Level) (f i : ℕ) → IsFreeSet n levels f → i < n → has_player f i ≡ is_free n levels i
 free_at n levels f i h lt = h.free i ∙ passes (nat_lt i n) (is_free n levels i) (grind (arith, nat_tests))
@@ -74,23 +49,20 @@ splits-free n levels f s h =
     let b = some_below-same n (λ i. has_player f i && not (has_player s i)) (λ i. is_free n levels i && not (has_player s i)) (λ i lt. ap (λ (b : Bool). b && not (has_player s i)) (free_at n levels f i h lt)) in
     cc
 
-in_order : (i j : ℕ) → (i < j) ⊎ ((i ≡ j) ⊎ (j < i))
-in_order i j = grind arith
-
 -- two members that differ
 pub two_of : (n f i j : ℕ) → i < n → j < n → IsTrue (has_player f i) → IsTrue (has_player f j) → (i ≡ j → ⊥) → HasTwo n f
-two_of n f i j li lj hi hj ne = elim (in_order i j) [
+two_of n f i j li lj hi hj ne = elim (less_same_or_greater i j) [
   | inl lt ↦ (i, j, lt, lj, hi, hj)
   | inr k ↦ elim k [ inl e ↦ absurd (ne e) | inr lt ↦ (j, i, lt, li, hj, hi) ]
 ]
 
 pub none_outside : (n : ℕ) (levels : List Level) (f : ℕ) → IsFreeSet n levels f → ¬ HasTwo n f → (s : ℕ) → ¬ IsOutside Players n levels s
 none_outside n levels f h one s cuts =
-    let halves = both (some_below n (λ i. has_player f i && has_player s i)) (some_below n (λ i. has_player f i && not (has_player s i))) (splits-free n levels f s h ∙ cuts) in
+    let halves = and_parts (some_below n (λ i. has_player f i && has_player s i)) (some_below n (λ i. has_player f i && not (has_player s i))) (splits-free n levels f s h ∙ cuts) in
     let a = some_below-true n (λ i. has_player f i && has_player s i) halves.0 in
     let b = some_below-true n (λ i. has_player f i && not (has_player s i)) halves.1 in
-    let ina = both (has_player f a.0) (has_player s a.0) a.2 in
-    let inb = both (has_player f b.0) (not (has_player s b.0)) b.2 in
+    let ina = and_parts (has_player f a.0) (has_player s a.0) a.2 in
+    let inb = and_parts (has_player f b.0) (not (has_player s b.0)) b.2 in
     one (two_of n f a.0 b.0 a.1 b.1 ina.0 inb.0 (λ e. apart (has_player s a.0) (has_player s b.0) (ap (has_player s) e) ina.1 inb.1))
   where
     apart : (p q : Bool) → p ≡ q → p ≡ true → not q ≡ true → ⊥
@@ -98,12 +70,12 @@ none_outside n levels f h one s cuts =
     apart true false e x y = false≢true (sym e)
     apart false q e x y = false≢true x
 
-pub greatest_from_split : (g : Game) (x : Allocation) (levels : List Level) (f : ℕ) (m : ℤ) → IsFreeSet g.players levels f → IsSplitMaximum g x f m → IsGreatest (λ s. (s < 2 ^ g.players) × IsOutside Players g.players levels s) (excess g x) m
-greatest_from_split g x levels f m h top =
+pub greatest_from_split : (measure : Measure) (g : Game) (x : Allocation) (levels : List Level) (f : ℕ) (m : ℤ) → IsFreeSet g.players levels f → IsMeasuredMaximum measure g x f m → IsGreatest (λ s. (s < 2 ^ g.players) × IsOutside Players g.players levels s) (measured_excess measure g x) m
+greatest_from_split measure g x levels f m h top =
     ((top.0.0, (top.0.1.0, sym (splits-free g.players levels f top.0.0 h) ∙ top.0.1.1), top.0.2), λ s k. top.1 s (k.0, splits-free g.players levels f s h ∙ k.1))
 
 pub all_fixed_from : (n : ℕ) (levels : List Level) (f : ℕ) → IsFreeSet n levels f → ¬ HasTwo n f → IsAllFixed Players n levels
-all_fixed_from n levels f h one i j li lj hi hj = elim (in_order i j) [
+all_fixed_from n levels f h one i j li lj hi hj = elim (less_same_or_greater i j) [
   | inl lt ↦ absurd (one (i, j, lt, lj, free_at n levels f i h li ∙ hi, free_at n levels f j h lj ∙ hj))
   | inr k ↦ elim k [ inl e ↦ e | inr lt ↦ absurd (one (j, i, lt, li, free_at n levels f j h lj ∙ hj, free_at n levels f i h li ∙ hi)) ]
 ]
@@ -124,16 +96,7 @@ pub found_first : (n : ℕ) (levels : List Level) (f : ℕ) (o : Option ℕ) →
 found_first n levels f None h (i, j, lt, lj, hi, hj) k = absurd (false≢true (sym (k j (omega arith) lj) ∙ hj))
 found_first n levels f (Some i) h two k = (not_all_fixed n levels f h two, least_from_first n levels f i h k.1 k.2 (λ j lt. k.3 j (omega arith) lt))
 
-pub two_found : (n f i : ℕ) (o : Option ℕ) → i < n → IsTrue (has_player f i) → ((j : ℕ) → j < i → has_player f j ≡ false)
-    → MatchOption o ((j : ℕ) → i + 1 ≤ j → j < n → has_player f j ≡ false) (λ j. (i + 1 ≤ j) × (j < n) × IsTrue (has_player f j) × ((k : ℕ) → i + 1 ≤ k → k < j → has_player f k ≡ false))
-    → MatchOption o (¬ HasTwo n f) (λ _. HasTwo n f)
-two_found n f i None lt here before k =
-    λ (a, b, ab, bn, ha, hb). elim (below_or_above b (i + 1)) [
-      | inl low ↦ false≢true (sym (before a (omega arith)) ∙ ha)
-      | inr high ↦ false≢true (sym (k b high bn) ∙ hb)
-    ]
-two_found n f i (Some j) lt here before k = (i, j, omega (arith, k.0), k.1, here, k.2)
-
-pub split_found : (g : Game) (x : Allocation) (levels : List Level) (f : ℕ) (m m' : ℤ) → IsFreeSet g.players levels f → m' ≡ m → IsSplitMaximum g x f m → IsGreatest (λ s. (s < 2 ^ g.players) × IsOutside Players g.players levels s) (excess g x) m'
-split_found g x levels f m m' h e top =
-    subst (λ (z : ℤ). IsGreatest (λ s. (s < 2 ^ g.players) × IsOutside Players g.players levels s) (excess g x) z) (sym e) (greatest_from_split g x levels f m h top)
+-- the bound over the coalitions that split the free players is that over those outside
+pub split_found : (measure : Measure) (g : Game) (x : Allocation) (levels : List Level) (f : ℕ) (r : Fraction) → IsFreeSet g.players levels f → IsMeasuredBound measure g x f r → IsGreatestOutside Players measure g x levels (Some r)
+split_found measure g x levels f r h bound =
+    (bound.0, greatest_from_split measure g x levels f bound.0 h bound.1, bound.2)

@@ -5,7 +5,6 @@ pub mod Free
 pub mod Chain
 pub mod Judged
 pub mod Upshot
-pub mod SpanLaws
-pub mod SpanScan
-pub mod Outer
+pub mod Paid
+pub mod GrayScan
 pub mod Still

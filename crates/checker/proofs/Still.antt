@@ -10,28 +10,12 @@ use Rattle.definitions.specs.Certificates.{Level, is_listed, has_bound, is_fixed
 use Rattle.definitions.proofs.Members.{has_player-grand_coalition}
 use Rattle.checker.specs.Fixed.{IsFreeSet}
 use Rattle.checker.proofs.Free.{within_from_players}
+use Rattle.definitions.proofs.Cases.{and_false, same_or_other, nat_eq-same, nat_eq-other, below_or_above}
 
 -- ---- the players that a loop has taken out
 
 abbrev pub StillFree : ℕ → List Level → ℕ → ℕ → ℕ → Type 0
 StillFree n levels f i s = (j : ℕ) → has_player s j ≡ (has_player f j && not (nat_lt j i && is_fixed n levels j))
-
-and_true : (a : Bool) → (a && true) ≡ a
-and_true true = refl
-and_true false = refl
-
-and_false : (a : Bool) → (a && false) ≡ false
-and_false true = refl
-and_false false = refl
-
-pub StillFree-start : (n : ℕ) (levels : List Level) (f : ℕ) → StillFree n levels f 0 f
-StillFree-start n levels f j = sym (ap (λ (b : Bool). has_player f j && not (b && is_fixed n levels j)) (none_below j) ∙ and_true (has_player f j))
-  where
-    none_below : (j : ℕ) → nat_lt j 0 ≡ false
-    none_below j = grind (arith, nat_tests)
-
-last : (j i : ℕ) → (j ≡ i) ⊎ (j ≢ i)
-last j i = grind arith
 
 less_same : (j i : ℕ) → j ≢ i → nat_lt j (i + 1) ≡ nat_lt j i
 less_same j i ne = grind (arith, nat_tests)
@@ -39,20 +23,14 @@ less_same j i ne = grind (arith, nat_tests)
 less_here : (i : ℕ) → nat_lt i (i + 1) ≡ true
 less_here i = grind (arith, nat_tests)
 
-same_here : (i : ℕ) → nat_eq i i ≡ true
-same_here i = grind (arith, nat_tests)
-
-other : (j i : ℕ) → j ≢ i → nat_eq j i ≡ false
-other j i ne = grind (arith, nat_tests)
-
 pub StillFree-without : (n : ℕ) (levels : List Level) (f i s t : ℕ) → StillFree n levels f i s → is_fixed n levels i ≡ true → ((j : ℕ) → has_player t j ≡ (not (nat_eq j i) && has_player s j)) → StillFree n levels f (i + 1) t
-StillFree-without n levels f i s t h fixed out j = elim (last j i) [
-  | inl e ↦ rw e (out i ∙ rw (same_here i, less_here i, fixed) (sym (and_false (has_player f i))))
-  | inr ne ↦ out j ∙ rw (other j i ne, less_same j i ne) (h j)
+StillFree-without n levels f i s t h fixed out j = elim (same_or_other j i) [
+  | inl e ↦ rw e (out i ∙ rw (nat_eq-same i, less_here i, fixed) (sym (and_false (has_player f i))))
+  | inr ne ↦ out j ∙ rw (nat_eq-other j i ne, less_same j i ne) (h j)
 ]
 
 pub StillFree-kept : (n : ℕ) (levels : List Level) (f i s : ℕ) → StillFree n levels f i s → is_fixed n levels i ≡ false → StillFree n levels f (i + 1) s
-StillFree-kept n levels f i s h free j = elim (last j i) [
+StillFree-kept n levels f i s h free j = elim (same_or_other j i) [
   | inl e ↦ rw e (h i ∙ rw (free, less_here i) (ap (λ (b : Bool). has_player f i && not b) (and_false (nat_lt i i))))
   | inr ne ↦ rw (less_same j i ne) (h j)
 ]
@@ -106,9 +84,6 @@ IsFreeSet-more n front more f s h k = record {
 pub IsFreeSet-start : (n f : ℕ) → f ≡ grand_coalition n → f < 2 ^ n → IsFreeSet n [] f
 IsFreeSet-start n f e lt = record { within = lt; free = λ i. ap (λ (s : ℕ). has_player s i) e ∙ all i }
   where
-    below_or_not : (i n : ℕ) → (i < n) ⊎ (n ≤ i)
-    below_or_not i n = grind arith
-
     yes : (i n : ℕ) → i < n → (nat_lt i n && true) ≡ true
     yes i n lt = grind (arith, nat_tests)
 
@@ -116,7 +91,7 @@ IsFreeSet-start n f e lt = record { within = lt; free = λ i. ap (λ (s : ℕ). 
     absent s n j lt le = grind (arith, nat_tests, bit_at_above s n j lt le)
 
     all : (i : ℕ) → has_player (grand_coalition n) i ≡ (nat_lt i n && is_free n [] i)
-    all i = elim (below_or_not i n) [
+    all i = elim (below_or_above i n) [
       | inl below ↦ has_player-grand_coalition n i below ∙ sym (yes i n below)
       | inr above ↦ sym (ap (λ (s : ℕ). has_player s i) e) ∙ absent f n i lt above ∙ sym (beyond i n true above)
     ]

@@ -1,13 +1,16 @@
 -- What levels fix, as it is carried from level to level.
 --
 --   IsFreeSet            a coalition of the players that no level fixes
+--   AreOfPlayers         marks of coalitions of the players that aren't empty
 --   Fixes                what is carried stands for what levels fix
-use Rattle.std.specs.Prelude.{◌≡◌, ℕ, ◌^◌, ◌<◌, ◌≤◌, ◌&&◌, nat_lt, List}
+use Rattle.std.specs.Prelude.{◌≡◌, ℕ, ◌^◌, ◌<◌, ◌≤◌, ◌&&◌, nat_lt, List, IsTrue}
 use Rattle.definitions.specs.Coalitions.{has_player}
 use Rattle.definitions.specs.Certificates.{Level, is_free}
 use Rattle.definitions.specs.declared.Mode.{Mode}
 use Rattle.definitions.specs.declared.Mode.TheVariants.{Players, Span}
-use Rattle.checker.specs.Extends.{SpansFixed}
+use Rattle.spans.specs.Outside.{is_marked}
+use Rattle.kohlberg.specs.Extends.{SpansFixed}
+use Rattle.kohlberg.specs.Marking.{IsMarking}
 use Rattle.checker.specs.declared.fixed.Fixed.{Fixed}
 use Rattle.checker.specs.declared.fixed.Fixed.TheVariants.{FreePlayers, Vectors}
 
@@ -16,17 +19,21 @@ pub record IsFreeSet (n : ℕ) (levels : List Level) (f : ℕ) : Type 0 where
   pub within : f < 2 ^ n
   pub free : (i : ℕ) → has_player f i ≡ (nat_lt i n && is_free n levels i)
 
+-- the marked coalitions are of n players, and not empty
+abbrev pub AreOfPlayers : ℕ → List ℕ → Type 0
+AreOfPlayers n words = (s : ℕ) → IsTrue (is_marked words s) → (0 < s) × (s < 2 ^ n)
+
 -- the mode in which levels fix
 abbrev pub mode_of : Fixed → Mode
 mode_of (FreePlayers f) = Players
-mode_of (Vectors span) = Span
+mode_of (Vectors span outside) = Span
 
 -- what is carried is of n players
 abbrev pub IsOver : ℕ → Fixed → Type 0
 IsOver n (FreePlayers f) = f < 2 ^ n
-IsOver n (Vectors span) = (span.players ≡ n) × (n ≤ 16)
+IsOver n (Vectors span outside) = (span.players ≡ n) × (n ≤ 16) × AreOfPlayers n outside
 
 -- what is carried is what levels fix
 abbrev pub Fixes : ℕ → List Level → Fixed → Type 0
 Fixes n levels (FreePlayers f) = IsFreeSet n levels f
-Fixes n levels (Vectors span) = (span.players ≡ n) × (n ≤ 16) × SpansFixed n span.kept levels
+Fixes n levels (Vectors span outside) = (span.players ≡ n) × (n ≤ 16) × SpansFixed n span.kept levels × IsMarking n levels outside

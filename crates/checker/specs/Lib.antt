@@ -1,3 +1,3 @@
-pub mod Extends
 pub mod Meaning
 pub mod Fixed
+pub mod Paid

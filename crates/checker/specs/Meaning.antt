@@ -1,29 +1,45 @@
 -- What the checker's verdict says.
-use Rattle.std.specs.Prelude.{◌≡◌, List, ℤ, ◌*ℤ◌}
-use Rattle.definitions.specs.Games.{Game, Allocation}
-use Rattle.definitions.specs.Certificates.{Level, Certifies}
-use Rattle.definitions.specs.Failures.{Reason as Failure, not_efficient, not_individual, wrong_excess, coalition_sign, player_sign, unbalanced, bound_not_tight, outside_above, not_all, IsFirstFailure}
+use Rattle.std.specs.Prelude.{ℕ, ◌^◌, ◌<◌, List, ℤ, pos, ◌≤ℤ◌, Option, None, Some}
+use Rattle.fractions.specs.Fraction.{Fraction}
+use Rattle.definitions.specs.Sums.{IsGreatest}
+use Rattle.definitions.specs.Games.{Game, Allocation, measured_excess}
+use Rattle.definitions.specs.Certificates.{Level, Weights, BoundWeighs, IsOutside, Certifies}
+use Rattle.definitions.specs.Failures.{Reason as Failure, not_efficient, not_individual, wrong_excess, coalition_sign, player_sign, unbalanced, bound_not_tight, outside_above, not_all, IsFirstFailing, IsFirstFailure}
 use Rattle.definitions.specs.declared.Family.{Family}
+use Rattle.definitions.specs.declared.Measure.{Measure}
 use Rattle.definitions.specs.declared.Mode.{Mode}
+use Rattle.worth_core.specs.Measured.{IsValueOf}
 use Rattle.checker.specs.declared.verdicts.Verdict.{Verdict}
 use Rattle.checker.specs.declared.verdicts.Verdict.TheVariants.{Yes, No}
+use Rattle.checker.specs.declared.verdicts.Place.{Place}
 use Rattle.checker.specs.declared.verdicts.Place.TheVariants.{Coalition, Player}
 use Rattle.checker.specs.declared.verdicts.Reason.{Reason}
 use Rattle.checker.specs.declared.verdicts.Reason.TheVariants.{NotEfficient, NotIndividual, WrongExcess, WeightSign, Unbalanced, BoundNotTight, OutsideAbove, NotAll}
 
--- a fact on the failure that a reason names; an excess is a fraction of the denominator of x
-abbrev pub Means : Allocation → (Failure → Type 0) → Reason → Type 0
-Means x P NotEfficient = P not_efficient
-Means x P (NotIndividual i) = P (not_individual i)
-Means x P (WrongExcess j s) = P (wrong_excess j s)
-Means x P (WeightSign j (Coalition s)) = P (coalition_sign j s)
-Means x P (WeightSign j (Player i)) = P (player_sign j i)
-Means x P (Unbalanced j i) = P (unbalanced j i)
-Means x P (BoundNotTight j i) = P (bound_not_tight j i)
-Means x P (OutsideAbove j f) = (e : ℤ) × (f.num *ℤ x.den ≡ e *ℤ f.den) × P (outside_above j e)
-Means x P (NotAll i) = P (not_all i)
+-- no coalition is outside of what the levels fix, or the fraction is the greatest measured excess of those that are
+abbrev pub IsGreatestOutside : Mode → Measure → Game → Allocation → List Level → Option Fraction → Type 0
+IsGreatestOutside mode measure g x levels None = (s : ℕ) → s < 2 ^ g.players → ¬ IsOutside mode g.players levels s
+IsGreatestOutside mode measure g x levels (Some f) =
+    (m : ℤ) × IsGreatest (λ s. (s < 2 ^ g.players) × IsOutside mode g.players levels s) (measured_excess measure g x) m × IsValueOf measure x m f
+
+-- the first weight that is below 1: of the level's coalitions, or of its bounds where those of all coalitions are 1 at least
+abbrev pub IsWrongSign : List Level → Level → Place → Type 0
+IsWrongSign front l (Coalition s) = IsFirstFailing (λ c. pos 1 ≤ℤ c.1) l.coalitions s
+IsWrongSign front l (Player i) = Weights l × IsFirstFailing (BoundWeighs front) l.bounds i
+
+-- a fact on the failure that a reason names; an excess is a fraction, and in the failure over the denominator of measured excesses of x
+abbrev pub Means : Measure → Allocation → (Failure → Type 0) → Reason → Type 0
+Means measure x P NotEfficient = P not_efficient
+Means measure x P (NotIndividual i) = P (not_individual i)
+Means measure x P (WrongExcess j s) = P (wrong_excess j s)
+Means measure x P (WeightSign j (Coalition s)) = P (coalition_sign j s)
+Means measure x P (WeightSign j (Player i)) = P (player_sign j i)
+Means measure x P (Unbalanced j i) = P (unbalanced j i)
+Means measure x P (BoundNotTight j i) = P (bound_not_tight j i)
+Means measure x P (OutsideAbove j f) = (e : ℤ) × IsValueOf measure x e f × P (outside_above j e)
+Means measure x P (NotAll i) = P (not_all i)
 
 -- Yes where the certificate certifies the shares, and No with the first failure
-abbrev pub IsVerdict : Mode → Family → Game → Allocation → List Level → Verdict → Type 0
-IsVerdict mode family g x levels Yes = Certifies mode family g x levels
-IsVerdict mode family g x levels (No r) = Means x (IsFirstFailure mode family g x levels) r
+abbrev pub IsVerdict : Mode → Family → Measure → Game → Allocation → List Level → Verdict → Type 0
+IsVerdict mode family measure g x levels Yes = Certifies mode family measure g x levels
+IsVerdict mode family measure g x levels (No r) = Means measure x (IsFirstFailure mode family measure g x levels) r

@@ -3,15 +3,17 @@
 ghost use Rattle.std.specs.Prelude.{◌≡◌, ℕ, ◌+ℤ◌, unsigned_abs, ◌^◌, ◌<◌, ◌≤◌, ◌⊎◌, pos, ◌-ℤ◌, ◌*ℤ◌, ◌≤ℤ◌, length, IsTrue, MatchOption};
 ghost use Rattle.std.specs.Bool.{Decides};
 ghost use Rattle.std.specs.List.{AllByRecursion};
-ghost use Rattle.definitions.specs.Coalitions.{singleton, weight_at};
+ghost use Rattle.definitions.specs.Coalitions.{singleton};
+ghost use Rattle.definitions.specs.Measures.{IsMeasurable};
 ghost use Rattle.definitions.specs.Games.{share, IsEfficient, IsIndividuallyRational};
-ghost use Rattle.definitions.specs.Certificates.{IsSmall, HasExcess, LevelForm, has_bound, number_at};
-ghost use Rattle.definitions.specs.Failures.{IsLeastFailing, IsFirstFailing, BoundWeighs, Balances, IsBalanced, IsTight, AreTight, Excesses};
+ghost use Rattle.definitions.specs.Certificates.{IsSmall, HasExcess, has_bound};
+ghost use Rattle.definitions.specs.Failures.{IsLeastFailing, IsFirstFailing, BoundWeighs, Balances, IsTight, Excesses};
 
 use coalitions::Coalition;
+use fractions::Frac;
 use kohlberg::{Family, Level, bounds_at, weights_at};
 use std::cmp::Ordering;
-use worth_core::{Shares, Worth, scaled_excess};
+use worth_core::{Divided, Measure, Shares, Worth, scaled_excess};
 
 /// Whether the shares add to the worth of all.
 pub fn is_efficient<W: Worth>(game: &W, shares: &Shares) -> bool
@@ -48,24 +50,46 @@ pub fn first_short<W: Worth>(game: &W, shares: &Shares) -> Option<u32>
 }
 
 /// Whether a coalition has the level's excess.
-fn has_excess<W: Worth>(game: &W, shares: &Shares, level: &Level, s: Coalition) -> bool
+fn has_excess<W: Worth>(
+    game: &W,
+    measure: Measure,
+    shares: &Shares,
+    level: &Level,
+    s: Coalition,
+) -> bool
     requires shares { length shares.now.shares ≡ (W.game game.now).players }
+    requires measurable { IsMeasurable measure (W.game game.now).players }
+    requires some { 0 < s }
     requires within { s < 2 ^ (W.game game.now).players }
-    ensures { Decides result (HasExcess (W.game game.now) shares.now level.now s) }
+    ensures { Decides result (HasExcess measure (W.game game.now) shares.now level.now s) }
 {
-    level.order_of(scaled_excess(game, shares, s), shares.den()) == Ordering::Equal
+    let excess = Divided::of(game, shares, measure, s).over(shares.den());
+    is_excess_of(level, &excess)
+}
+
+/// Whether a fraction is the level's excess.
+fn is_excess_of(level: &Level, excess: &Frac) -> bool
+    ensures { Decides result (excess.now.num *ℤ level.now.excess_den ≡ level.now.excess_num *ℤ excess.now.den) }
+{
+    level.order_of(excess) == Ordering::Equal
 }
 
 /// The first coalition of a level that does not have its excess.
-pub fn first_wrong_excess<W: Worth>(game: &W, shares: &Shares, level: &Level) -> Option<Coalition>
+pub fn first_wrong_excess<W: Worth>(
+    game: &W,
+    measure: Measure,
+    shares: &Shares,
+    level: &Level,
+) -> Option<Coalition>
     requires shares { length shares.now.shares ≡ (W.game game.now).players }
-    requires within { AllByRecursion (λ c. c.0 < 2 ^ (W.game game.now).players) level.now.coalitions }
+    requires measurable { IsMeasurable measure (W.game game.now).players }
+    requires proper { AllByRecursion (λ c. (0 < c.0) × (c.0 < 2 ^ (W.game game.now).players)) level.now.coalitions }
     ensures { MatchOption result
-        (Excesses (W.game game.now) shares.now level.now)
-        (IsFirstFailing (λ c. HasExcess (W.game game.now) shares.now level.now c.0) level.now.coalitions) }
+        (Excesses measure (W.game game.now) shares.now level.now)
+        (IsFirstFailing (λ c. HasExcess measure (W.game game.now) shares.now level.now c.0) level.now.coalitions) }
 {
     for (s, _) in &level.coalitions {
-        if !has_excess(game, shares, level, *s) {
+        if !has_excess(game, measure, shares, level, *s) {
             return Some(*s);
         }
     }

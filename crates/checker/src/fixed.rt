@@ -1,23 +1,22 @@
 //! What levels fix, carried from level to level.
 
-ghost use Rattle.std.specs.Prelude.{◌≡◌, ◌⊎◌, ◌++◌, [], ℕ, List, ◌^◌, ◌<◌, ◌≤◌, ◌&&◌, nat_lt, not};
+ghost use Rattle.std.specs.Prelude.{◌≡◌, ◌⊎◌, ◌++◌, [], ℕ, List, ◌<◌, ◌≤◌, ◌&&◌, nat_lt, not};
 ghost use Rattle.std.specs.List.{AllByRecursion};
 ghost use Rattle.definitions.specs.Coalitions.{has_player};
 ghost use Rattle.definitions.specs.Certificates.{Level as LevelData, is_fixed};
-ghost use Rattle.checker.specs.Extends.{IsOf};
+ghost use Rattle.kohlberg.specs.Extends.{IsOf};
 ghost use Rattle.checker.specs.Fixed.{mode_of, IsOver, Fixes};
 
-use crate::spanned::add_levels;
 use coalitions::Coalition;
-use kohlberg::{Level, Mode, Span};
+use kohlberg::{Level, Mode, Outside, Span, add_levels};
 
 /// What levels fix, by the mode of the certificate.
 #[derive(Drop)]
 pub enum Fixed {
     /// Of the players, those that no level fixes.
     FreePlayers(Coalition),
-    /// Of the vectors, the span of those that levels fix.
-    Vectors(Span),
+    /// Of the vectors, the span of those that levels fix; and the coalitions outside of it.
+    Vectors(Span, Outside),
 }
 
 impl Fixed {
@@ -31,7 +30,12 @@ impl Fixed {
     {
         match mode {
             Mode::Players => Fixed::FreePlayers(Coalition::all(n)),
-            Mode::Span => Fixed::Vectors(Span::new(n)),
+            Mode::Span => {
+                let span = Span::new(n);
+                let mut proper = Outside::all(n);
+                proper.clear(&span);
+                Fixed::Vectors(span, proper)
+            }
         }
     }
 
@@ -45,9 +49,10 @@ impl Fixed {
     {
         match self {
             Fixed::FreePlayers(free) => Fixed::FreePlayers(still_free(free, n, levels)),
-            Fixed::Vectors(mut span) => {
+            Fixed::Vectors(mut span, mut outside) => {
                 add_levels(&mut span, levels);
-                Fixed::Vectors(span)
+                outside.clear(&span);
+                Fixed::Vectors(span, outside)
             }
         }
     }

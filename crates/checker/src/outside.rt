@@ -1,19 +1,26 @@
 //! What is outside of what levels fix.
 
-ghost use Rattle.std.specs.Prelude.{◌≡◌, ℕ, List, ◌^◌, ◌<◌, ◌≤◌, true, false, int_lt, length, IsTrue, MatchOption, ⊤};
+ghost use Rattle.std.specs.Prelude.{◌≡◌, ℕ, List, ◌^◌, ◌<◌, ◌≤◌, false, length, IsTrue, MatchOption, unsigned_abs};
+ghost use Rattle.std.specs.Option.{ForSome};
 ghost use Rattle.std.specs.Bool.{Decides};
-ghost use Rattle.definitions.specs.Sums.{IsGreatest};
 ghost use Rattle.definitions.specs.Coalitions.{has_player};
-ghost use Rattle.definitions.specs.Games.{excess, HasTwo};
-ghost use Rattle.definitions.specs.Certificates.{Level as LevelData, IsOutside, IsAllFixed};
-ghost use Rattle.checker.specs.Extends.{SpansFixed};
-ghost use Rattle.checker.specs.Fixed.{IsFreeSet, mode_of, IsOver, Fixes};
+ghost use Rattle.definitions.specs.Measures.{IsMeasurable};
+ghost use Rattle.definitions.specs.Games.{amount, HasTwo};
+ghost use Rattle.definitions.specs.Certificates.{Level as LevelData, IsAllFixed};
 ghost use Rattle.definitions.specs.Failures.{IsLeastUnfixed};
+ghost use Rattle.worth_core.specs.Measured.{IsDivided};
+ghost use Rattle.kohlberg.specs.Marking.{IsMarking};
+ghost use Rattle.checker.specs.Fixed.{IsFreeSet, AreOfPlayers, mode_of, IsOver, Fixes};
+ghost use Rattle.checker.specs.Meaning.{IsGreatestOutside};
+ghost use Rattle.checker.specs.Paid.{paid_after};
 
 use crate::fixed::Fixed;
-use coalitions::Coalition;
-use kohlberg::{Mode, Span};
-use worth_core::{Shares, Worth, raised};
+use coalitions::{Coalition, GrayStep};
+use fractions::Frac;
+use kohlberg::{Mode, Outside, first_unspanned};
+use worth_core::{
+    Divided, Divisor, Measure, Shares, Worth, is_more, kept_or_new, measured_bound, scaled,
+};
 
 /// The least member from one number on.
 fn first_member(s: Coalition, from: u32, n: u32) -> Option<u32>
@@ -41,16 +48,20 @@ fn has_two(s: Coalition, n: u32) -> bool
     }
 }
 
-/// The greatest scaled excess of a coalition that holds some but not all of the free players.
-fn greatest_split<W: Worth>(game: &W, shares: &Shares, free: Coalition) -> Option<i128>
+/// The greatest measured excess of a coalition that holds some but not all of the free players.
+fn greatest_split<W: Worth>(
+    game: &W,
+    measure: Measure,
+    shares: &Shares,
+    free: Coalition,
+) -> Option<Frac>
     requires shares { length shares.now.shares ≡ (W.game game.now).players }
+    requires measurable { IsMeasurable measure (W.game game.now).players }
     requires within { free < 2 ^ (W.game game.now).players }
-    ensures { (levels : List LevelData) → IsFreeSet (W.game game.now).players levels free → MatchOption result
-        ((s : ℕ) → s < 2 ^ (W.game game.now).players → ¬ IsOutside Mode.Players (W.game game.now).players levels s)
-        (IsGreatest (λ s. (s < 2 ^ (W.game game.now).players) × IsOutside Mode.Players (W.game game.now).players levels s) (excess (W.game game.now) shares.now)) }
+    ensures { (levels : List LevelData) → IsFreeSet (W.game game.now).players levels free → IsGreatestOutside Mode.Players measure (W.game game.now) shares.now levels result }
 {
     if has_two(free, game.players()) {
-        Some(game.split_bound(shares, free))
+        Some(measured_bound(game, shares, free, measure))
     } else {
         None
     }
@@ -70,67 +81,91 @@ fn first_free(free: Coalition, n: u32) -> Option<u32>
     }
 }
 
-/// Whether a number is more than the greatest so far, or the first.
-fn is_more(most: Option<i128>, excess: i128) -> bool
-    ensures { MatchOption most (result ≡ true) (λ m. result ≡ int_lt m excess) }
+/// What the members of a coalition get, from what those of the one before it in Gray order got: the share of the one player
+/// who comes is added, and that of the one who goes is taken off.
+fn paid_after(shares: &Shares, paid: i128, s: Coalition, flipped: Option<u32>) -> i128
+    requires player { ForSome flipped (λ i. i < length shares.now.shares) }
+    requires small { unsigned_abs paid < 2 ^ 117 }
+    ensures { result ≡ paid_after shares.now paid s flipped }
 {
+    shares.players();
+    match flipped {
+        None => paid,
+        Some(i) => {
+            if s.contains(i) {
+                paid + shares.num(i)
+            } else {
+                paid - shares.num(i)
+            }
+        }
+    }
+}
+
+/// The excess of a coalition that isn't empty, from what its members get, and what the measure divides it by.
+fn excess_of<W: Worth>(
+    game: &W,
+    measure: Measure,
+    shares: &Shares,
+    s: Coalition,
+    paid: i128,
+) -> Divided
+    requires shares { length shares.now.shares ≡ (W.game game.now).players }
+    requires some { 0 < s }
+    requires within { s < 2 ^ (W.game game.now).players }
+    requires paid { paid ≡ amount shares.now s }
+    ensures { IsDivided measure (W.game game.now) shares.now s result }
+{
+    game.players();
+    shares.players();
+    let excess = scaled(shares.den(), game.worth(s)) - paid;
+    Divided::new(excess, measure.divisor(s))
+}
+
+/// The greatest measured excess of some coalitions, by one pass in Gray order.
+fn greatest_unspanned<W: Worth>(
+    game: &W,
+    measure: Measure,
+    shares: &Shares,
+    outside: &Outside,
+) -> Option<Frac>
+    requires shares { length shares.now.shares ≡ (W.game game.now).players }
+    requires measurable { IsMeasurable measure (W.game game.now).players }
+    requires few { (W.game game.now).players ≤ 16 }
+    requires of_players { AreOfPlayers (W.game game.now).players outside.now }
+    ensures { (levels : List LevelData) → IsMarking (W.game game.now).players levels outside.now → IsGreatestOutside Mode.Span measure (W.game game.now) shares.now levels result }
+{
+    shares.players();
+    let mut most: Option<Divided> = None;
+    let mut paid: i128 = 0;
+    for GrayStep { mask, flipped } in Coalition::gray(game.players()) {
+        paid = paid_after(shares, paid, mask, flipped);
+        if outside.contains(mask) {
+            let here = excess_of(game, measure, shares, mask, paid);
+            let is_greatest = is_more(&most, &here);
+            most = kept_or_new(most, here, is_greatest);
+        }
+    }
     match most {
-        None => true,
-        Some(most) => most < excess,
+        None => None,
+        Some(most) => Some(most.over(shares.den())),
     }
 }
 
-/// The greatest scaled excess of a coalition outside of a span. The span is asked only about coalitions that have more than
-/// the greatest so far, since asking it costs the most.
-fn greatest_unspanned<W: Worth>(game: &W, shares: &Shares, span: &Span) -> Option<i128>
+/// The greatest measured excess of a coalition outside, if there is one.
+pub fn greatest_outside<W: Worth>(
+    game: &W,
+    measure: Measure,
+    shares: &Shares,
+    fixed: &Fixed,
+) -> Option<Frac>
     requires shares { length shares.now.shares ≡ (W.game game.now).players }
-    requires players { span.now.players ≡ (W.game game.now).players }
-    ensures { (levels : List LevelData) → SpansFixed (W.game game.now).players span.now.kept levels → MatchOption result
-        ((s : ℕ) → s < 2 ^ (W.game game.now).players → ¬ IsOutside Mode.Span (W.game game.now).players levels s)
-        (IsGreatest (λ s. (s < 2 ^ (W.game game.now).players) × IsOutside Mode.Span (W.game game.now).players levels s) (excess (W.game game.now) shares.now)) }
-{
-    let n = game.players();
-    let mut most: Option<i128> = None;
-    let mut s = Coalition::empty();
-    while let Some(next) = s.next_mask(n) {
-        s = next;
-        let excess = shares.excess_over(game.worth(s), s);
-        if is_more(most, excess) && !span.holds(s) {
-            most = Some(excess);
-        }
-    }
-    most
-}
-
-/// The least of `n` players, at most 64, of whose vector no nonzero multiple is an integer sum of the kept vectors. It
-/// always answers. Where there is one, fewer coalitions are kept than there are players.
-pub fn first_unspanned(span: &Span, n: u32) -> Option<u32>
-    requires few { n ≤ 64 }
-    requires players { span.now.players ≡ n }
-    ensures least { (levels : List LevelData) → SpansFixed n span.now.kept levels → MatchOption result
-        (IsAllFixed Mode.Span n levels)
-        (λ i. (¬ IsAllFixed Mode.Span n levels) × IsLeastUnfixed Mode.Span n levels i) }
-    ensures room { MatchOption result ⊤ (λ _. length span.now.kept < n) }
-{
-    for i in 0..n {
-        if !span.holds(Coalition::single(i)) {
-            return Some(i);
-        }
-    }
-    None
-}
-
-/// The greatest scaled excess of a coalition outside, if there is one.
-pub fn greatest_outside<W: Worth>(game: &W, shares: &Shares, fixed: &Fixed) -> Option<i128>
-    requires shares { length shares.now.shares ≡ (W.game game.now).players }
+    requires measurable { IsMeasurable measure (W.game game.now).players }
     requires over { IsOver (W.game game.now).players fixed.now }
-    ensures { (levels : List LevelData) → Fixes (W.game game.now).players levels fixed.now → MatchOption result
-        ((s : ℕ) → s < 2 ^ (W.game game.now).players → ¬ IsOutside (mode_of fixed.now) (W.game game.now).players levels s)
-        (IsGreatest (λ s. (s < 2 ^ (W.game game.now).players) × IsOutside (mode_of fixed.now) (W.game game.now).players levels s) (excess (W.game game.now) shares.now)) }
+    ensures { (levels : List LevelData) → Fixes (W.game game.now).players levels fixed.now → IsGreatestOutside (mode_of fixed.now) measure (W.game game.now) shares.now levels result }
 {
     match fixed {
-        Fixed::FreePlayers(free) => greatest_split(game, shares, *free),
-        Fixed::Vectors(span) => greatest_unspanned(game, shares, span),
+        Fixed::FreePlayers(free) => greatest_split(game, measure, shares, *free),
+        Fixed::Vectors(_, outside) => greatest_unspanned(game, measure, shares, outside),
     }
 }
 
@@ -144,6 +179,6 @@ pub fn first_unfixed(fixed: &Fixed, n: u32) -> Option<u32>
 {
     match fixed {
         Fixed::FreePlayers(free) => first_free(*free, n),
-        Fixed::Vectors(span) => first_unspanned(span, n),
+        Fixed::Vectors(span, _) => first_unspanned(span, n),
     }
 }

@@ -3,6 +3,7 @@
 use super::*;
 use coalitions::Coalition;
 use fractions::Frac;
+use kohlberg::{Level, Mode};
 use std::test::Fail;
 use worth_tables::TableGame;
 
@@ -41,6 +42,7 @@ fn verdict(
     rt: &HostRuntime,
     game: &TableGame,
     family: Family,
+    measure: Measure,
     shares: (&[i128], i128),
     mode: Mode,
     levels: Vec<Level>,
@@ -51,7 +53,10 @@ fn verdict(
     if x.players() != players {
         Err("another number of shares")?;
     }
-    Ok(check(game, family, &x, &certificate))
+    if players > 16 {
+        Err("more players than excess per head takes")?;
+    }
+    Ok(check(game, family, measure, &x, &certificate))
 }
 
 /// The assignment game with the values 5, 8 of the first player for the others' goods, and 7, 6 of the second.
@@ -92,7 +97,15 @@ fn spans_certify_an_assignment_game(rt: HostRuntime) -> Result<(), Fail> {
             levels.push(level(&rt, (-7, 2), &singles, &[(of![1, 3], -1)], &[], 0)?)?;
         }
         let shares = (shares.as_slice(), den);
-        let found = verdict(&rt, &game, Family::Imputations, shares, Mode::Span, levels)?;
+        let found = verdict(
+            &rt,
+            &game,
+            Family::Imputations,
+            Measure::Plain,
+            shares,
+            Mode::Span,
+            levels,
+        )?;
         assert_eq!(rt; found, wanted);
     }
     Ok(())
@@ -113,7 +126,15 @@ fn a_prenucleolus_may_be_below_a_worth_alone(rt: HostRuntime) -> Result<(), Fail
         let second = level(&rt, (1, 1), &pairs, &[(of![3], -1)], &[], 1)?;
         let levels = vec![in rt.alloc(); first, second]?;
         let shares = ([1, 1, -2].as_slice(), 1);
-        let found = verdict(&rt, &game, family, shares, Mode::Span, levels)?;
+        let found = verdict(
+            &rt,
+            &game,
+            family,
+            Measure::Plain,
+            shares,
+            Mode::Span,
+            levels,
+        )?;
         assert_eq!(rt; found, wanted);
     }
     Ok(())
@@ -138,7 +159,10 @@ fn bounds_stand_for_imputations_alone(rt: HostRuntime) -> Result<(), Fail> {
             let second = level(&rt, (0, 1), &singles, &[], &[(2, 1)], 1)?;
             let levels = vec![in rt.alloc(); first, second]?;
             let shares = ([0, 0, 0].as_slice(), 1);
-            assert_eq!(rt; verdict(&rt, &game, family, shares, mode, levels)?, wanted);
+            assert_eq!(rt;
+                verdict(&rt, &game, family, Measure::Plain, shares, mode, levels)?,
+                wanted
+            );
         }
     }
     Ok(())
@@ -170,6 +194,7 @@ fn players_certify_an_airport_game(rt: HostRuntime) -> Result<(), Fail> {
             &rt,
             &game,
             Family::Imputations,
+            Measure::Plain,
             shares,
             Mode::Players,
             levels,
@@ -194,7 +219,15 @@ fn on_two(
     let only = level(rt, (excess, 1), &pairs, &[], bounds, total)?;
     let levels = vec![in rt.alloc(); only]?;
     let shares = (shares.as_slice(), 1);
-    verdict(rt, &game, Family::Imputations, shares, mode, levels)
+    verdict(
+        rt,
+        &game,
+        Family::Imputations,
+        Measure::Plain,
+        shares,
+        mode,
+        levels,
+    )
 }
 
 #[test]
@@ -236,15 +269,89 @@ fn what_is_outside_or_left_is_found_in_both_modes(rt: HostRuntime) -> Result<(),
         let only = level(&rt, (-2, 1), &pairs, &[], &[], 2)?;
         let levels = vec![in rt.alloc(); only]?;
         let family = Family::Imputations;
-        let found = verdict(&rt, &game, family, (shares.as_slice(), 1), mode, levels)?;
+        let found = verdict(
+            &rt,
+            &game,
+            family,
+            Measure::Plain,
+            (shares.as_slice(), 1),
+            mode,
+            levels,
+        )?;
         let wanted = Reason::OutsideAbove {
             level: 1,
             excess: Frac::from_int(-1),
         };
         assert_eq!(rt; found, Verdict::No(wanted));
         let none = Vec::new(rt.alloc());
-        let found = verdict(&rt, &game, family, (shares.as_slice(), 1), mode, none)?;
+        let found = verdict(
+            &rt,
+            &game,
+            family,
+            Measure::Plain,
+            (shares.as_slice(), 1),
+            mode,
+            none,
+        )?;
         assert_eq!(rt; found, Verdict::No(Reason::NotAll { player: 0 }));
+    }
+    Ok(())
+}
+
+// The first two are worth 6 together, and all three 12.
+#[test]
+fn excess_per_head_is_certified_in_both_modes(rt: HostRuntime) -> Result<(), Fail> {
+    let game = game(&rt, 3, &[0, 0, 6, 0, 0, 0, 12])?;
+    for (shares, den, measure, wanted) in [
+        ([5, 5, 2], 1, Measure::PerHead, Verdict::Yes),
+        (
+            [9, 9, 6],
+            2,
+            Measure::PerHead,
+            Verdict::No(Reason::WrongExcess {
+                level: 1,
+                coalition: of![1, 2],
+            }),
+        ),
+        (
+            [5, 5, 2],
+            1,
+            Measure::Plain,
+            Verdict::No(Reason::WrongExcess {
+                level: 1,
+                coalition: of![1, 2],
+            }),
+        ),
+    ] {
+        for mode in [Mode::Players, Mode::Span] {
+            let first = level(&rt, (-2, 1), &[(of![1, 2], 1), (of![3], 1)], &[], &[], 1)?;
+            let pairs = [(of![1, 3], 1), (of![2, 3], 1)];
+            let second = level(&rt, (-7, 2), &pairs, &[(of![3], -1)], &[], 1)?;
+            let levels = vec![in rt.alloc(); first, second]?;
+            let family = Family::Imputations;
+            let shares = (shares.as_slice(), den);
+            let found = verdict(&rt, &game, family, measure, shares, mode, levels)?;
+            assert_eq!(rt; found, wanted);
+        }
+    }
+    Ok(())
+}
+
+#[test]
+fn the_greatest_excess_outside_is_per_head(rt: HostRuntime) -> Result<(), Fail> {
+    let game = game(&rt, 3, &[0, 0, 1, 0, 1, 1, 3])?;
+    let wanted = Reason::OutsideAbove {
+        level: 1,
+        excess: Frac::new(-1, 2).ok_or("not a fraction")?,
+    };
+    for mode in [Mode::Players, Mode::Span] {
+        let singles = [(of![1], 1), (of![2], 1), (of![3], 1)];
+        let only = level(&rt, (-1, 1), &singles, &[], &[], 1)?;
+        let levels = vec![in rt.alloc(); only]?;
+        let shares = ([1, 1, 1].as_slice(), 1);
+        let family = Family::Preimputations;
+        let found = verdict(&rt, &game, family, Measure::PerHead, shares, mode, levels)?;
+        assert_eq!(rt; found, Verdict::No(wanted));
     }
     Ok(())
 }

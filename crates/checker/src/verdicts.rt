@@ -34,7 +34,7 @@ pub enum Reason {
     Unbalanced { level: u32, player: u32 },
     /// The first player in the bounds of a level whose share is not its worth alone, or any where shares have no bounds.
     BoundNotTight { level: u32, player: u32 },
-    /// The greatest excess, as worth, of a coalition that the levels in front do not fix; it is above the level's.
+    /// The greatest measured excess, as worth, of a coalition that the levels in front do not fix; it is above the level's.
     OutsideAbove { level: u32, excess: Frac },
     /// The least player that is not fixed, where the levels do not fix everything.
     NotAll { player: u32 },

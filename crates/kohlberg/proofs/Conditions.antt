@@ -1,10 +1,12 @@
 -- Steps to the form and the conditions of a level.
-use Rattle.std.proofs.Common.{◌≡◌, ◌⊎◌, ℕ, zero, suc, ◌-◌, ◌^◌, ◌<◌, Bool, true, false, not, ◌&&◌, ◌||◌, ℤ, pos, ◌*ℤ◌, neg_ℤ, ◌≤ℤ◌, refl, sym, ap, ◌∙◌, inl, inr, arith}
+use Rattle.std.proofs.Common.{◌≡◌, ◌⊎◌, ℕ, ◌-◌, ◌^◌, ◌<◌, Bool, true, false, not, ◌&&◌, ℤ, pos, ◌*ℤ◌, neg_ℤ, ◌≤ℤ◌, sym, ap, ◌∙◌, inl, inr, arith}
 use Rattle.std.proofs.lemmas.Bool.{false≢true}
 use lib.IntN.{*ℤ_comm}
 use Rattle.definitions.proofs.Ring.{linear, mul-leℤ}
 use Rattle.definitions.proofs.Members.{has_player-empty, has_player-grand_coalition}
 use Rattle.definitions.specs.Coalitions.{has_player, grand_coalition, some_below, splits}
+use Rattle.definitions.proofs.Splits.{some_below-true}
+use Rattle.definitions.proofs.Cases.{and_left, and_right, from_not}
 
 -- ---- proper coalitions
 
@@ -26,27 +28,6 @@ proper n s i j small has jn lacks = (above s has, below s small lacks)
 
 -- ---- what splits some players
 
-some_below-true : (n : ℕ) (test : ℕ → Bool) → some_below n test ≡ true → (i : ℕ) × (i < n) × (test i ≡ true)
-some_below-true zero test e = absurd (false≢true e)
-some_below-true (suc n) test e =
-    let step : (b : Bool) → test n ≡ b → (b || some_below n test) ≡ true → (i : ℕ) × (i < suc n) × (test i ≡ true) = elim [
-      | true ↦ λ k h. (n, omega arith, k)
-      | false ↦ λ k h. let r = some_below-true n test h in (r.0, omega (arith, r.1), r.2)
-    ] in
-    step (test n) refl e
-
-and_left : (a b : Bool) → (a && b) ≡ true → a ≡ true
-and_left true b h = refl
-and_left false b h = h
-
-and_right : (a b : Bool) → (a && b) ≡ true → b ≡ true
-and_right true b h = h
-and_right false b h = absurd (false≢true h)
-
-not_true : (b : Bool) → not b ≡ true → b ≡ false
-not_true true h = absurd (false≢true h)
-not_true false h = refl
-
 -- a coalition that splits the players that pass a test holds one of them and lacks one
 pub splits-two : (n : ℕ) (test : ℕ → Bool) (s : ℕ) → splits n test s ≡ true → (i : ℕ) × (j : ℕ) × (i < n) × (test i ≡ true) × (has_player s i ≡ true) × (j < n) × (test j ≡ true) × (has_player s j ≡ false)
 splits-two n test s h =
@@ -54,7 +35,7 @@ splits-two n test s h =
     let some_out = some_below n (λ i. test i && not (has_player s i)) in
     let a = some_below-true n (λ i. test i && has_player s i) (and_left some_in some_out h) in
     let b = some_below-true n (λ i. test i && not (has_player s i)) (and_right some_in some_out h) in
-    (a.0, b.0, a.1, and_left (test a.0) (has_player s a.0) a.2, and_right (test a.0) (has_player s a.0) a.2, b.1, and_left (test b.0) (not (has_player s b.0)) b.2, not_true (has_player s b.0) (and_right (test b.0) (not (has_player s b.0)) b.2))
+    (a.0, b.0, a.1, and_left (test a.0) (has_player s a.0) a.2, and_right (test a.0) (has_player s a.0) a.2, b.1, and_left (test b.0) (not (has_player s b.0)) b.2, from_not (has_player s b.0) (and_right (test b.0) (not (has_player s b.0)) b.2))
 
 -- ---- the excess of a level
 

@@ -7,6 +7,7 @@ use Rattle.definitions.specs.Coalitions.{grand_coalition}
 use Rattle.definitions.specs.Certificates.{Level, is_listed, Ascends, IsSmall, LevelForm}
 use Rattle.kohlberg.specs.Form.{is_small, ascends}
 use Rattle.kohlberg.specs.LevelTests.{has_sizes, has_keys, has_order, has_weights, level_form}
+use Rattle.definitions.proofs.Alls.{all_join, all_left, all_right}
 
 Decides-le : (a b : ℕ) → Decides (nat_le a b) (a ≤ b)
 Decides-le a b = (λ h. grind (arith, nat_tests), λ h. grind (arith, nat_tests))
@@ -25,18 +26,6 @@ Decides-ascends low (p ∷ ps) =
 
 Decides-small : (z : ℤ) → Decides (is_small z) (IsSmall z)
 Decides-small z = Decides-ltb (unsigned_abs z) (2 ^ 63)
-
-pub all_join : {X : Type 0} (P : X → Type 0) (xs ys : List X) → AllByRecursion P xs → AllByRecursion P ys → AllByRecursion P (xs ++ ys)
-all_join P [] ys h k = k
-all_join P (x ∷ xs) ys h k = (h.0, all_join P xs ys h.1 k)
-
-pub all_left : {X : Type 0} (P : X → Type 0) (xs ys : List X) → AllByRecursion P (xs ++ ys) → AllByRecursion P xs
-all_left P [] ys h = tt
-all_left P (x ∷ xs) ys h = (h.0, all_left P xs ys h.1)
-
-pub all_right : {X : Type 0} (P : X → Type 0) (xs ys : List X) → AllByRecursion P (xs ++ ys) → AllByRecursion P ys
-all_right P [] ys h = h
-all_right P (x ∷ xs) ys h = all_right P xs ys h.1
 
 proper : (n : ℕ) (c : ℕ × ℤ) → Decides (nat_lt 0 c.0 && nat_lt c.0 (grand_coalition n)) ((0 < c.0) × (c.0 < grand_coalition n))
 proper n c = Decides-and (nat_lt 0 c.0) (nat_lt c.0 (grand_coalition n)) (Decides-ltb 0 c.0) (Decides-ltb c.0 (grand_coalition n))

@@ -1,8 +1,12 @@
 pub mod Forms
 pub mod Pairs
 pub mod FormScan
-pub mod Ratios
 pub mod Kept
 pub mod WithPair
+pub mod Placed
 pub mod Listed
 pub mod Conditions
+pub mod SpanLaws
+pub mod SpanScan
+pub mod Outer
+pub mod Marking

@@ -1,8 +1,7 @@
 -- What levels list.
-use Rattle.std.proofs.Common.{◌≡◌, ◌⊎◌, ℕ, Bool, true, false, ◌||◌, nat_eq, List, [], ◌∷◌, ◌++◌, refl, ◌∙◌, inl, inr, arith}
+use Rattle.std.proofs.Common.{◌≡◌, ◌⊎◌, ℕ, Bool, true, false, ◌||◌, nat_eq, List, [], ◌∷◌, ◌++◌, refl, ◌∙◌, inl, inr}
 use Rattle.std.specs.List.{list_any}
 use Rattle.std.proofs.lemmas.Bool.{false≢true}
-use Rattle.std.proofs.lemmas.Bool.Decides.{nat_tests}
 use Rattle.std.proofs.lemmas.List.Folds.{list_any-append}
 use Rattle.definitions.specs.Certificates.{Level, is_listed}
 
@@ -19,6 +18,3 @@ pub listed_here : (levels : List Level) (l : Level) (s : ℕ) → list_any (λ c
 listed_here levels l s h =
     list_any-append (λ l. list_any (λ c. nat_eq c.0 s) l.coalitions) levels (l ∷ [])
     ∙ or_true (is_listed levels s) (is_listed (l ∷ []) s) (inr (or_true (list_any (λ c. nat_eq c.0 s) l.coalitions) false (inl h)))
-
-pub same_test : (s : ℕ) → nat_eq s s ≡ true
-same_test s = grind (arith, nat_tests)

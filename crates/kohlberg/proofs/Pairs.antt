@@ -1,16 +1,10 @@
 -- One more pair of a list.
-use Rattle.std.proofs.Common.{◌≡◌, ℕ, suc, ◌+◌, ◌*◌, ◌^◌, ◌<◌, ◌≤◌, cond, List, [], ◌∷◌, length, drop, get_or, add-one, ℤ, pos, ◌+ℤ◌, unsigned_abs, to_z, of_z, ap, arith, nat_eq}
+use Rattle.std.proofs.Common.{◌≡◌, ℕ, ◌+◌, ◌*◌, ◌^◌, ◌<◌, ◌≤◌, cond, List, ◌∷◌, length, drop, get_or, add-one, ℤ, pos, ◌+ℤ◌, unsigned_abs, to_z, of_z, ap, arith, nat_eq}
 use Rattle.std.proofs.Math.Seq.{drop-cons}
 use Rattle.std.proofs.lemmas.Int.{ints}
-use Rattle.std.specs.List.{AllByRecursion}
 use Rattle.definitions.specs.Certificates.{number_at}
-use Rattle.worth_core.proofs.Casts.{cast_kept}
 use mir.Syntax.{w128}
-
-pub all_at : {X : Type 0} (P : X → Type 0) (xs : List X) (j : ℕ) (d : X) → j < length xs → AllByRecursion P xs → P (get_or xs j d)
-all_at P [] j d lt h = absurd (omega arith)
-all_at P (x ∷ xs) Prim.Native.Nat.zero d lt h = h.0
-all_at P (x ∷ xs) (suc j) d lt h = all_at P xs j d (omega arith) h.1
+use Rattle.definitions.proofs.Casts.{cast_kept}
 
 pub drop-more : {X : Type 0} (xs : List X) (j : ℕ) (d : X) → j < length xs → drop j xs ≡ get_or xs j d ∷ drop (j + 1) xs
 drop-more xs j d lt = rw add-one (drop-cons xs j d lt)

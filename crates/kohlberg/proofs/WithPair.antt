@@ -7,6 +7,7 @@ use Rattle.definitions.proofs.Ring.{linear}
 use Rattle.definitions.specs.Coalitions.{has_player, weight_at}
 use Rattle.definitions.specs.Certificates.{Ascends}
 use Rattle.kohlberg.specs.Pairs.{with_pair}
+use Rattle.definitions.proofs.Cases.{from_not_nat_lt}
 
 pub weight_at-with_pair : (s : ℕ) (w : ℤ) (ps : List (ℕ × ℤ)) (i : ℕ) → weight_at (with_pair s w ps) i ≡ (if has_player s i then w else pos 0) +ℤ weight_at ps i
 weight_at-with_pair s w [] i = refl
@@ -71,10 +72,7 @@ ascends-with_pair low s w (p ∷ ps) le new h =
     less a b e = grind (arith, nat_tests)
 
     more : (a b : ℕ) → nat_lt a b ≡ false → b ≢ a → b + 1 ≤ a
-    more a b e ne = differ a b (not_less a b e) ne
+    more a b e ne = differ a b (from_not_nat_lt a b e) ne
       where
-        not_less : (a b : ℕ) → nat_lt a b ≡ false → b ≤ a
-        not_less a b e = grind (arith, nat_tests)
-
         differ : (a b : ℕ) → b ≤ a → b ≢ a → b + 1 ≤ a
         differ a b le ne = grind arith

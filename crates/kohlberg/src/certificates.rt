@@ -1,6 +1,6 @@
 //! Certificates of the nucleolus, and their form.
 
-ghost use Rattle.std.specs.Prelude.{◌≡◌, ◌+◌, ◌≤◌, [], length, MatchResult, vec_len};
+ghost use Rattle.std.specs.Prelude.{◌≡◌, ◌≤◌, [], MatchResult};
 ghost use Rattle.std.specs.Bool.{Decides};
 ghost use Rattle.definitions.specs.Certificates.{HasForm, LevelsForm};
 ghost use Rattle.kohlberg.specs.Certificate.{IsCertificate, CertificateData};
@@ -35,9 +35,10 @@ impl Model for Certificate {
 impl Certificate {
     /// The certificate of these levels for 1 to 64 players; no memory is taken.
     ///
-    /// `Malformed` exactly where the form fails: there are fewer levels than players, and in mode span at most 16
-    /// players. A level has 1 to 65536 coalitions, neither empty nor all, and at most 65536 coalitions from the levels
-    /// in front of it; coalitions and players ascend, and weights and totals are below 2^63 in size.
+    /// `Malformed` exactly where the levels don't have this form: fewer levels than players; in mode span at most 16
+    /// players; in each level 1 to 65536 coalitions, neither empty nor all, at most 65536 earlier ones, each of them a
+    /// coalition of a level in front, and bounds of players of the game; all three lists in ascending order, without
+    /// repeats; weights and total below 2^63 in size.
     pub fn new(players: u32, mode: Mode, levels: Vec<Level>) -> Result<Certificate, Malformed>
         requires some { 1 ≤ players }
         requires few { players ≤ 64 }

@@ -1,14 +1,14 @@
 //! Levels of a certificate.
 
-ghost use Rattle.std.specs.Prelude.{◌≡◌, ◌+◌, ◌*◌, ◌^◌, ◌<◌, ◌≤◌, ◌&&◌, pos, ◌*ℤ◌, ◌≤ℤ◌, length, unsigned_abs, nat_eq, nat_lt, int_le, if◌then◌else◌};
+ghost use Rattle.std.specs.Prelude.{◌≡◌, ◌+◌, ◌*◌, ◌^◌, ◌<◌, ◌≤◌, ◌&&◌, pos, ◌*ℤ◌, length, unsigned_abs, nat_eq, nat_lt, int_le, if◌then◌else◌};
 ghost use Rattle.std.specs.Bool.{Decides};
 ghost use Rattle.std.specs.Ordering.{int_cmp};
 ghost use Rattle.std.specs.List.{AllByRecursion, list_any, list_all};
 ghost use Rattle.definitions.specs.Coalitions.{weight_at, grand_coalition};
 ghost use Rattle.definitions.specs.Certificates.{IsSmall, number_at, is_listed, has_bound, Level as LevelData};
-ghost use Rattle.fractions.specs.Fraction.{IsRatio};
 ghost use Rattle.kohlberg.specs.Form.{is_small, ascends};
 
+use crate::halving::is_found_in;
 use coalitions::Coalition;
 use fractions::Frac;
 use std::cmp::Ordering;
@@ -19,7 +19,7 @@ use std::marker::Model;
 /// At each player the weights of the coalitions that hold it, and of its bound, add to the total.
 #[derive(Debug, Drop)]
 pub struct Level {
-    /// The excess that the coalitions have in common, as worth.
+    /// The measured excess that the coalitions have in common, as worth.
     pub excess: Frac,
     /// The coalitions and their weights, in ascending order of the masks.
     pub coalitions: Vec<(Coalition, i128)>,
@@ -48,7 +48,7 @@ impl Model for Level {
 
 impl Level {
     /// Whether the level has the coalition.
-    fn lists(&self, s: Coalition) -> bool
+    fn has_coalition(&self, s: Coalition) -> bool
         ensures { result ≡ list_any (λ c. nat_eq c.0 s) self.now.coalitions }
     {
         for (t, _) in &self.coalitions {
@@ -64,7 +64,7 @@ impl Level {
         ensures { result ≡ is_listed levels.now s }
     {
         for l in levels {
-            if l.lists(s) {
+            if l.has_coalition(s) {
                 return true;
             }
         }
@@ -72,7 +72,7 @@ impl Level {
     }
 
     /// Whether the level has a weight of at least 1 on the player's bound.
-    fn bounds(&self, i: u32) -> bool
+    fn weighs_bound(&self, i: u32) -> bool
         ensures { result ≡ list_any (λ b. nat_eq b.0 i && int_le (pos 1) b.1) self.now.bounds }
     {
         for (j, w) in &self.bounds {
@@ -88,19 +88,18 @@ impl Level {
         ensures { result ≡ has_bound levels.now i }
     {
         for l in levels {
-            if l.bounds(i) {
+            if l.weighs_bound(i) {
                 return true;
             }
         }
         false
     }
 
-    /// The order of a fraction with a positive denominator and the level's excess.
-    pub fn order_of(&self, num: i128, den: i128) -> Ordering
-        requires { pos 1 ≤ℤ den }
-        ensures { result ≡ int_cmp (num *ℤ self.now.excess_den) (self.now.excess_num *ℤ den) }
+    /// The order of a fraction and the level's excess.
+    pub fn order_of(&self, excess: &Frac) -> Ordering
+        ensures { result ≡ int_cmp (excess.now.num *ℤ self.now.excess_den) (self.now.excess_num *ℤ excess.now.den) }
     {
-        ratio(num, den).compare(&self.excess)
+        excess.compare(&self.excess)
     }
 }
 
@@ -160,14 +159,6 @@ impl Level {
     {
         self.has_sizes() && self.has_keys(n, front) && self.has_order() && self.has_weights()
     }
-}
-
-/// The value of `num` over a positive denominator, in lowest terms.
-pub fn ratio(num: i128, den: i128) -> Frac
-    requires { pos 1 ≤ℤ den }
-    ensures { IsRatio result num den }
-{
-    Frac::new(num, den).unwrap()
 }
 
 /// The sum of the weights of the coalitions that hold a player.
@@ -296,11 +287,14 @@ fn are_players(bounds: &[(u32, i128)], n: u32) -> bool
 }
 
 /// Whether each coalition stands in a level in front.
+///
+/// Where the masks of those levels ascend, halving finds all that stand there, and no level is gone through but for the
+/// first coalition that doesn't.
 fn are_listed(pairs: &[(Coalition, i128)], front: &[Level]) -> bool
     ensures { result ≡ list_all (λ c. is_listed front.now c.0) pairs.now }
 {
     for (s, _) in pairs {
-        if !Level::is_listed(front, *s) {
+        if !is_found_in(front, *s) && !Level::is_listed(front, *s) {
             return false;
         }
     }

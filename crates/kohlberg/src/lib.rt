@@ -2,13 +2,20 @@
 #![tactic(auto)]
 
 mod certificates;
+mod halving;
 mod levels;
 mod mask_order;
+mod spanned;
 #[cfg(test)]
 mod tests;
 
 pub use certificates::{Certificate, Malformed};
 pub use definitions::{Family, Mode};
-pub use levels::{Level, bounds_at, ratio, weights_at};
+pub use levels::Level;
+pub use spans::{Outside, Span};
+
+// For the crates above.
+pub use levels::{bounds_at, weights_at};
 pub use mask_order::put_pair;
-pub use spans::Span;
+pub use spanned::{add_levels, first_unspanned};
+pub use worth_core::ratio;

@@ -1,5 +1,5 @@
 -- From an optimal stage to the reading behind its level, and the value of later multipliers at an earlier stage.
-use Rattle.std.proofs.Common.{◌≡◌, ◌⊎◌, ℕ, suc, ◌+◌, ◌-◌, ◌<◌, Bool, true, false, ◌&&◌, ◌||◌, IsTrue, List, [], ◌∷◌, ◌++◌, length, map, ℤ, pos, ◌+ℤ◌, ◌-ℤ◌, ◌*ℤ◌, ◌≤ℤ◌, refl, sym, ap, subst, ◌∙◌, inl, inr, arith, nat_eq, nat_lt, int_le, if◌then◌else◌, slice_index_or}
+use Rattle.std.proofs.Common.{◌≡◌, ◌⊎◌, ℕ, suc, ◌+◌, ◌-◌, ◌<◌, Bool, true, false, ◌&&◌, IsTrue, List, [], ◌∷◌, ◌++◌, length, map, ℤ, pos, ◌+ℤ◌, ◌-ℤ◌, ◌*ℤ◌, ◌≤ℤ◌, refl, sym, ap, subst, ◌∙◌, inl, inr, arith, nat_eq, nat_lt, int_le, if◌then◌else◌, slice_index_or}
 use Rattle.std.proofs.lemmas.Bool.{false≢true}
 use Rattle.std.proofs.lemmas.Bool.Decides.{nat_tests}
 use Rattle.std.specs.List.{list_any, AllByRecursion}
@@ -15,8 +15,11 @@ use Rattle.definitions.specs.declared.Family.TheVariants.{Imputations}
 use Rattle.separation.specs.Stage.{Column, signed, earlier_of, doubled, settled_columns, further_column, no_column, column, is_imputations, is_further, stage_program}
 use Rattle.nested_programs.specs.Reading.{IsReading, share_of, excess_of, nowhere}
 use Rattle.nested_programs.specs.Chain.{single_id, outer_id, HasWeight, Stage, StageHolds}
-use Rattle.nested_programs.proofs.Reading.{plus_value, column_value, column_value-is, Fixes, each_of, within_row, all_join, test_of, imputations_of, and_left, and_right, single_value, whole_value, of_settled, reading_of}
+use Rattle.nested_programs.proofs.Reading.{plus_value, column_value, column_value-is, Fixes, each_of, within_row, imputations_of, single_value, whole_value, of_settled, reading_of}
 use Rattle.nested_programs.proofs.Slack.{rise, tight_optimal, tight_value}
+use Rattle.definitions.proofs.Cases.{or_cases, or_left, or_right, true_or_false, and_left, and_right}
+use Rattle.definitions.proofs.Alls.{all_left, all_right, all_join}
+use Rattle.definitions.proofs.Cancel.{gap_of}
 
 -- ---- the right side
 
@@ -76,18 +79,6 @@ single_tight family g front outside m den i lt h =
 
 -- ---- lists
 
-pub or_cases : (a b : Bool) → (a || b) ≡ true → (a ≡ true) ⊎ (b ≡ true)
-or_cases true b h = inl refl
-or_cases false b h = inr h
-
-pub or_left : (a b : Bool) → a ≡ true → (a || b) ≡ true
-or_left true b h = refl
-or_left false b h = absurd (false≢true h)
-
-pub or_right : (a b : Bool) → b ≡ true → (a || b) ≡ true
-or_right true b h = refl
-or_right false b h = h
-
 pub any_left : {X : Type 0} (p : X → Bool) (xs ys : List X) → list_any p xs ≡ true → list_any p (xs ++ ys) ≡ true
 any_left p [] ys h = absurd (false≢true h)
 any_left p (x ∷ xs) ys h = elim (or_cases (p x) (list_any p xs) h) [
@@ -101,14 +92,6 @@ any_cases p (x ∷ xs) ys h = elim (or_cases (p x) (list_any p (xs ++ ys)) h) [
   | inl here ↦ inl (or_left (p x) (list_any p xs) here)
   | inr more ↦ elim (any_cases p xs ys more) [ inl a ↦ inl (or_right (p x) (list_any p xs) a) | inr b ↦ inr b ]
 ]
-
-pub all_first : {X : Type 0} (P : X → Type 0) (xs ys : List X) → AllByRecursion P (xs ++ ys) → AllByRecursion P xs
-all_first P [] ys h = tt
-all_first P (x ∷ xs) ys h = (h.0, all_first P xs ys h.1)
-
-pub all_second : {X : Type 0} (P : X → Type 0) (xs ys : List X) → AllByRecursion P (xs ++ ys) → AllByRecursion P ys
-all_second P [] ys h = h
-all_second P (x ∷ xs) ys h = all_second P xs ys h.1
 
 pub append_assoc : {X : Type 0} (xs ys zs : List X) → (xs ++ ys) ++ zs ≡ xs ++ (ys ++ zs)
 append_assoc [] ys zs = refl
@@ -150,7 +133,7 @@ restrict family g xs ys m den r =
     record {
       positive = r.positive;
       whole = r.whole;
-      settled = all_first (λ c. den *ℤ g.worth c.0 ≡ sum_over g.players (share_of m) c.0 +ℤ excess_of g.players m c.1) (earlier_of 0 xs) (earlier_of (0 + length xs) ys) (subst (Settled_pairs g m den) (earlier_of-append 0 xs ys) r.settled);
+      settled = all_left (λ c. den *ℤ g.worth c.0 ≡ sum_over g.players (share_of m) c.0 +ℤ excess_of g.players m c.1) (earlier_of 0 xs) (earlier_of (0 + length xs) ys) (subst (Settled_pairs g m den) (earlier_of-append 0 xs ys) r.settled);
       single = r.single;
       bound = λ f i h b. r.bound f i h (any_left (λ l. list_any (λ b. nat_eq b.0 i && int_le (pos 1) b.1) l.bounds) xs ys b);
       outer = λ s o. absurd (false≢true o);
@@ -221,26 +204,23 @@ Tight g j x e den c = column_rise g j x e den c ≡ pos 0
 minus_tight : (den w z : ℤ) → den *ℤ w ≡ z → den *ℤ (pos 0 -ℤ w) -ℤ (pos 0 -ℤ z) ≡ pos 0
 minus_tight den w z h = omega (arith, linear, mul-subℤ den (pos 0) w, mul-zeroℤ den)
 
-plus_tight : (u z : ℤ) → u ≡ z → u -ℤ z ≡ pos 0
-plus_tight u z h = omega (arith, linear)
-
 tight_fixes : (g : Game) (j : ℕ) (x e : ℕ → ℤ) (den : ℤ) (cs : List (ℕ × ℕ)) → AllByRecursion (Fixes g j x e den) cs → AllByRecursion (Tight g j x e den) (doubled cs)
 tight_fixes g j x e den [] h = tt
 tight_fixes g j x e den (c ∷ cs) h =
-    (plus_tight (den *ℤ g.worth c.0) (plus_value g.players j x e c.0 c.1) h.0, (minus_tight den (g.worth c.0) (plus_value g.players j x e c.0 c.1) h.0, tight_fixes g j x e den cs h.1))
+    (gap_of (den *ℤ g.worth c.0) (plus_value g.players j x e c.0 c.1) h.0, (minus_tight den (g.worth c.0) (plus_value g.players j x e c.0 c.1) h.0, tight_fixes g j x e den cs h.1))
 
 further_tight : (family : Family) (g : Game) (front : List Level) (t : Stage) (m : List ℤ) (den : ℤ) → StageHolds family g front t → Reads family g (front ++ t.level ∷ []) m den → (i : ℕ) → is_further family g.players front t.outside i ≡ true → HasWeight t.weights (length (settled_columns g.players front) + i) → Tight g (length front + 1) (share_of m) (excess_of g.players m) den (further_column g.players (length front) i)
 further_tight family g front t m den holds r i is_so weighs =
     let n : ℕ = g.players in
     let x : ℕ → ℤ = share_of m in
     let e : ℕ → ℤ = excess_of n m in
-    elim (test_of (nat_lt i n)) [
+    elim (true_or_false (nat_lt i n)) [
       | inl below ↦
           let h : i < n = grind (arith, nat_tests) in
           let f = imputations_of family (rw below at is_so) in
           let b = holds.follows.all_bounds i h weighs in
           rw below (omega (arith, linear, r.bound f i h b, single_value n (length front) i x e h))
-      | inr past ↦ elim (test_of (nat_lt i (n + n))) [
+      | inr past ↦ elim (true_or_false (nat_lt i (n + n))) [
         | inl below ↦
             let h : i - n < n = grind (arith, nat_tests) in
             let y = rw below at (rw past at is_so) in
@@ -251,8 +231,8 @@ further_tight family g front t m den holds r i is_so weighs =
             let s : ℕ = i - (n + n) in
             let eq : n + n + s ≡ i = grind (arith, nat_tests) in
             let listed = holds.follows.all_coalitions s (subst (λ (z : ℕ). HasWeight t.weights (length (settled_columns n front) + z)) (sym eq) weighs) in
-            let pairs = all_second (λ c. den *ℤ g.worth c.0 ≡ sum_over n x c.0 +ℤ e c.1) (earlier_of 0 front) (map (λ c. (c.0, length front)) t.level.coalitions ++ []) (subst (Settled_pairs g m den) (earlier_of-more front t.level) r.settled) in
-            let mine = all_first (λ c. den *ℤ g.worth c.0 ≡ sum_over n x c.0 +ℤ e c.1) (map (λ c. (c.0, length front)) t.level.coalitions) [] pairs in
+            let pairs = all_right (λ c. den *ℤ g.worth c.0 ≡ sum_over n x c.0 +ℤ e c.1) (earlier_of 0 front) (map (λ c. (c.0, length front)) t.level.coalitions ++ []) (subst (Settled_pairs g m den) (earlier_of-more front t.level) r.settled) in
+            let mine = all_left (λ c. den *ℤ g.worth c.0 ≡ sum_over n x c.0 +ℤ e c.1) (map (λ c. (c.0, length front)) t.level.coalitions) [] pairs in
             let any : list_any (λ c. nat_eq c.0 s) t.level.coalitions ≡ true = elim (or_cases (list_any (λ c. nat_eq c.0 s) t.level.coalitions) false listed) [ inl a ↦ a | inr b ↦ absurd (false≢true b) ] in
             let fact = pair_at (λ c. den *ℤ g.worth c.0 ≡ sum_over n x c.0 +ℤ e c.1) (length front) t.level.coalitions s mine any in
             rw past (rw beyond (omega (arith, linear, fact, within_row (length front + 1) (length front) e (omega arith))))
@@ -267,7 +247,7 @@ tight_later family g front t m den holds r id is_so weighs =
     let len : ℕ = length (settled_columns n front) in
     let near = restrict family g front (t.level ∷ []) m den r in
     let first : AllByRecursion (Tight g (length front + 1) x e den) (settled_columns n front) = tight_fixes g (length front + 1) x e den ((grand_coalition n, length front + 1) ∷ earlier_of 0 front) (sym (whole_value n (length front) x e ∙ near.whole), of_settled g front x e den near.settled) in
-    rise_at family g front t.outside m den id ∙ elim (test_of (nat_lt id len)) [
+    rise_at family g front t.outside m den id ∙ elim (true_or_false (nat_lt id len)) [
       | inl below ↦
           let lt : id < len = grind (arith, nat_tests) in
           rw below (each_of (Tight g (length front + 1) x e den) no_column (settled_columns n front) first id lt)

@@ -15,7 +15,7 @@ use Rattle.separation.specs.Stage.{stage_program}
 use Rattle.separation.specs.Same.{IsStage}
 use Rattle.nested_programs.specs.Stages.{IsLeft, IsBest, IsBounded}
 use Rattle.nested_programs.proofs.Start.{some_solution}
-use Rattle.nested_programs.proofs.SamePrograms.{ray_same, no_solution_same, answer_same}
+use Rattle.separation.proofs.SamePrograms.{ray_same, no_solution_same, answer_same}
 
 one_apart : pos 1 ≢ pos 0
 one_apart e = omega (arith, linear, e)

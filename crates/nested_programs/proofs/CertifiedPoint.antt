@@ -1,5 +1,5 @@
 -- The levels of all stages and the shares that are read from the last, or that are the worth of all where there is no stage, are a certified answer.
-use Rattle.std.proofs.Common.{◌≡◌, ◌≤◌, List, [], ◌∷◌, pos, Option, Some, None, MatchOption, sym, ap, subst}
+use Rattle.std.proofs.Common.{◌≡◌, ◌≤◌, List, [], ◌∷◌, pos, Option, Some, None, MatchOption, sym, ap, subst, ℕ, arith}
 use Rattle.std.specs.List.{AllByRecursion}
 use Rattle.definitions.specs.Coalitions.{grand_coalition}
 use Rattle.definitions.specs.Games.{Game, Allocation}
@@ -9,32 +9,41 @@ use Rattle.definitions.specs.declared.Mode.TheVariants.{Span}
 use Rattle.simplex.specs.declared.multipliers.Multipliers.{Multipliers}
 use Rattle.kohlberg.specs.Certificate.{CertificateData}
 use Rattle.worth_core.specs.Allocations.{allocation}
-use Rattle.nested_programs.specs.Answer.{HasFew, IsLowest, IsPoint}
-use Rattle.nested_programs.specs.Chain.{IsReadFrom}
+use Rattle.nested_programs.specs.Answer.{IsShort, IsPoint}
 use Rattle.nested_programs.specs.Stages.{AreDone}
 use Rattle.nested_programs.proofs.LastStage.{certified}
 use Rattle.nested_programs.proofs.OnePlayer.{one_certified}
+use Rattle.definitions.specs.declared.Measure.TheVariants.{Plain}
+use Rattle.kohlberg.specs.Solved.{HasFew, IsLowest}
+use Rattle.definitions.proofs.Alls.{all_weaken}
+use Rattle.separation.specs.Shares.{IsReadFrom}
 
 -- shares that are read from the multipliers of the last stage, or are the worth of all where there is no stage
 abbrev pub AreRead : Game → Option Multipliers → Allocation → Type 0
 AreRead g last x =
-    MatchOption last (x ≡ allocation (g.worth (grand_coalition g.players) ∷ []) (pos 1)) (λ m. IsReadFrom g m.num.items m.den x)
+    MatchOption last (x ≡ allocation (g.worth (grand_coalition g.players) ∷ []) (pos 1)) (λ m. IsReadFrom g.players m.num.items m.den x)
 
-all_certified : (family : Family) (g : Game) (levels : List Level) (last : Option Multipliers) (x : Allocation) → 1 ≤ g.players → AreDone family g levels last → AreRead g last x → Certifies Span family g x levels
+all_certified : (family : Family) (g : Game) (levels : List Level) (last : Option Multipliers) (x : Allocation) → 1 ≤ g.players → AreDone family g levels last → AreRead g last x → Certifies Span family Plain g x levels
 all_certified family g levels None x some done read =
     let none : levels ≡ [] = done.stages.wide in
     let one = one_certified family g some (subst (IsAllFixed Span g.players) none done.all) in
-    subst (Certifies Span family g x) (sym none) (subst (λ (y : Allocation). Certifies Span family g y []) (sym read) one)
+    subst (Certifies Span family Plain g x) (sym none) (subst (λ (y : Allocation). Certifies Span family Plain g y []) (sym read) one)
 all_certified family g levels (Some m) x some done read = certified family g levels m x done read
 
 pub is_point : (family : Family) (g : Game) (levels : List Level) (last : Option Multipliers) (x : Allocation) (c : CertificateData) → 1 ≤ g.players → AreDone family g levels last → AreRead g last x → c ≡ record { players = g.players; mode = Span; levels = levels } → IsPoint family g x c
 is_point family g levels last x c some done read e = record {
-  players = ap (λ (d : CertificateData). d.players) e;
-  mode = ap (λ (d : CertificateData). d.mode) e;
-  certifies = subst (Certifies Span family g x) (sym same) (all_certified family g levels last x some done read);
-  few = subst (AllByRecursion (HasFew g.players)) (sym same) done.few;
-  lowest = subst (AllByRecursion IsLowest) (sym same) done.lowest;
+  solved = record {
+    players = ap (λ (d : CertificateData). d.players) e;
+    in_mode = ap (λ (d : CertificateData). d.mode) e;
+    certifies = subst (Certifies Span family Plain g x) (sym same) (all_certified family g levels last x some done read);
+    few = subst (AllByRecursion (HasFew g.players)) (sym same) (all_weaken (IsShort g.players) (HasFew g.players) levels (λ l h. at_most g.players l h) done.short);
+    lowest = subst (AllByRecursion IsLowest) (sym same) done.lowest;
+  };
+  short = subst (AllByRecursion (IsShort g.players)) (sym same) done.short;
 }
   where
     same : c.levels ≡ levels
     same = ap (λ (d : CertificateData). d.levels) e
+
+    at_most : (n : ℕ) (l : Level) → IsShort n l → HasFew n l
+    at_most n l h = omega (arith, h)

@@ -11,12 +11,14 @@ use Rattle.definitions.specs.declared.Family.{Family}
 use Rattle.definitions.specs.declared.Family.TheVariants.{Imputations, Preimputations}
 use Rattle.definitions.specs.declared.Mode.TheVariants.{Span}
 use Rattle.separation.specs.Stage.{earlier_of}
+use Rattle.separation.specs.Shares.{IsReadFrom}
 use Rattle.nested_programs.specs.Reading.{share_of, excess_of}
-use Rattle.nested_programs.specs.Chain.{Stage, StageHolds, levels_of, IsChain, last_of, IsReadFrom, HaveExcesses}
-use Rattle.nested_programs.proofs.Reading.{all_weaken}
-use Rattle.nested_programs.proofs.Advance.{Reads, Settled_pairs, restrict, advance, append_assoc, all_first, all_second, earlier_of-more, BoundComes}
+use Rattle.nested_programs.specs.Chain.{Stage, StageHolds, levels_of, IsChain, last_of, HaveExcesses}
+use Rattle.nested_programs.proofs.Advance.{Reads, Settled_pairs, restrict, advance, append_assoc, earlier_of-more, BoundComes}
 use Rattle.nested_programs.proofs.Form.{level_balanced}
 use Rattle.nested_programs.proofs.Chain.{Past, past_none, past_more, outside_low, weighted_family, append_none, length_more}
+use Rattle.definitions.specs.declared.Measure.TheVariants.{Plain}
+use Rattle.definitions.proofs.Alls.{all_left, all_right, all_weaken}
 
 -- the multipliers of the last stage settle all levels
 pub last_reads : (family : Family) (g : Game) (front : List Level) (t : Stage) (ts : List Stage) → StageHolds family g front t → IsChain family g (front ++ t.level ∷ []) ts → Reads family g ((front ++ t.level ∷ []) ++ levels_of ts) (last_of t ts).multipliers (last_of t ts).den
@@ -27,18 +29,18 @@ last_reads family g front t (t' ∷ ts) holds chain =
 
 -- ---- shares
 
-pub amount_read : (g : Game) (m : List ℤ) (den : ℤ) (x : Allocation) (s : ℕ) → IsReadFrom g m den x → amount x s ≡ sum_over g.players (share_of m) s
+pub amount_read : (g : Game) (m : List ℤ) (den : ℤ) (x : Allocation) (s : ℕ) → IsReadFrom g.players m den x → amount x s ≡ sum_over g.players (share_of m) s
 amount_read g m den x s read =
     ap (λ (z : ℕ). sum_over z (share x) s) read.players ∙ sum_below-same g.players (λ i. if has_player s i then share x i else pos 0) (λ i. if has_player s i then share_of m i else pos 0) (λ i h. ap (λ z. if has_player s i then z else pos 0) (read.shares i h))
 
-pub excess_read : (g : Game) (m : List ℤ) (den : ℤ) (x : Allocation) (s : ℕ) → IsReadFrom g m den x → excess g x s ≡ den *ℤ g.worth s -ℤ sum_over g.players (share_of m) s
+pub excess_read : (g : Game) (m : List ℤ) (den : ℤ) (x : Allocation) (s : ℕ) → IsReadFrom g.players m den x → excess g x s ≡ den *ℤ g.worth s -ℤ sum_over g.players (share_of m) s
 excess_read g m den x s read =
     omega (arith, linear, amount_read g m den x s read, ap (λ z. z *ℤ g.worth s) read.common)
 
-read_alone : (g : Game) (m : List ℤ) (den : ℤ) (x : Allocation) (s : ℕ) → IsReadFrom g m den x → x.den *ℤ g.worth s ≡ den *ℤ g.worth s
+read_alone : (g : Game) (m : List ℤ) (den : ℤ) (x : Allocation) (s : ℕ) → IsReadFrom g.players m den x → x.den *ℤ g.worth s ≡ den *ℤ g.worth s
 read_alone g m den x s read = ap (λ z. z *ℤ g.worth s) read.common
 
-in_family : (family : Family) (g : Game) (levels : List Level) (m : List ℤ) (den : ℤ) (x : Allocation) → IsReadFrom g m den x → Reads family g levels m den → InFamily family g x
+in_family : (family : Family) (g : Game) (levels : List Level) (m : List ℤ) (den : ℤ) (x : Allocation) → IsReadFrom g.players m den x → Reads family g levels m den → InFamily family g x
 in_family family g levels m den x read r = by_family family r.single
   where
     allocation : IsAllocation g x
@@ -61,18 +63,18 @@ has_at_most : (a num lden e den xden : ℤ) → a ≤ℤ e → pos 1 ≤ℤ lden
 has_at_most a num lden e den xden low one h3 h5 =
     omega (arith, linear, mul-leℤ lden a e (omega (arith, linear, one)) low, *ℤ_comm lden a, *ℤ_comm lden e, h3, ap (λ z. num *ℤ z) h5)
 
-excesses_of : (g : Game) (m : List ℤ) (den : ℤ) (x : Allocation) (l : Level) (k : ℕ) (cs : List (ℕ × ℤ)) → IsReadFrom g m den x → l.excess_num *ℤ den ≡ excess_of g.players m k *ℤ l.excess_den → Settled_pairs g m den (map (λ c. (c.0, k)) cs) → AllByRecursion (λ c. HasExcess g x l c.0) cs
+excesses_of : (g : Game) (m : List ℤ) (den : ℤ) (x : Allocation) (l : Level) (k : ℕ) (cs : List (ℕ × ℤ)) → IsReadFrom g.players m den x → l.excess_num *ℤ den ≡ excess_of g.players m k *ℤ l.excess_den → Settled_pairs g m den (map (λ c. (c.0, k)) cs) → AllByRecursion (λ c. HasExcess Plain g x l c.0) cs
 excesses_of g m den x l k [] read num h = tt
 excesses_of g m den x l k (c ∷ cs) read num h =
     (has_excess (excess g x c.0) (den *ℤ g.worth c.0 -ℤ sum_over g.players (share_of m) c.0) l.excess_num l.excess_den (excess_of g.players m k) den x.den (excess_read g m den x c.0 read) (omega (arith, linear, h.0)) num read.common, excesses_of g m den x l k cs read num h.1)
 
-level_holds : (family : Family) (g : Game) (front : List Level) (t : Stage) (ts : List Stage) (m : List ℤ) (den : ℤ) (x : Allocation) → Past family g front → StageHolds family g front t → IsChain family g (front ++ t.level ∷ []) ts → Reads family g ((front ++ t.level ∷ []) ++ levels_of ts) m den → IsAllFixed Span g.players ((front ++ t.level ∷ []) ++ levels_of ts) → IsReadFrom g m den x → t.level.excess_num *ℤ den ≡ excess_of g.players m (length front) *ℤ t.level.excess_den → pos 1 ≤ℤ t.level.excess_den → LevelHolds Span family g x front t.level
+level_holds : (family : Family) (g : Game) (front : List Level) (t : Stage) (ts : List Stage) (m : List ℤ) (den : ℤ) (x : Allocation) → Past family g front → StageHolds family g front t → IsChain family g (front ++ t.level ∷ []) ts → Reads family g ((front ++ t.level ∷ []) ++ levels_of ts) m den → IsAllFixed Span g.players ((front ++ t.level ∷ []) ++ levels_of ts) → IsReadFrom g.players m den x → t.level.excess_num *ℤ den ≡ excess_of g.players m (length front) *ℤ t.level.excess_den → pos 1 ≤ℤ t.level.excess_den → LevelHolds Span family Plain g x front t.level
 level_holds family g front t ts m den x past holds chain r fixed read num lden =
     let n : ℕ = g.players in
     let near = restrict family g (front ++ t.level ∷ []) (levels_of ts) m den r in
     let far = restrict family g front (t.level ∷ []) m den near in
-    let pairs = all_second (λ c. den *ℤ g.worth c.0 ≡ sum_over n (share_of m) c.0 +ℤ excess_of n m c.1) (earlier_of 0 front) (map (λ c. (c.0, length front)) t.level.coalitions ++ []) (subst (Settled_pairs g m den) (earlier_of-more front t.level) near.settled) in
-    let mine = all_first (λ c. den *ℤ g.worth c.0 ≡ sum_over n (share_of m) c.0 +ℤ excess_of n m c.1) (map (λ c. (c.0, length front)) t.level.coalitions) [] pairs in
+    let pairs = all_right (λ c. den *ℤ g.worth c.0 ≡ sum_over n (share_of m) c.0 +ℤ excess_of n m c.1) (earlier_of 0 front) (map (λ c. (c.0, length front)) t.level.coalitions ++ []) (subst (Settled_pairs g m den) (earlier_of-more front t.level) near.settled) in
+    let mine = all_left (λ c. den *ℤ g.worth c.0 ≡ sum_over n (share_of m) c.0 +ℤ excess_of n m c.1) (map (λ c. (c.0, length front)) t.level.coalitions) [] pairs in
     let at : (i : ℕ) → i < n → share_of m i ≡ den *ℤ g.worth (singleton i) → share x i ≡ x.den *ℤ g.worth (singleton i) = λ i h e. read.shares i h ∙ e ∙ sym (read_alone g m den x (singleton i) read) in
     record {
       excesses = excesses_of g m den x t.level (length front) t.level.coalitions read num mine;
@@ -93,7 +95,7 @@ level_holds family g front t ts m den x past holds chain r fixed read num lden =
           has_at_most (excess g x s) t.level.excess_num t.level.excess_den (excess_of n m (length front)) den x.den (omega (arith, linear, low, e)) lden num read.common);
     }
 
-levels_hold : (family : Family) (g : Game) (front : List Level) (ts : List Stage) (m : List ℤ) (den : ℤ) (x : Allocation) → Past family g front → IsChain family g front ts → Reads family g (front ++ levels_of ts) m den → IsAllFixed Span g.players (front ++ levels_of ts) → IsReadFrom g m den x → HaveExcesses g m den (length front) (levels_of ts) → LevelsHold Span family g x front (levels_of ts)
+levels_hold : (family : Family) (g : Game) (front : List Level) (ts : List Stage) (m : List ℤ) (den : ℤ) (x : Allocation) → Past family g front → IsChain family g front ts → Reads family g (front ++ levels_of ts) m den → IsAllFixed Span g.players (front ++ levels_of ts) → IsReadFrom g.players m den x → HaveExcesses g m den (length front) (levels_of ts) → LevelsHold Span family Plain g x front (levels_of ts)
 levels_hold family g front [] m den x past chain r fixed read excesses = subst (IsAllFixed Span g.players) (append_none front) fixed
 levels_hold family g front (t ∷ ts) m den x past chain r fixed read excesses =
     let shift : (front ++ t.level ∷ []) ++ levels_of ts ≡ front ++ t.level ∷ levels_of ts = append_assoc front (t.level ∷ []) (levels_of ts) in
@@ -103,7 +105,7 @@ levels_hold family g front (t ∷ ts) m den x past chain r fixed read excesses =
       levels_hold family g (front ++ t.level ∷ []) ts m den x (past_more family g front t past chain.0) chain.1 r' fixed' read (subst (λ (z : ℕ). HaveExcesses g m den z (levels_of ts)) (sym (length_more front t.level)) excesses.2),
     )
 
-pub chain_certified : (family : Family) (g : Game) (t : Stage) (ts : List Stage) (x : Allocation) → IsChain family g [] (t ∷ ts) → IsAllFixed Span g.players (levels_of (t ∷ ts)) → IsReadFrom g (last_of t ts).multipliers (last_of t ts).den x → HaveExcesses g (last_of t ts).multipliers (last_of t ts).den 0 (levels_of (t ∷ ts)) → Certifies Span family g x (levels_of (t ∷ ts))
+pub chain_certified : (family : Family) (g : Game) (t : Stage) (ts : List Stage) (x : Allocation) → IsChain family g [] (t ∷ ts) → IsAllFixed Span g.players (levels_of (t ∷ ts)) → IsReadFrom g.players (last_of t ts).multipliers (last_of t ts).den x → HaveExcesses g (last_of t ts).multipliers (last_of t ts).den 0 (levels_of (t ∷ ts)) → Certifies Span family Plain g x (levels_of (t ∷ ts))
 chain_certified family g t ts x chain fixed read excesses =
     let m : List ℤ = (last_of t ts).multipliers in
     let den : ℤ = (last_of t ts).den in

@@ -1,13 +1,13 @@
 -- Along a chain of optimal stages: multipliers that settle all levels agree, optima don't rise, and no coalition outside a level has more than the level's excess.
-use Rattle.std.proofs.Common.{◌≡◌, ◌⊎◌, ℕ, zero, suc, ◌+◌, ◌<◌, Bool, true, false, cond, ◌&&◌, IsTrue, List, [], ◌∷◌, ◌++◌, length, map, ℤ, pos, ◌+ℤ◌, ◌-ℤ◌, ◌*ℤ◌, ◌≤ℤ◌, refl, sym, ap, subst, ◌∙◌, inl, inr, arith, nat_eq, nat_lt, int_le, if◌then◌else◌, slice_index_or}
+use Rattle.std.proofs.Common.{◌≡◌, ℕ, zero, suc, ◌+◌, ◌<◌, Bool, true, false, ◌&&◌, IsTrue, List, [], ◌∷◌, ◌++◌, length, map, ℤ, pos, ◌+ℤ◌, ◌-ℤ◌, ◌*ℤ◌, ◌≤ℤ◌, refl, sym, ap, subst, ◌∙◌, inl, inr, arith, nat_eq, nat_lt, int_le, if◌then◌else◌, slice_index_or}
 use Rattle.std.proofs.lemmas.Bool.{false≢true}
 use Rattle.std.proofs.lemmas.Bool.Decides.{nat_tests}
 use Rattle.std.specs.List.{list_any, AllByRecursion}
-use Rattle.definitions.proofs.Ring.{linear, mul-addℤ, mul-leℤ, mul_assocℤ, mul-cancelℤ, mul-le_cancelℤ, mul-positiveℤ}
+use Rattle.definitions.proofs.Ring.{linear, mul-addℤ, mul-leℤ, mul_assocℤ, mul-cancelℤ, mul-le_cancelℤ, mul-positiveℤ, mul_left_commℤ}
 use lib.IntN.{*ℤ_comm}
-use Rattle.definitions.proofs.Members.{sum_below-same, sum_below-zero, sum_over-combined, sum_over-grand_coalition}
+use Rattle.definitions.proofs.Members.{sum_below-same, sum_below-zero, sum_over-combined, sum_over-grand_coalition, zero_either}
 use Rattle.definitions.proofs.Settled.{Settled, inside_zero, all_fixed_zero}
-use Rattle.fractions.proofs.Duality.{weak_duality}
+use Rattle.determinants.proofs.Duality.{weak_duality}
 use Rattle.definitions.specs.Sums.{weighted_sum}
 use Rattle.definitions.specs.Coalitions.{has_player, singleton, grand_coalition, sum_over}
 use Rattle.definitions.specs.Games.{Game}
@@ -19,9 +19,12 @@ use Rattle.definitions.specs.declared.Mode.TheVariants.{Span}
 use Rattle.separation.specs.Stage.{earlier_of, settled_columns, stage_program}
 use Rattle.nested_programs.specs.Reading.{IsReading, share_of, excess_of}
 use Rattle.nested_programs.specs.Chain.{HasWeight, Stage, StageHolds, levels_of, IsChain}
-use Rattle.nested_programs.proofs.Reading.{all_both, all_weaken, earlier_rows, reading_of, of_reading, test_of}
-use Rattle.nested_programs.proofs.Slack.{swap_front, no_ray, tight_optimal}
-use Rattle.nested_programs.proofs.Advance.{Reads, restrict, advance, stage_value, right_value, or_cases, any_left, any_cases, append_assoc, pair_at, all_first, all_second, BoundComes, single_family}
+use Rattle.nested_programs.proofs.Reading.{earlier_rows, reading_of, of_reading}
+use Rattle.nested_programs.proofs.Slack.{tight_optimal}
+use Rattle.nested_programs.proofs.Advance.{Reads, restrict, advance, stage_value, right_value, any_left, any_cases, append_assoc, pair_at, BoundComes, single_family}
+use Rattle.definitions.proofs.Cases.{less_or_last_of, or_cases, true_or_false}
+use Rattle.definitions.proofs.Alls.{all_left, all_right, all_weaken, all_with}
+use Rattle.simplex.proofs.Ends.{no_ray}
 
 -- ---- the next stage's bounding multipliers
 
@@ -91,7 +94,7 @@ next_reading family g front t outside holds apart =
     record {
       positive = r.positive;
       whole = sum_below-same n (share_of m') (share_of m) shares ∙ r.whole;
-      settled = all_both (λ c. c.1 < 0 + length (front ++ t.level ∷ [])) (λ c. t.den *ℤ g.worth c.0 ≡ sum_over n (share_of m) c.0 +ℤ excess_of n m c.1) (λ c. t.den *ℤ g.worth c.0 ≡ sum_over n (share_of m') c.0 +ℤ excess_of n m' c.1) (earlier_of 0 (front ++ t.level ∷ []))
+      settled = all_with (λ c. c.1 < 0 + length (front ++ t.level ∷ [])) (λ c. t.den *ℤ g.worth c.0 ≡ sum_over n (share_of m) c.0 +ℤ excess_of n m c.1) (λ c. t.den *ℤ g.worth c.0 ≡ sum_over n (share_of m') c.0 +ℤ excess_of n m' c.1) (earlier_of 0 (front ++ t.level ∷ []))
           (λ c lt eq. omega (arith, linear, eq, sum_over-same n (share_of m') (share_of m) c.0 shares, excesses c.1 (omega (arith, lt, long))))
           (earlier_rows 0 (front ++ t.level ∷ [])) r.settled;
       single = λ f i h. omega (arith, linear, r.single f i h, shares i h);
@@ -115,7 +118,7 @@ same_ratio w d d' c e e' one h h' =
     mul-cancelℤ w (e *ℤ d') (e' *ℤ d) (omega (arith, linear, one)) (sym (mul_assocℤ w e d') ∙ ap (λ z. z *ℤ d') (sym h) ∙ cross ∙ ap (λ z. z *ℤ d) h' ∙ mul_assocℤ w e' d)
   where
     cross : (d *ℤ c) *ℤ d' ≡ (d' *ℤ c) *ℤ d
-    cross = *ℤ_comm (d *ℤ c) d' ∙ swap_front d' d c ∙ *ℤ_comm d (d' *ℤ c)
+    cross = *ℤ_comm (d *ℤ c) d' ∙ mul_left_commℤ d' d c ∙ *ℤ_comm d (d' *ℤ c)
 
 -- multipliers that settle the level of a stage have one excess there, the optimum
 pub same_value : (family : Family) (g : Game) (front : List Level) (t : Stage) (m m' : List ℤ) (den den' : ℤ) → StageHolds family g front t → Reads family g (front ++ t.level ∷ []) m den → Reads family g (front ++ t.level ∷ []) m' den' → excess_of g.players m (length front) *ℤ den' ≡ excess_of g.players m' (length front) *ℤ den
@@ -125,8 +128,8 @@ same_value family g front t m m' den den' holds r r' =
 falls_step : (w d dk c e1 e0 f0 : ℤ) → pos 1 ≤ℤ w → pos 1 ≤ℤ d → pos 1 ≤ℤ dk → (dk *ℤ c) ≤ℤ (w *ℤ f0) → d *ℤ c ≡ w *ℤ e1 → e0 *ℤ dk ≡ f0 *ℤ d → e1 ≤ℤ e0
 falls_step w d dk c e1 e0 f0 pw pd pk h hc he =
     let a = mul-leℤ d (dk *ℤ c) (w *ℤ f0) (omega (arith, linear, pd)) h in
-    let left : d *ℤ (dk *ℤ c) ≡ (dk *ℤ w) *ℤ e1 = swap_front d dk c ∙ ap (λ z. dk *ℤ z) hc ∙ sym (mul_assocℤ dk w e1) in
-    let right : d *ℤ (w *ℤ f0) ≡ (dk *ℤ w) *ℤ e0 = swap_front d w f0 ∙ ap (λ z. w *ℤ z) (*ℤ_comm d f0 ∙ sym he ∙ *ℤ_comm e0 dk) ∙ swap_front w dk e0 ∙ sym (mul_assocℤ dk w e0) in
+    let left : d *ℤ (dk *ℤ c) ≡ (dk *ℤ w) *ℤ e1 = mul_left_commℤ d dk c ∙ ap (λ z. dk *ℤ z) hc ∙ sym (mul_assocℤ dk w e1) in
+    let right : d *ℤ (w *ℤ f0) ≡ (dk *ℤ w) *ℤ e0 = mul_left_commℤ d w f0 ∙ ap (λ z. w *ℤ z) (*ℤ_comm d f0 ∙ sym he ∙ *ℤ_comm e0 dk) ∙ mul_left_commℤ w dk e0 ∙ sym (mul_assocℤ dk w e0) in
     mul-le_cancelℤ (dk *ℤ w) e1 e0 (mul-positiveℤ dk w (omega (arith, linear, pk)) (omega (arith, linear, pw))) (omega (arith, linear, a, left, right))
 
 -- the optima don't rise
@@ -154,9 +157,6 @@ pub record Past (family : Family) (g : Game) (front : List Level) : Type 0 where
 pub past_none : (family : Family) (g : Game) → Past family g []
 past_none family g = record { same = λ m m' den den' r r' k h. absurd (omega arith); bounded = λ i h. absurd (false≢true h) }
 
-last_or_less : (k n : ℕ) → k < n + 1 → (k < n) ⊎ (k ≡ n)
-last_or_less k n h = grind arith
-
 new_family : (family : Family) (g : Game) (front : List Level) (ws bs : List (ℕ × ℤ)) → ((i : ℕ) → i < g.players → HasWeight ws (length (settled_columns g.players front) + i) → family ≡ Imputations) → AllByRecursion (BoundComes family g front ws) bs → (i : ℕ) → list_any (λ b. nat_eq b.0 i && int_le (pos 1) b.1) bs ≡ true → family ≡ Imputations
 new_family family g front ws [] single h i any = absurd (false≢true any)
 new_family family g front ws (b ∷ bs) single h i any = elim h.0.1 [ inl fresh ↦ single b.0 h.0.0 fresh.1 | inr known ↦ known.0 ]
@@ -169,7 +169,7 @@ pub past_more : (family : Family) (g : Game) (front : List Level) (t : Stage) �
 past_more family g front t past holds =
     let test : ℕ → Level → Bool = λ i l. list_any (λ b. nat_eq b.0 i && int_le (pos 1) b.1) l.bounds in
     record {
-      same = λ m m' den den' r r' k h. elim (last_or_less k (length front) (subst (λ (z : ℕ). k < z) (length_more front t.level) h)) [
+      same = λ m m' den den' r r' k h. elim (less_or_last_of k (length front) (subst (λ (z : ℕ). k < z) (length_more front t.level) h)) [
         | inl less ↦ past.same m m' den den' (restrict family g front (t.level ∷ []) m den r) (restrict family g front (t.level ∷ []) m' den' r') k less
         | inr here ↦ subst (λ (z : ℕ). excess_of g.players m z *ℤ den' ≡ excess_of g.players m' z *ℤ den) (sym here) (same_value family g front t m m' den den' holds r r')
       ];
@@ -187,9 +187,9 @@ past_more family g front t past holds =
 listed_row : (P : ℕ × ℕ → Type 0) (k : ℕ) (levels : List Level) (s : ℕ) → AllByRecursion P (earlier_of k levels) → is_listed levels s ≡ true → (r : ℕ) × (r < k + length levels) × P (s, r)
 listed_row P k [] s h any = absurd (false≢true any)
 listed_row P k (l ∷ levels) s h any = elim (or_cases (list_any (λ c. nat_eq c.0 s) l.coalitions) (is_listed levels s) any) [
-  | inl here ↦ (k, omega arith, pair_at P k l.coalitions s (all_first P (map (λ c. (c.0, k)) l.coalitions) (earlier_of (k + 1) levels) h) here)
+  | inl here ↦ (k, omega arith, pair_at P k l.coalitions s (all_left P (map (λ c. (c.0, k)) l.coalitions) (earlier_of (k + 1) levels) h) here)
   | inr more ↦
-      let found = listed_row P (k + 1) levels s (all_second P (map (λ c. (c.0, k)) l.coalitions) (earlier_of (k + 1) levels) h) more in
+      let found = listed_row P (k + 1) levels s (all_right P (map (λ c. (c.0, k)) l.coalitions) (earlier_of (k + 1) levels) h) more in
       (found.0, omega (arith, found.1), found.2)
 ]
 
@@ -200,17 +200,17 @@ gap_listed : (d d' v x x' e e' : ℤ) → d *ℤ v ≡ x +ℤ e → d' *ℤ v �
 gap_listed d d' v x x' e e' h h' k =
     let a = ap (λ z. d' *ℤ z) h in
     let b = ap (λ z. d *ℤ z) h' in
-    omega (arith, linear, a, b, k, mul-addℤ d' x e, mul-addℤ d x' e', swap_front d' d v, *ℤ_comm e d', *ℤ_comm e' d)
+    omega (arith, linear, a, b, k, mul-addℤ d' x e, mul-addℤ d x' e', mul_left_commℤ d' d v, *ℤ_comm e d', *ℤ_comm e' d)
 
 gap_equal : (d d' v x x' : ℤ) → x ≡ d *ℤ v → x' ≡ d' *ℤ v → d' *ℤ x -ℤ d *ℤ x' ≡ pos 0
-gap_equal d d' v x x' h h' = omega (arith, linear, ap (λ z. d' *ℤ z) h, ap (λ z. d *ℤ z) h', swap_front d' d v)
+gap_equal d d' v x x' h h' = omega (arith, linear, ap (λ z. d' *ℤ z) h, ap (λ z. d *ℤ z) h', mul_left_commℤ d' d v)
 
 pub gap_settled : (family : Family) (g : Game) (front : List Level) (m m' : List ℤ) (den den' : ℤ) → Past family g front → Reads family g front m den → Reads family g front m' den' → Settled g.players (gap m den m' den') front
 gap_settled family g front m m' den den' past r r' =
     let n : ℕ = g.players in
     record {
       listed = λ s any.
-          (let both = all_both (λ c. den *ℤ g.worth c.0 ≡ sum_over n (share_of m) c.0 +ℤ excess_of n m c.1) (λ c. den' *ℤ g.worth c.0 ≡ sum_over n (share_of m') c.0 +ℤ excess_of n m' c.1) (λ c. (den *ℤ g.worth c.0 ≡ sum_over n (share_of m) c.0 +ℤ excess_of n m c.1) × (den' *ℤ g.worth c.0 ≡ sum_over n (share_of m') c.0 +ℤ excess_of n m' c.1)) (earlier_of 0 front) (λ c a b. (a, b)) r.settled r'.settled in
+          (let both = all_with (λ c. den *ℤ g.worth c.0 ≡ sum_over n (share_of m) c.0 +ℤ excess_of n m c.1) (λ c. den' *ℤ g.worth c.0 ≡ sum_over n (share_of m') c.0 +ℤ excess_of n m' c.1) (λ c. (den *ℤ g.worth c.0 ≡ sum_over n (share_of m) c.0 +ℤ excess_of n m c.1) × (den' *ℤ g.worth c.0 ≡ sum_over n (share_of m') c.0 +ℤ excess_of n m' c.1)) (earlier_of 0 front) (λ c a b. (a, b)) r.settled r'.settled in
           let found = listed_row (λ c. (den *ℤ g.worth c.0 ≡ sum_over n (share_of m) c.0 +ℤ excess_of n m c.1) × (den' *ℤ g.worth c.0 ≡ sum_over n (share_of m') c.0 +ℤ excess_of n m' c.1)) 0 front s both any in
           sum_over-combined n (share_of m) (share_of m') den' den s ∙ gap_listed den den' (g.worth s) (sum_over n (share_of m) s) (sum_over n (share_of m') s) (excess_of n m found.0) (excess_of n m' found.0) found.2.0 found.2.1 (past.same m m' den den' r r' found.0 (omega (arith, found.1))));
       bounded = λ i h b.
@@ -227,7 +227,7 @@ gap_whole family g front m m' den den' r r' =
 inside_step : (d dt v x xt e f : ℤ) → pos 1 ≤ℤ d → pos 1 ≤ℤ dt → dt *ℤ x -ℤ d *ℤ xt ≡ pos 0 → e *ℤ dt ≡ f *ℤ d → (dt *ℤ v) ≤ℤ (xt +ℤ f) → (d *ℤ v) ≤ℤ (x +ℤ e)
 inside_step d dt v x xt e f pd pt same value h =
     let a = mul-leℤ d (dt *ℤ v) (xt +ℤ f) (omega (arith, linear, pd)) h in
-    mul-le_cancelℤ dt (d *ℤ v) (x +ℤ e) (omega (arith, linear, pt)) (omega (arith, linear, a, same, value, swap_front d dt v, mul-addℤ d xt f, mul-addℤ dt x e, *ℤ_comm e dt, *ℤ_comm f d))
+    mul-le_cancelℤ dt (d *ℤ v) (x +ℤ e) (omega (arith, linear, pt)) (omega (arith, linear, a, same, value, mul_left_commℤ d dt v, mul-addℤ d xt f, mul-addℤ dt x e, *ℤ_comm e dt, *ℤ_comm f d))
 
 -- where the gap to the stage's own multipliers is nothing
 inside_low : (family : Family) (g : Game) (front : List Level) (t : Stage) (m : List ℤ) (den : ℤ) → StageHolds family g front t → Reads family g (front ++ t.level ∷ []) m den → (s : ℕ) → IsTrue (t.outside s) → sum_over g.players (gap m den t.multipliers t.den) s ≡ pos 0 → (den *ℤ g.worth s) ≤ℤ (sum_over g.players (share_of m) s +ℤ excess_of g.players m (length front))
@@ -241,10 +241,6 @@ inside_low family g front t m den holds r s o zero_gap =
 pub append_none : {X : Type 0} (xs : List X) → xs ++ [] ≡ xs
 append_none [] = refl
 append_none (x ∷ xs) = ap (λ k. x ∷ k) (append_none xs)
-
-zero_either : (b : Bool) (z : ℤ) → z ≡ pos 0 → cond b z (pos 0) ≡ pos 0
-zero_either true z e = e
-zero_either false z e = refl
 
 pub outside_low : (family : Family) (g : Game) (front : List Level) (t : Stage) (ts : List Stage) (m : List ℤ) (den : ℤ) → Past family g front → StageHolds family g front t → IsChain family g (front ++ t.level ∷ []) ts → Reads family g ((front ++ t.level ∷ []) ++ levels_of ts) m den → IsAllFixed Span g.players ((front ++ t.level ∷ []) ++ levels_of ts) → (s : ℕ) → IsTrue (t.outside s) → (den *ℤ g.worth s) ≤ℤ (sum_over g.players (share_of m) s +ℤ excess_of g.players m (length front))
 outside_low family g front t [] m den past holds chain r fixed s o =
@@ -263,7 +259,7 @@ outside_low family g front t (t' ∷ ts) m den past holds chain r fixed s o =
     let shift : (behind ++ t'.level ∷ []) ++ levels_of ts ≡ behind ++ t'.level ∷ levels_of ts = append_assoc behind (t'.level ∷ []) (levels_of ts) in
     let r' = subst (λ z. Reads family g z m den) (sym shift) r in
     let fixed' = subst (IsAllFixed Span g.players) (sym shift) fixed in
-    elim (test_of (t'.outside s)) [
+    elim (true_or_false (t'.outside s)) [
       | inl still ↦
           let ih = outside_low family g behind t' ts m den past' chain.0 chain.1 r' fixed' s still in
           let low = falls family g front t t' m den holds chain.0 (restrict family g (behind ++ t'.level ∷ []) (levels_of ts) m den r') in
@@ -280,7 +276,3 @@ outside_low family g front t (t' ∷ ts) m den past holds chain r fixed s o =
 pub excess_optimum : (family : Family) (g : Game) (front : List Level) (t : Stage) (rest : List Level) (m : List ℤ) (den : ℤ) → StageHolds family g front t → Reads family g ((front ++ t.level ∷ []) ++ rest) m den → excess_of g.players m (length front) *ℤ t.den ≡ excess_of g.players t.multipliers (length front) *ℤ den
 excess_optimum family g front t rest m den holds r =
     same_value family g front t m t.multipliers den t.den holds (restrict family g (front ++ t.level ∷ []) rest m den r) (advance family g front t holds)
-
-pub optima_fallen : (family : Family) (g : Game) (front : List Level) (t t' : Stage) (rest : List Level) (m : List ℤ) (den : ℤ) → StageHolds family g front t → StageHolds family g (front ++ t.level ∷ []) t' → Reads family g (((front ++ t.level ∷ []) ++ t'.level ∷ []) ++ rest) m den → excess_of g.players m (length front + 1) ≤ℤ excess_of g.players m (length front)
-optima_fallen family g front t t' rest m den holds holds' r =
-    falls family g front t t' m den holds holds' (restrict family g ((front ++ t.level ∷ []) ++ t'.level ∷ []) rest m den r)

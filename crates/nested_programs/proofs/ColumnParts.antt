@@ -8,10 +8,10 @@ use Rattle.definitions.specs.Coalitions.{has_player, singleton, grand_coalition}
 use Rattle.definitions.specs.Certificates.{Level}
 use Rattle.separation.specs.Stage.{plus_entry, entry_of, earlier_of, doubled, settled_columns, no_column, further_column, column}
 use Rattle.nested_programs.specs.Numbers.{first_single}
-use Rattle.nested_programs.proofs.Reading.{test_of}
 use Rattle.nested_programs.proofs.Advance.{column_further, column_single}
 use Rattle.nested_programs.proofs.Form.{entry_outer, entry_single}
 use Rattle.nested_programs.proofs.LevelSums.{is_at, outer_part, pair_part, earlier_part}
+use Rattle.definitions.proofs.Cases.{true_or_false}
 
 -- ---- the numbers of the columns
 
@@ -42,15 +42,15 @@ data Kind (len n id : ℕ) : Type 0 where
   outer : (s : ℕ) → id ≡ len + (n + n + s) → Kind len n id
 
 kind_of : (len n id : ℕ) → Kind len n id
-kind_of len n id = elim (test_of (nat_lt id len)) [
+kind_of len n id = elim (true_or_false (nat_lt id len)) [
   | inl below ↦ settled (grind (arith, nat_tests))
   | inr past ↦
       let le : len ≤ id = grind (arith, nat_tests) in
-      elim (test_of (nat_lt id (len + n))) [
+      elim (true_or_false (nat_lt id (len + n))) [
         | inl below ↦ alone (id - len) (grind (arith, nat_tests)) (omega arith)
         | inr more ↦
             let le' : len + n ≤ id = grind (arith, nat_tests) in
-            elim (test_of (nat_lt id (len + (n + n)))) [
+            elim (true_or_false (nat_lt id (len + (n + n)))) [
               | inl below ↦ negated (id - (len + n)) (grind (arith, nat_tests)) (omega arith)
               | inr beyond ↦
                   let le'' : len + (n + n) ≤ id = grind (arith, nat_tests) in
@@ -72,7 +72,7 @@ same_shift a b c d true t up down =
     let ab : a ≡ b = grind (arith, nat_tests) in
     let cd : c ≡ d = up ab in
     grind (arith, nat_tests)
-same_shift a b c d false t up down = elim (test_of (nat_eq c d)) [
+same_shift a b c d false t up down = elim (true_or_false (nat_eq c d)) [
   | inl eq ↦
       let cd : c ≡ d = grind (arith, nat_tests) in
       let ab : a ≡ b = down cd in

@@ -1,31 +1,24 @@
 -- The coalitions of the levels of a chain are distinct: each was outside what the levels in front fix, and within a level the masks ascend.
-use Rattle.std.proofs.Common.{◌≡◌, ℕ, ◌+◌, ◌<◌, Bool, true, false, nat_eq, List, [], ◌∷◌, ◌++◌, map, ℤ, refl, inl, inr, arith}
-use Rattle.std.proofs.lemmas.Bool.Decides.{nat_tests}
+use Rattle.std.proofs.Common.{◌≡◌, ℕ, ◌+◌, ◌<◌, Bool, true, false, nat_eq, List, [], ◌∷◌, ◌++◌, map, ℤ, inl, inr, arith}
 use Rattle.std.specs.List.{list_any, AllByRecursion, IsDistinct}
-use Rattle.checker.proofs.SpanLaws.{span_of_one}
+use Rattle.kohlberg.proofs.SpanLaws.{span_of_one}
 use Rattle.definitions.specs.Games.{Game}
 use Rattle.definitions.specs.Certificates.{Level, is_listed, IsFixedVector, IsOutside, Ascends, LevelsForm}
 use Rattle.definitions.specs.declared.Family.{Family}
 use Rattle.definitions.specs.declared.Mode.TheVariants.{Span}
 use Rattle.separation.specs.Stage.{earlier_of}
 use Rattle.nested_programs.specs.Chain.{Stage, levels_of, IsChain}
-use Rattle.nested_programs.proofs.Reading.{all_join, all_weaken}
-use Rattle.nested_programs.proofs.Advance.{or_left, or_right, any_left}
+use Rattle.nested_programs.proofs.Advance.{any_left}
 use Rattle.nested_programs.proofs.Form.{level_outside}
 use Rattle.nested_programs.proofs.PairKeys.{all_rows}
+use Rattle.definitions.proofs.Cases.{or_left, or_right, not_true, nat_eq-less}
+use Rattle.definitions.proofs.Alls.{all_join, all_weaken}
 
 -- ---- lists
-
-absent : (b : Bool) → (b ≡ true → ⊥) → b ≡ false
-absent true h = absurd (h refl)
-absent false h = refl
 
 any_right : {X : Type 0} (p : X → Bool) (xs ys : List X) → list_any p ys ≡ true → list_any p (xs ++ ys) ≡ true
 any_right p [] ys h = h
 any_right p (x ∷ xs) ys h = or_right (p x) (list_any p (xs ++ ys)) (any_right p xs ys h)
-
-less_apart : (s t : ℕ) → s < t → nat_eq s t ≡ false
-less_apart s t h = grind (arith, nat_tests)
 
 -- no coalition of cs is that of a pair of ys
 abbrev Misses : List (ℕ × ℤ) → List (ℕ × ℕ) → Type 0
@@ -34,7 +27,7 @@ Misses cs ys = AllByRecursion (λ y. list_any (λ c. nat_eq c.0 y.0) cs ≡ true
 misses_first : (c : ℕ × ℤ) (cs : List (ℕ × ℤ)) (ys : List (ℕ × ℕ)) → Misses (c ∷ cs) ys → AllByRecursion (λ y. nat_eq c.0 y ≡ false) (map (λ (y : ℕ × ℕ). y.0) ys)
 misses_first c cs [] h = tt
 misses_first c cs (y ∷ ys) h =
-    (absent (nat_eq c.0 y.0) (λ e. h.0 (or_left (nat_eq c.0 y.0) (list_any (λ d. nat_eq d.0 y.0) cs) e)), misses_first c cs ys h.1)
+    (not_true (nat_eq c.0 y.0) (λ e. h.0 (or_left (nat_eq c.0 y.0) (list_any (λ d. nat_eq d.0 y.0) cs) e)), misses_first c cs ys h.1)
 
 misses_rest : (c : ℕ × ℤ) (cs : List (ℕ × ℤ)) (ys : List (ℕ × ℕ)) → Misses (c ∷ cs) ys → Misses cs ys
 misses_rest c cs ys h =
@@ -44,7 +37,7 @@ first_apart : (s low k : ℕ) (cs : List (ℕ × ℤ)) (ys : List (ℕ × ℕ)) 
 first_apart s low k [] ys lt h rest = rest
 first_apart s low k (c ∷ cs) ys lt h rest =
     let le = h.0 in
-    (less_apart s c.0 (omega (arith, lt, le)), first_apart s (c.0 + 1) k cs ys (omega (arith, lt, le)) h.1 rest)
+    (nat_eq-less s c.0 (omega (arith, lt, le)), first_apart s (c.0 + 1) k cs ys (omega (arith, lt, le)) h.1 rest)
 
 level_distinct : (low k : ℕ) (cs : List (ℕ × ℤ)) (ys : List (ℕ × ℕ)) → Ascends low cs → Misses cs ys → IsDistinct nat_eq (map (λ (y : ℕ × ℕ). y.0) ys) → IsDistinct nat_eq (map (λ (y : ℕ × ℕ). y.0) (map (λ (c : ℕ × ℤ). (c.0, k)) cs ++ ys))
 unfolding IsDistinct

@@ -6,12 +6,12 @@ use Rattle.std.proofs.lemmas.List.{length-append}
 use Rattle.std.specs.Ordering.{int_eq}
 use Rattle.definitions.proofs.Ring.{linear}
 use Rattle.definitions.specs.Certificates.{Level, number_at}
-use Rattle.kohlberg.specs.Pairs.{with_pair}
+use Rattle.kohlberg.specs.Pairs.{with_pair, placed_behind}
 use Rattle.kohlberg.proofs.WithPair.{length-with_pair}
 use Rattle.separation.specs.Stage.{earlier_of}
-use Rattle.nested_programs.specs.Answer.{HasFew}
-use Rattle.nested_programs.specs.Numbers.{first_single, placed_behind, outer_pairs, net, kept, earlier_pairs, bound_pairs, IsLevelOf}
-use Rattle.nested_programs.proofs.Reading.{test_of}
+use Rattle.nested_programs.specs.Answer.{IsShort}
+use Rattle.nested_programs.specs.Numbers.{first_single, outer_pairs, net, kept, earlier_pairs, bound_pairs, IsLevelOf}
+use Rattle.definitions.proofs.Cases.{true_or_false}
 
 -- ---- weights from a column on
 
@@ -44,7 +44,7 @@ count_next k (w ∷ ws) = bit_next (nat_le k w.0) (nat_le (k + 1) w.0) 0 (count_
 -- a column with a number has a weight
 count_weighs : (k : ℕ) (ws : List (ℕ × ℤ)) → number_at ws k ≢ pos 0 → count_from (k + 1) ws + 1 ≤ count_from k ws
 count_weighs k [] ne = absurd (ne refl)
-count_weighs k (w ∷ ws) ne = elim (test_of (nat_eq w.0 k)) [
+count_weighs k (w ∷ ws) ne = elim (true_or_false (nat_eq w.0 k)) [
   | inl here ↦
       let t : nat_le k w.0 ≡ true = grind (arith, nat_tests) in
       let u : nat_le (k + 1) w.0 ≡ false = grind (arith, nat_tests) in
@@ -60,13 +60,13 @@ count_weighs k (w ∷ ws) ne = elim (test_of (nat_eq w.0 k)) [
 -- ---- net numbers
 
 pub kept_cases : (key : ℕ) (z : ℤ) → (kept key z ≡ []) ⊎ ((kept key z ≡ (key, z) ∷ []) × (z ≢ pos 0))
-kept_cases key z = elim (test_of (int_eq z (pos 0))) [
+kept_cases key z = elim (true_or_false (int_eq z (pos 0))) [
   | inl none ↦ inl (rw none refl)
   | inr some ↦ inr (rw some refl, λ e. false≢true (sym some ∙ (Decides-int_eq z (pos 0)).1 e))
 ]
 
 zero_cases : (z : ℤ) → (z ≡ pos 0) ⊎ (z ≢ pos 0)
-zero_cases z = elim (test_of (int_eq z (pos 0))) [
+zero_cases z = elim (true_or_false (int_eq z (pos 0))) [
   | inl none ↦ inl ((Decides-int_eq z (pos 0)).0 none)
   | inr some ↦ inr (λ e. false≢true (sym some ∙ (Decides-int_eq z (pos 0)).1 e))
 ]
@@ -143,8 +143,8 @@ level_entries n front ws m den l is =
     let most = count_most 2 ws in
     omega (arith, a, a', b, b', c, c', ends, most)
 
--- the level of a stage has few entries: each has a column of its own among the weights
-pub level_few : (n : ℕ) (front : List Level) (ws : List (ℕ × ℤ)) (m : List ℤ) (den : ℤ) (l : Level) → IsLevelOf n front ws m den l → length ws ≤ n + (length front + 1) → length front + 2 ≤ n → HasFew n l
-level_few n front ws m den l is few low =
+-- the level of a stage is short: each entry has a column of its own among the weights
+pub level_short : (n : ℕ) (front : List Level) (ws : List (ℕ × ℤ)) (m : List ℤ) (den : ℤ) (l : Level) → IsLevelOf n front ws m den l → length ws ≤ n + (length front + 1) → length front + 2 ≤ n → IsShort n l
+level_short n front ws m den l is few low =
     let most = level_entries n front ws m den l is in
     omega (arith, most, few, low)

@@ -4,7 +4,7 @@ use Rattle.std.proofs.lemmas.Int.{by_lt_z}
 use Rattle.std.proofs.lemmas.Bool.Decides.{nat_tests}
 use Rattle.std.specs.List.{list_any, AllByRecursion}
 use Rattle.definitions.proofs.Ring.{linear}
-use Rattle.definitions.proofs.Members.{has_player-grand_coalition}
+use Rattle.definitions.proofs.Members.{has_player-grand_coalition, weighted_sum-add}
 use Rattle.definitions.specs.Sums.{weighted_sum}
 use Rattle.definitions.specs.Coalitions.{has_player, grand_coalition, weight_at}
 use Rattle.definitions.specs.Games.{Game}
@@ -14,13 +14,17 @@ use Rattle.definitions.specs.declared.Family.{Family}
 use Rattle.definitions.specs.declared.Family.TheVariants.{Imputations}
 use Rattle.separation.specs.Stage.{entry_of, earlier_of, settled_columns, column, is_imputations, stage_program}
 use Rattle.nested_programs.specs.Chain.{single_id, outer_id, HasWeight, Follows}
-use Rattle.nested_programs.specs.Numbers.{AreNumbers, first_single, placed, outer_pairs, net, earlier_pairs, bound_pairs, IsLevelOf}
-use Rattle.nested_programs.proofs.Reading.{all_weaken, test_of, imputations_of, and_left, and_right}
-use Rattle.nested_programs.proofs.Advance.{BoundComes, or_left, any_left}
-use Rattle.nested_programs.proofs.LevelSums.{is_at, outer_part, pair_part, earlier_part, weighted-add, weighted-same, weight_at-placed, net_weighted, outer_weighted, earlier_weighted, number_within}
+use Rattle.nested_programs.specs.Numbers.{AreNumbers, first_single, outer_pairs, net, earlier_pairs, bound_pairs, IsLevelOf}
+use Rattle.nested_programs.proofs.Reading.{imputations_of}
+use Rattle.nested_programs.proofs.Advance.{BoundComes, any_left}
+use Rattle.nested_programs.proofs.LevelSums.{is_at, outer_part, pair_part, earlier_part, weighted-same, net_weighted, outer_weighted, earlier_weighted, number_within}
 use Rattle.nested_programs.proofs.ColumnParts.{parts, settled_pairs, settled_length, column_parts}
 use Rattle.nested_programs.proofs.PositiveWeights.{number_low, number_some, weight_of, each_weighs, on_column}
 use Rattle.nested_programs.proofs.LevelPairs.{all_placed_behind, any_placed_behind, all_outer, any_outer, all_bound, any_right, any_bound}
+use Rattle.definitions.proofs.Cases.{or_left, true_or_false, and_left, and_right}
+use Rattle.definitions.proofs.Alls.{all_weaken}
+use Rattle.kohlberg.specs.Pairs.{placed}
+use Rattle.kohlberg.proofs.Placed.{weight_at-placed}
 
 -- ---- the sums at a player
 
@@ -30,14 +34,14 @@ whole_first n k i cs ws h =
     let all : has_player (grand_coalition n) i ≡ true = has_player-grand_coalition n i h in
     let pair : ℕ → ℤ = pair_part (has_player (grand_coalition n) i) 0 in
     let first : weighted_sum pair ws ≡ net ws 0 1 = ap (λ (b : Bool). weighted_sum (pair_part b 0) ws) all ∙ sym (net_weighted 0 1 ws) in
-    omega (arith, linear, weighted-add pair (earlier_part i 2 cs) ws, first, earlier_weighted i ws 2 cs)
+    omega (arith, linear, weighted_sum-add pair (earlier_part i 2 cs) ws, first, earlier_weighted i ws 2 cs)
 
 parts_sum : (n first i k : ℕ) (cs : List (ℕ × ℕ)) (ws : List (ℕ × ℤ)) → i < n → weighted_sum (parts n first ((grand_coalition n, k) ∷ cs) i) ws ≡ weight_at (outer_pairs (first + (n + n)) ws) i +ℤ weight_at (earlier_pairs ws 2 cs) i +ℤ number_at (bound_pairs ws first n n) i -ℤ net ws 1 0
 parts_sum n first i k cs ws h =
     let outer : ℕ → ℤ = outer_part (first + (n + n)) i in
     let earlier : ℕ → ℤ = earlier_part i 0 ((grand_coalition n, k) ∷ cs) in
     let bound : ℕ → ℤ = λ id. is_at (first + i) id -ℤ is_at (first + i + n) id in
-    omega (arith, linear, weighted-add (λ id. outer id +ℤ earlier id) bound ws, weighted-add outer earlier ws, outer_weighted (first + (n + n)) i ws, whole_first n k i cs ws h, net_weighted (first + i) (first + i + n) ws, number_within ws first n n i h)
+    omega (arith, linear, weighted_sum-add (λ id. outer id +ℤ earlier id) bound ws, weighted_sum-add outer earlier ws, outer_weighted (first + (n + n)) i ws, whole_first n k i cs ws h, net_weighted (first + i) (first + i + n) ws, number_within ws first n n i h)
 
 -- what the level holds of a player, less its total, is the weighted entries of the player's row
 level_sums : (n : ℕ) (front : List Level) (ws : List (ℕ × ℤ)) (m : List ℤ) (den : ℤ) (l : Level) → IsLevelOf n front ws m den l → (i : ℕ) → i < n → weight_at l.coalitions i +ℤ weight_at l.earlier i +ℤ number_at l.bounds i -ℤ l.total ≡ weighted_sum (λ id. entry_of n (column n front id) i) ws
@@ -123,7 +127,7 @@ bound_comes family g front outside ws i are positive h some =
         by_lt_z z (pos 0) (λ lt. omega (arith, linear, lt, e, a_low)) (λ ge. absurd (ne (omega (arith, linear, ge, le))))
 
 at_least : (z : ℤ) → pos 1 ≤ℤ z → int_le (pos 1) z ≡ true
-at_least z h = elim (test_of (int_le (pos 1) z)) [ inl up ↦ up | inr down ↦ absurd (omega (arith, linear, h, down)) ]
+at_least z h = elim (true_or_false (int_le (pos 1) z)) [ inl up ↦ up | inr down ↦ absurd (omega (arith, linear, h, down)) ]
 
 -- a weight on a player's column gives a bound in front or a bound of the level
 bound_known : (family : Family) (g : Game) (front : List Level) (outside : ℕ → Bool) (ws : List (ℕ × ℤ)) (i : ℕ) → AreWeights (stage_program family g front outside) ws → AllByRecursion (λ w. pos 1 ≤ℤ w.1) ws → i < g.players → HasWeight ws (single_id g.players front i) → IsTrue (has_bound front i) ⊎ (list_any (λ b. nat_eq b.0 i && int_le (pos 1) b.1) (bound_pairs ws (first_single front) g.players g.players) ≡ true)

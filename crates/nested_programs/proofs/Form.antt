@@ -15,9 +15,11 @@ use Rattle.separation.specs.Stage.{signed, plus_entry, entry_of, earlier_of, dou
 use Rattle.definitions.proofs.Members.{has_player-singleton, has_player-singleton_other}
 use Rattle.definitions.specs.declared.Mode.TheVariants.{Span}
 use Rattle.nested_programs.specs.Chain.{outer_id, single_id, HasWeight, Stage, StageHolds}
-use Rattle.nested_programs.proofs.Reading.{each_of, test_of, all_weaken, earlier_rows}
+use Rattle.nested_programs.proofs.Reading.{each_of, earlier_rows}
 use Rattle.nested_programs.proofs.Slack.{Columns, tight_optimal}
 use Rattle.nested_programs.proofs.Advance.{BoundComes, column_outer, column_single}
+use Rattle.definitions.proofs.Cases.{same_or_other, true_or_false}
+use Rattle.definitions.proofs.Alls.{all_weaken}
 
 pub level_balanced : (family : Family) (g : Game) (front : List Level) (t : Stage) → StageHolds family g front t → (i : ℕ) → i < g.players → weight_at t.level.coalitions i +ℤ weight_at t.level.earlier i +ℤ number_at t.level.bounds i ≡ t.level.total
 level_balanced family g front t holds i h =
@@ -45,13 +47,13 @@ settled_zero n k (c ∷ cs) h =
 
 -- a column is that of an outside coalition, or has nothing in the last row
 kind_of : (n : ℕ) (front : List Level) (id : ℕ) → ((s : ℕ) × (id ≡ outer_id n front s)) ⊎ (entry_of n (column n front id) (n + length front) ≡ pos 0)
-kind_of n front id = elim (test_of (nat_lt id len)) [
+kind_of n front id = elim (true_or_false (nat_lt id len)) [
   | inl below ↦
       let lt : id < len = grind (arith, nat_tests) in
       inr (rw below (each_of (λ c. entry_of n c (n + k) ≡ pos 0) no_column (settled_columns n front) all id lt))
-  | inr past ↦ elim (test_of (nat_lt (id - len) n)) [
+  | inr past ↦ elim (true_or_false (nat_lt (id - len) n)) [
     | inl below ↦ inr (rw past (rw below (other_row n k (singleton (id - len)) (k + 1) (λ e. omega arith))))
-    | inr more ↦ elim (test_of (nat_lt (id - len) (n + n))) [
+    | inr more ↦ elim (true_or_false (nat_lt (id - len) (n + n))) [
       | inl below ↦ inr (rw past (rw more (rw below (signed_zero true (plus_entry n (singleton (id - len - n)) (k + 1) (n + k)) (other_row n k (singleton (id - len - n)) (k + 1) (λ e. omega arith))))))
       | inr beyond ↦
           let eq : id ≡ len + (n + n + (id - len - (n + n))) = grind (arith, nat_tests) in
@@ -136,14 +138,8 @@ entry_outer n front s i h =
     let t : nat_lt i n ≡ true = grind (arith, nat_tests) in
     ap (λ c. entry_of n c i) (column_outer n front s) ∙ ap (λ (b : Bool). cond b (if has_player s i then pos 1 else pos 0) (if nat_eq i (n + length front) then pos 1 else pos 0)) t
 
-same_or_not : (a b : ℕ) → (a ≡ b) ⊎ (a ≢ b)
-same_or_not a b = elim (test_of (nat_eq a b)) [
-  | inl t ↦ inl (grind (arith, nat_tests))
-  | inr f ↦ inr (λ e. grind (arith, nat_tests))
-]
-
 alone_test : (p i : ℕ) → has_player (singleton p) i ≡ nat_eq p i
-alone_test p i = elim (same_or_not p i) [
+alone_test p i = elim (same_or_other p i) [
   | inl e ↦
       let t : nat_eq p i ≡ true = grind (arith, nat_tests) in
       ap (λ (z : ℕ). has_player (singleton z) i) e ∙ has_player-singleton i ∙ sym t

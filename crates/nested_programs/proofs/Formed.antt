@@ -1,6 +1,5 @@
 -- The level of a stage has the form of a certificate's level, and so has a chain with one level more.
 use Rattle.std.proofs.Common.{◌≡◌, ℕ, ◌+◌, ◌*◌, ◌^◌, ◌<◌, ◌≤◌, true, IsTrue, nat_eq, List, [], ◌∷◌, ◌++◌, length, map, ℤ, unsigned_abs, sym, subst, arith}
-use Rattle.std.proofs.lemmas.Bool.Decides.{nat_tests}
 use Rattle.std.specs.List.{list_any, AllByRecursion, IsDistinct}
 use Rattle.definitions.specs.Games.{Game}
 use Rattle.definitions.specs.Certificates.{Level, is_listed, Ascends, IsSmall, LevelForm, LevelsForm}
@@ -8,24 +7,22 @@ use Rattle.definitions.specs.declared.Family.{Family}
 use Rattle.separation.specs.Stage.{earlier_of}
 use Rattle.nested_programs.specs.Chain.{Stage, StageHolds}
 use Rattle.nested_programs.specs.Numbers.{AreNumbers, first_single, outer_pairs, net, earlier_pairs, IsLevelOf}
-use Rattle.nested_programs.proofs.Reading.{all_join, all_weaken}
-use Rattle.nested_programs.proofs.Advance.{or_left, or_right, append_assoc}
+use Rattle.nested_programs.proofs.Advance.{append_assoc}
 use Rattle.nested_programs.proofs.Chain.{append_none}
 use Rattle.nested_programs.proofs.Form.{level_some, level_proper, level_players}
-use Rattle.nested_programs.proofs.FewEntries.{level_few}
-use Rattle.nested_programs.proofs.PlacedOrder.{placed_ascends, placed_all}
+use Rattle.nested_programs.proofs.FewEntries.{level_short}
 use Rattle.nested_programs.proofs.PairKeys.{all_rows, outer_apart, outer_all, earlier_apart, earlier_all, bound_ascends, bound_all}
 use Rattle.nested_programs.proofs.SmallNumbers.{net_small}
+use Rattle.definitions.proofs.Cases.{nat_eq-same, or_left, or_right}
+use Rattle.definitions.proofs.Alls.{all_any, all_join, all_weaken}
+use Rattle.kohlberg.proofs.Placed.{placed_all, placed_ascends}
 
 -- ---- the coalitions of the levels are listed in them
-
-same_number : (s : ℕ) → nat_eq s s ≡ true
-same_number s = grind (arith, nat_tests)
 
 own_pairs : (cs : List (ℕ × ℤ)) → AllByRecursion (λ c. list_any (λ b. nat_eq b.0 c.0) cs ≡ true) cs
 own_pairs [] = tt
 own_pairs (c ∷ cs) =
-    (or_left (nat_eq c.0 c.0) (list_any (λ b. nat_eq b.0 c.0) cs) (same_number c.0), all_weaken (λ d. list_any (λ b. nat_eq b.0 d.0) cs ≡ true) (λ d. list_any (λ b. nat_eq b.0 d.0) (c ∷ cs) ≡ true) cs (λ d h. or_right (nat_eq c.0 d.0) (list_any (λ b. nat_eq b.0 d.0) cs) h) (own_pairs cs))
+    (or_left (nat_eq c.0 c.0) (list_any (λ b. nat_eq b.0 c.0) cs) (nat_eq-same c.0), all_weaken (λ d. list_any (λ b. nat_eq b.0 d.0) cs ≡ true) (λ d. list_any (λ b. nat_eq b.0 d.0) (c ∷ cs) ≡ true) cs (λ d h. or_right (nat_eq c.0 d.0) (list_any (λ b. nat_eq b.0 d.0) cs) h) (own_pairs cs))
 
 pub earlier_listed : (k : ℕ) (levels : List Level) → AllByRecursion (λ c. is_listed levels c.0 ≡ true) (earlier_of k levels)
 earlier_listed k [] = tt
@@ -45,10 +42,6 @@ level_listed n front ws m den l is =
 
 below_63 : (a : ℕ) → a < 2 ^ 62 → a < 2 ^ 63
 below_63 a h = omega arith
-
-all_any : {X : Type 0} (P : X → Type 0) (xs : List X) → ((x : X) → P x) → AllByRecursion P xs
-all_any P [] h = tt
-all_any P (x ∷ xs) h = (h x, all_any P xs h)
 
 coalitions_small : (n : ℕ) (front : List Level) (ws : List (ℕ × ℤ)) (m : List ℤ) (den : ℤ) (l : Level) → IsLevelOf n front ws m den l → AreNumbers ws → AllByRecursion (λ p. IsSmall p.1) l.coalitions
 coalitions_small n front ws m den l is numbers =
@@ -79,7 +72,7 @@ level_formed family g front t holds numbers is apart few low most =
     let n : ℕ = g.players in
     let l : Level = t.level in
     let ws : List (ℕ × ℤ) = t.weights in
-    let entries = fewer n (length l.coalitions) (length l.earlier) (length l.bounds) (level_few n front ws t.multipliers t.den l is few low) most in
+    let entries = fewer n (length l.coalitions) (length l.earlier) (length l.bounds) (level_short n front ws t.multipliers t.den l is few low) most in
     record {
       fraction = is.excess.reduced.positive;
       some = level_some family g front t holds;

@@ -4,12 +4,13 @@ use Rattle.std.proofs.lemmas.Bool.{false≢true}
 use Rattle.std.proofs.lemmas.Bool.Decides.{nat_tests, Decides-int_eq}
 use Rattle.std.specs.Ordering.{int_eq}
 use Rattle.std.specs.List.{list_any, AllByRecursion}
-use Rattle.kohlberg.specs.Pairs.{with_pair}
+use Rattle.kohlberg.specs.Pairs.{with_pair, placed_behind}
 use Rattle.kohlberg.proofs.WithPair.{all-with_pair, any-with_pair}
 use Rattle.nested_programs.specs.Chain.{HasWeight}
-use Rattle.nested_programs.specs.Numbers.{placed_behind, outer_pairs, net, kept, bound_pairs}
-use Rattle.nested_programs.proofs.Reading.{all_join, test_of}
-use Rattle.nested_programs.proofs.Advance.{or_cases, or_left, or_right, any_left}
+use Rattle.nested_programs.specs.Numbers.{outer_pairs, net, kept, bound_pairs}
+use Rattle.nested_programs.proofs.Advance.{any_left}
+use Rattle.definitions.proofs.Cases.{or_cases, or_left, or_right, true_or_false}
+use Rattle.definitions.proofs.Alls.{all_join}
 
 -- ---- the coalitions
 
@@ -30,7 +31,7 @@ any_placed_behind test ps (q ∷ qs) (inr h) = elim (or_cases (test q) (list_any
 
 pub all_outer : (P : ℕ × ℤ → Type 0) (first : ℕ) (ws : List (ℕ × ℤ)) → AllByRecursion (λ w. first ≤ w.0 → P (w.0 - first, w.1)) ws → AllByRecursion P (outer_pairs first ws)
 all_outer P first [] h = tt
-all_outer P first (w ∷ ws) h = elim (test_of (nat_le first w.0)) [
+all_outer P first (w ∷ ws) h = elim (true_or_false (nat_le first w.0)) [
   | inl from ↦ rw from (h.0 (grind (arith, nat_tests)), all_outer P first ws h.1)
   | inr before ↦ rw before (all_outer P first ws h.1)
 ]
@@ -42,7 +43,7 @@ any_outer first (w ∷ ws) s (inl here) =
     let t : nat_le first w.0 ≡ true = grind (arith, nat_tests) in
     let u : nat_eq (w.0 - first) s ≡ true = grind (arith, nat_tests) in
     rw t (rw u refl)
-any_outer first (w ∷ ws) s (inr more) = elim (test_of (nat_le first w.0)) [
+any_outer first (w ∷ ws) s (inr more) = elim (true_or_false (nat_le first w.0)) [
   | inl from ↦ rw from (or_right (nat_eq (w.0 - first) s) (list_any (λ c. nat_eq c.0 s) (outer_pairs first ws)) (any_outer first ws s more))
   | inr before ↦ rw before (any_outer first ws s more)
 ]
@@ -50,7 +51,7 @@ any_outer first (w ∷ ws) s (inr more) = elim (test_of (nat_le first w.0)) [
 -- ---- the bounds
 
 all_kept : (P : ℕ × ℤ → Type 0) (key : ℕ) (z : ℤ) → (z ≢ pos 0 → P (key, z)) → AllByRecursion P (kept key z)
-all_kept P key z h = elim (test_of (int_eq z (pos 0))) [
+all_kept P key z h = elim (true_or_false (int_eq z (pos 0))) [
   | inl none ↦ rw none tt
   | inr some ↦ rw some (h (λ e. false≢true (sym some ∙ (Decides-int_eq z (pos 0)).1 e)), tt)
 ]
@@ -66,14 +67,14 @@ any_right p [] ys h = h
 any_right p (x ∷ xs) ys h = or_right (p x) (list_any p (xs ++ ys)) (any_right p xs ys h)
 
 any_kept : (test : ℕ × ℤ → Bool) (key : ℕ) (z : ℤ) → z ≢ pos 0 → test (key, z) ≡ true → list_any test (kept key z) ≡ true
-any_kept test key z some h = elim (test_of (int_eq z (pos 0))) [
+any_kept test key z some h = elim (true_or_false (int_eq z (pos 0))) [
   | inl none ↦ absurd (some ((Decides-int_eq z (pos 0)).0 none))
   | inr other ↦ rw other (or_left (test (key, z)) false h)
 ]
 
 pub any_bound : (test : ℕ × ℤ → Bool) (ws : List (ℕ × ℤ)) (first n count i : ℕ) → i < count → net ws (first + i) (first + i + n) ≢ pos 0 → test (i, net ws (first + i) (first + i + n)) ≡ true → list_any test (bound_pairs ws first n count) ≡ true
 any_bound test ws first n zero i lt some h = absurd (omega arith)
-any_bound test ws first n (suc j) i lt some h = elim (test_of (nat_eq i j)) [
+any_bound test ws first n (suc j) i lt some h = elim (true_or_false (nat_eq i j)) [
   | inl same ↦
       let e : i ≡ j = grind (arith, nat_tests) in
       let here : list_any test (kept i (net ws (first + i) (first + i + n))) ≡ true = any_kept test i (net ws (first + i) (first + i + n)) some h in

@@ -4,15 +4,13 @@ use Rattle.std.specs.List.{AllByRecursion}
 use Rattle.std.specs.Ordering.{int_eq}
 use Rattle.std.proofs.lemmas.Bool.Decides.{Decides-int_eq}
 use Rattle.definitions.specs.Certificates.{Level}
-use Rattle.kohlberg.specs.Pairs.{with_pair}
+use Rattle.kohlberg.specs.Pairs.{with_pair, placed_behind}
 use Rattle.kohlberg.proofs.Pairs.{drop-more}
 use Rattle.separation.specs.Stage.{earlier_of}
-use Rattle.nested_programs.specs.Numbers.{placed_behind, net, kept, earlier_pairs, level_pairs}
+use Rattle.nested_programs.specs.Numbers.{net, kept, earlier_pairs, level_pairs}
+use Rattle.definitions.proofs.Cases.{not_true}
 
 -- ---- how many coalitions there are
-
-abbrev at_zero : List (ℕ × ℤ) → List (ℕ × ℕ)
-at_zero cs = map (λ c. (c.0, 0)) cs
 
 pairs_length : (k : ℕ) (cs : List (ℕ × ℤ)) → length {A = ℕ × ℕ} (map (λ c. (c.0, k)) cs) ≡ length cs
 pairs_length k [] = refl
@@ -61,15 +59,11 @@ placed_append ps (q ∷ qs) rs = placed_append (with_pair q.0 q.1 ps) qs rs
 abbrev keep : Bool → ℕ → ℤ → List (ℕ × ℤ)
 keep zero_test key z = cond zero_test [] ((key, z) ∷ [])
 
-test_false : (b : Bool) → ¬ (b ≡ true) → b ≡ false
-test_false true h = absurd (h refl)
-test_false false h = refl
-
 zero_test : (z : ℤ) → z ≡ pos 0 → int_eq z (pos 0) ≡ true
 zero_test z e = (Decides-int_eq z (pos 0)).1 e
 
 apart_test : (z : ℤ) → z ≢ pos 0 → int_eq z (pos 0) ≡ false
-apart_test z ne = test_false (int_eq z (pos 0)) (λ t. ne ((Decides-int_eq z (pos 0)).0 t))
+apart_test z ne = not_true (int_eq z (pos 0)) (λ t. ne ((Decides-int_eq z (pos 0)).0 t))
 
 level_first : (ws ps : List (ℕ × ℤ)) (id : ℕ) (cs : List (ℕ × ℤ)) (k : ℕ) (d : ℕ × ℤ) → k < length cs → placed_behind ps (level_pairs ws id (drop k cs)) ≡ placed_behind (placed_behind ps (kept (get_or cs k d).0 (net ws id (id + 1)))) (level_pairs ws (id + 2) (drop (k + 1) cs))
 level_first ws ps id cs k d lt =

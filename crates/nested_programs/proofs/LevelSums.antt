@@ -6,24 +6,17 @@
 use Rattle.std.proofs.Common.{◌≡◌, ℕ, zero, suc, ◌+◌, ◌-◌, ◌<◌, ◌≤◌, Bool, true, false, cond, List, [], ◌∷◌, ◌++◌, ℤ, pos, ◌+ℤ◌, ◌-ℤ◌, ◌*ℤ◌, refl, sym, ap, ◌∙◌, inl, inr, arith, nat_eq, nat_le, if◌then◌else◌}
 use Rattle.std.proofs.lemmas.Bool.Decides.{nat_tests, Decides-int_eq}
 use Rattle.std.specs.Ordering.{int_eq}
-use Rattle.definitions.proofs.Ring.{linear, mul-zeroℤ, mul-oneℤ, mul-addℤ, mul-subℤ}
+use Rattle.definitions.proofs.Ring.{linear, mul-zeroℤ, mul-oneℤ, mul-subℤ}
 use Rattle.definitions.specs.Sums.{weighted_sum}
 use Rattle.definitions.specs.Coalitions.{has_player, weight_at}
 use Rattle.definitions.specs.Certificates.{number_at}
-use Rattle.kohlberg.specs.Pairs.{with_pair}
+use Rattle.kohlberg.specs.Pairs.{with_pair, placed, placed_behind}
 use Rattle.kohlberg.proofs.WithPair.{weight_at-with_pair}
-use Rattle.nested_programs.specs.Numbers.{placed_behind, placed, outer_pairs, net, kept, earlier_pairs, bound_pairs}
-use Rattle.nested_programs.proofs.Reading.{test_of}
+use Rattle.nested_programs.specs.Numbers.{outer_pairs, net, kept, earlier_pairs, bound_pairs}
+use Rattle.definitions.proofs.Members.{weighted_sum-zero, weighted_sum-add, weight_at-append}
+use Rattle.definitions.proofs.Cases.{true_or_false}
 
 -- ---- weighted sums
-
-weighted-zero : (ws : List (ℕ × ℤ)) → weighted_sum (λ id. pos 0) ws ≡ pos 0
-weighted-zero [] = refl
-weighted-zero (w ∷ ws) = omega (arith, linear, weighted-zero ws, mul-zeroℤ w.1)
-
-pub weighted-add : (f g : ℕ → ℤ) (ws : List (ℕ × ℤ)) → weighted_sum (λ id. f id +ℤ g id) ws ≡ weighted_sum f ws +ℤ weighted_sum g ws
-weighted-add f g [] = refl
-weighted-add f g (w ∷ ws) = omega (arith, linear, weighted-add f g ws, mul-addℤ w.1 (f w.0) (g w.0))
 
 pub weighted-sub : (f g : ℕ → ℤ) (ws : List (ℕ × ℤ)) → weighted_sum (λ id. f id -ℤ g id) ws ≡ weighted_sum f ws -ℤ weighted_sum g ws
 weighted-sub f g [] = refl
@@ -35,35 +28,22 @@ weighted-same f g (w ∷ ws) h = omega (arith, linear, weighted-same f g ws h, a
 
 -- ---- pairs
 
-weight_at-append : (ps qs : List (ℕ × ℤ)) (i : ℕ) → weight_at (ps ++ qs) i ≡ weight_at ps i +ℤ weight_at qs i
-weight_at-append [] qs i = omega (arith, linear)
-weight_at-append (p ∷ ps) qs i = omega (arith, linear, weight_at-append ps qs i)
-
 number_at-append : (ps qs : List (ℕ × ℤ)) (i : ℕ) → number_at (ps ++ qs) i ≡ number_at ps i +ℤ number_at qs i
 number_at-append [] qs i = omega (arith, linear)
 number_at-append (p ∷ ps) qs i = omega (arith, linear, number_at-append ps qs i)
-
-weight_at-placed_behind : (ps qs : List (ℕ × ℤ)) (i : ℕ) → weight_at (placed_behind ps qs) i ≡ weight_at ps i +ℤ weight_at qs i
-weight_at-placed_behind ps [] i = omega (arith, linear)
-weight_at-placed_behind ps (q ∷ qs) i =
-    omega (arith, linear, weight_at-placed_behind (with_pair q.0 q.1 ps) qs i, weight_at-with_pair q.0 q.1 ps i)
-
--- the order of pairs doesn't matter to what a player gets
-pub weight_at-placed : (qs : List (ℕ × ℤ)) (i : ℕ) → weight_at (placed qs) i ≡ weight_at qs i
-weight_at-placed qs i = omega (arith, linear, weight_at-placed_behind [] qs i)
 
 when_zero : (b : Bool) (z : ℤ) → z ≡ pos 0 → (if b then z else pos 0) ≡ pos 0
 when_zero true z h = h
 when_zero false z h = refl
 
 weight_at-kept : (key : ℕ) (z : ℤ) (i : ℕ) → weight_at (kept key z) i ≡ (if has_player key i then z else pos 0)
-weight_at-kept key z i = elim (test_of (int_eq z (pos 0))) [
+weight_at-kept key z i = elim (true_or_false (int_eq z (pos 0))) [
   | inl none ↦ rw none (sym (when_zero (has_player key i) z ((Decides-int_eq z (pos 0)).0 none)))
   | inr some ↦ rw some (omega (arith, linear))
 ]
 
 number_at-kept : (key : ℕ) (z : ℤ) (i : ℕ) → number_at (kept key z) i ≡ (if nat_eq key i then z else pos 0)
-number_at-kept key z i = elim (test_of (int_eq z (pos 0))) [
+number_at-kept key z i = elim (true_or_false (int_eq z (pos 0))) [
   | inl none ↦ rw none (sym (when_zero (nat_eq key i) z ((Decides-int_eq z (pos 0)).0 none)))
   | inr some ↦ rw some (omega (arith, linear))
 ]
@@ -109,13 +89,13 @@ earlier_part i id (c ∷ cs) k = pair_part (has_player c.0 i) id k +ℤ earlier_
 
 pair_weighted : (b : Bool) (id : ℕ) (ws : List (ℕ × ℤ)) → (if b then net ws id (id + 1) else pos 0) ≡ weighted_sum (pair_part b id) ws
 pair_weighted true id ws = net_weighted id (id + 1) ws
-pair_weighted false id ws = sym (weighted-zero ws)
+pair_weighted false id ws = sym (weighted_sum-zero ws)
 
 pub earlier_weighted : (i : ℕ) (ws : List (ℕ × ℤ)) (id : ℕ) (cs : List (ℕ × ℕ)) → weight_at (earlier_pairs ws id cs) i ≡ weighted_sum (earlier_part i id cs) ws
-earlier_weighted i ws id [] = sym (weighted-zero ws)
+earlier_weighted i ws id [] = sym (weighted_sum-zero ws)
 earlier_weighted i ws id (c ∷ cs) =
     let z : ℤ = net ws id (id + 1) in
-    let more = weighted-add (pair_part (has_player c.0 i) id) (earlier_part i (id + 2) cs) ws in
+    let more = weighted_sum-add (pair_part (has_player c.0 i) id) (earlier_part i (id + 2) cs) ws in
     let front = weight_at-append (kept c.0 z) (earlier_pairs ws (id + 2) cs) i in
     omega (arith, linear, front, weight_at-kept c.0 z i, pair_weighted (has_player c.0 i) id ws, earlier_weighted i ws (id + 2) cs, more)
 
@@ -132,7 +112,7 @@ number_past ws first n (suc j) i h =
 -- the number of a player's bound is the net number of its column
 pub number_within : (ws : List (ℕ × ℤ)) (first n count i : ℕ) → i < count → number_at (bound_pairs ws first n count) i ≡ net ws (first + i) (first + i + n)
 number_within ws first n zero i h = absurd (omega arith)
-number_within ws first n (suc j) i h = elim (test_of (nat_eq j i)) [
+number_within ws first n (suc j) i h = elim (true_or_false (nat_eq j i)) [
   | inl same ↦
       let e : j ≡ i = grind (arith, nat_tests) in
       let here = ap (λ (b : Bool). cond b z (pos 0)) same in

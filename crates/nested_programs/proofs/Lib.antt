@@ -9,11 +9,9 @@ mod Certify
 mod OwnExcesses
 mod LastStage
 mod OnePlayer
-mod ReadShares
 mod CertifiedPoint
 mod NumberedColumns
 mod LevelPasses
-mod SamePrograms
 mod Bests
 mod Members
 mod FewEntries

@@ -10,6 +10,7 @@ use Rattle.definitions.specs.Certificates.{IsFixedVector, InSpan, IsAllFixed, Ce
 use Rattle.definitions.specs.declared.Family.{Family}
 use Rattle.definitions.specs.declared.Family.TheVariants.{Imputations, Preimputations}
 use Rattle.definitions.specs.declared.Mode.TheVariants.{Span}
+use Rattle.definitions.specs.declared.Measure.TheVariants.{Plain}
 
 fixed_everyone : (n s : ℕ) → IsFixedVector n [] s → s ≡ grand_coalition n
 fixed_everyone n s (inl e) = e
@@ -67,5 +68,5 @@ module _ (g : Game) (one : g.players ≡ 1) where
   in_family Imputations = (allocates, efficient, rational)
   in_family Preimputations = (allocates, efficient)
 
-pub one_certified : (family : Family) (g : Game) → 1 ≤ g.players → IsAllFixed Span g.players [] → Certifies Span family g (whole_share g) []
+pub one_certified : (family : Family) (g : Game) → 1 ≤ g.players → IsAllFixed Span g.players [] → Certifies Span family Plain g (whole_share g) []
 one_certified family g some all = (in_family g (one_player g.players some all) family, all)

@@ -4,8 +4,10 @@ use Rattle.std.proofs.lemmas.Bool.Decides.{nat_tests}
 use Rattle.std.specs.List.{AllByRecursion, IsDistinct}
 use Rattle.definitions.specs.Certificates.{Ascends}
 use Rattle.nested_programs.specs.Numbers.{outer_pairs, net, kept, earlier_pairs, bound_pairs}
-use Rattle.nested_programs.proofs.Reading.{test_of, all_join, all_weaken}
-use Rattle.nested_programs.proofs.PlacedOrder.{Apart, kept_all, kept_apart, kept_ascends}
+use Rattle.nested_programs.proofs.PlacedOrder.{kept_all, kept_apart, kept_ascends}
+use Rattle.definitions.proofs.Alls.{all_join, all_weaken}
+use Rattle.definitions.proofs.Cases.{true_or_false}
+use Rattle.kohlberg.proofs.Placed.{Apart}
 
 -- ---- the coalitions outside
 
@@ -14,7 +16,7 @@ other_mask first a b ha hb ne e = let same : a ≡ b = omega (arith, ha, hb, e) 
 
 outer_new : (first id : ℕ) (ws : List (ℕ × ℤ)) → first ≤ id → AllByRecursion (λ y. nat_eq id y ≡ false) (map (λ (w : ℕ × ℤ). w.0) ws) → AllByRecursion (λ p. p.0 ≢ id - first) (outer_pairs first ws)
 outer_new first id [] le h = tt
-outer_new first id (w ∷ ws) le h = elim (test_of (nat_le first w.0)) [
+outer_new first id (w ∷ ws) le h = elim (true_or_false (nat_le first w.0)) [
   | inl t ↦
       let past : first ≤ w.0 = grind (arith, nat_tests) in
       rw t (other_mask first id w.0 le past h.0, outer_new first id ws le h.1)
@@ -24,7 +26,7 @@ outer_new first id (w ∷ ws) le h = elim (test_of (nat_le first w.0)) [
 pub outer_apart : (first : ℕ) (ws : List (ℕ × ℤ)) → IsDistinct nat_eq (map (λ (w : ℕ × ℤ). w.0) ws) → Apart (outer_pairs first ws)
 unfolding IsDistinct
 outer_apart first [] h = tt
-outer_apart first (w ∷ ws) h = elim (test_of (nat_le first w.0)) [
+outer_apart first (w ∷ ws) h = elim (true_or_false (nat_le first w.0)) [
   | inl t ↦
       let past : first ≤ w.0 = grind (arith, nat_tests) in
       rw t (outer_new first w.0 ws past h.0, outer_apart first ws h.1)
@@ -33,7 +35,7 @@ outer_apart first (w ∷ ws) h = elim (test_of (nat_le first w.0)) [
 
 pub outer_all : (P : ℕ × ℤ → Type 0) (first : ℕ) (ws : List (ℕ × ℤ)) → AllByRecursion (λ w. (s : ℕ) → P (s, w.1)) ws → AllByRecursion P (outer_pairs first ws)
 outer_all P first [] h = tt
-outer_all P first (w ∷ ws) h = elim (test_of (nat_le first w.0)) [
+outer_all P first (w ∷ ws) h = elim (true_or_false (nat_le first w.0)) [
   | inl t ↦ rw t (h.0 (w.0 - first), outer_all P first ws h.1)
   | inr t ↦ rw t (outer_all P first ws h.1)
 ]

@@ -5,11 +5,12 @@ use Rattle.std.specs.List.{AllByRecursion}
 use Rattle.definitions.proofs.Ring.{linear}
 use Rattle.definitions.specs.Certificates.{number_at}
 use Rattle.nested_programs.specs.Chain.{HasWeight}
-use Rattle.nested_programs.proofs.Reading.{all_weaken, test_of}
+use Rattle.definitions.proofs.Alls.{all_weaken}
+use Rattle.definitions.proofs.Cases.{true_or_false}
 
 pub number_low : (ws : List (ℕ × ℤ)) (id : ℕ) → AllByRecursion (λ w. pos 1 ≤ℤ w.1) ws → pos 0 ≤ℤ number_at ws id
 number_low [] id h = omega (arith, linear)
-number_low (w ∷ ws) id h = elim (test_of (nat_eq w.0 id)) [
+number_low (w ∷ ws) id h = elim (true_or_false (nat_eq w.0 id)) [
   | inl same ↦ rw same (omega (arith, linear, number_low ws id h.1, h.0))
   | inr other ↦ rw other (omega (arith, linear, number_low ws id h.1))
 ]
@@ -22,14 +23,14 @@ number_some (w ∷ ws) id h (inl here) =
     rw t (omega (arith, linear, number_low ws id h.1, h.0))
 number_some (w ∷ ws) id h (inr more) =
     let ih = number_some ws id h.1 more in
-    elim (test_of (nat_eq w.0 id)) [
+    elim (true_or_false (nat_eq w.0 id)) [
       | inl same ↦ rw same (omega (arith, linear, ih, h.0))
       | inr other ↦ rw other (omega (arith, linear, ih))
     ]
 
 pub weight_of : (ws : List (ℕ × ℤ)) (id : ℕ) → AllByRecursion (λ w. pos 1 ≤ℤ w.1) ws → pos 1 ≤ℤ number_at ws id → HasWeight ws id
 weight_of [] id h some = absurd (omega (arith, linear, some))
-weight_of (w ∷ ws) id h some = elim (test_of (nat_eq w.0 id)) [
+weight_of (w ∷ ws) id h some = elim (true_or_false (nat_eq w.0 id)) [
   | inl same ↦
       let e : w.0 ≡ id = grind (arith, nat_tests) in
       inl (e, h.0)

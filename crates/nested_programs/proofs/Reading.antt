@@ -1,10 +1,10 @@
 -- The dual reading of a stage program.
-use Rattle.std.proofs.Common.{◌≡◌, ◌⊎◌, ℕ, zero, suc, ◌+◌, ◌-◌, ◌<◌, ◌≤◌, Bool, true, false, cond, ◌&&◌, IsTrue, List, [], ◌∷◌, ◌++◌, length, map, ℤ, pos, ◌+ℤ◌, ◌-ℤ◌, ◌*ℤ◌, ◌≤ℤ◌, refl, sym, ap, subst, ◌∙◌, inl, inr, arith, nat_eq, nat_lt, if◌then◌else◌, slice_index_or}
+use Rattle.std.proofs.Common.{◌≡◌, ℕ, zero, suc, ◌+◌, ◌-◌, ◌<◌, ◌≤◌, Bool, true, false, cond, IsTrue, List, [], ◌∷◌, length, map, ℤ, pos, ◌+ℤ◌, ◌-ℤ◌, ◌*ℤ◌, ◌≤ℤ◌, refl, sym, ap, subst, ◌∙◌, inl, inr, arith, nat_eq, nat_lt, if◌then◌else◌, slice_index_or}
 use Rattle.std.proofs.lemmas.Bool.{false≢true}
 use Rattle.std.proofs.lemmas.Bool.Decides.{nat_tests}
 use Rattle.std.specs.List.{AllByRecursion}
 use Rattle.definitions.proofs.Ring.{linear, mul-zeroℤ, mul-oneℤ, mul-subℤ}
-use Rattle.definitions.proofs.Members.{sum_below-same, sum_over-grand_coalition, sum_over-singleton}
+use Rattle.definitions.proofs.Members.{sum_below-same, sum_over-grand_coalition, sum_over-singleton, sum_below-split, times_bit}
 use Rattle.definitions.specs.Sums.{sum_below}
 use Rattle.definitions.specs.Coalitions.{has_player, singleton, grand_coalition, sum_over}
 use Rattle.definitions.specs.Games.{Game}
@@ -14,14 +14,11 @@ use Rattle.definitions.specs.declared.Family.{Family}
 use Rattle.definitions.specs.declared.Family.TheVariants.{Imputations, Preimputations}
 use Rattle.separation.specs.Stage.{Column, signed, plus_entry, earlier_of, doubled, settled_columns, further_column, no_column, column, is_imputations, is_further, stage_program}
 use Rattle.nested_programs.specs.Reading.{IsReading, share_of, excess_of}
+use Rattle.definitions.proofs.Cases.{less_same_or_greater, true_or_false, and_left, and_right, and_both}
+use Rattle.separation.proofs.Valued.{signed_sum}
+use Rattle.definitions.proofs.Alls.{all_join, all_weaken, all_with}
 
 -- ---- the value of a column
-
-pub sum_below-split : (n j : ℕ) (f : ℕ → ℤ) → sum_below (n + j) f ≡ sum_below n f +ℤ sum_below j (λ k. f (n + k))
-sum_below-split n zero f = let e : n + 0 ≡ n = omega arith in rw e (omega (arith, linear))
-sum_below-split n (suc j) f =
-    let e : n + suc j ≡ suc (n + j) = omega arith in
-    rw e (omega (arith, linear, sum_below-split n j f))
 
 -- the excess of a level row, or nothing past them
 abbrev pub level_value : ℕ → (ℕ → ℤ) → ℕ → ℤ
@@ -29,7 +26,7 @@ level_value j e row = if nat_lt row j then e row else pos 0
 
 level_sum : (n j row : ℕ) (e : ℕ → ℤ) → sum_below j (λ k. e k *ℤ (if nat_eq (n + k) (n + row) then pos 1 else pos 0)) ≡ level_value j e row
 level_sum n zero row e = let t : nat_lt row 0 ≡ false = grind (arith, nat_tests) in rw t refl
-level_sum n (suc j) row e = elim (three row j) [
+level_sum n (suc j) row e = elim (less_same_or_greater row j) [
   | inl less ↦
       let t : nat_lt row (suc j) ≡ true = grind (arith, nat_tests) in
       let u : nat_lt row j ≡ true = grind (arith, nat_tests) in
@@ -49,9 +46,6 @@ level_sum n (suc j) row e = elim (three row j) [
       let ih = level_sum n j row e in
       rw t (rw v (omega (arith, linear, mul-zeroℤ (e j), ih ∙ ap (λ (b : Bool). cond b (e row) (pos 0)) u)))
 ]
-  where
-    three : (k j : ℕ) → (k < j) ⊎ ((k ≡ j) ⊎ (j < k))
-    three k j = grind arith
 
 -- what the members get, and the excess of the level row
 abbrev pub plus_value : ℕ → ℕ → (ℕ → ℤ) → (ℕ → ℤ) → ℕ → ℕ → ℤ
@@ -66,21 +60,11 @@ plus_value-is n j m mask row =
     let third = level_sum n j row (excess_of n m) in
     omega (arith, linear, split, first, second, third)
   where
-    times_bit : (b : Bool) (z : ℤ) → z *ℤ cond b (pos 1) (pos 0) ≡ cond b z (pos 0)
-    times_bit true z = mul-oneℤ z
-    times_bit false z = mul-zeroℤ z
-
     members : (i : ℕ) → i < n → slice_index_or m i (pos 0) *ℤ plus_entry n mask row i ≡ (if has_player mask i then share_of m i else pos 0)
     members i h = let t : nat_lt i n ≡ true = grind (arith, nat_tests) in rw t (times_bit (has_player mask i) (slice_index_or m i (pos 0)))
 
     levels : (k : ℕ) → k < j → slice_index_or m (n + k) (pos 0) *ℤ plus_entry n mask row (n + k) ≡ excess_of n m k *ℤ (if nat_eq (n + k) (n + row) then pos 1 else pos 0)
     levels k h = let t : nat_lt (n + k) n ≡ false = grind (arith, nat_tests) in rw t refl
-
-signed_sum : (n : ℕ) (y f : ℕ → ℤ) (b : Bool) → sum_below n (λ r. y r *ℤ signed b (f r)) ≡ signed b (sum_below n (λ r. y r *ℤ f r))
-signed_sum n y f false = refl
-signed_sum zero y f true = refl
-signed_sum (suc n) y f true =
-    omega (arith, linear, signed_sum n y f true, mul-subℤ (y n) (pos 0) (f n), mul-zeroℤ (y n))
 
 abbrev pub column_value : ℕ → ℕ → (ℕ → ℤ) → (ℕ → ℤ) → Column → ℤ
 column_value n j x e c = signed c.minus (plus_value n j x e c.mask c.row)
@@ -140,18 +124,6 @@ all_map : {X Y : Type 0} (P : Y → Type 0) (f : X → Y) (xs : List X) → ((x 
 all_map P f [] h = tt
 all_map P f (x ∷ xs) h = (h x, all_map P f xs h)
 
-pub all_join : {X : Type 0} (P : X → Type 0) (xs ys : List X) → AllByRecursion P xs → AllByRecursion P ys → AllByRecursion P (xs ++ ys)
-all_join P [] ys h k = k
-all_join P (x ∷ xs) ys h k = (h.0, all_join P xs ys h.1 k)
-
-pub all_weaken : {X : Type 0} (P Q : X → Type 0) (xs : List X) → ((x : X) → P x → Q x) → AllByRecursion P xs → AllByRecursion Q xs
-all_weaken P Q [] f h = tt
-all_weaken P Q (x ∷ xs) f h = (f x h.0, all_weaken P Q xs f h.1)
-
-pub all_both : {X : Type 0} (P Q R : X → Type 0) (xs : List X) → ((x : X) → P x → Q x → R x) → AllByRecursion P xs → AllByRecursion Q xs → AllByRecursion R xs
-all_both P Q R [] f h k = tt
-all_both P Q R (x ∷ xs) f h k = (f x h.0 k.0, all_both P Q R xs f h.1 k.1)
-
 pub earlier_rows : (k : ℕ) (levels : List Level) → AllByRecursion (λ c. c.1 < k + length levels) (earlier_of k levels)
 earlier_rows k [] = tt
 earlier_rows k (l ∷ levels) =
@@ -161,21 +133,9 @@ earlier_rows k (l ∷ levels) =
 
 -- ---- all kinds
 
-pub test_of : (b : Bool) → (b ≡ true) ⊎ (b ≡ false)
-test_of true = inl refl
-test_of false = inr refl
-
 pub imputations_of : (family : Family) → is_imputations family ≡ true → family ≡ Imputations
 imputations_of Imputations h = refl
 imputations_of Preimputations h = absurd (false≢true h)
-
-pub and_left : (a b : Bool) → (a && b) ≡ true → a ≡ true
-and_left true b h = refl
-and_left false b h = h
-
-pub and_right : (a b : Bool) → (a && b) ≡ true → b ≡ true
-and_right true b h = h
-and_right false b h = absurd (false≢true h)
 
 -- the columns past the settled ones meet their costs
 abbrev FurtherMeet : Family → Game → List Level → (ℕ → Bool) → (ℕ → ℤ) → (ℕ → ℤ) → ℤ → Type 0
@@ -196,15 +156,11 @@ bound_of family g front outside x e den meet f i h b =
     let t : nat_lt (g.players + i) g.players ≡ false = grind (arith, nat_tests) in
     let u : nat_lt (g.players + i) (g.players + g.players) ≡ true = grind (arith, nat_tests) in
     let v : g.players + i - g.players ≡ i = omega arith in
-    let is_so : is_further family g.players front outside (g.players + i) ≡ true = rw t (rw u (rw v (both_true (is_imputations family) (has_bound front i) (ap is_imputations f) b))) in
+    let is_so : is_further family g.players front outside (g.players + i) ≡ true = rw t (rw u (rw v (and_both (is_imputations family) (has_bound front i) (ap is_imputations f) b))) in
     let met = rw v at (rw u at (rw t at (meet (g.players + i) is_so))) in
     let low = single_of family g front outside x e den meet f i h in
     let value = single_value g.players (length front) i x e h in
     omega (arith, linear, met, low, value, mul-subℤ den (pos 0) (g.worth (singleton i)), mul-zeroℤ den)
-  where
-    both_true : (a b : Bool) → a ≡ true → b ≡ true → (a && b) ≡ true
-    both_true true b h k = k
-    both_true false b h k = h
 
 outer_of : (family : Family) (g : Game) (front : List Level) (outside : ℕ → Bool) (x e : ℕ → ℤ) (den : ℤ) → FurtherMeet family g front outside x e den → (s : ℕ) → IsTrue (outside s) → (den *ℤ g.worth s) ≤ℤ (sum_over g.players x s +ℤ e (length front))
 outer_of family g front outside x e den meet s o =
@@ -216,12 +172,12 @@ outer_of family g front outside x e den meet s o =
     omega (arith, linear, met, within_row (length front + 1) (length front) e (omega arith))
 
 further_meet : (family : Family) (g : Game) (front : List Level) (outside : ℕ → Bool) (x e : ℕ → ℤ) (den : ℤ) → IsReading family g front outside x e den → FurtherMeet family g front outside x e den
-further_meet family g front outside x e den r i is_so = elim (test_of (nat_lt i g.players)) [
+further_meet family g front outside x e den r i is_so = elim (true_or_false (nat_lt i g.players)) [
   | inl t ↦
       let h : i < g.players = grind (arith, nat_tests) in
       let f = imputations_of family (rw t at is_so) in
       rw t (omega (arith, linear, r.single f i h, single_value g.players (length front) i x e h))
-  | inr t ↦ elim (test_of (nat_lt i (g.players + g.players))) [
+  | inr t ↦ elim (true_or_false (nat_lt i (g.players + g.players))) [
     | inl u ↦
         let h : i - g.players < g.players = grind (arith, nat_tests) in
         let y = rw u at (rw t at is_so) in
@@ -237,13 +193,13 @@ further_meet family g front outside x e den r i is_so = elim (test_of (nat_lt i 
 -- the settled columns
 settled_of : (g : Game) (front : List Level) (x e : ℕ → ℤ) (den : ℤ) → AllByRecursion (Fixes g (length front + 1) x e den) (earlier_of 0 front) → AllByRecursion (λ c. den *ℤ g.worth c.0 ≡ sum_over g.players x c.0 +ℤ e c.1) (earlier_of 0 front)
 settled_of g front x e den h =
-    all_both (λ c. c.1 < 0 + length front) (Fixes g (length front + 1) x e den) (λ c. den *ℤ g.worth c.0 ≡ sum_over g.players x c.0 +ℤ e c.1) (earlier_of 0 front)
+    all_with (λ c. c.1 < 0 + length front) (Fixes g (length front + 1) x e den) (λ c. den *ℤ g.worth c.0 ≡ sum_over g.players x c.0 +ℤ e c.1) (earlier_of 0 front)
     (λ c lt eq. omega (arith, linear, eq, within_row (length front + 1) c.1 e (omega arith)))
     (earlier_rows 0 front) h
 
 pub of_settled : (g : Game) (front : List Level) (x e : ℕ → ℤ) (den : ℤ) → AllByRecursion (λ c. den *ℤ g.worth c.0 ≡ sum_over g.players x c.0 +ℤ e c.1) (earlier_of 0 front) → AllByRecursion (Fixes g (length front + 1) x e den) (earlier_of 0 front)
 of_settled g front x e den h =
-    all_both (λ c. c.1 < 0 + length front) (λ c. den *ℤ g.worth c.0 ≡ sum_over g.players x c.0 +ℤ e c.1) (Fixes g (length front + 1) x e den) (earlier_of 0 front)
+    all_with (λ c. c.1 < 0 + length front) (λ c. den *ℤ g.worth c.0 ≡ sum_over g.players x c.0 +ℤ e c.1) (Fixes g (length front + 1) x e den) (earlier_of 0 front)
     (λ c lt eq. omega (arith, linear, eq, within_row (length front + 1) c.1 e (omega arith)))
     (earlier_rows 0 front) h
 
@@ -283,13 +239,10 @@ of_reading family g front outside m den r =
     let len : ℕ = length (settled_columns n front) in
     let first : AllByRecursion (Meets g (length front + 1) x e den) (settled_columns n front) = of_fixes g (length front + 1) x e den ((grand_coalition n, length front + 1) ∷ earlier_of 0 front) (sym (whole_value n (length front) x e ∙ r.whole), of_settled g front x e den r.settled) in
     let further = further_meet family g front outside x e den r in
-    let meets : (id : ℕ) → IsTrue ((stage_program family g front outside).is_column id) → Meets g (length front + 1) x e den (column n front id) = λ id is_so. elim (test_of (nat_lt id len)) [
+    let meets : (id : ℕ) → IsTrue ((stage_program family g front outside).is_column id) → Meets g (length front + 1) x e den (column n front id) = λ id is_so. elim (true_or_false (nat_lt id len)) [
       | inl t ↦
           let lt : id < len = grind (arith, nat_tests) in
           rw t (each_of (Meets g (length front + 1) x e den) no_column (settled_columns n front) first id lt)
       | inr t ↦ rw t (further (id - len) (rw t at is_so))
     ] in
     (r.positive, λ id is_so. subst (λ (z : ℤ). (den *ℤ (stage_program family g front outside).cost id) ≤ℤ z) (sym (column_value-is family g front outside m id)) (meets id is_so))
-
-pub reads_dually : (family : Family) (g : Game) (front : List Level) (outside : ℕ → Bool) (m : List ℤ) (den : ℤ) → (Bounds (stage_program family g front outside) m den → IsReading family g front outside (share_of m) (excess_of g.players m) den) × (IsReading family g front outside (share_of m) (excess_of g.players m) den → Bounds (stage_program family g front outside) m den)
-reads_dually family g front outside m den = (reading_of family g front outside m den, of_reading family g front outside m den)

@@ -1,32 +1,21 @@
 -- Where the columns of positive weight are tight, and what follows of the optimum.
-use Rattle.std.proofs.Common.{◌≡◌, ℕ, ◌<◌, IsTrue, List, [], ◌∷◌, ℤ, pos, ◌+ℤ◌, ◌-ℤ◌, ◌*ℤ◌, ◌≤ℤ◌, refl, sym, ap, ◌∙◌, inl, inr, arith, slice_index_or}
+use Rattle.std.proofs.Common.{◌≡◌, ℕ, ◌<◌, IsTrue, List, [], ◌∷◌, ℤ, pos, ◌-ℤ◌, ◌*ℤ◌, ◌≤ℤ◌, refl, sym, ap, ◌∙◌, inl, inr, arith, slice_index_or}
 use Rattle.std.proofs.lemmas.Int.{by_lt_z}
 use Rattle.std.specs.List.{AllByRecursion}
-use Rattle.definitions.proofs.Ring.{linear, mul-addℤ, mul-leℤ, mul-subℤ, mul_assocℤ, mul-zeroℤ, zero-mulℤ, mul-oneℤ, mul-cancelℤ}
+use Rattle.definitions.proofs.Ring.{linear, mul-addℤ, mul-leℤ, mul-subℤ, mul-zeroℤ, zero-mulℤ, mul-cancelℤ, mul_left_commℤ}
 use lib.IntN.{*ℤ_comm}
-use Rattle.definitions.proofs.Members.{sum_below-same, sum_below-times, sum_below-zero, sum_below-add}
+use Rattle.definitions.proofs.Members.{sum_below-same, sum_below-times}
 use Rattle.definitions.specs.Sums.{weighted_sum}
-use Rattle.definitions.specs.Programs.{Program, row_value, value_of, Solves, Bounds, IsOptimal, HasRay}
+use Rattle.definitions.specs.Programs.{Program, row_value, value_of, Solves, Bounds, IsOptimal}
 use Rattle.nested_programs.specs.Chain.{HasWeight}
-
-pub swap_front : (p q v : ℤ) → p *ℤ (q *ℤ v) ≡ q *ℤ (p *ℤ v)
-swap_front p q v = sym (mul_assocℤ p q v) ∙ ap (λ z. z *ℤ v) (*ℤ_comm p q) ∙ mul_assocℤ q p v
-
-pub weighted-value : (p : Program) (m : List ℤ) (ws : List (ℕ × ℤ)) → weighted_sum (λ id. value_of p m (p.entry id)) ws ≡ value_of p m (row_value p ws)
-weighted-value p m [] = sym (sum_below-zero p.rows (λ r. slice_index_or m r (pos 0) *ℤ pos 0) (λ r h. mul-zeroℤ (slice_index_or m r (pos 0))))
-weighted-value p m (w ∷ ws) =
-    let ih = weighted-value p m ws in
-    let times = sum_below-times p.rows (λ r. slice_index_or m r (pos 0) *ℤ p.entry w.0 r) w.1 in
-    let both = sum_below-add p.rows (λ r. w.1 *ℤ (slice_index_or m r (pos 0) *ℤ p.entry w.0 r)) (λ r. slice_index_or m r (pos 0) *ℤ row_value p ws r) in
-    let same = sum_below-same p.rows (λ r. slice_index_or m r (pos 0) *ℤ row_value p (w ∷ ws) r) (λ r. w.1 *ℤ (slice_index_or m r (pos 0) *ℤ p.entry w.0 r) +ℤ slice_index_or m r (pos 0) *ℤ row_value p ws r) (λ r h. omega (arith, linear, mul-addℤ (slice_index_or m r (pos 0)) (w.1 *ℤ p.entry w.0 r) (row_value p ws r), swap_front (slice_index_or m r (pos 0)) w.1 (p.entry w.0 r))) in
-    omega (arith, linear, ih, times, both, same)
+use Rattle.determinants.proofs.Duality.{weighted-value}
 
 -- the rows' values where the weights solve the program
 pub solved_value : (p : Program) (m : List ℤ) (ws : List (ℕ × ℤ)) (wden : ℤ) → ((r : ℕ) → r < p.rows → row_value p ws r ≡ wden *ℤ p.right r) → weighted_sum (λ id. value_of p m (p.entry id)) ws ≡ wden *ℤ value_of p m p.right
 solved_value p m ws wden rows =
     let exchange = weighted-value p m ws in
     let times = sum_below-times p.rows (λ r. slice_index_or m r (pos 0) *ℤ p.right r) wden in
-    let same = sum_below-same p.rows (λ r. slice_index_or m r (pos 0) *ℤ row_value p ws r) (λ r. wden *ℤ (slice_index_or m r (pos 0) *ℤ p.right r)) (λ r h. ap (λ z. slice_index_or m r (pos 0) *ℤ z) (rows r h) ∙ swap_front (slice_index_or m r (pos 0)) wden (p.right r)) in
+    let same = sum_below-same p.rows (λ r. slice_index_or m r (pos 0) *ℤ row_value p ws r) (λ r. wden *ℤ (slice_index_or m r (pos 0) *ℤ p.right r)) (λ r h. ap (λ z. slice_index_or m r (pos 0) *ℤ z) (rows r h) ∙ mul_left_commℤ (slice_index_or m r (pos 0)) wden (p.right r)) in
     omega (arith, linear, exchange, times, same)
 
 -- what a column's cost is above its value
@@ -36,7 +25,7 @@ rise p m den id = den *ℤ p.cost id -ℤ value_of p m (p.entry id)
 pub rises : (p : Program) (m : List ℤ) (den : ℤ) (ws : List (ℕ × ℤ)) → weighted_sum (rise p m den) ws ≡ den *ℤ weighted_sum p.cost ws -ℤ weighted_sum (λ id. value_of p m (p.entry id)) ws
 rises p m den [] = omega (arith, linear, mul-zeroℤ den)
 rises p m den (w ∷ ws) =
-    omega (arith, linear, rises p m den ws, mul-addℤ den (w.1 *ℤ p.cost w.0) (weighted_sum p.cost ws), swap_front den w.1 (p.cost w.0), mul-subℤ w.1 (den *ℤ p.cost w.0) (value_of p m (p.entry w.0)))
+    omega (arith, linear, rises p m den ws, mul-addℤ den (w.1 *ℤ p.cost w.0) (weighted_sum p.cost ws), mul_left_commℤ den w.1 (p.cost w.0), mul-subℤ w.1 (den *ℤ p.cost w.0) (value_of p m (p.entry w.0)))
 
 abbrev pub Columns : Program → List (ℕ × ℤ) → Type 0
 Columns p ws = AllByRecursion (λ w. IsTrue (p.is_column w.0) × (pos 0 ≤ℤ w.1)) ws
@@ -51,18 +40,6 @@ pub rises_low : (p : Program) (m : List ℤ) (den : ℤ) (ws : List (ℕ × ℤ)
 rises_low p m den [] b h = omega (arith, linear)
 rises_low p m den (w ∷ ws) b h =
     omega (arith, linear, rises_low p m den ws b h.1, term_low w.1 (rise p m den w.0) h.0.1 (bounded_low p m den b w.0 h.0.0))
-
--- no weights that sum to nothing cost more than nothing where some multipliers bound the program
-pub no_ray : (p : Program) (m : List ℤ) (den : ℤ) → Bounds p m den → HasRay p → ⊥
-no_ray p m den b (ws, weights, rows, gain) =
-    let low = rises_low p m den ws b weights.0 in
-    let value = solved_value p m ws (pos 0) (λ r h. rows r h ∙ sym (zero-mulℤ (p.right r))) in
-    let up = mul-leℤ den (pos 1) (weighted_sum p.cost ws) (omega (arith, linear, b.0)) gain in
-    let one = mul-leℤ (pos 1) (pos 1) den (omega (arith, linear)) b.0 in
-    omega (arith, linear, low, value, up, rises p m den ws, zero-mulℤ (value_of p m p.right), b.0, den_one den)
-  where
-    den_one : (d : ℤ) → d *ℤ pos 1 ≡ d
-    den_one d = omega (arith, linear, mul-oneℤ d)
 
 -- optimal: a column of positive weight is tight
 pub tight_where : (p : Program) (m : List ℤ) (den : ℤ) (ws : List (ℕ × ℤ)) → Bounds p m den → Columns p ws → pos 0 ≤ℤ weighted_sum (rise p m den) ws → (id : ℕ) → HasWeight ws id → IsTrue (p.is_column id) × (rise p m den id ≡ pos 0)

@@ -7,7 +7,8 @@ use Rattle.std.specs.List.{AllByRecursion, IsDistinct}
 use Rattle.definitions.proofs.Ring.{linear}
 use Rattle.definitions.specs.Certificates.{number_at, IsSmall}
 use Rattle.nested_programs.specs.Numbers.{AreNumbers, net}
-use Rattle.nested_programs.proofs.Reading.{test_of, all_both}
+use Rattle.definitions.proofs.Alls.{all_with}
+use Rattle.definitions.proofs.Cases.{true_or_false}
 
 -- at least 0, and below 2^62
 abbrev IsNumber : ℤ → Type 0
@@ -37,7 +38,7 @@ no_number = (omega (arith, linear), omega arith)
 number_is : (k : ℕ) (ws : List (ℕ × ℤ)) → AllByRecursion (λ w. IsNumber w.1) ws → IsDistinct nat_eq (map (λ (w : ℕ × ℤ). w.0) ws) → IsNumber (number_at ws k)
 unfolding IsDistinct
 number_is k [] h apart = no_number
-number_is k (w ∷ ws) h apart = elim (test_of (nat_eq w.0 k)) [
+number_is k (w ∷ ws) h apart = elim (true_or_false (nat_eq w.0 k)) [
   | inl t ↦
       let e : w.0 ≡ k = grind (arith, nat_tests) in
       let none = number_none k ws (subst (λ (z : ℕ). AllByRecursion (λ y. nat_eq z y ≡ false) (map (λ (v : ℕ × ℤ). v.0) ws)) e apart.0) in
@@ -47,7 +48,7 @@ number_is k (w ∷ ws) h apart = elim (test_of (nat_eq w.0 k)) [
 
 are_numbers : (ws : List (ℕ × ℤ)) → AreNumbers ws → AllByRecursion (λ w. IsNumber w.1) ws
 are_numbers ws h =
-    all_both (λ w. pos 1 ≤ℤ w.1) (λ w. unsigned_abs w.1 < 2 ^ 62) (λ w. IsNumber w.1) ws (λ w one small. one_number w.1 one small) h.positive h.small
+    all_with (λ w. pos 1 ≤ℤ w.1) (λ w. unsigned_abs w.1 < 2 ^ 62) (λ w. IsNumber w.1) ws (λ w one small. one_number w.1 one small) h.positive h.small
 
 difference_small : (a b : ℤ) → pos 0 ≤ℤ a → pos 0 ≤ℤ b → unsigned_abs a < 2 ^ 62 → unsigned_abs b < 2 ^ 62 → unsigned_abs (a -ℤ b) < 2 ^ 63
 difference_small a b ha hb sa sb = omega (arith, ints)

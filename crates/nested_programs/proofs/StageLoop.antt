@@ -1,17 +1,16 @@
 -- What the loop over the stages knows where it begins, in a turn, and where it ends.
-use Rattle.std.proofs.Common.{◌≡◌, ℕ, suc, ◌-◌, ◌^◌, ◌<◌, ◌≤◌, Bool, true, false, List, [], ◌∷◌, ◌++◌, length, take, drop, ℤ, Option, Some, None, MatchOption, is_some, refl, sym, ap, subst, ◌∙◌, arith}
+use Rattle.std.proofs.Common.{◌≡◌, ℕ, suc, ◌-◌, ◌<◌, ◌≤◌, Bool, true, false, List, [], ◌∷◌, ◌++◌, length, take, drop, ℤ, Option, Some, None, MatchOption, is_some, refl, sym, ap, subst, ◌∙◌, arith}
 use Rattle.std.specs.Prelude.{⊤}
 use Rattle.std.specs.List.{AllByRecursion}
 use Rattle.std.proofs.lemmas.Bool.{false≢true}
 use Rattle.definitions.specs.Coalitions.{grand_coalition}
 use Rattle.definitions.specs.Games.{Game}
-use Rattle.definitions.specs.Certificates.{Level, LevelForm, LevelsForm, IsAllFixed}
+use Rattle.definitions.specs.Certificates.{Level, LevelsForm, IsAllFixed}
 use Rattle.definitions.specs.Failures.{IsLeastUnfixed}
 use Rattle.definitions.specs.declared.Family.{Family}
 use Rattle.definitions.specs.declared.Mode.TheVariants.{Span}
 use Rattle.simplex.specs.declared.multipliers.Multipliers.{Multipliers}
-use Rattle.checker.specs.Extends.{Extends, IsLevelVector, IsOf}
-use Rattle.checker.proofs.Excesses.{everyone_within}
+use Rattle.kohlberg.specs.Extends.{Extends, IsLevelVector, IsOf}
 use Rattle.nested_programs.specs.Answer.{HasMember}
 use Rattle.nested_programs.specs.Numbers.{IsLevelOf}
 use Rattle.nested_programs.specs.Stages.{IsLeft, IsBest, AreUnderway, AreDone}
@@ -40,13 +39,6 @@ all_of n levels (Some i) b e t h = absurd (false≢true (sym t ∙ e))
 pub forms_few : (n : ℕ) (front levels : List Level) → LevelsForm n front levels → AllByRecursion (λ l. length l.coalitions ≤ 65536) levels
 forms_few n front [] h = tt
 forms_few n front (l ∷ levels) h = (h.0.few, forms_few n (front ++ l ∷ []) levels h.1)
-
-within : (n : ℕ) (cs : List (ℕ × ℤ)) → AllByRecursion (λ c. (0 < c.0) × (c.0 < grand_coalition n)) cs → AllByRecursion (λ c. c.0 < 2 ^ n) cs
-within n [] h = tt
-within n (c ∷ cs) h = (let top = everyone_within n in omega (arith, h.0.1, top), within n cs h.1)
-
-pub level_within : (n : ℕ) (front : List Level) (l : Level) → LevelForm n front l → IsOf n l
-level_within n front l h = record { coalitions = within n l.coalitions h.proper; bounds = h.players }
 
 -- the part of a list behind its old elements is the new one
 pub new_only : (xs ys : List Level) (x : Level) (k : ℕ) → ys ≡ xs ++ x ∷ [] → k ≡ length xs → take (length ys - k) (drop k ys) ≡ x ∷ []
@@ -77,7 +69,7 @@ pub ended : (family : Family) (g : Game) (levels : List Level) (kept : List ℕ)
 ended family g levels kept last h all = record {
   stages = h.stages;
   form = h.form;
-  few = h.few;
+  short = h.short;
   lowest = h.lowest;
   all = all;
   count = h.count;

@@ -9,36 +9,37 @@ use Rattle.definitions.specs.declared.Family.{Family}
 use Rattle.definitions.specs.declared.Mode.TheVariants.{Span}
 use Rattle.simplex.specs.declared.multipliers.Multipliers.{Multipliers}
 use Rattle.spans.specs.Span.{IsKept}
-use Rattle.checker.specs.Extends.{Extends, IsLevelVector, SpansFixed}
-use Rattle.checker.proofs.Excesses.{everyone_within}
-use Rattle.checker.proofs.SpanScan.{SpansFixed-start, SpansFixed-more}
+use Rattle.kohlberg.specs.Extends.{Extends, IsLevelVector, SpansFixed}
+use Rattle.kohlberg.proofs.SpanScan.{SpansFixed-start, SpansFixed-more}
 use Rattle.separation.specs.Stage.{earlier_of}
-use Rattle.nested_programs.specs.Answer.{HasMember, HasFew, IsLowest}
+use Rattle.nested_programs.specs.Answer.{HasMember, IsShort}
 use Rattle.nested_programs.specs.Reading.{excess_of}
 use Rattle.nested_programs.specs.Chain.{Stage, StageHolds}
 use Rattle.nested_programs.specs.Numbers.{AreNumbers, IsLevelOf}
 use Rattle.nested_programs.specs.Stages.{IsBest, IsBounded, AreStages, AreUnderway}
-use Rattle.nested_programs.proofs.Advance.{or_left}
 use Rattle.nested_programs.proofs.Start.{first_no_ray}
 use Rattle.nested_programs.proofs.Chain.{next_no_ray, length_more, append_none}
 use Rattle.nested_programs.proofs.Form.{level_some, level_outside}
 use Rattle.nested_programs.proofs.ChainSteps.{chain_more, levels_more, levels_count, own_more, last_more}
 use Rattle.nested_programs.proofs.Followed.{followed}
-use Rattle.nested_programs.proofs.FewEntries.{level_few}
+use Rattle.nested_programs.proofs.FewEntries.{level_short}
 use Rattle.nested_programs.proofs.Formed.{level_formed, form_more}
 use Rattle.nested_programs.proofs.DistinctCoalitions.{chain_distinct}
+use Rattle.definitions.proofs.Masks.{grand_coalition-within}
+use Rattle.definitions.proofs.Cases.{or_left}
+use Rattle.kohlberg.specs.Solved.{IsLowest}
 
 -- ---- the start
 
 start_bounded : (family : Family) (g : Game) → HasMember family g → IsBounded family g []
 start_bounded family g member outside test =
-    first_no_ray family g outside member.0 (λ s o. let h = test s o in let top = everyone_within g.players in omega (arith, h.1, top)) member.1
+    first_no_ray family g outside member.0 (λ s o. let h = test s o in let top = grand_coalition-within g.players in omega (arith, h.1, top)) member.1
 
 pub start : (family : Family) (g : Game) → 1 ≤ g.players → HasMember family g → AreUnderway family g [] (grand_coalition g.players ∷ []) None
 start family g some member = record {
   stages = record { stages = []; levels_are = refl; chain = tt; own = tt; last_is = tt; wide = refl };
   form = tt;
-  few = tt;
+  short = tt;
   lowest = tt;
   bounded = start_bounded family g member;
   spans = SpansFixed-start g.players;
@@ -71,10 +72,6 @@ holds family g front ws wden m den l best is = record {
 all_of : {X : Type 0} (P : X → Type 0) (xs : List X) (x : X) → AllByRecursion P xs → P x → AllByRecursion P (xs ++ x ∷ [])
 all_of P [] x h p = (p, tt)
 all_of P (y ∷ ys) x h p = (h.0, all_of P ys x h.1 p)
-
-some_of : {X : Type 0} (P : X → Type 0) (xs : List X) → 1 ≤ length xs → AllByRecursion P xs → (x : X) × P x
-some_of P [] some h = absurd (omega arith)
-some_of P (x ∷ xs) some h = (x, h.0)
 
 some_listed : (cs : List (ℕ × ℤ)) (l : Level) (P : ℕ → Type 0) → l.coalitions ≡ cs → 1 ≤ length cs → AllByRecursion (λ c. P c.0) cs → (s : ℕ) × IsTrue (is_listed (l ∷ []) s) × P s
 some_listed [] l P e some all = absurd (omega arith)
@@ -130,7 +127,7 @@ pub underway_more : (family : Family) (g : Game) (levels : List Level) (old new 
 underway_more family g levels old new last ws wden m l few room h best is low more = record {
   stages = stages_more family g levels last t m h.stages k (is.excess.same) is.excess.reduced.positive refl refl wide;
   form = form_more g.players levels l h.form (next_formed family g levels old last ws wden m.num.items m.den l few room h best is);
-  few = all_of (HasFew g.players) levels l h.few (level_few g.players levels ws m.num.items m.den l is rows next);
+  short = all_of (IsShort g.players) levels l h.short (level_short g.players levels ws m.num.items m.den l is rows next);
   lowest = all_of IsLowest levels l h.lowest low;
   bounded = λ outside test. next_no_ray family g levels t outside k test;
   spans = SpansFixed-more g.players old new levels (l ∷ []) h.spans more;

@@ -1,10 +1,10 @@
 -- A stage program has a solution where a coalition is outside, and the first has no endless ray where the family has a member.
-use Rattle.std.proofs.Common.{◌≡◌, ◌≢◌, ◌⊎◌, ℕ, zero, suc, ◌+◌, ◌-◌, ◌^◌, ◌<◌, ◌≤◌, Bool, true, false, not, cond, IsTrue, List, [], ◌∷◌, length, ℤ, pos, ◌+ℤ◌, ◌-ℤ◌, ◌*ℤ◌, ◌≤ℤ◌, refl, sym, ap, ◌∙◌, inl, inr, arith, nat_eq, nat_lt, if◌then◌else◌}
+use Rattle.std.proofs.Common.{◌≡◌, ◌≢◌, ℕ, zero, suc, ◌+◌, ◌-◌, ◌^◌, ◌<◌, ◌≤◌, Bool, true, false, not, cond, IsTrue, List, [], ◌∷◌, length, ℤ, pos, ◌+ℤ◌, ◌-ℤ◌, ◌*ℤ◌, ◌≤ℤ◌, refl, sym, ap, ◌∙◌, inl, inr, arith, nat_eq, nat_lt, if◌then◌else◌}
 use Rattle.std.proofs.lemmas.Int.{by_lt_z}
 use Rattle.std.proofs.lemmas.Bool.{false≢true}
 use Rattle.std.proofs.lemmas.Bool.Decides.{nat_tests}
 use Rattle.std.specs.List.{AllByRecursion, IsDistinct}
-use Rattle.definitions.proofs.Ring.{linear, mul-addℤ, mul-oneℤ}
+use Rattle.definitions.proofs.Ring.{linear, mul-addℤ, mul-oneℤ, one-mulℤ}
 use Rattle.definitions.proofs.Members.{has_player-grand_coalition, has_player-complement, sum_below-same, sum_over-grand_coalition}
 use Rattle.definitions.specs.Coalitions.{has_player, singleton, grand_coalition, sum_over, weight_at}
 use Rattle.definitions.specs.Games.{Game, Allocation, share, amount, IsAllocation, IsEfficient, InFamily}
@@ -17,10 +17,11 @@ use Rattle.definitions.specs.declared.Mode.TheVariants.{Span}
 use Rattle.separation.specs.Stage.{plus_entry, entry_of, settled_columns, column, is_imputations, stage_program}
 use Rattle.nested_programs.specs.Reading.{share_of, excess_of}
 use Rattle.nested_programs.specs.Chain.{outer_id}
-use Rattle.nested_programs.proofs.Reading.{of_reading, test_of}
-use Rattle.nested_programs.proofs.Slack.{no_ray}
+use Rattle.nested_programs.proofs.Reading.{of_reading}
 use Rattle.nested_programs.proofs.Advance.{column_outer}
 use Rattle.nested_programs.proofs.Chain.{tabulate, tabulate-at, sum_over-same}
+use Rattle.definitions.proofs.Cases.{less_or_last, true_or_false}
+use Rattle.simplex.proofs.Ends.{no_ray}
 
 -- ---- the others of an outside coalition are outside
 
@@ -58,7 +59,7 @@ abbrev half : ℕ → List Level → ℕ → List (ℕ × ℤ)
 half n front s = (1, pos 1) ∷ ((outer_id n front s, pos 1) ∷ ((outer_id n front (grand_coalition n - s), pos 1) ∷ []))
 
 half_row : (n k s r : ℕ) → s < 2 ^ n → r < n + (k + 1) → (pos 0 -ℤ plus_entry n (grand_coalition n) (k + 1) r) +ℤ (plus_entry n s k r +ℤ plus_entry n (grand_coalition n - s) k r) ≡ (if nat_eq r (n + k) then pos 1 else pos 0) +ℤ (if nat_eq r (n + k) then pos 1 else pos 0)
-half_row n k s r small h = elim (test_of (nat_lt r n)) [
+half_row n k s r small h = elim (true_or_false (nat_lt r n)) [
   | inl below ↦
       let lt : r < n = grind (arith, nat_tests) in
       let u : nat_eq r (n + k) ≡ false = grind (arith, nat_tests) in
@@ -94,11 +95,8 @@ some_bound zero f = (pos 0, λ s h. absurd (omega arith))
 some_bound (suc N) f =
     let ih = some_bound N f in
     by_lt_z ih.0 (f N)
-    (λ up. (f N, λ s h. elim (last_or_less s N h) [ inl less ↦ omega (arith, linear, up, ih.1 s less) | inr same ↦ omega (arith, linear, ap f same) ]))
-    (λ low. (ih.0, λ s h. elim (last_or_less s N h) [ inl less ↦ ih.1 s less | inr same ↦ omega (arith, linear, low, ap f same) ]))
-  where
-    last_or_less : (k n : ℕ) → k < suc n → (k < n) ⊎ (k ≡ n)
-    last_or_less k n h = grind arith
+    (λ up. (f N, λ s h. elim (less_or_last s N h) [ inl less ↦ omega (arith, linear, up, ih.1 s less) | inr same ↦ omega (arith, linear, ap f same) ]))
+    (λ low. (ih.0, λ s h. elim (less_or_last s N h) [ inl less ↦ ih.1 s less | inr same ↦ omega (arith, linear, low, ap f same) ]))
 
 pub first_bounds : (family : Family) (g : Game) (outside : ℕ → Bool) (y : Allocation) → ((s : ℕ) → IsTrue (outside s) → s < 2 ^ g.players) → InFamily family g y → (m : List ℤ) × Bounds (stage_program family g [] outside) m y.den
 first_bounds family g outside y within member = (
@@ -187,10 +185,7 @@ half_distinct n front s some small =
     ((a, (b, tt)), ((c, tt), (tt, tt)))
 
 row_sum : (a b c u v w : ℤ) → a ≡ u → b ≡ v → c ≡ w → pos 1 *ℤ a +ℤ (pos 1 *ℤ b +ℤ (pos 1 *ℤ c +ℤ pos 0)) ≡ u +ℤ (v +ℤ w)
-row_sum a b c u v w h k l = omega (arith, linear, h, k, l, one a, one b, one c)
-  where
-    one : (z : ℤ) → pos 1 *ℤ z ≡ z
-    one z = *ℤ_comm (pos 1) z ∙ mul-oneℤ z
+row_sum a b c u v w h k l = omega (arith, linear, h, k, l, one-mulℤ a, one-mulℤ b, one-mulℤ c)
 
 twice : (z : ℤ) → z +ℤ z ≡ pos 2 *ℤ z
 twice z = sym (*ℤ_comm (pos 2) z ∙ mul-addℤ z (pos 1) (pos 1) ∙ omega (arith, linear, mul-oneℤ z))

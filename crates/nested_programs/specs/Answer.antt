@@ -1,27 +1,28 @@
 -- What the nested programs find for a game of at most 16 players.
 --
---   singles        the worths of the players alone, added
---   HasMember      the family of the game has a member
---   IsTooDear      the players alone are worth more than all, so there is no imputation
---   IsLowest       an excess in lowest terms, with parts of 128 bits
---   IsPoint        shares, and a certificate in mode span that they are the nucleolus or the prenucleolus
---   IsFound        what an answer says
---   IsFault        what a refusal says
+--   singles           the worths of the players alone, added
+--   HasMember         the family of the game has a member
+--   LacksImputation   the players alone are worth more than all, so there is no imputation
+--   IsShort           a level has fewer entries than there are players twice
+--   IsPoint           shares, and a short certificate in mode span that they are the nucleolus or the prenucleolus
+--   IsFound           what an answer says
+--   IsFault           what a refusal says
 use Rattle.std.specs.Prelude.{◌≡◌, ⊤, ℕ, ◌+◌, ◌*◌, ◌<◌, ℤ, ◌<ℤ◌, length}
 use Rattle.std.specs.List.{AllByRecursion}
 use Rattle.definitions.specs.Sums.{sum_below}
 use Rattle.definitions.specs.Coalitions.{singleton, grand_coalition}
 use Rattle.definitions.specs.Games.{Game, Allocation, InFamily}
-use Rattle.definitions.specs.Certificates.{Level, Certifies}
+use Rattle.definitions.specs.Certificates.{Level}
 use Rattle.definitions.specs.declared.Family.{Family}
 use Rattle.definitions.specs.declared.Family.TheVariants.{Imputations}
 use Rattle.definitions.specs.declared.Mode.TheVariants.{Span}
-use Rattle.fractions.specs.Fraction.{IsReduced, HasForm}
 use Rattle.kohlberg.specs.Certificate.{CertificateData}
+use Rattle.kohlberg.specs.Solved.{IsSolved}
 use Rattle.nested_programs.specs.declared.found.Found.{Found}
 use Rattle.nested_programs.specs.declared.found.Found.TheVariants.{Point, NoImputation}
 use Rattle.nested_programs.specs.declared.found.NestedFault.{NestedFault}
 use Rattle.nested_programs.specs.declared.found.NestedFault.TheVariants.{TooMany, Memory}
+use Rattle.definitions.specs.declared.Measure.TheVariants.{Plain}
 
 -- the worths of the players alone, added
 abbrev pub singles : Game → ℤ
@@ -32,32 +33,25 @@ abbrev pub HasMember : Family → Game → Type 0
 HasMember family g = (y : Allocation) × InFamily family g y
 
 -- the family is the imputations, and the worths of the players alone add to more than the worth of all
-pub record IsTooDear (family : Family) (g : Game) (alone total : ℤ) : Type 0 where
+pub record LacksImputation (family : Family) (g : Game) (alone total : ℤ) : Type 0 where
   pub imputations : family ≡ Imputations
   pub alone_is : alone ≡ singles g
   pub total_is : total ≡ g.worth (grand_coalition g.players)
   pub above : total <ℤ alone
 
--- the excess of the level is in lowest terms, and its parts are of 128 bits
-abbrev pub IsLowest : Level → Type 0
-IsLowest l = IsReduced (record { num = l.excess_num; den = l.excess_den }) × HasForm (record { num = l.excess_num; den = l.excess_den })
+-- a level has fewer entries over its three lists than there are players twice
+abbrev pub IsShort : ℕ → Level → Type 0
+IsShort n l = length l.coalitions + length l.earlier + length l.bounds < 2 * n
 
--- a level has fewer entries than there are players twice
-abbrev pub HasFew : ℕ → Level → Type 0
-HasFew n l = length l.coalitions + length l.earlier + length l.bounds < 2 * n
-
--- shares, and a certificate in mode span that certifies them
+-- shares, and a certificate in mode span that certifies them, in which each level is short
 pub record IsPoint (family : Family) (g : Game) (x : Allocation) (c : CertificateData) : Type 0 where
-  pub players : c.players ≡ g.players
-  pub mode : c.mode ≡ Span
-  pub certifies : Certifies Span family g x c.levels
-  pub few : AllByRecursion (HasFew g.players) c.levels
-  pub lowest : AllByRecursion IsLowest c.levels
+  pub solved : IsSolved Span family Plain g x c
+  pub short : AllByRecursion (IsShort g.players) c.levels
 
 -- what an answer says
 abbrev pub IsFound : Family → Game → Found → Type 0
 IsFound family g (Point x c) = IsPoint family g x c
-IsFound family g (NoImputation alone total) = IsTooDear family g alone total
+IsFound family g (NoImputation alone total) = LacksImputation family g alone total
 
 -- what a refusal says
 abbrev pub IsFault : Game → NestedFault → Type 0

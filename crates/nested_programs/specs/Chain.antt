@@ -1,3 +1,4 @@
+-- For the private functions of this crate.
 -- Chains of stages, each optimal behind the levels that the stages in front gave.
 use Rattle.std.specs.Prelude.{◌≡◌, ◌⊎◌, ℕ, ◌+◌, ◌<◌, Bool, IsTrue, List, [], ◌∷◌, ◌++◌, length, ℤ, pos, ◌+ℤ◌, ◌-ℤ◌, ◌*ℤ◌, ◌≤ℤ◌, Decides}
 use Rattle.std.specs.List.{AllByRecursion}
@@ -58,12 +59,6 @@ IsChain family g front (t ∷ ts) = StageHolds family g front t × IsChain famil
 abbrev pub last_of : Stage → List Stage → Stage
 last_of t [] = t
 last_of t (t' ∷ ts) = last_of t' ts
-
--- the shares are the multipliers of the players' rows
-pub record IsReadFrom (g : Game) (m : List ℤ) (den : ℤ) (x : Allocation) : Type 0 where
-  pub players : length x.shares ≡ g.players
-  pub shares : (i : ℕ) → i < g.players → share x i ≡ share_of m i
-  pub common : x.den ≡ den
 
 -- the levels' excesses are the multipliers of the level rows, from row k on, as fractions
 abbrev pub HaveExcesses : Game → List ℤ → ℤ → ℕ → List Level → Type 0

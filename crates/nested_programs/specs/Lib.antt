@@ -1,4 +1,4 @@
--- To be read in this order.
+-- To be read in this order. From Reading on they are for the private functions.
 pub mod Answer
 pub mod Reading
 pub mod Chain

@@ -1,8 +1,8 @@
+-- For the private functions of this crate.
 -- The level that weights of a stage are, from the numbers of the columns: the numerators of the weights.
 --
 --   AreNumbers      weights on distinct columns, each positive and below 2^62
 --   first_single    the number of the column of the first player alone
---   placed          pairs put in mask order
 --   outer_pairs     the coalitions outside that have a number
 --   net, kept       a number less that of the negated column, and the pair of it unless it is 0
 --   earlier_pairs   the coalitions of the levels in front and their net numbers
@@ -14,7 +14,7 @@ use Rattle.std.specs.List.{AllByRecursion, IsDistinct}
 use Rattle.std.specs.Ordering.{int_eq}
 use Rattle.definitions.specs.Certificates.{Level, number_at}
 use Rattle.fractions.specs.Fraction.{IsRatio}
-use Rattle.kohlberg.specs.Pairs.{with_pair}
+use Rattle.kohlberg.specs.Pairs.{placed}
 use Rattle.separation.specs.Stage.{earlier_of}
 
 -- weights on distinct columns, each positive and below 2^62
@@ -26,14 +26,6 @@ pub record AreNumbers (weights : List (ℕ × ℤ)) : Type 0 where
 -- the number of the column of the first player alone, behind two for all players and two for each coalition of the levels
 abbrev pub first_single : List Level → ℕ
 first_single front = 2 + 2 * length (earlier_of 0 front)
-
--- pairs put in mask order, one by one from the first
-abbrev pub placed_behind : List (ℕ × ℤ) → List (ℕ × ℤ) → List (ℕ × ℤ)
-placed_behind ps [] = ps
-placed_behind ps (q ∷ qs) = placed_behind (with_pair q.0 q.1 ps) qs
-
-abbrev pub placed : List (ℕ × ℤ) → List (ℕ × ℤ)
-placed qs = placed_behind [] qs
 
 -- the coalitions outside that have a number, where `first` is the number of the column of the empty one
 abbrev pub outer_pairs : ℕ → List (ℕ × ℤ) → List (ℕ × ℤ)

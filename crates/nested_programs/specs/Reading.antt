@@ -1,3 +1,4 @@
+-- For the private functions of this crate.
 -- What multipliers of a stage program say of shares and excesses.
 --
 --   IsReading             shares and excesses of levels, over a denominator, that meet every column

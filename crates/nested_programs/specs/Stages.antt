@@ -1,3 +1,4 @@
+-- For the private functions of this crate.
 -- The stages so far, and all of them.
 --
 --   IsLeft         some player alone isn't spanned by what the levels fix
@@ -19,10 +20,11 @@ use Rattle.definitions.specs.declared.Mode.TheVariants.{Span}
 use Rattle.simplex.specs.Answer.{IsAnswer}
 use Rattle.simplex.specs.declared.multipliers.Multipliers.{Multipliers}
 use Rattle.separation.specs.Stage.{stage_program}
-use Rattle.checker.specs.Extends.{SpansFixed}
+use Rattle.kohlberg.specs.Extends.{SpansFixed}
 use Rattle.nested_programs.specs.Reading.{excess_of}
 use Rattle.nested_programs.specs.Chain.{Stage, IsChain, levels_of, last_of}
-use Rattle.nested_programs.specs.Answer.{HasFew, IsLowest}
+use Rattle.kohlberg.specs.Solved.{IsLowest}
+use Rattle.nested_programs.specs.Answer.{IsShort}
 
 -- the vector of some player alone isn't in the span of what the levels fix
 pub record IsLeft (n : ℕ) (levels : List Level) : Type 0 where
@@ -72,7 +74,7 @@ IsBounded family g levels =
 pub record AreUnderway (family : Family) (g : Game) (levels : List Level) (kept : List ℕ) (last : Option Multipliers) : Type 0 where
   pub stages : AreStages family g levels last
   pub form : LevelsForm g.players [] levels
-  pub few : AllByRecursion (HasFew g.players) levels
+  pub short : AllByRecursion (IsShort g.players) levels
   pub lowest : AllByRecursion IsLowest levels
   pub bounded : IsBounded family g levels
   pub spans : SpansFixed g.players kept levels
@@ -83,7 +85,7 @@ pub record AreUnderway (family : Family) (g : Game) (levels : List Level) (kept 
 pub record AreDone (family : Family) (g : Game) (levels : List Level) (last : Option Multipliers) : Type 0 where
   pub stages : AreStages family g levels last
   pub form : LevelsForm g.players [] levels
-  pub few : AllByRecursion (HasFew g.players) levels
+  pub short : AllByRecursion (IsShort g.players) levels
   pub lowest : AllByRecursion IsLowest levels
   pub all : IsAllFixed Span g.players levels
   pub count : length levels < g.players

@@ -3,8 +3,9 @@ ghost use Rattle.std.specs.Prelude.{◌≡◌, ◌+◌, ◌^◌, ◌≤◌, leng
 ghost use Rattle.std.specs.List.{AllByRecursion};
 ghost use Rattle.arrayvec.specs.ArrayVec.{array_vec_len};
 ghost use Rattle.separation.specs.Stage.{earlier_of};
-ghost use Rattle.nested_programs.specs.Answer.{IsLowest};
-ghost use Rattle.nested_programs.specs.Numbers.{AreNumbers, outer_pairs, earlier_pairs, level_pairs, bound_pairs, placed_behind, placed, IsLevelOf};
+ghost use Rattle.kohlberg.specs.Solved.{IsLowest};
+ghost use Rattle.nested_programs.specs.Numbers.{AreNumbers, outer_pairs, earlier_pairs, level_pairs, bound_pairs, IsLevelOf};
+ghost use Rattle.kohlberg.specs.Pairs.{placed, placed_behind};
 
 use crate::numbers::net_of;
 use coalitions::Coalition;

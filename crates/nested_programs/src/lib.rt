@@ -19,7 +19,7 @@ ghost use Rattle.std.specs.Prelude.{◌≤◌, IfOk, MatchResult};
 ghost use Rattle.nested_programs.specs.Answer.{IsFound, IsFault};
 
 use crate::point::point_of;
-use crate::singles::too_dear;
+use crate::singles::lacks_imputation;
 pub use found::{Found, NestedFault};
 use kohlberg::Family;
 use std::alloc::Global;
@@ -39,7 +39,7 @@ pub fn solve<W: Worth>(alloc: Global, game: &W, family: Family) -> Result<Found,
     if game.players() > 16 {
         return Err(NestedFault::TooMany);
     }
-    if let Some((singles, total)) = too_dear(game, family) {
+    if let Some((singles, total)) = lacks_imputation(game, family) {
         return Ok(Found::NoImputation { singles, total });
     }
     match point_of(alloc, game, family) {

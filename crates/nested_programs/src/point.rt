@@ -3,14 +3,14 @@ ghost use Rattle.std.specs.Prelude.{◌≡◌, ◌≤◌, [], ◌∷◌, length,
 ghost use Rattle.definitions.specs.Coalitions.{grand_coalition};
 ghost use Rattle.worth_core.specs.Allocations.{allocation};
 ghost use Rattle.nested_programs.specs.Answer.{HasMember, IsPoint};
-ghost use Rattle.nested_programs.specs.Chain.{IsReadFrom};
+ghost use Rattle.separation.specs.Shares.{IsReadFrom};
 
 use crate::stages::all_stages;
 use coalitions::Coalition;
 use fractions::OutOfMemory;
 use kohlberg::{Certificate, Family, Mode};
 use simplex::Multipliers;
-use std::alloc::{AllocError, Global};
+use std::alloc::Global;
 use worth_core::{Shares, Worth};
 
 /// The shares that are the multipliers of the players' rows, over their denominator. Without multipliers it is one share, the
@@ -19,25 +19,21 @@ fn shares_of<W: Worth>(
     alloc: Global,
     game: &W,
     last: &Option<Multipliers>,
-) -> Result<Shares, AllocError>
-    requires { IfSome last.now (λ m. (W.game game.now).players ≤ length m.num.items) }
+) -> Result<Shares, OutOfMemory>
+    requires few { (W.game game.now).players ≤ 16 }
+    requires wide { IfSome last.now (λ m. (W.game game.now).players ≤ length m.num.items) }
     ensures { let g = W.game game.now in IfOk result (λ x. MatchOption last.now
         (x ≡ allocation (g.worth (grand_coalition g.players) ∷ []) (pos 1))
-        (λ m. IsReadFrom g m.num.items m.den x)) }
+        (λ m. IsReadFrom g.players m.num.items m.den x)) }
 {
     let n = game.players();
-    let mut num = Vec::new(alloc);
     match last {
         None => {
+            let mut num = Vec::new(alloc);
             num.push(i128::from(game.worth(Coalition::all(n))))?;
             Ok(Shares::new(num, 1).unwrap())
         }
-        Some(multipliers) => {
-            for i in 0..n as usize {
-                num.push(multipliers.num[i])?;
-            }
-            Ok(Shares::new(num, multipliers.den).unwrap())
-        }
+        Some(multipliers) => separation::shares_of(alloc, multipliers, n),
     }
 }
 

@@ -1,6 +1,6 @@
 //! Whether a game has an imputation.
 ghost use Rattle.std.specs.Prelude.{◌≡◌, ◌≤◌, MatchOption};
-ghost use Rattle.nested_programs.specs.Answer.{singles, HasMember, IsTooDear};
+ghost use Rattle.nested_programs.specs.Answer.{singles, HasMember, LacksImputation};
 
 use coalitions::Coalition;
 use kohlberg::Family;
@@ -19,9 +19,9 @@ fn singles<W: Worth>(game: &W) -> i64
 }
 
 /// The worths of the players alone, added, and the worth of all, where the first is more and the family is the imputations.
-pub fn too_dear<W: Worth>(game: &W, family: Family) -> Option<(i64, i64)>
+pub fn lacks_imputation<W: Worth>(game: &W, family: Family) -> Option<(i64, i64)>
     requires { (W.game game.now).players ≤ 16 }
-    ensures { MatchOption result (HasMember family (W.game game.now)) (λ found. IsTooDear family (W.game game.now) found.0 found.1) }
+    ensures { MatchOption result (HasMember family (W.game game.now)) (λ found. LacksImputation family (W.game game.now) found.0 found.1) }
 {
     let sum = singles(game);
     let total = game.worth(Coalition::all(game.players()));

@@ -1,14 +1,13 @@
 //! The stages, each behind the levels of those in front.
 ghost use Rattle.std.specs.Prelude.{◌≡◌, ◌≤◌, ◌+◌, [], length, IfOk};
 ghost use Rattle.definitions.specs.Certificates.{LevelsForm};
-ghost use Rattle.checker.specs.Extends.{SpansFixed};
+ghost use Rattle.kohlberg.specs.Extends.{SpansFixed};
 ghost use Rattle.nested_programs.specs.Stages.{AreDone, IsBest, IsLeft, IsBounded};
 ghost use Rattle.nested_programs.specs.Answer.{HasMember};
 
 use crate::level::level_of;
-use checker::{add_levels, first_unspanned};
 use fractions::OutOfMemory;
-use kohlberg::{Family, Level, Span};
+use kohlberg::{Family, Level, Span, add_levels, first_unspanned};
 use separation::Listed;
 use simplex::{Multipliers, Optimal, Workspace};
 use std::alloc::Global;

@@ -9,7 +9,7 @@ use coalitions::Coalition;
 use fractions::Frac;
 use kohlberg::{Certificate, Level, ratio};
 use std::test::Fail;
-use worth_core::Shares;
+use worth_core::{Measure, Shares};
 use worth_tables::TableGame;
 
 /// A game, and what is found for one of the families.
@@ -40,7 +40,7 @@ fn point_for(alloc: Global, family: Family, players: u32, worths: Vec<i64>) -> R
 fn is_certified(s: &Solved) -> bool
     requires { IsPoint s.now.family (⟦<TableGame as Worth>⟧.game s.now.game) s.now.shares s.now.certificate }
 {
-    check(&s.game, s.family, &s.shares, &s.certificate) == Verdict::Yes
+    check(&s.game, s.family, Measure::Plain, &s.shares, &s.certificate) == Verdict::Yes
 }
 
 /// Whether player `i` gets so much.

@@ -1,5 +1,5 @@
 -- The first column above its value is the one that enters.
-use Rattle.std.proofs.Common.{◌≡◌, ℕ, ◌+◌, ◌<◌, Bool, true, false, IsTrue, List, length, ℤ, pos, ◌*ℤ◌, ◌≤ℤ◌, ◌<ℤ◌, refl, sym, ap, ◌∙◌, subst, arith, Option, Some, None, MatchOption}
+use Rattle.std.proofs.Common.{◌≡◌, ℕ, ◌+◌, Bool, true, false, IsTrue, List, length, ℤ, pos, ◌*ℤ◌, ◌≤ℤ◌, ◌<ℤ◌, refl, subst, arith, Option, Some, None, MatchOption}
 use Rattle.std.proofs.lemmas.Bool.{false≢true}
 use Rattle.std.specs.Option.{is_some}
 use Rattle.definitions.proofs.Ring.{linear}
@@ -7,7 +7,7 @@ use Rattle.definitions.specs.Sums.{sum_below}
 use Rattle.definitions.specs.Programs.{Bounds, value_of}
 use Rattle.simplex.specs.Entering.{IsEntering}
 use Rattle.simplex.specs.Program.{price, priced}
-use Rattle.separation.specs.Kept.{column_entry, column_at, entry_at, cost_at, kept_program}
+use Rattle.separation.specs.Kept.{column_at, entry_at, cost_at, kept_program}
 use Rattle.separation.specs.Values.{multiplier_at, column_value, counted, Rises, IsFirst}
 use Rattle.separation.specs.declared.column.Column.{Column}
 

@@ -6,3 +6,5 @@ pub mod Slots
 pub mod Outside
 pub mod Staged
 pub mod Balance
+pub mod SamePrograms
+pub mod ReadShares

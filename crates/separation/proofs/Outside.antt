@@ -1,51 +1,32 @@
--- The coalitions outside, by a span.
-use Rattle.std.proofs.Common.{◌≡◌, ◌≢◌, ◌⊎◌, ℕ, zero, suc, ◌+◌, ◌-◌, ◌<◌, ◌≤◌, ◌^◌, Bool, true, false, cond, List, [], ◌∷◌, ◌++◌, length, length-append, append_assoc, get_or, refl, sym, ap, ◌∙◌, subst, inl, inr, arith, ℤ, pos, ◌+ℤ◌, Option, Some, None}
+-- The coalitions outside, by marks.
+use Rattle.std.proofs.Common.{◌≡◌, ℕ, ◌+◌, ◌-◌, ◌<◌, ◌≤◌, ◌^◌, Bool, IsTrue, List, [], ◌∷◌, ◌++◌, length-append, append_assoc, refl, sym, ap, ◌∙◌, subst, inl, inr, arith, Option, Some, None}
 use Rattle.std.proofs.lemmas.Bool.{false≢true}
 use Rattle.std.proofs.lemmas.List.{get_or-append_right, get_or_append_left, append-nil}
 use Rattle.std.specs.Bool.{Decides}
 use Rattle.std.specs.Option.{is_some}
-use Rattle.definitions.proofs.Ring.{linear}
-use Rattle.definitions.proofs.Members.{has_player-empty}
-use Rattle.definitions.specs.Coalitions.{has_player, grand_coalition, weight_at}
+use Rattle.definitions.specs.Coalitions.{grand_coalition}
 use Rattle.definitions.specs.Games.{Game}
-use Rattle.definitions.specs.Certificates.{Level, InSpan, IsFixedVector, IsOutside}
+use Rattle.definitions.specs.Certificates.{Level, InSpan, IsOutside}
 use Rattle.definitions.specs.declared.Mode.TheVariants.{Span}
 use Rattle.spans.specs.Span.{IsKept}
+use Rattle.spans.specs.Outside.{is_marked}
+use Rattle.kohlberg.specs.Marking.{IsMarking}
 use Rattle.separation.specs.Kept.{column_at}
 use Rattle.separation.specs.Same.{IsSpanOf}
-use Rattle.separation.specs.Making.{plain, IsOuter, AreOuter, EndsOuter}
+use Rattle.separation.specs.Making.{IsOuter, AreOuter, EndsOuter}
 use Rattle.separation.specs.declared.column.Column.{Column}
 use Rattle.separation.proofs.Slots.{past_at}
+use Rattle.definitions.proofs.Cases.{less_or_last_of, below_or_above}
 
-one_apart : pos 1 ≢ pos 0
-one_apart e = omega (arith, linear, e)
-
-empty_inside : (n : ℕ) (Fixed : ℕ → Type 0) → InSpan n Fixed 0
-empty_inside n Fixed = (pos 1, one_apart, [], tt, λ i lt. ap (λ (b : Bool). cond b (pos 1) (pos 0)) (sym (has_player-empty i)))
-
-fixed_inside : (n : ℕ) (Fixed : ℕ → Type 0) (s : ℕ) → Fixed s → InSpan n Fixed s
-fixed_inside n Fixed s h = (pos 1, one_apart, (s, pos 1) ∷ [], (h, tt), λ i lt. single (has_player s i))
+-- of the proper coalitions, those that a span doesn't hold
+pub IsMarking-of : (n : ℕ) (kept : List ℕ) (levels : List Level) (olds marks : List ℕ) → IsSpanOf n kept levels → ((s : ℕ) → Decides (is_marked olds s) ((0 < s) × (s < grand_coalition n))) → ((s : ℕ) → Decides (is_marked marks s) (IsTrue (is_marked olds s) × ¬ InSpan n (IsKept kept) s)) → IsMarking n levels marks
+IsMarking-of n kept levels olds marks h proper tests s = (
+  λ e. let a = (tests s).0 e in let b = (proper s).0 a.0 in (b.0, b.1, λ q. a.1 (h.outside s (within s b.1) q)),
+  λ o. (tests s).1 ((proper s).1 (o.0, o.1), λ q. o.2 (h.inside s (within s o.1) q)),
+)
   where
-    single : (b : Bool) → cond b (pos 1) (pos 0) +ℤ pos 0 ≡ cond b (pos 1) (pos 0)
-    single true = refl
-    single false = refl
-
-pub held_inside : (n : ℕ) (kept : List ℕ) (levels : List Level) (s : ℕ) → s < 2 ^ n → IsSpanOf n kept levels → InSpan n (IsKept kept) s → ¬ IsOutside Span n levels s
-held_inside n kept levels s lt h held out = out.2 (h.inside s lt held)
-
-pub unheld_outside : (n : ℕ) (kept : List ℕ) (levels : List Level) (s : ℕ) → s < 2 ^ n → IsSpanOf n kept levels → ¬ InSpan n (IsKept kept) s → IsOutside Span n levels s
-unheld_outside n kept levels s lt h not = (some s not, less (or_all n s lt), λ inside. not (h.outside s lt inside))
-  where
-    some : (s : ℕ) → ¬ InSpan n (IsKept kept) s → 0 < s
-    some zero not = absurd (not (empty_inside n (IsKept kept)))
-    some (suc s) not = omega arith
-
-    or_all : (n s : ℕ) → s < 2 ^ n → (s < grand_coalition n) ⊎ (s ≡ grand_coalition n)
-    or_all n s lt = grind arith
-
-    less : (s < grand_coalition n) ⊎ (s ≡ grand_coalition n) → s < grand_coalition n
-    less (inl lt) = lt
-    less (inr e) = absurd (not (h.outside s lt (fixed_inside n (IsFixedVector n levels) s (inl e))))
+    within : (t : ℕ) → t < grand_coalition n → t < 2 ^ n
+    within t lt = omega (arith, lt)
 
 -- ---- one more coalition
 
@@ -61,7 +42,7 @@ EndsOuter-push g front n columns ys zs o h outer e = record {
   outers = h.outers ++ o ∷ [];
   are = record {
     count = length-append h.outers (o ∷ []) ∙ (let long = h.are.count in omega (arith, long));
-    outer = λ s lt. elim (last_or s n lt) [
+    outer = λ s lt. elim (less_or_last_of s n lt) [
       | inl less ↦
           let long = h.are.count in
           subst (IsOuter g front s) (sym (get_or_append_left h.outers (o ∷ []) None s (omega (arith, long, less)))) (h.are.outer s less)
@@ -73,9 +54,6 @@ EndsOuter-push g front n columns ys zs o h outer e = record {
   };
   longer_is = e ∙ ap (λ (t : List (Option Column)). t ++ o ∷ []) h.longer_is ∙ append_assoc columns h.outers (o ∷ []);
 }
-  where
-    last_or : (i n : ℕ) → i < n + 1 → (i < n) ⊎ (i ≡ n)
-    last_or i n h = grind arith
 
 -- the test that passes at the coalitions that have a column
 abbrev pub has_column : List (Option Column) → ℕ → Bool
@@ -86,7 +64,7 @@ decides_at g front s None h = (λ e. absurd (false≢true e), λ out. absurd (h 
 decides_at g front s (Some c) h = (λ e. h.0, λ out. refl)
 
 pub decides : (g : Game) (front : List Level) (outers : List (Option Column)) → AreOuter g front (2 ^ g.players) outers → (s : ℕ) → Decides (has_column outers s) (IsOutside Span g.players front s)
-decides g front outers h s = elim (within_or s (2 ^ g.players)) [
+decides g front outers h s = elim (below_or_above s (2 ^ g.players)) [
   | inl lt ↦ decides_at g front s (column_at outers s) (h.outer s lt)
   | inr le ↦
       let long = h.count in
@@ -94,8 +72,5 @@ decides g front outers h s = elim (within_or s (2 ^ g.players)) [
       (λ e. absurd (false≢true e), λ out. absurd (past le out.1))
 ]
   where
-    within_or : (s m : ℕ) → (s < m) ⊎ (m ≤ s)
-    within_or s m = grind arith
-
     past : 2 ^ g.players ≤ s → s < grand_coalition g.players → ⊥
     past le lt = omega (arith, le, lt)

@@ -1,18 +1,11 @@
 -- Lists of columns that loops make, push by push.
-use Rattle.std.proofs.Common.{◌≡◌, ℕ, zero, suc, ◌+◌, ◌<◌, ◌^◌, List, [], ◌∷◌, ◌++◌, length, map, take, get_or, refl, sym, ap, ◌∙◌, arith, add-one, append_assoc, ℤ, Option, Some}
+use Rattle.std.proofs.Common.{◌≡◌, ℕ, ◌+◌, ◌<◌, List, [], ◌∷◌, ◌++◌, length, map, take, get_or, refl, sym, ap, ◌∙◌, arith, append_assoc, ℤ, Option, Some}
 use Rattle.std.proofs.lemmas.List.{take_more, length-take-le, append-nil}
-use Rattle.std.specs.List.{AllByRecursion}
 use Rattle.definitions.specs.Games.{Game}
 use Rattle.definitions.specs.Certificates.{Level}
 use Rattle.separation.specs.Stage.{earlier_of}
-use Rattle.separation.specs.Making.{listed, plain, minus, earlier_columns}
+use Rattle.separation.specs.Making.{plain, minus, earlier_columns}
 use Rattle.separation.specs.declared.column.Column.{Column}
-
-listed-more : (n : ℕ) (f : ℕ → Option Column) → listed (n + 1) f ≡ listed n f ++ f n ∷ []
-listed-more n f = rw add-one refl
-
-pub listed-push : (xs ys zs : List (Option Column)) (n : ℕ) (f : ℕ → Option Column) (c : Option Column) → ys ≡ xs ++ listed n f → c ≡ f n → zs ≡ ys ++ c ∷ [] → zs ≡ xs ++ listed (n + 1) f
-listed-push xs ys zs n f c h e k = k ∙ rw (h, e) (append_assoc xs (listed n f) (f n ∷ []) ∙ ap (λ (t : List (Option Column)). xs ++ t) (sym (listed-more n f)))
 
 earlier_columns-append : (g : Game) (cs ds : List (ℕ × ℕ)) → earlier_columns g (cs ++ ds) ≡ earlier_columns g cs ++ earlier_columns g ds
 earlier_columns-append g [] ds = refl
@@ -59,8 +52,3 @@ levels-push g k levels l xs ys zs lt is h e =
     e ∙ ap (λ (t : List (Option Column)). t ++ earlier_columns g ds) h
     ∙ append_assoc xs (earlier_columns g (earlier_of 0 (take k levels))) (earlier_columns g ds)
     ∙ ap (λ (t : List (Option Column)). xs ++ t) (sym (earlier_columns-append g (earlier_of 0 (take k levels)) ds) ∙ ap (earlier_columns g) (sym (ap (earlier_of 0) more ∙ earlier_of-append 0 k (take k levels) l long)))
-
-pub each_at : {X : Type 0} (P : X → Type 0) (xs : List X) → AllByRecursion P xs → (k : ℕ) (x : X) → k < length xs → x ≡ get_or xs k x → P x
-each_at P [] h k x lt is = absurd (omega arith)
-each_at P (y ∷ xs) h zero x lt is = rw is h.0
-each_at P (y ∷ xs) h (suc k) x lt is = each_at P xs h.1 k x (omega arith) is

@@ -1,5 +1,5 @@
 -- What stands under a number of a list of columns, against a program.
-use Rattle.std.proofs.Common.{◌≡◌, ◌⊎◌, ℕ, zero, suc, ◌+◌, ◌-◌, ◌<◌, ◌≤◌, ◌^◌, Bool, true, false, cond, IsTrue, List, [], ◌∷◌, ◌++◌, length, length-append, get_or, refl, sym, ap, ◌∙◌, subst, inl, inr, arith, nat_eq, nat_lt, if◌then◌else◌, ℤ, pos, Option, Some, None, unsigned_abs}
+use Rattle.std.proofs.Common.{◌≡◌, ℕ, zero, suc, ◌+◌, ◌-◌, ◌<◌, ◌≤◌, ◌^◌, Bool, true, false, cond, IsTrue, List, [], ◌∷◌, length, length-append, refl, sym, ap, ◌∙◌, subst, inl, inr, arith, nat_eq, nat_lt, if◌then◌else◌, pos, Option, Some, None, unsigned_abs}
 use Rattle.std.proofs.lemmas.Bool.{false≢true}
 use Rattle.std.proofs.lemmas.Bool.Decides.{nat_tests}
 use Rattle.std.proofs.lemmas.List.{get_or-append_right, get_or_append_left}
@@ -7,11 +7,12 @@ use Rattle.std.proofs.Math.ListN.{get_or-eq_default}
 use Rattle.std.specs.Option.{ForSome, is_some}
 use Rattle.definitions.specs.Coalitions.{has_player}
 use Rattle.definitions.specs.Programs.{Program}
-use Rattle.separation.specs.Stage.{signed, plus_entry}
-use Rattle.separation.specs.Kept.{is_level, has_entry, column_entry, column_at, entry_at, cost_at, right_at, kept_program, AreSmall}
+use Rattle.separation.specs.Stage.{plus_entry}
+use Rattle.separation.specs.Kept.{has_entry, column_entry, column_at, entry_at, cost_at, right_at, kept_program, AreSmall}
 use Rattle.separation.specs.Same.{IsSame}
 use Rattle.separation.specs.Making.{listed}
 use Rattle.separation.specs.declared.column.Column.{Column}
+use Rattle.definitions.proofs.Cases.{less_or_last}
 
 -- a column is that of the program under the number, and small
 pub record Fits (n levels : ℕ) (q : Program) (id : ℕ) (c : Column) : Type 0 where
@@ -67,7 +68,7 @@ length-listed (suc n) f = length-append (listed n f) (f n ∷ []) ∙ (let h = l
 
 pub listed_at : (n i : ℕ) (f : ℕ → Option Column) → i < n → column_at (listed n f) i ≡ f i
 listed_at zero i f lt = absurd (omega arith)
-listed_at (suc n) i f lt = elim (last_or i n lt) [
+listed_at (suc n) i f lt = elim (less_or_last i n lt) [
   | inl less ↦
       let long = length-listed n f in
       get_or_append_left (listed n f) (f n ∷ []) None i (omega (arith, long)) ∙ listed_at n i f less
@@ -75,9 +76,6 @@ listed_at (suc n) i f lt = elim (last_or i n lt) [
       let e : i - n ≡ 0 = omega (arith, same) in
       get_or-append_right (listed n f) (f n ∷ []) n i None (length-listed n f) (omega (arith, same)) ∙ ap (column_at (f n ∷ [])) e ∙ ap f (sym same)
 ]
-  where
-    last_or : (i n : ℕ) → i < suc n → (i < n) ⊎ (i ≡ n)
-    last_or i n h = grind arith
 
 pub past_at : (columns : List (Option Column)) (i : ℕ) → length columns ≤ i → column_at columns i ≡ None
 past_at columns i le = get_or-eq_default columns None le

@@ -1,37 +1,32 @@
 -- The columns of a stage, each under its number, are its program.
-use Rattle.std.proofs.Common.{◌≡◌, ◌⊎◌, ℕ, zero, suc, ◌+◌, ◌-◌, ◌<◌, ◌≤◌, ◌^◌, Bool, true, false, cond, ◌&&◌, IsTrue, List, [], ◌∷◌, ◌++◌, length, length-append, map, get_or, refl, sym, ap, ◌∙◌, subst, inl, inr, arith, nat_eq, nat_lt, if◌then◌else◌, ℤ, pos, ◌-ℤ◌, Option, Some, None, unsigned_abs}
+use Rattle.std.proofs.Common.{◌≡◌, ◌⊎◌, ℕ, zero, suc, ◌+◌, ◌-◌, ◌<◌, ◌≤◌, ◌^◌, Bool, true, false, ◌&&◌, List, [], ◌∷◌, ◌++◌, length, length-append, map, get_or, refl, sym, ap, ◌∙◌, subst, inl, inr, arith, nat_eq, nat_lt, ℤ, pos, ◌-ℤ◌, Option, Some, None, unsigned_abs}
 use Rattle.std.proofs.lemmas.Bool.Decides.{nat_tests}
 use Rattle.std.proofs.lemmas.Int.{ints}
 use Rattle.std.proofs.lemmas.List.{get_or-append_right, get_or_append_left}
-use Rattle.std.proofs.Math.Pow.{pow-lt, pow-sub-lt}
+use Rattle.std.proofs.Math.Pow.{pow-lt}
 use Rattle.std.specs.List.{AllByRecursion}
 use Rattle.std.specs.Option.{ForSome, is_some}
 use Rattle.definitions.specs.Coalitions.{singleton, grand_coalition}
 use Rattle.definitions.specs.Games.{Game, IsGame}
-use Rattle.definitions.specs.Certificates.{Level, LevelForm, LevelsForm, has_bound}
+use Rattle.definitions.specs.Certificates.{Level, LevelsForm, has_bound}
 use Rattle.definitions.specs.Programs.{Program}
 use Rattle.definitions.specs.declared.Family.{Family}
-use Rattle.separation.specs.Stage.{Column as StageColumn, signed, entry_of, earlier_of, doubled, settled_columns, further_column, no_column, column, is_imputations, is_further, stage_program}
+use Rattle.separation.specs.Stage.{Column as StageColumn, signed, entry_of, earlier_of, doubled, settled_columns, further_column, no_column, is_imputations, is_further, stage_program}
 use Rattle.separation.specs.Kept.{column_entry, column_at, right_at, kept_program, AreSmall}
-use Rattle.separation.specs.Same.{IsSame, IsStage}
-use Rattle.separation.specs.Making.{listed, plain, minus, earlier_columns, whole_columns, single, bound, IsOuter, AreOuter, EndsOuter, inner_columns, AreWithin}
+use Rattle.separation.specs.Same.{IsStage}
+use Rattle.separation.specs.Making.{listed, plain, minus, earlier_columns, whole_columns, single, bound, IsOuter, AreOuter, inner_columns, AreWithin}
 use Rattle.separation.specs.declared.column.Column.{Column}
 use Rattle.separation.proofs.Slots.{SameAt, same_program, small_columns, length-listed, listed_at, past_at, level_entry, no_level_entry, no_level}
 use Rattle.separation.proofs.Outside.{has_column, decides}
+use Rattle.definitions.proofs.Alls.{all_join, all_weaken}
+use Rattle.definitions.proofs.Masks.{proper-within, grand_coalition-within}
+use Rattle.definitions.proofs.Cases.{below_or_above}
 
 -- ---- the levels' coalitions
 
 all_pairs : {X Y : Type 0} (P : Y → Type 0) (f : X → Y) (Q : X → Type 0) (xs : List X) → ((x : X) → Q x → P (f x)) → AllByRecursion Q xs → AllByRecursion P (map f xs)
 all_pairs P f Q [] step h = tt
 all_pairs P f Q (x ∷ xs) step h = (step x h.0, all_pairs P f Q xs step h.1)
-
-all_join : {X : Type 0} (P : X → Type 0) (xs ys : List X) → AllByRecursion P xs → AllByRecursion P ys → AllByRecursion P (xs ++ ys)
-all_join P [] ys h k = k
-all_join P (x ∷ xs) ys h k = (h.0, all_join P xs ys h.1 k)
-
-all_weaken : {X : Type 0} (P Q : X → Type 0) (xs : List X) → ((x : X) → P x → Q x) → AllByRecursion P xs → AllByRecursion Q xs
-all_weaken P Q [] f h = tt
-all_weaken P Q (x ∷ xs) f h = (f x h.0, all_weaken P Q xs f h.1)
 
 -- a coalition of n players, in one of the first j levels
 abbrev IsEarlier : ℕ → ℕ → ℕ × ℕ → Type 0
@@ -47,15 +42,9 @@ earlier_all n k (l ∷ levels) h =
     more : (k c j : ℕ) → c < (k + 1) + j → c < k + suc j
     more k c j h = omega arith
 
-proper_within : (n : ℕ) (ps : List (ℕ × ℤ)) → AllByRecursion (λ c. (0 < c.0) × (c.0 < grand_coalition n)) ps → AllByRecursion (λ c. c.0 < 2 ^ n) ps
-proper_within n ps h = all_weaken (λ c. (0 < c.0) × (c.0 < grand_coalition n)) (λ c. c.0 < 2 ^ n) ps (λ c e. below (2 ^ n) c.0 e.1) h
-  where
-    below : (m s : ℕ) → s < m - 1 → s < m
-    below m s h = omega arith
-
 pub levels_within : (n : ℕ) (front levels : List Level) → LevelsForm n front levels → AllByRecursion (AreWithin n) levels
 levels_within n front [] h = tt
-levels_within n front (l ∷ levels) h = (record { coalitions = proper_within n l.coalitions h.0.proper }, levels_within n (front ++ l ∷ []) levels h.1)
+levels_within n front (l ∷ levels) h = (record { coalitions = proper-within n l.coalitions h.0.proper }, levels_within n (front ++ l ∷ []) levels h.1)
 
 -- ---- columns, and those of the program
 
@@ -125,9 +114,6 @@ length-earlier : (g : Game) (cs : List (ℕ × ℕ)) → length (earlier_columns
 length-earlier g [] = refl
 length-earlier g (c ∷ cs) = ap (λ (t : ℕ). suc (suc t)) (length-earlier g cs)
 
-grand_within : (n : ℕ) → grand_coalition n < 2 ^ n
-grand_within n = let one : 0 < 1 = omega arith in pow-sub-lt n one
-
 module _ (family : Family) (g : Game) (front : List Level) (game : IsGame g) (within : AllByRecursion (AreWithin g.players) front) (outers : List (Option Column)) (are : AreOuter g front (2 ^ g.players) outers) where
   abbrev n : ℕ
   n = g.players
@@ -148,8 +134,8 @@ module _ (family : Family) (g : Game) (front : List Level) (game : IsGame g) (wi
   length-settled = ap (λ (t : ℕ). suc (suc t)) (length-earlier g (earlier_of 0 front))
 
   settled_found : (id : ℕ) → id < b → Found g k (column_at settled id) (get_or (settled_columns g.players front) id no_column)
-  settled_found zero lt = plain_none g k (grand_coalition g.players) game (grand_within g.players)
-  settled_found (suc zero) lt = minus_none g k (grand_coalition g.players) game (grand_within g.players)
+  settled_found zero lt = plain_none g k (grand_coalition g.players) game (grand_coalition-within g.players)
+  settled_found (suc zero) lt = minus_none g k (grand_coalition g.players) game (grand_coalition-within g.players)
   settled_found (suc (suc j)) lt =
       let e : 0 + length front ≡ length front = omega arith in
       earlier_found g k (earlier_of 0 front) j game (subst (λ (t : ℕ). AllByRecursion (IsEarlier g.players t) (earlier_of 0 front)) e (earlier_all g.players 0 front within)) (omega arith)
@@ -209,13 +195,10 @@ module _ (family : Family) (g : Game) (front : List Level) (game : IsGame g) (wi
       is_there (Some x) = Unit {0}
 
   outer_or : (s : ℕ) → (IsOuter g front s (column_at outers s) × (s < 2 ^ n)) ⊎ (column_at outers s ≡ None)
-  outer_or s = elim (within_or s (2 ^ n)) [
+  outer_or s = elim (below_or_above s (2 ^ n)) [
     | inl lt ↦ inl (are.outer s lt, lt)
     | inr le ↦ let long = are.count in inr (past_at outers s (omega (arith, long, le)))
   ]
-    where
-      within_or : (s m : ℕ) → (s < m) ⊎ (m ≤ s)
-      within_or s m = grind arith
 
   abbrev singles : List (Option Column)
   singles = listed g.players (single family g)
@@ -264,19 +247,16 @@ module _ (family : Family) (g : Game) (front : List Level) (game : IsGame g) (wi
   ]
     where
       four : (id b n : ℕ) → (id < b) ⊎ (((b ≤ id) × (id < b + n)) ⊎ (((b + n ≤ id) × (id < b + n + n)) ⊎ (b + n + n ≤ id)))
-      four id b n = elim (less_or id b) [
+      four id b n = elim (below_or_above id b) [
         | inl lt ↦ inl lt
-        | inr le ↦ elim (less_or id (b + n)) [
+        | inr le ↦ elim (below_or_above id (b + n)) [
           | inl lt ↦ inr (inl (le, lt))
-          | inr le' ↦ elim (less_or id (b + n + n)) [
+          | inr le' ↦ elim (below_or_above id (b + n + n)) [
             | inl lt ↦ inr (inr (inl (le', lt)))
             | inr le'' ↦ inr (inr (inr le''))
           ]
         ]
       ]
-        where
-          less_or : (i m : ℕ) → (i < m) ⊎ (m ≤ i)
-          less_or i m = grind arith
 
   right_same : (r : ℕ) → right_at n (k + 1) r ≡ q.right r
   right_same r = by_row (nat_eq r (g.players + length front)) refl

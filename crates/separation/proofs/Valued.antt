@@ -1,23 +1,18 @@
 -- The value of a column from two tables of sums and one multiplier.
-use Rattle.std.proofs.Common.{◌≡◌, ◌⊎◌, ℕ, zero, suc, ◌+◌, ◌-◌, ◌*◌, ◌/◌, ◌%◌, ◌^◌, ◌<◌, ◌≤◌, Bool, true, false, cond, List, length, ℤ, pos, ◌+ℤ◌, ◌-ℤ◌, ◌*ℤ◌, refl, sym, ap, ◌∙◌, inl, inr, arith, nat_eq, nat_lt, if◌then◌else◌, slice_index_or, Option, Some, None, unsigned_abs}
+use Rattle.std.proofs.Common.{◌≡◌, ℕ, zero, suc, ◌+◌, ◌-◌, ◌*◌, ◌/◌, ◌%◌, ◌^◌, ◌<◌, ◌≤◌, Bool, true, false, cond, List, length, ℤ, pos, ◌+ℤ◌, ◌*ℤ◌, refl, sym, ap, ◌∙◌, inl, inr, arith, nat_eq, nat_lt, if◌then◌else◌, slice_index_or, Option, Some, None}
 use Rattle.std.proofs.lemmas.Bool.Decides.{nat_tests}
 use Rattle.std.proofs.lemmas.Nat.Bits.{bit_at_cat_low, bit_at_cat_high}
 use Rattle.std.specs.Int.{bit_at}
 use Rattle.std.specs.Option.{ForSome}
-use Rattle.definitions.proofs.Ring.{linear, mul-zeroℤ, mul-oneℤ, mul-subℤ}
-use Rattle.definitions.proofs.Members.{sum_below-same, sum_below-zero}
+use Rattle.definitions.proofs.Ring.{linear, mul-zeroℤ, mul-subℤ}
+use Rattle.definitions.proofs.Members.{sum_below-same, sum_below-zero, sum_below-split, times_bit}
 use Rattle.definitions.specs.Sums.{sum_below}
 use Rattle.definitions.specs.Coalitions.{has_player, sum_over}
 use Rattle.separation.specs.Stage.{signed}
-use Rattle.separation.specs.Kept.{is_level, has_entry, column_entry}
-use Rattle.separation.specs.Values.{multiplier_at, player_multiplier, member_multiplier, eight, IsTable, AreSums, level_multiplier, column_value}
+use Rattle.separation.specs.Kept.{is_level, has_entry}
+use Rattle.separation.specs.Values.{multiplier_at, player_multiplier, member_multiplier, eight, AreSums, level_multiplier, column_value}
 use Rattle.separation.specs.declared.column.Column.{Column}
-
-pub sum_below-split : (n j : ℕ) (f : ℕ → ℤ) → sum_below (n + j) f ≡ sum_below n f +ℤ sum_below j (λ k. f (n + k))
-sum_below-split n zero f = let e : n + 0 ≡ n = omega arith in rw e (omega (arith, linear))
-sum_below-split n (suc j) f =
-    let e : n + suc j ≡ suc (n + j) = omega arith in
-    rw e (omega (arith, linear, sum_below-split n j f))
+use Rattle.definitions.proofs.Cases.{less_or_last}
 
 -- ---- the tables
 
@@ -86,11 +81,7 @@ sums_at num n s low high h =
 
 -- ---- the rows
 
-times_bit : (b : Bool) (z : ℤ) → z *ℤ cond b (pos 1) (pos 0) ≡ cond b z (pos 0)
-times_bit true z = mul-oneℤ z
-times_bit false z = mul-zeroℤ z
-
-signed_sum : (n : ℕ) (y f : ℕ → ℤ) (b : Bool) → sum_below n (λ r. y r *ℤ signed b (f r)) ≡ signed b (sum_below n (λ r. y r *ℤ f r))
+pub signed_sum : (n : ℕ) (y f : ℕ → ℤ) (b : Bool) → sum_below n (λ r. y r *ℤ signed b (f r)) ≡ signed b (sum_below n (λ r. y r *ℤ f r))
 signed_sum n y f false = refl
 signed_sum zero y f true = refl
 signed_sum (suc n) y f true =
@@ -98,7 +89,7 @@ signed_sum (suc n) y f true =
 
 picked : (j l : ℕ) (y : ℕ → ℤ) → l < j → sum_below j (λ k. if nat_eq l k then y k else pos 0) ≡ y l
 picked zero l y h = absurd (omega arith)
-picked (suc j) l y h = elim (last_or l j h) [
+picked (suc j) l y h = elim (less_or_last l j h) [
   | inl less ↦
       let v : nat_eq l j ≡ false = grind (arith, nat_tests) in
       rw v (omega (arith, linear, picked j l y less))
@@ -108,9 +99,6 @@ picked (suc j) l y h = elim (last_or l j h) [
       rw v (omega (arith, linear, none, ap y same))
 ]
   where
-    last_or : (l j : ℕ) → l < suc j → (l < j) ⊎ (l ≡ j)
-    last_or l j h = grind arith
-
     other : (l j k : ℕ) (y : ℕ → ℤ) → l ≡ j → k < j → cond (nat_eq l k) (y k) (pos 0) ≡ pos 0
     other l j k y same lt = let v : nat_eq l k ≡ false = grind (arith, nat_tests) in rw v refl
 

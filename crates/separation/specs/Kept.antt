@@ -4,7 +4,7 @@
 --   kept_program     the program of the columns in a list, each under its place
 --   AreSmall         costs below 2^46, and level rows that are there
 --   kept_lawful      such a program keeps the laws
-use Rattle.std.specs.Prelude.{◌≡◌, ◌⊎◌, ℕ, ◌+◌, ◌-◌, ◌^◌, ◌<◌, ◌≤◌, Bool, true, false, IsTrue, nat_eq, nat_lt, List, ℤ, pos, ◌-ℤ◌, if◌then◌else◌, slice_index_or, Option, Some, None, unsigned_abs}
+use Rattle.std.specs.Prelude.{ℕ, ◌+◌, ◌-◌, ◌^◌, ◌<◌, Bool, false, nat_eq, nat_lt, List, ℤ, pos, if◌then◌else◌, slice_index_or, Option, Some, None, unsigned_abs}
 use Rattle.std.specs.Option.{ForSome, is_some}
 use Rattle.definitions.specs.Coalitions.{has_player}
 use Rattle.definitions.specs.Programs.{Program}

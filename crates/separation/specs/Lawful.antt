@@ -1,8 +1,12 @@
--- A program of kept columns lies within the laws of the simplex.
-use Rattle.std.specs.Prelude.{◌≡◌, ◌⊎◌, ℕ, ◌+◌, ◌-◌, ◌≤◌, ◌<◌, Bool, true, false, IsTrue, nat_eq, nat_lt, cond, List, ℤ, pos, negsuc, ◌-ℤ◌, Option, Some, None, refl, ◌^◌, unsigned_abs}
-use Rattle.std.proofs.Common.{inl, inr, arith}
+-- A program of kept columns lies within the laws of the simplex: the proof that the ghost item of `Listed` gives. It stands here,
+-- without tactics, since such an item may cite only the definitions of its own crate.
+use Rattle.std.specs.Prelude.{◌≡◌, ◌⊎◌, ℕ, ◌+◌, ◌-◌, ◌≤◌, ◌<◌, Bool, true, false, IsTrue, nat_eq, cond, List, ℤ, pos, negsuc, Option, Some, None, refl, ◌^◌, unsigned_abs}
+use Rattle.std.proofs.Common.{inl, inr, sym, ap, subst, ◌∙◌}
 use Rattle.std.proofs.lemmas.Bool.{false≢true}
-use Rattle.std.proofs.lemmas.Bool.Decides.{nat_tests}
+use Rattle.std.proofs.Math.Nat.{le_refl, le_trans, le_of_lt, le-add_right, add-le-add, sub-lt_left_of_lt-add}
+use lib.Dec.{lit<}
+use Rattle.definitions.proofs.Cases.{same_or_other, nat_eq-other, nat_eq-less, nat_eq-some, nat_lt-past, next_below, gap_below}
+use Rattle.definitions.specs.Coalitions.{has_player}
 use Rattle.std.specs.Option.{ForSome, is_some}
 use Rattle.simplex.specs.Laws.{IsSparse, IsLawful}
 use Rattle.separation.specs.Stage.{signed}
@@ -29,23 +33,27 @@ nothing false = refl
 
 in_level : (l : Option ℕ) (i j : ℕ) → i < j → (is_level l i ≡ false) ⊎ (is_level l j ≡ false)
 in_level None i j h = inl refl
-in_level (Some l) i j h = grind (arith, nat_tests)
+in_level (Some l) i j h = elim (same_or_other l i) [
+  | inl e ↦ inr (nat_eq-less l j (subst (λ (t : ℕ). t < j) (sym e) h))
+  | inr ne ↦ inl (nat_eq-other l i ne)
+]
 
 column_sparse : (n rows : ℕ) (c : Column) → IsSparse n rows (column_entry n c)
 column_sparse n rows c = record {
   sign = sign_of c.negated;
   is_sign = sign_is c.negated;
   entry = λ i lt. either c.negated (has_entry n c.coalition c.level i);
-  one = λ i j le ij lt. elim (in_level c.level (i - n) (j - n) (omega arith)) [
+  one = λ i j le ij lt. elim (in_level c.level (i - n) (j - n) (gap_below n i j le ij)) [
     | inl e ↦ inl (gone i le e)
-    | inr e ↦ inr (gone j (omega arith) e)
+    | inr e ↦ inr (gone j (le_trans le (le_of_lt ij)) e)
   ];
 }
   where
     gone : (i : ℕ) → n ≤ i → is_level c.level (i - n) ≡ false → column_entry n c i ≡ pos 0
     gone i le e =
-        let t : nat_lt i n ≡ false = grind (arith, nat_tests) in
-        rw t (rw e (nothing c.negated))
+        ap (λ (b : Bool). signed c.negated (cond (cond b (has_player c.coalition i) (is_level c.level (i - n))) (pos 1) (pos 0))) (nat_lt-past i n le)
+        ∙ ap (λ (b : Bool). signed c.negated (cond b (pos 1) (pos 0))) e
+        ∙ nothing c.negated
 
 kept_sparse : (n rows : ℕ) (o : Option Column) → IsTrue (is_some o) → IsSparse n rows (entry_at n o)
 kept_sparse n rows None h = absurd (false≢true h)
@@ -64,23 +72,21 @@ right_sparse n levels = record {
   sign = pos 1;
   is_sign = inl refl;
   entry = λ i lt. right_either n levels i;
-  one = λ i j le ij lt.
-      let t : nat_eq levels 0 ≡ false = grind (arith, nat_tests) in
-      let u : nat_eq (i + 1) (n + levels) ≡ false = grind (arith, nat_tests) in
-      inl (rw t (rw u refl));
+  one = λ i j le ij lt. inl (ap (λ (b : Bool). cond b (pos 1) (cond (nat_eq (i + 1) (n + levels)) (pos 1) (pos 0))) (nat_eq-some (j - n) levels (sub-lt_left_of_lt-add (le_trans le (le_of_lt ij)) lt))
+      ∙ ap (λ (b : Bool). cond b (pos 1) (pos 0)) (nat_eq-less (i + 1) (n + levels) (next_below i j (n + levels) ij lt)));
 }
 
 cost_small : (o : Option Column) → ForSome o (λ c. unsigned_abs c.cost < 2 ^ 46) → unsigned_abs (cost_at o) < 2 ^ 46
-cost_small None h = omega arith
+cost_small None h = lit< tt
 cost_small (Some c) h = h c refl
 
 pub kept_lawful : (players levels : ℕ) (columns : List (Option Column)) → players ≤ 16 → levels ≤ 15 → AreSmall levels columns → IsLawful players (kept_program players levels columns)
 kept_lawful players levels columns few few_levels small = record {
   players_few = few;
-  players_within = omega arith;
-  rows_few = omega arith;
+  players_within = le-add_right players levels;
+  rows_few = add-le-add few few_levels;
   band = inl (record {
-    levels = omega arith;
+    levels = add-le-add (le_refl players) few_levels;
     columns = λ id is. kept_sparse players (players + levels) (column_at columns id) is;
     right = right_sparse players levels;
   });

@@ -1,4 +1,4 @@
--- To be read in this order.
+-- To be read in this order. The last two are for the private functions.
 pub mod Stage
 pub mod Balanced
 pub mod Same
@@ -6,3 +6,4 @@ pub mod Kept
 pub mod Lawful
 pub mod Values
 pub mod Making
+pub mod Shares

@@ -1,3 +1,4 @@
+-- For the private functions of this crate.
 -- The lists of columns that the programs are made of.
 --
 --   listed            the first n columns of a sequence
@@ -6,7 +7,7 @@
 --   AreOuter          the columns of the coalitions outside
 --   inner_columns     the columns in front of these
 --   balanced_column   a column of the balanced program
-use Rattle.std.specs.Prelude.{◌≡◌, ℕ, zero, suc, ◌+◌, ◌<◌, Bool, true, false, ◌&&◌, nat_lt, ◌^◌, List, [], ◌∷◌, ◌++◌, length, ℤ, pos, ◌-ℤ◌, if◌then◌else◌, Option, Some, None}
+use Rattle.std.specs.Prelude.{◌≡◌, ℕ, zero, suc, ◌<◌, true, false, ◌&&◌, nat_lt, ◌^◌, List, [], ◌∷◌, ◌++◌, length, pos, ◌-ℤ◌, if◌then◌else◌, Option, Some, None}
 use Rattle.std.specs.List.{AllByRecursion}
 use Rattle.definitions.specs.Coalitions.{singleton, grand_coalition}
 use Rattle.definitions.specs.Games.{Game}

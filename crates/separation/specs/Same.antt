@@ -3,7 +3,7 @@
 --   IsSame              the same rows, right sides and columns, with the same entries and costs
 --   IsSpanOf            coalitions span exactly what levels fix
 --   IsStage             the stage program behind levels, whose coalitions outside are those of span mode
-use Rattle.std.specs.Prelude.{◌≡◌, ◌↔◌, ℕ, ◌<◌, ◌^◌, Bool, IsTrue, List}
+use Rattle.std.specs.Prelude.{◌≡◌, ℕ, ◌<◌, ◌^◌, Bool, IsTrue, List}
 use Rattle.std.specs.Bool.{Decides}
 use Rattle.definitions.specs.Games.{Game}
 use Rattle.definitions.specs.Certificates.{Level, InSpan, IsFixedVector, IsOutside}

@@ -1,3 +1,4 @@
+-- For the private functions of this crate.
 -- What multipliers make of columns.
 --
 --   player_multiplier   the multiplier of a player, or 0 past the players

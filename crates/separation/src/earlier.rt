@@ -1,10 +1,9 @@
 //! The columns of a stage in front of those of the coalitions outside, in their order.
 
-ghost use Rattle.std.specs.Prelude.{◌≡◌, ◌+◌, ◌<◌, ◌≤◌, ◌^◌, ◌++◌, None, Some, map, length, OnOk};
+ghost use Rattle.std.specs.Prelude.{◌≡◌, ◌<◌, ◌≤◌, ◌^◌, ◌++◌, map, length, OnOk};
 ghost use Rattle.std.specs.List.{AllByRecursion};
 ghost use Rattle.definitions.specs.Coalitions.{grand_coalition};
-ghost use Rattle.definitions.specs.Certificates.{LevelsForm};
-ghost use Rattle.separation.specs.Stage.{earlier_of, is_imputations};
+ghost use Rattle.separation.specs.Stage.{earlier_of};
 ghost use Rattle.separation.specs.Making.{listed, plain, minus, earlier_columns, whole_columns, single, bound, AreWithin};
 
 use crate::column::Column;
@@ -26,7 +25,7 @@ fn minus<W: Worth>(game: &W, s: Coalition, level: Option<u32>) -> Column
     requires { s < 2 ^ (W.game game.now).players }
     ensures { result ≡ minus (W.game game.now) s level }
 {
-    game.players();
+    game.players(); // Brings the laws of the game.
     Column::minus(s, level, game.worth(s))
 }
 
@@ -82,7 +81,7 @@ fn single<W: Worth>(game: &W, family: Family, i: u32) -> Option<Column>
     requires { i < (W.game game.now).players }
     ensures { result ≡ single family (W.game game.now) i }
 {
-    game.players();
+    game.players(); // Brings the laws of the game.
     match family {
         Family::Imputations => Some(plain(game, Coalition::single(i), None)),
         Family::Preimputations => None,
@@ -94,7 +93,7 @@ fn bound<W: Worth>(game: &W, family: Family, levels: &[Level], i: u32) -> Option
     requires { i < (W.game game.now).players }
     ensures { result ≡ bound family (W.game game.now) levels.now i }
 {
-    game.players();
+    game.players(); // Brings the laws of the game.
     if family == Family::Imputations && Level::has_bound(levels, i) {
         Some(minus(game, Coalition::single(i), None))
     } else {

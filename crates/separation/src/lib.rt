@@ -5,9 +5,12 @@ mod balanced;
 mod column;
 mod earlier;
 mod listed;
+mod marks;
+mod shares;
 mod stage;
 mod sums;
 #[cfg(test)]
 mod tests;
 
 pub use listed::Listed;
+pub use shares::shares_of;

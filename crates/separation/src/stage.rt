@@ -1,35 +1,36 @@
 //! The stage programs of the nucleolus.
 
-ghost use Rattle.std.specs.Prelude.{◌≡◌, ◌+◌, ◌<◌, ◌≤◌, ◌^◌, ◌++◌, length, IfOk, OnOk};
+ghost use Rattle.std.specs.Prelude.{◌≡◌, ◌+◌, ◌<◌, ◌≤◌, ◌^◌, length, IfOk, OnOk};
 ghost use Rattle.std.specs.List.{AllByRecursion};
 ghost use Rattle.definitions.specs.Certificates.{HasForm};
 ghost use Rattle.definitions.specs.declared.Mode.{Mode};
-ghost use Rattle.separation.specs.Kept.{AreSmall};
+ghost use Rattle.kohlberg.specs.Marking.{IsMarking};
 ghost use Rattle.separation.specs.Same.{IsSpanOf, IsStage};
 ghost use Rattle.separation.specs.Making.{AreWithin, IsOuter, EndsOuter, inner_columns};
 
 use crate::column::Column;
 use crate::earlier::{plain, push_bounds, push_earlier, push_singles, push_whole};
 use crate::listed::Listed;
+use crate::marks::outside_of;
 use coalitions::Coalition;
 use fractions::OutOfMemory;
-use kohlberg::{Family, Level, Span};
+use kohlberg::{Family, Level, Outside, Span};
 use simplex::Columns;
 use std::alloc::{AllocError, Global};
 use worth_core::Worth;
 
 /// The column of a coalition, where it is outside.
-fn outer<W: Worth>(game: &W, levels: &[Level], span: &Span, s: Coalition) -> Option<Column>
+fn outer<W: Worth>(game: &W, levels: &[Level], outside: &Outside, s: Coalition) -> Option<Column>
+    requires few_players { (W.game game.now).players ≤ 16 }
     requires few { length levels.now ≤ 16 }
     requires within { s < 2 ^ (W.game game.now).players }
-    requires players { span.now.players ≡ (W.game game.now).players }
-    requires spans { IsSpanOf (W.game game.now).players span.now.kept levels.now }
+    requires marks { IsMarking (W.game game.now).players levels.now outside.now }
     ensures { IsOuter (W.game game.now) levels.now s result }
 {
-    if span.holds(s) {
-        None
-    } else {
+    if outside.contains(s) {
         Some(plain(game, s, Some(levels.len() as u32)))
+    } else {
+        None
     }
 }
 
@@ -38,16 +39,15 @@ fn push_outer<W: Worth>(
     columns: &mut Vec<Option<Column>>,
     game: &W,
     levels: &[Level],
-    span: &Span,
+    outside: &Outside,
 ) -> Result<(), AllocError>
     requires few_players { (W.game game.now).players ≤ 16 }
     requires few { length levels.now ≤ 16 }
-    requires players { span.now.players ≡ (W.game game.now).players }
-    requires spans { IsSpanOf (W.game game.now).players span.now.kept levels.now }
+    requires marks { IsMarking (W.game game.now).players levels.now outside.now }
     ensures { OnOk result (EndsOuter (W.game game.now) levels.now (2 ^ (W.game game.now).players) columns.old.items columns.new.items) }
 {
     for s in 0..1u64 << game.players() {
-        columns.push(outer(game, levels, span, Coalition(s)))?;
+        columns.push(outer(game, levels, outside, Coalition(s)))?;
     }
     Ok(())
 }
@@ -72,7 +72,8 @@ fn stage_columns<W: Worth>(
     push_earlier(&mut columns, game, levels)?;
     push_singles(&mut columns, game, family)?;
     push_bounds(&mut columns, game, family, levels)?;
-    push_outer(&mut columns, game, levels, span)?;
+    let outside = outside_of(span, game.players());
+    push_outer(&mut columns, game, levels, &outside)?;
     Ok(columns)
 }
 
@@ -80,8 +81,8 @@ impl Listed {
     /// The stage program of a game of 2 to 16 players behind levels, with every column kept (Kopelowitz 1967): its weights
     /// are those of the next level, and its multipliers the shares and the excesses of the levels.
     ///
-    /// There are at most n - 2 levels, in the form of a certificate. `span` holds exactly the coalitions of whose vector a
-    /// nonzero multiple is an integer sum of the vectors that the levels fix. The one error is want of memory.
+    /// There are at most n - 2 levels, in the form of a certificate. `span` holds exactly the coalitions that the
+    /// levels fix in span mode. The one error is want of memory.
     pub fn stage<W: Worth>(
         alloc: Global,
         game: &W,

@@ -1,7 +1,7 @@
 //! What multipliers make of columns. The multipliers of a coalition's members are added by two tables, one for the members
 //! among the first eight players and one for those among the next eight, so that a coalition costs one addition.
 
-ghost use Rattle.std.specs.Prelude.{◌≡◌, ℕ, ◌+◌, ◌*◌, ◌^◌, ◌<◌, ◌≤◌, length, List, ℤ, pos, ◌*ℤ◌, slice_index_or, unsigned_abs, MatchOption};
+ghost use Rattle.std.specs.Prelude.{◌≡◌, ℕ, ◌+◌, ◌^◌, ◌<◌, ◌≤◌, length, List, ℤ, pos, ◌*ℤ◌, slice_index_or, unsigned_abs, MatchOption};
 ghost use Rattle.std.specs.Bool.{Decides};
 ghost use Rattle.std.specs.Option.{ForSome};
 ghost use Rattle.definitions.specs.Coalitions.{sum_over};

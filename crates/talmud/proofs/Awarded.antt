@@ -1,5 +1,5 @@
 -- The shares that a division gives are those of the rule.
-use Rattle.std.proofs.Common.{◌≡◌, ◌≢◌, ◌⊎◌, ℕ, zero, suc, ◌-◌, ◌*◌, ◌^◌, ◌<◌, ◌≤◌, Bool, true, false, cond, List, length, get_or, map, min, int_le, int_lt, ℤ, pos, ◌+ℤ◌, ◌-ℤ◌, ◌*ℤ◌, ◌<ℤ◌, ◌≤ℤ◌, unsigned_abs, refl, sym, ap, subst, ◌∙◌, inl, inr, arith}
+use Rattle.std.proofs.Common.{◌≡◌, ◌≢◌, ℕ, zero, suc, ◌-◌, ◌*◌, ◌^◌, ◌<◌, ◌≤◌, Bool, true, false, cond, List, length, get_or, map, min, int_le, int_lt, ℤ, pos, ◌+ℤ◌, ◌-ℤ◌, ◌*ℤ◌, ◌<ℤ◌, ◌≤ℤ◌, unsigned_abs, refl, sym, ap, subst, ◌∙◌, inl, inr, arith}
 use Rattle.std.specs.Int.{int_min}
 use Rattle.std.proofs.lemmas.Int.{ints}
 use Rattle.std.proofs.lemmas.List.{length-map, get_or-map}
@@ -13,9 +13,11 @@ use Rattle.orders.specs.Orders.{IsOrder}
 use Rattle.orders.proofs.Fronts.{order-place}
 use Rattle.talmud.specs.Rule.{cut_claims, cut, cut_sum, loss, is_little, part, IsTalmud}
 use Rattle.talmud.specs.Levels.{IsHalfOrder}
-use Rattle.talmud.specs.Division.{OrderedClaims, IsOrderedClaims, place, claim_at, claim_sum, divided, IsDivision, award}
+use Rattle.orders.specs.Ordered.{OrderedNumbers, IsOrdered, place, number_at}
+use Rattle.talmud.specs.Division.{claim_sum, divided, IsDivision, award}
 use Rattle.talmud.proofs.Cuts.{length-cut, claim_sum-cut}
 use Rattle.talmud.proofs.ByPlace.{IsRule}
+use Rattle.definitions.proofs.Cases.{below_or_above}
 
 -- ---- the awards, as shares
 
@@ -58,7 +60,7 @@ sum-less (suc n) q d p s e =
 
 -- ---- the rule by place
 
-pub IsRule-division : (estate : ℕ) (claims : List ℕ) (c : OrderedClaims) (gain : Bool) (m h t : ℕ) (x : Allocation) → IsOrderedClaims c → c.cuts ≡ cut_claims estate claims → IsDivision estate c gain m h t → IsAwarded estate claims gain h t x → IsRule estate claims (place c) m gain (pos t) x
+pub IsRule-division : (estate : ℕ) (claims : List ℕ) (c : OrderedNumbers) (gain : Bool) (m h t : ℕ) (x : Allocation) → IsOrdered c → c.numbers ≡ cut_claims estate claims → IsDivision estate c gain m h t → IsAwarded estate claims gain h t x → IsRule estate claims (place c) m gain (pos t) x
 IsRule-division estate claims c gain m h t x o e d a = record {
   order = order;
   players = a.players;
@@ -74,8 +76,8 @@ IsRule-division estate claims c gain m h t x o e d a = record {
   much = λ g. rw sums at (d.side.much g);
 }
   where
-    long : length c.cuts ≡ length claims
-    long = length-cut estate claims c.cuts e
+    long : length c.numbers ≡ length claims
+    long = length-cut estate claims c.numbers e
 
     order : IsOrder (length claims) (cut estate claims) (place c)
     order =
@@ -83,12 +85,12 @@ IsRule-division estate claims c gain m h t x o e d a = record {
         subst (λ (n : ℕ). IsOrder n (cut estate claims) (place c)) (length-map claims (λ c. min c estate)) listed
 
     sums : claim_sum c ≡ cut_sum estate claims
-    sums = claim_sum-cut estate claims c.cuts e
+    sums = claim_sum-cut estate claims c.numbers e
 
     up : {a b : ℕ} → a ≤ b → pos a ≤ℤ pos b
     up h = omega (arith, ints)
 
-    at : (j : ℕ) → claim_at c j ≡ cut estate claims (place c j)
+    at : (j : ℕ) → number_at c j ≡ cut estate claims (place c j)
     at j = ap (λ (ds : List ℕ). get_or ds (place c j) 0) e
 
     inside : (j : ℕ) → j < m → j < length claims
@@ -162,9 +164,6 @@ least-right a b h = step (int_lt b a) refl
     step true e = refl
     step false e = absurd (omega (arith, ints))
 
-part_of : ℕ → List ℕ → Allocation → Bool → ℕ → ℤ
-part_of estate claims x g i = cond g (share x i) (loss estate claims x i)
-
 pub little-is : (estate : ℕ) (claims : List ℕ) (at : ℕ → ℕ) (m : ℕ) (gain : Bool) (t : ℤ) (x : Allocation) → IsRule estate claims at m gain t x → gain ≡ is_little estate claims
 little-is estate claims at m gain t x r = side-is gain (pos estate +ℤ pos estate) (cut_sum estate claims) r.little r.much
 
@@ -188,11 +187,8 @@ IsTalmud-rule estate claims at m gain t x r = record {
     IsPart : ℕ → Type 0
     IsPart i = part estate claims x i +ℤ part estate claims x i ≡ int_min (x.den *ℤ pos (cut estate claims i)) (t +ℤ t)
 
-    cases : (p : ℕ) → (p < m) ⊎ (m ≤ p)
-    cases p = grind arith
-
     place_part : (p : ℕ) → p < length claims → cond gain (share x (at p)) (loss estate claims x (at p)) +ℤ cond gain (share x (at p)) (loss estate claims x (at p)) ≡ int_min (x.den *ℤ pos (cut estate claims (at p))) (t +ℤ t)
-    place_part p lt = elim (cases p) [
+    place_part p lt = elim (below_or_above p m) [
       | inl half ↦ half_part gain (share x (at p)) (loss estate claims x (at p)) (x.den *ℤ pos (cut estate claims (at p))) t (r.half p half) refl (r.under p half)
       | inr rest ↦ rest_part gain (share x (at p)) (loss estate claims x (at p)) (x.den *ℤ pos (cut estate claims (at p))) t (r.rest p rest lt) (r.over p rest lt) refl
     ]
@@ -225,13 +221,13 @@ award_small g h t d few small = by_side g (d * h) (mul-le-mul most few)
     by_side true u le = omega (arith, ints)
     by_side false u le = omega (arith, ints)
 
-pub IsShares-awards : (c : OrderedClaims) (gain : Bool) (h t : ℕ) → IsOrderedClaims c → 1 ≤ h → h ≤ 64 → IsShares (allocation (map (λ d. pos (award gain h t d)) c.cuts) (pos (2 * h)))
+pub IsShares-awards : (c : OrderedNumbers) (gain : Bool) (h t : ℕ) → IsOrdered c → 1 ≤ h → h ≤ 64 → IsShares (allocation (map (λ d. pos (award gain h t d)) c.numbers) (pos (2 * h)))
 IsShares-awards c gain h t o some few =
-    let long = length-map c.cuts (λ d. pos (award gain h t d)) in
+    let long = length-map c.numbers (λ d. pos (award gain h t d)) in
     record {
       some = (let one = o.some in omega (arith, long));
       few = (let most = o.few in omega (arith, long));
       positive = omega (arith, ints);
       common = omega (arith, ints);
-      small = λ i lt. let within : i < length c.cuts = rw (← long) lt in rw (get_or-map (λ d. pos (award gain h t d)) c.cuts i 0 (pos 0) within) (award_small gain h t (get_or c.cuts i 0) few (o.small i 0 within));
+      small = λ i lt. let within : i < length c.numbers = rw (← long) lt in rw (get_or-map (λ d. pos (award gain h t d)) c.numbers i 0 (pos 0) within) (award_small gain h t (get_or c.numbers i 0) few (o.small i 0 within));
     }

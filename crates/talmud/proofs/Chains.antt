@@ -12,16 +12,18 @@ use Rattle.definitions.specs.declared.Mode.TheVariants.{Players}
 use Rattle.std.proofs.lemmas.List.{length-append}
 use Rattle.definitions.specs.Classes.{bankruptcy_worth}
 use Rattle.orders.specs.Orders.{IsOrder}
-use Rattle.kohlberg.proofs.Listed.{listed_before, listed_here, same_test}
+use Rattle.kohlberg.proofs.Listed.{listed_before, listed_here}
 use Rattle.talmud.specs.Rule.{cut}
 use Rattle.talmud.specs.Levels.{single, others, key_of, IsRestLevel, AreHalves, AreLevels}
 use Rattle.talmud.proofs.Worths.{Divides, game_of, amount-at, worth-grand_coalition}
 use Rattle.talmud.proofs.ByPlace.{IsRule}
 use Rattle.talmud.proofs.Excesses.{Divides-rule, excess-core}
 use Rattle.talmud.proofs.Keys.{any-keys}
-use Rattle.talmud.proofs.Covering.{Covers, Covers-none, before_or_in, Covers-more, all_fixed, fixes}
+use Rattle.talmud.proofs.Covering.{Covers, Covers-none, Covers-more, all_fixed, fixes}
 use Rattle.talmud.proofs.HalfLevels.{half_form, half_holds}
 use Rattle.talmud.proofs.RestLevel.{rest_form, rest_holds}
+use Rattle.definitions.specs.declared.Measure.TheVariants.{Plain}
+use Rattle.definitions.proofs.Cases.{nat_eq-same, below_or_above}
 
 -- ---- all levels
 
@@ -65,7 +67,7 @@ HasForm-rule n cost at m gain t den levels one most mn o (inr (ls, l, e, chain, 
   each = rw e (rest_after n cost at m 0 gain t den [] ls l most mn o chain b (Covers-none n at));
 }
 
-halves_hold : (family : Family) (estate : ℕ) (claims : List ℕ) (at : ℕ → ℕ) (m : ℕ) (gain : Bool) (t : ℤ) (x : Allocation) (i k : ℕ) (front levels : List Level) → IsRule estate claims at m gain t x → AreHalves (length claims) (cut estate claims) at m i levels k → length claims ≤ k + 1 → Covers (length claims) at i front → LevelsHold Players family (game_of estate claims) x front levels
+halves_hold : (family : Family) (estate : ℕ) (claims : List ℕ) (at : ℕ → ℕ) (m : ℕ) (gain : Bool) (t : ℤ) (x : Allocation) (i k : ℕ) (front levels : List Level) → IsRule estate claims at m gain t x → AreHalves (length claims) (cut estate claims) at m i levels k → length claims ≤ k + 1 → Covers (length claims) at i front → LevelsHold Players family Plain (game_of estate claims) x front levels
 halves_hold family estate claims at m gain t x i k front [] r chain end c =
     all_fixed (length claims) (cut estate claims) at i front r.order (fixes (length claims) at i front c) (omega (arith, chain))
 halves_hold family estate claims at m gain t x i k front (l ∷ levels) r (h, b, chain) end c =
@@ -73,16 +75,16 @@ halves_hold family estate claims at m gain t x i k front (l ∷ levels) r (h, b,
 
 -- all is fixed behind the level of the rest
 rest_fixes : (n : ℕ) (at : ℕ → ℕ) (m : ℕ) (gain : Bool) (t den : ℤ) (front : List Level) (l : Level) → m ≤ n → IsRestLevel n at m gain t den l → Covers n at m front → (j : ℕ) → j < n → (is_listed (front ++ l ∷ []) (single at j) ≡ true) ⊎ (is_listed (front ++ l ∷ []) (others n at j) ≡ true)
-rest_fixes n at m gain t den front l mn b c j lt = elim (before_or_in m j) [
+rest_fixes n at m gain t den front l mn b c j lt = elim (below_or_above j m) [
   | inl less ↦ inl (listed_before front l (single at j) (c.singles j less))
-  | inr low ↦ by_kind gain (listed_here front l (key_of n at gain j) (rw b.coalitions (any-keys (λ c. nat_eq c.0 (key_of n at gain j)) (key_of n at gain) m (n - m) j low (omega arith) (same_test (key_of n at gain j)))))
+  | inr low ↦ by_kind gain (listed_here front l (key_of n at gain j) (rw b.coalitions (any-keys (λ c. nat_eq c.0 (key_of n at gain j)) (key_of n at gain) m (n - m) j low (omega arith) (nat_eq-same (key_of n at gain j)))))
 ]
   where
     by_kind : (g : Bool) → is_listed (front ++ l ∷ []) (key_of n at g j) ≡ true → (is_listed (front ++ l ∷ []) (single at j) ≡ true) ⊎ (is_listed (front ++ l ∷ []) (others n at j) ≡ true)
     by_kind true h = inl h
     by_kind false h = inr h
 
-rest_hold : (family : Family) (estate : ℕ) (claims : List ℕ) (at : ℕ → ℕ) (m : ℕ) (gain : Bool) (t : ℤ) (x : Allocation) (i : ℕ) (front levels : List Level) (l : Level) → IsRule estate claims at m gain t x → AreHalves (length claims) (cut estate claims) at m i levels m → IsRestLevel (length claims) at m gain t x.den l → Covers (length claims) at i front → LevelsHold Players family (game_of estate claims) x front (levels ++ l ∷ [])
+rest_hold : (family : Family) (estate : ℕ) (claims : List ℕ) (at : ℕ → ℕ) (m : ℕ) (gain : Bool) (t : ℤ) (x : Allocation) (i : ℕ) (front levels : List Level) (l : Level) → IsRule estate claims at m gain t x → AreHalves (length claims) (cut estate claims) at m i levels m → IsRestLevel (length claims) at m gain t x.den l → Covers (length claims) at i front → LevelsHold Players family Plain (game_of estate claims) x front (levels ++ l ∷ [])
 rest_hold family estate claims at m gain t x i front [] l r chain b c =
     let cm = subst (λ (j : ℕ). Covers (length claims) at j front) chain c in
     (rest_holds family estate claims at m gain t x front l r b cm, all_fixed (length claims) (cut estate claims) at (length claims) (front ++ l ∷ []) r.order (rest_fixes (length claims) at m gain t x.den front l r.within b cm) (omega arith))
@@ -113,7 +115,7 @@ InCore-rule estate claims at m gain t x r =
     let d = Divides-rule estate claims at m gain t x r in
     ((d.players, d.positive), efficient estate claims x d, λ s lt blocks. let e = excess-core estate claims x s d lt in omega (arith, linear, e, blocks))
 
-pub Certifies-rule : (family : Family) (estate : ℕ) (claims : List ℕ) (at : ℕ → ℕ) (m : ℕ) (gain : Bool) (t : ℤ) (x : Allocation) (levels : List Level) → IsRule estate claims at m gain t x → AreLevels (length claims) (cut estate claims) at m gain t x.den levels → Certifies Players family (game_of estate claims) x levels
+pub Certifies-rule : (family : Family) (estate : ℕ) (claims : List ℕ) (at : ℕ → ℕ) (m : ℕ) (gain : Bool) (t : ℤ) (x : Allocation) (levels : List Level) → IsRule estate claims at m gain t x → AreLevels (length claims) (cut estate claims) at m gain t x.den levels → Certifies Players family Plain (game_of estate claims) x levels
 Certifies-rule family estate claims at m gain t x levels r (inl (k, chain, end)) =
     (in_family family estate claims x (Divides-rule estate claims at m gain t x r), halves_hold family estate claims at m gain t x 0 k [] levels r chain end (Covers-none (length claims) at))
 Certifies-rule family estate claims at m gain t x levels r (inr (ls, l, e, chain, b)) =

@@ -6,7 +6,7 @@ use Rattle.definitions.specs.Games.{Allocation, share, excess}
 use Rattle.definitions.specs.Certificates.{Level, is_listed, has_bound, is_free}
 use Rattle.orders.specs.Orders.{IsOrder}
 use Rattle.orders.proofs.Fronts.{order-place}
-use Rattle.kohlberg.proofs.Listed.{listed_before, listed_here, same_test}
+use Rattle.kohlberg.proofs.Listed.{listed_before, listed_here}
 use Rattle.kohlberg.proofs.Conditions.{splits-two}
 use Rattle.talmud.specs.Rule.{cut, loss}
 use Rattle.talmud.specs.Levels.{single, others, IsHalfLevel}
@@ -14,6 +14,7 @@ use Rattle.talmud.proofs.Worths.{game_of}
 use Rattle.talmud.proofs.ByPlace.{IsRule}
 use Rattle.talmud.proofs.Excesses.{Divides-rule, excess-outside}
 use Rattle.talmud.proofs.Keys.{any-both_single, any-both_others}
+use Rattle.definitions.proofs.Cases.{nat_eq-same, below_or_above}
 
 -- ---- what the levels list
 
@@ -25,24 +26,21 @@ pub record Covers (n : ℕ) (at : ℕ → ℕ) (i : ℕ) (levels : List Level) :
 pub Covers-none : (n : ℕ) (at : ℕ → ℕ) → Covers n at 0 []
 Covers-none n at = record { singles = λ j lt. absurd (omega arith); rest = λ j lt. absurd (omega arith) }
 
-pub before_or_in : (i j : ℕ) → (j < i) ⊎ (i ≤ j)
-before_or_in i j = grind arith
-
 pub Covers-more : (n : ℕ) (claim at : ℕ → ℕ) (m i k : ℕ) (levels : List Level) (l : Level) → IsHalfLevel n claim at m i k l → Covers n at i levels → Covers n at k (levels ++ l ∷ [])
 Covers-more n claim at m i k levels l b h = record {
-  singles = λ j lt. elim (before_or_in i j) [
+  singles = λ j lt. elim (below_or_above j i) [
     | inl less ↦ listed_before levels l (single at j) (h.singles j less)
-    | inr low ↦ listed_here levels l (single at j) (rw b.coalitions (any-both_single (λ c. nat_eq c.0 (single at j)) n at i (k - i) j low (omega (arith, b.end.some)) (same_test (single at j))))
+    | inr low ↦ listed_here levels l (single at j) (rw b.coalitions (any-both_single (λ c. nat_eq c.0 (single at j)) n at i (k - i) j low (omega (arith, b.end.some)) (nat_eq-same (single at j))))
   ];
-  rest = λ j lt. elim (before_or_in i j) [
+  rest = λ j lt. elim (below_or_above j i) [
     | inl less ↦ listed_before levels l (others n at j) (h.rest j less)
-    | inr low ↦ listed_here levels l (others n at j) (rw b.coalitions (any-both_others (λ c. nat_eq c.0 (others n at j)) n at i (k - i) j low (omega (arith, b.end.some)) (same_test (others n at j))))
+    | inr low ↦ listed_here levels l (others n at j) (rw b.coalitions (any-both_others (λ c. nat_eq c.0 (others n at j)) n at i (k - i) j low (omega (arith, b.end.some)) (nat_eq-same (others n at j))))
   ];
 }
 
 -- each of the first i places is fixed by one of its coalitions
 free_place : (n : ℕ) (at : ℕ → ℕ) (i h : ℕ) (levels : List Level) → ((j : ℕ) → j < i → (is_listed levels (single at j) ≡ true) ⊎ (is_listed levels (others n at j) ≡ true)) → is_free n levels (at h) ≡ true → i ≤ h
-free_place n at i h levels c e = elim (before_or_in i h) [
+free_place n at i h levels c e = elim (below_or_above h i) [
   | inl less ↦ absurd (false≢true (sym (unfree (is_listed levels (singleton (at h))) (is_listed levels (grand_coalition n - singleton (at h))) (has_bound levels (at h)) (c h less)) ∙ e))
   | inr low ↦ low
 ]

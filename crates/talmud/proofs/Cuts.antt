@@ -1,18 +1,15 @@
 -- The list of the claims, cut to the estate.
-use Rattle.std.proofs.Common.{◌≡◌, ℕ, zero, suc, ◌+◌, ◌^◌, ◌<◌, ◌≤◌, List, [], ◌∷◌, length, get_or, min, sum, ℤ, pos, ◌+ℤ◌, ◌≤ℤ◌, refl, sym, ap, subst, ◌∙◌, inl, inr, arith}
+use Rattle.std.proofs.Common.{◌≡◌, ℕ, ◌^◌, ◌<◌, ◌≤◌, List, length, get_or, min, pos, ◌≤ℤ◌, sym, ap, subst, ◌∙◌, inl, inr, arith}
 use Rattle.std.specs.List.{All}
 use Rattle.std.proofs.lemmas.List.{length-map, get_or-map}
-use Rattle.std.proofs.lemmas.List.Sums.{sum_by-cons}
 use Rattle.std.proofs.lemmas.Int.{ints}
 use Rattle.definitions.proofs.Ring.{linear}
 use Rattle.definitions.proofs.Members.{sum_over-grand_coalition}
 use Rattle.definitions.specs.Sums.{sum_below}
 use Rattle.definitions.specs.Coalitions.{grand_coalition}
-use Rattle.orders.specs.Orders.{IsSortedOrder}
 use Rattle.bankruptcy.specs.Bankruptcy.{Bankruptcy, IsBankruptcy}
-use Rattle.bankruptcy.proofs.Laws.{claim}
+use Rattle.bankruptcy.proofs.Laws.{claim, sum-claims}
 use Rattle.talmud.specs.Rule.{cut_claims, cut, cut_sum}
-use Rattle.talmud.specs.Division.{IsOrderedClaims, ordered_claims}
 use Rattle.talmud.proofs.Worths.{cut-covers}
 
 pub length-cut : (estate : ℕ) (claims cuts : List ℕ) → cuts ≡ cut_claims estate claims → length cuts ≡ length claims
@@ -32,21 +29,9 @@ all-cut estate claims P each k d lt =
 pub all-cut_low : (estate : ℕ) (claims cuts : List ℕ) → cuts ≡ cut_claims estate claims → All (λ c. c ≤ estate) cuts
 all-cut_low estate claims cuts e = subst (All (λ c. c ≤ estate)) (sym e) (all-cut estate claims (λ c. c ≤ estate) (λ k lt. omega arith))
 
-sum_below-front : (n : ℕ) (f : ℕ → ℤ) → sum_below (suc n) f ≡ f 0 +ℤ sum_below n (λ i. f (suc i))
-sum_below-front zero f = omega (arith, linear)
-sum_below-front (suc n) f = let ih = sum_below-front n f in omega (arith, linear, ih)
-
-sum-claims : (claims : List ℕ) → pos (sum claims) ≡ sum_below (length claims) (claim claims)
-sum-claims [] = refl
-sum-claims (c ∷ claims) =
-    let step : sum (c ∷ claims) ≡ c + sum claims = sum_by-cons (λ (x : ℕ). x) c claims in
-    rw step (
-    let ih = sum-claims claims in
-    let front = sum_below-front (length claims) (claim (c ∷ claims)) in
-    joined c (sum claims) _ _ ih front)
-  where
-    joined : (c s : ℕ) (y z : ℤ) → pos s ≡ y → z ≡ pos c +ℤ y → pos (c + s) ≡ z
-    joined c s y z e f = omega (arith, ints)
+pub all-cut_small : (b : Bankruptcy) → IsBankruptcy b → (cuts : List ℕ) → cuts ≡ cut_claims b.estate b.claims → All (λ d. d < 2 ^ 40) cuts
+all-cut_small b h cuts e =
+    subst (All (λ d. d < 2 ^ 40)) (sym e) (all-cut b.estate b.claims (λ d. d < 2 ^ 40) (λ k lt. let small = h.small k 0 lt in omega (arith, small)))
 
 -- cut or not, the claims cover the estate
 pub cut-enough : (b : Bankruptcy) → IsBankruptcy b → (cuts : List ℕ) → cuts ≡ cut_claims b.estate b.claims → pos b.estate ≤ℤ sum_below (length cuts) (λ i. pos (get_or cuts i 0))
@@ -64,13 +49,3 @@ cut-enough b h cuts e =
   where
     up : {a b : ℕ} → a ≤ b → pos a ≤ℤ pos b
     up h = omega (arith, ints)
-
-pub IsOrderedClaims-cut : (b : Bankruptcy) → IsBankruptcy b → (cuts order : List ℕ) → cuts ≡ cut_claims b.estate b.claims → IsSortedOrder cuts order → IsOrderedClaims (ordered_claims cuts order)
-IsOrderedClaims-cut b h cuts order e sorted =
-    let long = length-cut b.estate b.claims cuts e in
-    record {
-      some = (let some = h.some in omega (arith, long));
-      few = (let few = h.few in omega (arith, long));
-      small = subst (All (λ d. d < 2 ^ 40)) (sym e) (all-cut b.estate b.claims (λ d. d < 2 ^ 40) (λ k lt. let small = h.small k 0 lt in omega (arith, small)));
-      sorted = sorted;
-    }

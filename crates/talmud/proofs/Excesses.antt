@@ -3,15 +3,16 @@ use Rattle.std.proofs.Common.{◌≡◌, ◌≢◌, ◌⊎◌, ℕ, ◌-◌, ◌
 use Rattle.std.proofs.lemmas.Int.{ints}
 use Rattle.std.proofs.Math.Pow.{pow-lt}
 use Rattle.definitions.proofs.Ring.{linear, mul-leℤ, mul-nonnegativeℤ, mul-ltℤ, mul-le_cancelℤ, mul-subℤ, mul-addℤ}
-use Rattle.definitions.proofs.Members.{has_player-complement, sum_below-same, sum_over-singleton, sum_over-grand_coalition, sum_over-complement}
+use Rattle.definitions.proofs.Members.{has_player-complement, sum_below-same, sum_over-singleton, sum_over-grand_coalition, sum_over-complement, sum_over-nonnegative}
 use Rattle.definitions.proofs.Parts.{others_has}
 use Rattle.definitions.specs.Sums.{sum_below}
 use Rattle.definitions.specs.Coalitions.{has_player, singleton, grand_coalition}
 use Rattle.definitions.specs.Games.{Allocation, share, excess}
 use Rattle.orders.proofs.Fronts.{order-place}
 use Rattle.talmud.specs.Rule.{cut, loss, cut_sum}
-use Rattle.talmud.proofs.Worths.{Divides, game_of, sum-least, sum-nonnegative, loss-sum, excess-at_most, cut_claim, cut-low}
+use Rattle.talmud.proofs.Worths.{Divides, game_of, sum-least, loss-sum, excess-at_most, cut_claim, cut-low}
 use Rattle.talmud.proofs.ByPlace.{IsRule}
+use Rattle.definitions.proofs.Cases.{below_or_above}
 
 -- ---- each player gets something and loses something
 
@@ -46,13 +47,10 @@ half_least estate claims at m gain t x r i p half le lt = elim (cases i m p le) 
     cases i m p le = grind arith
 
 at_place : (estate : ℕ) (claims : List ℕ) (at : ℕ → ℕ) (m : ℕ) (gain : Bool) (t : ℤ) (x : Allocation) → IsRule estate claims at m gain t x → (p : ℕ) → p < length claims → (pos 0 ≤ℤ share x (at p)) × (pos 0 ≤ℤ loss estate claims x (at p))
-at_place estate claims at m gain t x r p lt = elim (cases p) [
+at_place estate claims at m gain t x r p lt = elim (below_or_above p m) [
   | inl half ↦ let h = r.half p half in let s = scaled_low x.den (cut estate claims (at p)) r.positive in (omega (arith, linear), omega (arith, linear))
   | inr rest ↦ let a = rest_least estate claims at m gain t x r p rest lt in let low = r.low in (omega (arith, linear, a.0), omega (arith, linear, a.1))
 ]
-  where
-    cases : (p : ℕ) → (p < m) ⊎ (m ≤ p)
-    cases p = grind arith
 
 pub Divides-rule : (estate : ℕ) (claims : List ℕ) (at : ℕ → ℕ) (m : ℕ) (gain : Bool) (t : ℤ) (x : Allocation) → IsRule estate claims at m gain t x → Divides estate claims x
 Divides-rule estate claims at m gain t x r = record {
@@ -77,8 +75,8 @@ excess-outside estate claims x s p q z d small pn has gain qn lacks lose =
 pub excess-core : (estate : ℕ) (claims : List ℕ) (x : Allocation) (s : ℕ) → Divides estate claims x → s < 2 ^ length claims → excess (game_of estate claims) x s ≤ℤ pos 0
 excess-core estate claims x s d small =
     let n = length claims in
-    let a = sum-nonnegative n s (share x) d.gains in
-    let b = sum-nonnegative n (grand_coalition n - s) (loss estate claims x) d.losses in
+    let a = sum_over-nonnegative n s (share x) d.gains in
+    let b = sum_over-nonnegative n (grand_coalition n - s) (loss estate claims x) d.losses in
     let e = excess-at_most estate claims x s (pos 0) d small a b in
     omega (arith, linear, e)
 
@@ -106,7 +104,7 @@ pub enough_gain : (estate : ℕ) (claims : List ℕ) (i : ℕ) → (pos estate +
 enough_gain estate claims i h = let c = cut-low estate claims i in omega (arith, linear)
 
 pub enough_half : (estate : ℕ) (claims : List ℕ) (at : ℕ → ℕ) (m : ℕ) (t : ℤ) (x : Allocation) → IsRule estate claims at m false t x → (j : ℕ) → j < m → pos estate ≤ℤ (cut_sum estate claims -ℤ pos (cut estate claims (at j)))
-enough_half estate claims at m t x r j half = elim (cases m (length claims)) [
+enough_half estate claims at m t x r j half = elim (below_or_above m (length claims)) [
   | inl some ↦
       let n = length claims in
       let d = Divides-rule estate claims at m false t x r in
@@ -129,9 +127,6 @@ enough_half estate claims at m t x r j half = elim (cases m (length claims)) [
       let much = mul-ltℤ x.den (cut_sum estate claims) (pos estate +ℤ pos estate) (let one = r.positive in omega (arith, linear)) (r.much refl) in
       absurd (omega (arith, linear, total, same, much, r.all, mul-addℤ x.den (pos estate) (pos estate)))
 ]
-  where
-    cases : (m n : ℕ) → (m < n) ⊎ (n ≤ m)
-    cases m n = grind arith
 
 pub enough : (estate : ℕ) (claims : List ℕ) (at : ℕ → ℕ) (m : ℕ) (gain : Bool) (t : ℤ) (x : Allocation) → IsRule estate claims at m gain t x → (j : ℕ) → j < m → pos estate ≤ℤ (cut_sum estate claims -ℤ pos (cut estate claims (at j)))
 enough estate claims at m true t x r j half = enough_gain estate claims (at j) (r.little refl)

@@ -9,7 +9,6 @@ use Rattle.definitions.specs.Certificates.{Level, number_at, Ascends, IsSmall, L
 use Rattle.definitions.specs.declared.Family.{Family}
 use Rattle.definitions.specs.declared.Mode.TheVariants.{Players}
 use Rattle.orders.specs.Orders.{IsOrder}
-use Rattle.kohlberg.proofs.Forms.{all_join}
 use Rattle.kohlberg.proofs.Conditions.{proper, level_excess, level_most}
 use Rattle.talmud.specs.Rule.{cut}
 use Rattle.talmud.specs.Levels.{single, others, with_both, IsHalfLevel}
@@ -18,6 +17,9 @@ use Rattle.talmud.proofs.ByPlace.{IsRule}
 use Rattle.talmud.proofs.Excesses.{Divides-rule, half_least, enough}
 use Rattle.talmud.proofs.Keys.{single-has, single-lacks, others-has, others-lacks, all-both, length-both, ascends-both, ascends-one, weight-both}
 use Rattle.talmud.proofs.Covering.{Covers, outside_most, fixes}
+use Rattle.definitions.specs.declared.Measure.TheVariants.{Plain}
+use Rattle.definitions.proofs.Alls.{all_join}
+use Rattle.definitions.proofs.UnitWeights.{one_small, one_le}
 
 -- ---- proper coalitions
 
@@ -41,12 +43,6 @@ single_proper n cost at o two j lt = with_other (other_place j n lt two)
     with_other : ((h : ℕ) × (h < n) × (j ≢ h)) → (0 < single at j) × (single at j < grand_coalition n)
     with_other (h, hn, ne) =
         proper n (single at j) (at j) (at h) (pow-lt (o.below j lt)) (single-has at j) (o.below h hn) (single-lacks n cost at o j h lt hn ne)
-
-pub one_small : IsSmall (pos 1)
-one_small = omega arith
-
-pub one_le : pos 1 ≤ℤ pos 1
-one_le = omega (arith, ints)
 
 -- ---- half levels
 
@@ -119,9 +115,9 @@ half_excess y c den en ed h e = doubled (neg_ℤ y *ℤ ed) (en *ℤ den) (left 
         back : den *ℤ (neg_ℤ c *ℤ ed) ≡ neg_ℤ (den *ℤ c) *ℤ ed
         back = simp ring_laws (omega (arith, linear))
 
-pub half_holds : (family : Family) (estate : ℕ) (claims : List ℕ) (at : ℕ → ℕ) (m : ℕ) (gain : Bool) (t : ℤ) (x : Allocation) (i k : ℕ) (levels : List Level) (l : Level) → IsRule estate claims at m gain t x → IsHalfLevel (length claims) (cut estate claims) at m i k l → Covers (length claims) at i levels → LevelHolds Players family (game_of estate claims) x levels l
+pub half_holds : (family : Family) (estate : ℕ) (claims : List ℕ) (at : ℕ → ℕ) (m : ℕ) (gain : Bool) (t : ℤ) (x : Allocation) (i k : ℕ) (levels : List Level) (l : Level) → IsRule estate claims at m gain t x → IsHalfLevel (length claims) (cut estate claims) at m i k l → Covers (length claims) at i levels → LevelHolds Players family Plain (game_of estate claims) x levels l
 half_holds family estate claims at m gain t x i k levels l r b c = record {
-  excesses = rw b.coalitions (all-both (λ c. HasExcess (game_of estate claims) x l c.0) (length claims) at i (k - i) (λ j low high. level_excess _ (share x (at i)) l.excess_num l.excess_den x.den (mine j low (inside j high)) excess_is) (λ j low high. level_excess _ (share x (at i)) l.excess_num l.excess_den x.den (theirs j low (inside j high)) excess_is));
+  excesses = rw b.coalitions (all-both (λ c. HasExcess Plain (game_of estate claims) x l c.0) (length claims) at i (k - i) (λ j low high. level_excess _ (share x (at i)) l.excess_num l.excess_den x.den (mine j low (inside j high)) excess_is) (λ j low high. level_excess _ (share x (at i)) l.excess_num l.excess_den x.den (theirs j low (inside j high)) excess_is));
   weights = rw b.coalitions (all-both (λ c. pos 1 ≤ℤ c.1) (length claims) at i (k - i) (λ j low high. one_le) (λ j low high. one_le));
   bound_weights = rw b.bounds tt;
   balanced = half_balanced (length claims) (cut estate claims) at m i k l r.within r.order b;

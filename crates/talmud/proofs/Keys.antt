@@ -12,14 +12,12 @@ use Rattle.orders.specs.Orders.{IsOrder}
 use Rattle.kohlberg.specs.Pairs.{with_pair}
 use Rattle.kohlberg.proofs.WithPair.{weight_at-with_pair, all-with_pair, any-with_pair, length-with_pair, ascends-with_pair}
 use Rattle.talmud.specs.Levels.{single, others, with_keys, with_both}
+use Rattle.definitions.proofs.Cases.{less_or_greater, less_or_last, outside_fewer}
 
 -- ---- places
 
 apart_at : (n : ℕ) (cost at : ℕ → ℕ) → IsOrder n cost at → (j h : ℕ) → j < n → h < n → j ≢ h → at h ≢ at j
-apart_at n cost at o j h jn hn ne e = elim (order_cases j h ne) [ inl less ↦ o.apart j h less hn (sym e) | inr more ↦ o.apart h j more jn e ]
-  where
-    order_cases : (j h : ℕ) → j ≢ h → (j < h) ⊎ (h < j)
-    order_cases j h ne = grind arith
+apart_at n cost at o j h jn hn ne e = elim (less_or_greater j h ne) [ inl less ↦ o.apart j h less hn (sym e) | inr more ↦ o.apart h j more jn e ]
 
 pub single-has : (at : ℕ → ℕ) (j : ℕ) → has_player (single at j) (at j) ≡ true
 single-has at j = has_player-singleton (at j)
@@ -101,23 +99,20 @@ length-both n at i (suc b) =
     let ih = length-both n at i b in
     omega (arith, a, c, ih)
 
-last_or_less : (j k : ℕ) → j < suc k → (j < k) ⊎ (j ≡ k)
-last_or_less j k h = grind arith
-
 pub any-keys : (test : ℕ × ℤ → Bool) (key : ℕ → ℕ) (i b j : ℕ) → i ≤ j → j < i + b → test (key j, pos 1) ≡ true → list_any test (with_keys key i b) ≡ true
 any-keys test key i zero j le lt h = absurd (omega arith)
 any-keys test key i (suc b) j le lt h =
-    any-with_pair test (key (i + b)) (pos 1) (with_keys key i b) (elim (last_or_less j (i + b) (omega arith)) [ inl less ↦ inr (any-keys test key i b j le less h) | inr same ↦ inl (rw (← same) h) ])
+    any-with_pair test (key (i + b)) (pos 1) (with_keys key i b) (elim (less_or_last j (i + b) (omega arith)) [ inl less ↦ inr (any-keys test key i b j le less h) | inr same ↦ inl (rw (← same) h) ])
 
 pub any-both_single : (test : ℕ × ℤ → Bool) (n : ℕ) (at : ℕ → ℕ) (i b j : ℕ) → i ≤ j → j < i + b → test (single at j, pos 1) ≡ true → list_any test (with_both n at i b) ≡ true
 any-both_single test n at i zero j le lt h = absurd (omega arith)
 any-both_single test n at i (suc b) j le lt h =
-    any-with_pair test (others n at (i + b)) (pos 1) (with_pair (single at (i + b)) (pos 1) (with_both n at i b)) (inr (any-with_pair test (single at (i + b)) (pos 1) (with_both n at i b) (elim (last_or_less j (i + b) (omega arith)) [ inl less ↦ inr (any-both_single test n at i b j le less h) | inr same ↦ inl (rw (← same) h) ])))
+    any-with_pair test (others n at (i + b)) (pos 1) (with_pair (single at (i + b)) (pos 1) (with_both n at i b)) (inr (any-with_pair test (single at (i + b)) (pos 1) (with_both n at i b) (elim (less_or_last j (i + b) (omega arith)) [ inl less ↦ inr (any-both_single test n at i b j le less h) | inr same ↦ inl (rw (← same) h) ])))
 
 pub any-both_others : (test : ℕ × ℤ → Bool) (n : ℕ) (at : ℕ → ℕ) (i b j : ℕ) → i ≤ j → j < i + b → test (others n at j, pos 1) ≡ true → list_any test (with_both n at i b) ≡ true
 any-both_others test n at i zero j le lt h = absurd (omega arith)
 any-both_others test n at i (suc b) j le lt h =
-    any-with_pair test (others n at (i + b)) (pos 1) (with_pair (single at (i + b)) (pos 1) (with_both n at i b)) (elim (last_or_less j (i + b) (omega arith)) [
+    any-with_pair test (others n at (i + b)) (pos 1) (with_pair (single at (i + b)) (pos 1) (with_both n at i b)) (elim (less_or_last j (i + b) (omega arith)) [
       | inl less ↦ inr (any-with_pair test (single at (i + b)) (pos 1) (with_both n at i b) (inr (any-both_others test n at i b j le less h)))
       | inr same ↦ inl (rw (← same) h)
     ])
@@ -183,15 +178,11 @@ pub weight-single_out : (n : ℕ) (cost at : ℕ → ℕ) → IsOrder n cost at 
 weight-single_out n cost at o i zero h le hn out = refl
 weight-single_out n cost at o i (suc b) h le hn out =
     weight_at-with_pair (single at (i + b)) (pos 1) (with_keys (single at) i b) (at h)
-    ∙ rw (single-lacks n cost at o (i + b) h (omega arith) hn (apart out)) (none _ (weight-single_out n cost at o i b h (omega arith) hn (still out)))
+    ∙ rw (single-lacks n cost at o (i + b) h (omega arith) hn (apart out)) (none _ (weight-single_out n cost at o i b h (omega arith) hn (outside_fewer h i b out)))
   where
     apart : (h < i) ⊎ (i + suc b ≤ h) → i + b ≢ h
     apart (inl a) e = omega arith
     apart (inr a) e = omega arith
-
-    still : (h < i) ⊎ (i + suc b ≤ h) → (h < i) ⊎ (i + b ≤ h)
-    still (inl a) = inl a
-    still (inr a) = inr (omega arith)
 
     none : (z : ℤ) → z ≡ pos 0 → pos 0 +ℤ z ≡ pos 0
     none z e = omega (arith, ints)
@@ -200,7 +191,7 @@ pub weight-single_in : (n : ℕ) (cost at : ℕ → ℕ) → IsOrder n cost at �
 weight-single_in n cost at o i zero h le low high = absurd (omega arith)
 weight-single_in n cost at o i (suc b) h le low high =
     weight_at-with_pair (single at (i + b)) (pos 1) (with_keys (single at) i b) (at h)
-    ∙ elim (last_or_less h (i + b) (omega arith)) [
+    ∙ elim (less_or_last h (i + b) (omega arith)) [
       | inl less ↦ rw (single-lacks n cost at o (i + b) h (omega arith) (omega arith) (λ e. omega arith)) (plus _ (weight-single_in n cost at o i b h (omega arith) low less))
       | inr same ↦ rw same (rw (single-has at (i + b)) (once _ (weight-single_out n cost at o i b (i + b) (omega arith) (omega arith) (inr (omega arith)))))
     ]

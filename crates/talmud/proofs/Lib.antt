@@ -10,4 +10,5 @@ pub mod Chains
 pub mod Sharing
 pub mod Making
 pub mod Awarded
+pub mod Exactly
 pub mod Solved

@@ -8,7 +8,6 @@ use Rattle.definitions.specs.declared.Family.{Family}
 use Rattle.definitions.specs.declared.Mode.TheVariants.{Players}
 use Rattle.orders.specs.Orders.{IsOrder}
 use Rattle.orders.proofs.Fronts.{order-place}
-use Rattle.kohlberg.proofs.Forms.{all_join}
 use Rattle.kohlberg.proofs.Conditions.{level_excess, level_most}
 use Rattle.talmud.specs.Rule.{cut}
 use Rattle.talmud.specs.Levels.{single, others, with_keys, key_of, IsRestLevel}
@@ -16,8 +15,12 @@ use Rattle.talmud.proofs.Worths.{game_of, excess-singleton, excess-others}
 use Rattle.talmud.proofs.ByPlace.{IsRule}
 use Rattle.talmud.proofs.Excesses.{Divides-rule, rest_least, enough_gain}
 use Rattle.talmud.proofs.Keys.{single-apart, others-apart, all-keys, length-keys, ascends-keys, weight-two, weight-single_out, weight-single_in}
-use Rattle.talmud.proofs.Covering.{Covers, before_or_in, outside_most, fixes}
-use Rattle.talmud.proofs.HalfLevels.{others_proper, single_proper, one_small, one_le}
+use Rattle.talmud.proofs.Covering.{Covers, outside_most, fixes}
+use Rattle.talmud.proofs.HalfLevels.{others_proper, single_proper}
+use Rattle.definitions.specs.declared.Measure.TheVariants.{Plain}
+use Rattle.definitions.proofs.Alls.{all_join}
+use Rattle.definitions.proofs.Cases.{below_or_above}
+use Rattle.definitions.proofs.UnitWeights.{one_small, one_le}
 
 key_proper : (n : ℕ) (cost at : ℕ → ℕ) → IsOrder n cost at → 2 ≤ n → (gain : Bool) (j : ℕ) → j < n → (0 < key_of n at gain j) × (key_of n at gain j < grand_coalition n)
 key_proper n cost at o two true j lt = single_proper n cost at o two j lt
@@ -57,7 +60,7 @@ rest_form n cost at m gain t den levels l most o b c =
 
 -- each place is once among those from m on and those in front of it
 singles_once : (n : ℕ) (cost at : ℕ → ℕ) → IsOrder n cost at → (m h : ℕ) → m ≤ n → h < n → weight_at (with_keys (single at) m (n - m)) (at h) +ℤ weight_at (with_keys (single at) 0 m) (at h) ≡ pos 1
-singles_once n cost at o m h mn hn = elim (before_or_in m h) [
+singles_once n cost at o m h mn hn = elim (below_or_above h m) [
   | inl less ↦ omega (arith, ints, weight-single_out n cost at o m (n - m) h (omega arith) hn (inl less), weight-single_in n cost at o 0 m h (omega arith) (omega arith) (omega arith))
   | inr low ↦ omega (arith, ints, weight-single_in n cost at o m (n - m) h (omega arith) low (omega arith), weight-single_out n cost at o 0 m h (omega arith) hn (inr (omega arith)))
 ]
@@ -73,9 +76,9 @@ keys_sum n cost at o m h mn hn false =
     joined : (u v y z : ℤ) → u +ℤ v ≡ pos 1 → u +ℤ y ≡ pos (n - m) → v +ℤ z ≡ pos m → y +ℤ z +ℤ pos 0 ≡ pos n -ℤ pos 1
     joined u v y z e f g = omega (arith, ints)
 
-pub rest_holds : (family : Family) (estate : ℕ) (claims : List ℕ) (at : ℕ → ℕ) (m : ℕ) (gain : Bool) (t : ℤ) (x : Allocation) (levels : List Level) (l : Level) → IsRule estate claims at m gain t x → IsRestLevel (length claims) at m gain t x.den l → Covers (length claims) at m levels → LevelHolds Players family (game_of estate claims) x levels l
+pub rest_holds : (family : Family) (estate : ℕ) (claims : List ℕ) (at : ℕ → ℕ) (m : ℕ) (gain : Bool) (t : ℤ) (x : Allocation) (levels : List Level) (l : Level) → IsRule estate claims at m gain t x → IsRestLevel (length claims) at m gain t x.den l → Covers (length claims) at m levels → LevelHolds Players family Plain (game_of estate claims) x levels l
 rest_holds family estate claims at m gain t x levels l r b c = record {
-  excesses = rw b.coalitions (all-keys (λ c. HasExcess (game_of estate claims) x l c.0) (key_of (length claims) at gain) m (length claims - m) (λ j low high. level_excess _ t l.excess_num l.excess_den x.den (key_excess gain r j low (inside j high)) (sym b.excess)));
+  excesses = rw b.coalitions (all-keys (λ c. HasExcess Plain (game_of estate claims) x l c.0) (key_of (length claims) at gain) m (length claims - m) (λ j low high. level_excess _ t l.excess_num l.excess_den x.den (key_excess gain r j low (inside j high)) (sym b.excess)));
   weights = rw b.coalitions (all-keys (λ c. pos 1 ≤ℤ c.1) (key_of (length claims) at gain) m (length claims - m) (λ j low high. one_le));
   bound_weights = rw b.bounds tt;
   balanced = balanced_at;

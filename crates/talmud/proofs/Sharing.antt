@@ -1,18 +1,16 @@
 -- How many players get half of their claims, and that the shares made of it are those of the rule.
-use Rattle.std.proofs.Common.{◌≡◌, ◌⊎◌, ℕ, zero, suc, ◌+◌, ◌-◌, ◌*◌, ◌<◌, ◌≤◌, Bool, true, false, length, get_or, min, ℤ, pos, ◌+ℤ◌, ◌*ℤ◌, ◌≤ℤ◌, refl, sym, ap, ◌∙◌, inl, inr, arith, add-zero, add-one, add-suc, subst}
+use Rattle.std.proofs.Common.{◌≡◌, ◌⊎◌, ℕ, zero, suc, ◌+◌, ◌-◌, ◌*◌, ◌<◌, ◌≤◌, Bool, true, false, length, get_or, min, ℤ, pos, ◌+ℤ◌, ◌*ℤ◌, ◌≤ℤ◌, refl, sym, ap, ◌∙◌, inl, inr, arith, add-one, subst}
 use Rattle.std.proofs.lemmas.Int.{ints}
-use Rattle.std.proofs.Math.Nat.{mul-le-mul}
-use Rattle.definitions.proofs.Ring.{linear, mul-addℤ, mul-zeroℤ, add-mulℤ}
-use Rattle.definitions.proofs.Members.{sum_over-grand_coalition, sum_below-same}
+use Rattle.std.proofs.Math.Nat.{mul-le-mul, le_refl}
+use Rattle.definitions.proofs.Ring.{linear, mul-addℤ, mul-zeroℤ, add-mulℤ, one-mulℤ}
+use Rattle.definitions.proofs.Members.{sum_over-grand_coalition, sum_below-same, sum_below-split}
 use Rattle.definitions.specs.Sums.{sum_below}
 use Rattle.definitions.specs.Coalitions.{sum_over}
 use Rattle.orders.specs.Orders.{IsOrder}
 use Rattle.orders.proofs.Fronts.{sum_over-front}
-use Rattle.talmud.specs.Division.{OrderedClaims, IsOrderedClaims, place, claim_at, claim_sum, divided, IsSplit, IsSide, IsDivision}
+use Rattle.orders.specs.Ordered.{OrderedNumbers, IsOrdered, place, number_at}
+use Rattle.talmud.specs.Division.{claim_sum, divided, IsSplit, IsSide, IsDivision}
 use Rattle.std.specs.List.{All}
-
-pub IsSplit-start : (n : ℕ) (c : ℕ → ℕ) (double : ℕ) → IsSplit n c double 0 double
-IsSplit-start n c double = record { within = omega arith; sum = omega (arith, ints); most = omega arith; under = λ j lt. absurd (omega arith) }
 
 -- one more half player
 pub IsSplit-more : (n : ℕ) (c : ℕ → ℕ) (double m left : ℕ) → ((j k : ℕ) → j < k → k < n → c j ≤ c k) → m < n → c m * (n - m) ≤ left → IsSplit n c double m left → IsSplit n c double (m + 1) (left - c m)
@@ -35,12 +33,9 @@ IsSplit-more n c double m left rising lt le s = record {
     at : (j : ℕ) → c j ≤ c m → c j * (n - (m + 1)) ≤ left - c m
     at j h =
         let r = n - (m + 1) in
-        let a = mul-le-mul h (same_le r) in
+        let a = mul-le-mul h (le_refl r) in
         rest (c j * r) (c m * r) (c m) r a enough refl
       where
-        same_le : (r : ℕ) → r ≤ r
-        same_le r = omega arith
-
         rest : (u v k r : ℕ) → u ≤ v → k * suc r ≤ left → v ≡ k * r → u ≤ left - k
         rest u v k r h e f = omega (arith, f)
 
@@ -55,10 +50,6 @@ IsSplit-more n c double m left rising lt le s = record {
 
 -- ---- sums over the first places and the others
 
-sum_below-split : (m r : ℕ) (f : ℕ → ℤ) → sum_below (m + r) f ≡ sum_below m f +ℤ sum_below r (λ d. f (m + d))
-sum_below-split m zero f = rw add-zero (omega (arith, linear))
-sum_below-split m (suc r) f = rw add-suc (let ih = sum_below-split m r f in omega (arith, linear, ih))
-
 sum-times : (k : ℕ) (h : ℤ) (f g : ℕ → ℤ) → ((j : ℕ) → j < k → g j ≡ h *ℤ f j) → sum_below k g ≡ h *ℤ sum_below k f
 sum-times zero h f g e = sym (mul-zeroℤ h)
 sum-times (suc k) h f g e =
@@ -71,11 +62,8 @@ sum-constant (suc r) t g e =
     let ih = sum-constant r t g (λ j lt. e j (omega arith)) in
     let p : pos (suc r) ≡ pos r +ℤ pos 1 = omega (arith, ints) in
     let q = ap (λ (z : ℤ). z *ℤ t) p ∙ add-mulℤ (pos r) (pos 1) t in
-    let one : pos 1 *ℤ t ≡ t = one_times t in
+    let one : pos 1 *ℤ t ≡ t = one-mulℤ t in
     omega (arith, linear, ih, e r (omega arith), q, one)
-  where
-    one_times : (z : ℤ) → pos 1 *ℤ z ≡ z
-    one_times z = omega (arith, ints)
 
 -- by place or by player
 sum-places : (n : ℕ) (cost at : ℕ → ℕ) → IsOrder n cost at → (f : ℕ → ℤ) → sum_below n f ≡ sum_below n (λ j. f (at j))
@@ -88,8 +76,8 @@ natural_times : (h c : ℕ) → pos h *ℤ pos c ≡ pos (c * h)
 natural_times h c = omega (arith, ints)
 
 -- what each is counted for
-abbrev counted : OrderedClaims → ℕ → ℕ → ℕ → ℤ
-counted c h t i = pos (min (get_or c.cuts i 0 * h) t)
+abbrev counted : OrderedNumbers → ℕ → ℕ → ℕ → ℤ
+counted c h t i = pos (min (get_or c.numbers i 0 * h) t)
 
 twice : (h a b : ℤ) → a ≡ b +ℤ b → h *ℤ a ≡ (h +ℤ h) *ℤ b
 twice h a b e = ap (λ (z : ℤ). h *ℤ z) e ∙ mul-addℤ h b b ∙ sym (add-mulℤ h h b)
@@ -98,24 +86,21 @@ double_of : (amount : ℕ) (d : ℤ) → pos amount ≡ d → pos (2 * amount) �
 double_of amount d e = omega (arith, ints)
 
 -- where some players get more than half of their claims' bound, they share what is left
-pub IsDivision-rest : (estate : ℕ) (c : OrderedClaims) (gain : Bool) (amount m left : ℕ) → IsOrderedClaims c → IsSide estate c gain → pos amount ≡ divided estate c gain → IsSplit (length c.cuts) (claim_at c) (2 * amount) m left → m < length c.cuts → left < claim_at c m * (length c.cuts - m) → IsDivision estate c gain m (length c.cuts - m) left
+pub IsDivision-rest : (estate : ℕ) (c : OrderedNumbers) (gain : Bool) (amount m left : ℕ) → IsOrdered c → IsSide estate c gain → pos amount ≡ divided estate c gain → IsSplit (length c.numbers) (number_at c) (2 * amount) m left → m < length c.numbers → left < number_at c m * (length c.numbers - m) → IsDivision estate c gain m (length c.numbers - m) left
 IsDivision-rest estate c gain amount m left o side e s lt stop = record {
   within = omega arith;
   some = omega arith;
   side = side;
   half = s.under;
-  rest = λ j low high. after (claim_at c m * h) (claim_at c j * h) (mul-le-mul (rises j low high) (same_le h)) stop;
+  rest = λ j low high. after (number_at c m * h) (number_at c j * h) (mul-le-mul (rises j low high) (le_refl h)) stop;
   sum = parts ∙ scaled;
 }
   where
     n : ℕ
-    n = length c.cuts
+    n = length c.numbers
 
     h : ℕ
     h = n - m
-
-    same_le : (r : ℕ) → r ≤ r
-    same_le r = omega arith
 
     after : (u v : ℕ) → u ≤ v → left < u → left < v
     after u v a b = omega arith
@@ -123,43 +108,43 @@ IsDivision-rest estate c gain amount m left o side e s lt stop = record {
     same_or_more : (j : ℕ) → m ≤ j → (j ≡ m) ⊎ (m < j)
     same_or_more j le = grind arith
 
-    rises : (j : ℕ) → m ≤ j → j < n → claim_at c m ≤ claim_at c j
-    rises j low high = elim (same_or_more j low) [ inl same ↦ rw same (same_le (claim_at c m)) | inr more ↦ o.sorted.lists.rising m j more high ]
+    rises : (j : ℕ) → m ≤ j → j < n → number_at c m ≤ number_at c j
+    rises j low high = elim (same_or_more j low) [ inl same ↦ rw same (le_refl (number_at c m)) | inr more ↦ o.sorted.lists.rising m j more high ]
 
-    first : (j : ℕ) → j < m → counted c h left (place c j) ≡ pos h *ℤ pos (claim_at c j)
-    first j below = least (claim_at c j * h) (s.under j below) ∙ sym (natural_times h (claim_at c j))
+    first : (j : ℕ) → j < m → counted c h left (place c j) ≡ pos h *ℤ pos (number_at c j)
+    first j below = least (number_at c j * h) (s.under j below) ∙ sym (natural_times h (number_at c j))
       where
         least : (u : ℕ) → u ≤ left → pos (min u left) ≡ pos u
         least u le = omega (arith, ints)
 
     second : (d : ℕ) → d < h → counted c h left (place c (m + d)) ≡ pos left
-    second d below = least (claim_at c (m + d) * h) (after (claim_at c m * h) (claim_at c (m + d) * h) (mul-le-mul (rises (m + d) (omega arith) (omega arith)) (same_le h)) stop)
+    second d below = least (number_at c (m + d) * h) (after (number_at c m * h) (number_at c (m + d) * h) (mul-le-mul (rises (m + d) (omega arith) (omega arith)) (le_refl h)) stop)
       where
         least : (u : ℕ) → left < u → pos (min u left) ≡ pos left
         least u le = omega (arith, ints)
 
-    parts : sum_below n (counted c h left) ≡ pos h *ℤ (sum_below m (λ j. pos (claim_at c j)) +ℤ pos left)
+    parts : sum_below n (counted c h left) ≡ pos h *ℤ (sum_below m (λ j. pos (number_at c j)) +ℤ pos left)
     parts =
-        let places = sum-places n (λ i. get_or c.cuts i 0) (place c) o.sorted.lists (counted c h left) in
+        let places = sum-places n (λ i. get_or c.numbers i 0) (place c) o.sorted.lists (counted c h left) in
         let split = sum_below-split m h (λ j. counted c h left (place c j)) in
         let all : m + h ≡ n = omega arith in
         let whole = ap (λ (k : ℕ). sum_below k (λ j. counted c h left (place c j))) all in
-        let a = sum-times m (pos h) (λ j. pos (claim_at c j)) (λ j. counted c h left (place c j)) first in
+        let a = sum-times m (pos h) (λ j. pos (number_at c j)) (λ j. counted c h left (place c j)) first in
         let b = sum-constant h (pos left) (λ d. counted c h left (place c (m + d))) second in
-        omega (arith, linear, places, split, whole, a, b, mul-addℤ (pos h) (sum_below m (λ j. pos (claim_at c j))) (pos left))
+        omega (arith, linear, places, split, whole, a, b, mul-addℤ (pos h) (sum_below m (λ j. pos (number_at c j))) (pos left))
 
-    scaled : pos h *ℤ (sum_below m (λ j. pos (claim_at c j)) +ℤ pos left) ≡ (pos h +ℤ pos h) *ℤ divided estate c gain
-    scaled = twice (pos h) (sum_below m (λ j. pos (claim_at c j)) +ℤ pos left) (divided estate c gain) (s.sum ∙ double_of amount (divided estate c gain) e)
+    scaled : pos h *ℤ (sum_below m (λ j. pos (number_at c j)) +ℤ pos left) ≡ (pos h +ℤ pos h) *ℤ divided estate c gain
+    scaled = twice (pos h) (sum_below m (λ j. pos (number_at c j)) +ℤ pos left) (divided estate c gain) (s.sum ∙ double_of amount (divided estate c gain) e)
 
 -- where all get half of their claims, the estate is half of them
-pub IsDivision-all : (estate : ℕ) (c : OrderedClaims) (gain : Bool) (amount m left : ℕ) → IsOrderedClaims c → All (λ d. d ≤ estate) c.cuts → IsSide estate c gain → pos amount ≡ divided estate c gain → IsSplit (length c.cuts) (claim_at c) (2 * amount) m left → length c.cuts ≤ m → IsDivision estate c gain (length c.cuts) 1 estate
+pub IsDivision-all : (estate : ℕ) (c : OrderedNumbers) (gain : Bool) (amount m left : ℕ) → IsOrdered c → All (λ d. d ≤ estate) c.numbers → IsSide estate c gain → pos amount ≡ divided estate c gain → IsSplit (length c.numbers) (number_at c) (2 * amount) m left → length c.numbers ≤ m → IsDivision estate c gain (length c.numbers) 1 estate
 IsDivision-all estate c gain amount m left o low side e s le = record {
   within = omega arith;
   some = omega arith;
   side = side;
-  half = λ j lt. one_low (claim_at c j) (low (place c j) 0 (o.sorted.lists.below j lt));
+  half = λ j lt. one_low (number_at c j) (low (place c j) 0 (o.sorted.lists.below j lt));
   rest = λ j high lt. absurd (omega arith);
-  sum = sum_below-same (length c.cuts) (counted c 1 estate) (λ i. pos (get_or c.cuts i 0)) (λ i lt. one_least (get_or c.cuts i 0) (low i 0 lt)) ∙ both_sides gain side (sums ∙ double_of amount (divided estate c gain) e);
+  sum = sum_below-same (length c.numbers) (counted c 1 estate) (λ i. pos (get_or c.numbers i 0)) (λ i lt. one_least (get_or c.numbers i 0) (low i 0 lt)) ∙ both_sides gain side (sums ∙ double_of amount (divided estate c gain) e);
 }
   where
     one_low : (d : ℕ) → d ≤ estate → d * 1 ≤ estate
@@ -170,9 +155,9 @@ IsDivision-all estate c gain amount m left o low side e s le = record {
 
     sums : claim_sum c +ℤ pos left ≡ pos (2 * amount)
     sums =
-        let all : m ≡ length c.cuts = (let within = s.within in omega arith) in
-        let places = sum-places (length c.cuts) (λ i. get_or c.cuts i 0) (place c) o.sorted.lists (λ i. pos (get_or c.cuts i 0)) in
-        let whole = ap (λ (k : ℕ). sum_below k (λ j. pos (claim_at c j))) all in
+        let all : m ≡ length c.numbers = (let within = s.within in omega arith) in
+        let places = sum-places (length c.numbers) (λ i. get_or c.numbers i 0) (place c) o.sorted.lists (λ i. pos (get_or c.numbers i 0)) in
+        let whole = ap (λ (k : ℕ). sum_below k (λ j. pos (number_at c j))) all in
         omega (arith, linear, places, whole, s.sum)
 
     natural : pos 0 ≤ℤ pos left

@@ -1,27 +1,28 @@
 -- What the code made is a certified answer.
-use Rattle.std.proofs.Common.{◌≡◌, ℕ, ◌+◌, ◌-◌, ◌*◌, ◌≤◌, Bool, List, [], ◌∷◌, length, map, slice_index, Option, Some, None, MatchOption, IsSome, Result, Ok, Err, MatchResult, IsOk, ℤ, pos, refl, sym, ap, subst, inl, inr, arith}
+use Rattle.std.proofs.Common.{◌≡◌, ℕ, ◌-◌, ◌*◌, ◌≤◌, Bool, List, [], ◌∷◌, length, map, slice_index, ℤ, pos, refl, sym, ap, subst, inl, inr, arith}
 use Rattle.std.specs.List.{AllByRecursion}
 use Rattle.definitions.specs.Games.{Allocation}
 use Rattle.definitions.specs.Certificates.{Level, HasForm}
+use Rattle.definitions.specs.declared.Family.{Family}
+use Rattle.definitions.specs.declared.Measure.TheVariants.{Plain}
 use Rattle.definitions.specs.declared.Mode.TheVariants.{Players}
 use Rattle.kohlberg.specs.Certificate.{CertificateData}
-use Rattle.kohlberg.specs.Solved.{IsSolved}
-use Rattle.kohlberg.proofs.Forms.{all_join}
+use Rattle.kohlberg.specs.Solved.{IsLowest, HasFew, IsSolved}
 use Rattle.bankruptcy.specs.Bankruptcy.{Bankruptcy, IsBankruptcy, bankruptcy_game}
 use Rattle.talmud.specs.Rule.{cut_claims, cut}
-use Rattle.talmud.specs.Division.{OrderedClaims, IsOrderedClaims, place, IsDivision, award}
+use Rattle.orders.specs.Ordered.{OrderedNumbers, IsOrdered, place}
+use Rattle.talmud.specs.Division.{IsDivision, award}
 use Rattle.worth_core.specs.Allocations.{allocation}
-use Rattle.talmud.specs.Levels.{key_of, IsRestLevel, AreHalves, AreLevels, AreRuleLevels}
+use Rattle.talmud.specs.Levels.{key_of, IsRestLevel, AreHalves, AreLevels, HoldAll, AreRuleLevels}
 use Rattle.talmud.proofs.ByPlace.{IsRule}
 use Rattle.talmud.proofs.Cuts.{length-cut}
 use Rattle.talmud.proofs.Keys.{length-keys, length-both}
-use Rattle.talmud.proofs.Chains.{HasForm-rule, Certifies-rule, InCore-rule}
+use Rattle.talmud.proofs.Exactly.{hold_all}
+use Rattle.talmud.proofs.Chains.{HasForm-rule, Certifies-rule}
 use Rattle.talmud.proofs.Awarded.{IsAwarded, IsAwarded-awards, IsRule-division, little-is, IsHalfOrder-rule}
+use Rattle.definitions.proofs.Alls.{all_join}
 
 -- ---- at most twice as many entries in a level as players
-
-abbrev HasFew : ℕ → Level → Type 0
-HasFew n l = length l.coalitions + length l.earlier + length l.bounds ≤ 2 * n
 
 few_halves : (n : ℕ) (claim at : ℕ → ℕ) (m i k : ℕ) (levels : List Level) → m ≤ n → AreHalves n claim at m i levels k → AllByRecursion (HasFew n) levels
 few_halves n claim at m i k [] le chain = tt
@@ -52,14 +53,6 @@ few_entries n claim at m gain t den levels le (inr (ls, l, e, chain, b)) = rw e 
 
 -- ---- the answer
 
-pub is_some : {X : Type 0} (A : Type 0) (P : X → Type 0) (o : Option X) → MatchOption o (A → ⊥) P → A → IsSome o
-is_some A P None h a = absurd (h a)
-is_some A P (Some y) h a = refl
-
-pub is_ok : {X E : Type 0} (A : Type 0) (P : X → Type 0) (r : Result X E) → MatchResult r P (λ e. A → ⊥) → A → IsOk r
-is_ok A P (Ok y) h a = refl
-is_ok A P (Err e) h a = absurd (h a)
-
 AreLevels-cut : (estate : ℕ) (claims cuts : List ℕ) (at : ℕ → ℕ) (m : ℕ) (gain : Bool) (t den : ℤ) (levels : List Level) → cuts ≡ cut_claims estate claims → AreLevels (length cuts) (slice_index cuts) at m gain t den levels → AreLevels (length claims) (cut estate claims) at m gain t den levels
 AreLevels-cut estate claims cuts at m gain t den levels e h =
     subst (λ (n : ℕ). AreLevels n (cut estate claims) at m gain t den levels) (length-cut estate claims cuts e) (subst (λ (ds : List ℕ). AreLevels (length cuts) (slice_index ds) at m gain t den levels) e h)
@@ -69,24 +62,27 @@ pub record IsMade (b : Bankruptcy) (at : ℕ → ℕ) (m : ℕ) (gain : Bool) (t
   pub rule : IsRule b.estate b.claims at m gain t x
   pub chain : AreLevels (length b.claims) (cut b.estate b.claims) at m gain t x.den levels
 
-pub made : (b : Bankruptcy) (c : OrderedClaims) (gain : Bool) (m h t : ℕ) (x : Allocation) (levels : List Level) → IsOrderedClaims c → c.cuts ≡ cut_claims b.estate b.claims → IsDivision b.estate c gain m h t → x ≡ allocation (map (λ d. pos (award gain h t d)) c.cuts) (pos (2 * h)) → AreLevels (length c.cuts) (slice_index c.cuts) (place c) m gain (pos t) (pos (2 * h)) levels → IsMade b (place c) m gain (pos t) x levels
+pub made : (b : Bankruptcy) (c : OrderedNumbers) (gain : Bool) (m h t : ℕ) (x : Allocation) (levels : List Level) → IsOrdered c → c.numbers ≡ cut_claims b.estate b.claims → IsDivision b.estate c gain m h t → x ≡ allocation (map (λ d. pos (award gain h t d)) c.numbers) (pos (2 * h)) → AreLevels (length c.numbers) (slice_index c.numbers) (place c) m gain (pos t) (pos (2 * h)) levels → IsMade b (place c) m gain (pos t) x levels
 made b c gain m h t x levels o e d is l = record {
-  rule = IsRule-division b.estate b.claims c gain m h t x o e d (subst (IsAwarded b.estate b.claims gain h t) (sym is) (IsAwarded-awards b.estate b.claims c.cuts gain h t e));
-  chain = subst (λ (q : ℤ). AreLevels (length b.claims) (cut b.estate b.claims) (place c) m gain (pos t) q levels) (sym (ap (λ (y : Allocation). y.den) is)) (AreLevels-cut b.estate b.claims c.cuts (place c) m gain (pos t) (pos (2 * h)) levels e l);
+  rule = IsRule-division b.estate b.claims c gain m h t x o e d (subst (IsAwarded b.estate b.claims gain h t) (sym is) (IsAwarded-awards b.estate b.claims c.numbers gain h t e));
+  chain = subst (λ (q : ℤ). AreLevels (length b.claims) (cut b.estate b.claims) (place c) m gain (pos t) q levels) (sym (ap (λ (y : Allocation). y.den) is)) (AreLevels-cut b.estate b.claims c.numbers (place c) m gain (pos t) (pos (2 * h)) levels e l);
 }
 
 pub levels-formed : (b : Bankruptcy) → IsBankruptcy b → (at : ℕ → ℕ) (m : ℕ) (gain : Bool) (t : ℤ) (x : Allocation) (levels : List Level) → IsMade b at m gain t x levels → HasForm Players (length b.claims) levels
 levels-formed b h at m gain t x levels k = HasForm-rule (length b.claims) (cut b.estate b.claims) at m gain t x.den levels h.some h.few k.rule.within k.rule.order k.chain
 
-pub solved : (b : Bankruptcy) (at : ℕ → ℕ) (m : ℕ) (gain : Bool) (t : ℤ) (x : Allocation) (levels : List Level) (c : CertificateData) → IsMade b at m gain t x levels → c ≡ record { players = length b.claims; mode = Players; levels = levels } → IsSolved (bankruptcy_game b) x c
-solved b at m gain t x levels c k e = subst (IsSolved (bankruptcy_game b) x) (sym e) (record {
+pub solved : (family : Family) (b : Bankruptcy) (at : ℕ → ℕ) (m : ℕ) (gain : Bool) (t : ℤ) (x : Allocation) (levels : List Level) (c : CertificateData) → IsMade b at m gain t x levels → AllByRecursion IsLowest levels → c ≡ record { players = length b.claims; mode = Players; levels = levels } → IsSolved Players family Plain (bankruptcy_game b) x c
+solved family b at m gain t x levels c k lowest e = subst (IsSolved Players family Plain (bankruptcy_game b) x) (sym e) (record {
   players = refl;
-  mode = refl;
-  certifies = λ family. Certifies-rule family b.estate b.claims at m gain t x levels k.rule k.chain;
-  core = InCore-rule b.estate b.claims at m gain t x k.rule;
+  in_mode = refl;
+  certifies = Certifies-rule family b.estate b.claims at m gain t x levels k.rule k.chain;
   few = few_entries (length b.claims) (cut b.estate b.claims) at m gain t x.den levels k.rule.within k.chain;
+  lowest = lowest;
 })
 
-pub AreRuleLevels-made : (b : Bankruptcy) (at : ℕ → ℕ) (m : ℕ) (gain : Bool) (t : ℤ) (x : Allocation) (levels : List Level) → IsMade b at m gain t x levels → AreRuleLevels b.estate b.claims x levels
-AreRuleLevels-made b at m gain t x levels k =
-    (at, m, t, IsHalfOrder-rule b.estate b.claims at m gain t x k.rule, subst (λ (g : Bool). AreLevels (length b.claims) (cut b.estate b.claims) at m g t x.den levels) (little-is b.estate b.claims at m gain t x k.rule) k.chain)
+pub AreRuleLevels-made : (b : Bankruptcy) → IsBankruptcy b → (at : ℕ → ℕ) (m : ℕ) (gain : Bool) (t : ℤ) (x : Allocation) (levels : List Level) → IsMade b at m gain t x levels → AreRuleLevels b.estate b.claims x levels
+AreRuleLevels-made b h at m gain t x levels k =
+    let n = length b.claims in
+    let form = levels-formed b h at m gain t x levels k in
+    let held = hold_all n (cut b.estate b.claims) at m gain t x.den levels k.chain form.each in
+    (at, m, t, IsHalfOrder-rule b.estate b.claims at m gain t x k.rule, subst (λ (g : Bool). HoldAll n (cut b.estate b.claims) at m g t x.den levels) (little-is b.estate b.claims at m gain t x k.rule) held)

@@ -5,13 +5,14 @@ use Rattle.std.proofs.lemmas.Int.{ints}
 use Rattle.std.proofs.Math.Pow.{pow-lt}
 use Rattle.definitions.proofs.Ring.{linear, mul-subℤ, mul-zeroℤ, mul-addℤ}
 use Rattle.definitions.proofs.Members.{has_player-empty, has_player-singleton, has_player-singleton_other, sum_over-singleton, sum_over-complement}
-use Rattle.definitions.proofs.Parts.{same_or_other, part, sum_below-le}
+use Rattle.definitions.proofs.Parts.{part, sum_below-le}
 use Rattle.definitions.specs.Sums.{sum_below}
 use Rattle.definitions.specs.Coalitions.{has_player, singleton, grand_coalition, sum_over}
 use Rattle.definitions.specs.Games.{Game, Allocation, share, amount, excess}
 use Rattle.definitions.specs.Classes.{bankruptcy_worth}
-use Rattle.bankruptcy.proofs.Laws.{claim, max-cases}
+use Rattle.bankruptcy.proofs.Laws.{claim}
 use Rattle.talmud.specs.Rule.{cut, loss}
+use Rattle.definitions.proofs.Cases.{int_max-cases, same_or_other}
 
 -- ---- the cut
 
@@ -55,9 +56,9 @@ worth-cut estate claims s =
   where
     same : (u v : ℤ) → u ≤ℤ v → (u ≡ v) ⊎ (pos estate ≤ℤ u) → int_max (pos 0) (pos estate -ℤ v) ≡ int_max (pos 0) (pos estate -ℤ u)
     same u v le (inl e) = ap (λ (z : ℤ). int_max (pos 0) (pos estate -ℤ z)) (sym e)
-    same u v le (inr e) = elim (max-cases (pos 0) (pos estate -ℤ v)) [
-      | inl a ↦ elim (max-cases (pos 0) (pos estate -ℤ u)) [ inl b ↦ a.0 ∙ sym b.0 | inr b ↦ omega (arith, ints, a.0, b.0, b.1) ]
-      | inr a ↦ elim (max-cases (pos 0) (pos estate -ℤ u)) [ inl b ↦ omega (arith, ints, a.0, a.1, b.0) | inr b ↦ omega (arith, ints, a.0, a.1, b.0, b.1) ]
+    same u v le (inr e) = elim (int_max-cases (pos 0) (pos estate -ℤ v)) [
+      | inl a ↦ elim (int_max-cases (pos 0) (pos estate -ℤ u)) [ inl b ↦ a.0 ∙ sym b.0 | inr b ↦ omega (arith, ints, a.0, b.0, b.1) ]
+      | inr a ↦ elim (int_max-cases (pos 0) (pos estate -ℤ u)) [ inl b ↦ omega (arith, ints, a.0, a.1, b.0) | inr b ↦ omega (arith, ints, a.0, a.1, b.0, b.1) ]
     ]
 
 -- ---- sums of numbers that are at least 0
@@ -76,14 +77,6 @@ sum-least n s p f low lt has =
 
     each : (i : ℕ) → i < n → part f (singleton p) i ≤ℤ part f s i
     each i h = elim (same_or_other i p) [ inl e ↦ at_p i e | inr ne ↦ rw (has_player-singleton_other p i ne) (low_part (has_player s i) (f i) (low i h)) ]
-
-pub sum-nonnegative : (n s : ℕ) (f : ℕ → ℤ) → ((i : ℕ) → i < n → pos 0 ≤ℤ f i) → pos 0 ≤ℤ sum_over n f s
-sum-nonnegative zero s f low = omega (arith, linear)
-sum-nonnegative (suc n) s f low =
-    let ih = sum-nonnegative n s f (λ i h. low i (omega arith)) in
-    let here = low n (omega arith) in
-    let step : (b : Bool) → pos 0 ≤ℤ (sum_over n f s +ℤ cond b (f n) (pos 0)) = elim [ true ↦ omega (arith, linear) | false ↦ omega (arith, linear) ] in
-    step (has_player s n)
 
 -- ---- excesses, where the shares add to the estate
 
@@ -124,7 +117,7 @@ excess-at_most estate claims x s z d small gain lose =
     let losses = loss-sum estate claims x n t in
     let at = amount-at estate claims x d s in
     let scaled = ap (λ (v : ℤ). x.den *ℤ v) w in
-    elim (max-cases (pos 0) (pos estate -ℤ c)) [
+    elim (int_max-cases (pos 0) (pos estate -ℤ c)) [
       | inl a ↦ omega (arith, linear, scaled, ap (λ (v : ℤ). x.den *ℤ v) a.0, mul-zeroℤ x.den, at, gain)
       | inr a ↦ omega (arith, linear, scaled, ap (λ (v : ℤ). x.den *ℤ v) a.0, mul-subℤ x.den (pos estate) c, parts, losses, at, lose, d.all)
     ]
@@ -140,7 +133,7 @@ excess-singleton estate claims x i d lt enough =
     let w = worth-cut estate claims (singleton i) in
     let scaled = ap (λ (v : ℤ). x.den *ℤ v) w in
     let at = amount-at estate claims x d (singleton i) in
-    elim (max-cases (pos 0) (pos estate -ℤ c)) [
+    elim (int_max-cases (pos 0) (pos estate -ℤ c)) [
       | inl a ↦ omega (arith, linear, scaled, ap (λ (v : ℤ). x.den *ℤ v) a.0, mul-zeroℤ x.den, at, got)
       | inr a ↦
           let none : pos estate -ℤ c ≡ pos 0 = omega (arith, linear, a.1, parts, mine, enough) in
@@ -160,7 +153,7 @@ excess-others estate claims x i d lt =
     let parts = sum_over-complement n (singleton i) (share x) small in
     let got = sum_over-singleton n i (share x) lt in
     let le = cut-low estate claims i in
-    elim (max-cases (pos 0) (pos estate -ℤ sum_over n (cut_claim estate claims) (grand_coalition n - s))) [
+    elim (int_max-cases (pos 0) (pos estate -ℤ sum_over n (cut_claim estate claims) (grand_coalition n - s))) [
       | inl a ↦
           let none : pos estate -ℤ cut_claim estate claims i ≡ pos 0 = omega (arith, linear, a.1, mine, le) in
           omega (arith, linear, scaled, ap (λ (v : ℤ). x.den *ℤ v) (a.0 ∙ sym none), mul-subℤ x.den (pos estate) (cut_claim estate claims i), at, parts, got, d.all)
@@ -175,7 +168,7 @@ worth-grand_coalition estate claims =
     let n = length claims in
     let nobody : grand_coalition n - grand_coalition n ≡ 0 = omega arith in
     let none : sum_over n (claim claims) (grand_coalition n - grand_coalition n) ≡ pos 0 = ap (sum_over n (claim claims)) nobody ∙ sum_over-nobody n (claim claims) in
-    elim (max-cases (pos 0) (pos estate -ℤ sum_over n (claim claims) (grand_coalition n - grand_coalition n))) [
+    elim (int_max-cases (pos 0) (pos estate -ℤ sum_over n (claim claims) (grand_coalition n - grand_coalition n))) [
       | inl a ↦ omega (arith, ints, none, a.0, a.1)
       | inr a ↦ omega (arith, ints, none, a.0)
     ]

@@ -1,45 +1,20 @@
 -- How the estate is divided: what the code keeps.
 --
---   OrderedClaims             cut claims, and the players in their order
---   place, claim_at           the player at a place, and its claim
 --   claim_sum                 the sum of the claims
 --   divided                   what is divided by halves: the estate, or what the claims are above it
 --   IsSplit                   how many get half of their claims, and what is left for the others
 --   IsDivision                who gets half, and the bound for the others
 --   award                     the share of a claim
-use Rattle.std.specs.Prelude.{◌≡◌, ℕ, ◌-◌, ◌*◌, ◌^◌, ◌<◌, ◌≤◌, Bool, true, false, List, length, min, All, ℤ, pos, ◌+ℤ◌, ◌-ℤ◌, ◌*ℤ◌, ◌<ℤ◌, ◌≤ℤ◌, slice_index, if◌then◌else◌}
+use Rattle.std.specs.Prelude.{◌≡◌, ℕ, ◌-◌, ◌*◌, ◌<◌, ◌≤◌, Bool, true, false, length, min, ℤ, pos, ◌+ℤ◌, ◌-ℤ◌, ◌*ℤ◌, ◌<ℤ◌, ◌≤ℤ◌, slice_index, if◌then◌else◌}
 use Rattle.definitions.specs.Sums.{sum_below}
-use Rattle.orders.specs.Orders.{IsSortedOrder}
-
--- claims, and the players in their order
-pub record OrderedClaims : Type 0 where
-  pub cuts : List ℕ
-  pub order : List ℕ
-
--- these parts together
-abbrev pub ordered_claims : List ℕ → List ℕ → OrderedClaims
-ordered_claims cuts order = record { cuts = cuts; order = order }
-
--- 1 to 64 claims below 2 ^ 40, and each player once, from the least claim
-pub record IsOrderedClaims (c : OrderedClaims) : Type 0 where
-  pub some : 1 ≤ length c.cuts
-  pub few : length c.cuts ≤ 64
-  pub small : All (λ d. d < 2 ^ 40) c.cuts
-  pub sorted : IsSortedOrder c.cuts c.order
-
--- the player at place k, and its claim
-abbrev pub place : OrderedClaims → ℕ → ℕ
-place c k = slice_index c.order k
-
-abbrev pub claim_at : OrderedClaims → ℕ → ℕ
-claim_at c k = slice_index c.cuts (place c k)
+use Rattle.orders.specs.Ordered.{OrderedNumbers, number_at}
 
 -- the sum of the claims
-abbrev pub claim_sum : OrderedClaims → ℤ
-claim_sum c = sum_below (length c.cuts) (λ i. pos (slice_index c.cuts i))
+abbrev pub claim_sum : OrderedNumbers → ℤ
+claim_sum c = sum_below (length c.numbers) (λ i. pos (slice_index c.numbers i))
 
 -- what is divided by halves: the estate, or what the claims are above it
-abbrev pub divided : ℕ → OrderedClaims → Bool → ℤ
+abbrev pub divided : ℕ → OrderedNumbers → Bool → ℤ
 divided estate c gain = if gain then pos estate else claim_sum c -ℤ pos estate
 
 -- the claims at the first m places are taken from twice what there is to divide, and each of them times the places behind is at most what is left
@@ -50,18 +25,18 @@ pub record IsSplit (n : ℕ) (claim : ℕ → ℕ) (double m left : ℕ) : Type 
   pub under : (j : ℕ) → j < m → claim j * (n - m) ≤ left
 
 -- whether the estate is at most half of the claims
-pub record IsSide (estate : ℕ) (c : OrderedClaims) (gain : Bool) : Type 0 where
+pub record IsSide (estate : ℕ) (c : OrderedNumbers) (gain : Bool) : Type 0 where
   pub little : gain ≡ true → (pos estate +ℤ pos estate) ≤ℤ claim_sum c
   pub much : gain ≡ false → claim_sum c <ℤ (pos estate +ℤ pos estate)
 
 -- the first m players get half of their claims, which is at most t over twice h; half of each other claim is more than t; and the lesser of the two is the part of each in what is divided
-pub record IsDivision (estate : ℕ) (c : OrderedClaims) (gain : Bool) (m h t : ℕ) : Type 0 where
-  pub within : m ≤ length c.cuts
+pub record IsDivision (estate : ℕ) (c : OrderedNumbers) (gain : Bool) (m h t : ℕ) : Type 0 where
+  pub within : m ≤ length c.numbers
   pub some : 1 ≤ h
   pub side : IsSide estate c gain
-  pub half : (j : ℕ) → j < m → claim_at c j * h ≤ t
-  pub rest : (j : ℕ) → m ≤ j → j < length c.cuts → t < claim_at c j * h
-  pub sum : sum_below (length c.cuts) (λ i. pos (min (slice_index c.cuts i * h) t)) ≡ (pos h +ℤ pos h) *ℤ divided estate c gain
+  pub half : (j : ℕ) → j < m → number_at c j * h ≤ t
+  pub rest : (j : ℕ) → m ≤ j → j < length c.numbers → t < number_at c j * h
+  pub sum : sum_below (length c.numbers) (λ i. pos (min (slice_index c.numbers i * h) t)) ≡ (pos h +ℤ pos h) *ℤ divided estate c gain
 
 -- the share of a claim over twice h: the lesser of half of it and t, or the claim less that
 abbrev pub award : Bool → ℕ → ℕ → ℕ → ℕ

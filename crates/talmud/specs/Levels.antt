@@ -9,13 +9,15 @@
 --   IsRestLevel               the level of the players who aren't half players
 --   AreLevels                 all levels
 --   IsHalfOrder               an order of the players by their cut claims, in which the half players are the first
+--   IsOfBoth, IsOfKeys        the pairs of a level
+--   HoldsHalf, HoldHalves, HoldsRest, HoldAll   the same levels, by what their lists hold
 --   AreRuleLevels             all levels, in such an order
 use Rattle.std.specs.Prelude.{◌≡◌, ◌≢◌, ◌⊎◌, ◌++◌, ℕ, zero, suc, ◌+◌, ◌-◌, ◌<◌, ◌≤◌, Bool, List, [], ◌∷◌, length, ℤ, pos, ◌-ℤ◌, ◌*ℤ◌, ◌≤ℤ◌, neg_ℤ, if◌then◌else◌}
 use Rattle.definitions.specs.Coalitions.{singleton, grand_coalition}
 use Rattle.definitions.specs.Games.{Allocation, share}
 use Rattle.definitions.specs.Certificates.{Level}
 use Rattle.orders.specs.Orders.{IsOrder}
-use Rattle.kohlberg.specs.Pairs.{with_pair}
+use Rattle.kohlberg.specs.Pairs.{with_pair, AreExactly}
 use Rattle.talmud.specs.Rule.{cut, loss, is_little, part}
 
 -- the player at place j alone, and all but that player
@@ -87,7 +89,48 @@ pub record IsHalfOrder (estate : ℕ) (claims : List ℕ) (x : Allocation) (at :
   pub not_half : (j : ℕ) → m ≤ j → j < length claims → share x (at j) ≢ loss estate claims x (at j)
   pub rest : (j : ℕ) → m ≤ j → j < length claims → part estate claims x (at j) ≡ t
 
+-- ---- the same levels, by what their lists hold
+
+-- a player at a place from i up to k alone, or all but that player, with weight 1
+abbrev pub IsOfBoth : ℕ → (ℕ → ℕ) → ℕ → ℕ → ℕ → ℤ → Type 0
+IsOfBoth n at i k s w = ((j : ℕ) × (i ≤ j) × (j < k) × ((s ≡ single at j) ⊎ (s ≡ others n at j))) × (w ≡ pos 1)
+
+-- the key of a place from i up to k, with weight 1
+abbrev pub IsOfKeys : (ℕ → ℕ) → ℕ → ℕ → ℕ → ℤ → Type 0
+IsOfKeys key i k s w = ((j : ℕ) × (i ≤ j) × (j < k) × (s ≡ key j)) × (w ≡ pos 1)
+
+-- the level of the half players from place i up to place k, with minus half of their claim as excess
+pub record HoldsHalf (n : ℕ) (claim at : ℕ → ℕ) (m i k : ℕ) (l : Level) : Type 0 where
+  pub two : i + 2 ≤ n
+  pub end : IsHalfEnd n claim at m i k
+  pub fraction : pos 1 ≤ℤ l.excess_den
+  pub excess : l.excess_num *ℤ pos 2 ≡ neg_ℤ (pos (claim (at i))) *ℤ l.excess_den
+  pub coalitions : AreExactly (IsOfBoth n at i k) l.coalitions
+  pub earlier : l.earlier ≡ []
+  pub bounds : l.bounds ≡ []
+  pub total : l.total ≡ pos (k - i)
+
+-- the half levels from place i up to place k
+abbrev pub HoldHalves : ℕ → (ℕ → ℕ) → (ℕ → ℕ) → ℕ → ℕ → List Level → ℕ → Type 0
+HoldHalves n claim at m i [] k = i ≡ k
+HoldHalves n claim at m i (l ∷ ls) k = (h : ℕ) × HoldsHalf n claim at m i h l × HoldHalves n claim at m h ls k
+
+-- the level of the players from place m on, who get, or lose, t over a denominator
+pub record HoldsRest (n : ℕ) (at : ℕ → ℕ) (m : ℕ) (gain : Bool) (t den : ℤ) (l : Level) : Type 0 where
+  pub two : m + 2 ≤ n
+  pub fraction : pos 1 ≤ℤ l.excess_den
+  pub excess : l.excess_num *ℤ den ≡ neg_ℤ t *ℤ l.excess_den
+  pub coalitions : AreExactly (IsOfKeys (key_of n at gain) m n) l.coalitions
+  pub earlier : AreExactly (IsOfKeys (key_of n at gain) 0 m) l.earlier
+  pub bounds : l.bounds ≡ []
+  pub total : l.total ≡ (if gain then pos 1 else pos n -ℤ pos 1)
+
+-- half levels while two players are left, and behind all of them the level of the others, where they are two at least
+abbrev pub HoldAll : ℕ → (ℕ → ℕ) → (ℕ → ℕ) → ℕ → Bool → ℤ → ℤ → List Level → Type 0
+HoldAll n claim at m gain t den levels =
+    ((k : ℕ) × HoldHalves n claim at m 0 levels k × (n ≤ k + 1)) ⊎ ((ls : List Level) × (l : Level) × (levels ≡ ls ++ l ∷ []) × HoldHalves n claim at m 0 ls m × HoldsRest n at m gain t den l)
+
 -- the levels of the rule, for shares over a denominator
 abbrev pub AreRuleLevels : ℕ → List ℕ → Allocation → List Level → Type 0
 AreRuleLevels estate claims x levels =
-    (at : ℕ → ℕ) × (m : ℕ) × (t : ℤ) × IsHalfOrder estate claims x at m t × AreLevels (length claims) (cut estate claims) at m (is_little estate claims) t x.den levels
+    (at : ℕ → ℕ) × (m : ℕ) × (t : ℤ) × IsHalfOrder estate claims x at m t × HoldAll (length claims) (cut estate claims) at m (is_little estate claims) t x.den levels

@@ -5,7 +5,7 @@ ghost use Rattle.bankruptcy.specs.Bankruptcy.{IsBankruptcy};
 ghost use Rattle.talmud.specs.Rule.{cut_claims};
 
 use bankruptcy::BankruptcyGame;
-use orders::sorted_players;
+use orders::Ordered;
 use std::alloc::{AllocError, Global};
 use std::marker::Model;
 use worth_core::Worth;
@@ -13,62 +13,59 @@ use worth_core::Worth;
 /// The claims, cut to the estate, and the players in the order of these.
 #[derive(Drop)]
 pub struct CutClaims {
-    cuts: Vec<u64>,
-    order: Vec<u32>,
+    claims: Ordered,
 }
 
 impl Model for CutClaims {
-    ghost use Rattle.talmud.specs.Division.{OrderedClaims, IsOrderedClaims, ordered_claims};
+    ghost use Rattle.orders.specs.Ordered.{OrderedNumbers};
 
-    ghost Value = { OrderedClaims };
+    ghost Value = { OrderedNumbers };
 
-    ghost view = { λ c. ordered_claims c.cuts.items c.order.items };
-
-    ghost invariant = { λ c. IsOrderedClaims (ordered_claims c.cuts.items c.order.items) };
+    ghost view = { λ c. c.claims };
 }
 
 impl CutClaims {
-    ghost use Rattle.talmud.specs.Division.{IsOrderedClaims, place};
+    ghost use Rattle.orders.specs.Ordered.{IsOrdered, place};
 
     /// The claims of a game, each cut to its estate.
     pub fn new(alloc: Global, game: &BankruptcyGame) -> Result<CutClaims, AllocError>
-        ensures cuts { IfOk result (λ c. c.cuts ≡ cut_claims game.now.estate game.now.claims) }
+        ensures cuts { IfOk result (λ c. c.numbers ≡ cut_claims game.now.estate game.now.claims) }
+        ensures ordered { IfOk result IsOrdered }
         ensures laws { IsBankruptcy game.now }
     {
-        let cuts = cuts(alloc, game)?;
-        let order = sorted_players(alloc, &cuts)?;
-        Ok(CutClaims { cuts, order })
+        let claims = Ordered::new(alloc, cuts(alloc, game)?)?;
+        Ok(CutClaims { claims })
     }
 
     /// The number of claims, and so of places.
     pub fn len(&self) -> u32
-        ensures count { result ≡ length self.now.cuts }
-        ensures laws { IsOrderedClaims self.now }
+        ensures count { result ≡ length self.now.numbers }
+        ensures laws { IsOrdered self.now }
     {
-        self.cuts.len() as u32
+        self.claims.len()
     }
 
     /// The cut claim of player `i`.
     pub fn cut(&self, i: u32) -> u64
-        requires { i < length self.now.cuts }
-        ensures value { result ≡ slice_index self.now.cuts i }
+        requires { i < length self.now.numbers }
+        ensures value { result ≡ slice_index self.now.numbers i }
         ensures small { result < 2 ^ 40 }
     {
-        self.cuts[i as usize]
+        self.claims.number(i)
     }
 
     /// The player at place `k` from the least cut claim; of equal ones the lesser player stands first.
     pub fn place(&self, k: u32) -> u32
-        requires { k < length self.now.cuts }
+        requires { k < length self.now.numbers }
         ensures value { result ≡ place self.now k }
-        ensures player { result < length self.now.cuts }
+        ensures player { result < length self.now.numbers }
     {
-        self.order[k as usize]
+        self.claims.place(k)
     }
 
     /// The sum of the cut claims.
     pub fn total(&self) -> u64
-        ensures value { pos result ≡ sum_below (length self.now.cuts) (λ i. pos (slice_index self.now.cuts i)) }
+        ensures value { pos result ≡ sum_below (length self.now.numbers) (λ i. pos (slice_index self.now.numbers i)) }
         ensures small { result < 2 ^ 46 }
     {
         let mut total: u64 = 0;

@@ -3,8 +3,9 @@
 //! With the cut claims `d` in ascending order, of `n` players, and with `S` the estate or, where that is more than half of
 //! the claims, what they are above it: the player at place `m` gets (or loses) `d_m / 2` as long as `(n - m) d_m` is at most
 //! `2 S - (d_0 + .. + d_(m-1))`. The others get (or lose) `(2 S - (d_0 + .. + d_(m-1))) / (2 (n - m))`.
-ghost use Rattle.std.specs.Prelude.{◌≡◌, ◌-◌, ◌*◌, ◌^◌, ◌<◌, ◌≤◌, length, map, pos, ◌≤ℤ◌, slice_index, IfOk, All};
-ghost use Rattle.talmud.specs.Division.{IsSplit, IsSide, IsDivision, place, claim_at, claim_sum, divided, award};
+ghost use Rattle.std.specs.Prelude.{◌≡◌, ◌-◌, ◌*◌, ◌^◌, ◌<◌, ◌≤◌, length, map, pos, ◌≤ℤ◌, IfOk, All};
+ghost use Rattle.orders.specs.Ordered.{number_at};
+ghost use Rattle.talmud.specs.Division.{IsSplit, IsSide, IsDivision, claim_sum, divided, award};
 
 use crate::cut_claims::CutClaims;
 use std::alloc::{AllocError, Global};
@@ -36,7 +37,7 @@ impl Division {
     /// The division of an estate among claims of at most the estate.
     pub fn new(estate: u64, claims: &CutClaims) -> Division
         requires small { estate < 2 ^ 40 }
-        requires cut { All (λ c. c ≤ estate) claims.now.cuts }
+        requires cut { All (λ c. c ≤ estate) claims.now.numbers }
         requires enough { pos estate ≤ℤ claim_sum claims.now }
         ensures { IsDivision estate claims.now result.gain result.half result.half_den result.bound }
     {
@@ -51,7 +52,7 @@ impl Division {
     /// The division where so much is got or lost by halves.
     fn of_side(estate: u64, claims: &CutClaims, gain: bool, amount: u64) -> Division
         requires small { estate < 2 ^ 40 }
-        requires cut { All (λ c. c ≤ estate) claims.now.cuts }
+        requires cut { All (λ c. c ≤ estate) claims.now.numbers }
         requires side { IsSide estate claims.now gain }
         requires divided { pos amount ≡ divided estate claims.now gain }
         requires amount { amount < 2 ^ 46 }
@@ -85,7 +86,7 @@ impl Division {
 
     /// The share of each player, over the denominator.
     pub fn awards(self, alloc: Global, claims: &CutClaims) -> Result<Vec<i128>, AllocError>
-        ensures { IfOk result (λ v. v.items ≡ map (λ c. pos (award self.gain self.half_den self.bound c)) claims.now.cuts) }
+        ensures { IfOk result (λ v. v.items ≡ map (λ c. pos (award self.gain self.half_den self.bound c)) claims.now.numbers) }
     {
         let mut num = Vec::new(alloc);
         for i in 0..claims.len() {
@@ -109,8 +110,8 @@ impl Division {
 /// Players get half of their claims as long as the next claim, for each of those behind, is at most what is left.
 fn half_players(claims: &CutClaims, double: u64) -> Split
     requires { double < 2 ^ 47 }
-    ensures split { IsSplit (length claims.now.cuts) (claim_at claims.now) double result.half result.left }
-    ensures stop { result.half < length claims.now.cuts → result.left < claim_at claims.now result.half * (length claims.now.cuts - result.half) }
+    ensures split { IsSplit (length claims.now.numbers) (number_at claims.now) double result.half result.left }
+    ensures stop { result.half < length claims.now.numbers → result.left < number_at claims.now result.half * (length claims.now.numbers - result.half) }
 {
     let n = claims.len();
     let mut half = 0;

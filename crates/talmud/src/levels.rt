@@ -1,9 +1,9 @@
 //! The levels: one for each claim of the players who get half of it, and one for the other players.
 ghost use Rattle.std.specs.Prelude.{◌≡◌, ◌⊎◌, ℕ, ◌+◌, ◌-◌, ◌*◌, ◌<◌, ◌≤◌, length, pos, ◌-ℤ◌, slice_index, IfOk, if◌then◌else◌};
 ghost use Rattle.std.specs.List.{AllByRecursion};
-ghost use Rattle.fractions.specs.Fraction.{IsReduced, HasForm};
+ghost use Rattle.kohlberg.specs.Solved.{IsLowest};
 ghost use Rattle.definitions.specs.Coalitions.{singleton, grand_coalition};
-ghost use Rattle.talmud.specs.Division.{place};
+ghost use Rattle.orders.specs.Ordered.{place};
 ghost use Rattle.talmud.specs.Levels.{with_keys, with_both, key_of, IsHalfEnd, IsHalfLevel, AreHalves, IsRestLevel, AreLevels};
 
 use crate::cut_claims::CutClaims;
@@ -31,8 +31,8 @@ fn keys(
     k: u32,
 ) -> Result<Vec<(Coalition, i128)>, AllocError>
     requires from { i ≤ k }
-    requires within { k ≤ length claims.now.cuts }
-    ensures { IfOk result (λ v. v.items ≡ with_keys (key_of (length claims.now.cuts) (place claims.now) alone) i (k - i)) }
+    requires within { k ≤ length claims.now.numbers }
+    ensures { IfOk result (λ v. v.items ≡ with_keys (key_of (length claims.now.numbers) (place claims.now) alone) i (k - i)) }
 {
     let n = claims.len();
     let mut pairs = Vec::new(alloc);
@@ -50,8 +50,8 @@ fn both(
     k: u32,
 ) -> Result<Vec<(Coalition, i128)>, AllocError>
     requires from { i ≤ k }
-    requires within { k ≤ length claims.now.cuts }
-    ensures { IfOk result (λ v. v.items ≡ with_both (length claims.now.cuts) (place claims.now) i (k - i)) }
+    requires within { k ≤ length claims.now.numbers }
+    ensures { IfOk result (λ v. v.items ≡ with_both (length claims.now.numbers) (place claims.now) i (k - i)) }
 {
     let n = claims.len();
     let mut pairs = Vec::new(alloc);
@@ -66,8 +66,8 @@ fn both(
 /// both.
 fn half_end(claims: &CutClaims, m: u32, i: u32) -> u32
     requires from { i < m }
-    requires within { m ≤ length claims.now.cuts }
-    ensures { IsHalfEnd (length claims.now.cuts) (slice_index claims.now.cuts) (place claims.now) m i result }
+    requires within { m ≤ length claims.now.numbers }
+    ensures { IsHalfEnd (length claims.now.numbers) (slice_index claims.now.numbers) (place claims.now) m i result }
 {
     let claim = claims.cut(claims.place(i));
     let mut k = i + 1;
@@ -79,11 +79,11 @@ fn half_end(claims: &CutClaims, m: u32, i: u32) -> u32
 
 /// The level of the half players from place `i` up to place `k`.
 fn half_level(alloc: Global, claims: &CutClaims, i: u32, k: u32) -> Result<Level, AllocError>
-    requires two { i + 2 ≤ length claims.now.cuts }
+    requires two { i + 2 ≤ length claims.now.numbers }
     requires some { i < k }
-    requires within { k ≤ length claims.now.cuts }
-    ensures level { IfOk result (λ l. (m : ℕ) → IsHalfEnd (length claims.now.cuts) (slice_index claims.now.cuts) (place claims.now) m i k → IsHalfLevel (length claims.now.cuts) (slice_index claims.now.cuts) (place claims.now) m i k l) }
-    ensures lowest { IfOk result (λ l. IsReduced (record { num = l.excess_num; den = l.excess_den }) × HasForm (record { num = l.excess_num; den = l.excess_den })) }
+    requires within { k ≤ length claims.now.numbers }
+    ensures level { IfOk result (λ l. (m : ℕ) → IsHalfEnd (length claims.now.numbers) (slice_index claims.now.numbers) (place claims.now) m i k → IsHalfLevel (length claims.now.numbers) (slice_index claims.now.numbers) (place claims.now) m i k l) }
+    ensures lowest { IfOk result IsLowest }
 {
     let claim = claims.cut(claims.place(i));
     let coalitions = both(alloc, claims, i, k)?;
@@ -105,9 +105,9 @@ fn rest_total(n: u32, alone: bool) -> i128
 
 /// The level of the players who aren't half players.
 fn rest_level(alloc: Global, claims: &CutClaims, division: Division) -> Result<Level, AllocError>
-    requires { division.half + 2 ≤ length claims.now.cuts }
-    ensures level { IfOk result (λ l. IsRestLevel (length claims.now.cuts) (place claims.now) division.half division.gain (pos division.bound) (pos (2 * division.half_den)) l) }
-    ensures lowest { IfOk result (λ l. IsReduced (record { num = l.excess_num; den = l.excess_den }) × HasForm (record { num = l.excess_num; den = l.excess_den })) }
+    requires { division.half + 2 ≤ length claims.now.numbers }
+    ensures level { IfOk result (λ l. IsRestLevel (length claims.now.numbers) (place claims.now) division.half division.gain (pos division.bound) (pos (2 * division.half_den)) l) }
+    ensures lowest { IfOk result IsLowest }
 {
     let n = claims.len();
     let gain = division.gain;
@@ -124,9 +124,9 @@ fn rest_level(alloc: Global, claims: &CutClaims, division: Division) -> Result<L
 
 /// The levels of the half players while two players are left.
 fn half_levels(alloc: Global, claims: &CutClaims, m: u32) -> Result<Vec<Level>, AllocError>
-    requires { m ≤ length claims.now.cuts }
-    ensures levels { IfOk result (λ v. (k : ℕ) × AreHalves (length claims.now.cuts) (slice_index claims.now.cuts) (place claims.now) m 0 v.items k × ((k ≡ m) ⊎ (length claims.now.cuts ≤ k + 1))) }
-    ensures lowest { IfOk result (λ v. AllByRecursion (λ l. IsReduced (record { num = l.excess_num; den = l.excess_den }) × HasForm (record { num = l.excess_num; den = l.excess_den })) v.items) }
+    requires { m ≤ length claims.now.numbers }
+    ensures levels { IfOk result (λ v. (k : ℕ) × AreHalves (length claims.now.numbers) (slice_index claims.now.numbers) (place claims.now) m 0 v.items k × ((k ≡ m) ⊎ (length claims.now.numbers ≤ k + 1))) }
+    ensures lowest { IfOk result (λ v. AllByRecursion IsLowest v.items) }
 {
     let n = claims.len();
     let mut levels = Vec::new(alloc);
@@ -145,9 +145,9 @@ pub fn all_levels(
     claims: &CutClaims,
     division: Division,
 ) -> Result<Vec<Level>, AllocError>
-    requires { division.half ≤ length claims.now.cuts }
-    ensures levels { IfOk result (λ v. AreLevels (length claims.now.cuts) (slice_index claims.now.cuts) (place claims.now) division.half division.gain (pos division.bound) (pos (2 * division.half_den)) v.items) }
-    ensures lowest { IfOk result (λ v. AllByRecursion (λ l. IsReduced (record { num = l.excess_num; den = l.excess_den }) × HasForm (record { num = l.excess_num; den = l.excess_den })) v.items) }
+    requires { division.half ≤ length claims.now.numbers }
+    ensures levels { IfOk result (λ v. AreLevels (length claims.now.numbers) (slice_index claims.now.numbers) (place claims.now) division.half division.gain (pos division.bound) (pos (2 * division.half_den)) v.items) }
+    ensures lowest { IfOk result (λ v. AllByRecursion IsLowest v.items) }
 {
     let n = claims.len();
     let mut levels = half_levels(alloc, claims, division.half)?;

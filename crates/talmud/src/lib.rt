@@ -9,8 +9,10 @@ mod levels;
 mod tests;
 
 ghost use Rattle.std.specs.Prelude.{IfOk};
-ghost use Rattle.std.specs.List.{AllByRecursion};
-ghost use Rattle.fractions.specs.Fraction.{IsReduced, HasForm};
+ghost use Rattle.definitions.specs.Games.{InCore};
+ghost use Rattle.definitions.specs.declared.Family.{Family};
+ghost use Rattle.definitions.specs.declared.Measure.TheVariants.{Plain};
+ghost use Rattle.definitions.specs.declared.Mode.TheVariants.{Players};
 ghost use Rattle.bankruptcy.specs.Bankruptcy.{bankruptcy_game};
 ghost use Rattle.kohlberg.specs.Solved.{IsSolved};
 ghost use Rattle.talmud.specs.Rule.{IsTalmud};
@@ -37,10 +39,10 @@ use worth_core::{Shares, Worth};
 ///
 /// Its one error is want of memory.
 pub fn solve(alloc: Global, game: &BankruptcyGame) -> Result<(Shares, Certificate), OutOfMemory>
-    ensures solved { IfOk result (λ solution. IsSolved (bankruptcy_game game.now) solution.0 solution.1) }
+    ensures solved { IfOk result (λ solution. (family : Family) → IsSolved Players family Plain (bankruptcy_game game.now) solution.0 solution.1) }
+    ensures core { IfOk result (λ solution. InCore (bankruptcy_game game.now) solution.0) }
     ensures rule { IfOk result (λ solution. IsTalmud game.now.estate game.now.claims solution.0) }
     ensures levels { IfOk result (λ solution. AreRuleLevels game.now.estate game.now.claims solution.0 solution.1.levels) }
-    ensures lowest { IfOk result (λ solution. AllByRecursion (λ l. IsReduced (record { num = l.excess_num; den = l.excess_den }) × HasForm (record { num = l.excess_num; den = l.excess_den })) solution.1.levels) }
 {
     let claims = CutClaims::new(alloc, game)?;
     let division = Division::new(game.estate() as u64, &claims);

@@ -1,6 +1,9 @@
 //! Shares and levels from the sources, and the verdicts of the checker at all estates of a few claims.
-ghost use Rattle.std.specs.Prelude.{◌<◌, length, IfOk};
+ghost use Rattle.std.specs.Prelude.{IfOk};
 ghost use Rattle.bankruptcy.specs.Bankruptcy.{bankruptcy_game};
+ghost use Rattle.definitions.specs.declared.Family.{Family};
+ghost use Rattle.definitions.specs.declared.Measure.TheVariants.{Plain};
+ghost use Rattle.definitions.specs.declared.Mode.TheVariants.{Players};
 ghost use Rattle.kohlberg.specs.Solved.{IsSolved};
 
 use super::*;
@@ -10,6 +13,7 @@ use fractions::Frac;
 use kohlberg::{Family, Level, ratio};
 use std::alloc::AllocError;
 use std::test::Fail;
+use worth_core::Measure;
 
 /// An estate and claims, and what solves the game.
 #[derive(Drop)]
@@ -20,11 +24,13 @@ struct Solution {
 }
 
 fn solved(alloc: Global, estate: i64, claims: &[i64]) -> Result<Solution, Fail>
-    ensures { IfOk result (λ s. IsSolved (bankruptcy_game s.game) s.shares s.certificate) }
+    ensures { IfOk result (λ s. (family : Family) → IsSolved Players family Plain (bankruptcy_game s.game) s.shares s.certificate) }
 {
     let claims = claims.to_vec(alloc)?;
     let game = BankruptcyGame::new(alloc, estate, claims).map_err(|_| "no game")?;
-    let (shares, certificate) = solve(alloc, &game).map_err(|_| "no memory")?;
+    let Ok((shares, certificate)) = solve(alloc, &game) else {
+        return Err(Fail::from("no memory"));
+    };
     Ok(Solution {
         game,
         shares,
@@ -34,10 +40,22 @@ fn solved(alloc: Global, estate: i64, claims: &[i64]) -> Result<Solution, Fail>
 
 /// Whether the checker says Yes to the certificate, for both families.
 fn is_certified(s: &Solution) -> bool
-    requires { IsSolved (bankruptcy_game s.now.game) s.now.shares s.now.certificate }
+    requires { (family : Family) → IsSolved Players family Plain (bankruptcy_game s.now.game) s.now.shares s.now.certificate }
 {
-    check(&s.game, Family::Imputations, &s.shares, &s.certificate) == Verdict::Yes
-        && check(&s.game, Family::Preimputations, &s.shares, &s.certificate) == Verdict::Yes
+    check(
+        &s.game,
+        Family::Imputations,
+        Measure::Plain,
+        &s.shares,
+        &s.certificate,
+    ) == Verdict::Yes
+        && check(
+            &s.game,
+            Family::Preimputations,
+            Measure::Plain,
+            &s.shares,
+            &s.certificate,
+        ) == Verdict::Yes
 }
 
 /// Whether player `i` gets so much.

@@ -1,14 +1,15 @@
 use Rattle.std.proofs.Common.{◌≡◌, length, to_z, of_z, arith}
 use Rattle.std.proofs.lemmas.Int.{ints}
-use Rattle.worth_core.proofs.Casts.{cast_kept}
 use mir.Syntax.{w128}
 use Rattle.definitions.specs.Games.{IsShares}
 use Rattle.definitions.specs.Certificates.{HasForm}
 use Rattle.definitions.specs.declared.Mode.TheVariants.{Players}
 use Rattle.airport_scheme.specs.Scheme.{pay_at}
 use Rattle.worth_core.specs.Allocations.{allocation}
-use Rattle.airport_scheme.proofs.Solved.{shares-fit, is_some, is_ok, levels-formed, solved}
+use Rattle.airport_scheme.proofs.Solved.{shares-fit, levels-formed, AreSchemeLevels-made, solved, InCore-made}
 use Rattle.airport_scheme.proofs.solve.Goals as goal
+use Rattle.definitions.proofs.Casts.{cast_kept}
+use Rattle.definitions.proofs.Given.{is_some, is_ok}
 
 pub unwrap-shares-requires : goal.unwrap-shares-requires
 unwrap-shares-requires c =
@@ -37,7 +38,13 @@ returns c =
     let num = rw c.deref.ensures.value at (c.in_ok-num.ensures {u = tt}) in
     let shares = rw (den, c.unwrap-shares.ensures) at c.new.ensures in
     let certificate = rw (c.len.ensures.count, c.unwrap-certificate.ensures) at c.new-2.ensures in
+    let game = c.args.game.now in
+    let laws = c.in_ok-paid.ensures.laws in
+    let pay = c.in_ok-paid.paid.pay.items in
+    let den_kept = c.in_ok-paid.paid.den in
+    let levels = c.in_ok-levels.levels.items in
     record {
-      solved = solved c.args.game.now c.in_ok-paid.ensures.laws c.in_ok-paid.paid.pay.items c.in_ok-num.num.items c.in_ok-paid.paid.den c.unwrap-shares.result c.in_ok-levels.levels.items c.unwrap-certificate.result payment num shares.0 (c.in_ok-levels.ensures.levels) certificate.0;
-      lowest = rw certificate.0 c.in_ok-levels.ensures.lowest;
+      solved = λ family. solved family game laws pay c.in_ok-num.num.items den_kept c.unwrap-shares.result levels c.unwrap-certificate.result payment num shares.0 (c.in_ok-levels.ensures.levels) c.in_ok-levels.ensures.lowest certificate.0;
+      core = InCore-made game laws pay c.in_ok-num.num.items den_kept c.unwrap-shares.result payment num shares.0;
+      levels = rw certificate.0 (AreSchemeLevels-made game laws pay c.in_ok-num.num.items den_kept c.unwrap-shares.result levels payment num shares.0 (c.in_ok-levels.ensures.levels));
     }

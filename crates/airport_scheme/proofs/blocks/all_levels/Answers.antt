@@ -1,7 +1,7 @@
 use Rattle.std.proofs.Common.{[], ◌∷◌}
-use Rattle.kohlberg.proofs.Forms.{all_join}
 use Rattle.airport_scheme.proofs.Solved.{IsChain-push}
 use Rattle.airport_scheme.proofs.blocks.all_levels.Goals as goal
+use Rattle.definitions.proofs.Alls.{all_join}
 
 pub loop-i-preserved : goal.loop-i-preserved
 loop-i-preserved c =

@@ -1,6 +1,5 @@
 use Rattle.std.proofs.Common.{◌≡◌, ◌-◌, ◌^◌, ◌<◌, ◌≤◌, length, get_or, unsigned_abs, ℤ, pos, neg_ℤ, ◌-ℤ◌, ◌*ℤ◌, to_z, of_z, nat_lt, arith, ℕ, List, [], ◌∷◌, negsuc, sym, ap, subst, ◌∙◌, cond}
 use Rattle.std.proofs.lemmas.Int.{ints, fits_signed_from_abs, to_z_pos}
-use Rattle.worth_core.proofs.Casts.{cast_kept}
 use mir.Syntax.{w128}
 use Rattle.airport_scheme.specs.Scheme.{pay_at}
 use Rattle.std.specs.List.{All}
@@ -8,6 +7,7 @@ use Rattle.airport_scheme.proofs.Sizes.{negated_value, get_or_same}
 use Rattle.airport_scheme.proofs.Solved.{until_rises, total_is}
 use Rattle.airport_scheme.proofs.blocks.block_level.Goals as goal
 use Rattle.airport_scheme.proofs.blocks.block_level.Goals.{then-k-len, else-k-len}
+use Rattle.definitions.proofs.Casts.{cast_kept}
 
 negated_small : (z : ℤ) → unsigned_abs z < 2 ^ 104 → unsigned_abs (pos 0 -ℤ z) < 2 ^ 127
 negated_small z h = omega (arith, ints)

@@ -1,11 +1,11 @@
 use Rattle.std.proofs.Common.{◌+◌, ◌-◌, ◌^◌, ◌<◌, length, unsigned_abs, ℤ, pos, ◌+ℤ◌, ◌≤ℤ◌, ◌<ℤ◌, arith}
 use Rattle.std.proofs.lemmas.Int.{ints, fits_signed_from_abs, to_z_pos}
-use Rattle.worth_core.proofs.Casts.{cast_kept}
 use mir.Syntax.{w128}
 use Rattle.airport_scheme.specs.Scheme.{cost_at}
 use Rattle.airport_scheme.proofs.Places.{cost_at-small}
 use Rattle.airport_scheme.proofs.Runs.{IsRun-start, IsRun-next, run_small, paid_low, paid_small, IsPayment-whole}
 use Rattle.airport_scheme.proofs.payments.by_place.Goals as goal
+use Rattle.definitions.proofs.Casts.{cast_kept}
 
 small_from : (z : ℤ) → pos 0 ≤ℤ z → z <ℤ pos (2 ^ 104) → unsigned_abs z < 2 ^ 104
 small_from z low high = omega (arith, ints)

@@ -1,8 +1,8 @@
 use Rattle.std.proofs.Common.{◌≡◌, length, arith, ap, ◌∙◌}
-use Rattle.worth_core.proofs.Casts.{cast_kept}
 use mir.Syntax.{w128}
 use Rattle.airport_scheme.proofs.Runs.{grown_from, written_back}
 use Rattle.airport_scheme.proofs.payments.grow.Goals as goal
+use Rattle.definitions.proofs.Casts.{cast_kept}
 
 pub returns : goal.returns
 returns c =

@@ -1,11 +1,11 @@
 use Rattle.std.proofs.Common.{◌≡◌, true, false, ℤ, ◌<ℤ◌, ◌≤ℤ◌, to_z, of_z, arith, sym, ◌∙◌}
 use Rattle.std.proofs.lemmas.Int.{ints}
 use lib.Signed.{lt_z}
-use Rattle.worth_core.proofs.Casts.{cast_kept}
 use mir.Syntax.{w128}
 use Rattle.airport_scheme.proofs.Runs.{IsBest-start, IsBest-kept, IsBest-better, IsLeastTerm-whole}
 use Rattle.airport_scheme.proofs.rates.next.Goals as goal
 use Rattle.airport_scheme.proofs.rates.next.Goals.{then-less, else-less}
+use Rattle.definitions.proofs.Casts.{cast_kept}
 
 less_from : (a b : ℤ) → lt_z a b ≡ true → a <ℤ b
 less_from a b e = omega (arith, ints)

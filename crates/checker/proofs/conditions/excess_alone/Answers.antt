@@ -1,11 +1,12 @@
 use Rattle.std.proofs.Common.{◌∙◌, ap}
 use Rattle.definitions.specs.Games.{excess}
-use Rattle.checker.proofs.Excesses.{alone_within, excess-singleton}
+use Rattle.checker.proofs.Excesses.{excess-singleton}
 use Rattle.kohlberg.proofs.Kept.{kept}
 use Rattle.checker.proofs.conditions.excess_alone.Goals as goal
+use Rattle.definitions.proofs.Masks.{singleton-within}
 
 pub scaled_excess-requires-clause-within : goal.scaled_excess-requires-clause-within
-scaled_excess-requires-clause-within g c = rw c.single.ensures (alone_within _ c.args.i c.requires.player)
+scaled_excess-requires-clause-within g c = rw c.single.ensures (singleton-within _ c.args.i c.requires.player)
 
 pub returns : goal.returns
 returns g c =

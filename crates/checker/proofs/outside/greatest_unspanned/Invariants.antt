@@ -1,9 +1,12 @@
-use Rattle.std.proofs.Common.{◌-◌, ◌^◌}
-use Rattle.checker.proofs.Outer.{IsTopUpTo}
+use Rattle.std.proofs.Common.{◌≡◌, ◌-◌, length}
+use Rattle.definitions.specs.Games.{amount}
+use Rattle.coalitions.specs.GrayOrder.{gray_mask}
+use Rattle.worth_core.proofs.TopScan.{IsTop}
+use Rattle.checker.proofs.GrayScan.{IsMarked}
 use Rattle.checker.proofs.outside.greatest_unspanned.Given as goal
 
-abbrev pub invariant-loop-next : goal.invariant-loop-next
-invariant-loop-next g l = IsTopUpTo (g.W.Worth.game l.game) l.shares l.span.kept l.s l.most
-
-abbrev pub decreases-loop-next : goal.decreases-loop-next
-decreases-loop-next g l = 2 ^ (g.W.Worth.game l.game).players - l.s
+abbrev pub invariant-loop-mask : goal.invariant-loop-mask
+invariant-loop-mask g l = record {
+  paid : l.paid ≡ amount l.shares (gray_mask (length l.yielded - 1));
+  top : IsTop l.measure (g.W.Worth.game l.game) l.shares (IsMarked l.outside) gray_mask (length l.yielded) l.most;
+}

@@ -1,9 +1,10 @@
 use Rattle.std.proofs.Common.{◌≡◌, arith, pos, ◌<◌, ◌^◌, unsigned_abs, cond, nat_eq, get_or}
-use Rattle.worth_core.proofs.Casts.{cast_kept}
 use mir.Syntax.{w128}
 use Rattle.definitions.specs.Certificates.{IsSmall}
-use Rattle.kohlberg.proofs.Pairs.{all_at, number_at-more, added}
+use Rattle.kohlberg.proofs.Pairs.{number_at-more, added}
 use Rattle.kohlberg.proofs.levels.bounds_at.Goals as goal
+use Rattle.definitions.proofs.Alls.{all_at}
+use Rattle.definitions.proofs.Casts.{cast_kept}
 
 pub loop-j-preserved : goal.loop-j-preserved
 loop-j-preserved c =

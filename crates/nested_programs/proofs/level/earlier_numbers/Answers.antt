@@ -1,6 +1,7 @@
 use Rattle.std.proofs.Common.{◌≡◌, ◌<◌, length, get_or, ap, ◌∙◌, arith}
 use Rattle.definitions.specs.Certificates.{Level}
-use Rattle.nested_programs.specs.Numbers.{level_pairs, placed_behind}
+use Rattle.kohlberg.specs.Pairs.{placed_behind}
+use Rattle.nested_programs.specs.Numbers.{level_pairs}
 use Rattle.nested_programs.proofs.LevelPasses.{earlier_few, earlier_put, earlier_next}
 use Rattle.nested_programs.proofs.level.earlier_numbers.Goals as goal
 

@@ -1,6 +1,7 @@
 use Rattle.std.proofs.Common.{◌≡◌, ◌+◌, ◌*◌, length, drop}
 use Rattle.separation.specs.Stage.{earlier_of}
-use Rattle.nested_programs.specs.Numbers.{earlier_pairs, placed_behind, placed}
+use Rattle.kohlberg.specs.Pairs.{placed_behind, placed}
+use Rattle.nested_programs.specs.Numbers.{earlier_pairs}
 use Rattle.nested_programs.proofs.level.earlier_numbers.Given as goal
 
 abbrev pub invariant-loop-level : goal.invariant-loop-level

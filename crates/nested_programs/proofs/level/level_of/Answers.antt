@@ -1,12 +1,13 @@
 use Rattle.std.proofs.Common.{◌≡◌, ℕ, ◌+◌, ◌*◌, length, get_or, ℤ, pos, to_z, of_z, ap, subst, ◌∙◌, arith}
 use Rattle.std.proofs.lemmas.Int.{ints}
 use mir.Syntax.{w128}
-use Rattle.worth_core.proofs.Casts.{cast_kept}
 use Rattle.fractions.specs.Fraction.{Fraction, IsRatio}
 use Rattle.separation.specs.Stage.{earlier_of}
-use Rattle.nested_programs.specs.Numbers.{first_single, outer_pairs, net, earlier_pairs, bound_pairs, placed}
+use Rattle.kohlberg.specs.Pairs.{placed}
+use Rattle.nested_programs.specs.Numbers.{first_single, outer_pairs, net, earlier_pairs, bound_pairs}
 use Rattle.nested_programs.proofs.LevelPasses.{earlier_few}
 use Rattle.nested_programs.proofs.level.level_of.Goals as goal
+use Rattle.definitions.proofs.Casts.{cast_kept}
 
 pub overflow_mul-first : goal.overflow_mul-first
 overflow_mul-first c =

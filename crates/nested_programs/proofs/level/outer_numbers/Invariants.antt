@@ -1,5 +1,6 @@
 use Rattle.std.proofs.Common.{◌≡◌, drop}
-use Rattle.nested_programs.specs.Numbers.{outer_pairs, placed_behind, placed}
+use Rattle.kohlberg.specs.Pairs.{placed_behind, placed}
+use Rattle.nested_programs.specs.Numbers.{outer_pairs}
 use Rattle.nested_programs.proofs.level.outer_numbers.Given as goal
 
 abbrev pub invariant-loop-id : goal.invariant-loop-id

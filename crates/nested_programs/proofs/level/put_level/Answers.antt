@@ -1,11 +1,11 @@
 use Rattle.std.proofs.Common.{◌≡◌, ◌≢◌, ◌+◌, ◌*◌, ◌<◌, length, ℤ, pos, to_z, of_z, sym, ap, ◌∙◌, arith}
 use Rattle.std.proofs.lemmas.Int.{ints}
 use mir.Syntax.{w128}
-use Rattle.worth_core.proofs.Casts.{cast_kept}
 use Rattle.nested_programs.specs.Numbers.{net}
 use Rattle.nested_programs.proofs.LevelPasses.{level_put, level_skip}
 use Rattle.nested_programs.proofs.level.put_level.Goals as goal
 use Rattle.nested_programs.proofs.level.put_level.Goals.{then-number-ne0+in_ok-put_pair, else-number-ne0}
+use Rattle.definitions.proofs.Casts.{cast_kept}
 
 zero_kept : (z : ℤ) → to_z w128 (of_z w128 z) ≡ z → of_z w128 z ≡ 0 → to_z w128 (of_z w128 z) ≡ pos 0
 zero_kept z same e = ap (to_z w128) e

@@ -1,5 +1,6 @@
 use Rattle.std.proofs.Common.{◌≡◌, ◌+◌, ◌*◌, drop}
-use Rattle.nested_programs.specs.Numbers.{level_pairs, placed_behind}
+use Rattle.kohlberg.specs.Pairs.{placed_behind}
+use Rattle.nested_programs.specs.Numbers.{level_pairs}
 use Rattle.nested_programs.proofs.level.put_level.Given as goal
 
 abbrev pub invariant-loop-k : goal.invariant-loop-k

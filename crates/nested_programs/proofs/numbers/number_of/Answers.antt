@@ -1,10 +1,10 @@
 use Rattle.std.proofs.Common.{◌≢◌, ◌^◌, ◌<◌, length, get_or, pos, sym, ◌∙◌, arith, unsigned_abs}
 use borrow.Author.Count.{below_more}
 use mir.Syntax.{w128}
-use Rattle.worth_core.proofs.Casts.{cast_kept}
-use Rattle.kohlberg.proofs.Pairs.{all_at}
 use Rattle.nested_programs.proofs.NumberedColumns.{number_none, number_found}
 use Rattle.nested_programs.proofs.numbers.number_of.Goals as goal
+use Rattle.definitions.proofs.Alls.{all_at}
+use Rattle.definitions.proofs.Casts.{cast_kept}
 
 pub returns-then-other-id-clause-value : goal.returns-then-other-id-clause-value
 returns-then-other-id-clause-value c =

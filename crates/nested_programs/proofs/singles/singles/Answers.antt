@@ -2,10 +2,10 @@ use Rattle.std.proofs.Common.{◌≡◌, ◌+◌, ◌*◌, ◌^◌, ◌<◌, ◌
 use Rattle.std.proofs.lemmas.Int.{ints, fits_signed_from_abs}
 use Rattle.std.proofs.Math.Pow.{pow-lt}
 use mir.Syntax.{w64}
-use Rattle.worth_core.proofs.Casts.{cast_kept}
 use Rattle.definitions.specs.Sums.{sum_below}
 use Rattle.definitions.specs.Coalitions.{singleton}
 use Rattle.nested_programs.proofs.singles.singles.Goals as goal
+use Rattle.definitions.proofs.Casts.{cast_kept}
 
 more_small : (a b : ℤ) (i : ℕ) → unsigned_abs a ≤ i * 2 ^ 46 → unsigned_abs b < 2 ^ 46 → unsigned_abs (a +ℤ b) ≤ (i + 1) * 2 ^ 46
 more_small a b i ha hb = omega (arith, ints)

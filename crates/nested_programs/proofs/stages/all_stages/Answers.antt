@@ -4,12 +4,13 @@ use Rattle.definitions.specs.Coalitions.{grand_coalition}
 use Rattle.definitions.specs.Certificates.{Level, IsAllFixed}
 use Rattle.definitions.specs.declared.Mode.TheVariants.{Span}
 use Rattle.spans.specs.Span.{SpanData}
-use Rattle.checker.specs.Extends.{SpansFixed}
+use Rattle.kohlberg.specs.Extends.{SpansFixed}
 use Rattle.nested_programs.specs.Numbers.{IsLevelOf}
 use Rattle.nested_programs.specs.Stages.{IsBest, IsLeft, IsBounded, AreUnderway}
 use Rattle.nested_programs.proofs.StageSteps.{next_formed, underway_more, kept_grown}
-use Rattle.nested_programs.proofs.StageLoop.{started, left_of, room_of, all_of, forms_few, level_within, new_only, best_at, level_at, extends_at, within_at, ended}
+use Rattle.nested_programs.proofs.StageLoop.{started, left_of, room_of, all_of, forms_few, new_only, best_at, level_at, extends_at, within_at, ended}
 use Rattle.nested_programs.proofs.stages.all_stages.Goals as goal
+use Rattle.kohlberg.proofs.SpanScan.{level_within}
 
 pub loop-last-init : goal.loop-last-init
 loop-last-init g c =

@@ -1,4 +1,3 @@
-use Rattle.std.proofs.Common.{◌≡◌, ◌++◌, ◌∷◌, [], Some, ◌∙◌, rules, ap}
 use Rattle.separation.proofs.Pushed.{level-push}
 use Rattle.separation.proofs.earlier.push_level.Goals as goal
 

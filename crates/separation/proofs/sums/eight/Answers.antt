@@ -1,10 +1,10 @@
-use Rattle.std.proofs.Common.{◌≡◌, ◌+◌, ◌*◌, ◌^◌, ◌<◌, ◌≤◌, ℕ, suc, ℤ, ◌+ℤ◌, unsigned_abs, to_z, of_z, arith, ap, sym, ◌∙◌, subst}
-use Rattle.worth_core.proofs.Casts.{cast_kept}
+use Rattle.std.proofs.Common.{◌≡◌, ◌+◌, ◌*◌, ◌^◌, ◌<◌, ◌≤◌, ℕ, suc, ℤ, ◌+ℤ◌, unsigned_abs, to_z, of_z, arith, ap, ◌∙◌}
 use Rattle.std.proofs.lemmas.Int.{ints}
 use mir.Syntax.{w128}
 use Rattle.definitions.specs.Sums.{sum_below}
 use Rattle.separation.specs.Values.{eight, member_multiplier}
 use Rattle.separation.proofs.sums.eight.Goals as goal
+use Rattle.definitions.proofs.Casts.{cast_kept}
 
 kept_more : (a b : ℤ) (i : ℕ) → unsigned_abs a ≤ i * 2 ^ 110 → i < 8 → unsigned_abs b < 2 ^ 110 → to_z w128 (of_z w128 (a +ℤ to_z w128 (of_z w128 b))) ≡ a +ℤ b
 kept_more a b i ha lt hb = rw (cast_kept w128 b (omega arith)) (cast_kept w128 (a +ℤ b) (omega (arith, ints)))

@@ -1,9 +1,9 @@
-use Rattle.std.proofs.Common.{◌≡◌, ◌+◌, ◌^◌, ◌<◌, ◌≤◌, ℕ, ℤ, pos, List, length, length-set, slice_index_or, unsigned_abs, to_z, of_z, arith, sym, ap, ◌∙◌, subst, refl}
-use Rattle.worth_core.proofs.Casts.{cast_kept}
+use Rattle.std.proofs.Common.{◌≡◌, ◌<◌, ℕ, length, length-set, to_z, of_z, arith, sym, ◌∙◌, subst, refl}
 use mir.Syntax.{w128}
-use Rattle.separation.specs.Values.{eight, IsEight}
+use Rattle.separation.specs.Values.{IsEight}
 use Rattle.separation.proofs.Filled.{filled_below}
 use Rattle.separation.proofs.sums.table.Goals as goal
+use Rattle.definitions.proofs.Casts.{cast_kept}
 
 pub loop-s-init : goal.loop-s-init
 loop-s-init c = record { len = refl; done = λ k lt. absurd (omega arith) }

@@ -1,5 +1,4 @@
-use Rattle.std.proofs.Common.{◌≡◌, ◌^◌, ◌<◌, ◌≤◌, Bool, true, false, cond, ℤ, pos, ◌+ℤ◌, ◌-ℤ◌, unsigned_abs, to_z, of_z, arith, ap, ◌∙◌, refl, sym}
-use Rattle.worth_core.proofs.Casts.{cast_kept}
+use Rattle.std.proofs.Common.{◌≡◌, ◌^◌, ◌<◌, ◌≤◌, Bool, true, false, ℤ, pos, ◌+ℤ◌, ◌-ℤ◌, unsigned_abs, to_z, of_z, arith, ap, ◌∙◌, refl, sym}
 use Rattle.std.proofs.lemmas.Int.{ints}
 use mir.Syntax.{w128}
 use Rattle.definitions.specs.Coalitions.{sum_over}
@@ -7,6 +6,7 @@ use Rattle.separation.specs.Stage.{signed}
 use Rattle.separation.specs.Values.{multiplier_at, level_multiplier}
 use Rattle.separation.proofs.Valued.{value_is}
 use Rattle.separation.proofs.sums.value.Goals as goal
+use Rattle.definitions.proofs.Casts.{cast_kept}
 
 kept_plain : (a b x y : ℤ) → unsigned_abs a ≤ 2 ^ 114 → unsigned_abs b < 2 ^ 110 → a ≡ x → b ≡ y → to_z w128 (of_z w128 (to_z w128 (of_z w128 a) +ℤ to_z w128 (of_z w128 b))) ≡ signed false (x +ℤ y)
 kept_plain a b x y ha hb e f = rw (cast_kept w128 a (omega arith), cast_kept w128 b (omega arith)) (cast_kept w128 (a +ℤ b) (omega (arith, ints)) ∙ rw (e, f) refl)

@@ -1,8 +1,8 @@
 use Rattle.std.proofs.Common.{[], ◌∷◌, arith}
-use Rattle.kohlberg.proofs.Forms.{all_join}
 use Rattle.talmud.proofs.Making.{AreLevels-halves, AreLevels-rest}
 use Rattle.talmud.proofs.levels.all_levels.Goals as goal
 use Rattle.talmud.proofs.levels.all_levels.Goals.{then-division-n+in_ok-rest_level+in_ok-push, else-division-n}
+use Rattle.definitions.proofs.Alls.{all_join}
 
 pub returns-clause-levels : goal.returns-clause-levels
 returns-clause-levels c =

@@ -1,7 +1,7 @@
 use Rattle.std.proofs.Common.{[], ◌∷◌}
-use Rattle.kohlberg.proofs.Forms.{all_join}
 use Rattle.talmud.proofs.Making.{AreHalves-push}
 use Rattle.talmud.proofs.levels.half_levels.Goals as goal
+use Rattle.definitions.proofs.Alls.{all_join}
 
 pub loop-i-preserved : goal.loop-i-preserved
 loop-i-preserved c =

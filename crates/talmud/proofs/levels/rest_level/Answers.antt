@@ -1,21 +1,17 @@
-use Rattle.std.proofs.Common.{◌≡◌, ◌-◌, ◌*◌, ◌^◌, ◌<◌, ℕ, ℤ, pos, ◌-ℤ◌, neg_ℤ, to_z, of_z, unsigned_abs, arith, ◌∙◌}
+use Rattle.std.proofs.Common.{◌≡◌, ◌*◌, ◌^◌, ◌<◌, ℕ, pos, ◌-ℤ◌, neg_ℤ, to_z, of_z, unsigned_abs, arith, ◌∙◌}
 use Rattle.std.proofs.lemmas.Int.{ints, to_z_pos}
-use Rattle.worth_core.proofs.Casts.{cast_kept}
 use Rattle.kohlberg.proofs.Kept.{kept}
 use mir.Syntax.{w128}
 use Rattle.talmud.proofs.levels.rest_level.Goals as goal
+use Rattle.definitions.proofs.Casts.{cast_kept}
+use Rattle.definitions.proofs.Ring.{zero-subℤ}
+use Rattle.std.proofs.Math.Nat.{sub-zero}
 
 negated : (t : ℕ) → t < 2 ^ 48 → to_z w128 (of_z w128 (pos 0 -ℤ to_z w128 t)) ≡ neg_ℤ (pos t)
-negated t h = rw (to_z_pos w128 t (omega arith)) (cast_kept w128 (pos 0 -ℤ pos t) (small t h) ∙ minus (pos t))
+negated t h = rw (to_z_pos w128 t (omega arith)) (cast_kept w128 (pos 0 -ℤ pos t) (small t h) ∙ zero-subℤ (pos t))
   where
     small : (t : ℕ) → t < 2 ^ 48 → unsigned_abs (pos 0 -ℤ pos t) < 2 ^ 127
     small t h = omega (arith, ints)
-
-    minus : (z : ℤ) → pos 0 -ℤ z ≡ neg_ℤ z
-    minus z = omega (arith, ints)
-
-minus_none : (n : ℕ) → n - 0 ≡ n
-minus_none n = omega arith
 
 pub returns-clause-level : goal.returns-clause-level
 returns-clause-level c =
@@ -29,7 +25,7 @@ returns-clause-level c =
       fraction = ratio.reduced.positive;
       excess = ratio.same;
       coalitions = rw c.len-n.ensures.count at (c.in_ok-coalitions.ensures {u = tt});
-      earlier = rw (minus_none d.half) at (c.in_ok-earlier.ensures {u = tt});
+      earlier = rw (sub-zero d.half) at (c.in_ok-earlier.ensures {u = tt});
       bounds = c.new.ensures.items;
       total = kept c.rest_total.result c.rest_total.type_inv ∙ (rw c.len-n.ensures.count at c.rest_total.ensures);
     }

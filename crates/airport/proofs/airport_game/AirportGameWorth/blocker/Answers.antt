@@ -2,16 +2,17 @@ use Rattle.std.proofs.Common.{◌≡◌, ◌≤◌, ◌<◌, ◌+◌, ◌*◌, �
 use Rattle.std.proofs.lemmas.Int.{ints}
 use mir.Syntax.{w128}
 use Rattle.definitions.proofs.Ring.{linear}
-use Rattle.worth_core.proofs.Casts.{cast_kept}
 use Rattle.orders.specs.Orders.{front}
 use Rattle.definitions.specs.Games.{excess, share}
 use Rattle.airport.specs.Airport.{airport_game, place}
-use Rattle.airport.proofs.Within.{IsWithin-everybody, IsWithin-lacks, more-is}
+use Rattle.airport.proofs.Within.{IsWithin-everybody, IsWithin-lacks}
 use Rattle.airport.proofs.Blocking.{IsScanned, IsScanned-start, IsScanned-with, IsScanned-without, blocker-from_scan}
 use Rattle.airport.proofs.Excesses.{payment, charge, excess-nobody, payment-nobody, next_player}
 use Rattle.airport.proofs.Sizes.{paid-more, paid_size, left, left_fits, charge-is, left-is}
 use Rattle.airport.proofs.airport_game.AirportGameWorth.blocker.Goals as goal
 use Rattle.airport.proofs.airport_game.AirportGameWorth.blocker.Goals.{then-share-lt0, else-share-lt0}
+use Rattle.definitions.proofs.Casts.{cast_kept}
+use Rattle.definitions.proofs.Parts.{more-is}
 
 assembled : (n : ℕ) (at : ℕ → ℕ) (k : ℕ) (pay e : ℕ → ℤ) (payers : ℕ) (best : Option ℕ) (most p : ℤ) → p ≡ pay payers → unsigned_abs p ≤ (k + 1) * 2 ^ 110 → IsScanned n (front at k + 2 ^ at k) pay e payers best most
     → (p ≡ pay payers) × (unsigned_abs p ≤ (k + 1) * 2 ^ 110) × IsScanned n (front at (k + 1)) pay e payers best most

@@ -1,12 +1,12 @@
 use Rattle.std.proofs.Common.{◌∙◌, ◌≡◌, ℕ, ◌+◌, ◌*◌, ◌^◌, ◌<◌, ◌≤◌, true, false, length, ℤ, pos, ◌+ℤ◌, ◌<ℤ◌, ◌≤ℤ◌, unsigned_abs, to_z, of_z, sym, ap, arith}
 use Rattle.std.proofs.lemmas.Int.{ints}
 use Rattle.bankruptcy.specs.Arms.{arm_at, arm_base, arm_number}
-use Rattle.worth_core.proofs.Casts.{cast_kept}
 use Rattle.bankruptcy.proofs.LeastGreatest.{mask_with, linear-empty, IsLeastGreatest-start, IsLeastGreatest-joins, IsLeastGreatest-stays}
 use lib.Signed.{lt_z}
 use mir.Syntax.{w128}
 use Rattle.bankruptcy.proofs.arms.Arm.greatest.Goals as goal
 use Rattle.bankruptcy.proofs.arms.Arm.greatest.Goals.{then-number-gt0, else-number-gt0}
+use Rattle.definitions.proofs.Casts.{cast_kept}
 
 pub loop-i-init : goal.loop-i-init
 loop-i-init c =

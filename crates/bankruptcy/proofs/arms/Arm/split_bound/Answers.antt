@@ -2,11 +2,11 @@ use Rattle.std.proofs.Common.{◌≡◌, ℕ, ◌^◌, ◌<◌, ◌≤◌, lengt
 use Rattle.std.proofs.lemmas.Int.{ints, fits_signed_from_abs}
 use Rattle.definitions.specs.Coalitions.{grand_coalition}
 use Rattle.worth_core.specs.SplitKinds.{Sums, AreSplitSums}
-use Rattle.worth_core.proofs.Casts.{cast_kept}
 use Rattle.bankruptcy.specs.Arms.{arm_base, arm_number}
 use Rattle.bankruptcy.proofs.Splits.{grand_coalition-more, grand_coalition-lacks, some_sum, IsSplitGreatest-sum}
 use mir.Syntax.{w128}
 use Rattle.bankruptcy.proofs.arms.Arm.split_bound.Goals as goal
+use Rattle.definitions.proofs.Casts.{cast_kept}
 
 pub loop-i-preserved : goal.loop-i-preserved
 loop-i-preserved c =

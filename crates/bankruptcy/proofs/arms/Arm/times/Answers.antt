@@ -1,8 +1,8 @@
 use Rattle.std.proofs.Common.{◌≡◌, ◌^◌, ◌<◌, ◌≤◌, ℤ, pos, ◌*ℤ◌, ◌≤ℤ◌, unsigned_abs, to_z, of_z, refl, arith, mul-le-mul}
 use Rattle.std.proofs.lemmas.Int.{ints, unsigned_abs-mul, fits_signed_from_abs}
-use Rattle.worth_core.proofs.Casts.{cast_kept}
 use mir.Syntax.{w64, w128}
 use Rattle.bankruptcy.proofs.arms.Arm.times.Goals as goal
+use Rattle.definitions.proofs.Casts.{cast_kept}
 
 product_small : (f v : ℤ) → pos 0 ≤ℤ f → f ≤ℤ pos (2 ^ 63) → unsigned_abs v < 2 ^ 46 → unsigned_abs (f *ℤ v) < 2 ^ 110
 product_small f v low high h =

@@ -1,7 +1,12 @@
-use Rattle.std.proofs.Common.{ℕ, ◌∙◌, subst}
-use Rattle.checker.specs.Extends.{Extends, IsLevelVector}
+use Rattle.std.proofs.Common.{ℕ, ◌∙◌, subst, ◌++◌, IsTrue}
+use Rattle.std.specs.Bool.{Decides}
+use Rattle.definitions.specs.Certificates.{InSpan}
+use Rattle.spans.specs.Span.{IsKept}
+use Rattle.spans.specs.Outside.{is_marked}
+use Rattle.kohlberg.specs.Extends.{Extends, IsLevelVector}
+use Rattle.kohlberg.proofs.Marking.{IsMarking-more}
 use Rattle.checker.proofs.Still.{IsFreeSet-more}
-use Rattle.checker.proofs.SpanScan.{SpansFixed-more}
+use Rattle.kohlberg.proofs.SpanScan.{SpansFixed-more}
 use Rattle.checker.proofs.fixed.Fixed.with.Goals as goal
 
 pub returns-in-FreePlayers-clause-fixes : goal.returns-in-FreePlayers-clause-fixes
@@ -13,4 +18,11 @@ returns-in-Vectors-clause-fixes c =
     let old = c.in-Vectors.span.kept in
     let new = c.add_levels.new.span.kept in
     let more = c.args.levels.now in
-    rw c.in-Vectors.is (λ front h. (c.add_levels.ensures.players ∙ h.0, h.1, SpansFixed-more c.args.n old new front more h.2 (subst (λ (m : ℕ). Extends m old new (IsLevelVector m more)) h.0 c.add_levels.ensures.extends)))
+    let olds = c.in-Vectors.outside in
+    let words = c.clear.new.self in
+    rw c.in-Vectors.is (λ front h.
+    let same = c.add_levels.ensures.players ∙ h.0 in
+    let extends = subst (λ (m : ℕ). Extends m old new (IsLevelVector m more)) h.0 c.add_levels.ensures.extends in
+    let spans = SpansFixed-more c.args.n old new front more h.2 extends in
+    let tests = subst (λ (m : ℕ). (s : ℕ) → Decides (is_marked words s) (IsTrue (is_marked olds s) × ¬ InSpan m (IsKept new) s)) same c.clear.ensures in
+    (same, h.1, spans, IsMarking-more c.args.n old new front (front ++ more) olds words h.2 spans extends.still h.3 tests))

@@ -1,11 +1,11 @@
-use Rattle.std.proofs.Common.{◌≡◌, ◌^◌, ◌<◌, ◌≤◌, ◌/◌, ◌%◌, ℕ, ℤ, pos, ◌+ℤ◌, unsigned_abs, to_z, of_z, slice_index_or, arith, List, ap, ◌∙◌, refl, sym}
-use Rattle.worth_core.proofs.Casts.{cast_kept}
+use Rattle.std.proofs.Common.{◌≡◌, ◌^◌, ◌≤◌, ◌/◌, ◌%◌, ℤ, pos, ◌+ℤ◌, unsigned_abs, to_z, of_z, slice_index_or, arith, ap, ◌∙◌}
 use Rattle.std.proofs.lemmas.Int.{ints}
 use mir.Syntax.{w128}
 use Rattle.definitions.specs.Coalitions.{sum_over}
 use Rattle.separation.specs.Values.{multiplier_at}
 use Rattle.separation.proofs.Valued.{sums_at}
 use Rattle.separation.proofs.sums.Sums.of.Goals as goal
+use Rattle.definitions.proofs.Casts.{cast_kept}
 
 kept_sum : (a b : ℤ) → unsigned_abs a ≤ 2 ^ 113 → unsigned_abs b ≤ 2 ^ 113 → to_z w128 (of_z w128 (to_z w128 (of_z w128 a) +ℤ to_z w128 (of_z w128 b))) ≡ a +ℤ b
 kept_sum a b ha hb = rw (cast_kept w128 a (omega arith), cast_kept w128 b (omega arith)) (cast_kept w128 (a +ℤ b) (omega (arith, ints)))

@@ -1,0 +1,43 @@
+use Rattle.std.proofs.Common.{◌∙◌, ◌+◌, MatchOption, sym, subst, take}
+use Rattle.definitions.specs.declared.Mode.{Mode}
+use Rattle.definitions.specs.Certificates.{Level, LevelHolds}
+use Rattle.definitions.specs.Failures.{LevelFails}
+use Rattle.checker.specs.Meaning.{Means}
+use Rattle.checker.proofs.Chain.{SameLevels-start, SameLevels-more, Fixes-next, fails_here}
+use Rattle.checker.proofs.Judged.{level_failed, no_failure}
+use Rattle.checker.proofs.failures.levels_failure.Goals as goal
+
+pub returns-then-is_some : goal.returns-then-is_some
+returns-then-is_some g c =
+    let mode = c.args.mode in
+    let family = c.args.family in
+    let measure = c.args.measure in
+    let game = g.W.Worth.game c.args.game.now in
+    let x = c.args.shares.now in
+    let levels = c.args.levels.now in
+    let i = c.loop-i.i in
+    let here = c.index-levels-i in
+    let failed = subst (λ (m : Mode). MatchOption c.level_failure-failure.result (LevelHolds m family measure game x (take i levels) here.result) (Means measure x (LevelFails m family measure game x (i + 1) (take i levels) here.result))) c.loop-i.invariant.1 c.level_failure-failure.ensures in
+    level_failed mode family measure game x levels i (take i levels) here.result c.level_failure-failure.result (λ r k. fails_here mode family measure game x levels i here.result c.loop-i-test.true c.loop-i.invariant.0 r (subst (λ (l : Level). LevelFails mode family measure game x (i + 1) (take i levels) l r) here.is k)) (sym c.if-is_some.ensures) failed
+
+pub loop-i-init : goal.loop-i-init
+loop-i-init g c =
+    let game = g.W.Worth.game c.args.game.now in
+    (SameLevels-start c.args.mode c.args.family c.args.measure game c.args.shares.now c.args.levels.now c.requires.form, c.by_none-fixed.ensures.mode, rw c.players-players.ensures.count at c.by_none-fixed.ensures.fixes)
+
+pub loop-i-preserved : goal.loop-i-preserved
+loop-i-preserved g c =
+    let mode = c.args.mode in
+    let family = c.args.family in
+    let measure = c.args.measure in
+    let game = g.W.Worth.game c.args.game.now in
+    let x = c.args.shares.now in
+    let levels = c.args.levels.now in
+    let i = c.loop-i.i in
+    let here = c.index-levels-i in
+    let lt = c.loop-i-test.true in
+    let inv = c.loop-i.invariant in
+    let holds = no_failure _ _ c.level_failure-failure.result (sym c.if-is_some.ensures) c.level_failure-failure.ensures in
+    let held = subst (λ (l : Level). LevelHolds mode family measure game x (take i levels) l) here.is (subst (λ (m : Mode). LevelHolds m family measure game x (take i levels) here.result) inv.1 holds) in
+    let fixes = rw c.players-players.ensures.count at (c.with-fixed.ensures.fixes (take i levels)) in
+    (SameLevels-more mode family measure game x levels i here.result lt held inv.0, c.with-fixed.ensures.mode ∙ inv.1, Fixes-next game.players levels i here.result c.with-fixed.result lt (fixes inv.2))

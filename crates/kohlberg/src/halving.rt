@@ -1,0 +1,42 @@
+//! Looking for a coalition by halving, which finds it wherever the masks ascend.
+ghost use Rattle.std.specs.Prelude.{IsTrue, nat_eq};
+ghost use Rattle.std.specs.List.{list_any};
+ghost use Rattle.definitions.specs.Certificates.{is_listed};
+
+use crate::levels::Level;
+use coalitions::Coalition;
+
+/// Whether halving finds the coalition in the pairs.
+///
+/// Where their masks ascend it finds each coalition that stands there; elsewhere it may miss some.
+fn is_found(pairs: &[(Coalition, i128)], s: Coalition) -> bool
+    ensures { IsTrue result → IsTrue (list_any (λ c. nat_eq c.0 s) pairs.now) }
+{
+    let mut low = 0;
+    let mut high = pairs.len();
+    'halving: while low < high {
+        let middle = low + (high - low) / 2;
+        let t = pairs[middle].0;
+        if t == s {
+            return true;
+        }
+        if t < s {
+            low = middle + 1;
+        } else {
+            high = middle;
+        }
+    }
+    false
+}
+
+/// Whether halving finds the coalition in some level.
+pub fn is_found_in(levels: &[Level], s: Coalition) -> bool
+    ensures { IsTrue result → IsTrue (is_listed levels.now s) }
+{
+    for l in levels {
+        if is_found(&l.coalitions, s) {
+            return true;
+        }
+    }
+    false
+}

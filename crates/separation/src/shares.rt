@@ -1,0 +1,24 @@
+//! Shares that multipliers are.
+
+ghost use Rattle.std.specs.Prelude.{◌≤◌, length, IfOk};
+ghost use Rattle.separation.specs.Shares.{IsReadFrom};
+
+use fractions::OutOfMemory;
+use simplex::Multipliers;
+use std::alloc::Global;
+use worth_core::Shares;
+
+/// The multipliers of the rows of `n` players, 1 to 16, as shares of a worth over the multipliers' denominator. The one error is
+/// want of memory.
+pub fn shares_of(alloc: Global, multipliers: &Multipliers, n: u32) -> Result<Shares, OutOfMemory>
+    requires some { 1 ≤ n }
+    requires few { n ≤ 16 }
+    requires rows { n ≤ length multipliers.now.num.items }
+    ensures { IfOk result (IsReadFrom n multipliers.now.num.items multipliers.now.den) }
+{
+    let mut num = Vec::new(alloc);
+    for i in 0..n as usize {
+        num.push(multipliers.num[i])?;
+    }
+    Ok(Shares::new(num, multipliers.den).unwrap())
+}
