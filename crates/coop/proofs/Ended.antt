@@ -4,7 +4,7 @@ use Rattle.std.specs.Io.KnownBytes.{Appends}
 use Rattle.checker.specs.declared.verdicts.Verdict.TheVariants.{Yes, No}
 use Rattle.report.specs.Lines.{line}
 use Rattle.report.specs.declared.answer.Answer.{Answer}
-use Rattle.report.specs.declared.answer.Answer.TheVariants.{Nucleolus, NoImputation, InCore, NotEfficient, Blocked, Verdict, Usage, Refused}
+use Rattle.report.specs.declared.answer.Answer.TheVariants.{Verdict}
 use Rattle.coop.specs.Outcome.{IsRight, Answered, Ends, status_of}
 use Rattle.coop.specs.ReadBack.{IsReadBack}
 
@@ -13,12 +13,6 @@ module _ (words : List (List ℕ)) (old new taken_old taken_new : Option (List �
   printed a right took again = (a, right, refl, took, again)
 
   pub ended : (a : Answer) → IsRight words old new a → Appends taken_old taken_new (line a) → IsReadBack a → Ends words old new taken_old taken_new (status_of a)
-  ended (Nucleolus family tree are_costs x c) right took again = printed (Nucleolus family tree are_costs x c) right took again
-  ended (NoImputation singles total) right took again = printed (NoImputation singles total) right took again
-  ended InCore right took again = printed InCore right took again
-  ended (NotEfficient sum total) right took again = printed (NotEfficient sum total) right took again
-  ended (Blocked s e) right took again = printed (Blocked s e) right took again
   ended (Verdict Yes) right took again = printed (Verdict Yes) right took again
   ended (Verdict (No r)) right took again = printed (Verdict (No r)) right took again
-  ended (Usage kind) right took again = printed (Usage kind) right took again
-  ended (Refused r) right took again = printed (Refused r) right took again
+  ended a right took again = printed a right took again

@@ -4,13 +4,13 @@ use Rattle.std.specs.Prelude.{◌≡◌}
 use Rattle.std.proofs.lemmas.Bool.{leb-true}
 use Rattle.serde_json.specs.Data.{Data}
 use Rattle.serde_json.specs.Find.{get}
-use Rattle.game_text.specs.Trees.{integer}
+use Rattle.json_trees.specs.Trees.{integer}
 use Rattle.game_text.specs.Shape.{class_of}
-use Rattle.game_text.specs.Limits.{table_players}
+use Rattle.game_text.specs.TableClass.{table_players}
 use Rattle.game_text.specs.Descriptions.{description_as, description_of}
 use Rattle.game_text.specs.declared.class.Class.{Class}
 use Rattle.game_text.specs.declared.class.Class.TheVariants.{Table, CostTable, Airport, Bankruptcy}
-use Rattle.coop.specs.Solution.{HasFewPlayers}
+use Rattle.coop.specs.Finding.{HasFewPlayers}
 
 few_if : (b c : Bool) (n : ℕ) → (c ≡ true → n ≤ 16) → unwrap_or (if b && c then Some n else None) 0 ≤ 16
 few_if true true n h = h refl

@@ -3,6 +3,8 @@ pub mod Needs
 pub mod FewPlayers
 pub mod Solved
 pub mod NoImputation
+pub mod CorePoints
 pub mod Readable
+pub mod OneAnswer
 pub mod ReadLines
 pub mod Ended

@@ -9,6 +9,7 @@ use Rattle.game_text.specs.Kept.{IsKept}
 use Rattle.game_text.specs.declared.command.Command.{Command}
 use Rattle.game_text.specs.declared.command.Command.TheVariants as command
 use Rattle.kohlberg.specs.Certificate.{CertificateData}
+use Rattle.game_text.proofs.Computed.{document_as}
 use Rattle.coop.specs.Judgement.{HasShares}
 use Rattle.coop.specs.Checks.{IsComplete}
 use Rattle.coop.specs.Needs.{IsAccepted, HasNeeded}
@@ -20,14 +21,15 @@ kept P o t e h = subst (λ o. IfSome o P) e h
 module _ (bytes : List ℕ) (d : Contents) where
   has_shares : IsDocument command.Propose bytes d → IfSome d.shares (λ (x : Allocation). length x.shares ≡ (game_of d.game).players) → HasShares d
   has_shares document fit =
-      let given = ap (λ (c : Contents). c.shares) document.1.3 in
+      let given = ap (λ (c : Contents). c.shares) (document_as command.Propose bytes d document).says in
       (_, given, kept _ _ _ given fit)
 
   is_complete : IsDocument command.Check bytes d → IfSome d.shares (λ (x : Allocation). length x.shares ≡ (game_of d.game).players) → IfSome d.certificate (λ (c : CertificateData). c.players ≡ (game_of d.game).players) → IsComplete d
   is_complete document fit certified =
-      let family = ap (λ (c : Contents). c.family) document.1.3 in
-      let shares = ap (λ (c : Contents). c.shares) document.1.3 in
-      let certificate = ap (λ (c : Contents). c.certificate) document.1.3 in
+      let says = (document_as command.Check bytes d document).says in
+      let family = ap (λ (c : Contents). c.family) says in
+      let shares = ap (λ (c : Contents). c.shares) says in
+      let certificate = ap (λ (c : Contents). c.certificate) says in
       record {
         family = _;
         shares = _;
@@ -39,17 +41,19 @@ module _ (bytes : List ℕ) (d : Contents) where
 
   -- no test refused the document, and what was read can be printed again
   accepted : (given : Command) → IsDocument given bytes d → document_limit given ≤ document_limit command.Nucleolus → IsKept bytes d.tree → IsAccepted d
-  accepted given document limit k = record {
-    command = given;
-    document = document.1.0;
-    passed = document.1.2;
-    described = ap (λ (c : Contents). c.game) document.1.3;
-    same = ap (λ (c : Contents). c.tree) document.1.3;
-    exact = k.exact;
-    whole = k.whole;
-    shallow = k.shallow;
-    short = omega (arith, document.0, limit, k.shorter);
-  }
+  accepted given document limit k =
+      let this = document_as given bytes d document in
+      record {
+        command = given;
+        document = this.tree;
+        passed = this.passed;
+        described = ap (λ (c : Contents). c.game) this.says;
+        same = ap (λ (c : Contents). c.tree) this.says;
+        exact = k.exact;
+        whole = k.whole;
+        shallow = k.shallow;
+        short = omega (arith, this.short, limit, k.shorter);
+      }
 
   pub has_needed : (given : Command) → IsDocument given bytes d
       → IfSome d.shares (λ (x : Allocation). length x.shares ≡ (game_of d.game).players) → IfSome d.certificate (λ (c : CertificateData). c.players ≡ (game_of d.game).players) → IsKept bytes d.tree
@@ -57,4 +61,5 @@ module _ (bytes : List ℕ) (d : Contents) where
   has_needed command.Nucleolus document fit certified k = accepted command.Nucleolus document (omega arith) k
   has_needed command.Prenucleolus document fit certified k = accepted command.Prenucleolus document (omega arith) k
   has_needed command.Propose document fit certified k = has_shares document fit
+  has_needed command.Core document fit certified k = accepted command.Core document (omega arith) k
   has_needed command.Check document fit certified k = is_complete document fit certified

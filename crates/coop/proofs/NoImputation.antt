@@ -8,7 +8,7 @@ use Rattle.definitions.specs.declared.Family.TheVariants.{Imputations}
 use Rattle.definitions.proofs.Members.{sum_below-times, sum_over-grand_coalition}
 use Rattle.definitions.proofs.Parts.{sum_below-le}
 use Rattle.definitions.proofs.Ring.{linear, mul-le_cancelℤ}
-use Rattle.nested_programs.specs.Answer.{singles, IsTooDear}
+use Rattle.nested_programs.specs.Answer.{singles, LacksImputation}
 
 none_is_rational : (g : Game) → g.worth (grand_coalition g.players) <ℤ singles g → (y : Allocation) → ¬ InFamily Imputations g y
 none_is_rational g above y h =
@@ -24,9 +24,9 @@ none_is_rational g above y h =
     let least : singles g ≤ℤ g.worth (grand_coalition n) = mul-le_cancelℤ y.den (singles g) (g.worth (grand_coalition n)) some scaled in
     omega (arith, linear, above, least)
 
-module _ (family : Family) (g : Game) (alone total : ℤ) (dear : IsTooDear family g alone total) where
+module _ (family : Family) (g : Game) (alone total : ℤ) (lacks : LacksImputation family g alone total) where
   pub is_above : g.worth (grand_coalition g.players) <ℤ singles g
-  is_above = subst (λ (w : ℤ). w <ℤ singles g) dear.total_is (subst (λ (w : ℤ). total <ℤ w) dear.alone_is dear.above)
+  is_above = subst (λ (w : ℤ). w <ℤ singles g) lacks.total_is (subst (λ (w : ℤ). total <ℤ w) lacks.alone_is lacks.above)
 
   pub no_imputation : (y : Allocation) → ¬ InFamily Imputations g y
   no_imputation = none_is_rational g is_above

@@ -1,20 +1,18 @@
 -- The line of what a solver found can be checked.
-use Rattle.std.proofs.Common.{◌≡◌, ℕ, ◌+◌, ◌*◌, ◌≤◌, List, [], ◌∷◌, length, Bool, None, sym, ap, subst, ◌∙◌, length-append, arith}
+use Rattle.std.proofs.Common.{◌≡◌, ℕ, ◌+◌, ◌≤◌, List, [], ◌∷◌, length, Bool, None, sym, ap, subst, ◌∙◌, length-append, arith}
 use Rattle.std.specs.List.{AllByRecursion}
 use Rattle.serde_json.specs.Data.{Data}
 use Rattle.serde_json.specs.View.{view}
 use Rattle.serde_json.specs.Written.{compact_text}
 use Rattle.serde_json.specs.declared.value.Value.{Value}
-use Rattle.definitions.specs.Games.{Game, Allocation, IsAllocation, InFamily, IsShares}
+use Rattle.definitions.specs.Games.{Allocation, IsAllocation, IsShares}
 use Rattle.definitions.specs.Certificates.{Level, Certifies}
 use Rattle.definitions.specs.declared.Family.{Family}
-use Rattle.definitions.specs.declared.Family.TheVariants.{Imputations, Preimputations}
-use Rattle.fractions.specs.Fraction.{IsReduced, HasForm}
 use Rattle.fractions.proofs.WrittenFractions.{read_back}
 use Rattle.kohlberg.specs.Certificate.{CertificateData, IsCertificate}
 use Rattle.game_text.specs.Descriptions.{description_of, game_of, is_cost}
-use Rattle.game_text.specs.Documents.{Contents, game_tree, contents_of}
-use Rattle.game_text.specs.Refusals.{tree_refusal}
+use Rattle.game_text.specs.Documents.{Contents, game_tree}
+use Rattle.game_text.specs.Denominators.{contents_of, tree_refusal}
 use Rattle.game_text.specs.Text.{document_limit}
 use Rattle.game_text.specs.declared.command.Command.TheVariants as command
 use Rattle.report.specs.Certificates.{excess_of}
@@ -28,37 +26,33 @@ use Rattle.reading_back.proofs.NucleolusTrees.{printed_is_read}
 use Rattle.reading_back.proofs.SameLevels.{same_certify}
 use Rattle.coop.specs.Needs.{IsAccepted}
 use Rattle.coop.specs.ReadBack.{SaysSame, CanBeChecked}
-use Rattle.coop.specs.Solution.{IsFound}
+use Rattle.kohlberg.specs.Solved.{HasFew, IsLowest, IsSolved}
+use Rattle.definitions.specs.declared.Measure.TheVariants.{Plain}
+use Rattle.definitions.proofs.Families.{allocation_of}
 
 -- ---- the levels
 
-all_lowest : (ls : List Level) → AllByRecursion (λ l. IsReduced (excess_of l) × HasForm (excess_of l)) ls → AreInLowestTerms ls
+all_lowest : (ls : List Level) → AllByRecursion IsLowest ls → AreInLowestTerms ls
 all_lowest [] h = tt
 all_lowest (l ∷ ls) h = (record { reduced = h.0.0; fits = h.0.1 }, all_lowest ls h.1)
 
-all_read_back : (ls : List Level) → AllByRecursion (λ l. IsReduced (excess_of l) × HasForm (excess_of l)) ls → ExcessesAreReadBack ls
+all_read_back : (ls : List Level) → AllByRecursion IsLowest ls → ExcessesAreReadBack ls
 all_read_back [] h = tt
 all_read_back (l ∷ ls) h = (read_back (excess_of l) h.0.0 h.0.1, all_read_back ls h.1)
 
-all_few : (n : ℕ) → n ≤ 64 → (ls : List Level) → AllByRecursion (λ l. length l.coalitions + length l.earlier + length l.bounds ≤ 2 * n) ls → AllByRecursion (λ l. length l.coalitions + length l.earlier + length l.bounds ≤ 128) ls
+all_few : (n : ℕ) → n ≤ 64 → (ls : List Level) → AllByRecursion (HasFew n) ls → AllByRecursion (λ l. length l.coalitions + length l.earlier + length l.bounds ≤ 128) ls
 all_few n few [] h = tt
 all_few n few (l ∷ ls) h = (omega (arith, h.0), all_few n few ls h.1)
-
--- ---- the shares
-
-allocated : (family : Family) (g : Game) (x : Allocation) → InFamily family g x → IsAllocation g x
-allocated Imputations g x h = h.0
-allocated Preimputations g x h = h.0
 
 -- ---- the line
 
 module _ (family : Family) (d : Contents) (value : Value) (are_costs : Bool) (x : Allocation) (c : CertificateData)
     (accepted : IsAccepted d) (same : view value ≡ d.tree) (signs : are_costs ≡ is_cost d.game)
-    (s : IsShares x) (h : IsCertificate c) (found : IsFound family (game_of d.game) x c) where
+    (s : IsShares x) (h : IsCertificate c) (found : IsSolved c.mode family Plain (game_of d.game) x c) where
   allocation : IsAllocation (game_of d.game) x
-  allocation = allocated family (game_of d.game) x found.certifies.0
+  allocation = allocation_of family (game_of d.game) x found.certifies.0
 
-  certified : Certifies c.mode family (game_of d.game) x c.levels
+  certified : Certifies c.mode family Plain (game_of d.game) x c.levels
   certified = found.certifies
 
   -- the game of the document, its tree and its signs are those that are printed
@@ -97,7 +91,7 @@ module _ (family : Family) (d : Contents) (value : Value) (are_costs : Bool) (x 
         shares = of.shares.0;
         evidence = record { family = of.family; shares = of.shares.1; certificate = of.certificate };
         same = again.same (game_of e.game) here;
-        certifies = same_certify c.mode family (game_of e.game) x of.shares.0 c.levels (again.allocation (game_of e.game) here) (again.same (game_of e.game) here) (subst (λ g. Certifies c.mode family (game_of g) x c.levels) games certified);
+        certifies = same_certify c.mode family Plain (game_of e.game) x of.shares.0 c.levels (again.allocation (game_of e.game) here) (again.same (game_of e.game) here) (subst (λ g. Certifies c.mode family Plain (game_of g) x c.levels) games certified);
       }
 
   pub can_be_checked : CanBeChecked (Nucleolus family value are_costs x c) family (view value) x c

@@ -9,10 +9,9 @@ use Rattle.game_text.specs.declared.command.Command.TheVariants as command
 use Rattle.game_text.specs.declared.refusal.Refusal.{Refusal}
 use Rattle.game_text.specs.declared.refusal.Refusal.TheVariants as refusal
 use Rattle.report.specs.declared.answer.Answer.{Answer}
-use Rattle.report.specs.declared.answer.Answer.TheVariants.{Nucleolus, NoImputation, InCore, NotEfficient, Blocked, Verdict, Usage, Refused}
-use Rattle.report.specs.declared.answer.UsageKind.{UsageKind}
+use Rattle.report.specs.declared.answer.Answer.TheVariants.{Usage, Refused}
 use Rattle.report.specs.declared.answer.UsageKind.TheVariants.{Words}
-use Rattle.coop.specs.Headline.{AnswersTo, IsServed}
+use Rattle.coop.specs.Headline.{AnswersTo, IsAnsweredFor}
 use Rattle.coop.specs.Outcome.{IsLeft, IsRight, ReadsAll, ReadsForRefusal}
 use Rattle.coop.specs.Words.{word_of, IsNoCommand, Names}
 
@@ -40,33 +39,19 @@ module _ (given : Command) where
   pub right_refusal : (old new : Option (List ℕ)) (input : List ℕ) → Consumes old new input → length input ≤ document_limit given + 1 → (length input ≤ document_limit given → IsAtEnd new) → (r : Refusal) → IsRefused given input r
       → IsRight (word_of given ∷ []) old new (Refused r)
   right_refusal old new input p most end refusal.TooLong long = right_too_long old new input p most long
-  right_refusal old new input p most end refusal.NotJson refused = right_whole old new input p (end refused.0) refusal.NotJson refused (λ h. h)
-  right_refusal old new input p most end refusal.Shape refused = right_whole old new input p (end refused.0) refusal.Shape refused (λ h. h)
-  right_refusal old new input p most end refusal.Players refused = right_whole old new input p (end refused.0) refusal.Players refused (λ h. h)
-  right_refusal old new input p most end refusal.Number refused = right_whole old new input p (end refused.0) refusal.Number refused (λ h. h)
-  right_refusal old new input p most end refusal.Names refused = right_whole old new input p (end refused.0) refusal.Names refused (λ h. h)
-  right_refusal old new input p most end refusal.Coalition refused = right_whole old new input p (end refused.0) refusal.Coalition refused (λ h. h)
-  right_refusal old new input p most end refusal.Estate refused = right_whole old new input p (end refused.0) refusal.Estate refused (λ h. h)
-  right_refusal old new input p most end refusal.Matrix refused = right_whole old new input p (end refused.0) refusal.Matrix refused (λ h. h)
-  right_refusal old new input p most end refusal.Proposal refused = right_whole old new input p (end refused.0) refusal.Proposal refused (λ h. h)
-  right_refusal old new input p most end refusal.TooFine refused = right_whole old new input p (end refused.0) refusal.TooFine refused (λ h. h)
-  right_refusal old new input p most end refusal.Certificate refused = right_whole old new input p (end refused.0) refusal.Certificate refused (λ h. h)
+  right_refusal old new input p most end r refused = right_whole old new input p (end refused.0) r refused (λ h. h)
 
 -- ---- answers to a document
 
--- no document is answered with Usage
-no_usage : (given : Command) (d : Contents) (kind : UsageKind) → AnswersTo given d (Usage kind) → ⊥
-no_usage command.Nucleolus d kind h = h
-no_usage command.Prenucleolus d kind h = h
-no_usage command.Propose d kind h = h.2
-no_usage command.Check d kind h = h
+-- no document is answered with the usage of words
+no_usage : (given : Command) (d : Contents) → AnswersTo given d (Usage Words) → ⊥
+no_usage command.Propose d h = h.2
+no_usage given d h = h
 
 -- nor with a refusal
 no_refusal : (given : Command) (d : Contents) (r : Refusal) → AnswersTo given d (Refused r) → ⊥
-no_refusal command.Nucleolus d r h = h
-no_refusal command.Prenucleolus d r h = h
 no_refusal command.Propose d r h = h.2
-no_refusal command.Check d r h = h
+no_refusal given d r h = h
 
 module _ (given : Command) (old new : Option (List ℕ)) (input : List ℕ) (p : Consumes old new input) (end : length input ≤ document_limit given → IsAtEnd new) (d : Contents) (document : IsDocument given input d) where
   left : IsLeft old input
@@ -75,18 +60,13 @@ module _ (given : Command) (old new : Option (List ℕ)) (input : List ℕ) (p :
   read : ReadsAll old new
   read = ((input, p), end document.0)
 
-  served : (a : Answer) → AnswersTo given d a → IsServed (word_of given ∷ []) input a
+  served : (a : Answer) → AnswersTo given d a → IsAnsweredFor (word_of given ∷ []) input a
   served a right = (given, (refl, (d, (document, right))))
 
   pub right_answer : (a : Answer) → AnswersTo given d a → IsRight (word_of given ∷ []) old new a
-  right_answer (Nucleolus family tree are_costs x c) right = record { bytes = input; left = left; answers = served (Nucleolus family tree are_costs x c) right; reads = read }
-  right_answer (NoImputation singles total) right = record { bytes = input; left = left; answers = served (NoImputation singles total) right; reads = read }
-  right_answer InCore right = record { bytes = input; left = left; answers = served InCore right; reads = read }
-  right_answer (NotEfficient sum total) right = record { bytes = input; left = left; answers = served (NotEfficient sum total) right; reads = read }
-  right_answer (Blocked s e) right = record { bytes = input; left = left; answers = served (Blocked s e) right; reads = read }
-  right_answer (Verdict v) right = record { bytes = input; left = left; answers = served (Verdict v) right; reads = read }
-  right_answer (Usage kind) right = absurd (no_usage given d kind right)
+  right_answer (Usage Words) right = absurd (no_usage given d right)
   right_answer (Refused r) right = absurd (no_refusal given d r right)
+  right_answer a right = record { bytes = input; left = left; answers = served a right; reads = read }
 
 -- ---- other words
 

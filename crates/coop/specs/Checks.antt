@@ -12,7 +12,8 @@ use Rattle.checker.specs.declared.verdicts.Verdict.{Verdict as CheckVerdict}
 use Rattle.game_text.specs.Descriptions.{game_of}
 use Rattle.game_text.specs.Documents.{Contents}
 use Rattle.report.specs.declared.answer.Answer.{Answer}
-use Rattle.report.specs.declared.answer.Answer.TheVariants.{Nucleolus, NoImputation, InCore, NotEfficient, Blocked, Verdict, Usage, Refused}
+use Rattle.report.specs.declared.answer.Answer.TheVariants.{Verdict}
+use Rattle.definitions.specs.declared.Measure.TheVariants.{Plain}
 
 -- the family, the shares and the certificate of a document that was to be checked
 pub record HasEvidence (d : Contents) (f : Family) (x : Allocation) (c : CertificateData) : Type 0 where
@@ -31,15 +32,9 @@ pub record IsComplete (d : Contents) : Type 0 where
 
 -- yes where the certificate meets all conditions for the shares, and no with the first that fails
 abbrev pub IsCheckedAs : Contents → CheckVerdict → Type 0
-IsCheckedAs d v = (family : Family) × ((x : Allocation) × ((c : CertificateData) × (HasEvidence d family x c × IsVerdict c.mode family (game_of d.game) x c.levels v)))
+IsCheckedAs d v = (family : Family) × ((x : Allocation) × ((c : CertificateData) × (HasEvidence d family x c × IsVerdict c.mode family Plain (game_of d.game) x c.levels v)))
 
 -- the answer is the right verdict on the certificate of a document
 abbrev pub Checks : Contents → Answer → Type 0
-Checks d (Nucleolus f tree are_costs x c) = ⊥
-Checks d (NoImputation singles total) = ⊥
-Checks d InCore = ⊥
-Checks d (NotEfficient sum total) = ⊥
-Checks d (Blocked s e) = ⊥
 Checks d (Verdict v) = IsCheckedAs d v
-Checks d (Usage kind) = ⊥
-Checks d (Refused r) = ⊥
+Checks d _ = ⊥

@@ -1,51 +1,87 @@
--- The headline: the answer to the words of a command line and the bytes of its input.
+-- THE HEADLINE. Every nucleolus printed for a game that was read is an imputation whose excesses over all coalitions, listed
+-- from the greatest, come lexicographically before those of every other imputation. Its printed certificate meets written
+-- conditions, which a separate checker decides and which alone imply this. And every airport or bankruptcy game to 64 players,
+-- and every table or cost table with an imputation, which have at most 16, is so answered.
 --
---   AnswersTo  the answer is right for a command and its document
---   Answers    the answer is right for the words and the bytes
-use Rattle.std.specs.Prelude.{ℕ, List}
+-- It is the clause `ends` of `run`: after a status of an answer there is an answer that `Answers` the words and the bytes, and
+-- the sink took its line (`Ends` in Outcome.antt). What is below says it from the inside out:
+--
+--   IsSolution           the nucleolus of the game of a document, with its certificate, as it is printed
+--   IsWithoutImputation  the players alone are worth more than all, and both numbers as they are printed
+--   Solves               the answer is right for the family and the game of a document
+--   AnswersTo            the answer is right for a command and its document
+--   Answers              the answer is right for the words and the bytes
+--
+-- What is right for the other commands stands in Judgement.antt (`propose`), CoreClaims.antt (`core`) and Checks.antt (`check`).
+--
+-- No answer that isn't named is right, and the answers exclude one another: a nucleolus is an imputation, which gives each
+-- player at least what it is worth alone, so it can't come where the players alone are worth more than all.
+use Rattle.std.specs.Prelude.{◌≡◌, ℕ, List, Bool, ℤ, ◌<ℤ◌}
+use Rattle.serde_json.specs.Data.{Data}
+use Rattle.serde_json.specs.View.{view}
+use Rattle.definitions.specs.Coalitions.{grand_coalition}
+use Rattle.definitions.specs.Games.{Game, Allocation, InFamily, IsNucleolus}
+use Rattle.definitions.specs.Certificates.{HasForm, Certifies}
+use Rattle.definitions.specs.declared.Family.{Family}
 use Rattle.definitions.specs.declared.Family.TheVariants.{Imputations, Preimputations}
+use Rattle.definitions.specs.declared.Measure.TheVariants.{Plain}
+use Rattle.kohlberg.specs.Certificate.{CertificateData}
+use Rattle.game_text.specs.Descriptions.{game_of, is_cost}
 use Rattle.game_text.specs.Documents.{Contents}
 use Rattle.game_text.specs.Refusals.{IsDocument, IsRefused}
 use Rattle.game_text.specs.declared.command.Command.{Command}
+use Rattle.game_text.specs.declared.command.Command.TheVariants.{Nucleolus as NucleolusWord, Prenucleolus as PrenucleolusWord, Propose, Core, Check}
 use Rattle.game_text.specs.declared.refusal.Refusal.{Refusal}
-use Rattle.game_text.specs.declared.command.Command.TheVariants.{Nucleolus as NucleolusWord, Prenucleolus as PrenucleolusWord, Propose, Check}
+use Rattle.nested_programs.specs.Answer.{singles}
 use Rattle.report.specs.declared.answer.Answer.{Answer}
-use Rattle.report.specs.declared.answer.Answer.TheVariants.{Nucleolus, NoImputation, InCore, NotEfficient, Blocked, Verdict, Usage, Refused}
-use Rattle.report.specs.declared.answer.UsageKind.{UsageKind}
-use Rattle.report.specs.declared.answer.UsageKind.TheVariants.{Words, Class, Players}
+use Rattle.report.specs.declared.answer.Answer.TheVariants.{Nucleolus, NoImputation, Usage, Refused}
+use Rattle.report.specs.declared.answer.UsageKind.TheVariants.{Words}
 use Rattle.coop.specs.Words.{IsCommand, IsNoCommand}
-use Rattle.coop.specs.Judgement.{JudgesAll}
+use Rattle.coop.specs.Judgement.{printed, JudgesAll}
 use Rattle.coop.specs.Checks.{Checks}
-use Rattle.coop.specs.Solution.{Solves}
+use Rattle.coop.specs.CoreClaims.{SaysOfCore}
+
+-- The shares are a member of the family whose excesses over all coalitions, listed from the greatest, come before those of every other member. The certificate has its form for the game's players and meets all conditions for the shares, which alone imply this (`certificates_are_sound`). They stand beside the tree of the game that was read.
+pub record IsSolution (family : Family) (d : Contents) (printed : Data) (are_costs : Bool) (x : Allocation) (c : CertificateData) : Type 0 where
+  pub nucleolus : IsNucleolus family Plain (game_of d.game) x
+  pub players : c.players ≡ (game_of d.game).players
+  pub form : HasForm c.mode (game_of d.game).players c.levels
+  pub certifies : Certifies c.mode family Plain (game_of d.game) x c.levels
+  pub tree : printed ≡ d.tree
+  pub signs : are_costs ≡ is_cost d.game
+
+-- imputations are asked for and there are none, since the worths of the players alone add to more than the worth of all; both are given as they are printed
+pub record IsWithoutImputation (family : Family) (g : Game) (are_costs : Bool) (alone total : ℤ) : Type 0 where
+  pub imputations : family ≡ Imputations
+  pub alone_is : alone ≡ printed are_costs (singles g)
+  pub total_is : total ≡ printed are_costs (g.worth (grand_coalition g.players))
+  pub above : g.worth (grand_coalition g.players) <ℤ singles g
+  pub none : (y : Allocation) → ¬ InFamily Imputations g y
+
+-- the answer is right for the family and the game of a document
+abbrev pub Solves : Family → Contents → Answer → Type 0
+Solves family d (Nucleolus f tree are_costs x c) = (f ≡ family) × IsSolution family d (view tree) are_costs x c
+Solves family d (NoImputation alone total) = IsWithoutImputation family (game_of d.game) (is_cost d.game) alone total
+Solves family d _ = ⊥
 
 -- the answer is right for a command and what its document says
 abbrev pub AnswersTo : Command → Contents → Answer → Type 0
 AnswersTo NucleolusWord d answer = Solves Imputations d answer
 AnswersTo PrenucleolusWord d answer = Solves Preimputations d answer
 AnswersTo Propose d answer = JudgesAll d answer
+AnswersTo Core d answer = SaysOfCore d answer
 AnswersTo Check d answer = Checks d answer
 
 -- the words are a command, the bytes are a document of it, and the answer is right for both
-abbrev pub IsServed : List (List ℕ) → List ℕ → Answer → Type 0
-IsServed words bytes answer = (command : Command) × (IsCommand words command × ((d : Contents) × (IsDocument command bytes d × AnswersTo command d answer)))
-
--- Usage of words where they are no command, and no other Usage
-abbrev pub IsMisused : UsageKind → List (List ℕ) → Type 0
-IsMisused Words words = IsNoCommand words
-IsMisused Class words = ⊥
-IsMisused Players words = ⊥
+abbrev pub IsAnsweredFor : List (List ℕ) → List ℕ → Answer → Type 0
+IsAnsweredFor words bytes answer = (command : Command) × (IsCommand words command × ((d : Contents) × (IsDocument command bytes d × AnswersTo command d answer)))
 
 -- the words are a command, and this is the first refusal that applies to the bytes
-abbrev pub IsTurnedAway : List (List ℕ) → List ℕ → Refusal → Type 0
-IsTurnedAway words bytes r = (command : Command) × (IsCommand words command × IsRefused command bytes r)
+abbrev pub IsRefusedFor : List (List ℕ) → List ℕ → Refusal → Type 0
+IsRefusedFor words bytes r = (command : Command) × (IsCommand words command × IsRefused command bytes r)
 
--- the answer is right for the words and the bytes
+-- the answer is right for the words and the bytes: for words that are no command, the usage of words; else the first refusal that applies; else what the command says to the document
 abbrev pub Answers : List (List ℕ) → List ℕ → Answer → Type 0
-Answers words bytes (Nucleolus family tree are_costs x c) = IsServed words bytes (Nucleolus family tree are_costs x c)
-Answers words bytes (NoImputation singles total) = IsServed words bytes (NoImputation singles total)
-Answers words bytes InCore = IsServed words bytes InCore
-Answers words bytes (NotEfficient sum total) = IsServed words bytes (NotEfficient sum total)
-Answers words bytes (Blocked s e) = IsServed words bytes (Blocked s e)
-Answers words bytes (Verdict v) = IsServed words bytes (Verdict v)
-Answers words bytes (Usage kind) = IsMisused kind words
-Answers words bytes (Refused r) = IsTurnedAway words bytes r
+Answers words bytes (Usage Words) = IsNoCommand words
+Answers words bytes (Refused r) = IsRefusedFor words bytes r
+Answers words bytes answer = IsAnsweredFor words bytes answer

@@ -10,7 +10,7 @@ use Rattle.fractions.specs.Fraction.{Fraction, IsRatio}
 use Rattle.game_text.specs.Descriptions.{game_of, is_cost}
 use Rattle.game_text.specs.Documents.{Contents}
 use Rattle.report.specs.declared.answer.Answer.{Answer}
-use Rattle.report.specs.declared.answer.Answer.TheVariants.{Nucleolus, NoImputation, InCore as Core, NotEfficient, Blocked, Verdict, Usage, Refused}
+use Rattle.report.specs.declared.answer.Answer.TheVariants.{InCore as Core, NotEfficient, Blocked}
 
 -- a number of worth as it is printed: its sign is turned where the numbers of the game are costs
 abbrev pub printed : Bool → ℤ → ℤ
@@ -31,11 +31,7 @@ abbrev pub Judges : Bool → Game → Allocation → Answer → Type 0
 Judges are_costs g x Core = InCore g x
 Judges are_costs g x (NotEfficient sum total) = IsInefficient are_costs g x sum total
 Judges are_costs g x (Blocked s e) = IsBlockedBy g x s e
-Judges are_costs g x (Nucleolus family tree costs y c) = ⊥
-Judges are_costs g x (NoImputation singles total) = ⊥
-Judges are_costs g x (Verdict v) = ⊥
-Judges are_costs g x (Usage kind) = ⊥
-Judges are_costs g x (Refused r) = ⊥
+Judges are_costs g x _ = ⊥
 
 -- there are these shares, and the answer is the right judgement on them
 abbrev pub JudgesAll : Contents → Answer → Type 0

@@ -1,9 +1,10 @@
 pub mod Words
 pub mod Judgement
 pub mod Checks
-pub mod Solution
-pub mod Needs
+pub mod CoreClaims
 pub mod Headline
 pub mod ReadBack
 pub mod Outcome
+pub mod Needs
+pub mod Finding
 pub mod Stops

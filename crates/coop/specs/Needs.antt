@@ -8,10 +8,10 @@ use Rattle.serde_json.specs.Written.{compact_text, has_float}
 use Rattle.json_texts.specs.Exact.{IsExact}
 use Rattle.game_text.specs.Descriptions.{description_of}
 use Rattle.game_text.specs.Documents.{Contents, game_tree}
-use Rattle.game_text.specs.Refusals.{tree_refusal}
+use Rattle.game_text.specs.Denominators.{tree_refusal}
 use Rattle.game_text.specs.Text.{document_limit}
 use Rattle.game_text.specs.declared.command.Command.{Command}
-use Rattle.game_text.specs.declared.command.Command.TheVariants.{Nucleolus, Prenucleolus, Propose, Check}
+use Rattle.game_text.specs.declared.command.Command.TheVariants.{Nucleolus, Prenucleolus, Propose, Core, Check}
 use Rattle.coop.specs.Judgement.{HasShares}
 use Rattle.coop.specs.Checks.{IsComplete}
 
@@ -32,4 +32,5 @@ abbrev pub HasNeeded : Command → Contents → Type 0
 HasNeeded Nucleolus d = IsAccepted d
 HasNeeded Prenucleolus d = IsAccepted d
 HasNeeded Propose d = HasShares d
+HasNeeded Core d = IsAccepted d
 HasNeeded Check d = IsComplete d

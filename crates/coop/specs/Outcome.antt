@@ -1,7 +1,17 @@
 -- What stands when a run has ended: the status, what was printed, how far the input was read, and which call failed.
+--
+--   IsLeft                       what the source had left, where it tells
+--   ReadsPastLimit, ReadsAll     how far the input was read
+--   ReadsForRefusal, ReadsFor    how far it was read for an answer
+--   status_number                the number of a status
+--   verdict_status, status_of    the status of an answer
+--   IsRight                      the answer is right for the words and for what the source had left
+--   Answered, CutShort           its line was printed, or a proper front of it
+--   Ends                         what stands after each status
+--   IsCauseOf                    which count of failures rose
 use Rattle.std.specs.Prelude.{◌≡◌, ◌≢◌, ◌<◌, ◌+◌, ℕ, List, length, take, Option, Some, None, ⊤}
 use Rattle.std.specs.Io.KnownBytes.{Appends, Consumes, IsAtEnd}
-use Rattle.ports.specs.Causes.{Rose}
+use Rattle.ports.specs.Causes.{CountRose}
 use Rattle.coop.specs.Headline.{Answers}
 use Rattle.coop.specs.ReadBack.{IsReadBack}
 use Rattle.game_text.specs.Text.{document_limit}
@@ -10,7 +20,8 @@ use Rattle.game_text.specs.declared.refusal.Refusal.{Refusal}
 use Rattle.game_text.specs.declared.refusal.Refusal.TheVariants.{TooLong}
 use Rattle.report.specs.Lines.{line}
 use Rattle.report.specs.declared.answer.Answer.{Answer}
-use Rattle.report.specs.declared.answer.Answer.TheVariants.{Nucleolus, NoImputation, InCore, NotEfficient, Blocked, Verdict, Usage, Refused}
+use Rattle.report.specs.declared.answer.Answer.TheVariants.{Nucleolus, NoImputation, InCore, NotEfficient, Blocked, CorePoint, EmptyCore, Verdict, Usage, Refused}
+use Rattle.report.specs.declared.answer.UsageKind.TheVariants.{Words}
 use Rattle.checker.specs.declared.verdicts.Verdict.{Verdict as CheckVerdict}
 use Rattle.checker.specs.declared.verdicts.Verdict.TheVariants.{Yes, No}
 use Rattle.coop.specs.Words.{IsCommand}
@@ -37,14 +48,19 @@ ReadsForRefusal r words old new = ReadsAll old new
 
 -- how far the input was read for an answer
 abbrev pub ReadsFor : Answer → List (List ℕ) → Option (List ℕ) → Option (List ℕ) → Type 0
-ReadsFor (Nucleolus family tree are_costs x c) words old new = ReadsAll old new
-ReadsFor (NoImputation singles total) words old new = ReadsAll old new
-ReadsFor InCore words old new = ReadsAll old new
-ReadsFor (NotEfficient sum total) words old new = ReadsAll old new
-ReadsFor (Blocked s e) words old new = ReadsAll old new
-ReadsFor (Verdict v) words old new = ReadsAll old new
-ReadsFor (Usage kind) words old new = new ≡ old
+ReadsFor (Usage Words) words old new = new ≡ old
 ReadsFor (Refused r) words old new = ReadsForRefusal r words old new
+ReadsFor _ words old new = ReadsAll old new
+
+-- the number that the program ends with
+abbrev pub status_number : Status → ℕ
+status_number status.Done = 0
+status_number status.Negative = 1
+status_number status.Usage = 2
+status_number status.Refused = 3
+status_number status.ReadFault = 5
+status_number status.WriteFault = 6
+status_number status.OutOfMemory = 7
 
 -- the status after a verdict was printed
 abbrev pub verdict_status : CheckVerdict → Status
@@ -58,6 +74,8 @@ status_of (NoImputation singles total) = status.Negative
 status_of InCore = status.Done
 status_of (NotEfficient sum total) = status.Negative
 status_of (Blocked s e) = status.Negative
+status_of (CorePoint are_costs x) = status.Done
+status_of (EmptyCore c value against) = status.Negative
 status_of (Verdict v) = verdict_status v
 status_of (Usage kind) = status.Usage
 status_of (Refused r) = status.Refused
@@ -91,5 +109,5 @@ Ends words old new taken_old taken_new status.OutOfMemory = taken_new ≡ taken_
 
 -- the count rose at this status, and is as before after every other
 pub record IsCauseOf (fault : Status) (before now : ℕ) (s : Status) : Type 0 where
-  pub rose : s ≡ fault → Rose before now
-  pub quiet : s ≢ fault → now ≡ before
+  pub rose : s ≡ fault → CountRose before now
+  pub unchanged : s ≢ fault → now ≡ before

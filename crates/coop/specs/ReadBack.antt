@@ -1,9 +1,10 @@
 -- What `check` reads of the line of a nucleolus.
 --
---   SaysSame    a document says the same as a nucleolus that was printed
---   CanBeRead   no test refuses the tree of an answer where it is checked, and it says the same
---   IsReadBack  the line of an answer is a document to check, and says the same
-use Rattle.std.specs.Prelude.{◌≡◌, ◌≤◌, ⊤, length, None}
+--   SaysSame      a document says the same as a nucleolus that was printed
+--   CanBeRead     no test refuses the tree of an answer where it is checked, and it says the same
+--   CheckSaysYes  yes is the one right answer to bytes that are checked
+--   IsReadBack    the line of an answer is a document to check, says the same, and gets yes
+use Rattle.std.specs.Prelude.{◌≡◌, ◌≤◌, ⊤, ℕ, List, [], ◌∷◌, length, None}
 use Rattle.serde_json.specs.Data.{Data}
 use Rattle.serde_json.specs.View.{view}
 use Rattle.definitions.specs.Games.{Allocation, IsSame}
@@ -11,14 +12,19 @@ use Rattle.definitions.specs.Certificates.{Certifies}
 use Rattle.definitions.specs.declared.Family.{Family}
 use Rattle.kohlberg.specs.Certificate.{CertificateData}
 use Rattle.game_text.specs.Descriptions.{description_of, game_of}
-use Rattle.game_text.specs.Documents.{Contents, contents_of}
-use Rattle.game_text.specs.Refusals.{tree_refusal, IsDocument}
+use Rattle.game_text.specs.Documents.{Contents}
+use Rattle.game_text.specs.Denominators.{contents_of, tree_refusal}
+use Rattle.game_text.specs.Refusals.{IsDocument}
 use Rattle.game_text.specs.Text.{document_limit}
 use Rattle.game_text.specs.declared.command.Command.TheVariants.{Check}
 use Rattle.report.specs.Lines.{answer_tree, line}
 use Rattle.report.specs.declared.answer.Answer.{Answer}
-use Rattle.report.specs.declared.answer.Answer.TheVariants.{Nucleolus, NoImputation, InCore, NotEfficient, Blocked, Verdict, Usage, Refused}
+use Rattle.report.specs.declared.answer.Answer.TheVariants.{Nucleolus, Verdict}
+use Rattle.checker.specs.declared.verdicts.Verdict.TheVariants.{Yes}
+use Rattle.coop.specs.Words.{word_of}
 use Rattle.coop.specs.Checks.{HasEvidence}
+use Rattle.coop.specs.Headline.{Answers}
+use Rattle.definitions.specs.declared.Measure.TheVariants.{Plain}
 
 -- the document gives the game of this tree, the family, the same shares over some denominator, and the certificate, which certifies them
 pub record SaysSame (f : Family) (printed : Data) (x : Allocation) (c : CertificateData) (d : Contents) : Type 0 where
@@ -27,7 +33,7 @@ pub record SaysSame (f : Family) (printed : Data) (x : Allocation) (c : Certific
   pub shares : Allocation
   pub evidence : HasEvidence d f shares c
   pub same : IsSame (game_of d.game) x shares
-  pub certifies : Certifies c.mode f (game_of d.game) shares c.levels
+  pub certifies : Certifies c.mode f Plain (game_of d.game) shares c.levels
 
 -- the line is no longer than a document to check may be, no test refuses its tree, and it says the same
 pub record CanBeChecked (answer : Answer) (f : Family) (printed : Data) (x : Allocation) (c : CertificateData) : Type 0 where
@@ -38,22 +44,15 @@ pub record CanBeChecked (answer : Answer) (f : Family) (printed : Data) (x : All
 -- the tree of a nucleolus can be checked
 abbrev pub CanBeRead : Answer → Type 0
 CanBeRead (Nucleolus family tree are_costs x c) = CanBeChecked (Nucleolus family tree are_costs x c) family (view tree) x c
-CanBeRead (NoImputation singles total) = ⊤
-CanBeRead InCore = ⊤
-CanBeRead (NotEfficient sum total) = ⊤
-CanBeRead (Blocked s e) = ⊤
-CanBeRead (Verdict v) = ⊤
-CanBeRead (Usage kind) = ⊤
-CanBeRead (Refused r) = ⊤
+CanBeRead _ = ⊤
 
--- the line of a nucleolus is a document to check, with the same game, family, shares and certificate, which certifies the shares: so the verdict on it is yes
+-- of all answers to the word `check` and these bytes, yes is right, and no other is
+pub record CheckSaysYes (bytes : List ℕ) : Type 0 where
+  pub yes : Answers (word_of Check ∷ []) bytes (Verdict Yes)
+  pub only : (answer : Answer) → Answers (word_of Check ∷ []) bytes answer → answer ≡ Verdict Yes
+
+-- the line of a nucleolus is a document to check, with the same game, family, shares and certificate, which certifies the shares; and the verdict on it is yes
 abbrev pub IsReadBack : Answer → Type 0
 IsReadBack (Nucleolus family tree are_costs x c) =
-    (d : Contents) × (IsDocument Check (line (Nucleolus family tree are_costs x c)) d × SaysSame family (view tree) x c d)
-IsReadBack (NoImputation singles total) = ⊤
-IsReadBack InCore = ⊤
-IsReadBack (NotEfficient sum total) = ⊤
-IsReadBack (Blocked s e) = ⊤
-IsReadBack (Verdict v) = ⊤
-IsReadBack (Usage kind) = ⊤
-IsReadBack (Refused r) = ⊤
+    let bytes = line (Nucleolus family tree are_costs x c) in (d : Contents) × (IsDocument Check bytes d × SaysSame family (view tree) x c d × CheckSaysYes bytes)
+IsReadBack _ = ⊤

@@ -1,13 +1,14 @@
 -- The words of a command line.
 use Rattle.std.specs.Prelude.{◌≡◌, ℕ, List, [], ◌∷◌, codes, Option, Some, None}
 use Rattle.game_text.specs.declared.command.Command.{Command}
-use Rattle.game_text.specs.declared.command.Command.TheVariants.{Nucleolus, Prenucleolus, Propose, Check}
+use Rattle.game_text.specs.declared.command.Command.TheVariants.{Nucleolus, Prenucleolus, Propose, Core, Check}
 
 -- the word of a command
 abbrev pub word_of : Command → List ℕ
 word_of Nucleolus = codes "nucleolus"
 word_of Prenucleolus = codes "prenucleolus"
 word_of Propose = codes "propose"
+word_of Core = codes "core"
 word_of Check = codes "check"
 
 -- the words are the one word of the command

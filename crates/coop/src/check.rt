@@ -7,6 +7,7 @@ ghost use Rattle.coop.specs.ReadBack.{CanBeRead};
 use checker::check;
 use game_text::Document;
 use report::Answer;
+use worth_core::Measure;
 
 /// The verdict on what a document says is the nucleolus of its game, or the prenucleolus.
 pub fn check_document(document: &Document) -> Answer
@@ -22,5 +23,5 @@ pub fn check_document(document: &Document) -> Answer
     ) else {
         unreachable!()
     };
-    Answer::Verdict(check(&document.game, family, shares, certificate))
+    Answer::Verdict(check(&document.game, family, Measure::Plain, shares, certificate))
 }

@@ -58,7 +58,8 @@ fn over(num: i128, den: i128) -> Frac
     Frac::new(num, den).unwrap()
 }
 
-fn printed_amount(amount: i128, are_costs: bool) -> i128
+/// A sum of worths as it is printed.
+pub fn printed_amount(amount: i128, are_costs: bool) -> i128
     requires { unsigned_abs amount < 2 ^ 117 }
     ensures value { result ≡ printed are_costs amount }
     ensures small { unsigned_abs result < 2 ^ 117 }

@@ -3,6 +3,7 @@
 
 mod adapters;
 mod check;
+mod core_search;
 mod judge;
 mod run;
 mod solve;
@@ -30,7 +31,7 @@ fn main(rt: HostRuntime) -> ExitCode {
     let words = match arguments(&rt) {
         Ok(words) => words,
         Err(e) if e.kind() == ErrorKind::OutOfMemory => {
-            return ExitCode::from(Status::OutOfMemory as u8);
+            return ExitCode::from(Status::OutOfMemory.number());
         }
         // One of them isn't UTF-8.
         Err(_) => Vec::new(rt.alloc()),
@@ -38,5 +39,5 @@ fn main(rt: HostRuntime) -> ExitCode {
     let mut source = StdSource::new(rt.stdin());
     let mut sink = StdSink::new(rt.stdout());
     let status = run(rt.alloc(), &words, &mut source, &mut sink);
-    ExitCode::from(status as u8)
+    ExitCode::from(status.number())
 }

@@ -1,7 +1,6 @@
 //! From the words and the input to the status and the line.
-ghost use Rattle.std.specs.Prelude.{◌≡◌, ◌⊎◌, ◌^◌, ◌<◌, [], ◌∷◌, map, string_bytes, IfOk};
+ghost use Rattle.std.specs.Prelude.{◌≡◌, ◌⊎◌, [], ◌∷◌, map, string_bytes, IfOk};
 ghost use Rattle.report.specs.Limits.{IsPrintable};
-ghost use Rattle.game_text.specs.Text.{document_limit};
 ghost use Rattle.game_text.specs.Readings.{contents_in};
 ghost use Rattle.coop.specs.Headline.{AnswersTo};
 ghost use Rattle.coop.specs.Needs.{HasNeeded};
@@ -11,6 +10,7 @@ ghost use Rattle.coop.specs.Stops.{IsFaultOf};
 ghost use Rattle.coop.specs.Words.{word_of, IsNoCommand};
 
 use crate::check::check_document;
+use crate::core_search::core_document;
 use crate::judge::judge_document;
 use crate::solve::solve_document;
 use crate::status::{Status, status_of};
@@ -18,7 +18,7 @@ use crate::stop::Stop;
 use crate::stream::{read_input, write_line};
 use crate::words::{command_of, usage_line};
 use fractions::OutOfMemory;
-use game_text::{Command, Document, TextFault, read_document};
+use game_text::{Command, Document, TextFault, document_limit, read_document};
 use ports::{Sink, Source};
 use report::{Answer, write_report};
 use std::alloc::Global;
@@ -62,17 +62,6 @@ pub fn run<S: Source, K: Sink>(
     }
 }
 
-// The most bytes that a document of the command may have.
-fn limit_of(command: Command) -> usize
-    ensures value { result ≡ document_limit command }
-    ensures small { result < 2 ^ 40 }
-{
-    match command {
-        Command::Check => 8_388_608,
-        Command::Nucleolus | Command::Prenucleolus | Command::Propose => 2_097_152,
-    }
-}
-
 // The answer to the command on the input of the source.
 fn answer<S: Source>(alloc: Global, command: Command, source: &mut S) -> Result<Answer, Stop>
     ensures right { IfOk result (IsRight (word_of command ∷ []) (S.left source.old) (S.left source.new)) }
@@ -80,7 +69,7 @@ fn answer<S: Source>(alloc: Global, command: Command, source: &mut S) -> Result<
     ensures readable { IfOk result CanBeRead }
     ensures cause { IsFaultOf (S.faults source.old) (S.faults source.new) result }
 {
-    let input = read_input(alloc, source, limit_of(command))?;
+    let input = read_input(alloc, source, document_limit(command))?;
     let document = match read_document(alloc, &input, command) {
         Ok(document) => document,
         Err(TextFault::Refused(refusal)) => return Ok(Answer::Refused(refusal)),
@@ -103,6 +92,7 @@ fn answer_to(alloc: Global, command: Command, document: Document) -> Result<Answ
         Command::Nucleolus => solve_document(alloc, document, Family::Imputations),
         Command::Prenucleolus => solve_document(alloc, document, Family::Preimputations),
         Command::Propose => Ok(judge_document(&document)),
+        Command::Core => core_document(alloc, &document),
         Command::Check => Ok(check_document(&document)),
     }
 }

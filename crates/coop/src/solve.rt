@@ -8,7 +8,8 @@ ghost use Rattle.game_text.specs.Readings.{contents_in};
 ghost use Rattle.report.specs.Limits.{IsPrintable};
 ghost use Rattle.coop.specs.Needs.{IsAccepted};
 ghost use Rattle.coop.specs.ReadBack.{CanBeRead};
-ghost use Rattle.coop.specs.Solution.{HasFewPlayers, IsFoundFor, Solves};
+ghost use Rattle.coop.specs.Finding.{HasFewPlayers, IsFoundFor};
+ghost use Rattle.coop.specs.Headline.{Solves};
 
 use crate::judge::printed_worth;
 use fractions::OutOfMemory;
@@ -58,8 +59,14 @@ fn found_for(alloc: Global, game: &Game, family: Family) -> Result<Found, OutOfM
     ensures { IfOk result (IsFoundFor family (game_of (description_in game.now))) }
 {
     match game {
-        Game::Airport(game) => Ok(point(airport_scheme::solve(alloc, game)?)),
-        Game::Bankruptcy(game) => Ok(point(talmud::solve(alloc, game)?)),
+        Game::Airport(game) => {
+            let solution = airport_scheme::solve(alloc, game)?;
+            Ok(point(solution))
+        }
+        Game::Bankruptcy(game) => {
+            let solution = talmud::solve(alloc, game)?;
+            Ok(point(solution))
+        }
         Game::Table(game) => by_programs(alloc, game, family),
         Game::Cost(game) => by_programs(alloc, game, family),
     }
@@ -83,8 +90,8 @@ fn by_programs<W: Worth>(alloc: Global, game: &W, family: Family) -> Result<Foun
     }
 }
 
-// Shares and certificates are within their limits by their types; these calls say so.
-fn keep_their_limits(shares: &Shares, certificate: &Certificate)
+/// Shares and certificates are within their limits by their types; these calls say so.
+pub fn keep_their_limits(shares: &Shares, certificate: &Certificate)
     ensures shares { IsShares shares.now }
     ensures certificate { IsCertificate certificate.now }
 {

@@ -1,5 +1,6 @@
+//! How a run ends, and the number that says so to the system.
 ghost use Rattle.std.specs.Prelude.{◌≡◌};
-ghost use Rattle.coop.specs.Outcome.{status_of};
+ghost use Rattle.coop.specs.Outcome.{status_number, status_of};
 
 use checker::Verdict;
 use report::Answer;
@@ -23,15 +24,28 @@ pub enum Status {
     OutOfMemory = 7,
 }
 
+impl Status {
+    /// The number that the program ends with: 0 to 3 after an answer, 5 to 7 after a fault.
+    pub fn number(self) -> u8
+        ensures { result ≡ status_number self }
+    {
+        self as u8
+    }
+}
+
 /// The status after an answer was printed.
 pub fn status_of(answer: &Answer) -> Status
     ensures { result ≡ status_of answer.now }
 {
     match answer {
-        Answer::Nucleolus { .. } | Answer::InCore | Answer::Verdict(Verdict::Yes) => Status::Done,
+        Answer::Nucleolus { .. }
+        | Answer::InCore
+        | Answer::CorePoint { .. }
+        | Answer::Verdict(Verdict::Yes) => Status::Done,
         Answer::NoImputation { .. }
         | Answer::NotEfficient { .. }
         | Answer::Blocked { .. }
+        | Answer::EmptyCore { .. }
         | Answer::Verdict(Verdict::No(_)) => Status::Negative,
         Answer::Usage(_) => Status::Usage,
         Answer::Refused(_) => Status::Refused,

@@ -1,9 +1,11 @@
 //! Runs over sources and sinks in memory.
 mod certificates;
+mod cores;
 mod faults;
 mod nucleolus;
 mod proposals;
 mod refusals;
+mod statuses;
 mod tables;
 mod two_refusals;
 

@@ -6,7 +6,7 @@ ghost use Rattle.coop.specs.Words.{Names};
 use game_text::Command;
 use report::{Answer, UsageKind};
 
-/// The command of the words: the one word `nucleolus`, `prenucleolus`, `propose` or `check`.
+/// The command of the words: the one word `nucleolus`, `prenucleolus`, `propose`, `core` or `check`.
 pub fn command_of(words: &[String]) -> Option<Command>
     ensures { Names (map string_bytes words.now) result }
 {
@@ -17,6 +17,7 @@ pub fn command_of(words: &[String]) -> Option<Command>
         "nucleolus" => Some(Command::Nucleolus),
         "prenucleolus" => Some(Command::Prenucleolus),
         "propose" => Some(Command::Propose),
+        "core" => Some(Command::Core),
         "check" => Some(Command::Check),
         _ => None,
     }

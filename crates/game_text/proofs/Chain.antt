@@ -1,29 +1,26 @@
 -- What reading the tree says of the bytes.
-use Rattle.std.proofs.Common.{◌≡◌, ◌≤◌, ◌&&◌, ℕ, List, length, Bool, true, false, Option, Some, None, Result, Ok, Err, MatchResult, codes, ap, ◌∙◌, subst}
+use Rattle.std.proofs.Common.{◌≡◌, ◌≤◌, ◌&&◌, ℕ, List, length, Bool, true, false, Option, Some, None, Result, Ok, Err, MatchResult, ap, ◌∙◌, subst}
 use Rattle.std.specs.Prelude.{⊤}
 use Rattle.serde_json.specs.Data.{Data}
-use Rattle.serde_json.specs.Find.{get}
-use Rattle.game_text.specs.Trees.{passes}
-use Rattle.game_text.specs.Certificates.{has_form}
 use Rattle.game_text.specs.Text.{document_limit, IsTextOf}
 use Rattle.game_text.specs.Shape.{is_shaped}
-use Rattle.game_text.specs.Limits.{players, has_players, has_numbers}
+use Rattle.game_text.specs.Limits.{has_players, has_numbers}
 use Rattle.game_text.specs.Names.{has_names}
 use Rattle.game_text.specs.Coalitions.{has_coalitions}
 use Rattle.game_text.specs.Descriptions.{description_of}
-use Rattle.game_text.specs.Shares.{has_shares_for, written_shares}
-use Rattle.game_text.specs.Denominators.{is_coarse}
 use Rattle.game_text.specs.Documents.{game_tree}
-use Rattle.game_text.specs.Refusals.{unless, is_covered, coalition_refusal, game_refusal, has_needed_numbers, proposal_refusal, share_refusal, certificate_refusal, needed_refusal, late_refusal, tree_refusal, IsRefused}
+use Rattle.game_text.specs.Refusals.{unless, is_covered, has_needed_numbers, has_needed_shares, has_needed_form, IsRefused}
+use Rattle.game_text.specs.Denominators.{needed_keep_limits, tree_refusal}
+use Rattle.game_text.specs.Steps.{coalition_refusal, game_refusal, share_refusal, certificate_refusal, needed_refusal, late_refusal}
 use Rattle.game_text.specs.Readings.{IsBuilt, IsBuildFault, IsGameReading, IsGameFault, IsTreeReading, IsTreeFault, IsReading, IsFault}
 use Rattle.game_text.specs.declared.command.Command.{Command}
-use Rattle.game_text.specs.declared.command.Command.TheVariants.{Nucleolus, Prenucleolus, Propose, Check}
 use Rattle.game_text.specs.declared.document.Document.{Document}
 use Rattle.game_text.specs.declared.fault.TextFault.{TextFault}
 use Rattle.game_text.specs.declared.fault.TextFault.TheVariants.{Refused, Memory}
 use Rattle.game_text.specs.declared.game.Game.{Game}
 use Rattle.game_text.specs.declared.refusal.Refusal.{Refusal}
 use Rattle.game_text.specs.declared.refusal.Refusal.TheVariants.{TooLong, NotJson, Shape, Players, Number, Names, Coalition, Estate, Matrix, Proposal, TooFine, Certificate}
+use Rattle.game_text.proofs.Computed.{document_from, refused_from}
 
 -- a refusal of the tree is behind the first two
 abbrev IsOfTree : Option Refusal → Type 0
@@ -37,20 +34,11 @@ choose true r x p q = p
 choose false r x p q = q
 
 certificate_of_tree : (command : Command) (game tree : Data) → IsOfTree (certificate_refusal command game tree)
-certificate_of_tree Nucleolus game tree = tt
-certificate_of_tree Prenucleolus game tree = tt
-certificate_of_tree Propose game tree = tt
-certificate_of_tree Check game tree = choose (passes (has_form (players game)) (get (codes "certificate") tree)) Certificate None tt tt
-
-proposal_of_tree : (game tree : Data) (rest : Option Refusal) → IsOfTree rest → IsOfTree (proposal_refusal game tree rest)
-proposal_of_tree game tree rest p =
-    choose (has_shares_for (players game) tree) Proposal (unless (is_coarse (written_shares tree)) TooFine rest) (choose (is_coarse (written_shares tree)) TooFine rest p tt) tt
+certificate_of_tree command game tree = choose (has_needed_form command game tree) Certificate None tt tt
 
 share_of_tree : (command : Command) (game tree : Data) (rest : Option Refusal) → IsOfTree rest → IsOfTree (share_refusal command game tree rest)
-share_of_tree Nucleolus game tree rest p = p
-share_of_tree Prenucleolus game tree rest p = p
-share_of_tree Propose game tree rest p = proposal_of_tree game tree rest p
-share_of_tree Check game tree rest p = proposal_of_tree game tree rest p
+share_of_tree command game tree rest p =
+    choose (has_needed_shares command game tree) Proposal (unless (needed_keep_limits command tree) TooFine rest) (choose (needed_keep_limits command tree) TooFine rest p tt) tt
 
 needed_of_tree : (command : Command) (game tree : Data) → IsOfTree (needed_refusal command game tree)
 needed_of_tree command game tree = share_of_tree command game tree (certificate_refusal command game tree) (certificate_of_tree command game tree)
@@ -72,16 +60,16 @@ of_tree command tree =
 refused_at : (command : Command) (bytes : List ℕ) (tree : Data) → length bytes ≤ document_limit command → IsTextOf bytes tree → (r : Refusal) → IsOfTree (Some r) → tree_refusal command tree ≡ Some r → IsRefused command bytes r
 refused_at command bytes tree h text TooLong k e = absurd k
 refused_at command bytes tree h text NotJson k e = absurd k
-refused_at command bytes tree h text Shape k e = (h, (tree, text, e))
-refused_at command bytes tree h text Players k e = (h, (tree, text, e))
-refused_at command bytes tree h text Number k e = (h, (tree, text, e))
-refused_at command bytes tree h text Names k e = (h, (tree, text, e))
-refused_at command bytes tree h text Coalition k e = (h, (tree, text, e))
-refused_at command bytes tree h text Estate k e = (h, (tree, text, e))
-refused_at command bytes tree h text Matrix k e = (h, (tree, text, e))
-refused_at command bytes tree h text Proposal k e = (h, (tree, text, e))
-refused_at command bytes tree h text TooFine k e = (h, (tree, text, e))
-refused_at command bytes tree h text Certificate k e = (h, (tree, text, e))
+refused_at command bytes tree h text Shape k e = refused_from command bytes _ (record { short = h; tree = tree; text = text; refused = e })
+refused_at command bytes tree h text Players k e = refused_from command bytes _ (record { short = h; tree = tree; text = text; refused = e })
+refused_at command bytes tree h text Number k e = refused_from command bytes _ (record { short = h; tree = tree; text = text; refused = e })
+refused_at command bytes tree h text Names k e = refused_from command bytes _ (record { short = h; tree = tree; text = text; refused = e })
+refused_at command bytes tree h text Coalition k e = refused_from command bytes _ (record { short = h; tree = tree; text = text; refused = e })
+refused_at command bytes tree h text Estate k e = refused_from command bytes _ (record { short = h; tree = tree; text = text; refused = e })
+refused_at command bytes tree h text Matrix k e = refused_from command bytes _ (record { short = h; tree = tree; text = text; refused = e })
+refused_at command bytes tree h text Proposal k e = refused_from command bytes _ (record { short = h; tree = tree; text = text; refused = e })
+refused_at command bytes tree h text TooFine k e = refused_from command bytes _ (record { short = h; tree = tree; text = text; refused = e })
+refused_at command bytes tree h text Certificate k e = refused_from command bytes _ (record { short = h; tree = tree; text = text; refused = e })
 
 fault_at : (command : Command) (bytes : List ℕ) (tree : Data) → length bytes ≤ document_limit command → IsTextOf bytes tree → (e : TextFault) → IsTreeFault command tree e → IsFault command bytes e
 fault_at command bytes tree h text (Refused r) e = refused_at command bytes tree h text r (subst IsOfTree e (of_tree command tree)) e
@@ -89,7 +77,7 @@ fault_at command bytes tree h text Memory e = tt
 
 pub from_tree : (command : Command) (bytes : List ℕ) (tree : Data) → length bytes ≤ document_limit command → IsTextOf bytes tree → (r : Result Document TextFault) → MatchResult r (IsTreeReading command tree) (IsTreeFault command tree)
     → MatchResult r (IsReading command bytes) (IsFault command bytes)
-from_tree command bytes tree h text (Ok d) m = (h, (tree, text, m.passed, m.says))
+from_tree command bytes tree h text (Ok d) m = document_from command bytes _ (record { short = h; tree = tree; text = text; passed = m.passed; says = m.says })
 from_tree command bytes tree h text (Err e) m = fault_at command bytes tree h text e m
 
 -- ---- behind the test of the names

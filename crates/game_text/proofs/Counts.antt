@@ -5,30 +5,33 @@ use Rattle.std.proofs.lemmas.List.{length-map}
 use Rattle.serde_json.specs.Data.{Data}
 use Rattle.fractions.specs.Fraction.{Fraction}
 use Rattle.worth_core.specs.LeastDenominators.{numerator_over}
-use Rattle.game_text.specs.Trees.{parts_at}
+use Rattle.json_trees.specs.Trees.{parts_at}
 use Rattle.game_text.specs.Shape.{class_of}
 use Rattle.game_text.specs.Limits.{players, players_as}
-use Rattle.game_text.specs.Descriptions.{game_of, is_cost, integer_or_zero, integers_at, description_as, description_of}
-use Rattle.game_text.specs.Denominators.{least_denominator, over_least, is_coarse}
-use Rattle.game_text.specs.Shares.{as_worth, fraction_or_zero, has_shares_for, shares_of, written_shares}
+use Rattle.game_text.specs.Descriptions.{game_of, is_cost, description_as, description_of}
+use Rattle.json_trees.specs.Integers.{integer_or_zero, integers_at}
+use Rattle.game_text.specs.Denominators.{least_denominator, over_least, keep_limits, shares_of}
+use Rattle.game_text.specs.Shares.{as_worth, has_shares_for, written_shares}
+use Rattle.json_trees.specs.Fractions.{fraction_or_zero}
 use Rattle.game_text.specs.Documents.{game_tree, certificate_for}
 use Rattle.game_text.specs.Games.{description_in}
-use Rattle.game_text.specs.Refusals.{unless, proposal_refusal, certificate_refusal, needed_refusal}
+use Rattle.game_text.specs.Refusals.{unless}
+use Rattle.game_text.specs.Steps.{proposal_refusal, certificate_refusal, needed_refusal}
 use Rattle.game_text.specs.Readings.{IsTreeReading, IsTreeFault}
 use Rattle.game_text.proofs.Passed.{IsPassed, behind, passed_tests}
 use Rattle.game_text.specs.declared.class.Class.{Class}
 use Rattle.game_text.specs.declared.class.Class.TheVariants.{Table, CostTable, Airport, Bankruptcy}
 use Rattle.game_text.specs.declared.command.Command.{Command}
-use Rattle.game_text.specs.declared.command.Command.TheVariants.{Nucleolus, Prenucleolus, Propose, Check}
+use Rattle.game_text.specs.declared.command.Command.TheVariants.{Nucleolus, Prenucleolus, Propose, Core, Check}
 use Rattle.game_text.specs.declared.document.Document.{Document}
 use Rattle.game_text.specs.declared.fault.TextFault.{TextFault}
 use Rattle.game_text.specs.declared.refusal.Refusal.{Refusal}
 use Rattle.game_text.specs.declared.refusal.Refusal.TheVariants.{Proposal, TooFine}
 
-costs_length : (key : List ℕ) (game : Data) → length (map unsigned_abs (integers_at key game)) ≡ length (parts_at key game)
+pub costs_length : (key : List ℕ) (game : Data) → length (map unsigned_abs (integers_at key game)) ≡ length (parts_at key game)
 costs_length key game = length-map (integers_at key game) unsigned_abs ∙ length-map (parts_at key game) integer_or_zero
 
-players_described : (game : Data) (c : Option Class) → c ≡ class_of game → (game_of (description_as c game)).players ≡ players_as c game
+pub players_described : (game : Data) (c : Option Class) → c ≡ class_of game → (game_of (description_as c game)).players ≡ players_as c game
 players_described game None e = refl
 players_described game (Some Table) e = ap (λ k. players_as k game) (sym e)
 players_described game (Some CostTable) e = ap (λ k. players_as k game) (sym e)
@@ -53,7 +56,7 @@ shares_each game tree h =
 -- ---- the test of the number of shares passed
 
 enough_shares : (game tree : Data) (rest : Option Refusal) → IsPassed (proposal_refusal game tree rest) → has_shares_for (players game) tree ≡ true
-enough_shares game tree rest h = (behind (has_shares_for (players game) tree) Proposal (unless (is_coarse (written_shares tree)) TooFine rest) h).0
+enough_shares game tree rest h = (behind (has_shares_for (players game) tree) Proposal (unless (keep_limits (written_shares tree)) TooFine rest) h).0
 
 abbrev described : (command : Command) (tree : Data) (d : Document) → IsTreeReading command tree d → description_in d.game ≡ description_of (game_tree tree)
 described command tree d m = ap (λ c. c.game) m.says
@@ -73,6 +76,7 @@ has_share_each : (command : Command) (tree : Data) (d : Document) → IsTreeRead
 has_share_each Nucleolus tree d m = no_shares d (ap (λ c. c.shares) m.says)
 has_share_each Prenucleolus tree d m = no_shares d (ap (λ c. c.shares) m.says)
 has_share_each Propose tree d m = some_shares tree d (ap (λ c. c.shares) m.says) (described Propose tree d m) (enough_shares (game_tree tree) tree None (tests_passed Propose tree d m))
+has_share_each Core tree d m = no_shares d (ap (λ c. c.shares) m.says)
 has_share_each Check tree d m =
     some_shares tree d (ap (λ c. c.shares) m.says) (described Check tree d m)
     (enough_shares (game_tree tree) tree (certificate_refusal Check (game_tree tree) tree) (tests_passed Check tree d m))
@@ -93,6 +97,7 @@ has_its_players : (command : Command) (tree : Data) (d : Document) → IsTreeRea
 has_its_players Nucleolus tree d m = no_certificate d (ap (λ c. c.certificate) m.says)
 has_its_players Prenucleolus tree d m = no_certificate d (ap (λ c. c.certificate) m.says)
 has_its_players Propose tree d m = no_certificate d (ap (λ c. c.certificate) m.says)
+has_its_players Core tree d m = no_certificate d (ap (λ c. c.certificate) m.says)
 has_its_players Check tree d m =
     let certificate : d.certificate ≡ certificate_for Check (game_tree tree) tree = ap (λ c. c.certificate) m.says in
     subst (λ o. IfSome o (λ c. c.players ≡ (game_of (description_in d.game)).players)) (sym certificate)

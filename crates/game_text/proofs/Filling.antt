@@ -8,11 +8,12 @@ use Rattle.std.proofs.lemmas.List.Folds.{list_any-append}
 use Rattle.serde_json.specs.Data.{Data}
 use Rattle.serde_json.specs.View.{view}
 use Rattle.serde_json.specs.declared.value.Value.{Value}
-use Rattle.game_text.specs.Trees.{parts}
-use Rattle.game_text.specs.Names.{sparse_members}
-use Rattle.game_text.specs.Coalitions.{mask_of, is_mask, are_coalitions}
-use Rattle.game_text.specs.Descriptions.{second_integer, sparse_number}
+use Rattle.json_trees.specs.Trees.{parts, pair_members}
+use Rattle.game_text.specs.Members.{mask_of, is_mask, are_coalitions}
+use Rattle.game_text.specs.TableClass.{sparse_number}
+use Rattle.json_trees.specs.Integers.{second_integer}
 use Rattle.game_text.specs.Slots.{HasNumbers}
+use Rattle.definitions.proofs.Cases.{and_false}
 
 -- a mask and its number
 abbrev pub Slot : Type 0
@@ -20,7 +21,7 @@ Slot = Option ℕ × ℤ
 
 module _ (n : ℕ) (names : List (List ℕ)) where
   abbrev pub slot_of : Data → Slot
-  slot_of pair = (mask_of n names (sparse_members pair), second_integer (parts pair))
+  slot_of pair = (mask_of n names (pair_members pair), second_integer (parts pair))
 
   abbrev pub slots : List Value → List Slot
   slots vs = map (λ v. slot_of (view v)) vs
@@ -39,7 +40,7 @@ number_step false x y other o e = e
 
 pub number_found : (n : ℕ) (names : List (List ℕ)) (other : ℤ) (s : ℕ) (vs : List Value) → sparse_number n names other s (map view vs) ≡ unwrap_or (found s (slots n names vs)) other
 number_found n names other s [] = refl
-number_found n names other s (v ∷ vs) = number_step (is_mask s (mask_of n names (sparse_members (view v)))) _ _ other _ (number_found n names other s vs)
+number_found n names other s (v ∷ vs) = number_step (is_mask s (mask_of n names (pair_members (view v)))) _ _ other _ (number_found n names other s vs)
 
 -- ---- one more slot
 
@@ -85,15 +86,11 @@ last_alone : (o : Option ℕ) → are_coalitions (o ∷ []) ≡ (true && fresh [
 last_alone None = refl
 last_alone (Some s) = refl
 
-and_none : (a : Bool) → (a && false) ≡ false
-and_none true = refl
-and_none false = refl
-
 pub coalitions_more : (os : List (Option ℕ)) (o : Option ℕ) → are_coalitions (os ++ o ∷ []) ≡ (are_coalitions os && fresh os o)
 coalitions_more [] o = last_alone o
 coalitions_more (None ∷ os) None = refl
 coalitions_more (None ∷ os) (Some s) = refl
-coalitions_more (Some t ∷ os) None = ap (λ b. not (list_any (is_mask t) (os ++ None ∷ [])) && b) (coalitions_more os None ∙ and_none (are_coalitions os)) ∙ and_none (not (list_any (is_mask t) (os ++ None ∷ []))) ∙ sym (and_none (not (list_any (is_mask t) os) && are_coalitions os))
+coalitions_more (Some t ∷ os) None = ap (λ b. not (list_any (is_mask t) (os ++ None ∷ [])) && b) (coalitions_more os None ∙ and_false (are_coalitions os)) ∙ and_false (not (list_any (is_mask t) (os ++ None ∷ []))) ∙ sym (and_false (not (list_any (is_mask t) os) && are_coalitions os))
 coalitions_more (Some t ∷ os) (Some s) =
     ap₂ (λ a b. not a && b) (list_any-append (is_mask t) os (Some s ∷ []) ∙ ap (λ e. list_any (is_mask t) os || (e || false)) (same_mask t s)) (coalitions_more os (Some s))
     ∙ mixed (list_any (is_mask t) os) (nat_eq s t) (are_coalitions os) (list_any (is_mask s) os)
@@ -104,7 +101,7 @@ any_front s os ps h = list_any-append (is_mask s) os ps ∙ ap (λ a. a || list_
 front_step : (a d b e : Bool) → (a ≡ true → b ≡ true) → (d ≡ false → e ≡ false) → (not a && d) ≡ false → (not b && e) ≡ false
 front_step true d b e f g h = ap (λ c. not c && e) (f refl)
 front_step false true b e f g h = absurd (true≢false h)
-front_step false false b e f g h = ap (λ c. not b && c) (g refl) ∙ and_none (not b)
+front_step false false b e f g h = ap (λ c. not b && c) (g refl) ∙ and_false (not b)
 
 coalitions_front : (os ps : List (Option ℕ)) → are_coalitions os ≡ false → are_coalitions (os ++ ps) ≡ false
 coalitions_front [] ps h = absurd (true≢false h)
@@ -125,32 +122,32 @@ module _ (n : ℕ) (names : List (List ℕ)) (vs : List Value) where
       ap (slots n names) (take_more vs i v h) ∙ map-append (λ w. slot_of n names (view w)) (take i vs) (get_or vs i v ∷ [])
       ∙ ap (λ w. slots n names (take i vs) ++ slot_of n names (view w) ∷ []) (sym at)
 
-  masks_more : (i : ℕ) (v : Value) → i < length vs → v ≡ get_or vs i v → masks (slots n names (take (i + 1) vs)) ≡ masks (slots n names (take i vs)) ++ mask_of n names (sparse_members (view v)) ∷ []
+  masks_more : (i : ℕ) (v : Value) → i < length vs → v ≡ get_or vs i v → masks (slots n names (take (i + 1) vs)) ≡ masks (slots n names (take i vs)) ++ mask_of n names (pair_members (view v)) ∷ []
   masks_more i v h at = ap masks (slots_more i v h at) ∙ map-append (λ p. p.0) (slots n names (take i vs)) (slot_of n names (view v) ∷ [])
 
   pub IsFilled-start : (table : List (Option ℤ)) → length table ≡ 2 ^ n → ((s : ℕ) → s < 2 ^ n → get_or table s None ≡ None) → IsFilled n names vs 0 table
   IsFilled-start table size none = record { size = size; numbers = none; good = refl }
 
   module _ (i : ℕ) (v : Value) (h : i < length vs) (at : v ≡ get_or vs i v) (table : List (Option ℤ)) (filled : IsFilled n names vs i table) where
-    spoilt : fresh (masks (slots n names (take i vs))) (mask_of n names (sparse_members (view v))) ≡ false → are_coalitions (masks (slots n names vs)) ≡ false
+    spoilt : fresh (masks (slots n names (take i vs))) (mask_of n names (pair_members (view v))) ≡ false → are_coalitions (masks (slots n names vs)) ≡ false
     spoilt bad =
         let front : are_coalitions (masks (slots n names (take (i + 1) vs))) ≡ false =
-        ap are_coalitions (masks_more i v h at) ∙ coalitions_more (masks (slots n names (take i vs))) (mask_of n names (sparse_members (view v))) ∙ ap₂ (λ a b. a && b) filled.good bad in
+        ap are_coalitions (masks_more i v h at) ∙ coalitions_more (masks (slots n names (take i vs))) (mask_of n names (pair_members (view v))) ∙ ap₂ (λ a b. a && b) filled.good bad in
         let whole : slots n names vs ≡ slots n names (take (i + 1) vs) ++ slots n names (drop (i + 1) vs) =
         ap (slots n names) (sym (take-append-drop (i + 1) vs)) ∙ map-append (λ w. slot_of n names (view w)) (take (i + 1) vs) (drop (i + 1) vs) in
         ap are_coalitions (ap masks whole ∙ map-append (λ p. p.0) (slots n names (take (i + 1) vs)) (slots n names (drop (i + 1) vs)))
         ∙ coalitions_front (masks (slots n names (take (i + 1) vs))) (masks (slots n names (drop (i + 1) vs))) front
 
-    pub no_mask : None ≡ mask_of n names (sparse_members (view v)) → are_coalitions (masks (slots n names vs)) ≡ false
+    pub no_mask : None ≡ mask_of n names (pair_members (view v)) → are_coalitions (masks (slots n names vs)) ≡ false
     no_mask e = spoilt (ap (fresh (masks (slots n names (take i vs)))) (sym e))
 
     any_at : (m : ℕ) → m < 2 ^ n → list_any (is_mask m) (masks (slots n names (take i vs))) ≡ is_some (get_or table m None)
     any_at m within = any_found m (slots n names (take i vs)) ∙ ap is_some (sym (filled.numbers m within))
 
-    pub taken : (m : ℕ) → Some m ≡ mask_of n names (sparse_members (view v)) → m < 2 ^ n → is_some (get_or table m None) ≡ true → are_coalitions (masks (slots n names vs)) ≡ false
+    pub taken : (m : ℕ) → Some m ≡ mask_of n names (pair_members (view v)) → m < 2 ^ n → is_some (get_or table m None) ≡ true → are_coalitions (masks (slots n names vs)) ≡ false
     taken m e within there = spoilt (ap (fresh (masks (slots n names (take i vs)))) (sym e) ∙ ap not (any_at m within ∙ there))
 
-    pub IsFilled-more : (m : ℕ) → Some m ≡ mask_of n names (sparse_members (view v)) → m < 2 ^ n → is_some (get_or table m None) ≡ false → IsFilled n names vs (i + 1) (set table m (Some (second_integer (parts (view v)))))
+    pub IsFilled-more : (m : ℕ) → Some m ≡ mask_of n names (pair_members (view v)) → m < 2 ^ n → is_some (get_or table m None) ≡ false → IsFilled n names vs (i + 1) (set table m (Some (second_integer (parts (view v)))))
     IsFilled-more m e within free =
         let ps = slots n names (take i vs) in
         let w = second_integer (parts (view v)) in
@@ -167,7 +164,7 @@ module _ (n : ℕ) (names : List (List ℕ)) (vs : List Value) where
                 get_or-set_other table m s (Some w) None other ∙ filled.numbers s below
                 ∙ sym (more s ∙ ap (λ b. first_of_two (found s ps) (if b then Some w else None)) (ap (is_mask s) (sym e) ∙ ne_eqb s m other) ∙ keeps (found s ps))
           ];
-          good = ap are_coalitions (masks_more i v h at) ∙ coalitions_more (masks ps) (mask_of n names (sparse_members (view v)))
+          good = ap are_coalitions (masks_more i v h at) ∙ coalitions_more (masks ps) (mask_of n names (pair_members (view v)))
               ∙ ap₂ (λ a b. a && b) filled.good (ap (fresh (masks ps)) (sym e) ∙ ap not (any_at m within ∙ free));
         }
       where
@@ -209,9 +206,9 @@ numbers_are f other (o ∷ table) m size h =
     flip : (s : ℕ) → suc s ≡ 1 + s
     flip s = omega arith
 
-pub masks_are : (n : ℕ) (names : List (List ℕ)) (vs : List Value) → masks (slots n names vs) ≡ map (λ pair. mask_of n names (sparse_members pair)) (map view vs)
+pub masks_are : (n : ℕ) (names : List (List ℕ)) (vs : List Value) → masks (slots n names vs) ≡ map (λ pair. mask_of n names (pair_members pair)) (map view vs)
 masks_are n names [] = refl
-masks_are n names (v ∷ vs) = ap (λ l. mask_of n names (sparse_members (view v)) ∷ l) (masks_are n names vs)
+masks_are n names (v ∷ vs) = ap (λ l. mask_of n names (pair_members (view v)) ∷ l) (masks_are n names vs)
 
 pub pow_some : (n : ℕ) → 0 < 2 ^ n
 pow_some zero = omega arith

@@ -2,19 +2,25 @@
 use Rattle.std.proofs.Common.{◌≡◌, ℕ, ◌+◌, ◌≤◌, ℤ, codes, List, [], ◌∷◌, map, Bool, true, not, ◌&&◌, ◌||◌, Option, Some, None, is_some, is_none, option_map, option_and_then, refl, ap, subst, arith}
 use Rattle.std.specs.List.{list_all, list_any, AllByRecursion}
 use Rattle.std.specs.Prelude.{unwrap_or}
-use Rattle.std.specs.Str.{bytes_eq}
 use Rattle.std.proofs.lemmas.Bool.{false≢true, and_parts}
 use Rattle.serde_json.specs.Data.{Data, null, boolean, number, string, array, object}
 use Rattle.serde_json.specs.Find.{get, as_str, as_array, as_object}
 use Rattle.json_texts.specs.Exact.{IsOrdered}
-use Rattle.game_text.specs.Trees.{parts, parts_at, keys, passes, passes_if_there, is_number, is_text, is_array_of, are_two, integer}
-use Rattle.game_text.specs.Shape.{class_named, class_of, is_member, is_sparse_pair, is_table_key, is_airport_key, is_bankruptcy_key, lists_worths, lists_coalitions, is_table_shaped, is_shaped_as, is_game_shaped}
-use Rattle.game_text.specs.Limits.{table_players, players_at, players, has_worths_for, has_players_as, has_players, if_integer, is_small, is_small_cost, is_worth, is_cost, second_passes, has_worth, has_table_numbers, has_numbers_as, has_numbers}
-use Rattle.game_text.specs.Names.{names_of, first_parts, sparse_members}
-use Rattle.game_text.specs.Coalitions.{numbered_player, player_of, join, joined, mask_of, is_mask, are_coalitions, masks, has_coalitions_as, has_coalitions}
+use Rattle.json_trees.specs.Keys.{has_only_keys}
+use Rattle.json_trees.specs.Trees.{parts, parts_at, passes, passes_if_there, is_number, is_text, is_array_of, are_two, integer, is_member, second_passes, first_parts, pair_members}
+use Rattle.game_text.specs.AirportClass.{airport_keys}
+use Rattle.game_text.specs.Shape.{class_named, class_of, is_shaped_as, is_game_shaped}
+use Rattle.game_text.specs.TableClass.{is_sparse_pair, table_keys, lists_worths, lists_coalitions, is_table_shaped, table_players, players_at, has_worths_for, has_worth, has_table_numbers, is_small, is_worth}
+use Rattle.game_text.specs.BankruptcyClass.{bankruptcy_keys}
+use Rattle.game_text.specs.Limits.{players, has_players_as, has_players, has_numbers_as, has_numbers}
+use Rattle.game_text.specs.Sizes.{if_integer, is_small_cost, is_cost}
+use Rattle.game_text.specs.Names.{names_of}
+use Rattle.game_text.specs.Coalitions.{masks, has_coalitions_as, has_coalitions}
+use Rattle.game_text.specs.Members.{player_of, join, joined, mask_of, is_mask, are_coalitions}
+use Rattle.certificate_texts.specs.Levels.{numbered_player}
 use Rattle.game_text.specs.declared.class.Class.{Class}
 use Rattle.game_text.specs.declared.class.Class.TheVariants.{Table, CostTable, Airport, Bankruptcy}
-use Rattle.game_text.proofs.PlainTrees.{IsPlain, plain_text, plain_integer, plain_array, all_plain, plain_object, has_members, IsPlainAt, at_key, either}
+use Rattle.game_text.proofs.PlainTrees.{IsPlain, plain_text, plain_integer, plain_array, all_plain, plain_known, has_members, IsPlainAt, either}
 
 -- ---- numbers
 
@@ -88,12 +94,12 @@ front : (o : Option ℕ) (os : List (Option ℕ)) → are_coalitions (o ∷ os) 
 front None os h = absurd (false≢true h)
 front (Some s) os h = record { first = refl; rest = (and_parts (not (list_any (is_mask s) os)) (are_coalitions os) h).1 }
 
-plain_pairs : (n : ℕ) (names : List (List ℕ)) (pairs : List Data) → list_all is_sparse_pair pairs ≡ true → list_all has_worth pairs ≡ true → are_coalitions (map (λ pair. mask_of n names (sparse_members pair)) pairs) ≡ true → AllByRecursion (IsPlain 2) pairs
+plain_pairs : (n : ℕ) (names : List (List ℕ)) (pairs : List Data) → list_all is_sparse_pair pairs ≡ true → list_all has_worth pairs ≡ true → are_coalitions (map (λ pair. mask_of n names (pair_members pair)) pairs) ≡ true → AllByRecursion (IsPlain 2) pairs
 plain_pairs n names [] h w m = tt
 plain_pairs n names (pair ∷ pairs) h w m =
     let shaped = and_parts (is_sparse_pair pair) (list_all is_sparse_pair pairs) h in
     let worths = and_parts (has_worth pair) (list_all has_worth pairs) w in
-    let coalitions = front (mask_of n names (sparse_members pair)) (map (λ p. mask_of n names (sparse_members p)) pairs) m in
+    let coalitions = front (mask_of n names (pair_members pair)) (map (λ p. mask_of n names (pair_members p)) pairs) m in
     (plain_array 1 pair (is_pair pair shaped.0) (pair_parts n names (parts pair) shaped.0 worths.0 coalitions.first), plain_pairs n names pairs shaped.1 worths.1 coalitions.rest)
 
 -- ---- what stands at a key
@@ -148,41 +154,29 @@ shaped_as : (game : Data) (c : Class) → class_of game ≡ Some c → is_game_s
 shaped_as game c e h = subst (λ o. is_shaped_as o game ≡ true) e (and_parts (passes_if_there (is_array_of is_text) (get (codes "names") game)) (is_shaped_as (class_of game) game) h).1
 
 deeper : (m k : ℕ) (d : Data) → m ≤ k → IsPlain m d → IsPlain k d
-deeper m k d h p = record { whole = p.whole; shallow = omega (arith, h, p.shallow) }
+deeper m k d h p = record { whole = p.whole; integers = p.integers; shallow = omega (arith, h, p.shallow) }
 
 at_deeper : (m k : ℕ) (key : List ℕ) (d : Data) → m ≤ k → IsPlainAt m key d → IsPlainAt k key d
 at_deeper m k key d h p e g = deeper m k e h (p e g)
 
-airport_member : (game : Data) → IsPlainAt 3 (codes "class") game → IsPlainAt 3 (codes "costs") game → IsPlainAt 3 (codes "names") game
-    → (k : List ℕ) (e : Data) → is_airport_key k ≡ true → get k game ≡ Some e → IsPlain 3 e
-airport_member game class costs names k e h g =
-    either (bytes_eq k (codes "class") || bytes_eq k (codes "costs")) (bytes_eq k (codes "names")) h
-    (λ h. either (bytes_eq k (codes "class")) (bytes_eq k (codes "costs")) h (λ h. at_key 3 (codes "class") k game e class h g) (λ h. at_key 3 (codes "costs") k game e costs h g))
-    (λ h. at_key 3 (codes "names") k game e names h g)
-
 plain_airport : (game : Data) → IsOrdered game → class_of game ≡ Some Airport → is_game_shaped game ≡ true → has_numbers_as (Some Airport) game ≡ true → IsPlain 4 game
 plain_airport game o c h w =
-    let shape = and_parts (list_all is_airport_key (keys game)) (passes (is_array_of is_number) (get (codes "costs") game)) (shaped_as game Airport c h) in
-    plain_object 3 is_airport_key game o (is_object game Airport c) shape.0
-    (airport_member game (plain_class 3 game Airport c) (at_deeper 1 3 (codes "costs") game (omega arith) (plain_numbers is_cost (plain_cost 0) (codes "costs") game shape.1 w)) (plain_names 2 game (named game h)))
-
-bankruptcy_member : (game : Data) → IsPlainAt 3 (codes "class") game → IsPlainAt 3 (codes "claims") game → IsPlainAt 3 (codes "estate") game → IsPlainAt 3 (codes "names") game
-    → (k : List ℕ) (e : Data) → is_bankruptcy_key k ≡ true → get k game ≡ Some e → IsPlain 3 e
-bankruptcy_member game class claims estate names k e h g =
-    either (bytes_eq k (codes "class") || bytes_eq k (codes "claims") || bytes_eq k (codes "estate")) (bytes_eq k (codes "names")) h
-    (λ h. either (bytes_eq k (codes "class") || bytes_eq k (codes "claims")) (bytes_eq k (codes "estate")) h
-    (λ h. either (bytes_eq k (codes "class")) (bytes_eq k (codes "claims")) h (λ h. at_key 3 (codes "class") k game e class h g) (λ h. at_key 3 (codes "claims") k game e claims h g))
-    (λ h. at_key 3 (codes "estate") k game e estate h g))
-    (λ h. at_key 3 (codes "names") k game e names h g)
+    let shape = and_parts (has_only_keys airport_keys game) (passes (is_array_of is_number) (get (codes "costs") game)) (shaped_as game Airport c h) in
+    plain_known 3 airport_keys game o (is_object game Airport c) shape.0
+    (plain_class 3 game Airport c, (at_deeper 1 3 (codes "costs") game (omega arith) (plain_numbers is_cost (plain_cost 0) (codes "costs") game shape.1 w), (plain_names 2 game (named game h), tt)))
 
 plain_bankruptcy : (game : Data) → IsOrdered game → class_of game ≡ Some Bankruptcy → is_game_shaped game ≡ true → has_numbers_as (Some Bankruptcy) game ≡ true → IsPlain 4 game
 plain_bankruptcy game o c h w =
-    let shape = and_parts (list_all is_bankruptcy_key (keys game) && passes is_number (get (codes "estate") game)) (passes (is_array_of is_number) (get (codes "claims") game)) (shaped_as game Bankruptcy c h) in
-    let front = and_parts (list_all is_bankruptcy_key (keys game)) (passes is_number (get (codes "estate") game)) shape.0 in
+    let shape = and_parts (has_only_keys bankruptcy_keys game && passes is_number (get (codes "estate") game)) (passes (is_array_of is_number) (get (codes "claims") game)) (shaped_as game Bankruptcy c h) in
+    let front = and_parts (has_only_keys bankruptcy_keys game) (passes is_number (get (codes "estate") game)) shape.0 in
     let numbers = and_parts (passes is_cost (get (codes "estate") game)) (list_all is_cost (parts_at (codes "claims") game)) w in
-    plain_object 3 is_bankruptcy_key game o (is_object game Bankruptcy c) front.0
-    (bankruptcy_member game (plain_class 3 game Bankruptcy c) (at_deeper 1 3 (codes "claims") game (omega arith) (plain_numbers is_cost (plain_cost 0) (codes "claims") game shape.1 numbers.1))
-    (λ e g. plain_cost 3 e (at_there is_cost (codes "estate") game e numbers.0 g)) (plain_names 2 game (named game h)))
+    plain_known 3 bankruptcy_keys game o (is_object game Bankruptcy c) front.0 (
+      plain_class 3 game Bankruptcy c,
+      (
+        at_deeper 1 3 (codes "claims") game (omega arith) (plain_numbers is_cost (plain_cost 0) (codes "claims") game shape.1 numbers.1),
+        ((λ e g. plain_cost 3 e (at_there is_cost (codes "estate") game e numbers.0 g)), (plain_names 2 game (named game h), tt)),
+      ),
+    )
 
 -- ---- tables
 
@@ -223,31 +217,28 @@ plain_sparse game h w m e g =
     let kinds = and_parts (is_some (as_array e)) (list_all is_sparse_pair (parts e)) (at_there (is_array_of is_sparse_pair) (codes "sparse") game e b.0 g) in
     let there = parts_there (codes "sparse") game e g in
     plain_array 2 e kinds.0 (plain_pairs (players game) (names_of game) (parts e) kinds.1 (subst (λ l. list_all has_worth l ≡ true) there w)
-    (subst (λ l. are_coalitions (map (λ pair. mask_of (players game) (names_of game) (sparse_members pair)) l) ≡ true) there m)))
-
-table_member : (game : Data) → IsPlainAt 3 (codes "class") game → IsPlainAt 3 (codes "default") game → IsPlainAt 3 (codes "names") game → IsPlainAt 3 (codes "players") game → IsPlainAt 3 (codes "sparse") game
-    → IsPlainAt 3 (codes "worths") game → (k : List ℕ) (e : Data) → is_table_key k ≡ true → get k game ≡ Some e → IsPlain 3 e
-table_member game class default names players sparse worths k e h g =
-    either (bytes_eq k (codes "class") || bytes_eq k (codes "default") || bytes_eq k (codes "names") || bytes_eq k (codes "players") || bytes_eq k (codes "sparse")) (bytes_eq k (codes "worths")) h
-    (λ h. either (bytes_eq k (codes "class") || bytes_eq k (codes "default") || bytes_eq k (codes "names") || bytes_eq k (codes "players")) (bytes_eq k (codes "sparse")) h
-    (λ h. either (bytes_eq k (codes "class") || bytes_eq k (codes "default") || bytes_eq k (codes "names")) (bytes_eq k (codes "players")) h
-    (λ h. either (bytes_eq k (codes "class") || bytes_eq k (codes "default")) (bytes_eq k (codes "names")) h
-    (λ h. either (bytes_eq k (codes "class")) (bytes_eq k (codes "default")) h (λ h. at_key 3 (codes "class") k game e class h g) (λ h. at_key 3 (codes "default") k game e default h g))
-    (λ h. at_key 3 (codes "names") k game e names h g))
-    (λ h. at_key 3 (codes "players") k game e players h g))
-    (λ h. at_key 3 (codes "sparse") k game e sparse h g))
-    (λ h. at_key 3 (codes "worths") k game e worths h g)
+    (subst (λ l. are_coalitions (map (λ pair. mask_of (players game) (names_of game) (pair_members pair)) l) ≡ true) there m)))
 
 plain_table : (game : Data) (c : Class) → IsOrdered game → class_of game ≡ Some c → is_game_shaped game ≡ true → is_table_shaped game ≡ true → has_worths_for game (players_at game) ≡ true → has_table_numbers game ≡ true
     → are_coalitions (masks game) ≡ true → IsPlain 4 game
 plain_table game c o e h t n w m =
-    let shape = and_parts (list_all is_table_key (keys game) && passes is_number (get (codes "players") game)) (lists_worths game || lists_coalitions game) t in
-    let front = and_parts (list_all is_table_key (keys game)) (passes is_number (get (codes "players") game)) shape.0 in
+    let shape = and_parts (has_only_keys table_keys game && passes is_number (get (codes "players") game)) (lists_worths game || lists_coalitions game) t in
+    let front = and_parts (has_only_keys table_keys game) (passes is_number (get (codes "players") game)) shape.0 in
     let numbers = and_parts (list_all is_worth (parts_at (codes "worths") game) && list_all has_worth (parts_at (codes "sparse") game)) (passes_if_there is_worth (get (codes "default") game)) w in
     let listed = and_parts (list_all is_worth (parts_at (codes "worths") game)) (list_all has_worth (parts_at (codes "sparse") game)) numbers.0 in
-    plain_object 3 is_table_key game o (is_object game c e) front.0
-    (table_member game (plain_class 3 game c e) (λ d g. plain_worth 3 d (at_if_there is_worth (codes "default") game d numbers.1 g)) (plain_names 2 game (named game h)) (plain_players 3 game n)
-    (plain_sparse game shape.1 listed.1 m) (at_deeper 1 3 (codes "worths") game (omega arith) (plain_worths game shape.1 listed.0)))
+    plain_known 3 table_keys game o (is_object game c e) front.0 (
+      plain_class 3 game c e,
+      (
+        (λ d g. plain_worth 3 d (at_if_there is_worth (codes "default") game d numbers.1 g)),
+        (
+          plain_names 2 game (named game h),
+          (
+            plain_players 3 game n,
+            (plain_sparse game shape.1 listed.1 m, (at_deeper 1 3 (codes "worths") game (omega arith) (plain_worths game shape.1 listed.0), tt)),
+          ),
+        ),
+      ),
+    )
 
 -- ---- all classes
 

@@ -1,15 +1,14 @@
 -- Masks, joined player by player.
-use Rattle.std.proofs.Common.{◌≡◌, ℕ, zero, suc, ◌+◌, ◌/◌, ◌^◌, ◌<◌, ◌≤◌, List, ◌∷◌, length, drop, get_or, map, false, Option, Some, None, option_and_then, sym, ap, ◌∙◌, arith, add-one}
+use Rattle.std.proofs.Common.{◌≡◌, ℕ, zero, suc, ◌+◌, ◌/◌, ◌^◌, ◌<◌, ◌≤◌, List, length, get_or, map, false, Option, Some, None, option_and_then, sym, ap, ◌∙◌, arith}
 use Rattle.std.proofs.lemmas.Bool.{eqb-false}
 use Rattle.std.proofs.lemmas.List.{drop_all}
 use Rattle.std.proofs.lemmas.Nat.Bits.{bit_at-suc, bit_at-lt, bit_at_lowest}
-use Rattle.std.proofs.Math.Seq.{drop-cons}
 use Rattle.std.specs.Int.{bit_at}
-use Rattle.serde_json.specs.Data.{Data}
 use Rattle.serde_json.specs.View.{view}
 use Rattle.serde_json.specs.declared.value.Value.{Value}
 use Rattle.definitions.specs.Coalitions.{has_player}
-use Rattle.game_text.specs.Coalitions.{player_of, join, joined}
+use Rattle.json_trees.proofs.Values.{rest, rest_step}
+use Rattle.game_text.specs.Members.{player_of, join, joined}
 
 -- a bit that isn't set may be added
 pub add_below : (i n s : ℕ) → i < n → s < 2 ^ n → bit_at s i ≡ 0 → s + 2 ^ i < 2 ^ n
@@ -25,12 +24,6 @@ no_bit s i h = let ne = eqb-false (bit_at s i) 1 h in omega (arith, bit_at-lt s 
 
 pub join_below : (n s i : ℕ) → i < n → s < 2 ^ n → has_player s i ≡ false → s + 2 ^ i < 2 ^ n
 join_below n s i h small e = add_below i n s h small (no_bit s i e)
-
-abbrev pub rest : List Value → ℕ → List Data
-rest vs i = map view (drop i vs)
-
-pub rest_step : (vs : List Value) (i : ℕ) (v : Value) → i < length vs → v ≡ get_or vs i v → rest vs i ≡ view v ∷ rest vs (i + 1)
-rest_step vs i v h at = ap (map view) (drop-cons vs i v h) ∙ ap (λ w. view w ∷ map view (drop (suc i) vs)) (sym at) ∙ ap (λ k. view v ∷ map view (drop k vs)) (sym (add-one i))
 
 module _ (n : ℕ) (names : List (List ℕ)) (whole : Option ℕ) (vs : List Value) (i s : ℕ) (v : Value) (h : i < length vs) (at : v ≡ get_or vs i v) (goes : whole ≡ joined n names s (rest vs i)) where
   turn : whole ≡ option_and_then (λ t. joined n names t (rest vs (i + 1))) (option_and_then (join s) (player_of n names (view v)))

@@ -1,7 +1,6 @@
 -- The tree that a document keeps is exact, and written in no more bytes than were read.
 use Rattle.std.proofs.Common.{◌≡◌, ℕ, ◌≤◌, codes, List, length, take, Bool, true, false, ◌&&◌, if◌then◌else◌, Option, Some, None, Result, Ok, Err, MatchResult, IfOk, refl, sym, ap, subst, arith}
 use Rattle.std.specs.Prelude.{unwrap_or}
-use Rattle.std.specs.List.{list_all}
 use Rattle.std.proofs.lemmas.Bool.{false≢true, and_parts}
 use Rattle.std.proofs.lemmas.List.{length-take}
 use Rattle.serde_json.specs.Data.{Data, null}
@@ -11,9 +10,10 @@ use Rattle.serde_json.specs.View.{view}
 use Rattle.json_texts.proofs.Back.{exact_from, read_ordered}
 use Rattle.json_texts.proofs.Lighter.{no_longer}
 use Rattle.json_texts.proofs.Parts.{member_keeps}
-use Rattle.game_text.specs.Trees.{keys, passes}
+use Rattle.json_trees.specs.Keys.{has_only_keys}
+use Rattle.json_trees.specs.Trees.{passes}
 use Rattle.game_text.specs.Text.{without_newline}
-use Rattle.game_text.specs.Shape.{is_document_key, is_game_shaped, has_needed, is_shaped}
+use Rattle.game_text.specs.Shape.{document_keys, is_game_shaped, has_needed, is_shaped}
 use Rattle.game_text.specs.Limits.{has_numbers}
 use Rattle.game_text.specs.Documents.{game_tree}
 use Rattle.game_text.specs.Refusals.{has_needed_numbers}
@@ -29,14 +29,14 @@ there : (test : Data → Bool) (o : Option Data) → passes test o ≡ true → 
 there test None h = absurd (false≢true h)
 there test (Some d) h = refl
 
-passes_there : (test : Data → Bool) (o : Option Data) → passes test o ≡ true → test (unwrap_or o null) ≡ true
+pub passes_there : (test : Data → Bool) (o : Option Data) → passes test o ≡ true → test (unwrap_or o null) ≡ true
 passes_there test None h = absurd (false≢true h)
 passes_there test (Some d) h = h
 
 has_game : (command : Command) (tree : Data) → is_shaped command tree ≡ true → passes is_game_shaped (get (codes "game") tree) ≡ true
 has_game command tree h =
-    let a = and_parts (list_all is_document_key (keys tree) && passes is_game_shaped (get (codes "game") tree)) (has_needed command tree) h in
-    (and_parts (list_all is_document_key (keys tree)) (passes is_game_shaped (get (codes "game") tree)) a.0).1
+    let a = and_parts (has_only_keys document_keys tree && passes is_game_shaped (get (codes "game") tree)) (has_needed command tree) h in
+    (and_parts (has_only_keys document_keys tree) (passes is_game_shaped (get (codes "game") tree)) a.0).1
 
 cut_is_shorter : (b : Bool) (n : ℕ) (bytes : List ℕ) → length (if b then take n bytes else bytes) ≤ length bytes
 cut_is_shorter true n bytes = let long = length-take n bytes in omega (arith, long)
@@ -54,7 +54,7 @@ kept_game command bytes tree read p =
     let plain = plain_game (game_tree tree) part.ordered (passes_there is_game_shaped (get (codes "game") tree) found) p.players numbers p.coalitions in
     let light = no_longer (without_newline bytes) tree read in
     let cut = without_newline_is_shorter bytes in
-    record { exact = exact_from (game_tree tree) part.ordered plain.whole; whole = plain.whole; shallow = omega (arith, plain.shallow); shorter = omega (arith, part.shorter, light, cut) }
+    record { exact = exact_from (game_tree tree) part.ordered plain.whole; whole = plain.whole; integers = plain.integers; shallow = omega (arith, plain.shallow); shorter = omega (arith, part.shorter, light, cut) }
 
 pub kept_tree : (command : Command) (bytes : List ℕ) (tree : Data) → read (without_newline bytes) ≡ Some tree → (r : Result Document TextFault) → MatchResult r (IsTreeReading command tree) (IsTreeFault command tree)
     → IfOk r (λ d. IsKept bytes (view d.tree))

@@ -1,48 +1,23 @@
 -- The least common denominator of fractions in lowest terms is the least common multiple of their denominators.
-use Rattle.std.proofs.Common.{◌≡◌, ℕ, suc, ◌<◌, ◌≤◌, ◌^◌, List, [], ◌∷◌, length, map, get_or, Bool, true, false, nat_le, if◌then◌else◌, ℤ, pos, unsigned_abs, All, Option, Some, None, slice_index_or, refl, sym, ap, ◌∙◌, subst, arith}
+use Rattle.std.proofs.Common.{◌≡◌, ℕ, suc, ◌<◌, ◌≤◌, ◌^◌, List, [], ◌∷◌, length, map, get_or, Bool, true, false, nat_le, if◌then◌else◌, pos, unsigned_abs, All, Some, None, codes, refl, sym, ap, ◌∙◌, subst, arith}
 use Rattle.std.specs.List.{list_all}
-use Rattle.std.specs.Prelude.{unwrap_or}
 use Prim.Native.Nat.{◌∣◌}
-use native.Mathlib.Nat.{one-dvd, dvd-mul_right_of_dvd, mul-dvd-mul_right}
+use native.Mathlib.Nat.{one-dvd, dvd-mul_right_of_dvd}
 use Rattle.std.proofs.lemmas.Bool.{false≢true, and_parts, and_from, ltb-true, leb-true, le-leb, lt-ltb}
 use Rattle.std.proofs.lemmas.Int.{ints}
 use Rattle.std.proofs.lemmas.List.{length-map, get_or-map}
-use Rattle.std.proofs.lemmas.List.Elements.{All-map, All-cons, All-nil}
+use Rattle.std.proofs.lemmas.List.Elements.{All-cons, All-nil}
 use Rattle.std.proofs.lemmas.List.Sums.{AllPass-from_list_all, list_all-from_AllPass}
-use Rattle.std.proofs.lemmas.Nat.Gcd.{dvd_trans}
-use Rattle.serde_json.specs.Data.{Data}
-use Rattle.serde_json.specs.Find.{as_str}
 use Rattle.definitions.specs.Games.{Allocation, IsShares}
 use Rattle.fractions.specs.Fraction.{Fraction, IsReduced}
-use Rattle.fractions.specs.FractionTexts.{parsed}
-use Rattle.fractions.proofs.LowestTerms.{whole_reduced}
-use Rattle.fractions.proofs.WrittenFractions.{read_fraction_is_reduced}
 use Rattle.worth_core.specs.LeastDenominators.{IsWholeTimes, IsLeastDenominator, AreTooFine, numerator_over, over}
 use Rattle.worth_core.specs.Multiples.{IsLeastMultiple}
-use Rattle.worth_core.proofs.LeastMultiples.{least_multiple, denominator_divides, one_denominator}
-use Rattle.game_text.specs.Denominators.{lcm, least_denominator, over_least, has_small_numerator, is_coarse}
-use Rattle.game_text.specs.Shares.{whole_share, written_share, fraction_or_zero}
-use Rattle.game_text.specs.Trees.{integer}
-
--- ---- what is written is in lowest terms
-
-abbrev or_zero : Option Fraction → Fraction
-or_zero o = unwrap_or o (record { num = pos 0; den = pos 1 })
-
-whole_or_zero : (o : Option ℤ) → IsReduced (or_zero (whole_share o))
-whole_or_zero None = whole_reduced (pos 0)
-whole_or_zero (Some z) = whole_reduced z
-
-text_or_zero : (s : List ℕ) (o : Option Fraction) → o ≡ parsed s → IsReduced (or_zero o)
-text_or_zero s None e = whole_reduced (pos 0)
-text_or_zero s (Some f) e = read_fraction_is_reduced s f e
-
-pub written_or_zero : (d : Data) (o : Option (List ℕ)) → IsReduced (or_zero (written_share d o))
-written_or_zero d None = whole_or_zero (integer d)
-written_or_zero d (Some s) = text_or_zero s (parsed s) refl
-
-pub written_reduced : (ds : List Data) → All IsReduced (map fraction_or_zero ds)
-written_reduced ds = All-map IsReduced fraction_or_zero ds (λ k d l. written_or_zero (slice_index_or ds k d) (as_str (slice_index_or ds k d)))
+use Rattle.worth_core.proofs.LeastMultiples.{least_multiple, denominator_divides, one_denominator, all_multiple}
+use Rattle.game_text.specs.Denominators.{lcm, least_denominator, over_least, keep_limits}
+use Rattle.game_text.specs.Shares.{has_small_numerator, written_shares, IsDenominatorOf}
+use Rattle.serde_json.specs.Data.{Data}
+use Rattle.json_trees.specs.Trees.{parts_at}
+use Rattle.json_trees.proofs.Fractions.{written_reduced}
 
 -- ---- the least common denominator
 
@@ -59,9 +34,6 @@ tail P x xs h = λ k d l. h (suc k) d (omega arith)
 
 some_denominator : (f : Fraction) → IsReduced f → 0 < unsigned_abs f.den
 some_denominator f r = let p = r.positive in omega (arith, ints)
-
-all_multiple : (fs : List Fraction) (d m : ℕ) → d ∣ m → All (IsWholeTimes d) fs → All (IsWholeTimes m) fs
-all_multiple fs d m h w = λ k f l. dvd_trans (unsigned_abs (slice_index_or fs k f).den) (w k f l) (mul-dvd-mul_right d h (unsigned_abs (slice_index_or fs k f).num))
 
 least_is : (fs : List Fraction) → All IsReduced fs → IsLeast fs (least_denominator fs)
 least_is [] r = record { positive = omega arith; common = All-nil (IsWholeTimes 1); least = λ m w. one-dvd m }
@@ -81,26 +53,32 @@ least_is (f ∷ fs) r =
 pub least_denominator_is : (fs : List Fraction) → All IsReduced fs → IsLeastDenominator fs (pos (least_denominator fs))
 least_denominator_is fs r = let h = least_is fs r in let p = h.positive in record { positive = omega (arith, ints); common = h.common; least = h.least }
 
+pub denominator_of : (tree : Data) → IsDenominatorOf tree (least_denominator (written_shares tree))
+denominator_of tree = least_denominator_is (written_shares tree) (written_reduced (parts_at (codes "shares") tree))
+
+pub one_denominator_of : (tree : Data) (d : ℕ) → IsDenominatorOf tree d → d ≡ least_denominator (written_shares tree)
+one_denominator_of tree d h = ap unsigned_abs (one_denominator (written_shares tree) (pos d) (pos (least_denominator (written_shares tree))) h (denominator_of tree))
+
 -- ---- shares over it, or too fine
 
-from_shares : (fs : List Fraction) → IsShares (over_least fs) → is_coarse fs ≡ true
+from_shares : (fs : List Fraction) → IsShares (over_least fs) → keep_limits fs ≡ true
 from_shares fs s =
     let common = s.common in
     let below : least_denominator fs ≤ 2 ^ 63 = omega (arith, ints) in
     let zs = map (numerator_over (pos (least_denominator fs))) fs in
     let long = length-map fs (numerator_over (pos (least_denominator fs))) in
     and_from _ _ (le-leb (least_denominator fs) (2 ^ 63) below)
-    (list_all-from_AllPass (has_small_numerator fs) fs (λ k f l.
+    (list_all-from_AllPass (has_small_numerator (least_denominator fs)) fs (λ k f l.
     let place : k < length zs = omega (arith, l, long) in
     let same = get_or-map (numerator_over (pos (least_denominator fs))) fs k f (pos 0) l in
     lt-ltb _ _ (subst (λ z. unsigned_abs z < 2 ^ 110) same (s.small k place))))
 
-to_shares : (fs : List Fraction) → 1 ≤ length fs → length fs ≤ 64 → 0 < least_denominator fs → is_coarse fs ≡ true → IsShares (over_least fs)
+to_shares : (fs : List Fraction) → 1 ≤ length fs → length fs ≤ 64 → 0 < least_denominator fs → keep_limits fs ≡ true → IsShares (over_least fs)
 to_shares fs some few positive h =
-    let both = and_parts (nat_le (least_denominator fs) (2 ^ 63)) (list_all (has_small_numerator fs) fs) h in
+    let both = and_parts (nat_le (least_denominator fs) (2 ^ 63)) (list_all (has_small_numerator (least_denominator fs)) fs) h in
     let below = leb-true (least_denominator fs) (2 ^ 63) both.0 in
     let long = length-map fs (numerator_over (pos (least_denominator fs))) in
-    let small = AllPass-from_list_all (has_small_numerator fs) fs both.1 in
+    let small = AllPass-from_list_all (has_small_numerator (least_denominator fs)) fs both.1 in
     record {
       some = omega (arith, some, long);
       few = omega (arith, few, long);
@@ -121,11 +99,11 @@ if_false : {A : Type 0} (b : Bool) (x y : A) → (b ≡ true → ⊥) → y ≡ 
 if_false true x y h = absurd (h refl)
 if_false false x y h = refl
 
-pub shares_over : (fs : List Fraction) (x : Allocation) → All IsReduced fs → IsLeastDenominator fs x.den → x ≡ over x.den fs → IsShares x → Some x ≡ (if is_coarse fs then Some (over_least fs) else None)
+pub shares_over : (fs : List Fraction) (x : Allocation) → All IsReduced fs → IsLeastDenominator fs x.den → x ≡ over x.den fs → IsShares x → Some x ≡ (if keep_limits fs then Some (over_least fs) else None)
 shares_over fs x r d e s =
     let same : x ≡ over_least fs = e ∙ ap (λ k. over k fs) (one_denominator fs x.den (pos (least_denominator fs)) d (least_denominator_is fs r)) in
-    ap (λ y. Some y) same ∙ if_true (is_coarse fs) (Some (over_least fs)) None (from_shares fs (subst IsShares same s))
+    ap (λ y. Some y) same ∙ if_true (keep_limits fs) (Some (over_least fs)) None (from_shares fs (subst IsShares same s))
 
-pub too_fine : (fs : List Fraction) → All IsReduced fs → 1 ≤ length fs → length fs ≤ 64 → AreTooFine fs → None ≡ (if is_coarse fs then Some (over_least fs) else None)
+pub too_fine : (fs : List Fraction) → All IsReduced fs → 1 ≤ length fs → length fs ≤ 64 → AreTooFine fs → None ≡ (if keep_limits fs then Some (over_least fs) else None)
 too_fine fs r some few h =
-    if_false (is_coarse fs) (Some (over_least fs)) None (λ e. h (pos (least_denominator fs)) (least_denominator_is fs r) (to_shares fs some few (least_is fs r).positive e))
+    if_false (keep_limits fs) (Some (over_least fs)) None (λ e. h (pos (least_denominator fs)) (least_denominator_is fs r) (to_shares fs some few (least_is fs r).positive e))

@@ -1,13 +1,11 @@
-pub mod Values
 pub mod Choices
 pub mod NamesRead
 pub mod Joining
-pub mod Ascents
 pub mod Filling
 pub mod Sizes
 pub mod Payments
 pub mod LeastDenominators
-pub mod FormTests
+pub mod Computed
 pub mod Chain
 pub mod Passed
 pub mod Counts

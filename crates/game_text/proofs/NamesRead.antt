@@ -8,10 +8,11 @@ use Rattle.std.specs.List.{list_all}
 use Rattle.std.specs.Str.{bytes_eq}
 use Rattle.serde_json.specs.View.{view}
 use Rattle.serde_json.specs.declared.value.Value.{Value}
-use Rattle.game_text.specs.Trees.{text_of}
-use Rattle.game_text.specs.Names.{texts, is_name, is_among, are_distinct, good_names, are_names}
-use Rattle.game_text.specs.Trees.{parts}
+use Rattle.json_trees.specs.Trees.{text_of, parts}
+use Rattle.game_text.specs.Names.{texts, is_name, are_distinct, good_names, are_names}
+use Rattle.json_trees.specs.Keys.{is_among}
 use Rattle.serde_json.specs.Data.{Data}
+use Rattle.definitions.proofs.Cases.{and_false}
 
 same_test : (x y : List ℕ) → bytes_eq x y ≡ bytes_eq y x
 same_test x y = by (bytes_eq x y) (bytes_eq y x) (bytes_eq-Decides x y) (bytes_eq-Decides y x)
@@ -30,10 +31,6 @@ mixed false false false b = refl
 
 any_single : (x y : List ℕ) (xs : List (List ℕ)) → is_among (xs ++ y ∷ []) x ≡ (is_among xs x || (bytes_eq x y || false))
 any_single x y xs = list_any-append (bytes_eq x) xs (y ∷ [])
-
-and_true : (b : Bool) → (b && true) ≡ b
-and_true true = refl
-and_true false = refl
 
 or_false : (a e : Bool) → (a || (e || false)) ≡ (a || e || false)
 or_false true e = refl
@@ -59,10 +56,6 @@ good_more xs y = ap₂ (λ a b. a && b) (list_all-append is_name xs (y ∷ [])) 
 
 among_front : (x : List ℕ) (xs ys : List (List ℕ)) → is_among xs x ≡ true → is_among (xs ++ ys) x ≡ true
 among_front x xs ys h = list_any-append (bytes_eq x) xs ys ∙ ap (λ a. a || is_among ys x) h
-
-and_false : (a : Bool) → (a && false) ≡ false
-and_false true = refl
-and_false false = refl
 
 front_step : (a d b e : Bool) → (a ≡ true → b ≡ true) → (d ≡ false → e ≡ false) → (not a && d) ≡ false → (not b && e) ≡ false
 front_step true d b e f g h = ap (λ c. not c && e) (f refl)

@@ -8,7 +8,9 @@ use Rattle.game_text.specs.Names.{has_names}
 use Rattle.game_text.specs.Coalitions.{has_coalitions}
 use Rattle.game_text.specs.Descriptions.{description_of}
 use Rattle.game_text.specs.Documents.{game_tree}
-use Rattle.game_text.specs.Refusals.{unless, is_covered, has_needed_numbers, needed_refusal, tree_refusal}
+use Rattle.game_text.specs.Refusals.{unless, is_covered, has_needed_numbers}
+use Rattle.game_text.specs.Denominators.{tree_refusal}
+use Rattle.game_text.specs.Steps.{needed_refusal}
 use Rattle.game_text.specs.declared.command.Command.{Command}
 use Rattle.game_text.specs.declared.refusal.Refusal.{Refusal}
 use Rattle.game_text.specs.declared.refusal.Refusal.TheVariants.{Shape, Players, Number, Names, Coalition, Estate}
@@ -27,7 +29,9 @@ pub record Passes (command : Command) (tree : Data) : Type 0 where
   pub shaped : is_shaped command tree ≡ true
   pub players : has_players (game_tree tree) ≡ true
   pub numbers : (has_numbers (game_tree tree) && has_needed_numbers command tree) ≡ true
+  pub names : has_names (game_tree tree) ≡ true
   pub coalitions : has_coalitions (game_tree tree) ≡ true
+  pub covered : is_covered (description_of (game_tree tree)) ≡ true
   pub needed : IsPassed (needed_refusal command (game_tree tree) tree)
 
 pub passed_tests : (command : Command) (tree : Data) → tree_refusal command tree ≡ None → Passes command tree
@@ -44,4 +48,5 @@ passed_tests command tree e =
     let c = behind numbers Number names b.1 in
     let d = behind (has_names game) Names coalition c.1 in
     let f = behind (has_coalitions game) Coalition estate d.1 in
-    record { shaped = a.0; players = b.0; numbers = c.0; coalitions = f.0; needed = (behind (is_covered (description_of game)) Estate needed f.1).1 }
+    let e = behind (is_covered (description_of game)) Estate needed f.1 in
+    record { shaped = a.0; players = b.0; numbers = c.0; names = d.0; coalitions = f.0; covered = e.0; needed = e.1 }

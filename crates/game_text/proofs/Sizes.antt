@@ -14,14 +14,16 @@ use Rattle.std.specs.Prelude.{sum}
 use Rattle.bankruptcy.specs.Bankruptcy.{Bankruptcy as Claims, bankruptcy}
 use Rattle.worth_tables.specs.Tables.{table, IsTable, AreSmall}
 use Rattle.game_text.proofs.Filling.{pow_some}
-use Rattle.game_text.specs.Trees.{parts, parts_at, passes, passes_if_there, is_number, is_array_of, integer}
-use Rattle.game_text.specs.Shape.{class_of, is_sparse_pair, is_shaped_as, is_table_shaped, lists_worths, lists_coalitions}
-use Rattle.game_text.specs.Limits.{table_players, players_at, has_items, has_worths_for, has_players_as, players_as, players, is_small, is_small_cost, if_integer, is_worth, is_cost, second_passes, has_worth, has_table_numbers, has_numbers_as}
+use Rattle.json_trees.specs.Trees.{parts, parts_at, passes, passes_if_there, is_number, is_array_of, integer, second_passes, pair_members}
+use Rattle.game_text.specs.Shape.{class_of, is_shaped_as}
+use Rattle.game_text.specs.TableClass.{is_sparse_pair, is_table_shaped, lists_worths, lists_coalitions, table_players, players_at, has_items, has_worths_for, has_worth, has_table_numbers, is_small, is_worth, masks_by, sparse_number, sparse_numbers, numbers_by}
+use Rattle.game_text.specs.Limits.{has_players_as, players_as, players, has_numbers_as}
+use Rattle.game_text.specs.Sizes.{is_small_cost, if_integer, is_cost}
 use Rattle.game_text.specs.Names.{names_of}
 use Rattle.game_text.proofs.Choices.{passed_if}
-use Rattle.game_text.specs.Coalitions.{is_mask, mask_of, masks_by, are_coalitions}
-use Rattle.game_text.specs.Names.{sparse_members}
-use Rattle.game_text.specs.Descriptions.{integer_or_zero, integer_at, integers_at, second_integer, sparse_number, sparse_numbers, numbers_by, table_numbers}
+use Rattle.game_text.specs.Members.{is_mask, mask_of, are_coalitions}
+use Rattle.game_text.specs.Descriptions.{table_numbers}
+use Rattle.json_trees.specs.Integers.{integer_or_zero, integer_at, integers_at, second_integer}
 use Rattle.game_text.specs.Readings.{HasSizes, IsTableClass}
 use Rattle.game_text.specs.declared.class.Class.{Class}
 use Rattle.game_text.specs.declared.class.Class.TheVariants.{Table, CostTable, Airport, Bankruptcy}
@@ -62,7 +64,7 @@ small_sparse : (n : ℕ) (names : List (List ℕ)) (other : ℤ) (s : ℕ) (pair
 small_sparse n names other s [] p h = p
 small_sparse n names other s (pair ∷ pairs) p h =
     let both = and_parts (has_worth pair) (list_all has_worth pairs) h in
-    small_choice (is_mask s (mask_of n names (sparse_members pair))) (second_integer (parts pair)) (sparse_number n names other s pairs)
+    small_choice (is_mask s (mask_of n names (pair_members pair))) (second_integer (parts pair)) (sparse_number n names other s pairs)
     (small_second (parts pair) both.0) (small_sparse n names other s pairs p both.1)
 
 small_numbers : (game : Data) (n : ℕ) (names : List (List ℕ)) (o : Option Data) → has_table_numbers game ≡ true → AreSmall (numbers_by o n names game)

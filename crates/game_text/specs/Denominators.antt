@@ -1,10 +1,20 @@
--- Fractions over their least common denominator, as a number that can be computed.
-use Rattle.std.specs.Prelude.{◌*◌, ◌/◌, ◌^◌, ℕ, pos, List, [], ◌∷◌, unsigned_abs, Bool, ◌&&◌, nat_lt, nat_le}
-use Rattle.std.specs.List.{list_all}
+-- What the private functions of reading say by the least common denominator as a number that is computed. The public
+-- clauses speak of the least common denominator itself (`IsDenominatorOf` in Shares.antt), of which there is one.
+--
+--   least_denominator  the least common denominator
+--   tree_refusal       the first test that a tree doesn't pass
+--   contents_of        what a tree says
+use Rattle.std.specs.Prelude.{◌*◌, ◌/◌, ℕ, pos, List, [], ◌∷◌, unsigned_abs, Bool, Option}
+use Rattle.serde_json.specs.Data.{Data}
 use Rattle.fractions.specs.Divisors.{gcd}
 use Rattle.fractions.specs.Fraction.{Fraction}
 use Rattle.definitions.specs.Games.{Allocation}
-use Rattle.worth_core.specs.LeastDenominators.{numerator_over, over}
+use Rattle.worth_core.specs.LeastDenominators.{over}
+use Rattle.game_text.specs.Shares.{written_shares, has_small_terms, shares_over}
+use Rattle.game_text.specs.Documents.{Contents, proposed_over, contents_over}
+use Rattle.game_text.specs.Refusals.{has_needed_terms, refusal_over}
+use Rattle.game_text.specs.declared.command.Command.{Command}
+use Rattle.game_text.specs.declared.refusal.Refusal.{Refusal}
 
 -- the least common multiple of two numbers
 abbrev pub lcm : ℕ → ℕ → ℕ
@@ -19,10 +29,26 @@ least_denominator (f ∷ fs) = lcm (unsigned_abs f.den) (least_denominator fs)
 abbrev pub over_least : List Fraction → Allocation
 over_least fs = over (pos (least_denominator fs)) fs
 
--- below 2^110 in size, over the least common denominator
-abbrev pub has_small_numerator : List Fraction → Fraction → Bool
-has_small_numerator fs f = nat_lt (unsigned_abs (numerator_over (pos (least_denominator fs)) f)) (2 ^ 110)
+-- over their least common denominator, the fractions keep within the limits of shares
+abbrev pub keep_limits : List Fraction → Bool
+keep_limits fs = has_small_terms (least_denominator fs) fs
 
--- a least common denominator of at most 2^63, and numerators over it below 2^110 in size
-abbrev pub is_coarse : List Fraction → Bool
-is_coarse fs = nat_le (least_denominator fs) (2 ^ 63) && list_all (has_small_numerator fs) fs
+-- the shares that a command needs do
+abbrev pub needed_keep_limits : Command → Data → Bool
+needed_keep_limits command tree = has_needed_terms (least_denominator (written_shares tree)) command tree
+
+-- the proposed shares as worth
+abbrev pub shares_of : Data → Data → Allocation
+shares_of game tree = shares_over (least_denominator (written_shares tree)) game tree
+
+-- the shares that a command needs
+abbrev pub shares_for : Command → Data → Data → Option Allocation
+shares_for command game tree = proposed_over (least_denominator (written_shares tree)) command game tree
+
+-- what the tree of a document says to a command
+abbrev pub contents_of : Command → Data → Contents
+contents_of command tree = contents_over (least_denominator (written_shares tree)) command tree
+
+-- the first test that a tree doesn't pass
+abbrev pub tree_refusal : Command → Data → Option Refusal
+tree_refusal command tree = refusal_over (least_denominator (written_shares tree)) command tree

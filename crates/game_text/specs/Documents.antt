@@ -1,5 +1,5 @@
 -- What a document that isn't refused says.
-use Rattle.std.specs.Prelude.{codes, Option, Some, None, unwrap_or}
+use Rattle.std.specs.Prelude.{ℕ, codes, Option, unwrap_or}
 use Rattle.serde_json.specs.Data.{Data, null}
 use Rattle.serde_json.specs.Find.{get}
 use Rattle.definitions.specs.Games.{Allocation}
@@ -8,11 +8,11 @@ use Rattle.definitions.specs.declared.Family.TheVariants.{Imputations}
 use Rattle.kohlberg.specs.Certificate.{CertificateData}
 use Rattle.game_text.specs.Limits.{players}
 use Rattle.game_text.specs.Descriptions.{Description, description_of}
-use Rattle.game_text.specs.Shares.{shares_of}
-use Rattle.game_text.specs.CertificateShape.{family_of}
-use Rattle.game_text.specs.Certificates.{certificate_of}
+use Rattle.game_text.specs.Shares.{shares_over}
+use Rattle.certificate_texts.specs.Shape.{family_of}
+use Rattle.certificate_texts.specs.Certificates.{certificate_of}
 use Rattle.game_text.specs.declared.command.Command.{Command}
-use Rattle.game_text.specs.declared.command.Command.TheVariants.{Nucleolus, Prenucleolus, Propose, Check}
+use Rattle.game_text.specs.Needs.{needs, given}
 
 -- a game, the JSON tree that describes it, and the family, the shares and the certificate, where the command needs them
 pub record Contents : Type 0 where
@@ -32,31 +32,22 @@ certificate_tree tree = unwrap_or (get (codes "certificate") tree) null
 
 -- the family that a command needs
 abbrev pub family_for : Command → Data → Option Family
-family_for Nucleolus tree = None
-family_for Prenucleolus tree = None
-family_for Propose tree = None
-family_for Check tree = Some (unwrap_or (family_of tree) Imputations)
+family_for command tree = given (needs command).answer (unwrap_or (family_of tree) Imputations)
 
--- the shares that a command needs
-abbrev pub shares_for : Command → Data → Data → Option Allocation
-shares_for Nucleolus game tree = None
-shares_for Prenucleolus game tree = None
-shares_for Propose game tree = Some (shares_of game tree)
-shares_for Check game tree = Some (shares_of game tree)
+-- the shares that a command needs, over the denominator d
+abbrev pub proposed_over : ℕ → Command → Data → Data → Option Allocation
+proposed_over d command game tree = given (needs command).shares (shares_over d game tree)
 
 -- the certificate that a command needs
 abbrev pub certificate_for : Command → Data → Data → Option CertificateData
-certificate_for Nucleolus game tree = None
-certificate_for Prenucleolus game tree = None
-certificate_for Propose game tree = None
-certificate_for Check game tree = Some (certificate_of (players game) (certificate_tree tree))
+certificate_for command game tree = given (needs command).certificate (certificate_of (players game) (certificate_tree tree))
 
--- what the tree of a document says to a command
-abbrev pub contents_of : Command → Data → Contents
-contents_of command tree = record {
+-- what the tree of a document says to a command, with the shares over the denominator d
+abbrev pub contents_over : ℕ → Command → Data → Contents
+contents_over d command tree = record {
   game = description_of (game_tree tree);
   tree = game_tree tree;
   family = family_for command tree;
-  shares = shares_for command (game_tree tree) tree;
+  shares = proposed_over d command (game_tree tree) tree;
   certificate = certificate_for command (game_tree tree) tree;
 }

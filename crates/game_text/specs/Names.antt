@@ -3,13 +3,13 @@
 --   names_of   the names of the players, in their order
 --   has_names  one name for each player, and the sparse table uses no other
 use Rattle.std.specs.Prelude.{◌==◌, ℕ, codes, List, [], ◌∷◌, length, map, Bool, true, not, ◌&&◌, Option, Some, None, nat_lt, nat_le}
-use Rattle.std.specs.List.{list_all, list_any}
-use Rattle.std.specs.Str.{bytes_eq}
+use Rattle.std.specs.List.{list_all}
 use Rattle.serde_json.specs.Data.{Data}
 use Rattle.serde_json.specs.Find.{get, as_str}
 use Rattle.serde_json.specs.View.{view}
 use Rattle.serde_json.specs.declared.value.Value.{Value}
-use Rattle.game_text.specs.Trees.{parts, parts_at, text_of}
+use Rattle.json_trees.specs.Trees.{parts_at, pair_members, text_of}
+use Rattle.json_trees.specs.Keys.{is_among}
 use Rattle.game_text.specs.Limits.{players}
 
 -- the names of the players, in their order
@@ -23,10 +23,6 @@ texts vs = map (λ v. text_of (view v)) vs
 -- a name has 1 to 64 bytes
 abbrev pub is_name : List ℕ → Bool
 is_name s = nat_lt 0 (length s) && nat_le (length s) 64
-
--- the text is one of the names, byte by byte
-abbrev pub is_among : List (List ℕ) → List ℕ → Bool
-is_among names s = list_any (bytes_eq s) names
 
 -- no two are alike
 abbrev pub are_distinct : List (List ℕ) → Bool
@@ -42,15 +38,6 @@ abbrev pub are_names : ℕ → Option Data → List (List ℕ) → Bool
 are_names n None names = true
 are_names n (Some d) names = (length names == n) && good_names names
 
--- the items of the first item
-abbrev pub first_parts : List Data → List Data
-first_parts [] = []
-first_parts (x ∷ xs) = parts x
-
--- the members of the coalition of a pair of a coalition and a number
-abbrev pub sparse_members : Data → List Data
-sparse_members pair = first_parts (parts pair)
-
 -- a member that is a text is among the names
 abbrev pub is_known : List (List ℕ) → Option (List ℕ) → Bool
 is_known names None = true
@@ -58,7 +45,7 @@ is_known names (Some s) = is_among names s
 
 -- each member of a pair's coalition that is a text is among the names
 abbrev pub are_known : List (List ℕ) → Data → Bool
-are_known names pair = list_all (λ d. is_known names (as_str d)) (sparse_members pair)
+are_known names pair = list_all (λ d. is_known names (as_str d)) (pair_members pair)
 
 -- one name for each player, where there are names, and the sparse table uses no other
 abbrev pub has_names : Data → Bool

@@ -8,9 +8,10 @@ use Rattle.game_text.specs.Shape.{is_game_shaped}
 use Rattle.game_text.specs.Limits.{has_players, has_numbers}
 use Rattle.game_text.specs.Descriptions.{description_of}
 use Rattle.game_text.specs.Games.{description_in}
-use Rattle.game_text.specs.Shares.{shares_of}
-use Rattle.game_text.specs.Documents.{Contents, family_for, shares_for, certificate_for, contents_of}
-use Rattle.game_text.specs.Refusals.{coalition_refusal, game_refusal, proposal_refusal, share_refusal, certificate_refusal, late_refusal, tree_refusal, IsRefused, IsDocument}
+use Rattle.game_text.specs.Denominators.{shares_of, shares_for, contents_of, tree_refusal}
+use Rattle.game_text.specs.Documents.{Contents, family_for, certificate_for}
+use Rattle.game_text.specs.Refusals.{IsRefused, IsDocument}
+use Rattle.game_text.specs.Steps.{coalition_refusal, game_refusal, proposal_refusal, share_refusal, certificate_refusal, late_refusal}
 use Rattle.game_text.specs.declared.class.Class.{Class}
 use Rattle.game_text.specs.declared.class.Class.TheVariants.{Table, CostTable, Airport, Bankruptcy}
 use Rattle.game_text.specs.declared.command.Command.{Command}

@@ -3,14 +3,11 @@ use Rattle.std.specs.Prelude.{◌≡◌, ◌==◌, ◌-◌, ◌&&◌, ℕ, List,
 use Rattle.serde_json.specs.Data.{Data}
 use Rattle.serde_json.specs.Read.{read}
 use Rattle.game_text.specs.declared.command.Command.{Command}
-use Rattle.game_text.specs.declared.command.Command.TheVariants.{Nucleolus, Prenucleolus, Propose, Check}
+use Rattle.game_text.specs.Needs.{needs}
 
 -- the most bytes that a document for a command may have
 abbrev pub document_limit : Command → ℕ
-document_limit Nucleolus = 2097152
-document_limit Prenucleolus = 2097152
-document_limit Propose = 2097152
-document_limit Check = 8388608
+document_limit command = (needs command).limit
 
 -- the bytes without a newline at their end
 abbrev pub without_newline : List ℕ → List ℕ
@@ -20,6 +17,6 @@ without_newline bytes = if nat_lt 0 (length bytes) && (slice_index bytes (length
 abbrev pub IsTextOf : List ℕ → Data → Type 0
 IsTextOf bytes tree = IsUtf8 (without_newline bytes) × (read (without_newline bytes) ≡ Some tree)
 
--- the bytes are no JSON, or are nested too deep
+-- the bytes aren't UTF-8, or `serde_json` refuses them: they aren't one JSON text (a byte order mark is no part of one), are nested deeper than 127, have a number too large for a float of 64 bits, or half of a surrogate pair
 abbrev pub IsNotJson : List ℕ → Type 0
 IsNotJson bytes = IsUtf8 (without_newline bytes) → read (without_newline bytes) ≡ None

@@ -133,6 +133,11 @@ fn commands_look_at_what_they_need(rt: HostRuntime) {
             None,
         ),
         (
+            Command::Core,
+            "{\"answer\":1,\"game\":{\"class\":\"airport\",\"costs\":[2,4,6]},\"shares\":[]}",
+            None,
+        ),
+        (
             Command::Check,
             "{\"certificate\":{\"levels\":[],\"mode\":\"span\"},\"game\":{\"class\":\"airport\",\"costs\":[2,4,6]},\"shares\":[1,1,1]}",
             Some(Refusal::Shape),
@@ -175,6 +180,8 @@ fn documents_to_check_have_at_most_8_mib(rt: HostRuntime) -> Result<(), Fail> {
         (Command::Nucleolus, 2_097_153, Refusal::TooLong),
         (Command::Nucleolus, 2_097_152, Refusal::NotJson),
         (Command::Prenucleolus, 2_097_153, Refusal::TooLong),
+        (Command::Core, 2_097_153, Refusal::TooLong),
+        (Command::Core, 2_097_152, Refusal::NotJson),
     ] {
         let bytes = blanks(rt.alloc(), count)?;
         let fault = read_document(rt.alloc(), &bytes, command).err();

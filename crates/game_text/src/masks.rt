@@ -2,24 +2,14 @@
 ghost use Rattle.std.specs.Prelude.{◌≡◌, ◌<◌, ◌≤◌, ◌^◌, map, length, IfSome, position};
 ghost use Rattle.std.specs.Str.{bytes_eq};
 ghost use Rattle.serde_json.specs.View.{view};
-ghost use Rattle.game_text.specs.Coalitions.{numbered_player, player_of, join, joined, mask_of};
+ghost use Rattle.game_text.specs.Members.{player_of, join, mask_of};
+ghost use Rattle.certificate_texts.specs.Levels.{numbered_player};
 
 use crate::names::Names;
-use crate::trees::integer;
+use certificate_texts::numbered_player;
 use coalitions::Coalition;
+use json_trees::integer;
 use serde_json::Value;
-
-/// The player that a number from 1 to `players` names.
-pub fn numbered_player(players: u32, number: i64) -> Option<u32>
-    ensures player { result ≡ numbered_player players number }
-    ensures within { IfSome result (λ i. i < players) }
-{
-    if 0 < number && number <= i64::from(players) {
-        Some(number as u32 - 1)
-    } else {
-        None
-    }
-}
 
 fn named_player(names: &Names, name: &str) -> Option<u32>
     requires { length names.now ≤ 64 }

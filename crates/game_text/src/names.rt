@@ -4,12 +4,13 @@ ghost use Rattle.std.specs.Str.{bytes_eq};
 ghost use Rattle.serde_json.specs.View.{view};
 ghost use Rattle.std.specs.List.{list_all};
 ghost use Rattle.serde_json.specs.Find.{get, as_str};
-ghost use Rattle.game_text.specs.Trees.{parts_at};
-ghost use Rattle.game_text.specs.Names.{texts, is_name, is_among, good_names, are_names, names_of, is_known, are_known, sparse_members};
+ghost use Rattle.json_trees.specs.Trees.{parts_at, pair_members};
+ghost use Rattle.game_text.specs.Names.{texts, is_name, good_names, are_names, names_of, is_known, are_known};
+ghost use Rattle.json_trees.specs.Keys.{is_among};
 
-use crate::trees::{parts, parts_at, text};
 use fractions::OutOfMemory;
 use indexmap::IndexSet;
+use json_trees::{pair_members, parts, parts_at, text};
 use serde_json::Value;
 use std::alloc::Global;
 use std::marker::Model;
@@ -122,21 +123,11 @@ fn know_members(names: &Names, members: &[Value]) -> bool
     members.iter().all(|v| is_known(names, v))
 }
 
-/// The members of the coalition of a pair of a coalition and a number.
-pub fn sparse_members(pair: &Value) -> &[Value]
-    ensures { map view result.now ≡ sparse_members (view pair.now) }
-{
-    match parts(pair) {
-        [coalition, ..] => parts(coalition),
-        [] => &[],
-    }
-}
-
-#[tactic(auto, using(crate::proofs::Values::all_views))]
+#[tactic(auto, using(json_trees::proofs::Values::all_views))]
 fn are_known(names: &Names, pair: &Value) -> bool
     ensures { result ≡ are_known names.now (view pair.now) }
 {
-    know_members(names, sparse_members(pair))
+    know_members(names, pair_members(pair))
 }
 
 fn know_pairs(names: &Names, pairs: &[Value]) -> bool
@@ -146,7 +137,7 @@ fn know_pairs(names: &Names, pairs: &[Value]) -> bool
 }
 
 /// Whether each member of a sparse coalition that is a text is among the names.
-#[tactic(auto, using(crate::proofs::Values::all_views))]
+#[tactic(auto, using(json_trees::proofs::Values::all_views))]
 pub fn know_sparse(names: &Names, game: &Value) -> bool
     ensures { result ≡ list_all (are_known names.now) (parts_at (codes "sparse") (view game.now)) }
 {

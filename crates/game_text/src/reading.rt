@@ -1,9 +1,9 @@
 //! From the bytes of a document to what it says, or to its refusal.
-ghost use Rattle.std.specs.Prelude.{◌≡◌, ◌≤◌, MatchResult, IfOk, IfSome, Some, None, codes, length, if◌then◌else◌};
+ghost use Rattle.std.specs.Prelude.{◌≡◌, ◌≤◌, ◌<◌, ◌^◌, MatchResult, IfOk, IfSome, Some, None, codes, length, if◌then◌else◌};
 ghost use Rattle.serde_json.specs.View.{view};
 ghost use Rattle.serde_json.specs.Find.{get};
-ghost use Rattle.game_text.specs.Trees.{passes};
-ghost use Rattle.game_text.specs.Certificates.{has_form, certificate_of};
+ghost use Rattle.json_trees.specs.Trees.{passes};
+ghost use Rattle.certificate_texts.specs.Certificates.{has_form, certificate_of};
 ghost use Rattle.game_text.specs.Documents.{certificate_tree, family_for};
 ghost use Rattle.game_text.specs.Descriptions.{description_of, game_of, is_cost};
 ghost use Rattle.game_text.specs.Games.{description_in};
@@ -15,8 +15,6 @@ ghost use Rattle.game_text.specs.Text.{document_limit, without_newline};
 ghost use Rattle.game_text.specs.Readings.{HasSizes, IsFault, IsReading, IsTreeFault, IsTreeReading, IsLateFault, IsLateReading, IsGameFault, IsGameReading, IsProposal, IsProposalFault, IsShareReading, IsShareFault, IsCertificateReading, IsCertificateFault};
 
 use crate::building::game_of;
-use crate::certificate_shape::family_of;
-use crate::certificates::certificate_of;
 use crate::command::Command;
 use crate::document::Document;
 use crate::fault::TextFault;
@@ -26,6 +24,7 @@ use crate::names::{Names, know_sparse, names_of};
 use crate::refusal::Refusal;
 use crate::shape::is_shaped;
 use crate::shares::{has_share_numbers, has_shares_for, shares_as_worth};
+use certificate_texts::{certificate_of, family_of};
 use definitions::Family;
 use fractions::OutOfMemory;
 use kohlberg::Certificate;
@@ -54,13 +53,12 @@ pub fn read_document(alloc: Global, bytes: &[u8], command: Command) -> Result<Do
     document_of(alloc, command, &tree)
 }
 
-fn document_limit(command: Command) -> usize
-    ensures { result ≡ document_limit command }
+/// The most bytes that a document for the command may have.
+pub fn document_limit(command: Command) -> usize
+    ensures value { result ≡ document_limit command }
+    ensures small { result < 2 ^ 40 }
 {
-    match command {
-        Command::Nucleolus | Command::Prenucleolus | Command::Propose => 2_097_152,
-        Command::Check => 8_388_608,
-    }
+    command.needs().limit
 }
 
 fn without_newline(bytes: &[u8]) -> &[u8]
@@ -89,20 +87,17 @@ fn document_of(alloc: Global, command: Command, tree: &Value) -> Result<Document
     if !has_numbers(game) || !has_needed_numbers(command, tree) {
         return Err(TextFault::Refused(Refusal::Number));
     }
-    late_document(alloc, command, game, tree)
+    document_of_numbers(alloc, command, game, tree)
 }
 
 fn has_needed_numbers(command: Command, tree: &Value) -> bool
     ensures { result ≡ has_needed_numbers command (view tree.now) }
 {
-    match command {
-        Command::Propose | Command::Check => has_share_numbers(tree),
-        Command::Nucleolus | Command::Prenucleolus => true,
-    }
+    !command.needs().shares || has_share_numbers(tree)
 }
 
 /// The document, behind the tests of the shape, the players and the numbers.
-fn late_document(
+fn document_of_numbers(
     alloc: Global,
     command: Command,
     game: &Value,
@@ -164,9 +159,10 @@ fn right_names<'a>(alloc: Global, game: &'a Value) -> Result<Option<Names<'a>>, 
 fn needed_family(command: Command, tree: &Value) -> Option<Family>
     ensures { result ≡ family_for command (view tree.now) }
 {
-    match command {
-        Command::Check => Some(family_of(tree).unwrap_or(Family::Imputations)),
-        Command::Nucleolus | Command::Prenucleolus | Command::Propose => None,
+    if command.needs().answer {
+        Some(family_of(tree).unwrap_or(Family::Imputations))
+    } else {
+        None
     }
 }
 
@@ -202,12 +198,12 @@ fn needed_shares(
     requires sign { are_payments ≡ is_cost (description_of (view game.now)) }
     ensures { MatchResult result (IsShareReading command (view game.now) (view tree.now)) (IsShareFault command (view game.now) (view tree.now)) }
 {
-    match command {
-        Command::Propose | Command::Check => {
-            let shares = right_shares(alloc, game, tree, are_payments)?;
-            Ok(Some(shares))
-        }
-        Command::Nucleolus | Command::Prenucleolus => Ok(None),
+    if !command.needs().shares {
+        return Ok(None);
+    }
+    match right_shares(alloc, game, tree, are_payments) {
+        Ok(shares) => Ok(Some(shares)),
+        Err(e) => Err(e),
     }
 }
 
@@ -238,13 +234,11 @@ fn needed_certificate(
     requires { HasSizes (view game.now) }
     ensures { MatchResult result (IsCertificateReading command (view game.now) (view tree.now)) (IsCertificateFault command (view game.now) (view tree.now)) }
 {
-    match command {
-        Command::Check => {
-            let Some(certificate) = right_certificate(alloc, players(game) as u32, tree)? else {
-                return Err(TextFault::Refused(Refusal::Certificate));
-            };
-            Ok(Some(certificate))
-        }
-        Command::Nucleolus | Command::Prenucleolus | Command::Propose => Ok(None),
+    if !command.needs().certificate {
+        return Ok(None);
     }
+    let Some(certificate) = right_certificate(alloc, players(game) as u32, tree)? else {
+        return Err(TextFault::Refused(Refusal::Certificate));
+    };
+    Ok(Some(certificate))
 }

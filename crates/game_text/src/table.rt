@@ -3,57 +3,18 @@ ghost use Rattle.std.specs.Prelude.{◌≡◌, ◌<◌, ◌≤◌, ◌-◌, ◌^
 ghost use Rattle.std.specs.List.{range_with_len};
 ghost use Rattle.serde_json.specs.View.{view};
 ghost use Rattle.serde_json.specs.Find.{get};
-ghost use Rattle.game_text.specs.Trees.{parts};
-ghost use Rattle.game_text.specs.Names.{sparse_members};
-ghost use Rattle.game_text.specs.Coalitions.{masks_by, mask_of, are_coalitions};
-ghost use Rattle.game_text.specs.Descriptions.{integer_or_zero, integers_at, integer_at, second_integer, sparse_number, numbers_by};
+ghost use Rattle.json_trees.specs.Trees.{pair_members};
+ghost use Rattle.game_text.specs.TableClass.{masks_by, sparse_number, numbers_by};
+ghost use Rattle.game_text.specs.Members.{mask_of, are_coalitions};
+ghost use Rattle.json_trees.specs.Integers.{integers_at, integer_at, second_integer};
 ghost use Rattle.game_text.specs.Slots.{HasNumbers};
 
 use crate::masks::mask_of;
-use crate::names::{Names, sparse_members};
-use crate::trees::{integer, parts, parts_at};
+use crate::names::Names;
 use fractions::OutOfMemory;
+use json_trees::{integer_at, integers_at, pair_members, parts_at, second_integer};
 use serde_json::Value;
 use std::alloc::Global;
-
-fn integers(alloc: Global, values: &[Value]) -> Result<Vec<i64>, OutOfMemory>
-    ensures { IfOk result (λ v. v.items ≡ map (λ d. integer_or_zero (view d)) values.now) }
-{
-    let mut found = Vec::new(alloc);
-    for value in values {
-        let n = integer(value).unwrap_or(0);
-        found.push(n)?;
-    }
-    Ok(found)
-}
-
-/// The integers of the array at a key.
-#[tactic(auto, using(crate::proofs::Values::map_views))]
-pub fn integers_at(alloc: Global, game: &Value, key: &str) -> Result<Vec<i64>, OutOfMemory>
-    ensures { IfOk result (λ v. v.items ≡ integers_at key.now (view game.now)) }
-{
-    integers(alloc, parts_at(game, key))
-}
-
-/// The integer at a key, and 0 where it is absent.
-pub fn integer_at(game: &Value, key: &str) -> i64
-    ensures { result ≡ integer_at key.now (view game.now) }
-{
-    match game.get(key) {
-        Some(value) => integer(value).unwrap_or(0),
-        None => 0,
-    }
-}
-
-/// The integer of the second of two items, and 0 where there is none.
-pub fn second_integer(pair: &Value) -> i64
-    ensures { result ≡ second_integer (parts (view pair.now)) }
-{
-    match parts(pair) {
-        [_, number] => integer(number).unwrap_or(0),
-        _ => 0,
-    }
-}
 
 fn empty_slots(alloc: Global, count: usize) -> Result<Vec<Option<i64>>, OutOfMemory>
     ensures { IfOk result (λ v. v.items ≡ replicate count None) }
@@ -76,11 +37,11 @@ fn filled(
     requires few { players ≤ 16 }
     requires named { length names.now ≤ players }
     requires empty { slots.items ≡ replicate (2 ^ players) None }
-    ensures none { IfNone result (are_coalitions (map (λ pair. mask_of players names.now (sparse_members pair)) (map view pairs.now)) ≡ false) }
+    ensures none { IfNone result (are_coalitions (map (λ pair. mask_of players names.now (pair_members pair)) (map view pairs.now)) ≡ false) }
     ensures some { IfSome result (λ v. HasNumbers players names.now (map view pairs.now) v.items) }
 {
     for pair in pairs {
-        let Some(s) = mask_of(players, names, sparse_members(pair)) else {
+        let Some(s) = mask_of(players, names, pair_members(pair)) else {
             return None;
         };
         let at = s.0 as usize;
@@ -122,7 +83,7 @@ fn sparse_numbers(
 ) -> Result<Option<Vec<i64>>, OutOfMemory>
     requires few { players ≤ 16 }
     requires named { length names.now ≤ players }
-    ensures { IfOk result (λ o. option_map (λ v. v.items) o ≡ (if are_coalitions (map (λ pair. mask_of players names.now (sparse_members pair)) (map view pairs.now))
+    ensures { IfOk result (λ o. option_map (λ v. v.items) o ≡ (if are_coalitions (map (λ pair. mask_of players names.now (pair_members pair)) (map view pairs.now))
         then Some (map (λ s. sparse_number players names.now other s (map view pairs.now)) (range_with_len 1 (2 ^ players - 1))) else None)) }
 {
     let slots = empty_slots(alloc, 1 << players)?;

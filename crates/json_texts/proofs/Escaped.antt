@@ -60,7 +60,7 @@ three true b x y z n p q r = p
 three false true x y z n p q r = q
 three false false x y z n p q r = r
 
-any_byte : (x : ℕ) → length (escape_byte x) ≤ 6
+pub any_byte : (x : ℕ) → length (escape_byte x) ≤ 6
 unfolding escape_byte
 any_byte x =
     let a = nat_lt 0 (escape_letter x) in

@@ -42,9 +42,6 @@ string_size n (Some s) h = omega (arith, length-append (escape s) (34 ∷ []))
 abbrev Fits : ℕ → List Lexeme → Token → Type 0
 Fits n rest t = length (token_text t) + total rest ≤ n
 
-bad_fits : (n : ℕ) (rest : List Lexeme) → total rest ≤ n → Fits n rest Token.bad
-bad_fits n rest h = omega arith
-
 by_test : (n : ℕ) (rest : List Lexeme) (b : Bool) (x y : Token) → (b ≡ true → Fits n rest x) → (b ≡ false → Fits n rest y) → Fits n rest (cond b x y)
 by_test n rest true x y f g = f refl
 by_test n rest false x y f g = g refl

@@ -71,9 +71,6 @@ Spelled-value (suc d) =
     (λ ts. mapped items_tokens json_tokens array (Token.begin_array ∷ []) (λ js. refl) ts _ (Spelled-items (value d) (Spelled-value d) (length ts) ts))
     (λ ts. mapped members_tokens json_tokens object (Token.begin_object ∷ []) (λ ms. refl) ts _ (Spelled-members (value d) (Spelled-value d) (length ts) ts))
 
-pub value-spelled : (d : ℕ) (ts r : List Token) (j : Json) → value d ts ≡ Some (j, r) → ts ≡ json_tokens j ++ r
-value-spelled d ts r j e = subst (Spells json_tokens ts) e (Spelled-value d ts)
-
 abbrev pub WholeIs : List Token → Option Json → Type 0
 WholeIs ts None = ⊤
 WholeIs ts (Some j) = ts ≡ json_tokens j

@@ -2,11 +2,11 @@
 use Rattle.std.specs.Prelude.{◌≡◌, ℕ, ◌+◌, ◌-◌, ◌^◌, ◌≤◌, min, Result, OnOk, OnErr}
 
 -- the count rose, or stands at its last value
-abbrev pub Rose : ℕ → ℕ → Type 0
-Rose before now = min (before + 1) (2 ^ 64 - 1) ≤ now
+abbrev pub CountRose : ℕ → ℕ → Type 0
+CountRose before now = min (before + 1) (2 ^ 64 - 1) ≤ now
 
 -- the count never falls, rises at each failure up to its last value, and is as before where the call succeeds
 pub record HasCause {T E : Type 0} (before now : ℕ) (result : Result T E) : Type 0 where
   pub later : before ≤ now
-  pub quiet : OnOk result (now ≡ before)
-  pub failed : OnErr result (Rose before now)
+  pub unchanged : OnOk result (now ≡ before)
+  pub failed : OnErr result (CountRose before now)

@@ -10,15 +10,17 @@ use Rattle.serde_json.specs.Data.{Data}
 use Rattle.definitions.specs.Games.{Allocation, share, IsShares}
 use Rattle.fractions.specs.Fraction.{Fraction}
 use Rattle.worth_core.specs.LeastDenominators.{numerator_over}
-use Rattle.game_text.specs.Denominators.{least_denominator, over_least, has_small_numerator, is_coarse}
-use Rattle.game_text.specs.Shares.{is_share, written_shares, fraction_or_zero, as_worth}
-use Rattle.game_text.specs.Trees.{parts_at}
+use Rattle.game_text.specs.Denominators.{least_denominator, over_least, keep_limits}
+use Rattle.game_text.specs.Shares.{has_small_numerator, written_shares, as_worth}
+use Rattle.json_trees.specs.Fractions.{is_fraction, fraction_or_zero}
+use Rattle.json_trees.specs.Trees.{parts_at}
 use Rattle.game_text.proofs.LeastDenominators.{least_denominator_is}
 use Rattle.reading_back.specs.ReadBack.{IsAgain, AreReadBack}
 use Rattle.report.specs.ShareLists.{as_printed, printed_share, share_data}
 use Rattle.reading_back.proofs.OverLeast.{same_value, no_larger, all_reduced, least_below, divides_least}
 use Rattle.reading_back.proofs.ShareTexts.{printed_ratio, shares_read, all_shares}
-use Rattle.reading_back.proofs.Signs.{printed_size, printed_twice, printed_times, worth_share, worth_length, worth_denominator}
+use Rattle.reading_back.proofs.Signs.{printed_twice, printed_times, worth_share, worth_length, worth_denominator}
+use Rattle.report.proofs.Readers.{size_as_printed}
 
 -- ---- the fractions that were printed, over their least common denominator
 
@@ -38,7 +40,7 @@ again_size : (b : Bool) (d : ℤ) (zs : List ℤ) (i : ℕ) → pos 1 ≤ℤ d �
     → unsigned_abs (numerator_over (pos (least_denominator (map (printed_share b d) zs))) (printed_share b d (get_or zs i (pos 0)))) ≤ unsigned_abs (get_or zs i (pos 0))
 again_size b d zs i p l =
     let z = get_or zs i (pos 0) in
-    subst (λ (k : ℕ). unsigned_abs (numerator_over (pos (least_denominator (map (printed_share b d) zs))) (printed_share b d z)) ≤ k) (printed_size b z)
+    subst (λ (k : ℕ). unsigned_abs (numerator_over (pos (least_denominator (map (printed_share b d) zs))) (printed_share b d z)) ≤ k) (size_as_printed b z)
     (no_larger (printed_share b d z) (as_printed b z) d (least_denominator (map (printed_share b d) zs)) (printed_ratio b d z p) p
     (least_below (printed_share b d) (as_printed b) d (λ w. printed_ratio b d w p) p zs)
     (divides_least (printed_share b d) (as_printed b) d (λ w. printed_ratio b d w p) zs i l))
@@ -77,7 +79,7 @@ unfolding read
 worth_size b x i p l =
     let y = over_least (printed b x) in
     let here = worth_share b y i (omega (arith, l, again_length b x)) ∙ ap (as_printed b) (again_share b x i l) in
-    subst (λ (k : ℕ). k ≤ unsigned_abs (share x i)) (sym (ap unsigned_abs here ∙ printed_size b (numerator_over (pos (least_denominator (printed b x))) (printed_share b x.den (share x i))))) (again_size b x.den x.shares i p l)
+    subst (λ (k : ℕ). k ≤ unsigned_abs (share x i)) (sym (ap unsigned_abs here ∙ size_as_printed b (numerator_over (pos (least_denominator (printed b x))) (printed_share b x.den (share x i))))) (again_size b x.den x.shares i p l)
 
 read_length : (b : Bool) (x : Allocation) → length (read b x).shares ≡ length x.shares
 unfolding read
@@ -113,15 +115,15 @@ read_again b x h = record {
 
 -- ---- no share is too fine
 
-coarse : (b : Bool) (x : Allocation) → IsShares x → is_coarse (printed b x) ≡ true
+coarse : (b : Bool) (x : Allocation) → IsShares x → keep_limits (printed b x) ≡ true
 coarse b x h =
     let fs = printed b x in
     let long = length-map x.shares (printed_share b x.den) in
     let below = least_below (printed_share b x.den) (as_printed b) x.den (λ w. printed_ratio b x.den w h.positive) h.positive x.shares in
     let most : least_denominator fs ≤ 2 ^ 63 = omega (arith, ints, below, h.common, h.positive) in
-    and_from (nat_le (least_denominator fs) (2 ^ 63)) (list_all (has_small_numerator fs) fs) (le-leb (least_denominator fs) (2 ^ 63) most)
-    (list_all-from_AllPass (has_small_numerator fs) fs (All-map (λ f. has_small_numerator fs f ≡ true) (printed_share b x.den) x.shares
-    (All-from_get_or (λ z. has_small_numerator fs (printed_share b x.den z) ≡ true) x.shares (pos 0) (λ i l.
+    and_from (nat_le (least_denominator fs) (2 ^ 63)) (list_all (has_small_numerator (least_denominator fs)) fs) (le-leb (least_denominator fs) (2 ^ 63) most)
+    (list_all-from_AllPass (has_small_numerator (least_denominator fs)) fs (All-map (λ f. has_small_numerator (least_denominator fs) f ≡ true) (printed_share b x.den) x.shares
+    (All-from_get_or (λ z. has_small_numerator (least_denominator fs) (printed_share b x.den z) ≡ true) x.shares (pos 0) (λ i l.
     let size = again_size b x.den x.shares i h.positive l in
     lt-ltb (unsigned_abs (numerator_over (pos (least_denominator fs)) (printed_share b x.den (share x i)))) (2 ^ 110) (omega (arith, size, h.small i l))))))
 
@@ -133,9 +135,9 @@ are_read_back b x tree h e =
     let small = All-from_get_or (λ z. unsigned_abs z < 2 ^ 110) x.shares (pos 0) h.small in
     let written : written_shares tree ≡ printed b x = ap (map fraction_or_zero) e ∙ shares_read b x.den h.positive h.common x.shares small in
     record {
-      numbers = ap (list_all is_share) e ∙ all_shares b x.den h.positive h.common x.shares small;
+      numbers = ap (list_all is_fraction) e ∙ all_shares b x.den h.positive h.common x.shares small;
       enough = eq-eqb (length (parts_at (codes "shares") tree)) (length x.shares) (ap length e ∙ length-map x.shares (share_data b x.den));
       written = written;
-      coarse = ap is_coarse written ∙ coarse b x h;
+      coarse = ap keep_limits written ∙ coarse b x h;
       again = subst (λ (fs : List Fraction). IsAgain x (as_worth b (over_least fs))) (sym written) (read_again b x h);
     }

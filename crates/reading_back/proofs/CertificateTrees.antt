@@ -1,7 +1,7 @@
 -- A certificate that was printed is read as that certificate.
 use Rattle.std.proofs.Common.{◌≡◌, ℕ, ◌^◌, ◌<◌, ◌≤◌, Bool, true, false, ◌&&◌, ◌||◌, nat_eq, IsTrue, List, [], ◌∷◌, ◌++◌, Option, Some, ℤ, codes, refl, sym, ap, subst, ◌∙◌, arith}
 use Rattle.std.specs.Prelude.{is_some, unwrap_or}
-use Rattle.std.specs.List.{list_all, list_any, AllByRecursion}
+use Rattle.std.specs.List.{list_any, AllByRecursion}
 use Rattle.std.proofs.lemmas.Bool.{false≢true, and_from, eqb-true}
 use Rattle.serde_json.specs.Find.{get}
 use Rattle.definitions.specs.Certificates.{Level, is_listed, IsSmall, LevelForm, LevelsForm, HasForm}
@@ -9,16 +9,19 @@ use Rattle.definitions.specs.Coalitions.{grand_coalition}
 use Rattle.definitions.specs.declared.Mode.{Mode}
 use Rattle.definitions.specs.declared.Mode.TheVariants.{Players, Span}
 use Rattle.kohlberg.specs.Certificate.{CertificateData, IsCertificate}
-use Rattle.kohlberg.proofs.Forms.{all_left, all_right, all_join}
-use Rattle.game_text.specs.Trees.{keys, passes, is_array_of}
-use Rattle.game_text.specs.CertificateShape.{mode_of, is_certificate_key, is_level, is_certificate}
-use Rattle.game_text.specs.Certificates.{levels_of, is_written}
-use Rattle.game_text.specs.Levels.{level_of}
-use Rattle.game_text.proofs.FormTests.{form_passes}
+use Rattle.json_trees.specs.Keys.{has_only_keys}
+use Rattle.json_trees.specs.Trees.{passes, is_array_of}
+use Rattle.certificate_texts.specs.Shape.{certificate_keys}
+use Rattle.certificate_texts.specs.Shape.{mode_of, is_level, is_certificate}
+use Rattle.certificate_texts.specs.Certificates.{levels_of, is_written}
+use Rattle.certificate_texts.specs.Levels.{level_of}
+use Rattle.certificate_texts.proofs.FormTests.{form_passes}
 use Rattle.report.specs.Certificates.{level_tree, certificate_tree}
 use Rattle.reading_back.specs.CertificatesReadBack.{HasLowestExcess, AreInLowestTerms, IsReadAs}
 use Rattle.reading_back.proofs.WeightTexts.{IsWeighted, IsBound, all_read, all_pass, every_pass}
 use Rattle.reading_back.proofs.LevelTrees.{IsReadable, level_read, level_written, level_shaped}
+use Rattle.definitions.proofs.Alls.{all_with, all_join, all_left, all_right}
+use Rattle.definitions.proofs.Masks.{proper-within}
 
 -- ---- the coalitions of the levels in front are coalitions of n players
 
@@ -46,16 +49,8 @@ listed_below n s (f ∷ front) h l =
 abbrev AreSmall : List (ℕ × ℤ) → Type 0
 AreSmall ps = AllByRecursion (λ p. IsSmall p.1) ps
 
-both : {X : Type 0} (P Q R : X → Type 0) (xs : List X) → ((x : X) → P x → Q x → R x) → AllByRecursion P xs → AllByRecursion Q xs → AllByRecursion R xs
-both P Q R [] k h g = tt
-both P Q R (x ∷ xs) k h g = (k x h.0 g.0, both P Q R xs k h.1 g.1)
-
 below_all : (n k : ℕ) → k < grand_coalition n → k < 2 ^ n
 below_all n k h = omega arith
-
-has_players : (n : ℕ) (cs : List (ℕ × ℤ)) → AllByRecursion (λ c. (0 < c.0) × (c.0 < grand_coalition n)) cs → AllByRecursion (λ c. c.0 < 2 ^ n) cs
-has_players n [] h = tt
-has_players n (c ∷ cs) h = (below_all n c.0 h.0.1, has_players n cs h.1)
 
 readable : (n : ℕ) (front : List Level) (l : Level) → AllByRecursion (HasPlayers n) front → LevelForm n front l → HasLowestExcess l → IsReadable n l
 readable n front l h f e =
@@ -65,9 +60,9 @@ readable n front l h f e =
     let bounds_small : AreSmall l.bounds = all_right (λ p. IsSmall p.1) (l.coalitions ++ l.earlier) l.bounds f.small in
     record {
       excess = e;
-      coalitions = both (λ c. c.0 < 2 ^ n) (λ p. IsSmall p.1) (IsWeighted n) l.coalitions (λ c a b. (a, b)) (has_players n l.coalitions f.proper) small;
-      earlier = both (λ c. IsTrue (is_listed front c.0)) (λ p. IsSmall p.1) (IsWeighted n) l.earlier (λ c a b. (listed_below n c.0 front h a, b)) f.listed earlier_small;
-      bounds = both (λ b. b.0 < n) (λ p. IsSmall p.1) (IsBound n) l.bounds (λ c a b. (a, b)) f.players bounds_small;
+      coalitions = all_with (λ c. c.0 < 2 ^ n) (λ p. IsSmall p.1) (IsWeighted n) l.coalitions (λ c a b. (a, b)) (proper-within n l.coalitions f.proper) small;
+      earlier = all_with (λ c. IsTrue (is_listed front c.0)) (λ p. IsSmall p.1) (IsWeighted n) l.earlier (λ c a b. (listed_below n c.0 front h a, b)) f.listed earlier_small;
+      bounds = all_with (λ b. b.0 < n) (λ p. IsSmall p.1) (IsBound n) l.bounds (λ c a b. (a, b)) f.players bounds_small;
       total = f.total_small;
     }
 
@@ -75,7 +70,7 @@ all_readable : (n : ℕ) (front levels : List Level) → AllByRecursion (HasPlay
 all_readable n front [] h f e = tt
 all_readable n front (l ∷ levels) h f e = (
   readable n front l h f.0 e.0,
-  all_readable n (front ++ l ∷ []) levels (all_join (HasPlayers n) front (l ∷ []) h (has_players n l.coalitions f.0.proper, tt)) f.1 e.1,
+  all_readable n (front ++ l ∷ []) levels (all_join (HasPlayers n) front (l ∷ []) h (proper-within n l.coalitions f.0.proper, tt)) f.1 e.1,
 )
 
 -- ---- the certificate
@@ -93,8 +88,8 @@ levels_read c m h = all_read (IsReadable c.players) level_tree (level_of c.playe
 certificate_shaped : (c : CertificateData) → is_certificate (certificate_tree c) ≡ true
 certificate_shaped c =
     let d = certificate_tree c in
-    and_from (list_all is_certificate_key (keys d) && passes (is_array_of is_level) (get (codes "levels") d)) (is_some (mode_of d))
-    (and_from (list_all is_certificate_key (keys d)) (passes (is_array_of is_level) (get (codes "levels") d)) refl (every_pass level_tree is_level level_shaped c.levels))
+    and_from (has_only_keys certificate_keys d && passes (is_array_of is_level) (get (codes "levels") d)) (is_some (mode_of d))
+    (and_from (has_only_keys certificate_keys d) (passes (is_array_of is_level) (get (codes "levels") d)) refl (every_pass level_tree is_level level_shaped c.levels))
     (ap is_some (mode_read c))
 
 abbrev made : ℕ → Option Mode → List Level → CertificateData

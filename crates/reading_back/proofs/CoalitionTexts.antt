@@ -1,17 +1,16 @@
 -- The members of a coalition, printed by number, are read as its mask.
 use Rattle.std.proofs.Common.{◌≡◌, ℕ, zero, suc, ◌+◌, ◌-◌, ◌*◌, ◌%◌, ◌^◌, ◌<◌, ◌≤◌, Bool, true, false, List, [], ◌∷◌, ◌++◌, map, Some, None, option_map, option_and_then, pos, nat_lt, nat_le, if◌then◌else◌, ◌&&◌, refl, sym, ap, subst, ◌∙◌, arith, add-one, add_comm, add-zero, le_refl, mod-eq_of_lt}
 use Rattle.std.proofs.lemmas.Bool.{and_from, lt-ltb, le-leb}
-use Rattle.std.proofs.lemmas.Bool.Decides.{nat_tests}
 use Rattle.std.proofs.lemmas.Nat.{mod-pow-add}
-use Rattle.std.proofs.lemmas.Nat.Bits.{bit_at-lt}
 use Rattle.std.specs.Int.{bit_at}
 use Rattle.definitions.specs.Coalitions.{has_player, members}
 use Rattle.definitions.proofs.Members.{members-zero, members-more_yes, members-more_no}
 use Rattle.definitions.proofs.Parts.{has_player-past}
-use Rattle.game_text.specs.Trees.{parts, integer}
-use Rattle.game_text.specs.Levels.{number_above, number_between, numbers_above, mask_by_numbers, coalition_of}
+use Rattle.json_trees.specs.Trees.{parts, integer}
+use Rattle.certificate_texts.specs.Levels.{number_above, number_between, numbers_above, mask_by_numbers, coalition_of}
 use Rattle.report.specs.Values.{player_data, player_numbers}
-use Rattle.game_text.proofs.Values.{listed-items_of}
+use Rattle.json_trees.proofs.Values.{listed-items_of}
+use Rattle.coalitions.proofs.Count.{bit_by_player}
 
 -- ---- the members ascend
 
@@ -60,9 +59,6 @@ numbers is = map (λ i. i + 1) is
 mask_more : (is : List ℕ) (j : ℕ) → mask_by_numbers (numbers (is ++ j ∷ [])) ≡ mask_by_numbers (numbers is) + 2 ^ j
 mask_more [] j = let e : j + 1 - 1 ≡ j = omega arith in ap (λ (k : ℕ). 2 ^ k + 0) e ∙ omega arith
 mask_more (i ∷ is) j = omega (arith, mask_more is j)
-
-bit_by_player : (s n : ℕ) (b : Bool) → has_player s n ≡ b → bit_at s n ≡ (if b then 1 else 0)
-bit_by_player s n b h = grind (arith, nat_tests, bit_at-lt s n)
 
 -- the lowest n + 1 bits are bit n and the lowest n
 one_bit_more : (n s : ℕ) → s % 2 ^ (n + 1) ≡ bit_at s n * 2 ^ n + s % 2 ^ n

@@ -7,11 +7,14 @@ use Rattle.serde_json.specs.Find.{get}
 use Rattle.definitions.specs.Certificates.{Level, IsSmall}
 use Rattle.fractions.specs.Fraction.{Fraction}
 use Rattle.fractions.proofs.WrittenFractions.{read_back}
-use Rattle.game_text.specs.Trees.{keys, passes, parts_at, is_number, is_text, is_array_of}
-use Rattle.game_text.specs.CertificateShape.{is_level_key, is_level, is_weighted_coalition, is_weighted_player}
-use Rattle.game_text.specs.Shares.{share_of, is_share}
-use Rattle.game_text.specs.Levels.{level_of, weighted_coalition, weighted_player}
-use Rattle.game_text.specs.Certificates.{is_integer, is_written, lists_coalition, lists_player}
+use Rattle.json_trees.specs.Keys.{has_only_keys}
+use Rattle.json_trees.specs.Trees.{passes, parts_at, is_number, is_text, is_array_of}
+use Rattle.certificate_texts.specs.Shape.{level_keys}
+use Rattle.certificate_texts.specs.Shape.{is_level, is_weighted_coalition, is_weighted_player}
+use Rattle.json_trees.specs.Fractions.{fraction_of, is_fraction}
+use Rattle.certificate_texts.specs.Levels.{level_of, weighted_coalition, weighted_player}
+use Rattle.json_trees.specs.Integers.{is_integer}
+use Rattle.certificate_texts.specs.Certificates.{is_written, lists_coalition, lists_player}
 use Rattle.report.specs.Certificates.{coalition_pair, bound_pair, excess_of, level_tree}
 use Rattle.report.specs.Values.{fraction_data}
 use Rattle.reading_back.specs.CertificatesReadBack.{HasLowestExcess}
@@ -25,7 +28,7 @@ pub record IsReadable (n : ℕ) (l : Level) : Type 0 where
   pub bounds : AllByRecursion (IsBound n) l.bounds
   pub total : IsSmall l.total
 
-excess_read : (l : Level) → HasLowestExcess l → share_of (fraction_data (excess_of l)) ≡ Some (excess_of l)
+excess_read : (l : Level) → HasLowestExcess l → fraction_of (fraction_data (excess_of l)) ≡ Some (excess_of l)
 excess_read l h = read_back (excess_of l) h.reduced h.fits
 
 -- ---- the level
@@ -54,7 +57,7 @@ five a b c d e p q r s t = and_from (a && b && c && d) e (and_from (a && b && c)
 pub level_written : (n : ℕ) → n ≤ 64 → (l : Level) → IsReadable n l → is_written n (level_tree l) ≡ true
 level_written n m l h =
     let d = level_tree l in
-    five (passes is_share (get (codes "excess") d)) (list_all (lists_coalition n) (parts_at (codes "coalitions") d)) (list_all (lists_coalition n) (parts_at (codes "earlier") d))
+    five (passes is_fraction (get (codes "excess") d)) (list_all (lists_coalition n) (parts_at (codes "coalitions") d)) (list_all (lists_coalition n) (parts_at (codes "earlier") d))
     (list_all (lists_player n) (parts_at (codes "bounds") d)) (passes is_integer (get (codes "total") d))
     (ap is_some (excess_read l h.excess))
     (all_pass (IsWeighted n) coalition_pair (lists_coalition n) (coalition_pair_listed n m) l.coalitions h.coalitions)
@@ -65,9 +68,9 @@ level_written n m l h =
 pub level_shaped : (l : Level) → is_level (level_tree l) ≡ true
 level_shaped l =
     let d = level_tree l in
-    and_from (list_all is_level_key (keys d) && passes (is_array_of is_weighted_player) (get (codes "bounds") d) && passes (is_array_of is_weighted_coalition) (get (codes "coalitions") d) && passes (is_array_of is_weighted_coalition) (get (codes "earlier") d) && passes is_text (get (codes "excess") d))
+    and_from (has_only_keys level_keys d && passes (is_array_of is_weighted_player) (get (codes "bounds") d) && passes (is_array_of is_weighted_coalition) (get (codes "coalitions") d) && passes (is_array_of is_weighted_coalition) (get (codes "earlier") d) && passes is_text (get (codes "excess") d))
     (passes is_number (get (codes "total") d))
-    (five (list_all is_level_key (keys d)) (passes (is_array_of is_weighted_player) (get (codes "bounds") d)) (passes (is_array_of is_weighted_coalition) (get (codes "coalitions") d)) (passes (is_array_of is_weighted_coalition) (get (codes "earlier") d))
+    (five (has_only_keys level_keys d) (passes (is_array_of is_weighted_player) (get (codes "bounds") d)) (passes (is_array_of is_weighted_coalition) (get (codes "coalitions") d)) (passes (is_array_of is_weighted_coalition) (get (codes "earlier") d))
     (passes is_text (get (codes "excess") d))
     refl
     (every_pass bound_pair is_weighted_player bound_pair_shaped l.bounds)

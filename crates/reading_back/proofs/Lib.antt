@@ -5,7 +5,6 @@ pub mod ShareTexts
 pub mod Again
 pub mod SameShares
 pub mod SameLevels
-pub mod ScaledLists
 pub mod SameNucleolus
 pub mod CoalitionTexts
 pub mod WeightTexts

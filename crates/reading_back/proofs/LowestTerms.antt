@@ -3,7 +3,8 @@ use Rattle.std.proofs.Common.{ℤ, pos, ◌≤ℤ◌, subst}
 use Rattle.fractions.specs.Fraction.{Fraction, IsRatio}
 use Rattle.fractions.proofs.LowestTerms.{lowest, lowest_is}
 use Rattle.report.specs.ShareLists.{in_lowest_terms}
-use Rattle.report.proofs.LowestTerms.{apart, is_lowest}
+use Rattle.fractions.proofs.Ratios.{apart}
+use Rattle.report.proofs.LowestTerms.{is_lowest}
 
 pub lowest_ratio : (n d : ℤ) → pos 1 ≤ℤ d → IsRatio (in_lowest_terms n d) n d
 lowest_ratio n d h =

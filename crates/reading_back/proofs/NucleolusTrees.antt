@@ -1,7 +1,6 @@
 -- A nucleolus that was printed is read with its game, its family, its shares and its certificate.
 use Rattle.std.proofs.Common.{◌≡◌, length, map, Bool, true, ◌&&◌, Option, Some, None, codes, refl, sym, ap, ◌∙◌, subst}
 use Rattle.std.specs.Prelude.{is_some, unwrap_or}
-use Rattle.std.specs.List.{list_all}
 use Rattle.std.proofs.lemmas.Bool.{and_from}
 use Rattle.serde_json.specs.Data.{Data}
 use Rattle.serde_json.specs.Find.{get}
@@ -9,18 +8,20 @@ use Rattle.definitions.specs.Games.{Allocation, IsShares}
 use Rattle.definitions.specs.declared.Family.{Family}
 use Rattle.definitions.specs.declared.Family.TheVariants.{Imputations, Preimputations}
 use Rattle.kohlberg.specs.Certificate.{CertificateData, IsCertificate}
-use Rattle.game_text.specs.Trees.{keys, passes, parts_at}
-use Rattle.game_text.specs.CertificateShape.{family_of, is_certificate}
-use Rattle.game_text.specs.Shape.{is_document_key, is_game_shaped, has_shares, has_needed, is_shaped}
+use Rattle.json_trees.specs.Keys.{has_only_keys}
+use Rattle.json_trees.specs.Trees.{passes, parts_at}
+use Rattle.certificate_texts.specs.Shape.{family_of, is_certificate}
+use Rattle.game_text.specs.Shape.{document_keys, is_game_shaped, has_shares, has_needed, is_shaped}
 use Rattle.game_text.specs.Limits.{players, has_players, has_numbers}
 use Rattle.game_text.specs.Names.{has_names}
 use Rattle.game_text.specs.Coalitions.{has_coalitions}
 use Rattle.game_text.specs.Descriptions.{game_of, is_cost, description_of}
-use Rattle.game_text.specs.Shares.{has_share_numbers, has_shares_for, written_shares, as_worth, shares_of}
-use Rattle.game_text.specs.Denominators.{is_coarse, over_least}
-use Rattle.game_text.specs.Certificates.{has_form, certificate_of}
-use Rattle.game_text.specs.Documents.{contents_of, game_tree}
-use Rattle.game_text.specs.Refusals.{unless, is_covered, certificate_refusal, needed_refusal, late_refusal, tree_refusal}
+use Rattle.game_text.specs.Shares.{has_share_numbers, has_shares_for, written_shares, as_worth}
+use Rattle.game_text.specs.Denominators.{shares_of, keep_limits, over_least, contents_of, tree_refusal}
+use Rattle.certificate_texts.specs.Certificates.{has_form, certificate_of}
+use Rattle.game_text.specs.Documents.{game_tree}
+use Rattle.game_text.specs.Refusals.{unless, is_covered}
+use Rattle.game_text.specs.Steps.{certificate_refusal, needed_refusal, late_refusal}
 use Rattle.game_text.specs.declared.command.Command.{Command}
 use Rattle.game_text.specs.declared.command.Command.TheVariants.{Check}
 use Rattle.game_text.specs.declared.refusal.Refusal.{Refusal}
@@ -31,7 +32,7 @@ use Rattle.report.specs.Lines.{nucleolus_tree}
 use Rattle.reading_back.specs.ReadBack.{IsAgain, AreReadBack}
 use Rattle.reading_back.specs.CertificatesReadBack.{AreInLowestTerms, IsReadAs}
 use Rattle.reading_back.specs.DocumentsReadBack.{IsReadOf}
-use Rattle.game_text.proofs.Values.{listed-items_of}
+use Rattle.json_trees.proofs.Values.{listed-items_of}
 use Rattle.reading_back.proofs.ShareTexts.{listed_members}
 use Rattle.reading_back.proofs.Again.{are_read_back}
 use Rattle.reading_back.proofs.CertificateTrees.{certificate_read}
@@ -62,8 +63,8 @@ module _ (family : Family) (game : Data) (b : Bool) (x : Allocation) (c : Certif
 
     shaped : is_shaped Check printed ≡ true
     shaped =
-        and_from (list_all is_document_key (keys printed) && passes is_game_shaped (get (codes "game") printed)) (has_needed Check printed)
-        (and_from (list_all is_document_key (keys printed)) (passes is_game_shaped (get (codes "game") printed)) refl accept.shaped) needed
+        and_from (has_only_keys document_keys printed && passes is_game_shaped (get (codes "game") printed)) (has_needed Check printed)
+        (and_from (has_only_keys document_keys printed) (passes is_game_shaped (get (codes "game") printed)) refl accept.shaped) needed
 
     certified : certificate_refusal Check game printed ≡ None
     certified =
@@ -73,8 +74,8 @@ module _ (family : Family) (game : Data) (b : Bool) (x : Allocation) (c : Certif
     proposed : needed_refusal Check game printed ≡ None
     proposed =
         let rest = certificate_refusal Check game printed in
-        go_on (has_shares_for (players game) printed) Proposal (unless (is_coarse (written_shares printed)) TooFine rest)
-        (subst (λ n. has_shares_for n printed ≡ true) each shares.enough) (go_on (is_coarse (written_shares printed)) TooFine rest shares.coarse certified)
+        go_on (has_shares_for (players game) printed) Proposal (unless (keep_limits (written_shares printed)) TooFine rest)
+        (subst (λ n. has_shares_for n printed ≡ true) each shares.enough) (go_on (keep_limits (written_shares printed)) TooFine rest shares.coarse certified)
 
     late : late_refusal Check game printed ≡ None
     late =

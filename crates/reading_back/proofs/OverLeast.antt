@@ -1,7 +1,7 @@
 -- Fractions in lowest terms over their least common denominator, against the numerators and the denominator that they were made from.
 use Rattle.std.proofs.Common.{◌≡◌, ℕ, ◌*◌, ◌/◌, ◌<◌, ◌≤◌, List, length, map, get_or, arith, sym, ap, subst, ◌∙◌, ℤ, pos, ◌*ℤ◌, ◌≤ℤ◌, unsigned_abs, int_div, All}
 use Prim.Native.Nat.{◌∣◌}
-use native.Mathlib.Nat.{dvd-mul_right_of_dvd, dvd-mul_left}
+use native.Mathlib.Nat.{dvd-mul_right_of_dvd}
 use Rattle.std.proofs.Math.Nat.{mul-le-mul_left, le_of_mul-le-mul_right}
 use Rattle.std.proofs.lemmas.Int.{ints, unsigned_abs-mul}
 use Rattle.std.proofs.lemmas.List.{get_or-map, length-map}
@@ -9,29 +9,18 @@ use Rattle.std.proofs.lemmas.List.Elements.{All-map}
 use Rattle.std.proofs.lemmas.Nat.Gcd.{le_of_dvd}
 use Rattle.definitions.proofs.Ring.{ring_laws, mul_left_commℤ, mul_assocℤ}
 use Rattle.fractions.specs.Fraction.{Fraction, IsReduced, IsRatio}
-use Rattle.fractions.proofs.Cancel.{cancel, quot_exact}
-use Rattle.fractions.proofs.Divisors.{divides_other, gcd_swap, times_quotient}
+use Rattle.definitions.proofs.Cancel.{cancel, quot_exact}
+use Rattle.fractions.proofs.Divisors.{times_quotient}
 use Rattle.worth_core.specs.LeastDenominators.{IsWholeTimes, numerator_over}
 use Rattle.worth_core.proofs.LeastMultiples.{denominator_divides}
 use Rattle.game_text.proofs.LeastDenominators.{least_denominator_is}
 use Rattle.game_text.specs.Denominators.{least_denominator}
-use Rattle.report.proofs.LowestTerms.{apart}
+use Rattle.fractions.proofs.Ratios.{apart, size_of, denominator_divides as divides}
 
 -- ---- a fraction f that is n over d, and a number m that its denominator divides
 
--- the denominator divides d
-pub divides : (f : Fraction) (n d : ℤ) → IsRatio f n d → unsigned_abs f.den ∣ unsigned_abs d
-divides f n d r =
-    let a = unsigned_abs f.num in
-    let b = unsigned_abs f.den in
-    let sizes : unsigned_abs n * b ≡ a * unsigned_abs d = sym (unsigned_abs-mul n f.den) ∙ ap unsigned_abs (sym r.same) ∙ unsigned_abs-mul f.num d in
-    divides_other b a (unsigned_abs d) (gcd_swap b a ∙ r.reduced.lowest) (subst (λ (k : ℕ). b ∣ k) sizes (dvd-mul_left b (unsigned_abs n)))
-
 pub whole_times : (f : Fraction) (m : ℕ) → unsigned_abs f.den ∣ m → IsWholeTimes m f
 whole_times f m h = dvd-mul_right_of_dvd (unsigned_abs f.den) h (unsigned_abs f.num)
-
-size : (d : ℤ) → pos 1 ≤ℤ d → d ≡ pos (unsigned_abs d)
-size d h = omega (arith, ints)
 
 pub size_positive : (d : ℤ) → pos 1 ≤ℤ d → 0 < unsigned_abs d
 size_positive d h = omega (arith, ints)
@@ -39,7 +28,7 @@ size_positive d h = omega (arith, ints)
 pub over_value : (f : Fraction) (m : ℕ) → pos 1 ≤ℤ f.den → unsigned_abs f.den ∣ m → f.den *ℤ numerator_over (pos m) f ≡ f.num *ℤ pos m
 over_value f m p h =
     let k = m / unsigned_abs f.den in
-    let whole : pos m ≡ f.den *ℤ pos k = ap pos (sym (times_quotient m (unsigned_abs f.den) h)) ∙ ap (λ (z : ℤ). z *ℤ pos k) (sym (size f.den p)) in
+    let whole : pos m ≡ f.den *ℤ pos k = ap pos (sym (times_quotient m (unsigned_abs f.den) h)) ∙ ap (λ (z : ℤ). z *ℤ pos k) (sym (size_of f.den p)) in
     mul_left_commℤ f.den f.num (int_div (pos m) f.den)
     ∙ ap (λ (z : ℤ). f.num *ℤ (f.den *ℤ z)) (quot_exact (pos m) f.den (pos k) whole (apart f.den p))
     ∙ ap (λ (z : ℤ). f.num *ℤ z) (sym whole)

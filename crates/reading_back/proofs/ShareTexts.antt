@@ -10,14 +10,14 @@ use Rattle.std.proofs.lemmas.Nat.Gcd.{le_of_dvd}
 use Rattle.serde_json.specs.View.{items_of}
 use Rattle.fractions.specs.Fraction.{Fraction, IsRatio, HasForm}
 use Rattle.fractions.proofs.WrittenFractions.{read_back}
-use Rattle.game_text.specs.Shape.{is_member}
-use Rattle.game_text.specs.Shares.{share_of, is_share, fraction_or_zero}
-use Rattle.game_text.specs.Trees.{listed}
-use Rattle.game_text.proofs.Values.{listed-items_of}
+use Rattle.json_trees.specs.Trees.{is_member, listed}
+use Rattle.json_trees.specs.Fractions.{fraction_of, is_fraction, fraction_or_zero}
+use Rattle.json_trees.proofs.Values.{listed-items_of}
 use Rattle.report.specs.ShareLists.{as_printed, printed_share, share_data}
 use Rattle.reading_back.proofs.LowestTerms.{lowest_ratio}
-use Rattle.reading_back.proofs.OverLeast.{divides, size_positive, no_greater}
-use Rattle.reading_back.proofs.Signs.{printed_size}
+use Rattle.reading_back.proofs.OverLeast.{size_positive, no_greater}
+use Rattle.fractions.proofs.Ratios.{denominator_divides}
+use Rattle.report.proofs.Readers.{size_as_printed}
 
 -- ---- one share
 
@@ -27,7 +27,7 @@ printed_ratio b d z p = lowest_ratio (as_printed b z) d p
 -- a fraction in lowest terms has no greater numbers
 small_numbers : (f : Fraction) (n d : ℤ) → IsRatio f n d → pos 1 ≤ℤ d → (unsigned_abs f.num ≤ unsigned_abs n) × (unsigned_abs f.den ≤ unsigned_abs d)
 small_numbers f n d r p =
-    let le = le_of_dvd (size_positive d p) (divides f n d r) in (
+    let le = le_of_dvd (size_positive d p) (denominator_divides f n d r) in (
       no_greater (unsigned_abs f.num) (unsigned_abs d) (unsigned_abs n) (unsigned_abs f.den) (size_positive d p) le
           (sym (unsigned_abs-mul f.num d) ∙ ap unsigned_abs r.same ∙ unsigned_abs-mul n f.den),
       le,
@@ -39,10 +39,10 @@ has_form f n d r p q s =
     let below : unsigned_abs d ≤ 2 ^ 63 = omega (arith, ints) in
     (fits_signed_from_abs w128 f.num (omega (arith, small.0)), fits_signed_from_abs w128 f.den (omega (arith, small.1)))
 
-pub share_read : (b : Bool) (d z : ℤ) → pos 1 ≤ℤ d → d ≤ℤ pos (2 ^ 63) → unsigned_abs z < 2 ^ 110 → share_of (share_data b d z) ≡ Some (printed_share b d z)
+pub share_read : (b : Bool) (d z : ℤ) → pos 1 ≤ℤ d → d ≤ℤ pos (2 ^ 63) → unsigned_abs z < 2 ^ 110 → fraction_of (share_data b d z) ≡ Some (printed_share b d z)
 share_read b d z p q s =
     let r = printed_ratio b d z p in
-    read_back (printed_share b d z) r.reduced (has_form (printed_share b d z) (as_printed b z) d r p q (subst (λ (k : ℕ). k < 2 ^ 110) (sym (printed_size b z)) s))
+    read_back (printed_share b d z) r.reduced (has_form (printed_share b d z) (as_printed b z) d r p q (subst (λ (k : ℕ). k < 2 ^ 110) (sym (size_as_printed b z)) s))
 
 -- ---- all shares
 
@@ -56,10 +56,10 @@ shares_read b d p q (z ∷ zs) h =
     (ap (λ (o : Option Fraction). unwrap_or o (record { num = pos 0; den = pos 1 })) (share_read b d z p q (All-head (λ z. unsigned_abs z < 2 ^ 110) z zs h)))
     (shares_read b d p q zs (All-tail (λ z. unsigned_abs z < 2 ^ 110) z zs h))
 
-pub all_shares : (b : Bool) (d : ℤ) → pos 1 ≤ℤ d → d ≤ℤ pos (2 ^ 63) → (zs : List ℤ) → AreSmall zs → list_all is_share (map (share_data b d) zs) ≡ true
+pub all_shares : (b : Bool) (d : ℤ) → pos 1 ≤ℤ d → d ≤ℤ pos (2 ^ 63) → (zs : List ℤ) → AreSmall zs → list_all is_fraction (map (share_data b d) zs) ≡ true
 all_shares b d p q [] h = refl
 all_shares b d p q (z ∷ zs) h =
-    and_from (is_share (share_data b d z)) (list_all is_share (map (share_data b d) zs))
+    and_from (is_fraction (share_data b d z)) (list_all is_fraction (map (share_data b d) zs))
     (ap is_some (share_read b d z p q (All-head (λ z. unsigned_abs z < 2 ^ 110) z zs h)))
     (all_shares b d p q zs (All-tail (λ z. unsigned_abs z < 2 ^ 110) z zs h))
 

@@ -1,20 +1,11 @@
 -- Signs that are turned where the numbers are costs.
-use Rattle.std.proofs.Common.{◌≡◌, ℕ, zero, suc, ◌<◌, length, Bool, true, false, refl, ℤ, pos, negsuc, ◌*ℤ◌, neg_ℤ, unsigned_abs}
+use Rattle.std.proofs.Common.{◌≡◌, ℕ, ◌<◌, length, Bool, true, false, refl, ℤ, pos, ◌*ℤ◌, neg_ℤ}
 use Rattle.std.proofs.lemmas.List.{get_or-map, length-map}
 use Rattle.definitions.proofs.Ring.{neg-mulℤ}
 use Rattle.definitions.specs.Games.{Allocation, share}
 use Rattle.game_text.specs.Shares.{as_worth}
 use Rattle.report.specs.ShareLists.{as_printed}
 use lib.IntN.{neg_ℤ-neg_ℤ}
-
-turned_size : (z : ℤ) → unsigned_abs (neg_ℤ z) ≡ unsigned_abs z
-turned_size (pos zero) = refl
-turned_size (pos (suc n)) = refl
-turned_size (negsuc n) = refl
-
-pub printed_size : (b : Bool) (z : ℤ) → unsigned_abs (as_printed b z) ≡ unsigned_abs z
-printed_size true z = turned_size z
-printed_size false z = refl
 
 pub printed_twice : (b : Bool) (z : ℤ) → as_printed b (as_printed b z) ≡ z
 printed_twice true z = neg_ℤ-neg_ℤ z

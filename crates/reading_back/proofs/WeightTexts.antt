@@ -7,16 +7,14 @@ use Rattle.serde_json.specs.Data.{Data}
 use Rattle.serde_json.specs.View.{items_of}
 use Rattle.definitions.specs.Certificates.{IsSmall}
 use Rattle.definitions.specs.Coalitions.{members}
-use Rattle.game_text.specs.Trees.{listed, parts, integer, is_number, is_array_of}
-use Rattle.game_text.specs.CertificateShape.{is_weighted_coalition, is_weighted_player}
-use Rattle.game_text.specs.Coalitions.{numbered_player}
-use Rattle.game_text.specs.Limits.{second_passes}
-use Rattle.game_text.specs.Names.{sparse_members}
-use Rattle.game_text.specs.Levels.{coalition_of, weighted_coalition, first_player, weighted_player}
-use Rattle.game_text.specs.Certificates.{is_integer, lists_coalition, lists_player}
+use Rattle.json_trees.specs.Trees.{listed, parts, integer, is_number, is_array_of, second_passes, pair_members}
+use Rattle.certificate_texts.specs.Shape.{is_weighted_coalition, is_weighted_player}
+use Rattle.certificate_texts.specs.Levels.{numbered_player, coalition_of, weighted_coalition, first_player, weighted_player}
+use Rattle.json_trees.specs.Integers.{is_integer}
+use Rattle.certificate_texts.specs.Certificates.{lists_coalition, lists_player}
 use Rattle.report.specs.Certificates.{weight_data, coalition_pair, bound_pair}
 use Rattle.report.specs.Values.{player_data, player_numbers}
-use Rattle.game_text.proofs.Values.{listed-items_of}
+use Rattle.json_trees.proofs.Values.{listed-items_of}
 use Rattle.reading_back.proofs.CoalitionTexts.{if_passed, player_read, coalition_read}
 
 -- ---- one number
@@ -47,7 +45,7 @@ coalition_pair_read n m p h =
 
 pub coalition_pair_listed : (n : ℕ) → n ≤ 64 → (p : ℕ × ℤ) → IsWeighted n p → lists_coalition n (coalition_pair p) ≡ true
 coalition_pair_listed n m p h =
-    and_from (is_some (coalition_of n (sparse_members (coalition_pair p)))) (second_passes is_integer (parts (coalition_pair p)))
+    and_from (is_some (coalition_of n (pair_members (coalition_pair p)))) (second_passes is_integer (parts (coalition_pair p)))
     (ap is_some (coalition_read n p.0 m h.0)) (ap is_some (weight_read p.1 h.1))
 
 numbers_pass : (is : List ℕ) → list_all is_number (map player_data is) ≡ true

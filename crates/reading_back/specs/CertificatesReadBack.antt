@@ -8,8 +8,8 @@ use Rattle.serde_json.specs.Data.{Data}
 use Rattle.definitions.specs.Certificates.{Level}
 use Rattle.fractions.specs.Fraction.{IsReduced, HasForm}
 use Rattle.kohlberg.specs.Certificate.{CertificateData, IsCertificate}
-use Rattle.game_text.specs.CertificateShape.{is_certificate}
-use Rattle.game_text.specs.Certificates.{has_form, certificate_of}
+use Rattle.certificate_texts.specs.Shape.{is_certificate}
+use Rattle.certificate_texts.specs.Certificates.{has_form, certificate_of}
 use Rattle.report.specs.Certificates.{excess_of, certificate_tree}
 
 -- the excess is in lowest terms, with parts of 128 bits

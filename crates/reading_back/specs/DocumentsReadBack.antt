@@ -7,8 +7,8 @@ use Rattle.definitions.specs.Games.{Allocation, IsShares}
 use Rattle.definitions.specs.declared.Family.{Family}
 use Rattle.kohlberg.specs.Certificate.{CertificateData, IsCertificate}
 use Rattle.game_text.specs.Descriptions.{game_of, is_cost, description_of}
-use Rattle.game_text.specs.Documents.{Contents, contents_of, game_tree}
-use Rattle.game_text.specs.Refusals.{tree_refusal}
+use Rattle.game_text.specs.Documents.{Contents, game_tree}
+use Rattle.game_text.specs.Denominators.{contents_of, tree_refusal}
 use Rattle.game_text.specs.declared.command.Command.{Command}
 use Rattle.game_text.specs.declared.command.Command.TheVariants.{Check}
 use Rattle.report.specs.Lines.{nucleolus_tree}

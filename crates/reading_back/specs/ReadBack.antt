@@ -5,10 +5,9 @@
 use Rattle.std.specs.Prelude.{◌≡◌, codes, length, map, Bool, true}
 use Rattle.serde_json.specs.Data.{Data}
 use Rattle.definitions.specs.Games.{Game, Allocation, IsAllocation, IsSame, IsShares}
-use Rattle.game_text.specs.Denominators.{is_coarse, over_least}
-use Rattle.game_text.specs.Shape.{is_member}
+use Rattle.game_text.specs.Denominators.{keep_limits, over_least}
+use Rattle.json_trees.specs.Trees.{is_member, is_array_of, parts, parts_at}
 use Rattle.game_text.specs.Shares.{has_share_numbers, has_shares_for, written_shares, as_worth}
-use Rattle.game_text.specs.Trees.{is_array_of, parts, parts_at}
 use Rattle.report.specs.ShareLists.{printed_share, share_data, share_list}
 
 -- a printed list has the kind of a list of shares, and its parts are the texts of the shares
@@ -29,7 +28,7 @@ pub record AreReadBack (is_cost : Bool) (x : Allocation) (tree : Data) : Type 0 
   pub numbers : has_share_numbers tree ≡ true
   pub enough : has_shares_for (length x.shares) tree ≡ true
   pub written : written_shares tree ≡ map (printed_share is_cost x.den) x.shares
-  pub coarse : is_coarse (written_shares tree) ≡ true
+  pub coarse : keep_limits (written_shares tree) ≡ true
   pub again : IsAgain x (as_worth is_cost (over_least (written_shares tree)))
 
 -- where the shares of a tree are the texts of the shares of x, these are read

@@ -1,22 +1,19 @@
 -- The text of a fraction of 128 bits is ASCII.
-use Rattle.std.proofs.Common.{◌≡◌, ℕ, suc, ◌^◌, ◌<◌, Bool, true, false, cond, ◌&&◌, List, [], ◌∷◌, Some, None, ℤ, pos, negsuc, refl, subst, arith, nat_lt}
+use Rattle.std.proofs.Common.{◌≡◌, ℕ, suc, ◌^◌, Bool, true, false, cond, ◌&&◌, List, [], ◌∷◌, Some, None, ℤ, pos, negsuc, refl, subst, arith}
 use Rattle.std.specs.Fmt.{signed_decimal}
 use Rattle.std.specs.Ordering.{int_eq}
 use Rattle.std.specs.Str.{IsAscii}
-use Rattle.std.proofs.lemmas.Bool.Decides.{nat_tests}
 use Rattle.std.proofs.lemmas.Fmt.{IsAscii-decimal_wide}
 use Rattle.std.proofs.lemmas.Str.{IsAscii-append}
 use Rattle.std.proofs.lemmas.Str.Ascii.{IsAscii-nil, IsAscii-cons}
 use Rattle.fractions.specs.Fraction.{Fraction}
 use Rattle.fractions.specs.FractionTexts.{is_i128, is_fraction_text, text_fraction, parsed, fraction_text}
-
-pub below : (n limit : ℕ) → nat_lt n limit ≡ true → n < limit
-below n limit h = grind (arith, nat_tests)
+use Rattle.definitions.proofs.Cases.{from_nat_lt}
 
 signed_ascii : (z : ℤ) → is_i128 z ≡ true → IsAscii (signed_decimal z)
-signed_ascii (pos n) h = let small = below n (2 ^ 127) h in IsAscii-decimal_wide n (omega arith)
+signed_ascii (pos n) h = let small = from_nat_lt n (2 ^ 127) h in IsAscii-decimal_wide n (omega arith)
 signed_ascii (negsuc n) h =
-    let small = below n (2 ^ 127) h in
+    let small = from_nat_lt n (2 ^ 127) h in
     IsAscii-cons 45 _ (omega arith) (IsAscii-decimal_wide (suc n) (omega arith))
 
 denominator_ascii : (d : ℤ) (b : Bool) → is_i128 d ≡ true → IsAscii (cond b [] (47 ∷ signed_decimal d))

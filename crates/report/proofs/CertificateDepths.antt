@@ -12,29 +12,29 @@ use Rattle.report.specs.Values.{player_data, player_numbers}
 use Rattle.report.specs.Certificates.{coalition_pair, bound_pair, coalition_pairs, bound_pairs, level_tree, certificate_tree}
 use Rattle.report.specs.ShareLists.{share_data, share_list}
 use Rattle.report.specs.Lines.{nucleolus_tree}
-use Rattle.report.proofs.Lists.{all_of}
+use Rattle.definitions.proofs.Alls.{all_any}
 
 items_shallow : {X : Type 0} (f : X → Data) (b : ℕ) (xs : List X) → AllByRecursion (λ x. depth (f x) ≤ b) xs → items_depth (items_of (map f xs)) ≤ b
 items_shallow f b [] h = omega arith
 items_shallow f b (x ∷ xs) h = omega (arith, h.0, items_shallow f b xs h.1)
 
 pub coalition_depth : (s : ℕ) → depth (player_numbers s) ≤ 1
-coalition_depth s = omega (arith, items_shallow player_data 0 (members 64 s) (all_of (λ i. depth (player_data i) ≤ 0) (members 64 s) (λ i. omega arith)))
+coalition_depth s = omega (arith, items_shallow player_data 0 (members 64 s) (all_any (λ i. depth (player_data i) ≤ 0) (members 64 s) (λ i. omega arith)))
 
-pairs_depth : (ps : List (ℕ × ℤ)) → depth (coalition_pairs ps) ≤ 3
-pairs_depth ps = omega (arith, items_shallow coalition_pair 2 ps (all_of (λ p. depth (coalition_pair p) ≤ 2) ps (λ p. omega (arith, coalition_depth p.0))))
+pub pairs_depth : (ps : List (ℕ × ℤ)) → depth (coalition_pairs ps) ≤ 3
+pairs_depth ps = omega (arith, items_shallow coalition_pair 2 ps (all_any (λ p. depth (coalition_pair p) ≤ 2) ps (λ p. omega (arith, coalition_depth p.0))))
 
 bounds_depth : (ps : List (ℕ × ℤ)) → depth (bound_pairs ps) ≤ 3
-bounds_depth ps = omega (arith, items_shallow bound_pair 2 ps (all_of (λ p. depth (bound_pair p) ≤ 2) ps (λ p. omega arith)))
+bounds_depth ps = omega (arith, items_shallow bound_pair 2 ps (all_any (λ p. depth (bound_pair p) ≤ 2) ps (λ p. omega arith)))
 
 level_depth : (l : Level) → depth (level_tree l) ≤ 4
 level_depth l = omega (arith, bounds_depth l.bounds, pairs_depth l.coalitions, pairs_depth l.earlier)
 
 certificate_depth : (c : CertificateData) → depth (certificate_tree c) ≤ 6
-certificate_depth c = omega (arith, items_shallow level_tree 4 c.levels (all_of (λ l. depth (level_tree l) ≤ 4) c.levels level_depth))
+certificate_depth c = omega (arith, items_shallow level_tree 4 c.levels (all_any (λ l. depth (level_tree l) ≤ 4) c.levels level_depth))
 
-shares_depth : (is_cost : Bool) (x : Allocation) → depth (share_list is_cost x) ≤ 1
-shares_depth is_cost x = omega (arith, items_shallow (share_data is_cost x.den) 0 x.shares (all_of (λ z. depth (share_data is_cost x.den z) ≤ 0) x.shares (λ z. omega arith)))
+pub shares_depth : (is_cost : Bool) (x : Allocation) → depth (share_list is_cost x) ≤ 1
+shares_depth is_cost x = omega (arith, items_shallow (share_data is_cost x.den) 0 x.shares (all_any (λ z. depth (share_data is_cost x.den z) ≤ 0) x.shares (λ z. omega arith)))
 
 pub nucleolus_depth : (family : Family) (game : Data) (is_cost : Bool) (x : Allocation) (c : CertificateData) → depth game ≤ 8 → depth (nucleolus_tree family game is_cost x c) ≤ 9
 nucleolus_depth family game is_cost x c h = omega (arith, h, certificate_depth c, shares_depth is_cost x)

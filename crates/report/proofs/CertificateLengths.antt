@@ -23,16 +23,18 @@ use Rattle.report.specs.Certificates.{weight_data, coalition_pair, bound_pair, c
 use Rattle.report.specs.ShareLists.{share_data, share_list}
 use Rattle.report.specs.ReadingBack.{IsReadBack, SharesAreReadBack}
 use Rattle.report.specs.Lines.{nucleolus_tree}
-use Rattle.report.proofs.AsciiFractions.{numbers_fit, below}
+use Rattle.report.proofs.AsciiFractions.{numbers_fit}
 use Rattle.report.proofs.ExactTrees.{IsPrintableLevel}
 use Rattle.report.proofs.Lengths.{quoted_length, member_length, array_length, pair_length, signed_length}
-use Rattle.report.proofs.Lists.{all_also, all_both, members_below}
+use Rattle.report.proofs.Lists.{members_below}
+use Rattle.definitions.proofs.Cases.{from_nat_lt}
+use Rattle.definitions.proofs.Alls.{all_weaken, all_both}
 
 -- ---- fractions
 
 fitting : (z : ℤ) → is_i128 z ≡ true → unsigned_abs z ≤ 2 ^ 127
-fitting (pos n) h = omega (arith, below n (2 ^ 127) h)
-fitting (negsuc n) h = omega (arith, below n (2 ^ 127) h)
+fitting (pos n) h = omega (arith, from_nat_lt n (2 ^ 127) h)
+fitting (negsuc n) h = omega (arith, from_nat_lt n (2 ^ 127) h)
 
 number_length : (z : ℤ) → is_i128 z ≡ true → length (signed_decimal z) ≤ 40
 number_length z h = signed_length 39 z (omega arith) (omega (arith, fitting z h)) (omega (arith, fitting z h))
@@ -54,7 +56,7 @@ player_length i h = length-decimal-le_wide 2 (i + 1) (omega arith) (omega arith)
 coalition_length : (s : ℕ) → length (compact_text (player_numbers s)) ≤ 194
 coalition_length s =
     let few = members_below 64 s in
-    omega (arith, few.1, array_length player_data 2 (members 64 s) (all_also (λ i. i < 64) (λ i. length (compact_text (player_data i)) ≤ 2) (members 64 s) player_length few.0))
+    omega (arith, few.1, array_length player_data 2 (members 64 s) (all_weaken (λ i. i < 64) (λ i. length (compact_text (player_data i)) ≤ 2) (members 64 s) player_length few.0))
 
 weight_length : (z : ℤ) → IsSmall z → length (compact_text (weight_data z)) ≤ 20
 weight_length (pos n) h = omega (arith, length-decimal-le_wide 19 n (omega arith) (omega arith) (omega arith))
@@ -67,12 +69,12 @@ bound_pair_length : (p : ℕ × ℤ) → IsSmall p.1 × (p.0 < 64) → length (c
 bound_pair_length p h = omega (arith, pair_length (player_data p.0) (weight_data p.1), player_length p.0 h.1, weight_length p.1 h.0)
 
 coalition_pairs_length : (ps : List (ℕ × ℤ)) → AllByRecursion (λ p. IsSmall p.1) ps → length (compact_text (coalition_pairs ps)) ≤ length ps * 219 + 2
-coalition_pairs_length ps h = array_length coalition_pair 218 ps (all_also (λ p. IsSmall p.1) (λ p. length (compact_text (coalition_pair p)) ≤ 218) ps coalition_pair_length h)
+coalition_pairs_length ps h = array_length coalition_pair 218 ps (all_weaken (λ p. IsSmall p.1) (λ p. length (compact_text (coalition_pair p)) ≤ 218) ps coalition_pair_length h)
 
 bound_pairs_length : (ps : List (ℕ × ℤ)) → AllByRecursion (λ p. IsSmall p.1) ps → AllByRecursion (λ p. p.0 < 64) ps → length (compact_text (bound_pairs ps)) ≤ length ps * 219 + 2
 bound_pairs_length ps h k =
     array_length bound_pair 218 ps
-    (all_also (λ p. IsSmall p.1 × (p.0 < 64)) (λ p. length (compact_text (bound_pair p)) ≤ 218) ps bound_pair_length (all_both (λ p. IsSmall p.1) (λ p. p.0 < 64) ps h k))
+    (all_weaken (λ p. IsSmall p.1 × (p.0 < 64)) (λ p. length (compact_text (bound_pair p)) ≤ 218) ps bound_pair_length (all_both (λ p. IsSmall p.1) (λ p. p.0 < 64) ps h k))
 
 -- ---- levels
 
@@ -119,7 +121,7 @@ certificate_length c few h =
     omega (
       arith,
       few,
-      array_length level_tree 28772 c.levels (all_also IsShortLevel (λ l. length (compact_text (level_tree l)) ≤ 28772) c.levels level_length h),
+      array_length level_tree 28772 c.levels (all_weaken IsShortLevel (λ l. length (compact_text (level_tree l)) ≤ 28772) c.levels level_length h),
       mode_length c.mode,
       member_length false (codes "levels") levels mode,
       member_length true (codes "mode") (string (mode_word c.mode)) no_members,
@@ -127,7 +129,7 @@ certificate_length c few h =
 
 shares_length : (is_cost : Bool) (x : Allocation) → length x.shares ≤ 64 → SharesAreReadBack is_cost x → length (compact_text (share_list is_cost x)) ≤ 31298
 shares_length is_cost x few h =
-    omega (arith, few, array_length (share_data is_cost x.den) 488 x.shares (all_also _ (λ z. length (compact_text (share_data is_cost x.den z)) ≤ 488) x.shares (λ z r. fraction_length _ r) h))
+    omega (arith, few, array_length (share_data is_cost x.den) 488 x.shares (all_weaken _ (λ z. length (compact_text (share_data is_cost x.den z)) ≤ 488) x.shares (λ z r. fraction_length _ r) h))
 
 pub nucleolus_length : (family : Family) (game : Data) (is_cost : Bool) (x : Allocation) (c : CertificateData) → length c.levels ≤ 63 → length x.shares ≤ 64 → AllByRecursion IsShortLevel c.levels → SharesAreReadBack is_cost x
     → length (compact_text (nucleolus_tree family game is_cost x c)) ≤ length (compact_text game) + 2 ^ 21

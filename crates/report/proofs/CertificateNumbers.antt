@@ -9,8 +9,10 @@ use Rattle.definitions.specs.Certificates.{Level}
 use Rattle.definitions.specs.declared.Family.{Family}
 use Rattle.kohlberg.specs.Certificate.{CertificateData}
 use Rattle.report.specs.Values.{player_data, player_numbers}
-use Rattle.report.specs.Certificates.{weight_data, coalition_pair, bound_pair, level_tree, certificate_tree}
+use Rattle.report.specs.Certificates.{weight_data, coalition_pair, bound_pair, level_tree}
 use Rattle.report.specs.ShareLists.{share_data, share_list}
+use Rattle.balanced.specs.Collections.{CollectionData}
+use Rattle.report.specs.CoreTrees.{empty_core_tree}
 use Rattle.report.specs.Lines.{nucleolus_tree}
 
 items_whole : {X : Type 0} (f : X → Data) (xs : List X) → ((x : X) → has_float (f x) ≡ false) → items_have_float (items_of (map f xs)) ≡ false
@@ -34,11 +36,11 @@ level_whole : (l : Level) → has_float (level_tree l) ≡ false
 level_whole l =
     rw (items_whole bound_pair l.bounds bound_pair_whole, items_whole coalition_pair l.coalitions coalition_pair_whole, items_whole coalition_pair l.earlier coalition_pair_whole, weight_whole l.total) refl
 
-certificate_whole : (c : CertificateData) → has_float (certificate_tree c) ≡ false
-certificate_whole c = rw (items_whole level_tree c.levels level_whole) refl
-
-shares_whole : (is_cost : Bool) (x : Allocation) → has_float (share_list is_cost x) ≡ false
+pub shares_whole : (is_cost : Bool) (x : Allocation) → has_float (share_list is_cost x) ≡ false
 shares_whole is_cost x = items_whole (share_data is_cost x.den) x.shares (λ z. refl)
+
+pub empty_core_whole : (c : CollectionData) (value against : ℤ) → has_float (empty_core_tree c value against) ≡ false
+empty_core_whole c value against = rw (items_whole coalition_pair c.weights coalition_pair_whole, weight_whole c.k) refl
 
 pub nucleolus_whole : (family : Family) (game : Data) (is_cost : Bool) (x : Allocation) (c : CertificateData) → has_float game ≡ false → has_float (nucleolus_tree family game is_cost x c) ≡ false
 nucleolus_whole family game is_cost x c h = rw (items_whole level_tree c.levels level_whole, h, shares_whole is_cost x) refl

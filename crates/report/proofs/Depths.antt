@@ -11,8 +11,8 @@ use Rattle.report.specs.Verdicts.{verdict_tree}
 use Rattle.report.specs.Limits.{IsPrintable}
 use Rattle.report.specs.Lines.{answer_tree}
 use Rattle.report.specs.declared.answer.Answer.{Answer}
-use Rattle.report.specs.declared.answer.Answer.TheVariants.{Nucleolus, NoImputation, InCore, NotEfficient, Blocked, Verdict as verdict, Usage, Refused}
-use Rattle.report.proofs.CertificateDepths.{coalition_depth, nucleolus_depth}
+use Rattle.report.specs.declared.answer.Answer.TheVariants.{Nucleolus, NoImputation, InCore, NotEfficient, Blocked, CorePoint, EmptyCore, Verdict as verdict, Usage, Refused}
+use Rattle.report.proofs.CertificateDepths.{coalition_depth, pairs_depth, shares_depth, nucleolus_depth}
 
 verdict_depth : (v : Verdict) → depth (verdict_tree v) ≤ max_depth
 verdict_depth Yes = omega arith
@@ -32,6 +32,8 @@ shallow (NoImputation singles total) h = omega arith
 shallow InCore h = omega arith
 shallow (NotEfficient sum total) h = omega arith
 shallow (Blocked s e) h = omega (arith, coalition_depth s)
+shallow (CorePoint is_cost x) h = omega (arith, shares_depth is_cost x)
+shallow (EmptyCore c value against) h = omega (arith, pairs_depth c.weights)
 shallow (verdict v) h = verdict_depth v
 shallow (Usage kind) h = omega arith
 shallow (Refused r) h = omega arith

@@ -14,7 +14,8 @@ use Rattle.report.specs.Certificates.{weight_data, coalition_pair, bound_pair, c
 use Rattle.report.specs.ShareLists.{share_data, share_list}
 use Rattle.report.specs.Limits.{HasSmallWeights}
 use Rattle.report.specs.Lines.{nucleolus_tree}
-use Rattle.report.proofs.Lists.{all_of, all_also, all_both, members_below}
+use Rattle.report.proofs.Lists.{members_below}
+use Rattle.definitions.proofs.Alls.{all_any, all_weaken, all_both}
 
 -- a level whose weights are small, and whose players are below 64
 pub record IsPrintableLevel (l : Level) : Type 0 where
@@ -26,7 +27,7 @@ items_exact f [] h = tt
 items_exact f (x ∷ xs) h = (h.0, items_exact f xs h.1)
 
 coalition_exact : (s : ℕ) → IsExact (player_numbers s)
-coalition_exact s = items_exact player_data (members 64 s) (all_also (λ i. i < 64) (λ i. IsExact (player_data i)) (members 64 s) (λ i lt. omega arith) (members_below 64 s).0)
+coalition_exact s = items_exact player_data (members 64 s) (all_weaken (λ i. i < 64) (λ i. IsExact (player_data i)) (members 64 s) (λ i lt. omega arith) (members_below 64 s).0)
 
 weight_exact : (z : ℤ) → IsSmall z → IsExact (weight_data z)
 weight_exact (pos n) h = omega arith
@@ -36,14 +37,14 @@ coalition_pair_exact : (p : ℕ × ℤ) → IsSmall p.1 → IsExact (coalition_p
 coalition_pair_exact p h = (coalition_exact p.0, (weight_exact p.1 h, tt))
 
 coalition_pairs_exact : (ps : List (ℕ × ℤ)) → AllByRecursion (λ p. IsSmall p.1) ps → IsExact (coalition_pairs ps)
-coalition_pairs_exact ps h = items_exact coalition_pair ps (all_also (λ p. IsSmall p.1) (λ p. IsExact (coalition_pair p)) ps coalition_pair_exact h)
+coalition_pairs_exact ps h = items_exact coalition_pair ps (all_weaken (λ p. IsSmall p.1) (λ p. IsExact (coalition_pair p)) ps coalition_pair_exact h)
 
 bound_pair_exact : (p : ℕ × ℤ) → IsSmall p.1 × (p.0 < 64) → IsExact (bound_pair p)
 bound_pair_exact p h = let few = h.1 in (omega (arith, few), (weight_exact p.1 h.0, tt))
 
 bound_pairs_exact : (ps : List (ℕ × ℤ)) → AllByRecursion (λ p. IsSmall p.1) ps → AllByRecursion (λ p. p.0 < 64) ps → IsExact (bound_pairs ps)
 bound_pairs_exact ps h k =
-    items_exact bound_pair ps (all_also (λ p. IsSmall p.1 × (p.0 < 64)) (λ p. IsExact (bound_pair p)) ps bound_pair_exact (all_both (λ p. IsSmall p.1) (λ p. p.0 < 64) ps h k))
+    items_exact bound_pair ps (all_weaken (λ p. IsSmall p.1 × (p.0 < 64)) (λ p. IsExact (bound_pair p)) ps bound_pair_exact (all_both (λ p. IsSmall p.1) (λ p. p.0 < 64) ps h k))
 
 level_exact : (l : Level) → IsPrintableLevel l → IsExact (level_tree l)
 level_exact l h = (
@@ -58,10 +59,10 @@ level_exact l h = (
 
 pub certificate_exact : (c : CertificateData) → AllByRecursion IsPrintableLevel c.levels → IsExact (certificate_tree c)
 certificate_exact c h =
-    ((refl, tt), items_exact level_tree c.levels (all_also IsPrintableLevel (λ l. IsExact (level_tree l)) c.levels level_exact h), (tt, tt, tt))
+    ((refl, tt), items_exact level_tree c.levels (all_weaken IsPrintableLevel (λ l. IsExact (level_tree l)) c.levels level_exact h), (tt, tt, tt))
 
 pub shares_exact : (is_cost : Bool) (x : Allocation) → IsExact (share_list is_cost x)
-shares_exact is_cost x = items_exact (share_data is_cost x.den) x.shares (all_of (λ z. IsExact (share_data is_cost x.den z)) x.shares (λ z. tt))
+shares_exact is_cost x = items_exact (share_data is_cost x.den) x.shares (all_any (λ z. IsExact (share_data is_cost x.den z)) x.shares (λ z. tt))
 
 pub nucleolus_exact : (family : Family) (game : Data) (is_cost : Bool) (x : Allocation) (c : CertificateData) → AllByRecursion IsPrintableLevel c.levels → IsExact game → IsExact (nucleolus_tree family game is_cost x c)
 nucleolus_exact family game is_cost x c h k =

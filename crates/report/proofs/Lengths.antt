@@ -1,27 +1,19 @@
 -- How long the texts of values are.
-use Rattle.std.proofs.Common.{ℕ, suc, ◌+◌, ◌*◌, ◌^◌, ◌<◌, ◌≤◌, Bool, true, false, cond, List, [], ◌∷◌, ◌++◌, length, map, nat_lt, ℤ, pos, negsuc, unsigned_abs, arith, length-append}
+use Rattle.std.proofs.Common.{ℕ, suc, ◌+◌, ◌*◌, ◌^◌, ◌<◌, ◌≤◌, Bool, true, false, List, [], ◌∷◌, ◌++◌, length, map, ℤ, pos, negsuc, unsigned_abs, arith, length-append}
 use Rattle.std.specs.Fmt.{signed_decimal}
 use Rattle.std.specs.List.{AllByRecursion}
 use Rattle.std.proofs.lemmas.Fmt.{length-decimal-le_wide}
-use Rattle.json.specs.Print.{escape_letter, escape_byte, escape, quoted}
+use Rattle.json.specs.Print.{escape_byte, escape, quoted}
 use Rattle.serde_json.specs.Data.{Data, array, Items, no_items, item, Members, member}
 use Rattle.serde_json.specs.View.{items_of}
 use Rattle.serde_json.specs.Written.{compact_text, items_text, members_text, comma_if}
+use Rattle.json_texts.proofs.Escaped.{any_byte}
 
 -- ---- texts
 
-at_most_6 : (a b : Bool) (x y z u v : ℕ) → length (cond a (92 ∷ x ∷ []) (cond b (92 ∷ 117 ∷ 48 ∷ 48 ∷ y ∷ z ∷ []) (u ∷ []))) ≤ 6
-at_most_6 true b x y z u v = omega arith
-at_most_6 false true x y z u v = omega arith
-at_most_6 false false x y z u v = omega arith
-
-escape_byte_length : (x : ℕ) → length (escape_byte x) ≤ 6
-unfolding escape_byte
-escape_byte_length x = at_most_6 (nat_lt 0 (escape_letter x)) (nat_lt x 32) _ _ _ _ 0
-
 escape_length : (s : List ℕ) → length (escape s) ≤ 6 * length s
 escape_length [] = omega arith
-escape_length (x ∷ s) = omega (arith, length-append (escape_byte x) (escape s), escape_byte_length x, escape_length s)
+escape_length (x ∷ s) = omega (arith, length-append (escape_byte x) (escape s), any_byte x, escape_length s)
 
 pub quoted_length : (s : List ℕ) → length (quoted s) ≤ 6 * length s + 2
 quoted_length s = omega (arith, length-append (escape s) (34 ∷ []), escape_length s)

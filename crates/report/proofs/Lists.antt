@@ -3,34 +3,7 @@ use Rattle.std.proofs.Common.{◌≡◌, ℕ, zero, suc, ◌+◌, ◌<◌, ◌�
 use Rattle.std.specs.List.{AllByRecursion}
 use Rattle.definitions.specs.Coalitions.{has_player, members}
 use Rattle.definitions.proofs.Members.{members-zero, members-more_yes, members-more_no}
-
-pub all_of : {X : Type 0} (P : X → Type 0) (xs : List X) → ((x : X) → P x) → AllByRecursion P xs
-all_of P [] h = tt
-all_of P (x ∷ xs) h = (h x, all_of P xs h)
-
-pub all_also : {X : Type 0} (P Q : X → Type 0) (xs : List X) → ((x : X) → P x → Q x) → AllByRecursion P xs → AllByRecursion Q xs
-all_also P Q [] k h = tt
-all_also P Q (x ∷ xs) k h = (k x h.0, all_also P Q xs k h.1)
-
-pub all_both : {X : Type 0} (P Q : X → Type 0) (xs : List X) → AllByRecursion P xs → AllByRecursion Q xs → AllByRecursion (λ x. P x × Q x) xs
-all_both P Q [] h k = tt
-all_both P Q (x ∷ xs) h k = ((h.0, k.0), all_both P Q xs h.1 k.1)
-
-pub all_front : {X : Type 0} (P : X → Type 0) (xs ys : List X) → AllByRecursion P (xs ++ ys) → AllByRecursion P xs
-all_front P [] ys h = tt
-all_front P (x ∷ xs) ys h = (h.0, all_front P xs ys h.1)
-
-pub all_behind : {X : Type 0} (P : X → Type 0) (xs ys : List X) → AllByRecursion P (xs ++ ys) → AllByRecursion P ys
-all_behind P [] ys h = h
-all_behind P (x ∷ xs) ys h = all_behind P xs ys h.1
-
-all_joined : {X : Type 0} (P : X → Type 0) (xs ys : List X) → AllByRecursion P xs → AllByRecursion P ys → AllByRecursion P (xs ++ ys)
-all_joined P [] ys h k = k
-all_joined P (x ∷ xs) ys h k = (h.0, all_joined P xs ys h.1 k)
-
-pub all_at_places : {X : Type 0} (P : X → Type 0) (d : X) (xs : List X) → ((i : ℕ) → i < length xs → P (get_or xs i d)) → AllByRecursion P xs
-all_at_places P d [] h = tt
-all_at_places P d (x ∷ xs) h = (h 0 (omega arith), all_at_places P d xs (λ i lt. h (suc i) (omega arith)))
+use Rattle.definitions.proofs.Alls.{all_weaken, all_join}
 
 pub all_at : {X : Type 0} (P : X → Type 0) (d : X) (xs : List X) (i : ℕ) → i < length xs → AllByRecursion P xs → P (get_or xs i d)
 all_at P d [] i lt h = absurd (omega arith)
@@ -45,12 +18,12 @@ AreBelow n is = AllByRecursion (λ i. i < n) is × (length is ≤ n)
 one_more : (n s : ℕ) (b : Bool) → has_player s n ≡ b → AreBelow n (members n s) → AreBelow (n + 1) (members (n + 1) s)
 one_more n s true e h =
     let here : AreBelow (n + 1) (members n s ++ n ∷ []) = (
-      all_joined (λ i. i < n + 1) (members n s) (n ∷ []) (all_also (λ i. i < n) (λ i. i < n + 1) (members n s) (λ i lt. omega arith) h.0) (omega arith, tt),
+      all_join (λ i. i < n + 1) (members n s) (n ∷ []) (all_weaken (λ i. i < n) (λ i. i < n + 1) (members n s) (λ i lt. omega arith) h.0) (omega arith, tt),
       omega (arith, h.1, length-append (members n s) (n ∷ [])),
     ) in
     subst (λ (is : List ℕ). AreBelow (n + 1) is) (sym (members-more_yes n s e)) here
 one_more n s false e h =
-    let here : AreBelow (n + 1) (members n s) = (all_also (λ i. i < n) (λ i. i < n + 1) (members n s) (λ i lt. omega arith) h.0, omega (arith, h.1)) in
+    let here : AreBelow (n + 1) (members n s) = (all_weaken (λ i. i < n) (λ i. i < n + 1) (members n s) (λ i lt. omega arith) h.0, omega (arith, h.1)) in
     subst (λ (is : List ℕ). AreBelow (n + 1) is) (sym (members-more_no n s e)) here
 
 -- the members below n are below n, and there are at most n

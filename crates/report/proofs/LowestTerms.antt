@@ -4,20 +4,14 @@ use Rattle.std.proofs.lemmas.Int.{ints}
 use Rattle.definitions.proofs.Ring.{ring_laws}
 use Rattle.fractions.specs.Divisors.{gcd}
 use Rattle.fractions.specs.Fraction.{Fraction, IsRatio}
-use Rattle.fractions.proofs.Cancel.{cancel, quot_exact}
+use Rattle.definitions.proofs.Cancel.{cancel, quot_exact}
 use Rattle.fractions.proofs.Divisors.{gcd_positive, right_quotient}
 use Rattle.fractions.proofs.LowestTerms.{lowest, lowest_is}
-use Rattle.fractions.proofs.Ratios.{one_ratio}
+use Rattle.fractions.proofs.Ratios.{apart, size_of, one_ratio}
 use Rattle.report.specs.ShareLists.{in_lowest_terms}
 
-pub apart : (d : ℤ) → pos 1 ≤ℤ d → d ≢ pos 0
-apart d h e = omega (arith, ints)
-
 whole : (d : ℤ) (g q : ℕ) → pos 1 ≤ℤ d → g * q ≡ unsigned_abs d → d ≡ pos g *ℤ pos q
-whole d g q h e = size d h ∙ ap pos (sym e)
-  where
-    size : (d : ℤ) → pos 1 ≤ℤ d → d ≡ pos (unsigned_abs d)
-    size d h = omega (arith, ints)
+whole d g q h e = size_of d h ∙ ap pos (sym e)
 
 pub some : (a : ℕ) (d : ℤ) → pos 1 ≤ℤ d → pos (gcd a (unsigned_abs d)) ≢ pos 0
 some a d h e =

@@ -7,7 +7,8 @@ use Rattle.fractions.proofs.LowestTerms.{lowest, lowest_is}
 use Rattle.fractions.proofs.WrittenFractions.{read_back}
 use Rattle.report.specs.ShareLists.{in_lowest_terms}
 use Rattle.report.specs.ReadingBack.{IsReadBack}
-use Rattle.report.proofs.LowestTerms.{apart, some, factors, is_lowest}
+use Rattle.fractions.proofs.Ratios.{apart}
+use Rattle.report.proofs.LowestTerms.{some, factors, is_lowest}
 
 no_larger : (g : ℕ) (z n : ℤ) → pos g ≢ pos 0 → n ≡ pos g *ℤ z → unsigned_abs z ≤ unsigned_abs n
 no_larger zero z n h e = absurd (h refl)

@@ -3,15 +3,15 @@ use Rattle.std.proofs.Common.{ℕ, List, [], ◌∷◌, ◌++◌}
 use Rattle.std.specs.List.{AllByRecursion}
 use Rattle.definitions.specs.Certificates.{Level, LevelForm, LevelsForm, IsSmall}
 use Rattle.report.specs.Limits.{HasSmallWeights}
-use Rattle.report.proofs.Lists.{all_front, all_behind}
+use Rattle.definitions.proofs.Alls.{all_left, all_right}
 
 pub small_level : (n : ℕ) (front : List Level) (l : Level) → LevelForm n front l → HasSmallWeights l
 small_level n front l h =
-    let front = all_front (λ p. IsSmall p.1) (l.coalitions ++ l.earlier) l.bounds h.small in
+    let front = all_left (λ p. IsSmall p.1) (l.coalitions ++ l.earlier) l.bounds h.small in
     record {
-      coalitions = all_front (λ p. IsSmall p.1) l.coalitions l.earlier front;
-      earlier = all_behind (λ p. IsSmall p.1) l.coalitions l.earlier front;
-      bounds = all_behind (λ p. IsSmall p.1) (l.coalitions ++ l.earlier) l.bounds h.small;
+      coalitions = all_left (λ p. IsSmall p.1) l.coalitions l.earlier front;
+      earlier = all_right (λ p. IsSmall p.1) l.coalitions l.earlier front;
+      bounds = all_right (λ p. IsSmall p.1) (l.coalitions ++ l.earlier) l.bounds h.small;
       total = h.total_small;
     }
 

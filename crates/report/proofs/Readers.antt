@@ -9,21 +9,21 @@ use Rattle.json_texts.specs.Exact.{IsExact, WrittenIsReadBack}
 use Rattle.report.specs.ShareLists.{as_printed, printed_share}
 use Rattle.report.specs.ReadingBack.{IsReadBack, ExcessesAreReadBack, SharesAreReadBack, NucleoliAreReadBack, NucleoliAreShort}
 use Rattle.report.specs.Lines.{nucleolus_tree}
-use Rattle.report.proofs.Lists.{all_also, all_at_places}
 use Rattle.report.proofs.PrintableLevels.{small_level}
 use Rattle.report.proofs.LowestTexts.{lowest_read_back}
 use Rattle.report.proofs.CertificateDepths.{nucleolus_depth}
 use Rattle.report.proofs.ExactTrees.{IsPrintableLevel, nucleolus_exact}
 use Rattle.report.proofs.CertificateLengths.{IsShortLevel, nucleolus_length}
+use Rattle.definitions.proofs.Alls.{all_weaken, all_at_places}
 
 printable_levels : (n : ℕ) (front levels : List Level) → n ≤ 64 → LevelsForm n front levels → AllByRecursion IsPrintableLevel levels
 printable_levels n front [] few h = tt
 printable_levels n front (l ∷ levels) few h = (
-  record { small = small_level n front l h.0; players = all_also (λ b. b.0 < n) (λ b. b.0 < 64) l.bounds (λ b lt. omega (arith, lt, few)) h.0.players },
+  record { small = small_level n front l h.0; players = all_weaken (λ b. b.0 < n) (λ b. b.0 < 64) l.bounds (λ b lt. omega (arith, lt, few)) h.0.players },
   printable_levels n (front ++ l ∷ []) levels few h.1,
 )
 
-size_as_printed : (is_cost : Bool) (z : ℤ) → unsigned_abs (as_printed is_cost z) ≡ unsigned_abs z
+pub size_as_printed : (is_cost : Bool) (z : ℤ) → unsigned_abs (as_printed is_cost z) ≡ unsigned_abs z
 size_as_printed true z = omega (arith, ints)
 size_as_printed false z = refl
 
@@ -32,7 +32,7 @@ share_read_back is_cost d z low high h = lowest_read_back (as_printed is_cost z)
 
 shares_read_back : (is_cost : Bool) (x : Allocation) → IsShares x → SharesAreReadBack is_cost x
 shares_read_back is_cost x h =
-    all_also (λ z. unsigned_abs z < 2 ^ 110) (λ z. IsReadBack (printed_share is_cost x.den z)) x.shares (λ z small. share_read_back is_cost x.den z h.positive h.common small)
+    all_weaken (λ z. unsigned_abs z < 2 ^ 110) (λ z. IsReadBack (printed_share is_cost x.den z)) x.shares (λ z small. share_read_back is_cost x.den z h.positive h.common small)
     (all_at_places (λ z. unsigned_abs z < 2 ^ 110) (pos 0) x.shares h.small)
 
 pub says : WrittenIsReadBack → NucleoliAreReadBack

@@ -3,6 +3,7 @@ pub mod Values
 pub mod Verdicts
 pub mod Certificates
 pub mod ShareLists
+pub mod CoreTrees
 pub mod Limits
 pub mod Lines
 pub mod ReadingBack

@@ -1,4 +1,5 @@
 //! What is answered to the words of a command line and the bytes of its input.
+use balanced::Collection;
 use checker::Verdict;
 use coalitions::Coalition;
 use fractions::Frac;
@@ -7,14 +8,14 @@ use kohlberg::Certificate;
 use serde_json::Value;
 use worth_core::{Family, Shares};
 
-/// What is wrong with the words of a command line.
+/// Why a command has no other answer: for its words, or for the class and the players of its document.
 #[derive(Clone, Copy, Debug, PartialEq, Eq)]
 pub enum UsageKind {
     /// They name no command.
     Words,
-    /// The class isn't one that is generated.
+    /// The command doesn't serve the class of the document (or, for `gen`, the class isn't one that is generated).
     Class,
-    /// The number of players isn't one that the class has.
+    /// The command doesn't serve so many players (or, for `gen`, the class hasn't so many).
     Players,
 }
 
@@ -47,6 +48,18 @@ pub enum Answer {
     Blocked {
         coalition: Coalition,
         excess: Frac,
+    },
+    /// A point of the core: the shares as worth, printed as payments where `is_cost`.
+    CorePoint {
+        is_cost: bool,
+        shares: Shares,
+    },
+    /// The core is empty: by the weights of this collection its coalitions are worth, or pay, `value` together, and all
+    /// players times its `k` are worth, or pay, `against`.
+    EmptyCore {
+        collection: Collection,
+        value: i128,
+        against: i128,
     },
     /// Whether a certificate shows that shares are the nucleolus, or why not.
     Verdict(Verdict),

@@ -79,7 +79,11 @@ fn level_object(
     Ok(Value::Object(members))
 }
 
-fn coalition_pairs(alloc: Global, pairs: &[(Coalition, i128)]) -> Result<Vec<Value>, OutOfMemory>
+/// Coalitions with their weights.
+pub fn coalition_pairs(
+    alloc: Global,
+    pairs: &[(Coalition, i128)],
+) -> Result<Vec<Value>, OutOfMemory>
     requires { AllByRecursion (λ p. IsSmall p.1) pairs.now }
     ensures { IfOk result (λ v. map view v.items ≡ map coalition_pair pairs.now) }
 {
@@ -121,7 +125,8 @@ fn bound_pair(alloc: Global, player: u32, weight: i128) -> Result<Value, OutOfMe
     Ok(pair)
 }
 
-fn weight_value(weight: i128) -> Value
+/// A weight, or a total.
+pub fn weight_value(weight: i128) -> Value
     requires { IsSmall weight }
     ensures { view result ≡ weight_data weight }
 {

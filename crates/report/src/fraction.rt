@@ -19,8 +19,8 @@ pub fn text_of(alloc: Global, value: &Frac) -> Result<String, OutOfMemory>
 }
 
 /// The text of an integer.
-pub fn integer_text(alloc: Global, value: i64) -> Result<String, OutOfMemory>
+pub fn integer_text(alloc: Global, value: i128) -> Result<String, OutOfMemory>
     ensures { IfOk result (λ s. string_bytes s ≡ fraction_text (record { num = value; den = pos 1 })) }
 {
-    text_of(alloc, &Frac::from_int(i128::from(value)))
+    text_of(alloc, &Frac::from_int(value))
 }

@@ -3,6 +3,7 @@
 
 mod answer;
 mod certificate;
+mod core_answers;
 mod fraction;
 mod laws;
 mod line;

@@ -7,6 +7,7 @@ ghost use Rattle.report.specs.Limits.{IsPrintable};
 ghost use Rattle.report.specs.Lines.{answer_tree, line};
 
 use crate::answer::{Answer, UsageKind};
+use crate::core_answers::{core_point_tree, empty_core_tree};
 use crate::fraction::{integer_text, text_of};
 use crate::nucleolus::nucleolus_tree;
 use crate::players::player_numbers;
@@ -34,6 +35,7 @@ pub fn write_report(alloc: Global, answer: Answer) -> Result<Vec<u8>, OutOfMemor
 
 /// The JSON tree of an answer.
 fn tree_of(alloc: Global, answer: Answer) -> Result<Value, OutOfMemory>
+    requires { IsPrintable answer }
     ensures { IfOk result (λ v. view v ≡ answer_tree answer) }
 {
     match answer {
@@ -48,6 +50,12 @@ fn tree_of(alloc: Global, answer: Answer) -> Result<Value, OutOfMemory>
         Answer::InCore => core_tree(alloc),
         Answer::NotEfficient { sum, total } => not_efficient_tree(alloc, &sum, total),
         Answer::Blocked { coalition, excess } => blocked_tree(alloc, coalition, &excess),
+        Answer::CorePoint { is_cost, shares } => core_point_tree(alloc, is_cost, &shares),
+        Answer::EmptyCore {
+            collection,
+            value,
+            against,
+        } => empty_core_tree(alloc, &collection, value, against),
         Answer::Verdict(verdict) => verdict_tree(alloc, verdict),
         Answer::Usage(kind) => usage_tree(alloc, kind),
         Answer::Refused(refusal) => refused_tree(alloc, refusal),
@@ -57,8 +65,8 @@ fn tree_of(alloc: Global, answer: Answer) -> Result<Value, OutOfMemory>
 fn no_imputation_tree(alloc: Global, singles: i64, total: i64) -> Result<Value, OutOfMemory>
     ensures { IfOk result (λ v. view v ≡ answer_tree (Answer.NoImputation singles total)) }
 {
-    let singles = integer_text(alloc, singles)?;
-    let total = integer_text(alloc, total)?;
+    let singles = integer_text(alloc, i128::from(singles))?;
+    let total = integer_text(alloc, i128::from(total))?;
     let tree = json!(in alloc; {"answer": "no imputation", "singles": singles, "total": total})?;
     Ok(tree)
 }
@@ -74,7 +82,7 @@ fn not_efficient_tree(alloc: Global, sum: &Frac, total: i64) -> Result<Value, Ou
     ensures { IfOk result (λ v. view v ≡ answer_tree (Answer.NotEfficient sum.now total)) }
 {
     let sum = text_of(alloc, sum)?;
-    let total = integer_text(alloc, total)?;
+    let total = integer_text(alloc, i128::from(total))?;
     let tree = json!(in alloc; {"answer": "not efficient", "sum": sum, "total": total})?;
     Ok(tree)
 }

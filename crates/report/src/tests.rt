@@ -3,12 +3,14 @@ ghost use Rattle.report.specs.Limits.{IsPrintable};
 mod nucleolus;
 
 use crate::{Answer, UsageKind, write_report};
+use balanced::Collection;
 use checker::{Place, Reason, Verdict};
 use coalitions::Coalition;
 use fractions::Frac;
 use game_text::Refusal;
 use std::alloc::Global;
 use std::test::Fail;
+use worth_core::Shares;
 
 // Whether that line is written for the answer.
 fn has_line(alloc: Global, answer: Answer, line: &str) -> Result<bool, Fail>
@@ -40,6 +42,29 @@ fn judgements_have_their_lines(rt: HostRuntime) -> Result<(), Fail> {
     };
     let line = "{\"answer\":\"blocked\",\"coalition\":[1,3,8],\"excess\":\"3\"}\n";
     assert!(rt; has_line(rt.alloc(), blocked, line)?);
+    Ok(())
+}
+
+#[test]
+fn what_is_said_of_the_core_has_its_line(rt: HostRuntime) -> Result<(), Fail> {
+    let shares = Shares::new([-2, -3].to_vec(rt.alloc())?, 2).ok_or("shares")?;
+    let point = Answer::CorePoint {
+        is_cost: true,
+        shares,
+    };
+    let line = "{\"answer\":\"core point\",\"shares\":[\"1\",\"3/2\"]}\n";
+    assert!(rt; has_line(rt.alloc(), point, line)?);
+    let empty = Answer::EmptyCore {
+        collection: Collection {
+            weights: [(Coalition(3), 1), (Coalition(5), 1), (Coalition(6), 1)].to_vec(rt.alloc())?,
+            k: 2,
+        },
+        value: 3,
+        against: 2,
+    };
+    let line =
+        "{\"against\":\"2\",\"answer\":\"empty core\",\"collection\":[[[1,2],1],[[1,3],1],[[2,3],1]],\"k\":2,\"value\":\"3\"}\n";
+    assert!(rt; has_line(rt.alloc(), empty, line)?);
     Ok(())
 }
 

@@ -163,7 +163,7 @@ fn is_usage(alloc: Global, words: &[&str]) -> Result<bool, Fail> {
 #[test]
 fn other_words_read_nothing(rt: HostRuntime) -> Result<(), Fail> {
     assert!(rt; is_usage(rt.alloc(), &[])?);
-    assert!(rt; is_usage(rt.alloc(), &["core"])?);
+    assert!(rt; is_usage(rt.alloc(), &["cores"])?);
     assert!(rt; is_usage(rt.alloc(), &["Nucleolus"])?);
     assert!(rt; is_usage(rt.alloc(), &["check", "check"])?);
     assert!(rt; is_usage(rt.alloc(), &["propose", "x"])?);

@@ -1,4 +1,4 @@
-use Rattle.game_text.proofs.Values.{listed-items_of}
+use Rattle.json_trees.proofs.Values.{listed-items_of}
 use Rattle.reading_back.proofs.ShareTexts.{listed_members}
 use Rattle.reading_back.proofs.share_lists_are_arrays.Goals as goal
 

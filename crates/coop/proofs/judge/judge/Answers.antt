@@ -5,9 +5,9 @@ use Rattle.std.proofs.lemmas.Int.{ints, to_z-of_z}
 use Rattle.definitions.specs.Coalitions.{grand_coalition}
 use Rattle.definitions.specs.Games.{amount}
 use Rattle.fractions.specs.Fraction.{IsRatio}
-use Rattle.worth_core.proofs.Casts.{cast_kept}
 use Rattle.coop.specs.Judgement.{printed}
 use Rattle.coop.proofs.judge.judge.Goals as goal
+use Rattle.definitions.proofs.Casts.{cast_kept}
 
 pub returns-then-sum-scaled-clause-judges : goal.returns-then-sum-scaled-clause-judges
 returns-then-sum-scaled-clause-judges g c =

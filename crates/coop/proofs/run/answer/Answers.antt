@@ -8,7 +8,7 @@ pub returns-in-Err-Refused-clause-right : goal.returns-in-Err-Refused-clause-rig
 returns-in-Err-Refused-clause-right g c =
     let input = c.in_ok-input.input in
     let refused = rw (c.in-Err-Refused.field-0-is, c.deref.ensures.value) at c.in-Err-Refused.ensures.reading in
-    rw c.in-Err-Refused.refusal-is (right_refusal c.args.command _ _ input.items c.in_ok-input.ensures.bytes (omega (arith, input.ok.0, c.in_ok-input.ensures.most, c.limit_of.ensures.value)) (λ h. c.in_ok-input.ensures.end (omega (arith, input.ok.0, c.limit_of.ensures.value))) c.in-Err-Refused.refusal refused)
+    rw c.in-Err-Refused.refusal-is (right_refusal c.args.command _ _ input.items c.in_ok-input.ensures.bytes (omega (arith, input.ok.0, c.in_ok-input.ensures.most, c.document_limit.ensures.value)) (λ h. c.in_ok-input.ensures.end (omega (arith, input.ok.0, c.document_limit.ensures.value))) c.in-Err-Refused.refusal refused)
 
 pub answer_to-requires : goal.answer_to-requires
 answer_to-requires g c =
@@ -19,4 +19,4 @@ pub returns-clause-right : goal.returns-clause-right
 returns-clause-right g c =
     let input = c.in_ok-input.input in
     let e = rw c.deref.ensures.value at c.in-Ok.ensures in
-    right_answer c.args.command _ _ input.items c.in_ok-input.ensures.bytes (λ h. c.in_ok-input.ensures.end (omega (arith, input.ok.0, c.limit_of.ensures.value))) (contents_in c.in-Ok.document) e.reading c.in-Ok-answer_to.answer c.in-Ok-answer_to.ensures.right
+    right_answer c.args.command _ _ input.items c.in_ok-input.ensures.bytes (λ h. c.in_ok-input.ensures.end (omega (arith, input.ok.0, c.document_limit.ensures.value))) (contents_in c.in-Ok.document) e.reading c.in-Ok-answer_to.answer c.in-Ok-answer_to.ensures.right

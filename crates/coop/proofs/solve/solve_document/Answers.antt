@@ -2,7 +2,7 @@ use Rattle.std.proofs.Common.{refl, sym, subst, rules}
 use Rattle.game_text.specs.Descriptions.{game_of}
 use Rattle.game_text.specs.Documents.{game_tree}
 use Rattle.game_text.specs.Readings.{contents_in}
-use Rattle.coop.specs.Solution.{HasFewPlayers}
+use Rattle.coop.specs.Finding.{HasFewPlayers}
 use Rattle.coop.proofs.FewPlayers.{few_players}
 use Rattle.coop.proofs.Solved.{is_solution}
 use Rattle.coop.proofs.NoImputation.{is_above, no_imputation}
@@ -25,11 +25,11 @@ returns-in-Point-clause-readable c =
 pub returns-in-NoImputation-clause-solves : goal.returns-in-NoImputation-clause-solves
 returns-in-NoImputation-clause-solves c =
     let g = game_of (contents_in c.args.document).game in
-    let dear = rw c.in-NoImputation.is at c.in_ok-shares.ensures in
+    let lacks = rw c.in-NoImputation.is at c.in_ok-shares.ensures in
     record {
-      imputations = dear.imputations;
+      imputations = lacks.imputations;
       alone_is = search rules;
       total_is = search rules;
-      above = is_above c.args.family g c.in-NoImputation.singles c.in-NoImputation.total dear;
-      none = no_imputation c.args.family g c.in-NoImputation.singles c.in-NoImputation.total dear;
+      above = is_above c.args.family g c.in-NoImputation.singles c.in-NoImputation.total lacks;
+      none = no_imputation c.args.family g c.in-NoImputation.singles c.in-NoImputation.total lacks;
     }

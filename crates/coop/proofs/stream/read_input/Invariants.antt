@@ -6,7 +6,7 @@ abbrev pub invariant-reading : goal.invariant-reading
 invariant-reading g l = record {
   consumed : Consumes (g.S.Source.left l.initial.source) (g.S.Source.left l.source) l.input.items;
   most : vec_len l.input ≤ l.limit + 1;
-  quiet : g.S.Source.faults l.source ≡ g.S.Source.faults l.initial.source;
+  unchanged : g.S.Source.faults l.source ≡ g.S.Source.faults l.initial.source;
 }
 
 abbrev pub decreases-reading : goal.decreases-reading

@@ -6,7 +6,7 @@ abbrev pub invariant-writing : goal.invariant-writing
 invariant-writing g l = record {
   in_line : l.at ≤ length l.line;
   taken : Appends (g.K.Sink.taken l.initial.sink) (g.K.Sink.taken l.sink) (take l.at l.line);
-  quiet : g.K.Sink.faults l.sink ≡ g.K.Sink.faults l.initial.sink;
+  unchanged : g.K.Sink.faults l.sink ≡ g.K.Sink.faults l.initial.sink;
 }
 
 abbrev pub decreases-writing : goal.decreases-writing

@@ -1,7 +1,7 @@
 use Rattle.std.proofs.Common.{◌≡◌, ◌<◌, ◌^◌, map}
 use Rattle.serde_json.specs.View.{view}
-use Rattle.game_text.specs.Coalitions.{joined}
-use Rattle.game_text.proofs.Joining.{rest}
+use Rattle.game_text.specs.Members.{joined}
+use Rattle.json_trees.proofs.Values.{rest}
 use Rattle.game_text.proofs.masks.mask_of.Given as goal
 
 abbrev pub invariant-loop-member : goal.invariant-loop-member

@@ -1,8 +1,9 @@
 use Rattle.std.proofs.Common.{◌≡◌, ◌++◌, ◌∷◌, [], not, true, false, sym, ap, ◌∙◌, refl}
 use Rattle.std.proofs.lemmas.Bool.{and_left, and_right}
 use Rattle.serde_json.specs.View.{view}
-use Rattle.game_text.specs.Trees.{text_of}
-use Rattle.game_text.specs.Names.{is_name, is_among}
+use Rattle.json_trees.specs.Trees.{text_of}
+use Rattle.game_text.specs.Names.{is_name}
+use Rattle.json_trees.specs.Keys.{is_among}
 use Rattle.game_text.proofs.NamesRead.{stop, go_on}
 use Rattle.game_text.proofs.names.read_names.Goals as goal
 

@@ -1,6 +1,6 @@
 use Rattle.std.proofs.Common.{◌≡◌, map, take}
 use Rattle.serde_json.specs.View.{view}
-use Rattle.game_text.specs.Shares.{fraction_or_zero}
+use Rattle.json_trees.specs.Fractions.{fraction_or_zero}
 use Rattle.game_text.proofs.shares.fractions.Given as goal
 
 abbrev pub invariant-loop-value : goal.invariant-loop-value

@@ -1,8 +1,8 @@
 use Rattle.std.proofs.Common.{All, codes, sym, ◌∙◌, subst}
 use Rattle.serde_json.specs.View.{view}
 use Rattle.fractions.specs.Fraction.{IsReduced}
-use Rattle.game_text.specs.Trees.{parts_at}
-use Rattle.game_text.proofs.LeastDenominators.{written_reduced}
+use Rattle.json_trees.specs.Trees.{parts_at}
+use Rattle.json_trees.proofs.Fractions.{written_reduced}
 use Rattle.game_text.proofs.shares.shares_as_worth.Goals as goal
 
 pub over_least-requires-clause-reduced : goal.over_least-requires-clause-reduced

@@ -1,13 +1,13 @@
 use Rattle.std.proofs.Common.{ap, ◌∙◌, arith, List, ℕ}
 use mir.Syntax.{w128}
 use Rattle.serde_json.specs.Data.{string}
-use Rattle.worth_core.proofs.Casts.{cast_kept}
 use Rattle.kohlberg.proofs.Kept.{kept}
 use Rattle.fractions.specs.Fraction.{IsRatio}
 use Rattle.fractions.specs.FractionTexts.{fraction_text}
 use Rattle.report.proofs.TextViews.{view_text}
 use Rattle.report.proofs.LowestTerms.{is_lowest}
 use Rattle.report.proofs.shares.share_text.Goals as goal
+use Rattle.definitions.proofs.Casts.{cast_kept}
 
 pub returns : goal.returns
 returns c =

@@ -1,5 +1,5 @@
 use Rattle.std.proofs.Common.{sym, ◌∙◌}
-use Rattle.game_text.proofs.Values.{any_now}
+use Rattle.json_trees.proofs.Values.{any_now}
 use Rattle.game_text.proofs.names.Names.contains.Goals as goal
 
 pub returns : goal.returns

@@ -1,5 +1,5 @@
 use Rattle.std.proofs.Common.{sym, ap, not, ◌∙◌}
-use Rattle.game_text.proofs.Values.{any_now}
+use Rattle.json_trees.proofs.Values.{any_now}
 use Rattle.game_text.proofs.names.Names.insert.Goals as goal
 
 pub returns-clause-added : goal.returns-clause-added

@@ -1,5 +1,5 @@
 use Rattle.std.proofs.Common.{sym, ◌∙◌}
-use Rattle.game_text.proofs.Values.{position_now}
+use Rattle.json_trees.proofs.Values.{position_now}
 use Rattle.game_text.proofs.names.Names.place.Goals as goal
 
 pub returns-clause-place : goal.returns-clause-place

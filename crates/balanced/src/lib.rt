@@ -1,0 +1,91 @@
+//! The core of any game of at most 16 players: a point of it, or the evidence that it is empty (Bondareva 1963, Shapley 1967).
+//!
+//! The balanced program asks for the greatest worth that coalitions have by weights that hold each player once. Its optimal
+//! multipliers are shares that no coalition blocks. Where they add to the worth of all they are a point of the core. Where
+//! they add to more, so do the optimal weights: they are a balanced collection of excess worth, beside which no core point
+//! stands.
+#![tactic(auto)]
+
+mod collection;
+mod optimum;
+#[cfg(test)]
+mod tests;
+
+ghost use Rattle.std.specs.Prelude.{◌≡◌, ◌≤◌, IfOk, MatchResult};
+ghost use Rattle.std.specs.Bool.{Decides};
+ghost use Rattle.definitions.specs.Games.{IsEfficient};
+ghost use Rattle.balanced.specs.Answer.{IsFound, IsFault, BondarevaShapley};
+
+use crate::collection::collection_of;
+use crate::optimum::best_of;
+use coalitions::Coalition;
+pub use collection::Collection;
+use fractions::OutOfMemory;
+use separation::{Listed, shares_of};
+use std::alloc::Global;
+use worth_core::{Shares, Worth, scaled};
+
+/// What is said of the core of a game.
+#[derive(Debug, Drop)]
+pub enum CoreAnswer {
+    /// A point of the core, as worth.
+    Point(Shares),
+    /// The core is empty, since this balanced collection is worth more than all players times its `k`.
+    Empty(Collection),
+}
+
+/// Why nothing is said.
+#[derive(Clone, Copy, Debug, PartialEq, Eq)]
+pub enum CoreFault {
+    /// There are more than 16 players.
+    TooMany,
+    /// There isn't enough memory.
+    Memory,
+}
+
+/// A point of the core of a game of at most 16 players, or a balanced collection that shows that the core is empty. So
+/// `Empty` comes exactly where it is.
+///
+/// The collection has at most as many coalitions as there are players; its weights and its `k` are at least 1 and below
+/// 2^62, and no number above 1 divides them all. `TooMany` comes exactly where there are more than 16 players, and `Memory`
+/// for want of memory.
+///
+/// The clause `bondareva_shapley` is the theorem of Bondareva (1963) and Shapley (1967): there is a point in the core and no
+/// balanced collection of excess worth, or there is such a collection and no point. It is proved of each game of at most 16
+/// players, by the run that finds the one or the other.
+pub fn core_of<W: Worth>(alloc: Global, game: &W) -> Result<CoreAnswer, CoreFault>
+    ensures answer { MatchResult result (IsFound (W.game game.now)) (IsFault (W.game game.now)) }
+    ensures few { IfOk result (λ _. (W.game game.now).players ≤ 16) }
+    ensures bondareva_shapley { IfOk result (λ _. BondarevaShapley (W.game game.now)) }
+{
+    if game.players() > 16 {
+        return Err(CoreFault::TooMany);
+    }
+    match found_for(alloc, game) {
+        Ok(answer) => Ok(answer),
+        Err(_) => Err(CoreFault::Memory),
+    }
+}
+
+/// What the balanced program says of the core.
+fn found_for<W: Worth>(alloc: Global, game: &W) -> Result<CoreAnswer, OutOfMemory>
+    requires { (W.game game.now).players ≤ 16 }
+    ensures { IfOk result (IsFound (W.game game.now)) }
+{
+    let mut program = Listed::balanced(alloc, game)?;
+    let best = best_of(alloc, game, &mut program)?;
+    let shares = shares_of(alloc, &best.multipliers, game.players())?;
+    if is_efficient(game, &shares) {
+        Ok(CoreAnswer::Point(shares))
+    } else {
+        Ok(CoreAnswer::Empty(collection_of(alloc, &best)?))
+    }
+}
+
+/// Whether the shares add to the worth of all.
+fn is_efficient<W: Worth>(game: &W, shares: &Shares) -> bool
+    ensures { Decides result (IsEfficient (W.game game.now) shares.now) }
+{
+    let everyone = Coalition::all(game.players());
+    shares.sum_of(everyone) == scaled(shares.den(), game.worth(everyone))
+}

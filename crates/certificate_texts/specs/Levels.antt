@@ -1,0 +1,68 @@
+-- The levels that a certificate describes.
+--
+--   coalition_of  the mask of the coalition whose players are listed by number
+--   level_of      what the tree of a level describes, where no test refuses it
+use Rattle.std.specs.Prelude.{◌+◌, ◌-◌, ◌^◌, ℕ, ℤ, pos, negsuc, codes, List, [], ◌∷◌, map, ◌&&◌, Option, Some, None, option_and_then, option_map, unwrap_or, nat_lt, nat_le, if◌then◌else◌}
+use Rattle.serde_json.specs.Data.{Data}
+use Rattle.definitions.specs.Certificates.{Level}
+use Rattle.json_trees.specs.Trees.{parts, parts_at, pair_members, integer}
+use Rattle.json_trees.specs.Integers.{integer_at, second_integer}
+use Rattle.json_trees.specs.Fractions.{fraction_at}
+
+-- ---- coalitions by number
+
+-- an integer above low, at most n
+abbrev pub number_between : ℕ → ℕ → ℤ → Option ℕ
+number_between low n (pos k) = if nat_lt low k && nat_le k n then Some k else None
+number_between low n (negsuc k) = None
+
+-- the number of a player above low, at most n
+abbrev pub number_above : ℕ → ℕ → Data → Option ℕ
+number_above low n d = option_and_then (number_between low n) (integer d)
+
+-- numbers that ascend strictly, above low and at most n
+abbrev pub numbers_above : ℕ → ℕ → List Data → Option (List ℕ)
+numbers_above low n [] = Some []
+numbers_above low n (d ∷ ds) = option_and_then (λ k. option_map (λ ks. k ∷ ks) (numbers_above k n ds)) (number_above low n d)
+
+-- the mask of the players with these numbers: the sum of their bits
+abbrev pub mask_by_numbers : List ℕ → ℕ
+mask_by_numbers [] = 0
+mask_by_numbers (k ∷ ks) = 2 ^ (k - 1) + mask_by_numbers ks
+
+-- the mask of the coalition whose players, from 1 to n, are listed by ascending numbers
+abbrev pub coalition_of : ℕ → List Data → Option ℕ
+coalition_of n ds = option_map mask_by_numbers (numbers_above 0 n ds)
+
+-- ---- pairs
+
+-- the player that a number from 1 to n names
+abbrev pub numbered_player : ℕ → ℤ → Option ℕ
+numbered_player n (pos k) = if nat_lt 0 k && nat_le k n then Some (k - 1) else None
+numbered_player n (negsuc k) = None
+
+-- a coalition and its weight; the empty one where none is listed
+abbrev pub weighted_coalition : ℕ → Data → ℕ × ℤ
+weighted_coalition n pair = (unwrap_or (coalition_of n (pair_members pair)) 0, second_integer (parts pair))
+
+-- the player that the first of two items names by its number from 1 to n
+abbrev pub first_player : ℕ → List Data → Option ℕ
+first_player n (x ∷ y ∷ []) = option_and_then (numbered_player n) (integer x)
+first_player n _ = None
+
+-- a player and its weight; the first player where none is named
+abbrev pub weighted_player : ℕ → Data → ℕ × ℤ
+weighted_player n pair = (unwrap_or (first_player n (parts pair)) 0, second_integer (parts pair))
+
+-- ---- levels
+
+-- what the tree of a level describes
+abbrev pub level_of : ℕ → Data → Level
+level_of n d = record {
+  excess_num = (fraction_at (codes "excess") d).num;
+  excess_den = (fraction_at (codes "excess") d).den;
+  coalitions = map (weighted_coalition n) (parts_at (codes "coalitions") d);
+  earlier = map (weighted_coalition n) (parts_at (codes "earlier") d);
+  bounds = map (weighted_player n) (parts_at (codes "bounds") d);
+  total = integer_at (codes "total") d;
+}

@@ -1,0 +1,56 @@
+-- The kinds, keys and words of a certificate, and the words of the families.
+--
+--   family_of       the family that the answer of a document names
+--   mode_of         the mode that a certificate names
+--   is_certificate  a certificate has its keys and kinds
+use Rattle.std.specs.Prelude.{ℕ, List, [], ◌∷◌, codes, Bool, ◌&&◌, Option, Some, None, is_some, option_and_then, if◌then◌else◌}
+use Rattle.std.specs.Str.{bytes_eq}
+use Rattle.serde_json.specs.Data.{Data}
+use Rattle.serde_json.specs.Find.{get, as_str}
+use Rattle.definitions.specs.declared.Family.{Family}
+use Rattle.definitions.specs.declared.Family.TheVariants.{Imputations, Preimputations}
+use Rattle.definitions.specs.declared.Mode.{Mode}
+use Rattle.definitions.specs.declared.Mode.TheVariants.{Players, Span}
+use Rattle.json_trees.specs.Keys.{has_only_keys}
+use Rattle.json_trees.specs.Trees.{passes, is_number, is_text, is_array_of, is_pair_of}
+
+-- the family that a word names
+abbrev pub family_named : List ℕ → Option Family
+family_named s = if bytes_eq s (codes "nucleolus") then Some Imputations else (if bytes_eq s (codes "prenucleolus") then Some Preimputations else None)
+
+-- the family that the answer of a document names
+abbrev pub family_of : Data → Option Family
+family_of tree = option_and_then family_named (option_and_then as_str (get (codes "answer") tree))
+
+-- the mode that a word names
+abbrev pub mode_named : List ℕ → Option Mode
+mode_named s = if bytes_eq s (codes "players") then Some Players else (if bytes_eq s (codes "span") then Some Span else None)
+
+-- the mode that a certificate names
+abbrev pub mode_of : Data → Option Mode
+mode_of certificate = option_and_then mode_named (option_and_then as_str (get (codes "mode") certificate))
+
+-- the keys of a certificate
+abbrev pub certificate_keys : List (List ℕ)
+certificate_keys = codes "levels" ∷ codes "mode" ∷ []
+
+-- the keys of a level
+abbrev pub level_keys : List (List ℕ)
+level_keys = codes "bounds" ∷ codes "coalitions" ∷ codes "earlier" ∷ codes "excess" ∷ codes "total" ∷ []
+
+-- the numbers of the players of a coalition, and a weight
+abbrev pub is_weighted_coalition : Data → Bool
+is_weighted_coalition d = is_pair_of (is_array_of is_number) is_number d
+
+-- the number of a player, and a weight
+abbrev pub is_weighted_player : Data → Bool
+is_weighted_player d = is_pair_of is_number is_number d
+
+-- the keys and kinds of a level
+abbrev pub is_level : Data → Bool
+is_level d =
+    has_only_keys level_keys d && passes (is_array_of is_weighted_player) (get (codes "bounds") d) && passes (is_array_of is_weighted_coalition) (get (codes "coalitions") d) && passes (is_array_of is_weighted_coalition) (get (codes "earlier") d) && passes is_text (get (codes "excess") d) && passes is_number (get (codes "total") d)
+
+-- the keys, kinds and words of a certificate
+abbrev pub is_certificate : Data → Bool
+is_certificate d = has_only_keys certificate_keys d && passes (is_array_of is_level) (get (codes "levels") d) && is_some (mode_of d)

@@ -1,0 +1,14 @@
+//! Certificates in JSON: their kinds, keys and words, and the certificate that a tree describes where it has its form.
+#![tactic(auto)]
+
+mod ascending;
+mod certificates;
+mod levels;
+mod numbered;
+mod shape;
+mod words;
+
+pub use certificates::certificate_of;
+pub use numbered::numbered_player;
+pub use shape::CertificateShape;
+pub use words::family_of;

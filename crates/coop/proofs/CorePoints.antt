@@ -1,0 +1,36 @@
+-- What is said of the core is what is printed: a scheme's point is its nucleolus, and a collection's numbers are small.
+use Rattle.std.proofs.Common.{◌≡◌, ℕ, ◌^◌, ◌<◌, Bool, List, [], ◌∷◌, ℤ, unsigned_abs, to_z, of_z, ap, subst, ◌∙◌, arith, refl, inl}
+use mir.Syntax.{w128}
+use Rattle.std.specs.List.{AllByRecursion}
+use Rattle.definitions.proofs.Casts.{cast_kept}
+use Rattle.definitions.specs.Games.{Game, Allocation, InCore, IsNucleolus}
+use Rattle.definitions.specs.Certificates.{HasForm, IsSmall}
+use Rattle.definitions.specs.declared.Family.TheVariants.{Imputations}
+use Rattle.definitions.specs.declared.Measure.TheVariants.{Plain}
+use Rattle.definitions.specs.declared.Mode.{Mode}
+use Rattle.definitions.specs.declared.Mode.TheVariants.{Players}
+use Rattle.definitions.proofs.Soundness.{IsNucleolus-from_certificate}
+use Rattle.kohlberg.specs.Certificate.{CertificateData, IsCertificate}
+use Rattle.kohlberg.specs.Solved.{IsSolved}
+use Rattle.balanced.specs.Collections.{CollectionData}
+use Rattle.balanced.specs.Answer.{IsSmall as HasSmallParts}
+use Rattle.report.specs.Limits.{HasSmallNumbers}
+use Rattle.coop.specs.Judgement.{printed}
+
+-- the point of a scheme is in the core, and is the nucleolus
+pub scheme_point : (g : Game) (x : Allocation) (c : CertificateData) → InCore g x → IsSolved Players Imputations Plain g x c → IsCertificate c → InCore g x × IsNucleolus Imputations Plain g x
+scheme_point g x c core solved limits =
+    let form = subst (λ (m : Mode). HasForm m c.players c.levels) solved.in_mode limits.form in
+    (core, IsNucleolus-from_certificate Players Imputations Plain g x c.levels (inl refl) (subst (λ (n : ℕ). HasForm Players n c.levels) solved.players form) solved.certifies)
+
+-- a number as it is printed
+pub printed_kept : (are_costs : Bool) (z v w : ℤ) → unsigned_abs z < 2 ^ 117 → unsigned_abs v < 2 ^ 117 → z ≡ printed are_costs (to_z w128 (of_z w128 v)) → v ≡ w → to_z w128 (of_z w128 z) ≡ printed are_costs w
+printed_kept are_costs z v w small number value same =
+    cast_kept w128 z (omega (arith, small)) ∙ value ∙ ap (printed are_costs) (cast_kept w128 v (omega (arith, number)) ∙ same)
+
+small_weights : (ps : List (ℕ × ℤ)) → AllByRecursion (λ p. unsigned_abs p.1 < 2 ^ 62) ps → AllByRecursion (λ p. IsSmall p.1) ps
+small_weights [] h = tt
+small_weights (p ∷ ps) h = (let lt = h.0 in omega (arith, lt), small_weights ps h.1)
+
+pub small_numbers : (n : ℕ) (c : CollectionData) → HasSmallParts n c → HasSmallNumbers c
+small_numbers n c h = record { weights = small_weights c.weights h.weights; k = omega (arith, h.k) }

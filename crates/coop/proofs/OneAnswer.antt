@@ -1,0 +1,111 @@
+-- Bytes that are checked have one right answer: of a document whose certificate certifies its shares it is yes.
+use Rattle.std.proofs.Common.{◌≡◌, ℕ, false, nat_eq, List, [], ◌∷◌, length, refl, sym, ap, subst, ◌∙◌, arith}
+use Rattle.std.proofs.lemmas.Bool.{eq-eqb, false≢true}
+use Rattle.std.proofs.lemmas.Option.{none-some, same_Some}
+use Rattle.serde_json.specs.Data.{Data}
+use Rattle.definitions.specs.Games.{Allocation}
+use Rattle.definitions.specs.Certificates.{Certifies}
+use Rattle.definitions.specs.Failures.{IsFirstFailure}
+use Rattle.definitions.specs.declared.Family.{Family}
+use Rattle.definitions.specs.declared.Measure.TheVariants.{Plain}
+use Rattle.kohlberg.specs.Certificate.{CertificateData}
+use Rattle.checker.specs.Meaning.{Means}
+use Rattle.checker.specs.declared.verdicts.Reason.{Reason}
+use Rattle.checker.specs.declared.verdicts.Verdict.TheVariants.{Yes, No}
+use Rattle.checker.proofs.Judged.{not_certified}
+use Rattle.game_text.specs.Descriptions.{game_of}
+use Rattle.game_text.specs.Documents.{Contents}
+use Rattle.game_text.specs.Denominators.{contents_of, tree_refusal}
+use Rattle.game_text.specs.Refusals.{IsDocument, IsRefused, IsTreeRefused}
+use Rattle.game_text.specs.Text.{IsTextOf}
+use Rattle.game_text.proofs.Computed.{IsReadAs, document_as, refused_as}
+use Rattle.game_text.specs.declared.command.Command.{Command}
+use Rattle.game_text.specs.declared.command.Command.TheVariants as command
+use Rattle.game_text.specs.declared.refusal.Refusal.{Refusal}
+use Rattle.game_text.specs.declared.refusal.Refusal.TheVariants as refusal
+use Rattle.report.specs.declared.answer.Answer.{Answer}
+use Rattle.report.specs.declared.answer.Answer.TheVariants.{Verdict, Usage, Refused}
+use Rattle.report.specs.declared.answer.UsageKind.TheVariants.{Words}
+use Rattle.coop.specs.Checks.{Checks, HasEvidence}
+use Rattle.coop.specs.Headline.{AnswersTo, IsAnsweredFor, Answers}
+use Rattle.coop.specs.ReadBack.{SaysSame, CheckSaysYes}
+use Rattle.coop.specs.Words.{word_of}
+
+-- ---- one command, one tree, one document
+
+abbrev first_word : List (List ℕ) → List ℕ
+first_word [] = []
+first_word (word ∷ words) = word
+
+-- the words of the other commands have another length
+other_length : (word : List ℕ) → nat_eq 5 (length word) ≡ false → word_of command.Check ∷ [] ≡ word ∷ [] → ⊥
+other_length word differs e =
+    let same : 5 ≡ length word = ap (λ (words : List (List ℕ)). length (first_word words)) e in
+    false≢true (sym differs ∙ eq-eqb 5 (length word) same)
+
+only_check : (given : Command) → word_of command.Check ∷ [] ≡ word_of given ∷ [] → given ≡ command.Check
+only_check command.Check e = refl
+only_check command.Nucleolus e = absurd (other_length (word_of command.Nucleolus) refl e)
+only_check command.Prenucleolus e = absurd (other_length (word_of command.Prenucleolus) refl e)
+only_check command.Propose e = absurd (other_length (word_of command.Propose) refl e)
+only_check command.Core e = absurd (other_length (word_of command.Core) refl e)
+
+module _ (given : Command) (bytes : List ℕ) (d : Contents) (document : IsDocument given bytes d) where
+  this : IsReadAs given bytes d
+  this = document_as given bytes d document
+
+  same_tree : (tree : Data) → IsTextOf bytes tree → this.tree ≡ tree
+  same_tree tree text = same_Some this.tree tree (sym this.text.1 ∙ text.1)
+
+  same_document : (e : Contents) → IsDocument given bytes e → d ≡ e
+  same_document e document =
+      let other = document_as given bytes e document in
+      this.says ∙ ap (contents_of given) (same_tree other.tree other.text) ∙ sym other.says
+
+  not_refused_so : (r : Refusal) → IsTreeRefused given bytes r → ⊥
+  not_refused_so r h =
+      let other = refused_as given bytes r h in
+      none-some r (sym this.passed ∙ ap (tree_refusal given) (same_tree other.tree other.text) ∙ other.refused)
+
+  not_refused : (r : Refusal) → IsRefused given bytes r → ⊥
+  not_refused refusal.TooLong long = omega (arith, document.0, long)
+  not_refused refusal.NotJson refused = none-some this.tree (sym (refused.1 this.text.0) ∙ this.text.1)
+  not_refused r refused = not_refused_so r refused
+
+-- ---- one verdict
+
+module _ (d : Contents) (f : Family) (x : Allocation) (c : CertificateData) (evidence : HasEvidence d f x c) (certified : Certifies c.mode f Plain (game_of d.game) x c.levels) where
+  not_failing : (k : Family) (y : Allocation) (e : CertificateData) → HasEvidence d k y e → (r : Reason) → Means Plain y (IsFirstFailure e.mode k Plain (game_of d.game) y e.levels) r → ⊥
+  not_failing k y e other r means =
+      let g = game_of d.game in
+      let family = same_Some f k (sym evidence.family ∙ other.family) in
+      let shares = same_Some x y (sym evidence.shares ∙ other.shares) in
+      let certificate = same_Some c e (sym evidence.certificate ∙ other.certificate) in
+      let first : Certifies c.mode k Plain g x c.levels = subst (λ (k : Family). Certifies c.mode k Plain g x c.levels) family certified in
+      let second : Certifies c.mode k Plain g y c.levels = subst (λ (y : Allocation). Certifies c.mode k Plain g y c.levels) shares first in
+      let third : Certifies e.mode k Plain g y e.levels = subst (λ (e : CertificateData). Certifies e.mode k Plain g y e.levels) certificate second in
+      not_certified e.mode k Plain g y e.levels r means third
+
+  only_verdict : (answer : Answer) → Checks d answer → answer ≡ Verdict Yes
+  only_verdict (Verdict Yes) h = refl
+  only_verdict (Verdict (No r)) h = absurd (not_failing h.0 h.1.0 h.1.1.0 h.1.1.1.0 r h.1.1.1.1)
+  only_verdict answer h = absurd h
+
+-- ---- one answer
+
+module _ (bytes : List ℕ) (d : Contents) (document : IsDocument command.Check bytes d) (only : (answer : Answer) → Checks d answer → answer ≡ Verdict Yes) where
+  only_served : (answer : Answer) → IsAnsweredFor (word_of command.Check ∷ []) bytes answer → answer ≡ Verdict Yes
+  only_served answer h =
+      let here : IsDocument command.Check bytes h.1.1.0 × AnswersTo command.Check h.1.1.0 answer = subst (λ (k : Command). IsDocument k bytes h.1.1.0 × AnswersTo k h.1.1.0 answer) (only_check h.0 h.1.0) h.1.1.1 in
+      only answer (subst (λ (e : Contents). Checks e answer) (sym (same_document command.Check bytes d document h.1.1.0 here.0)) here.1)
+
+  only_yes : (answer : Answer) → Answers (word_of command.Check ∷ []) bytes answer → answer ≡ Verdict Yes
+  only_yes (Usage Words) h = absurd (h command.Check refl)
+  only_yes (Refused r) h = absurd (not_refused command.Check bytes d document r (subst (λ (k : Command). IsRefused k bytes r) (only_check h.0 h.1.0) h.1.1))
+  only_yes answer h = only_served answer h
+
+pub check_says_yes : (bytes : List ℕ) (d : Contents) → IsDocument command.Check bytes d → (f : Family) (printed : Data) (x : Allocation) (c : CertificateData) → SaysSame f printed x c d → CheckSaysYes bytes
+check_says_yes bytes d document f printed x c says = record {
+  yes = (command.Check, (refl, (d, (document, (f, (says.shares, (c, (says.evidence, says.certifies))))))));
+  only = only_yes bytes d document (only_verdict d f says.shares c says.evidence says.certifies);
+}

@@ -1,0 +1,62 @@
+-- The right answer on the core of the game of a document.
+--
+-- The answers exclude one another: no core point stands beside a balanced collection of excess worth. No other answer is right,
+-- so the negative answer comes exactly where the core is empty.
+--
+--   IsSchemePoint   the point of an airport or bankruptcy game is its nucleolus
+--   IsSaidOf        what a solver says of the core
+--   IsCorePoint     a point of the core, as it is printed
+--   IsEmptyCore     a collection that shows that the core is empty, with both numbers as they are printed
+--   SaysOfCore      the answer is right for the game of a document
+use Rattle.std.specs.Prelude.{◌≡◌, ⊤, Bool, ℤ, ◌*ℤ◌}
+use Rattle.definitions.specs.Sums.{weighted_sum}
+use Rattle.definitions.specs.Coalitions.{grand_coalition}
+use Rattle.definitions.specs.Games.{Game, Allocation, InCore, IsNucleolus}
+use Rattle.definitions.specs.Balanced.{IsBalancedOfExcessWorth}
+use Rattle.definitions.specs.declared.Family.TheVariants.{Imputations}
+use Rattle.definitions.specs.declared.Measure.TheVariants.{Plain}
+use Rattle.balanced.specs.Collections.{CollectionData}
+use Rattle.balanced.specs.Answer.{ShowsEmpty}
+use Rattle.balanced.specs.declared.CoreAnswer.{CoreAnswer}
+use Rattle.balanced.specs.declared.CoreAnswer.TheVariants.{Point, Empty}
+use Rattle.game_text.specs.Descriptions.{Description, table, cost_table, airport, bankruptcy, game_of, is_cost}
+use Rattle.game_text.specs.Documents.{Contents}
+use Rattle.report.specs.declared.answer.Answer.{Answer}
+use Rattle.report.specs.declared.answer.Answer.TheVariants.{CorePoint, EmptyCore}
+use Rattle.coop.specs.Judgement.{printed}
+
+-- the point of an airport or bankruptcy game is its nucleolus; that of a table may be any
+abbrev pub IsSchemePoint : Description → Allocation → Type 0
+IsSchemePoint (table n worths) x = ⊤
+IsSchemePoint (cost_table n costs) x = ⊤
+IsSchemePoint (airport costs) x = IsNucleolus Imputations Plain (game_of (airport costs)) x
+IsSchemePoint (bankruptcy estate claims) x = IsNucleolus Imputations Plain (game_of (bankruptcy estate claims)) x
+
+-- what a solver says of the core
+abbrev pub IsSaidOf : Description → CoreAnswer → Type 0
+IsSaidOf d (Point x) = InCore (game_of d) x × IsSchemePoint d x
+IsSaidOf d (Empty c) = ShowsEmpty (game_of d) c
+
+-- the shares are in the core, and are printed as payments where the numbers of the game are costs
+pub record IsCorePoint (d : Contents) (are_costs : Bool) (x : Allocation) : Type 0 where
+  pub in_core : InCore (game_of d.game) x
+  pub chosen : IsSchemePoint d.game x
+  pub signs : are_costs ≡ is_cost d.game
+
+-- the coalitions balance, and are worth more together than k times all, so no point is in the core; both numbers are given as they are printed
+pub record IsEmptyCore (are_costs : Bool) (g : Game) (c : CollectionData) (value against : ℤ) : Type 0 where
+  pub balanced : IsBalancedOfExcessWorth g c.weights c.k
+  pub none : (x : Allocation) → ¬ InCore g x
+  pub value_is : value ≡ printed are_costs (weighted_sum g.worth c.weights)
+  pub against_is : against ≡ printed are_costs (c.k *ℤ g.worth (grand_coalition g.players))
+
+-- the answer is such a collection
+abbrev pub IsShown : Bool → Game → Answer → Type 0
+IsShown are_costs g (EmptyCore c value against) = IsEmptyCore are_costs g c value against
+IsShown are_costs g _ = ⊥
+
+-- the answer is right for the game of a document
+abbrev pub SaysOfCore : Contents → Answer → Type 0
+SaysOfCore d (CorePoint are_costs x) = IsCorePoint d are_costs x
+SaysOfCore d (EmptyCore c value against) = IsEmptyCore (is_cost d.game) (game_of d.game) c value against
+SaysOfCore d _ = ⊥

@@ -1,0 +1,87 @@
+//! The core of the game of a document.
+ghost use Rattle.std.specs.Prelude.{◌≡◌, ◌≤◌, IfOk};
+ghost use Rattle.kohlberg.specs.Certificate.{IsCertificate};
+ghost use Rattle.balanced.specs.Answer.{ShowsEmpty, IsFound};
+ghost use Rattle.game_text.specs.Games.{description_in};
+ghost use Rattle.game_text.specs.Readings.{contents_in};
+ghost use Rattle.report.specs.Limits.{IsPrintable};
+ghost use Rattle.coop.specs.CoreClaims.{IsSaidOf, IsShown, SaysOfCore};
+ghost use Rattle.coop.specs.Needs.{IsAccepted};
+ghost use Rattle.coop.specs.ReadBack.{CanBeRead};
+ghost use Rattle.coop.specs.Finding.{HasFewPlayers};
+
+use crate::judge::printed_amount;
+use crate::solve::keep_their_limits;
+use balanced::{Collection, CoreAnswer, CoreFault, core_of};
+use fractions::OutOfMemory;
+use game_text::{Document, Game};
+use kohlberg::Certificate;
+use report::Answer;
+use std::alloc::Global;
+use worth_core::{Shares, Worth};
+
+/// A point of the core of the game of a document, or a collection that shows that the core is empty.
+///
+/// The point of an airport or bankruptcy game is its nucleolus, and tables are answered by the balanced program.
+pub fn core_document(alloc: Global, document: &Document) -> Result<Answer, OutOfMemory>
+    requires { IsAccepted (contents_in document.now) }
+    ensures says { IfOk result (SaysOfCore (contents_in document.now)) }
+    ensures printable { IfOk result IsPrintable }
+    ensures readable { IfOk result CanBeRead }
+{
+    let is_cost = document.game.is_cost();
+    match said_of(alloc, &document.game)? {
+        CoreAnswer::Point(shares) => Ok(Answer::CorePoint { is_cost, shares }),
+        CoreAnswer::Empty(collection) => Ok(shown(&document.game, collection, is_cost)),
+    }
+}
+
+// What the scheme of the game's class says, and what the balanced program says of a table.
+fn said_of(alloc: Global, game: &Game) -> Result<CoreAnswer, OutOfMemory>
+    requires { HasFewPlayers (description_in game.now) }
+    ensures { IfOk result (IsSaidOf (description_in game.now)) }
+{
+    match game {
+        Game::Airport(game) => Ok(point(airport_scheme::solve(alloc, game)?)),
+        Game::Bankruptcy(game) => Ok(point(talmud::solve(alloc, game)?)),
+        Game::Table(game) => by_program(alloc, game),
+        Game::Cost(game) => by_program(alloc, game),
+    }
+}
+
+// The point of a scheme.
+fn point(solution: (Shares, Certificate)) -> CoreAnswer
+    ensures point { result ≡ CoreAnswer.Point solution.0 }
+    ensures certificate { IsCertificate solution.1 }
+{
+    keep_their_limits(&solution.0, &solution.1);
+    CoreAnswer::Point(solution.0)
+}
+
+// What the balanced program says of a game of few players.
+fn by_program<W: Worth>(alloc: Global, game: &W) -> Result<CoreAnswer, OutOfMemory>
+    requires { (W.game game.now).players ≤ 16 }
+    ensures { IfOk result (IsFound (W.game game.now)) }
+{
+    match core_of(alloc, game) {
+        Ok(answer) => Ok(answer),
+        Err(CoreFault::Memory) => Err(OutOfMemory),
+        Err(CoreFault::TooMany) => unreachable!(),
+    }
+}
+
+// The collection beside both numbers that it sets against each other, as they are printed.
+fn shown<W: Worth>(game: &W, collection: Collection, are_costs: bool) -> Answer
+    requires { ShowsEmpty (W.game game.now) collection }
+    ensures shown { IsShown are_costs (W.game game.now) result }
+    ensures printable { IsPrintable result }
+    ensures readable { CanBeRead result }
+{
+    let value = printed_amount(collection.value(game), are_costs);
+    let against = printed_amount(collection.against(game), are_costs);
+    Answer::EmptyCore {
+        collection,
+        value,
+        against,
+    }
+}

@@ -1,0 +1,67 @@
+//! Points of the core, and the evidence that there is none.
+use super::{printed, run_on};
+use crate::status::Status;
+use std::test::Fail;
+
+#[test]
+fn prints_the_point_of_the_scheme(rt: HostRuntime) -> Result<(), Fail> {
+    for (input, line) in [
+        (
+            "{\"game\":{\"class\":\"airport\",\"costs\":[2,4,6]}}",
+            "{\"answer\":\"core point\",\"shares\":[\"1\",\"3/2\",\"7/2\"]}\n",
+        ),
+        (
+            "{\"game\":{\"claims\":[100,200,300],\"class\":\"bankruptcy\",\"estate\":400}}",
+            "{\"answer\":\"core point\",\"shares\":[\"50\",\"125\",\"225\"]}\n",
+        ),
+        (
+            "{\"game\":{\"class\":\"table\",\"players\":1,\"worths\":[-5]}}",
+            "{\"answer\":\"core point\",\"shares\":[\"-5\"]}\n",
+        ),
+        (
+            "{\"game\":{\"class\":\"cost-table\",\"players\":2,\"worths\":[1,2,3]}}",
+            "{\"answer\":\"core point\",\"shares\":[\"1\",\"2\"]}\n",
+        ),
+    ] {
+        let answer = run_on(rt.alloc(), &["core"], input.as_bytes(), 100, line)?;
+        assert_eq!(rt; answer, (Status::Done, true));
+    }
+    Ok(())
+}
+
+#[test]
+fn prints_a_collection_where_the_core_is_empty(rt: HostRuntime) -> Result<(), Fail> {
+    for (input, line) in [
+        (
+            "{\"game\":{\"class\":\"table\",\"players\":3,\"worths\":[0,0,1,0,1,1,1]}}",
+            "{\"against\":\"2\",\"answer\":\"empty core\",\"collection\":[[[1,2],1],[[1,3],1],[[2,3],1]],\"k\":2,\"value\":\"3\"}\n",
+        ),
+        (
+            "{\"game\":{\"class\":\"cost-table\",\"players\":3,\"worths\":[6,6,6,6,6,6,12]}}",
+            "{\"against\":\"24\",\"answer\":\"empty core\",\"collection\":[[[1,2],1],[[1,3],1],[[2,3],1]],\"k\":2,\"value\":\"18\"}\n",
+        ),
+    ] {
+        let answer = run_on(rt.alloc(), &["core"], input.as_bytes(), 200, line)?;
+        assert_eq!(rt; answer, (Status::Negative, true));
+    }
+    Ok(())
+}
+
+#[test]
+fn departments_and_tables_that_are_large_have_points(rt: HostRuntime) -> Result<(), Fail> {
+    for (input, front) in [
+        (
+            "{\"game\":{\"class\":\"cost-table\",\"default\":18,\"names\":[\"Sales\",\"Ops\",\"Legal\",\"IT\",\"HR\"],\"players\":5,\"sparse\":[[[\"Sales\"],6],[[\"Ops\"],6],[[\"Legal\"],6],[[\"IT\"],6],[[\"HR\"],6],[[\"Sales\",\"Ops\",\"Legal\",\"IT\",\"HR\"],20]]}}",
+            "{\"answer\":\"core point\",\"shares\":[",
+        ),
+        (
+            "{\"game\":{\"class\":\"table\",\"players\":16,\"sparse\":[[[1,2,3,4,5,6,7,8,9,10,11,12,13,14,15,16],16]]}}",
+            "{\"answer\":\"core point\",\"shares\":[",
+        ),
+    ] {
+        let (status, line) = printed(rt.alloc(), "core", input.as_bytes())?;
+        assert_eq!(rt; status, Status::Done);
+        assert!(rt; line.starts_with(front.as_bytes()));
+    }
+    Ok(())
+}

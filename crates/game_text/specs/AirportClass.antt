@@ -1,0 +1,29 @@
+-- Airport games in a document: a cost for each player.
+--
+--   airport_keys         the keys
+--   is_airport_shaped    the keys and kinds
+--   airport_players      the number of players
+--   has_airport_numbers  each number is within its limits
+use Rattle.std.specs.Prelude.{ℕ, List, [], ◌∷◌, length, codes, Bool, ◌&&◌}
+use Rattle.std.specs.List.{list_all}
+use Rattle.serde_json.specs.Data.{Data}
+use Rattle.serde_json.specs.Find.{get}
+use Rattle.json_trees.specs.Keys.{has_only_keys}
+use Rattle.json_trees.specs.Trees.{passes, is_number, is_array_of, parts_at}
+use Rattle.game_text.specs.Sizes.{is_cost}
+
+-- the keys of an airport game
+abbrev pub airport_keys : List (List ℕ)
+airport_keys = codes "class" ∷ codes "costs" ∷ codes "names" ∷ []
+
+-- a list of costs
+abbrev pub is_airport_shaped : Data → Bool
+is_airport_shaped game = has_only_keys airport_keys game && passes (is_array_of is_number) (get (codes "costs") game)
+
+-- one player for each cost
+abbrev pub airport_players : Data → ℕ
+airport_players game = length (parts_at (codes "costs") game)
+
+-- each cost is an integer from 0, below 2^40
+abbrev pub has_airport_numbers : Data → Bool
+has_airport_numbers game = list_all is_cost (parts_at (codes "costs") game)

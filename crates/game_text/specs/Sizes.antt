@@ -1,0 +1,25 @@
+-- The sizes that several classes keep within.
+--
+--   is_cost       an integer from 0, below 2^40
+--   is_list_size  a number of players from 1 to 64
+use Rattle.std.specs.Prelude.{◌^◌, ℕ, ℤ, pos, negsuc, Bool, false, ◌&&◌, Option, Some, None, nat_lt, nat_le}
+use Rattle.serde_json.specs.Data.{Data}
+use Rattle.json_trees.specs.Trees.{integer}
+
+-- a number of players from 1 to 64
+abbrev pub is_list_size : ℕ → Bool
+is_list_size n = nat_lt 0 n && nat_le n 64
+
+-- at least 0, and below 2^40
+abbrev pub is_small_cost : ℤ → Bool
+is_small_cost (pos n) = nat_lt n (2 ^ 40)
+is_small_cost (negsuc n) = false
+
+-- an integer that passes
+abbrev pub if_integer : (ℤ → Bool) → Option ℤ → Bool
+if_integer test None = false
+if_integer test (Some z) = test z
+
+-- an integer from 0, below 2^40
+abbrev pub is_cost : Data → Bool
+is_cost d = if_integer is_small_cost (integer d)

@@ -1,0 +1,47 @@
+-- The tests of a tree from one of them on, as the steps of reading go through them.
+use Rattle.std.specs.Prelude.{Option, None}
+use Rattle.serde_json.specs.Data.{Data}
+use Rattle.game_text.specs.Names.{has_names}
+use Rattle.game_text.specs.Coalitions.{has_coalitions}
+use Rattle.game_text.specs.Descriptions.{description_of}
+use Rattle.game_text.specs.Limits.{players}
+use Rattle.game_text.specs.Shares.{has_shares_for, written_shares}
+use Rattle.game_text.specs.Denominators.{keep_limits, needed_keep_limits}
+use Rattle.game_text.specs.Refusals.{unless, is_covered, has_needed_shares, has_needed_form}
+use Rattle.game_text.specs.declared.command.Command.{Command}
+use Rattle.game_text.specs.declared.refusal.Refusal.{Refusal}
+use Rattle.game_text.specs.declared.refusal.Refusal.TheVariants.{Names, Coalition, Estate, Proposal, TooFine, Certificate}
+
+-- the tests of the coalitions and of the estate, and then the rest
+abbrev pub coalition_refusal : Data → Option Refusal → Option Refusal
+coalition_refusal game rest =
+    unless (has_coalitions game) Coalition (
+    unless (is_covered (description_of game)) Estate rest)
+
+-- the tests of the names, the coalitions and the estate, and then the rest
+abbrev pub game_refusal : Data → Option Refusal → Option Refusal
+game_refusal game rest = unless (has_names game) Names (coalition_refusal game rest)
+
+-- as many shares as players, over a denominator that isn't too large, and then the rest
+abbrev pub proposal_refusal : Data → Data → Option Refusal → Option Refusal
+proposal_refusal game tree rest =
+    unless (has_shares_for (players game) tree) Proposal (
+    unless (keep_limits (written_shares tree)) TooFine rest)
+
+-- the tests of the shares that a command needs, and then the rest
+abbrev pub share_refusal : Command → Data → Data → Option Refusal → Option Refusal
+share_refusal command game tree rest =
+    unless (has_needed_shares command game tree) Proposal (
+    unless (needed_keep_limits command tree) TooFine rest)
+
+-- the test of the certificate that a command needs
+abbrev pub certificate_refusal : Command → Data → Data → Option Refusal
+certificate_refusal command game tree = unless (has_needed_form command game tree) Certificate None
+
+-- the tests of what a command needs beside the game
+abbrev pub needed_refusal : Command → Data → Data → Option Refusal
+needed_refusal command game tree = share_refusal command game tree (certificate_refusal command game tree)
+
+-- the tests behind those of the shape, the players and the numbers
+abbrev pub late_refusal : Command → Data → Data → Option Refusal
+late_refusal command game tree = game_refusal game (needed_refusal command game tree)

@@ -1,0 +1,51 @@
+//! Airport games: a cost for each player.
+ghost use Rattle.std.specs.Prelude.{◌≡◌, codes, IfOk, Some};
+ghost use Rattle.serde_json.specs.View.{view};
+ghost use Rattle.json_trees.specs.Integers.{costs_at};
+ghost use Rattle.game_text.specs.Shape.{class_of};
+ghost use Rattle.game_text.specs.AirportClass.{is_airport_shaped, airport_players, has_airport_numbers};
+ghost use Rattle.game_text.specs.Readings.{HasSizes};
+ghost use Rattle.game_text.specs.declared.class.Class.TheVariants.{Airport};
+
+use crate::number_forms::SmallCost;
+use airport::{AirportFault, AirportGame};
+use fractions::OutOfMemory;
+use json_trees::{ArrayOf, Number, each_at, has, has_only_keys, integers_at, parts_at};
+use serde_json::Value;
+use std::alloc::Global;
+
+/// Whether it has the keys and kinds of an airport game.
+pub fn is_airport_shaped(game: &Value) -> bool
+    ensures { result ≡ is_airport_shaped (view game.now) }
+{
+    has_only_keys(&["class", "costs", "names"], game) && has(game, "costs", &ArrayOf(Number))
+}
+
+/// The number of players: one for each cost.
+pub fn airport_players(game: &Value) -> usize
+    ensures { result ≡ airport_players (view game.now) }
+{
+    parts_at(game, "costs").len()
+}
+
+/// Whether each cost is an integer within its limits.
+pub fn has_airport_numbers(game: &Value) -> bool
+    ensures { result ≡ has_airport_numbers (view game.now) }
+{
+    each_at(game, "costs", &SmallCost)
+}
+
+/// The game that is described.
+pub fn airport_of(alloc: Global, game: &Value) -> Result<AirportGame, OutOfMemory>
+    requires class { class_of (view game.now) ≡ Some Airport }
+    requires sizes { HasSizes (view game.now) }
+    ensures { IfOk result (λ a. a.costs ≡ costs_at (codes "costs") (view game.now)) }
+{
+    let costs = integers_at(alloc, game, "costs")?;
+    match AirportGame::new(alloc, costs) {
+        Ok(game) => Ok(game),
+        Err(AirportFault::Memory) => Err(OutOfMemory),
+        Err(AirportFault::Players) => unreachable!(),
+        Err(AirportFault::Number) => unreachable!(),
+    }
+}

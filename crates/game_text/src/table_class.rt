@@ -1,0 +1,157 @@
+//! Tables of worths and of costs: a number for each coalition, all listed or some in pairs.
+ghost use Rattle.std.specs.Prelude.{◌≡◌, ◌<◌, ◌≤◌, ◌^◌, length, IfOk, IfSome, Some, None, if◌then◌else◌};
+ghost use Rattle.serde_json.specs.View.{view};
+ghost use Rattle.worth_tables.specs.Tables.{table};
+ghost use Rattle.game_text.specs.Shape.{class_of};
+ghost use Rattle.game_text.specs.Limits.{players};
+ghost use Rattle.game_text.specs.Names.{names_of};
+ghost use Rattle.game_text.specs.Coalitions.{masks};
+ghost use Rattle.game_text.specs.Members.{are_coalitions};
+ghost use Rattle.game_text.specs.Descriptions.{table_numbers};
+ghost use Rattle.game_text.specs.Readings.{HasSizes, IsTableClass};
+ghost use Rattle.game_text.specs.TableClass.{lists_worths, lists_coalitions, is_table_shaped, table_players, has_items, has_worths_for, players_at, has_table_players, is_small, has_table_numbers};
+
+use crate::limits::players;
+use crate::names::Names;
+use crate::table::table_numbers;
+use fractions::OutOfMemory;
+use json_trees::{
+    ArrayOf, Form, Member, Number, PairOf, SecondOf, each_at, has, has_if_there, has_only_keys,
+    integer, parts,
+};
+use serde_json::Value;
+use std::alloc::Global;
+use worth_tables::{TableFault, TableGame};
+
+fn lists_worths(game: &Value) -> bool
+    ensures { result ≡ lists_worths (view game.now) }
+{
+    has(game, "worths", &ArrayOf(Number))
+        && game.get("sparse").is_none()
+        && game.get("default").is_none()
+}
+
+fn lists_coalitions(game: &Value) -> bool
+    ensures { result ≡ lists_coalitions (view game.now) }
+{
+    has(game, "sparse", &ArrayOf(PairOf(ArrayOf(Member), Number)))
+        && game.get("worths").is_none()
+        && has_if_there(game, "default", &Number)
+}
+
+/// Whether it has the keys and kinds of a table.
+pub fn is_table_shaped(game: &Value) -> bool
+    ensures { result ≡ is_table_shaped (view game.now) }
+{
+    has_only_keys(
+        &["class", "default", "names", "players", "sparse", "worths"],
+        game,
+    ) && has(game, "players", &Number)
+        && (lists_worths(game) || lists_coalitions(game))
+}
+
+/// The number of players of a table, from 1 to 16.
+fn table_players(n: i64) -> Option<u32>
+    ensures value { result ≡ table_players n }
+    ensures range { IfSome result (λ n. (0 < n) × (n ≤ 16)) }
+{
+    if 0 < n && n <= 16 {
+        Some(n as u32)
+    } else {
+        None
+    }
+}
+
+/// The number of players that a table says it has, where it is 1 to 16.
+pub fn players_at(game: &Value) -> Option<u32>
+    ensures value { result ≡ players_at (view game.now) }
+    ensures range { IfSome result (λ n. (0 < n) × (n ≤ 16)) }
+{
+    let n = game.get("players").and_then(|v| integer(v))?;
+    table_players(n)
+}
+
+fn has_items(value: &Value, n: usize) -> bool
+    requires { n < 2 ^ 20 }
+    ensures { result ≡ has_items n (view value.now) }
+{
+    parts(value).len() + 1 == n
+}
+
+fn has_worths_for(game: &Value, players: Option<u32>) -> bool
+    requires { IfSome players (λ n. n ≤ 16) }
+    ensures { result ≡ has_worths_for (view game.now) players }
+{
+    let Some(n) = players else {
+        return false;
+    };
+    match game.get("worths") {
+        Some(worths) => has_items(worths, 1 << n),
+        None => true,
+    }
+}
+
+/// Whether there are 1 to 16 players, and a number for each coalition where all are listed.
+pub fn has_table_players(game: &Value) -> bool
+    ensures { result ≡ has_table_players (view game.now) }
+{
+    let players = players_at(game);
+    has_worths_for(game, players)
+}
+
+fn is_small(z: i64) -> bool
+    ensures { result ≡ is_small z }
+{
+    z.unsigned_abs() < 1 << 40
+}
+
+/// An integer below 2^40 in size.
+#[derive(Clone, Copy, Debug)]
+struct SmallWorth;
+
+impl Form for SmallWorth {
+    ghost use Rattle.game_text.specs.TableClass.{is_worth};
+
+    ghost form = { λ _. is_worth };
+
+    fn fits(&self, value: &Value) -> bool {
+        match integer(value) {
+            Some(z) => is_small(z),
+            None => false,
+        }
+    }
+}
+
+/// Whether each number of a table is an integer within its limits.
+pub fn has_table_numbers(game: &Value) -> bool
+    ensures { result ≡ has_table_numbers (view game.now) }
+{
+    each_at(game, "worths", &SmallWorth)
+        && each_at(game, "sparse", &SecondOf(SmallWorth))
+        && has_if_there(game, "default", &SmallWorth)
+}
+
+/// The table. None where a pair of a sparse table has no coalition, or two have the same.
+pub fn table_of(
+    alloc: Global,
+    game: &Value,
+    names: &Names,
+) -> Result<Option<TableGame>, OutOfMemory>
+    requires class { IsTableClass (class_of (view game.now)) }
+    requires sizes { HasSizes (view game.now) }
+    requires named { length names.now ≤ players (view game.now) }
+    requires names { names.now ≡ names_of (view game.now) }
+    ensures { IfOk result (λ o. o ≡ (if are_coalitions (masks (view game.now))
+        then Some (table (players (view game.now)) (table_numbers (view game.now))) else None)) }
+{
+    let count = players(game) as u32;
+    let Some(worths) = table_numbers(alloc, game, count, names)? else {
+        return Ok(None);
+    };
+    match TableGame::new(alloc, count, worths) {
+        Ok(table) => Ok(Some(table)),
+        Err(TableFault::Memory) => Err(OutOfMemory),
+        Err(TableFault::Players) => unreachable!(),
+        Err(TableFault::Number) => unreachable!(),
+    }
+}

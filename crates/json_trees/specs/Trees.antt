@@ -1,0 +1,84 @@
+-- Looking into a JSON tree.
+use Rattle.std.specs.Prelude.{◌&&◌, ◌||◌, ℕ, ℤ, List, [], ◌∷◌, Bool, true, false, Option, Some, None, is_some, option_map, option_and_then, unwrap_or}
+use Rattle.std.specs.List.{list_all}
+use Rattle.serde_json.specs.Data.{Data, Items, no_items, item, Members, no_members, member}
+use Rattle.serde_json.specs.Find.{get, as_number, as_i64, as_str, as_array, as_object}
+
+-- the items of an array, as a list
+abbrev pub listed : Items → List Data
+listed no_items = []
+listed (item d ds) = d ∷ listed ds
+
+-- the items of an array, and none of anything else
+abbrev pub parts : Data → List Data
+parts d = unwrap_or (option_map listed (as_array d)) []
+
+-- the keys of the members, as a list
+abbrev pub keys_of : Members → List (List ℕ)
+keys_of no_members = []
+keys_of (member k d ms) = k ∷ keys_of ms
+
+-- the keys of an object, and none of anything else
+abbrev pub keys : Data → List (List ℕ)
+keys d = unwrap_or (option_map keys_of (as_object d)) []
+
+-- the part is there and passes
+abbrev pub passes : (Data → Bool) → Option Data → Bool
+passes test None = false
+passes test (Some d) = test d
+
+-- the part passes, where it is there
+abbrev pub passes_if_there : (Data → Bool) → Option Data → Bool
+passes_if_there test None = true
+passes_if_there test (Some d) = test d
+
+-- a number of any kind
+abbrev pub is_number : Data → Bool
+is_number d = is_some (as_number d)
+
+-- a text
+abbrev pub is_text : Data → Bool
+is_text d = is_some (as_str d)
+
+-- an array whose items all pass
+abbrev pub is_array_of : (Data → Bool) → Data → Bool
+is_array_of test d = is_some (as_array d) && list_all test (parts d)
+
+-- two items, of which the first passes one test and the second another
+abbrev pub are_two : (Data → Bool) → (Data → Bool) → List Data → Bool
+are_two first second (x ∷ y ∷ []) = first x && second y
+are_two first second _ = false
+
+-- an array of two items, of which the first passes one test and the second another
+abbrev pub is_pair_of : (Data → Bool) → (Data → Bool) → Data → Bool
+is_pair_of first second d = are_two first second (parts d)
+
+-- the integer that a number is, where it is one of 64 bits written as such
+abbrev pub integer : Data → Option ℤ
+integer d = option_and_then as_i64 (as_number d)
+
+-- the text, and the empty one where there is none
+abbrev pub text_of : Data → List ℕ
+text_of d = unwrap_or (as_str d) []
+
+-- the items of the array at a key, and none where it is absent
+abbrev pub parts_at : List ℕ → Data → List Data
+parts_at key d = unwrap_or (option_map parts (get key d)) []
+
+-- the items of the first item
+abbrev pub first_parts : List Data → List Data
+first_parts [] = []
+first_parts (x ∷ xs) = parts x
+
+-- the members of the coalition of a pair of a coalition and a number
+abbrev pub pair_members : Data → List Data
+pair_members pair = first_parts (parts pair)
+
+-- the second of two items passes
+abbrev pub second_passes : (Data → Bool) → List Data → Bool
+second_passes test (x ∷ y ∷ []) = test y
+second_passes test _ = false
+
+-- a number or a text
+abbrev pub is_member : Data → Bool
+is_member d = is_number d || is_text d

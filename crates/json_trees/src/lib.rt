@@ -1,0 +1,18 @@
+//! Looking into a JSON tree: its parts, its keys, its integers and fractions, and the forms that its parts may have.
+#![tactic(auto)]
+
+mod form;
+mod fractions_written;
+mod integers;
+mod keys;
+mod looking;
+#[cfg(test)]
+mod tests;
+
+pub use form::{
+    ArrayOf, Form, Integer, Member, Number, PairOf, SecondOf, Text, each_at, has, has_if_there,
+};
+pub use fractions_written::{Fraction, fraction_at, fraction_of, fraction_or_zero};
+pub use integers::{integer, integer_at, integers_at, second_integer};
+pub use keys::has_only_keys;
+pub use looking::{pair_members, parts, parts_at, text};

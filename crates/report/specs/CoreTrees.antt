@@ -1,0 +1,28 @@
+-- What is said of the core as JSON, each object's keys ascending.
+--
+--   core_point_tree   a point of the core
+--   empty_core_tree   a collection that shows that the core is empty, and both numbers that it compares
+use Rattle.std.specs.Prelude.{Bool, ℤ, codes}
+use Rattle.serde_json.specs.Data.{Data, string, object, member, no_members}
+use Rattle.definitions.specs.Games.{Allocation}
+use Rattle.balanced.specs.Collections.{CollectionData}
+use Rattle.report.specs.Values.{integer_data}
+use Rattle.report.specs.Certificates.{weight_data, coalition_pairs}
+use Rattle.report.specs.ShareLists.{share_list}
+
+-- a point of the core
+abbrev pub core_point_tree : Bool → Allocation → Data
+core_point_tree is_cost x =
+    object
+    (member (codes "answer") (string (codes "core point"))
+    (member (codes "shares") (share_list is_cost x) no_members))
+
+-- a collection, what its coalitions are worth by their weights, and what all are worth k times
+abbrev pub empty_core_tree : CollectionData → ℤ → ℤ → Data
+empty_core_tree c value against =
+    object
+    (member (codes "against") (integer_data against)
+    (member (codes "answer") (string (codes "empty core"))
+    (member (codes "collection") (coalition_pairs c.weights)
+    (member (codes "k") (weight_data c.k)
+    (member (codes "value") (integer_data value) no_members)))))
