@@ -1,0 +1,4 @@
+pub mod Each
+pub mod Subsets
+pub mod Layers
+pub mod Theorems
