@@ -1,5 +1,5 @@
 -- Sums, differences, products and quotients of two fractions in lowest terms.
-use Rattle.std.proofs.Common.{◌≡◌, ◌≢◌, ℕ, zero, suc, ◌*◌, ◌/◌, ◌<◌, arith, refl, sym, ap, subst, ◌∙◌, ℤ, pos, negsuc, ◌+ℤ◌, ◌-ℤ◌, ◌*ℤ◌, ◌≤ℤ◌, ◌^◌, unsigned_abs, int_div, FitsSigned, Result, Ok, Err, MatchResult}
+use Rattle.std.proofs.Common.{◌≡◌, Bool, true, false, ◌≢◌, ℕ, zero, suc, ◌*◌, ◌/◌, ◌<◌, arith, refl, sym, ap, subst, ◌∙◌, ℤ, pos, negsuc, ◌+ℤ◌, ◌-ℤ◌, ◌*ℤ◌, ◌≤ℤ◌, ◌^◌, unsigned_abs, int_div, FitsSigned, Result, Ok, Err, MatchResult}
 use lib.IntN.{*ℤ_comm}
 use mir.Syntax.{w128}
 use Rattle.std.proofs.lemmas.Int.{ints, quot_fits}
@@ -9,7 +9,7 @@ use Rattle.fractions.proofs.Divisors.{gcd_positive, gcd_le, gcd_swap, left_quoti
 use Rattle.fractions.proofs.Ratios.{apart, size_of, ratio_of_same, product_ratio, product_value, product_apart, product_positive}
 use Rattle.fractions.proofs.LowestTerms.{lowest, lowest_is, no_form}
 use Rattle.fractions.specs.Divisors.{gcd}
-use Rattle.fractions.specs.Fraction.{Fraction, IsReduced, IsRatio, HasNoForm, HasCommonForm, common_divisor}
+use Rattle.fractions.specs.Fraction.{Fraction, IsReduced, IsRatio, HasNoForm, HasCommonForm, combined, common_divisor}
 
 -- ---- the common divisor of two positive numbers
 
@@ -66,24 +66,17 @@ difference_value a b c d g p q e f =
 abbrev pub AreOver : Fraction → Fraction → ℤ → ℤ → ℤ → Type 0
 AreOver x y l r d = ◌≡◌ {A = ℤ × ℤ × ℤ} (l, r, d) (x.num *ℤ int_div y.den (common_divisor x y), y.num *ℤ int_div x.den (common_divisor x y), x.den *ℤ int_div y.den (common_divisor x y))
 
--- a sum or a difference of two fractions is the one of their numerators over a common multiple
-abbrev Combines : (ℤ → ℤ → ℤ) → Type 0
-Combines op = (a b c d g p q : ℤ) → b ≡ g *ℤ p → d ≡ g *ℤ q → op (a *ℤ q) (c *ℤ p) *ℤ (b *ℤ d) ≡ op (a *ℤ d) (c *ℤ b) *ℤ (b *ℤ q)
+-- a sum or a difference over a common multiple is the one of the fractions
+combined_value : (s : Bool) (a b c d g p q : ℤ) → b ≡ g *ℤ p → d ≡ g *ℤ q → combined s (a *ℤ q) (c *ℤ p) *ℤ (b *ℤ d) ≡ combined s (a *ℤ d) (c *ℤ b) *ℤ (b *ℤ q)
+combined_value true = difference_value
+combined_value false = sum_value
 
-combined_ratio : (op : ℤ → ℤ → ℤ) → Combines op → (x y f : Fraction) (l r d n : ℤ) → pos 1 ≤ℤ x.den → pos 1 ≤ℤ y.den → AreOver x y l r d → n ≡ op l r → IsRatio f n d
-    → IsRatio f (op (x.num *ℤ y.den) (y.num *ℤ x.den)) (x.den *ℤ y.den)
-combined_ratio op value x y f l r d n h k over total is =
+pub combined_ratio : (s : Bool) (x y f : Fraction) (l r d n : ℤ) → pos 1 ≤ℤ x.den → pos 1 ≤ℤ y.den → AreOver x y l r d → n ≡ combined s l r → IsRatio f n d
+    → IsRatio f (combined s (x.num *ℤ y.den) (y.num *ℤ x.den)) (x.den *ℤ y.den)
+combined_ratio s x y f l r d n h k over total is =
     ratio_of_same f _ _ _ _ (product_apart x.den y.den (apart x.den h) (apart y.den k))
-    (value x.num x.den y.num y.den (common_divisor x y) (int_div x.den (common_divisor x y)) (int_div y.den (common_divisor x y)) (left_divided x.den y.den h k) (right_divided x.den y.den k))
-    (subst (λ (t : ℤ × ℤ × ℤ). IsRatio f (op t.0 t.1) t.2) over (subst (λ (z : ℤ). IsRatio f z d) total is))
-
-pub sum_ratio : (x y f : Fraction) (l r d n : ℤ) → pos 1 ≤ℤ x.den → pos 1 ≤ℤ y.den → AreOver x y l r d → n ≡ l +ℤ r → IsRatio f n d
-    → IsRatio f (x.num *ℤ y.den +ℤ y.num *ℤ x.den) (x.den *ℤ y.den)
-sum_ratio = combined_ratio (λ u v. u +ℤ v) sum_value
-
-pub difference_ratio : (x y f : Fraction) (l r d n : ℤ) → pos 1 ≤ℤ x.den → pos 1 ≤ℤ y.den → AreOver x y l r d → n ≡ l -ℤ r → IsRatio f n d
-    → IsRatio f (x.num *ℤ y.den -ℤ y.num *ℤ x.den) (x.den *ℤ y.den)
-difference_ratio = combined_ratio (λ u v. u -ℤ v) difference_value
+    (combined_value s x.num x.den y.num y.den (common_divisor x y) (int_div x.den (common_divisor x y)) (int_div y.den (common_divisor x y)) (left_divided x.den y.den h k) (right_divided x.den y.den k))
+    (subst (λ (t : ℤ × ℤ × ℤ). IsRatio f (combined s t.0 t.1) t.2) over (subst (λ (z : ℤ). IsRatio f z d) total is))
 
 pub common_denominator_positive : (x y : Fraction) (l r d : ℤ) → pos 1 ≤ℤ x.den → pos 1 ≤ℤ y.den → AreOver x y l r d → pos 1 ≤ℤ d
 common_denominator_positive x y l r d h k over =

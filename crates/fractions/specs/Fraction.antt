@@ -3,8 +3,8 @@
 --   IsReduced f      the denominator is positive, and has no divisor above 1 in common with the numerator
 --   IsRatio f n d    f is n/d in lowest terms. There is one such f where d isn't 0, and none where it is
 --   HasNoForm n d    no pair of 128-bit numbers is n/d in lowest terms
---   HasSum x y       every number that the sum of x and y takes has a form of 128 bits
-use Rattle.std.specs.Prelude.{◌≡◌, ◌≢◌, ℤ, pos, ◌+ℤ◌, ◌-ℤ◌, ◌*ℤ◌, ◌≤ℤ◌, unsigned_abs, int_div, FitsSigned}
+--   HasSum x y       every number that the sum of x and y takes has a form of 128 bits; and HasDifference x y, of their difference
+use Rattle.std.specs.Prelude.{◌≡◌, Bool, true, false, ◌≢◌, ℤ, pos, ◌+ℤ◌, ◌-ℤ◌, ◌*ℤ◌, ◌≤ℤ◌, unsigned_abs, int_div, FitsSigned}
 use Rattle.std.specs.Int.{w128}
 use Rattle.fractions.specs.Divisors.{gcd}
 
@@ -42,12 +42,20 @@ pub record HasCommonForm (x y : Fraction) : Type 0 where
   pub right : FitsSigned w128 (y.num *ℤ int_div x.den (common_divisor x y))
   pub denominator : FitsSigned w128 (x.den *ℤ int_div y.den (common_divisor x y))
 
--- the numbers that a sum takes have a form of 128 bits
-pub record HasSum (x y : Fraction) : Type 0 where
+-- the difference where it subtracts, else the sum
+abbrev pub combined : Bool → ℤ → ℤ → ℤ
+combined true a b = a -ℤ b
+combined false a b = a +ℤ b
+
+-- the numbers that a difference takes, or a sum, have a form of 128 bits
+pub record HasCombined (subtracts : Bool) (x y : Fraction) : Type 0 where
   pub common : HasCommonForm x y
-  pub sum : FitsSigned w128 (x.num *ℤ int_div y.den (common_divisor x y) +ℤ y.num *ℤ int_div x.den (common_divisor x y))
+  pub numerator : FitsSigned w128 (combined subtracts (x.num *ℤ int_div y.den (common_divisor x y)) (y.num *ℤ int_div x.den (common_divisor x y)))
+
+-- the numbers that a sum takes have a form of 128 bits
+abbrev pub HasSum : Fraction → Fraction → Type 0
+HasSum = HasCombined false
 
 -- the numbers that a difference takes have a form of 128 bits
-pub record HasDifference (x y : Fraction) : Type 0 where
-  pub common : HasCommonForm x y
-  pub difference : FitsSigned w128 (x.num *ℤ int_div y.den (common_divisor x y) -ℤ y.num *ℤ int_div x.den (common_divisor x y))
+abbrev pub HasDifference : Fraction → Fraction → Type 0
+HasDifference = HasCombined true

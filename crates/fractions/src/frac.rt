@@ -5,7 +5,7 @@ ghost use Rattle.std.specs.Int.{w128};
 ghost use Rattle.std.specs.Result.{OkIff};
 ghost use Rattle.std.specs.Option.{SomeIff};
 ghost use Rattle.std.specs.Ordering.{int_cmp};
-ghost use Rattle.fractions.specs.Fraction.{IsReduced, IsRatio, HasNoForm, HasCommonForm, HasSum, HasDifference, common_divisor};
+ghost use Rattle.fractions.specs.Fraction.{IsReduced, IsRatio, HasNoForm, HasCommonForm, HasSum, HasDifference, HasCombined, combined, common_divisor};
 
 mod text;
 
@@ -83,9 +83,7 @@ impl Frac {
             (self.now.den *ℤ other.now.den)) }
         ensures succeeds { IsOk result ↔ HasSum self.now other.now }
     {
-        let (left, right, den) = self.over_common(other)?;
-        let num = left.checked_add(right).ok_or(OutOfRange)?;
-        Ok(ratio(num, den))
+        self.combined(false, other)
     }
 
     /// The difference. `OutOfRange` exactly where, over the least common denominator of the two, a numerator, the
@@ -96,9 +94,7 @@ impl Frac {
             (self.now.den *ℤ other.now.den)) }
         ensures succeeds { IsOk result ↔ HasDifference self.now other.now }
     {
-        let (left, right, den) = self.over_common(other)?;
-        let num = left.checked_sub(right).ok_or(OutOfRange)?;
-        Ok(ratio(num, den))
+        self.combined(true, other)
     }
 
     /// The product. `OutOfRange` exactly where the product in lowest terms leaves the range of `i128`.
@@ -133,6 +129,18 @@ impl Frac {
         order(self.num, self.den, other.num, other.den)
     }
 
+    /// The difference where `subtracts`, else the sum.
+    fn combined(&self, subtracts: bool, other: &Frac) -> Result<Frac, OutOfRange>
+        ensures value { IfOk result
+            (λ f. IsRatio f (combined subtracts (self.now.num *ℤ other.now.den) (other.now.num *ℤ self.now.den))
+            (self.now.den *ℤ other.now.den)) }
+        ensures succeeds { IsOk result ↔ HasCombined subtracts self.now other.now }
+    {
+        let (left, right, den) = self.over_common(other)?;
+        let num = numerator(subtracts, left, right)?;
+        Ok(ratio(num, den))
+    }
+
     /// Both numerators over the least common denominator, and that denominator.
     fn over_common(&self, other: &Frac) -> Result<(i128, i128, i128), OutOfRange>
         ensures value { let g = common_divisor self.now other.now in
@@ -148,6 +156,17 @@ impl Frac {
         let right = product(other.num, self_part)?;
         let den = product(self.den, other_part)?;
         Ok((left, right, den))
+    }
+}
+
+/// The difference where `subtracts`, else the sum, if it is in the range of `i128`.
+fn numerator(subtracts: bool, left: i128, right: i128) -> Result<i128, OutOfRange>
+    ensures { let z = combined subtracts left right in OkIff result (FitsSigned w128 z) z }
+{
+    if subtracts {
+        left.checked_sub(right).ok_or(OutOfRange)
+    } else {
+        left.checked_add(right).ok_or(OutOfRange)
     }
 }
 

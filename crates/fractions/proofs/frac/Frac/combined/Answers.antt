@@ -1,8 +1,8 @@
 use Rattle.std.proofs.Common.{FitsSigned, rules}
 use Rattle.std.proofs.lemmas.Int.{to_z-of_z}
 use mir.Syntax.{w128}
-use Rattle.fractions.proofs.Operations.{common_denominator_positive, sum_ratio}
-use Rattle.fractions.proofs.frac.Frac.add.Goals as goal
+use Rattle.fractions.proofs.Operations.{common_denominator_positive, combined_ratio}
+use Rattle.fractions.proofs.frac.Frac.combined.Goals as goal
 
 pub ratio-requires : goal.ratio-requires
 ratio-requires c =
@@ -17,5 +17,5 @@ returns-clause-value c =
     let r : FitsSigned w128 c.in_ok-left.right = search rules in
     let d : FitsSigned w128 c.in_ok-left.den = search rules in
     let n : FitsSigned w128 c.in_ok-num.num = search rules in
-    let total = simp to_z-of_z at (rw (c.in_ok-num.ensures {u = tt}).ok_part at c.checked_add.ensures) in
-    sum_ratio c.args.self.now c.args.other.now c.ratio.result _ _ _ _ known.self_positive known.other_positive known.value.1 total.1 (simp to_z-of_z at c.ratio.ensures)
+    let total = simp to_z-of_z at (c.in_ok-num.ensures {u = tt}) in
+    combined_ratio c.args.subtracts c.args.self.now c.args.other.now c.ratio.result _ _ _ _ known.self_positive known.other_positive known.value.1 total.1 (simp to_z-of_z at c.ratio.ensures)
