@@ -4,7 +4,7 @@ ghost use Rattle.std.specs.Io.KnownBytes.{WriteAppends};
 ghost use Rattle.ports.specs.Causes.{HasCause};
 ghost use Rattle.ports.specs.Failing.{is_chosen, after};
 
-use crate::{Failed, Sink};
+use crate::{Failed, MemorySink, Sink};
 use fractions::OutOfMemory;
 use std::alloc::Global;
 use std::marker::Model;
@@ -12,23 +12,21 @@ use std::marker::Model;
 /// Memory of a fixed capacity, which takes a few bytes at a time, with writes that fail. A write to a full sink fails too.
 #[derive(Drop)]
 pub struct FailingSink {
-    bytes: Vec<u8>,
-    capacity: usize,
+    memory: MemorySink,
     piece: usize,
     fails: Vec<u64>,
     calls: u64,
-    faults: u64,
 }
 
 impl Model for FailingSink {
-    ghost use Rattle.std.specs.Prelude.{◌≤◌, vec_len, vec_capacity};
+    ghost use Rattle.std.specs.Prelude.{◌≤◌};
     ghost use Rattle.ports.specs.Failing.{Held};
 
     ghost Value = { Held };
 
-    ghost view = { λ s. record { bytes = s.bytes.items; capacity = s.capacity; piece = s.piece; fails = s.fails.items; calls = s.calls; faults = s.faults } };
+    ghost view = { λ s. record { bytes = s.memory.bytes; capacity = s.memory.capacity; piece = s.piece; fails = s.fails.items; calls = s.calls; faults = s.memory.faults } };
 
-    ghost invariant = { λ s. (vec_len s.bytes ≤ s.capacity) × (s.capacity ≤ vec_capacity s.bytes) × (1 ≤ s.piece) };
+    ghost invariant = { λ s. 1 ≤ s.piece };
 }
 
 impl FailingSink {
@@ -44,14 +42,12 @@ impl FailingSink {
         requires { 1 ≤ piece }
         ensures { IfOk result (λ s. s ≡ record { bytes = []; capacity = capacity; piece = piece; fails = fails.items; calls = 0; faults = 0 }) }
     {
-        let bytes = Vec::with_capacity(alloc, capacity)?;
+        let memory = MemorySink::new(alloc, capacity)?;
         Ok(FailingSink {
-            bytes,
-            capacity,
+            memory,
             piece,
             fails,
             calls: 0,
-            faults: 0,
         })
     }
 
@@ -59,7 +55,7 @@ impl FailingSink {
     pub fn taken(&self) -> &[u8]
         ensures { result.now ≡ self.now.bytes }
     {
-        self.bytes.as_slice()
+        self.memory.taken()
     }
 }
 
@@ -88,19 +84,8 @@ impl Sink for FailingSink {
         let call = self.calls;
         self.calls = call.saturating_add(1);
         if self.fails.contains(&call) {
-            self.faults = self.faults.saturating_add(1);
-            return Err(Failed);
+            return self.memory.fail();
         }
-        let room = self.capacity - self.bytes.len();
-        if room == 0 && !piece.is_empty() {
-            self.faults = self.faults.saturating_add(1);
-            return Err(Failed);
-        }
-        let count = room.min(self.piece).min(piece.len());
-        match self.bytes.extend_from_slice(&piece[..count]) {
-            Ok(()) => Ok(count),
-            // What fits takes no memory.
-            Err(_) => unreachable!(),
-        }
+        self.memory.write(&piece[..self.piece.min(piece.len())])
     }
 }

@@ -1,4 +1,4 @@
-ghost use Rattle.std.specs.Prelude.{◌≡◌, ◌<◌, ◌-◌, length, min, [], IfOk, OnErr};
+ghost use Rattle.std.specs.Prelude.{◌≡◌, ◌<◌, ◌-◌, length, min, [], IfOk, OnErr, IsErr};
 ghost use Rattle.std.specs.Io.{WritesAtMost};
 ghost use Rattle.std.specs.Io.KnownBytes.{WriteAppends};
 ghost use Rattle.ports.specs.Causes.{HasCause};
@@ -46,6 +46,17 @@ impl MemorySink {
     {
         self.bytes.as_slice()
     }
+
+    /// A failure, which is counted.
+    pub(crate) fn fail(&mut self) -> Result<usize, Failed>
+        ensures failed { IsErr result }
+        ensures cause { HasCause self.old.faults self.new.faults result }
+        ensures same_bytes { self.new.bytes ≡ self.old.bytes }
+        ensures same_capacity { self.new.capacity ≡ self.old.capacity }
+    {
+        self.faults = self.faults.saturating_add(1);
+        Err(Failed)
+    }
 }
 
 impl Sink for MemorySink {
@@ -67,8 +78,7 @@ impl Sink for MemorySink {
     {
         let room = self.capacity - self.bytes.len();
         if room == 0 && !piece.is_empty() {
-            self.faults = self.faults.saturating_add(1);
-            return Err(Failed);
+            return self.fail();
         }
         let count = room.min(piece.len());
         match self.bytes.extend_from_slice(&piece[..count]) {
