@@ -21,7 +21,7 @@ use crate::optimum::best_of;
 use coalitions::Coalition;
 pub use collection::Collection;
 use fractions::OutOfMemory;
-use separation::{Listed, shares_of};
+use separation::{Lazy, shares_of};
 use std::alloc::Global;
 use worth_core::{Shares, Worth, scaled};
 
@@ -72,7 +72,7 @@ fn found_for<W: Worth>(alloc: Global, game: &W) -> Result<CoreAnswer, OutOfMemor
     requires { (W.game game.now).players ≤ 16 }
     ensures { IfOk result (IsFound (W.game game.now)) }
 {
-    let mut program = Listed::balanced(alloc, game)?;
+    let mut program = Lazy::balanced(alloc, game)?;
     let best = best_of(alloc, game, &mut program)?;
     let shares = shares_of(alloc, &best.multipliers, game.players())?;
     if is_efficient(game, &shares) {

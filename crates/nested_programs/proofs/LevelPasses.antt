@@ -1,49 +1,14 @@
 -- The passes that make a level from weights, step by step.
-use Rattle.std.proofs.Common.{◌≡◌, ◌≢◌, ℕ, suc, ◌+◌, ◌*◌, ◌<◌, ◌≤◌, Bool, true, false, cond, List, [], ◌∷◌, ◌++◌, length, map, drop, get_or, ℤ, pos, refl, sym, ap, ◌∙◌, arith, length-append}
-use Rattle.std.specs.List.{AllByRecursion}
+use Rattle.std.proofs.Common.{◌≡◌, ◌≢◌, ℕ, suc, ◌+◌, ◌*◌, ◌<◌, Bool, true, false, cond, List, [], ◌∷◌, ◌++◌, length, map, drop, get_or, ℤ, pos, refl, sym, ap, ◌∙◌, arith}
 use Rattle.std.specs.Ordering.{int_eq}
 use Rattle.std.proofs.lemmas.Bool.Decides.{Decides-int_eq}
 use Rattle.definitions.specs.Certificates.{Level}
 use Rattle.kohlberg.specs.Pairs.{with_pair, placed_behind}
 use Rattle.kohlberg.proofs.Pairs.{drop-more}
 use Rattle.separation.specs.Stage.{earlier_of}
+use Rattle.separation.proofs.Counts.{earlier_step}
 use Rattle.nested_programs.specs.Numbers.{net, kept, earlier_pairs, level_pairs}
 use Rattle.definitions.proofs.Cases.{not_true}
-
--- ---- how many coalitions there are
-
-pairs_length : (k : ℕ) (cs : List (ℕ × ℤ)) → length {A = ℕ × ℕ} (map (λ c. (c.0, k)) cs) ≡ length cs
-pairs_length k [] = refl
-pairs_length k (c ∷ cs) = ap suc (pairs_length k cs)
-
-earlier_shift : (a b : ℕ) (levels : List Level) → length (earlier_of a levels) ≡ length (earlier_of b levels)
-earlier_shift a b [] = refl
-earlier_shift a b (l ∷ levels) =
-    let ih = earlier_shift (a + 1) (b + 1) levels in
-    let x = length-append (map (λ c. (c.0, a)) l.coalitions) (earlier_of (a + 1) levels) in
-    let y = length-append (map (λ c. (c.0, b)) l.coalitions) (earlier_of (b + 1) levels) in
-    let u = pairs_length a l.coalitions in
-    let v = pairs_length b l.coalitions in
-    omega (arith, ih, x, y, u, v)
-
-pub earlier_step : (k : ℕ) (l : Level) (levels : List Level) → length (earlier_of k (l ∷ levels)) ≡ length l.coalitions + length (earlier_of 0 levels)
-earlier_step k l levels =
-    let x = length-append (map (λ c. (c.0, k)) l.coalitions) (earlier_of (k + 1) levels) in
-    let u = pairs_length k l.coalitions in
-    let s = earlier_shift (k + 1) 0 levels in
-    omega (arith, x, u, s)
-
--- at most 65536 a level
-pub earlier_few : (k : ℕ) (levels : List Level) → AllByRecursion (λ l. length l.coalitions ≤ 65536) levels → length (earlier_of k levels) ≤ 65536 * length levels
-earlier_few k [] h = omega arith
-earlier_few k (l ∷ levels) h =
-    let ih = earlier_few 0 levels h.1 in
-    omega (arith, ih, h.0, earlier_step k l levels)
-
-pub counted : (levels : List Level) (k total : ℕ) (d : Level) → k < length levels → total + length (earlier_of 0 (drop k levels)) ≡ length (earlier_of 0 levels) → total + length (get_or levels k d).coalitions + length (earlier_of 0 (drop (k + 1) levels)) ≡ length (earlier_of 0 levels)
-counted levels k total d lt h =
-    let e = ap (λ ls. length (earlier_of 0 ls)) (drop-more levels k d lt) in
-    omega (arith, h, e, earlier_step 0 (get_or levels k d) (drop (k + 1) levels))
 
 pub earlier_next : (levels : List Level) (k id : ℕ) (d : Level) → k < length levels → id + 2 * length (earlier_of 0 (drop k levels)) ≡ 2 + 2 * length (earlier_of 0 levels) → id + 2 * length (get_or levels k d).coalitions + 2 * length (earlier_of 0 (drop (k + 1) levels)) ≡ 2 + 2 * length (earlier_of 0 levels)
 earlier_next levels k id d lt h =

@@ -10,8 +10,6 @@ use Rattle.definitions.proofs.Ring.{linear, mul-zeroℤ, mul-oneℤ, mul-subℤ}
 use Rattle.definitions.specs.Sums.{weighted_sum}
 use Rattle.definitions.specs.Coalitions.{has_player, weight_at}
 use Rattle.definitions.specs.Certificates.{number_at}
-use Rattle.kohlberg.specs.Pairs.{with_pair, placed, placed_behind}
-use Rattle.kohlberg.proofs.WithPair.{weight_at-with_pair}
 use Rattle.nested_programs.specs.Numbers.{outer_pairs, net, kept, earlier_pairs, bound_pairs}
 use Rattle.definitions.proofs.Members.{weighted_sum-zero, weighted_sum-add, weight_at-append}
 use Rattle.definitions.proofs.Cases.{true_or_false}

@@ -4,14 +4,14 @@ use Rattle.std.specs.Prelude.{◌≡◌, ◌⊎◌, ℕ, ◌+◌, ◌<◌, Bool,
 use Rattle.std.specs.List.{AllByRecursion}
 use Rattle.definitions.specs.Sums.{weighted_sum}
 use Rattle.definitions.specs.Coalitions.{weight_at}
-use Rattle.definitions.specs.Games.{Game, Allocation, share}
+use Rattle.definitions.specs.Games.{Game}
 use Rattle.definitions.specs.Certificates.{Level, is_listed, has_bound, number_at, IsOutside}
 use Rattle.definitions.specs.Programs.{IsOptimal}
 use Rattle.definitions.specs.declared.Family.{Family}
 use Rattle.definitions.specs.declared.Family.TheVariants.{Imputations}
 use Rattle.definitions.specs.declared.Mode.TheVariants.{Span}
 use Rattle.separation.specs.Stage.{settled_columns, entry_of, column, stage_program}
-use Rattle.nested_programs.specs.Reading.{share_of, excess_of}
+use Rattle.nested_programs.specs.Reading.{excess_of}
 
 -- the number of the column of player i alone, and that of an outside coalition
 abbrev pub single_id : ℕ → List Level → ℕ → ℕ

@@ -8,7 +8,7 @@ ghost use Rattle.nested_programs.specs.Answer.{HasMember};
 use crate::level::level_of;
 use fractions::OutOfMemory;
 use kohlberg::{Family, Level, Span, add_levels, first_unspanned};
-use separation::Listed;
+use separation::Lazy;
 use simplex::{Multipliers, Optimal, Workspace};
 use std::alloc::Global;
 use worth_core::Worth;
@@ -30,7 +30,7 @@ fn best_of<W: Worth>(
     requires bounded { IsBounded family (W.game game.now) levels.now }
     ensures { IfOk result (λ best. IsBest family (W.game game.now) levels.now best.weights.items best.weight_den best.multipliers.num.items best.multipliers.den) }
 {
-    let mut program = Listed::stage(alloc, game, family, levels, span)?;
+    let mut program = Lazy::stage(alloc, game, family, levels, span)?;
     let mut work = Workspace::new(alloc, game.players() + levels.len() as u32 + 1)?;
     let Ok(best) = simplex::solve(&mut work, &mut program) else {
         unreachable!();

@@ -1,4 +1,5 @@
 pub mod Valued
+pub mod Eights
 pub mod Filled
 pub mod Entered
 pub mod Pushed
@@ -8,3 +9,9 @@ pub mod Staged
 pub mod Balance
 pub mod SamePrograms
 pub mod ReadShares
+pub mod Counts
+pub mod EarlierColumns
+pub mod InnerColumns
+pub mod LazyColumns
+pub mod Blocks
+pub mod FirstFound

@@ -7,7 +7,7 @@ use Rattle.separation.specs.Stage.{earlier_of}
 use Rattle.separation.specs.Making.{plain, minus, earlier_columns}
 use Rattle.separation.specs.declared.column.Column.{Column}
 
-earlier_columns-append : (g : Game) (cs ds : List (ℕ × ℕ)) → earlier_columns g (cs ++ ds) ≡ earlier_columns g cs ++ earlier_columns g ds
+pub earlier_columns-append : (g : Game) (cs ds : List (ℕ × ℕ)) → earlier_columns g (cs ++ ds) ≡ earlier_columns g cs ++ earlier_columns g ds
 earlier_columns-append g [] ds = refl
 earlier_columns-append g (c ∷ cs) ds =
     ap (λ (t : List (Option Column)). Some (plain g c.0 (Some c.1)) ∷ (Some (minus g c.0 (Some c.1)) ∷ t)) (earlier_columns-append g cs ds)

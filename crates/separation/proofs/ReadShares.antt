@@ -1,13 +1,9 @@
 -- The multipliers of the players' rows, taken one by one.
-use Rattle.std.proofs.Common.{◌≡◌, ℕ, ◌+◌, ◌^◌, ◌<◌, ◌≤◌, List, [], ◌∷◌, ◌++◌, length, take, ℤ, pos, ◌≤ℤ◌, Option, Some, None, MatchOption, IsSome, to_z, of_z, refl, sym, ap, subst, ◌∙◌, arith, unsigned_abs, slice_index_or}
-use Rattle.std.proofs.lemmas.List.{get_or-take, length-take-le, take_more}
-use Rattle.std.proofs.lemmas.Int.{ints}
+use Rattle.std.proofs.Common.{◌≡◌, ℕ, ◌+◌, ◌^◌, ◌<◌, List, [], ◌∷◌, ◌++◌, length, take, ℤ, pos, to_z, of_z, sym, ap, ◌∙◌, arith, unsigned_abs, slice_index_or}
+use Rattle.std.proofs.lemmas.List.{take_more}
 use mir.Syntax.{w128}
 use Rattle.definitions.proofs.Casts.{cast_kept}
 use Rattle.simplex.specs.declared.multipliers.Multipliers.{Multipliers}
-use Rattle.definitions.specs.Games.{IsShares}
-use Rattle.worth_core.specs.Allocations.{allocation}
-use Rattle.separation.specs.Shares.{IsReadFrom}
 
 num_kept : (m : Multipliers) (k : ℕ) → to_z w128 (of_z w128 (slice_index_or m.num.items k (pos 0))) ≡ slice_index_or m.num.items k (pos 0)
 num_kept m k =

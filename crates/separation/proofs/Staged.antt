@@ -4,13 +4,15 @@ use Rattle.std.proofs.lemmas.Bool.Decides.{nat_tests}
 use Rattle.std.proofs.lemmas.Int.{ints}
 use Rattle.std.proofs.lemmas.List.{get_or-append_right, get_or_append_left}
 use Rattle.std.proofs.Math.Pow.{pow-lt}
+use Rattle.std.specs.Bool.{Decides}
 use Rattle.std.specs.List.{AllByRecursion}
 use Rattle.std.specs.Option.{ForSome, is_some}
 use Rattle.definitions.specs.Coalitions.{singleton, grand_coalition}
 use Rattle.definitions.specs.Games.{Game, IsGame}
-use Rattle.definitions.specs.Certificates.{Level, LevelsForm, has_bound}
+use Rattle.definitions.specs.Certificates.{Level, LevelsForm, has_bound, IsOutside}
 use Rattle.definitions.specs.Programs.{Program}
 use Rattle.definitions.specs.declared.Family.{Family}
+use Rattle.definitions.specs.declared.Mode.TheVariants.{Span}
 use Rattle.separation.specs.Stage.{Column as StageColumn, signed, entry_of, earlier_of, doubled, settled_columns, further_column, no_column, is_imputations, is_further, stage_program}
 use Rattle.separation.specs.Kept.{column_entry, column_at, right_at, kept_program, AreSmall}
 use Rattle.separation.specs.Same.{IsStage}
@@ -114,7 +116,17 @@ length-earlier : (g : Game) (cs : List (ℕ × ℕ)) → length (earlier_columns
 length-earlier g [] = refl
 length-earlier g (c ∷ cs) = ap (λ (t : ℕ). suc (suc t)) (length-earlier g cs)
 
-module _ (family : Family) (g : Game) (front : List Level) (game : IsGame g) (within : AllByRecursion (AreWithin g.players) front) (outers : List (Option Column)) (are : AreOuter g front (2 ^ g.players) outers) where
+-- the column of coalition s in the row of level k, or none
+abbrev pub IsPlainOr : Game → ℕ → ℕ → Option Column → Type 0
+IsPlainOr g k s None = Unit {0}
+IsPlainOr g k s (Some c) = c ≡ plain g s (Some k)
+
+-- for each of the first n coalitions its column or none
+pub record ArePlain (g : Game) (k n : ℕ) (outers : List (Option Column)) : Type 0 where
+  pub count : length outers ≡ n
+  pub plain_or : (s : ℕ) → s < n → IsPlainOr g k s (column_at outers s)
+
+module _ (family : Family) (g : Game) (front : List Level) (game : IsGame g) (within : AllByRecursion (AreWithin g.players) front) (outers : List (Option Column)) (are : ArePlain g (length front) (2 ^ g.players) outers) where
   abbrev n : ℕ
   n = g.players
 
@@ -179,7 +191,7 @@ module _ (family : Family) (g : Game) (front : List Level) (game : IsGame g) (wi
       by_test true e = rw e (rw t (rw u (e, minus_none g k (singleton (i - g.players)) game (pow-lt (omega arith)))))
       by_test false e = rw e (rw t (rw u e))
 
-  outer_at : (i : ℕ) → n + n ≤ i → (o : Option Column) → column_at outers (i - (n + n)) ≡ o → (IsOuter g front (i - (n + n)) o × (i - (n + n) < 2 ^ n)) ⊎ (o ≡ None) → FurtherAt i o
+  outer_at : (i : ℕ) → n + n ≤ i → (o : Option Column) → column_at outers (i - (n + n)) ≡ o → (IsPlainOr g k (i - (n + n)) o × (i - (n + n) < 2 ^ n)) ⊎ (o ≡ None) → FurtherAt i o
   outer_at i le None is h =
       let t : nat_lt i g.players ≡ false = grind (arith, nat_tests) in
       let u : nat_lt i (g.players + g.players) ≡ false = grind (arith, nat_tests) in
@@ -187,16 +199,16 @@ module _ (family : Family) (g : Game) (front : List Level) (game : IsGame g) (wi
   outer_at i le (Some c) is (inl h) =
       let t : nat_lt i g.players ≡ false = grind (arith, nat_tests) in
       let u : nat_lt i (g.players + g.players) ≡ false = grind (arith, nat_tests) in
-      rw t (rw u (ap is_some is, subst (λ (x : Column). Like g k x (record { mask = i - (n + n); row = k; minus = false })) (sym h.0.1) (plain_level g k (i - (n + n)) k game h.1 (omega arith))))
+      rw t (rw u (ap is_some is, subst (λ (x : Column). Like g k x (record { mask = i - (n + n); row = k; minus = false })) (sym h.0) (plain_level g k (i - (n + n)) k game h.1 (omega arith))))
   outer_at i le (Some c) is (inr e) = absurd (subst is_there e tt)
     where
       is_there : Option Column → Type 0
       is_there None = ⊥
       is_there (Some x) = Unit {0}
 
-  outer_or : (s : ℕ) → (IsOuter g front s (column_at outers s) × (s < 2 ^ n)) ⊎ (column_at outers s ≡ None)
+  outer_or : (s : ℕ) → (IsPlainOr g k s (column_at outers s) × (s < 2 ^ n)) ⊎ (column_at outers s ≡ None)
   outer_or s = elim (below_or_above s (2 ^ n)) [
-    | inl lt ↦ inl (are.outer s lt, lt)
+    | inl lt ↦ inl (are.plain_or s lt, lt)
     | inr le ↦ let long = are.count in inr (past_at outers s (omega (arith, long, le)))
   ]
 
@@ -268,12 +280,28 @@ module _ (family : Family) (g : Game) (front : List Level) (game : IsGame g) (wi
       by_row true e = let t : nat_eq (r + 1) (g.players + (length front + 1)) ≡ true = grind (arith, nat_tests) in rw none (rw t (rw e refl))
       by_row false e = let t : nat_eq (r + 1) (g.players + (length front + 1)) ≡ false = grind (arith, nat_tests) in rw none (rw t (rw e refl))
 
-  pub stage_of : IsStage family g front (kept_program g.players (length front + 1) (inner_columns family g front ++ outers))
-  stage_of = record {
+  stage_with : ((s : ℕ) → Decides (has_column outers s) (IsOutside Span g.players front s)) → IsStage family g front (kept_program g.players (length front + 1) (inner_columns family g front ++ outers))
+  stage_with decided = record {
     outside = has_column outers;
-    decides = decides g front outers are;
+    decides = decided;
     same = same_program n (k + 1) all q refl (λ r lt. right_same r) at_number;
   }
 
-  pub stage_small : AreSmall (length front + 1) (inner_columns family g front ++ outers)
-  stage_small = small_columns n (k + 1) all q at_number
+  pub plain_small : AreSmall (length front + 1) (inner_columns family g front ++ outers)
+  plain_small = small_columns n (k + 1) all q at_number
+
+outer_plain : (g : Game) (front : List Level) (outers : List (Option Column)) → AreOuter g front (2 ^ g.players) outers → ArePlain g (length front) (2 ^ g.players) outers
+outer_plain g front outers are = record { count = are.count; plain_or = λ s lt. at s (column_at outers s) (are.outer s lt) }
+  where
+    at : (s : ℕ) (o : Option Column) → IsOuter g front s o → IsPlainOr g (length front) s o
+    at s None h = tt
+    at s (Some c) h = h.1
+
+-- the columns in front, and those of the coalitions outside
+pub stage_of : (family : Family) (g : Game) (front : List Level) → IsGame g → AllByRecursion (AreWithin g.players) front → (outers : List (Option Column)) → AreOuter g front (2 ^ g.players) outers → IsStage family g front (kept_program g.players (length front + 1) (inner_columns family g front ++ outers))
+stage_of family g front game within outers are =
+    stage_with family g front game within outers (outer_plain g front outers are) (decides g front outers are)
+
+pub stage_small : (family : Family) (g : Game) (front : List Level) → IsGame g → AllByRecursion (AreWithin g.players) front → (outers : List (Option Column)) → AreOuter g front (2 ^ g.players) outers → AreSmall (length front + 1) (inner_columns family g front ++ outers)
+stage_small family g front game within outers are =
+    plain_small family g front game within outers (outer_plain g front outers are)

@@ -66,7 +66,7 @@ all_at num n s few =
     none : (a b c : ℤ) → a ≡ b → c ≡ pos 0 → a +ℤ c ≡ b
     none a b c e f = omega (arith, linear)
 
-eight-is : (num : List ℤ) (n first s : ℕ) → eight num n first s ≡ sum_below 8 (member_multiplier num n first s)
+pub eight-is : (num : List ℤ) (n first s : ℕ) → eight num n first s ≡ sum_below 8 (member_multiplier num n first s)
 unfolding eight
 eight-is num n first s = refl
 

@@ -6,6 +6,7 @@
 --   AreSums             the tables of the first and the next eight players
 --   column_value        the sum of multiplier times entry
 --   Rises, IsFirst      a column's cost is above its value; the first such
+--   IsFirstBelow        the first such of so many columns
 use Rattle.std.specs.Prelude.{◌≡◌, ℕ, ◌+◌, ◌<◌, ◌≤◌, Bool, true, false, nat_lt, List, length, ℤ, pos, ◌*ℤ◌, ◌<ℤ◌, if◌then◌else◌, slice_index_or, Option, Some, None, ◌^◌, unsigned_abs}
 use Rattle.definitions.specs.Sums.{sum_below}
 use Rattle.definitions.specs.Coalitions.{has_player}
@@ -66,3 +67,9 @@ pub record IsFirst (num : List ℤ) (den : ℤ) (n : ℕ) (with_costs : Bool) (c
   pub place : id < length columns
   pub rises : Rises num den n with_costs (column_at columns id)
   pub least : (j : ℕ) → j < id → ¬ Rises num den n with_costs (column_at columns j)
+
+-- the first of so many columns whose cost is above its value
+pub record IsFirstBelow (num : List ℤ) (den : ℤ) (n : ℕ) (with_costs : Bool) (column : ℕ → Option Column) (count id : ℕ) : Type 0 where
+  pub below : id < count
+  pub rises : Rises num den n with_costs (column id)
+  pub least : (j : ℕ) → j < id → ¬ Rises num den n with_costs (column j)

@@ -21,7 +21,7 @@ pub(crate) fn plain<W: Worth>(game: &W, s: Coalition, level: Option<u32>) -> Col
 }
 
 /// The column of a coalition, negated.
-fn minus<W: Worth>(game: &W, s: Coalition, level: Option<u32>) -> Column
+pub(crate) fn minus<W: Worth>(game: &W, s: Coalition, level: Option<u32>) -> Column
     requires { s < 2 ^ (W.game game.now).players }
     ensures { result ≡ minus (W.game game.now) s level }
 {
@@ -77,7 +77,7 @@ pub(crate) fn push_earlier<W: Worth>(
 }
 
 /// The column of a player alone, for imputations.
-fn single<W: Worth>(game: &W, family: Family, i: u32) -> Option<Column>
+pub(crate) fn single<W: Worth>(game: &W, family: Family, i: u32) -> Option<Column>
     requires { i < (W.game game.now).players }
     ensures { result ≡ single family (W.game game.now) i }
 {
@@ -89,7 +89,7 @@ fn single<W: Worth>(game: &W, family: Family, i: u32) -> Option<Column>
 }
 
 /// The column of a player alone, negated, for imputations where a level bounds the player.
-fn bound<W: Worth>(game: &W, family: Family, levels: &[Level], i: u32) -> Option<Column>
+pub(crate) fn bound<W: Worth>(game: &W, family: Family, levels: &[Level], i: u32) -> Option<Column>
     requires { i < (W.game game.now).players }
     ensures { result ≡ bound family (W.game game.now) levels.now i }
 {

@@ -3,14 +3,21 @@
 
 mod balanced;
 mod column;
+#[cfg(test)]
+mod compared;
 mod earlier;
+mod found;
+mod front;
+mod lazy;
 mod listed;
 mod marks;
+mod rising;
 mod shares;
 mod stage;
 mod sums;
 #[cfg(test)]
 mod tests;
 
+pub use lazy::Lazy;
 pub use listed::Listed;
 pub use shares::shares_of;

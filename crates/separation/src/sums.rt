@@ -1,12 +1,12 @@
 //! What multipliers make of columns. The multipliers of a coalition's members are added by two tables, one for the members
 //! among the first eight players and one for those among the next eight, so that a coalition costs one addition.
 
-ghost use Rattle.std.specs.Prelude.{◌≡◌, ℕ, ◌+◌, ◌^◌, ◌<◌, ◌≤◌, length, List, ℤ, pos, ◌*ℤ◌, slice_index_or, unsigned_abs, MatchOption};
+ghost use Rattle.std.specs.Prelude.{◌≡◌, ℕ, ◌+◌, ◌%◌, ◌^◌, ◌<◌, ◌≤◌, length, List, ℤ, pos, ◌+ℤ◌, ◌*ℤ◌, ◌<ℤ◌, slice_index_or, unsigned_abs, MatchOption};
 ghost use Rattle.std.specs.Bool.{Decides};
 ghost use Rattle.std.specs.Option.{ForSome};
 ghost use Rattle.definitions.specs.Coalitions.{sum_over};
 ghost use Rattle.separation.specs.Kept.{column_at};
-ghost use Rattle.separation.specs.Values.{multiplier_at, player_multiplier, member_multiplier, eight, IsTable, AreSums, level_multiplier, column_value, counted, Rises, IsFirst};
+ghost use Rattle.separation.specs.Values.{multiplier_at, player_multiplier, IsEight, IsTable, AreSums, level_multiplier, column_value, counted, Rises, IsFirst};
 
 use crate::column::Column;
 use coalitions::Coalition;
@@ -21,33 +21,18 @@ fn player_multiplier(m: &Multipliers, n: u32, i: u32) -> i128
     if i < n { m.num[i as usize] } else { 0 }
 }
 
-/// The multiplier of the `i`-th of the eight players from `first` on, if the coalition has it, and otherwise 0.
-fn member_multiplier(m: &Multipliers, n: u32, first: u32, s: Coalition, i: u32) -> i128
+/// The multipliers of the members of a coalition of the eight players from `first` on, added: those of the coalition without
+/// its last player, which is listed before, and the multiplier of that player.
+fn next_eight(sums: &[i128; 256], m: &Multipliers, n: u32, first: u32, s: usize) -> i128
     requires count { n ≤ length m.now.num.items }
     requires first { first ≤ 8 }
-    requires player { i < 8 }
-    ensures value { result ≡ member_multiplier m.now.num.items n first s i }
-    ensures small { unsigned_abs result < 2 ^ 110 }
+    requires some { 0 < s }
+    requires few { s < 256 }
+    requires before { (k : ℕ) → k < s → IsEight m.now.num.items n first k (slice_index_or sums.now k (pos 0)) }
+    ensures { IsEight m.now.num.items n first s result }
 {
-    if s.contains(i) {
-        player_multiplier(m, n, first + i)
-    } else {
-        0
-    }
-}
-
-/// The multipliers of the members of a coalition of the eight players from `first` on, added.
-fn eight(m: &Multipliers, n: u32, first: u32, s: Coalition) -> i128
-    requires count { n ≤ length m.now.num.items }
-    requires first { first ≤ 8 }
-    ensures value { result ≡ eight m.now.num.items n first s }
-    ensures small { unsigned_abs result ≤ 2 ^ 113 }
-{
-    let mut sum = 0;
-    for i in 0..8 {
-        sum += member_multiplier(m, n, first, s, i);
-    }
-    sum
+    let last = s.ilog2();
+    sums[s - (1 << last)] + player_multiplier(m, n, first + last)
 }
 
 /// The multipliers of each coalition of the eight players from `first` on.
@@ -57,8 +42,8 @@ fn table(m: &Multipliers, n: u32, first: u32) -> [i128; 256]
     ensures { IsTable m.now.num.items n first result }
 {
     let mut sums = [0; 256];
-    for s in 0..256 {
-        sums[s] = eight(m, n, first, Coalition(s as u64));
+    for s in 1..256 {
+        sums[s] = next_eight(&sums, m, n, first, s);
     }
     sums
 }
@@ -91,6 +76,26 @@ impl Sums {
         ensures small { unsigned_abs result ≤ 2 ^ 114 }
     {
         self.low[(s.0 % 256) as usize] + self.high[(s.0 / 256 % 256) as usize]
+    }
+
+    /// What the 256 coalitions from 256 * `block` on have in common: the multipliers of the members past the first eight
+    /// players, and that of a level row.
+    pub(crate) fn base(&self, m: &Multipliers, n: u32, level: Option<u32>, block: u64) -> i128
+        requires block { block < 256 }
+        requires few { n ≤ 16 }
+        requires within { ForSome level (λ l. n + l < length m.now.num.items) }
+        ensures value { result ≡ slice_index_or self.now.high block (pos 0) +ℤ level_multiplier m.now.num.items n level }
+        ensures small { unsigned_abs result ≤ 2 ^ 114 }
+    {
+        self.high[block as usize] + level_multiplier(m, n, level)
+    }
+
+    /// The value of a coalition's column, from what its block has in common.
+    pub(crate) fn behind(&self, base: i128, s: Coalition) -> i128
+        requires { unsigned_abs base ≤ 2 ^ 114 }
+        ensures { result ≡ base +ℤ slice_index_or self.now.low (s % 256) (pos 0) }
+    {
+        base + self.low[(s.0 % 256) as usize]
     }
 }
 
@@ -131,8 +136,22 @@ fn bar(m: &Multipliers, cost: i64, with_costs: bool) -> i128
     }
 }
 
+/// Whether a value is below a cost, or below 0 where costs don't count.
+pub(crate) fn is_below(value: i128, m: &Multipliers, cost: i64, with_costs: bool) -> bool
+    requires { unsigned_abs cost < 2 ^ 46 }
+    ensures { Decides result (value <ℤ (m.now.den *ℤ counted with_costs cost)) }
+{
+    value < bar(m, cost, with_costs)
+}
+
 /// Whether there is a column and its cost is above its value.
-fn rises(column: Option<Column>, m: &Multipliers, n: u32, sums: &Sums, with_costs: bool) -> bool
+pub(crate) fn rises(
+    column: Option<Column>,
+    m: &Multipliers,
+    n: u32,
+    sums: &Sums,
+    with_costs: bool,
+) -> bool
     requires within { ForSome column (λ c. ForSome c.level (λ l. n + l < length m.now.num.items)) }
     requires small { ForSome column (λ c. unsigned_abs c.cost < 2 ^ 46) }
     requires players { n ≤ length m.now.num.items }
@@ -142,7 +161,7 @@ fn rises(column: Option<Column>, m: &Multipliers, n: u32, sums: &Sums, with_cost
     match column {
         Some(column) => {
             let cost = column.cost;
-            value(column, m, n, sums) < bar(m, cost, with_costs)
+            is_below(value(column, m, n, sums), m, cost, with_costs)
         }
         None => false,
     }

@@ -2,9 +2,11 @@
 #![tactic(auto)]
 
 mod cost_game;
+mod kept_worths;
 mod table_game;
 #[cfg(test)]
 mod tests;
 
 pub use cost_game::CostGame;
+pub use kept_worths::KeptWorths;
 pub use table_game::{TableFault, TableGame};

@@ -15,8 +15,8 @@ returns-then-is_efficient g c =
     let read = subst (λ (n : ℕ). IsReadFrom n m.num.items m.den x) c.players.ensures.count (c.in_ok-shares.ensures {u = tt}) in
     in_core game c.players.ensures.laws m.num.items m.den answer.optimal.1 x read (c.is_efficient.ensures.0 c.if-is_efficient.true)
 
-pub returns : goal.returns
-returns g c =
+pub returns-in_ok-collection_of : goal.returns-in_ok-collection_of
+returns-in_ok-collection_of g c =
     let game = g.W.Worth.game c.args.game.now in
     let answer = c.in_ok-best.ensures {u = tt} in
     let best = c.in_ok-best.best in

@@ -1,6 +1,6 @@
 use Rattle.std.proofs.Common.{◌≡◌, ◌<◌, length, get_or, ap, ◌∙◌, arith}
 use Rattle.definitions.specs.Certificates.{Level}
-use Rattle.nested_programs.proofs.LevelPasses.{counted, earlier_few}
+use Rattle.separation.proofs.Counts.{counted, earlier_few}
 use Rattle.nested_programs.proofs.level.count.Goals as goal
 
 pub overflow_add-count : goal.overflow_add-count

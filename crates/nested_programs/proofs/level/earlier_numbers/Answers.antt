@@ -2,7 +2,8 @@ use Rattle.std.proofs.Common.{◌≡◌, ◌<◌, length, get_or, ap, ◌∙◌,
 use Rattle.definitions.specs.Certificates.{Level}
 use Rattle.kohlberg.specs.Pairs.{placed_behind}
 use Rattle.nested_programs.specs.Numbers.{level_pairs}
-use Rattle.nested_programs.proofs.LevelPasses.{earlier_few, earlier_put, earlier_next}
+use Rattle.separation.proofs.Counts.{earlier_few}
+use Rattle.nested_programs.proofs.LevelPasses.{earlier_put, earlier_next}
 use Rattle.nested_programs.proofs.level.earlier_numbers.Goals as goal
 
 pub put_level-requires-clause-small : goal.put_level-requires-clause-small

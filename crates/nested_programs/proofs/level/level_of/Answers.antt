@@ -5,7 +5,7 @@ use Rattle.fractions.specs.Fraction.{Fraction, IsRatio}
 use Rattle.separation.specs.Stage.{earlier_of}
 use Rattle.kohlberg.specs.Pairs.{placed}
 use Rattle.nested_programs.specs.Numbers.{first_single, outer_pairs, net, earlier_pairs, bound_pairs}
-use Rattle.nested_programs.proofs.LevelPasses.{earlier_few}
+use Rattle.separation.proofs.Counts.{earlier_few}
 use Rattle.nested_programs.proofs.level.level_of.Goals as goal
 use Rattle.definitions.proofs.Casts.{cast_kept}
 

@@ -1,0 +1,35 @@
+use Rattle.std.proofs.Common.{◌≡◌, ◌+◌, ◌-◌, ◌*◌, ◌<◌, ◌≤◌, ℕ, ℤ, List, length, map, drop, get_or, ap, sym, ◌∙◌, arith}
+use Rattle.definitions.specs.Certificates.{Level}
+use Rattle.separation.specs.Stage.{earlier_of}
+use Rattle.separation.specs.Kept.{column_at}
+use Rattle.separation.specs.Making.{earlier_columns}
+use Rattle.separation.proofs.EarlierColumns.{level_here, level_past}
+use Rattle.separation.proofs.front.earlier.Goals as goal
+
+pub returns-then-rest-twice : goal.returns-then-rest-twice
+returns-then-rest-twice g c =
+    let game = g.W.Worth.game c.args.game.now in
+    let levels = c.args.levels.now in
+    let k = c.loop-k.k in
+    let l = c.index-levels-k.result in
+    let lt : k < length levels = omega (arith, c.loop-k-test.true) in
+    let here : c.len.result ≡ length (get_or levels k l).coalitions = c.len.ensures ∙ c.level.inside.coalitions.ok.0 ∙ ap (λ (v : Level). length v.coalitions) (c.level.view_is ∙ c.index-levels-k.is) in
+    let less : c.loop-k.rest < 2 * length (get_or levels k l).coalitions = omega (arith, here, c.if-rest-twice.true) in
+    let pairs : c.deref.result.now ≡ (get_or levels k l).coalitions = c.deref.ensures.value ∙ ap (λ (v : Level). v.coalitions) (c.level.view_is ∙ c.index-levels-k.is) in
+    c.of_level.ensures
+    ∙ ap (λ (ps : List (ℕ × ℤ)). column_at (earlier_columns game (map (λ p. (p.0, k)) ps)) c.loop-k.rest) pairs
+    ∙ sym (level_here game levels k l lt c.loop-k.rest less)
+    ∙ sym c.loop-k.invariant
+
+pub loop-k-preserved : goal.loop-k-preserved
+loop-k-preserved g c =
+    let game = g.W.Worth.game c.args.game.now in
+    let levels = c.args.levels.now in
+    let k = c.loop-k.k in
+    let l = c.index-levels-k.result in
+    let lt : k < length levels = omega (arith, c.loop-k-test.true) in
+    let here : c.len.result ≡ length (get_or levels k l).coalitions = c.len.ensures ∙ c.level.inside.coalitions.ok.0 ∙ ap (λ (v : Level). length v.coalitions) (c.level.view_is ∙ c.index-levels-k.is) in
+    let past : 2 * length (get_or levels k l).coalitions ≤ c.loop-k.rest = omega (arith, here, c.if-rest-twice.false) in
+    c.loop-k.invariant
+    ∙ level_past game levels k l lt c.loop-k.rest past
+    ∙ ap (λ (t : ℕ). column_at (earlier_columns game (earlier_of (k + 1) (drop (k + 1) levels))) (c.loop-k.rest - 2 * t)) (sym here)

@@ -1,0 +1,146 @@
+//! A program whose columns are found by their numbers, and not listed.
+
+ghost use Rattle.std.specs.Prelude.{◌≡◌, ◌+◌, ◌<◌, ◌≤◌, ◌^◌, length, IfOk, IfSome};
+ghost use Rattle.std.specs.List.{AllByRecursion};
+ghost use Rattle.std.proofs.Props.{props};
+ghost use Rattle.definitions.specs.Games.{IsGame};
+ghost use Rattle.definitions.specs.Certificates.{HasForm};
+ghost use Rattle.definitions.specs.declared.Mode.{Mode};
+ghost use Rattle.separation.specs.Kept.{kept_program, AreSmall};
+ghost use Rattle.separation.specs.Fronts.{front_columns, front_rows, lazy_columns, IsSmallLevel};
+
+use crate::front::Front;
+use crate::marks::outside_of;
+use crate::rising::first_found;
+use crate::sums::Sums;
+use fractions::OutOfMemory;
+use kohlberg::{Family, Level, Outside, Span};
+use simplex::{Columns, Multipliers};
+use std::alloc::Global;
+use worth_core::Worth;
+
+/// A program that keeps a mark for each coalition and no columns. It finds each column by its number, and the one that enters
+/// by going over the numbers.
+#[derive(Drop)]
+pub struct Lazy<'a, W: Worth> {
+    pub(crate) game: &'a W,
+    pub(crate) players: u32,
+    pub(crate) levels: u32,
+    /// What stands in front of the coalitions' columns, in a stage.
+    pub(crate) front: Option<Front<'a>>,
+    /// The number of the first of the coalitions' columns, which is that of the empty one.
+    pub(crate) first: u64,
+    /// The coalitions that have a column; without marks these are all but the empty one.
+    pub(crate) marks: Option<Outside>,
+    ghost count: { players ≡ (W.game game.now).players },
+    ghost few: { players ≤ 16 },
+    ghost laws: { IsGame (W.game game.now) },
+    ghost rows: { levels ≡ front_rows front },
+    ghost few_rows: { levels ≤ 15 },
+    ghost small_levels: { IfSome front (λ f. AllByRecursion (IsSmallLevel players) f.levels.now) } by { Prim.hlevel props },
+    ghost first_is: { first ≡ length (front_columns (W.game game.now) front) },
+    ghost first_small: { first ≤ 2 ^ 32 },
+    ghost small: { AreSmall levels (lazy_columns (W.game game.now) front marks) },
+}
+
+impl<'a, W: Worth> Lazy<'a, W> {
+    ghost use Rattle.separation.specs.Same.{IsSame, IsSpanOf, IsStage};
+    ghost use Rattle.separation.specs.Balanced.{balanced_program};
+
+    /// The stage program of a game of 2 to 16 players behind levels (Kopelowitz 1967): its weights are those of the next
+    /// level, and its multipliers the shares and the excesses of the levels. It keeps one bit for each coalition.
+    ///
+    /// There are at most n - 2 levels, in the form of a certificate. `span` holds exactly the coalitions that the
+    /// levels fix in span mode. The one error is want of memory, and no memory is taken.
+    pub fn stage(
+        _alloc: Global,
+        game: &'a W,
+        family: Family,
+        levels: &'a [Level],
+        span: &Span,
+    ) -> Result<Lazy<'a, W>, OutOfMemory>
+        requires few { (W.game game.now).players ≤ 16 }
+        requires form { HasForm Mode.Span (W.game game.now).players levels.now }
+        requires count { length levels.now + 2 ≤ (W.game game.now).players }
+        requires players { span.now.players ≡ (W.game game.now).players }
+        requires spans { IsSpanOf (W.game game.now).players span.now.kept levels.now }
+        ensures { IfOk result (λ l. (⟦<Lazy<'a, W> as Columns>⟧.players l ≡ (W.game game.now).players)
+            × IsStage family (W.game game.now) levels.now (⟦<Lazy<'a, W> as Columns>⟧.program l)) }
+    {
+        let players = game.players();
+        let front = Front { family, levels };
+        Ok(Lazy {
+            game,
+            players,
+            levels: levels.len() as u32 + 1,
+            front: Some(front),
+            first: front.count(game),
+            marks: Some(outside_of(span, players)),
+        })
+    }
+
+    /// The balanced program of a game of at most 16 players (Bondareva 1963, Shapley 1967): the greatest worth that
+    /// coalitions have by weights that hold each player once. Where that is the worth of all, the multipliers are a point of
+    /// the core; where it is more, the weights show that there is none. The one error is want of memory, and no memory is
+    /// taken.
+    pub fn balanced(_alloc: Global, game: &'a W) -> Result<Lazy<'a, W>, OutOfMemory>
+        requires { (W.game game.now).players ≤ 16 }
+        ensures { IfOk result (λ l. (⟦<Lazy<'a, W> as Columns>⟧.players l ≡ (W.game game.now).players)
+            × IsSame (⟦<Lazy<'a, W> as Columns>⟧.program l) (balanced_program (W.game game.now))) }
+    {
+        let players = game.players();
+        Ok(Lazy {
+            game,
+            players,
+            levels: 0,
+            front: None,
+            first: 0,
+            marks: None,
+        })
+    }
+}
+
+impl<W: Worth> Columns for Lazy<'_, W> {
+    ghost use Rattle.separation.specs.Lawful.{kept_lawful};
+
+    ghost program = { λ l. kept_program l.players l.levels (lazy_columns (W.game l.game.now) l.front l.marks) };
+
+    ghost players = { λ l. l.players };
+
+    ghost lawful = { λ l. kept_lawful l.players l.levels (lazy_columns (W.game l.game.now) l.front l.marks) l.few l.few_rows l.small };
+
+    fn rows(&self) -> u32 {
+        self.players + self.levels
+    }
+
+    fn right(&self, row: u32) -> i32 {
+        if self.levels == 0 || row + 1 == self.players + self.levels {
+            1
+        } else {
+            0
+        }
+    }
+
+    fn has(&self, id: u64) -> bool {
+        self.column(id).is_some()
+    }
+
+    fn entry(&self, id: u64, row: u32) -> i32 {
+        match self.column(id) {
+            Some(column) => column.entry(self.players, row),
+            None => 0,
+        }
+    }
+
+    fn cost(&self, id: u64) -> i64 {
+        match self.column(id) {
+            Some(column) => column.cost,
+            None => 0,
+        }
+    }
+
+    fn entering(&mut self, m: &Multipliers, with_costs: bool) -> Option<u64> {
+        let sums = Sums::new(m, self.players);
+        first_found(self, m, &sums, with_costs)
+    }
+}
