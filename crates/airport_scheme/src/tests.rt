@@ -1,60 +1,16 @@
-//! Costs whose shares and levels were worked by hand, and the verdicts of the checker.
-ghost use Rattle.std.specs.Prelude.{◌<◌, length, IfOk};
-ghost use Rattle.airport.specs.Airport.{airport_game};
-ghost use Rattle.definitions.specs.declared.Family.{Family};
-ghost use Rattle.definitions.specs.declared.Measure.TheVariants.{Plain};
-ghost use Rattle.definitions.specs.declared.Mode.TheVariants.{Players};
-ghost use Rattle.kohlberg.specs.Solved.{IsSolved};
+//! Costs whose shares and levels were worked by hand.
+ghost use Rattle.std.specs.Prelude.{◌<◌, length};
 
 use super::*;
-use checker::{Verdict, check};
 use coalitions::Coalition;
 use fractions::Frac;
-use kohlberg::{Family, Level, ratio};
+use kohlberg::{Level, ratio};
 use std::test::Fail;
-use worth_core::Measure;
 
-/// The game of these costs, and what solves it.
-#[derive(Drop)]
-struct Solution {
-    game: AirportGame,
-    shares: Shares,
-    certificate: Certificate,
-}
-
-fn solved(alloc: Global, costs: &[i64]) -> Result<Solution, Fail>
-    ensures { IfOk result (λ s. (family : Family) → IsSolved Players family Plain (airport_game s.game) s.shares s.certificate) }
-{
-    let costs = costs.to_vec(alloc)?;
-    let game = AirportGame::new(alloc, costs).map_err(|_| "no game")?;
-    let Ok((shares, certificate)) = solve(alloc, &game) else {
-        return Err(Fail::from("no memory"));
-    };
-    Ok(Solution {
-        game,
-        shares,
-        certificate,
-    })
-}
-
-/// Whether the checker says Yes to the certificate, for both families.
-fn is_certified(s: &Solution) -> bool
-    requires { (family : Family) → IsSolved Players family Plain (airport_game s.now.game) s.now.shares s.now.certificate }
-{
-    check(
-        &s.game,
-        Family::Imputations,
-        Measure::Plain,
-        &s.shares,
-        &s.certificate,
-    ) == Verdict::Yes
-        && check(
-            &s.game,
-            Family::Preimputations,
-            Measure::Plain,
-            &s.shares,
-            &s.certificate,
-        ) == Verdict::Yes
+/// The shares and the certificate of the game of these costs.
+fn solved(alloc: Global, costs: &[i64]) -> Result<(Shares, Certificate), Fail> {
+    let game = AirportGame::new(alloc, costs.to_vec(alloc)?).map_err(|_| "no game")?;
+    solve(alloc, &game).map_err(|_| Fail::from("no memory"))
 }
 
 /// What a player pays.
@@ -81,29 +37,28 @@ fn is_level(
 
 #[test]
 fn costs_of_2_and_4_and_6_have_two_levels(rt: HostRuntime) -> Result<(), Fail> {
-    let s = solved(rt.alloc(), &[2, 4, 6])?;
-    assert_eq!(rt; s.shares.players(), 3);
-    assert_eq!(rt; payment(&s.shares, 0), ratio(1, 1));
-    assert_eq!(rt; payment(&s.shares, 1), ratio(3, 2));
-    assert_eq!(rt; payment(&s.shares, 2), ratio(7, 2));
-    let levels = s.certificate.levels();
+    let (shares, certificate) = solved(rt.alloc(), &[2, 4, 6])?;
+    assert_eq!(rt; shares.players(), 3);
+    assert_eq!(rt; payment(&shares, 0), ratio(1, 1));
+    assert_eq!(rt; payment(&shares, 1), ratio(3, 2));
+    assert_eq!(rt; payment(&shares, 2), ratio(7, 2));
+    let levels = certificate.levels();
     assert_eq!(rt; levels.len(), 2);
     let first = [(Coalition(0b001), 1), (Coalition(0b110), 1)];
     assert!(rt; is_level(&levels[0], (-1, 1), &first, &[], 1));
     let second = [(Coalition(0b011), 1), (Coalition(0b101), 1)];
     assert!(rt; is_level(&levels[1], (-3, 2), &second, &[(Coalition(0b001), -1)], 1));
-    assert!(rt; is_certified(&s));
     Ok(())
 }
 
 #[test]
 fn players_without_costs_pay_nothing(rt: HostRuntime) -> Result<(), Fail> {
-    let s = solved(rt.alloc(), &[0, 0, 3])?;
-    assert_eq!(rt; s.shares.players(), 3);
-    assert_eq!(rt; payment(&s.shares, 0), ratio(0, 1));
-    assert_eq!(rt; payment(&s.shares, 1), ratio(0, 1));
-    assert_eq!(rt; payment(&s.shares, 2), ratio(3, 1));
-    let levels = s.certificate.levels();
+    let (shares, certificate) = solved(rt.alloc(), &[0, 0, 3])?;
+    assert_eq!(rt; shares.players(), 3);
+    assert_eq!(rt; payment(&shares, 0), ratio(0, 1));
+    assert_eq!(rt; payment(&shares, 1), ratio(0, 1));
+    assert_eq!(rt; payment(&shares, 2), ratio(3, 1));
+    let levels = certificate.levels();
     assert_eq!(rt; levels.len(), 1);
     let pairs = [
         (Coalition(0b011), 1),
@@ -111,18 +66,16 @@ fn players_without_costs_pay_nothing(rt: HostRuntime) -> Result<(), Fail> {
         (Coalition(0b110), 1),
     ];
     assert!(rt; is_level(&levels[0], (0, 1), &pairs, &[], 2));
-    assert!(rt; is_certified(&s));
     Ok(())
 }
 
 #[test]
 fn equal_costs_of_64_players_are_shared_equally(rt: HostRuntime) -> Result<(), Fail> {
-    let s = solved(rt.alloc(), &[64; 64])?;
-    assert_eq!(rt; s.shares.players(), 64);
+    let (shares, certificate) = solved(rt.alloc(), &[64; 64])?;
+    assert_eq!(rt; shares.players(), 64);
     for i in 0..64 {
-        assert_eq!(rt; payment(&s.shares, i), ratio(1, 1), "of player {i}");
+        assert_eq!(rt; payment(&shares, i), ratio(1, 1), "of player {i}");
     }
-    assert!(rt; is_certified(&s));
     Ok(())
 }
 
@@ -132,12 +85,11 @@ fn the_squares_to_64_reach_the_greatest_denominator(rt: HostRuntime) -> Result<(
     for i in 0..64 {
         costs[i] = (i as i64 + 1) * (i as i64 + 1);
     }
-    let s = solved(rt.alloc(), &costs)?;
-    assert_eq!(rt; s.shares.players(), 64);
-    assert_eq!(rt; s.shares.den(), 1 << 63);
-    assert_eq!(rt; payment(&s.shares, 0), ratio(1, 2));
-    assert_eq!(rt; payment(&s.shares, 1), ratio(7, 4));
-    assert_eq!(rt; payment(&s.shares, 2), ratio(27, 8));
-    assert!(rt; is_certified(&s));
+    let (shares, certificate) = solved(rt.alloc(), &costs)?;
+    assert_eq!(rt; shares.players(), 64);
+    assert_eq!(rt; shares.den(), 1 << 63);
+    assert_eq!(rt; payment(&shares, 0), ratio(1, 2));
+    assert_eq!(rt; payment(&shares, 1), ratio(7, 4));
+    assert_eq!(rt; payment(&shares, 2), ratio(27, 8));
     Ok(())
 }

@@ -1,67 +1,20 @@
-//! Shares and levels from the sources, and the verdicts of the checker at all estates of a few claims.
-ghost use Rattle.std.specs.Prelude.{IfOk};
-ghost use Rattle.bankruptcy.specs.Bankruptcy.{bankruptcy_game};
-ghost use Rattle.definitions.specs.declared.Family.{Family};
-ghost use Rattle.definitions.specs.declared.Measure.TheVariants.{Plain};
-ghost use Rattle.definitions.specs.declared.Mode.TheVariants.{Players};
-ghost use Rattle.kohlberg.specs.Solved.{IsSolved};
-
+//! Shares and levels from the sources, and shares at all estates of a few claims.
 use super::*;
-use checker::{Verdict, check};
 use coalitions::Coalition;
 use fractions::Frac;
-use kohlberg::{Family, Level, ratio};
+use kohlberg::{Level, ratio};
 use std::alloc::AllocError;
 use std::test::Fail;
-use worth_core::Measure;
 
-/// An estate and claims, and what solves the game.
-#[derive(Drop)]
-struct Solution {
-    game: BankruptcyGame,
-    shares: Shares,
-    certificate: Certificate,
-}
-
-fn solved(alloc: Global, estate: i64, claims: &[i64]) -> Result<Solution, Fail>
-    ensures { IfOk result (λ s. (family : Family) → IsSolved Players family Plain (bankruptcy_game s.game) s.shares s.certificate) }
-{
-    let claims = claims.to_vec(alloc)?;
-    let game = BankruptcyGame::new(alloc, estate, claims).map_err(|_| "no game")?;
-    let Ok((shares, certificate)) = solve(alloc, &game) else {
-        return Err(Fail::from("no memory"));
-    };
-    Ok(Solution {
-        game,
-        shares,
-        certificate,
-    })
-}
-
-/// Whether the checker says Yes to the certificate, for both families.
-fn is_certified(s: &Solution) -> bool
-    requires { (family : Family) → IsSolved Players family Plain (bankruptcy_game s.now.game) s.now.shares s.now.certificate }
-{
-    check(
-        &s.game,
-        Family::Imputations,
-        Measure::Plain,
-        &s.shares,
-        &s.certificate,
-    ) == Verdict::Yes
-        && check(
-            &s.game,
-            Family::Preimputations,
-            Measure::Plain,
-            &s.shares,
-            &s.certificate,
-        ) == Verdict::Yes
+/// The shares and the certificate of the game of an estate and claims.
+fn solved(alloc: Global, estate: i64, claims: &[i64]) -> Result<(Shares, Certificate), Fail> {
+    let game = BankruptcyGame::new(alloc, estate, claims.to_vec(alloc)?).map_err(|_| "no game")?;
+    solve(alloc, &game).map_err(|_| Fail::from("no memory"))
 }
 
 /// Whether player `i` gets so much.
-fn gets(s: &Solution, i: u32, share: (i128, i128)) -> bool {
-    i < s.shares.players()
-        && Some(ratio(s.shares.num(i), s.shares.den())) == Frac::new(share.0, share.1)
+fn gets(x: &Shares, i: u32, share: (i128, i128)) -> bool {
+    i < x.players() && Some(ratio(x.num(i), x.den())) == Frac::new(share.0, share.1)
 }
 
 /// Whether a level has this excess over a denominator, these coalitions and earlier ones, all of weight 1, no bounds, and
@@ -103,22 +56,21 @@ fn claims_of_100_and_200_and_300_are_shared_as_in_the_talmud(rt: HostRuntime) ->
         (400, [(50, 1), (125, 1), (225, 1)]),
         (600, [(100, 1), (200, 1), (300, 1)]),
     ] {
-        let s = solved(rt.alloc(), estate, &[100, 200, 300])?;
+        let (x, _) = solved(rt.alloc(), estate, &[100, 200, 300])?;
         for i in 0..3u32 {
             assert!(rt;
-                gets(&s, i, shares[i as usize]),
+                gets(&x, i, shares[i as usize]),
                 "player {i} of estate {estate}"
             );
         }
-        assert!(rt; is_certified(&s), "estate {estate}");
     }
     Ok(())
 }
 
 #[test]
 fn levels_of_an_estate_above_half_of_the_claims(rt: HostRuntime) -> Result<(), Fail> {
-    let s = solved(rt.alloc(), 400, &[100, 200, 300])?;
-    let levels = s.certificate.levels();
+    let (_, certificate) = solved(rt.alloc(), 400, &[100, 200, 300])?;
+    let levels = certificate.levels();
     assert_eq!(rt; levels.len(), 2);
     assert!(rt; is_level(&levels[0], (-50, 1), &[0b001, 0b110], &[], 1));
     assert!(rt; is_level(&levels[1], (-75, 1), &[0b011, 0b101], &[0b110], 2));
@@ -127,8 +79,8 @@ fn levels_of_an_estate_above_half_of_the_claims(rt: HostRuntime) -> Result<(), F
 
 #[test]
 fn levels_of_an_estate_below_half_of_the_claims(rt: HostRuntime) -> Result<(), Fail> {
-    let s = solved(rt.alloc(), 200, &[200, 100, 300])?;
-    let levels = s.certificate.levels();
+    let (_, certificate) = solved(rt.alloc(), 200, &[200, 100, 300])?;
+    let levels = certificate.levels();
     assert_eq!(rt; levels.len(), 2);
     assert!(rt; is_level(&levels[0], (-50, 1), &[0b010, 0b101], &[], 1));
     assert!(rt; is_level(&levels[1], (-75, 1), &[0b001, 0b100], &[0b010], 1));
@@ -137,8 +89,8 @@ fn levels_of_an_estate_below_half_of_the_claims(rt: HostRuntime) -> Result<(), F
 
 #[test]
 fn estate_of_half_the_claims_has_a_level_for_each_claim(rt: HostRuntime) -> Result<(), Fail> {
-    let s = solved(rt.alloc(), 300, &[200, 100, 200, 100])?;
-    let levels = s.certificate.levels();
+    let (_, certificate) = solved(rt.alloc(), 300, &[200, 100, 200, 100])?;
+    let levels = certificate.levels();
     assert_eq!(rt; levels.len(), 2);
     assert!(rt;
         is_level(
@@ -158,14 +110,13 @@ fn estate_of_half_the_claims_has_a_level_for_each_claim(rt: HostRuntime) -> Resu
             2
         )
     );
-    assert!(rt; is_certified(&s));
     Ok(())
 }
 
 #[test]
 fn estate_of_0_has_one_level_of_all_coalitions(rt: HostRuntime) -> Result<(), Fail> {
-    let s = solved(rt.alloc(), 0, &[100, 200, 300])?;
-    let levels = s.certificate.levels();
+    let (_, certificate) = solved(rt.alloc(), 0, &[100, 200, 300])?;
+    let levels = certificate.levels();
     assert_eq!(rt; levels.len(), 1);
     assert!(rt; is_level(&levels[0], (0, 1), &[1, 2, 3, 4, 5, 6], &[], 3));
     Ok(())
@@ -173,10 +124,9 @@ fn estate_of_0_has_one_level_of_all_coalitions(rt: HostRuntime) -> Result<(), Fa
 
 #[test]
 fn one_player_gets_the_estate_without_a_level(rt: HostRuntime) -> Result<(), Fail> {
-    let s = solved(rt.alloc(), 5, &[7])?;
-    assert!(rt; gets(&s, 0, (5, 1)));
-    assert_eq!(rt; s.certificate.levels().len(), 0);
-    assert!(rt; is_certified(&s));
+    let (x, certificate) = solved(rt.alloc(), 5, &[7])?;
+    assert!(rt; gets(&x, 0, (5, 1)));
+    assert_eq!(rt; certificate.levels().len(), 0);
     Ok(())
 }
 
@@ -188,16 +138,15 @@ fn two_players_have_one_level_with_each_alone(rt: HostRuntime) -> Result<(), Fai
         (6, [6, 2], [(5, 1), (1, 1)], (-1, 1)),
         (5, [4, 4], [(5, 2), (5, 2)], (-3, 2)),
     ] {
-        let s = solved(rt.alloc(), estate, &claims)?;
-        assert!(rt; gets(&s, 0, shares[0]), "estate {estate}");
-        assert!(rt; gets(&s, 1, shares[1]), "estate {estate}");
-        let levels = s.certificate.levels();
+        let (x, certificate) = solved(rt.alloc(), estate, &claims)?;
+        assert!(rt; gets(&x, 0, shares[0]), "estate {estate}");
+        assert!(rt; gets(&x, 1, shares[1]), "estate {estate}");
+        let levels = certificate.levels();
         assert_eq!(rt; levels.len(), 1);
         assert!(rt;
             is_level(&levels[0], excess, &[0b01, 0b10], &[], 1),
             "estate {estate}"
         );
-        assert!(rt; is_certified(&s), "estate {estate}");
     }
     Ok(())
 }
@@ -205,14 +154,13 @@ fn two_players_have_one_level_with_each_alone(rt: HostRuntime) -> Result<(), Fai
 #[test]
 fn equal_claims_of_64_players_are_shared_equally(rt: HostRuntime) -> Result<(), Fail> {
     for estate in [1, 1600, 6399] {
-        let s = solved(rt.alloc(), estate, &[100; 64])?;
+        let (x, _) = solved(rt.alloc(), estate, &[100; 64])?;
         for i in 0..64 {
             assert!(rt;
-                gets(&s, i, (estate as i128, 64)),
+                gets(&x, i, (estate as i128, 64)),
                 "player {i} of estate {estate}"
             );
         }
-        assert!(rt; is_certified(&s), "estate {estate}");
     }
     Ok(())
 }
@@ -267,23 +215,23 @@ fn plain_shares(
 }
 
 /// Whether each player gets so much over 24.
-fn gets_all(s: &Solution, shares: &[i128]) -> bool {
-    if s.shares.players() as usize != shares.len() {
+fn gets_all(x: &Shares, shares: &[i128]) -> bool {
+    if x.players() as usize != shares.len() {
         return false;
     }
-    for i in 0..s.shares.players() {
-        if !gets(s, i, (shares[i as usize], 24)) {
+    for i in 0..x.players() {
+        if !gets(x, i, (shares[i as usize], 24)) {
             return false;
         }
     }
     true
 }
 
-/// Whether the shares are those of the plain rule, and the checker says Yes.
+/// Whether the shares are those of the plain rule.
 fn agrees(alloc: Global, estate: i64, claims: &[i64]) -> Result<bool, Fail> {
-    let s = solved(alloc, estate, claims)?;
+    let (x, _) = solved(alloc, estate, claims)?;
     let plain = plain_shares(alloc, estate, claims)?.ok_or("no bound")?;
-    Ok(gets_all(&s, &plain) && is_certified(&s))
+    Ok(gets_all(&x, &plain))
 }
 
 #[test]
