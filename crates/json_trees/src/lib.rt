@@ -13,6 +13,6 @@ pub use form::{
     ArrayOf, Form, Integer, Member, Number, PairOf, SecondOf, Text, each_at, has, has_if_there,
 };
 pub use fractions_written::{Fraction, fraction_at, fraction_of, fraction_or_zero};
-pub use integers::{integer, integer_at, integers_at, second_integer};
+pub use integers::{integer, integer_at, integers_at, rows_at, second_integer};
 pub use keys::has_only_keys;
 pub use looking::{pair_members, parts, parts_at, text};
