@@ -1,7 +1,7 @@
 pub mod Orders
 pub mod EachOnce
 mod Credits
-mod Sizes
+pub mod Sizes
 mod Sums
 mod Airport
 mod Steps

@@ -1,0 +1,13 @@
+//! Convex games: whether a game is convex, and its Shapley and marginal shares, which then lie in its core (Shapley 1971).
+#![tactic(auto)]
+
+mod answers;
+mod failures;
+mod marginals;
+#[cfg(test)]
+mod tests;
+
+pub use answers::{ConvexAnswer, answer};
+pub use failures::{Convexity, test};
+pub use fractions::OutOfMemory;
+pub use marginals::marginal;
