@@ -1,5 +1,5 @@
--- The table that a document describes has at most 16 players.
-use Rattle.std.proofs.Common.{◌≤◌, ℕ, ℤ, pos, negsuc, Bool, true, false, ◌&&◌, Option, Some, None, if◌then◌else◌, codes, nat_lt, nat_le, unwrap_or, option_and_then, refl, arith}
+-- A game that a document describes, and that has no scheme of its own, has at most 16 players.
+use Rattle.std.proofs.Common.{◌-◌, ◌≤◌, ℕ, ℤ, pos, negsuc, Bool, true, false, ◌&&◌, length, Option, Some, None, if◌then◌else◌, codes, nat_lt, nat_le, unwrap_or, option_and_then, refl, arith}
 use Rattle.std.specs.Prelude.{◌≡◌}
 use Rattle.std.proofs.lemmas.Bool.{leb-true}
 use Rattle.serde_json.specs.Data.{Data}
@@ -7,9 +7,16 @@ use Rattle.serde_json.specs.Find.{get}
 use Rattle.json_trees.specs.Trees.{integer}
 use Rattle.game_text.specs.Shape.{class_of}
 use Rattle.game_text.specs.TableClass.{table_players}
+use Rattle.game_text.specs.MatrixClass.{rows_of}
+use Rattle.game_text.specs.Limits.{has_players_as}
+use Rattle.game_text.specs.Documents.{game_tree}
+use Rattle.game_text.specs.Denominators.{tree_refusal}
+use Rattle.game_text.proofs.MatrixRows.{points_in, players_in}
+use Rattle.game_text.proofs.Passed.{passed_tests}
+use Rattle.game_text.specs.declared.command.Command.{Command}
 use Rattle.game_text.specs.Descriptions.{description_as, description_of}
 use Rattle.game_text.specs.declared.class.Class.{Class}
-use Rattle.game_text.specs.declared.class.Class.TheVariants.{Table, CostTable, Airport, Bankruptcy}
+use Rattle.game_text.specs.declared.class.Class.TheVariants.{Table, CostTable, Airport, Bankruptcy, Tree, Assignment}
 use Rattle.coop.specs.Finding.{HasFewPlayers}
 
 few_if : (b c : Bool) (n : ℕ) → (c ≡ true → n ≤ 16) → unwrap_or (if b && c then Some n else None) 0 ≤ 16
@@ -22,12 +29,17 @@ few_at None = omega arith
 few_at (Some (pos n)) = few_if (nat_lt 0 n) (nat_le n 16) n (λ e. leb-true n 16 e)
 few_at (Some (negsuc n)) = omega arith
 
-few_as : (c : Option Class) (game : Data) → class_of game ≡ c → HasFewPlayers (description_as c game)
-few_as None game e = omega arith
-few_as (Some Table) game e = rw e (few_at (option_and_then integer (get (codes "players") game)))
-few_as (Some CostTable) game e = rw e (few_at (option_and_then integer (get (codes "players") game)))
-few_as (Some Airport) game e = tt
-few_as (Some Bankruptcy) game e = tt
+few_points : (n : ℕ) → n ≤ 17 → n - 1 ≤ 16
+few_points n h = omega (arith, h)
 
-pub few_players : (game : Data) → HasFewPlayers (description_of game)
-few_players game = few_as (class_of game) game refl
+few_as : (c : Option Class) (game : Data) → class_of game ≡ c → has_players_as c game ≡ true → HasFewPlayers (description_as c game)
+few_as None game e h = omega arith
+few_as (Some Table) game e h = rw e (few_at (option_and_then integer (get (codes "players") game)))
+few_as (Some CostTable) game e h = rw e (few_at (option_and_then integer (get (codes "players") game)))
+few_as (Some Airport) game e h = tt
+few_as (Some Bankruptcy) game e h = tt
+few_as (Some Tree) game e h = few_points (length (rows_of game)) (points_in game h).1
+few_as (Some Assignment) game e h = (players_in game h).2
+
+pub few_players : (command : Command) (document : Data) → tree_refusal command document ≡ None → HasFewPlayers (description_of (game_tree document))
+few_players command document passed = few_as (class_of (game_tree document)) (game_tree document) refl (passed_tests command document passed).players

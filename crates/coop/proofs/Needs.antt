@@ -63,3 +63,5 @@ module _ (bytes : List ℕ) (d : Contents) where
   has_needed command.Propose document fit certified k = has_shares document fit
   has_needed command.Core document fit certified k = accepted command.Core document (omega arith) k
   has_needed command.Check document fit certified k = is_complete document fit certified
+  has_needed command.Shapley document fit certified k = tt
+  has_needed command.Bird document fit certified k = tt

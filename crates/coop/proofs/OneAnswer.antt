@@ -26,6 +26,7 @@ use Rattle.game_text.specs.declared.refusal.Refusal.TheVariants as refusal
 use Rattle.report.specs.declared.answer.Answer.{Answer}
 use Rattle.report.specs.declared.answer.Answer.TheVariants.{Verdict, Usage, Refused}
 use Rattle.report.specs.declared.answer.UsageKind.TheVariants.{Words}
+use Rattle.game_text.proofs.OfClass.{document_of_class}
 use Rattle.coop.specs.Checks.{Checks, HasEvidence}
 use Rattle.coop.specs.Headline.{AnswersTo, IsAnsweredFor, Answers}
 use Rattle.coop.specs.ReadBack.{SaysSame, CheckSaysYes}
@@ -49,6 +50,8 @@ only_check command.Nucleolus e = absurd (other_length (word_of command.Nucleolus
 only_check command.Prenucleolus e = absurd (other_length (word_of command.Prenucleolus) refl e)
 only_check command.Propose e = absurd (other_length (word_of command.Propose) refl e)
 only_check command.Core e = absurd (other_length (word_of command.Core) refl e)
+only_check command.Shapley e = absurd (other_length (word_of command.Shapley) refl e)
+only_check command.Bird e = absurd (other_length (word_of command.Bird) refl e)
 
 module _ (given : Command) (bytes : List ℕ) (d : Contents) (document : IsDocument given bytes d) where
   this : IsReadAs given bytes d
@@ -96,7 +99,8 @@ module _ (d : Contents) (f : Family) (x : Allocation) (c : CertificateData) (evi
 module _ (bytes : List ℕ) (d : Contents) (document : IsDocument command.Check bytes d) (only : (answer : Answer) → Checks d answer → answer ≡ Verdict Yes) where
   only_served : (answer : Answer) → IsAnsweredFor (word_of command.Check ∷ []) bytes answer → answer ≡ Verdict Yes
   only_served answer h =
-      let here : IsDocument command.Check bytes h.1.1.0 × AnswersTo command.Check h.1.1.0 answer = subst (λ (k : Command). IsDocument k bytes h.1.1.0 × AnswersTo k h.1.1.0 answer) (only_check h.0 h.1.0) h.1.1.1 in
+      let here : IsDocument command.Check bytes h.1.1.0 × AnswersTo command.Check h.1.1.0 answer =
+      subst (λ (k : Command). IsDocument k bytes h.1.1.0 × AnswersTo k h.1.1.0 answer) (only_check h.0 h.1.0) (h.1.1.1.0, h.1.1.1.2) in
       only answer (subst (λ (e : Contents). Checks e answer) (sym (same_document command.Check bytes d document h.1.1.0 here.0)) here.1)
 
   only_yes : (answer : Answer) → Answers (word_of command.Check ∷ []) bytes answer → answer ≡ Verdict Yes
@@ -106,6 +110,6 @@ module _ (bytes : List ℕ) (d : Contents) (document : IsDocument command.Check 
 
 pub check_says_yes : (bytes : List ℕ) (d : Contents) → IsDocument command.Check bytes d → (f : Family) (printed : Data) (x : Allocation) (c : CertificateData) → SaysSame f printed x c d → CheckSaysYes bytes
 check_says_yes bytes d document f printed x c says = record {
-  yes = (command.Check, (refl, (d, (document, (f, (says.shares, (c, (says.evidence, says.certifies))))))));
+  yes = (command.Check, (refl, (d, (document, document_of_class command.Check bytes d document, (f, (says.shares, (c, (says.evidence, says.certifies))))))));
   only = only_yes bytes d document (only_verdict d f says.shares c says.evidence says.certifies);
 }

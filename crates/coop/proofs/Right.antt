@@ -11,6 +11,7 @@ use Rattle.game_text.specs.declared.refusal.Refusal.TheVariants as refusal
 use Rattle.report.specs.declared.answer.Answer.{Answer}
 use Rattle.report.specs.declared.answer.Answer.TheVariants.{Usage, Refused}
 use Rattle.report.specs.declared.answer.UsageKind.TheVariants.{Words}
+use Rattle.game_text.proofs.OfClass.{document_of_class}
 use Rattle.coop.specs.Headline.{AnswersTo, IsAnsweredFor}
 use Rattle.coop.specs.Outcome.{IsLeft, IsRight, ReadsAll, ReadsForRefusal}
 use Rattle.coop.specs.Words.{word_of, IsNoCommand, Names}
@@ -61,7 +62,7 @@ module _ (given : Command) (old new : Option (List ℕ)) (input : List ℕ) (p :
   read = ((input, p), end document.0)
 
   served : (a : Answer) → AnswersTo given d a → IsAnsweredFor (word_of given ∷ []) input a
-  served a right = (given, (refl, (d, (document, right))))
+  served a right = (given, (refl, (d, (document, document_of_class given input d document, right))))
 
   pub right_answer : (a : Answer) → AnswersTo given d a → IsRight (word_of given ∷ []) old new a
   right_answer (Usage Words) right = absurd (no_usage given d right)

@@ -3,12 +3,12 @@
 -- The answers exclude one another: no core point stands beside a balanced collection of excess worth. No other answer is right,
 -- so the negative answer comes exactly where the core is empty.
 --
---   IsSchemePoint   the point of an airport or bankruptcy game is its nucleolus
+--   IsSchemePoint   the point of an airport or bankruptcy game is its nucleolus, and that of a tree game has Bird's shares
 --   IsSaidOf        what a solver says of the core
 --   IsCorePoint     a point of the core, as it is printed
 --   IsEmptyCore     a collection that shows that the core is empty, with both numbers as they are printed
 --   SaysOfCore      the answer is right for the game of a document
-use Rattle.std.specs.Prelude.{◌≡◌, ⊤, Bool, ℤ, ◌*ℤ◌}
+use Rattle.std.specs.Prelude.{◌≡◌, ⊤, Bool, ℕ, ℤ, List, ◌*ℤ◌}
 use Rattle.definitions.specs.Sums.{weighted_sum}
 use Rattle.definitions.specs.Coalitions.{grand_coalition}
 use Rattle.definitions.specs.Games.{Game, Allocation, InCore, IsNucleolus}
@@ -19,18 +19,21 @@ use Rattle.balanced.specs.Collections.{CollectionData}
 use Rattle.balanced.specs.Answer.{ShowsEmpty}
 use Rattle.balanced.specs.declared.CoreAnswer.{CoreAnswer}
 use Rattle.balanced.specs.declared.CoreAnswer.TheVariants.{Point, Empty}
-use Rattle.game_text.specs.Descriptions.{Description, table, cost_table, airport, bankruptcy, game_of, is_cost}
+use Rattle.tree_games.specs.Trees.{IsBird}
+use Rattle.game_text.specs.Descriptions.{Description, table, cost_table, airport, bankruptcy, network, market, game_of, is_cost}
 use Rattle.game_text.specs.Documents.{Contents}
 use Rattle.report.specs.declared.answer.Answer.{Answer}
 use Rattle.report.specs.declared.answer.Answer.TheVariants.{CorePoint, EmptyCore}
 use Rattle.coop.specs.Judgement.{printed}
 
--- the point of an airport or bankruptcy game is its nucleolus; that of a table may be any
+-- the point of an airport or bankruptcy game is its nucleolus, and that of a tree game has Bird's shares; that of another may be any
 abbrev pub IsSchemePoint : Description → Allocation → Type 0
 IsSchemePoint (table n worths) x = ⊤
 IsSchemePoint (cost_table n costs) x = ⊤
 IsSchemePoint (airport costs) x = IsNucleolus Imputations Plain (game_of (airport costs)) x
 IsSchemePoint (bankruptcy estate claims) x = IsNucleolus Imputations Plain (game_of (bankruptcy estate claims)) x
+IsSchemePoint (network rows) x = (edges : List (ℕ × ℕ × ℤ)) × IsBird rows x edges
+IsSchemePoint (market rows) x = ⊤
 
 -- what a solver says of the core
 abbrev pub IsSaidOf : Description → CoreAnswer → Type 0

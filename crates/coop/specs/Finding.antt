@@ -1,13 +1,15 @@
 -- What the solvers find, as the private functions below `solve_document` say it to one another.
 --
 --   IsFoundFor     what a solver finds: shares and a certificate, or that there is no imputation
---   HasFewPlayers  a table has at most 16 players
+--   HasFewPlayers  a game without a scheme of its own has at most 16 players
 use Rattle.std.specs.Prelude.{◌≤◌, ⊤}
 use Rattle.definitions.specs.Games.{Game}
 use Rattle.definitions.specs.declared.Family.{Family}
 use Rattle.definitions.specs.declared.Measure.TheVariants.{Plain}
+use Rattle.tree_games.specs.Trees.{tree_game}
+use Rattle.assignment_games.specs.Assignments.{assignment_game}
 use Rattle.kohlberg.specs.Solved.{IsSolved}
-use Rattle.game_text.specs.Descriptions.{Description, table, cost_table, airport, bankruptcy}
+use Rattle.game_text.specs.Descriptions.{Description, table, cost_table, airport, bankruptcy, network, market}
 use Rattle.nested_programs.specs.Answer.{LacksImputation}
 use Rattle.nested_programs.specs.declared.found.Found.{Found}
 use Rattle.nested_programs.specs.declared.found.Found.TheVariants as found
@@ -17,9 +19,11 @@ abbrev pub IsFoundFor : Family → Game → Found → Type 0
 IsFoundFor family g (found.Point x c) = IsSolved c.mode family Plain g x c
 IsFoundFor family g (found.NoImputation alone total) = LacksImputation family g alone total
 
--- a table has at most 16 players
+-- a game without a scheme of its own has at most 16 players
 abbrev pub HasFewPlayers : Description → Type 0
 HasFewPlayers (table n worths) = n ≤ 16
 HasFewPlayers (cost_table n costs) = n ≤ 16
 HasFewPlayers (airport costs) = ⊤
 HasFewPlayers (bankruptcy estate claims) = ⊤
+HasFewPlayers (network rows) = (tree_game rows).players ≤ 16
+HasFewPlayers (market rows) = (assignment_game rows).players ≤ 16

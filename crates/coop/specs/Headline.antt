@@ -1,7 +1,7 @@
 -- THE HEADLINE. Every nucleolus printed for a game that was read is an imputation whose excesses over all coalitions, listed
 -- from the greatest, come lexicographically before those of every other imputation. Its printed certificate meets written
 -- conditions, which a separate checker decides and which alone imply this. And every airport or bankruptcy game to 64 players,
--- and every table or cost table with an imputation, which have at most 16, is so answered.
+-- and every other with an imputation and at most sixteen, is so answered.
 --
 -- It is the clause `ends` of `run`: after a status of an answer there is an answer that `Answers` the words and the bytes, and
 -- the sink took its line (`Ends` in Outcome.antt). What is below says it from the inside out:
@@ -12,7 +12,8 @@
 --   AnswersTo            the answer is right for a command and its document
 --   Answers              the answer is right for the words and the bytes
 --
--- What is right for the other commands stands in Judgement.antt (`propose`), CoreClaims.antt (`core`) and Checks.antt (`check`).
+-- What is right for the other commands stands in Judgement.antt (`propose`), CoreClaims.antt (`core`), Checks.antt (`check`),
+-- ShapleyClaims.antt (`shapley`) and BirdClaims.antt (`bird`).
 --
 -- No answer that isn't named is right, and the answers exclude one another: a nucleolus is an imputation, which gives each
 -- player at least what it is worth alone, so it can't come where the players alone are worth more than all.
@@ -28,9 +29,10 @@ use Rattle.definitions.specs.declared.Measure.TheVariants.{Plain}
 use Rattle.kohlberg.specs.Certificate.{CertificateData}
 use Rattle.game_text.specs.Descriptions.{game_of, is_cost}
 use Rattle.game_text.specs.Documents.{Contents}
+use Rattle.game_text.specs.OfClass.{IsOfClass}
 use Rattle.game_text.specs.Refusals.{IsDocument, IsRefused}
 use Rattle.game_text.specs.declared.command.Command.{Command}
-use Rattle.game_text.specs.declared.command.Command.TheVariants.{Nucleolus as NucleolusWord, Prenucleolus as PrenucleolusWord, Propose, Core, Check}
+use Rattle.game_text.specs.declared.command.Command.TheVariants.{Nucleolus as NucleolusWord, Prenucleolus as PrenucleolusWord, Propose, Core, Check, Shapley, Bird}
 use Rattle.game_text.specs.declared.refusal.Refusal.{Refusal}
 use Rattle.nested_programs.specs.Answer.{singles}
 use Rattle.report.specs.declared.answer.Answer.{Answer}
@@ -40,6 +42,8 @@ use Rattle.coop.specs.Words.{IsCommand, IsNoCommand}
 use Rattle.coop.specs.Judgement.{printed, JudgesAll}
 use Rattle.coop.specs.Checks.{Checks}
 use Rattle.coop.specs.CoreClaims.{SaysOfCore}
+use Rattle.coop.specs.ShapleyClaims.{SaysOfShapley}
+use Rattle.coop.specs.BirdClaims.{SaysOfBird}
 
 -- The shares are a member of the family whose excesses over all coalitions, listed from the greatest, come before those of every other member. The certificate has its form for the game's players and meets all conditions for the shares, which alone imply this (`certificates_are_sound`). They stand beside the tree of the game that was read.
 pub record IsSolution (family : Family) (d : Contents) (printed : Data) (are_costs : Bool) (x : Allocation) (c : CertificateData) : Type 0 where
@@ -71,10 +75,12 @@ AnswersTo PrenucleolusWord d answer = Solves Preimputations d answer
 AnswersTo Propose d answer = JudgesAll d answer
 AnswersTo Core d answer = SaysOfCore d answer
 AnswersTo Check d answer = Checks d answer
+AnswersTo Shapley d answer = SaysOfShapley d answer
+AnswersTo Bird d answer = SaysOfBird d answer
 
--- the words are a command, the bytes are a document of it, and the answer is right for both
+-- the words are a command, the bytes are a document of it, whose game has the worths of its class, and the answer is right for both
 abbrev pub IsAnsweredFor : List (List ℕ) → List ℕ → Answer → Type 0
-IsAnsweredFor words bytes answer = (command : Command) × (IsCommand words command × ((d : Contents) × (IsDocument command bytes d × AnswersTo command d answer)))
+IsAnsweredFor words bytes answer = (command : Command) × (IsCommand words command × ((d : Contents) × (IsDocument command bytes d × IsOfClass d.game × AnswersTo command d answer)))
 
 -- the words are a command, and this is the first refusal that applies to the bytes
 abbrev pub IsRefusedFor : List (List ℕ) → List ℕ → Refusal → Type 0

@@ -2,6 +2,8 @@ pub mod Words
 pub mod Judgement
 pub mod Checks
 pub mod CoreClaims
+pub mod ShapleyClaims
+pub mod BirdClaims
 pub mod Headline
 pub mod ReadBack
 pub mod Outcome

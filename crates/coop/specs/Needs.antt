@@ -2,7 +2,7 @@
 --
 --   IsAccepted  no test refused the document of a game, and its tree can be printed again
 --   HasNeeded   what the command needs
-use Rattle.std.specs.Prelude.{◌≡◌, ◌≤◌, length, false, None}
+use Rattle.std.specs.Prelude.{◌≡◌, ◌≤◌, ⊤, length, false, None}
 use Rattle.serde_json.specs.Data.{Data, depth}
 use Rattle.serde_json.specs.Written.{compact_text, has_float}
 use Rattle.json_texts.specs.Exact.{IsExact}
@@ -11,7 +11,7 @@ use Rattle.game_text.specs.Documents.{Contents, game_tree}
 use Rattle.game_text.specs.Denominators.{tree_refusal}
 use Rattle.game_text.specs.Text.{document_limit}
 use Rattle.game_text.specs.declared.command.Command.{Command}
-use Rattle.game_text.specs.declared.command.Command.TheVariants.{Nucleolus, Prenucleolus, Propose, Core, Check}
+use Rattle.game_text.specs.declared.command.Command.TheVariants.{Nucleolus, Prenucleolus, Propose, Core, Check, Shapley, Bird}
 use Rattle.coop.specs.Judgement.{HasShares}
 use Rattle.coop.specs.Checks.{IsComplete}
 
@@ -34,3 +34,5 @@ HasNeeded Prenucleolus d = IsAccepted d
 HasNeeded Propose d = HasShares d
 HasNeeded Core d = IsAccepted d
 HasNeeded Check d = IsComplete d
+HasNeeded Shapley d = ⊤
+HasNeeded Bird d = ⊤

@@ -20,7 +20,7 @@ use Rattle.game_text.specs.declared.refusal.Refusal.{Refusal}
 use Rattle.game_text.specs.declared.refusal.Refusal.TheVariants.{TooLong}
 use Rattle.report.specs.Lines.{line}
 use Rattle.report.specs.declared.answer.Answer.{Answer}
-use Rattle.report.specs.declared.answer.Answer.TheVariants.{Nucleolus, NoImputation, InCore, NotEfficient, Blocked, CorePoint, EmptyCore, Verdict, Usage, Refused}
+use Rattle.report.specs.declared.answer.Answer.TheVariants.{Nucleolus, NoImputation, InCore, NotEfficient, Blocked, CorePoint, EmptyCore, Shapley, Bird, Verdict, Usage, Refused}
 use Rattle.report.specs.declared.answer.UsageKind.TheVariants.{Words}
 use Rattle.checker.specs.declared.verdicts.Verdict.{Verdict as CheckVerdict}
 use Rattle.checker.specs.declared.verdicts.Verdict.TheVariants.{Yes, No}
@@ -76,6 +76,8 @@ status_of (NotEfficient sum total) = status.Negative
 status_of (Blocked s e) = status.Negative
 status_of (CorePoint are_costs x) = status.Done
 status_of (EmptyCore c value against) = status.Negative
+status_of (Shapley are_costs x) = status.Done
+status_of (Bird x edges) = status.Done
 status_of (Verdict v) = verdict_status v
 status_of (Usage kind) = status.Usage
 status_of (Refused r) = status.Refused

@@ -22,7 +22,8 @@ use worth_core::{Shares, Worth};
 
 /// A point of the core of the game of a document, or a collection that shows that the core is empty.
 ///
-/// The point of an airport or bankruptcy game is its nucleolus, and tables are answered by the balanced program.
+/// The point of an airport or bankruptcy game is its nucleolus, that of a tree game has Bird's shares, and the others are
+/// answered by the balanced program.
 pub fn core_document(alloc: Global, document: &Document) -> Result<Answer, OutOfMemory>
     requires { IsAccepted (contents_in document.now) }
     ensures says { IfOk result (SaysOfCore (contents_in document.now)) }
@@ -36,7 +37,7 @@ pub fn core_document(alloc: Global, document: &Document) -> Result<Answer, OutOf
     }
 }
 
-// What the scheme of the game's class says, and what the balanced program says of a table.
+// What the scheme of the game's class says, or else the balanced program.
 fn said_of(alloc: Global, game: &Game) -> Result<CoreAnswer, OutOfMemory>
     requires { HasFewPlayers (description_in game.now) }
     ensures { IfOk result (IsSaidOf (description_in game.now)) }
@@ -46,6 +47,8 @@ fn said_of(alloc: Global, game: &Game) -> Result<CoreAnswer, OutOfMemory>
         Game::Bankruptcy(game) => Ok(point(talmud::solve(alloc, game)?)),
         Game::Table(game) => by_program(alloc, game),
         Game::Cost(game) => by_program(alloc, game),
+        Game::Tree(game) => Ok(CoreAnswer::Point(game.bird(alloc)?.0)),
+        Game::Assignment(game) => by_program(alloc, game),
     }
 }
 

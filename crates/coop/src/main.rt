@@ -2,10 +2,12 @@
 #![tactic(auto)]
 
 mod adapters;
+mod bird_shares;
 mod check;
 mod core_search;
 mod judge;
 mod run;
+mod shapley_values;
 mod solve;
 mod status;
 mod stop;

@@ -9,9 +9,11 @@ ghost use Rattle.coop.specs.ReadBack.{CanBeRead};
 ghost use Rattle.coop.specs.Stops.{IsFaultOf};
 ghost use Rattle.coop.specs.Words.{word_of, IsNoCommand};
 
+use crate::bird_shares::bird_document;
 use crate::check::check_document;
 use crate::core_search::core_document;
 use crate::judge::judge_document;
+use crate::shapley_values::shapley_document;
 use crate::solve::solve_document;
 use crate::status::{Status, status_of};
 use crate::stop::Stop;
@@ -94,5 +96,7 @@ fn answer_to(alloc: Global, command: Command, document: Document) -> Result<Answ
         Command::Propose => Ok(judge_document(&document)),
         Command::Core => core_document(alloc, &document),
         Command::Check => Ok(check_document(&document)),
+        Command::Shapley => shapley_document(alloc, &document),
+        Command::Bird => bird_document(alloc, &document),
     }
 }

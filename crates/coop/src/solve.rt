@@ -19,10 +19,11 @@ use nested_programs::{Found, NestedFault};
 use report::Answer;
 use std::alloc::Global;
 use worth_core::{Family, Shares, Worth};
+use worth_tables::KeptWorths;
 
 /// The nucleolus of the game of a document, or its prenucleolus, with its certificate; or that there is no imputation.
 ///
-/// Airport and bankruptcy games have schemes of their own, and tables are solved by nested linear programs.
+/// Airport and bankruptcy games have schemes of their own, and the others are solved by nested linear programs.
 pub fn solve_document(
     alloc: Global,
     document: Document,
@@ -53,7 +54,7 @@ pub fn solve_document(
     }
 }
 
-// What the scheme of the game's class finds, and what the nested programs find for a table.
+// What the scheme of the game's class finds, or else the nested programs.
 fn found_for(alloc: Global, game: &Game, family: Family) -> Result<Found, OutOfMemory>
     requires { HasFewPlayers (description_in game.now) }
     ensures { IfOk result (IsFoundFor family (game_of (description_in game.now))) }
@@ -69,6 +70,8 @@ fn found_for(alloc: Global, game: &Game, family: Family) -> Result<Found, OutOfM
         }
         Game::Table(game) => by_programs(alloc, game, family),
         Game::Cost(game) => by_programs(alloc, game, family),
+        Game::Tree(game) => by_programs(alloc, &KeptWorths::new(alloc, game)?, family),
+        Game::Assignment(game) => by_programs(alloc, game, family),
     }
 }
 

@@ -12,7 +12,7 @@ pub enum Status {
     Done = 0,
     /// The negative answer was printed.
     Negative = 1,
-    /// The words are no command.
+    /// The words are no command, or the command doesn't take the document.
     Usage = 2,
     /// The input is no document of the command.
     Refused = 3,
@@ -41,6 +41,8 @@ pub fn status_of(answer: &Answer) -> Status
         Answer::Nucleolus { .. }
         | Answer::InCore
         | Answer::CorePoint { .. }
+        | Answer::Shapley { .. }
+        | Answer::Bird { .. }
         | Answer::Verdict(Verdict::Yes) => Status::Done,
         Answer::NoImputation { .. }
         | Answer::NotEfficient { .. }

@@ -2,9 +2,11 @@
 mod certificates;
 mod cores;
 mod faults;
+mod networks_and_markets;
 mod nucleolus;
 mod proposals;
 mod refusals;
+mod shapley_shares;
 mod statuses;
 mod tables;
 mod two_refusals;

@@ -6,7 +6,7 @@ ghost use Rattle.coop.specs.Words.{Names};
 use game_text::Command;
 use report::{Answer, UsageKind};
 
-/// The command of the words: the one word `nucleolus`, `prenucleolus`, `propose`, `core` or `check`.
+/// The command of the words: the one word `nucleolus`, `prenucleolus`, `propose`, `core`, `check` or `shapley`.
 pub fn command_of(words: &[String]) -> Option<Command>
     ensures { Names (map string_bytes words.now) result }
 {
@@ -19,6 +19,8 @@ pub fn command_of(words: &[String]) -> Option<Command>
         "propose" => Some(Command::Propose),
         "core" => Some(Command::Core),
         "check" => Some(Command::Check),
+        "shapley" => Some(Command::Shapley),
+        "bird" => Some(Command::Bird),
         _ => None,
     }
 }

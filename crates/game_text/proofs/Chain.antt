@@ -9,7 +9,7 @@ use Rattle.game_text.specs.Names.{has_names}
 use Rattle.game_text.specs.Coalitions.{has_coalitions}
 use Rattle.game_text.specs.Descriptions.{description_of}
 use Rattle.game_text.specs.Documents.{game_tree}
-use Rattle.game_text.specs.Refusals.{unless, is_covered, has_needed_numbers, has_needed_shares, has_needed_form, IsRefused}
+use Rattle.game_text.specs.Refusals.{unless, is_covered, has_matrix, has_needed_numbers, has_needed_shares, has_needed_form, IsRefused}
 use Rattle.game_text.specs.Denominators.{needed_keep_limits, tree_refusal}
 use Rattle.game_text.specs.Steps.{coalition_refusal, game_refusal, share_refusal, certificate_refusal, needed_refusal, late_refusal}
 use Rattle.game_text.specs.Readings.{IsBuilt, IsBuildFault, IsGameReading, IsGameFault, IsTreeReading, IsTreeFault, IsReading, IsFault}
@@ -45,8 +45,10 @@ needed_of_tree command game tree = share_of_tree command game tree (certificate_
 
 game_of_tree : (game : Data) (rest : Option Refusal) → IsOfTree rest → IsOfTree (game_refusal game rest)
 game_of_tree game rest p =
-    let estate = unless (is_covered (description_of game)) Estate rest in
-    choose (has_names game) Names (unless (has_coalitions game) Coalition estate) (choose (has_coalitions game) Coalition estate (choose (is_covered (description_of game)) Estate rest p tt) tt) tt
+    let matrix = unless (has_matrix (description_of game)) Matrix rest in
+    let estate = unless (is_covered (description_of game)) Estate matrix in
+    choose (has_names game) Names (unless (has_coalitions game) Coalition estate)
+    (choose (has_coalitions game) Coalition estate (choose (is_covered (description_of game)) Estate matrix (choose (has_matrix (description_of game)) Matrix rest p tt) tt) tt) tt
 
 of_tree : (command : Command) (tree : Data) → IsOfTree (tree_refusal command tree)
 of_tree command tree =

@@ -1,5 +1,5 @@
 -- A document has a share for each player of its game, and a certificate for its players.
-use Rattle.std.proofs.Common.{◌≡◌, ℕ, List, length, map, Bool, true, false, pos, neg_ℤ, Option, Some, None, Result, Ok, Err, MatchResult, IfOk, IfSome, unsigned_abs, codes, refl, sym, ap, ◌∙◌, subst}
+use Rattle.std.proofs.Common.{◌≡◌, ℕ, ◌+◌, ◌-◌, List, length, map, Bool, true, false, pos, neg_ℤ, Option, Some, None, Result, Ok, Err, MatchResult, IfOk, IfSome, unsigned_abs, codes, refl, sym, ap, ap₂, ◌∙◌, subst}
 use Rattle.std.proofs.lemmas.Bool.{eqb-true}
 use Rattle.std.proofs.lemmas.List.{length-map}
 use Rattle.serde_json.specs.Data.{Data}
@@ -18,11 +18,12 @@ use Rattle.game_text.specs.Games.{description_in}
 use Rattle.game_text.specs.Refusals.{unless}
 use Rattle.game_text.specs.Steps.{proposal_refusal, certificate_refusal, needed_refusal}
 use Rattle.game_text.specs.Readings.{IsTreeReading, IsTreeFault}
+use Rattle.game_text.proofs.MatrixRows.{row_count, seller_count_of}
 use Rattle.game_text.proofs.Passed.{IsPassed, behind, passed_tests}
 use Rattle.game_text.specs.declared.class.Class.{Class}
-use Rattle.game_text.specs.declared.class.Class.TheVariants.{Table, CostTable, Airport, Bankruptcy}
+use Rattle.game_text.specs.declared.class.Class.TheVariants.{Table, CostTable, Airport, Bankruptcy, Tree, Assignment}
 use Rattle.game_text.specs.declared.command.Command.{Command}
-use Rattle.game_text.specs.declared.command.Command.TheVariants.{Nucleolus, Prenucleolus, Propose, Core, Check}
+use Rattle.game_text.specs.declared.command.Command.TheVariants.{Nucleolus, Prenucleolus, Propose, Core, Check, Shapley, Bird}
 use Rattle.game_text.specs.declared.document.Document.{Document}
 use Rattle.game_text.specs.declared.fault.TextFault.{TextFault}
 use Rattle.game_text.specs.declared.refusal.Refusal.{Refusal}
@@ -37,6 +38,8 @@ players_described game (Some Table) e = ap (λ k. players_as k game) (sym e)
 players_described game (Some CostTable) e = ap (λ k. players_as k game) (sym e)
 players_described game (Some Airport) e = costs_length (codes "costs") game
 players_described game (Some Bankruptcy) e = costs_length (codes "claims") game
+players_described game (Some Tree) e = ap (λ n. n - 1) (row_count game)
+players_described game (Some Assignment) e = ap₂ (λ p q. p + q) (row_count game) (seller_count_of game)
 
 length_over : (fs : List Fraction) → length (over_least fs).shares ≡ length fs
 length_over fs = length-map fs (numerator_over (pos (least_denominator fs)))
@@ -80,6 +83,8 @@ has_share_each Core tree d m = no_shares d (ap (λ c. c.shares) m.says)
 has_share_each Check tree d m =
     some_shares tree d (ap (λ c. c.shares) m.says) (described Check tree d m)
     (enough_shares (game_tree tree) tree (certificate_refusal Check (game_tree tree) tree) (tests_passed Check tree d m))
+has_share_each Shapley tree d m = no_shares d (ap (λ c. c.shares) m.says)
+has_share_each Bird tree d m = no_shares d (ap (λ c. c.shares) m.says)
 
 pub share_each : (command : Command) (tree : Data) (r : Result Document TextFault) → MatchResult r (IsTreeReading command tree) (IsTreeFault command tree) → IfOk r HasShareEach
 share_each command tree (Ok d) m = has_share_each command tree d m
@@ -102,6 +107,8 @@ has_its_players Check tree d m =
     let certificate : d.certificate ≡ certificate_for Check (game_tree tree) tree = ap (λ c. c.certificate) m.says in
     subst (λ o. IfSome o (λ c. c.players ≡ (game_of (description_in d.game)).players)) (sym certificate)
     (sym (players_described (game_tree tree) (class_of (game_tree tree)) refl) ∙ ap (λ k. (game_of k).players) (sym (described Check tree d m)))
+has_its_players Shapley tree d m = no_certificate d (ap (λ c. c.certificate) m.says)
+has_its_players Bird tree d m = no_certificate d (ap (λ c. c.certificate) m.says)
 
 pub its_players : (command : Command) (tree : Data) (r : Result Document TextFault) → MatchResult r (IsTreeReading command tree) (IsTreeFault command tree) → IfOk r HasItsPlayers
 its_players command tree (Ok d) m = has_its_players command tree d m

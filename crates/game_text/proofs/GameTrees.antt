@@ -12,6 +12,7 @@ use Rattle.game_text.specs.AirportClass.{airport_keys}
 use Rattle.game_text.specs.Shape.{class_named, class_of, is_shaped_as, is_game_shaped}
 use Rattle.game_text.specs.TableClass.{is_sparse_pair, table_keys, lists_worths, lists_coalitions, is_table_shaped, table_players, players_at, has_worths_for, has_worth, has_table_numbers, is_small, is_worth}
 use Rattle.game_text.specs.BankruptcyClass.{bankruptcy_keys}
+use Rattle.game_text.specs.MatrixClass.{matrix_keys, is_matrix_shaped, has_matrix_numbers}
 use Rattle.game_text.specs.Limits.{players, has_players_as, has_players, has_numbers_as, has_numbers}
 use Rattle.game_text.specs.Sizes.{if_integer, is_small_cost, is_cost}
 use Rattle.game_text.specs.Names.{names_of}
@@ -19,7 +20,7 @@ use Rattle.game_text.specs.Coalitions.{masks, has_coalitions_as, has_coalitions}
 use Rattle.game_text.specs.Members.{player_of, join, joined, mask_of, is_mask, are_coalitions}
 use Rattle.certificate_texts.specs.Levels.{numbered_player}
 use Rattle.game_text.specs.declared.class.Class.{Class}
-use Rattle.game_text.specs.declared.class.Class.TheVariants.{Table, CostTable, Airport, Bankruptcy}
+use Rattle.game_text.specs.declared.class.Class.TheVariants.{Table, CostTable, Airport, Bankruptcy, Tree, Assignment}
 use Rattle.game_text.proofs.PlainTrees.{IsPlain, plain_text, plain_integer, plain_array, all_plain, plain_known, has_members, IsPlainAt, either}
 
 -- ---- numbers
@@ -178,6 +179,24 @@ plain_bankruptcy game o c h w =
       ),
     )
 
+-- ---- trees and assignments
+
+plain_row : (e : Data) → is_array_of is_cost e ≡ true → IsPlain 1 e
+plain_row e h =
+    let kinds = and_parts (is_some (as_array e)) (list_all is_cost (parts e)) h in
+    plain_array 0 e kinds.0 (all_plain 0 is_cost (plain_cost 0) (parts e) kinds.1)
+
+plain_rows : (d : Data) → passes (is_array_of (is_array_of is_number)) (get (codes "matrix") d) ≡ true → list_all (is_array_of is_cost) (parts_at (codes "matrix") d) ≡ true → IsPlainAt 2 (codes "matrix") d
+plain_rows d h w e g =
+    let kinds = and_parts (is_some (as_array e)) (list_all (is_array_of is_number) (parts e)) (at_there (is_array_of (is_array_of is_number)) (codes "matrix") d e h g) in
+    plain_array 1 e kinds.0 (all_plain 1 (is_array_of is_cost) plain_row (parts e) (subst (λ l. list_all (is_array_of is_cost) l ≡ true) (parts_there (codes "matrix") d e g) w))
+
+plain_matrix : (game : Data) (c : Class) → IsOrdered game → class_of game ≡ Some c → is_game_shaped game ≡ true → is_matrix_shaped game ≡ true → has_matrix_numbers game ≡ true → IsPlain 4 game
+plain_matrix game c o e h s w =
+    let shape = and_parts (has_only_keys matrix_keys game) (passes (is_array_of (is_array_of is_number)) (get (codes "matrix") game)) s in
+    plain_known 3 matrix_keys game o (is_object game c e) shape.0
+    (plain_class 3 game c e, (at_deeper 2 3 (codes "matrix") game (omega arith) (plain_rows game shape.1 w), (plain_names 2 game (named game h), tt)))
+
 -- ---- tables
 
 integer_at_key : (o : Option Data) → is_some (option_and_then table_players (option_and_then integer o)) ≡ true → passes (λ d. is_some (integer d)) o ≡ true
@@ -248,6 +267,8 @@ plain_as game (Some Table) o e h n w m = plain_table game Table o e h (shaped_as
 plain_as game (Some CostTable) o e h n w m = plain_table game CostTable o e h (shaped_as game CostTable e h) n w m
 plain_as game (Some Airport) o e h n w m = plain_airport game o e h w
 plain_as game (Some Bankruptcy) o e h n w m = plain_bankruptcy game o e h w
+plain_as game (Some Tree) o e h n w m = plain_matrix game Tree o e h (shaped_as game Tree e h) w
+plain_as game (Some Assignment) o e h n w m = plain_matrix game Assignment o e h (shaped_as game Assignment e h) w
 
 -- the tree of a game of any class holds no float and is nested at most 4 deep
 pub plain_game : (game : Data) → IsOrdered game → is_game_shaped game ≡ true → has_players game ≡ true → has_numbers game ≡ true → has_coalitions game ≡ true → IsPlain 4 game

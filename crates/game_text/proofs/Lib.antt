@@ -3,11 +3,13 @@ pub mod NamesRead
 pub mod Joining
 pub mod Filling
 pub mod Sizes
+pub mod MatrixRows
 pub mod Payments
 pub mod LeastDenominators
 pub mod Computed
 pub mod Chain
 pub mod Passed
+pub mod OfClass
 pub mod Counts
 pub mod PlainTrees
 pub mod GameTrees

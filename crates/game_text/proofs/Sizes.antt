@@ -26,9 +26,9 @@ use Rattle.game_text.specs.Descriptions.{table_numbers}
 use Rattle.json_trees.specs.Integers.{integer_or_zero, integer_at, integers_at, second_integer}
 use Rattle.game_text.specs.Readings.{HasSizes, IsTableClass}
 use Rattle.game_text.specs.declared.class.Class.{Class}
-use Rattle.game_text.specs.declared.class.Class.TheVariants.{Table, CostTable, Airport, Bankruptcy}
+use Rattle.game_text.specs.declared.class.Class.TheVariants.{Table, CostTable, Airport, Bankruptcy, Tree, Assignment}
 
-all_map : {X Y : Type 0} (P : Y → Type 0) (f : X → Y) (test : X → Bool) → ((x : X) → test x ≡ true → P (f x)) → (xs : List X) → list_all test xs ≡ true → All P (map f xs)
+pub all_map : {X Y : Type 0} (P : Y → Type 0) (f : X → Y) (test : X → Bool) → ((x : X) → test x ≡ true → P (f x)) → (xs : List X) → list_all test xs ≡ true → All P (map f xs)
 all_map P f test good xs h = All-map P f xs (λ k d l. good (slice_index_or xs k d) (AllPass-from_list_all test xs h k d l))
 
 -- ---- worths
@@ -134,6 +134,8 @@ table_as game (Some Table) k s p q = table_by game (players_at game) (players_ra
 table_as game (Some CostTable) k s p q = table_by game (players_at game) (players_range (option_and_then integer (get (codes "players") game))) s p q
 table_as game (Some Airport) k s p q = absurd k
 table_as game (Some Bankruptcy) k s p q = absurd k
+table_as game (Some Tree) k s p q = absurd k
+table_as game (Some Assignment) k s p q = absurd k
 
 pub table_sizes : (game : Data) → IsTableClass (class_of game) → HasSizes game → IsTable (table (players game) (table_numbers game))
 table_sizes game k h = table_as game (class_of game) k (and_parts _ (is_shaped_as (class_of game) game) h.shaped).1 h.players h.numbers
@@ -153,7 +155,7 @@ cost_or_zero None h = absurd (false≢true h)
 cost_or_zero (Some (pos n)) h = let below = ltb-true n (2 ^ 40) h in (omega (arith, ints), omega (arith, ints, below))
 cost_or_zero (Some (negsuc n)) h = absurd (false≢true h)
 
-cost : (d : Data) → is_cost d ≡ true → IsCost (integer_or_zero d)
+pub cost : (d : Data) → is_cost d ≡ true → IsCost (integer_or_zero d)
 cost d h = cost_or_zero (integer d) h
 
 estate_cost : (o : Option Data) → passes is_cost o ≡ true → IsCost (unwrap_or (option_and_then integer o) (pos 0))

@@ -9,20 +9,25 @@ use Rattle.serde_json.specs.Data.{Data}
 use Rattle.serde_json.specs.Find.{get}
 use Rattle.definitions.specs.Games.{Game}
 use Rattle.definitions.specs.Classes.{table_worth, negated_worth, airport_worth, bankruptcy_worth}
+use Rattle.tree_games.specs.Trees.{tree_game}
+use Rattle.assignment_games.specs.Assignments.{assignment_game}
 use Rattle.json_trees.specs.Integers.{integer_at, costs_at}
 use Rattle.game_text.specs.Shape.{class_of}
 use Rattle.game_text.specs.Limits.{players}
 use Rattle.game_text.specs.Names.{names_of}
 use Rattle.game_text.specs.TableClass.{numbers_by}
+use Rattle.game_text.specs.MatrixClass.{rows_of}
 use Rattle.game_text.specs.declared.class.Class.{Class}
-use Rattle.game_text.specs.declared.class.Class.TheVariants.{Table, CostTable, Airport, Bankruptcy}
+use Rattle.game_text.specs.declared.class.Class.TheVariants.{Table, CostTable, Airport, Bankruptcy, Tree, Assignment}
 
--- the class of a game, and its numbers: by coalition in mask order from 1, or by player
+-- the class of a game, and its numbers: by coalition in mask order from 1, by player, or by the rows of a matrix
 pub data Description : Type 0 where
   table : ℕ → List ℤ → Description
   cost_table : ℕ → List ℤ → Description
   airport : List ℕ → Description
   bankruptcy : ℕ → List ℕ → Description
+  network : List (List ℤ) → Description
+  market : List (List ℤ) → Description
 
 -- the game that is described
 abbrev pub game_of : Description → Game
@@ -30,6 +35,8 @@ game_of (table n worths) = record { players = n; worth = table_worth worths }
 game_of (cost_table n costs) = record { players = n; worth = negated_worth (table_worth costs) }
 game_of (airport costs) = record { players = length costs; worth = airport_worth costs }
 game_of (bankruptcy estate claims) = record { players = length claims; worth = bankruptcy_worth estate claims }
+game_of (network rows) = tree_game rows
+game_of (market rows) = assignment_game rows
 
 -- the numbers are costs, and shares are payments
 abbrev pub is_cost : Description → Bool
@@ -37,6 +44,8 @@ is_cost (table n worths) = false
 is_cost (cost_table n costs) = true
 is_cost (airport costs) = true
 is_cost (bankruptcy estate claims) = false
+is_cost (network rows) = true
+is_cost (market rows) = false
 
 -- ---- tables
 
@@ -53,6 +62,8 @@ description_as (Some Table) game = table (players game) (table_numbers game)
 description_as (Some CostTable) game = cost_table (players game) (table_numbers game)
 description_as (Some Airport) game = airport (costs_at (codes "costs") game)
 description_as (Some Bankruptcy) game = bankruptcy (unsigned_abs (integer_at (codes "estate") game)) (costs_at (codes "claims") game)
+description_as (Some Tree) game = network (rows_of game)
+description_as (Some Assignment) game = market (rows_of game)
 
 -- what the tree of a game describes
 abbrev pub description_of : Data → Description

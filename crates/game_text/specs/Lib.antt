@@ -5,11 +5,15 @@ pub mod Members
 pub mod TableClass
 pub mod AirportClass
 pub mod BankruptcyClass
+pub mod MatrixClass
+pub mod TreeClass
+pub mod AssignmentClass
 pub mod Shape
 pub mod Limits
 pub mod Names
 pub mod Coalitions
 pub mod Descriptions
+pub mod OfClass
 pub mod Slots
 pub mod Shares
 pub mod Documents

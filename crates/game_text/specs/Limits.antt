@@ -9,9 +9,12 @@ use Rattle.game_text.specs.Sizes.{is_list_size}
 use Rattle.game_text.specs.TableClass.{players_at, has_table_players, has_table_numbers}
 use Rattle.game_text.specs.AirportClass.{airport_players, has_airport_numbers}
 use Rattle.game_text.specs.BankruptcyClass.{bankruptcy_players, has_bankruptcy_numbers}
+use Rattle.game_text.specs.MatrixClass.{has_matrix_numbers}
+use Rattle.game_text.specs.TreeClass.{tree_players, has_tree_players}
+use Rattle.game_text.specs.AssignmentClass.{assignment_players, has_assignment_players}
 use Rattle.game_text.specs.Shape.{class_of}
 use Rattle.game_text.specs.declared.class.Class.{Class}
-use Rattle.game_text.specs.declared.class.Class.TheVariants.{Table, CostTable, Airport, Bankruptcy}
+use Rattle.game_text.specs.declared.class.Class.TheVariants.{Table, CostTable, Airport, Bankruptcy, Tree, Assignment}
 
 -- ---- players
 
@@ -22,6 +25,8 @@ has_players_as (Some Table) game = has_table_players game
 has_players_as (Some CostTable) game = has_table_players game
 has_players_as (Some Airport) game = is_list_size (airport_players game)
 has_players_as (Some Bankruptcy) game = is_list_size (bankruptcy_players game)
+has_players_as (Some Tree) game = has_tree_players game
+has_players_as (Some Assignment) game = has_assignment_players game
 
 -- as many players, and numbers for them, as the class of the game allows
 abbrev pub has_players : Data → Bool
@@ -34,6 +39,8 @@ players_as (Some Table) game = unwrap_or (players_at game) 0
 players_as (Some CostTable) game = unwrap_or (players_at game) 0
 players_as (Some Airport) game = airport_players game
 players_as (Some Bankruptcy) game = bankruptcy_players game
+players_as (Some Tree) game = tree_players game
+players_as (Some Assignment) game = assignment_players game
 
 -- the number of players of a game that has as many as its class allows
 abbrev pub players : Data → ℕ
@@ -48,6 +55,8 @@ has_numbers_as (Some Table) game = has_table_numbers game
 has_numbers_as (Some CostTable) game = has_table_numbers game
 has_numbers_as (Some Airport) game = has_airport_numbers game
 has_numbers_as (Some Bankruptcy) game = has_bankruptcy_numbers game
+has_numbers_as (Some Tree) game = has_matrix_numbers game
+has_numbers_as (Some Assignment) game = has_matrix_numbers game
 
 -- each number of the game is an integer within its limits
 abbrev pub has_numbers : Data → Bool

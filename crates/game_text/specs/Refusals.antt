@@ -9,18 +9,20 @@ use Rattle.serde_json.specs.Find.{get}
 use Rattle.json_trees.specs.Trees.{passes}
 use Rattle.game_text.specs.Text.{document_limit, IsTextOf, IsNotJson}
 use Rattle.game_text.specs.BankruptcyClass.{claims_cover}
+use Rattle.game_text.specs.TreeClass.{are_links}
+use Rattle.game_text.specs.AssignmentClass.{are_even}
 use Rattle.game_text.specs.Shape.{is_shaped}
 use Rattle.game_text.specs.Limits.{players, has_players, has_numbers}
 use Rattle.game_text.specs.Names.{has_names}
 use Rattle.game_text.specs.Coalitions.{has_coalitions}
-use Rattle.game_text.specs.Descriptions.{Description, table, cost_table, airport, bankruptcy, description_of}
+use Rattle.game_text.specs.Descriptions.{Description, table, cost_table, airport, bankruptcy, network, market, description_of}
 use Rattle.game_text.specs.Shares.{has_share_numbers, has_shares_for, written_shares, has_small_terms, IsDenominatorOf}
 use Rattle.certificate_texts.specs.Certificates.{has_form}
 use Rattle.game_text.specs.Documents.{Contents, game_tree, contents_over}
 use Rattle.game_text.specs.declared.command.Command.{Command}
 use Rattle.game_text.specs.Needs.{needs, if_needed}
 use Rattle.game_text.specs.declared.refusal.Refusal.{Refusal}
-use Rattle.game_text.specs.declared.refusal.Refusal.TheVariants.{TooLong, NotJson, Shape, Players, Number, Names, Coalition, Estate, Proposal, TooFine, Certificate}
+use Rattle.game_text.specs.declared.refusal.Refusal.TheVariants.{TooLong, NotJson, Shape, Players, Number, Names, Coalition, Estate, Matrix, Proposal, TooFine, Certificate}
 
 -- an estate is at most the sum of the claims
 abbrev pub is_covered : Description → Bool
@@ -28,6 +30,17 @@ is_covered (table n worths) = true
 is_covered (cost_table n costs) = true
 is_covered (airport costs) = true
 is_covered (bankruptcy estate claims) = claims_cover estate claims
+is_covered (network rows) = true
+is_covered (market rows) = true
+
+-- the rows of a tree game are those of links, and the rows of an assignment game have one length
+abbrev pub has_matrix : Description → Bool
+has_matrix (table n worths) = true
+has_matrix (cost_table n costs) = true
+has_matrix (airport costs) = true
+has_matrix (bankruptcy estate claims) = true
+has_matrix (network rows) = are_links rows
+has_matrix (market rows) = are_even rows
 
 -- this refusal, unless the test passes; then the rest decides
 abbrev pub unless : Bool → Refusal → Option Refusal → Option Refusal
@@ -64,6 +77,7 @@ tree_tests d command game tree =
     ∷ (Names, has_names game)
     ∷ (Coalition, has_coalitions game)
     ∷ (Estate, is_covered (description_of game))
+    ∷ (Matrix, has_matrix (description_of game))
     ∷ (Proposal, has_needed_shares command game tree)
     ∷ (TooFine, has_needed_terms d command tree)
     ∷ (Certificate, has_needed_form command game tree)

@@ -9,6 +9,7 @@ ghost use Rattle.game_text.specs.Readings.{HasSizes, IsBuilt, IsBuildFault};
 ghost use Rattle.game_text.specs.declared.class.Class.TheVariants.{Bankruptcy};
 
 use crate::airport_class::airport_of;
+use crate::assignment_class::assignment_of;
 use crate::bankruptcy_class::bankruptcy_of;
 use crate::class::Class;
 use crate::fault::TextFault;
@@ -18,11 +19,12 @@ use crate::names::Names;
 use crate::refusal::Refusal;
 use crate::shape::class_of;
 use crate::table_class::table_of;
+use crate::tree_class::tree_of;
 use serde_json::Value;
 use std::alloc::Global;
 use worth_tables::CostGame;
 
-/// The game that a tree describes, or the refusal of its coalitions or of its estate.
+/// The game that a tree describes, or the refusal of its coalitions, of its estate or of its matrix.
 pub fn game_of(alloc: Global, game: &Value, names: &Names) -> Result<Game, TextFault>
     requires sizes { HasSizes (view game.now) }
     requires named { length names.now ≤ players (view game.now) }
@@ -45,6 +47,14 @@ pub fn game_of(alloc: Global, game: &Value, names: &Names) -> Result<Game, TextF
         Some(Class::Bankruptcy) => match bankruptcy_of(alloc, game)? {
             Some(claims) => Ok(Game::Bankruptcy(claims)),
             None => Err(TextFault::Refused(Refusal::Estate)),
+        },
+        Some(Class::Tree) => match tree_of(alloc, game)? {
+            Some(links) => Ok(Game::Tree(links)),
+            None => Err(TextFault::Refused(Refusal::Matrix)),
+        },
+        Some(Class::Assignment) => match assignment_of(alloc, game)? {
+            Some(values) => Ok(Game::Assignment(values)),
+            None => Err(TextFault::Refused(Refusal::Matrix)),
         },
         None => unreachable!(),
     }

@@ -162,6 +162,11 @@ fn commands_look_at_what_they_need(rt: HostRuntime) {
             "{\"answer\":\"nucleolus\",\"certificate\":{\"levels\":[],\"mode\":\"span\"},\"game\":{\"class\":\"airport\",\"costs\":[2,4,6]},\"shares\":[1,1,1]}\n",
             None,
         ),
+        (
+            Command::Shapley,
+            "{\"answer\":1,\"certificate\":[],\"game\":{\"class\":\"airport\",\"costs\":[2,4,6]},\"shares\":[]}",
+            None,
+        ),
     ] {
         let fault = read_document(rt.alloc(), text.as_bytes(), command).err();
         assert_eq!(rt;
@@ -182,6 +187,8 @@ fn documents_to_check_have_at_most_8_mib(rt: HostRuntime) -> Result<(), Fail> {
         (Command::Prenucleolus, 2_097_153, Refusal::TooLong),
         (Command::Core, 2_097_153, Refusal::TooLong),
         (Command::Core, 2_097_152, Refusal::NotJson),
+        (Command::Shapley, 2_097_153, Refusal::TooLong),
+        (Command::Shapley, 2_097_152, Refusal::NotJson),
     ] {
         let bytes = blanks(rt.alloc(), count)?;
         let fault = read_document(rt.alloc(), &bytes, command).err();

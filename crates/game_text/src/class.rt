@@ -11,4 +11,8 @@ pub enum Class {
     Airport,
     /// An estate and the claim of each player.
     Bankruptcy,
+    /// The cost of the link between each two of the source and the players.
+    Tree,
+    /// What each buyer and each seller are worth together.
+    Assignment,
 }

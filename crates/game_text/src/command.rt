@@ -15,6 +15,10 @@ pub enum Command {
     Core,
     /// To check a certificate that the shares are the nucleolus or the prenucleolus.
     Check,
+    /// To find the Shapley shares.
+    Shapley,
+    /// To find Bird's shares and plan of a tree game.
+    Bird,
 }
 
 /// What a command needs of a document beside the game.
@@ -57,6 +61,7 @@ impl Command {
             Command::Propose => row(SHORT, true, false, false),
             Command::Core => row(SHORT, false, false, false),
             Command::Check => row(LONG, true, true, true),
+            Command::Shapley | Command::Bird => row(SHORT, false, false, false),
         }
     }
 }

@@ -1,7 +1,9 @@
 //! A game of one of the classes that a document can describe.
 use airport::AirportGame;
+use assignment_games::AssignmentGame;
 use bankruptcy::BankruptcyGame;
 use coalitions::Coalition;
+use tree_games::TreeGame;
 use worth_core::{Shares, Worth};
 use worth_tables::{CostGame, TableGame};
 
@@ -16,6 +18,10 @@ pub enum Game {
     Airport(AirportGame),
     /// An estate and the claim of each player.
     Bankruptcy(BankruptcyGame),
+    /// The cost of the link between each two of the source and the players.
+    Tree(TreeGame),
+    /// What each buyer and each seller are worth together.
+    Assignment(AssignmentGame),
 }
 
 impl Game {
@@ -28,8 +34,8 @@ impl Game {
         ensures { result ≡ is_cost (description_in self.now) }
     {
         match self {
-            Game::Cost(_) | Game::Airport(_) => true,
-            Game::Table(_) | Game::Bankruptcy(_) => false,
+            Game::Cost(_) | Game::Airport(_) | Game::Tree(_) => true,
+            Game::Table(_) | Game::Bankruptcy(_) | Game::Assignment(_) => false,
         }
     }
 }
@@ -46,6 +52,8 @@ impl Worth for Game {
             Game::Cost(game) => game.players(),
             Game::Airport(game) => game.players(),
             Game::Bankruptcy(game) => game.players(),
+            Game::Tree(game) => game.players(),
+            Game::Assignment(game) => game.players(),
         }
     }
 
@@ -55,6 +63,8 @@ impl Worth for Game {
             Game::Cost(game) => game.worth(s),
             Game::Airport(game) => game.worth(s),
             Game::Bankruptcy(game) => game.worth(s),
+            Game::Tree(game) => game.worth(s),
+            Game::Assignment(game) => game.worth(s),
         }
     }
 
@@ -64,6 +74,8 @@ impl Worth for Game {
             Game::Cost(game) => game.blocker(x),
             Game::Airport(game) => game.blocker(x),
             Game::Bankruptcy(game) => game.blocker(x),
+            Game::Tree(game) => game.blocker(x),
+            Game::Assignment(game) => game.blocker(x),
         }
     }
 
@@ -73,6 +85,8 @@ impl Worth for Game {
             Game::Cost(game) => game.split_bound(x, free),
             Game::Airport(game) => game.split_bound(x, free),
             Game::Bankruptcy(game) => game.split_bound(x, free),
+            Game::Tree(game) => game.split_bound(x, free),
+            Game::Assignment(game) => game.split_bound(x, free),
         }
     }
 }

@@ -2,6 +2,7 @@
 #![tactic(auto)]
 
 mod airport_class;
+mod assignment_class;
 mod bankruptcy_class;
 mod building;
 #[cfg(test)]
@@ -13,10 +14,14 @@ mod command;
 mod document;
 mod fault;
 mod game;
+mod kind;
 #[cfg(test)]
 mod limit_tests;
 mod limits;
 mod masks;
+mod matrix_class;
+#[cfg(test)]
+mod matrix_tests;
 mod names;
 mod number_forms;
 mod reading;
@@ -27,10 +32,12 @@ mod table;
 mod table_class;
 #[cfg(test)]
 mod tests;
+mod tree_class;
 
 pub use command::{Command, Inputs};
 pub use document::Document;
 pub use fault::TextFault;
 pub use game::Game;
+pub use kind::Kind;
 pub use reading::{document_limit, read_document};
 pub use refusal::Refusal;

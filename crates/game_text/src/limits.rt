@@ -5,11 +5,14 @@ ghost use Rattle.game_text.specs.Limits.{has_players, players, has_numbers};
 ghost use Rattle.game_text.specs.TableClass.{players_at, has_table_numbers};
 
 use crate::airport_class::{airport_players, has_airport_numbers};
+use crate::assignment_class::{assignment_players, has_assignment_players};
 use crate::bankruptcy_class::{bankruptcy_players, has_bankruptcy_numbers};
 use crate::class::Class;
+use crate::matrix_class::has_matrix_numbers;
 use crate::number_forms::is_list_size;
 use crate::shape::class_of;
 use crate::table_class::{has_table_numbers, has_table_players, players_at};
+use crate::tree_class::{has_tree_players, tree_players};
 use serde_json::Value;
 
 /// Whether there are as many players, and numbers for them, as the class of the game allows.
@@ -20,6 +23,8 @@ pub fn has_players(game: &Value) -> bool
         Some(Class::Table | Class::CostTable) => has_table_players(game),
         Some(Class::Airport) => is_list_size(airport_players(game)),
         Some(Class::Bankruptcy) => is_list_size(bankruptcy_players(game)),
+        Some(Class::Tree) => has_tree_players(game),
+        Some(Class::Assignment) => has_assignment_players(game),
         None => false,
     }
 }
@@ -32,6 +37,8 @@ pub fn players(game: &Value) -> usize
         Some(Class::Table | Class::CostTable) => players_at(game).unwrap_or(0) as usize,
         Some(Class::Airport) => airport_players(game),
         Some(Class::Bankruptcy) => bankruptcy_players(game),
+        Some(Class::Tree) => tree_players(game),
+        Some(Class::Assignment) => assignment_players(game),
         None => 0,
     }
 }
@@ -44,6 +51,7 @@ pub fn has_numbers(game: &Value) -> bool
         Some(Class::Table | Class::CostTable) => has_table_numbers(game),
         Some(Class::Airport) => has_airport_numbers(game),
         Some(Class::Bankruptcy) => has_bankruptcy_numbers(game),
+        Some(Class::Tree | Class::Assignment) => has_matrix_numbers(game),
         None => false,
     }
 }

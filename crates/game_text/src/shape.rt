@@ -4,11 +4,13 @@ ghost use Rattle.serde_json.specs.View.{view};
 ghost use Rattle.game_text.specs.Shape.{class_named, class_of, is_shaped_as, has_shares, has_needed, is_shaped};
 ghost use Rattle.game_text.specs.TableClass.{is_table_shaped};
 ghost use Rattle.game_text.specs.BankruptcyClass.{is_bankruptcy_shaped};
+ghost use Rattle.game_text.specs.MatrixClass.{is_matrix_shaped};
 
 use crate::airport_class::is_airport_shaped;
 use crate::bankruptcy_class::is_bankruptcy_shaped;
 use crate::class::Class;
 use crate::command::Command;
+use crate::matrix_class::is_matrix_shaped;
 use crate::table_class::is_table_shaped;
 use certificate_texts::{CertificateShape, family_of};
 use json_trees::{ArrayOf, Form, Member, Text, has, has_if_there, has_only_keys};
@@ -25,6 +27,10 @@ fn class_named(word: &str) -> Option<Class>
         Some(Class::Airport)
     } else if word == "bankruptcy" {
         Some(Class::Bankruptcy)
+    } else if word == "tree" {
+        Some(Class::Tree)
+    } else if word == "assignment" {
+        Some(Class::Assignment)
     } else {
         None
     }
@@ -45,6 +51,7 @@ fn is_shaped_as(class: Option<Class>, game: &Value) -> bool
         Some(Class::Table | Class::CostTable) => is_table_shaped(game),
         Some(Class::Airport) => is_airport_shaped(game),
         Some(Class::Bankruptcy) => is_bankruptcy_shaped(game),
+        Some(Class::Tree | Class::Assignment) => is_matrix_shaped(game),
         None => false,
     }
 }

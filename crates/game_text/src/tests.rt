@@ -7,7 +7,7 @@ use std::test::Fail;
 use worth_core::Worth;
 
 // The text of a document of this game and these shares.
-fn document(alloc: Global, game: &str, shares: &str) -> Result<String, Fail> {
+pub fn document(alloc: Global, game: &str, shares: &str) -> Result<String, Fail> {
     let mut text = String::from_str(alloc, "{\"game\":")?;
     text.push_str(game)?;
     text.push_str(",\"shares\":")?;
@@ -43,8 +43,12 @@ fn other_kinds_keys_and_words_are_refused(rt: HostRuntime) {
         "{\"game\":{\"clas\":\"airport\",\"costs\":[1]},\"shares\":[1]}",
         "{\"game\":{\"class\":1,\"costs\":[1]},\"shares\":[1]}",
         "{\"game\":{\"class\":\"airports\",\"costs\":[1]},\"shares\":[1]}",
-        "{\"game\":{\"class\":\"tree\",\"matrix\":[[0,1],[1,0]]},\"shares\":[1]}",
-        "{\"game\":{\"class\":\"assignment\",\"matrix\":[[1]]},\"shares\":[1,1]}",
+        "{\"game\":{\"class\":\"trees\",\"matrix\":[[0,1],[1,0]]},\"shares\":[1]}",
+        "{\"game\":{\"class\":\"tree\",\"matrix\":[[0,1],\"10\"]},\"shares\":[1]}",
+        "{\"game\":{\"class\":\"tree\",\"matrix\":[[0,\"1\"],[1,0]]},\"shares\":[1]}",
+        "{\"game\":{\"class\":\"tree\",\"costs\":[1]},\"shares\":[1]}",
+        "{\"game\":{\"class\":\"assignment\",\"matrix\":1},\"shares\":[1,1]}",
+        "{\"game\":{\"class\":\"assignment\",\"matrix\":[[1]],\"players\":2},\"shares\":[1,1]}",
         "{\"game\":{\"class\":\"airport\",\"costs\":1},\"shares\":[1]}",
         "{\"game\":{\"class\":\"airport\",\"costs\":[\"1\"]},\"shares\":[1]}",
         "{\"game\":{\"class\":\"airport\",\"costs\":[1],\"players\":1},\"shares\":[1]}",
@@ -210,7 +214,7 @@ fn the_last_of_two_equal_keys_counts(rt: HostRuntime) {
 }
 
 // The worth of each coalition, in mask order.
-fn worths_of(rt: &impl Abort, alloc: Global, game: &Game) -> Result<Vec<i64>, Fail> {
+pub fn worths_of(rt: &impl Abort, alloc: Global, game: &Game) -> Result<Vec<i64>, Fail> {
     let players = game.players();
     let mut worths = Vec::new(alloc);
     for s in Coalition::subsets(players) {

@@ -14,7 +14,7 @@ use Rattle.report.specs.ShareLists.{share_data, share_list}
 use Rattle.report.specs.Lines.{nucleolus_tree}
 use Rattle.definitions.proofs.Alls.{all_any}
 
-items_shallow : {X : Type 0} (f : X → Data) (b : ℕ) (xs : List X) → AllByRecursion (λ x. depth (f x) ≤ b) xs → items_depth (items_of (map f xs)) ≤ b
+pub items_shallow : {X : Type 0} (f : X → Data) (b : ℕ) (xs : List X) → AllByRecursion (λ x. depth (f x) ≤ b) xs → items_depth (items_of (map f xs)) ≤ b
 items_shallow f b [] h = omega arith
 items_shallow f b (x ∷ xs) h = omega (arith, h.0, items_shallow f b xs h.1)
 

@@ -15,14 +15,14 @@ use Rattle.balanced.specs.Collections.{CollectionData}
 use Rattle.report.specs.CoreTrees.{empty_core_tree}
 use Rattle.report.specs.Lines.{nucleolus_tree}
 
-items_whole : {X : Type 0} (f : X → Data) (xs : List X) → ((x : X) → has_float (f x) ≡ false) → items_have_float (items_of (map f xs)) ≡ false
+pub items_whole : {X : Type 0} (f : X → Data) (xs : List X) → ((x : X) → has_float (f x) ≡ false) → items_have_float (items_of (map f xs)) ≡ false
 items_whole f [] h = refl
 items_whole f (x ∷ xs) h = rw (h x) (items_whole f xs h)
 
 pub coalition_whole : (s : ℕ) → has_float (player_numbers s) ≡ false
 coalition_whole s = items_whole player_data (members 64 s) (λ i. refl)
 
-weight_whole : (z : ℤ) → has_float (weight_data z) ≡ false
+pub weight_whole : (z : ℤ) → has_float (weight_data z) ≡ false
 weight_whole (pos n) = refl
 weight_whole (negsuc n) = refl
 

@@ -1,5 +1,5 @@
 -- No answer's tree is nested deeper than is read.
-use Rattle.std.proofs.Common.{◌≤◌, arith}
+use Rattle.std.proofs.Common.{◌≤◌, true, arith}
 use Rattle.serde_json.specs.Data.{depth}
 use Rattle.serde_json.specs.Read.{max_depth}
 use Rattle.serde_json.specs.View.{view}
@@ -11,7 +11,8 @@ use Rattle.report.specs.Verdicts.{verdict_tree}
 use Rattle.report.specs.Limits.{IsPrintable}
 use Rattle.report.specs.Lines.{answer_tree}
 use Rattle.report.specs.declared.answer.Answer.{Answer}
-use Rattle.report.specs.declared.answer.Answer.TheVariants.{Nucleolus, NoImputation, InCore, NotEfficient, Blocked, CorePoint, EmptyCore, Verdict as verdict, Usage, Refused}
+use Rattle.report.specs.declared.answer.Answer.TheVariants.{Nucleolus, NoImputation, InCore, NotEfficient, Blocked, CorePoint, EmptyCore, Shapley, Bird, Verdict as verdict, Usage, Refused}
+use Rattle.report.proofs.BirdEdges.{edges_depth}
 use Rattle.report.proofs.CertificateDepths.{coalition_depth, pairs_depth, shares_depth, nucleolus_depth}
 
 verdict_depth : (v : Verdict) → depth (verdict_tree v) ≤ max_depth
@@ -34,6 +35,8 @@ shallow (NotEfficient sum total) h = omega arith
 shallow (Blocked s e) h = omega (arith, coalition_depth s)
 shallow (CorePoint is_cost x) h = omega (arith, shares_depth is_cost x)
 shallow (EmptyCore c value against) h = omega (arith, pairs_depth c.weights)
+shallow (Shapley is_cost x) h = omega (arith, shares_depth is_cost x)
+shallow (Bird x edges) h = omega (arith, shares_depth true x, edges_depth edges)
 shallow (verdict v) h = verdict_depth v
 shallow (Usage kind) h = omega arith
 shallow (Refused r) h = omega arith

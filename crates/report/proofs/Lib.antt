@@ -9,6 +9,7 @@ pub mod ExactTrees
 pub mod LowestTexts
 pub mod CertificateLengths
 pub mod Readers
+pub mod BirdEdges
 pub mod NoFloats
 pub mod Depths
 pub mod AsciiFractions

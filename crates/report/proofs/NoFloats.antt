@@ -1,5 +1,5 @@
 -- No answer's tree has a float.
-use Rattle.std.proofs.Common.{◌≡◌, false, refl}
+use Rattle.std.proofs.Common.{◌≡◌, true, false, refl}
 use Rattle.serde_json.specs.View.{view}
 use Rattle.serde_json.specs.Written.{has_float}
 use Rattle.checker.specs.declared.verdicts.Verdict.{Verdict}
@@ -10,7 +10,8 @@ use Rattle.report.specs.Verdicts.{verdict_tree}
 use Rattle.report.specs.Limits.{IsPrintable}
 use Rattle.report.specs.Lines.{answer_tree}
 use Rattle.report.specs.declared.answer.Answer.{Answer}
-use Rattle.report.specs.declared.answer.Answer.TheVariants.{Nucleolus, NoImputation, InCore, NotEfficient, Blocked, CorePoint, EmptyCore, Verdict as verdict, Usage, Refused}
+use Rattle.report.specs.declared.answer.Answer.TheVariants.{Nucleolus, NoImputation, InCore, NotEfficient, Blocked, CorePoint, EmptyCore, Shapley, Bird, Verdict as verdict, Usage, Refused}
+use Rattle.report.proofs.BirdEdges.{edges_whole}
 use Rattle.report.proofs.CertificateNumbers.{coalition_whole, shares_whole, empty_core_whole, nucleolus_whole}
 
 verdict_has_float : (v : Verdict) → has_float (verdict_tree v) ≡ false
@@ -33,6 +34,8 @@ no_float (NotEfficient sum total) h = refl
 no_float (Blocked s e) h = rw (coalition_whole s) refl
 no_float (CorePoint is_cost x) h = rw (shares_whole is_cost x) refl
 no_float (EmptyCore c value against) h = empty_core_whole c value against
+no_float (Shapley is_cost x) h = rw (shares_whole is_cost x) refl
+no_float (Bird x edges) h = rw (shares_whole true x, edges_whole edges) refl
 no_float (verdict v) h = verdict_has_float v
 no_float (Usage kind) h = refl
 no_float (Refused r) h = refl

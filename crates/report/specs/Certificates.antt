@@ -1,6 +1,7 @@
 -- A certificate as JSON, each object's keys ascending.
 --
 --   weight_data       a weight, or a total
+--   weight_pair       what has a weight, and its weight
 --   coalition_pair    a coalition and its weight
 --   bound_pair        a player and the weight of its bound
 --   level_tree        a level
@@ -19,13 +20,17 @@ use Rattle.report.specs.Words.{mode_word}
 abbrev pub weight_data : ℤ → Data
 weight_data z = number (of_integer z)
 
+-- what has a weight, and its weight
+abbrev pub weight_pair : {K : Type 0} → (K → Data) → K × ℤ → Data
+weight_pair data_of p = array (item (data_of p.0) (item (weight_data p.1) no_items))
+
 -- a coalition and its weight
 abbrev pub coalition_pair : ℕ × ℤ → Data
-coalition_pair p = array (item (player_numbers p.0) (item (weight_data p.1) no_items))
+coalition_pair = weight_pair player_numbers
 
 -- a player and the weight of its bound
 abbrev pub bound_pair : ℕ × ℤ → Data
-bound_pair p = array (item (player_data p.0) (item (weight_data p.1) no_items))
+bound_pair = weight_pair player_data
 
 -- coalitions and their weights
 abbrev pub coalition_pairs : List (ℕ × ℤ) → Data

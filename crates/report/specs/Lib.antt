@@ -4,6 +4,8 @@ pub mod Verdicts
 pub mod Certificates
 pub mod ShareLists
 pub mod CoreTrees
+pub mod ShapleyTrees
+pub mod BirdTrees
 pub mod Limits
 pub mod Lines
 pub mod ReadingBack

@@ -16,9 +16,11 @@ use Rattle.report.specs.Verdicts.{verdict_tree}
 use Rattle.report.specs.Certificates.{certificate_tree}
 use Rattle.report.specs.ShareLists.{share_list}
 use Rattle.report.specs.CoreTrees.{core_point_tree, empty_core_tree}
+use Rattle.report.specs.ShapleyTrees.{shapley_tree}
+use Rattle.report.specs.BirdTrees.{bird_tree}
 use Rattle.report.specs.Words.{refusal_name, usage_word, family_word}
 use Rattle.report.specs.declared.answer.Answer.{Answer}
-use Rattle.report.specs.declared.answer.Answer.TheVariants.{Nucleolus, NoImputation, InCore, NotEfficient, Blocked, CorePoint, EmptyCore, Verdict, Usage, Refused}
+use Rattle.report.specs.declared.answer.Answer.TheVariants.{Nucleolus, NoImputation, InCore, NotEfficient, Blocked, CorePoint, EmptyCore, Shapley, Bird, Verdict, Usage, Refused}
 
 -- the object that is printed for the nucleolus or prenucleolus of a game, its keys ascending
 abbrev pub nucleolus_tree : Family → Data → Bool → Allocation → CertificateData → Data
@@ -41,6 +43,8 @@ answer_tree (Blocked s e) =
     object (member (codes "answer") (string (codes "blocked")) (member (codes "coalition") (player_numbers s) (member (codes "excess") (fraction_data e) no_members)))
 answer_tree (CorePoint is_cost x) = core_point_tree is_cost x
 answer_tree (EmptyCore c value against) = empty_core_tree c value against
+answer_tree (Shapley is_cost x) = shapley_tree is_cost x
+answer_tree (Bird x edges) = bird_tree x edges
 answer_tree (Verdict v) = verdict_tree v
 answer_tree (Usage kind) = object (member (codes "usage") (string (usage_word kind)) no_members)
 answer_tree (Refused r) =

@@ -6,6 +6,7 @@ use fractions::Frac;
 use game_text::Refusal;
 use kohlberg::Certificate;
 use serde_json::Value;
+use tree_games::Tree;
 use worth_core::{Family, Shares};
 
 /// Why a command has no other answer: for its words, or for the class and the players of its document.
@@ -61,9 +62,19 @@ pub enum Answer {
         value: i128,
         against: i128,
     },
+    /// The Shapley shares as worth, printed as payments where `is_cost`.
+    Shapley {
+        is_cost: bool,
+        shares: Shares,
+    },
+    /// Bird's shares as worth, printed as payments, and the edges of his plan.
+    Bird {
+        shares: Shares,
+        tree: Tree,
+    },
     /// Whether a certificate shows that shares are the nucleolus, or why not.
     Verdict(Verdict),
-    /// What is wrong with the words of the command line.
+    /// What is wrong with the words of the command line, or why the command doesn't take the document.
     Usage(UsageKind),
     /// The input is no document.
     Refused(Refusal),

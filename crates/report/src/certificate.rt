@@ -1,10 +1,10 @@
 //! Certificates as JSON.
 ghost use Rattle.std.specs.Prelude.{◌≡◌, map, codes, IfOk};
 ghost use Rattle.std.specs.List.{AllByRecursion};
-ghost use Rattle.serde_json.specs.Data.{object, member, no_members};
+ghost use Rattle.serde_json.specs.Data.{Data, object, member, no_members};
 ghost use Rattle.serde_json.specs.View.{view};
 ghost use Rattle.definitions.specs.Certificates.{IsSmall};
-ghost use Rattle.report.specs.Certificates.{weight_data, coalition_pair, bound_pair, level_tree, certificate_tree};
+ghost use Rattle.report.specs.Certificates.{weight_data, weight_pair, level_tree, certificate_tree};
 ghost use Rattle.report.specs.Limits.{HasSmallWeights};
 
 use crate::fraction::text_of;
@@ -42,9 +42,9 @@ fn level_tree(alloc: Global, level: &Level) -> Result<Value, OutOfMemory>
     requires { HasSmallWeights level.now }
     ensures { IfOk result (λ v. view v ≡ level_tree level.now) }
 {
-    let bounds = bound_pairs(alloc, &level.bounds)?;
-    let coalitions = coalition_pairs(alloc, &level.coalitions)?;
-    let earlier = coalition_pairs(alloc, &level.earlier)?;
+    let bounds = weight_pairs(alloc, &level.bounds)?;
+    let coalitions = weight_pairs(alloc, &level.coalitions)?;
+    let earlier = weight_pairs(alloc, &level.earlier)?;
     let excess = text_of(alloc, &level.excess)?;
     level_object(
         alloc,
@@ -79,49 +79,59 @@ fn level_object(
     Ok(Value::Object(members))
 }
 
-/// Coalitions with their weights.
-pub fn coalition_pairs(
+/// What has a weight: a coalition, or a player for its bound.
+pub trait Weighted {
+    /// Its JSON.
+    ghost tree: { Self → Data };
+
+    /// Its JSON.
+    fn value(&self, alloc: Global) -> Result<Value, OutOfMemory>
+        ensures { IfOk result (λ v. view v ≡ Self.tree self.now) };
+}
+
+impl Weighted for Coalition {
+    ghost use Rattle.report.specs.Values.{player_numbers};
+
+    ghost tree = { player_numbers };
+
+    fn value(&self, alloc: Global) -> Result<Value, OutOfMemory> {
+        let players = player_numbers(alloc, *self)?;
+        Ok(Value::Array(players))
+    }
+}
+
+impl Weighted for u32 {
+    ghost use Rattle.report.specs.Values.{player_data};
+
+    ghost tree = { player_data };
+
+    fn value(&self, _alloc: Global) -> Result<Value, OutOfMemory> {
+        Ok(player_value(*self))
+    }
+}
+
+/// What has weights, each with its weight.
+pub fn weight_pairs<K: Weighted>(
     alloc: Global,
-    pairs: &[(Coalition, i128)],
+    pairs: &[(K, i128)],
 ) -> Result<Vec<Value>, OutOfMemory>
     requires { AllByRecursion (λ p. IsSmall p.1) pairs.now }
-    ensures { IfOk result (λ v. map view v.items ≡ map coalition_pair pairs.now) }
+    ensures { IfOk result (λ v. map view v.items ≡ map (weight_pair K.tree) pairs.now) }
 {
     let mut trees = Vec::new(alloc);
-    for (coalition, weight) in pairs {
-        trees.push(coalition_pair(alloc, *coalition, *weight)?)?;
+    for (key, weight) in pairs {
+        trees.push(weight_pair(alloc, key, *weight)?)?;
     }
     Ok(trees)
 }
 
-fn coalition_pair(alloc: Global, coalition: Coalition, weight: i128) -> Result<Value, OutOfMemory>
+fn weight_pair<K: Weighted>(alloc: Global, key: &K, weight: i128) -> Result<Value, OutOfMemory>
     requires { IsSmall weight }
-    ensures { IfOk result (λ v. view v ≡ coalition_pair (coalition, weight)) }
+    ensures { IfOk result (λ v. view v ≡ weight_pair K.tree (key.now, weight)) }
 {
-    let players = player_numbers(alloc, coalition)?;
+    let key = key.value(alloc)?;
     let weight = weight_value(weight);
-    let pair = json!(in alloc; [players, weight])?;
-    Ok(pair)
-}
-
-fn bound_pairs(alloc: Global, bounds: &[(u32, i128)]) -> Result<Vec<Value>, OutOfMemory>
-    requires { AllByRecursion (λ p. IsSmall p.1) bounds.now }
-    ensures { IfOk result (λ v. map view v.items ≡ map bound_pair bounds.now) }
-{
-    let mut trees = Vec::new(alloc);
-    for (player, weight) in bounds {
-        trees.push(bound_pair(alloc, *player, *weight)?)?;
-    }
-    Ok(trees)
-}
-
-fn bound_pair(alloc: Global, player: u32, weight: i128) -> Result<Value, OutOfMemory>
-    requires { IsSmall weight }
-    ensures { IfOk result (λ v. view v ≡ bound_pair (player, weight)) }
-{
-    let player = player_value(player);
-    let weight = weight_value(weight);
-    let pair = json!(in alloc; [player, weight])?;
+    let pair = json!(in alloc; [key, weight])?;
     Ok(pair)
 }
 

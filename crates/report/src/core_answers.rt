@@ -6,7 +6,7 @@ ghost use Rattle.serde_json.specs.View.{view};
 ghost use Rattle.definitions.specs.Certificates.{IsSmall};
 ghost use Rattle.report.specs.CoreTrees.{core_point_tree, empty_core_tree};
 
-use crate::certificate::{coalition_pairs, weight_value};
+use crate::certificate::{weight_pairs, weight_value};
 use crate::fraction::integer_text;
 use crate::objects::with;
 use crate::shares::share_texts;
@@ -38,7 +38,7 @@ pub fn empty_core_tree(
 {
     let against = integer_text(alloc, against)?;
     let answer = Value::try_from_str(alloc, "empty core")?;
-    let pairs = coalition_pairs(alloc, &collection.weights)?;
+    let pairs = weight_pairs(alloc, &collection.weights)?;
     let value = integer_text(alloc, value)?;
     empty_core_object(
         alloc,

@@ -2,6 +2,7 @@
 #![tactic(auto)]
 
 mod answer;
+mod bird_answer;
 mod certificate;
 mod core_answers;
 mod fraction;
@@ -10,6 +11,7 @@ mod line;
 mod nucleolus;
 mod objects;
 mod players;
+mod shapley_answers;
 mod shares;
 #[cfg(test)]
 mod tests;

@@ -7,10 +7,12 @@ ghost use Rattle.report.specs.Limits.{IsPrintable};
 ghost use Rattle.report.specs.Lines.{answer_tree, line};
 
 use crate::answer::{Answer, UsageKind};
+use crate::bird_answer::bird_tree;
 use crate::core_answers::{core_point_tree, empty_core_tree};
 use crate::fraction::{integer_text, text_of};
 use crate::nucleolus::nucleolus_tree;
 use crate::players::player_numbers;
+use crate::shapley_answers::shapley_tree;
 use crate::verdict::verdict_tree;
 use crate::words::{refusal_name, usage_word};
 use coalitions::Coalition;
@@ -56,6 +58,8 @@ fn tree_of(alloc: Global, answer: Answer) -> Result<Value, OutOfMemory>
             value,
             against,
         } => empty_core_tree(alloc, &collection, value, against),
+        Answer::Shapley { is_cost, shares } => shapley_tree(alloc, is_cost, &shares),
+        Answer::Bird { shares, tree } => bird_tree(alloc, &shares, &tree),
         Answer::Verdict(verdict) => verdict_tree(alloc, verdict),
         Answer::Usage(kind) => usage_tree(alloc, kind),
         Answer::Refused(refusal) => refused_tree(alloc, refusal),

@@ -69,6 +69,25 @@ fn what_is_said_of_the_core_has_its_line(rt: HostRuntime) -> Result<(), Fail> {
 }
 
 #[test]
+fn shapley_shares_have_their_line(rt: HostRuntime) -> Result<(), Fail> {
+    for (is_cost, line) in [
+        (
+            true,
+            "{\"answer\":\"shapley\",\"shares\":[\"2/3\",\"5/3\",\"11/3\",\"-2\"]}\n",
+        ),
+        (
+            false,
+            "{\"answer\":\"shapley\",\"shares\":[\"-2/3\",\"-5/3\",\"-11/3\",\"2\"]}\n",
+        ),
+    ] {
+        let shares = Shares::new([-4, -10, -22, 12].to_vec(rt.alloc())?, 6).ok_or("shares")?;
+        let answer = Answer::Shapley { is_cost, shares };
+        assert!(rt; has_line(rt.alloc(), answer, line)?, "{line}");
+    }
+    Ok(())
+}
+
+#[test]
 fn verdicts_have_their_lines(rt: HostRuntime) -> Result<(), Fail> {
     let yes = "{\"answer\":\"yes\"}\n";
     assert!(rt; has_line(rt.alloc(), Answer::Verdict(Verdict::Yes), yes)?);

@@ -5,7 +5,7 @@ use std::alloc::Global;
 use std::test::Fail;
 
 // Whether `check` says yes to the line of `nucleolus`, and to that of `prenucleolus`.
-fn is_checked(alloc: Global, input: &str) -> Result<bool, Fail> {
+pub fn is_checked(alloc: Global, input: &str) -> Result<bool, Fail> {
     for command in ["nucleolus", "prenucleolus"] {
         let (status, line) = printed(alloc, command, input.as_bytes())?;
         let yes = run_on(alloc, &["check"], &line, 100, "{\"answer\":\"yes\"}\n")?;

@@ -15,3 +15,8 @@ returns-in_ok-solve-in-Bankruptcy c =
     let core = c.in_ok-solve-in-Bankruptcy.ensures.core in
     let said = scheme_point _ _ _ core solved c.point-in-Bankruptcy.ensures.certificate in
     rw (c.point-in-Bankruptcy.ensures.point, c.in-Bankruptcy.is) said
+
+pub returns-in_ok-bird-in-Tree : goal.returns-in_ok-bird-in-Tree
+returns-in_ok-bird-in-Tree c =
+    let bird = c.in_ok-bird-in-Tree.ensures in
+    rw c.in-Tree.is (bird.core, (c.in_ok-bird-in-Tree.field-0.1, bird))

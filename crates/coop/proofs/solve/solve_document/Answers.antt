@@ -1,6 +1,5 @@
 use Rattle.std.proofs.Common.{refl, sym, subst, rules}
 use Rattle.game_text.specs.Descriptions.{game_of}
-use Rattle.game_text.specs.Documents.{game_tree}
 use Rattle.game_text.specs.Readings.{contents_in}
 use Rattle.coop.specs.Finding.{HasFewPlayers}
 use Rattle.coop.proofs.FewPlayers.{few_players}
@@ -10,7 +9,7 @@ use Rattle.coop.proofs.Readable.{can_be_checked}
 use Rattle.coop.proofs.solve.solve_document.Goals as goal
 
 pub found_for-requires : goal.found_for-requires
-found_for-requires c = subst HasFewPlayers (sym c.requires.described) (few_players (game_tree c.requires.document))
+found_for-requires c = subst HasFewPlayers (sym c.requires.described) (few_players c.requires.command c.requires.document c.requires.passed)
 
 pub returns-in-Point-clause-solves : goal.returns-in-Point-clause-solves
 returns-in-Point-clause-solves c =

@@ -1,0 +1,34 @@
+-- The right answer on the Shapley shares of the game of a document.
+--
+--   shapley_limit    the most players of a game whose Shapley shares are answered, by its class
+--   IsShapleyAnswer  the Shapley shares, as they are printed
+--   SaysOfShapley    the answer is right for the game of a document: the shares, or that it has more players
+use Rattle.std.specs.Prelude.{◌≡◌, ◌<◌, ◌≤◌, ℕ, Bool}
+use Rattle.definitions.specs.Games.{Allocation}
+use Rattle.definitions.specs.Shapley.{IsShapley}
+use Rattle.game_text.specs.Descriptions.{Description, table, cost_table, airport, bankruptcy, network, market, game_of, is_cost}
+use Rattle.game_text.specs.Documents.{Contents}
+use Rattle.report.specs.declared.answer.Answer.{Answer}
+use Rattle.report.specs.declared.answer.Answer.TheVariants.{Shapley, Usage}
+use Rattle.report.specs.declared.answer.UsageKind.TheVariants.{Players}
+
+-- the most players of a game whose Shapley shares are answered: the steps of an airport's costs are few, and the coalitions of another game many
+abbrev pub shapley_limit : Description → ℕ
+shapley_limit (table n worths) = 16
+shapley_limit (cost_table n costs) = 16
+shapley_limit (airport costs) = 32
+shapley_limit (bankruptcy estate claims) = 16
+shapley_limit (network rows) = 16
+shapley_limit (market rows) = 16
+
+-- each share is the mean of what its player adds, over all orders of the players, who aren't too many; and the shares are printed as payments where the numbers of the game are costs
+pub record IsShapleyAnswer (d : Contents) (are_costs : Bool) (x : Allocation) : Type 0 where
+  pub taken : (game_of d.game).players ≤ shapley_limit d.game
+  pub means : IsShapley (game_of d.game) x
+  pub signs : are_costs ≡ is_cost d.game
+
+-- the answer is right for the game of a document
+abbrev pub SaysOfShapley : Contents → Answer → Type 0
+SaysOfShapley d (Shapley are_costs x) = IsShapleyAnswer d are_costs x
+SaysOfShapley d (Usage Players) = shapley_limit d.game < (game_of d.game).players
+SaysOfShapley d _ = ⊥

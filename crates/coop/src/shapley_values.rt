@@ -1,0 +1,46 @@
+//! The Shapley shares of the game of a document.
+ghost use Rattle.std.specs.Prelude.{◌<◌, ◌↔◌, IfOk, IsErrOf};
+ghost use Rattle.definitions.specs.Shapley.{IsShapley};
+ghost use Rattle.game_text.specs.Descriptions.{game_of};
+ghost use Rattle.game_text.specs.Games.{description_in};
+ghost use Rattle.game_text.specs.Readings.{contents_in};
+ghost use Rattle.report.specs.Limits.{IsPrintable};
+ghost use Rattle.coop.specs.ReadBack.{CanBeRead};
+ghost use Rattle.coop.specs.ShapleyClaims.{shapley_limit, SaysOfShapley};
+
+use fractions::OutOfMemory;
+use game_text::{Document, Game};
+use report::{Answer, UsageKind};
+use shapley::{ShapleyFault, airport_shapley, shapley};
+use std::alloc::Global;
+use worth_core::Shares;
+
+/// The Shapley shares of the game of a document, or that it has more players than are answered: 32 for an airport game, and 16
+/// for another.
+pub fn shapley_document(alloc: Global, document: &Document) -> Result<Answer, OutOfMemory>
+    ensures says { IfOk result (SaysOfShapley (contents_in document.now)) }
+    ensures printable { IfOk result IsPrintable }
+    ensures readable { IfOk result CanBeRead }
+{
+    let is_cost = document.game.is_cost();
+    match shares_of(alloc, &document.game) {
+        Ok(shares) => Ok(Answer::Shapley { is_cost, shares }),
+        Err(ShapleyFault::TooMany) => Ok(Answer::Usage(UsageKind::Players)),
+        Err(ShapleyFault::Memory) => Err(OutOfMemory),
+    }
+}
+
+// The shares of an airport game by the steps of its costs, and those of another by its coalitions.
+fn shares_of(alloc: Global, game: &Game) -> Result<Shares, ShapleyFault>
+    ensures value { IfOk result (IsShapley (game_of (description_in game.now))) }
+    ensures too_many { IsErrOf result ShapleyFault.TooMany ↔ (shapley_limit (description_in game.now) < (game_of (description_in game.now)).players) }
+{
+    match game {
+        Game::Airport(game) => airport_shapley(alloc, game),
+        Game::Table(game) => shapley(alloc, game),
+        Game::Cost(game) => shapley(alloc, game),
+        Game::Bankruptcy(game) => shapley(alloc, game),
+        Game::Tree(game) => shapley(alloc, game),
+        Game::Assignment(game) => shapley(alloc, game),
+    }
+}

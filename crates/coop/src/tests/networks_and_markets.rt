@@ -1,0 +1,132 @@
+//! Games of trees and assignments.
+use super::nucleolus::is_checked;
+use super::{printed, run_on};
+use crate::status::Status;
+use std::test::Fail;
+
+const NETWORK: &str = "{\"game\":{\"class\":\"tree\",\"matrix\":[[0,10,10],[10,0,1],[10,1,0]]}}";
+
+const MARKET: &str = "{\"game\":{\"class\":\"assignment\",\"matrix\":[[5,8],[7,6]]}}";
+
+#[test]
+fn the_later_player_of_a_network_links_to_the_nearer(rt: HostRuntime) -> Result<(), Fail> {
+    for (command, line) in [
+        (
+            "bird",
+            "{\"answer\":\"bird\",\"shares\":[\"10\",\"1\"],\"tree\":[[0,1,10],[1,2,1]]}\n",
+        ),
+        (
+            "core",
+            "{\"answer\":\"core point\",\"shares\":[\"10\",\"1\"]}\n",
+        ),
+        (
+            "shapley",
+            "{\"answer\":\"shapley\",\"shares\":[\"11/2\",\"11/2\"]}\n",
+        ),
+    ] {
+        let answer = run_on(rt.alloc(), &[command], NETWORK.as_bytes(), 100, line)?;
+        assert_eq!(rt; answer, (Status::Done, true), "to {command}");
+    }
+    Ok(())
+}
+
+#[test]
+fn nucleoli_of_networks_and_markets_are_checked(rt: HostRuntime) -> Result<(), Fail> {
+    for (input, end) in [
+        (NETWORK, "\"shares\":[\"11/2\",\"11/2\"]}\n"),
+        (MARKET, "\"shares\":[\"7/2\",\"7/2\",\"7/2\",\"9/2\"]}\n"),
+        (
+            "{\"game\":{\"class\":\"tree\",\"matrix\":[[0,3],[3,0]],\"names\":[\"one\"]}}",
+            "\"shares\":[\"3\"]}\n",
+        ),
+        (
+            "{\"game\":{\"class\":\"assignment\",\"matrix\":[[9]]}}",
+            "\"shares\":[\"9/2\",\"9/2\"]}\n",
+        ),
+    ] {
+        let (status, line) = printed(rt.alloc(), "nucleolus", input.as_bytes())?;
+        assert_eq!(rt; status, Status::Done);
+        assert!(rt; line.ends_with(end.as_bytes()), "on {input}");
+        let (_, again) = printed(rt.alloc(), "nucleolus", input.as_bytes())?;
+        assert!(rt; line == again, "on {input}");
+        assert!(rt; is_checked(rt.alloc(), input)?, "on {input}");
+    }
+    Ok(())
+}
+
+#[test]
+fn certificates_of_a_market_are_judged(rt: HostRuntime) -> Result<(), Fail> {
+    for (input, line, status) in [
+        (
+            "{\"answer\":\"nucleolus\",\"certificate\":{\"levels\":[{\"bounds\":[],\"coalitions\":[[[2,3],1],[[1,4],1]],\"earlier\":[],\"excess\":\"0\",\"total\":1},{\"bounds\":[],\"coalitions\":[[[1,3],1],[[2,4],1]],\"earlier\":[],\"excess\":\"-2\",\"total\":1},{\"bounds\":[],\"coalitions\":[[[1],1],[[3],1]],\"earlier\":[[[1,3],-1]],\"excess\":\"-7/2\",\"total\":0}],\"mode\":\"span\"},\"game\":{\"class\":\"assignment\",\"matrix\":[[5,8],[7,6]]},\"shares\":[\"7/2\",\"7/2\",\"7/2\",\"9/2\"]}",
+            "{\"answer\":\"yes\"}\n",
+            Status::Done,
+        ),
+        (
+            "{\"answer\":\"nucleolus\",\"certificate\":{\"levels\":[{\"bounds\":[],\"coalitions\":[[[2,3],1],[[1,4],1]],\"earlier\":[],\"excess\":\"0\",\"total\":1},{\"bounds\":[],\"coalitions\":[[[1,3],1],[[2,4],1]],\"earlier\":[],\"excess\":\"-2\",\"total\":1}],\"mode\":\"span\"},\"game\":{\"class\":\"assignment\",\"matrix\":[[5,8],[7,6]]},\"shares\":[\"2\",\"2\",\"5\",\"6\"]}",
+            "{\"answer\":\"no\",\"player\":1,\"reason\":8}\n",
+            Status::Negative,
+        ),
+    ] {
+        let found = run_on(rt.alloc(), &["check"], input.as_bytes(), 100, line)?;
+        assert_eq!(rt; found, (status, true), "on {input}");
+    }
+    Ok(())
+}
+
+#[test]
+fn proposals_for_networks_and_markets_are_judged(rt: HostRuntime) -> Result<(), Fail> {
+    for (input, line, status) in [
+        (
+            "{\"game\":{\"class\":\"tree\",\"matrix\":[[0,10,10],[10,0,1],[10,1,0]]},\"shares\":[10,1]}",
+            "{\"answer\":\"core\"}\n",
+            Status::Done,
+        ),
+        (
+            "{\"game\":{\"class\":\"tree\",\"matrix\":[[0,10,10],[10,0,1],[10,1,0]]},\"shares\":[\"21/2\",\"1/2\"]}",
+            "{\"answer\":\"blocked\",\"coalition\":[1],\"excess\":\"1/2\"}\n",
+            Status::Negative,
+        ),
+        (
+            "{\"game\":{\"class\":\"assignment\",\"matrix\":[[5,8],[7,6]]},\"shares\":[4,3,3,5]}",
+            "{\"answer\":\"blocked\",\"coalition\":[2,3],\"excess\":\"1\"}\n",
+            Status::Negative,
+        ),
+        (
+            "{\"game\":{\"class\":\"assignment\",\"matrix\":[[5,8],[7,6]]},\"shares\":[2,2,5,6]}",
+            "{\"answer\":\"core\"}\n",
+            Status::Done,
+        ),
+    ] {
+        let found = run_on(rt.alloc(), &["propose"], input.as_bytes(), 100, line)?;
+        assert_eq!(rt; found, (status, true), "on {input}");
+    }
+    Ok(())
+}
+
+#[test]
+fn matrices_that_fit_no_class_are_refused(rt: HostRuntime) -> Result<(), Fail> {
+    for input in [
+        "{\"game\":{\"class\":\"tree\",\"matrix\":[[0,1],[2,0]]}}",
+        "{\"game\":{\"class\":\"assignment\",\"matrix\":[[5,8],[7]]}}",
+    ] {
+        let line = "{\"number\":9,\"refused\":\"Matrix\"}\n";
+        let found = run_on(rt.alloc(), &["nucleolus"], input.as_bytes(), 100, line)?;
+        assert_eq!(rt; found, (Status::Refused, true), "on {input}");
+    }
+    Ok(())
+}
+
+#[test]
+fn bird_is_for_trees_alone(rt: HostRuntime) -> Result<(), Fail> {
+    for input in [
+        "{\"game\":{\"class\":\"airport\",\"costs\":[2,4,6]}}",
+        "{\"game\":{\"class\":\"table\",\"players\":1,\"worths\":[5]}}",
+        MARKET,
+    ] {
+        let line = "{\"usage\":\"class\"}\n";
+        let found = run_on(rt.alloc(), &["bird"], input.as_bytes(), 100, line)?;
+        assert_eq!(rt; found, (Status::Usage, true), "on {input}");
+    }
+    Ok(())
+}

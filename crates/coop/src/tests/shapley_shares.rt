@@ -1,0 +1,43 @@
+//! Shapley shares, and games that have too many players for them.
+use super::run_on;
+use crate::status::Status;
+use std::test::Fail;
+
+#[test]
+fn prints_shapley_shares(rt: HostRuntime) -> Result<(), Fail> {
+    for (input, line) in [
+        (
+            "{\"game\":{\"class\":\"table\",\"players\":3,\"worths\":[0,0,1,0,1,1,1]}}",
+            "{\"answer\":\"shapley\",\"shares\":[\"1/3\",\"1/3\",\"1/3\"]}\n",
+        ),
+        (
+            "{\"game\":{\"class\":\"airport\",\"costs\":[2,4,6]}}",
+            "{\"answer\":\"shapley\",\"shares\":[\"2/3\",\"5/3\",\"11/3\"]}\n",
+        ),
+        (
+            "{\"game\":{\"class\":\"cost-table\",\"default\":18,\"names\":[\"Sales\",\"Ops\",\"Legal\",\"IT\",\"HR\"],\"players\":5,\"sparse\":[[[\"Sales\"],6],[[\"Ops\"],6],[[\"Legal\"],6],[[\"IT\"],6],[[\"HR\"],6],[[\"Sales\",\"Ops\",\"Legal\",\"IT\",\"HR\"],20]]}}",
+            "{\"answer\":\"shapley\",\"shares\":[\"4\",\"4\",\"4\",\"4\",\"4\"]}\n",
+        ),
+        (
+            "{\"game\":{\"class\":\"airport\",\"costs\":[32,32,32,32,32,32,32,32,32,32,32,32,32,32,32,32,32,32,32,32,32,32,32,32,32,32,32,32,32,32,32,32]}}",
+            "{\"answer\":\"shapley\",\"shares\":[\"1\",\"1\",\"1\",\"1\",\"1\",\"1\",\"1\",\"1\",\"1\",\"1\",\"1\",\"1\",\"1\",\"1\",\"1\",\"1\",\"1\",\"1\",\"1\",\"1\",\"1\",\"1\",\"1\",\"1\",\"1\",\"1\",\"1\",\"1\",\"1\",\"1\",\"1\",\"1\"]}\n",
+        ),
+    ] {
+        let found = run_on(rt.alloc(), &["shapley"], input.as_bytes(), 300, line)?;
+        assert_eq!(rt; found, (Status::Done, true), "on {input}");
+    }
+    Ok(())
+}
+
+#[test]
+fn airports_of_33_and_estates_of_17_have_too_many_players(rt: HostRuntime) -> Result<(), Fail> {
+    let line = "{\"usage\":\"players\"}\n";
+    for input in [
+        "{\"game\":{\"class\":\"airport\",\"costs\":[32,32,32,32,32,32,32,32,32,32,32,32,32,32,32,32,32,32,32,32,32,32,32,32,32,32,32,32,32,32,32,32,32]}}",
+        "{\"game\":{\"claims\":[1,1,1,1,1,1,1,1,1,1,1,1,1,1,1,1,1],\"class\":\"bankruptcy\",\"estate\":17}}",
+    ] {
+        let found = run_on(rt.alloc(), &["shapley"], input.as_bytes(), 100, line)?;
+        assert_eq!(rt; found, (Status::Usage, true), "on {input}");
+    }
+    Ok(())
+}

@@ -1,0 +1,20 @@
+use Rattle.std.proofs.Common.{sym, subst}
+use Rattle.serde_json.specs.View.{view}
+use Rattle.game_text.proofs.MatrixRows.{HasAssignmentSizes, assignment_sizes, assignment_made, assignment_not_made}
+use Rattle.game_text.proofs.assignment_class.assignment_of.Goals as goal
+
+pub unreachable-requires : goal.unreachable-requires
+unreachable-requires c =
+    let sizes = subst HasAssignmentSizes (sym c.in_ok-rows.ensures) (assignment_sizes (view c.args.game.now) c.requires.class c.requires.sizes) in
+    (rw c.in-Err-Players.field-0-is at c.in-Err-Players.ensures) sizes.players
+
+pub unreachable-requires-in-Err-Number : goal.unreachable-requires-in-Err-Number
+unreachable-requires-in-Err-Number c =
+    let sizes = subst HasAssignmentSizes (sym c.in_ok-rows.ensures) (assignment_sizes (view c.args.game.now) c.requires.class c.requires.sizes) in
+    (rw c.in-Err-Number.field-0-is at c.in-Err-Number.ensures).1 sizes.entries
+
+pub returns-in-Ok : goal.returns-in-Ok
+returns-in-Ok c = assignment_made c.in-Ok.game _ _ c.in_ok-rows.ensures c.in-Ok.ensures.0 c.in-Ok.ensures.1
+
+pub returns-in-Err-Matrix : goal.returns-in-Err-Matrix
+returns-in-Err-Matrix c = assignment_not_made _ _ c.in_ok-rows.ensures (rw c.in-Err-Matrix.field-0-is at c.in-Err-Matrix.ensures).2

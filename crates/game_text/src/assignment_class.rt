@@ -1,0 +1,57 @@
+//! Assignment games: what each buyer and each seller are worth together.
+ghost use Rattle.std.specs.Prelude.{◌≡◌, ◌<◌, ◌^◌, IfOk, Some, None, if◌then◌else◌};
+ghost use Rattle.serde_json.specs.View.{view};
+ghost use Rattle.game_text.specs.Shape.{class_of};
+ghost use Rattle.game_text.specs.MatrixClass.{rows_of};
+ghost use Rattle.game_text.specs.AssignmentClass.{sellers_at, assignment_players, has_assignment_players, are_even};
+ghost use Rattle.game_text.specs.Readings.{HasSizes};
+ghost use Rattle.game_text.specs.declared.class.Class.TheVariants.{Assignment};
+
+use assignment_games::{AssignmentFault, AssignmentGame};
+use fractions::OutOfMemory;
+use json_trees::{parts, parts_at, rows_at};
+use serde_json::Value;
+use std::alloc::Global;
+
+/// The number of sellers: one for each item of the first row.
+fn sellers_at(game: &Value) -> usize
+    ensures value { result ≡ sellers_at (view game.now) }
+    ensures small { result < 2 ^ 63 }
+{
+    match parts_at(game, "matrix") {
+        [first, ..] => parts(first).len(),
+        [] => 0,
+    }
+}
+
+/// The number of players: one for each row and one for each item of the first row.
+pub fn assignment_players(game: &Value) -> usize
+    ensures { result ≡ assignment_players (view game.now) }
+{
+    parts_at(game, "matrix").len() + sellers_at(game)
+}
+
+/// Whether there are buyers and sellers, at most 16 together.
+pub fn has_assignment_players(game: &Value) -> bool
+    ensures { result ≡ has_assignment_players (view game.now) }
+{
+    let buyers = parts_at(game, "matrix").len();
+    let sellers = sellers_at(game);
+    1 <= buyers && 1 <= sellers && assignment_players(game) <= 16
+}
+
+/// The game that is described. None where the rows differ in length.
+pub fn assignment_of(alloc: Global, game: &Value) -> Result<Option<AssignmentGame>, OutOfMemory>
+    requires class { class_of (view game.now) ≡ Some Assignment }
+    requires sizes { HasSizes (view game.now) }
+    ensures { IfOk result (λ o. let rows = rows_of (view game.now) in o ≡ (if are_even rows then Some rows else None)) }
+{
+    let rows = rows_at(alloc, game, "matrix")?;
+    match AssignmentGame::new(alloc, rows) {
+        Ok(game) => Ok(Some(game)),
+        Err(AssignmentFault::Matrix) => Ok(None),
+        Err(AssignmentFault::Memory) => Err(OutOfMemory),
+        Err(AssignmentFault::Players) => unreachable!(),
+        Err(AssignmentFault::Number) => unreachable!(),
+    }
+}

@@ -1,0 +1,138 @@
+//! Games by their matrix: limits, refusals, and the worths that they have.
+use super::*;
+use crate::tests::{document, fault_in, worths_of};
+use std::alloc::Global;
+use std::test::Fail;
+use worth_core::Worth;
+
+const SEVENTEEN_ZEROS: &str = "[0,0,0,0,0,0,0,0,0,0,0,0,0,0,0,0,0]";
+
+const EIGHTEEN_ZEROS: &str = "[0,0,0,0,0,0,0,0,0,0,0,0,0,0,0,0,0,0]";
+
+const SIXTEEN_SHARES: &str = "[0,0,0,0,0,0,0,0,0,0,0,0,0,0,0,0]";
+
+// A game of this class whose matrix has these rows, all alike.
+fn with_rows(alloc: Global, class: &str, row: &str, count: usize) -> Result<String, Fail> {
+    let mut text = String::from_str(alloc, "{\"class\":\"")?;
+    text.push_str(class)?;
+    text.push_str("\",\"matrix\":[")?;
+    for i in 0..count {
+        if i > 0 {
+            text.push_str(",")?;
+        }
+        text.push_str(row)?;
+    }
+    text.push_str("]}")?;
+    Ok(text)
+}
+
+#[test]
+fn matrices_keep_the_numbers_of_players(rt: HostRuntime) -> Result<(), Fail> {
+    for (class, row, count, refusal) in [
+        ("tree", "[0]", 1, Some(Refusal::Players)),
+        ("tree", "[0,0]", 2, Some(Refusal::Proposal)),
+        ("tree", SEVENTEEN_ZEROS, 17, None),
+        ("tree", EIGHTEEN_ZEROS, 18, Some(Refusal::Players)),
+        ("assignment", "[]", 0, Some(Refusal::Players)),
+        ("assignment", "[]", 1, Some(Refusal::Players)),
+        ("assignment", "[0]", 15, None),
+        ("assignment", "[0]", 16, Some(Refusal::Players)),
+        ("assignment", "[0,0,0,0,0,0,0,0]", 8, None),
+        ("assignment", "[0,0,0,0,0,0,0,0]", 9, Some(Refusal::Players)),
+    ] {
+        let game = with_rows(rt.alloc(), class, row, count)?;
+        let fault = fault_in(rt.alloc(), &game, SIXTEEN_SHARES)?;
+        assert_eq!(rt; fault, refusal.map(TextFault::Refused), "on {game}");
+    }
+    Ok(())
+}
+
+#[test]
+fn matrices_are_refused_by_the_first_test(rt: HostRuntime) -> Result<(), Fail> {
+    for (game, refusal) in [
+        (
+            "{\"class\":\"tree\",\"matrix\":[[0,1],[1,0]]}",
+            Refusal::Proposal,
+        ),
+        (
+            "{\"class\":\"tree\",\"matrix\":[[0,1],[2,0]]}",
+            Refusal::Matrix,
+        ),
+        (
+            "{\"class\":\"tree\",\"matrix\":[[0,1],[1,1]]}",
+            Refusal::Matrix,
+        ),
+        (
+            "{\"class\":\"tree\",\"matrix\":[[0,1],[1]]}",
+            Refusal::Matrix,
+        ),
+        (
+            "{\"class\":\"tree\",\"matrix\":[[0,1],[1,0,0]]}",
+            Refusal::Matrix,
+        ),
+        (
+            "{\"class\":\"tree\",\"matrix\":[[0,1,2],[1,0,3],[2,4,0]]}",
+            Refusal::Matrix,
+        ),
+        (
+            "{\"class\":\"tree\",\"matrix\":[[0,1],[2,-1]]}",
+            Refusal::Number,
+        ),
+        (
+            "{\"class\":\"tree\",\"matrix\":[[0,1],[2,0,1099511627776]]}",
+            Refusal::Number,
+        ),
+        (
+            "{\"class\":\"tree\",\"matrix\":[[0,1],[2,0]],\"names\":[]}",
+            Refusal::Names,
+        ),
+        (
+            "{\"class\":\"assignment\",\"matrix\":[[1,2],[3]]}",
+            Refusal::Matrix,
+        ),
+        (
+            "{\"class\":\"assignment\",\"matrix\":[[1,2],[]]}",
+            Refusal::Matrix,
+        ),
+        (
+            "{\"class\":\"assignment\",\"matrix\":[[1,2],[0.5]]}",
+            Refusal::Number,
+        ),
+        (
+            "{\"class\":\"assignment\",\"matrix\":[[1,2],[3,4]]}",
+            Refusal::Proposal,
+        ),
+    ] {
+        let fault = fault_in(rt.alloc(), game, "[1,2,3,4,5]")?;
+        assert_eq!(rt; fault, Some(TextFault::Refused(refusal)), "on {game}");
+    }
+    Ok(())
+}
+
+#[test]
+fn links_cost_and_pairs_are_worth(rt: HostRuntime) -> Result<(), Fail> {
+    for (game, shares, is_cost, worths) in [
+        (
+            "{\"class\":\"tree\",\"matrix\":[[0,10,10],[10,0,1],[10,1,0]]}",
+            "[10,1]",
+            true,
+            [0, -10, -10, -11].as_slice(),
+        ),
+        (
+            "{\"class\":\"assignment\",\"matrix\":[[5,8],[7,6]]}",
+            "[2,2,5,6]",
+            false,
+            [0, 0, 0, 0, 0, 5, 7, 7, 0, 8, 6, 8, 0, 8, 7, 15].as_slice(),
+        ),
+    ] {
+        let text = document(rt.alloc(), game, shares)?;
+        let read = read_document(rt.alloc(), text.as_bytes(), Command::Propose)?;
+        assert_eq!(rt; read.game.is_cost(), is_cost, "on {game}");
+        let found = worths_of(&rt, rt.alloc(), &read.game)?;
+        assert_eq!(rt; found.as_slice(), worths, "on {game}");
+        let x = read.shares.ok_or("no shares")?;
+        assert!(rt; x.players() == read.game.players());
+        assert_eq!(rt; read.game.blocker(&x), None, "on {game}");
+    }
+    Ok(())
+}
