@@ -1,0 +1,26 @@
+-- The game of a kind, a number of players and a seed.
+--
+--   HasKindSize kind n     the kind has games of n players
+--   generated kind n seed  the description of the game
+use Rattle.std.specs.Prelude.{ℕ, ◌+◌, ◌-◌, ◌/◌, ◌≤◌, sum}
+use Rattle.game_text.specs.Descriptions.{Description, table, airport, bankruptcy, network, market}
+use Rattle.game_text.specs.declared.kind.Kind.{Kind}
+use Rattle.game_text.specs.declared.kind.Kind.TheVariants.{Table, Airport, Bankruptcy, Tree, Assignment}
+use Rattle.coop_gen.specs.Draws.{short_draw}
+use Rattle.coop_gen.specs.Numbers.{table_numbers, long_draws, rows_of, link, pair_value}
+
+-- a kind has games of 1 to 16 or 64 players, and of 2 to 16 where there are two sides
+abbrev pub HasKindSize : Kind → ℕ → Type 0
+HasKindSize Table n = (1 ≤ n) × (n ≤ 16)
+HasKindSize Airport n = (1 ≤ n) × (n ≤ 64)
+HasKindSize Bankruptcy n = (1 ≤ n) × (n ≤ 64)
+HasKindSize Tree n = (1 ≤ n) × (n ≤ 16)
+HasKindSize Assignment n = (2 ≤ n) × (n ≤ 16)
+
+-- the description of the game
+abbrev pub generated : Kind → ℕ → ℕ → Description
+generated Table n seed = table n (table_numbers seed n)
+generated Airport n seed = airport (long_draws seed n)
+generated Bankruptcy n seed = bankruptcy (sum (long_draws seed n) / 2) (long_draws seed n)
+generated Tree n seed = network (rows_of (n + 1) (n + 1) (link (short_draw seed) n))
+generated Assignment n seed = market (rows_of (n / 2) (n - n / 2) (pair_value (short_draw seed) (n - n / 2)))

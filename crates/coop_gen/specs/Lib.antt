@@ -1,0 +1,5 @@
+pub mod Draws
+pub mod Numbers
+pub mod Generated
+pub mod Imputations
+pub mod Theorems

@@ -1,0 +1,27 @@
+//! The game of a kind, a number of players and a seed.
+ghost use Rattle.std.specs.Prelude.{◌≡◌, ◌^◌, ◌<◌, IfOk};
+ghost use Rattle.game_text.specs.Games.{description_in};
+ghost use Rattle.coop_gen.specs.Generated.{HasKindSize, generated};
+
+use crate::games::{airport, assignment, bankruptcy, table, tree};
+use fractions::OutOfMemory;
+use game_text::{Game, Kind};
+use std::alloc::Global;
+
+/// The game of that kind, of `n` players, made from the seed. The kind has games of so many players, and the seed is
+/// below 2^31.
+///
+/// Its one error is want of memory.
+pub fn generate(alloc: Global, kind: Kind, n: u32, seed: u32) -> Result<Game, OutOfMemory>
+    requires size { HasKindSize kind n }
+    requires seed { seed < 2 ^ 31 }
+    ensures { IfOk result (λ game. description_in game ≡ generated kind n seed) }
+{
+    Ok(match kind {
+        Kind::Table => Game::Table(table(alloc, n, seed)?),
+        Kind::Airport => Game::Airport(airport(alloc, n, seed)?),
+        Kind::Bankruptcy => Game::Bankruptcy(bankruptcy(alloc, n, seed)?),
+        Kind::Tree => Game::Tree(tree(alloc, n, seed)?),
+        Kind::Assignment => Game::Assignment(assignment(alloc, n, seed)?),
+    })
+}

@@ -1,0 +1,16 @@
+//! Games made from a number, of every kind and size: the same number makes the same game.
+#![tactic(auto)]
+
+mod draws;
+mod games;
+mod generating;
+mod laws;
+mod matrices_of_draws;
+mod table_of_draws;
+#[cfg(test)]
+mod tests;
+
+pub use fractions::OutOfMemory;
+pub use game_text::{Game, Kind};
+pub use generating::generate;
+pub use laws::generated_games_have_imputations;
