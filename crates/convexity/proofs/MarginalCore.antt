@@ -3,8 +3,8 @@ use Rattle.std.proofs.Common.{◌≡◌, ℕ, zero, suc, ◌^◌, ◌<◌, Bool,
 use Rattle.std.proofs.Math.Pow.{pow_pos}
 use Rattle.definitions.proofs.Ring.{linear, mul-leℤ, mul-zeroℤ}
 use Rattle.definitions.proofs.Halves.{size_below, size_below-zero, size_below-no}
-use Rattle.definitions.proofs.Members.{has_player-empty, sum_below-same, sum_below-times}
-use Rattle.definitions.proofs.Parts.{part}
+use Rattle.definitions.proofs.Members.{has_player-empty}
+use Rattle.definitions.proofs.SumsOver.{sum_over-same, sum_over-times}
 use Rattle.definitions.specs.Coalitions.{has_player, grand_coalition, sum_over}
 use Rattle.definitions.specs.Games.{Game, Allocation, share, amount, IsEfficient, Blocks, InCore}
 use Rattle.definitions.specs.Shapley.{IsOrder, marginal_worth}
@@ -40,17 +40,6 @@ added-all g order h none =
     let e = amount-along g.players (grand_coalition g.players) g.worth 0 order rest in
     let reach = along-all g order 0 rest (omega (arith, nobody g.players, all)) (none_below g.players) in
     omega (arith, linear, e, reach, none)
-
-pub sum_over-same : (n : ℕ) (a b : ℕ → ℤ) (s : ℕ) → ((i : ℕ) → i < n → a i ≡ b i) → sum_over n a s ≡ sum_over n b s
-sum_over-same n a b s h = sum_below-same n (part a s) (part b s) (λ i lt. rw (h i lt) refl)
-
-pub sum_over-times : (n : ℕ) (a : ℕ → ℤ) (c : ℤ) (s : ℕ) → sum_over n (λ i. c *ℤ a i) s ≡ c *ℤ sum_over n a s
-sum_over-times n a c s =
-    sum_below-same n (part (λ i. c *ℤ a i) s) (λ i. c *ℤ part a s i) (λ i lt. step (has_player s i) (a i)) ∙ sum_below-times n (part a s) c
-  where
-    step : (b : Bool) (z : ℤ) → cond b (c *ℤ z) (pos 0) ≡ c *ℤ cond b z (pos 0)
-    step true z = refl
-    step false z = sym (mul-zeroℤ c)
 
 amount-marginal : (g : Game) (order : List ℕ) (x : Allocation) (s : ℕ) → IsMarginal g order x → amount x s ≡ x.den *ℤ added g.worth order g.players s
 amount-marginal g order x s h =

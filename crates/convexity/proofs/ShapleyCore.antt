@@ -4,8 +4,7 @@ use Rattle.std.specs.List.{AllByRecursion, flat_map}
 use lib.IntN.{*ℤ_comm}
 use Rattle.definitions.proofs.Ring.{linear, add-mulℤ, zero-mulℤ, one-mulℤ, mul-leℤ, mul-cancelℤ, mul-le_cancelℤ, mul_left_commℤ}
 use Rattle.definitions.proofs.Alls.{all_weaken}
-use Rattle.definitions.proofs.Members.{sum_below-same, sum_below-zero, sum_below-add}
-use Rattle.definitions.proofs.Parts.{part}
+use Rattle.definitions.proofs.SumsOver.{sum_over-same, sum_over-times, sum_over-add, sum_over-zero}
 use Rattle.definitions.specs.Coalitions.{has_player, grand_coalition, sum_over}
 use Rattle.definitions.specs.Games.{Game, Allocation, share, amount, IsEfficient, Blocks, InCore}
 use Rattle.definitions.specs.Shapley.{IsOrder, insertions, orders, marginal_worth, total_over, shapley_total, factorial, IsShapley}
@@ -13,7 +12,7 @@ use Rattle.definitions.specs.Convexity.{IsConvex}
 use Rattle.shapley.proofs.Orders.{length-insertions}
 use Rattle.shapley.proofs.EachOnce.{are_orders}
 use Rattle.shapley.proofs.Sizes.{factorial-some}
-use Rattle.convexity.proofs.MarginalCore.{added, added-reaches, added-all, sum_over-same, sum_over-times}
+use Rattle.convexity.proofs.MarginalCore.{added, added-reaches, added-all}
 
 -- ---- there are n! orders
 
@@ -39,21 +38,6 @@ orders-count (suc n) =
     ∙ ap (λ (k : ℕ). suc n * k) (orders-count n)
 
 -- ---- the sum over orders
-
-sum_over-add : (n : ℕ) (a b : ℕ → ℤ) (s : ℕ) → sum_over n (λ i. a i +ℤ b i) s ≡ sum_over n a s +ℤ sum_over n b s
-sum_over-add n a b s =
-    sum_below-same n (part (λ i. a i +ℤ b i) s) (λ i. part a s i +ℤ part b s i) (λ i lt. step (has_player s i) (a i) (b i)) ∙ sum_below-add n (part a s) (part b s)
-  where
-    step : (c : Bool) (y z : ℤ) → cond c (y +ℤ z) (pos 0) ≡ cond c y (pos 0) +ℤ cond c z (pos 0)
-    step true y z = refl
-    step false y z = refl
-
-sum_over-zero : (n s : ℕ) → sum_over n (λ i. pos 0) s ≡ pos 0
-sum_over-zero n s = sum_below-zero n (part (λ i. pos 0) s) (λ i lt. none (has_player s i))
-  where
-    none : (b : Bool) → cond b (pos 0) (pos 0) ≡ pos 0
-    none true = refl
-    none false = refl
 
 -- what the members of s get over some orders
 abbrev got : Game → List (List ℕ) → ℕ → ℤ

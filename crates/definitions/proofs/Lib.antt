@@ -8,6 +8,7 @@ pub mod Members
 pub mod Sizes
 pub mod Measured
 pub mod Parts
+pub mod SumsOver
 pub mod Halves
 pub mod UnitWeights
 pub mod Families

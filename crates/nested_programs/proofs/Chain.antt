@@ -5,7 +5,8 @@ use Rattle.std.proofs.lemmas.Bool.Decides.{nat_tests}
 use Rattle.std.specs.List.{list_any, AllByRecursion}
 use Rattle.definitions.proofs.Ring.{linear, mul-addℤ, mul-leℤ, mul_assocℤ, mul-cancelℤ, mul-le_cancelℤ, mul-positiveℤ, mul_left_commℤ}
 use lib.IntN.{*ℤ_comm}
-use Rattle.definitions.proofs.Members.{sum_below-same, sum_below-zero, sum_over-combined, sum_over-grand_coalition, zero_either}
+use Rattle.definitions.proofs.SumsOver.{sum_over-same}
+use Rattle.definitions.proofs.Members.{sum_below-zero, sum_over-combined, sum_over-grand_coalition, zero_either}
 use Rattle.definitions.proofs.Settled.{Settled, inside_zero, all_fixed_zero}
 use Rattle.determinants.proofs.Duality.{weak_duality}
 use Rattle.definitions.specs.Sums.{weighted_sum}
@@ -59,10 +60,6 @@ extended-last n k m =
 pub length_more : {X : Type 0} (xs : List X) (x : X) → length (xs ++ x ∷ []) ≡ length xs + 1
 length_more [] x = refl
 length_more (y ∷ xs) x = let ih = length_more xs x in omega (arith, ih)
-
-pub sum_over-same : (n : ℕ) (a b : ℕ → ℤ) (s : ℕ) → ((i : ℕ) → i < n → a i ≡ b i) → sum_over n a s ≡ sum_over n b s
-sum_over-same n a b s h =
-    sum_below-same n (λ i. if has_player s i then a i else pos 0) (λ i. if has_player s i then b i else pos 0) (λ i lt. ap (λ z. if has_player s i then z else pos 0) (h i lt))
 
 -- what is outside behind more levels is outside behind fewer
 fixed_more : (n : ℕ) (xs ys : List Level) (s : ℕ) → IsFixedVector n xs s → IsFixedVector n (xs ++ ys) s

@@ -10,21 +10,9 @@ ghost use Rattle.kohlberg.specs.Pairs.{placed, placed_behind};
 use crate::numbers::net_of;
 use coalitions::Coalition;
 use kohlberg::{Level, put_pair, ratio};
+use separation::coalition_count;
 use simplex::Optimal;
 use std::alloc::{AllocError, Global};
-
-/// The number of coalitions of the levels.
-fn count(levels: &[Level]) -> u64
-    requires few { length levels.now ≤ 14 }
-    requires small { AllByRecursion (λ l. length l.coalitions ≤ 65536) levels.now }
-    ensures { result ≡ length (earlier_of 0 levels.now) }
-{
-    let mut count: u64 = 0;
-    for level in levels {
-        count += level.coalitions.len() as u64;
-    }
-    count
-}
 
 /// The coalitions outside that have a number, in mask order, where `first` is the number of the column of the empty one.
 fn outer_numbers(
@@ -121,7 +109,7 @@ pub fn level_of(alloc: Global, n: u32, front: &[Level], best: &Optimal) -> Resul
     ensures level { IfOk result (λ l. IsLevelOf n front.now best.now.weights.items best.now.multipliers.num.items best.now.multipliers.den l) }
 {
     let weights = best.weights.as_slice();
-    let first = 2 + 2 * count(front);
+    let first = 2 + 2 * coalition_count(front);
     let optimum = best.multipliers.num[n as usize + front.len()];
     Ok(Level {
         excess: ratio(optimum, best.multipliers.den),

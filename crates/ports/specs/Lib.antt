@@ -1,3 +1,4 @@
 pub mod Causes
+pub mod Writes
 pub mod Taken
 pub mod Failing

@@ -1,7 +1,5 @@
 ghost use Rattle.std.specs.Prelude.{◌≡◌, ◌⊎◌, ◌↔◌, ◌<◌, ◌≤◌, ◌-◌, length, min, [], IfOk, IsErr, IsTrue};
-ghost use Rattle.std.specs.Io.{WritesAtMost};
-ghost use Rattle.std.specs.Io.KnownBytes.{WriteAppends};
-ghost use Rattle.ports.specs.Causes.{HasCause};
+ghost use Rattle.ports.specs.Writes.{IsWrite};
 ghost use Rattle.ports.specs.Failing.{is_chosen, after};
 
 use crate::{Failed, MemorySink, Sink};
@@ -70,10 +68,7 @@ impl Sink for FailingSink {
     ///
     /// Fails exactly at the chosen calls, and where none fits of a piece that isn't empty.
     fn write(&mut self, piece: &[u8]) -> Result<usize, Failed>
-        ensures bound { WritesAtMost result piece.now }
-        ensures progress { IfOk result (λ n. 0 < length piece.now → 0 < n) }
-        ensures bytes { WriteAppends (Some self.old.bytes) (Some self.new.bytes) result piece.now }
-        ensures cause { HasCause self.old.faults self.new.faults result }
+        ensures write { IsWrite (Some self.old.bytes) (Some self.new.bytes) self.old.faults self.new.faults result piece.now }
         ensures chosen { IsErr result ↔ IsTrue (is_chosen self.old.fails self.old.calls) ⊎ ((length self.old.bytes ≡ self.old.capacity) × (0 < length piece.now)) }
         ensures count { IfOk result (λ n. n ≡ min (self.old.capacity - length self.old.bytes) (min self.old.piece (length piece.now))) }
         ensures next { self.new.calls ≡ after self.old.calls }

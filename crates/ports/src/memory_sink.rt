@@ -1,7 +1,6 @@
 ghost use Rattle.std.specs.Prelude.{◌≡◌, ◌<◌, ◌-◌, length, min, [], IfOk, OnErr, IsErr};
-ghost use Rattle.std.specs.Io.{WritesAtMost};
-ghost use Rattle.std.specs.Io.KnownBytes.{WriteAppends};
 ghost use Rattle.ports.specs.Causes.{HasCause};
+ghost use Rattle.ports.specs.Writes.{IsWrite};
 
 use crate::{Failed, Sink};
 use fractions::OutOfMemory;
@@ -68,10 +67,7 @@ impl Sink for MemorySink {
 
     /// Takes as many bytes of `piece` as fit. Fails exactly where none fits of a piece that isn't empty.
     fn write(&mut self, piece: &[u8]) -> Result<usize, Failed>
-        ensures bound { WritesAtMost result piece.now }
-        ensures progress { IfOk result (λ n. 0 < length piece.now → 0 < n) }
-        ensures bytes { WriteAppends (Some self.old.bytes) (Some self.new.bytes) result piece.now }
-        ensures cause { HasCause self.old.faults self.new.faults result }
+        ensures write { IsWrite (Some self.old.bytes) (Some self.new.bytes) self.old.faults self.new.faults result piece.now }
         ensures count { IfOk result (λ n. n ≡ min (self.old.capacity - length self.old.bytes) (length piece.now)) }
         ensures full { OnErr result ((length self.old.bytes ≡ self.old.capacity) × (0 < length piece.now)) }
         ensures same_capacity { self.new.capacity ≡ self.old.capacity }

@@ -1,7 +1,5 @@
-ghost use Rattle.std.specs.Prelude.{ℕ, List, Option, IfOk, length, ◌<◌};
-ghost use Rattle.std.specs.Io.{WritesAtMost};
-ghost use Rattle.std.specs.Io.KnownBytes.{WriteAppends};
-ghost use Rattle.ports.specs.Causes.{HasCause};
+ghost use Rattle.std.specs.Prelude.{ℕ, List, Option};
+ghost use Rattle.ports.specs.Writes.{IsWrite};
 
 use crate::Failed;
 
@@ -16,8 +14,5 @@ pub trait Sink {
     ///
     /// `Failed` comes only where the count of faults rises or stands at its last value, and keeps what was taken.
     fn write(&mut self, piece: &[u8]) -> Result<usize, Failed>
-        ensures bound { WritesAtMost result piece.now }
-        ensures progress { IfOk result (λ n. 0 < length piece.now → 0 < n) }
-        ensures bytes { WriteAppends (taken self.old) (taken self.new) result piece.now }
-        ensures cause { HasCause (faults self.old) (faults self.new) result };
+        ensures { IsWrite (taken self.old) (taken self.new) (faults self.old) (faults self.new) result piece.now };
 }

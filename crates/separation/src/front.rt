@@ -15,7 +15,7 @@ use kohlberg::{Family, Level};
 use worth_core::Worth;
 
 /// The number of coalitions of the levels.
-fn count(levels: &[Level]) -> u64
+pub fn coalition_count(levels: &[Level]) -> u64
     requires few { length levels.now ≤ 14 }
     requires small { AllByRecursion (λ l. length l.coalitions ≤ 65536) levels.now }
     ensures value { result ≡ length (earlier_of 0 levels.now) }
@@ -88,7 +88,7 @@ impl Front<'_> {
         ensures value { result ≡ length (inner_columns self.now.family (W.game game.now) self.now.levels.now) }
         ensures small { result ≤ 2 ^ 32 }
     {
-        2 + 2 * count(self.levels) + 2 * u64::from(game.players())
+        2 + 2 * coalition_count(self.levels) + 2 * u64::from(game.players())
     }
 
     /// The column under a number in front of those of the coalitions.
@@ -99,7 +99,7 @@ impl Front<'_> {
         ensures { result ≡ column_at (inner_columns self.now.family (W.game game.now) self.now.levels.now) id }
     {
         let n = u64::from(game.players());
-        let settled = 2 + 2 * count(self.levels);
+        let settled = 2 + 2 * coalition_count(self.levels);
         if id < 2 {
             whole(game, id)
         } else if id < settled {

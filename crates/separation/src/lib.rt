@@ -18,6 +18,7 @@ mod sums;
 #[cfg(test)]
 mod tests;
 
+pub use front::coalition_count;
 pub use lazy::Lazy;
 pub use listed::Listed;
 pub use shares::shares_of;

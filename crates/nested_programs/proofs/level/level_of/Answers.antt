@@ -12,22 +12,22 @@ use Rattle.definitions.proofs.Casts.{cast_kept}
 pub overflow_mul-first : goal.overflow_mul-first
 overflow_mul-first c =
     let few = earlier_few 0 c.args.front.now c.requires.small in
-    omega (arith, few, c.count.ensures, c.requires.few, c.requires.levels)
+    omega (arith, few, c.coalition_count.ensures.value, c.requires.few, c.requires.levels)
 
 pub overflow_add-first : goal.overflow_add-first
 overflow_add-first c =
     let few = earlier_few 0 c.args.front.now c.requires.small in
-    omega (arith, few, c.count.ensures, c.requires.few, c.requires.levels)
+    omega (arith, few, c.coalition_count.ensures.value, c.requires.few, c.requires.levels)
 
 pub overflow_add-first-2 : goal.overflow_add-first-2
 overflow_add-first-2 c =
     let few = earlier_few 0 c.args.front.now c.requires.small in
-    omega (arith, few, c.count.ensures, c.requires.few, c.requires.levels, c.from.ensures)
+    omega (arith, few, c.coalition_count.ensures.value, c.requires.few, c.requires.levels, c.from.ensures)
 
 pub bound_numbers-requires-clause-small : goal.bound_numbers-requires-clause-small
 bound_numbers-requires-clause-small c =
     let few = earlier_few 0 c.args.front.now c.requires.small in
-    omega (arith, few, c.count.ensures, c.requires.few, c.requires.levels)
+    omega (arith, few, c.coalition_count.ensures.value, c.requires.few, c.requires.levels)
 
 same_ratio : (f : Fraction) (a a' b b' : ℤ) → a ≡ a' → b ≡ b' → IsRatio f a b → IsRatio f a' b'
 same_ratio f a a' b b' e h r = subst (λ (z : ℤ). IsRatio f z b') e (subst (λ (z : ℤ). IsRatio f a z) h r)
@@ -37,8 +37,8 @@ returns-clause-level c =
     let front = c.args.front.now in
     let ws = c.as_slice-weights.result.now in
     let same = c.as_slice-weights.ensures.value in
-    let first : 2 + 2 * c.count.result ≡ first_single front = ap (λ (k : ℕ). 2 + 2 * k) c.count.ensures in
-    let past : 2 + 2 * c.count.result + 2 * c.from.result ≡ first_single front + (c.args.n + c.args.n) = omega (arith, c.count.ensures, c.from.ensures) in
+    let first : 2 + 2 * c.coalition_count.result ≡ first_single front = ap (λ (k : ℕ). 2 + 2 * k) c.coalition_count.ensures.value in
+    let past : 2 + 2 * c.coalition_count.result + 2 * c.from.result ≡ first_single front + (c.args.n + c.args.n) = omega (arith, c.coalition_count.ensures.value, c.from.ensures) in
     let best = c.args.best.now.multipliers in
     let place = c.args.n + length front in
     let optimum = cast_kept w128 (get_or best.num.items place (pos 0)) (omega (arith, ints, best.num_small place)) in

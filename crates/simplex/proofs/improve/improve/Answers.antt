@@ -75,17 +75,11 @@ step g c =
 
 pub replace-requires-clause-can : goal.replace-requires-clause-can
 replace-requires-clause-can g c =
-    let w = c.loop-id.work in
-    let p = c.in-Some-least_ratio.p in
-    let s = step g (goal.at.replace-requires-clause-can g c).In-Some-least_ratio in
-    Steps.can (g.C.Columns.program c.entering.new.self) c.args.with_costs w.rows w.ids w.inverse w.tracked w.den w.costs c.weights_of-weights.result c.in-Some.id p s
+    Steps.can _ _ _ _ _ _ _ _ _ _ _ (step g (goal.at.replace-requires-clause-can g c).In-Some-least_ratio)
 
 pub replace-requires-clause-can_track : goal.replace-requires-clause-can_track
 replace-requires-clause-can_track g c =
-    let w = c.loop-id.work in
-    let p = c.in-Some-least_ratio.p in
-    let s = step g (goal.at.replace-requires-clause-can_track g c).In-Some-least_ratio in
-    Steps.can_track (g.C.Columns.program c.entering.new.self) c.args.with_costs w.rows w.ids w.inverse w.tracked w.den w.costs c.weights_of-weights.result c.in-Some.id p s
+    Steps.can_track _ _ _ _ _ _ _ _ _ _ _ (step g (goal.at.replace-requires-clause-can_track g c).In-Some-least_ratio)
 
 pub loop-id-smaller : goal.loop-id-smaller
 loop-id-smaller g c =

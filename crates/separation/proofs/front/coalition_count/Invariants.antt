@@ -1,6 +1,6 @@
 use Rattle.std.proofs.Common.{◌≡◌, ◌+◌, length, drop}
 use Rattle.separation.specs.Stage.{earlier_of}
-use Rattle.nested_programs.proofs.level.count.Given as goal
+use Rattle.separation.proofs.front.coalition_count.Given as goal
 
 abbrev pub invariant-loop-level : goal.invariant-loop-level
 invariant-loop-level l =

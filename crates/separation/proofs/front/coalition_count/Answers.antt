@@ -1,7 +1,7 @@
 use Rattle.std.proofs.Common.{◌≡◌, ◌<◌, length, get_or, ap, ◌∙◌, arith}
 use Rattle.definitions.specs.Certificates.{Level}
 use Rattle.separation.proofs.Counts.{counted, earlier_few}
-use Rattle.separation.proofs.front.count.Goals as goal
+use Rattle.separation.proofs.front.coalition_count.Goals as goal
 
 pub overflow_add-count : goal.overflow_add-count
 overflow_add-count c =
