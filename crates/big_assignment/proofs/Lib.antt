@@ -1,0 +1,17 @@
+pub mod Arrays
+pub mod Sums
+pub mod Pairs
+pub mod Searches
+pub mod Walks
+pub mod Leasts
+pub mod Evenness
+pub mod Supports
+pub mod Members
+pub mod Sides
+pub mod Laws
+pub mod Worths
+pub mod Cores
+pub mod Snocs
+pub mod Ends
+pub mod Solved
+pub mod Turns

@@ -1,0 +1,102 @@
+//! A market's solution: a best matching, and the two ends of the core.
+ghost use Rattle.std.specs.Prelude.{◌≡◌, ℕ, ◌+◌, ◌^◌, ◌<◌, ◌≤◌, length, slice_index, IfOk};
+ghost use Rattle.big_assignment.specs.Mates.{pairs_from, payoff};
+ghost use Rattle.assignment_games.specs.Assignments.{assignment_game};
+ghost use Rattle.definitions.specs.Sides.{IsBestFor, IsBuyer, IsSeller};
+ghost use Rattle.big_assignment.specs.Deals.{AreColumns};
+ghost use Rattle.big_assignment.specs.Solutions.{IsOptimalMatching, IsWhole, player_pairs};
+
+use crate::deal::Deal;
+use crate::least::cheapest;
+use crate::market_game::MarketGame;
+use crate::payoffs::payoff_of;
+use crate::turned::exchanged;
+use coalitions::Coalition;
+pub use fractions::OutOfMemory;
+use std::alloc::Global;
+use worth_core::{Shares, Worth};
+
+/// A best matching of a market with its value, and the core allocations that are best for all buyers and for all sellers.
+#[derive(Debug, Drop)]
+pub struct Solution {
+    /// Each matched buyer with its seller, as players from 0, the buyers ascending.
+    pub pairs: Vec<(u32, u32)>,
+    /// What the pairs are worth together: the worth of all players.
+    pub value: i64,
+    /// No core allocation gives a buyer more.
+    pub buyers_best: Shares,
+    /// No core allocation gives a seller more.
+    pub sellers_best: Shares,
+}
+
+/// Each row that has a column with the player of that column, ascending.
+fn pairs_of(
+    alloc: Global,
+    deal: &Deal,
+    rows: u32,
+    columns: u32,
+) -> Result<Vec<(u32, u32)>, OutOfMemory>
+    requires rows { rows ≤ 32 }
+    requires few { columns ≤ 32 }
+    requires columns { AreColumns deal.now rows }
+    ensures { IfOk result (λ pairs. pairs.items ≡ player_pairs rows (pairs_from (slice_index deal.now.columns) columns 0 rows)) }
+{
+    let mut pairs = Vec::new(alloc);
+    for i in 0..rows {
+        let column = deal.columns[i as usize] as u32;
+        if column < columns {
+            pairs.push((i, rows + column))?;
+        }
+    }
+    Ok(pairs)
+}
+
+/// What each player gets, as shares over 1.
+fn shares_of(
+    alloc: Global,
+    rows: u32,
+    players: u32,
+    gains: &[u64; 33],
+    prices: &[u64; 33],
+) -> Result<Shares, OutOfMemory>
+    requires rows { rows ≤ 32 }
+    requires some { 1 ≤ players }
+    requires players { players ≤ rows + 32 }
+    requires small { (k : ℕ) → k < players → payoff rows (slice_index gains.now) (slice_index prices.now) k ≤ 2 ^ 40 }
+    ensures { IfOk result (λ x. IsWhole players x 1 (payoff rows (slice_index gains.now) (slice_index prices.now))) }
+{
+    let mut num = Vec::new(alloc);
+    for k in 0..players {
+        num.push(i128::from(payoff_of(rows, gains, prices, k)))?;
+    }
+    Ok(Shares::new(num, 1).unwrap())
+}
+
+impl MarketGame {
+    /// A best matching, and the core allocations that are best for all buyers and for all sellers (Shapley and Shubik
+    /// 1971). Each of the two shows that the matching is best: it shares out its value, and no pair blocks it.
+    ///
+    /// Its one error is want of memory.
+    pub fn solve(&self, alloc: Global) -> Result<Solution, OutOfMemory>
+        ensures pairs { IfOk result (λ solution. IsOptimalMatching self.now solution.pairs.items solution.value) }
+        ensures buyers { IfOk result (λ solution. IsBestFor (assignment_game self.now) (IsBuyer (length self.now)) solution.buyers_best) }
+        ensures sellers { IfOk result (λ solution. IsBestFor (assignment_game self.now) (IsSeller (length self.now)) solution.sellers_best) }
+    {
+        let (rows, columns) = (self.buyers(), self.sellers());
+        let players = self.players();
+        let all = Coalition::all(players);
+        let deal = self.deal(all);
+        let low = cheapest(&deal, rows as usize);
+        let turned = exchanged(&deal, rows as usize, columns as usize);
+        let high = cheapest(&turned, columns as usize);
+        let pairs = pairs_of(alloc, &deal, rows, columns)?;
+        let buyers_best = shares_of(alloc, rows, players, &low.gains, &low.prices)?;
+        let sellers_best = shares_of(alloc, rows, players, &high.prices, &high.gains)?;
+        Ok(Solution {
+            pairs,
+            value: self.worth(all),
+            buyers_best,
+            sellers_best,
+        })
+    }
+}

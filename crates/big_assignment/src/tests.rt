@@ -1,0 +1,159 @@
+//! Markets that are refused and markets that are solved, with prices and worths worked by hand.
+ghost use Rattle.std.specs.Prelude.{◌+◌, ◌<◌, ◌≤◌, length};
+ghost use Rattle.assignment_games.specs.Assignments.{seller_count};
+
+use super::*;
+use coalitions::Coalition;
+use std::alloc::{AllocError, Global};
+use std::test::Fail;
+use worth_core::{Shares, Worth};
+
+/// A matrix of so many rows and columns, with the first number on the diagonal and the second elsewhere.
+fn diagonal(
+    alloc: Global,
+    rows: usize,
+    columns: usize,
+    on: i64,
+    off: i64,
+) -> Result<Vec<Vec<i64>>, AllocError>
+    requires rows { rows < 100 }
+    requires columns { columns < 100 }
+{
+    let mut matrix = Vec::new(alloc);
+    for i in 0..rows {
+        let mut row = Vec::new(alloc);
+        for j in 0..columns {
+            row.push(if i == j { on } else { off })?;
+        }
+        matrix.push(row)?;
+    }
+    Ok(matrix)
+}
+
+/// The share of each player, over 1.
+fn numbers(alloc: Global, x: &Shares) -> Result<Vec<i128>, AllocError> {
+    let mut found = Vec::new(alloc);
+    for i in 0..x.players() {
+        found.push(x.num(i))?;
+    }
+    Ok(found)
+}
+
+#[test]
+fn rows_are_refused_by_the_first_cause(rt: HostRuntime) -> Result<(), Fail> {
+    let limit: i64 = 1 << 40;
+    for (rows, columns, entry, fault) in [
+        (0, 1, 0, Some(MarketFault::Players)),
+        (1, 0, 0, Some(MarketFault::Players)),
+        (33, 1, 0, Some(MarketFault::Players)),
+        (1, 33, -1, Some(MarketFault::Players)),
+        (32, 32, 0, None),
+        (1, 1, limit - 1, None),
+        (1, 1, limit, Some(MarketFault::Number)),
+        (2, 2, -1, Some(MarketFault::Number)),
+    ] {
+        let matrix = diagonal(rt.alloc(), rows, columns, entry, entry)?;
+        let made = MarketGame::new(rt.alloc(), matrix).err();
+        assert_eq!(rt; made, fault, "{rows} rows of {columns} times {entry}");
+    }
+    Ok(())
+}
+
+#[test]
+fn rows_of_different_lengths_are_refused_last(rt: HostRuntime) -> Result<(), Fail> {
+    for (entry, fault) in [(0, MarketFault::Matrix), (-1, MarketFault::Number)] {
+        let mut matrix = diagonal(rt.alloc(), 1, 2, 0, 0)?;
+        matrix.push([entry].to_vec(rt.alloc())?)?;
+        assert_eq!(rt; MarketGame::new(rt.alloc(), matrix).err(), Some(fault));
+    }
+    Ok(())
+}
+
+#[test]
+fn two_buyers_of_one_good_leave_the_lesser_with_nothing(rt: HostRuntime) -> Result<(), Fail> {
+    let mut matrix = Vec::new(rt.alloc());
+    matrix.push([5].to_vec(rt.alloc())?)?;
+    matrix.push([3].to_vec(rt.alloc())?)?;
+    let game = MarketGame::new(rt.alloc(), matrix).map_err(|_| "no market")?;
+    let solution = game.solve(rt.alloc())?;
+    assert_eq!(rt; solution.pairs.as_slice(), [(0, 2)].as_slice());
+    assert_eq!(rt; solution.value, 5);
+    let buyers = numbers(rt.alloc(), &solution.buyers_best)?;
+    let sellers = numbers(rt.alloc(), &solution.sellers_best)?;
+    assert_eq!(rt; buyers.as_slice(), [2, 0, 3].as_slice());
+    assert_eq!(rt; sellers.as_slice(), [0, 0, 5].as_slice());
+    Ok(())
+}
+
+// The greatest entry, 8, stands in the one best matching beside 7, and not beside 6.
+#[test]
+fn two_buyers_of_two_goods(rt: HostRuntime) -> Result<(), Fail> {
+    let mut matrix = Vec::new(rt.alloc());
+    matrix.push([5, 8].to_vec(rt.alloc())?)?;
+    matrix.push([7, 6].to_vec(rt.alloc())?)?;
+    let game = MarketGame::new(rt.alloc(), matrix).map_err(|_| "no market")?;
+    let solution = game.solve(rt.alloc())?;
+    assert_eq!(rt; solution.pairs.as_slice(), [(0, 3), (1, 2)].as_slice());
+    assert_eq!(rt; solution.value, 15);
+    let buyers = numbers(rt.alloc(), &solution.buyers_best)?;
+    let sellers = numbers(rt.alloc(), &solution.sellers_best)?;
+    assert_eq!(rt; buyers.as_slice(), [8, 7, 0, 0].as_slice());
+    assert_eq!(rt; sellers.as_slice(), [0, 0, 7, 8].as_slice());
+    Ok(())
+}
+
+#[test]
+fn the_greatest_market_is_solved(rt: HostRuntime) -> Result<(), Fail> {
+    let matrix = diagonal(rt.alloc(), 32, 32, 1, 0)?;
+    let game = MarketGame::new(rt.alloc(), matrix).map_err(|_| "no market")?;
+    let solution = game.solve(rt.alloc())?;
+    assert_eq!(rt; solution.value, 32);
+    for k in 0..64 {
+        assert!(rt; k < solution.buyers_best.players());
+        assert_eq!(rt; solution.buyers_best.num(k), if k < 32 { 1 } else { 0 });
+    }
+    Ok(())
+}
+
+// 32 buyers who all want each of 31 goods bid the whole of it.
+#[test]
+fn too_many_buyers_pay_all(rt: HostRuntime) -> Result<(), Fail> {
+    let all: i64 = (1 << 40) - 1;
+    let matrix = diagonal(rt.alloc(), 32, 31, all, all)?;
+    let game = MarketGame::new(rt.alloc(), matrix).map_err(|_| "no market")?;
+    let solution = game.solve(rt.alloc())?;
+    assert_eq!(rt; solution.value, 31 * all);
+    for k in 0..63 {
+        assert!(rt; k < solution.buyers_best.players());
+        assert_eq!(rt;
+            solution.buyers_best.num(k),
+            if k < 32 { 0 } else { i128::from(all) }
+        );
+    }
+    Ok(())
+}
+
+/// The worth of each coalition, in mask order.
+fn worths(alloc: Global, game: &MarketGame) -> Result<Vec<i64>, AllocError>
+    requires { length game.now + seller_count game.now ≤ 5 }
+{
+    let n = game.players();
+    let mut found = Vec::new(alloc);
+    for mask in 0..1u64 << n {
+        found.push(game.worth(Coalition(mask)))?;
+    }
+    Ok(found)
+}
+
+#[test]
+fn worths_are_the_greatest_values(rt: HostRuntime) -> Result<(), Fail> {
+    let mut matrix = Vec::new(rt.alloc());
+    matrix.push([5, 8].to_vec(rt.alloc())?)?;
+    matrix.push([7, 6].to_vec(rt.alloc())?)?;
+    let game = MarketGame::new(rt.alloc(), matrix).map_err(|_| "no market")?;
+    assert!(rt; game.players() <= 5);
+    let worths = worths(rt.alloc(), &game)?;
+    let wanted = [0, 0, 0, 0, 0, 5, 7, 7, 0, 8, 6, 8, 0, 8, 7, 15];
+    assert_eq!(rt; worths.as_slice(), wanted.as_slice());
+    Ok(())
+}
