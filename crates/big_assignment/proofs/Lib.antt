@@ -1,5 +1,6 @@
 pub mod Arrays
 pub mod Sums
+pub mod Paid
 pub mod Pairs
 pub mod Searches
 pub mod Walks
@@ -8,10 +9,12 @@ pub mod Evenness
 pub mod Supports
 pub mod Members
 pub mod Sides
-pub mod Laws
+pub mod Games
 pub mod Worths
 pub mod Cores
 pub mod Snocs
 pub mod Ends
+pub mod Opposed
+pub mod ShapleyShubik
 pub mod Solved
 pub mod Turns

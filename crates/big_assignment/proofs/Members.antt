@@ -3,11 +3,12 @@ use Rattle.std.proofs.Common.{◌≡◌, ◌⊎◌, ℕ, ◌+◌, ◌^◌, ◌<�
 use Rattle.std.proofs.lemmas.Bool.{false≢true}
 use Rattle.definitions.specs.Classes.{Matrix, removed, IsMatching, matching_value}
 use Rattle.definitions.specs.Coalitions.{has_player}
+use Rattle.definitions.proofs.Members.{has_player-grand_coalition}
 use Rattle.assignment_games.specs.Values.{IsOptimalAmong}
 use Rattle.assignment_games.proofs.Table.{member_below}
 use Rattle.big_assignment.specs.Markets.{offered}
 use Rattle.big_assignment.specs.Mates.{pairs_from}
-use Rattle.definitions.proofs.Cases.{below_or_above, nat_lt-less}
+use Rattle.definitions.proofs.Cases.{below_or_above}
 use Rattle.assignment_games.proofs.Matchings.{removed-out, Within, matching-more}
 use Rattle.big_assignment.proofs.Sums.{sum_where}
 use Rattle.big_assignment.proofs.Pairs.{Paired, pairs_match}
@@ -93,16 +94,17 @@ members_paired matrix rows columns s x mate h = record {
   apart = (members_support matrix rows columns s x mate h).apart;
 }
 
--- the greatest value of a matching of the members
+-- an optimal matching of the members has that value
 pub members_optimal : (matrix : Matrix) (rows columns s : ℕ) (x mate : ℕ → ℕ) → s < 2 ^ (rows + columns) → IsSupport (offered matrix rows s) rows columns x mate → IsOptimalAmong matrix rows (has_player s) (sum_where (rows + columns) (all_of (rows + columns)) x)
 members_optimal matrix rows columns s x mate small h =
     let n = rows + columns in
     let mates = members_mate rows columns s mate in
     let pairs = support_pairs (offered matrix rows s) rows columns x mates (members_support matrix rows columns s x mate h) in
+    let own = support_pairs (offered matrix rows s) rows columns x mate h in
     let matches = pairs_match rows columns mates (has_player s) 0 rows (members_paired matrix rows columns s x mate h) in
     let most = support_optimal (offered matrix rows s) rows columns x mate h in
-    let within : Within (has_player s) (all_of n) = λ k e. nat_lt-less k n (member_below n s k small e) in
+    let within : Within (has_player s) (all_of n) = λ k e. has_player-grand_coalition n k (member_below n s k small e) in
     record {
       reached = (pairs_from mates columns 0 rows, matches, sym pairs.1 ∙ same_value matrix rows s (has_player s) (pairs_from mates columns 0 rows) (λ j e. e) matches);
-      greatest = λ ps m. (let a = most.greatest ps (matching-more rows (has_player s) (all_of n) ps within m) in let e = same_value matrix rows s (has_player s) ps (λ j e. e) m in omega (arith, a, e));
+      greatest = λ ps m. (let a = most.greatest ps (matching-more rows (has_player s) (all_of n) ps within m) in let e = same_value matrix rows s (has_player s) ps (λ j e. e) m in let b = own.1 in omega (arith, a, e, b));
     }

@@ -1,6 +1,6 @@
 -- The search keeps fair prices: the reached rows give up the least slack, and a column is reached.
 use Rattle.std.proofs.Common.{◌≡◌, ◌≢◌, ◌⊎◌, ℕ, ◌+◌, ◌^◌, ◌<◌, ◌≤◌, refl, sym, ap, subst, ◌∙◌, inl, inr, arith}
-use Rattle.big_assignment.specs.Prices.{Offers, IsFair, IsReached, IsJoined, IsSearch, IsShifted, IsPut, IsCovered, AreOffers, IsNearest}
+use Rattle.big_assignment.specs.Prices.{Offers, IsFair, IsReached, IsJoined, IsSearch, IsShifted, IsPut, AreOffers, IsNearest}
 use Rattle.definitions.proofs.Cases.{same_or_other, below_or_above}
 
 none_or_some : (x : ℕ) → (x ≡ 0) ⊎ (1 ≤ x)
@@ -157,16 +157,6 @@ fair_price m n u p mate o few f k kl = elim (below_or_above k 32) [
         let c = ap p e in
         omega (arith, a, b, c)
 
-pub search_covered : (m : Offers) (n : ℕ) (u p mate ranks parents : ℕ → ℕ) (count : ℕ) → AreOffers m → n < 32 → IsSearch m n u p mate ranks parents count → IsCovered m n u p
-search_covered m n u p mate ranks parents count o few h = record {
-  covers = search_covers m n u p mate ranks parents count h;
-  gains = λ i il. elim (same_or_other i n) [
-    | inl same ↦ (let a = ap u same in let b = h.gain in omega (arith, a, b))
-    | inr other ↦ fair_gain m n u p mate o (omega arith) h.fair i (omega arith)
-  ];
-  prices = fair_price m n u p mate o (omega arith) h.fair;
-}
-
 -- ---- the least slack
 
 -- a reached row gains at least the least slack
@@ -176,10 +166,3 @@ slack_enough m n by r c u p mate ranks parents count o few h near e i il reached
     let b = h.fair.free in
     let d = o.nothing i (omega arith) in
     omega (arith, a, b, d, e)
-
--- prices that rise by the least slack
-pub approach_keeps : (m : Offers) (n by r c : ℕ) (u p mate ranks parents v q : ℕ → ℕ) (count : ℕ) → IsSearch m n u p mate ranks parents count → IsNearest m n u p mate ranks r c → by + m r c ≡ u r + p c → IsShifted n by u p mate ranks v q → IsSearch m n v q mate ranks parents count × (m r c ≡ v r + q c)
-approach_keeps m n by r c u p mate ranks parents v q count h near e s = (
-  shift_keeps m n by u p mate ranks parents v q count h (λ i k il reached kl none. (let a = near.least i k il reached kl none in omega (arith, a, e))) s,
-  (let a = s.in_row r near.row near.reached in let b = s.out_column c near.column near.unreached in omega (arith, a, b, e)),
-)

@@ -2,6 +2,7 @@
 use Rattle.std.proofs.Common.{◌≡◌, ℕ, ◌+◌, ◌-◌, ◌*◌, ◌^◌, ◌<◌, ◌≤◌, ◌&&◌, List, length, ℤ, pos, unsigned_abs, to_z, of_z, to_z-of_z, w64, sym, ap, subst, ◌∙◌, inl, inr, arith}
 use Rattle.std.proofs.lemmas.Int.{fits_signed_from_abs}
 use Rattle.definitions.specs.Coalitions.{has_player, grand_coalition}
+use Rattle.definitions.specs.Classes.{matching_value}
 use Rattle.definitions.specs.Games.{Allocation}
 use Rattle.definitions.proofs.Members.{has_player-grand_coalition}
 use Rattle.big_assignment.specs.Mates.{pairs_from, payoff}
@@ -14,13 +15,11 @@ use Rattle.big_assignment.specs.Prices.{Offers, IsFair, IsBelow, IsTurned, IsOut
 use Rattle.definitions.proofs.Cases.{below_or_above, nat_lt-past}
 use Rattle.big_assignment.proofs.Members.{cond_zero, offered-members}
 use Rattle.matrices.proofs.Rows.{entries-outside}
-use Rattle.big_assignment.proofs.Sums.{sum_where}
 use Rattle.big_assignment.proofs.Pairs.{pairs_ascend}
-use Rattle.assignment_games.proofs.Matchings.{matching-more}
 use Rattle.big_assignment.proofs.Searches.{fair_price, fair_gain}
 use Rattle.big_assignment.proofs.Turns.{turned_fair}
-use Rattle.big_assignment.proofs.Supports.{IsTableOf, all_of, all_among, payoff-row, payoff-column, fair_supports, turned_supports, support_pairs, support_optimal}
-use Rattle.big_assignment.proofs.Laws.{market_laws, table_of_members}
+use Rattle.big_assignment.proofs.Supports.{IsTableOf, payoff-row, payoff-column, fair_supports, turned_supports, support_pairs, support_optimal}
+use Rattle.big_assignment.proofs.Games.{market_laws, table_of_members}
 use Rattle.big_assignment.proofs.Sides.{buyers_best, sellers_best}
 use Rattle.definitions.proofs.Masks.{grand_coalition-within}
 use Rattle.big_assignment.proofs.Cores.{grand_optimal}
@@ -99,13 +98,13 @@ pairs_end m rows r c u p mate pairs value k h f er ec e worth =
     let n = b + s in
     let sup = fair_supports m (entries_of rows) b s u p mate (table_of_all m rows k h) f in
     let both = support_pairs (entries_of rows) b s (payoff b u p) mate sup in
-    let best = grand_optimal (entries_of rows) b s (sum_where n (all_of n) (payoff b u p)) (support_optimal (entries_of rows) b s (payoff b u p) mate sup) in
+    let best = grand_optimal rows (matching_value (entries_of rows) (pairs_from mate s 0 b)) (support_optimal (entries_of rows) b s (payoff b u p) mate sup) in
     record {
       matched = pairs_from mate s 0 b;
       same = subst (λ (z : ℕ). pairs ≡ player_pairs b (pairs_from mate z 0 b)) ec (subst (λ (z : ℕ). pairs ≡ player_pairs z (pairs_from mate c 0 z)) er e);
-      matching = matching-more b (all_of n) (has_player (grand_coalition n)) (pairs_from mate s 0 b) (λ j q. has_player-grand_coalition n j (all_among n j q)) both.0;
+      matching = both.0;
       ascending = pairs_ascend mate s 0 b 0 (omega arith);
-      worth = worth ∙ ap pos (best ∙ sym both.1);
+      worth = worth ∙ ap pos best;
       best = worth;
     }
 

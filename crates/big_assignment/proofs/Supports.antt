@@ -1,13 +1,18 @@
 -- What a pair of sides gets: fair prices support a matching, and so they bound every other, and are in the core.
-use Rattle.std.proofs.Common.{◌≡◌, ◌≢◌, ◌⊎◌, ℕ, ◌+◌, ◌-◌, ◌<◌, ◌≤◌, Bool, nat_lt, refl, sym, ap, subst, ◌∙◌, inl, inr, arith}
-use Rattle.std.proofs.lemmas.Bool.Decides.{nat_tests}
-use Rattle.definitions.specs.Classes.{Matrix, IsMatching, matching_value}
+use Rattle.std.proofs.Common.{◌≡◌, ◌≢◌, ◌⊎◌, ℕ, ◌+◌, ◌*◌, ◌-◌, ◌<◌, ◌≤◌, Bool, refl, sym, ap, subst, ◌∙◌, inl, inr, arith}
+use Rattle.definitions.specs.Coalitions.{has_player, grand_coalition}
+use Rattle.definitions.specs.Classes.{Matrix, IsMatching, matching_value, entry}
+use Rattle.definitions.proofs.Masks.{grand_coalition-within}
+use Rattle.definitions.proofs.Members.{has_player-grand_coalition}
+use Rattle.assignment_games.proofs.Table.{member_below}
+use Rattle.big_assignment.specs.Supports.{IsSingle}
 use Rattle.assignment_games.specs.Values.{IsOptimalAmong}
 use Rattle.big_assignment.specs.Mates.{pairs_from, payoff}
 use Rattle.big_assignment.specs.Prices.{Offers, IsFair, IsTurned}
 use Rattle.definitions.proofs.Cases.{below_or_above, nat_lt-less, nat_lt-past}
-use Rattle.big_assignment.proofs.Sums.{sum_where, PairsGet, AmongAll, prices_bound}
-use Rattle.big_assignment.proofs.Pairs.{Paired, Exact, IsApart, pairs_match, pairs_value}
+use Rattle.big_assignment.proofs.Sums.{sum_where, PairsGet, AmongAll}
+use Rattle.big_assignment.proofs.Pairs.{Paired, pairs_match, pairs_from-all, pairs_from-each}
+use Rattle.big_assignment.proofs.Paid.{IsPaid, paid_value, paid_optimal}
 use Rattle.big_assignment.proofs.Turns.{hold_back}
 
 pub payoff-row : (rows : ℕ) (u p : ℕ → ℕ) (i : ℕ) → i < rows → payoff rows u p i ≡ u i
@@ -79,52 +84,47 @@ turned_supports m matrix rows columns u p mate t v q hold v' q' b f h g = record
 
 -- everybody
 abbrev pub all_of : ℕ → ℕ → Bool
-all_of n k = nat_lt k n
+all_of n = has_player (grand_coalition n)
 
 pub all_among : (n : ℕ) → AmongAll n (all_of n)
-all_among n k e = grind (arith, nat_tests)
+all_among n k e = member_below n (grand_coalition n) k (grand_coalition-within n) e
 
 pub support_paired : (matrix : Matrix) (rows columns : ℕ) (x mate : ℕ → ℕ) → IsSupport matrix rows columns x mate → Paired rows columns mate (all_of (rows + columns)) 0 rows
 support_paired matrix rows columns x mate s = record {
   ends = omega arith;
-  row = λ l a b c. nat_lt-less l (rows + columns) (omega arith);
-  column = λ l a b c. nat_lt-less (rows + mate l) (rows + columns) (omega arith);
+  row = λ l a b c. has_player-grand_coalition (rows + columns) l (omega arith);
+  column = λ l a b c. has_player-grand_coalition (rows + columns) (rows + mate l) (omega arith);
   apart = s.apart;
 }
 
-support_exact : (matrix : Matrix) (rows columns : ℕ) (x mate : ℕ → ℕ) → IsSupport matrix rows columns x mate → Exact matrix rows columns mate x (all_of (rows + columns)) 0 rows
-support_exact matrix rows columns x mate s = record {
-  tight = λ l a b c. s.tight l (omega arith) c;
-  rest = λ p e apart. (let lt = all_among (rows + columns) p e in elim (below_or_above p rows) [
+pub support_paid : (matrix : Matrix) (rows columns : ℕ) (x mate : ℕ → ℕ) → IsSupport matrix rows columns x mate → IsPaid matrix rows 1 x (all_of (rows + columns)) (pairs_from mate columns 0 rows)
+support_paid matrix rows columns x mate s = record {
+  tight = pairs_from-all (λ p. 1 * entry matrix p.0 p.1 ≡ x p.0 + x (rows + p.1)) mate columns 0 rows (λ l a b c. (let t = s.tight l (omega arith) c in omega (arith, t)));
+  rest = λ p e single. (let lt = all_among (rows + columns) p e in elim (below_or_above p rows) [
     | inl row ↦ elim (below_or_above (mate p) columns) [
-      | inl mated ↦ absurd ((apart p (omega arith) (omega arith) mated).0 refl)
+      | inl mated ↦ absurd ((pairs_from-each (λ q. (p ≢ q.0) × (p ≢ rows + q.1)) mate columns 0 rows single p (omega arith) (omega arith) mated).0 refl)
       | inr alone ↦ s.alone p row alone
     ]
-    | inr ge ↦ column p lt ge apart
+    | inr ge ↦ column p lt ge single
   ]);
 }
   where
-    column : (p : ℕ) → p < rows + columns → rows ≤ p → IsApart rows columns mate 0 rows p → x p ≡ 0
-    column p lt ge apart =
+    column : (p : ℕ) → p < rows + columns → rows ≤ p → IsSingle rows (pairs_from mate columns 0 rows) p → x p ≡ 0
+    column p lt ge single =
         let e : p ≡ rows + (p - rows) = omega arith in
         elim (s.sold (p - rows) (omega arith)) [
           | inl none ↦ ap x e ∙ none
-          | inr held ↦ absurd ((apart held.0 (omega arith) (let a = held.1 in omega (arith, a)) (let a = held.2 in omega (arith, a, lt, ge))).1 (e ∙ ap (λ (j : ℕ). rows + j) (sym held.2)))
+          | inr held ↦ absurd ((pairs_from-each (λ q. (p ≢ q.0) × (p ≢ rows + q.1)) mate columns 0 rows single held.0 (omega arith) (let a = held.1 in omega (arith, a)) (let a = held.2 in omega (arith, a, lt, ge))).1 (e ∙ ap (λ (j : ℕ). rows + j) (sym held.2)))
         ]
 
 -- the mates' pairs are a matching, whose value is what all get
 pub support_pairs : (matrix : Matrix) (rows columns : ℕ) (x mate : ℕ → ℕ) → IsSupport matrix rows columns x mate → IsMatching rows (all_of (rows + columns)) (pairs_from mate columns 0 rows) × (matching_value matrix (pairs_from mate columns 0 rows) ≡ sum_where (rows + columns) (all_of (rows + columns)) x)
 support_pairs matrix rows columns x mate s =
-    let h = support_paired matrix rows columns x mate s in (
-      pairs_match rows columns mate (all_of (rows + columns)) 0 rows h,
-      pairs_value matrix rows columns mate x (all_of (rows + columns)) 0 rows (all_among (rows + columns)) h (support_exact matrix rows columns x mate s),
-    )
+    let m = pairs_match rows columns mate (all_of (rows + columns)) 0 rows (support_paired matrix rows columns x mate s) in
+    let e = paid_value matrix rows columns 1 x (all_of (rows + columns)) (pairs_from mate columns 0 rows) (all_among (rows + columns)) m (support_paid matrix rows columns x mate s) in
+    (m, omega (arith, e))
 
--- so it is the greatest
-pub support_optimal : (matrix : Matrix) (rows columns : ℕ) (x mate : ℕ → ℕ) → IsSupport matrix rows columns x mate → IsOptimalAmong matrix rows (all_of (rows + columns)) (sum_where (rows + columns) (all_of (rows + columns)) x)
+-- so it is optimal
+pub support_optimal : (matrix : Matrix) (rows columns : ℕ) (x mate : ℕ → ℕ) → IsSupport matrix rows columns x mate → IsOptimalAmong matrix rows (all_of (rows + columns)) (matching_value matrix (pairs_from mate columns 0 rows))
 support_optimal matrix rows columns x mate s =
-    let p = support_pairs matrix rows columns x mate s in
-    record {
-      reached = (pairs_from mate columns 0 rows, p.0, sym p.1);
-      greatest = λ ps m. (let a = prices_bound matrix rows columns 1 x (all_of (rows + columns)) ps s.covers (all_among (rows + columns)) m in omega (arith, a));
-    }
+    paid_optimal matrix rows columns 1 x (all_of (rows + columns)) (pairs_from mate columns 0 rows) (omega arith) s.covers (all_among (rows + columns)) (support_pairs matrix rows columns x mate s).0 (support_paid matrix rows columns x mate s)

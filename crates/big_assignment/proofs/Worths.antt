@@ -7,21 +7,22 @@ use Rattle.big_assignment.specs.Markets.{IsMarket, offered}
 use Rattle.assignment_games.specs.Assignments.{seller_count}
 use Rattle.matrices.specs.Rows.{entries_of}
 use Rattle.big_assignment.specs.Prices.{Offers, IsFair, AreOffers}
-use Rattle.definitions.proofs.Cases.{below_or_above, nat_lt-less, nat_lt-past}
+use Rattle.definitions.proofs.Members.{has_player-grand_coalition}
+use Rattle.definitions.proofs.Cases.{below_or_above, nat_lt-past}
 use Rattle.big_assignment.proofs.Sums.{sum_where}
 use Rattle.big_assignment.proofs.Searches.{fair_price}
 use Rattle.big_assignment.proofs.Supports.{all_of, fair_supports, payoff-row}
 use Rattle.assignment_games.proofs.Optimal.{same_optimal}
 use Rattle.big_assignment.proofs.Members.{members_optimal}
 use Rattle.assignment_games.proofs.Games.{worth_optimal}
-use Rattle.big_assignment.proofs.Laws.{table_of_members}
+use Rattle.big_assignment.proofs.Games.{table_of_members}
 
 pub sum_where-total : (n : ℕ) (w : ℕ → Bool) (x : ℕ → ℕ) → ((k : ℕ) → k < n → w k ≡ true) → sum_where n w x ≡ total_below n x
 sum_where-total zero w x h = refl
 sum_where-total (suc n) w x h = rw (h n (omega arith)) (let ih = sum_where-total n w x (λ k lt. h k (omega arith)) in omega (arith, ih))
 
 pub sum_all : (n : ℕ) (x : ℕ → ℕ) → sum_where n (all_of n) x ≡ total_below n x
-sum_all n x = sum_where-total n (all_of n) x (λ k lt. nat_lt-less k n lt)
+sum_all n x = sum_where-total n (all_of n) x (has_player-grand_coalition n)
 
 pub worth_total : (m : Offers) (rows : List (List ℤ)) (s : ℕ) (u p mate : ℕ → ℕ) → IsMarket rows → s < 2 ^ (length rows + seller_count rows) → ((i j : ℕ) → i < 32 → j ≤ 32 → m i j ≡ offered (entries_of rows) (length rows) s i j) → IsFair m (length rows) u p mate → total_below (length rows + seller_count rows) (payoff (length rows) u p) ≡ optimal_value (entries_of rows) (length rows) (seller_count rows) (length rows) (has_player s)
 worth_total m rows s u p mate k small h f =

@@ -28,7 +28,8 @@ pub enum MarketFault {
     Memory,
 }
 
-/// A market: what each buyer and each seller are worth together.
+/// What each buyer and each seller are worth together. A coalition is worth what its members make in an optimal matching.
+/// Row `i` is buyer `i`, which is player `i`; the sellers are the players behind the buyers.
 #[derive(Debug, Drop)]
 pub struct MarketGame {
     matrix: Vec<Vec<i64>>,
@@ -46,7 +47,8 @@ impl Model for MarketGame {
 }
 
 impl MarketGame {
-    /// The market of these rows, one for each buyer, with an entry for each seller.
+    /// The market of these rows, one for each buyer, with an entry for each seller, from 0 to below 2^40 as worth, and of at
+    /// most 32 buyers and 32 sellers; else the first cause in the order of `MarketFault`. No memory is taken.
     pub fn new(_alloc: Global, matrix: Vec<Vec<i64>>) -> Result<MarketGame, MarketFault>
         ensures { let rows = map (λ row. row.items) matrix.items in MatchResult result (λ game. (game ≡ rows) × IsMarket rows × IsAssignmentGame (entries_of rows) (length rows) (assignment_game rows)) (IsRefused rows) }
     {
@@ -70,14 +72,17 @@ impl MarketGame {
     /// The number of buyers.
     pub fn buyers(&self) -> u32
         ensures count { result ≡ length self.now }
+        ensures few { result ≤ 32 }
         ensures laws { IsMarket self.now }
+        ensures optimal { IsAssignmentGame (entries_of self.now) (length self.now) (assignment_game self.now) }
     {
         self.matrix.len() as u32
     }
 
     /// The number of sellers.
     pub fn sellers(&self) -> u32
-        ensures { result ≡ seller_count self.now }
+        ensures count { result ≡ seller_count self.now }
+        ensures few { result ≤ 32 }
     {
         self.matrix[0].len() as u32
     }
@@ -114,7 +119,7 @@ impl MarketGame {
         table
     }
 
-    /// A best matching of the members, with prices.
+    /// An optimal matching of the members, with prices.
     pub(crate) fn deal(&self, s: Coalition) -> Deal
         ensures table { (i j : ℕ) → i < 32 → j ≤ 32 → offers result.table i j ≡ offered (entries_of self.now) (length self.now) s i j }
         ensures offers { AreDealOffers result }
@@ -137,7 +142,7 @@ impl Worth for MarketGame {
         self.buyers() + self.sellers()
     }
 
-    /// Found by a best matching of the members with prices, over fixed arrays: the value is what all gain and cost.
+    /// Found by an optimal matching of the members with prices, over fixed arrays: the value is what all gain and cost.
     fn worth(&self, s: Coalition) -> i64 {
         let deal = self.deal(s);
         total(self.buyers(), self.players(), &deal.gains, &deal.prices) as i64

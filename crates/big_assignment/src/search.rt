@@ -90,7 +90,7 @@ fn raised(deal: &Deal, search: &Search, by: u64) -> [u64; 33]
     prices
 }
 
-/// Whether one of the rows below `n` has column `k`; no_rows has column 32.
+/// Whether one of the rows below `n` has column `k`; nobody has column 32.
 fn is_held(deal: &Deal, n: usize, k: usize) -> bool
     requires rows { n < 32 }
     requires column { k ≤ 32 }

@@ -1,4 +1,4 @@
-//! A market's solution: a best matching, and the two ends of the core.
+//! A market's solution: an optimal matching, and the two ends of the core.
 ghost use Rattle.std.specs.Prelude.{◌≡◌, ℕ, ◌+◌, ◌^◌, ◌<◌, ◌≤◌, length, slice_index, IfOk};
 ghost use Rattle.big_assignment.specs.Mates.{pairs_from, payoff};
 ghost use Rattle.assignment_games.specs.Assignments.{assignment_game};
@@ -12,24 +12,26 @@ use crate::market_game::MarketGame;
 use crate::payoffs::payoff_of;
 use crate::turned::exchanged;
 use coalitions::Coalition;
-pub use fractions::OutOfMemory;
+use fractions::OutOfMemory;
 use std::alloc::Global;
 use worth_core::{Shares, Worth};
 
-/// A best matching of a market with its value, and the core allocations that are best for all buyers and for all sellers.
+/// An optimal matching of a market with its value, and the core points that are best for every buyer and for every seller.
 #[derive(Debug, Drop)]
 pub struct Solution {
-    /// Each matched buyer with its seller, as players from 0, the buyers ascending.
+    /// Each matched buyer with its seller, as players counted from 0, the buyers ascending. Seller `j` of `n` buyers is
+    /// player `n + j`.
     pub pairs: Vec<(u32, u32)>,
     /// What the pairs are worth together: the worth of all players.
     pub value: i64,
-    /// No core allocation gives a buyer more.
+    /// The core point of the least prices, over the denominator 1: none gives any buyer more, or any seller less.
     pub buyers_best: Shares,
-    /// No core allocation gives a seller more.
+    /// The core point of the greatest prices, over the denominator 1: none gives any seller more, or any buyer less.
     pub sellers_best: Shares,
 }
 
 /// Each row that has a column with the player of that column, ascending.
+#[tactic(auto, using(crate::proofs::Snocs::player_pairs_more, crate::proofs::Snocs::player_pairs_same))]
 fn pairs_of(
     alloc: Global,
     deal: &Deal,
@@ -73,8 +75,8 @@ fn shares_of(
 }
 
 impl MarketGame {
-    /// A best matching, and the core allocations that are best for all buyers and for all sellers (Shapley and Shubik
-    /// 1971). Each of the two shows that the matching is best: it shares out its value, and no pair blocks it.
+    /// An optimal matching, and the core points that are best for every buyer and for every seller (Shapley and Shubik
+    /// 1971). Each of the two shows that the matching is optimal: it shares out its value, and no pair blocks it.
     ///
     /// Its one error is want of memory.
     pub fn solve(&self, alloc: Global) -> Result<Solution, OutOfMemory>

@@ -16,7 +16,7 @@ cheapest-high-requires-clause-fair c =
     let rows = c.args.self.now in
     let all : c.all-all.result ≡ grand_coalition (length rows + seller_count rows) = c.all-all.ensures ∙ ap grand_coalition c.players-players.ensures.count in
     let table : IsTableOfAll (offers d.table) rows = λ i j il jl. c.deal-deal.ensures.table i j il jl ∙ ap (λ (s : ℕ). offered (entries_of rows) (length rows) s i j) all in
-    turned_deal (offers d.table) rows c.buyers-rows.result c.sellers-columns.result (slice_index d.gains) (slice_index d.prices) (slice_index d.columns) (offers t.table) (slice_index t.gains) (slice_index t.prices) (slice_index t.columns) c.buyers-rows.ensures.laws table c.deal-deal.ensures.fair c.buyers-rows.ensures.count c.sellers-columns.ensures c.exchanged-turned.ensures
+    turned_deal (offers d.table) rows c.buyers-rows.result c.sellers-columns.result (slice_index d.gains) (slice_index d.prices) (slice_index d.columns) (offers t.table) (slice_index t.gains) (slice_index t.prices) (slice_index t.columns) c.buyers-rows.ensures.laws table c.deal-deal.ensures.fair c.buyers-rows.ensures.count c.sellers-columns.ensures.count c.exchanged-turned.ensures
 
 pub shares_of-requires-clause-small : goal.shares_of-requires-clause-small
 shares_of-requires-clause-small c =
@@ -34,7 +34,7 @@ shares_of-requires-2-clause-small c =
     let h = c.cheapest-high.result in
     let n = c.players-players.ensures.count in
     let e = c.buyers-rows.ensures.count in
-    let s = c.sellers-columns.ensures in
+    let s = c.sellers-columns.ensures.count in
     let p = c.buyers-rows.ensures.laws.players in
     λ k lt. turned_small (offers t.table) c.buyers-rows.result c.sellers-columns.result c.players-players.result k (slice_index h.gains) (slice_index h.prices) (slice_index t.columns)
     (turned_offers (offers d.table) c.buyers-rows.result c.sellers-columns.result (slice_index d.gains) (slice_index d.prices) (slice_index d.columns) (offers t.table) (slice_index t.gains) (slice_index t.prices) (slice_index t.columns) c.deal-deal.ensures.offers c.exchanged-turned.ensures)
@@ -46,7 +46,7 @@ returns-clause-pairs c =
     let rows = c.args.self.now in
     let all : c.all-all.result ≡ grand_coalition (length rows + seller_count rows) = c.all-all.ensures ∙ ap grand_coalition c.players-players.ensures.count in
     let table : IsTableOfAll (offers d.table) rows = λ i j il jl. c.deal-deal.ensures.table i j il jl ∙ ap (λ (s : ℕ). offered (entries_of rows) (length rows) s i j) all in
-    pairs_end (offers d.table) rows c.buyers-rows.result c.sellers-columns.result (slice_index d.gains) (slice_index d.prices) (slice_index d.columns) c.in_ok-pairs.pairs.items _ c.buyers-rows.ensures.laws table c.deal-deal.ensures.fair c.buyers-rows.ensures.count c.sellers-columns.ensures c.in_ok-pairs.ensures (value_kept rows c.all-all.result c.worth.result c.buyers-rows.ensures.laws all c.worth.ensures)
+    pairs_end (offers d.table) rows c.buyers-rows.result c.sellers-columns.result (slice_index d.gains) (slice_index d.prices) (slice_index d.columns) c.in_ok-pairs.pairs.items _ c.buyers-rows.ensures.laws table c.deal-deal.ensures.fair c.buyers-rows.ensures.count c.sellers-columns.ensures.count c.in_ok-pairs.ensures (value_kept rows c.all-all.result c.worth.result c.buyers-rows.ensures.laws all c.worth.ensures)
 
 pub returns-clause-buyers : goal.returns-clause-buyers
 returns-clause-buyers c =
@@ -65,4 +65,4 @@ returns-clause-sellers c =
     let rows = c.args.self.now in
     let all : c.all-all.result ≡ grand_coalition (length rows + seller_count rows) = c.all-all.ensures ∙ ap grand_coalition c.players-players.ensures.count in
     let table : IsTableOfAll (offers d.table) rows = λ i j il jl. c.deal-deal.ensures.table i j il jl ∙ ap (λ (s : ℕ). offered (entries_of rows) (length rows) s i j) all in
-    sellers_end (offers d.table) rows c.buyers-rows.result c.sellers-columns.result c.players-players.result (slice_index d.gains) (slice_index d.prices) (slice_index d.columns) (offers t.table) (slice_index t.gains) (slice_index t.prices) (slice_index t.columns) (slice_index h.gains) (slice_index h.prices) c.in_ok-sellers_best.sellers_best c.buyers-rows.ensures.laws table c.deal-deal.ensures.fair c.buyers-rows.ensures.count c.sellers-columns.ensures c.players-players.ensures.count c.exchanged-turned.ensures c.cheapest-high.ensures.fair c.cheapest-high.ensures.below c.in_ok-sellers_best.ensures
+    sellers_end (offers d.table) rows c.buyers-rows.result c.sellers-columns.result c.players-players.result (slice_index d.gains) (slice_index d.prices) (slice_index d.columns) (offers t.table) (slice_index t.gains) (slice_index t.prices) (slice_index t.columns) (slice_index h.gains) (slice_index h.prices) c.in_ok-sellers_best.sellers_best c.buyers-rows.ensures.laws table c.deal-deal.ensures.fair c.buyers-rows.ensures.count c.sellers-columns.ensures.count c.players-players.ensures.count c.exchanged-turned.ensures c.cheapest-high.ensures.fair c.cheapest-high.ensures.below c.in_ok-sellers_best.ensures

@@ -1,4 +1,4 @@
-use Rattle.big_assignment.proofs.Laws.{market_laws}
+use Rattle.big_assignment.proofs.Games.{market_laws}
 use Rattle.big_assignment.proofs.market_game.MarketGameWorth.players.Goals as goal
 
 pub returns-clause-laws : goal.returns-clause-laws

@@ -1,5 +1,5 @@
 -- The game of a market is a game of the toolbox.
-use Rattle.std.proofs.Common.{◌≡◌, ℕ, ◌+◌, ◌^◌, ◌<◌, ◌≤◌, List, length, ℤ, pos, ◌&&◌, ap, ◌∙◌, inl, inr, arith}
+use Rattle.std.proofs.Common.{◌≡◌, ℕ, ◌+◌, ◌^◌, ◌<◌, ◌≤◌, List, length, ℤ, pos, ◌&&◌, ap, ◌∙◌, inr, arith}
 use Rattle.std.proofs.lemmas.Nat.{pow_pos}
 use Rattle.definitions.specs.Coalitions.{has_player}
 use Rattle.definitions.specs.Games.{IsGame}
@@ -8,7 +8,7 @@ use Rattle.assignment_games.specs.Values.{optimal_value}
 use Rattle.big_assignment.specs.Markets.{IsMarket, offered}
 use Rattle.assignment_games.specs.Assignments.{seller_count, assignment_game}
 use Rattle.matrices.specs.Rows.{entries_of}
-use Rattle.big_assignment.specs.Prices.{Offers, IsFair}
+use Rattle.big_assignment.specs.Prices.{Offers}
 use Rattle.big_assignment.proofs.Members.{cond_zero}
 use Rattle.assignment_games.proofs.Matchings.{no_rows}
 use Rattle.assignment_games.proofs.Optimal.{same_optimal, optimal_value-few}
@@ -38,14 +38,3 @@ table_of_members m rows s k h = record {
   where
     offers_none : (i j : ℕ) → entries_of rows i j ≡ 0 → offered (entries_of rows) (length rows) s i j ≡ 0
     offers_none i j e = cond_zero (has_player s i && has_player s (length rows + j)) (entries_of rows i j) e
-
--- where no row has a column
-pub fair_none : (m : Offers) (u p mate : ℕ → ℕ) → ((k : ℕ) → k ≤ 32 → p k ≡ 0) → IsFair m 0 u p mate
-fair_none m u p mate h = record {
-  covers = λ i k il kl. absurd (omega arith);
-  tight = λ i il. absurd (omega arith);
-  within = λ i il. absurd (omega arith);
-  apart = λ i l il ll e lt. absurd (omega arith);
-  sold = λ k lt. inl (h k (omega arith));
-  free = h 32 (omega arith);
-}
