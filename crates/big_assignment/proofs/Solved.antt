@@ -6,7 +6,7 @@ use Rattle.definitions.specs.Classes.{matching_value}
 use Rattle.definitions.specs.Games.{Allocation}
 use Rattle.definitions.proofs.Members.{has_player-grand_coalition}
 use Rattle.big_assignment.specs.Mates.{pairs_from, payoff}
-use Rattle.big_assignment.specs.Markets.{IsMarket, offered}
+use Rattle.big_assignment.specs.Markets.{IsMarket, everybody, offered}
 use Rattle.assignment_games.specs.Assignments.{seller_count, assignment_game}
 use Rattle.matrices.specs.Rows.{entries_of}
 use Rattle.definitions.specs.Sides.{IsBestFor, IsBuyer, IsSeller}
@@ -27,7 +27,7 @@ use Rattle.big_assignment.proofs.Ends.{best_for}
 
 -- the table of all players' offers
 abbrev pub IsTableOfAll : Offers → List (List ℤ) → Type 0
-IsTableOfAll m rows = (i j : ℕ) → i < 32 → j ≤ 32 → m i j ≡ offered (entries_of rows) (length rows) (grand_coalition (length rows + seller_count rows)) i j
+IsTableOfAll m rows = (i j : ℕ) → i < 32 → j ≤ 32 → m i j ≡ offered (entries_of rows) (length rows) (everybody rows) i j
 
 pub table_of_all : (m : Offers) (rows : List (List ℤ)) → IsMarket rows → IsTableOfAll m rows → IsTableOf m (entries_of rows) (length rows) (seller_count rows)
 table_of_all m rows k h =

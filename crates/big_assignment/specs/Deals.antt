@@ -1,5 +1,7 @@
 -- Deals by their arrays.
-use Rattle.std.specs.Prelude.{◌≡◌, ℕ, ◌+◌, ◌*◌, ◌<◌, ◌≤◌, List, slice_index, sum_by, nat_eq, if◌then◌else◌}
+use Rattle.std.specs.Prelude.{◌≡◌, ℕ, ◌+◌, ◌*◌, ◌<◌, ◌≤◌, List, length, ℤ, slice_index, sum_by, nat_eq, if◌then◌else◌}
+use Rattle.matrices.specs.Rows.{entries_of}
+use Rattle.big_assignment.specs.Markets.{everybody, offered}
 use Rattle.big_assignment.specs.Prices.{Offers, IsFair, IsReached, IsSearch, IsCovered, AreOffers, IsOpen, IsNearest, IsImproved}
 use Rattle.big_assignment.specs.declared.deal.Deal.{Deal}
 use Rattle.big_assignment.specs.declared.deal.Search.{Search}
@@ -13,6 +15,12 @@ AreDealOffers deal = AreOffers (offers deal.table)
 
 abbrev pub IsFairDeal : Deal → ℕ → Type 0
 IsFairDeal deal n = IsFair (offers deal.table) n (slice_index deal.gains) (slice_index deal.prices) (slice_index deal.columns)
+
+-- the table has what all players offer each other, and the buyers have their columns at fair prices
+pub record IsDealOfAll (rows : List (List ℤ)) (deal : Deal) : Type 0 where
+  pub table : (i j : ℕ) → i < 32 → j ≤ 32 → offers deal.table i j ≡ offered (entries_of rows) (length rows) (everybody rows) i j
+  pub offers_small : AreDealOffers deal
+  pub fair : IsFairDeal deal (length rows)
 
 abbrev pub IsCoveredDeal : Deal → ℕ → Type 0
 IsCoveredDeal deal n = IsCovered (offers deal.table) n (slice_index deal.gains) (slice_index deal.prices)

@@ -2,9 +2,10 @@
 --
 --   IsMarket rows              1 to 32 rows of 1 to 32 entries each, each from 0 to below 2 ^ 40
 --   IsRefused rows fault       why rows make no market
+--   everybody rows             the coalition of all players
 --   offered matrix rows s      what the members of s are worth to each other, 0 for other players
 use Rattle.std.specs.Prelude.{ℕ, ◌+◌, ◌≤◌, List, length, ℤ, ◌&&◌, if◌then◌else◌}
-use Rattle.definitions.specs.Coalitions.{has_player}
+use Rattle.definitions.specs.Coalitions.{has_player, grand_coalition}
 use Rattle.definitions.specs.Classes.{Matrix}
 use Rattle.matrices.specs.Rows.{HaveEntries}
 use Rattle.assignment_games.specs.Assignments.{seller_count, IsEven}
@@ -27,6 +28,10 @@ IsRefused rows Players = ¬ HavePlayers rows
 IsRefused rows Number = HavePlayers rows × (¬ HaveEntries rows)
 IsRefused rows Uneven = HavePlayers rows × HaveEntries rows × (¬ IsEven rows)
 IsRefused rows Memory = ⊥
+
+-- the coalition of all players
+abbrev pub everybody : List (List ℤ) → ℕ
+everybody rows = grand_coalition (length rows + seller_count rows)
 
 -- what the members of s are worth to each other, 0 for other players
 abbrev pub offered : Matrix → ℕ → ℕ → Matrix

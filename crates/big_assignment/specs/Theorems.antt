@@ -1,16 +1,13 @@
 -- What is proved of markets (Shapley and Shubik 1971).
-use Rattle.std.specs.Prelude.{◌↔◌, ℕ, ◌+◌, ℤ, List, length}
-use Rattle.definitions.specs.Coalitions.{has_player, grand_coalition}
+use Rattle.std.specs.Prelude.{◌↔◌, ℕ, ℤ, List, length}
+use Rattle.definitions.specs.Coalitions.{has_player}
 use Rattle.definitions.specs.Games.{Allocation, InCore}
 use Rattle.definitions.specs.Classes.{IsMatching, matching_value, IsGreatestValue}
 use Rattle.definitions.specs.Sides.{IsBestFor, IsBuyer, IsSeller}
 use Rattle.matrices.specs.Rows.{entries_of}
-use Rattle.assignment_games.specs.Assignments.{seller_count, assignment_game}
+use Rattle.assignment_games.specs.Assignments.{assignment_game}
+use Rattle.big_assignment.specs.Markets.{everybody}
 use Rattle.big_assignment.specs.Supports.{Supports, IsWorstFor}
-
--- the players of the rows
-abbrev pub everybody : List (List ℤ) → ℕ
-everybody rows = grand_coalition (length rows + seller_count rows)
 
 -- shares support a matching of all players exactly where no matching has a greater value and the shares lie in the core
 abbrev pub ShapleyShubik : Type 0

@@ -7,6 +7,7 @@ mod laws;
 mod least;
 mod market_game;
 mod payoffs;
+mod points;
 mod search;
 mod solution;
 #[cfg(test)]

@@ -1,8 +1,8 @@
 //! The game of a market.
 ghost use Rattle.std.specs.Prelude.{◌≡◌, ℕ, ◌+◌, ◌<◌, ◌≤◌, ◌^◌, length, map, pos, MatchResult};
 ghost use Rattle.definitions.specs.Classes.{IsAssignmentGame};
-ghost use Rattle.big_assignment.specs.Deals.{offers, AreDealOffers, IsFairDeal};
-ghost use Rattle.big_assignment.specs.Markets.{IsMarket, IsRefused, offered};
+ghost use Rattle.big_assignment.specs.Deals.{offers, AreDealOffers, IsFairDeal, IsDealOfAll};
+ghost use Rattle.big_assignment.specs.Markets.{IsMarket, IsRefused, everybody, offered};
 ghost use Rattle.assignment_games.specs.Assignments.{seller_count, assignment_game};
 ghost use Rattle.matrices.specs.Rows.{entries_of};
 
@@ -130,6 +130,22 @@ impl MarketGame {
             add_row(&mut deal, n);
         }
         deal
+    }
+}
+
+impl MarketGame {
+    /// The coalition of all players.
+    pub(crate) fn everybody(&self) -> Coalition
+        ensures { result ≡ everybody self.now }
+    {
+        Coalition::all(self.players())
+    }
+
+    /// An optimal matching of all players, with prices.
+    pub(crate) fn deal_of_all(&self) -> Deal
+        ensures { IsDealOfAll self.now result }
+    {
+        self.deal(self.everybody())
     }
 }
 

@@ -7,11 +7,7 @@ ghost use Rattle.big_assignment.specs.Deals.{AreColumns};
 ghost use Rattle.big_assignment.specs.Solutions.{IsOptimalMatching, IsWhole, player_pairs};
 
 use crate::deal::Deal;
-use crate::least::cheapest;
 use crate::market_game::MarketGame;
-use crate::payoffs::payoff_of;
-use crate::turned::exchanged;
-use coalitions::Coalition;
 use fractions::OutOfMemory;
 use std::alloc::Global;
 use worth_core::{Shares, Worth};
@@ -53,27 +49,6 @@ fn pairs_of(
     Ok(pairs)
 }
 
-/// What each player gets, as shares over 1.
-fn shares_of(
-    alloc: Global,
-    rows: u32,
-    players: u32,
-    gains: &[u64; 33],
-    prices: &[u64; 33],
-) -> Result<Shares, OutOfMemory>
-    requires rows { rows ≤ 32 }
-    requires some { 1 ≤ players }
-    requires players { players ≤ rows + 32 }
-    requires small { (k : ℕ) → k < players → payoff rows (slice_index gains.now) (slice_index prices.now) k ≤ 2 ^ 40 }
-    ensures { IfOk result (λ x. IsWhole players x 1 (payoff rows (slice_index gains.now) (slice_index prices.now))) }
-{
-    let mut num = Vec::new(alloc);
-    for k in 0..players {
-        num.push(i128::from(payoff_of(rows, gains, prices, k)))?;
-    }
-    Ok(Shares::new(num, 1).unwrap())
-}
-
 impl MarketGame {
     /// An optimal matching, and the core points that are best for every buyer and for every seller (Shapley and Shubik
     /// 1971). Each of the two shows that the matching is optimal: it shares out its value, and no pair blocks it.
@@ -84,19 +59,13 @@ impl MarketGame {
         ensures buyers { IfOk result (λ solution. IsBestFor (assignment_game self.now) (IsBuyer (length self.now)) solution.buyers_best) }
         ensures sellers { IfOk result (λ solution. IsBestFor (assignment_game self.now) (IsSeller (length self.now)) solution.sellers_best) }
     {
-        let (rows, columns) = (self.buyers(), self.sellers());
-        let players = self.players();
-        let all = Coalition::all(players);
-        let deal = self.deal(all);
-        let low = cheapest(&deal, rows as usize);
-        let turned = exchanged(&deal, rows as usize, columns as usize);
-        let high = cheapest(&turned, columns as usize);
-        let pairs = pairs_of(alloc, &deal, rows, columns)?;
-        let buyers_best = shares_of(alloc, rows, players, &low.gains, &low.prices)?;
-        let sellers_best = shares_of(alloc, rows, players, &high.prices, &high.gains)?;
+        let deal = self.deal_of_all();
+        let pairs = pairs_of(alloc, &deal, self.buyers(), self.sellers())?;
+        let buyers_best = self.buyers_end(alloc, &deal)?;
+        let sellers_best = self.sellers_end(alloc, &deal)?;
         Ok(Solution {
             pairs,
-            value: self.worth(all),
+            value: self.worth(self.everybody()),
             buyers_best,
             sellers_best,
         })

@@ -1,6 +1,6 @@
 use Rattle.std.proofs.Common.{◌≡◌, ℕ, ◌<◌, slice_index, slice_index_or, length, pos}
 use Rattle.big_assignment.specs.Mates.{payoff}
-use Rattle.big_assignment.proofs.solution.shares_of.Given as goal
+use Rattle.big_assignment.proofs.points.shares_of.Given as goal
 
 abbrev pub invariant-loop-k : goal.invariant-loop-k
 invariant-loop-k l =
