@@ -1,4 +1,4 @@
--- What a core allocation does with an optimal matching, and the two ends of the core.
+-- What a core point does with an optimal matching, and the two ends of the core.
 use Rattle.std.proofs.Common.{◌≡◌, ◌≢◌, ℕ, ◌+◌, ◌*◌, ◌^◌, ◌<◌, ◌≤◌, false, List, [], ◌∷◌, length, ℤ, pos, negsuc, ◌+ℤ◌, ◌*ℤ◌, ◌<ℤ◌, ◌≤ℤ◌, unsigned_abs, refl, sym, ap, subst, ◌∙◌, arith, mul-le-mul}
 use Rattle.definitions.specs.Coalitions.{has_player, singleton, grand_coalition, sum_over}
 use Rattle.definitions.specs.Games.{Allocation, share, amount, InCore}
@@ -107,7 +107,7 @@ whole_all rows y core =
     sym (amount_whole n y (den_of y) (whole_share y) (grand_coalition n) w) ∙ core.1 ∙ ap (λ (z : ℤ). z *ℤ pos (worth_of rows (grand_coalition n))) w.den in
     ap unsigned_abs e
 
--- a core allocation gives each pair its worth at least
+-- a core point gives each pair its worth at least
 pub core_gets : (rows : List (List ℤ)) (y : Allocation) → InCore (assignment_game rows) y → PairsGet (entries_of rows) (length rows) (seller_count rows) (den_of y) (whole_share y)
 core_gets rows y core i j il jl = whole_pair rows y i j core il jl
 

@@ -1,4 +1,4 @@
--- Best for one side: what a core allocation gives the columns, over its denominator, leaves each row content with its mate, so the least such prices are no higher, and each row gets the most.
+-- Best for one side: what a core point gives the columns, over its denominator, leaves each row content with its mate, so the least such prices are no higher, and each row gets the most.
 use Rattle.std.proofs.Common.{◌≡◌, ◌≢◌, ℕ, ◌+◌, ◌*◌, ◌<◌, ◌≤◌, nat_lt, refl, ap, subst, ◌∙◌, inl, inr, arith, if◌then◌else◌}
 use Rattle.definitions.specs.Classes.{Matrix}
 use Rattle.big_assignment.specs.Prices.{Offers, IsFair, IsTurned, IsOutside, Meets, IsBelow}
@@ -6,7 +6,7 @@ use Rattle.definitions.proofs.Cases.{below_or_above, nat_lt-less, nat_lt-past}
 use Rattle.big_assignment.proofs.Sums.{PairsGet, times-add}
 use Rattle.big_assignment.proofs.Supports.{IsTableOf}
 
--- what a core allocation y over d does with the mates of a best matching
+-- what a core point y over d does with the mates of an optimal matching
 pub record IsCoreAt (matrix : Matrix) (rows columns : ℕ) (mate : ℕ → ℕ) (d : ℕ) (y : ℕ → ℕ) : Type 0 where
   pub get : PairsGet matrix rows columns d y
   pub tight : (i : ℕ) → i < rows → mate i < columns → d * matrix i (mate i) ≡ y i + y (rows + mate i)

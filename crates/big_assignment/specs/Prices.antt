@@ -5,7 +5,7 @@
 --   IsJoined m n u p mate ranks parents k    column k is tight with a row that was reached before
 --   IsSearch m n u p mate ranks parents count  the columns that were reached from row n, in their order
 --   Meets m n mate d q              the prices q, over d, leave each row content with its column
---   IsLeast m n mate p              the prices p are such, and below all others
+--   IsBelow m n mate p              no such prices are lower anywhere than p
 use Rattle.std.specs.Prelude.{◌≡◌, ◌≢◌, ◌⊎◌, ℕ, ◌+◌, ◌*◌, ◌^◌, ◌<◌, ◌≤◌}
 
 -- what row i offers for column k

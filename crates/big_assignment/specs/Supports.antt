@@ -21,7 +21,7 @@ pub record Supports (rows : List (List ℤ)) (ps : List (ℕ × ℕ)) (x : Alloc
   pub exact : AllByRecursion (λ p. x.den *ℤ pos (entries_of rows p.0 p.1) ≡ share x p.0 +ℤ share x (length rows + p.1)) ps
   pub nothing : (k : ℕ) → k < length rows + seller_count rows → IsSingle (length rows) ps k → share x k ≡ pos 0
 
--- x is in the core, and no core allocation, over any denominator, gives a player of the side less
+-- x is in the core, and no core point, over any denominator, gives a player of the side less
 abbrev pub IsWorstFor : Game → (ℕ → Type 0) → Allocation → Type 0
 IsWorstFor g side x =
     InCore g x

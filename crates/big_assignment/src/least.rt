@@ -1,6 +1,6 @@
 //! The least prices at which each row is content with its column: prices rise from 0, and only where a row would rather
 //! have another column (Shapley and Shubik 1971; Demange, Gale and Sotomayor 1986).
-ghost use Rattle.std.specs.Prelude.{◌≡◌, ℕ, ◌+◌, ◌^◌, ◌<◌, ◌≤◌, slice_index, MatchOption};
+ghost use Rattle.std.specs.Prelude.{ℕ, ◌+◌, ◌^◌, ◌<◌, ◌≤◌, slice_index, MatchOption};
 ghost use Rattle.big_assignment.specs.Prices.{IsFair, IsBelow, IsGain, IsWanted, NoneWanted};
 ghost use Rattle.big_assignment.specs.Deals.{offers, AreDealOffers, IsFairDeal, AreColumns};
 

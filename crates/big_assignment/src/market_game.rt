@@ -1,5 +1,5 @@
 //! The game of a market.
-ghost use Rattle.std.specs.Prelude.{◌≡◌, ℕ, ◌+◌, ◌<◌, ◌≤◌, ◌^◌, length, map, pos, MatchResult};
+ghost use Rattle.std.specs.Prelude.{◌≡◌, ℕ, ◌+◌, ◌<◌, ◌≤◌, ◌^◌, length, map, MatchResult};
 ghost use Rattle.definitions.specs.Classes.{IsAssignmentGame};
 ghost use Rattle.big_assignment.specs.Deals.{offers, AreDealOffers, IsFairDeal, IsDealOfAll};
 ghost use Rattle.big_assignment.specs.Markets.{IsMarket, IsRefused, everybody, offered};

@@ -1,7 +1,7 @@
 //! One row more: columns are reached from it, and prices rise, until a free column is reached.
-ghost use Rattle.std.specs.Prelude.{◌≡◌, ◌⊎◌, ℕ, ◌+◌, ◌<◌, ◌≤◌, ◌^◌, true, false, slice_index};
+ghost use Rattle.std.specs.Prelude.{◌≡◌, ℕ, ◌+◌, ◌<◌, ◌≤◌, ◌^◌, true, false, slice_index};
 ghost use Rattle.std.specs.Bool.{Decides};
-ghost use Rattle.big_assignment.specs.Prices.{IsFair, IsShifted, IsPut};
+ghost use Rattle.big_assignment.specs.Prices.{IsFair};
 ghost use Rattle.big_assignment.specs.Deals.{offers, AreDealOffers, IsFairDeal, IsCoveredDeal, IsReachedIn, IsNearestIn, IsImprovedIn, IsOpenIn, IsSearchIn, IsTight, unreached, AreColumns};
 
 use crate::deal::{Deal, NONE, Search};

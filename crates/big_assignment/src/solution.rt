@@ -1,10 +1,10 @@
 //! A market's solution: an optimal matching, and the two ends of the core.
-ghost use Rattle.std.specs.Prelude.{◌≡◌, ℕ, ◌+◌, ◌^◌, ◌<◌, ◌≤◌, length, slice_index, IfOk};
-ghost use Rattle.big_assignment.specs.Mates.{pairs_from, payoff};
+ghost use Rattle.std.specs.Prelude.{◌≡◌, ◌+◌, ◌<◌, ◌≤◌, length, slice_index, IfOk};
+ghost use Rattle.big_assignment.specs.Mates.{pairs_from};
 ghost use Rattle.assignment_games.specs.Assignments.{assignment_game};
 ghost use Rattle.definitions.specs.Sides.{IsBestFor, IsBuyer, IsSeller};
 ghost use Rattle.big_assignment.specs.Deals.{AreColumns};
-ghost use Rattle.big_assignment.specs.Solutions.{IsOptimalMatching, IsWhole, player_pairs};
+ghost use Rattle.big_assignment.specs.Solutions.{IsOptimalMatching, player_pairs};
 
 use crate::deal::Deal;
 use crate::market_game::MarketGame;

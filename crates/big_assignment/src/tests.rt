@@ -85,7 +85,7 @@ fn two_buyers_of_one_good_leave_the_lesser_with_nothing(rt: HostRuntime) -> Resu
     Ok(())
 }
 
-// The greatest entry, 8, stands in the one best matching beside 7, and not beside 6.
+// The greatest entry, 8, stands in the one optimal matching beside 7, and not beside 6.
 #[test]
 fn two_buyers_of_two_goods(rt: HostRuntime) -> Result<(), Fail> {
     let mut matrix = Vec::new(rt.alloc());

@@ -1,7 +1,7 @@
 //! Rows and columns change their parts.
-ghost use Rattle.std.specs.Prelude.{◌≡◌, ℕ, ◌+◌, ◌^◌, ◌<◌, ◌≤◌, ◌/◌, ◌%◌, slice_index};
-ghost use Rattle.big_assignment.specs.Prices.{Holds, IsOutside, IsTurned};
-ghost use Rattle.big_assignment.specs.Deals.{offers, AreDealOffers, IsFairDeal, AreColumns};
+ghost use Rattle.std.specs.Prelude.{◌≡◌, ℕ, ◌<◌, ◌≤◌, ◌/◌, ◌%◌, slice_index};
+ghost use Rattle.big_assignment.specs.Prices.{Holds, IsTurned};
+ghost use Rattle.big_assignment.specs.Deals.{offers, AreColumns};
 
 use crate::deal::{Deal, NONE};
 
