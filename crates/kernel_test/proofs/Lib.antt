@@ -1,0 +1,3 @@
+pub mod Greatest
+pub mod Pairs
+pub mod Rows

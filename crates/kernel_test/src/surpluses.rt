@@ -1,0 +1,108 @@
+//! The surpluses of all players against each other, from one scan of the coalitions.
+ghost use Rattle.std.specs.Prelude.{◌≡◌, ◌≢◌, ℕ, ◌<◌, ◌≤◌, length, nat_eq, not, ◌&&◌, None, Some, IsSome, MatchOption};
+ghost use Rattle.definitions.specs.Coalitions.{has_player};
+ghost use Rattle.definitions.specs.Prekernel.{IsEarlierPair, holds_without};
+ghost use Rattle.kernel_test.specs.Tables.{number_at, raised_where, AreSurpluses};
+
+use coalitions::Coalition;
+use worth_core::{Shares, Worth, raised};
+
+/// For each two of at most 16 players, the greatest excess so far over the coalitions that hold the one and lack the
+/// other, in row order and over the denominator of the shares; none before there is such a coalition.
+#[derive(Drop)]
+pub struct Surpluses {
+    greatest: [Option<i128>; 256],
+}
+
+impl Surpluses {
+    /// The surpluses of each player against each other.
+    pub fn of<W: Worth>(game: &W, x: &Shares) -> Surpluses
+        requires few { (W.game game.now).players ≤ 16 }
+        requires shares { length x.now.shares ≡ (W.game game.now).players }
+        ensures { AreSurpluses (W.game game.now) x.now result.greatest }
+    {
+        let mut surpluses = Surpluses::none();
+        for s in Coalition::subsets(game.players()) {
+            surpluses.raise(s, x.excess_over(game.worth(s), s));
+        }
+        surpluses
+    }
+
+    /// No coalition is seen.
+    fn none() -> Surpluses
+        ensures { (i j : ℕ) → i < 16 → j < 16 → number_at result.greatest i j ≡ None }
+    {
+        Surpluses {
+            greatest: [None; 256],
+        }
+    }
+
+    /// One more coalition is seen, of that excess.
+    fn raise(&mut self, s: Coalition, excess: i128)
+        ensures { (i j : ℕ) → i < 16 → j < 16 → number_at self.new.greatest i j ≡ raised_where (holds_without i j s) (number_at self.old.greatest i j) excess }
+    {
+        for i in 0..16 {
+            if s.contains(i) {
+                self.raise_row(i, s, excess);
+            }
+        }
+    }
+
+    /// One more coalition is seen, of that excess, which holds `i`.
+    fn raise_row(&mut self, i: u32, s: Coalition, excess: i128)
+        requires { i < 16 }
+        ensures { (a j : ℕ) → a < 16 → j < 16 → number_at self.new.greatest a j ≡ raised_where (nat_eq a i && not (has_player s j)) (number_at self.old.greatest a j) excess }
+    {
+        for j in 0..16 {
+            if !s.contains(j) {
+                let place = (16 * i + j) as usize;
+                self.greatest[place] = raised(self.greatest[place], excess);
+            }
+        }
+    }
+
+    /// The surplus of one player against another.
+    pub fn against(&self, i: u32, j: u32) -> i128
+        requires row { i < 16 }
+        requires column { j < 16 }
+        requires found { IsSome (number_at self.now.greatest i j) }
+        ensures { number_at self.now.greatest i j ≡ Some result }
+    {
+        self.greatest[(16 * i + j) as usize].unwrap()
+    }
+
+    /// The first two of `n` players, by the first of them and then by the second, whose surpluses differ.
+    pub fn first_unbalanced(&self, n: u32) -> Option<(u32, u32)>
+        requires few { n ≤ 16 }
+        requires found { (i j : ℕ) → i < n → j < n → i ≢ j → IsSome (number_at self.now.greatest i j) }
+        ensures { MatchOption result
+            ((i j : ℕ) → i < j → j < n → number_at self.now.greatest i j ≡ number_at self.now.greatest j i)
+            (λ p. (p.0 < p.1) × (p.1 < n) × (number_at self.now.greatest p.0 p.1 ≢ number_at self.now.greatest p.1 p.0)
+            × ((i j : ℕ) → i < j → j < n → IsEarlierPair i j p.0 p.1 → number_at self.now.greatest i j ≡ number_at self.now.greatest j i)) }
+    {
+        for i in 0..n {
+            if let Some(j) = self.first_against(i, n) {
+                return Some((i, j));
+            }
+        }
+        None
+    }
+
+    /// The first player behind `i` against whom its surplus differs from that player's.
+    fn first_against(&self, i: u32, n: u32) -> Option<u32>
+        requires player { i < n }
+        requires few { n ≤ 16 }
+        requires found { (i j : ℕ) → i < n → j < n → i ≢ j → IsSome (number_at self.now.greatest i j) }
+        ensures { MatchOption result
+            ((j : ℕ) → i < j → j < n → number_at self.now.greatest i j ≡ number_at self.now.greatest j i)
+            (λ j. (i < j) × (j < n) × (number_at self.now.greatest i j ≢ number_at self.now.greatest j i)
+            × ((k : ℕ) → i < k → k < j → number_at self.now.greatest i k ≡ number_at self.now.greatest k i)) }
+    {
+        for j in i + 1..n {
+            if self.against(i, j) != self.against(j, i) {
+                return Some(j);
+            }
+        }
+        None
+    }
+}
