@@ -1,8 +1,8 @@
 //! The surpluses of all players against each other, from one scan of the coalitions.
-ghost use Rattle.std.specs.Prelude.{◌≡◌, ◌≢◌, ℕ, ◌<◌, ◌≤◌, length, nat_eq, not, ◌&&◌, None, Some, IsSome, MatchOption};
+ghost use Rattle.std.specs.Prelude.{◌≡◌, ◌≢◌, ℕ, ◌<◌, ◌≤◌, length, nat_eq, not, ◌&&◌, true, None, Some, IsSome, MatchOption};
 ghost use Rattle.definitions.specs.Coalitions.{has_player};
 ghost use Rattle.definitions.specs.Prekernel.{IsEarlierPair, holds_without};
-ghost use Rattle.kernel_test.specs.Tables.{number_at, raised_where, AreSurpluses};
+ghost use Rattle.kernel_test.specs.Tables.{number_at, floor_of, raised_where, is_less_so_far, lesser_where, AreFloors, AreSurpluses};
 
 use coalitions::Coalition;
 use worth_core::{Shares, Worth, raised};
@@ -12,6 +12,9 @@ use worth_core::{Shares, Worth, raised};
 #[derive(Drop)]
 pub struct Surpluses {
     greatest: [Option<i128>; 256],
+    /// For each player a number that none of its surpluses so far is below, so that few coalitions need its row; none
+    /// before all are there.
+    least: [Option<i128>; 16],
 }
 
 impl Surpluses {
@@ -30,16 +33,20 @@ impl Surpluses {
 
     /// No coalition is seen.
     fn none() -> Surpluses
-        ensures { (i j : ℕ) → i < 16 → j < 16 → number_at result.greatest i j ≡ None }
+        ensures empty { (i j : ℕ) → i < 16 → j < 16 → number_at result.greatest i j ≡ None }
+        ensures floors { AreFloors result.greatest result.least }
     {
         Surpluses {
             greatest: [None; 256],
+            least: [None; 16],
         }
     }
 
     /// One more coalition is seen, of that excess.
     fn raise(&mut self, s: Coalition, excess: i128)
-        ensures { (i j : ℕ) → i < 16 → j < 16 → number_at self.new.greatest i j ≡ raised_where (holds_without i j s) (number_at self.old.greatest i j) excess }
+        requires { AreFloors self.old.greatest self.old.least }
+        ensures raised { (i j : ℕ) → i < 16 → j < 16 → number_at self.new.greatest i j ≡ raised_where (holds_without i j s) (number_at self.old.greatest i j) excess }
+        ensures floors { AreFloors self.new.greatest self.new.least }
     {
         for i in 0..16 {
             if s.contains(i) {
@@ -50,15 +57,42 @@ impl Surpluses {
 
     /// One more coalition is seen, of that excess, which holds `i`.
     fn raise_row(&mut self, i: u32, s: Coalition, excess: i128)
-        requires { i < 16 }
-        ensures { (a j : ℕ) → a < 16 → j < 16 → number_at self.new.greatest a j ≡ raised_where (nat_eq a i && not (has_player s j)) (number_at self.old.greatest a j) excess }
+        requires player { i < 16 }
+        requires member { has_player s i ≡ true }
+        requires floors { AreFloors self.old.greatest self.old.least }
+        ensures raised { (a j : ℕ) → a < 16 → j < 16 → number_at self.new.greatest a j ≡ raised_where (nat_eq a i && not (has_player s j)) (number_at self.old.greatest a j) excess }
+        ensures floors { AreFloors self.new.greatest self.new.least }
     {
-        for j in 0..16 {
-            if !s.contains(j) {
-                let place = (16 * i + j) as usize;
-                self.greatest[place] = raised(self.greatest[place], excess);
-            }
+        if self.can_rise(i, excess) {
+            self.write_row(i, s, excess);
         }
+    }
+
+    /// Whether a number of row `i` may be below the excess.
+    fn can_rise(&self, i: u32, excess: i128) -> bool
+        requires { i < 16 }
+        ensures { result ≡ is_less_so_far (floor_of self.now.least i) excess }
+    {
+        match self.least[i as usize] {
+            None => true,
+            Some(least) => least < excess,
+        }
+    }
+
+    /// The numbers of row `i` at the players outside of a coalition, and the least number of the row.
+    fn write_row(&mut self, i: u32, s: Coalition, excess: i128)
+        requires player { i < 16 }
+        requires floors { AreFloors self.old.greatest self.old.least }
+        ensures raised { (a j : ℕ) → a < 16 → j < 16 → number_at self.new.greatest a j ≡ raised_where (nat_eq a i && not (has_player s j)) (number_at self.old.greatest a j) excess }
+        ensures floors { AreFloors self.new.greatest self.new.least }
+    {
+        let mut least = Some(i128::MAX);
+        for j in 0..16 {
+            let place = (16 * i + j) as usize;
+            self.greatest[place] = raised_where(!s.contains(j), self.greatest[place], excess);
+            least = lesser_where(j != i, least, self.greatest[place]);
+        }
+        self.least[i as usize] = least;
     }
 
     /// The surplus of one player against another.
@@ -104,5 +138,23 @@ impl Surpluses {
             }
         }
         None
+    }
+}
+
+/// The greater of a number and the greatest so far, where a test passes.
+fn raised_where(test: bool, most: Option<i128>, excess: i128) -> Option<i128>
+    ensures { result ≡ raised_where test most excess }
+{
+    if test { raised(most, excess) } else { most }
+}
+
+/// The lesser of two numbers where a test passes, and none where one of them is.
+fn lesser_where(test: bool, least: Option<i128>, number: Option<i128>) -> Option<i128>
+    ensures { result ≡ lesser_where test least number }
+{
+    match (test, least, number) {
+        (false, least, _) => least,
+        (true, Some(least), Some(number)) => Some(if number < least { number } else { least }),
+        _ => None,
     }
 }

@@ -11,9 +11,12 @@ use mir.Syntax.{w64, w128}
 use Rattle.kernel_test.proofs.surpluses.Surpluses.of.Goals as goal
 
 pub loop-s-init : goal.loop-s-init
-loop-s-init g c = λ i j hi hj.
-    let game = g.W.Worth.game c.args.game.now in
-    rw (c.none-surpluses.ensures i j hi hj) (IsGreatestBelow-start (holds_without i j) (excess game c.args.x.now))
+loop-s-init g c = record {
+  greatest = λ i j hi hj.
+      let game = g.W.Worth.game c.args.game.now in
+      rw (c.none-surpluses.ensures.empty i j hi hj) (IsGreatestBelow-start (holds_without i j) (excess game c.args.x.now));
+  floors = c.none-surpluses.ensures.floors;
+}
 
 pub worth-requires : goal.worth-requires
 worth-requires g c =
@@ -36,9 +39,12 @@ loop-s-preserved g c =
     let within : s < 2 ^ game.players = rw c.players.ensures.count at turn.1 in
     let here = excess_is game x s c.worth.result c.excess_over.result c.players.ensures.laws within c.worth.ensures c.excess_over.ensures.value in
     let kept = cast_kept w128 c.excess_over.result (omega (arith, c.excess_over.ensures.small)) in
-    rw (length_push c.loop-s.yielded s) (λ i j hi hj.
-    IsGreatestBelow-next (holds_without i j) (excess game x) (length c.loop-s.yielded) s (number_at c.loop-s.surpluses.greatest i j) (number_at c.raise.new.self.greatest i j) _ (c.loop-s.invariant i j hi hj) turn.0 (kept ∙ here) (c.raise.ensures i j hi hj)
-    )
+    record {
+      greatest = rw (length_push c.loop-s.yielded s) (λ i j hi hj.
+          IsGreatestBelow-next (holds_without i j) (excess game x) (length c.loop-s.yielded) s (number_at c.loop-s.surpluses.greatest i j) (number_at c.raise.new.self.greatest i j) _ (c.loop-s.invariant.greatest i j hi hj) turn.0 (kept ∙ here) (c.raise.ensures.raised i j hi hj)
+          );
+      floors = c.raise.ensures.floors;
+    }
 
 pub returns : goal.returns
 returns g c =
@@ -46,4 +52,4 @@ returns g c =
     let end = all_masks-end c.players.result _ c.loop-s.yielded _ (cc) c.loop-s.yielded_by _ _ c.in-None.is c.next.ensures.steps in
     let all : length c.loop-s.yielded ≡ 2 ^ game.players = rw c.players.ensures.count at end in
     let few = c.requires.few in
-    λ i j hi hj ne. found_from_scan game c.args.x.now i j (number_at c.loop-s.surpluses.greatest i j) (rw all at (c.loop-s.invariant i j (omega arith) (omega arith))) hi ne
+    λ i j hi hj ne. found_from_scan game c.args.x.now i j (number_at c.loop-s.surpluses.greatest i j) (rw all at (c.loop-s.invariant.greatest i j (omega arith) (omega arith))) hi ne

@@ -6,13 +6,17 @@ use Rattle.kernel_test.proofs.surpluses.Surpluses.raise.Goals as goal
 use Rattle.kernel_test.proofs.surpluses.Surpluses.raise.Goals.{then-contains, else-contains}
 
 pub loop-i-preserved : goal.loop-i-preserved
-loop-i-preserved c = λ a j ha hj.
+loop-i-preserved c =
     let e = to_z w128 (of_z w128 c.args.excess) in
-    let old = number_at c.args.self.now.greatest a j in
-    let before = number_at c.loop-i.self.greatest a j in
     elim c.if-contains.branch [
-      | then-contains w ↦ rw w.self-is (
-          raised-row c.args.s c.loop-i.i a j old before (number_at w.raise_row.new.self.greatest a j) e (sym (w.if-contains.ensures {u = tt})) (c.loop-i.invariant a j ha hj) (w.raise_row.ensures a j ha hj)
-          )
-      | else-contains w ↦ rw w.self-is (left-row c.args.s c.loop-i.i a j old before e (sym (w.if-contains.ensures {u = tt})) (c.loop-i.invariant a j ha hj))
+      | then-contains w ↦ rw w.self-is (record {
+        rows = λ a j ha hj.
+            raised-row c.args.s c.loop-i.i a j (number_at c.args.self.now.greatest a j) (number_at c.loop-i.self.greatest a j) (number_at w.raise_row.new.self.greatest a j) e (sym (w.if-contains.ensures {u = tt})) (c.loop-i.invariant.rows a j ha hj) (w.raise_row.ensures.raised a j ha hj);
+        floors = w.raise_row.ensures.floors;
+      })
+      | else-contains w ↦ rw w.self-is (record {
+        rows = λ a j ha hj.
+            left-row c.args.s c.loop-i.i a j (number_at c.args.self.now.greatest a j) (number_at c.loop-i.self.greatest a j) e (sym (w.if-contains.ensures {u = tt})) (c.loop-i.invariant.rows a j ha hj);
+        floors = c.loop-i.invariant.floors;
+      })
     ]
