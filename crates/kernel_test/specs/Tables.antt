@@ -5,8 +5,9 @@
 --   is_less_so_far         the least so far is below a number, or isn't known
 --   lesser_where           the lesser of two numbers that are there, where a test passes
 --   AreFloors table least  no number of a row is below the row's floor, where that is there
+--   AreThere n table       there is a number for each two of n players
 --   AreSurpluses g x table each number is the surplus of the row's player against the column's
-use Rattle.std.specs.Prelude.{◌≡◌, ◌≢◌, ℕ, ◌+◌, ◌*◌, ◌<◌, Bool, true, List, ℤ, ◌≤ℤ◌, int_lt, Option, Some, None, slice_index_or, if◌then◌else◌}
+use Rattle.std.specs.Prelude.{◌≡◌, ◌≢◌, ℕ, ◌+◌, ◌*◌, ◌<◌, Bool, true, List, ℤ, ◌≤ℤ◌, int_lt, Option, Some, None, IsSome, slice_index_or, if◌then◌else◌}
 use Rattle.definitions.specs.Games.{Game, Allocation}
 use Rattle.definitions.specs.Prekernel.{IsSurplus}
 use Rattle.worth_core.specs.Greatest.{max_so_far}
@@ -50,6 +51,10 @@ IsFloor table i k (Some m) = (j : ℕ) → j < k → j ≢ i → IsFrom m (numbe
 -- the floor of each row
 abbrev pub AreFloors : List (Option ℤ) → List (Option ℤ) → Type 0
 AreFloors table least = (i : ℕ) → i < 16 → IsFloor table i 16 (floor_of least i)
+
+-- there is a number for each two of the first n players
+abbrev pub AreThere : ℕ → List (Option ℤ) → Type 0
+AreThere n table = (i j : ℕ) → i < n → j < n → i ≢ j → IsSome (number_at table i j)
 
 -- each number is the surplus of the row's player against the column's
 abbrev pub AreSurpluses : Game → Allocation → List (Option ℤ) → Type 0

@@ -2,7 +2,7 @@
 ghost use Rattle.std.specs.Prelude.{◌≡◌, ◌≢◌, ℕ, ◌<◌, ◌≤◌, length, nat_eq, not, ◌&&◌, true, None, Some, IsSome, MatchOption};
 ghost use Rattle.definitions.specs.Coalitions.{has_player};
 ghost use Rattle.definitions.specs.Prekernel.{IsEarlierPair, holds_without};
-ghost use Rattle.kernel_test.specs.Tables.{number_at, floor_of, raised_where, is_less_so_far, lesser_where, AreFloors, AreSurpluses};
+ghost use Rattle.kernel_test.specs.Tables.{number_at, floor_of, raised_where, is_less_so_far, lesser_where, AreFloors, AreThere, AreSurpluses};
 
 use coalitions::Coalition;
 use worth_core::{Shares, Worth, raised};
@@ -22,7 +22,8 @@ impl Surpluses {
     pub fn of<W: Worth>(game: &W, x: &Shares) -> Surpluses
         requires few { (W.game game.now).players ≤ 16 }
         requires shares { length x.now.shares ≡ (W.game game.now).players }
-        ensures { AreSurpluses (W.game game.now) x.now result.greatest }
+        ensures surpluses { AreSurpluses (W.game game.now) x.now result.greatest }
+        ensures there { AreThere (W.game game.now).players result.greatest }
     {
         let mut surpluses = Surpluses::none();
         for s in Coalition::subsets(game.players()) {
@@ -108,7 +109,7 @@ impl Surpluses {
     /// The first two of `n` players, by the first of them and then by the second, whose surpluses differ.
     pub fn first_unbalanced(&self, n: u32) -> Option<(u32, u32)>
         requires few { n ≤ 16 }
-        requires found { (i j : ℕ) → i < n → j < n → i ≢ j → IsSome (number_at self.now.greatest i j) }
+        requires there { AreThere n self.now.greatest }
         ensures { MatchOption result
             ((i j : ℕ) → i < j → j < n → number_at self.now.greatest i j ≡ number_at self.now.greatest j i)
             (λ p. (p.0 < p.1) × (p.1 < n) × (number_at self.now.greatest p.0 p.1 ≢ number_at self.now.greatest p.1 p.0)
@@ -126,7 +127,7 @@ impl Surpluses {
     fn first_against(&self, i: u32, n: u32) -> Option<u32>
         requires player { i < n }
         requires few { n ≤ 16 }
-        requires found { (i j : ℕ) → i < n → j < n → i ≢ j → IsSome (number_at self.now.greatest i j) }
+        requires there { AreThere n self.now.greatest }
         ensures { MatchOption result
             ((j : ℕ) → i < j → j < n → number_at self.now.greatest i j ≡ number_at self.now.greatest j i)
             (λ j. (i < j) × (j < n) × (number_at self.now.greatest i j ≢ number_at self.now.greatest j i)

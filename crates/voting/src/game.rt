@@ -20,7 +20,7 @@ pub enum VotingFault {
     Players,
     /// The quota or a weight is negative, or 2^40 or more.
     Number,
-    /// The weights sum to more than 1,000, or the quota isn't from 1 to their sum.
+    /// The quota is 0 or above the sum of the weights, or that sum is above 1,000.
     Quota,
     /// There was no memory.
     Memory,

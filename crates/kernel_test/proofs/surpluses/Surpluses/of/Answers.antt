@@ -6,6 +6,7 @@ use Rattle.worth_core.proofs.Scan.{excess_is}
 use Rattle.definitions.specs.Games.{excess}
 use Rattle.definitions.specs.Prekernel.{holds_without}
 use Rattle.kernel_test.specs.Tables.{number_at}
+use Rattle.kernel_test.proofs.Pairs.{found_in}
 use Rattle.kernel_test.proofs.Greatest.{IsGreatestBelow-start, IsGreatestBelow-next, found_from_scan}
 use mir.Syntax.{w64, w128}
 use Rattle.kernel_test.proofs.surpluses.Surpluses.of.Goals as goal
@@ -46,10 +47,14 @@ loop-s-preserved g c =
       floors = c.raise.ensures.floors;
     }
 
-pub returns : goal.returns
-returns g c =
+pub returns-clause-surpluses : goal.returns-clause-surpluses
+returns-clause-surpluses g c =
     let game = g.W.Worth.game c.args.game.now in
     let end = all_masks-end c.players.result _ c.loop-s.yielded _ (cc) c.loop-s.yielded_by _ _ c.in-None.is c.next.ensures.steps in
     let all : length c.loop-s.yielded ≡ 2 ^ game.players = rw c.players.ensures.count at end in
     let few = c.requires.few in
     λ i j hi hj ne. found_from_scan game c.args.x.now i j (number_at c.loop-s.surpluses.greatest i j) (rw all at (c.loop-s.invariant.greatest i j (omega arith) (omega arith))) hi ne
+
+pub returns-clause-there : goal.returns-clause-there
+returns-clause-there g c =
+    found_in (g.W.Worth.game c.args.game.now) c.args.x.now c.loop-s.surpluses.greatest (returns-clause-surpluses g c)
