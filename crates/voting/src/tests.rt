@@ -46,7 +46,7 @@ fn the_great_player_and_the_middle_one_block(rt: HostRuntime) -> Result<(), Fail
     let weights = [4, 2, 1].to_vec(rt.alloc())?;
     let game = VotingGame::new(rt.alloc(), 5, weights).map_err(|_| "no game")?;
     assert_eq!(rt; game.quota(), 5);
-    assert!(rt; game.players() == 3);
+    assert!(rt; game.len() == 3);
     assert_eq!(rt; game.weight(1), 2);
     assert_eq!(rt; game.worth(Coalition(5)), 1);
     assert_eq!(rt; game.worth(Coalition(6)), 0);
