@@ -4,4 +4,4 @@ mod Credits
 pub mod Sizes
 mod Sums
 mod Airport
-mod Steps
+pub mod Steps

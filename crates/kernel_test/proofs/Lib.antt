@@ -1,0 +1,4 @@
+pub mod Greatest
+pub mod Pairs
+pub mod Rows
+pub mod Floors

@@ -1,0 +1,69 @@
+-- A voting game is a game of the toolbox.
+use Rattle.std.proofs.Common.{◌≡◌, ℕ, zero, suc, ◌+◌, ◌^◌, ◌<◌, ◌≤◌, Bool, true, false, cond, List, [], ◌∷◌, length, get_or, sum, ℤ, pos, ◌+ℤ◌, ◌≤ℤ◌, ◌<ℤ◌, int_le, unsigned_abs, refl, arith}
+use Rattle.std.proofs.lemmas.List.Sums.{sum_by-cons}
+use Rattle.std.proofs.lemmas.Int.{ints}
+use Rattle.definitions.proofs.Ring.{linear}
+use Rattle.definitions.proofs.Members.{sum_below-front}
+use Rattle.definitions.specs.Sums.{sum_below}
+use Rattle.definitions.specs.Coalitions.{has_player, sum_over}
+use Rattle.definitions.specs.Games.{IsGame}
+use Rattle.voting.specs.Voting.{Voting, IsVoting, voting_game}
+use Rattle.voting.proofs.SetKinds.{sum_over-empty}
+
+abbrev pub weight : List ℕ → ℕ → ℤ
+weight weights i = pos (get_or weights i 0)
+
+pub sum-weights : (weights : List ℕ) → pos (sum weights) ≡ sum_below (length weights) (weight weights)
+sum-weights [] = refl
+sum-weights (w ∷ weights) =
+    let step : sum (w ∷ weights) ≡ w + sum weights = sum_by-cons (λ (x : ℕ). x) w weights in
+    rw step (
+    let ih = sum-weights weights in
+    let front = sum_below-front (length weights) (weight (w ∷ weights)) in
+    joined w (sum weights) _ _ ih front)
+  where
+    joined : (c s : ℕ) (y z : ℤ) → pos s ≡ y → z ≡ pos c +ℤ y → pos (c + s) ≡ z
+    joined c s y z e f = omega (arith, ints)
+
+-- a coalition weighs no more than all
+pub sum_over-most : (n s : ℕ) (a : ℕ → ℤ) → ((i : ℕ) → pos 0 ≤ℤ a i) → sum_over n a s ≤ℤ sum_below n a
+sum_over-most zero s a low = omega (arith, linear)
+sum_over-most (suc n) s a low =
+    let ih = sum_over-most n s a low in
+    let here = low n in
+    let step : (b : Bool) → (sum_over n a s +ℤ cond b (a n) (pos 0)) ≤ℤ (sum_below n a +ℤ a n) = elim [ true ↦ omega (arith, linear) | false ↦ omega (arith, linear) ] in
+    step (has_player s n)
+
+natural : (k : ℕ) → pos 0 ≤ℤ pos k
+natural k = omega (arith, ints)
+
+pub weight_few : (g : Voting) (s : ℕ) → IsVoting g → sum_over (length g.weights) (weight g.weights) s <ℤ pos 1001
+weight_few g s h =
+    let most = sum_over-most (length g.weights) s (weight g.weights) (λ i. natural (get_or g.weights i 0)) in
+    let all = sum-weights g.weights in
+    let light = h.light in
+    few (sum g.weights) _ _ all most light
+  where
+    few : (t : ℕ) (y z : ℤ) → pos t ≡ y → z ≤ℤ y → t ≤ 1000 → z <ℤ pos 1001
+    few t y z e le light = omega (arith, ints)
+
+pub IsGame-voting : (g : Voting) → IsVoting g → IsGame (voting_game g)
+IsGame-voting g h = record {
+  some = h.some;
+  few = let few = h.few in omega arith;
+  nobody = rw (sum_over-empty (length g.weights) (weight g.weights)) (nobody g.quota h.positive);
+  small = λ s lt. small (int_le (pos g.quota) (sum_over (length g.weights) (weight g.weights) s));
+}
+  where
+    decide : (q : ℕ) → 1 ≤ q → (b : Bool) → int_le (pos q) (pos 0) ≡ b → cond b (pos 1) (pos 0) ≡ pos 0
+    decide q le true e = absurd (omega (arith, ints))
+    decide q le false e = refl
+
+    nobody : (q : ℕ) → 1 ≤ q → cond (int_le (pos q) (pos 0)) (pos 1) (pos 0) ≡ pos 0
+    nobody q le = decide q le (int_le (pos q) (pos 0)) refl
+
+    small : (b : Bool) → unsigned_abs (cond b (pos 1) (pos 0)) < 2 ^ 46
+    small true = omega arith
+    small false = omega arith
+
+pub ruleset game_laws = (IsGame-voting)

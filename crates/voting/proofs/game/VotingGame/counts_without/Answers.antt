@@ -1,0 +1,29 @@
+use Rattle.std.proofs.Common.{◌<◌, length, slice_index, subst, arith}
+use Rattle.voting.specs.Voting.{IsVoting}
+use Rattle.voting.proofs.Blocking.{weight-read}
+use Rattle.voting.proofs.Tables.{table_start, table_stays, table_more, table_small}
+use Rattle.voting.proofs.game.VotingGame.counts_without.Goals as goal
+use Rattle.voting.proofs.game.VotingGame.counts_without.Goals.{then-j-i, else-j-i}
+
+pub loop-j-init : goal.loop-j-init
+loop-j-init c =
+    table_start (slice_index c.args.self.now.weights) c.args.i c.of_nobody-table.result c.of_nobody-table.ensures
+
+pub with_player-table-requires : goal.with_player-table-requires
+with_player-table-requires c =
+    let laws = subst IsVoting c.self.view_is c.self.invariant in
+    let few = laws.few in
+    table_small (slice_index c.args.self.now.weights) c.args.i c.loop-j.j c.loop-j.table (omega (arith, few, c.players-j-end.ensures.count, c.loop-j-test.true)) c.loop-j.invariant
+
+pub loop-j-preserved : goal.loop-j-preserved
+loop-j-preserved c =
+    let g = c.args.self.now in
+    let i = c.args.i in
+    let j = c.loop-j.j in
+    let lt : j < length g.weights = omega (arith, c.players-j-end.ensures.count, c.loop-j-test.true) in
+    elim c.if-j-i.branch [
+      | then-j-i w ↦
+          let weight = weight-read g c.self.inside.quota c.self.inside.weights.items j w.index.result.now c.self.view_is lt w.index.ensures in
+          rw w.table-is (table_more (slice_index g.weights) i j w.index.result.now c.loop-j.table w.with_player-table.result w.if-j-i.true weight c.loop-j.invariant w.with_player-table.ensures)
+      | else-j-i w ↦ rw w.table-is (table_stays (slice_index g.weights) i j c.loop-j.table (omega arith) c.loop-j.invariant)
+    ]

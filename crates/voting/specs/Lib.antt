@@ -1,0 +1,4 @@
+pub mod Voting
+pub mod Candidates
+pub mod SetKinds
+pub mod Counts

@@ -1,0 +1,101 @@
+//! The best sets of each weight.
+ghost use Rattle.std.specs.Prelude.{◌≡◌, ℕ, ◌^◌, ◌<◌, ◌+◌, ◌≤◌, None, Some, IfSome, length, ℤ, pos, unsigned_abs, nat_le, if◌then◌else◌};
+ghost use Rattle.voting.specs.Candidates.{at_weight, with_at, joined_at, raised, AreSmall, IsSmallCandidate, best_below};
+
+use crate::candidate::{Candidate, better_of, plus, with_player};
+use coalitions::Coalition;
+
+/// A candidate for each weight from 0 to 1,000, and none where no set of that weight is of the kind.
+#[derive(Clone, Copy)]
+pub(crate) struct Layer {
+    entries: [Option<Candidate>; 1001],
+}
+
+impl Layer {
+    /// No candidates.
+    pub(crate) fn none() -> Layer
+        ensures entries { (w : ℕ) → at_weight result w ≡ None }
+        ensures small { AreSmall 0 result }
+    {
+        Layer {
+            entries: [None; 1001],
+        }
+    }
+
+    /// The candidate of nobody, at weight 0.
+    pub(crate) fn of_nobody() -> Layer
+        ensures nobody { at_weight result 0 ≡ Some (record { sum = pos 0; coalition = 0 }) }
+        ensures others { (w : ℕ) → 0 < w → at_weight result w ≡ None }
+        ensures small { AreSmall 0 result }
+    {
+        let mut layer = Layer::none();
+        layer.entries[0] = Some(Candidate {
+            sum: 0,
+            coalition: Coalition::empty(),
+        });
+        layer
+    }
+
+    /// The candidates of these sets without player `i`, and of the other ones with player `i`, of this weight and
+    /// number.
+    pub(crate) fn or_with(&self, others: &Layer, i: u32, weight: usize, number: i128) -> Layer
+        requires player { i < 32 }
+        requires number { unsigned_abs number < 2 ^ 110 }
+        requires small { AreSmall i self.now }
+        requires others { AreSmall i others.now }
+        ensures entries { (w : ℕ) → w < 1001 → at_weight result w ≡ joined_at self.now others.now i weight number w }
+        ensures small { AreSmall (i + 1) result }
+    {
+        let mut layer = Layer::none();
+        for w in 0..1001 {
+            layer.entries[w] = better_of(self.entries[w], others.with(i, weight, number, w));
+        }
+        layer
+    }
+
+    /// The candidate of weight `w` that player `i` of this weight and number makes of a lighter one.
+    fn with(&self, i: u32, weight: usize, number: i128, w: usize) -> Option<Candidate>
+        requires player { i < 32 }
+        requires number { unsigned_abs number < 2 ^ 110 }
+        requires small { AreSmall i self.now }
+        requires few { w < 1001 }
+        ensures value { result ≡ with_at self.now i weight number w }
+        ensures small { IfSome result (IsSmallCandidate (i + 1)) }
+    {
+        if weight <= w {
+            with_player(self.entries[w - weight], i, number)
+        } else {
+            None
+        }
+    }
+
+    /// The candidate of greatest sum, where those from the quota on have so much more.
+    pub(crate) fn best(&self, quota: usize, more: i128) -> Option<Candidate>
+        requires number { unsigned_abs more < 2 ^ 110 }
+        requires small { AreSmall 32 self.now }
+        ensures { result ≡ best_below more quota self.now 1001 }
+    {
+        let mut best = None;
+        for w in 0..1001 {
+            best = better_of(best, self.excess_at(quota, w, more));
+        }
+        best
+    }
+
+    /// The candidate of weight `w`, with so much more where that is at least the quota.
+    fn excess_at(&self, quota: usize, w: usize, more: i128) -> Option<Candidate>
+        requires few { w < 1001 }
+        requires number { unsigned_abs more < 2 ^ 110 }
+        requires small { AreSmall 32 self.now }
+        ensures { result ≡ raised (at_weight self.now w) (if nat_le quota w then more else pos 0) }
+    {
+        plus(self.entries[w], from_quota(quota, w, more))
+    }
+}
+
+/// A number where a weight is at least the quota, and 0 elsewhere.
+fn from_quota(quota: usize, weight: usize, number: i128) -> i128
+    ensures { result ≡ (if nat_le quota weight then number else pos 0) }
+{
+    if quota <= weight { number } else { 0 }
+}
