@@ -8,3 +8,6 @@ pub mod Readable
 pub mod OneAnswer
 pub mod ReadLines
 pub mod Ended
+pub mod Requests
+pub mod GeneratedGames
+pub mod GeneratorEnds

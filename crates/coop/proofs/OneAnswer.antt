@@ -24,7 +24,7 @@ use Rattle.game_text.specs.declared.command.Command.TheVariants as command
 use Rattle.game_text.specs.declared.refusal.Refusal.{Refusal}
 use Rattle.game_text.specs.declared.refusal.Refusal.TheVariants as refusal
 use Rattle.report.specs.declared.answer.Answer.{Answer}
-use Rattle.report.specs.declared.answer.Answer.TheVariants.{Verdict, Usage, Refused}
+use Rattle.report.specs.declared.answer.Answer.TheVariants.{Verdict, Usage, Refused, Summary}
 use Rattle.report.specs.declared.answer.UsageKind.TheVariants.{Words}
 use Rattle.game_text.proofs.OfClass.{document_of_class}
 use Rattle.coop.specs.Checks.{Checks, HasEvidence}
@@ -96,6 +96,10 @@ module _ (d : Contents) (f : Family) (x : Allocation) (c : CertificateData) (evi
 
 -- ---- one answer
 
+-- one word is not two or more
+one_word : (word : List ℕ) (first : List ℕ) {second : List ℕ} {words : List (List ℕ)} → word ∷ [] ≡ first ∷ second ∷ words → ⊥
+one_word word first e = absurd (omega (arith, ap (λ (l : List (List ℕ)). length l) e))
+
 module _ (bytes : List ℕ) (d : Contents) (document : IsDocument command.Check bytes d) (only : (answer : Answer) → Checks d answer → answer ≡ Verdict Yes) where
   only_served : (answer : Answer) → IsAnsweredFor (word_of command.Check ∷ []) bytes answer → answer ≡ Verdict Yes
   only_served answer h =
@@ -104,8 +108,9 @@ module _ (bytes : List ℕ) (d : Contents) (document : IsDocument command.Check 
       only answer (subst (λ (e : Contents). Checks e answer) (sym (same_document command.Check bytes d document h.1.1.0 here.0)) here.1)
 
   only_yes : (answer : Answer) → Answers (word_of command.Check ∷ []) bytes answer → answer ≡ Verdict Yes
-  only_yes (Usage Words) h = absurd (h command.Check refl)
+  only_yes (Usage Words) h = absurd (h.reads command.Check refl)
   only_yes (Refused r) h = absurd (not_refused command.Check bytes d document r (subst (λ (k : Command). IsRefused k bytes r) (only_check h.0 h.1.0) h.1.1))
+  only_yes (Summary s) h = absurd (one_word _ _ h.1.1.1.0.said)
   only_yes answer h = only_served answer h
 
 pub check_says_yes : (bytes : List ℕ) (d : Contents) → IsDocument command.Check bytes d → (f : Family) (printed : Data) (x : Allocation) (c : CertificateData) → SaysSame f printed x c d → CheckSaysYes bytes

@@ -9,12 +9,15 @@ use Rattle.game_text.specs.declared.command.Command.TheVariants as command
 use Rattle.game_text.specs.declared.refusal.Refusal.{Refusal}
 use Rattle.game_text.specs.declared.refusal.Refusal.TheVariants as refusal
 use Rattle.report.specs.declared.answer.Answer.{Answer}
-use Rattle.report.specs.declared.answer.Answer.TheVariants.{Usage, Refused}
+use Rattle.report.specs.declared.answer.Answer.TheVariants.{Usage, Refused, Summary}
+use Rattle.report.specs.declared.summary.Summary.{Summary as Summaries}
 use Rattle.report.specs.declared.answer.UsageKind.TheVariants.{Words}
 use Rattle.game_text.proofs.OfClass.{document_of_class}
 use Rattle.coop.specs.Headline.{AnswersTo, IsAnsweredFor}
 use Rattle.coop.specs.Outcome.{IsLeft, IsRight, ReadsAll, ReadsForRefusal}
+use Rattle.coop.specs.GeneratorClaims.{IsSummaryFor}
 use Rattle.coop.specs.Words.{word_of, IsNoCommand, Names}
+use Rattle.coop.specs.declared.words.Request.{Request}
 
 -- where all was read, what was read is what was left
 IsLeft-all : (old new : Option (List ℕ)) (input : List ℕ) → Consumes old new input → IsAtEnd new → IsLeft old input
@@ -49,6 +52,11 @@ no_usage : (given : Command) (d : Contents) → AnswersTo given d (Usage Words) 
 no_usage command.Propose d h = h.2
 no_usage given d h = h
 
+-- nor with the summary of a generated game
+no_summary : (given : Command) (d : Contents) (s : Summaries) → AnswersTo given d (Summary s) → ⊥
+no_summary command.Propose d s h = h.2
+no_summary given d s h = h
+
 -- nor with a refusal
 no_refusal : (given : Command) (d : Contents) (r : Refusal) → AnswersTo given d (Refused r) → ⊥
 no_refusal command.Propose d r h = h.2
@@ -67,14 +75,20 @@ module _ (given : Command) (old new : Option (List ℕ)) (input : List ℕ) (p :
   pub right_answer : (a : Answer) → AnswersTo given d a → IsRight (word_of given ∷ []) old new a
   right_answer (Usage Words) right = absurd (no_usage given d right)
   right_answer (Refused r) right = absurd (no_refusal given d r right)
+  right_answer (Summary s) right = absurd (no_summary given d s right)
   right_answer a right = record { bytes = input; left = left; answers = served a right; reads = read }
 
 -- ---- other words
 
--- where no command is found, the words are none
-pub no_command : (words : List (List ℕ)) (o : Option Command) → Names words o → ((given : Command) → o ≡ Some given → ⊥) → IsNoCommand words
+-- where nothing is asked for, the words are those of no command
+pub no_command : (words : List (List ℕ)) (o : Option Request) → Names words o → ((given : Request) → o ≡ Some given → ⊥) → IsNoCommand words
 no_command words None h none = h
 no_command words (Some given) h none = absurd (none given refl)
+
+-- the summary of the game that the words ask for, and nothing is read
+pub right_summary : (words : List (List ℕ)) (old : Option (List ℕ)) (s : Summaries) → IsSummaryFor words s → IsRight words old old (Summary s)
+right_summary words None s h = record { bytes = []; left = tt; answers = h; reads = refl }
+right_summary words (Some x) s h = record { bytes = x; left = refl; answers = h; reads = refl }
 
 -- words that are no command get Usage, and nothing is read
 pub right_usage : (words : List (List ℕ)) (old : Option (List ℕ)) → IsNoCommand words → IsRight words old old (Usage Words)

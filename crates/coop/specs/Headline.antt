@@ -13,7 +13,7 @@
 --   Answers              the answer is right for the words and the bytes
 --
 -- What is right for the other commands stands in Judgement.antt (`propose`), CoreClaims.antt (`core`), Checks.antt (`check`),
--- ShapleyClaims.antt (`shapley`) and BirdClaims.antt (`bird`).
+-- ShapleyClaims.antt (`shapley`), BirdClaims.antt (`bird`) and GeneratorClaims.antt (`gen`).
 --
 -- No answer that isn't named is right, and the answers exclude one another: a nucleolus is an imputation, which gives each
 -- player at least what it is worth alone, so it can't come where the players alone are worth more than all.
@@ -36,7 +36,7 @@ use Rattle.game_text.specs.declared.command.Command.TheVariants.{Nucleolus as Nu
 use Rattle.game_text.specs.declared.refusal.Refusal.{Refusal}
 use Rattle.nested_programs.specs.Answer.{singles}
 use Rattle.report.specs.declared.answer.Answer.{Answer}
-use Rattle.report.specs.declared.answer.Answer.TheVariants.{Nucleolus, NoImputation, Usage, Refused}
+use Rattle.report.specs.declared.answer.Answer.TheVariants.{Nucleolus, NoImputation, Usage, Refused, Summary}
 use Rattle.report.specs.declared.answer.UsageKind.TheVariants.{Words}
 use Rattle.coop.specs.Words.{IsCommand, IsNoCommand}
 use Rattle.coop.specs.Judgement.{printed, JudgesAll}
@@ -44,6 +44,7 @@ use Rattle.coop.specs.Checks.{Checks}
 use Rattle.coop.specs.CoreClaims.{SaysOfCore}
 use Rattle.coop.specs.ShapleyClaims.{SaysOfShapley}
 use Rattle.coop.specs.BirdClaims.{SaysOfBird}
+use Rattle.coop.specs.GeneratorClaims.{IsSummaryFor}
 
 -- The shares are a member of the family whose excesses over all coalitions, listed from the greatest, come before those of every other member. The certificate has its form for the game's players and meets all conditions for the shares, which alone imply this (`certificates_are_sound`). They stand beside the tree of the game that was read.
 pub record IsSolution (family : Family) (d : Contents) (printed : Data) (are_costs : Bool) (x : Allocation) (c : CertificateData) : Type 0 where
@@ -86,8 +87,9 @@ IsAnsweredFor words bytes answer = (command : Command) × (IsCommand words comma
 abbrev pub IsRefusedFor : List (List ℕ) → List ℕ → Refusal → Type 0
 IsRefusedFor words bytes r = (command : Command) × (IsCommand words command × IsRefused command bytes r)
 
--- the answer is right for the words and the bytes: for words that are no command, the usage of words; else the first refusal that applies; else what the command says to the document
+-- the answer is right for the words and the bytes: for words that are no command, the usage of words; for a generated game its summary; else the first refusal that applies; else what the command says to the document
 abbrev pub Answers : List (List ℕ) → List ℕ → Answer → Type 0
 Answers words bytes (Usage Words) = IsNoCommand words
 Answers words bytes (Refused r) = IsRefusedFor words bytes r
+Answers words bytes (Summary s) = IsSummaryFor words s
 Answers words bytes answer = IsAnsweredFor words bytes answer

@@ -20,7 +20,7 @@ use Rattle.game_text.specs.declared.refusal.Refusal.{Refusal}
 use Rattle.game_text.specs.declared.refusal.Refusal.TheVariants.{TooLong}
 use Rattle.report.specs.Lines.{line}
 use Rattle.report.specs.declared.answer.Answer.{Answer}
-use Rattle.report.specs.declared.answer.Answer.TheVariants.{Nucleolus, NoImputation, InCore, NotEfficient, Blocked, CorePoint, EmptyCore, Shapley, Bird, Verdict, Usage, Refused}
+use Rattle.report.specs.declared.answer.Answer.TheVariants.{Nucleolus, NoImputation, InCore, NotEfficient, Blocked, CorePoint, EmptyCore, Shapley, Bird, Verdict, Usage, Refused, Summary}
 use Rattle.report.specs.declared.answer.UsageKind.TheVariants.{Words}
 use Rattle.checker.specs.declared.verdicts.Verdict.{Verdict as CheckVerdict}
 use Rattle.checker.specs.declared.verdicts.Verdict.TheVariants.{Yes, No}
@@ -49,6 +49,7 @@ ReadsForRefusal r words old new = ReadsAll old new
 -- how far the input was read for an answer
 abbrev pub ReadsFor : Answer → List (List ℕ) → Option (List ℕ) → Option (List ℕ) → Type 0
 ReadsFor (Usage Words) words old new = new ≡ old
+ReadsFor (Summary s) words old new = new ≡ old
 ReadsFor (Refused r) words old new = ReadsForRefusal r words old new
 ReadsFor _ words old new = ReadsAll old new
 
@@ -81,6 +82,7 @@ status_of (Bird x edges) = status.Done
 status_of (Verdict v) = verdict_status v
 status_of (Usage kind) = status.Usage
 status_of (Refused r) = status.Refused
+status_of (Summary s) = status.Done
 
 -- the answer is right for the words and for the bytes that were left
 pub record IsRight (words : List (List ℕ)) (old new : Option (List ℕ)) (answer : Answer) : Type 0 where

@@ -5,6 +5,7 @@ mod adapters;
 mod bird_shares;
 mod check;
 mod core_search;
+mod generated;
 mod judge;
 mod run;
 mod shapley_values;

@@ -1,24 +1,26 @@
 //! From the words and the input to the status and the line.
-ghost use Rattle.std.specs.Prelude.{◌≡◌, ◌⊎◌, [], ◌∷◌, map, string_bytes, IfOk};
+ghost use Rattle.std.specs.Prelude.{◌≡◌, ◌⊎◌, ℕ, List, [], ◌∷◌, map, string_bytes, IfOk};
 ghost use Rattle.report.specs.Limits.{IsPrintable};
 ghost use Rattle.game_text.specs.Readings.{contents_in};
 ghost use Rattle.coop.specs.Headline.{AnswersTo};
 ghost use Rattle.coop.specs.Needs.{HasNeeded};
+ghost use Rattle.coop.specs.GeneratorRuns.{AsksForGame, EndsMade, IsMadeFor};
 ghost use Rattle.coop.specs.Outcome.{IsRight, Ends, IsCauseOf};
 ghost use Rattle.coop.specs.ReadBack.{CanBeRead};
 ghost use Rattle.coop.specs.Stops.{IsFaultOf};
-ghost use Rattle.coop.specs.Words.{word_of, IsNoCommand};
+ghost use Rattle.coop.specs.Words.{word_of, IsFit, IsRequest, IsNoCommand};
 
 use crate::bird_shares::bird_document;
 use crate::check::check_document;
 use crate::core_search::core_document;
+use crate::generated::summary_of;
 use crate::judge::judge_document;
 use crate::shapley_values::shapley_document;
 use crate::solve::solve_document;
 use crate::status::{Status, status_of};
 use crate::stop::Stop;
 use crate::stream::{read_input, write_line};
-use crate::words::{command_of, usage_line};
+use crate::words::{Request, request_of, usage_line};
 use fractions::OutOfMemory;
 use game_text::{Command, Document, TextFault, document_limit, read_document};
 use ports::{Sink, Source};
@@ -42,14 +44,16 @@ pub fn run<S: Source, K: Sink>(
     ensures write { IsCauseOf Status.WriteFault (K.faults sink.old) (K.faults sink.new) result }
     // For other words no memory is taken.
     ensures other_words { IsNoCommand (map string_bytes words.now) → (result ≡ Status.Usage) ⊎ (result ≡ Status.WriteFault) }
+    // For a generated game nothing is read, and its answer is positive.
+    ensures generated { AsksForGame (map string_bytes words.now) → EndsMade (S.left source.old) (S.left source.new) result }
 {
-    let Some(command) = command_of(words) else {
+    let Some(request) = request_of(words) else {
         return match write_line(sink, usage_line()) {
             Ok(()) => Status::Usage,
             Err(_) => Status::WriteFault,
         };
     };
-    let answer = match answer(alloc, command, source) {
+    let answer = match answer(alloc, request, source) {
         Ok(answer) => answer,
         Err(Stop::Fault) => return Status::ReadFault,
         Err(Stop::Memory) => return Status::OutOfMemory,
@@ -64,8 +68,30 @@ pub fn run<S: Source, K: Sink>(
     }
 }
 
+// The answer to what the words ask for.
+fn answer<S: Source>(alloc: Global, request: Request, source: &mut S) -> Result<Answer, Stop>
+    requires { IsFit request }
+    ensures right { IfOk result (λ a. (words : List (List ℕ)) → IsRequest words request → IsRight words (S.left source.old) (S.left source.new) a) }
+    ensures printable { IfOk result IsPrintable }
+    ensures readable { IfOk result CanBeRead }
+    ensures cause { IsFaultOf (S.faults source.old) (S.faults source.new) result }
+    ensures made { IsMadeFor request (S.left source.old) (S.left source.new) result }
+{
+    match request {
+        Request::Read(command) => answer_on(alloc, command, source),
+        Request::Generate {
+            kind,
+            players,
+            seed,
+        } => match summary_of(alloc, kind, players, seed) {
+            Ok(summary) => Ok(Answer::Summary(summary)),
+            Err(_) => Err(Stop::Memory),
+        },
+    }
+}
+
 // The answer to the command on the input of the source.
-fn answer<S: Source>(alloc: Global, command: Command, source: &mut S) -> Result<Answer, Stop>
+fn answer_on<S: Source>(alloc: Global, command: Command, source: &mut S) -> Result<Answer, Stop>
     ensures right { IfOk result (IsRight (word_of command ∷ []) (S.left source.old) (S.left source.new)) }
     ensures printable { IfOk result IsPrintable }
     ensures readable { IfOk result CanBeRead }

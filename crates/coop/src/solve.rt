@@ -54,8 +54,8 @@ pub fn solve_document(
     }
 }
 
-// What the scheme of the game's class finds, or else the nested programs.
-fn found_for(alloc: Global, game: &Game, family: Family) -> Result<Found, OutOfMemory>
+/// What the scheme of the game's class finds, or else the nested programs.
+pub fn found_for(alloc: Global, game: &Game, family: Family) -> Result<Found, OutOfMemory>
     requires { HasFewPlayers (description_in game.now) }
     ensures { IfOk result (IsFoundFor family (game_of (description_in game.now))) }
 {

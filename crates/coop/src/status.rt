@@ -43,6 +43,7 @@ pub fn status_of(answer: &Answer) -> Status
         | Answer::CorePoint { .. }
         | Answer::Shapley { .. }
         | Answer::Bird { .. }
+        | Answer::Summary(_)
         | Answer::Verdict(Verdict::Yes) => Status::Done,
         Answer::NoImputation { .. }
         | Answer::NotEfficient { .. }

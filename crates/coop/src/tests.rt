@@ -2,6 +2,7 @@
 mod certificates;
 mod cores;
 mod faults;
+mod generated_games;
 mod networks_and_markets;
 mod nucleolus;
 mod proposals;

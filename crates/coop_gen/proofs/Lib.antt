@@ -4,3 +4,4 @@ pub mod Sizes
 pub mod Alone
 pub mod Plans
 pub mod Imputations
+pub mod Classes

@@ -110,7 +110,7 @@ rows_entries : (rows columns : ℕ) (number : ℕ → ℕ → ℕ) → ((i j : �
 rows_entries rows columns number h =
     All-numbered (All IsNumber) (λ i. map (λ j. pos (number i j)) (range_with_len 0 columns)) 0 rows (λ i. All-numbered IsNumber (λ j. pos (number i j)) 0 columns (λ j. entry_fits (number i j) (h i j)))
 
-rows_count : (rows columns : ℕ) (number : ℕ → ℕ → ℕ) → length (rows_of rows columns number) ≡ rows
+pub rows_count : (rows columns : ℕ) (number : ℕ → ℕ → ℕ) → length (rows_of rows columns number) ≡ rows
 rows_count rows columns number = length-map-range_with_len (λ i. map (λ j. pos (number i j)) (range_with_len 0 columns)) 0 rows
 
 rows_length : (rows columns : ℕ) (number : ℕ → ℕ → ℕ) → HaveLength columns (rows_of rows columns number)
@@ -173,6 +173,10 @@ tree_sizes seed n rows some few e = subst IsTree (sym e) (record {
     inside : (i : ℕ) → i < length (rows_of (n + 1) (n + 1) (link (short_draw seed) n)) → i < n + 1
     inside i lt = omega (arith, count, lt)
 
+pub pair_sellers : (seed n : ℕ) → 2 ≤ n → seller_count (rows_of (n / 2) (n - n / 2) (pair_value (short_draw seed) (n - n / 2))) ≡ n - n / 2
+pair_sellers seed n some =
+    ap length (row_at (n / 2) (n - n / 2) 0 (pair_value (short_draw seed) (n - n / 2)) [] (omega (arith, some))) ∙ length-map-range_with_len (λ j. pos (pair_value (short_draw seed) (n - n / 2) 0 j)) 0 (n - n / 2)
+
 pub pair_sizes : (seed n : ℕ) (rows : List (List ℤ)) → 2 ≤ n → n ≤ 16 → rows ≡ rows_of (n / 2) (n - n / 2) (pair_value (short_draw seed) (n - n / 2)) → IsAssignment rows
 pair_sizes seed n rows some few e = subst IsAssignment (sym e) (record {
   players = (omega (arith, count, some), omega (arith, sellers, some), omega (arith, count, sellers, few));
@@ -184,5 +188,4 @@ pair_sizes seed n rows some few e = subst IsAssignment (sym e) (record {
     count = rows_count (n / 2) (n - n / 2) (pair_value (short_draw seed) (n - n / 2))
 
     sellers : seller_count (rows_of (n / 2) (n - n / 2) (pair_value (short_draw seed) (n - n / 2))) ≡ n - n / 2
-    sellers =
-        ap length (row_at (n / 2) (n - n / 2) 0 (pair_value (short_draw seed) (n - n / 2)) [] (omega (arith, some))) ∙ length-map-range_with_len (λ j. pos (pair_value (short_draw seed) (n - n / 2) 0 j)) 0 (n - n / 2)
+    sellers = pair_sellers seed n some

@@ -1,5 +1,5 @@
 //! The game of a kind, a number of players and a seed.
-ghost use Rattle.std.specs.Prelude.{◌≡◌, ◌^◌, ◌<◌, IfOk};
+ghost use Rattle.std.specs.Prelude.{◌≡◌, ◌↔◌, ◌^◌, ◌<◌, IfOk, IsTrue};
 ghost use Rattle.game_text.specs.Games.{description_in};
 ghost use Rattle.coop_gen.specs.Generated.{HasKindSize, generated};
 
@@ -24,4 +24,15 @@ pub fn generate(alloc: Global, kind: Kind, n: u32, seed: u32) -> Result<Game, Ou
         Kind::Tree => Game::Tree(tree(alloc, n, seed)?),
         Kind::Assignment => Game::Assignment(assignment(alloc, n, seed)?),
     })
+}
+
+/// Whether the kind has games of `n` players.
+pub fn has_size(kind: Kind, n: u32) -> bool
+    ensures { IsTrue result ↔ HasKindSize kind n }
+{
+    match kind {
+        Kind::Table | Kind::Tree => 1 <= n && n <= 16,
+        Kind::Airport | Kind::Bankruptcy => 1 <= n && n <= 64,
+        Kind::Assignment => 2 <= n && n <= 16,
+    }
 }

@@ -12,5 +12,5 @@ mod tests;
 
 pub use fractions::OutOfMemory;
 pub use game_text::{Game, Kind};
-pub use generating::generate;
-pub use laws::generated_games_have_imputations;
+pub use generating::{generate, has_size};
+pub use laws::{generated_games_are_of_their_class, generated_games_have_imputations};

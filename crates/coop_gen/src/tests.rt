@@ -51,6 +51,14 @@ fn each_kind_has_its_least_and_greatest_size(rt: HostRuntime) -> Result<(), Fail
         (Kind::Tree, 1, 16),
         (Kind::Assignment, 2, 16),
     ] {
+        assert!(rt;
+            has_size(kind, least) && has_size(kind, greatest),
+            "{kind:?}"
+        );
+        assert!(rt;
+            !has_size(kind, least - 1) && !has_size(kind, greatest + 1),
+            "{kind:?}"
+        );
         assert_eq!(rt;
             generate(rt.alloc(), kind, least, 0)?.players(),
             least,

@@ -11,7 +11,8 @@ use Rattle.report.specs.Verdicts.{verdict_tree}
 use Rattle.report.specs.Limits.{IsPrintable}
 use Rattle.report.specs.Lines.{answer_tree}
 use Rattle.report.specs.declared.answer.Answer.{Answer}
-use Rattle.report.specs.declared.answer.Answer.TheVariants.{Nucleolus, NoImputation, InCore, NotEfficient, Blocked, CorePoint, EmptyCore, Shapley, Bird, Verdict as verdict, Usage, Refused}
+use Rattle.report.specs.declared.answer.Answer.TheVariants.{Nucleolus, NoImputation, InCore, NotEfficient, Blocked, CorePoint, EmptyCore, Shapley, Bird, Verdict as verdict, Usage, Refused, Summary}
+use Rattle.report.proofs.Summaries.{summary_depth}
 use Rattle.report.proofs.BirdEdges.{edges_depth}
 use Rattle.report.proofs.CertificateDepths.{coalition_depth, pairs_depth, shares_depth, nucleolus_depth}
 
@@ -40,3 +41,4 @@ shallow (Bird x edges) h = omega (arith, shares_depth true x, edges_depth edges)
 shallow (verdict v) h = verdict_depth v
 shallow (Usage kind) h = omega arith
 shallow (Refused r) h = omega arith
+shallow (Summary s) h = summary_depth s

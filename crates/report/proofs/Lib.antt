@@ -10,6 +10,8 @@ pub mod LowestTexts
 pub mod CertificateLengths
 pub mod Readers
 pub mod BirdEdges
+pub mod LeastDenominators
+pub mod Summaries
 pub mod NoFloats
 pub mod Depths
 pub mod AsciiFractions

@@ -10,7 +10,8 @@ use Rattle.report.specs.Verdicts.{verdict_tree}
 use Rattle.report.specs.Limits.{IsPrintable}
 use Rattle.report.specs.Lines.{answer_tree}
 use Rattle.report.specs.declared.answer.Answer.{Answer}
-use Rattle.report.specs.declared.answer.Answer.TheVariants.{Nucleolus, NoImputation, InCore, NotEfficient, Blocked, CorePoint, EmptyCore, Shapley, Bird, Verdict as verdict, Usage, Refused}
+use Rattle.report.specs.declared.answer.Answer.TheVariants.{Nucleolus, NoImputation, InCore, NotEfficient, Blocked, CorePoint, EmptyCore, Shapley, Bird, Verdict as verdict, Usage, Refused, Summary}
+use Rattle.report.proofs.Summaries.{summary_whole}
 use Rattle.report.proofs.BirdEdges.{edges_whole}
 use Rattle.report.proofs.CertificateNumbers.{coalition_whole, shares_whole, empty_core_whole, nucleolus_whole}
 
@@ -39,3 +40,4 @@ no_float (Bird x edges) h = rw (shares_whole true x, edges_whole edges) refl
 no_float (verdict v) h = verdict_has_float v
 no_float (Usage kind) h = refl
 no_float (Refused r) h = refl
+no_float (Summary s) h = summary_whole s

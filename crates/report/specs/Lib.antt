@@ -6,6 +6,7 @@ pub mod ShareLists
 pub mod CoreTrees
 pub mod ShapleyTrees
 pub mod BirdTrees
+pub mod SummaryTrees
 pub mod Limits
 pub mod Lines
 pub mod ReadingBack

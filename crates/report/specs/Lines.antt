@@ -18,9 +18,10 @@ use Rattle.report.specs.ShareLists.{share_list}
 use Rattle.report.specs.CoreTrees.{core_point_tree, empty_core_tree}
 use Rattle.report.specs.ShapleyTrees.{shapley_tree}
 use Rattle.report.specs.BirdTrees.{bird_tree}
+use Rattle.report.specs.SummaryTrees.{summary_tree}
 use Rattle.report.specs.Words.{refusal_name, usage_word, family_word}
 use Rattle.report.specs.declared.answer.Answer.{Answer}
-use Rattle.report.specs.declared.answer.Answer.TheVariants.{Nucleolus, NoImputation, InCore, NotEfficient, Blocked, CorePoint, EmptyCore, Shapley, Bird, Verdict, Usage, Refused}
+use Rattle.report.specs.declared.answer.Answer.TheVariants.{Nucleolus, NoImputation, InCore, NotEfficient, Blocked, CorePoint, EmptyCore, Shapley, Bird, Verdict, Usage, Refused, Summary}
 
 -- the object that is printed for the nucleolus or prenucleolus of a game, its keys ascending
 abbrev pub nucleolus_tree : Family → Data → Bool → Allocation → CertificateData → Data
@@ -49,6 +50,7 @@ answer_tree (Verdict v) = verdict_tree v
 answer_tree (Usage kind) = object (member (codes "usage") (string (usage_word kind)) no_members)
 answer_tree (Refused r) =
     object (member (codes "number") (count_data (refusal_number r)) (member (codes "refused") (string (refusal_name r)) no_members))
+answer_tree (Summary s) = summary_tree s
 
 -- compact JSON, and a newline
 abbrev pub line : Answer → List ℕ

@@ -4,6 +4,8 @@ use Rattle.definitions.specs.declared.Family.{Family}
 use Rattle.definitions.specs.declared.Family.TheVariants.{Imputations, Preimputations}
 use Rattle.definitions.specs.declared.Mode.{Mode}
 use Rattle.definitions.specs.declared.Mode.TheVariants as mode
+use Rattle.game_text.specs.declared.kind.Kind.{Kind}
+use Rattle.game_text.specs.declared.kind.Kind.TheVariants as kind
 use Rattle.game_text.specs.declared.refusal.Refusal.{Refusal}
 use Rattle.game_text.specs.declared.refusal.Refusal.TheVariants.{TooLong, NotJson, Shape, Players, Number, Names, Coalition, Estate, Matrix, Proposal, TooFine, Certificate}
 use Rattle.report.specs.declared.answer.UsageKind.{UsageKind}
@@ -39,3 +41,11 @@ family_word Preimputations = codes "prenucleolus"
 abbrev pub mode_word : Mode → List ℕ
 mode_word mode.Players = codes "players"
 mode_word mode.Span = codes "span"
+
+-- the word for a kind of generated games
+abbrev pub kind_word : Kind → List ℕ
+kind_word kind.Table = codes "table"
+kind_word kind.Airport = codes "airport"
+kind_word kind.Bankruptcy = codes "bankruptcy"
+kind_word kind.Tree = codes "tree"
+kind_word kind.Assignment = codes "assignment"

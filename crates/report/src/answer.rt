@@ -1,4 +1,5 @@
 //! What is answered to the words of a command line and the bytes of its input.
+use crate::summary::Summary;
 use balanced::Collection;
 use checker::Verdict;
 use coalitions::Coalition;
@@ -78,4 +79,6 @@ pub enum Answer {
     Usage(UsageKind),
     /// The input is no document.
     Refused(Refusal),
+    /// What is said of a generated game.
+    Summary(Summary),
 }

@@ -13,6 +13,7 @@ mod objects;
 mod players;
 mod shapley_answers;
 mod shares;
+mod summary;
 #[cfg(test)]
 mod tests;
 mod verdict;
@@ -21,3 +22,4 @@ mod words;
 pub use answer::{Answer, UsageKind};
 pub use laws::{nucleoli_are_read_back, nucleoli_are_short};
 pub use line::write_report;
+pub use summary::Summary;

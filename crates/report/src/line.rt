@@ -13,6 +13,7 @@ use crate::fraction::{integer_text, text_of};
 use crate::nucleolus::nucleolus_tree;
 use crate::players::player_numbers;
 use crate::shapley_answers::shapley_tree;
+use crate::summary::summary_tree;
 use crate::verdict::verdict_tree;
 use crate::words::{refusal_name, usage_word};
 use coalitions::Coalition;
@@ -63,6 +64,7 @@ fn tree_of(alloc: Global, answer: Answer) -> Result<Value, OutOfMemory>
         Answer::Verdict(verdict) => verdict_tree(alloc, verdict),
         Answer::Usage(kind) => usage_tree(alloc, kind),
         Answer::Refused(refusal) => refused_tree(alloc, refusal),
+        Answer::Summary(summary) => summary_tree(alloc, &summary),
     }
 }
 

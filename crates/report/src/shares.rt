@@ -22,7 +22,8 @@ pub fn share_texts(alloc: Global, shares: &Shares, is_cost: bool) -> Result<Vec<
     Ok(texts)
 }
 
-fn share_text(alloc: Global, num: i128, den: i128, is_cost: bool) -> Result<Value, OutOfMemory>
+/// The text of the share num/den in lowest terms; where the game is one of costs, of the payment.
+pub fn share_text(alloc: Global, num: i128, den: i128, is_cost: bool) -> Result<Value, OutOfMemory>
     requires positive { pos 1 ≤ℤ den }
     requires small { unsigned_abs num < 2 ^ 110 }
     ensures { IfOk result (λ v. view v ≡ share_data is_cost den num) }

@@ -1,6 +1,7 @@
 ghost use Rattle.report.specs.Limits.{IsPrintable};
 
 mod nucleolus;
+mod summaries;
 
 use crate::{Answer, UsageKind, write_report};
 use balanced::Collection;

@@ -1,9 +1,9 @@
 //! Words of a line.
 ghost use Rattle.std.specs.Prelude.{◌≡◌};
-ghost use Rattle.report.specs.Words.{refusal_name, usage_word, family_word, mode_word};
+ghost use Rattle.report.specs.Words.{refusal_name, usage_word, family_word, mode_word, kind_word};
 
 use crate::answer::UsageKind;
-use game_text::Refusal;
+use game_text::{Kind, Refusal};
 use kohlberg::{Family, Mode};
 
 /// The name of a refusal.
@@ -54,5 +54,18 @@ pub fn mode_word(mode: Mode) -> &'static str
     match mode {
         Mode::Players => "players",
         Mode::Span => "span",
+    }
+}
+
+/// The word for a kind of generated games.
+pub fn kind_word(kind: Kind) -> &'static str
+    ensures { result.now ≡ kind_word kind }
+{
+    match kind {
+        Kind::Table => "table",
+        Kind::Airport => "airport",
+        Kind::Bankruptcy => "bankruptcy",
+        Kind::Tree => "tree",
+        Kind::Assignment => "assignment",
     }
 }

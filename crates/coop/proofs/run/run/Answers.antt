@@ -1,28 +1,54 @@
-use Rattle.std.proofs.Common.{◌<◌, ℕ, List, length, take, refl, sym, subst, ◌∙◌}
+use Rattle.std.proofs.Common.{◌<◌, ℕ, List, length, take, refl, subst, ◌∙◌, inl, inr}
 use Rattle.std.specs.Io.KnownBytes.{Appends}
 use Rattle.report.specs.declared.answer.Answer.TheVariants.{Usage}
 use Rattle.report.specs.declared.answer.UsageKind.TheVariants.{Words}
-use Rattle.coop.specs.Outcome.{IsRight}
 use Rattle.coop.proofs.Ended.{ended}
 use Rattle.coop.proofs.ReadLines.{is_read_back_from}
 use Rattle.coop.proofs.Right.{no_command, right_usage}
+use Rattle.coop.proofs.Requests.{is_fit}
+use Rattle.coop.proofs.GeneratorEnds.{asks_for_something, asks_for_nothing, made}
 use Rattle.coop.proofs.run.run.Goals as goal
+
+pub answer-requires : goal.answer-requires
+answer-requires g c = is_fit _ c.in-Some.request c.in-Some.ensures
 
 pub returns-in-Ok-clause-ends : goal.returns-in-Ok-clause-ends
 returns-in-Ok-clause-ends g c =
     let took = Appends (g.K.Sink.taken c.args.sink.now) (g.K.Sink.taken c.write_line.new.sink) in
-    (Usage Words, right_usage _ _ (no_command _ _ c.command_of.ensures c.in_default.not-Some), refl, subst took c.usage_line.ensures c.in-Ok.ensures.ok, tt)
+    (Usage Words, right_usage _ _ (no_command _ _ c.request_of.ensures c.in_default.not-Some), refl, subst took c.usage_line.ensures c.in-Ok.ensures.ok, tt)
 
 pub returns-in-Err-clause-ends : goal.returns-in-Err-clause-ends
 returns-in-Err-clause-ends g c =
     let took = Appends (g.K.Sink.taken c.args.sink.now) (g.K.Sink.taken c.write_line.new.sink) in
-    (Usage Words, right_usage _ _ (no_command _ _ c.command_of.ensures c.in_default.not-Some), subst (λ (l : List ℕ). (n : ℕ) × (n < length l) × took (take n l)) c.usage_line.ensures c.in-Err.ensures.err)
+    (Usage Words, right_usage _ _ (no_command _ _ c.request_of.ensures c.in_default.not-Some), subst (λ (l : List ℕ). (n : ℕ) × (n < length l) × took (take n l)) c.usage_line.ensures c.in-Err.ensures.err)
 
 pub returns-in-Ok-write_line-clause-ends : goal.returns-in-Ok-write_line-clause-ends
 returns-in-Ok-write_line-clause-ends g c =
     let answer = c.in-Ok-answer.answer in
     let text = c.in-Ok-write_report.ensures.text in
-    let right = subst (λ (words : List (List ℕ)). IsRight words (g.S.Source.left c.args.source.now) (g.S.Source.left c.answer.new.source) answer) (sym c.in-Some.ensures) c.in-Ok-answer.ensures.right in
+    let right = c.in-Ok-answer.ensures.right _ c.in-Some.ensures in
     let took = subst (λ (l : List ℕ). Appends (g.K.Sink.taken c.args.sink.now) (g.K.Sink.taken c.write_line-2.new.sink) l) (c.deref.ensures.value ∙ text) c.in-Ok-write_line.ensures.ok in
     let again = is_read_back_from answer c.in-Ok-write_report.line.items text c.in-Ok-answer.ensures.readable c.in-Ok-write_report.ensures.utf8 c.in-Ok-write_report.ensures.reads_back in
     rw c.status_of-status.ensures (ended _ _ _ _ _ answer right took again)
+
+pub returns-in-Ok-write_line-clause-other_words : goal.returns-in-Ok-write_line-clause-other_words
+returns-in-Ok-write_line-clause-other_words g c = λ none. absurd (asks_for_nothing _ c.in-Some.request c.in-Some.ensures none)
+
+pub returns-in-Ok-write_line-clause-generated : goal.returns-in-Ok-write_line-clause-generated
+returns-in-Ok-write_line-clause-generated g c = λ asks.
+    let as_made = made _ c.in-Some.request _ _ c.answer.result c.in-Some.ensures asks c.answer.ensures.made in
+    let done = (rw c.in-Ok-answer.is at as_made).1 in
+    (as_made.0, inl (c.status_of-status.ensures ∙ done))
+
+pub returns-clause-ends : goal.returns-clause-ends
+returns-clause-ends g c =
+    let answer = c.in-Ok-answer.answer in
+    let text = c.in-Ok-write_report.ensures.text in
+    let right = c.in-Ok-answer.ensures.right _ c.in-Some.ensures in
+    let took = Appends (g.K.Sink.taken c.args.sink.now) (g.K.Sink.taken c.write_line-2.new.sink) in
+    (answer, right, subst (λ (l : List ℕ). (n : ℕ) × (n < length l) × took (take n l)) (c.deref.ensures.value ∙ text) c.in-Err-write_line.ensures.err)
+
+pub returns-clause-generated : goal.returns-clause-generated
+returns-clause-generated g c = λ asks.
+    let as_made = made _ c.in-Some.request _ _ c.answer.result c.in-Some.ensures asks c.answer.ensures.made in
+    (as_made.0, inr (inr refl))

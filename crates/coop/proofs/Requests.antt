@@ -1,0 +1,136 @@
+-- What words ask for: the parts of a generated game are told from its words, and other words are those of no command.
+use Rattle.std.proofs.Common.{◌≡◌, ◌≢◌, ◌^◌, ◌<◌, ℕ, zero, suc, pos, List, [], ◌∷◌, length, codes, nat_eq, slice_index, if◌then◌else◌, ℤ, Option, None, Some, refl, sym, ap, ap₂, ◌∙◌, subst, arith}
+use Rattle.std.proofs.lemmas.Int.{ints}
+use Rattle.std.proofs.lemmas.Option.{none-some, same_Some}
+use Rattle.fractions.specs.Fraction.{Fraction}
+use Rattle.fractions.specs.FractionTexts.{parsed, fraction_text}
+use Rattle.fractions.proofs.Divisors.{gcd_of_one}
+use Rattle.fractions.proofs.WrittenFractions.{read_back, read_text_is_written}
+use Rattle.game_text.specs.declared.command.Command.{Command}
+use Rattle.game_text.specs.declared.kind.Kind.{Kind}
+use Rattle.game_text.specs.declared.kind.Kind.TheVariants.{Table, Airport, Bankruptcy, Tree, Assignment}
+use Rattle.coop_gen.specs.Generated.{HasKindSize}
+use Rattle.report.specs.Words.{kind_word}
+use Rattle.coop.specs.Words.{word_of, number_text, IsGeneration, IsNoCommand, IsRequest, IsFit}
+use Rattle.coop.specs.declared.words.Request.{Request}
+use Rattle.coop.specs.declared.words.Request.TheVariants.{Read, Generate}
+
+-- ---- words by their places
+
+abbrev word_at : ℕ → List (List ℕ) → List ℕ
+word_at k [] = []
+word_at zero (word ∷ words) = word
+word_at (suc k) (word ∷ words) = word_at k words
+
+-- ---- kinds
+
+-- the kind of a word, by its length, and for two of one length by the first letter
+kind_in : List ℕ → Kind
+kind_in w =
+    if nat_eq (length w) 5 then Table else (if nat_eq (length w) 7 then Airport else (if nat_eq (length w) 4 then Tree else (if nat_eq (slice_index w 0) 98 then Bankruptcy else Assignment)))
+
+kind_read : (kind : Kind) → kind_in (kind_word kind) ≡ kind
+unfolding kind_in
+kind_read Table = refl
+kind_read Airport = refl
+kind_read Bankruptcy = refl
+kind_read Tree = refl
+kind_read Assignment = refl
+
+pub one_kind : (k l : Kind) → kind_word k ≡ kind_word l → k ≡ l
+one_kind k l e = sym (kind_read k) ∙ ap kind_in e ∙ kind_read l
+
+-- ---- numbers
+
+abbrev whole : ℕ → Fraction
+whole n = record { num = pos n; den = pos 1 }
+
+pub number_read : (n : ℕ) → n < 2 ^ 32 → parsed (number_text n) ≡ Some (record { num = pos n; den = pos 1 })
+number_read n h = read_back (record { num = pos n; den = pos 1 }) (record { positive = omega arith; lowest = gcd_of_one n }) (omega (arith, ints, h), omega arith)
+
+same_pos : (m n : ℕ) → pos m ≡ pos n → m ≡ n
+same_pos m n e = cc
+
+pub one_number : (m n : ℕ) → m < 2 ^ 32 → n < 2 ^ 32 → number_text m ≡ number_text n → m ≡ n
+one_number m n h k e =
+    same_pos m n (ap (λ (f : Fraction). f.num) (same_Some _ _ (sym (number_read m h) ∙ ap parsed e ∙ number_read n k)))
+
+-- a word that is no fraction's is no number's
+pub no_number : (word : List ℕ) → None ≡ parsed word → (n : ℕ) → n < 2 ^ 32 → number_text n ≢ word
+no_number word none n h e = none-some _ (none ∙ sym (ap parsed e) ∙ number_read n h)
+
+-- a number's word is read as that number
+pub read_as_whole : (word : List ℕ) (f : Fraction) → Some f ≡ parsed word → (n : ℕ) → n < 2 ^ 32 → number_text n ≡ word → f ≡ record { num = pos n; den = pos 1 }
+read_as_whole word f read n h e = same_Some _ _ (read ∙ sym (ap parsed e) ∙ number_read n h)
+
+-- a word that is read as a whole number is that number's
+pub is_number_text : (word : List ℕ) (f : Fraction) → Some f ≡ parsed word → (n : ℕ) → f.num ≡ pos n → f.den ≡ pos 1 → word ≡ number_text n
+is_number_text word f read n num den = sym (read_text_is_written word f read) ∙ ap₂ (λ (a b : ℤ). fraction_text (record { num = a; den = b })) num den
+
+-- ---- other words
+
+few_fit : (kind : Kind) (n : ℕ) → HasKindSize kind n → n < 2 ^ 32
+few_fit Table n h = omega (arith, h.1)
+few_fit Airport n h = omega (arith, h.1)
+few_fit Bankruptcy n h = omega (arith, h.1)
+few_fit Tree n h = omega (arith, h.1)
+few_fit Assignment n h = omega (arith, h.1)
+
+seed_fits : (seed : ℕ) → seed < 2 ^ 31 → seed < 2 ^ 32
+seed_fits seed h = omega (arith, h)
+
+-- one word that isn't that of a command
+pub one_word_is_none : (word : List ℕ) → ((command : Command) → word_of command ≢ word) → IsNoCommand (word ∷ [])
+one_word_is_none word h = record {
+  reads = λ command e. h command (sym (ap (word_at 0) e));
+  makes = λ kind n seed g. absurd (omega (arith, ap (λ (l : List (List ℕ)). length l) g.said));
+}
+
+-- neither one word nor four
+pub other_count_is_none : (words : List (List ℕ)) → length words ≢ 1 → length words ≢ 4 → IsNoCommand words
+other_count_is_none words one four = record {
+  reads = λ command e. one (ap (λ (l : List (List ℕ)). length l) e);
+  makes = λ kind n seed g. four (ap (λ (l : List (List ℕ)). length l) g.said);
+}
+
+module _ (first second third fourth : List ℕ) where
+  not_one : (command : Command) → ¬ (first ∷ second ∷ third ∷ fourth ∷ [] ≡ word_of command ∷ [])
+  not_one command e = absurd (omega (arith, ap (λ (l : List (List ℕ)). length l) e))
+
+  -- four words of which the first isn't `gen`
+  pub first_is_none : first ≢ codes "gen" → IsNoCommand (first ∷ second ∷ third ∷ fourth ∷ [])
+  first_is_none h = record { reads = not_one; makes = λ kind n seed g. h (ap (word_at 0) g.said) }
+
+  -- the second is that of no kind
+  pub kind_is_none : ((kind : Kind) → kind_word kind ≢ second) → IsNoCommand (first ∷ second ∷ third ∷ fourth ∷ [])
+  kind_is_none h = record { reads = not_one; makes = λ kind n seed g. h kind (sym (ap (word_at 1) g.said)) }
+
+  -- the third is no number
+  pub players_is_none : ((n : ℕ) → n < 2 ^ 32 → number_text n ≢ third) → IsNoCommand (first ∷ second ∷ third ∷ fourth ∷ [])
+  players_is_none h = record { reads = not_one; makes = λ kind n seed g. h n (few_fit kind n g.size) (sym (ap (word_at 2) g.said)) }
+
+  -- the fourth is no number
+  pub seed_is_none : ((n : ℕ) → n < 2 ^ 32 → number_text n ≢ fourth) → IsNoCommand (first ∷ second ∷ third ∷ fourth ∷ [])
+  seed_is_none h = record { reads = not_one; makes = λ kind n seed g. h seed (seed_fits seed g.small) (sym (ap (word_at 3) g.said)) }
+
+  -- the kind has no games of so many players, or the seed is too great
+  pub size_is_none : (kind : Kind) (n seed : ℕ) → second ≡ kind_word kind → third ≡ number_text n → fourth ≡ number_text seed → n < 2 ^ 32 → seed < 2 ^ 32 → ¬ (HasKindSize kind n × (seed < 2 ^ 31))
+      → IsNoCommand (first ∷ second ∷ third ∷ fourth ∷ [])
+  size_is_none kind n seed second_is third_is fourth_is small few misfit = record {
+    reads = not_one;
+    makes = λ kind' n' seed' g.
+        let kinds : kind' ≡ kind = one_kind kind' kind (sym (ap (word_at 1) g.said) ∙ second_is) in
+        let numbers : n' ≡ n = one_number n' n (few_fit kind' n' g.size) small (sym (ap (word_at 2) g.said) ∙ third_is) in
+        let seeds : seed' ≡ seed = one_number seed' seed (seed_fits seed' g.small) few (sym (ap (word_at 3) g.said) ∙ fourth_is) in
+        misfit (subst (λ (k : Kind). HasKindSize k n) kinds (subst (λ (m : ℕ). HasKindSize kind' m) numbers g.size), subst (λ (m : ℕ). m < 2 ^ 31) seeds g.small);
+  }
+
+  -- and where all fit, they are the words of a generated game
+  pub generation_is : (kind : Kind) (n seed : ℕ) → first ≡ codes "gen" → second ≡ kind_word kind → third ≡ number_text n → fourth ≡ number_text seed → HasKindSize kind n → seed < 2 ^ 31
+      → IsGeneration (first ∷ second ∷ third ∷ fourth ∷ []) kind n seed
+  generation_is kind n seed first_is second_is third_is fourth_is size small = record { said = cc; size = size; small = small }
+
+-- what words ask for can be answered
+pub is_fit : (words : List (List ℕ)) (r : Request) → IsRequest words r → IsFit r
+is_fit words (Read command) h = tt
+is_fit words (Generate kind n seed) h = (h.size, h.small)

@@ -1,0 +1,29 @@
+-- How a run ends whose words ask for a generated game.
+--
+--   AsksForGame   the words ask for a generated game
+--   IsMadeFor     for a generated game nothing is read, and the answer is positive, or memory wasn't found
+--   EndsMade      nothing was read, and the status is Done, or says that memory wasn't found or that a write failed
+use Rattle.std.specs.Prelude.{◌≡◌, ◌⊎◌, ⊤, ℕ, List, Option, Result, MatchResult}
+use Rattle.game_text.specs.declared.kind.Kind.{Kind}
+use Rattle.report.specs.declared.answer.Answer.{Answer}
+use Rattle.coop.specs.Words.{IsGeneration}
+use Rattle.coop.specs.Outcome.{status_of}
+use Rattle.coop.specs.declared.status.Status.{Status}
+use Rattle.coop.specs.declared.status.Status.TheVariants as status
+use Rattle.coop.specs.declared.stop.Stop.{Stop}
+use Rattle.coop.specs.declared.stop.Stop.TheVariants.{Memory}
+use Rattle.coop.specs.declared.words.Request.{Request}
+use Rattle.coop.specs.declared.words.Request.TheVariants.{Read, Generate}
+
+-- the words ask for a generated game
+abbrev pub AsksForGame : List (List ℕ) → Type 0
+AsksForGame words = (kind : Kind) × ((n : ℕ) × ((seed : ℕ) × IsGeneration words kind n seed))
+
+-- for a generated game nothing is read, and the answer is positive, or memory wasn't found
+abbrev pub IsMadeFor : Request → Option (List ℕ) → Option (List ℕ) → Result Answer Stop → Type 0
+IsMadeFor (Read command) old new r = ⊤
+IsMadeFor (Generate kind n seed) old new r = (new ≡ old) × MatchResult r (λ a. status_of a ≡ status.Done) (λ e. e ≡ Memory)
+
+-- nothing was read, and the status is Done, or says that memory wasn't found or that a write failed
+abbrev pub EndsMade : Option (List ℕ) → Option (List ℕ) → Status → Type 0
+EndsMade old new s = (new ≡ old) × ((s ≡ status.Done) ⊎ (s ≡ status.OutOfMemory) ⊎ (s ≡ status.WriteFault))

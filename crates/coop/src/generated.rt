@@ -1,0 +1,101 @@
+//! The nucleolus of a generated game.
+ghost use Rattle.std.specs.Prelude.{◌≡◌, ◌^◌, ◌<◌, length, IfOk, MatchOption};
+ghost use Rattle.definitions.specs.Games.{IsNucleolus};
+ghost use Rattle.definitions.specs.Certificates.{Certifies};
+ghost use Rattle.definitions.specs.declared.Family.TheVariants.{Imputations};
+ghost use Rattle.definitions.specs.declared.Measure.TheVariants.{Plain};
+ghost use Rattle.coop_gen.specs.Generated.{HasKindSize};
+ghost use Rattle.coop_gen.specs.Imputations.{HasImputations};
+ghost use Rattle.game_text.specs.Descriptions.{game_of};
+ghost use Rattle.game_text.specs.Games.{description_in};
+ghost use Rattle.coop.specs.Finding.{HasFewPlayers};
+ghost use Rattle.coop.specs.GeneratorClaims.{IsGreatestExcess, IsSummaryOf};
+
+use crate::solve::found_for;
+use checker::{Verdict, check};
+use coalitions::Coalition;
+use coop_gen::generate;
+use fractions::{Frac, OutOfMemory};
+use game_text::{Game, Kind};
+use kohlberg::Certificate;
+use nested_programs::Found;
+use report::Summary;
+use std::alloc::Global;
+use worth_core::{Family, Measure, Shares, Worth, measured_bound};
+
+/// What is said of the nucleolus of a generated game, after the checker has said yes to its certificate.
+pub fn summary_of(
+    alloc: Global,
+    kind: Kind,
+    players: u32,
+    seed: u32,
+) -> Result<Summary, OutOfMemory>
+    requires size { HasKindSize kind players }
+    requires seed { seed < 2 ^ 31 }
+    ensures { IfOk result (IsSummaryOf kind players seed) }
+{
+    let game = generate(alloc, kind, players, seed)?;
+    let shares = checked_shares(alloc, &game)?;
+    let greatest = greatest_excess(&game, &shares);
+    Ok(Summary {
+        kind,
+        players,
+        seed,
+        is_cost: game.is_cost(),
+        shares,
+        greatest,
+    })
+}
+
+// The shares of the nucleolus of a game that has imputations, whose certificate the checker says yes to.
+fn checked_shares(alloc: Global, game: &Game) -> Result<Shares, OutOfMemory>
+    requires few { HasFewPlayers (description_in game.now) }
+    requires imputations { HasImputations (game_of (description_in game.now)) }
+    ensures { IfOk result (IsNucleolus Imputations Plain (game_of (description_in game.now))) }
+{
+    let (shares, certificate) = match found_for(alloc, game, Family::Imputations)? {
+        Found::Point(shares, certificate) => (shares, certificate),
+        // The game has imputations.
+        Found::NoImputation { .. } => unreachable!(),
+    };
+    match approved(game, shares, &certificate) {
+        Some(shares) => Ok(shares),
+        // What was found meets all conditions.
+        None => unreachable!(),
+    }
+}
+
+// The shares, where the checker says yes to their certificate.
+fn approved(game: &Game, shares: Shares, certificate: &Certificate) -> Option<Shares>
+    requires shares { length shares.shares ≡ (game_of (description_in game.now)).players }
+    requires certificate { certificate.now.players ≡ (game_of (description_in game.now)).players }
+    ensures { MatchOption result (¬ Certifies certificate.now.mode Imputations Plain (game_of (description_in game.now)) shares certificate.now.levels) (IsNucleolus Imputations Plain (game_of (description_in game.now))) }
+{
+    let verdict = check(
+        game,
+        Family::Imputations,
+        Measure::Plain,
+        &shares,
+        certificate,
+    );
+    match verdict {
+        Verdict::Yes => Some(shares),
+        Verdict::No(_) => None,
+    }
+}
+
+// The greatest excess of a coalition that is neither empty nor all, and none for one player.
+fn greatest_excess(game: &Game, shares: &Shares) -> Option<Frac>
+    requires { length shares.now.shares ≡ (game_of (description_in game.now)).players }
+    ensures { IsGreatestExcess (game_of (description_in game.now)) shares.now result }
+{
+    let players = game.players();
+    if players == 1 {
+        return None;
+    }
+    let all = Coalition::all(players);
+    let greatest = measured_bound(game, shares, all, Measure::Plain);
+    // It is in lowest terms by its type, and this call says so.
+    greatest.den();
+    Some(greatest)
+}

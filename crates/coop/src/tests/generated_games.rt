@@ -1,0 +1,171 @@
+//! Games made from a number.
+use super::{printed, words_of};
+use crate::run::run;
+use crate::status::Status;
+use ports::{FailingSource, MemorySink};
+use std::alloc::Global;
+use std::test::Fail;
+
+// The status of a run of `gen` on these words, and the line that it printed. Each read of its source fails.
+fn made(alloc: Global, words: &[&str]) -> Result<(Status, Vec<u8>), Fail> {
+    let mut all = words_of(alloc, &["gen"])?;
+    for word in words {
+        all.push(String::from_str(alloc, *word)?)?;
+    }
+    let mut source = FailingSource::new(Vec::new(alloc), 1, [0].to_vec(alloc)?);
+    let mut sink = MemorySink::new(alloc, 2000).ok().ok_or("memory")?;
+    let status = run(alloc, &all, &mut source, &mut sink);
+    Ok((status, sink.taken().to_vec(alloc)?))
+}
+
+#[test]
+fn prints_what_it_found_of_a_generated_game(rt: HostRuntime) -> Result<(), Fail> {
+    for (words, line) in [
+        (
+            ["table", "2", "1"],
+            "{\"class\":\"table\",\"common\":\"2\",\"first\":\"538831/2\",\"greatest\":\"-538831/2\",\"last\":\"538831/2\",\"players\":2,\"seed\":1,\"verdict\":\"yes\"}\n",
+        ),
+        (
+            ["airport", "2", "1"],
+            "{\"class\":\"airport\",\"common\":\"1\",\"first\":\"446692\",\"greatest\":\"-92139\",\"last\":\"92139\",\"players\":2,\"seed\":1,\"verdict\":\"yes\"}\n",
+        ),
+        (
+            ["bankruptcy", "2", "1"],
+            "{\"class\":\"bankruptcy\",\"common\":\"1\",\"first\":\"269415\",\"greatest\":\"-92139\",\"last\":\"92139\",\"players\":2,\"seed\":1,\"verdict\":\"yes\"}\n",
+        ),
+        (
+            ["tree", "1", "1"],
+            "{\"class\":\"tree\",\"common\":\"1\",\"first\":\"33676\",\"greatest\":\"none\",\"last\":\"33676\",\"players\":1,\"seed\":1,\"verdict\":\"yes\"}\n",
+        ),
+        (
+            ["assignment", "2", "1"],
+            "{\"class\":\"assignment\",\"common\":\"1\",\"first\":\"16838\",\"greatest\":\"-16838\",\"last\":\"16838\",\"players\":2,\"seed\":1,\"verdict\":\"yes\"}\n",
+        ),
+    ] {
+        let (status, found) = made(rt.alloc(), &words)?;
+        assert_eq!(rt; status, Status::Done, "on {words:?}");
+        assert!(rt; found.as_slice() == line.as_bytes(), "on {words:?}");
+    }
+    Ok(())
+}
+
+#[test]
+fn the_greatest_games_of_each_kind_are_answered_alike_twice(rt: HostRuntime) -> Result<(), Fail> {
+    for words in [
+        ["airport", "64", "7"],
+        ["table", "12", "1"],
+        ["bankruptcy", "64", "2147483647"],
+        ["assignment", "16", "0"],
+        ["tree", "12", "1"],
+    ] {
+        let (status, line) = made(rt.alloc(), &words)?;
+        assert_eq!(rt; status, Status::Done, "on {words:?}");
+        assert!(rt; line.ends_with(b"\"verdict\":\"yes\"}\n"), "on {words:?}");
+        let (_, again) = made(rt.alloc(), &words)?;
+        assert!(rt; line == again, "on {words:?}");
+    }
+    Ok(())
+}
+
+#[test]
+fn other_words_behind_gen_are_those_of_no_command(rt: HostRuntime) -> Result<(), Fail> {
+    for words in [
+        ["table", "0", "1"],
+        ["table", "17", "1"],
+        ["tree", "0", "1"],
+        ["tree", "17", "1"],
+        ["airport", "0", "1"],
+        ["airport", "65", "7"],
+        ["bankruptcy", "0", "1"],
+        ["bankruptcy", "65", "1"],
+        ["assignment", "1", "1"],
+        ["assignment", "17", "1"],
+        ["table", "02", "1"],
+        ["table", "2", "01"],
+        ["table", "2", "00"],
+        ["table", "+2", "1"],
+        ["table", "-2", "1"],
+        ["table", "2", "-0"],
+        ["table", "2", "+1"],
+        ["table", "2", "1/2"],
+        ["table", "2", "2/1"],
+        ["table", "2", " 1"],
+        ["table", "", "1"],
+        ["table", "2", ""],
+        ["table", "2", "2147483648"],
+        ["table", "2", "4294967296"],
+        ["table", "2", "4294967297"],
+        ["table", "18446744073709551618", "1"],
+        ["table", "2", "1000000000000000000000000000000000000000000"],
+        ["cost-table", "2", "1"],
+        ["Table", "2", "1"],
+        ["", "2", "1"],
+    ] {
+        let (status, line) = made(rt.alloc(), &words)?;
+        assert_eq!(rt; status, Status::Usage, "on {words:?}");
+        assert!(rt;
+            line.as_slice() == b"{\"usage\":\"words\"}\n".as_slice(),
+            "on {words:?}"
+        );
+    }
+    Ok(())
+}
+
+#[test]
+fn gen_has_three_words_more(rt: HostRuntime) -> Result<(), Fail> {
+    let words: [&[&str]; 4] = [&[], &["table"], &["table", "2"], &["table", "2", "1", "1"]];
+    for words in words {
+        let (status, line) = made(rt.alloc(), words)?;
+        assert_eq!(rt; status, Status::Usage, "on {words:?}");
+        assert!(rt;
+            line.as_slice() == b"{\"usage\":\"words\"}\n".as_slice(),
+            "on {words:?}"
+        );
+    }
+    Ok(())
+}
+
+// The document of a generated table, by a program of its own.
+fn table_document(alloc: Global, players: u32, seed: u64) -> Result<Vec<u8>, Fail> {
+    let mut text = format!(in alloc;
+        "{{\"game\":{{\"class\":\"table\",\"players\":{players},\"worths\":["
+    )?;
+    let mut state = seed;
+    for s in 1..1u32 << players {
+        if s > 1 {
+            text.push(',')?;
+        }
+        if s.is_power_of_two() {
+            text.push('0')?;
+        } else {
+            state = (state * 1103515245 + 12345) % 2147483648;
+            text.push_str(format!(in alloc; "{}", state / 2048)?.as_str())?;
+        }
+    }
+    text.push_str("]}}")?;
+    Ok(text.into_bytes())
+}
+
+#[test]
+fn a_generated_table_has_the_nucleolus_of_its_document(rt: HostRuntime) -> Result<(), Fail> {
+    let alloc = rt.alloc();
+    for (players, words) in [(3, ["table", "3", "1"]), (12, ["table", "12", "1"])] {
+        let (_, line) = made(alloc, &words)?;
+        let line = String::from_utf8(line).ok().ok_or("no text")?;
+        let document = table_document(alloc, players, 1)?;
+        let (_, found) = printed(alloc, "nucleolus", &document)?;
+        let found = String::from_utf8(found).ok().ok_or("no text")?;
+        // The first level has the greatest excess of all.
+        let (_, levels) = found.split_once("\"excess\":").ok_or("no level")?;
+        let (greatest, _) = levels.split_once(",").ok_or("no excess")?;
+        let (_, shares) = found.split_once("\"shares\":[").ok_or("no shares")?;
+        let (first, _) = shares.split_once(",").ok_or("one share")?;
+        let (_, last) = shares.rsplit_once(",").ok_or("one share")?;
+        let last = last.strip_suffix("]}\n").ok_or("no end")?;
+        let middle = format!(in alloc;
+            "\"first\":{first},\"greatest\":{greatest},\"last\":{last},"
+        )?;
+        assert!(rt; line.contains(middle.as_str()), "{line}");
+    }
+    Ok(())
+}

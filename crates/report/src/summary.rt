@@ -1,0 +1,94 @@
+//! What is said of a generated game, as JSON.
+ghost use Rattle.std.specs.Prelude.{◌≡◌, ◌<◌, ◌-◌, length, codes, IfOk};
+ghost use Rattle.serde_json.specs.Data.{object, member, no_members};
+ghost use Rattle.serde_json.specs.View.{view};
+ghost use Rattle.report.specs.SummaryTrees.{least_denominator, player_share, greatest_data, summary_tree};
+ghost use Rattle.report.specs.Values.{integer_data};
+
+use crate::fraction::{integer_text, text_of};
+use crate::objects::with;
+use crate::shares::share_text;
+use crate::words::kind_word;
+use fractions::{Frac, OutOfMemory};
+use game_text::Kind;
+use serde_json::{Map, Value};
+use std::alloc::Global;
+use worth_core::Shares;
+
+/// What is said of a generated game, whose certificate the checker has said yes to.
+#[derive(Debug, Drop)]
+pub struct Summary {
+    /// The kind of the game.
+    pub kind: Kind,
+    /// The number of its players.
+    pub players: u32,
+    /// The number that it was made from.
+    pub seed: u32,
+    /// Whether its numbers are costs, so that shares are printed as payments.
+    pub is_cost: bool,
+    /// The shares of its nucleolus, as worth.
+    pub shares: Shares,
+    /// The greatest excess over the coalitions but the empty one and that of all, and none for one player.
+    pub greatest: Option<Frac>,
+}
+
+/// The JSON tree of a summary.
+pub fn summary_tree(alloc: Global, summary: &Summary) -> Result<Value, OutOfMemory>
+    ensures { IfOk result (λ v. view v ≡ summary_tree summary.now) }
+{
+    let players = summary.shares.players();
+    let class = Value::try_from_str(alloc, kind_word(summary.kind))?;
+    let common = common_value(alloc, &summary.shares)?;
+    let first = player_value(alloc, summary, 0)?;
+    let greatest = greatest_value(alloc, &summary.greatest)?;
+    let last = player_value(alloc, summary, players - 1)?;
+    let members = with(alloc, Map::new(alloc), "class", class)?;
+    let members = with(alloc, members, "common", common)?;
+    let members = with(alloc, members, "first", first)?;
+    let members = with(alloc, members, "greatest", greatest)?;
+    let members = with(alloc, members, "last", last)?;
+    let members = with(alloc, members, "players", Value::from(summary.players))?;
+    let members = with(alloc, members, "seed", Value::from(summary.seed))?;
+    let members = with(
+        alloc,
+        members,
+        "verdict",
+        Value::try_from_str(alloc, "yes")?,
+    )?;
+    Ok(Value::Object(members))
+}
+
+/// The least common denominator of shares.
+fn common_value(alloc: Global, shares: &Shares) -> Result<Value, OutOfMemory>
+    ensures { IfOk result (λ v. view v ≡ integer_data (least_denominator shares.now)) }
+{
+    let common = shares.least_den();
+    shares.den();
+    integer_value(alloc, common)
+}
+
+/// An integer.
+fn integer_value(alloc: Global, value: i128) -> Result<Value, OutOfMemory>
+    ensures { IfOk result (λ v. view v ≡ integer_data value) }
+{
+    Ok(Value::String(integer_text(alloc, value)?))
+}
+
+/// The share of a player, or what it pays.
+fn player_value(alloc: Global, summary: &Summary, i: u32) -> Result<Value, OutOfMemory>
+    requires { i < length summary.now.shares.shares }
+    ensures { IfOk result (λ v. view v ≡ player_share summary.now i) }
+{
+    let shares = &summary.shares;
+    share_text(alloc, shares.num(i), shares.den(), summary.is_cost)
+}
+
+/// The greatest excess, or that there is none.
+fn greatest_value(alloc: Global, greatest: &Option<Frac>) -> Result<Value, OutOfMemory>
+    ensures { IfOk result (λ v. view v ≡ greatest_data greatest.now) }
+{
+    match greatest {
+        Some(excess) => Ok(Value::String(text_of(alloc, excess)?)),
+        None => Ok(Value::try_from_str(alloc, "none")?),
+    }
+}

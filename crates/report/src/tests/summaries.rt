@@ -1,0 +1,70 @@
+//! Lines on generated games.
+use super::has_line;
+use crate::{Answer, Summary};
+use fractions::Frac;
+use game_text::Kind;
+use std::test::Fail;
+use worth_core::Shares;
+
+#[test]
+fn summaries_have_their_lines(rt: HostRuntime) -> Result<(), Fail> {
+    for (kind, is_cost, line) in [
+        (
+            Kind::Table,
+            false,
+            "{\"class\":\"table\",\"common\":\"3\",\"first\":\"-2/3\",\"greatest\":\"-5/2\",\"last\":\"2\",\"players\":4,\"seed\":9,\"verdict\":\"yes\"}\n",
+        ),
+        (
+            Kind::Airport,
+            true,
+            "{\"class\":\"airport\",\"common\":\"3\",\"first\":\"2/3\",\"greatest\":\"-5/2\",\"last\":\"-2\",\"players\":4,\"seed\":9,\"verdict\":\"yes\"}\n",
+        ),
+        (
+            Kind::Bankruptcy,
+            false,
+            "{\"class\":\"bankruptcy\",\"common\":\"3\",\"first\":\"-2/3\",\"greatest\":\"-5/2\",\"last\":\"2\",\"players\":4,\"seed\":9,\"verdict\":\"yes\"}\n",
+        ),
+        (
+            Kind::Tree,
+            true,
+            "{\"class\":\"tree\",\"common\":\"3\",\"first\":\"2/3\",\"greatest\":\"-5/2\",\"last\":\"-2\",\"players\":4,\"seed\":9,\"verdict\":\"yes\"}\n",
+        ),
+        (
+            Kind::Assignment,
+            false,
+            "{\"class\":\"assignment\",\"common\":\"3\",\"first\":\"-2/3\",\"greatest\":\"-5/2\",\"last\":\"2\",\"players\":4,\"seed\":9,\"verdict\":\"yes\"}\n",
+        ),
+    ] {
+        let shares = Shares::new([-4, -10, -22, 12].to_vec(rt.alloc())?, 6).ok_or("shares")?;
+        let greatest = Frac::new(-5, 2);
+        let summary = Summary {
+            kind,
+            players: 4,
+            seed: 9,
+            is_cost,
+            shares,
+            greatest,
+        };
+        assert!(rt;
+            has_line(rt.alloc(), Answer::Summary(summary), line)?,
+            "{line}"
+        );
+    }
+    Ok(())
+}
+
+#[test]
+fn one_player_has_no_greatest_excess(rt: HostRuntime) -> Result<(), Fail> {
+    let summary = Summary {
+        kind: Kind::Tree,
+        players: 1,
+        seed: 0,
+        is_cost: true,
+        shares: Shares::new([-5].to_vec(rt.alloc())?, 1).ok_or("shares")?,
+        greatest: None,
+    };
+    let line =
+        "{\"class\":\"tree\",\"common\":\"1\",\"first\":\"5\",\"greatest\":\"none\",\"last\":\"5\",\"players\":1,\"seed\":0,\"verdict\":\"yes\"}\n";
+    assert!(rt; has_line(rt.alloc(), Answer::Summary(summary), line)?);
+    Ok(())
+}
