@@ -18,7 +18,7 @@ use kohlberg::Certificate;
 use nested_programs::{Found, NestedFault};
 use report::Answer;
 use std::alloc::Global;
-use worth_core::{Family, Shares, Worth};
+use worth_core::{Family, Measure, Shares, Worth};
 use worth_tables::KeptWorths;
 
 /// The nucleolus of the game of a document, or its prenucleolus, with its certificate; or that there is no imputation.
@@ -86,7 +86,7 @@ fn by_programs<W: Worth>(alloc: Global, game: &W, family: Family) -> Result<Foun
     requires { (W.game game.now).players ≤ 16 }
     ensures { IfOk result (IsFoundFor family (W.game game.now)) }
 {
-    match nested_programs::solve(alloc, game, family) {
+    match nested_programs::solve(alloc, game, family, Measure::Plain) {
         Ok(found) => Ok(found),
         Err(NestedFault::Memory) => Err(OutOfMemory),
         Err(NestedFault::TooMany) => unreachable!(),
