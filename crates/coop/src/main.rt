@@ -6,6 +6,7 @@ mod bird_shares;
 mod check;
 mod core_search;
 mod judge;
+mod limits;
 mod run;
 mod shapley_values;
 mod solve;

@@ -4,6 +4,7 @@ mod cores;
 mod faults;
 mod networks_and_markets;
 mod nucleolus;
+mod per_head;
 mod proposals;
 mod refusals;
 mod shapley_shares;
