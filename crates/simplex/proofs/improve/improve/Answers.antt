@@ -84,13 +84,11 @@ replace-requires-clause-can_track g c =
 pub loop-id-smaller : goal.loop-id-smaller
 loop-id-smaller g c =
     let w = c.loop-id.work in
-    let p = c.in-Some-least_ratio.p in
-    let s = step g (goal.at.loop-id-smaller g c).In-Some-least_ratio in
+    let v = c.replace.new.self in
     let fc : FitsSigned w128 c.price_of-cost.result = search rules in
     let r = simp to_z-of_z at c.replace.ensures in
-    let v = c.replace.new.self in
-    Steps.replaced_room w.rows v.rows v.tracked v.den w.costs v.costs c.weights_of-weights.result p c.price_of-cost.result _ r.rows r.den r.costs
-    (Steps.smaller (g.C.Columns.program c.entering.new.self) c.args.with_costs w.rows w.ids w.inverse w.tracked w.den w.costs c.weights_of-weights.result c.in-Some.id p s v.inverse v.tracked c.price_of-cost.result c.price_of-cost.ensures r.inverse r.tracked)
+    Steps.replaced_room w.rows v.rows v.tracked v.den w.costs v.costs c.weights_of-weights.result _ c.price_of-cost.result _ r.rows r.den r.costs
+    (Steps.smaller _ _ _ _ _ _ _ _ _ _ _ (step g (goal.at.loop-id-smaller g c).In-Some-least_ratio) v.inverse v.tracked c.price_of-cost.result c.price_of-cost.ensures r.inverse r.tracked)
 
 pub loop-id-preserved : goal.loop-id-preserved
 loop-id-preserved g c =

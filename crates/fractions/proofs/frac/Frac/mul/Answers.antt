@@ -22,15 +22,13 @@ pub returns-in_err-num : goal.returns-in_err-num
 returns-in_err-num c =
     let l : FitsSigned w128 c.left.inside.num = search rules in
     let r : FitsSigned w128 c.right.inside.num = search rules in
-    let h = no_form _ _ _ (products (goal.at.returns-in_err-num c).After-right) (λ k. (simp to_z-of_z at (c.in_err-num.ensures {u = tt})) k.0) in
-    search rules
+    let h = no_form _ _ _ (products (goal.at.returns-in_err-num c).After-right) (λ k. (simp to_z-of_z at (c.in_err-num.ensures {u = tt})) k.0) in search rules
 
 pub returns-in_err-den : goal.returns-in_err-den
 returns-in_err-den c =
     let l : FitsSigned w128 c.left.inside.den = search rules in
     let r : FitsSigned w128 c.right.inside.den = search rules in
-    let h = no_form _ _ _ (products (goal.at.returns-in_err-den c).After-right) (λ k. (simp to_z-of_z at (c.in_err-den.ensures {u = tt})) k.1) in
-    search rules
+    let h = no_form _ _ _ (products (goal.at.returns-in_err-den c).After-right) (λ k. (simp to_z-of_z at (c.in_err-den.ensures {u = tt})) k.1) in search rules
 
 whole : (c : goal.In_ok-den) → IsRatio (record { num = c.in_ok-num.num; den = c.in_ok-den.den }) (c.args.self.now.num *ℤ c.args.other.now.num) (c.args.self.now.den *ℤ c.args.other.now.den)
 whole c =
