@@ -14,10 +14,12 @@ use Rattle.game_text.specs.Denominators.{tree_refusal}
 use Rattle.game_text.proofs.MatrixRows.{points_in, players_in}
 use Rattle.game_text.proofs.Passed.{passed_tests}
 use Rattle.game_text.specs.declared.command.Command.{Command}
-use Rattle.game_text.specs.Descriptions.{description_as, description_of}
+use Rattle.game_text.specs.Descriptions.{Description, table, cost_table, airport, bankruptcy, network, market, game_of, description_as, description_of}
 use Rattle.game_text.specs.declared.class.Class.{Class}
 use Rattle.game_text.specs.declared.class.Class.TheVariants.{Table, CostTable, Airport, Bankruptcy, Tree, Assignment}
 use Rattle.coop.specs.Finding.{HasFewPlayers}
+use Rattle.coop.specs.Limits.{nucleolus_limit}
+use Rattle.definitions.specs.declared.Measure.TheVariants.{Plain}
 
 few_if : (b c : Bool) (n : ℕ) → (c ≡ true → n ≤ 16) → unwrap_or (if b && c then Some n else None) 0 ≤ 16
 few_if true true n h = h refl
@@ -43,3 +45,12 @@ few_as (Some Assignment) game e h = (players_in game h).2
 
 pub few_players : (command : Command) (document : Data) → tree_refusal command document ≡ None → HasFewPlayers (description_of (game_tree document))
 few_players command document passed = few_as (class_of (game_tree document)) (game_tree document) refl (passed_tests command document passed).players
+
+-- within the limit of plain excess there are few players
+pub few_within : (d : Description) → (game_of d).players ≤ nucleolus_limit Plain d → HasFewPlayers d
+few_within (table n worths) h = h
+few_within (cost_table n costs) h = h
+few_within (airport costs) h = tt
+few_within (bankruptcy estate claims) h = tt
+few_within (network rows) h = h
+few_within (market rows) h = h

@@ -49,6 +49,7 @@ module _ (bytes : List ℕ) (d : Contents) where
         passed = this.passed;
         described = ap (λ (c : Contents). c.game) this.says;
         same = ap (λ (c : Contents). c.tree) this.says;
+        measured = ap (λ (c : Contents). c.measure) this.says;
         exact = k.exact;
         whole = k.whole;
         shallow = k.shallow;

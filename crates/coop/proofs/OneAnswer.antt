@@ -1,5 +1,5 @@
 -- Bytes that are checked have one right answer: of a document whose certificate certifies its shares it is yes.
-use Rattle.std.proofs.Common.{◌≡◌, ℕ, false, nat_eq, List, [], ◌∷◌, length, refl, sym, ap, subst, ◌∙◌, arith}
+use Rattle.std.proofs.Common.{◌≡◌, ◌≤◌, ℕ, false, nat_eq, List, [], ◌∷◌, length, refl, sym, ap, subst, ◌∙◌, arith}
 use Rattle.std.proofs.lemmas.Bool.{eq-eqb, false≢true}
 use Rattle.std.proofs.lemmas.Option.{none-some, same_Some}
 use Rattle.serde_json.specs.Data.{Data}
@@ -7,7 +7,6 @@ use Rattle.definitions.specs.Games.{Allocation}
 use Rattle.definitions.specs.Certificates.{Certifies}
 use Rattle.definitions.specs.Failures.{IsFirstFailure}
 use Rattle.definitions.specs.declared.Family.{Family}
-use Rattle.definitions.specs.declared.Measure.TheVariants.{Plain}
 use Rattle.kohlberg.specs.Certificate.{CertificateData}
 use Rattle.checker.specs.Meaning.{Means}
 use Rattle.checker.specs.declared.verdicts.Reason.{Reason}
@@ -25,8 +24,9 @@ use Rattle.game_text.specs.declared.refusal.Refusal.{Refusal}
 use Rattle.game_text.specs.declared.refusal.Refusal.TheVariants as refusal
 use Rattle.report.specs.declared.answer.Answer.{Answer}
 use Rattle.report.specs.declared.answer.Answer.TheVariants.{Verdict, Usage, Refused, Summary}
-use Rattle.report.specs.declared.answer.UsageKind.TheVariants.{Words}
+use Rattle.report.specs.declared.answer.UsageKind.TheVariants.{Words, Players}
 use Rattle.game_text.proofs.OfClass.{document_of_class}
+use Rattle.coop.specs.Limits.{check_limit}
 use Rattle.coop.specs.Checks.{Checks, HasEvidence}
 use Rattle.coop.specs.Headline.{AnswersTo, IsAnsweredFor, Answers}
 use Rattle.coop.specs.ReadBack.{SaysSame, CheckSaysYes}
@@ -77,21 +77,22 @@ module _ (given : Command) (bytes : List ℕ) (d : Contents) (document : IsDocum
 
 -- ---- one verdict
 
-module _ (d : Contents) (f : Family) (x : Allocation) (c : CertificateData) (evidence : HasEvidence d f x c) (certified : Certifies c.mode f Plain (game_of d.game) x c.levels) where
-  not_failing : (k : Family) (y : Allocation) (e : CertificateData) → HasEvidence d k y e → (r : Reason) → Means Plain y (IsFirstFailure e.mode k Plain (game_of d.game) y e.levels) r → ⊥
+module _ (d : Contents) (f : Family) (x : Allocation) (c : CertificateData) (evidence : HasEvidence d f x c) (taken : (game_of d.game).players ≤ check_limit d.measure) (certified : Certifies c.mode f d.measure (game_of d.game) x c.levels) where
+  not_failing : (k : Family) (y : Allocation) (e : CertificateData) → HasEvidence d k y e → (r : Reason) → Means d.measure y (IsFirstFailure e.mode k d.measure (game_of d.game) y e.levels) r → ⊥
   not_failing k y e other r means =
       let g = game_of d.game in
       let family = same_Some f k (sym evidence.family ∙ other.family) in
       let shares = same_Some x y (sym evidence.shares ∙ other.shares) in
       let certificate = same_Some c e (sym evidence.certificate ∙ other.certificate) in
-      let first : Certifies c.mode k Plain g x c.levels = subst (λ (k : Family). Certifies c.mode k Plain g x c.levels) family certified in
-      let second : Certifies c.mode k Plain g y c.levels = subst (λ (y : Allocation). Certifies c.mode k Plain g y c.levels) shares first in
-      let third : Certifies e.mode k Plain g y e.levels = subst (λ (e : CertificateData). Certifies e.mode k Plain g y e.levels) certificate second in
-      not_certified e.mode k Plain g y e.levels r means third
+      let first : Certifies c.mode k d.measure g x c.levels = subst (λ (k : Family). Certifies c.mode k d.measure g x c.levels) family certified in
+      let second : Certifies c.mode k d.measure g y c.levels = subst (λ (y : Allocation). Certifies c.mode k d.measure g y c.levels) shares first in
+      let third : Certifies e.mode k d.measure g y e.levels = subst (λ (e : CertificateData). Certifies e.mode k d.measure g y e.levels) certificate second in
+      not_certified e.mode k d.measure g y e.levels r means third
 
   only_verdict : (answer : Answer) → Checks d answer → answer ≡ Verdict Yes
   only_verdict (Verdict Yes) h = refl
-  only_verdict (Verdict (No r)) h = absurd (not_failing h.0 h.1.0 h.1.1.0 h.1.1.1.0 r h.1.1.1.1)
+  only_verdict (Verdict (No r)) h = absurd (not_failing h.1.0 h.1.1.0 h.1.1.1.0 h.1.1.1.1.0 r h.1.1.1.1.1)
+  only_verdict (Usage Players) h = absurd (omega (arith, h, taken))
   only_verdict answer h = absurd h
 
 -- ---- one answer
@@ -115,6 +116,6 @@ module _ (bytes : List ℕ) (d : Contents) (document : IsDocument command.Check 
 
 pub check_says_yes : (bytes : List ℕ) (d : Contents) → IsDocument command.Check bytes d → (f : Family) (printed : Data) (x : Allocation) (c : CertificateData) → SaysSame f printed x c d → CheckSaysYes bytes
 check_says_yes bytes d document f printed x c says = record {
-  yes = (command.Check, (refl, (d, (document, document_of_class command.Check bytes d document, (f, (says.shares, (c, (says.evidence, says.certifies))))))));
-  only = only_yes bytes d document (only_verdict d f says.shares c says.evidence says.certifies);
+  yes = (command.Check, (refl, (d, (document, document_of_class command.Check bytes d document, (says.taken, (f, (says.shares, (c, (says.evidence, says.certifies)))))))));
+  only = only_yes bytes d document (only_verdict d f says.shares c says.evidence says.taken says.certifies);
 }

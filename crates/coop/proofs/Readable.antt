@@ -10,7 +10,7 @@ use Rattle.definitions.specs.Certificates.{Level, Certifies}
 use Rattle.definitions.specs.declared.Family.{Family}
 use Rattle.fractions.proofs.WrittenFractions.{read_back}
 use Rattle.kohlberg.specs.Certificate.{CertificateData, IsCertificate}
-use Rattle.game_text.specs.Descriptions.{description_of, game_of, is_cost}
+use Rattle.game_text.specs.Descriptions.{Description, table, cost_table, airport, bankruptcy, network, market, description_of, game_of, is_cost}
 use Rattle.game_text.specs.Documents.{Contents, game_tree}
 use Rattle.game_text.specs.Denominators.{contents_of, tree_refusal}
 use Rattle.game_text.specs.Text.{document_limit}
@@ -27,7 +27,11 @@ use Rattle.reading_back.proofs.SameLevels.{same_certify}
 use Rattle.coop.specs.Needs.{IsAccepted}
 use Rattle.coop.specs.ReadBack.{SaysSame, CanBeChecked}
 use Rattle.kohlberg.specs.Solved.{HasFew, IsLowest, IsSolved}
-use Rattle.definitions.specs.declared.Measure.TheVariants.{Plain}
+use Rattle.definitions.specs.declared.Measure.{Measure}
+use Rattle.definitions.specs.declared.Measure.TheVariants.{Plain, PerHead}
+use Rattle.game_text.specs.Excess.{measure_of}
+use Rattle.coop.specs.Limits.{nucleolus_limit, check_limit}
+use Rattle.coop.specs.Headline.{IsTaken}
 use Rattle.definitions.proofs.Families.{allocation_of}
 
 -- ---- the levels
@@ -44,15 +48,26 @@ all_few : (n : ℕ) → n ≤ 64 → (ls : List Level) → AllByRecursion (HasFe
 all_few n few [] h = tt
 all_few n few (l ∷ ls) h = (omega (arith, h.0), all_few n few ls h.1)
 
+-- ---- the players
+
+within_check : (measure : Measure) (d : Description) → nucleolus_limit measure d ≤ check_limit measure
+within_check PerHead d = omega arith
+within_check Plain (table n worths) = omega arith
+within_check Plain (cost_table n costs) = omega arith
+within_check Plain (airport costs) = omega arith
+within_check Plain (bankruptcy estate claims) = omega arith
+within_check Plain (network rows) = omega arith
+within_check Plain (market rows) = omega arith
+
 -- ---- the line
 
 module _ (family : Family) (d : Contents) (value : Value) (are_costs : Bool) (x : Allocation) (c : CertificateData)
     (accepted : IsAccepted d) (same : view value ≡ d.tree) (signs : are_costs ≡ is_cost d.game)
-    (s : IsShares x) (h : IsCertificate c) (found : IsSolved c.mode family Plain (game_of d.game) x c) where
+    (s : IsShares x) (h : IsCertificate c) (found : IsSolved c.mode family d.measure (game_of d.game) x c) (taken : IsTaken d) where
   allocation : IsAllocation (game_of d.game) x
   allocation = allocation_of family (game_of d.game) x found.certifies.0
 
-  certified : Certifies c.mode family Plain (game_of d.game) x c.levels
+  certified : Certifies c.mode family d.measure (game_of d.game) x c.levels
   certified = found.certifies
 
   -- the game of the document, its tree and its signs are those that are printed
@@ -84,14 +99,18 @@ module _ (family : Family) (d : Contents) (value : Value) (are_costs : Bool) (x 
   says e of =
       let again = of.shares.2 in
       let games : d.game ≡ e.game = accepted.described ∙ ap description_of printed_game ∙ sym of.game in
+      let measures : d.measure ≡ e.measure = accepted.measured ∙ ap measure_of printed_game ∙ sym of.measure in
       let here = subst (λ g. IsAllocation (game_of g) x) games allocation in
+      let checked : (game_of d.game).players ≤ check_limit d.measure = omega (arith, taken, within_check d.measure d.game) in
       record {
         tree = of.tree;
         game = of.game;
+        measure = of.measure;
+        taken = subst (λ m. (game_of e.game).players ≤ check_limit m) measures (subst (λ g. (game_of g).players ≤ check_limit d.measure) games checked);
         shares = of.shares.0;
         evidence = record { family = of.family; shares = of.shares.1; certificate = of.certificate };
         same = again.same (game_of e.game) here;
-        certifies = same_certify c.mode family Plain (game_of e.game) x of.shares.0 c.levels (again.allocation (game_of e.game) here) (again.same (game_of e.game) here) (subst (λ g. Certifies c.mode family Plain (game_of g) x c.levels) games certified);
+        certifies = same_certify c.mode family e.measure (game_of e.game) x of.shares.0 c.levels (again.allocation (game_of e.game) here) (again.same (game_of e.game) here) (subst (λ m. Certifies c.mode family m (game_of e.game) x c.levels) measures (subst (λ g. Certifies c.mode family d.measure (game_of g) x c.levels) games certified));
       }
 
   pub can_be_checked : CanBeChecked (Nucleolus family value are_costs x c) family (view value) x c

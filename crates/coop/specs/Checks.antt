@@ -2,8 +2,8 @@
 --
 --   HasEvidence  the family, the shares and the certificate that a document gives
 --   IsComplete   a document gives them for its players
---   Checks       the answer is the right verdict
-use Rattle.std.specs.Prelude.{◌≡◌, length, Some}
+--   Checks       the answer is the right verdict, or that there are too many players
+use Rattle.std.specs.Prelude.{◌≡◌, ◌<◌, ◌≤◌, length, Some}
 use Rattle.definitions.specs.Games.{Allocation}
 use Rattle.definitions.specs.declared.Family.{Family}
 use Rattle.kohlberg.specs.Certificate.{CertificateData}
@@ -12,8 +12,9 @@ use Rattle.checker.specs.declared.verdicts.Verdict.{Verdict as CheckVerdict}
 use Rattle.game_text.specs.Descriptions.{game_of}
 use Rattle.game_text.specs.Documents.{Contents}
 use Rattle.report.specs.declared.answer.Answer.{Answer}
-use Rattle.report.specs.declared.answer.Answer.TheVariants.{Verdict}
-use Rattle.definitions.specs.declared.Measure.TheVariants.{Plain}
+use Rattle.report.specs.declared.answer.Answer.TheVariants.{Verdict, Usage}
+use Rattle.report.specs.declared.answer.UsageKind.TheVariants.{Players}
+use Rattle.coop.specs.Limits.{check_limit}
 
 -- the family, the shares and the certificate of a document that was to be checked
 pub record HasEvidence (d : Contents) (f : Family) (x : Allocation) (c : CertificateData) : Type 0 where
@@ -30,11 +31,12 @@ pub record IsComplete (d : Contents) : Type 0 where
   pub share_each : length shares.shares ≡ (game_of d.game).players
   pub players : certificate.players ≡ (game_of d.game).players
 
--- yes where the certificate meets all conditions for the shares, and no with the first that fails
+-- yes where the certificate meets all conditions for the shares by the measure of the document, and no with the first that fails
 abbrev pub IsCheckedAs : Contents → CheckVerdict → Type 0
-IsCheckedAs d v = (family : Family) × ((x : Allocation) × ((c : CertificateData) × (HasEvidence d family x c × IsVerdict c.mode family Plain (game_of d.game) x c.levels v)))
+IsCheckedAs d v = (family : Family) × ((x : Allocation) × ((c : CertificateData) × (HasEvidence d family x c × IsVerdict c.mode family d.measure (game_of d.game) x c.levels v)))
 
--- the answer is the right verdict on the certificate of a document
+-- the answer is the right verdict on the certificate of a document, or says that its game has more players than are checked
 abbrev pub Checks : Contents → Answer → Type 0
-Checks d (Verdict v) = IsCheckedAs d v
+Checks d (Verdict v) = ((game_of d.game).players ≤ check_limit d.measure) × IsCheckedAs d v
+Checks d (Usage Players) = check_limit d.measure < (game_of d.game).players
 Checks d _ = ⊥

@@ -1,11 +1,11 @@
--- What the solvers find, as the private functions below `solve_document` say it to one another.
+-- What the solvers find, as the private functions below `solve_document` and `core_document` say it to one another.
 --
 --   IsFoundFor     what a solver finds: shares and a certificate, or that there is no imputation
 --   HasFewPlayers  a game without a scheme of its own has at most 16 players
 use Rattle.std.specs.Prelude.{◌≤◌, ⊤}
 use Rattle.definitions.specs.Games.{Game}
 use Rattle.definitions.specs.declared.Family.{Family}
-use Rattle.definitions.specs.declared.Measure.TheVariants.{Plain}
+use Rattle.definitions.specs.declared.Measure.{Measure}
 use Rattle.tree_games.specs.Trees.{tree_game}
 use Rattle.assignment_games.specs.Assignments.{assignment_game}
 use Rattle.kohlberg.specs.Solved.{IsSolved}
@@ -14,10 +14,10 @@ use Rattle.nested_programs.specs.Answer.{LacksImputation}
 use Rattle.nested_programs.specs.declared.found.Found.{Found}
 use Rattle.nested_programs.specs.declared.found.Found.TheVariants as found
 
--- what a solver finds for the family
-abbrev pub IsFoundFor : Family → Game → Found → Type 0
-IsFoundFor family g (found.Point x c) = IsSolved c.mode family Plain g x c
-IsFoundFor family g (found.NoImputation alone total) = LacksImputation family g alone total
+-- what a solver finds for the family by the measure
+abbrev pub IsFoundFor : Family → Measure → Game → Found → Type 0
+IsFoundFor family measure g (found.Point x c) = IsSolved c.mode family measure g x c
+IsFoundFor family measure g (found.NoImputation alone total) = LacksImputation family g alone total
 
 -- a game without a scheme of its own has at most 16 players
 abbrev pub HasFewPlayers : Description → Type 0

@@ -1,11 +1,13 @@
--- THE HEADLINE. Every nucleolus printed for a game that was read is an imputation whose excesses over all coalitions, listed
--- from the greatest, come lexicographically before those of every other imputation. Its printed certificate meets written
--- conditions, which a separate checker decides and which alone imply this. And every airport or bankruptcy game to 64 players,
--- and every other with an imputation and at most sixteen, is so answered.
+-- THE HEADLINE. Every nucleolus printed for a game that was read is an imputation whose excesses over all coalitions, plain or
+-- per head as the document says, listed from the greatest, come lexicographically before those of every other imputation. Its
+-- printed certificate meets written conditions, which a separate checker decides and which alone imply this. And every game
+-- with an imputation is so answered: with plain excess every airport or bankruptcy game to 64 players, and every other of at
+-- most sixteen; with excess per head every game of at most eight.
 --
 -- It is the clause `ends` of `run`: after a status of an answer there is an answer that `Answers` the words and the bytes, and
 -- the sink took its line (`Ends` in Outcome.antt). What is below says it from the inside out:
 --
+--   IsTaken              the game has no more players than are answered by its measure
 --   IsSolution           the nucleolus of the game of a document, with its certificate, as it is printed
 --   IsWithoutImputation  the players alone are worth more than all, and both numbers as they are printed
 --   Solves               the answer is right for the family and the game of a document
@@ -17,7 +19,7 @@
 --
 -- No answer that isn't named is right, and the answers exclude one another: a nucleolus is an imputation, which gives each
 -- player at least what it is worth alone, so it can't come where the players alone are worth more than all.
-use Rattle.std.specs.Prelude.{◌≡◌, ℕ, List, Bool, ℤ, ◌<ℤ◌}
+use Rattle.std.specs.Prelude.{◌≡◌, ◌<◌, ◌≤◌, ℕ, List, Bool, ℤ, ◌<ℤ◌}
 use Rattle.serde_json.specs.Data.{Data}
 use Rattle.serde_json.specs.View.{view}
 use Rattle.definitions.specs.Coalitions.{grand_coalition}
@@ -25,7 +27,6 @@ use Rattle.definitions.specs.Games.{Game, Allocation, InFamily, IsNucleolus}
 use Rattle.definitions.specs.Certificates.{HasForm, Certifies}
 use Rattle.definitions.specs.declared.Family.{Family}
 use Rattle.definitions.specs.declared.Family.TheVariants.{Imputations, Preimputations}
-use Rattle.definitions.specs.declared.Measure.TheVariants.{Plain}
 use Rattle.kohlberg.specs.Certificate.{CertificateData}
 use Rattle.game_text.specs.Descriptions.{game_of, is_cost}
 use Rattle.game_text.specs.Documents.{Contents}
@@ -37,8 +38,9 @@ use Rattle.game_text.specs.declared.refusal.Refusal.{Refusal}
 use Rattle.nested_programs.specs.Answer.{singles}
 use Rattle.report.specs.declared.answer.Answer.{Answer}
 use Rattle.report.specs.declared.answer.Answer.TheVariants.{Nucleolus, NoImputation, Usage, Refused, Summary}
-use Rattle.report.specs.declared.answer.UsageKind.TheVariants.{Words}
+use Rattle.report.specs.declared.answer.UsageKind.TheVariants.{Words, Players}
 use Rattle.coop.specs.Words.{IsCommand, IsNoCommand}
+use Rattle.coop.specs.Limits.{nucleolus_limit}
 use Rattle.coop.specs.Judgement.{printed, JudgesAll}
 use Rattle.coop.specs.Checks.{Checks}
 use Rattle.coop.specs.CoreClaims.{SaysOfCore}
@@ -46,12 +48,17 @@ use Rattle.coop.specs.ShapleyClaims.{SaysOfShapley}
 use Rattle.coop.specs.BirdClaims.{SaysOfBird}
 use Rattle.coop.specs.GeneratorClaims.{IsSummaryFor}
 
--- The shares are a member of the family whose excesses over all coalitions, listed from the greatest, come before those of every other member. The certificate has its form for the game's players and meets all conditions for the shares, which alone imply this (`certificates_are_sound`). They stand beside the tree of the game that was read.
+-- the game has no more players than are answered by its measure
+abbrev pub IsTaken : Contents → Type 0
+IsTaken d = (game_of d.game).players ≤ nucleolus_limit d.measure d.game
+
+-- The shares are a member of the family whose excesses over all coalitions, by the measure of the document and listed from the greatest, come before those of every other member. The certificate has its form for the game's players and meets all conditions for the shares, which alone imply this (`certificates_are_sound`). They stand beside the tree of the game that was read.
 pub record IsSolution (family : Family) (d : Contents) (printed : Data) (are_costs : Bool) (x : Allocation) (c : CertificateData) : Type 0 where
-  pub nucleolus : IsNucleolus family Plain (game_of d.game) x
+  pub taken : IsTaken d
+  pub nucleolus : IsNucleolus family d.measure (game_of d.game) x
   pub players : c.players ≡ (game_of d.game).players
   pub form : HasForm c.mode (game_of d.game).players c.levels
-  pub certifies : Certifies c.mode family Plain (game_of d.game) x c.levels
+  pub certifies : Certifies c.mode family d.measure (game_of d.game) x c.levels
   pub tree : printed ≡ d.tree
   pub signs : are_costs ≡ is_cost d.game
 
@@ -63,10 +70,11 @@ pub record IsWithoutImputation (family : Family) (g : Game) (are_costs : Bool) (
   pub above : g.worth (grand_coalition g.players) <ℤ singles g
   pub none : (y : Allocation) → ¬ InFamily Imputations g y
 
--- the answer is right for the family and the game of a document
+-- the answer is right for the family and the game of a document: its nucleolus, that there is no imputation, or that it has more players than are answered
 abbrev pub Solves : Family → Contents → Answer → Type 0
 Solves family d (Nucleolus f tree are_costs x c) = (f ≡ family) × IsSolution family d (view tree) are_costs x c
-Solves family d (NoImputation alone total) = IsWithoutImputation family (game_of d.game) (is_cost d.game) alone total
+Solves family d (NoImputation alone total) = IsTaken d × IsWithoutImputation family (game_of d.game) (is_cost d.game) alone total
+Solves family d (Usage Players) = nucleolus_limit d.measure d.game < (game_of d.game).players
 Solves family d _ = ⊥
 
 -- the answer is right for a command and what its document says

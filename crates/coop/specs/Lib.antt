@@ -1,5 +1,6 @@
 pub mod Words
 pub mod Judgement
+pub mod Limits
 pub mod Checks
 pub mod CoreClaims
 pub mod ShapleyClaims

@@ -8,6 +8,7 @@ use Rattle.serde_json.specs.Written.{compact_text, has_float}
 use Rattle.json_texts.specs.Exact.{IsExact}
 use Rattle.game_text.specs.Descriptions.{description_of}
 use Rattle.game_text.specs.Documents.{Contents, game_tree}
+use Rattle.game_text.specs.Excess.{measure_of}
 use Rattle.game_text.specs.Denominators.{tree_refusal}
 use Rattle.game_text.specs.Text.{document_limit}
 use Rattle.game_text.specs.declared.command.Command.{Command}
@@ -22,6 +23,7 @@ pub record IsAccepted (d : Contents) : Type 0 where
   pub passed : tree_refusal command document ≡ None
   pub described : d.game ≡ description_of (game_tree document)
   pub same : d.tree ≡ game_tree document
+  pub measured : d.measure ≡ measure_of (game_tree document)
   pub exact : IsExact d.tree
   pub whole : has_float d.tree ≡ false
   pub shallow : depth d.tree ≤ 8

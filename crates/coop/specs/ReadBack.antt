@@ -13,6 +13,7 @@ use Rattle.definitions.specs.declared.Family.{Family}
 use Rattle.kohlberg.specs.Certificate.{CertificateData}
 use Rattle.game_text.specs.Descriptions.{description_of, game_of}
 use Rattle.game_text.specs.Documents.{Contents}
+use Rattle.game_text.specs.Excess.{measure_of}
 use Rattle.game_text.specs.Denominators.{contents_of, tree_refusal}
 use Rattle.game_text.specs.Refusals.{IsDocument}
 use Rattle.game_text.specs.Text.{document_limit}
@@ -22,18 +23,20 @@ use Rattle.report.specs.declared.answer.Answer.{Answer}
 use Rattle.report.specs.declared.answer.Answer.TheVariants.{Nucleolus, Verdict}
 use Rattle.checker.specs.declared.verdicts.Verdict.TheVariants.{Yes}
 use Rattle.coop.specs.Words.{word_of}
+use Rattle.coop.specs.Limits.{check_limit}
 use Rattle.coop.specs.Checks.{HasEvidence}
 use Rattle.coop.specs.Headline.{Answers}
-use Rattle.definitions.specs.declared.Measure.TheVariants.{Plain}
 
--- the document gives the game of this tree, the family, the same shares over some denominator, and the certificate, which certifies them
+-- the document gives the game of this tree and its measure, the family, the same shares over some denominator, and the certificate, which certifies them; the players aren't too many to be checked
 pub record SaysSame (f : Family) (printed : Data) (x : Allocation) (c : CertificateData) (d : Contents) : Type 0 where
   pub tree : d.tree ≡ printed
   pub game : d.game ≡ description_of printed
+  pub measure : d.measure ≡ measure_of printed
+  pub taken : (game_of d.game).players ≤ check_limit d.measure
   pub shares : Allocation
   pub evidence : HasEvidence d f shares c
   pub same : IsSame (game_of d.game) x shares
-  pub certifies : Certifies c.mode f Plain (game_of d.game) shares c.levels
+  pub certifies : Certifies c.mode f d.measure (game_of d.game) shares c.levels
 
 -- the line is no longer than a document to check may be, no test refuses its tree, and it says the same
 pub record CanBeChecked (answer : Answer) (f : Family) (printed : Data) (x : Allocation) (c : CertificateData) : Type 0 where

@@ -4,12 +4,14 @@ ghost use Rattle.report.specs.Limits.{IsPrintable};
 ghost use Rattle.coop.specs.Checks.{Checks, IsComplete};
 ghost use Rattle.coop.specs.ReadBack.{CanBeRead};
 
+use crate::limits::check_limit;
 use checker::check;
 use game_text::Document;
-use report::Answer;
-use worth_core::Measure;
+use report::{Answer, UsageKind};
+use worth_core::Worth;
 
-/// The verdict on what a document says is the nucleolus of its game, or the prenucleolus.
+/// The verdict on what a document says is the nucleolus of its game, or the prenucleolus, by the measure that it says; or that
+/// the game has more players than are checked by it.
 pub fn check_document(document: &Document) -> Answer
     requires { IsComplete (contents_in document.now) }
     ensures checks { Checks (contents_in document.now) result }
@@ -23,5 +25,10 @@ pub fn check_document(document: &Document) -> Answer
     ) else {
         unreachable!()
     };
-    Answer::Verdict(check(&document.game, family, Measure::Plain, shares, certificate))
+    if document.game.players() > check_limit(document.measure) {
+        return Answer::Usage(UsageKind::Players);
+    }
+    let measure = document.measure;
+    let verdict = check(&document.game, family, measure, shares, certificate);
+    Answer::Verdict(verdict)
 }

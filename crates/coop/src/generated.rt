@@ -11,7 +11,7 @@ ghost use Rattle.game_text.specs.Games.{description_in};
 ghost use Rattle.coop.specs.Finding.{HasFewPlayers};
 ghost use Rattle.coop.specs.GeneratorClaims.{IsGreatestExcess, IsSummaryOf};
 
-use crate::solve::found_for;
+use crate::solve::found_plainly;
 use checker::{Verdict, check};
 use coalitions::Coalition;
 use coop_gen::generate;
@@ -53,7 +53,7 @@ fn checked_shares(alloc: Global, game: &Game) -> Result<Shares, OutOfMemory>
     requires imputations { HasImputations (game_of (description_in game.now)) }
     ensures { IfOk result (IsNucleolus Imputations Plain (game_of (description_in game.now))) }
 {
-    let (shares, certificate) = match found_for(alloc, game, Family::Imputations)? {
+    let (shares, certificate) = match found_plainly(alloc, game, Family::Imputations)? {
         Found::Point(shares, certificate) => (shares, certificate),
         // The game has imputations.
         Found::NoImputation { .. } => unreachable!(),

@@ -7,6 +7,7 @@ mod check;
 mod core_search;
 mod generated;
 mod judge;
+mod limits;
 mod run;
 mod shapley_values;
 mod solve;

@@ -8,22 +8,27 @@ ghost use Rattle.game_text.specs.Readings.{contents_in};
 ghost use Rattle.report.specs.Limits.{IsPrintable};
 ghost use Rattle.coop.specs.Needs.{IsAccepted};
 ghost use Rattle.coop.specs.ReadBack.{CanBeRead};
+ghost use Rattle.definitions.specs.declared.Measure.{Measure};
+ghost use Rattle.coop.specs.Limits.{nucleolus_limit};
 ghost use Rattle.coop.specs.Finding.{HasFewPlayers, IsFoundFor};
 ghost use Rattle.coop.specs.Headline.{Solves};
 
 use crate::judge::printed_worth;
+use crate::limits::nucleolus_limit;
 use fractions::OutOfMemory;
 use game_text::{Document, Game};
 use kohlberg::Certificate;
 use nested_programs::{Found, NestedFault};
-use report::Answer;
+use report::{Answer, UsageKind};
 use std::alloc::Global;
-use worth_core::{Family, Shares, Worth};
+use worth_core::{Family, Measure, Shares, Worth};
 use worth_tables::KeptWorths;
 
-/// The nucleolus of the game of a document, or its prenucleolus, with its certificate; or that there is no imputation.
+/// The nucleolus of the game of a document, or its prenucleolus, by the measure that the document says, with its certificate;
+/// or that there is no imputation; or that the game has more players than are answered by the measure.
 ///
-/// Airport and bankruptcy games have schemes of their own, and the others are solved by nested linear programs.
+/// With plain excess airport and bankruptcy games have schemes of their own. The others, and all games with excess per head,
+/// are solved by nested linear programs.
 pub fn solve_document(
     alloc: Global,
     document: Document,
@@ -35,8 +40,10 @@ pub fn solve_document(
     ensures readable { IfOk result CanBeRead }
 {
     let is_cost = document.game.is_cost();
-    document.game.players();
-    match found_for(alloc, &document.game, family)? {
+    if document.game.players() > nucleolus_limit(document.measure, &document.game) {
+        return Ok(Answer::Usage(UsageKind::Players));
+    }
+    match found_for(alloc, &document.game, family, document.measure)? {
         Found::Point(shares, certificate) => {
             keep_their_limits(&shares, &certificate);
             Ok(Answer::Nucleolus {
@@ -54,10 +61,26 @@ pub fn solve_document(
     }
 }
 
-/// What the scheme of the game's class finds, or else the nested programs.
-pub fn found_for(alloc: Global, game: &Game, family: Family) -> Result<Found, OutOfMemory>
+// What is found by the measure.
+fn found_for(
+    alloc: Global,
+    game: &Game,
+    family: Family,
+    measure: Measure,
+) -> Result<Found, OutOfMemory>
+    requires { (game_of (description_in game.now)).players ≤ nucleolus_limit measure (description_in game.now) }
+    ensures { IfOk result (IsFoundFor family measure (game_of (description_in game.now))) }
+{
+    match measure {
+        Measure::Plain => found_plainly(alloc, game, family),
+        Measure::PerHead => by_programs(alloc, game, family, measure),
+    }
+}
+
+/// What the scheme of the game's class finds with plain excess, or else the nested programs.
+pub fn found_plainly(alloc: Global, game: &Game, family: Family) -> Result<Found, OutOfMemory>
     requires { HasFewPlayers (description_in game.now) }
-    ensures { IfOk result (IsFoundFor family (game_of (description_in game.now))) }
+    ensures { IfOk result (IsFoundFor family Measure.Plain (game_of (description_in game.now))) }
 {
     match game {
         Game::Airport(game) => {
@@ -68,10 +91,15 @@ pub fn found_for(alloc: Global, game: &Game, family: Family) -> Result<Found, Ou
             let solution = talmud::solve(alloc, game)?;
             Ok(point(solution))
         }
-        Game::Table(game) => by_programs(alloc, game, family),
-        Game::Cost(game) => by_programs(alloc, game, family),
-        Game::Tree(game) => by_programs(alloc, &KeptWorths::new(alloc, game)?, family),
-        Game::Assignment(game) => by_programs(alloc, game, family),
+        Game::Table(game) => by_programs(alloc, game, family, Measure::Plain),
+        Game::Cost(game) => by_programs(alloc, game, family, Measure::Plain),
+        Game::Tree(game) => by_programs(
+            alloc,
+            &KeptWorths::new(alloc, game)?,
+            family,
+            Measure::Plain,
+        ),
+        Game::Assignment(game) => by_programs(alloc, game, family, Measure::Plain),
     }
 }
 
@@ -82,11 +110,17 @@ fn point(solution: (Shares, Certificate)) -> Found
 }
 
 // What the nested programs find for a game of few players.
-fn by_programs<W: Worth>(alloc: Global, game: &W, family: Family) -> Result<Found, OutOfMemory>
-    requires { (W.game game.now).players ≤ 16 }
-    ensures { IfOk result (IsFoundFor family (W.game game.now)) }
+fn by_programs<W: Worth>(
+    alloc: Global,
+    game: &W,
+    family: Family,
+    measure: Measure,
+) -> Result<Found, OutOfMemory>
+    requires few { (W.game game.now).players ≤ 16 }
+    requires heads { measure ≡ Measure.PerHead → (W.game game.now).players ≤ 8 }
+    ensures { IfOk result (IsFoundFor family measure (W.game game.now)) }
 {
-    match nested_programs::solve(alloc, game, family) {
+    match nested_programs::solve(alloc, game, family, measure) {
         Ok(found) => Ok(found),
         Err(NestedFault::Memory) => Err(OutOfMemory),
         Err(NestedFault::TooMany) => unreachable!(),

@@ -5,6 +5,7 @@ mod faults;
 mod generated_games;
 mod networks_and_markets;
 mod nucleolus;
+mod per_head;
 mod proposals;
 mod refusals;
 mod shapley_shares;

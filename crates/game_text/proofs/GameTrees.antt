@@ -9,6 +9,7 @@ use Rattle.json_texts.specs.Exact.{IsOrdered}
 use Rattle.json_trees.specs.Keys.{has_only_keys}
 use Rattle.json_trees.specs.Trees.{parts, parts_at, passes, passes_if_there, is_number, is_text, is_array_of, are_two, integer, is_member, second_passes, first_parts, pair_members}
 use Rattle.game_text.specs.AirportClass.{airport_keys}
+use Rattle.game_text.specs.Excess.{is_measure}
 use Rattle.game_text.specs.Shape.{class_named, class_of, is_shaped_as, is_game_shaped}
 use Rattle.game_text.specs.TableClass.{is_sparse_pair, table_keys, lists_worths, lists_coalitions, is_table_shaped, table_players, players_at, has_worths_for, has_worth, has_table_numbers, is_small, is_worth}
 use Rattle.game_text.specs.BankruptcyClass.{bankruptcy_keys}
@@ -124,6 +125,17 @@ plain_names m d h e g =
     let kinds = and_parts (is_some (as_array e)) (list_all is_text (parts e)) (at_if_there (is_array_of is_text) (codes "names") d e h g) in
     plain_array m e kinds.0 (all_plain m is_text (plain_text m) (parts e) kinds.1)
 
+measure_text : (d : Data) → is_measure d ≡ true → is_text d ≡ true
+measure_text null h = absurd (false≢true h)
+measure_text (boolean b) h = absurd (false≢true h)
+measure_text (number n) h = absurd (false≢true h)
+measure_text (string s) h = refl
+measure_text (array ds) h = absurd (false≢true h)
+measure_text (object ms) h = absurd (false≢true h)
+
+plain_excess : (m : ℕ) (d : Data) → passes_if_there is_measure (get (codes "excess") d) ≡ true → IsPlainAt m (codes "excess") d
+plain_excess m d h e g = plain_text m e (measure_text e (at_if_there is_measure (codes "excess") d e h g))
+
 class_text : (d : Data) (c : Class) → option_and_then class_named (as_str d) ≡ Some c → is_text d ≡ true
 class_text null c h = absurd (cc h)
 class_text (boolean b) c h = absurd (cc h)
@@ -148,11 +160,17 @@ is_object d c h = member_of (codes "class") d (get (codes "class") d) refl (has_
 
 -- ---- airport and bankruptcy
 
+front_shaped : (game : Data) → is_game_shaped game ≡ true → ((passes_if_there (is_array_of is_text) (get (codes "names") game) && passes_if_there is_measure (get (codes "excess") game)) ≡ true) × (is_shaped_as (class_of game) game ≡ true)
+front_shaped game h = and_parts (passes_if_there (is_array_of is_text) (get (codes "names") game) && passes_if_there is_measure (get (codes "excess") game)) (is_shaped_as (class_of game) game) h
+
 named : (game : Data) → is_game_shaped game ≡ true → passes_if_there (is_array_of is_text) (get (codes "names") game) ≡ true
-named game h = (and_parts (passes_if_there (is_array_of is_text) (get (codes "names") game)) (is_shaped_as (class_of game) game) h).0
+named game h = (and_parts (passes_if_there (is_array_of is_text) (get (codes "names") game)) (passes_if_there is_measure (get (codes "excess") game)) (front_shaped game h).0).0
+
+measured : (game : Data) → is_game_shaped game ≡ true → passes_if_there is_measure (get (codes "excess") game) ≡ true
+measured game h = (and_parts (passes_if_there (is_array_of is_text) (get (codes "names") game)) (passes_if_there is_measure (get (codes "excess") game)) (front_shaped game h).0).1
 
 shaped_as : (game : Data) (c : Class) → class_of game ≡ Some c → is_game_shaped game ≡ true → is_shaped_as (Some c) game ≡ true
-shaped_as game c e h = subst (λ o. is_shaped_as o game ≡ true) e (and_parts (passes_if_there (is_array_of is_text) (get (codes "names") game)) (is_shaped_as (class_of game) game) h).1
+shaped_as game c e h = subst (λ o. is_shaped_as o game ≡ true) e (front_shaped game h).1
 
 deeper : (m k : ℕ) (d : Data) → m ≤ k → IsPlain m d → IsPlain k d
 deeper m k d h p = record { whole = p.whole; integers = p.integers; shallow = omega (arith, h, p.shallow) }
@@ -164,7 +182,7 @@ plain_airport : (game : Data) → IsOrdered game → class_of game ≡ Some Airp
 plain_airport game o c h w =
     let shape = and_parts (has_only_keys airport_keys game) (passes (is_array_of is_number) (get (codes "costs") game)) (shaped_as game Airport c h) in
     plain_known 3 airport_keys game o (is_object game Airport c) shape.0
-    (plain_class 3 game Airport c, (at_deeper 1 3 (codes "costs") game (omega arith) (plain_numbers is_cost (plain_cost 0) (codes "costs") game shape.1 w), (plain_names 2 game (named game h), tt)))
+    (plain_class 3 game Airport c, (at_deeper 1 3 (codes "costs") game (omega arith) (plain_numbers is_cost (plain_cost 0) (codes "costs") game shape.1 w), (plain_excess 3 game (measured game h), (plain_names 2 game (named game h), tt))))
 
 plain_bankruptcy : (game : Data) → IsOrdered game → class_of game ≡ Some Bankruptcy → is_game_shaped game ≡ true → has_numbers_as (Some Bankruptcy) game ≡ true → IsPlain 4 game
 plain_bankruptcy game o c h w =
@@ -175,7 +193,7 @@ plain_bankruptcy game o c h w =
       plain_class 3 game Bankruptcy c,
       (
         at_deeper 1 3 (codes "claims") game (omega arith) (plain_numbers is_cost (plain_cost 0) (codes "claims") game shape.1 numbers.1),
-        ((λ e g. plain_cost 3 e (at_there is_cost (codes "estate") game e numbers.0 g)), (plain_names 2 game (named game h), tt)),
+        ((λ e g. plain_cost 3 e (at_there is_cost (codes "estate") game e numbers.0 g)), (plain_excess 3 game (measured game h), (plain_names 2 game (named game h), tt))),
       ),
     )
 
@@ -195,7 +213,7 @@ plain_matrix : (game : Data) (c : Class) → IsOrdered game → class_of game �
 plain_matrix game c o e h s w =
     let shape = and_parts (has_only_keys matrix_keys game) (passes (is_array_of (is_array_of is_number)) (get (codes "matrix") game)) s in
     plain_known 3 matrix_keys game o (is_object game c e) shape.0
-    (plain_class 3 game c e, (at_deeper 2 3 (codes "matrix") game (omega arith) (plain_rows game shape.1 w), (plain_names 2 game (named game h), tt)))
+    (plain_class 3 game c e, (plain_excess 3 game (measured game h), (at_deeper 2 3 (codes "matrix") game (omega arith) (plain_rows game shape.1 w), (plain_names 2 game (named game h), tt))))
 
 -- ---- tables
 
@@ -250,10 +268,13 @@ plain_table game c o e h t n w m =
       (
         (λ d g. plain_worth 3 d (at_if_there is_worth (codes "default") game d numbers.1 g)),
         (
-          plain_names 2 game (named game h),
+          plain_excess 3 game (measured game h),
           (
-            plain_players 3 game n,
-            (plain_sparse game shape.1 listed.1 m, (at_deeper 1 3 (codes "worths") game (omega arith) (plain_worths game shape.1 listed.0), tt)),
+            plain_names 2 game (named game h),
+            (
+              plain_players 3 game n,
+              (plain_sparse game shape.1 listed.1 m, (at_deeper 1 3 (codes "worths") game (omega arith) (plain_worths game shape.1 listed.0), tt)),
+            ),
           ),
         ),
       ),

@@ -14,7 +14,7 @@ use Rattle.game_text.specs.Sizes.{is_cost}
 
 -- the keys of an airport game
 abbrev pub airport_keys : List (List ℕ)
-airport_keys = codes "class" ∷ codes "costs" ∷ codes "names" ∷ []
+airport_keys = codes "class" ∷ codes "costs" ∷ codes "excess" ∷ codes "names" ∷ []
 
 -- a list of costs
 abbrev pub is_airport_shaped : Data → Bool

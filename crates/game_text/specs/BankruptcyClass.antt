@@ -15,7 +15,7 @@ use Rattle.game_text.specs.Sizes.{is_cost}
 
 -- the keys of a bankruptcy game
 abbrev pub bankruptcy_keys : List (List ℕ)
-bankruptcy_keys = codes "class" ∷ codes "claims" ∷ codes "estate" ∷ codes "names" ∷ []
+bankruptcy_keys = codes "class" ∷ codes "claims" ∷ codes "estate" ∷ codes "excess" ∷ codes "names" ∷ []
 
 -- an estate and a list of claims
 abbrev pub is_bankruptcy_shaped : Data → Bool

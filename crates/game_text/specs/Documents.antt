@@ -5,7 +5,9 @@ use Rattle.serde_json.specs.Find.{get}
 use Rattle.definitions.specs.Games.{Allocation}
 use Rattle.definitions.specs.declared.Family.{Family}
 use Rattle.definitions.specs.declared.Family.TheVariants.{Imputations}
+use Rattle.definitions.specs.declared.Measure.{Measure}
 use Rattle.kohlberg.specs.Certificate.{CertificateData}
+use Rattle.game_text.specs.Excess.{measure_of}
 use Rattle.game_text.specs.Limits.{players}
 use Rattle.game_text.specs.Descriptions.{Description, description_of}
 use Rattle.game_text.specs.Shares.{shares_over}
@@ -14,10 +16,11 @@ use Rattle.certificate_texts.specs.Certificates.{certificate_of}
 use Rattle.game_text.specs.declared.command.Command.{Command}
 use Rattle.game_text.specs.Needs.{needs, given}
 
--- a game, the JSON tree that describes it, and the family, the shares and the certificate, where the command needs them
+-- a game, the JSON tree that describes it, the measure of its excesses, and the family, the shares and the certificate, where the command needs them
 pub record Contents : Type 0 where
   pub game : Description
   pub tree : Data
+  pub measure : Measure
   pub family : Option Family
   pub shares : Option Allocation
   pub certificate : Option CertificateData
@@ -47,6 +50,7 @@ abbrev pub contents_over : ℕ → Command → Data → Contents
 contents_over d command tree = record {
   game = description_of (game_tree tree);
   tree = game_tree tree;
+  measure = measure_of (game_tree tree);
   family = family_for command tree;
   shares = proposed_over d command (game_tree tree) tree;
   certificate = certificate_for command (game_tree tree) tree;

@@ -16,7 +16,7 @@ use Rattle.game_text.specs.Sizes.{is_cost}
 
 -- the keys of a game by its matrix
 abbrev pub matrix_keys : List (List ℕ)
-matrix_keys = codes "class" ∷ codes "matrix" ∷ codes "names" ∷ []
+matrix_keys = codes "class" ∷ codes "excess" ∷ codes "matrix" ∷ codes "names" ∷ []
 
 -- a list of rows of numbers
 abbrev pub is_matrix_shaped : Data → Bool

@@ -4,6 +4,7 @@ use Rattle.serde_json.specs.Data.{Data}
 use Rattle.serde_json.specs.View.{view}
 use Rattle.definitions.specs.Games.{Allocation}
 use Rattle.kohlberg.specs.Certificate.{CertificateData}
+use Rattle.game_text.specs.Excess.{measure_of}
 use Rattle.game_text.specs.Shape.{is_game_shaped}
 use Rattle.game_text.specs.Limits.{has_players, has_numbers}
 use Rattle.game_text.specs.Descriptions.{description_of}
@@ -89,13 +90,14 @@ IsCertificateFault command game tree Memory = ⊤
 
 -- what a document in memory says
 abbrev pub contents_in : Document → Contents
-contents_in d = record { game = description_in d.game; tree = view d.tree; family = d.family; shares = d.shares; certificate = d.certificate }
+contents_in d = record { game = description_in d.game; tree = view d.tree; measure = d.measure; family = d.family; shares = d.shares; certificate = d.certificate }
 
 -- the tests behind those of the shape, the players and the numbers pass, and this is what the tree says
 pub record IsLateReading (command : Command) (game tree : Data) (d : Document) : Type 0 where
   pub passed : late_refusal command game tree ≡ None
   pub described : description_in d.game ≡ description_of game
   pub same : view d.tree ≡ game
+  pub measure : d.measure ≡ measure_of game
   pub family : d.family ≡ family_for command tree
   pub shares : d.shares ≡ shares_for command game tree
   pub certificate : d.certificate ≡ certificate_for command game tree

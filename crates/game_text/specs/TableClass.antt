@@ -21,7 +21,7 @@ use Rattle.game_text.specs.Members.{mask_of, is_mask}
 
 -- the keys of a game of a table of worths or costs
 abbrev pub table_keys : List (List ℕ)
-table_keys = codes "class" ∷ codes "default" ∷ codes "names" ∷ codes "players" ∷ codes "sparse" ∷ codes "worths" ∷ []
+table_keys = codes "class" ∷ codes "default" ∷ codes "excess" ∷ codes "names" ∷ codes "players" ∷ codes "sparse" ∷ codes "worths" ∷ []
 
 -- a coalition and its number
 abbrev pub is_sparse_pair : Data → Bool

@@ -18,7 +18,8 @@ use std::alloc::Global;
 pub fn is_airport_shaped(game: &Value) -> bool
     ensures { result ≡ is_airport_shaped (view game.now) }
 {
-    has_only_keys(&["class", "costs", "names"], game) && has(game, "costs", &ArrayOf(Number))
+    has_only_keys(&["class", "costs", "excess", "names"], game)
+        && has(game, "costs", &ArrayOf(Number))
 }
 
 /// The number of players: one for each cost.

@@ -19,7 +19,7 @@ use std::alloc::Global;
 pub fn is_bankruptcy_shaped(game: &Value) -> bool
     ensures { result ≡ is_bankruptcy_shaped (view game.now) }
 {
-    has_only_keys(&["class", "claims", "estate", "names"], game)
+    has_only_keys(&["class", "claims", "estate", "excess", "names"], game)
         && has(game, "estate", &Number)
         && has(game, "claims", &ArrayOf(Number))
 }

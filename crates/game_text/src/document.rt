@@ -1,6 +1,6 @@
 //! A document that isn't refused.
 use crate::game::Game;
-use definitions::Family;
+use definitions::{Family, Measure};
 use kohlberg::Certificate;
 use serde_json::Value;
 use worth_core::Shares;
@@ -12,6 +12,9 @@ pub struct Document {
     pub game: Game,
     /// The JSON tree of the game, as it was read.
     pub tree: Value,
+    /// How the excesses of coalitions are measured: plain, or per head where the game says so. The nucleolus, the
+    /// prenucleolus and certificates go by it.
+    pub measure: Measure,
     /// The family that the answer names; there for every command that needs it.
     pub family: Option<Family>,
     /// The proposed shares, as worth over their least common denominator; there for every command that needs them.

@@ -12,6 +12,7 @@ mod check_tests;
 mod class;
 mod command;
 mod document;
+mod excess;
 mod fault;
 mod game;
 mod kind;

@@ -11,7 +11,7 @@ use serde_json::Value;
 pub fn is_matrix_shaped(game: &Value) -> bool
     ensures { result ≡ is_matrix_shaped (view game.now) }
 {
-    has_only_keys(&["class", "matrix", "names"], game)
+    has_only_keys(&["class", "excess", "matrix", "names"], game)
         && has(game, "matrix", &ArrayOf(ArrayOf(Number)))
 }
 

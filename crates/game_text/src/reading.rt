@@ -17,6 +17,7 @@ ghost use Rattle.game_text.specs.Readings.{HasSizes, IsFault, IsReading, IsTreeF
 use crate::building::game_of;
 use crate::command::Command;
 use crate::document::Document;
+use crate::excess::measure_of;
 use crate::fault::TextFault;
 use crate::game::Game;
 use crate::limits::{has_numbers, has_players, players};
@@ -124,6 +125,7 @@ fn document_of_numbers(
     Ok(Document {
         game: described,
         tree: copy,
+        measure: measure_of(game),
         family: needed_family(command, tree),
         shares,
         certificate,

@@ -10,6 +10,7 @@ use crate::airport_class::is_airport_shaped;
 use crate::bankruptcy_class::is_bankruptcy_shaped;
 use crate::class::Class;
 use crate::command::Command;
+use crate::excess::MeasureWord;
 use crate::matrix_class::is_matrix_shaped;
 use crate::table_class::is_table_shaped;
 use certificate_texts::{CertificateShape, family_of};
@@ -66,7 +67,9 @@ impl Form for GameShape {
     ghost form = { λ _. is_game_shaped };
 
     fn fits(&self, game: &Value) -> bool {
-        has_if_there(game, "names", &ArrayOf(Text)) && is_shaped_as(class_of(game), game)
+        has_if_there(game, "names", &ArrayOf(Text))
+            && has_if_there(game, "excess", &MeasureWord)
+            && is_shaped_as(class_of(game), game)
     }
 }
 

@@ -44,7 +44,9 @@ pub fn is_table_shaped(game: &Value) -> bool
     ensures { result ≡ is_table_shaped (view game.now) }
 {
     has_only_keys(
-        &["class", "default", "names", "players", "sparse", "worths"],
+        &[
+            "class", "default", "excess", "names", "players", "sparse", "worths",
+        ],
         game,
     ) && has(game, "players", &Number)
         && (lists_worths(game) || lists_coalitions(game))

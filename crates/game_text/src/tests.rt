@@ -1,6 +1,7 @@
 //! Documents that are refused, and what the others say.
 use super::*;
 use coalitions::Coalition;
+use definitions::Measure;
 use std::alloc::Global;
 use std::process::Abort;
 use std::test::Fail;
@@ -53,6 +54,9 @@ fn other_kinds_keys_and_words_are_refused(rt: HostRuntime) {
         "{\"game\":{\"class\":\"airport\",\"costs\":[\"1\"]},\"shares\":[1]}",
         "{\"game\":{\"class\":\"airport\",\"costs\":[1],\"players\":1},\"shares\":[1]}",
         "{\"game\":{\"class\":\"airport\",\"costs\":[1],\"names\":[\"a\",1]},\"shares\":[1]}",
+        "{\"game\":{\"class\":\"airport\",\"costs\":[1],\"excess\":\"half\"},\"shares\":[1]}",
+        "{\"game\":{\"class\":\"airport\",\"costs\":[1],\"excess\":\"Plain\"},\"shares\":[1]}",
+        "{\"game\":{\"class\":\"tree\",\"excess\":1,\"matrix\":[[0,1],[1,0]]},\"shares\":[1]}",
         "{\"game\":{\"claims\":[1],\"class\":\"bankruptcy\"},\"shares\":[1]}",
         "{\"game\":{\"claims\":[1],\"class\":\"bankruptcy\",\"estate\":\"1\"},\"shares\":[1]}",
         "{\"game\":{\"class\":\"table\",\"worths\":[1]},\"shares\":[1]}",
@@ -300,4 +304,50 @@ fn games_answer_with_the_bodies_of_their_classes(rt: HostRuntime) -> Result<(), 
 fn refusals_are_numbered_from_1(rt: HostRuntime) {
     assert_eq!(rt; Refusal::TooLong.number(), 1);
     assert_eq!(rt; Refusal::Certificate.number(), 12);
+}
+
+#[test]
+fn every_class_may_say_how_excess_is_measured(rt: HostRuntime) -> Result<(), Fail> {
+    for (game, shares, measure) in [
+        (
+            "{\"class\":\"airport\",\"costs\":[1]}",
+            "[1]",
+            Measure::Plain,
+        ),
+        (
+            "{\"class\":\"airport\",\"costs\":[1],\"excess\":\"per-head\"}",
+            "[1]",
+            Measure::PerHead,
+        ),
+        (
+            "{\"claims\":[1],\"class\":\"bankruptcy\",\"estate\":1,\"excess\":\"per-head\"}",
+            "[1]",
+            Measure::PerHead,
+        ),
+        (
+            "{\"class\":\"tree\",\"excess\":\"plain\",\"matrix\":[[0,1],[1,0]]}",
+            "[1]",
+            Measure::Plain,
+        ),
+        (
+            "{\"class\":\"assignment\",\"excess\":\"per-head\",\"matrix\":[[1]]}",
+            "[1,0]",
+            Measure::PerHead,
+        ),
+        (
+            "{\"class\":\"table\",\"excess\":\"per-head\",\"players\":1,\"worths\":[1]}",
+            "[1]",
+            Measure::PerHead,
+        ),
+        (
+            "{\"class\":\"cost-table\",\"excess\":\"per-head\",\"names\":[\"a\"],\"players\":1,\"sparse\":[]}",
+            "[0]",
+            Measure::PerHead,
+        ),
+    ] {
+        let text = document(rt.alloc(), game, shares)?;
+        let read = read_document(rt.alloc(), text.as_bytes(), Command::Propose)?;
+        assert!(rt; read.measure == measure, "on {game}");
+    }
+    Ok(())
 }

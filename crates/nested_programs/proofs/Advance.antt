@@ -1,19 +1,21 @@
 -- From an optimal stage to the reading behind its level, and the value of later multipliers at an earlier stage.
-use Rattle.std.proofs.Common.{◌≡◌, ◌⊎◌, ℕ, suc, ◌+◌, ◌-◌, ◌<◌, Bool, true, false, ◌&&◌, IsTrue, List, [], ◌∷◌, ◌++◌, length, map, ℤ, pos, ◌+ℤ◌, ◌-ℤ◌, ◌*ℤ◌, ◌≤ℤ◌, refl, sym, ap, subst, ◌∙◌, inl, inr, arith, nat_eq, nat_lt, int_le, if◌then◌else◌, slice_index_or}
+use Rattle.std.proofs.Common.{◌≡◌, ◌⊎◌, ℕ, suc, ◌+◌, ◌-◌, ◌<◌, Bool, true, false, ◌&&◌, IsTrue, List, [], ◌∷◌, ◌++◌, length, map, ℤ, pos, ◌-ℤ◌, ◌*ℤ◌, ◌≤ℤ◌, refl, sym, ap, subst, ◌∙◌, inl, inr, arith, nat_eq, nat_lt, int_le, if◌then◌else◌, slice_index_or}
 use Rattle.std.proofs.lemmas.Bool.{false≢true}
 use Rattle.std.proofs.lemmas.Bool.Decides.{nat_tests}
 use Rattle.std.specs.List.{list_any, AllByRecursion}
 use Rattle.definitions.proofs.Ring.{linear, mul-zeroℤ, mul-oneℤ, mul-subℤ}
 use Rattle.definitions.proofs.Members.{sum_below-zero}
 use Rattle.definitions.specs.Sums.{sum_below, weighted_sum}
-use Rattle.definitions.specs.Coalitions.{singleton, grand_coalition, sum_over}
+use Rattle.definitions.specs.Coalitions.{singleton, grand_coalition}
+use Rattle.definitions.specs.Measures.{divisor}
 use Rattle.definitions.specs.Games.{Game}
 use Rattle.definitions.specs.Certificates.{Level, has_bound}
 use Rattle.definitions.specs.Programs.{value_of}
 use Rattle.definitions.specs.declared.Family.{Family}
+use Rattle.definitions.specs.declared.Measure.{Measure}
 use Rattle.definitions.specs.declared.Family.TheVariants.{Imputations}
 use Rattle.separation.specs.Stage.{Column, signed, earlier_of, doubled, settled_columns, further_column, no_column, column, is_imputations, is_further, stage_program}
-use Rattle.nested_programs.specs.Reading.{IsReading, share_of, excess_of, nowhere}
+use Rattle.nested_programs.specs.Reading.{reached, IsReading, share_of, excess_of, nowhere}
 use Rattle.nested_programs.specs.Chain.{single_id, outer_id, HasWeight, Stage, StageHolds}
 use Rattle.nested_programs.proofs.Reading.{plus_value, column_value, column_value-is, Fixes, each_of, within_row, imputations_of, single_value, whole_value, of_settled, reading_of}
 use Rattle.nested_programs.proofs.Slack.{rise, tight_optimal, tight_value}
@@ -29,8 +31,8 @@ last_value q y =
     let rest = sum_below-zero q (λ r. y r *ℤ (if nat_eq r q then pos 1 else pos 0)) (λ r h. let u : nat_eq r q ≡ false = grind (arith, nat_tests) in rw u (mul-zeroℤ (y r))) in
     rw t (omega (arith, linear, rest, mul-oneℤ (y q)))
 
-pub right_value : (family : Family) (g : Game) (front : List Level) (outside : ℕ → Bool) (m : List ℤ) → value_of (stage_program family g front outside) m (stage_program family g front outside).right ≡ excess_of g.players m (length front)
-right_value family g front outside m =
+pub right_value : (family : Family) (measure : Measure) (g : Game) (front : List Level) (outside : ℕ → Bool) (m : List ℤ) → value_of (stage_program family measure g front outside) m (stage_program family measure g front outside).right ≡ excess_of g.players m (length front)
+right_value family measure g front outside m =
     let e : g.players + (length front + 1) ≡ suc (g.players + length front) = omega arith in
     rw e (last_value (g.players + length front) (λ r. slice_index_or m r (pos 0)))
 
@@ -60,22 +62,22 @@ column_single n front i h = column_further n front i ∙ kind
     kind = let t : nat_lt i n ≡ true = grind (arith, nat_tests) in rw t refl
 
 -- a column's rise, by what the column is
-abbrev pub column_rise : Game → ℕ → (ℕ → ℤ) → (ℕ → ℤ) → ℤ → Column → ℤ
-column_rise g j x e den c = den *ℤ signed c.minus (g.worth c.mask) -ℤ column_value g.players j x e c
+abbrev pub column_rise : Measure → Game → ℕ → (ℕ → ℤ) → (ℕ → ℤ) → ℤ → Column → ℤ
+column_rise measure g j x e den c = den *ℤ signed c.minus (g.worth c.mask) -ℤ column_value measure g.players j x e c
 
-pub rise_at : (family : Family) (g : Game) (front : List Level) (outside : ℕ → Bool) (m : List ℤ) (den : ℤ) (id : ℕ) → rise (stage_program family g front outside) m den id ≡ column_rise g (length front + 1) (share_of m) (excess_of g.players m) den (column g.players front id)
-rise_at family g front outside m den id =
-    ap (λ z. den *ℤ (stage_program family g front outside).cost id -ℤ z) (column_value-is family g front outside m id)
+pub rise_at : (family : Family) (measure : Measure) (g : Game) (front : List Level) (outside : ℕ → Bool) (m : List ℤ) (den : ℤ) (id : ℕ) → rise (stage_program family measure g front outside) m den id ≡ column_rise measure g (length front + 1) (share_of m) (excess_of g.players m) den (column g.players front id)
+rise_at family measure g front outside m den id =
+    ap (λ z. den *ℤ (stage_program family measure g front outside).cost id -ℤ z) (column_value-is family measure g front outside m id)
 
-pub outer_tight : (family : Family) (g : Game) (front : List Level) (outside : ℕ → Bool) (m : List ℤ) (den : ℤ) (s : ℕ) → rise (stage_program family g front outside) m den (outer_id g.players front s) ≡ pos 0 → den *ℤ g.worth s ≡ sum_over g.players (share_of m) s +ℤ excess_of g.players m (length front)
-outer_tight family g front outside m den s h =
-    let at = sym (ap (column_rise g (length front + 1) (share_of m) (excess_of g.players m) den) (column_outer g.players front s)) ∙ sym (rise_at family g front outside m den (outer_id g.players front s)) ∙ h in
-    omega (arith, linear, at, within_row (length front + 1) (length front) (excess_of g.players m) (omega arith))
+pub outer_tight : (family : Family) (measure : Measure) (g : Game) (front : List Level) (outside : ℕ → Bool) (m : List ℤ) (den : ℤ) (s : ℕ) → rise (stage_program family measure g front outside) m den (outer_id g.players front s) ≡ pos 0 → den *ℤ g.worth s ≡ reached measure g.players (share_of m) (excess_of g.players m) s (length front)
+outer_tight family measure g front outside m den s h =
+    let at = sym (ap (column_rise measure g (length front + 1) (share_of m) (excess_of g.players m) den) (column_outer g.players front s)) ∙ sym (rise_at family measure g front outside m den (outer_id g.players front s)) ∙ h in
+    omega (arith, linear, at, within_row (length front + 1) (length front) (excess_of g.players m) (pos (divisor measure s)) (omega arith))
 
-pub single_tight : (family : Family) (g : Game) (front : List Level) (outside : ℕ → Bool) (m : List ℤ) (den : ℤ) (i : ℕ) → i < g.players → rise (stage_program family g front outside) m den (single_id g.players front i) ≡ pos 0 → share_of m i ≡ den *ℤ g.worth (singleton i)
-single_tight family g front outside m den i lt h =
-    let at = sym (ap (column_rise g (length front + 1) (share_of m) (excess_of g.players m) den) (column_single g.players front i lt)) ∙ sym (rise_at family g front outside m den (single_id g.players front i)) ∙ h in
-    omega (arith, linear, at, single_value g.players (length front) i (share_of m) (excess_of g.players m) lt)
+pub single_tight : (family : Family) (measure : Measure) (g : Game) (front : List Level) (outside : ℕ → Bool) (m : List ℤ) (den : ℤ) (i : ℕ) → i < g.players → rise (stage_program family measure g front outside) m den (single_id g.players front i) ≡ pos 0 → share_of m i ≡ den *ℤ g.worth (singleton i)
+single_tight family measure g front outside m den i lt h =
+    let at = sym (ap (column_rise measure g (length front + 1) (share_of m) (excess_of g.players m) den) (column_single g.players front i lt)) ∙ sym (rise_at family measure g front outside m den (single_id g.players front i)) ∙ h in
+    omega (arith, linear, at, single_value measure g.players (length front) i (share_of m) (excess_of g.players m) lt)
 
 -- ---- lists
 
@@ -120,20 +122,20 @@ pair_at P k (c ∷ cs) s h any = elim (or_cases (nat_eq c.0 s) (list_any (λ c. 
 
 -- ---- readings behind fewer levels
 
-abbrev pub Settled_pairs : Game → List ℤ → ℤ → List (ℕ × ℕ) → Type 0
-Settled_pairs g m den cs =
-    AllByRecursion (λ c. den *ℤ g.worth c.0 ≡ sum_over g.players (share_of m) c.0 +ℤ excess_of g.players m c.1) cs
+abbrev pub Settled_pairs : Measure → Game → List ℤ → ℤ → List (ℕ × ℕ) → Type 0
+Settled_pairs measure g m den cs =
+    AllByRecursion (λ c. den *ℤ g.worth c.0 ≡ reached measure g.players (share_of m) (excess_of g.players m) c.0 c.1) cs
 
 -- multipliers that settle the levels
-abbrev pub Reads : Family → Game → List Level → List ℤ → ℤ → Type 0
-Reads family g levels m den = IsReading family g levels nowhere (share_of m) (excess_of g.players m) den
+abbrev pub Reads : Family → Measure → Game → List Level → List ℤ → ℤ → Type 0
+Reads family measure g levels m den = IsReading family measure g levels nowhere (share_of m) (excess_of g.players m) den
 
-pub restrict : (family : Family) (g : Game) (xs ys : List Level) (m : List ℤ) (den : ℤ) → Reads family g (xs ++ ys) m den → Reads family g xs m den
-restrict family g xs ys m den r =
+pub restrict : (family : Family) (measure : Measure) (g : Game) (xs ys : List Level) (m : List ℤ) (den : ℤ) → Reads family measure g (xs ++ ys) m den → Reads family measure g xs m den
+restrict family measure g xs ys m den r =
     record {
       positive = r.positive;
       whole = r.whole;
-      settled = all_left (λ c. den *ℤ g.worth c.0 ≡ sum_over g.players (share_of m) c.0 +ℤ excess_of g.players m c.1) (earlier_of 0 xs) (earlier_of (0 + length xs) ys) (subst (Settled_pairs g m den) (earlier_of-append 0 xs ys) r.settled);
+      settled = all_left (λ c. den *ℤ g.worth c.0 ≡ reached measure g.players (share_of m) (excess_of g.players m) c.0 c.1) (earlier_of 0 xs) (earlier_of (0 + length xs) ys) (subst (Settled_pairs measure g m den) (earlier_of-append 0 xs ys) r.settled);
       single = r.single;
       bound = λ f i h b. r.bound f i h (any_left (λ l. list_any (λ b. nat_eq b.0 i && int_le (pos 1) b.1) l.bounds) xs ys b);
       outer = λ s o. absurd (false≢true o);
@@ -142,14 +144,14 @@ restrict family g xs ys m den r =
 -- ---- what an optimal stage settles
 
 -- the coalitions of the new level
-new_pairs : (family : Family) (g : Game) (front : List Level) (outside : ℕ → Bool) (m : List ℤ) (den : ℤ) (ws cs : List (ℕ × ℤ)) → ((id : ℕ) → HasWeight ws id → IsTrue ((stage_program family g front outside).is_column id) × (rise (stage_program family g front outside) m den id ≡ pos 0)) → AllByRecursion (λ c. (pos 1 ≤ℤ c.1) × HasWeight ws (outer_id g.players front c.0)) cs → Settled_pairs g m den (map (λ c. (c.0, length front)) cs ++ [])
-new_pairs family g front outside m den ws [] tight h = tt
-new_pairs family g front outside m den ws (c ∷ cs) tight h =
-    (outer_tight family g front outside m den c.0 (tight (outer_id g.players front c.0) h.0.1).1, new_pairs family g front outside m den ws cs tight h.1)
+new_pairs : (family : Family) (measure : Measure) (g : Game) (front : List Level) (outside : ℕ → Bool) (m : List ℤ) (den : ℤ) (ws cs : List (ℕ × ℤ)) → ((id : ℕ) → HasWeight ws id → IsTrue ((stage_program family measure g front outside).is_column id) × (rise (stage_program family measure g front outside) m den id ≡ pos 0)) → AllByRecursion (λ c. (pos 1 ≤ℤ c.1) × HasWeight ws (outer_id g.players front c.0)) cs → Settled_pairs measure g m den (map (λ c. (c.0, length front)) cs ++ [])
+new_pairs family measure g front outside m den ws [] tight h = tt
+new_pairs family measure g front outside m den ws (c ∷ cs) tight h =
+    (outer_tight family measure g front outside m den c.0 (tight (outer_id g.players front c.0) h.0.1).1, new_pairs family measure g front outside m den ws cs tight h.1)
 
 -- the column of a player alone stands there only for imputations
-pub single_family : (family : Family) (g : Game) (front : List Level) (outside : ℕ → Bool) (i : ℕ) → i < g.players → IsTrue ((stage_program family g front outside).is_column (single_id g.players front i)) → family ≡ Imputations
-single_family family g front outside i h is_so =
+pub single_family : (family : Family) (measure : Measure) (g : Game) (front : List Level) (outside : ℕ → Bool) (i : ℕ) → i < g.players → IsTrue ((stage_program family measure g front outside).is_column (single_id g.players front i)) → family ≡ Imputations
+single_family family measure g front outside i h is_so =
     let len : ℕ = length (settled_columns g.players front) in
     let t : nat_lt (len + i) len ≡ false = grind (arith, nat_tests) in
     let v : len + i - len ≡ i = omega arith in
@@ -171,20 +173,20 @@ new_bound family g front ws (b ∷ bs) Tight new old h i any = elim (or_cases (n
   | inr more ↦ new_bound family g front ws bs Tight new old h.1 i more
 ]
 
-pub advance : (family : Family) (g : Game) (front : List Level) (t : Stage) → StageHolds family g front t → Reads family g (front ++ t.level ∷ []) t.multipliers t.den
-advance family g front t holds =
+pub advance : (family : Family) (measure : Measure) (g : Game) (front : List Level) (t : Stage) → StageHolds family measure g front t → Reads family measure g (front ++ t.level ∷ []) t.multipliers t.den
+advance family measure g front t holds =
     let outside : ℕ → Bool = t.outside in
     let m : List ℤ = t.multipliers in
     let den : ℤ = t.den in
-    let tight = tight_optimal (stage_program family g front outside) t.weights t.weight_den m den holds.optimal in
-    let r = reading_of family g front outside m den holds.optimal.1 in
+    let tight = tight_optimal (stage_program family measure g front outside) t.weights t.weight_den m den holds.optimal in
+    let r = reading_of family measure g front outside m den holds.optimal.1 in
     let test : ℕ → Level → Bool = λ i l. list_any (λ b. nat_eq b.0 i && int_le (pos 1) b.1) l.bounds in
-    let pairs : Settled_pairs g m den (earlier_of 0 front ++ (map (λ c. (c.0, length front)) t.level.coalitions ++ [])) = all_join (λ c. den *ℤ g.worth c.0 ≡ sum_over g.players (share_of m) c.0 +ℤ excess_of g.players m c.1) (earlier_of 0 front) (map (λ c. (c.0, length front)) t.level.coalitions ++ []) r.settled (new_pairs family g front outside m den t.weights t.level.coalitions tight holds.follows.coalitions) in
-    let fresh : (i : ℕ) → i < g.players → HasWeight t.weights (single_id g.players front i) → share_of m i ≡ den *ℤ g.worth (singleton i) = λ i h k. single_tight family g front outside m den i h (tight (single_id g.players front i) k).1 in
+    let pairs : Settled_pairs measure g m den (earlier_of 0 front ++ (map (λ c. (c.0, length front)) t.level.coalitions ++ [])) = all_join (λ c. den *ℤ g.worth c.0 ≡ reached measure g.players (share_of m) (excess_of g.players m) c.0 c.1) (earlier_of 0 front) (map (λ c. (c.0, length front)) t.level.coalitions ++ []) r.settled (new_pairs family measure g front outside m den t.weights t.level.coalitions tight holds.follows.coalitions) in
+    let fresh : (i : ℕ) → i < g.players → HasWeight t.weights (single_id g.players front i) → share_of m i ≡ den *ℤ g.worth (singleton i) = λ i h k. single_tight family measure g front outside m den i h (tight (single_id g.players front i) k).1 in
     record {
       positive = r.positive;
       whole = r.whole;
-      settled = subst (Settled_pairs g m den) (sym (earlier_of-more front t.level)) pairs;
+      settled = subst (Settled_pairs measure g m den) (sym (earlier_of-more front t.level)) pairs;
       single = r.single;
       bound = λ f i h b. elim (any_cases (test i) front (t.level ∷ []) b) [
         | inl old ↦ r.bound f i h old
@@ -198,19 +200,19 @@ advance family g front t holds =
 
 -- ---- tight at later multipliers
 
-abbrev pub Tight : Game → ℕ → (ℕ → ℤ) → (ℕ → ℤ) → ℤ → Column → Type 0
-Tight g j x e den c = column_rise g j x e den c ≡ pos 0
+abbrev pub Tight : Measure → Game → ℕ → (ℕ → ℤ) → (ℕ → ℤ) → ℤ → Column → Type 0
+Tight measure g j x e den c = column_rise measure g j x e den c ≡ pos 0
 
 minus_tight : (den w z : ℤ) → den *ℤ w ≡ z → den *ℤ (pos 0 -ℤ w) -ℤ (pos 0 -ℤ z) ≡ pos 0
 minus_tight den w z h = omega (arith, linear, mul-subℤ den (pos 0) w, mul-zeroℤ den)
 
-tight_fixes : (g : Game) (j : ℕ) (x e : ℕ → ℤ) (den : ℤ) (cs : List (ℕ × ℕ)) → AllByRecursion (Fixes g j x e den) cs → AllByRecursion (Tight g j x e den) (doubled cs)
-tight_fixes g j x e den [] h = tt
-tight_fixes g j x e den (c ∷ cs) h =
-    (gap_of (den *ℤ g.worth c.0) (plus_value g.players j x e c.0 c.1) h.0, (minus_tight den (g.worth c.0) (plus_value g.players j x e c.0 c.1) h.0, tight_fixes g j x e den cs h.1))
+tight_fixes : (measure : Measure) (g : Game) (j : ℕ) (x e : ℕ → ℤ) (den : ℤ) (cs : List (ℕ × ℕ)) → AllByRecursion (Fixes measure g j x e den) cs → AllByRecursion (Tight measure g j x e den) (doubled cs)
+tight_fixes measure g j x e den [] h = tt
+tight_fixes measure g j x e den (c ∷ cs) h =
+    (gap_of (den *ℤ g.worth c.0) (plus_value measure g.players j x e c.0 c.1) h.0, (minus_tight den (g.worth c.0) (plus_value measure g.players j x e c.0 c.1) h.0, tight_fixes measure g j x e den cs h.1))
 
-further_tight : (family : Family) (g : Game) (front : List Level) (t : Stage) (m : List ℤ) (den : ℤ) → StageHolds family g front t → Reads family g (front ++ t.level ∷ []) m den → (i : ℕ) → is_further family g.players front t.outside i ≡ true → HasWeight t.weights (length (settled_columns g.players front) + i) → Tight g (length front + 1) (share_of m) (excess_of g.players m) den (further_column g.players (length front) i)
-further_tight family g front t m den holds r i is_so weighs =
+further_tight : (family : Family) (measure : Measure) (g : Game) (front : List Level) (t : Stage) (m : List ℤ) (den : ℤ) → StageHolds family measure g front t → Reads family measure g (front ++ t.level ∷ []) m den → (i : ℕ) → is_further family g.players front t.outside i ≡ true → HasWeight t.weights (length (settled_columns g.players front) + i) → Tight measure g (length front + 1) (share_of m) (excess_of g.players m) den (further_column g.players (length front) i)
+further_tight family measure g front t m den holds r i is_so weighs =
     let n : ℕ = g.players in
     let x : ℕ → ℤ = share_of m in
     let e : ℕ → ℤ = excess_of n m in
@@ -219,44 +221,44 @@ further_tight family g front t m den holds r i is_so weighs =
           let h : i < n = grind (arith, nat_tests) in
           let f = imputations_of family (rw below at is_so) in
           let b = holds.follows.all_bounds i h weighs in
-          rw below (omega (arith, linear, r.bound f i h b, single_value n (length front) i x e h))
+          rw below (omega (arith, linear, r.bound f i h b, single_value measure n (length front) i x e h))
       | inr past ↦ elim (true_or_false (nat_lt i (n + n))) [
         | inl below ↦
             let h : i - n < n = grind (arith, nat_tests) in
             let y = rw below at (rw past at is_so) in
             let f = imputations_of family (and_left (is_imputations family) (has_bound front (i - n)) y) in
             let b = any_left (λ l. list_any (λ b. nat_eq b.0 (i - n) && int_le (pos 1) b.1) l.bounds) front (t.level ∷ []) (and_right (is_imputations family) (has_bound front (i - n)) y) in
-            rw past (rw below (omega (arith, linear, r.bound f (i - n) h b, single_value n (length front) (i - n) x e h, mul-subℤ den (pos 0) (g.worth (singleton (i - n))), mul-zeroℤ den)))
+            rw past (rw below (omega (arith, linear, r.bound f (i - n) h b, single_value measure n (length front) (i - n) x e h, mul-subℤ den (pos 0) (g.worth (singleton (i - n))), mul-zeroℤ den)))
         | inr beyond ↦
             let s : ℕ = i - (n + n) in
             let eq : n + n + s ≡ i = grind (arith, nat_tests) in
             let listed = holds.follows.all_coalitions s (subst (λ (z : ℕ). HasWeight t.weights (length (settled_columns n front) + z)) (sym eq) weighs) in
-            let pairs = all_right (λ c. den *ℤ g.worth c.0 ≡ sum_over n x c.0 +ℤ e c.1) (earlier_of 0 front) (map (λ c. (c.0, length front)) t.level.coalitions ++ []) (subst (Settled_pairs g m den) (earlier_of-more front t.level) r.settled) in
-            let mine = all_left (λ c. den *ℤ g.worth c.0 ≡ sum_over n x c.0 +ℤ e c.1) (map (λ c. (c.0, length front)) t.level.coalitions) [] pairs in
+            let pairs = all_right (λ c. den *ℤ g.worth c.0 ≡ reached measure n x e c.0 c.1) (earlier_of 0 front) (map (λ c. (c.0, length front)) t.level.coalitions ++ []) (subst (Settled_pairs measure g m den) (earlier_of-more front t.level) r.settled) in
+            let mine = all_left (λ c. den *ℤ g.worth c.0 ≡ reached measure n x e c.0 c.1) (map (λ c. (c.0, length front)) t.level.coalitions) [] pairs in
             let any : list_any (λ c. nat_eq c.0 s) t.level.coalitions ≡ true = elim (or_cases (list_any (λ c. nat_eq c.0 s) t.level.coalitions) false listed) [ inl a ↦ a | inr b ↦ absurd (false≢true b) ] in
-            let fact = pair_at (λ c. den *ℤ g.worth c.0 ≡ sum_over n x c.0 +ℤ e c.1) (length front) t.level.coalitions s mine any in
-            rw past (rw beyond (omega (arith, linear, fact, within_row (length front + 1) (length front) e (omega arith))))
+            let fact = pair_at (λ c. den *ℤ g.worth c.0 ≡ reached measure n x e c.0 c.1) (length front) t.level.coalitions s mine any in
+            rw past (rw beyond (omega (arith, linear, fact, within_row (length front + 1) (length front) e (pos (divisor measure s)) (omega arith))))
       ]
     ]
 
-pub tight_later : (family : Family) (g : Game) (front : List Level) (t : Stage) (m : List ℤ) (den : ℤ) → StageHolds family g front t → Reads family g (front ++ t.level ∷ []) m den → (id : ℕ) → IsTrue ((stage_program family g front t.outside).is_column id) → HasWeight t.weights id → rise (stage_program family g front t.outside) m den id ≡ pos 0
-tight_later family g front t m den holds r id is_so weighs =
+pub tight_later : (family : Family) (measure : Measure) (g : Game) (front : List Level) (t : Stage) (m : List ℤ) (den : ℤ) → StageHolds family measure g front t → Reads family measure g (front ++ t.level ∷ []) m den → (id : ℕ) → IsTrue ((stage_program family measure g front t.outside).is_column id) → HasWeight t.weights id → rise (stage_program family measure g front t.outside) m den id ≡ pos 0
+tight_later family measure g front t m den holds r id is_so weighs =
     let n : ℕ = g.players in
     let x : ℕ → ℤ = share_of m in
     let e : ℕ → ℤ = excess_of n m in
     let len : ℕ = length (settled_columns n front) in
-    let near = restrict family g front (t.level ∷ []) m den r in
-    let first : AllByRecursion (Tight g (length front + 1) x e den) (settled_columns n front) = tight_fixes g (length front + 1) x e den ((grand_coalition n, length front + 1) ∷ earlier_of 0 front) (sym (whole_value n (length front) x e ∙ near.whole), of_settled g front x e den near.settled) in
-    rise_at family g front t.outside m den id ∙ elim (true_or_false (nat_lt id len)) [
+    let near = restrict family measure g front (t.level ∷ []) m den r in
+    let first : AllByRecursion (Tight measure g (length front + 1) x e den) (settled_columns n front) = tight_fixes measure g (length front + 1) x e den ((grand_coalition n, length front + 1) ∷ earlier_of 0 front) (sym (whole_value measure n (length front) x e ∙ near.whole), of_settled measure g front x e den near.settled) in
+    rise_at family measure g front t.outside m den id ∙ elim (true_or_false (nat_lt id len)) [
       | inl below ↦
           let lt : id < len = grind (arith, nat_tests) in
-          rw below (each_of (Tight g (length front + 1) x e den) no_column (settled_columns n front) first id lt)
+          rw below (each_of (Tight measure g (length front + 1) x e den) no_column (settled_columns n front) first id lt)
       | inr past ↦
           let eq : len + (id - len) ≡ id = grind (arith, nat_tests) in
-          rw past (further_tight family g front t m den holds r (id - len) (rw past at is_so) (subst (HasWeight t.weights) (sym eq) weighs))
+          rw past (further_tight family measure g front t m den holds r (id - len) (rw past at is_so) (subst (HasWeight t.weights) (sym eq) weighs))
     ]
 
 -- the cost of a stage's weights, by any multipliers that settle its level too
-pub stage_value : (family : Family) (g : Game) (front : List Level) (t : Stage) (m : List ℤ) (den : ℤ) → StageHolds family g front t → Reads family g (front ++ t.level ∷ []) m den → den *ℤ weighted_sum (stage_program family g front t.outside).cost t.weights ≡ t.weight_den *ℤ excess_of g.players m (length front)
-stage_value family g front t m den holds r =
-    tight_value (stage_program family g front t.outside) m den t.weights t.weight_den holds.optimal.0 (tight_later family g front t m den holds r) ∙ ap (λ z. t.weight_den *ℤ z) (right_value family g front t.outside m)
+pub stage_value : (family : Family) (measure : Measure) (g : Game) (front : List Level) (t : Stage) (m : List ℤ) (den : ℤ) → StageHolds family measure g front t → Reads family measure g (front ++ t.level ∷ []) m den → den *ℤ weighted_sum (stage_program family measure g front t.outside).cost t.weights ≡ t.weight_den *ℤ excess_of g.players m (length front)
+stage_value family measure g front t m den holds r =
+    tight_value (stage_program family measure g front t.outside) m den t.weights t.weight_den holds.optimal.0 (tight_later family measure g front t m den holds r) ∙ ap (λ z. t.weight_den *ℤ z) (right_value family measure g front t.outside m)

@@ -2,9 +2,11 @@
 use Rattle.std.proofs.Common.{◌≡◌, ◌≤◌, List, [], ◌∷◌, pos, Option, Some, None, MatchOption, sym, ap, subst, ℕ, arith}
 use Rattle.std.specs.List.{AllByRecursion}
 use Rattle.definitions.specs.Coalitions.{grand_coalition}
+use Rattle.definitions.specs.Measures.{IsMeasurable}
 use Rattle.definitions.specs.Games.{Game, Allocation}
 use Rattle.definitions.specs.Certificates.{Level, IsAllFixed, Certifies}
 use Rattle.definitions.specs.declared.Family.{Family}
+use Rattle.definitions.specs.declared.Measure.{Measure}
 use Rattle.definitions.specs.declared.Mode.TheVariants.{Span}
 use Rattle.simplex.specs.declared.multipliers.Multipliers.{Multipliers}
 use Rattle.kohlberg.specs.Certificate.{CertificateData}
@@ -23,19 +25,19 @@ abbrev pub AreRead : Game → Option Multipliers → Allocation → Type 0
 AreRead g last x =
     MatchOption last (x ≡ allocation (g.worth (grand_coalition g.players) ∷ []) (pos 1)) (λ m. IsReadFrom g.players m.num.items m.den x)
 
-all_certified : (family : Family) (g : Game) (levels : List Level) (last : Option Multipliers) (x : Allocation) → 1 ≤ g.players → AreDone family g levels last → AreRead g last x → Certifies Span family Plain g x levels
-all_certified family g levels None x some done read =
+all_certified : (family : Family) (measure : Measure) (g : Game) (levels : List Level) (last : Option Multipliers) (x : Allocation) → 1 ≤ g.players → IsMeasurable measure g.players → AreDone family measure g levels last → AreRead g last x → Certifies Span family measure g x levels
+all_certified family measure g levels None x some has done read =
     let none : levels ≡ [] = done.stages.wide in
-    let one = one_certified family g some (subst (IsAllFixed Span g.players) none done.all) in
-    subst (Certifies Span family Plain g x) (sym none) (subst (λ (y : Allocation). Certifies Span family Plain g y []) (sym read) one)
-all_certified family g levels (Some m) x some done read = certified family g levels m x done read
+    let one = one_certified family measure g some (subst (IsAllFixed Span g.players) none done.all) in
+    subst (Certifies Span family measure g x) (sym none) (subst (λ (y : Allocation). Certifies Span family measure g y []) (sym read) one)
+all_certified family measure g levels (Some m) x some has done read = certified family measure g levels m x has done read
 
-pub is_point : (family : Family) (g : Game) (levels : List Level) (last : Option Multipliers) (x : Allocation) (c : CertificateData) → 1 ≤ g.players → AreDone family g levels last → AreRead g last x → c ≡ record { players = g.players; mode = Span; levels = levels } → IsPoint family g x c
-is_point family g levels last x c some done read e = record {
+pub is_point : (family : Family) (measure : Measure) (g : Game) (levels : List Level) (last : Option Multipliers) (x : Allocation) (c : CertificateData) → 1 ≤ g.players → IsMeasurable measure g.players → AreDone family measure g levels last → AreRead g last x → c ≡ record { players = g.players; mode = Span; levels = levels } → IsPoint family measure g x c
+is_point family measure g levels last x c some has done read e = record {
   solved = record {
     players = ap (λ (d : CertificateData). d.players) e;
     in_mode = ap (λ (d : CertificateData). d.mode) e;
-    certifies = subst (Certifies Span family Plain g x) (sym same) (all_certified family g levels last x some done read);
+    certifies = subst (Certifies Span family measure g x) (sym same) (all_certified family measure g levels last x some has done read);
     few = subst (AllByRecursion (HasFew g.players)) (sym same) (all_weaken (IsShort g.players) (HasFew g.players) levels (λ l h. at_most g.players l h) done.short);
     lowest = subst (AllByRecursion IsLowest) (sym same) done.lowest;
   };

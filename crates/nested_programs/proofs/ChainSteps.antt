@@ -3,6 +3,7 @@ use Rattle.std.proofs.Common.{◌≡◌, ℕ, ◌+◌, List, [], ◌∷◌, ◌+
 use Rattle.definitions.specs.Games.{Game}
 use Rattle.definitions.specs.Certificates.{Level}
 use Rattle.definitions.specs.declared.Family.{Family}
+use Rattle.definitions.specs.declared.Measure.{Measure}
 use Rattle.simplex.specs.declared.multipliers.Multipliers.{Multipliers}
 use Rattle.nested_programs.specs.Reading.{excess_of}
 use Rattle.nested_programs.specs.Chain.{Stage, StageHolds, IsChain, levels_of, last_of}
@@ -11,10 +12,10 @@ use Rattle.nested_programs.proofs.Advance.{append_assoc}
 use Rattle.nested_programs.proofs.Chain.{append_none}
 
 -- a stage that holds behind the levels of a chain
-pub chain_more : (family : Family) (g : Game) (front : List Level) (ts : List Stage) (t : Stage) → IsChain family g front ts → StageHolds family g (front ++ levels_of ts) t → IsChain family g front (ts ++ t ∷ [])
-chain_more family g front [] t h k = (subst (λ z. StageHolds family g z t) (append_none front) k, tt)
-chain_more family g front (u ∷ ts) t h k =
-    (h.0, chain_more family g (front ++ u.level ∷ []) ts t h.1 (subst (λ z. StageHolds family g z t) (sym (append_assoc front (u.level ∷ []) (levels_of ts))) k))
+pub chain_more : (family : Family) (measure : Measure) (g : Game) (front : List Level) (ts : List Stage) (t : Stage) → IsChain family measure g front ts → StageHolds family measure g (front ++ levels_of ts) t → IsChain family measure g front (ts ++ t ∷ [])
+chain_more family measure g front [] t h k = (subst (λ z. StageHolds family measure g z t) (append_none front) k, tt)
+chain_more family measure g front (u ∷ ts) t h k =
+    (h.0, chain_more family measure g (front ++ u.level ∷ []) ts t h.1 (subst (λ z. StageHolds family measure g z t) (sym (append_assoc front (u.level ∷ []) (levels_of ts))) k))
 
 pub levels_more : (ts : List Stage) (t : Stage) → levels_of (ts ++ t ∷ []) ≡ levels_of ts ++ t.level ∷ []
 levels_more [] t = refl

@@ -5,6 +5,7 @@ use Rattle.std.proofs.Common.{◌≡◌, ◌≢◌, ℕ, zero, suc, ◌+◌, ◌
 use Rattle.std.proofs.lemmas.Bool.Decides.{nat_tests}
 use Rattle.definitions.proofs.Ring.{linear}
 use Rattle.definitions.specs.Coalitions.{has_player, singleton, grand_coalition}
+use Rattle.definitions.specs.declared.Measure.{Measure}
 use Rattle.definitions.specs.Certificates.{Level}
 use Rattle.separation.specs.Stage.{plus_entry, entry_of, earlier_of, doubled, settled_columns, no_column, further_column, column}
 use Rattle.nested_programs.specs.Numbers.{first_single}
@@ -117,19 +118,19 @@ earlier_part-past i id (c ∷ cs) k h =
 
 -- ---- the settled columns
 
-row_entry : (n mask row i : ℕ) → i < n → plus_entry n mask row i ≡ (if has_player mask i then pos 1 else pos 0)
-row_entry n mask row i h = let t : nat_lt i n ≡ true = grind (arith, nat_tests) in rw t refl
+row_entry : (measure : Measure) (n mask row i : ℕ) → i < n → plus_entry measure n mask row i ≡ (if has_player mask i then pos 1 else pos 0)
+row_entry measure n mask row i h = let t : nat_lt i n ≡ true = grind (arith, nat_tests) in rw t refl
 
-earlier_entry : (n i : ℕ) → i < n → (id : ℕ) (cs : List (ℕ × ℕ)) (j : ℕ) → j < 2 * length cs → earlier_part i id cs (id + j) ≡ entry_of n (slice_index_or (doubled cs) j no_column) i
-earlier_entry n i h id [] j lt = absurd (omega arith)
-earlier_entry n i h id (c ∷ cs) zero lt =
-    omega (arith, linear, pair_part-plus (has_player c.0 i) id (id + zero) (omega arith), earlier_part-before i (id + 2) cs (id + zero) (omega arith), row_entry n c.0 c.1 i h)
-earlier_entry n i h id (c ∷ cs) (suc zero) lt =
-    omega (arith, linear, pair_part-minus (has_player c.0 i) id (id + suc zero) (omega arith), earlier_part-before i (id + 2) cs (id + suc zero) (omega arith), row_entry n c.0 c.1 i h)
-earlier_entry n i h id (c ∷ cs) (suc (suc j)) lt =
+earlier_entry : (measure : Measure) (n i : ℕ) → i < n → (id : ℕ) (cs : List (ℕ × ℕ)) (j : ℕ) → j < 2 * length cs → earlier_part i id cs (id + j) ≡ entry_of measure n (slice_index_or (doubled cs) j no_column) i
+earlier_entry measure n i h id [] j lt = absurd (omega arith)
+earlier_entry measure n i h id (c ∷ cs) zero lt =
+    omega (arith, linear, pair_part-plus (has_player c.0 i) id (id + zero) (omega arith), earlier_part-before i (id + 2) cs (id + zero) (omega arith), row_entry measure n c.0 c.1 i h)
+earlier_entry measure n i h id (c ∷ cs) (suc zero) lt =
+    omega (arith, linear, pair_part-minus (has_player c.0 i) id (id + suc zero) (omega arith), earlier_part-before i (id + 2) cs (id + suc zero) (omega arith), row_entry measure n c.0 c.1 i h)
+earlier_entry measure n i h id (c ∷ cs) (suc (suc j)) lt =
     let e : id + suc (suc j) ≡ id + 2 + j = omega arith in
     let none = pair_part-other (has_player c.0 i) id (id + suc (suc j)) (λ e. omega arith) (λ e. omega arith) in
-    let ih = earlier_entry n i h (id + 2) cs j (omega arith) in
+    let ih = earlier_entry measure n i h (id + 2) cs j (omega arith) in
     omega (arith, linear, none, ap (λ (k : ℕ). earlier_part i (id + 2) cs k) e, ih)
 
 -- ---- the parts of a number
@@ -138,10 +139,10 @@ abbrev pub parts : ℕ → ℕ → List (ℕ × ℕ) → ℕ → ℕ → ℤ
 parts n first cs i id =
     outer_part (first + (n + n)) i id +ℤ earlier_part i 0 cs id +ℤ (is_at (first + i) id -ℤ is_at (first + i + n) id)
 
-parts-settled : (n first : ℕ) (cs : List (ℕ × ℕ)) (i id : ℕ) → first ≡ 2 * length cs → i < n → id < first → parts n first cs i id ≡ entry_of n (slice_index_or (doubled cs) id no_column) i
-parts-settled n first cs i id long h lt =
+parts-settled : (measure : Measure) (n first : ℕ) (cs : List (ℕ × ℕ)) (i id : ℕ) → first ≡ 2 * length cs → i < n → id < first → parts n first cs i id ≡ entry_of measure n (slice_index_or (doubled cs) id no_column) i
+parts-settled measure n first cs i id long h lt =
     let e : 0 + id ≡ id = omega arith in
-    let within = earlier_entry n i h 0 cs id (omega arith) in
+    let within = earlier_entry measure n i h 0 cs id (omega arith) in
     omega (arith, linear, outer_part-before (first + (n + n)) i id (omega arith), ap (λ (k : ℕ). earlier_part i 0 cs k) e, within, is_at-other (first + i) id (λ e. omega arith), is_at-other (first + i + n) id (λ e. omega arith))
 
 parts-alone : (n first : ℕ) (cs : List (ℕ × ℕ)) (i p : ℕ) → first ≡ 2 * length cs → p < n → parts n first cs i (first + p) ≡ (if nat_eq p i then pos 1 else pos 0)
@@ -162,24 +163,24 @@ parts-outer n first cs i s long h =
 
 -- ---- the entries
 
-entry_settled : (n : ℕ) (front : List Level) (id i : ℕ) → id < length (settled_columns n front) → entry_of n (column n front id) i ≡ entry_of n (slice_index_or (settled_columns n front) id no_column) i
-entry_settled n front id i h = let t : nat_lt id (length (settled_columns n front)) ≡ true = grind (arith, nat_tests) in rw t refl
+entry_settled : (measure : Measure) (n : ℕ) (front : List Level) (id i : ℕ) → id < length (settled_columns n front) → entry_of measure n (column n front id) i ≡ entry_of measure n (slice_index_or (settled_columns n front) id no_column) i
+entry_settled measure n front id i h = let t : nat_lt id (length (settled_columns n front)) ≡ true = grind (arith, nat_tests) in rw t refl
 
-entry_negated : (n : ℕ) (front : List Level) (p i : ℕ) → p < n → i < n → entry_of n (column n front (length (settled_columns n front) + (n + p))) i ≡ pos 0 -ℤ (if nat_eq p i then pos 1 else pos 0)
-entry_negated n front p i k h =
-    let plus = sym (ap (λ c. entry_of n c i) (column_single n front p k)) ∙ entry_single n front p i k h in
-    ap (λ c. entry_of n c i) (bound_column n front p k) ∙ ap (λ z. pos 0 -ℤ z) plus
+entry_negated : (measure : Measure) (n : ℕ) (front : List Level) (p i : ℕ) → p < n → i < n → entry_of measure n (column n front (length (settled_columns n front) + (n + p))) i ≡ pos 0 -ℤ (if nat_eq p i then pos 1 else pos 0)
+entry_negated measure n front p i k h =
+    let plus = sym (ap (λ c. entry_of measure n c i) (column_single n front p k)) ∙ entry_single measure n front p i k h in
+    ap (λ c. entry_of measure n c i) (bound_column n front p k) ∙ ap (λ z. pos 0 -ℤ z) plus
 
 -- the coalition of all players, then those of the levels in front
 abbrev pub settled_pairs : ℕ → List Level → List (ℕ × ℕ)
 settled_pairs n front = (grand_coalition n, length front + 1) ∷ earlier_of 0 front
 
-entry_parts : (n : ℕ) (front : List Level) (i id : ℕ) → i < n → Kind (length (settled_columns n front)) n id → parts n (length (settled_columns n front)) (settled_pairs n front) i id ≡ entry_of n (column n front id) i
-entry_parts n front i id h kind = elim kind [
-  | settled lt ↦ parts-settled n len cs i id long h lt ∙ sym (entry_settled n front id i lt)
-  | alone p lt e ↦ ap part e ∙ parts-alone n len cs i p long lt ∙ sym (ap entry e ∙ entry_single n front p i lt h)
-  | negated p lt e ↦ ap part e ∙ parts-negated n len cs i p long h lt ∙ sym (ap entry e ∙ entry_negated n front p i lt h)
-  | outer s e ↦ ap part e ∙ parts-outer n len cs i s long h ∙ sym (ap entry e ∙ entry_outer n front s i h)
+entry_parts : (measure : Measure) (n : ℕ) (front : List Level) (i id : ℕ) → i < n → Kind (length (settled_columns n front)) n id → parts n (length (settled_columns n front)) (settled_pairs n front) i id ≡ entry_of measure n (column n front id) i
+entry_parts measure n front i id h kind = elim kind [
+  | settled lt ↦ parts-settled measure n len cs i id long h lt ∙ sym (entry_settled measure n front id i lt)
+  | alone p lt e ↦ ap part e ∙ parts-alone n len cs i p long lt ∙ sym (ap entry e ∙ entry_single measure n front p i lt h)
+  | negated p lt e ↦ ap part e ∙ parts-negated n len cs i p long h lt ∙ sym (ap entry e ∙ entry_negated measure n front p i lt h)
+  | outer s e ↦ ap part e ∙ parts-outer n len cs i s long h ∙ sym (ap entry e ∙ entry_outer measure n front s i h)
 ]
   where
     len : ℕ
@@ -195,9 +196,9 @@ entry_parts n front i id h kind = elim kind [
     part k = parts n len cs i k
 
     entry : ℕ → ℤ
-    entry k = entry_of n (column n front k) i
+    entry k = entry_of measure n (column n front k) i
 
 -- each number's part is the entry of its column
-pub column_parts : (n : ℕ) (front : List Level) (i id : ℕ) → i < n → parts n (first_single front) (settled_pairs n front) i id ≡ entry_of n (column n front id) i
-column_parts n front i id h =
-    ap (λ (k : ℕ). parts n k (settled_pairs n front) i id) (sym (settled_length n front)) ∙ entry_parts n front i id h (kind_of (length (settled_columns n front)) n id)
+pub column_parts : (measure : Measure) (n : ℕ) (front : List Level) (i id : ℕ) → i < n → parts n (first_single front) (settled_pairs n front) i id ≡ entry_of measure n (column n front id) i
+column_parts measure n front i id h =
+    ap (λ (k : ℕ). parts n k (settled_pairs n front) i id) (sym (settled_length n front)) ∙ entry_parts measure n front i id h (kind_of (length (settled_columns n front)) n id)

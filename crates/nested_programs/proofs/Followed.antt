@@ -11,6 +11,7 @@ use Rattle.definitions.specs.Games.{Game}
 use Rattle.definitions.specs.Certificates.{Level, has_bound, number_at}
 use Rattle.definitions.specs.Programs.{AreWeights}
 use Rattle.definitions.specs.declared.Family.{Family}
+use Rattle.definitions.specs.declared.Measure.{Measure}
 use Rattle.definitions.specs.declared.Family.TheVariants.{Imputations}
 use Rattle.separation.specs.Stage.{entry_of, earlier_of, settled_columns, column, is_imputations, stage_program}
 use Rattle.nested_programs.specs.Chain.{single_id, outer_id, HasWeight, Follows}
@@ -44,14 +45,14 @@ parts_sum n first i k cs ws h =
     omega (arith, linear, weighted_sum-add (λ id. outer id +ℤ earlier id) bound ws, weighted_sum-add outer earlier ws, outer_weighted (first + (n + n)) i ws, whole_first n k i cs ws h, net_weighted (first + i) (first + i + n) ws, number_within ws first n n i h)
 
 -- what the level holds of a player, less its total, is the weighted entries of the player's row
-level_sums : (n : ℕ) (front : List Level) (ws : List (ℕ × ℤ)) (m : List ℤ) (den : ℤ) (l : Level) → IsLevelOf n front ws m den l → (i : ℕ) → i < n → weight_at l.coalitions i +ℤ weight_at l.earlier i +ℤ number_at l.bounds i -ℤ l.total ≡ weighted_sum (λ id. entry_of n (column n front id) i) ws
-level_sums n front ws m den l is i h =
+level_sums : (measure : Measure) (n : ℕ) (front : List Level) (ws : List (ℕ × ℤ)) (m : List ℤ) (den : ℤ) (l : Level) → IsLevelOf n front ws m den l → (i : ℕ) → i < n → weight_at l.coalitions i +ℤ weight_at l.earlier i +ℤ number_at l.bounds i -ℤ l.total ≡ weighted_sum (λ id. entry_of measure n (column n front id) i) ws
+level_sums measure n front ws m den l is i h =
     let first : ℕ = first_single front in
     let outer = ap (λ ps. weight_at ps i) is.coalitions ∙ weight_at-placed (outer_pairs (first + (n + n)) ws) i in
     let earlier = ap (λ ps. weight_at ps i) is.earlier ∙ weight_at-placed (earlier_pairs ws 2 (earlier_of 0 front)) i in
     let bound = ap (λ ps. number_at ps i) is.bounds in
     let sum = parts_sum n first i (length front + 1) (earlier_of 0 front) ws h in
-    let same = weighted-same (parts n first (settled_pairs n front) i) (λ id. entry_of n (column n front id) i) ws (λ id. column_parts n front i id h) in
+    let same = weighted-same (parts n first (settled_pairs n front) i) (λ id. entry_of measure n (column n front id) i) ws (λ id. column_parts measure n front i id h) in
     omega (arith, linear, outer, earlier, bound, is.total, sum, same)
 
 -- ---- the coalitions
@@ -74,13 +75,13 @@ outer_listed n front ws s has =
 -- ---- the bounds
 
 -- the column of a player's bound negated stands there only for imputations, where a level in front has the bound
-bound_in_front : (family : Family) (g : Game) (front : List Level) (outside : ℕ → Bool) (i : ℕ) → i < g.players → IsTrue ((stage_program family g front outside).is_column (first_single front + i + g.players)) → (family ≡ Imputations) × IsTrue (has_bound front i)
-bound_in_front family g front outside i h is_so =
+bound_in_front : (family : Family) (measure : Measure) (g : Game) (front : List Level) (outside : ℕ → Bool) (i : ℕ) → i < g.players → IsTrue ((stage_program family measure g front outside).is_column (first_single front + i + g.players)) → (family ≡ Imputations) × IsTrue (has_bound front i)
+bound_in_front family measure g front outside i h is_so =
     let n : ℕ = g.players in
     let len : ℕ = length (settled_columns n front) in
     let e = settled_length n front in
     let same : first_single front + i + n ≡ len + (n + i) = omega (arith, e) in
-    let there = subst (λ (k : ℕ). IsTrue ((stage_program family g front outside).is_column k)) same is_so in
+    let there = subst (λ (k : ℕ). IsTrue ((stage_program family measure g front outside).is_column k)) same is_so in
     let t : nat_lt (len + (n + i)) len ≡ false = grind (arith, nat_tests) in
     let v : len + (n + i) - len ≡ n + i = omega arith in
     let t' : nat_lt (n + i) n ≡ false = grind (arith, nat_tests) in
@@ -90,22 +91,22 @@ bound_in_front family g front outside i h is_so =
     (imputations_of family (and_left (is_imputations family) (has_bound front i) both), and_right (is_imputations family) (has_bound front i) both)
 
 -- a weight on the negated column of a player's bound
-front_bound : (family : Family) (g : Game) (front : List Level) (outside : ℕ → Bool) (ws : List (ℕ × ℤ)) (i : ℕ) → AreWeights (stage_program family g front outside) ws → AllByRecursion (λ w. pos 1 ≤ℤ w.1) ws → i < g.players → pos 1 ≤ℤ number_at ws (first_single front + i + g.players) → (family ≡ Imputations) × IsTrue (has_bound front i)
-front_bound family g front outside ws i are positive h some =
-    bound_in_front family g front outside i h (on_column (stage_program family g front outside).is_column ws (first_single front + i + g.players) are.0 (weight_of ws (first_single front + i + g.players) positive some))
+front_bound : (family : Family) (measure : Measure) (g : Game) (front : List Level) (outside : ℕ → Bool) (ws : List (ℕ × ℤ)) (i : ℕ) → AreWeights (stage_program family measure g front outside) ws → AllByRecursion (λ w. pos 1 ≤ℤ w.1) ws → i < g.players → pos 1 ≤ℤ number_at ws (first_single front + i + g.players) → (family ≡ Imputations) × IsTrue (has_bound front i)
+front_bound family measure g front outside ws i are positive h some =
+    bound_in_front family measure g front outside i h (on_column (stage_program family measure g front outside).is_column ws (first_single front + i + g.players) are.0 (weight_of ws (first_single front + i + g.players) positive some))
 
 single_id-is : (n : ℕ) (front : List Level) (i : ℕ) → first_single front + i ≡ single_id n front i
 single_id-is n front i = let e = settled_length n front in omega (arith, e)
 
-bound_comes : (family : Family) (g : Game) (front : List Level) (outside : ℕ → Bool) (ws : List (ℕ × ℤ)) (i : ℕ) → AreWeights (stage_program family g front outside) ws → AllByRecursion (λ w. pos 1 ≤ℤ w.1) ws → i < g.players → net ws (first_single front + i) (first_single front + i + g.players) ≢ pos 0 → BoundComes family g front ws (i, net ws (first_single front + i) (first_single front + i + g.players))
-bound_comes family g front outside ws i are positive h some =
+bound_comes : (family : Family) (measure : Measure) (g : Game) (front : List Level) (outside : ℕ → Bool) (ws : List (ℕ × ℤ)) (i : ℕ) → AreWeights (stage_program family measure g front outside) ws → AllByRecursion (λ w. pos 1 ≤ℤ w.1) ws → i < g.players → net ws (first_single front + i) (first_single front + i + g.players) ≢ pos 0 → BoundComes family g front ws (i, net ws (first_single front + i) (first_single front + i + g.players))
+bound_comes family measure g front outside ws i are positive h some =
     by_lt_z (pos 0) z
     (λ up.
     let one : pos 1 ≤ℤ number_at ws (first + i) = omega (arith, linear, up, low) in
     (h, inl (omega (arith, linear, up), subst (HasWeight ws) (single_id-is n front i) (weight_of ws (first + i) positive one))))
     (λ down.
     let one : pos 1 ≤ℤ number_at ws (first + i + n) = below z (number_at ws (first + i)) (number_at ws (first + i + n)) refl some down low' in
-    (h, inr (front_bound family g front outside ws i are positive h one)))
+    (h, inr (front_bound family measure g front outside ws i are positive h one)))
   where
     n : ℕ
     n = g.players
@@ -130,10 +131,10 @@ at_least : (z : ℤ) → pos 1 ≤ℤ z → int_le (pos 1) z ≡ true
 at_least z h = elim (true_or_false (int_le (pos 1) z)) [ inl up ↦ up | inr down ↦ absurd (omega (arith, linear, h, down)) ]
 
 -- a weight on a player's column gives a bound in front or a bound of the level
-bound_known : (family : Family) (g : Game) (front : List Level) (outside : ℕ → Bool) (ws : List (ℕ × ℤ)) (i : ℕ) → AreWeights (stage_program family g front outside) ws → AllByRecursion (λ w. pos 1 ≤ℤ w.1) ws → i < g.players → HasWeight ws (single_id g.players front i) → IsTrue (has_bound front i) ⊎ (list_any (λ b. nat_eq b.0 i && int_le (pos 1) b.1) (bound_pairs ws (first_single front) g.players g.players) ≡ true)
-bound_known family g front outside ws i are positive h has =
+bound_known : (family : Family) (measure : Measure) (g : Game) (front : List Level) (outside : ℕ → Bool) (ws : List (ℕ × ℤ)) (i : ℕ) → AreWeights (stage_program family measure g front outside) ws → AllByRecursion (λ w. pos 1 ≤ℤ w.1) ws → i < g.players → HasWeight ws (single_id g.players front i) → IsTrue (has_bound front i) ⊎ (list_any (λ b. nat_eq b.0 i && int_le (pos 1) b.1) (bound_pairs ws (first_single front) g.players g.players) ≡ true)
+bound_known family measure g front outside ws i are positive h has =
     by_lt_z (pos 0) (number_at ws (first + i + n))
-    (λ more. inl (front_bound family g front outside ws i are positive h (omega (arith, linear, more))).1)
+    (λ more. inl (front_bound family measure g front outside ws i are positive h (omega (arith, linear, more))).1)
     (λ none.
     let one : pos 1 ≤ℤ z = omega (arith, linear, none, plus) in
     let t : nat_eq i i ≡ true = grind (arith, nat_tests) in
@@ -157,16 +158,16 @@ bound_known family g front outside ws i are positive h has =
 
 -- ---- all together
 
-pub followed : (family : Family) (g : Game) (front : List Level) (outside : ℕ → Bool) (ws : List (ℕ × ℤ)) (m : List ℤ) (den : ℤ) (l : Level) → AreWeights (stage_program family g front outside) ws → AreNumbers ws → IsLevelOf g.players front ws m den l → Follows family g front ws l
-followed family g front outside ws m den l are numbers is =
+pub followed : (family : Family) (measure : Measure) (g : Game) (front : List Level) (outside : ℕ → Bool) (ws : List (ℕ × ℤ)) (m : List ℤ) (den : ℤ) (l : Level) → AreWeights (stage_program family measure g front outside) ws → AreNumbers ws → IsLevelOf g.players front ws m den l → Follows family measure g front ws l
+followed family measure g front outside ws m den l are numbers is =
     let n : ℕ = g.players in
     let positive = numbers.positive in
     record {
       coalitions = subst (AllByRecursion (λ c. (pos 1 ≤ℤ c.1) × HasWeight ws (outer_id n front c.0))) (sym is.coalitions) (outer_weigh n front ws positive);
-      bounds = subst (AllByRecursion (BoundComes family g front ws)) (sym is.bounds) (all_bound (BoundComes family g front ws) ws (first_single front) n n (λ i lt some. bound_comes family g front outside ws i are positive lt some));
+      bounds = subst (AllByRecursion (BoundComes family g front ws)) (sym is.bounds) (all_bound (BoundComes family g front ws) ws (first_single front) n n (λ i lt some. bound_comes family measure g front outside ws i are positive lt some));
       all_coalitions = λ s has. or_left (list_any (λ c. nat_eq c.0 s) l.coalitions) false (ap (list_any (λ c. nat_eq c.0 s)) is.coalitions ∙ outer_listed n front ws s has);
-      all_bounds = λ i lt has. joined i (elim (bound_known family g front outside ws i are positive lt has) [ inl old ↦ inl old | inr new ↦ inr (ap (list_any (λ b. nat_eq b.0 i && int_le (pos 1) b.1)) is.bounds ∙ new) ]);
-      sums = level_sums n front ws m den l is;
+      all_bounds = λ i lt has. joined i (elim (bound_known family measure g front outside ws i are positive lt has) [ inl old ↦ inl old | inr new ↦ inr (ap (list_any (λ b. nat_eq b.0 i && int_le (pos 1) b.1)) is.bounds ∙ new) ]);
+      sums = level_sums measure n front ws m den l is;
     }
   where
     joined : (i : ℕ) → IsTrue (has_bound front i) ⊎ (list_any (λ b. nat_eq b.0 i && int_le (pos 1) b.1) l.bounds ≡ true) → IsTrue (has_bound (front ++ l ∷ []) i)

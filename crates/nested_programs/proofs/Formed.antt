@@ -4,6 +4,7 @@ use Rattle.std.specs.List.{list_any, AllByRecursion, IsDistinct}
 use Rattle.definitions.specs.Games.{Game}
 use Rattle.definitions.specs.Certificates.{Level, is_listed, Ascends, IsSmall, LevelForm, LevelsForm}
 use Rattle.definitions.specs.declared.Family.{Family}
+use Rattle.definitions.specs.declared.Measure.{Measure}
 use Rattle.separation.specs.Stage.{earlier_of}
 use Rattle.nested_programs.specs.Chain.{Stage, StageHolds}
 use Rattle.nested_programs.specs.Numbers.{AreNumbers, first_single, outer_pairs, net, earlier_pairs, IsLevelOf}
@@ -67,20 +68,20 @@ fewer : (n a b c : ℕ) → a + b + c < 2 * n → n ≤ 16 → (a ≤ 65536) × 
 fewer n a b c h k = (omega arith, omega arith)
 
 -- the level of a stage has its form
-pub level_formed : (family : Family) (g : Game) (front : List Level) (t : Stage) → StageHolds family g front t → AreNumbers t.weights → IsLevelOf g.players front t.weights t.multipliers t.den t.level → IsDistinct nat_eq (map (λ c. c.0) (earlier_of 0 front)) → length t.weights ≤ g.players + (length front + 1) → length front + 2 ≤ g.players → g.players ≤ 16 → LevelForm g.players front t.level
-level_formed family g front t holds numbers is apart few low most =
+pub level_formed : (family : Family) (measure : Measure) (g : Game) (front : List Level) (t : Stage) → StageHolds family measure g front t → AreNumbers t.weights → IsLevelOf g.players front t.weights t.multipliers t.den t.level → IsDistinct nat_eq (map (λ c. c.0) (earlier_of 0 front)) → length t.weights ≤ g.players + (length front + 1) → length front + 2 ≤ g.players → g.players ≤ 16 → LevelForm g.players front t.level
+level_formed family measure g front t holds numbers is apart few low most =
     let n : ℕ = g.players in
     let l : Level = t.level in
     let ws : List (ℕ × ℤ) = t.weights in
     let entries = fewer n (length l.coalitions) (length l.earlier) (length l.bounds) (level_short n front ws t.multipliers t.den l is few low) most in
     record {
       fraction = is.excess.reduced.positive;
-      some = level_some family g front t holds;
+      some = level_some family measure g front t holds;
       few = entries.0;
       few_earlier = entries.1;
-      proper = level_proper family g front t holds;
+      proper = level_proper family measure g front t holds;
       listed = level_listed n front ws t.multipliers t.den l is;
-      players = level_players family g front t holds;
+      players = level_players family measure g front t holds;
       ascend = subst (Ascends 0) (sym is.coalitions) (placed_ascends (outer_pairs (first_single front + (n + n)) ws) (outer_apart (first_single front + (n + n)) ws numbers.distinct));
       earlier_ascend = subst (Ascends 0) (sym is.earlier) (placed_ascends (earlier_pairs ws 2 (earlier_of 0 front)) (earlier_apart ws 2 (earlier_of 0 front) apart));
       bounds_ascend = subst (Ascends 0) (sym is.bounds) (bound_ascends ws (first_single front) n n);

@@ -8,6 +8,7 @@ use Rattle.definitions.specs.Coalitions.{has_player, singleton, grand_coalition,
 use Rattle.definitions.specs.Games.{Game, Allocation, share, IsAllocation, IsEfficient, IsIndividuallyRational, InFamily}
 use Rattle.definitions.specs.Certificates.{IsFixedVector, InSpan, IsAllFixed, Certifies}
 use Rattle.definitions.specs.declared.Family.{Family}
+use Rattle.definitions.specs.declared.Measure.{Measure}
 use Rattle.definitions.specs.declared.Family.TheVariants.{Imputations, Preimputations}
 use Rattle.definitions.specs.declared.Mode.TheVariants.{Span}
 use Rattle.definitions.specs.declared.Measure.TheVariants.{Plain}
@@ -68,5 +69,5 @@ module _ (g : Game) (one : g.players ≡ 1) where
   in_family Imputations = (allocates, efficient, rational)
   in_family Preimputations = (allocates, efficient)
 
-pub one_certified : (family : Family) (g : Game) → 1 ≤ g.players → IsAllFixed Span g.players [] → Certifies Span family Plain g (whole_share g) []
-one_certified family g some all = (in_family g (one_player g.players some all) family, all)
+pub one_certified : (family : Family) (measure : Measure) (g : Game) → 1 ≤ g.players → IsAllFixed Span g.players [] → Certifies Span family measure g (whole_share g) []
+one_certified family measure g some all = (in_family g (one_player g.players some all) family, all)

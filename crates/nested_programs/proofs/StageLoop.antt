@@ -8,6 +8,7 @@ use Rattle.definitions.specs.Games.{Game}
 use Rattle.definitions.specs.Certificates.{Level, LevelsForm, IsAllFixed}
 use Rattle.definitions.specs.Failures.{IsLeastUnfixed}
 use Rattle.definitions.specs.declared.Family.{Family}
+use Rattle.definitions.specs.declared.Measure.{Measure}
 use Rattle.definitions.specs.declared.Mode.TheVariants.{Span}
 use Rattle.simplex.specs.declared.multipliers.Multipliers.{Multipliers}
 use Rattle.kohlberg.specs.Extends.{Extends, IsLevelVector, IsOf}
@@ -16,9 +17,9 @@ use Rattle.nested_programs.specs.Numbers.{IsLevelOf}
 use Rattle.nested_programs.specs.Stages.{IsLeft, IsBest, AreUnderway, AreDone}
 use Rattle.nested_programs.proofs.StageSteps.{start}
 
-pub started : (family : Family) (g : Game) (levels : List Level) (kept : List ℕ) → levels ≡ [] → kept ≡ grand_coalition g.players ∷ [] → 1 ≤ g.players → HasMember family g → AreUnderway family g levels kept None
-started family g levels kept e f some member =
-    subst (λ ls. AreUnderway family g ls kept None) (sym e) (subst (λ ks. AreUnderway family g [] ks None) (sym f) (start family g some member))
+pub started : (family : Family) (measure : Measure) (g : Game) (levels : List Level) (kept : List ℕ) → levels ≡ [] → kept ≡ grand_coalition g.players ∷ [] → 1 ≤ g.players → g.players ≤ 16 → HasMember family g → AreUnderway family measure g levels kept None
+started family measure g levels kept e f some few member =
+    subst (λ ls. AreUnderway family measure g ls kept None) (sym e) (subst (λ ks. AreUnderway family measure g [] ks None) (sym f) (start family measure g some few member))
 
 abbrev Unspanned : ℕ → List Level → Option ℕ → Type 0
 Unspanned n levels o =
@@ -50,8 +51,8 @@ new_only xs ys x k e f = ap (λ us. take (length us - k) (drop k us)) e ∙ ap (
 
 -- ---- facts of a turn, at the players of the game and the levels so far
 
-pub best_at : (family : Family) (g : Game) (shown levels : List Level) (ws : List (ℕ × ℤ)) (wden : ℤ) (m : List ℤ) (den : ℤ) → shown ≡ levels → IsBest family g shown ws wden m den → IsBest family g levels ws wden m den
-best_at family g shown levels ws wden m den e h = subst (λ ls. IsBest family g ls ws wden m den) e h
+pub best_at : (family : Family) (measure : Measure) (g : Game) (shown levels : List Level) (ws : List (ℕ × ℤ)) (wden : ℤ) (m : List ℤ) (den : ℤ) → shown ≡ levels → IsBest family measure g shown ws wden m den → IsBest family measure g levels ws wden m den
+best_at family measure g shown levels ws wden m den e h = subst (λ ls. IsBest family measure g ls ws wden m den) e h
 
 pub level_at : (k n : ℕ) (shown levels : List Level) (ws : List (ℕ × ℤ)) (m : List ℤ) (den : ℤ) (l : Level) → k ≡ n → shown ≡ levels → IsLevelOf k shown ws m den l → IsLevelOf n levels ws m den l
 level_at k n shown levels ws m den l e f h =
@@ -65,8 +66,8 @@ pub within_at : (k n : ℕ) (shown : List Level) (l : Level) → k ≡ n → sho
 within_at k n shown l e f h =
     subst (AllByRecursion (IsOf k)) (sym f) (subst (λ (j : ℕ). IsOf j l) (sym e) h, tt)
 
-pub ended : (family : Family) (g : Game) (levels : List Level) (kept : List ℕ) (last : Option Multipliers) → AreUnderway family g levels kept last → IsAllFixed Span g.players levels → AreDone family g levels last
-ended family g levels kept last h all = record {
+pub ended : (family : Family) (measure : Measure) (g : Game) (levels : List Level) (kept : List ℕ) (last : Option Multipliers) → AreUnderway family measure g levels kept last → IsAllFixed Span g.players levels → AreDone family measure g levels last
+ended family measure g levels kept last h all = record {
   stages = h.stages;
   form = h.form;
   short = h.short;

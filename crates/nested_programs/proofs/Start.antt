@@ -4,14 +4,18 @@ use Rattle.std.proofs.lemmas.Int.{by_lt_z}
 use Rattle.std.proofs.lemmas.Bool.{false≢true}
 use Rattle.std.proofs.lemmas.Bool.Decides.{nat_tests}
 use Rattle.std.specs.List.{AllByRecursion, IsDistinct}
-use Rattle.definitions.proofs.Ring.{linear, mul-addℤ, mul-oneℤ, one-mulℤ}
+use Rattle.definitions.proofs.Ring.{linear, mul-zeroℤ, mul-oneℤ, one-mulℤ, mul-leℤ}
+use Rattle.worth_core.proofs.DividedNumbers.{divisor-some}
+use Rattle.definitions.proofs.SumsOver.{sum_over-same}
 use Rattle.definitions.proofs.Members.{has_player-grand_coalition, has_player-complement, sum_below-same, sum_over-grand_coalition}
 use Rattle.definitions.specs.Coalitions.{has_player, singleton, grand_coalition, sum_over, weight_at}
+use Rattle.definitions.specs.Measures.{divisor}
 use Rattle.definitions.specs.Games.{Game, Allocation, share, amount, IsAllocation, IsEfficient, InFamily}
 use Rattle.definitions.specs.Certificates.{Level, IsFixedVector, InSpan, IsOutside}
 use lib.IntN.{*ℤ_comm}
 use Rattle.definitions.specs.Programs.{Bounds, HasRay, HasNoSolution, Solves}
 use Rattle.definitions.specs.declared.Family.{Family}
+use Rattle.definitions.specs.declared.Measure.{Measure}
 use Rattle.definitions.specs.declared.Family.TheVariants.{Imputations, Preimputations}
 use Rattle.definitions.specs.declared.Mode.TheVariants.{Span}
 use Rattle.separation.specs.Stage.{plus_entry, entry_of, settled_columns, column, is_imputations, stage_program}
@@ -56,30 +60,35 @@ others_outside n front s (low, high, apart) =
 
 -- ---- a solution
 
-abbrev half : ℕ → List Level → ℕ → List (ℕ × ℤ)
-half n front s = (1, pos 1) ∷ ((outer_id n front s, pos 1) ∷ ((outer_id n front (grand_coalition n - s), pos 1) ∷ []))
+-- one weight each on minus all players, the coalition and its others
+abbrev pair_weights : ℕ → List Level → ℕ → List (ℕ × ℤ)
+pair_weights n front s = (1, pos 1) ∷ ((outer_id n front s, pos 1) ∷ ((outer_id n front (grand_coalition n - s), pos 1) ∷ []))
 
-half_row : (n k s r : ℕ) → s < 2 ^ n → r < n + (k + 1) → (pos 0 -ℤ plus_entry n (grand_coalition n) (k + 1) r) +ℤ (plus_entry n s k r +ℤ plus_entry n (grand_coalition n - s) k r) ≡ (if nat_eq r (n + k) then pos 1 else pos 0) +ℤ (if nat_eq r (n + k) then pos 1 else pos 0)
-half_row n k s r small h = elim (true_or_false (nat_lt r n)) [
+-- what the level row has of a coalition and its others
+abbrev pub both_divisors : Measure → ℕ → ℕ → ℤ
+both_divisors measure n s = pos (divisor measure s) +ℤ pos (divisor measure (grand_coalition n - s))
+
+pair_row : (measure : Measure) (n k s r : ℕ) → s < 2 ^ n → r < n + (k + 1) → (pos 0 -ℤ plus_entry measure n (grand_coalition n) (k + 1) r) +ℤ (plus_entry measure n s k r +ℤ plus_entry measure n (grand_coalition n - s) k r) ≡ both_divisors measure n s *ℤ (if nat_eq r (n + k) then pos 1 else pos 0)
+pair_row measure n k s r small h = elim (true_or_false (nat_lt r n)) [
   | inl below ↦
       let lt : r < n = grind (arith, nat_tests) in
       let u : nat_eq r (n + k) ≡ false = grind (arith, nat_tests) in
-      rw below (rw u (rw (has_player-grand_coalition n r lt) (rw (has_player-complement n s r small lt) (member (has_player s r)))))
+      rw below (rw u (rw (has_player-grand_coalition n r lt) (rw (has_player-complement n s r small lt) (member (has_player s r) (both_divisors measure n s)))))
   | inr past ↦
       let u : nat_eq r (n + (k + 1)) ≡ false = grind (arith, nat_tests) in
-      rw past (rw u (last (nat_eq r (n + k))))
+      rw past (rw u (last (nat_eq r (n + k)) (pos (divisor measure s)) (pos (divisor measure (grand_coalition n - s)))))
 ]
   where
-    member : (b : Bool) → (pos 0 -ℤ pos 1) +ℤ (cond b (pos 1) (pos 0) +ℤ cond (not b) (pos 1) (pos 0)) ≡ pos 0 +ℤ pos 0
-    member true = refl
-    member false = refl
+    member : (b : Bool) (d : ℤ) → (pos 0 -ℤ pos 1) +ℤ (cond b (pos 1) (pos 0) +ℤ cond (not b) (pos 1) (pos 0)) ≡ d *ℤ pos 0
+    member true d = sym (mul-zeroℤ d)
+    member false d = sym (mul-zeroℤ d)
 
-    last : (b : Bool) → (pos 0 -ℤ pos 0) +ℤ (cond b (pos 1) (pos 0) +ℤ cond b (pos 1) (pos 0)) ≡ cond b (pos 1) (pos 0) +ℤ cond b (pos 1) (pos 0)
-    last true = refl
-    last false = refl
+    last : (b : Bool) (d e : ℤ) → (pos 0 -ℤ pos 0) +ℤ (cond b d (pos 0) +ℤ cond b e (pos 0)) ≡ (d +ℤ e) *ℤ cond b (pos 1) (pos 0)
+    last true d e = omega (arith, linear, mul-oneℤ (d +ℤ e))
+    last false d e = omega (arith, linear, mul-zeroℤ (d +ℤ e))
 
-outer_column : (family : Family) (g : Game) (front : List Level) (outside : ℕ → Bool) (s : ℕ) → IsTrue (outside s) → IsTrue ((stage_program family g front outside).is_column (outer_id g.players front s))
-outer_column family g front outside s o =
+outer_column : (family : Family) (measure : Measure) (g : Game) (front : List Level) (outside : ℕ → Bool) (s : ℕ) → IsTrue (outside s) → IsTrue ((stage_program family measure g front outside).is_column (outer_id g.players front s))
+outer_column family measure g front outside s o =
     let n : ℕ = g.players in
     let len : ℕ = length (settled_columns n front) in
     let t : nat_lt (len + (n + n + s)) len ≡ false = grind (arith, nat_tests) in
@@ -88,6 +97,14 @@ outer_column family g front outside s o =
     let u : nat_lt (n + n + s) (n + n) ≡ false = grind (arith, nat_tests) in
     let w : n + n + s - (n + n) ≡ s = omega arith in
     rw t (rw v (rw t' (rw u (rw w o))))
+
+-- ---- divisors
+
+-- each divisor is at least 1, so their sum is
+both_some : (measure : Measure) (n s : ℕ) → n ≤ 16 → 0 < s → s < grand_coalition n → pos 1 ≤ℤ both_divisors measure n s
+both_some measure n s few some less =
+    let one = divisor-some measure n s (omega (arith, few)) some (omega (arith, less)) in
+    omega (arith, linear, one)
 
 -- ---- the first stage
 
@@ -99,16 +116,20 @@ some_bound (suc N) f =
     (λ up. (f N, λ s h. elim (less_or_last s N h) [ inl less ↦ omega (arith, linear, up, ih.1 s less) | inr same ↦ omega (arith, linear, ap f same) ]))
     (λ low. (ih.0, λ s h. elim (less_or_last s N h) [ inl less ↦ ih.1 s less | inr same ↦ omega (arith, linear, low, ap f same) ]))
 
-pub first_bounds : (family : Family) (g : Game) (outside : ℕ → Bool) (y : Allocation) → ((s : ℕ) → IsTrue (outside s) → s < 2 ^ g.players) → InFamily family g y → (m : List ℤ) × Bounds (stage_program family g [] outside) m y.den
-first_bounds family g outside y within member = (
+pub first_bounds : (family : Family) (measure : Measure) (g : Game) (outside : ℕ → Bool) (y : Allocation) → g.players ≤ 16 → ((s : ℕ) → IsTrue (outside s) → (0 < s) × (s < 2 ^ g.players)) → InFamily family g y → (m : List ℤ) × Bounds (stage_program family measure g [] outside) m y.den
+first_bounds family measure g outside y few within member = (
   m,
-  of_reading family g [] outside m y.den (record {
+  of_reading family measure g [] outside m y.den (record {
     positive = (allocation family member).1;
     whole = sum_below-same n (share_of m) (share y) shares ∙ sym (sum_over-grand_coalition n (share y)) ∙ sym (at (grand_coalition n)) ∙ efficient family member;
     settled = tt;
     single = λ f i h. omega (arith, linear, individual family member f i h, shares i h);
     bound = λ f i h b. absurd (false≢true b);
-    outer = λ s o. omega (arith, linear, big.1 s (within s o), last, sum_over-same n (share_of m) (share y) s shares);
+    outer = λ s o.
+        (let in_row = ap (λ z. z *ℤ pos (divisor measure s)) last in
+        let some = divisor-some measure n s (omega (arith, few)) (within s o).0 (within s o).1 in
+        let enough = mul-leℤ top (pos 1) (pos (divisor measure s)) high.0 (omega (arith, linear, some)) in
+        omega (arith, linear, high.1 s (within s o).1, in_row, enough, mul-oneℤ top, sum_over-same n (share_of m) (share y) s shares));
   }),
 )
   where
@@ -118,8 +139,18 @@ first_bounds family g outside y within member = (
     big : (b : ℤ) × ((s : ℕ) → s < 2 ^ n → (y.den *ℤ g.worth s -ℤ sum_over n (share y) s) ≤ℤ b)
     big = some_bound (2 ^ n) (λ s. y.den *ℤ g.worth s -ℤ sum_over n (share y) s)
 
+    -- a bound that isn't negative
+    raised : (b : ℤ) × ((pos 0 ≤ℤ b) × ((s : ℕ) → s < 2 ^ n → (y.den *ℤ g.worth s -ℤ sum_over n (share y) s) ≤ℤ b))
+    raised = by_lt_z big.0 (pos 0) (λ low. (pos 0, (omega (arith, linear), λ s h. omega (arith, linear, low, big.1 s h)))) (λ up. (big.0, (omega (arith, linear, up), big.1)))
+
+    top : ℤ
+    top = raised.0
+
+    high : (pos 0 ≤ℤ top) × ((s : ℕ) → s < 2 ^ n → (y.den *ℤ g.worth s -ℤ sum_over n (share y) s) ≤ℤ top)
+    high = raised.1
+
     f : ℕ → ℤ
-    f r = if nat_lt r n then share y r else big.0
+    f r = if nat_lt r n then share y r else top
 
     m : List ℤ
     m = tabulate 0 (n + 1) f
@@ -130,7 +161,7 @@ first_bounds family g outside y within member = (
         let e : 0 + i ≡ i = omega arith in
         tabulate-at 0 (n + 1) f i (omega arith) ∙ rw e (rw t refl)
 
-    last : excess_of n m 0 ≡ big.0
+    last : excess_of n m 0 ≡ top
     last =
         let e : 0 + (n + 0) ≡ n + 0 = omega arith in
         let t : nat_lt (n + 0) n ≡ false = grind (arith, nat_tests) in
@@ -155,18 +186,18 @@ first_bounds family g outside y within member = (
     at s = ap (λ (z : ℕ). sum_over z (share y) s) (allocation family member).0
 
 -- where the family has a member, the first stage has no endless ray
-pub first_no_ray : (family : Family) (g : Game) (outside : ℕ → Bool) (y : Allocation) → ((s : ℕ) → IsTrue (outside s) → s < 2 ^ g.players) → InFamily family g y → HasRay (stage_program family g [] outside) → ⊥
-first_no_ray family g outside y within member ray =
-    let found = first_bounds family g outside y within member in
-    no_ray (stage_program family g [] outside) found.0 y.den found.1 ray
+pub first_no_ray : (family : Family) (measure : Measure) (g : Game) (outside : ℕ → Bool) (y : Allocation) → g.players ≤ 16 → ((s : ℕ) → IsTrue (outside s) → (0 < s) × (s < 2 ^ g.players)) → InFamily family g y → HasRay (stage_program family measure g [] outside) → ⊥
+first_no_ray family measure g outside y few within member ray =
+    let found = first_bounds family measure g outside y few within member in
+    no_ray (stage_program family measure g [] outside) found.0 y.den found.1 ray
 
 -- ---- the solution
 
 column_whole : (n : ℕ) (front : List Level) → column n front 1 ≡ record { mask = grand_coalition n; row = length front + 1; minus = true }
 column_whole n front = let t : nat_lt 1 (length (settled_columns n front)) ≡ true = grind (arith, nat_tests) in rw t refl
 
-whole_column : (family : Family) (g : Game) (front : List Level) (outside : ℕ → Bool) → IsTrue ((stage_program family g front outside).is_column 1)
-whole_column family g front outside = let t : nat_lt 1 (length (settled_columns g.players front)) ≡ true = grind (arith, nat_tests) in rw t refl
+whole_column : (family : Family) (measure : Measure) (g : Game) (front : List Level) (outside : ℕ → Bool) → IsTrue ((stage_program family measure g front outside).is_column 1)
+whole_column family measure g front outside = let t : nat_lt 1 (length (settled_columns g.players front)) ≡ true = grind (arith, nat_tests) in rw t refl
 
 not_own_other : (n s : ℕ) → 0 < n → s < 2 ^ n → s ≢ grand_coalition n - s
 not_own_other n s some small e = opposite (has_player s 0) (ap (λ (z : ℕ). has_player z 0) e ∙ has_player-complement n s 0 small some)
@@ -175,9 +206,9 @@ not_own_other n s some small e = opposite (has_player s 0) (ap (λ (z : ℕ). ha
     opposite true h = false≢true (sym h)
     opposite false h = false≢true h
 
-half_distinct : (n : ℕ) (front : List Level) (s : ℕ) → 0 < n → s < 2 ^ n → IsDistinct nat_eq (1 ∷ (outer_id n front s ∷ (outer_id n front (grand_coalition n - s) ∷ [])))
+pair_distinct : (n : ℕ) (front : List Level) (s : ℕ) → 0 < n → s < 2 ^ n → IsDistinct nat_eq (1 ∷ (outer_id n front s ∷ (outer_id n front (grand_coalition n - s) ∷ [])))
 unfolding IsDistinct
-half_distinct n front s some small =
+pair_distinct n front s some small =
     let ne = not_own_other n s some small in
     let long : 2 ≤ length (settled_columns n front) = omega arith in
     let a : nat_eq 1 (outer_id n front s) ≡ false = grind (arith, nat_tests) in
@@ -188,24 +219,21 @@ half_distinct n front s some small =
 row_sum : (a b c u v w : ℤ) → a ≡ u → b ≡ v → c ≡ w → pos 1 *ℤ a +ℤ (pos 1 *ℤ b +ℤ (pos 1 *ℤ c +ℤ pos 0)) ≡ u +ℤ (v +ℤ w)
 row_sum a b c u v w h k l = omega (arith, linear, h, k, l, one-mulℤ a, one-mulℤ b, one-mulℤ c)
 
-twice : (z : ℤ) → z +ℤ z ≡ pos 2 *ℤ z
-twice z = sym (*ℤ_comm (pos 2) z ∙ mul-addℤ z (pos 1) (pos 1) ∙ omega (arith, linear, mul-oneℤ z))
-
--- the coalition and its others at half a weight each, and all players at minus a half
-pub solution : (family : Family) (g : Game) (front : List Level) (outside : ℕ → Bool) (s : ℕ) → IsOutside Span g.players front s → IsTrue (outside s) → IsTrue (outside (grand_coalition g.players - s)) → Solves (stage_program family g front outside) (half g.players front s) (pos 2)
-solution family g front outside s o here others =
+-- the coalition and its others at one weight, and all players at minus that
+pub solution : (family : Family) (measure : Measure) (g : Game) (front : List Level) (outside : ℕ → Bool) (s : ℕ) → g.players ≤ 16 → IsOutside Span g.players front s → IsTrue (outside s) → IsTrue (outside (grand_coalition g.players - s)) → Solves (stage_program family measure g front outside) (pair_weights g.players front s) (both_divisors measure g.players s)
+solution family measure g front outside s few o here others =
     let n : ℕ = g.players in
     let small : s < 2 ^ n = omega (arith, o.0, o.1) in
     let some : 0 < n = positive n (omega (arith, o.0, o.1)) in (
-      (((whole_column family g front outside, omega (arith, linear)), ((outer_column family g front outside s here, omega (arith, linear)), ((outer_column family g front outside (grand_coalition n - s) others, omega (arith, linear)), tt))), half_distinct n front s some small),
-      omega (arith, linear),
-      λ r h. row_sum _ _ _ (pos 0 -ℤ plus_entry n (grand_coalition n) (length front + 1) r) (plus_entry n s (length front) r) (plus_entry n (grand_coalition n - s) (length front) r) (ap (λ c. entry_of n c r) (column_whole n front)) (ap (λ c. entry_of n c r) (column_outer n front s)) (ap (λ c. entry_of n c r) (column_outer n front (grand_coalition n - s))) ∙ half_row n (length front) s r small h ∙ twice (if nat_eq r (n + length front) then pos 1 else pos 0),
+      (((whole_column family measure g front outside, omega (arith, linear)), ((outer_column family measure g front outside s here, omega (arith, linear)), ((outer_column family measure g front outside (grand_coalition n - s) others, omega (arith, linear)), tt))), pair_distinct n front s some small),
+      both_some measure n s few o.0 o.1,
+      λ r h. row_sum _ _ _ (pos 0 -ℤ plus_entry measure n (grand_coalition n) (length front + 1) r) (plus_entry measure n s (length front) r) (plus_entry measure n (grand_coalition n - s) (length front) r) (ap (λ c. entry_of measure n c r) (column_whole n front)) (ap (λ c. entry_of measure n c r) (column_outer n front s)) (ap (λ c. entry_of measure n c r) (column_outer n front (grand_coalition n - s))) ∙ pair_row measure n (length front) s r small h,
     )
   where
     positive : (n : ℕ) → 0 < grand_coalition n → 0 < n
     positive zero h = absurd (omega arith)
     positive (suc n) h = omega arith
 
-pub some_solution : (family : Family) (g : Game) (front : List Level) (outside : ℕ → Bool) (s : ℕ) → ((u : ℕ) → IsOutside Span g.players front u → IsTrue (outside u)) → IsOutside Span g.players front s → HasNoSolution (stage_program family g front outside) → ⊥
-some_solution family g front outside s all o none =
-    none (half g.players front s) (pos 2) (solution family g front outside s o (all s o) (all (grand_coalition g.players - s) (others_outside g.players front s o)))
+pub some_solution : (family : Family) (measure : Measure) (g : Game) (front : List Level) (outside : ℕ → Bool) (s : ℕ) → g.players ≤ 16 → ((u : ℕ) → IsOutside Span g.players front u → IsTrue (outside u)) → IsOutside Span g.players front s → HasNoSolution (stage_program family measure g front outside) → ⊥
+some_solution family measure g front outside s few all o none =
+    none (pair_weights g.players front s) (both_divisors measure g.players s) (solution family measure g front outside s few o (all s o) (all (grand_coalition g.players - s) (others_outside g.players front s o)))

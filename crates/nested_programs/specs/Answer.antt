@@ -14,6 +14,7 @@ use Rattle.definitions.specs.Coalitions.{singleton, grand_coalition}
 use Rattle.definitions.specs.Games.{Game, Allocation, InFamily}
 use Rattle.definitions.specs.Certificates.{Level}
 use Rattle.definitions.specs.declared.Family.{Family}
+use Rattle.definitions.specs.declared.Measure.{Measure}
 use Rattle.definitions.specs.declared.Family.TheVariants.{Imputations}
 use Rattle.definitions.specs.declared.Mode.TheVariants.{Span}
 use Rattle.kohlberg.specs.Certificate.{CertificateData}
@@ -44,14 +45,14 @@ abbrev pub IsShort : ℕ → Level → Type 0
 IsShort n l = length l.coalitions + length l.earlier + length l.bounds < 2 * n
 
 -- shares, and a certificate in mode span that certifies them, in which each level is short
-pub record IsPoint (family : Family) (g : Game) (x : Allocation) (c : CertificateData) : Type 0 where
-  pub solved : IsSolved Span family Plain g x c
+pub record IsPoint (family : Family) (measure : Measure) (g : Game) (x : Allocation) (c : CertificateData) : Type 0 where
+  pub solved : IsSolved Span family measure g x c
   pub short : AllByRecursion (IsShort g.players) c.levels
 
 -- what an answer says
-abbrev pub IsFound : Family → Game → Found → Type 0
-IsFound family g (Point x c) = IsPoint family g x c
-IsFound family g (NoImputation alone total) = LacksImputation family g alone total
+abbrev pub IsFound : Family → Measure → Game → Found → Type 0
+IsFound family measure g (Point x c) = IsPoint family measure g x c
+IsFound family measure g (NoImputation alone total) = LacksImputation family g alone total
 
 -- what a refusal says
 abbrev pub IsFault : Game → NestedFault → Type 0

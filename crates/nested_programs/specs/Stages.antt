@@ -16,6 +16,7 @@ use Rattle.definitions.specs.Games.{Game}
 use Rattle.definitions.specs.Certificates.{Level, InSpan, IsFixedVector, IsOutside, IsAllFixed, LevelsForm}
 use Rattle.definitions.specs.Programs.{HasRay}
 use Rattle.definitions.specs.declared.Family.{Family}
+use Rattle.definitions.specs.declared.Measure.{Measure}
 use Rattle.definitions.specs.declared.Mode.TheVariants.{Span}
 use Rattle.simplex.specs.Answer.{IsAnswer}
 use Rattle.simplex.specs.declared.multipliers.Multipliers.{Multipliers}
@@ -33,10 +34,10 @@ pub record IsLeft (n : ℕ) (levels : List Level) : Type 0 where
   pub apart : ¬ InSpan n (IsFixedVector n levels) (singleton player)
 
 -- an optimum of the stage behind the levels, by a test that passes exactly at the coalitions outside
-pub record IsBest (family : Family) (g : Game) (front : List Level) (weights : List (ℕ × ℤ)) (weight_den : ℤ) (m : List ℤ) (den : ℤ) : Type 0 where
+pub record IsBest (family : Family) (measure : Measure) (g : Game) (front : List Level) (weights : List (ℕ × ℤ)) (weight_den : ℤ) (m : List ℤ) (den : ℤ) : Type 0 where
   pub outside : ℕ → Bool
   pub decides : (s : ℕ) → Decides (outside s) (IsOutside Span g.players front s)
-  pub answer : IsAnswer (stage_program family g front outside) weights weight_den m den
+  pub answer : IsAnswer (stage_program family measure g front outside) weights weight_den m den
 
 -- the excess of each level is the optimum of its stage
 abbrev pub OwnExcesses : Game → ℕ → List Stage → Type 0
@@ -57,33 +58,33 @@ AreWide n levels None = levels ≡ []
 AreWide n levels (Some m) = n ≤ length m.num.items
 
 -- levels that optimal stages gave, each behind those in front, and the multipliers of the last stage
-pub record AreStages (family : Family) (g : Game) (levels : List Level) (last : Option Multipliers) : Type 0 where
+pub record AreStages (family : Family) (measure : Measure) (g : Game) (levels : List Level) (last : Option Multipliers) : Type 0 where
   pub stages : List Stage
   pub levels_are : levels ≡ levels_of stages
-  pub chain : IsChain family g [] stages
+  pub chain : IsChain family measure g [] stages
   pub own : OwnExcesses g 0 stages
   pub last_is : AreLast stages last
   pub wide : AreWide g.players levels last
 
 -- the stage behind the levels has no endless ray
-abbrev pub IsBounded : Family → Game → List Level → Type 0
-IsBounded family g levels =
-    (outside : ℕ → Bool) → ((s : ℕ) → IsTrue (outside s) → IsOutside Span g.players levels s) → HasRay (stage_program family g levels outside) → ⊥
+abbrev pub IsBounded : Family → Measure → Game → List Level → Type 0
+IsBounded family measure g levels =
+    (outside : ℕ → Bool) → ((s : ℕ) → IsTrue (outside s) → IsOutside Span g.players levels s) → HasRay (stage_program family measure g levels outside) → ⊥
 
 -- the levels so far: in their form, each with few entries and its excess in lowest terms; the next stage has no endless ray; and the coalitions that are kept span what the levels fix, more of them than levels
-pub record AreUnderway (family : Family) (g : Game) (levels : List Level) (kept : List ℕ) (last : Option Multipliers) : Type 0 where
-  pub stages : AreStages family g levels last
+pub record AreUnderway (family : Family) (measure : Measure) (g : Game) (levels : List Level) (kept : List ℕ) (last : Option Multipliers) : Type 0 where
+  pub stages : AreStages family measure g levels last
   pub form : LevelsForm g.players [] levels
   pub short : AllByRecursion (IsShort g.players) levels
   pub lowest : AllByRecursion IsLowest levels
-  pub bounded : IsBounded family g levels
+  pub bounded : IsBounded family measure g levels
   pub spans : SpansFixed g.players kept levels
   pub more : length levels < length kept
   pub count : length levels < g.players
 
 -- the levels of all stages, which fix everything
-pub record AreDone (family : Family) (g : Game) (levels : List Level) (last : Option Multipliers) : Type 0 where
-  pub stages : AreStages family g levels last
+pub record AreDone (family : Family) (measure : Measure) (g : Game) (levels : List Level) (last : Option Multipliers) : Type 0 where
+  pub stages : AreStages family measure g levels last
   pub form : LevelsForm g.players [] levels
   pub short : AllByRecursion (IsShort g.players) levels
   pub lowest : AllByRecursion IsLowest levels

@@ -1,7 +1,7 @@
 //! The nucleolus and the prenucleolus of any game of at most 16 players, by nested linear programs (Kopelowitz 1967,
 //! Maschler, Peleg and Shapley 1979).
 //!
-//! Each stage looks for the least greatest excess of the coalitions that the levels in front don't fix. Its optimal weights
+//! Each stage looks for the least greatest measured excess of the coalitions that the levels in front don't fix. Its optimal weights
 //! are the next level of the certificate, and its optimal multipliers are shares, and excesses of the levels so far. After
 //! at most one stage less than there are players everything is fixed, and the shares of the last stage are the answer.
 #![tactic(auto)]
@@ -15,7 +15,8 @@ mod stages;
 #[cfg(test)]
 mod tests;
 
-ghost use Rattle.std.specs.Prelude.{◌≤◌, IfOk, MatchResult};
+ghost use Rattle.std.specs.Prelude.{◌≡◌, ◌≤◌, IfOk, MatchResult};
+ghost use Rattle.definitions.specs.declared.Measure.{Measure};
 ghost use Rattle.nested_programs.specs.Answer.{IsFound, IsFault};
 
 use crate::point::point_of;
@@ -23,17 +24,24 @@ use crate::singles::lacks_imputation;
 pub use found::{Found, NestedFault};
 use kohlberg::Family;
 use std::alloc::Global;
-use worth_core::Worth;
+use worth_core::{Measure, Worth};
 
 /// The nucleolus of a game of at most 16 players for the imputations, or its prenucleolus for the preimputations, with a
-/// certificate in mode span (Schmeidler 1969, Kohlberg 1971). Each level has fewer entries in its three lists than there
+/// certificate in mode span (Schmeidler 1969, Kohlberg 1971), of excesses as they are or per head (Grotte 1970). Per head
+/// there must be at most 8 players. Each level has fewer entries in its three lists than there
 /// are players twice, and its excess is a fraction in lowest terms with parts of 128 bits.
 ///
 /// `NoImputation` comes exactly where the family is the imputations and the worths of the players alone add to more than
 /// the worth of all; it carries both. `TooMany` comes exactly where there are more than 16 players, and `Memory` for want of
 /// memory.
-pub fn solve<W: Worth>(alloc: Global, game: &W, family: Family) -> Result<Found, NestedFault>
-    ensures answer { MatchResult result (IsFound family (W.game game.now)) (IsFault (W.game game.now)) }
+pub fn solve<W: Worth>(
+    alloc: Global,
+    game: &W,
+    family: Family,
+    measure: Measure,
+) -> Result<Found, NestedFault>
+    requires heads { measure ≡ Measure.PerHead → (W.game game.now).players ≤ 8 }
+    ensures answer { MatchResult result (IsFound family measure (W.game game.now)) (IsFault (W.game game.now)) }
     ensures few { IfOk result (λ _. (W.game game.now).players ≤ 16) }
 {
     if game.players() > 16 {
@@ -42,7 +50,7 @@ pub fn solve<W: Worth>(alloc: Global, game: &W, family: Family) -> Result<Found,
     if let Some((singles, total)) = lacks_imputation(game, family) {
         return Ok(Found::NoImputation { singles, total });
     }
-    match point_of(alloc, game, family) {
+    match point_of(alloc, game, family, measure) {
         Ok((shares, certificate)) => Ok(Found::Point(shares, certificate)),
         Err(_) => Err(NestedFault::Memory),
     }

@@ -1,6 +1,7 @@
 //! The shares of the last stage, and their certificate.
 ghost use Rattle.std.specs.Prelude.{◌≡◌, ◌≤◌, [], ◌∷◌, length, pos, IfOk, IfSome, MatchOption};
 ghost use Rattle.definitions.specs.Coalitions.{grand_coalition};
+ghost use Rattle.definitions.specs.declared.Measure.{Measure};
 ghost use Rattle.worth_core.specs.Allocations.{allocation};
 ghost use Rattle.nested_programs.specs.Answer.{HasMember, IsPoint};
 ghost use Rattle.separation.specs.Shares.{IsReadFrom};
@@ -11,7 +12,7 @@ use fractions::OutOfMemory;
 use kohlberg::{Certificate, Family, Mode};
 use simplex::Multipliers;
 use std::alloc::Global;
-use worth_core::{Shares, Worth};
+use worth_core::{Measure, Shares, Worth};
 
 /// The shares that are the multipliers of the players' rows, over their denominator. Without multipliers it is one share, the
 /// worth of all.
@@ -37,17 +38,19 @@ fn shares_of<W: Worth>(
     }
 }
 
-/// The nucleolus or prenucleolus of a game of at most 16 players whose family has a member, with its certificate.
+/// The nucleolus or prenucleolus by a measure of a game of at most 16 players whose family has a member, with its certificate.
 pub fn point_of<W: Worth>(
     alloc: Global,
     game: &W,
     family: Family,
+    measure: Measure,
 ) -> Result<(Shares, Certificate), OutOfMemory>
     requires few { (W.game game.now).players ≤ 16 }
+    requires heads { measure ≡ Measure.PerHead → (W.game game.now).players ≤ 8 }
     requires member { HasMember family (W.game game.now) }
-    ensures { IfOk result (λ point. IsPoint family (W.game game.now) point.0 point.1) }
+    ensures { IfOk result (λ point. IsPoint family measure (W.game game.now) point.0 point.1) }
 {
-    let (levels, last) = all_stages(alloc, game, family)?;
+    let (levels, last) = all_stages(alloc, game, family, measure)?;
     let shares = shares_of(alloc, game, &last)?;
     let certificate = Certificate::new(game.players(), Mode::Span, levels).unwrap();
     Ok((shares, certificate))

@@ -1,6 +1,7 @@
 //! The stages, each behind the levels of those in front.
 ghost use Rattle.std.specs.Prelude.{◌≡◌, ◌≤◌, ◌+◌, [], length, IfOk};
 ghost use Rattle.definitions.specs.Certificates.{LevelsForm};
+ghost use Rattle.definitions.specs.declared.Measure.{Measure};
 ghost use Rattle.kohlberg.specs.Extends.{SpansFixed};
 ghost use Rattle.nested_programs.specs.Stages.{AreDone, IsBest, IsLeft, IsBounded};
 ghost use Rattle.nested_programs.specs.Answer.{HasMember};
@@ -11,26 +12,28 @@ use kohlberg::{Family, Level, Span, add_levels, first_unspanned};
 use separation::Lazy;
 use simplex::{Multipliers, Optimal, Workspace};
 use std::alloc::Global;
-use worth_core::Worth;
+use worth_core::{Measure, Worth};
 
 /// The optimum of the stage behind these levels, which the span holds.
 fn best_of<W: Worth>(
     alloc: Global,
     game: &W,
     family: Family,
+    measure: Measure,
     levels: &[Level],
     span: &Span,
 ) -> Result<Optimal, OutOfMemory>
     requires few { (W.game game.now).players ≤ 16 }
+    requires heads { measure ≡ Measure.PerHead → (W.game game.now).players ≤ 8 }
     requires levels { length levels.now + 2 ≤ (W.game game.now).players }
     requires form { LevelsForm (W.game game.now).players [] levels.now }
     requires players { span.now.players ≡ (W.game game.now).players }
     requires spans { SpansFixed (W.game game.now).players span.now.kept levels.now }
     requires left { IsLeft (W.game game.now).players levels.now }
-    requires bounded { IsBounded family (W.game game.now) levels.now }
-    ensures { IfOk result (λ best. IsBest family (W.game game.now) levels.now best.weights.items best.weight_den best.multipliers.num.items best.multipliers.den) }
+    requires bounded { IsBounded family measure (W.game game.now) levels.now }
+    ensures { IfOk result (λ best. IsBest family measure (W.game game.now) levels.now best.weights.items best.weight_den best.multipliers.num.items best.multipliers.den) }
 {
-    let mut program = Lazy::stage(alloc, game, family, levels, span)?;
+    let mut program = Lazy::stage(alloc, game, family, measure, levels, span)?;
     let mut work = Workspace::new(alloc, game.players() + levels.len() as u32 + 1)?;
     let Ok(best) = simplex::solve(&mut work, &mut program) else {
         unreachable!();
@@ -43,17 +46,19 @@ pub fn all_stages<W: Worth>(
     alloc: Global,
     game: &W,
     family: Family,
+    measure: Measure,
 ) -> Result<(Vec<Level>, Option<Multipliers>), OutOfMemory>
     requires few { (W.game game.now).players ≤ 16 }
+    requires heads { measure ≡ Measure.PerHead → (W.game game.now).players ≤ 8 }
     requires member { HasMember family (W.game game.now) }
-    ensures { IfOk result (λ all. AreDone family (W.game game.now) all.0.items all.1) }
+    ensures { IfOk result (λ all. AreDone family measure (W.game game.now) all.0.items all.1) }
 {
     let n = game.players();
     let mut levels = Vec::new(alloc);
     let mut span = Span::new(n);
     let mut last = None;
     while first_unspanned(&span, n).is_some() {
-        let best = best_of(alloc, game, family, &levels, &span)?;
+        let best = best_of(alloc, game, family, measure, &levels, &span)?;
         let k = levels.len();
         levels.push(level_of(alloc, n, &levels, &best)?)?;
         add_levels(&mut span, &levels[k..]);

@@ -1,5 +1,5 @@
 //! Shares of small games, and the verdicts of the checker on their certificates.
-ghost use Rattle.std.specs.Prelude.{IfOk};
+ghost use Rattle.std.specs.Prelude.{◌≤◌, IfOk};
 ghost use Rattle.nested_programs.specs.Answer.{IsPoint};
 
 use super::*;
@@ -16,18 +16,37 @@ use worth_tables::TableGame;
 #[derive(Drop)]
 struct Solved {
     family: Family,
+    measure: Measure,
     game: TableGame,
     shares: Shares,
     certificate: Certificate,
 }
 
 fn point_for(alloc: Global, family: Family, players: u32, worths: Vec<i64>) -> Result<Solved, Fail>
-    ensures { IfOk result (λ s. IsPoint s.family (⟦<TableGame as Worth>⟧.game s.game) s.shares s.certificate) }
+    ensures point { IfOk result (λ s. IsPoint s.family s.measure (⟦<TableGame as Worth>⟧.game s.game) s.shares s.certificate) }
+    ensures few { IfOk result (λ s. (⟦<TableGame as Worth>⟧.game s.game).players ≤ 16) }
+{
+    point_by(alloc, family, Measure::Plain, players, worths)
+}
+
+fn point_by(
+    alloc: Global,
+    family: Family,
+    measure: Measure,
+    players: u32,
+    worths: Vec<i64>,
+) -> Result<Solved, Fail>
+    ensures point { IfOk result (λ s. IsPoint s.family s.measure (⟦<TableGame as Worth>⟧.game s.game) s.shares s.certificate) }
+    ensures few { IfOk result (λ s. (⟦<TableGame as Worth>⟧.game s.game).players ≤ 16) }
 {
     let game = TableGame::new(alloc, players, worths).map_err(|_| "no game")?;
-    match solve(alloc, &game, family) {
+    if measure == Measure::PerHead && game.players() > 8 {
+        Err("too many players")?;
+    }
+    match solve(alloc, &game, family, measure) {
         Ok(Found::Point(shares, certificate)) => Ok(Solved {
             family,
+            measure,
             game,
             shares,
             certificate,
@@ -38,9 +57,10 @@ fn point_for(alloc: Global, family: Family, players: u32, worths: Vec<i64>) -> R
 
 /// Whether the checker says Yes to the certificate.
 fn is_certified(s: &Solved) -> bool
-    requires { IsPoint s.now.family (⟦<TableGame as Worth>⟧.game s.now.game) s.now.shares s.now.certificate }
+    requires point { IsPoint s.now.family s.now.measure (⟦<TableGame as Worth>⟧.game s.now.game) s.now.shares s.now.certificate }
+    requires few { (⟦<TableGame as Worth>⟧.game s.now.game).players ≤ 16 }
 {
-    check(&s.game, s.family, Measure::Plain, &s.shares, &s.certificate) == Verdict::Yes
+    check(&s.game, s.family, s.measure, &s.shares, &s.certificate) == Verdict::Yes
 }
 
 /// Whether player `i` gets so much.
@@ -98,7 +118,7 @@ fn one_gets_all_without_a_level(rt: HostRuntime) -> Result<(), Fail> {
 fn two_worth_more_alone_have_no_imputation(rt: HostRuntime) -> Result<(), Fail> {
     let worths = [3, 3, 5].to_vec(rt.alloc())?;
     let game = TableGame::new(rt.alloc(), 2, worths).map_err(|_| "no game")?;
-    match solve(rt.alloc(), &game, Family::Imputations) {
+    match solve(rt.alloc(), &game, Family::Imputations, Measure::Plain) {
         Ok(Found::NoImputation { singles, total }) => {
             assert_eq!(&rt; singles, 6);
             assert_eq!(&rt; total, 5);
@@ -155,6 +175,21 @@ fn a_pair_that_is_worth_half_gets_more(rt: HostRuntime) -> Result<(), Fail> {
     Ok(())
 }
 
+// The excesses per head are -2, -2 and -7/2.
+#[test]
+fn a_pair_that_is_worth_half_gets_more_per_head(rt: HostRuntime) -> Result<(), Fail> {
+    let worths = [0, 0, 6, 0, 0, 0, 12].to_vec(rt.alloc())?;
+    let s = point_by(rt.alloc(), Family::Imputations, Measure::PerHead, 3, worths)?;
+    assert!(&rt; gets(&s, 0, (5, 1)) && gets(&s, 1, (5, 1)) && gets(&s, 2, (2, 1)));
+    assert_eq!(&rt; s.certificate.levels().len(), 2);
+    assert!(&rt; is_level(&s.certificate.levels()[0], -2, &[3, 4], 1));
+    let second = &s.certificate.levels()[1];
+    assert!(&rt; Some(second.excess) == Frac::new(-7, 2));
+    assert!(&rt; are_masks(&second.coalitions, &[5, 6]));
+    assert!(&rt; is_certified(&s));
+    Ok(())
+}
+
 #[test]
 fn ten_share_the_greatest_worth(rt: HostRuntime) -> Result<(), Fail> {
     let mut worths = vec![in rt.alloc(); 0; 1023]?;
@@ -171,7 +206,7 @@ fn ten_share_the_greatest_worth(rt: HostRuntime) -> Result<(), Fail> {
 fn seventeen_are_too_many(rt: HostRuntime) -> Result<(), Fail> {
     let costs = vec![in rt.alloc(); 1; 17]?;
     let game = AirportGame::new(rt.alloc(), costs).map_err(|_| "no game")?;
-    match solve(rt.alloc(), &game, Family::Imputations) {
+    match solve(rt.alloc(), &game, Family::Imputations, Measure::Plain) {
         Err(fault) => assert_eq!(&rt; fault, NestedFault::TooMany),
         Ok(_) => Err("an answer")?,
     }

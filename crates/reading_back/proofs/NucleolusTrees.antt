@@ -101,6 +101,7 @@ module _ (family : Family) (game : Data) (b : Bool) (x : Allocation) (c : Certif
     contents e = record {
       game = refl;
       tree = refl;
+      measure = refl;
       family = ap (λ o. Some (unwrap_or o Imputations)) family_read;
       shares = (shares_of game printed, refl, subst (λ t. IsAgain x (as_worth t (over_least (written_shares printed)))) e shares.again);
       certificate = ap Some certificate;

@@ -8,6 +8,7 @@ use Rattle.definitions.specs.declared.Family.{Family}
 use Rattle.kohlberg.specs.Certificate.{CertificateData, IsCertificate}
 use Rattle.game_text.specs.Descriptions.{game_of, is_cost, description_of}
 use Rattle.game_text.specs.Documents.{Contents, game_tree}
+use Rattle.game_text.specs.Excess.{measure_of}
 use Rattle.game_text.specs.Denominators.{contents_of, tree_refusal}
 use Rattle.game_text.specs.declared.command.Command.{Command}
 use Rattle.game_text.specs.declared.command.Command.TheVariants.{Check}
@@ -15,16 +16,17 @@ use Rattle.report.specs.Lines.{nucleolus_tree}
 use Rattle.reading_back.specs.ReadBack.{IsAgain}
 use Rattle.reading_back.specs.CertificatesReadBack.{AreInLowestTerms}
 
--- the contents are the game of the tree g, the family f, the shares of x and the certificate c
+-- the contents are the game and the measure of the tree g, the family f, the shares of x and the certificate c
 pub record IsReadOf (f : Family) (g : Data) (x : Allocation) (c : CertificateData) (contents : Contents) : Type 0 where
   pub game : contents.game ≡ description_of g
   pub tree : contents.tree ≡ g
+  pub measure : contents.measure ≡ measure_of g
   pub family : contents.family ≡ Some f
   pub shares : (y : Allocation) × (contents.shares ≡ Some y) × IsAgain x y
   pub certificate : contents.certificate ≡ Some c
 
 -- a game whose document no test refused, with a share for each player and a certificate for them: what is printed of them is not refused where it is
--- checked, and is read with the game, the family, the shares and the certificate that were printed
+-- checked, and is read with the game, the measure, the family, the shares and the certificate that were printed
 abbrev pub PrintedNucleolusIsADocument : Type 0
 PrintedNucleolusIsADocument = (command : Command) (document : Data) (family : Family) (x : Allocation) (c : CertificateData)
     → tree_refusal command document ≡ None

@@ -24,7 +24,7 @@ pub fn certificates_are_read_back()
 {}
 
 /// What is printed of the nucleolus or the prenucleolus of a game is not refused where it is checked, and is read with the
-/// same game, family and certificate, and with the same shares, perhaps over another denominator.
+/// same game, measure, family and certificate, and with the same shares, perhaps over another denominator.
 pub fn printed_nucleolus_is_a_document()
     ensures { PrintedNucleolusIsADocument }
 {}

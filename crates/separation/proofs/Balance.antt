@@ -4,6 +4,7 @@ use Rattle.std.proofs.lemmas.Nat.{one_shl}
 use Rattle.std.proofs.lemmas.Bool.Decides.{nat_tests}
 use Rattle.definitions.specs.Games.{Game, IsGame}
 use Rattle.definitions.specs.Programs.{Program}
+use Rattle.definitions.specs.declared.Measure.TheVariants.{Plain}
 use Rattle.separation.specs.Balanced.{balanced_program}
 use Rattle.separation.specs.Kept.{column_at, kept_program, AreSmall}
 use Rattle.separation.specs.Same.{IsSame}
@@ -19,16 +20,16 @@ module _ (g : Game) (game : IsGame g) where
   abbrev q : Program
   q = balanced_program g
 
-  inside_at : (s : ℕ) → s < 2 ^ g.players → SameAt g.players 0 q s (balanced_column g s)
+  inside_at : (s : ℕ) → s < 2 ^ g.players → SameAt Plain g.players 0 q s (balanced_column g s)
   inside_at s lt = by_test (nat_lt 0 s) refl
     where
       within : nat_lt s (2 ^ g.players) ≡ true
       within = grind (arith, nat_tests)
 
-      by_test : (b : Bool) → nat_lt 0 s ≡ b → SameAt g.players 0 q s (balanced_column g s)
+      by_test : (b : Bool) → nat_lt 0 s ≡ b → SameAt Plain g.players 0 q s (balanced_column g s)
       by_test true e = rw e (record {
         is_column = rw e within;
-        entry = λ r h. member_entry g.players s r h;
+        entry = λ r h. member_entry Plain g.players s r h;
         cost = refl;
         small = game.small s lt;
         level = no_level 0;
@@ -38,14 +39,14 @@ module _ (g : Game) (game : IsGame g) where
   past : (s : ℕ) → 2 ^ g.players ≤ s → q.is_column s ≡ false
   past s le = let t : nat_lt s (2 ^ g.players) ≡ false = grind (arith, nat_tests) in ap (λ (b : Bool). nat_lt 0 s && b) t ∙ and_false (nat_lt 0 s)
 
-  at_number : (id : ℕ) → SameAt g.players 0 q id (column_at (listed (2 ^ g.players) (balanced_column g)) id)
+  at_number : (id : ℕ) → SameAt Plain g.players 0 q id (column_at (listed (2 ^ g.players) (balanced_column g)) id)
   at_number id = elim (below_or_above id (2 ^ g.players)) [
-    | inl lt ↦ subst (SameAt g.players 0 q id) (sym (listed_at (2 ^ g.players) id (balanced_column g) lt)) (inside_at id lt)
-    | inr le ↦ subst (SameAt g.players 0 q id) (sym (past_at (listed (2 ^ g.players) (balanced_column g)) id (let x = length-listed (2 ^ g.players) (balanced_column g) in omega (arith, x, le)))) (past id le)
+    | inl lt ↦ subst (SameAt Plain g.players 0 q id) (sym (listed_at (2 ^ g.players) id (balanced_column g) lt)) (inside_at id lt)
+    | inr le ↦ subst (SameAt Plain g.players 0 q id) (sym (past_at (listed (2 ^ g.players) (balanced_column g)) id (let x = length-listed (2 ^ g.players) (balanced_column g) in omega (arith, x, le)))) (past id le)
   ]
 
-  pub balanced_of : IsSame (kept_program g.players 0 (listed (2 ^ g.players) (balanced_column g))) (balanced_program g)
-  balanced_of = same_program g.players 0 (listed (2 ^ g.players) (balanced_column g)) q (omega arith) (λ r lt. refl) at_number
+  pub balanced_of : IsSame (kept_program Plain g.players 0 (listed (2 ^ g.players) (balanced_column g))) (balanced_program g)
+  balanced_of = same_program Plain g.players 0 (listed (2 ^ g.players) (balanced_column g)) q (omega arith) (λ r lt. refl) at_number
 
   pub balanced_small : AreSmall 0 (listed (2 ^ g.players) (balanced_column g))
-  balanced_small = small_columns g.players 0 (listed (2 ^ g.players) (balanced_column g)) q at_number
+  balanced_small = small_columns Plain g.players 0 (listed (2 ^ g.players) (balanced_column g)) q at_number

@@ -5,6 +5,7 @@ use Rattle.std.specs.Option.{is_some}
 use Rattle.definitions.proofs.Ring.{linear}
 use Rattle.definitions.specs.Sums.{sum_below}
 use Rattle.definitions.specs.Programs.{Bounds, value_of}
+use Rattle.definitions.specs.declared.Measure.{Measure}
 use Rattle.simplex.specs.Entering.{IsEntering}
 use Rattle.simplex.specs.Program.{price, priced}
 use Rattle.separation.specs.Kept.{column_at, entry_at, cost_at, kept_program}
@@ -12,44 +13,44 @@ use Rattle.separation.specs.Values.{multiplier_at, column_value, counted, Rises,
 use Rattle.separation.specs.declared.column.Column.{Column}
 
 -- the value of what stands under a number
-abbrev value_at : List ℤ → ℕ → Option Column → ℤ
-value_at num n o = sum_below (length num) (λ r. multiplier_at num r *ℤ entry_at n o r)
+abbrev value_at : Measure → List ℤ → ℕ → Option Column → ℤ
+value_at measure num n o = sum_below (length num) (λ r. multiplier_at num r *ℤ entry_at measure n o r)
 
 not_above : (a b : ℤ) → ¬ (b <ℤ a) → a ≤ℤ b
 not_above a b h = grind (arith, linear)
 
-low : (num : List ℤ) (den : ℤ) (n : ℕ) (w : Bool) (o : Option Column) → ¬ Rises num den n w o → IsTrue (is_some o) → (den *ℤ counted w (cost_at o)) ≤ℤ value_at num n o
-low num den n w None h is = absurd (false≢true is)
-low num den n w (Some c) h is = not_above (den *ℤ counted w c.cost) (column_value num n c) h
+low : (measure : Measure) (num : List ℤ) (den : ℤ) (n : ℕ) (w : Bool) (o : Option Column) → ¬ Rises measure num den n w o → IsTrue (is_some o) → (den *ℤ counted w (cost_at o)) ≤ℤ value_at measure num n o
+low measure num den n w None h is = absurd (false≢true is)
+low measure num den n w (Some c) h is = not_above (den *ℤ counted w c.cost) (column_value measure num n c) h
 
-high : (num : List ℤ) (den : ℤ) (n : ℕ) (w : Bool) (o : Option Column) → Rises num den n w o → value_at num n o <ℤ (den *ℤ counted w (cost_at o))
-high num den n w None h = absurd h
-high num den n w (Some c) h = h
+high : (measure : Measure) (num : List ℤ) (den : ℤ) (n : ℕ) (w : Bool) (o : Option Column) → Rises measure num den n w o → value_at measure num n o <ℤ (den *ℤ counted w (cost_at o))
+high measure num den n w None h = absurd h
+high measure num den n w (Some c) h = h
 
-there : (num : List ℤ) (den : ℤ) (n : ℕ) (w : Bool) (o : Option Column) → Rises num den n w o → IsTrue (is_some o)
-there num den n w None h = absurd h
-there num den n w (Some c) h = refl
+there : (measure : Measure) (num : List ℤ) (den : ℤ) (n : ℕ) (w : Bool) (o : Option Column) → Rises measure num den n w o → IsTrue (is_some o)
+there measure num den n w None h = absurd h
+there measure num den n w (Some c) h = refl
 
-price_is : (n levels : ℕ) (columns : List (Option Column)) (w : Bool) (id : ℕ) → counted w (cost_at (column_at columns id)) ≡ price (kept_program n levels columns) w id
-price_is n levels columns true id = refl
-price_is n levels columns false id = refl
+price_is : (measure : Measure) (n levels : ℕ) (columns : List (Option Column)) (w : Bool) (id : ℕ) → counted w (cost_at (column_at columns id)) ≡ price (kept_program measure n levels columns) w id
+price_is measure n levels columns true id = refl
+price_is measure n levels columns false id = refl
 
-module _ (n levels : ℕ) (columns : List (Option Column)) (num : List ℤ) (den : ℤ) (w : Bool) (len : length num ≡ n + levels) where
-  below : (id : ℕ) → ¬ Rises num den n w (column_at columns id) → IsTrue (is_some (column_at columns id)) → (den *ℤ price (kept_program n levels columns) w id) ≤ℤ value_of (priced (kept_program n levels columns) w) num (λ r. entry_at n (column_at columns id) r)
+module _ (measure : Measure) (n levels : ℕ) (columns : List (Option Column)) (num : List ℤ) (den : ℤ) (w : Bool) (len : length num ≡ n + levels) where
+  below : (id : ℕ) → ¬ Rises measure num den n w (column_at columns id) → IsTrue (is_some (column_at columns id)) → (den *ℤ price (kept_program measure n levels columns) w id) ≤ℤ value_of (priced (kept_program measure n levels columns) w) num (λ r. entry_at measure n (column_at columns id) r)
   below id h is =
-      subst (λ (t : ℕ). (den *ℤ price (kept_program n levels columns) w id) ≤ℤ sum_below t (λ r. multiplier_at num r *ℤ entry_at n (column_at columns id) r)) len
-      (subst (λ (z : ℤ). (den *ℤ z) ≤ℤ value_at num n (column_at columns id)) (price_is n levels columns w id) (low num den n w (column_at columns id) h is))
+      subst (λ (t : ℕ). (den *ℤ price (kept_program measure n levels columns) w id) ≤ℤ sum_below t (λ r. multiplier_at num r *ℤ entry_at measure n (column_at columns id) r)) len
+      (subst (λ (z : ℤ). (den *ℤ z) ≤ℤ value_at measure num n (column_at columns id)) (price_is measure n levels columns w id) (low measure num den n w (column_at columns id) h is))
 
-  above : (id : ℕ) → Rises num den n w (column_at columns id) → value_of (priced (kept_program n levels columns) w) num (λ r. entry_at n (column_at columns id) r) <ℤ (den *ℤ price (kept_program n levels columns) w id)
+  above : (id : ℕ) → Rises measure num den n w (column_at columns id) → value_of (priced (kept_program measure n levels columns) w) num (λ r. entry_at measure n (column_at columns id) r) <ℤ (den *ℤ price (kept_program measure n levels columns) w id)
   above id h =
-      subst (λ (t : ℕ). sum_below t (λ r. multiplier_at num r *ℤ entry_at n (column_at columns id) r) <ℤ (den *ℤ price (kept_program n levels columns) w id)) len
-      (subst (λ (z : ℤ). value_at num n (column_at columns id) <ℤ (den *ℤ z)) (price_is n levels columns w id) (high num den n w (column_at columns id) h))
+      subst (λ (t : ℕ). sum_below t (λ r. multiplier_at num r *ℤ entry_at measure n (column_at columns id) r) <ℤ (den *ℤ price (kept_program measure n levels columns) w id)) len
+      (subst (λ (z : ℤ). value_at measure num n (column_at columns id) <ℤ (den *ℤ z)) (price_is measure n levels columns w id) (high measure num den n w (column_at columns id) h))
 
-  pub entered : (found : Option ℕ) → pos 1 ≤ℤ den → MatchOption found ((id : ℕ) → ¬ Rises num den n w (column_at columns id)) (IsFirst num den n w columns)
-      → MatchOption found (Bounds (priced (kept_program n levels columns) w) num den) (λ id. IsEntering (priced (kept_program n levels columns) w) num den id)
+  pub entered : (found : Option ℕ) → pos 1 ≤ℤ den → MatchOption found ((id : ℕ) → ¬ Rises measure num den n w (column_at columns id)) (IsFirst measure num den n w columns)
+      → MatchOption found (Bounds (priced (kept_program measure n levels columns) w) num den) (λ id. IsEntering (priced (kept_program measure n levels columns) w) num den id)
   entered None positive h = (positive, λ id is. below id (h id) is)
   entered (Some id) positive h = record {
-    is_column = there num den n w (column_at columns id) h.rises;
+    is_column = there measure num den n w (column_at columns id) h.rises;
     above = above id h.rises;
     least = λ j lt is. below j (h.least j lt) is;
   }

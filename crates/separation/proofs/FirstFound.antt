@@ -2,6 +2,7 @@
 use Rattle.std.proofs.Common.{◌≡◌, ℕ, ◌+◌, ◌-◌, ◌<◌, ◌^◌, Bool, List, length, ℤ, sym, ap, ◌∙◌, subst, inl, inr, arith, Option, None}
 use Rattle.std.specs.Option.{ForSome}
 use Rattle.definitions.specs.Games.{Game}
+use Rattle.definitions.specs.declared.Measure.{Measure}
 use Rattle.separation.specs.Kept.{column_at}
 use Rattle.separation.specs.Fronts.{front_columns, front_level, marked_column, lazy_columns}
 use Rattle.separation.specs.Values.{Rises, IsFirst, IsFirstBelow}
@@ -14,9 +15,9 @@ use Rattle.separation.proofs.LazyColumns.{length-lazy, lazy-front, lazy-marked, 
 pub level_within : (n rows len : ℕ) (o : Option Column) → len ≡ n + rows → ForSome o (λ c. ForSome c.level (λ l. l < rows)) → ForSome o (λ c. ForSome c.level (λ l. n + l < len))
 level_within n rows len o e h c is l has = let lt : l < rows = h c is l has in omega (arith, e, lt)
 
-module _ (num : List ℤ) (den : ℤ) (n : ℕ) (w : Bool) (g : Game) (front : Option Front) (marks : Option (List ℕ)) (same : n ≡ g.players) where
+module _ (measure : Measure) (num : List ℤ) (den : ℤ) (n : ℕ) (w : Bool) (g : Game) (front : Option Front) (marks : Option (List ℕ)) (same : n ≡ g.players) where
   abbrev Up : Option Column → Type 0
-  Up = Rises num den n w
+  Up = Rises measure num den n w
 
   abbrev first : ℕ
   first = length (front_columns g front)
@@ -30,7 +31,7 @@ module _ (num : List ℤ) (den : ℤ) (n : ℕ) (w : Bool) (g : Game) (front : O
   powers : 2 ^ n ≡ 2 ^ g.players
   powers = ap (λ (t : ℕ). 2 ^ t) same
 
-  none_rises : Rises num den n w None → ⊥
+  none_rises : Rises measure num den n w None → ⊥
   none_rises h = h
 
   -- no column rises in front, and none of the first so many coalitions'
@@ -43,14 +44,14 @@ module _ (num : List ℤ) (den : ℤ) (n : ℕ) (w : Bool) (g : Game) (front : O
     ]
   ]
 
-  pub found_in_front : (id : ℕ) → IsFirstBelow num den n w in_front first id → IsFirst num den n w (lazy_columns g front marks) id
+  pub found_in_front : (id : ℕ) → IsFirstBelow measure num den n w in_front first id → IsFirst measure num den n w (lazy_columns g front marks) id
   found_in_front id h = record {
     place = let e = length-lazy g front marks in let lt = h.below in omega (arith, e, lt);
     rises = subst Up (sym (lazy-front g front marks id h.below)) h.rises;
     least = λ j lt up. h.least j lt (subst Up (lazy-front g front marks j (let less = h.below in omega (arith, less, lt))) up);
   }
 
-  pub found_marked : (s : ℕ) → ((j : ℕ) → j < first → ¬ Up (in_front j)) → IsFirstBelow num den n w behind (2 ^ n) s → IsFirst num den n w (lazy_columns g front marks) (first + s)
+  pub found_marked : (s : ℕ) → ((j : ℕ) → j < first → ¬ Up (in_front j)) → IsFirstBelow measure num den n w behind (2 ^ n) s → IsFirst measure num den n w (lazy_columns g front marks) (first + s)
   found_marked s none h =
       let lt : s < 2 ^ n = h.below in
       let d : first + s - first ≡ s = omega arith in

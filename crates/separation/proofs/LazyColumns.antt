@@ -6,6 +6,8 @@ use Rattle.std.specs.List.{AllByRecursion}
 use Rattle.definitions.specs.Games.{Game, IsGame}
 use Rattle.definitions.specs.Certificates.{Level, LevelsForm, IsOutside}
 use Rattle.definitions.specs.declared.Mode.TheVariants.{Span}
+use Rattle.definitions.specs.declared.Measure.{Measure}
+use Rattle.definitions.specs.declared.Measure.TheVariants.{Plain}
 use Rattle.separation.specs.Balanced.{balanced_program}
 use Rattle.separation.specs.Kept.{column_at, kept_program, AreSmall}
 use Rattle.separation.specs.Same.{IsSame, IsSpanOf, IsStage}
@@ -60,11 +62,11 @@ pub small_form : (n : ℕ) (front levels : List Level) → LevelsForm n front le
 small_form n front [] h = tt
 small_form n front (l ∷ levels) h = ((h.0.few, proper-within n l.coalitions h.0.proper), small_form n (front ++ l ∷ []) levels h.1)
 
-pub stage_columns_small : (g : Game) (f : Front) (marks : Option (List ℕ)) → IsGame g → AllByRecursion (IsSmallLevel g.players) f.levels.now → AreSmall (length f.levels.now + 1) (lazy_columns g (Some f) marks)
-stage_columns_small g f marks game small =
-    plain_small f.family g f.levels.now game (small_within g.players f.levels.now small) (listed (2 ^ g.players) (marked_column g (Some (length f.levels.now)) marks)) (marked_plain g (length f.levels.now) marks)
+pub stage_columns_small : (measure : Measure) (g : Game) (f : Front) (marks : Option (List ℕ)) → IsGame g → AllByRecursion (IsSmallLevel g.players) f.levels.now → AreSmall (length f.levels.now + 1) (lazy_columns g (Some f) marks)
+stage_columns_small measure g f marks game small =
+    plain_small f.family measure g f.levels.now game (small_within g.players f.levels.now small) (listed (2 ^ g.players) (marked_column g (Some (length f.levels.now)) marks)) (marked_plain g (length f.levels.now) marks)
 
-pub balanced_kept : (g : Game) (n : ℕ) → n ≡ g.players → IsGame g → (n ≡ g.players) × IsSame (kept_program n 0 (lazy_columns g None None)) (balanced_program g)
+pub balanced_kept : (g : Game) (n : ℕ) → n ≡ g.players → IsGame g → (n ≡ g.players) × IsSame (kept_program Plain n 0 (lazy_columns g None None)) (balanced_program g)
 balanced_kept g n e game = (e, rw e (balanced_of g game))
 
 marked_outer : (g : Game) (levels : List Level) (words : List ℕ) → IsMarking g.players levels words → AreOuter g levels (2 ^ g.players) (listed (2 ^ g.players) (marked_column g (Some (length levels)) (Some words)))
@@ -80,7 +82,10 @@ marked_outer g levels words h = record {
         clash : false ≡ true → ⊥
         clash e = cc
 
-pub stage_kept : (f : Front) (g : Game) (n : ℕ) (kept words : List ℕ) → n ≡ g.players → IsGame g → AllByRecursion (IsSmallLevel g.players) f.levels.now → IsSpanOf g.players kept f.levels.now → (IsSpanOf n kept f.levels.now → IsMarking n f.levels.now words) → (n ≡ g.players) × IsStage f.family g f.levels.now (kept_program n (length f.levels.now + 1) (lazy_columns g (Some f) (Some words)))
-stage_kept f g n kept words e game small span marking =
-    let marks : IsMarking g.players f.levels.now words = subst (λ (k : ℕ). IsMarking k f.levels.now words) e (marking (subst (λ (k : ℕ). IsSpanOf k kept f.levels.now) (sym e) span)) in
-    (e, rw e (stage_of f.family g f.levels.now game (small_within g.players f.levels.now small) (listed (2 ^ g.players) (marked_column g (Some (length f.levels.now)) (Some words))) (marked_outer g f.levels.now words marks)))
+pub marking_of : (n m : ℕ) (levels : List Level) (kept words : List ℕ) → n ≡ m → IsSpanOf m kept levels → (IsSpanOf n kept levels → IsMarking n levels words) → IsMarking m levels words
+marking_of n m levels kept words e span marking =
+    subst (λ (k : ℕ). IsMarking k levels words) e (marking (subst (λ (k : ℕ). IsSpanOf k kept levels) (sym e) span))
+
+pub stage_kept : (f : Front) (measure : Measure) (g : Game) (n : ℕ) (kept words : List ℕ) → n ≡ g.players → IsGame g → AllByRecursion (IsSmallLevel g.players) f.levels.now → IsSpanOf g.players kept f.levels.now → (IsSpanOf n kept f.levels.now → IsMarking n f.levels.now words) → (n ≡ g.players) × IsStage f.family measure g f.levels.now (kept_program measure n (length f.levels.now + 1) (lazy_columns g (Some f) (Some words)))
+stage_kept f measure g n kept words e game small span marking =
+    (e, rw e (stage_of f.family measure g f.levels.now game (small_within g.players f.levels.now small) (listed (2 ^ g.players) (marked_column g (Some (length f.levels.now)) (Some words))) (marked_outer g f.levels.now words (marking_of n g.players f.levels.now kept words e span marking))))

@@ -3,6 +3,8 @@ pub mod Eights
 pub mod Filled
 pub mod Entered
 pub mod Pushed
+pub mod HeadSizes
+pub mod ProperColumns
 pub mod Slots
 pub mod Outside
 pub mod Staged

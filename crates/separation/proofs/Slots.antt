@@ -1,63 +1,64 @@
 -- What stands under a number of a list of columns, against a program.
-use Rattle.std.proofs.Common.{◌≡◌, ℕ, zero, suc, ◌+◌, ◌-◌, ◌<◌, ◌≤◌, ◌^◌, Bool, true, false, cond, IsTrue, List, [], ◌∷◌, length, length-append, refl, sym, ap, ◌∙◌, subst, inl, inr, arith, nat_eq, nat_lt, if◌then◌else◌, pos, Option, Some, None, unsigned_abs}
+use Rattle.std.proofs.Common.{◌≡◌, ℕ, zero, suc, ◌+◌, ◌-◌, ◌<◌, ◌≤◌, ◌^◌, Bool, true, false, IsTrue, List, [], ◌∷◌, length, length-append, refl, sym, ap, ◌∙◌, subst, inl, inr, arith, nat_eq, nat_lt, if◌then◌else◌, pos, Option, Some, None, unsigned_abs}
 use Rattle.std.proofs.lemmas.Bool.{false≢true}
 use Rattle.std.proofs.lemmas.Bool.Decides.{nat_tests}
 use Rattle.std.proofs.lemmas.List.{get_or-append_right, get_or_append_left}
 use Rattle.std.proofs.Math.ListN.{get_or-eq_default}
 use Rattle.std.specs.Option.{ForSome, is_some}
 use Rattle.definitions.specs.Coalitions.{has_player}
+use Rattle.definitions.specs.declared.Measure.{Measure}
 use Rattle.definitions.specs.Programs.{Program}
 use Rattle.separation.specs.Stage.{plus_entry}
-use Rattle.separation.specs.Kept.{has_entry, column_entry, column_at, entry_at, cost_at, right_at, kept_program, AreSmall}
+use Rattle.separation.specs.Kept.{plain_entry, column_entry, column_at, entry_at, cost_at, right_at, kept_program, AreSmall}
 use Rattle.separation.specs.Same.{IsSame}
 use Rattle.separation.specs.Making.{listed}
 use Rattle.separation.specs.declared.column.Column.{Column}
 use Rattle.definitions.proofs.Cases.{less_or_last}
 
 -- a column is that of the program under the number, and small
-pub record Fits (n levels : ℕ) (q : Program) (id : ℕ) (c : Column) : Type 0 where
+pub record Fits (measure : Measure) (n levels : ℕ) (q : Program) (id : ℕ) (c : Column) : Type 0 where
   pub is_column : q.is_column id ≡ true
-  pub entry : (r : ℕ) → r < q.rows → column_entry n c r ≡ q.entry id r
+  pub entry : (r : ℕ) → r < q.rows → column_entry measure n c r ≡ q.entry id r
   pub cost : c.cost ≡ q.cost id
   pub small : unsigned_abs c.cost < 2 ^ 46
   pub level : ForSome c.level (λ l. l < levels)
 
 -- what stands under a number is what the program has there
-abbrev pub SameAt : ℕ → ℕ → Program → ℕ → Option Column → Type 0
-SameAt n levels q id None = q.is_column id ≡ false
-SameAt n levels q id (Some c) = Fits n levels q id c
+abbrev pub SameAt : Measure → ℕ → ℕ → Program → ℕ → Option Column → Type 0
+SameAt measure n levels q id None = q.is_column id ≡ false
+SameAt measure n levels q id (Some c) = Fits measure n levels q id c
 
-column_same : (n levels : ℕ) (q : Program) (id : ℕ) (o : Option Column) → SameAt n levels q id o → is_some o ≡ q.is_column id
-column_same n levels q id None h = sym h
-column_same n levels q id (Some c) h = sym h.is_column
+column_same : (measure : Measure) (n levels : ℕ) (q : Program) (id : ℕ) (o : Option Column) → SameAt measure n levels q id o → is_some o ≡ q.is_column id
+column_same measure n levels q id None h = sym h
+column_same measure n levels q id (Some c) h = sym h.is_column
 
-entry_same : (n levels : ℕ) (q : Program) (id r : ℕ) (o : Option Column) → SameAt n levels q id o → IsTrue (q.is_column id) → r < q.rows → entry_at n o r ≡ q.entry id r
-entry_same n levels q id r None h is lt = absurd (false≢true (sym h ∙ is))
-entry_same n levels q id r (Some c) h is lt = h.entry r lt
+entry_same : (measure : Measure) (n levels : ℕ) (q : Program) (id r : ℕ) (o : Option Column) → SameAt measure n levels q id o → IsTrue (q.is_column id) → r < q.rows → entry_at measure n o r ≡ q.entry id r
+entry_same measure n levels q id r None h is lt = absurd (false≢true (sym h ∙ is))
+entry_same measure n levels q id r (Some c) h is lt = h.entry r lt
 
-cost_same : (n levels : ℕ) (q : Program) (id : ℕ) (o : Option Column) → SameAt n levels q id o → IsTrue (q.is_column id) → cost_at o ≡ q.cost id
-cost_same n levels q id None h is = absurd (false≢true (sym h ∙ is))
-cost_same n levels q id (Some c) h is = h.cost
+cost_same : (measure : Measure) (n levels : ℕ) (q : Program) (id : ℕ) (o : Option Column) → SameAt measure n levels q id o → IsTrue (q.is_column id) → cost_at o ≡ q.cost id
+cost_same measure n levels q id None h is = absurd (false≢true (sym h ∙ is))
+cost_same measure n levels q id (Some c) h is = h.cost
 
-cost_small : (n levels : ℕ) (q : Program) (id : ℕ) (o : Option Column) → SameAt n levels q id o → ForSome o (λ c. unsigned_abs c.cost < 2 ^ 46)
-cost_small n levels q id o h c e = let fits = subst (SameAt n levels q id) e h in fits.small
+cost_small : (measure : Measure) (n levels : ℕ) (q : Program) (id : ℕ) (o : Option Column) → SameAt measure n levels q id o → ForSome o (λ c. unsigned_abs c.cost < 2 ^ 46)
+cost_small measure n levels q id o h c e = let fits = subst (SameAt measure n levels q id) e h in fits.small
 
-level_there : (n levels : ℕ) (q : Program) (id : ℕ) (o : Option Column) → SameAt n levels q id o → ForSome o (λ c. ForSome c.level (λ l. l < levels))
-level_there n levels q id o h c e = let fits = subst (SameAt n levels q id) e h in fits.level
+level_there : (measure : Measure) (n levels : ℕ) (q : Program) (id : ℕ) (o : Option Column) → SameAt measure n levels q id o → ForSome o (λ c. ForSome c.level (λ l. l < levels))
+level_there measure n levels q id o h c e = let fits = subst (SameAt measure n levels q id) e h in fits.level
 
-pub same_program : (n levels : ℕ) (columns : List (Option Column)) (q : Program) → n + levels ≡ q.rows → ((r : ℕ) → r < q.rows → right_at n levels r ≡ q.right r) → ((id : ℕ) → SameAt n levels q id (column_at columns id)) → IsSame (kept_program n levels columns) q
-same_program n levels columns q rows right at = record {
+pub same_program : (measure : Measure) (n levels : ℕ) (columns : List (Option Column)) (q : Program) → n + levels ≡ q.rows → ((r : ℕ) → r < q.rows → right_at n levels r ≡ q.right r) → ((id : ℕ) → SameAt measure n levels q id (column_at columns id)) → IsSame (kept_program measure n levels columns) q
+same_program measure n levels columns q rows right at = record {
   rows = rows;
   right = right;
-  columns = λ id. column_same n levels q id (column_at columns id) (at id);
-  entry = λ id r is lt. entry_same n levels q id r (column_at columns id) (at id) is lt;
-  cost = λ id is. cost_same n levels q id (column_at columns id) (at id) is;
+  columns = λ id. column_same measure n levels q id (column_at columns id) (at id);
+  entry = λ id r is lt. entry_same measure n levels q id r (column_at columns id) (at id) is lt;
+  cost = λ id is. cost_same measure n levels q id (column_at columns id) (at id) is;
 }
 
-pub small_columns : (n levels : ℕ) (columns : List (Option Column)) (q : Program) → ((id : ℕ) → SameAt n levels q id (column_at columns id)) → AreSmall levels columns
-small_columns n levels columns q at = record {
-  costs = λ id. cost_small n levels q id (column_at columns id) (at id);
-  rows = λ id. level_there n levels q id (column_at columns id) (at id);
+pub small_columns : (measure : Measure) (n levels : ℕ) (columns : List (Option Column)) (q : Program) → ((id : ℕ) → SameAt measure n levels q id (column_at columns id)) → AreSmall levels columns
+small_columns measure n levels columns q at = record {
+  costs = λ id. cost_small measure n levels q id (column_at columns id) (at id);
+  rows = λ id. level_there measure n levels q id (column_at columns id) (at id);
 }
 
 -- ---- lists
@@ -82,10 +83,10 @@ past_at columns i le = get_or-eq_default columns None le
 
 -- ---- entries
 
-pub level_entry : (n s l r : ℕ) → (if has_entry n s (Some l) r then pos 1 else pos 0) ≡ plus_entry n s l r
-level_entry n s l r = by_row (nat_lt r n) refl
+pub level_entry : (measure : Measure) (n s l r : ℕ) → plain_entry measure n s (Some l) r ≡ plus_entry measure n s l r
+level_entry measure n s l r = by_row (nat_lt r n) refl
   where
-    by_row : (b : Bool) → nat_lt r n ≡ b → cond (cond (nat_lt r n) (has_player s r) (nat_eq l (r - n))) (pos 1) (pos 0) ≡ cond (nat_lt r n) (cond (has_player s r) (pos 1) (pos 0)) (cond (nat_eq r (n + l)) (pos 1) (pos 0))
+    by_row : (b : Bool) → nat_lt r n ≡ b → plain_entry measure n s (Some l) r ≡ plus_entry measure n s l r
     by_row true e = rw e refl
     by_row false e = let t : nat_eq l (r - n) ≡ nat_eq r (n + l) = same n l r e in rw e (rw t refl)
       where
@@ -99,16 +100,16 @@ level_entry n s l r = by_row (nat_lt r n) refl
         same : (n l r : ℕ) → nat_lt r n ≡ false → nat_eq l (r - n) ≡ nat_eq r (n + l)
         same n l r e = let le : n ≤ r = grind (arith, nat_tests) in both n l r le
 
-pub no_level_entry : (n s row r : ℕ) → r < n + row → (if has_entry n s None r then pos 1 else pos 0) ≡ plus_entry n s row r
-no_level_entry n s row r lt = by_row (nat_lt r n) refl
+pub no_level_entry : (measure : Measure) (n s row r : ℕ) → r < n + row → plain_entry measure n s None r ≡ plus_entry measure n s row r
+no_level_entry measure n s row r lt = by_row (nat_lt r n) refl
   where
-    by_row : (b : Bool) → nat_lt r n ≡ b → cond (cond (nat_lt r n) (has_player s r) false) (pos 1) (pos 0) ≡ cond (nat_lt r n) (cond (has_player s r) (pos 1) (pos 0)) (cond (nat_eq r (n + row)) (pos 1) (pos 0))
+    by_row : (b : Bool) → nat_lt r n ≡ b → plain_entry measure n s None r ≡ plus_entry measure n s row r
     by_row true e = rw e refl
     by_row false e = let t : nat_eq r (n + row) ≡ false = grind (arith, nat_tests) in rw e (rw t refl)
 
 -- the entry of a player row
-pub member_entry : (n s r : ℕ) → r < n → (if has_entry n s None r then pos 1 else pos 0) ≡ (if has_player s r then pos 1 else pos 0)
-member_entry n s r lt = let t : nat_lt r n ≡ true = grind (arith, nat_tests) in rw t refl
+pub member_entry : (measure : Measure) (n s r : ℕ) → r < n → plain_entry measure n s None r ≡ (if has_player s r then pos 1 else pos 0)
+member_entry measure n s r lt = let t : nat_lt r n ≡ true = grind (arith, nat_tests) in rw t refl
 
 pub no_level : (j : ℕ) → ForSome None (λ l. l < j)
 no_level j m e = absurd (none m e)

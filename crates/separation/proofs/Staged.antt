@@ -12,6 +12,7 @@ use Rattle.definitions.specs.Games.{Game, IsGame}
 use Rattle.definitions.specs.Certificates.{Level, LevelsForm, has_bound, IsOutside}
 use Rattle.definitions.specs.Programs.{Program}
 use Rattle.definitions.specs.declared.Family.{Family}
+use Rattle.definitions.specs.declared.Measure.{Measure}
 use Rattle.definitions.specs.declared.Mode.TheVariants.{Span}
 use Rattle.separation.specs.Stage.{Column as StageColumn, signed, entry_of, earlier_of, doubled, settled_columns, further_column, no_column, is_imputations, is_further, stage_program}
 use Rattle.separation.specs.Kept.{column_entry, column_at, right_at, kept_program, AreSmall}
@@ -51,15 +52,15 @@ levels_within n front (l ∷ levels) h = (record { coalitions = proper-within n 
 -- ---- columns, and those of the program
 
 -- a column is that of the program's table, and small
-record Like (g : Game) (k : ℕ) (c : Column) (sc : StageColumn) : Type 0 where
-  entry : (r : ℕ) → r < g.players + (k + 1) → column_entry g.players c r ≡ entry_of g.players sc r
+record Like (measure : Measure) (g : Game) (k : ℕ) (c : Column) (sc : StageColumn) : Type 0 where
+  entry : (r : ℕ) → r < g.players + (k + 1) → column_entry measure g.players c r ≡ entry_of measure g.players sc r
   cost : c.cost ≡ signed sc.minus (g.worth sc.mask)
   small : unsigned_abs c.cost < 2 ^ 46
   level : ForSome c.level (λ l. l < k + 1)
 
-abbrev Found : Game → ℕ → Option Column → StageColumn → Type 0
-Found g k None sc = ⊥
-Found g k (Some c) sc = Like g k c sc
+abbrev Found : Measure → Game → ℕ → Option Column → StageColumn → Type 0
+Found measure g k None sc = ⊥
+Found measure g k (Some c) sc = Like measure g k c sc
 
 negated_small : (z : ℤ) → unsigned_abs z < 2 ^ 46 → unsigned_abs (pos 0 -ℤ z) < 2 ^ 46
 negated_small z h = omega (arith, ints)
@@ -74,43 +75,43 @@ some_level l j h m e = subst (λ (t : ℕ). t < j) (inside l m e) h
     inside : (l m : ℕ) → Some l ≡ Some m → l ≡ m
     inside l m e = ap or_zero e
 
-plain_level : (g : Game) (k s l : ℕ) → IsGame g → s < 2 ^ g.players → l < k + 1 → Like g k (plain g s (Some l)) (record { mask = s; row = l; minus = false })
-plain_level g k s l game lt within = record {
-  entry = λ r h. level_entry g.players s l r;
+plain_level : (measure : Measure) (g : Game) (k s l : ℕ) → IsGame g → s < 2 ^ g.players → l < k + 1 → Like measure g k (plain g s (Some l)) (record { mask = s; row = l; minus = false })
+plain_level measure g k s l game lt within = record {
+  entry = λ r h. level_entry measure g.players s l r;
   cost = refl;
   small = game.small s lt;
   level = some_level l (k + 1) within;
 }
 
-minus_level : (g : Game) (k s l : ℕ) → IsGame g → s < 2 ^ g.players → l < k + 1 → Like g k (minus g s (Some l)) (record { mask = s; row = l; minus = true })
-minus_level g k s l game lt within = record {
-  entry = λ r h. ap (signed true) (level_entry g.players s l r);
+minus_level : (measure : Measure) (g : Game) (k s l : ℕ) → IsGame g → s < 2 ^ g.players → l < k + 1 → Like measure g k (minus g s (Some l)) (record { mask = s; row = l; minus = true })
+minus_level measure g k s l game lt within = record {
+  entry = λ r h. ap (signed true) (level_entry measure g.players s l r);
   cost = refl;
   small = negated_small (g.worth s) (game.small s lt);
   level = some_level l (k + 1) within;
 }
 
-plain_none : (g : Game) (k s : ℕ) → IsGame g → s < 2 ^ g.players → Like g k (plain g s None) (record { mask = s; row = k + 1; minus = false })
-plain_none g k s game lt = record {
-  entry = λ r h. no_level_entry g.players s (k + 1) r h;
+plain_none : (measure : Measure) (g : Game) (k s : ℕ) → IsGame g → s < 2 ^ g.players → Like measure g k (plain g s None) (record { mask = s; row = k + 1; minus = false })
+plain_none measure g k s game lt = record {
+  entry = λ r h. no_level_entry measure g.players s (k + 1) r h;
   cost = refl;
   small = game.small s lt;
   level = no_level (k + 1);
 }
 
-minus_none : (g : Game) (k s : ℕ) → IsGame g → s < 2 ^ g.players → Like g k (minus g s None) (record { mask = s; row = k + 1; minus = true })
-minus_none g k s game lt = record {
-  entry = λ r h. ap (signed true) (no_level_entry g.players s (k + 1) r h);
+minus_none : (measure : Measure) (g : Game) (k s : ℕ) → IsGame g → s < 2 ^ g.players → Like measure g k (minus g s None) (record { mask = s; row = k + 1; minus = true })
+minus_none measure g k s game lt = record {
+  entry = λ r h. ap (signed true) (no_level_entry measure g.players s (k + 1) r h);
   cost = refl;
   small = negated_small (g.worth s) (game.small s lt);
   level = no_level (k + 1);
 }
 
-earlier_found : (g : Game) (k : ℕ) (cs : List (ℕ × ℕ)) (j : ℕ) → IsGame g → AllByRecursion (IsEarlier g.players k) cs → j < length (doubled cs) → Found g k (column_at (earlier_columns g cs) j) (get_or (doubled cs) j no_column)
-earlier_found g k [] j game h lt = absurd (omega arith)
-earlier_found g k (c ∷ cs) zero game h lt = plain_level g k c.0 c.1 game h.0.0 (let e = h.0.1 in omega (arith, e))
-earlier_found g k (c ∷ cs) (suc zero) game h lt = minus_level g k c.0 c.1 game h.0.0 (let e = h.0.1 in omega (arith, e))
-earlier_found g k (c ∷ cs) (suc (suc j)) game h lt = earlier_found g k cs j game h.1 (omega arith)
+earlier_found : (measure : Measure) (g : Game) (k : ℕ) (cs : List (ℕ × ℕ)) (j : ℕ) → IsGame g → AllByRecursion (IsEarlier g.players k) cs → j < length (doubled cs) → Found measure g k (column_at (earlier_columns g cs) j) (get_or (doubled cs) j no_column)
+earlier_found measure g k [] j game h lt = absurd (omega arith)
+earlier_found measure g k (c ∷ cs) zero game h lt = plain_level measure g k c.0 c.1 game h.0.0 (let e = h.0.1 in omega (arith, e))
+earlier_found measure g k (c ∷ cs) (suc zero) game h lt = minus_level measure g k c.0 c.1 game h.0.0 (let e = h.0.1 in omega (arith, e))
+earlier_found measure g k (c ∷ cs) (suc (suc j)) game h lt = earlier_found measure g k cs j game h.1 (omega arith)
 
 length-earlier : (g : Game) (cs : List (ℕ × ℕ)) → length (earlier_columns g cs) ≡ length (doubled cs)
 length-earlier g [] = refl
@@ -126,7 +127,7 @@ pub record ArePlain (g : Game) (k n : ℕ) (outers : List (Option Column)) : Typ
   pub count : length outers ≡ n
   pub plain_or : (s : ℕ) → s < n → IsPlainOr g k s (column_at outers s)
 
-module _ (family : Family) (g : Game) (front : List Level) (game : IsGame g) (within : AllByRecursion (AreWithin g.players) front) (outers : List (Option Column)) (are : ArePlain g (length front) (2 ^ g.players) outers) where
+module _ (family : Family) (measure : Measure) (g : Game) (front : List Level) (game : IsGame g) (within : AllByRecursion (AreWithin g.players) front) (outers : List (Option Column)) (are : ArePlain g (length front) (2 ^ g.players) outers) where
   abbrev n : ℕ
   n = g.players
 
@@ -137,7 +138,7 @@ module _ (family : Family) (g : Game) (front : List Level) (game : IsGame g) (wi
   b = length (settled_columns g.players front)
 
   abbrev q : Program
-  q = stage_program family g front (has_column outers)
+  q = stage_program family measure g front (has_column outers)
 
   abbrev settled : List (Option Column)
   settled = whole_columns g (grand_coalition g.players) ++ earlier_columns g (earlier_of 0 front)
@@ -145,14 +146,14 @@ module _ (family : Family) (g : Game) (front : List Level) (game : IsGame g) (wi
   length-settled : length settled ≡ b
   length-settled = ap (λ (t : ℕ). suc (suc t)) (length-earlier g (earlier_of 0 front))
 
-  settled_found : (id : ℕ) → id < b → Found g k (column_at settled id) (get_or (settled_columns g.players front) id no_column)
-  settled_found zero lt = plain_none g k (grand_coalition g.players) game (grand_coalition-within g.players)
-  settled_found (suc zero) lt = minus_none g k (grand_coalition g.players) game (grand_coalition-within g.players)
+  settled_found : (id : ℕ) → id < b → Found measure g k (column_at settled id) (get_or (settled_columns g.players front) id no_column)
+  settled_found zero lt = plain_none measure g k (grand_coalition g.players) game (grand_coalition-within g.players)
+  settled_found (suc zero) lt = minus_none measure g k (grand_coalition g.players) game (grand_coalition-within g.players)
   settled_found (suc (suc j)) lt =
       let e : 0 + length front ≡ length front = omega arith in
-      earlier_found g k (earlier_of 0 front) j game (subst (λ (t : ℕ). AllByRecursion (IsEarlier g.players t) (earlier_of 0 front)) e (earlier_all g.players 0 front within)) (omega arith)
+      earlier_found measure g k (earlier_of 0 front) j game (subst (λ (t : ℕ). AllByRecursion (IsEarlier g.players t) (earlier_of 0 front)) e (earlier_all g.players 0 front within)) (omega arith)
 
-  from_settled : (id : ℕ) (o : Option Column) → id < b → Found g k o (get_or (settled_columns g.players front) id no_column) → SameAt n (k + 1) q id o
+  from_settled : (id : ℕ) (o : Option Column) → id < b → Found measure g k o (get_or (settled_columns g.players front) id no_column) → SameAt measure n (k + 1) q id o
   from_settled id None lt h = absurd h
   from_settled id (Some c) lt h =
       let t : nat_lt id b ≡ true = grind (arith, nat_tests) in
@@ -160,9 +161,9 @@ module _ (family : Family) (g : Game) (front : List Level) (game : IsGame g) (wi
 
   abbrev FurtherAt : ℕ → Option Column → Type 0
   FurtherAt i None = is_further family g.players front (has_column outers) i ≡ false
-  FurtherAt i (Some c) = (is_further family g.players front (has_column outers) i ≡ true) × Like g k c (further_column g.players k i)
+  FurtherAt i (Some c) = (is_further family g.players front (has_column outers) i ≡ true) × Like measure g k c (further_column g.players k i)
 
-  from_further : (id : ℕ) (o : Option Column) → b ≤ id → FurtherAt (id - b) o → SameAt n (k + 1) q id o
+  from_further : (id : ℕ) (o : Option Column) → b ≤ id → FurtherAt (id - b) o → SameAt measure n (k + 1) q id o
   from_further id None le h = let t : nat_lt id b ≡ false = grind (arith, nat_tests) in rw t h
   from_further id (Some c) le h =
       let t : nat_lt id b ≡ false = grind (arith, nat_tests) in
@@ -175,7 +176,7 @@ module _ (family : Family) (g : Game) (front : List Level) (game : IsGame g) (wi
       t = grind (arith, nat_tests)
 
       by_family : (x : Bool) → is_imputations family ≡ x → FurtherAt i (single family g i)
-      by_family true e = rw e (rw t (e, plain_none g k (singleton i) game (pow-lt lt)))
+      by_family true e = rw e (rw t (e, plain_none measure g k (singleton i) game (pow-lt lt)))
       by_family false e = rw e (rw t e)
 
   bound_at : (i : ℕ) → n ≤ i → i < n + n → FurtherAt i (bound family g front (i - n))
@@ -188,7 +189,7 @@ module _ (family : Family) (g : Game) (front : List Level) (game : IsGame g) (wi
       u = grind (arith, nat_tests)
 
       by_test : (x : Bool) → (is_imputations family && has_bound front (i - g.players)) ≡ x → FurtherAt i (bound family g front (i - n))
-      by_test true e = rw e (rw t (rw u (e, minus_none g k (singleton (i - g.players)) game (pow-lt (omega arith)))))
+      by_test true e = rw e (rw t (rw u (e, minus_none measure g k (singleton (i - g.players)) game (pow-lt (omega arith)))))
       by_test false e = rw e (rw t (rw u e))
 
   outer_at : (i : ℕ) → n + n ≤ i → (o : Option Column) → column_at outers (i - (n + n)) ≡ o → (IsPlainOr g k (i - (n + n)) o × (i - (n + n) < 2 ^ n)) ⊎ (o ≡ None) → FurtherAt i o
@@ -199,7 +200,7 @@ module _ (family : Family) (g : Game) (front : List Level) (game : IsGame g) (wi
   outer_at i le (Some c) is (inl h) =
       let t : nat_lt i g.players ≡ false = grind (arith, nat_tests) in
       let u : nat_lt i (g.players + g.players) ≡ false = grind (arith, nat_tests) in
-      rw t (rw u (ap is_some is, subst (λ (x : Column). Like g k x (record { mask = i - (n + n); row = k; minus = false })) (sym h.0) (plain_level g k (i - (n + n)) k game h.1 (omega arith))))
+      rw t (rw u (ap is_some is, subst (λ (x : Column). Like measure g k x (record { mask = i - (n + n); row = k; minus = false })) (sym h.0) (plain_level measure g k (i - (n + n)) k game h.1 (omega arith))))
   outer_at i le (Some c) is (inr e) = absurd (subst is_there e tt)
     where
       is_there : Option Column → Type 0
@@ -227,21 +228,21 @@ module _ (family : Family) (g : Game) (front : List Level) (game : IsGame g) (wi
   length-three : length ((settled ++ singles) ++ bounds) ≡ b + n + n
   length-three = length-append (settled ++ singles) bounds ∙ (let x = length-two in let y = length-listed g.players (bound family g front) in omega (arith, x, y))
 
-  at_number : (id : ℕ) → SameAt n (k + 1) q id (column_at all id)
+  at_number : (id : ℕ) → SameAt measure n (k + 1) q id (column_at all id)
   at_number id = elim (four id b n) [
     | inl lt ↦
         let e : column_at all id ≡ column_at settled id =
         get_or_append_left ((settled ++ singles) ++ bounds) outers None id (let x = length-three in omega (arith, x, lt))
         ∙ get_or_append_left (settled ++ singles) bounds None id (let x = length-two in omega (arith, x, lt))
         ∙ get_or_append_left settled singles None id (let x = length-settled in omega (arith, x, lt)) in
-        subst (SameAt n (k + 1) q id) (sym e) (from_settled id (column_at settled id) lt (settled_found id lt))
+        subst (SameAt measure n (k + 1) q id) (sym e) (from_settled id (column_at settled id) lt (settled_found id lt))
     | inr (inl h) ↦
         let e : column_at all id ≡ single family g (id - b) =
         get_or_append_left ((settled ++ singles) ++ bounds) outers None id (let x = length-three in omega (arith, x, h.1))
         ∙ get_or_append_left (settled ++ singles) bounds None id (let x = length-two in omega (arith, x, h.1))
         ∙ get_or-append_right settled singles b id None length-settled h.0
         ∙ listed_at g.players (id - b) (single family g) (omega (arith, h.0, h.1)) in
-        subst (SameAt n (k + 1) q id) (sym e) (from_further id (single family g (id - b)) h.0 (single_at (id - b) (omega (arith, h.0, h.1))))
+        subst (SameAt measure n (k + 1) q id) (sym e) (from_further id (single family g (id - b)) h.0 (single_at (id - b) (omega (arith, h.0, h.1))))
     | inr (inr (inl h)) ↦
         let d : id - (b + n) ≡ id - b - n = omega (arith, h.0) in
         let e : column_at all id ≡ bound family g front (id - b - n) =
@@ -249,13 +250,13 @@ module _ (family : Family) (g : Game) (front : List Level) (game : IsGame g) (wi
         ∙ get_or-append_right (settled ++ singles) bounds (b + n) id None length-two h.0
         ∙ ap (column_at bounds) d
         ∙ listed_at g.players (id - b - n) (bound family g front) (omega (arith, h.0, h.1)) in
-        subst (SameAt n (k + 1) q id) (sym e) (from_further id (bound family g front (id - b - n)) (omega (arith, h.0)) (bound_at (id - b) (omega (arith, h.0)) (omega (arith, h.0, h.1))))
+        subst (SameAt measure n (k + 1) q id) (sym e) (from_further id (bound family g front (id - b - n)) (omega (arith, h.0)) (bound_at (id - b) (omega (arith, h.0)) (omega (arith, h.0, h.1))))
     | inr (inr (inr le)) ↦
         let d : id - (b + n + n) ≡ id - b - (n + n) = omega (arith, le) in
         let e : column_at all id ≡ column_at outers (id - b - (n + n)) =
         get_or-append_right ((settled ++ singles) ++ bounds) outers (b + n + n) id None length-three le
         ∙ ap (column_at outers) d in
-        subst (SameAt n (k + 1) q id) (sym e) (from_further id (column_at outers (id - b - (n + n))) (omega (arith, le)) (outer_at (id - b) (omega (arith, le)) (column_at outers (id - b - (n + n))) refl (outer_or (id - b - (n + n)))))
+        subst (SameAt measure n (k + 1) q id) (sym e) (from_further id (column_at outers (id - b - (n + n))) (omega (arith, le)) (outer_at (id - b) (omega (arith, le)) (column_at outers (id - b - (n + n))) refl (outer_or (id - b - (n + n)))))
   ]
     where
       four : (id b n : ℕ) → (id < b) ⊎ (((b ≤ id) × (id < b + n)) ⊎ (((b + n ≤ id) × (id < b + n + n)) ⊎ (b + n + n ≤ id)))
@@ -280,15 +281,15 @@ module _ (family : Family) (g : Game) (front : List Level) (game : IsGame g) (wi
       by_row true e = let t : nat_eq (r + 1) (g.players + (length front + 1)) ≡ true = grind (arith, nat_tests) in rw none (rw t (rw e refl))
       by_row false e = let t : nat_eq (r + 1) (g.players + (length front + 1)) ≡ false = grind (arith, nat_tests) in rw none (rw t (rw e refl))
 
-  stage_with : ((s : ℕ) → Decides (has_column outers s) (IsOutside Span g.players front s)) → IsStage family g front (kept_program g.players (length front + 1) (inner_columns family g front ++ outers))
+  stage_with : ((s : ℕ) → Decides (has_column outers s) (IsOutside Span g.players front s)) → IsStage family measure g front (kept_program measure g.players (length front + 1) (inner_columns family g front ++ outers))
   stage_with decided = record {
     outside = has_column outers;
     decides = decided;
-    same = same_program n (k + 1) all q refl (λ r lt. right_same r) at_number;
+    same = same_program measure n (k + 1) all q refl (λ r lt. right_same r) at_number;
   }
 
   pub plain_small : AreSmall (length front + 1) (inner_columns family g front ++ outers)
-  plain_small = small_columns n (k + 1) all q at_number
+  plain_small = small_columns measure n (k + 1) all q at_number
 
 outer_plain : (g : Game) (front : List Level) (outers : List (Option Column)) → AreOuter g front (2 ^ g.players) outers → ArePlain g (length front) (2 ^ g.players) outers
 outer_plain g front outers are = record { count = are.count; plain_or = λ s lt. at s (column_at outers s) (are.outer s lt) }
@@ -298,10 +299,10 @@ outer_plain g front outers are = record { count = are.count; plain_or = λ s lt.
     at s (Some c) h = h.1
 
 -- the columns in front, and those of the coalitions outside
-pub stage_of : (family : Family) (g : Game) (front : List Level) → IsGame g → AllByRecursion (AreWithin g.players) front → (outers : List (Option Column)) → AreOuter g front (2 ^ g.players) outers → IsStage family g front (kept_program g.players (length front + 1) (inner_columns family g front ++ outers))
-stage_of family g front game within outers are =
-    stage_with family g front game within outers (outer_plain g front outers are) (decides g front outers are)
+pub stage_of : (family : Family) (measure : Measure) (g : Game) (front : List Level) → IsGame g → AllByRecursion (AreWithin g.players) front → (outers : List (Option Column)) → AreOuter g front (2 ^ g.players) outers → IsStage family measure g front (kept_program measure g.players (length front + 1) (inner_columns family g front ++ outers))
+stage_of family measure g front game within outers are =
+    stage_with family measure g front game within outers (outer_plain g front outers are) (decides g front outers are)
 
-pub stage_small : (family : Family) (g : Game) (front : List Level) → IsGame g → AllByRecursion (AreWithin g.players) front → (outers : List (Option Column)) → AreOuter g front (2 ^ g.players) outers → AreSmall (length front + 1) (inner_columns family g front ++ outers)
-stage_small family g front game within outers are =
-    plain_small family g front game within outers (outer_plain g front outers are)
+pub stage_small : (family : Family) (measure : Measure) (g : Game) (front : List Level) → IsGame g → AllByRecursion (AreWithin g.players) front → (outers : List (Option Column)) → AreOuter g front (2 ^ g.players) outers → AreSmall (length front + 1) (inner_columns family g front ++ outers)
+stage_small family measure g front game within outers are =
+    plain_small family measure g front game within outers (outer_plain g front outers are)

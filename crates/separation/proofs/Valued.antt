@@ -8,8 +8,11 @@ use Rattle.definitions.proofs.Ring.{linear, mul-zeroℤ, mul-subℤ}
 use Rattle.definitions.proofs.Members.{sum_below-same, sum_below-zero, sum_below-split, times_bit}
 use Rattle.definitions.specs.Sums.{sum_below}
 use Rattle.definitions.specs.Coalitions.{has_player, sum_over}
+use Rattle.definitions.specs.Measures.{divisor}
+use Rattle.definitions.specs.declared.Measure.{Measure}
+use lib.IntN.{*ℤ_comm}
 use Rattle.separation.specs.Stage.{signed}
-use Rattle.separation.specs.Kept.{is_level, has_entry}
+use Rattle.separation.specs.Kept.{is_level, plain_entry}
 use Rattle.separation.specs.Values.{multiplier_at, player_multiplier, member_multiplier, eight, AreSums, level_multiplier, column_value}
 use Rattle.separation.specs.declared.column.Column.{Column}
 use Rattle.definitions.proofs.Cases.{less_or_last}
@@ -81,6 +84,10 @@ sums_at num n s low high h =
 
 -- ---- the rows
 
+times_entry : (b : Bool) (z d : ℤ) → z *ℤ cond b d (pos 0) ≡ cond b (d *ℤ z) (pos 0)
+times_entry true z d = *ℤ_comm z d
+times_entry false z d = mul-zeroℤ z
+
 pub signed_sum : (n : ℕ) (y f : ℕ → ℤ) (b : Bool) → sum_below n (λ r. y r *ℤ signed b (f r)) ≡ signed b (sum_below n (λ r. y r *ℤ f r))
 signed_sum n y f false = refl
 signed_sum zero y f true = refl
@@ -102,33 +109,34 @@ picked (suc j) l y h = elim (less_or_last l j h) [
     other : (l j k : ℕ) (y : ℕ → ℤ) → l ≡ j → k < j → cond (nat_eq l k) (y k) (pos 0) ≡ pos 0
     other l j k y same lt = let v : nat_eq l k ≡ false = grind (arith, nat_tests) in rw v refl
 
-level_sum : (num : List ℤ) (n j : ℕ) (level : Option ℕ) → ForSome level (λ l. l < j) → sum_below j (λ k. if is_level level k then multiplier_at num (n + k) else pos 0) ≡ level_multiplier num n level
-level_sum num n j None h = sum_below-zero j (λ k. pos 0) (λ k lt. refl)
-level_sum num n j (Some l) h = picked j l (λ k. multiplier_at num (n + k)) (h l refl)
+level_sum : (num : List ℤ) (n j : ℕ) (level : Option ℕ) (d : ℤ) → ForSome level (λ l. l < j) → sum_below j (λ k. if is_level level k then d *ℤ multiplier_at num (n + k) else pos 0) ≡ d *ℤ level_multiplier num n level
+level_sum num n j None d h = sum_below-zero j (λ k. pos 0) (λ k lt. refl) ∙ sym (mul-zeroℤ d)
+level_sum num n j (Some l) d h = picked j l (λ k. d *ℤ multiplier_at num (n + k)) (h l refl)
 
 -- the value of the column that isn't negated
-plain_sum : (num : List ℤ) (n j s : ℕ) (level : Option ℕ) → ForSome level (λ l. l < j)
-    → sum_below (n + j) (λ r. multiplier_at num r *ℤ (if has_entry n s level r then pos 1 else pos 0)) ≡ sum_over n (multiplier_at num) s +ℤ level_multiplier num n level
-plain_sum num n j s level h =
-    let f : ℕ → ℤ = λ r. multiplier_at num r *ℤ (if has_entry n s level r then pos 1 else pos 0) in
+plain_sum : (measure : Measure) (num : List ℤ) (n j s : ℕ) (level : Option ℕ) → ForSome level (λ l. l < j)
+    → sum_below (n + j) (λ r. multiplier_at num r *ℤ plain_entry measure n s level r) ≡ sum_over n (multiplier_at num) s +ℤ pos (divisor measure s) *ℤ level_multiplier num n level
+plain_sum measure num n j s level h =
+    let f : ℕ → ℤ = λ r. multiplier_at num r *ℤ plain_entry measure n s level r in
+    let d : ℤ = pos (divisor measure s) in
     let split = sum_below-split n j f in
     let first = sum_below-same n f (λ i. if has_player s i then multiplier_at num i else pos 0) members in
-    let second = sum_below-same j (λ k. f (n + k)) (λ k. if is_level level k then multiplier_at num (n + k) else pos 0) levels in
-    let third = level_sum num n j level h in
+    let second = sum_below-same j (λ k. f (n + k)) (λ k. if is_level level k then d *ℤ multiplier_at num (n + k) else pos 0) levels in
+    let third = level_sum num n j level d h in
     omega (arith, linear, split, first, second, third)
   where
-    members : (i : ℕ) → i < n → multiplier_at num i *ℤ (if has_entry n s level i then pos 1 else pos 0) ≡ (if has_player s i then multiplier_at num i else pos 0)
+    members : (i : ℕ) → i < n → multiplier_at num i *ℤ plain_entry measure n s level i ≡ (if has_player s i then multiplier_at num i else pos 0)
     members i lt = let t : nat_lt i n ≡ true = grind (arith, nat_tests) in rw t (times_bit (has_player s i) (multiplier_at num i))
 
-    levels : (k : ℕ) → k < j → multiplier_at num (n + k) *ℤ (if has_entry n s level (n + k) then pos 1 else pos 0) ≡ (if is_level level k then multiplier_at num (n + k) else pos 0)
+    levels : (k : ℕ) → k < j → multiplier_at num (n + k) *ℤ plain_entry measure n s level (n + k) ≡ (if is_level level k then pos (divisor measure s) *ℤ multiplier_at num (n + k) else pos 0)
     levels k lt =
         let t : nat_lt (n + k) n ≡ false = grind (arith, nat_tests) in
         let e : n + k - n ≡ k = omega arith in
-        rw t (rw e (times_bit (is_level level k) (multiplier_at num (n + k))))
+        rw t (rw e (times_entry (is_level level k) (multiplier_at num (n + k)) (pos (divisor measure s))))
 
-pub value_is : (num : List ℤ) (n : ℕ) (c : Column) → n ≤ length num → ForSome c.level (λ l. n + l < length num) → column_value num n c ≡ signed c.negated (sum_over n (multiplier_at num) c.coalition +ℤ level_multiplier num n c.level)
-value_is num n c le h =
+pub value_is : (measure : Measure) (num : List ℤ) (n : ℕ) (c : Column) → n ≤ length num → ForSome c.level (λ l. n + l < length num) → column_value measure num n c ≡ signed c.negated (sum_over n (multiplier_at num) c.coalition +ℤ pos (divisor measure c.coalition) *ℤ level_multiplier num n c.level)
+value_is measure num n c le h =
     let e : length num ≡ n + (length num - n) = omega arith in
-    signed_sum (length num) (multiplier_at num) (λ r. if has_entry n c.coalition c.level r then pos 1 else pos 0) c.negated
-    ∙ ap (signed c.negated) (ap (λ (t : ℕ). sum_below t (λ r. multiplier_at num r *ℤ (if has_entry n c.coalition c.level r then pos 1 else pos 0))) e
-    ∙ plain_sum num n (length num - n) c.coalition c.level (λ l is. let lt = h l is in omega arith))
+    signed_sum (length num) (multiplier_at num) (λ r. plain_entry measure n c.coalition c.level r) c.negated
+    ∙ ap (signed c.negated) (ap (λ (t : ℕ). sum_below t (λ r. multiplier_at num r *ℤ plain_entry measure n c.coalition c.level r)) e
+    ∙ plain_sum measure num n (length num - n) c.coalition c.level (λ l is. let lt = h l is in omega arith))

@@ -1,6 +1,6 @@
--- A program of kept columns lies within the laws of the simplex: the proof that the ghost item of `Listed` gives. It stands here,
--- without tactics, since such an item may cite only the definitions of its own crate.
-use Rattle.std.specs.Prelude.{◌≡◌, ◌⊎◌, ℕ, ◌+◌, ◌-◌, ◌≤◌, ◌<◌, Bool, true, false, IsTrue, nat_eq, cond, List, ℤ, pos, negsuc, Option, Some, None, refl, ◌^◌, unsigned_abs}
+-- A program of kept columns lies within the laws of the simplex: the proof that the ghost items of `Listed` and `Lazy` give. It
+-- stands here, without tactics, since such an item may cite only the definitions of its own crate.
+use Rattle.std.specs.Prelude.{◌≡◌, ◌⊎◌, ℕ, ◌+◌, ◌-◌, ◌≤◌, ◌<◌, Bool, true, false, IsTrue, nat_eq, nat_lt, cond, List, ℤ, pos, negsuc, Option, Some, None, refl, ◌^◌, unsigned_abs}
 use Rattle.std.proofs.Common.{inl, inr, sym, ap, subst, ◌∙◌}
 use Rattle.std.proofs.lemmas.Bool.{false≢true}
 use Rattle.std.proofs.Math.Nat.{le_refl, le_trans, le_of_lt, le-add_right, add-le-add, sub-lt_left_of_lt-add}
@@ -8,9 +8,11 @@ use lib.Dec.{lit<}
 use Rattle.definitions.proofs.Cases.{same_or_other, nat_eq-other, nat_eq-less, nat_eq-some, nat_lt-past, next_below, gap_below}
 use Rattle.definitions.specs.Coalitions.{has_player}
 use Rattle.std.specs.Option.{ForSome, is_some}
-use Rattle.simplex.specs.Laws.{IsSparse, IsLawful}
+use Rattle.definitions.specs.declared.Measure.{Measure}
+use Rattle.definitions.specs.declared.Measure.TheVariants.{Plain, PerHead}
+use Rattle.simplex.specs.Laws.{IsSparse, IsInBandA, IsInBandB, IsLawful}
 use Rattle.separation.specs.Stage.{signed}
-use Rattle.separation.specs.Kept.{is_level, has_entry, column_entry, column_at, entry_at, cost_at, right_at, kept_program, AreSmall}
+use Rattle.separation.specs.Kept.{is_level, column_entry, column_at, entry_at, cost_at, right_at, kept_program, AreSmall, AreShort}
 use Rattle.separation.specs.declared.column.Column.{Column}
 
 abbrev sign_of : Bool → ℤ
@@ -38,24 +40,31 @@ in_level (Some l) i j h = elim (same_or_other l i) [
   | inr ne ↦ inl (nat_eq-other l i ne)
 ]
 
-column_sparse : (n rows : ℕ) (c : Column) → IsSparse n rows (column_entry n c)
+entry_either : (n s : ℕ) (level : Option ℕ) (negated : Bool) (r : ℕ) → (signed negated (cond (nat_lt r n) (cond (has_player s r) (pos 1) (pos 0)) (cond (is_level level (r - n)) (pos 1) (pos 0))) ≡ pos 0) ⊎ (signed negated (cond (nat_lt r n) (cond (has_player s r) (pos 1) (pos 0)) (cond (is_level level (r - n)) (pos 1) (pos 0))) ≡ sign_of negated)
+entry_either n s level negated r = by_row (nat_lt r n)
+  where
+    by_row : (b : Bool) → (signed negated (cond b (cond (has_player s r) (pos 1) (pos 0)) (cond (is_level level (r - n)) (pos 1) (pos 0))) ≡ pos 0) ⊎ (signed negated (cond b (cond (has_player s r) (pos 1) (pos 0)) (cond (is_level level (r - n)) (pos 1) (pos 0))) ≡ sign_of negated)
+    by_row true = either negated (has_player s r)
+    by_row false = either negated (is_level level (r - n))
+
+column_sparse : (n rows : ℕ) (c : Column) → IsSparse n rows (column_entry Plain n c)
 column_sparse n rows c = record {
   sign = sign_of c.negated;
   is_sign = sign_is c.negated;
-  entry = λ i lt. either c.negated (has_entry n c.coalition c.level i);
+  entry = λ i lt. entry_either n c.coalition c.level c.negated i;
   one = λ i j le ij lt. elim (in_level c.level (i - n) (j - n) (gap_below n i j le ij)) [
     | inl e ↦ inl (gone i le e)
     | inr e ↦ inr (gone j (le_trans le (le_of_lt ij)) e)
   ];
 }
   where
-    gone : (i : ℕ) → n ≤ i → is_level c.level (i - n) ≡ false → column_entry n c i ≡ pos 0
+    gone : (i : ℕ) → n ≤ i → is_level c.level (i - n) ≡ false → column_entry Plain n c i ≡ pos 0
     gone i le e =
-        ap (λ (b : Bool). signed c.negated (cond (cond b (has_player c.coalition i) (is_level c.level (i - n))) (pos 1) (pos 0))) (nat_lt-past i n le)
+        ap (λ (b : Bool). signed c.negated (cond b (cond (has_player c.coalition i) (pos 1) (pos 0)) (cond (is_level c.level (i - n)) (pos 1) (pos 0)))) (nat_lt-past i n le)
         ∙ ap (λ (b : Bool). signed c.negated (cond b (pos 1) (pos 0))) e
         ∙ nothing c.negated
 
-kept_sparse : (n rows : ℕ) (o : Option Column) → IsTrue (is_some o) → IsSparse n rows (entry_at n o)
+kept_sparse : (n rows : ℕ) (o : Option Column) → IsTrue (is_some o) → IsSparse n rows (entry_at Plain n o)
 kept_sparse n rows None h = absurd (false≢true h)
 kept_sparse n rows (Some c) h = column_sparse n rows c
 
@@ -80,16 +89,20 @@ cost_small : (o : Option Column) → ForSome o (λ c. unsigned_abs c.cost < 2 ^ 
 cost_small None h = lit< tt
 cost_small (Some c) h = h c refl
 
-pub kept_lawful : (players levels : ℕ) (columns : List (Option Column)) → players ≤ 16 → levels ≤ 15 → AreSmall levels columns → IsLawful players (kept_program players levels columns)
-kept_lawful players levels columns few few_levels small = record {
+band_of : (measure : Measure) (players levels : ℕ) (columns : List (Option Column)) → levels ≤ 15 → AreShort measure players levels columns → IsInBandA players (kept_program measure players levels columns) ⊎ IsInBandB (kept_program measure players levels columns)
+band_of Plain players levels columns few_levels short = inl (record {
+  levels = add-le-add (le_refl players) few_levels;
+  columns = λ id is. kept_sparse players (players + levels) (column_at columns id) is;
+  right = right_sparse players levels;
+})
+band_of PerHead players levels columns few_levels short = inr (short refl)
+
+pub kept_lawful : (measure : Measure) (players levels : ℕ) (columns : List (Option Column)) → players ≤ 16 → levels ≤ 15 → AreSmall levels columns → AreShort measure players levels columns → IsLawful players (kept_program measure players levels columns)
+kept_lawful measure players levels columns few few_levels small short = record {
   players_few = few;
   players_within = le-add_right players levels;
   rows_few = add-le-add few few_levels;
-  band = inl (record {
-    levels = add-le-add (le_refl players) few_levels;
-    columns = λ id is. kept_sparse players (players + levels) (column_at columns id) is;
-    right = right_sparse players levels;
-  });
+  band = band_of measure players levels columns few_levels short;
   rights = λ i lt. right_either players levels i;
   costs = λ id is. cost_small (column_at columns id) (small.costs id);
 }

@@ -9,6 +9,7 @@ use Rattle.definitions.specs.Games.{Game}
 use Rattle.definitions.specs.Certificates.{Level, InSpan, IsFixedVector, IsOutside}
 use Rattle.definitions.specs.Programs.{Program}
 use Rattle.definitions.specs.declared.Family.{Family}
+use Rattle.definitions.specs.declared.Measure.{Measure}
 use Rattle.definitions.specs.declared.Mode.TheVariants.{Span}
 use Rattle.spans.specs.Span.{IsKept}
 use Rattle.separation.specs.Stage.{stage_program}
@@ -27,7 +28,7 @@ pub record IsSpanOf (n : ℕ) (kept : List ℕ) (levels : List Level) : Type 0 w
   pub outside : (s : ℕ) → s < 2 ^ n → InSpan n (IsFixedVector n levels) s → InSpan n (IsKept kept) s
 
 -- the stage program behind the levels in front, by a test that passes exactly at the coalitions outside
-pub record IsStage (family : Family) (g : Game) (front : List Level) (p : Program) : Type 0 where
+pub record IsStage (family : Family) (measure : Measure) (g : Game) (front : List Level) (p : Program) : Type 0 where
   pub outside : ℕ → Bool
   pub decides : (s : ℕ) → Decides (outside s) (IsOutside Span g.players front s)
-  pub same : IsSame p (stage_program family g front outside)
+  pub same : IsSame p (stage_program family measure g front outside)

@@ -1,22 +1,26 @@
--- The stage programs of the nucleolus: behind the levels in front, the least greatest excess of the coalitions outside
--- (Kopelowitz 1967, Kohlberg 1972). With m coalitions in the levels, t counting them in their order, and b = 2 + 2m:
+-- The stage programs of the nucleolus: behind the levels in front, the least greatest measured excess of the coalitions outside
+-- (Kopelowitz 1967, Kohlberg 1972; per head Grotte 1970). With m coalitions in the levels, t counting them in their order, and b = 2 + 2m:
 --
---   number       entries                                           cost
---   0            1 for each player                                 worth of all
---   2 + 2t       vector of coalition t, 1 in its level's row       its worth
---   odd below b  the column before it, negated                     its cost negated
---   b + i        1 for player i; imputations only                  worth of i alone
---   b + n + i    -1 for player i, where a level bounds i           that worth negated
---   b + 2n + s   vector of s, 1 in the last row; s outside         worth of s
+--   number       entries                                                cost
+--   0            1 for each player                                      worth of all
+--   2 + 2t       vector of coalition t, its divisor in its level's row  its worth
+--   odd below b  the column before it, negated                          its cost negated
+--   b + i        1 for player i; imputations only                       worth of i alone
+--   b + n + i    -1 for player i, where a level bounds i                that worth negated
+--   b + 2n + s   vector of s, its divisor in the last row; s outside    worth of s
+--
+-- The divisor is what the measure divides the excess of the coalition by: 1, or the number of members.
 use Rattle.std.specs.Prelude.{ℕ, ◌+◌, ◌-◌, Bool, true, false, ◌&&◌, nat_eq, nat_lt, List, [], ◌∷◌, ◌++◌, length, map, ℤ, pos, ◌-ℤ◌, if◌then◌else◌, slice_index_or}
 use Rattle.definitions.specs.Coalitions.{has_player, singleton, grand_coalition}
+use Rattle.definitions.specs.Measures.{divisor}
 use Rattle.definitions.specs.Games.{Game}
 use Rattle.definitions.specs.Certificates.{Level, has_bound}
 use Rattle.definitions.specs.Programs.{Program}
 use Rattle.definitions.specs.declared.Family.{Family}
 use Rattle.definitions.specs.declared.Family.TheVariants.{Imputations, Preimputations}
+use Rattle.definitions.specs.declared.Measure.{Measure}
 
--- the vector of a coalition and a 1 in a level row, which count from 0, or in none, where the number is past them; or all this negated
+-- the vector of a coalition and its divisor in a level row, which count from 0, or in none, where the number is past them; or all this negated
 pub record Column : Type 0 where
   pub mask : ℕ
   pub row : ℕ
@@ -25,12 +29,12 @@ pub record Column : Type 0 where
 abbrev pub signed : Bool → ℤ → ℤ
 signed minus z = if minus then pos 0 -ℤ z else z
 
-abbrev pub plus_entry : ℕ → ℕ → ℕ → ℕ → ℤ
-plus_entry n mask row r =
-    if nat_lt r n then (if has_player mask r then pos 1 else pos 0) else (if nat_eq r (n + row) then pos 1 else pos 0)
+abbrev pub plus_entry : Measure → ℕ → ℕ → ℕ → ℕ → ℤ
+plus_entry measure n mask row r =
+    if nat_lt r n then (if has_player mask r then pos 1 else pos 0) else (if nat_eq r (n + row) then pos (divisor measure mask) else pos 0)
 
-abbrev pub entry_of : ℕ → Column → ℕ → ℤ
-entry_of n c r = signed c.minus (plus_entry n c.mask c.row r)
+abbrev pub entry_of : Measure → ℕ → Column → ℕ → ℤ
+entry_of measure n c r = signed c.minus (plus_entry measure n c.mask c.row r)
 
 -- the coalitions of the levels in their order, each with the number of its level from k on
 abbrev pub earlier_of : ℕ → List Level → List (ℕ × ℕ)
@@ -68,12 +72,12 @@ is_further family n front outside i =
     if nat_lt i n then is_imputations family else (if nat_lt i (n + n) then is_imputations family && has_bound front (i - n) else outside (i - (n + n)))
 
 -- the stage program behind the levels in front, where the test passes at the coalitions outside
-abbrev pub stage_program : Family → Game → List Level → (ℕ → Bool) → Program
-stage_program family g front outside =
+abbrev pub stage_program : Family → Measure → Game → List Level → (ℕ → Bool) → Program
+stage_program family measure g front outside =
     record {
       rows = g.players + (length front + 1);
       right = λ r. if nat_eq r (g.players + length front) then pos 1 else pos 0;
       is_column = λ id. if nat_lt id (length (settled_columns g.players front)) then true else is_further family g.players front outside (id - length (settled_columns g.players front));
-      entry = λ id r. entry_of g.players (column g.players front id) r;
+      entry = λ id r. entry_of measure g.players (column g.players front id) r;
       cost = λ id. signed (column g.players front id).minus (g.worth (column g.players front id).mask);
     }

@@ -10,6 +10,7 @@
 use Rattle.std.specs.Prelude.{◌≡◌, ℕ, ◌+◌, ◌<◌, ◌≤◌, Bool, true, false, nat_lt, List, length, ℤ, pos, ◌*ℤ◌, ◌<ℤ◌, if◌then◌else◌, slice_index_or, Option, Some, None, ◌^◌, unsigned_abs}
 use Rattle.definitions.specs.Sums.{sum_below}
 use Rattle.definitions.specs.Coalitions.{has_player}
+use Rattle.definitions.specs.declared.Measure.{Measure}
 use Rattle.separation.specs.Kept.{column_entry, column_at}
 use Rattle.separation.specs.declared.column.Column.{Column}
 
@@ -49,8 +50,8 @@ level_multiplier num n None = pos 0
 level_multiplier num n (Some l) = multiplier_at num (n + l)
 
 -- the sum of multiplier times entry
-abbrev pub column_value : List ℤ → ℕ → Column → ℤ
-column_value num n c = sum_below (length num) (λ r. multiplier_at num r *ℤ column_entry n c r)
+abbrev pub column_value : Measure → List ℤ → ℕ → Column → ℤ
+column_value measure num n c = sum_below (length num) (λ r. multiplier_at num r *ℤ column_entry measure n c r)
 
 -- what a cost counts for, with costs or without them
 abbrev pub counted : Bool → ℤ → ℤ
@@ -58,18 +59,18 @@ counted true cost = cost
 counted false cost = pos 0
 
 -- a column whose cost is above its value
-abbrev pub Rises : List ℤ → ℤ → ℕ → Bool → Option Column → Type 0
-Rises num den n with_costs None = ⊥
-Rises num den n with_costs (Some c) = column_value num n c <ℤ (den *ℤ counted with_costs c.cost)
+abbrev pub Rises : Measure → List ℤ → ℤ → ℕ → Bool → Option Column → Type 0
+Rises measure num den n with_costs None = ⊥
+Rises measure num den n with_costs (Some c) = column_value measure num n c <ℤ (den *ℤ counted with_costs c.cost)
 
 -- the first column whose cost is above its value
-pub record IsFirst (num : List ℤ) (den : ℤ) (n : ℕ) (with_costs : Bool) (columns : List (Option Column)) (id : ℕ) : Type 0 where
+pub record IsFirst (measure : Measure) (num : List ℤ) (den : ℤ) (n : ℕ) (with_costs : Bool) (columns : List (Option Column)) (id : ℕ) : Type 0 where
   pub place : id < length columns
-  pub rises : Rises num den n with_costs (column_at columns id)
-  pub least : (j : ℕ) → j < id → ¬ Rises num den n with_costs (column_at columns j)
+  pub rises : Rises measure num den n with_costs (column_at columns id)
+  pub least : (j : ℕ) → j < id → ¬ Rises measure num den n with_costs (column_at columns j)
 
 -- the first of so many columns whose cost is above its value
-pub record IsFirstBelow (num : List ℤ) (den : ℤ) (n : ℕ) (with_costs : Bool) (column : ℕ → Option Column) (count id : ℕ) : Type 0 where
+pub record IsFirstBelow (measure : Measure) (num : List ℤ) (den : ℤ) (n : ℕ) (with_costs : Bool) (column : ℕ → Option Column) (count id : ℕ) : Type 0 where
   pub below : id < count
-  pub rises : Rises num den n with_costs (column id)
-  pub least : (j : ℕ) → j < id → ¬ Rises num den n with_costs (column j)
+  pub rises : Rises measure num den n with_costs (column id)
+  pub least : (j : ℕ) → j < id → ¬ Rises measure num den n with_costs (column j)

@@ -12,7 +12,7 @@ use coalitions::Coalition;
 use fractions::OutOfMemory;
 use simplex::Columns;
 use std::alloc::{AllocError, Global};
-use worth_core::Worth;
+use worth_core::{Measure, Worth};
 
 /// The column of a coalition, unless it is empty.
 fn nonempty<W: Worth>(game: &W, s: Coalition) -> Option<Column>
@@ -50,7 +50,7 @@ impl Listed {
         match balanced_columns(alloc, game) {
             Ok(columns) => {
                 let players = game.players();
-                Ok(Listed::of(players, 0, columns))
+                Ok(Listed::of(Measure::Plain, players, 0, columns))
             }
             Err(_) => Err(OutOfMemory),
         }

@@ -1,11 +1,24 @@
 //! Columns of the programs.
 
 ghost use Rattle.std.specs.Prelude.{◌≡◌, ◌≤◌, ◌<◌, ◌^◌, pos, ◌-ℤ◌, true, false, unsigned_abs};
+ghost use Rattle.definitions.specs.Measures.{divisor};
 
 use coalitions::Coalition;
+use worth_core::Measure;
 
-/// The vector of a coalition in the player rows and a 1 in one level row or none, and the worth of the coalition as cost;
-/// or all this negated.
+/// What a column has in its level row: what the measure divides the excess of its coalition by.
+pub(crate) fn level_entry(measure: Measure, s: Coalition) -> u32
+    ensures value { result ≡ divisor measure s }
+    ensures small { result ≤ 64 }
+{
+    match measure {
+        Measure::Plain => 1,
+        Measure::PerHead => s.len(),
+    }
+}
+
+/// The vector of a coalition in the player rows and, in one level row or none, what a measure divides the excess of the
+/// coalition by, and the worth of the coalition as cost; or all this negated.
 #[derive(Clone, Copy)]
 pub(crate) struct Column {
     pub(crate) coalition: Coalition,
@@ -15,7 +28,7 @@ pub(crate) struct Column {
 }
 
 impl Column {
-    ghost use Rattle.separation.specs.Kept.{column_entry};
+    ghost use Rattle.separation.specs.Kept.{plain_entry, column_entry};
 
     /// The column of a coalition of that worth.
     pub(crate) fn new(coalition: Coalition, level: Option<u32>, worth: i64) -> Column
@@ -43,19 +56,27 @@ impl Column {
     }
 
     /// The entry in a row, of which the first ones are those of the players.
-    pub(crate) fn entry(self, players: u32, row: u32) -> i32
+    pub(crate) fn entry(self, measure: Measure, players: u32, row: u32) -> i32
         requires { players ≤ 16 }
-        ensures { result ≡ column_entry players self row }
+        ensures { result ≡ column_entry measure players self row }
     {
-        let holds = if row < players {
-            self.coalition.contains(row)
+        let negated = self.negated;
+        let plain = self.plain_entry(measure, players, row) as i32;
+        if negated { -plain } else { plain }
+    }
+
+    /// The entry in a row, unless the column is negated.
+    fn plain_entry(self, measure: Measure, players: u32, row: u32) -> u32
+        requires { players ≤ 16 }
+        ensures value { pos result ≡ plain_entry measure players self.coalition self.level row }
+        ensures small { result ≤ 64 }
+    {
+        if row < players {
+            u32::from(self.coalition.contains(row))
+        } else if self.level == Some(row - players) {
+            level_entry(measure, self.coalition)
         } else {
-            self.level == Some(row - players)
-        };
-        match (holds, self.negated) {
-            (false, _) => 0,
-            (true, false) => 1,
-            (true, true) => -1,
+            0
         }
     }
 }

@@ -8,7 +8,7 @@ use kohlberg::{Family, Span};
 use simplex::{Columns, Multipliers, Workspace, solve};
 use std::alloc::Global;
 use std::test::Fail;
-use worth_core::Worth;
+use worth_core::{Measure, Worth};
 use worth_tables::TableGame;
 
 /// The next state of a linear congruence modulo 2^31.
@@ -134,15 +134,22 @@ fn compare_balanced<W: Worth>(alloc: Global, game: &W) -> Result<(), Fail>
     compare(alloc, &mut listed, &mut found, game.players())
 }
 
-/// Compares the first stages of a game.
-fn compare_first<W: Worth>(alloc: Global, game: &W, family: Family) -> Result<(), Fail>
-    requires few { (W.game game.now).players ≤ 16 }
+/// Compares the first stages of a game of at most 8 players.
+fn compare_first<W: Worth>(
+    alloc: Global,
+    game: &W,
+    family: Family,
+    measure: Measure,
+) -> Result<(), Fail>
+    requires few { (W.game game.now).players ≤ 8 }
     requires some { 2 ≤ (W.game game.now).players }
 {
     let players = game.players();
     let span = Span::new(players);
-    let mut listed = Listed::stage(alloc, game, family, &[], &span).map_err(|_| "no memory")?;
-    let mut found = Lazy::stage(alloc, game, family, &[], &span).map_err(|_| "no memory")?;
+    let mut listed = Listed::stage(alloc, game, family, measure, &[], &span).map_err(
+        |_| "no memory",
+    )?;
+    let mut found = Lazy::stage(alloc, game, family, measure, &[], &span).map_err(|_| "no memory")?;
     compare(alloc, &mut listed, &mut found, players)
 }
 
@@ -154,8 +161,10 @@ fn found_columns_are_the_listed_ones(rt: HostRuntime) -> Result<(), Fail> {
             let game = drawn(rt.alloc(), players, seed)?;
             assert!(&rt; game.players() == players);
             compare_balanced(rt.alloc(), &game)?;
-            compare_first(rt.alloc(), &game, Family::Imputations)?;
-            compare_first(rt.alloc(), &game, Family::Preimputations)?;
+            for measure in [Measure::Plain, Measure::PerHead] {
+                compare_first(rt.alloc(), &game, Family::Imputations, measure)?;
+                compare_first(rt.alloc(), &game, Family::Preimputations, measure)?;
+            }
         }
     }
     Ok(())

@@ -43,7 +43,7 @@ impl<W: Worth> Lazy<'_, W> {
     }
 
     /// The column of a coalition, if it has one.
-    fn marked_column(&self, s: Coalition) -> Option<Column>
+    pub(crate) fn marked_column(&self, s: Coalition) -> Option<Column>
         requires { s < 2 ^ self.now.players }
         ensures { result ≡ marked_column (W.game self.now.game.now) (front_level self.now.front) self.now.marks s }
     {

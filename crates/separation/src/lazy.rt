@@ -5,8 +5,9 @@ ghost use Rattle.std.specs.List.{AllByRecursion};
 ghost use Rattle.std.proofs.Props.{props};
 ghost use Rattle.definitions.specs.Games.{IsGame};
 ghost use Rattle.definitions.specs.Certificates.{HasForm};
+ghost use Rattle.definitions.specs.declared.Measure.{Measure};
 ghost use Rattle.definitions.specs.declared.Mode.{Mode};
-ghost use Rattle.separation.specs.Kept.{kept_program, AreSmall};
+ghost use Rattle.separation.specs.Kept.{kept_program, AreSmall, AreShort};
 ghost use Rattle.separation.specs.Fronts.{front_columns, front_rows, lazy_columns, IsSmallLevel};
 
 use crate::front::Front;
@@ -17,13 +18,14 @@ use fractions::OutOfMemory;
 use kohlberg::{Family, Level, Outside, Span};
 use simplex::{Columns, Multipliers};
 use std::alloc::Global;
-use worth_core::Worth;
+use worth_core::{Measure, Worth};
 
 /// A program that keeps a mark for each coalition and no columns. It finds each column by its number, and the one that enters
 /// by going over the numbers.
 #[derive(Drop)]
 pub struct Lazy<'a, W: Worth> {
     pub(crate) game: &'a W,
+    pub(crate) measure: Measure,
     pub(crate) players: u32,
     pub(crate) levels: u32,
     /// What stands in front of the coalitions' columns, in a stage.
@@ -41,14 +43,16 @@ pub struct Lazy<'a, W: Worth> {
     ghost first_is: { first ≡ length (front_columns (W.game game.now) front) },
     ghost first_small: { first ≤ 2 ^ 32 },
     ghost small: { AreSmall levels (lazy_columns (W.game game.now) front marks) },
+    ghost short: { AreShort measure players levels (lazy_columns (W.game game.now) front marks) },
 }
 
 impl<'a, W: Worth> Lazy<'a, W> {
     ghost use Rattle.separation.specs.Same.{IsSame, IsSpanOf, IsStage};
     ghost use Rattle.separation.specs.Balanced.{balanced_program};
 
-    /// The stage program of a game of 2 to 16 players behind levels (Kopelowitz 1967): its weights are those of the next
-    /// level, and its multipliers the shares and the excesses of the levels. It keeps one bit for each coalition.
+    /// The stage program of a game of 2 to 16 players behind levels (Kopelowitz 1967; per head Grotte 1970): its weights are
+    /// those of the next level, and its multipliers the shares and the measured excesses of the levels. Per head there are
+    /// at most 8 players. It keeps one bit for each coalition.
     ///
     /// There are at most n - 2 levels, in the form of a certificate. `span` holds exactly the coalitions that the
     /// levels fix in span mode. The one error is want of memory, and no memory is taken.
@@ -56,21 +60,24 @@ impl<'a, W: Worth> Lazy<'a, W> {
         _alloc: Global,
         game: &'a W,
         family: Family,
+        measure: Measure,
         levels: &'a [Level],
         span: &Span,
     ) -> Result<Lazy<'a, W>, OutOfMemory>
         requires few { (W.game game.now).players ≤ 16 }
+        requires heads { measure ≡ Measure.PerHead → (W.game game.now).players ≤ 8 }
         requires form { HasForm Mode.Span (W.game game.now).players levels.now }
         requires count { length levels.now + 2 ≤ (W.game game.now).players }
         requires players { span.now.players ≡ (W.game game.now).players }
         requires spans { IsSpanOf (W.game game.now).players span.now.kept levels.now }
         ensures { IfOk result (λ l. (⟦<Lazy<'a, W> as Columns>⟧.players l ≡ (W.game game.now).players)
-            × IsStage family (W.game game.now) levels.now (⟦<Lazy<'a, W> as Columns>⟧.program l)) }
+            × IsStage family measure (W.game game.now) levels.now (⟦<Lazy<'a, W> as Columns>⟧.program l)) }
     {
         let players = game.players();
         let front = Front { family, levels };
         Ok(Lazy {
             game,
+            measure,
             players,
             levels: levels.len() as u32 + 1,
             front: Some(front),
@@ -91,6 +98,7 @@ impl<'a, W: Worth> Lazy<'a, W> {
         let players = game.players();
         Ok(Lazy {
             game,
+            measure: Measure::Plain,
             players,
             levels: 0,
             front: None,
@@ -103,11 +111,11 @@ impl<'a, W: Worth> Lazy<'a, W> {
 impl<W: Worth> Columns for Lazy<'_, W> {
     ghost use Rattle.separation.specs.Lawful.{kept_lawful};
 
-    ghost program = { λ l. kept_program l.players l.levels (lazy_columns (W.game l.game.now) l.front l.marks) };
+    ghost program = { λ l. kept_program l.measure l.players l.levels (lazy_columns (W.game l.game.now) l.front l.marks) };
 
     ghost players = { λ l. l.players };
 
-    ghost lawful = { λ l. kept_lawful l.players l.levels (lazy_columns (W.game l.game.now) l.front l.marks) l.few l.few_rows l.small };
+    ghost lawful = { λ l. kept_lawful l.measure l.players l.levels (lazy_columns (W.game l.game.now) l.front l.marks) l.few l.few_rows l.small l.short };
 
     fn rows(&self) -> u32 {
         self.players + self.levels
@@ -127,7 +135,7 @@ impl<W: Worth> Columns for Lazy<'_, W> {
 
     fn entry(&self, id: u64, row: u32) -> i32 {
         match self.column(id) {
-            Some(column) => column.entry(self.players, row),
+            Some(column) => column.entry(self.measure, self.players, row),
             None => 0,
         }
     }

@@ -1,21 +1,24 @@
 //! A program whose columns are kept in a list, each under its number.
 
 ghost use Rattle.std.specs.Prelude.{◌≡◌, ◌≤◌};
-ghost use Rattle.separation.specs.Kept.{column_at, kept_program, AreSmall};
+ghost use Rattle.separation.specs.Kept.{column_at, kept_program, AreSmall, AreShort};
 
 use crate::column::Column;
 use crate::sums::{Sums, first_rising};
 use simplex::{Columns, Multipliers};
+use worth_core::Measure;
 
 /// A program with all its columns, the level rows behind those of the players.
 #[derive(Drop)]
 pub struct Listed {
+    measure: Measure,
     players: u32,
     levels: u32,
     columns: Vec<Option<Column>>,
     ghost few_players: { players ≤ 16 },
     ghost few_levels: { levels ≤ 15 },
     ghost small: { AreSmall levels columns.items },
+    ghost short: { AreShort measure players levels columns.items },
 }
 
 /// The column under a number.
@@ -30,16 +33,24 @@ fn column_at(columns: &[Option<Column>], id: u64) -> Option<Column>
 }
 
 impl Listed {
-    /// The program of these columns, each under its place, with so many rows of players and of levels.
-    pub(crate) fn of(players: u32, levels: u32, columns: Vec<Option<Column>>) -> Listed
+    /// The program of these columns by a measure, each under its place, with so many rows of players and of levels.
+    pub(crate) fn of(
+        measure: Measure,
+        players: u32,
+        levels: u32,
+        columns: Vec<Option<Column>>,
+    ) -> Listed
         requires few { players ≤ 16 }
         requires few_levels { levels ≤ 15 }
         requires small { AreSmall levels columns.items }
+        requires short { AreShort measure players levels columns.items }
+        ensures measure { result.measure ≡ measure }
         ensures players { result.players ≡ players }
         ensures levels { result.levels ≡ levels }
         ensures columns { result.columns.items ≡ columns.items }
     {
         Listed {
+            measure,
             players,
             levels,
             columns,
@@ -50,11 +61,11 @@ impl Listed {
 impl Columns for Listed {
     ghost use Rattle.separation.specs.Lawful.{kept_lawful};
 
-    ghost program = { λ l. kept_program l.players l.levels l.columns.items };
+    ghost program = { λ l. kept_program l.measure l.players l.levels l.columns.items };
 
     ghost players = { λ l. l.players };
 
-    ghost lawful = { λ l. kept_lawful l.players l.levels l.columns.items l.few_players l.few_levels l.small };
+    ghost lawful = { λ l. kept_lawful l.measure l.players l.levels l.columns.items l.few_players l.few_levels l.small l.short };
 
     fn rows(&self) -> u32 {
         self.players + self.levels
@@ -74,7 +85,7 @@ impl Columns for Listed {
 
     fn entry(&self, id: u64, row: u32) -> i32 {
         match column_at(&self.columns, id) {
-            Some(column) => column.entry(self.players, row),
+            Some(column) => column.entry(self.measure, self.players, row),
             None => 0,
         }
     }
@@ -88,6 +99,13 @@ impl Columns for Listed {
 
     fn entering(&mut self, m: &Multipliers, with_costs: bool) -> Option<u64> {
         let sums = Sums::new(m, self.players);
-        first_rising(&self.columns, m, self.players, &sums, with_costs)
+        first_rising(
+            &self.columns,
+            m,
+            self.measure,
+            self.players,
+            &sums,
+            with_costs,
+        )
     }
 }

@@ -2,6 +2,7 @@
 
 ghost use Rattle.std.specs.Prelude.{◌≡◌, ℕ, ◌+◌, ◌*◌, ◌<◌, ◌≤◌, ◌^◌, length, unsigned_abs, MatchOption};
 ghost use Rattle.std.specs.Bool.{Decides};
+ghost use Rattle.definitions.specs.declared.Measure.{Measure};
 ghost use Rattle.separation.specs.Kept.{column_at};
 ghost use Rattle.separation.specs.Making.{plain};
 ghost use Rattle.separation.specs.Fronts.{front_columns, front_level, marked_column, lazy_columns};
@@ -11,7 +12,7 @@ use crate::lazy::Lazy;
 use crate::sums::{Sums, is_below, rises};
 use coalitions::Coalition;
 use simplex::Multipliers;
-use worth_core::Worth;
+use worth_core::{Measure, Worth};
 
 /// The number of the first column in front of those of the coalitions whose cost is above its value.
 fn first_in_front<W: Worth>(
@@ -23,12 +24,19 @@ fn first_in_front<W: Worth>(
     requires rows { length m.now.num.items ≡ program.now.players + program.now.levels }
     requires sums { AreSums m.now.num.items program.now.players sums.now.low sums.now.high }
     ensures { let column = column_at (front_columns (W.game program.now.game.now) program.now.front) in MatchOption result
-        ((j : ℕ) → j < program.now.first → ¬ Rises m.now.num.items m.now.den program.now.players with_costs (column j))
-        (IsFirstBelow m.now.num.items m.now.den program.now.players with_costs column program.now.first) }
+        ((j : ℕ) → j < program.now.first → ¬ Rises program.now.measure m.now.num.items m.now.den program.now.players with_costs (column j))
+        (IsFirstBelow program.now.measure m.now.num.items m.now.den program.now.players with_costs column program.now.first) }
 {
     for id in 0..program.first {
         let column = program.front_column(id);
-        if rises(column, m, program.players, sums, with_costs) {
+        if rises(
+            column,
+            m,
+            program.measure,
+            program.players,
+            sums,
+            with_costs,
+        ) {
             return Some(id);
         }
     }
@@ -54,8 +62,8 @@ fn marked_rises<W: Worth>(
     s: Coalition,
 ) -> bool
     requires within { s < 2 ^ program.now.players }
-    requires value { value ≡ column_value m.now.num.items program.now.players (plain (W.game program.now.game.now) s (front_level program.now.front)) }
-    ensures { Decides result (Rises m.now.num.items m.now.den program.now.players with_costs (marked_column (W.game program.now.game.now) (front_level program.now.front) program.now.marks s)) }
+    requires value { value ≡ column_value program.now.measure m.now.num.items program.now.players (plain (W.game program.now.game.now) s (front_level program.now.front)) }
+    ensures { Decides result (Rises program.now.measure m.now.num.items m.now.den program.now.players with_costs (marked_column (W.game program.now.game.now) (front_level program.now.front) program.now.marks s)) }
 {
     if program.has_mark(s) {
         let worth = counted_worth(program.game, s, with_costs);
@@ -65,8 +73,8 @@ fn marked_rises<W: Worth>(
     }
 }
 
-/// The first coalition of the 256 from 256 * `block` on that has a column whose cost is above its value, where no lesser
-/// coalition has one.
+/// The first coalition of the 256 from 256 * `block` on that has a column whose cost is above its value with plain excess,
+/// where no lesser coalition has one.
 fn first_of_block<W: Worth>(
     program: &Lazy<'_, W>,
     m: &Multipliers,
@@ -75,12 +83,13 @@ fn first_of_block<W: Worth>(
     block: u64,
 ) -> Option<u64>
     requires block { block < 256 }
+    requires plain { program.now.measure ≡ Measure.Plain }
     requires rows { length m.now.num.items ≡ program.now.players + program.now.levels }
     requires sums { AreSums m.now.num.items program.now.players sums.now.low sums.now.high }
-    requires before { (j : ℕ) → j < 256 * block → j < 2 ^ program.now.players → ¬ Rises m.now.num.items m.now.den program.now.players with_costs (marked_column (W.game program.now.game.now) (front_level program.now.front) program.now.marks j) }
+    requires before { (j : ℕ) → j < 256 * block → j < 2 ^ program.now.players → ¬ Rises program.now.measure m.now.num.items m.now.den program.now.players with_costs (marked_column (W.game program.now.game.now) (front_level program.now.front) program.now.marks j) }
     ensures { let column = marked_column (W.game program.now.game.now) (front_level program.now.front) program.now.marks in MatchOption result
-        ((j : ℕ) → j < 256 * (block + 1) → j < 2 ^ program.now.players → ¬ Rises m.now.num.items m.now.den program.now.players with_costs (column j))
-        (IsFirstBelow m.now.num.items m.now.den program.now.players with_costs column (2 ^ program.now.players)) }
+        ((j : ℕ) → j < 256 * (block + 1) → j < 2 ^ program.now.players → ¬ Rises program.now.measure m.now.num.items m.now.den program.now.players with_costs (column j))
+        (IsFirstBelow program.now.measure m.now.num.items m.now.den program.now.players with_costs column (2 ^ program.now.players)) }
 {
     let base = sums.base(m, program.players, program.level(), block);
     let end = (256 * block + 256).min(1 << program.players);
@@ -93,7 +102,59 @@ fn first_of_block<W: Worth>(
     None
 }
 
-/// The first coalition that has a column whose cost is above its value.
+/// The first coalition that has a column whose cost is above its value with plain excess.
+fn first_by_blocks<W: Worth>(
+    program: &Lazy<'_, W>,
+    m: &Multipliers,
+    sums: &Sums,
+    with_costs: bool,
+) -> Option<u64>
+    requires plain { program.now.measure ≡ Measure.Plain }
+    requires rows { length m.now.num.items ≡ program.now.players + program.now.levels }
+    requires sums { AreSums m.now.num.items program.now.players sums.now.low sums.now.high }
+    ensures { let column = marked_column (W.game program.now.game.now) (front_level program.now.front) program.now.marks in MatchOption result
+        ((j : ℕ) → j < 2 ^ program.now.players → ¬ Rises program.now.measure m.now.num.items m.now.den program.now.players with_costs (column j))
+        (IsFirstBelow program.now.measure m.now.num.items m.now.den program.now.players with_costs column (2 ^ program.now.players)) }
+{
+    for block in 0..256 {
+        if let Some(s) = first_of_block(program, m, sums, with_costs, block) {
+            return Some(s);
+        }
+    }
+    None
+}
+
+/// The first coalition that has a column whose cost is above its value, each value found by itself.
+fn first_one_by_one<W: Worth>(
+    program: &Lazy<'_, W>,
+    m: &Multipliers,
+    sums: &Sums,
+    with_costs: bool,
+) -> Option<u64>
+    requires rows { length m.now.num.items ≡ program.now.players + program.now.levels }
+    requires sums { AreSums m.now.num.items program.now.players sums.now.low sums.now.high }
+    ensures { let column = marked_column (W.game program.now.game.now) (front_level program.now.front) program.now.marks in MatchOption result
+        ((j : ℕ) → j < 2 ^ program.now.players → ¬ Rises program.now.measure m.now.num.items m.now.den program.now.players with_costs (column j))
+        (IsFirstBelow program.now.measure m.now.num.items m.now.den program.now.players with_costs column (2 ^ program.now.players)) }
+{
+    for s in 0..1u64 << program.players {
+        let column = program.marked_column(Coalition(s));
+        if rises(
+            column,
+            m,
+            program.measure,
+            program.players,
+            sums,
+            with_costs,
+        ) {
+            return Some(s);
+        }
+    }
+    None
+}
+
+/// The first coalition that has a column whose cost is above its value. With plain excess the coalitions of a block have the
+/// multiplier of their level row in common; per head there are at most 8 players, and each coalition has its own entry there.
 fn first_marked<W: Worth>(
     program: &Lazy<'_, W>,
     m: &Multipliers,
@@ -103,15 +164,13 @@ fn first_marked<W: Worth>(
     requires rows { length m.now.num.items ≡ program.now.players + program.now.levels }
     requires sums { AreSums m.now.num.items program.now.players sums.now.low sums.now.high }
     ensures { let column = marked_column (W.game program.now.game.now) (front_level program.now.front) program.now.marks in MatchOption result
-        ((j : ℕ) → j < 2 ^ program.now.players → ¬ Rises m.now.num.items m.now.den program.now.players with_costs (column j))
-        (IsFirstBelow m.now.num.items m.now.den program.now.players with_costs column (2 ^ program.now.players)) }
+        ((j : ℕ) → j < 2 ^ program.now.players → ¬ Rises program.now.measure m.now.num.items m.now.den program.now.players with_costs (column j))
+        (IsFirstBelow program.now.measure m.now.num.items m.now.den program.now.players with_costs column (2 ^ program.now.players)) }
 {
-    for block in 0..256 {
-        if let Some(s) = first_of_block(program, m, sums, with_costs, block) {
-            return Some(s);
-        }
+    match program.measure {
+        Measure::Plain => first_by_blocks(program, m, sums, with_costs),
+        Measure::PerHead => first_one_by_one(program, m, sums, with_costs),
     }
-    None
 }
 
 /// The number of the first column whose cost is above its value, without costs as if each were 0.
@@ -124,8 +183,8 @@ pub(crate) fn first_found<W: Worth>(
     requires rows { length m.now.num.items ≡ program.now.players + program.now.levels }
     requires sums { AreSums m.now.num.items program.now.players sums.now.low sums.now.high }
     ensures { let columns = lazy_columns (W.game program.now.game.now) program.now.front program.now.marks in MatchOption result
-        ((id : ℕ) → ¬ Rises m.now.num.items m.now.den program.now.players with_costs (column_at columns id))
-        (IsFirst m.now.num.items m.now.den program.now.players with_costs columns) }
+        ((id : ℕ) → ¬ Rises program.now.measure m.now.num.items m.now.den program.now.players with_costs (column_at columns id))
+        (IsFirst program.now.measure m.now.num.items m.now.den program.now.players with_costs columns) }
 {
     if let Some(id) = first_in_front(program, m, sums, with_costs) {
         return Some(id);

@@ -3,6 +3,7 @@
 ghost use Rattle.std.specs.Prelude.{◌≡◌, ◌+◌, ◌<◌, ◌≤◌, ◌^◌, length, IfOk, OnOk};
 ghost use Rattle.std.specs.List.{AllByRecursion};
 ghost use Rattle.definitions.specs.Certificates.{HasForm};
+ghost use Rattle.definitions.specs.declared.Measure.{Measure};
 ghost use Rattle.definitions.specs.declared.Mode.{Mode};
 ghost use Rattle.kohlberg.specs.Marking.{IsMarking};
 ghost use Rattle.separation.specs.Same.{IsSpanOf, IsStage};
@@ -17,7 +18,7 @@ use fractions::OutOfMemory;
 use kohlberg::{Family, Level, Outside, Span};
 use simplex::Columns;
 use std::alloc::{AllocError, Global};
-use worth_core::Worth;
+use worth_core::{Measure, Worth};
 
 /// The column of a coalition, where it is outside.
 fn outer<W: Worth>(game: &W, levels: &[Level], outside: &Outside, s: Coalition) -> Option<Column>
@@ -78,8 +79,9 @@ fn stage_columns<W: Worth>(
 }
 
 impl Listed {
-    /// The stage program of a game of 2 to 16 players behind levels, with every column kept (Kopelowitz 1967): its weights
-    /// are those of the next level, and its multipliers the shares and the excesses of the levels.
+    /// The stage program of a game of 2 to 16 players behind levels, with every column kept (Kopelowitz 1967; per head Grotte
+    /// 1970): its weights are those of the next level, and its multipliers the shares and the measured excesses of the
+    /// levels. Per head there are at most 8 players.
     ///
     /// There are at most n - 2 levels, in the form of a certificate. `span` holds exactly the coalitions that the
     /// levels fix in span mode. The one error is want of memory.
@@ -87,21 +89,23 @@ impl Listed {
         alloc: Global,
         game: &W,
         family: Family,
+        measure: Measure,
         levels: &[Level],
         span: &Span,
     ) -> Result<Listed, OutOfMemory>
         requires few { (W.game game.now).players ≤ 16 }
+        requires heads { measure ≡ Measure.PerHead → (W.game game.now).players ≤ 8 }
         requires form { HasForm Mode.Span (W.game game.now).players levels.now }
         requires count { length levels.now + 2 ≤ (W.game game.now).players }
         requires players { span.now.players ≡ (W.game game.now).players }
         requires spans { IsSpanOf (W.game game.now).players span.now.kept levels.now }
         ensures { IfOk result (λ l. (⟦<Listed as Columns>⟧.players l ≡ (W.game game.now).players)
-            × IsStage family (W.game game.now) levels.now (⟦<Listed as Columns>⟧.program l)) }
+            × IsStage family measure (W.game game.now) levels.now (⟦<Listed as Columns>⟧.program l)) }
     {
         match stage_columns(alloc, game, family, levels, span) {
             Ok(columns) => {
                 let players = game.players();
-                Ok(Listed::of(players, levels.len() as u32 + 1, columns))
+                Ok(Listed::of(measure, players, levels.len() as u32 + 1, columns))
             }
             Err(_) => Err(OutOfMemory),
         }

@@ -5,12 +5,14 @@ ghost use Rattle.std.specs.Prelude.{◌≡◌, ℕ, ◌+◌, ◌%◌, ◌^◌, �
 ghost use Rattle.std.specs.Bool.{Decides};
 ghost use Rattle.std.specs.Option.{ForSome};
 ghost use Rattle.definitions.specs.Coalitions.{sum_over};
+ghost use Rattle.definitions.specs.Measures.{divisor};
 ghost use Rattle.separation.specs.Kept.{column_at};
 ghost use Rattle.separation.specs.Values.{multiplier_at, player_multiplier, IsEight, IsTable, AreSums, level_multiplier, column_value, counted, Rises, IsFirst};
 
-use crate::column::Column;
+use crate::column::{Column, level_entry};
 use coalitions::Coalition;
 use simplex::Multipliers;
+use worth_core::Measure;
 
 /// The multiplier of player `i`, and 0 past `n` players.
 fn player_multiplier(m: &Multipliers, n: u32, i: u32) -> i128
@@ -78,8 +80,8 @@ impl Sums {
         self.low[(s.0 % 256) as usize] + self.high[(s.0 / 256 % 256) as usize]
     }
 
-    /// What the 256 coalitions from 256 * `block` on have in common: the multipliers of the members past the first eight
-    /// players, and that of a level row.
+    /// What the 256 coalitions from 256 * `block` on have in common with plain excess: the multipliers of the members past the
+    /// first eight players, and that of a level row.
     pub(crate) fn base(&self, m: &Multipliers, n: u32, level: Option<u32>, block: u64) -> i128
         requires block { block < 256 }
         requires few { n ≤ 16 }
@@ -90,7 +92,7 @@ impl Sums {
         self.high[block as usize] + level_multiplier(m, n, level)
     }
 
-    /// The value of a coalition's column, from what its block has in common.
+    /// The value of a coalition's column with plain excess, from what its block has in common.
     pub(crate) fn behind(&self, base: i128, s: Coalition) -> i128
         requires { unsigned_abs base ≤ 2 ^ 114 }
         ensures { result ≡ base +ℤ slice_index_or self.now.low (s % 256) (pos 0) }
@@ -112,15 +114,26 @@ fn level_multiplier(m: &Multipliers, n: u32, level: Option<u32>) -> i128
     }
 }
 
+/// The multiplier of a column's level row times its entry there, and 0 without such a row.
+fn level_value(m: &Multipliers, n: u32, measure: Measure, level: Option<u32>, s: Coalition) -> i128
+    requires few { n ≤ 16 }
+    requires within { ForSome level (λ l. n + l < length m.now.num.items) }
+    ensures value { result ≡ pos (divisor measure s) *ℤ level_multiplier m.now.num.items n level }
+    ensures small { unsigned_abs result ≤ 2 ^ 116 }
+{
+    i128::from(level_entry(measure, s)) * level_multiplier(m, n, level)
+}
+
 /// The sum of multiplier times entry of a column.
-fn value(column: Column, m: &Multipliers, n: u32, sums: &Sums) -> i128
+fn value(column: Column, m: &Multipliers, measure: Measure, n: u32, sums: &Sums) -> i128
     requires within { ForSome column.level (λ l. n + l < length m.now.num.items) }
     requires players { n ≤ length m.now.num.items }
     requires sums { AreSums m.now.num.items n sums.now.low sums.now.high }
-    ensures value { result ≡ column_value m.now.num.items n column }
-    ensures small { unsigned_abs result ≤ 2 ^ 115 }
+    ensures value { result ≡ column_value measure m.now.num.items n column }
+    ensures small { unsigned_abs result ≤ 2 ^ 117 }
 {
-    let plain = sums.of(column.coalition) + level_multiplier(m, n, column.level);
+    let plain = sums.of(column.coalition)
+        + level_value(m, n, measure, column.level, column.coalition);
     if column.negated { -plain } else { plain }
 }
 
@@ -148,6 +161,7 @@ pub(crate) fn is_below(value: i128, m: &Multipliers, cost: i64, with_costs: bool
 pub(crate) fn rises(
     column: Option<Column>,
     m: &Multipliers,
+    measure: Measure,
     n: u32,
     sums: &Sums,
     with_costs: bool,
@@ -156,12 +170,12 @@ pub(crate) fn rises(
     requires small { ForSome column (λ c. unsigned_abs c.cost < 2 ^ 46) }
     requires players { n ≤ length m.now.num.items }
     requires sums { AreSums m.now.num.items n sums.now.low sums.now.high }
-    ensures { Decides result (Rises m.now.num.items m.now.den n with_costs column) }
+    ensures { Decides result (Rises measure m.now.num.items m.now.den n with_costs column) }
 {
     match column {
         Some(column) => {
             let cost = column.cost;
-            is_below(value(column, m, n, sums), m, cost, with_costs)
+            is_below(value(column, m, measure, n, sums), m, cost, with_costs)
         }
         None => false,
     }
@@ -171,6 +185,7 @@ pub(crate) fn rises(
 pub(crate) fn first_rising(
     columns: &[Option<Column>],
     m: &Multipliers,
+    measure: Measure,
     n: u32,
     sums: &Sums,
     with_costs: bool,
@@ -180,11 +195,11 @@ pub(crate) fn first_rising(
     requires players { n ≤ length m.now.num.items }
     requires sums { AreSums m.now.num.items n sums.now.low sums.now.high }
     ensures { MatchOption result
-        ((id : ℕ) → ¬ Rises m.now.num.items m.now.den n with_costs (column_at columns.now id))
-        (IsFirst m.now.num.items m.now.den n with_costs columns.now) }
+        ((id : ℕ) → ¬ Rises measure m.now.num.items m.now.den n with_costs (column_at columns.now id))
+        (IsFirst measure m.now.num.items m.now.den n with_costs columns.now) }
 {
     for id in 0..columns.len() {
-        if rises(columns[id], m, n, sums, with_costs) {
+        if rises(columns[id], m, measure, n, sums, with_costs) {
             return Some(id as u64);
         }
     }

@@ -1,34 +1,31 @@
-use Rattle.std.proofs.Common.{refl, sym, subst, rules}
+use Rattle.std.proofs.Common.{refl, arith, rules}
 use Rattle.game_text.specs.Descriptions.{game_of}
 use Rattle.game_text.specs.Readings.{contents_in}
-use Rattle.coop.specs.Finding.{HasFewPlayers}
-use Rattle.coop.proofs.FewPlayers.{few_players}
 use Rattle.coop.proofs.Solved.{is_solution}
 use Rattle.coop.proofs.NoImputation.{is_above, no_imputation}
 use Rattle.coop.proofs.Readable.{can_be_checked}
 use Rattle.coop.proofs.solve.solve_document.Goals as goal
 
-pub found_for-requires : goal.found_for-requires
-found_for-requires c = subst HasFewPlayers (sym c.requires.described) (few_players c.requires.command c.requires.document c.requires.passed)
-
 pub returns-in-Point-clause-solves : goal.returns-in-Point-clause-solves
 returns-in-Point-clause-solves c =
     let found = rw c.in-Point.is at c.in_ok-shares.ensures in
-    (refl, is_solution c.args.family (contents_in c.args.document) c.is_cost-is_cost.result c.in-Point.shares c.in-Point.certificate c.in-Point.certificate.levels c.is_cost-is_cost.ensures found refl c.keep_their_limits.ensures.certificate.form)
+    (refl, is_solution c.args.family (contents_in c.args.document) c.is_cost-is_cost.result c.in-Point.shares c.in-Point.certificate c.in-Point.certificate.levels c.is_cost-is_cost.ensures found (omega (arith, c.if-players-nucleolus_limit.false, c.nucleolus_limit.ensures, c.players.ensures.count)) refl c.keep_their_limits.ensures.certificate.form)
 
 pub returns-in-Point-clause-readable : goal.returns-in-Point-clause-readable
 returns-in-Point-clause-readable c =
     let found = rw c.in-Point.is at c.in_ok-shares.ensures in
-    can_be_checked c.args.family (contents_in c.args.document) c.args.document.tree c.is_cost-is_cost.result c.in-Point.shares c.in-Point.certificate c.requires refl c.is_cost-is_cost.ensures c.keep_their_limits.ensures.shares c.keep_their_limits.ensures.certificate found
+    can_be_checked c.args.family (contents_in c.args.document) c.args.document.tree c.is_cost-is_cost.result c.in-Point.shares c.in-Point.certificate c.requires refl c.is_cost-is_cost.ensures c.keep_their_limits.ensures.shares c.keep_their_limits.ensures.certificate found (omega (arith, c.if-players-nucleolus_limit.false, c.nucleolus_limit.ensures, c.players.ensures.count))
 
 pub returns-in-NoImputation-clause-solves : goal.returns-in-NoImputation-clause-solves
 returns-in-NoImputation-clause-solves c =
     let g = game_of (contents_in c.args.document).game in
-    let lacks = rw c.in-NoImputation.is at c.in_ok-shares.ensures in
-    record {
-      imputations = lacks.imputations;
-      alone_is = search rules;
-      total_is = search rules;
-      above = is_above c.args.family g c.in-NoImputation.singles c.in-NoImputation.total lacks;
-      none = no_imputation c.args.family g c.in-NoImputation.singles c.in-NoImputation.total lacks;
-    }
+    let lacks = rw c.in-NoImputation.is at c.in_ok-shares.ensures in (
+      omega (arith, c.if-players-nucleolus_limit.false, c.nucleolus_limit.ensures, c.players.ensures.count),
+      record {
+        imputations = lacks.imputations;
+        alone_is = search rules;
+        total_is = search rules;
+        above = is_above c.args.family g c.in-NoImputation.singles c.in-NoImputation.total lacks;
+        none = no_imputation c.args.family g c.in-NoImputation.singles c.in-NoImputation.total lacks;
+      },
+    )

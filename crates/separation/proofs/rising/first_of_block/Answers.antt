@@ -1,7 +1,10 @@
-use Rattle.std.proofs.Common.{◌≡◌, ◌≤◌, ◌<◌, ◌+◌, ◌*◌, ◌%◌, ◌^◌, ℕ, ℤ, pos, ◌+ℤ◌, Option, length, slice_index_or, unsigned_abs, to_z, of_z, ap, ◌∙◌, arith, rules}
+use Rattle.std.proofs.Common.{◌≡◌, ◌≤◌, ◌<◌, ◌+◌, ◌*◌, ◌%◌, ◌^◌, ℕ, ℤ, pos, ◌+ℤ◌, Option, length, slice_index_or, unsigned_abs, to_z, of_z, ap, ◌∙◌, sym, subst, arith, rules}
 use mir.Syntax.{w128}
 use Rattle.definitions.proofs.Casts.{cast_kept}
-use Rattle.separation.specs.Values.{level_multiplier}
+use Rattle.definitions.specs.declared.Measure.{Measure}
+use Rattle.separation.specs.Making.{plain}
+use Rattle.separation.specs.Fronts.{front_level}
+use Rattle.separation.specs.Values.{level_multiplier, column_value}
 use Rattle.separation.proofs.Blocks.{front_within, block_value}
 use Rattle.separation.proofs.rising.first_of_block.Goals as goal
 
@@ -22,5 +25,6 @@ marked_rises-requires-clause-value g c =
     let within = front_within p.front p.players p.levels (length num) p.rows c.requires.rows in
     let upper : s < 256 * c.args.block + 256 = omega (arith, c.loop-s-test.true, c.min-end.ensures) in
     let whole : to_z w128 (of_z w128 c.behind-value.result) ≡ c.behind-value.result = search rules in
-    whole
-    ∙ block_value num p.players s c.args.block _ low high (game.worth s) base _ le within c.requires.sums c.loop-s.auto.s upper c.requires.block based valued
+    subst (λ (x : Measure). to_z w128 (of_z w128 c.behind-value.result) ≡ column_value x num p.players (plain game s (front_level p.front))) (sym c.requires.plain)
+    (whole
+    ∙ block_value num p.players s c.args.block _ low high (game.worth s) base _ le within c.requires.sums c.loop-s.auto.s upper c.requires.block based valued)

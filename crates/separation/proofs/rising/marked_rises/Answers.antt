@@ -17,7 +17,7 @@ returns-then-has_mark g c =
     let small : unsigned_abs c.counted_worth-worth.result < 2 ^ 46 = c.counted_worth-worth.ensures.small in
     let cost : to_z w64 (of_z w64 c.counted_worth-worth.result) ≡ c.counted_worth-worth.result = cast_kept w64 c.counted_worth-worth.result (omega (arith, small)) in
     let below = subst (λ (z : ℤ). Decides r (c.args.value <ℤ (m.den *ℤ z))) c.counted_worth-worth.ensures.value (rw value at (rw cost at c.is_below.ensures)) in
-    let rises : Decides r (Rises m.num.items m.den p.players c.args.with_costs (Some column)) =
+    let rises : Decides r (Rises p.measure m.num.items m.den p.players c.args.with_costs (Some column)) =
     subst (λ (z : ℤ). Decides r (z <ℤ (m.den *ℤ counted c.args.with_costs column.cost))) c.requires.value below in
     let e : has_mark p.marks c.args.s ≡ true = sym c.has_mark.ensures ∙ c.if-has_mark.true in
-    subst (λ (b : Bool). Decides r (Rises m.num.items m.den p.players c.args.with_costs (if b then Some column else None))) (sym e) rises
+    subst (λ (b : Bool). Decides r (Rises p.measure m.num.items m.den p.players c.args.with_costs (if b then Some column else None))) (sym e) rises

@@ -1,32 +1,33 @@
-use Rattle.std.proofs.Common.{◌≡◌, ◌^◌, ◌<◌, ◌≤◌, Bool, true, false, ℤ, pos, ◌+ℤ◌, ◌-ℤ◌, unsigned_abs, to_z, of_z, arith, ap, ◌∙◌, refl, sym}
+use Rattle.std.proofs.Common.{◌≡◌, ◌^◌, ◌≤◌, Bool, true, false, ℤ, pos, ◌+ℤ◌, ◌-ℤ◌, ◌*ℤ◌, unsigned_abs, to_z, of_z, arith, ap, ◌∙◌, refl, sym}
 use Rattle.std.proofs.lemmas.Int.{ints}
 use mir.Syntax.{w128}
 use Rattle.definitions.specs.Coalitions.{sum_over}
+use Rattle.definitions.specs.Measures.{divisor}
 use Rattle.separation.specs.Stage.{signed}
 use Rattle.separation.specs.Values.{multiplier_at, level_multiplier}
 use Rattle.separation.proofs.Valued.{value_is}
 use Rattle.separation.proofs.sums.value.Goals as goal
 use Rattle.definitions.proofs.Casts.{cast_kept}
 
-kept_plain : (a b x y : ℤ) → unsigned_abs a ≤ 2 ^ 114 → unsigned_abs b < 2 ^ 110 → a ≡ x → b ≡ y → to_z w128 (of_z w128 (to_z w128 (of_z w128 a) +ℤ to_z w128 (of_z w128 b))) ≡ signed false (x +ℤ y)
+kept_plain : (a b x y : ℤ) → unsigned_abs a ≤ 2 ^ 114 → unsigned_abs b ≤ 2 ^ 116 → a ≡ x → b ≡ y → to_z w128 (of_z w128 (to_z w128 (of_z w128 a) +ℤ to_z w128 (of_z w128 b))) ≡ signed false (x +ℤ y)
 kept_plain a b x y ha hb e f = rw (cast_kept w128 a (omega arith), cast_kept w128 b (omega arith)) (cast_kept w128 (a +ℤ b) (omega (arith, ints)) ∙ rw (e, f) refl)
 
-kept_minus : (a b x y : ℤ) → unsigned_abs a ≤ 2 ^ 114 → unsigned_abs b < 2 ^ 110 → a ≡ x → b ≡ y → to_z w128 (of_z w128 (pos 0 -ℤ to_z w128 (of_z w128 (to_z w128 (of_z w128 a) +ℤ to_z w128 (of_z w128 b))))) ≡ signed true (x +ℤ y)
+kept_minus : (a b x y : ℤ) → unsigned_abs a ≤ 2 ^ 114 → unsigned_abs b ≤ 2 ^ 116 → a ≡ x → b ≡ y → to_z w128 (of_z w128 (pos 0 -ℤ to_z w128 (of_z w128 (to_z w128 (of_z w128 a) +ℤ to_z w128 (of_z w128 b))))) ≡ signed true (x +ℤ y)
 kept_minus a b x y ha hb e f =
     rw (kept_plain a b x y ha hb e f) (cast_kept w128 (pos 0 -ℤ (x +ℤ y)) (rw (← e, ← f) (omega (arith, ints))))
 
 pub returns-then-column-clause-value : goal.returns-then-column-clause-value
 returns-then-column-clause-value c =
     let m = c.args.m.now.num.items in
-    let z : ℤ = sum_over c.args.n (multiplier_at m) c.args.column.coalition +ℤ level_multiplier m c.args.n c.args.column.level in
-    kept_minus _ _ _ _ c.of.ensures.small c.level_multiplier.ensures.small (c.of.ensures.value m c.args.n c.requires.sums) c.level_multiplier.ensures.value
+    let z : ℤ = sum_over c.args.n (multiplier_at m) c.args.column.coalition +ℤ pos (divisor c.args.measure c.args.column.coalition) *ℤ level_multiplier m c.args.n c.args.column.level in
+    kept_minus _ _ _ _ c.of.ensures.small c.level_value.ensures.small (c.of.ensures.value m c.args.n c.requires.sums) c.level_value.ensures.value
     ∙ ap (λ (b : Bool). signed b z) (sym c.if-column.true)
-    ∙ sym (value_is m c.args.n c.args.column c.requires.players c.requires.within)
+    ∙ sym (value_is c.args.measure m c.args.n c.args.column c.requires.players c.requires.within)
 
 pub returns-else-column-clause-value : goal.returns-else-column-clause-value
 returns-else-column-clause-value c =
     let m = c.args.m.now.num.items in
-    let z : ℤ = sum_over c.args.n (multiplier_at m) c.args.column.coalition +ℤ level_multiplier m c.args.n c.args.column.level in
-    kept_plain _ _ _ _ c.of.ensures.small c.level_multiplier.ensures.small (c.of.ensures.value m c.args.n c.requires.sums) c.level_multiplier.ensures.value
+    let z : ℤ = sum_over c.args.n (multiplier_at m) c.args.column.coalition +ℤ pos (divisor c.args.measure c.args.column.coalition) *ℤ level_multiplier m c.args.n c.args.column.level in
+    kept_plain _ _ _ _ c.of.ensures.small c.level_value.ensures.small (c.of.ensures.value m c.args.n c.requires.sums) c.level_value.ensures.value
     ∙ ap (λ (b : Bool). signed b z) (sym c.if-column.false)
-    ∙ sym (value_is m c.args.n c.args.column c.requires.players c.requires.within)
+    ∙ sym (value_is c.args.measure m c.args.n c.args.column c.requires.players c.requires.within)

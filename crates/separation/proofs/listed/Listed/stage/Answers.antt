@@ -1,5 +1,6 @@
 use Rattle.std.proofs.Common.{[], ◌∙◌}
 use Rattle.separation.proofs.Staged.{levels_within, stage_of, stage_small}
+use Rattle.separation.proofs.ProperColumns.{listed_short}
 use Rattle.separation.proofs.listed.Listed.stage.Goals as goal
 
 pub stage_columns-requires-clause-within : goal.stage_columns-requires-clause-within
@@ -10,7 +11,14 @@ of-requires-clause-small g c =
     let game = g.W.Worth.game c.args.game.now in
     let levels = c.args.levels.now in
     let made = c.in-Ok.ensures {u = tt} in
-    rw made.longer_is (stage_small c.args.family game levels c.players-players.ensures.laws (levels_within game.players [] levels c.requires.form.each) made.outers made.are)
+    rw made.longer_is (stage_small c.args.family c.args.measure game levels c.players-players.ensures.laws (levels_within game.players [] levels c.requires.form.each) made.outers made.are)
+
+pub of-requires-clause-short : goal.of-requires-clause-short
+of-requires-clause-short g c =
+    let game = g.W.Worth.game c.args.game.now in
+    let levels = c.args.levels.now in
+    let made = c.in-Ok.ensures {u = tt} in
+    rw (made.longer_is, c.players-players.ensures.count) (listed_short c.args.family c.args.measure game levels made.outers c.requires.heads c.requires.count c.requires.form.each made.are)
 
 pub returns-in-Ok : goal.returns-in-Ok
 returns-in-Ok g c =
@@ -19,4 +27,4 @@ returns-in-Ok g c =
     let made = c.in-Ok.ensures {u = tt} in
     let of = c.of.ensures in
     let players = of.players ∙ c.players-players.ensures.count in
-    (players, rw (players, of.levels, of.columns, made.longer_is) (stage_of c.args.family game levels c.players-players.ensures.laws (levels_within game.players [] levels c.requires.form.each) made.outers made.are))
+    (players, rw (of.measure, players, of.levels, of.columns, made.longer_is) (stage_of c.args.family c.args.measure game levels c.players-players.ensures.laws (levels_within game.players [] levels c.requires.form.each) made.outers made.are))

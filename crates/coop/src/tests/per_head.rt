@@ -1,0 +1,112 @@
+//! Excess per head.
+use super::nucleolus::is_checked;
+use super::{printed, run_on};
+use crate::status::Status;
+use std::test::Fail;
+
+// Nine costs, of which the program answers the nucleolus with plain excess alone.
+const NINE: &str =
+    "{\"game\":{\"class\":\"airport\",\"costs\":[1,2,3,4,5,6,7,8,9],\"excess\":\"per-head\"}}";
+
+#[test]
+fn the_pair_that_is_worth_half_gets_more_per_head(rt: HostRuntime) -> Result<(), Fail> {
+    let input =
+        "{\"game\":{\"class\":\"table\",\"excess\":\"per-head\",\"players\":3,\"worths\":[0,0,6,0,0,0,12]}}";
+    let front =
+        "{\"answer\":\"nucleolus\",\"certificate\":{\"levels\":[{\"bounds\":[],\"coalitions\":[[[1,2],1],[[3],1]],\"earlier\":[],\"excess\":\"-2\",\"total\":1},";
+    let end = "\"shares\":[\"5\",\"5\",\"2\"]}\n";
+    let (status, line) = printed(rt.alloc(), "nucleolus", input.as_bytes())?;
+    assert_eq!(rt; status, Status::Done);
+    assert!(rt; line.starts_with(front.as_bytes()));
+    assert!(rt; line.ends_with(end.as_bytes()));
+    assert!(rt; is_checked(rt.alloc(), input)?);
+    Ok(())
+}
+
+#[test]
+fn certificates_are_checked_per_head(rt: HostRuntime) -> Result<(), Fail> {
+    for (input, line, status) in [
+        (
+            "{\"answer\":\"nucleolus\",\"certificate\":{\"levels\":[{\"bounds\":[],\"coalitions\":[[[1,2],1],[[3],1]],\"earlier\":[],\"excess\":\"-2\",\"total\":1},{\"bounds\":[],\"coalitions\":[[[1,3],1],[[2,3],1]],\"earlier\":[[[3],-1]],\"excess\":\"-7/2\",\"total\":1}],\"mode\":\"span\"},\"game\":{\"class\":\"table\",\"excess\":\"per-head\",\"players\":3,\"worths\":[0,0,6,0,0,0,12]},\"shares\":[\"5\",\"5\",\"2\"]}",
+            "{\"answer\":\"yes\"}\n",
+            Status::Done,
+        ),
+        (
+            "{\"answer\":\"nucleolus\",\"certificate\":{\"levels\":[{\"bounds\":[],\"coalitions\":[[[1,2],1],[[3],1]],\"earlier\":[],\"excess\":\"-2\",\"total\":1},{\"bounds\":[],\"coalitions\":[[[1,3],1],[[2,3],1]],\"earlier\":[[[3],-1]],\"excess\":\"-7/2\",\"total\":1}],\"mode\":\"span\"},\"game\":{\"class\":\"table\",\"excess\":\"per-head\",\"players\":3,\"worths\":[0,0,6,0,0,0,12]},\"shares\":[\"9/2\",\"9/2\",\"3\"]}",
+            "{\"answer\":\"no\",\"coalition\":[1,2],\"level\":1,\"reason\":3}\n",
+            Status::Negative,
+        ),
+        (
+            "{\"answer\":\"nucleolus\",\"certificate\":{\"levels\":[{\"bounds\":[],\"coalitions\":[[[1,2],1],[[3],1]],\"earlier\":[],\"excess\":\"-2\",\"total\":1},{\"bounds\":[],\"coalitions\":[[[1,3],1],[[2,3],1]],\"earlier\":[[[3],-1]],\"excess\":\"-7/2\",\"total\":1}],\"mode\":\"span\"},\"game\":{\"class\":\"table\",\"excess\":\"plain\",\"players\":3,\"worths\":[0,0,6,0,0,0,12]},\"shares\":[\"5\",\"5\",\"2\"]}",
+            "{\"answer\":\"no\",\"coalition\":[1,2],\"level\":1,\"reason\":3}\n",
+            Status::Negative,
+        ),
+        (
+            "{\"answer\":\"nucleolus\",\"certificate\":{\"levels\":[],\"mode\":\"players\"},\"game\":{\"class\":\"airport\",\"costs\":[1,1,1,1,1,1,1,1,1,1,1,1,1,1,1,1,1],\"excess\":\"per-head\"},\"shares\":[1,0,0,0,0,0,0,0,0,0,0,0,0,0,0,0,0]}",
+            "{\"usage\":\"players\"}\n",
+            Status::Usage,
+        ),
+    ] {
+        let found = run_on(rt.alloc(), &["check"], input.as_bytes(), 100, line)?;
+        assert_eq!(rt; found, (status, true), "on {input}");
+    }
+    Ok(())
+}
+
+#[test]
+fn nine_players_are_too_many_per_head(rt: HostRuntime) -> Result<(), Fail> {
+    for command in ["nucleolus", "prenucleolus"] {
+        let found = run_on(
+            rt.alloc(),
+            &[command],
+            NINE.as_bytes(),
+            100,
+            "{\"usage\":\"players\"}\n",
+        )?;
+        assert_eq!(rt; found, (Status::Usage, true));
+    }
+    Ok(())
+}
+
+#[test]
+fn each_class_is_solved_per_head(rt: HostRuntime) -> Result<(), Fail> {
+    for input in [
+        "{\"game\":{\"class\":\"airport\",\"costs\":[2,4,6],\"excess\":\"per-head\"}}",
+        "{\"game\":{\"claims\":[100,200,300],\"class\":\"bankruptcy\",\"estate\":400,\"excess\":\"per-head\"}}",
+        "{\"game\":{\"class\":\"cost-table\",\"excess\":\"per-head\",\"players\":3,\"worths\":[2,2,3,2,3,3,4]}}",
+        "{\"game\":{\"class\":\"tree\",\"excess\":\"per-head\",\"matrix\":[[0,5,6],[5,0,2],[6,2,0]]}}",
+        "{\"game\":{\"class\":\"assignment\",\"excess\":\"per-head\",\"matrix\":[[4,3],[2,1]]}}",
+        "{\"game\":{\"class\":\"airport\",\"costs\":[1,2,3,4,5,6,7,8],\"excess\":\"per-head\"}}",
+    ] {
+        assert!(rt; is_checked(rt.alloc(), input)?, "on {input}");
+    }
+    Ok(())
+}
+
+#[test]
+fn the_other_commands_go_by_plain_excess(rt: HostRuntime) -> Result<(), Fail> {
+    for (command, input, line, status) in [
+        (
+            "core",
+            "{\"game\":{\"class\":\"airport\",\"costs\":[2,4,6],\"excess\":\"per-head\"}}",
+            "{\"answer\":\"core point\",\"shares\":[\"1\",\"3/2\",\"7/2\"]}\n",
+            Status::Done,
+        ),
+        (
+            "propose",
+            "{\"game\":{\"class\":\"table\",\"excess\":\"per-head\",\"players\":3,\"worths\":[0,0,6,0,0,0,6]},\"shares\":[1,1,4]}",
+            "{\"answer\":\"blocked\",\"coalition\":[1,2],\"excess\":\"4\"}\n",
+            Status::Negative,
+        ),
+        (
+            "nucleolus",
+            "{\"game\":{\"class\":\"airport\",\"costs\":[2,4,6],\"excess\":\"half\"}}",
+            "{\"number\":3,\"refused\":\"Shape\"}\n",
+            Status::Refused,
+        ),
+    ] {
+        let found = run_on(rt.alloc(), &[command], input.as_bytes(), 200, line)?;
+        assert_eq!(rt; found, (status, true), "on {input}");
+    }
+    Ok(())
+}
