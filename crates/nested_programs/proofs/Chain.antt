@@ -6,7 +6,7 @@ use Rattle.std.specs.List.{list_any, AllByRecursion}
 use Rattle.definitions.proofs.Ring.{linear, mul-addℤ, mul-leℤ, mul_assocℤ, mul-cancelℤ, mul-le_cancelℤ, mul-positiveℤ, mul_left_commℤ}
 use lib.IntN.{*ℤ_comm}
 use Rattle.definitions.proofs.SumsOver.{sum_over-same}
-use Rattle.definitions.proofs.Members.{sum_below-zero, sum_over-combined, sum_over-grand_coalition, zero_either}
+use Rattle.definitions.proofs.Members.{sum_below-same, sum_below-zero, sum_over-combined, sum_over-grand_coalition, zero_either}
 use Rattle.definitions.proofs.Settled.{Settled, inside_zero, all_fixed_zero}
 use Rattle.determinants.proofs.Duality.{weak_duality}
 use Rattle.definitions.specs.Sums.{weighted_sum}

@@ -5,6 +5,7 @@ use Rattle.std.proofs.lemmas.Bool.{false≢true}
 use Rattle.std.proofs.lemmas.Bool.Decides.{nat_tests}
 use Rattle.std.specs.List.{AllByRecursion, IsDistinct}
 use Rattle.definitions.proofs.Ring.{linear, mul-addℤ, mul-oneℤ, one-mulℤ}
+use Rattle.definitions.proofs.SumsOver.{sum_over-same}
 use Rattle.definitions.proofs.Members.{has_player-grand_coalition, has_player-complement, sum_below-same, sum_over-grand_coalition}
 use Rattle.definitions.specs.Coalitions.{has_player, singleton, grand_coalition, sum_over, weight_at}
 use Rattle.definitions.specs.Games.{Game, Allocation, share, amount, IsAllocation, IsEfficient, InFamily}
