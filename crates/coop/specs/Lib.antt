@@ -4,6 +4,8 @@ pub mod Checks
 pub mod CoreClaims
 pub mod ShapleyClaims
 pub mod BirdClaims
+pub mod ConvexClaims
+pub mod KernelClaims
 pub mod Headline
 pub mod ReadBack
 pub mod Outcome

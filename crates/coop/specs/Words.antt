@@ -1,7 +1,7 @@
 -- The words of a command line.
 use Rattle.std.specs.Prelude.{◌≡◌, ℕ, List, [], ◌∷◌, codes, Option, Some, None}
 use Rattle.game_text.specs.declared.command.Command.{Command}
-use Rattle.game_text.specs.declared.command.Command.TheVariants.{Nucleolus, Prenucleolus, Propose, Core, Check, Shapley, Bird}
+use Rattle.game_text.specs.declared.command.Command.TheVariants.{Nucleolus, Prenucleolus, Propose, Core, Check, Shapley, Bird, Convex, Kernel}
 
 -- the word of a command
 abbrev pub word_of : Command → List ℕ
@@ -12,6 +12,8 @@ word_of Core = codes "core"
 word_of Check = codes "check"
 word_of Shapley = codes "shapley"
 word_of Bird = codes "bird"
+word_of Convex = codes "convex"
+word_of Kernel = codes "kernel"
 
 -- the words are the one word of the command
 abbrev pub IsCommand : List (List ℕ) → Command → Type 0

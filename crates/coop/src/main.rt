@@ -4,8 +4,10 @@
 mod adapters;
 mod bird_shares;
 mod check;
+mod convex_shares;
 mod core_search;
 mod judge;
+mod prekernel_test;
 mod run;
 mod shapley_values;
 mod solve;

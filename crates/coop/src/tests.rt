@@ -1,9 +1,11 @@
 //! Runs over sources and sinks in memory.
 mod certificates;
+mod convex_games;
 mod cores;
 mod faults;
 mod networks_and_markets;
 mod nucleolus;
+mod prekernels;
 mod proposals;
 mod refusals;
 mod shapley_shares;

@@ -6,7 +6,7 @@ ghost use Rattle.coop.specs.Words.{Names};
 use game_text::Command;
 use report::{Answer, UsageKind};
 
-/// The command of the words: the one word `nucleolus`, `prenucleolus`, `propose`, `core`, `check` or `shapley`.
+/// The command of the words: the one word `nucleolus`, `prenucleolus`, `propose`, `core`, `check`, `shapley`, `bird`, `convex` or `kernel`.
 pub fn command_of(words: &[String]) -> Option<Command>
     ensures { Names (map string_bytes words.now) result }
 {
@@ -21,6 +21,8 @@ pub fn command_of(words: &[String]) -> Option<Command>
         "check" => Some(Command::Check),
         "shapley" => Some(Command::Shapley),
         "bird" => Some(Command::Bird),
+        "convex" => Some(Command::Convex),
+        "kernel" => Some(Command::Kernel),
         _ => None,
     }
 }

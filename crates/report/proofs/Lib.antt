@@ -10,6 +10,7 @@ pub mod LowestTexts
 pub mod CertificateLengths
 pub mod Readers
 pub mod BirdEdges
+pub mod ConvexAnswers
 pub mod NoFloats
 pub mod Depths
 pub mod AsciiFractions

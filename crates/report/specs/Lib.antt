@@ -6,6 +6,8 @@ pub mod ShareLists
 pub mod CoreTrees
 pub mod ShapleyTrees
 pub mod BirdTrees
+pub mod ConvexTrees
+pub mod KernelTrees
 pub mod Limits
 pub mod Lines
 pub mod ReadingBack
