@@ -4,7 +4,8 @@ use Rattle.std.specs.Io.KnownBytes.{Appends}
 use Rattle.checker.specs.declared.verdicts.Verdict.TheVariants.{Yes, No}
 use Rattle.report.specs.Lines.{line}
 use Rattle.report.specs.declared.answer.Answer.{Answer}
-use Rattle.report.specs.declared.answer.Answer.TheVariants.{Verdict}
+use Rattle.convexity.specs.declared.answers.ConvexAnswer.TheVariants.{Convex as ConvexShares, Not as NotConvex}
+use Rattle.report.specs.declared.answer.Answer.TheVariants.{Convex, Verdict}
 use Rattle.coop.specs.Outcome.{IsRight, Answered, Ends, status_of}
 use Rattle.coop.specs.ReadBack.{IsReadBack}
 
@@ -15,4 +16,6 @@ module _ (words : List (List ℕ)) (old new taken_old taken_new : Option (List �
   pub ended : (a : Answer) → IsRight words old new a → Appends taken_old taken_new (line a) → IsReadBack a → Ends words old new taken_old taken_new (status_of a)
   ended (Verdict Yes) right took again = printed (Verdict Yes) right took again
   ended (Verdict (No r)) right took again = printed (Verdict (No r)) right took again
+  ended (Convex are_costs (ConvexShares shapley marginal)) right took again = printed (Convex are_costs (ConvexShares shapley marginal)) right took again
+  ended (Convex are_costs (NotConvex s i j deficit)) right took again = printed (Convex are_costs (NotConvex s i j deficit)) right took again
   ended a right took again = printed a right took again

@@ -19,10 +19,8 @@ kept : {T : Type 0} (P : T → Type 0) (o : Option T) (t : T) → o ≡ Some t �
 kept P o t e h = subst (λ o. IfSome o P) e h
 
 module _ (bytes : List ℕ) (d : Contents) where
-  has_shares : IsDocument command.Propose bytes d → IfSome d.shares (λ (x : Allocation). length x.shares ≡ (game_of d.game).players) → HasShares d
-  has_shares document fit =
-      let given = ap (λ (c : Contents). c.shares) (document_as command.Propose bytes d document).says in
-      (_, given, kept _ _ _ given fit)
+  has_shares : (x : Allocation) → d.shares ≡ Some x → IfSome d.shares (λ (x : Allocation). length x.shares ≡ (game_of d.game).players) → HasShares d
+  has_shares x given fit = (x, given, kept _ _ _ given fit)
 
   is_complete : IsDocument command.Check bytes d → IfSome d.shares (λ (x : Allocation). length x.shares ≡ (game_of d.game).players) → IfSome d.certificate (λ (c : CertificateData). c.players ≡ (game_of d.game).players) → IsComplete d
   is_complete document fit certified =
@@ -61,8 +59,10 @@ module _ (bytes : List ℕ) (d : Contents) where
       → HasNeeded given d
   has_needed command.Nucleolus document fit certified k = accepted command.Nucleolus document (omega arith) k
   has_needed command.Prenucleolus document fit certified k = accepted command.Prenucleolus document (omega arith) k
-  has_needed command.Propose document fit certified k = has_shares document fit
+  has_needed command.Propose document fit certified k = has_shares _ (ap (λ (c : Contents). c.shares) (document_as command.Propose bytes d document).says) fit
   has_needed command.Core document fit certified k = accepted command.Core document (omega arith) k
   has_needed command.Check document fit certified k = is_complete document fit certified
   has_needed command.Shapley document fit certified k = tt
   has_needed command.Bird document fit certified k = tt
+  has_needed command.Convex document fit certified k = tt
+  has_needed command.Kernel document fit certified k = has_shares _ (ap (λ (c : Contents). c.shares) (document_as command.Kernel bytes d document).says) fit

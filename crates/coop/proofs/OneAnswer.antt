@@ -52,6 +52,8 @@ only_check command.Propose e = absurd (other_length (word_of command.Propose) re
 only_check command.Core e = absurd (other_length (word_of command.Core) refl e)
 only_check command.Shapley e = absurd (other_length (word_of command.Shapley) refl e)
 only_check command.Bird e = absurd (other_length (word_of command.Bird) refl e)
+only_check command.Convex e = absurd (other_length (word_of command.Convex) refl e)
+only_check command.Kernel e = absurd (other_length (word_of command.Kernel) refl e)
 
 module _ (given : Command) (bytes : List ℕ) (d : Contents) (document : IsDocument given bytes d) where
   this : IsReadAs given bytes d

@@ -50,6 +50,7 @@ module _ (given : Command) where
 -- no document is answered with the usage of words
 no_usage : (given : Command) (d : Contents) → AnswersTo given d (Usage Words) → ⊥
 no_usage command.Propose d h = h.2
+no_usage command.Kernel d h = h.says
 no_usage given d h = h
 
 -- nor with the summary of a generated game
@@ -60,6 +61,7 @@ no_summary given d s h = h
 -- nor with a refusal
 no_refusal : (given : Command) (d : Contents) (r : Refusal) → AnswersTo given d (Refused r) → ⊥
 no_refusal command.Propose d r h = h.2
+no_refusal command.Kernel d r h = h.says
 no_refusal given d r h = h
 
 module _ (given : Command) (old new : Option (List ℕ)) (input : List ℕ) (p : Consumes old new input) (end : length input ≤ document_limit given → IsAtEnd new) (d : Contents) (document : IsDocument given input d) where

@@ -15,7 +15,8 @@
 --   Answers              the answer is right for the words and the bytes
 --
 -- What is right for the other commands stands in Judgement.antt (`propose`), CoreClaims.antt (`core`), Checks.antt (`check`),
--- ShapleyClaims.antt (`shapley`), BirdClaims.antt (`bird`) and GeneratorClaims.antt (`gen`).
+-- ShapleyClaims.antt (`shapley`), BirdClaims.antt (`bird`), ConvexClaims.antt (`convex`), KernelClaims.antt (`kernel`) and
+-- GeneratorClaims.antt (`gen`).
 --
 -- No answer that isn't named is right, and the answers exclude one another: a nucleolus is an imputation, which gives each
 -- player at least what it is worth alone, so it can't come where the players alone are worth more than all.
@@ -33,7 +34,7 @@ use Rattle.game_text.specs.Documents.{Contents}
 use Rattle.game_text.specs.OfClass.{IsOfClass}
 use Rattle.game_text.specs.Refusals.{IsDocument, IsRefused}
 use Rattle.game_text.specs.declared.command.Command.{Command}
-use Rattle.game_text.specs.declared.command.Command.TheVariants.{Nucleolus as NucleolusWord, Prenucleolus as PrenucleolusWord, Propose, Core, Check, Shapley, Bird}
+use Rattle.game_text.specs.declared.command.Command.TheVariants.{Nucleolus as NucleolusWord, Prenucleolus as PrenucleolusWord, Propose, Core, Check, Shapley, Bird, Convex, Kernel}
 use Rattle.game_text.specs.declared.refusal.Refusal.{Refusal}
 use Rattle.nested_programs.specs.Answer.{singles}
 use Rattle.report.specs.declared.answer.Answer.{Answer}
@@ -47,6 +48,8 @@ use Rattle.coop.specs.CoreClaims.{SaysOfCore}
 use Rattle.coop.specs.ShapleyClaims.{SaysOfShapley}
 use Rattle.coop.specs.BirdClaims.{SaysOfBird}
 use Rattle.coop.specs.GeneratorClaims.{IsSummaryFor}
+use Rattle.coop.specs.ConvexClaims.{SaysOfConvex}
+use Rattle.coop.specs.KernelClaims.{SaysOfKernel}
 
 -- the game has no more players than are answered by its measure
 abbrev pub IsTaken : Contents → Type 0
@@ -86,6 +89,8 @@ AnswersTo Core d answer = SaysOfCore d answer
 AnswersTo Check d answer = Checks d answer
 AnswersTo Shapley d answer = SaysOfShapley d answer
 AnswersTo Bird d answer = SaysOfBird d answer
+AnswersTo Convex d answer = SaysOfConvex d answer
+AnswersTo Kernel d answer = SaysOfKernel d answer
 
 -- the words are a command, the bytes are a document of it, whose game has the worths of its class, and the answer is right for both
 abbrev pub IsAnsweredFor : List (List ℕ) → List ℕ → Answer → Type 0

@@ -7,6 +7,8 @@ pub mod ShapleyClaims
 pub mod BirdClaims
 pub mod GeneratorClaims
 pub mod GeneratorRuns
+pub mod ConvexClaims
+pub mod KernelClaims
 pub mod Headline
 pub mod ReadBack
 pub mod Outcome

@@ -12,7 +12,7 @@ use Rattle.game_text.specs.Excess.{measure_of}
 use Rattle.game_text.specs.Denominators.{tree_refusal}
 use Rattle.game_text.specs.Text.{document_limit}
 use Rattle.game_text.specs.declared.command.Command.{Command}
-use Rattle.game_text.specs.declared.command.Command.TheVariants.{Nucleolus, Prenucleolus, Propose, Core, Check, Shapley, Bird}
+use Rattle.game_text.specs.declared.command.Command.TheVariants.{Nucleolus, Prenucleolus, Propose, Core, Check, Shapley, Bird, Convex, Kernel}
 use Rattle.coop.specs.Judgement.{HasShares}
 use Rattle.coop.specs.Checks.{IsComplete}
 
@@ -38,3 +38,5 @@ HasNeeded Core d = IsAccepted d
 HasNeeded Check d = IsComplete d
 HasNeeded Shapley d = ⊤
 HasNeeded Bird d = ⊤
+HasNeeded Convex d = ⊤
+HasNeeded Kernel d = HasShares d

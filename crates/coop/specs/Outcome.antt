@@ -4,7 +4,8 @@
 --   ReadsPastLimit, ReadsAll     how far the input was read
 --   ReadsForRefusal, ReadsFor    how far it was read for an answer
 --   status_number                the number of a status
---   verdict_status, status_of    the status of an answer
+--   verdict_status, convex_status, status_of
+--                                the status of an answer
 --   IsRight                      the answer is right for the words and for what the source had left
 --   Answered, CutShort           its line was printed, or a proper front of it
 --   Ends                         what stands after each status
@@ -20,10 +21,12 @@ use Rattle.game_text.specs.declared.refusal.Refusal.{Refusal}
 use Rattle.game_text.specs.declared.refusal.Refusal.TheVariants.{TooLong}
 use Rattle.report.specs.Lines.{line}
 use Rattle.report.specs.declared.answer.Answer.{Answer}
-use Rattle.report.specs.declared.answer.Answer.TheVariants.{Nucleolus, NoImputation, InCore, NotEfficient, Blocked, CorePoint, EmptyCore, Shapley, Bird, Verdict, Usage, Refused, Summary}
+use Rattle.report.specs.declared.answer.Answer.TheVariants.{Nucleolus, NoImputation, InCore, NotEfficient, Blocked, CorePoint, EmptyCore, Shapley, Bird, Convex, Prekernel, NotPrekernel, Verdict, Usage, Refused, Summary}
 use Rattle.report.specs.declared.answer.UsageKind.TheVariants.{Words}
 use Rattle.checker.specs.declared.verdicts.Verdict.{Verdict as CheckVerdict}
 use Rattle.checker.specs.declared.verdicts.Verdict.TheVariants.{Yes, No}
+use Rattle.convexity.specs.declared.answers.ConvexAnswer.{ConvexAnswer}
+use Rattle.convexity.specs.declared.answers.ConvexAnswer.TheVariants.{Convex as ConvexShares, Not as NotConvex}
 use Rattle.coop.specs.Words.{IsCommand}
 use Rattle.coop.specs.declared.status.Status.{Status}
 use Rattle.coop.specs.declared.status.Status.TheVariants as status
@@ -68,6 +71,11 @@ abbrev pub verdict_status : CheckVerdict → Status
 verdict_status Yes = status.Done
 verdict_status (No r) = status.Negative
 
+-- the status after it was printed whether a game is convex
+abbrev pub convex_status : ConvexAnswer → Status
+convex_status (ConvexShares shapley marginal) = status.Done
+convex_status (NotConvex s i j deficit) = status.Negative
+
 -- the status after an answer was printed
 abbrev pub status_of : Answer → Status
 status_of (Nucleolus family tree are_costs x c) = status.Done
@@ -79,6 +87,9 @@ status_of (CorePoint are_costs x) = status.Done
 status_of (EmptyCore c value against) = status.Negative
 status_of (Shapley are_costs x) = status.Done
 status_of (Bird x edges) = status.Done
+status_of (Convex are_costs answer) = convex_status answer
+status_of Prekernel = status.Done
+status_of (NotPrekernel i j ij ji) = status.Negative
 status_of (Verdict v) = verdict_status v
 status_of (Usage kind) = status.Usage
 status_of (Refused r) = status.Refused

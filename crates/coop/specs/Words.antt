@@ -11,7 +11,7 @@
 use Rattle.std.specs.Prelude.{◌≡◌, ⊤, ◌<◌, ◌^◌, ℕ, pos, List, [], ◌∷◌, codes, Option, Some, None}
 use Rattle.fractions.specs.FractionTexts.{fraction_text}
 use Rattle.game_text.specs.declared.command.Command.{Command}
-use Rattle.game_text.specs.declared.command.Command.TheVariants.{Nucleolus, Prenucleolus, Propose, Core, Check, Shapley, Bird}
+use Rattle.game_text.specs.declared.command.Command.TheVariants.{Nucleolus, Prenucleolus, Propose, Core, Check, Shapley, Bird, Convex, Kernel}
 use Rattle.game_text.specs.declared.kind.Kind.{Kind}
 use Rattle.coop_gen.specs.Generated.{HasKindSize}
 use Rattle.report.specs.Words.{kind_word}
@@ -27,6 +27,8 @@ word_of Core = codes "core"
 word_of Check = codes "check"
 word_of Shapley = codes "shapley"
 word_of Bird = codes "bird"
+word_of Convex = codes "convex"
+word_of Kernel = codes "kernel"
 
 -- decimal digits without a sign, and without a leading zero but for 0 itself
 abbrev pub number_text : ℕ → List ℕ

@@ -25,8 +25,8 @@ pub fn judge_document(document: &Document) -> Answer
     judge(&document.game, shares, document.game.is_cost())
 }
 
-// Whether the shares add to the worth of all, and whether a coalition blocks them.
-fn judge<W: Worth>(game: &W, shares: &Shares, are_costs: bool) -> Answer
+/// Whether the shares add to the worth of all, and whether a coalition blocks them.
+pub fn judge<W: Worth>(game: &W, shares: &Shares, are_costs: bool) -> Answer
     requires { length shares.now.shares ≡ (W.game game.now).players }
     ensures judges { Judges are_costs (W.game game.now) shares.now result }
     ensures printable { IsPrintable result }

@@ -4,10 +4,12 @@
 mod adapters;
 mod bird_shares;
 mod check;
+mod convex_shares;
 mod core_search;
 mod generated;
 mod judge;
 mod limits;
+mod prekernel_test;
 mod run;
 mod shapley_values;
 mod solve;

@@ -12,9 +12,11 @@ ghost use Rattle.coop.specs.Words.{word_of, IsFit, IsRequest, IsNoCommand};
 
 use crate::bird_shares::bird_document;
 use crate::check::check_document;
+use crate::convex_shares::convex_document;
 use crate::core_search::core_document;
 use crate::generated::summary_of;
 use crate::judge::judge_document;
+use crate::prekernel_test::kernel_document;
 use crate::shapley_values::shapley_document;
 use crate::solve::solve_document;
 use crate::status::{Status, status_of};
@@ -124,5 +126,7 @@ fn answer_to(alloc: Global, command: Command, document: Document) -> Result<Answ
         Command::Check => Ok(check_document(&document)),
         Command::Shapley => shapley_document(alloc, &document),
         Command::Bird => bird_document(alloc, &document),
+        Command::Convex => convex_document(alloc, &document),
+        Command::Kernel => Ok(kernel_document(&document)),
     }
 }

@@ -3,6 +3,7 @@ ghost use Rattle.std.specs.Prelude.{◌≡◌};
 ghost use Rattle.coop.specs.Outcome.{status_number, status_of};
 
 use checker::Verdict;
+use convexity::ConvexAnswer;
 use report::Answer;
 
 /// How a run ends, with the number that the program ends with.
@@ -43,12 +44,22 @@ pub fn status_of(answer: &Answer) -> Status
         | Answer::CorePoint { .. }
         | Answer::Shapley { .. }
         | Answer::Bird { .. }
+        | Answer::Convex {
+            answer: ConvexAnswer::Convex { .. },
+            ..
+        }
+        | Answer::Prekernel
         | Answer::Summary(_)
         | Answer::Verdict(Verdict::Yes) => Status::Done,
         Answer::NoImputation { .. }
         | Answer::NotEfficient { .. }
         | Answer::Blocked { .. }
         | Answer::EmptyCore { .. }
+        | Answer::Convex {
+            answer: ConvexAnswer::Not { .. },
+            ..
+        }
+        | Answer::NotPrekernel { .. }
         | Answer::Verdict(Verdict::No(_)) => Status::Negative,
         Answer::Usage(_) => Status::Usage,
         Answer::Refused(_) => Status::Refused,

@@ -1,11 +1,13 @@
 //! Runs over sources and sinks in memory.
 mod certificates;
+mod convex_games;
 mod cores;
 mod faults;
 mod generated_games;
 mod networks_and_markets;
 mod nucleolus;
 mod per_head;
+mod prekernels;
 mod proposals;
 mod refusals;
 mod shapley_shares;

@@ -49,6 +49,8 @@ fn command_named(word: &str) -> Option<Command>
         "check" => Some(Command::Check),
         "shapley" => Some(Command::Shapley),
         "bird" => Some(Command::Bird),
+        "convex" => Some(Command::Convex),
+        "kernel" => Some(Command::Kernel),
         _ => None,
     }
 }

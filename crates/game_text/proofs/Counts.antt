@@ -23,7 +23,7 @@ use Rattle.game_text.proofs.Passed.{IsPassed, behind, passed_tests}
 use Rattle.game_text.specs.declared.class.Class.{Class}
 use Rattle.game_text.specs.declared.class.Class.TheVariants.{Table, CostTable, Airport, Bankruptcy, Tree, Assignment}
 use Rattle.game_text.specs.declared.command.Command.{Command}
-use Rattle.game_text.specs.declared.command.Command.TheVariants.{Nucleolus, Prenucleolus, Propose, Core, Check, Shapley, Bird}
+use Rattle.game_text.specs.declared.command.Command.TheVariants.{Nucleolus, Prenucleolus, Propose, Core, Check, Shapley, Bird, Convex, Kernel}
 use Rattle.game_text.specs.declared.document.Document.{Document}
 use Rattle.game_text.specs.declared.fault.TextFault.{TextFault}
 use Rattle.game_text.specs.declared.refusal.Refusal.{Refusal}
@@ -85,6 +85,8 @@ has_share_each Check tree d m =
     (enough_shares (game_tree tree) tree (certificate_refusal Check (game_tree tree) tree) (tests_passed Check tree d m))
 has_share_each Shapley tree d m = no_shares d (ap (λ c. c.shares) m.says)
 has_share_each Bird tree d m = no_shares d (ap (λ c. c.shares) m.says)
+has_share_each Convex tree d m = no_shares d (ap (λ c. c.shares) m.says)
+has_share_each Kernel tree d m = some_shares tree d (ap (λ c. c.shares) m.says) (described Kernel tree d m) (enough_shares (game_tree tree) tree None (tests_passed Kernel tree d m))
 
 pub share_each : (command : Command) (tree : Data) (r : Result Document TextFault) → MatchResult r (IsTreeReading command tree) (IsTreeFault command tree) → IfOk r HasShareEach
 share_each command tree (Ok d) m = has_share_each command tree d m
@@ -109,6 +111,8 @@ has_its_players Check tree d m =
     (sym (players_described (game_tree tree) (class_of (game_tree tree)) refl) ∙ ap (λ k. (game_of k).players) (sym (described Check tree d m)))
 has_its_players Shapley tree d m = no_certificate d (ap (λ c. c.certificate) m.says)
 has_its_players Bird tree d m = no_certificate d (ap (λ c. c.certificate) m.says)
+has_its_players Convex tree d m = no_certificate d (ap (λ c. c.certificate) m.says)
+has_its_players Kernel tree d m = no_certificate d (ap (λ c. c.certificate) m.says)
 
 pub its_players : (command : Command) (tree : Data) (r : Result Document TextFault) → MatchResult r (IsTreeReading command tree) (IsTreeFault command tree) → IfOk r HasItsPlayers
 its_players command tree (Ok d) m = has_its_players command tree d m

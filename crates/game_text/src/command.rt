@@ -19,6 +19,10 @@ pub enum Command {
     Shapley,
     /// To find Bird's shares and plan of a tree game.
     Bird,
+    /// To find whether the game is convex, with its Shapley and marginal shares.
+    Convex,
+    /// To find whether the proposed shares are in the prekernel.
+    Kernel,
 }
 
 /// What a command needs of a document beside the game.
@@ -62,6 +66,8 @@ impl Command {
             Command::Core => row(SHORT, false, false, false),
             Command::Check => row(LONG, true, true, true),
             Command::Shapley | Command::Bird => row(SHORT, false, false, false),
+            Command::Convex => row(SHORT, false, false, false),
+            Command::Kernel => row(SHORT, true, false, false),
         }
     }
 }

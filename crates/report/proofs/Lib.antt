@@ -12,6 +12,7 @@ pub mod Readers
 pub mod BirdEdges
 pub mod LeastDenominators
 pub mod Summaries
+pub mod ConvexAnswers
 pub mod NoFloats
 pub mod Depths
 pub mod AsciiFractions

@@ -7,6 +7,8 @@ pub mod CoreTrees
 pub mod ShapleyTrees
 pub mod BirdTrees
 pub mod SummaryTrees
+pub mod ConvexTrees
+pub mod KernelTrees
 pub mod Limits
 pub mod Lines
 pub mod ReadingBack

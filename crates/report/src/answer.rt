@@ -3,6 +3,7 @@ use crate::summary::Summary;
 use balanced::Collection;
 use checker::Verdict;
 use coalitions::Coalition;
+use convexity::ConvexAnswer;
 use fractions::Frac;
 use game_text::Refusal;
 use kohlberg::Certificate;
@@ -72,6 +73,22 @@ pub enum Answer {
     Bird {
         shares: Shares,
         tree: Tree,
+    },
+    /// The Shapley and the marginal shares of a convex game as worth, printed as payments where `is_cost`; or where the game
+    /// isn't convex, and how much worth is missing there.
+    Convex {
+        is_cost: bool,
+        answer: ConvexAnswer,
+    },
+    /// The shares are in the prekernel.
+    Prekernel,
+    /// They aren't: `i` and `j` are the first players of different surpluses, `ij` of `i` against `j` and `ji` of `j` against
+    /// `i`, both as worth.
+    NotPrekernel {
+        i: u32,
+        j: u32,
+        ij: Frac,
+        ji: Frac,
     },
     /// Whether a certificate shows that shares are the nucleolus, or why not.
     Verdict(Verdict),

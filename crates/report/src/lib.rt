@@ -4,8 +4,10 @@
 mod answer;
 mod bird_answer;
 mod certificate;
+mod convex_answers;
 mod core_answers;
 mod fraction;
+mod kernel_answers;
 mod laws;
 mod line;
 mod nucleolus;

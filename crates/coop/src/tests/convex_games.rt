@@ -1,0 +1,65 @@
+//! Games that are convex and games that aren't, and games that have too many players to be tested.
+use super::run_on;
+use crate::status::Status;
+use std::test::Fail;
+
+#[test]
+fn convex_games_are_printed_with_their_shares(rt: HostRuntime) -> Result<(), Fail> {
+    for (input, line) in [
+        (
+            "{\"game\":{\"class\":\"airport\",\"costs\":[2,4,6]}}",
+            "{\"answer\":\"convex\",\"marginal\":[\"2\",\"2\",\"2\"],\"shapley\":[\"2/3\",\"5/3\",\"11/3\"]}\n",
+        ),
+        (
+            "{\"game\":{\"claims\":[100,200,300],\"class\":\"bankruptcy\",\"estate\":200}}",
+            "{\"answer\":\"convex\",\"marginal\":[\"0\",\"0\",\"200\"],\"shapley\":[\"100/3\",\"250/3\",\"250/3\"]}\n",
+        ),
+        (
+            "{\"game\":{\"class\":\"tree\",\"matrix\":[[0,10,10],[10,0,1],[10,1,0]]}}",
+            "{\"answer\":\"convex\",\"marginal\":[\"10\",\"1\"],\"shapley\":[\"11/2\",\"11/2\"]}\n",
+        ),
+        (
+            "{\"game\":{\"class\":\"table\",\"players\":1,\"worths\":[5]}}",
+            "{\"answer\":\"convex\",\"marginal\":[\"5\"],\"shapley\":[\"5\"]}\n",
+        ),
+    ] {
+        let found = run_on(rt.alloc(), &["convex"], input.as_bytes(), 100, line)?;
+        assert_eq!(rt; found, (Status::Done, true), "on {input}");
+    }
+    Ok(())
+}
+
+#[test]
+fn other_games_are_printed_with_their_first_failure(rt: HostRuntime) -> Result<(), Fail> {
+    for (input, line) in [
+        (
+            "{\"game\":{\"class\":\"table\",\"players\":3,\"worths\":[0,0,1,0,1,1,1]}}",
+            "{\"answer\":\"not convex\",\"deficit\":\"1\",\"i\":2,\"j\":3,\"set\":[1]}\n",
+        ),
+        (
+            "{\"game\":{\"class\":\"cost-table\",\"players\":2,\"worths\":[1,1,3]}}",
+            "{\"answer\":\"not convex\",\"deficit\":\"1\",\"i\":1,\"j\":2,\"set\":[]}\n",
+        ),
+        (
+            "{\"game\":{\"class\":\"assignment\",\"matrix\":[[5,8],[7,6]]}}",
+            "{\"answer\":\"not convex\",\"deficit\":\"5\",\"i\":3,\"j\":4,\"set\":[1]}\n",
+        ),
+    ] {
+        let found = run_on(rt.alloc(), &["convex"], input.as_bytes(), 100, line)?;
+        assert_eq!(rt; found, (Status::Negative, true), "on {input}");
+    }
+    Ok(())
+}
+
+#[test]
+fn games_of_17_have_too_many_players_to_be_tested(rt: HostRuntime) -> Result<(), Fail> {
+    let line = "{\"usage\":\"players\"}\n";
+    for input in [
+        "{\"game\":{\"class\":\"airport\",\"costs\":[1,1,1,1,1,1,1,1,1,1,1,1,1,1,1,1,1]}}",
+        "{\"game\":{\"claims\":[1,1,1,1,1,1,1,1,1,1,1,1,1,1,1,1,1],\"class\":\"bankruptcy\",\"estate\":17}}",
+    ] {
+        let found = run_on(rt.alloc(), &["convex"], input.as_bytes(), 100, line)?;
+        assert_eq!(rt; found, (Status::Usage, true), "on {input}");
+    }
+    Ok(())
+}
