@@ -56,6 +56,7 @@ no_usage given d h = h
 -- nor with the summary of a generated game
 no_summary : (given : Command) (d : Contents) (s : Summaries) → AnswersTo given d (Summary s) → ⊥
 no_summary command.Propose d s h = h.2
+no_summary command.Kernel d s h = h.says
 no_summary given d s h = h
 
 -- nor with a refusal

@@ -2,8 +2,9 @@
 mod certificates;
 mod convex_games;
 mod cores;
-mod faults;
+mod failing_calls;
 mod generated_games;
+mod hostile_documents;
 mod networks_and_markets;
 mod nucleolus;
 mod per_head;

@@ -1,0 +1,202 @@
+//! Documents made to mislead the reader or the checker, all of them changes of one line that `nucleolus` prints.
+use super::run_on;
+use crate::status::Status;
+use std::alloc::Global;
+use std::test::Fail;
+
+const FRONT: &str = "{\"answer\":\"nucleolus\",\"certificate\":{\"levels\":[";
+
+const LEVELS: &str =
+    "{\"bounds\":[],\"coalitions\":[[[1],1],[[2,3],1]],\"earlier\":[],\"excess\":\"-1\",\"total\":1},{\"bounds\":[],\"coalitions\":[[[1,2],1],[[1,3],1]],\"earlier\":[[[1],-1]],\"excess\":\"-3/2\",\"total\":1}";
+
+const REFUSED: &str = "{\"number\":12,\"refused\":\"Certificate\"}\n";
+
+const NOT_JSON: &str = "{\"number\":2,\"refused\":\"NotJson\"}\n";
+
+// A document to check of these levels, this game and these shares.
+fn document(alloc: Global, levels: &str, game: &str, shares: &str) -> Result<String, Fail> {
+    let mut text = String::from_str(alloc, FRONT)?;
+    for part in [
+        levels,
+        "],\"mode\":\"players\"},\"game\":",
+        game,
+        ",\"shares\":[",
+        shares,
+        "]}",
+    ] {
+        text.push_str(part)?;
+    }
+    Ok(text)
+}
+
+// The line of these levels beside the airport game of costs 2, 4 and 6 and its nucleolus.
+fn with_levels(alloc: Global, levels: &str) -> Result<String, Fail> {
+    document(
+        alloc,
+        levels,
+        "{\"class\":\"airport\",\"costs\":[2,4,6]}",
+        "\"1\",\"3/2\",\"7/2\"",
+    )
+}
+
+// What `check` ends with, and whether it prints that line.
+fn checked(alloc: Global, text: &str, line: &str) -> Result<(Status, bool), Fail> {
+    run_on(alloc, &["check"], text.as_bytes(), 100, line)
+}
+
+#[test]
+fn each_change_of_a_certificate_has_its_answer(rt: HostRuntime) -> Result<(), Fail> {
+    for (levels, line, status) in [
+        // The certificate as printed.
+        (LEVELS, "{\"answer\":\"yes\"}\n", Status::Done),
+        // A weight of 2^63 - 1.
+        (
+            "{\"bounds\":[],\"coalitions\":[[[1],1],[[2,3],1]],\"earlier\":[],\"excess\":\"-1\",\"total\":1},{\"bounds\":[],\"coalitions\":[[[1,2],9223372036854775807],[[1,3],1]],\"earlier\":[[[1],-1]],\"excess\":\"-3/2\",\"total\":1}",
+            "{\"answer\":\"no\",\"level\":2,\"player\":1,\"reason\":5}\n",
+            Status::Negative,
+        ),
+        // A weight of -2^63.
+        (
+            "{\"bounds\":[],\"coalitions\":[[[1],1],[[2,3],1]],\"earlier\":[],\"excess\":\"-1\",\"total\":1},{\"bounds\":[],\"coalitions\":[[[1,2],-9223372036854775808],[[1,3],1]],\"earlier\":[[[1],-1]],\"excess\":\"-3/2\",\"total\":1}",
+            REFUSED,
+            Status::Refused,
+        ),
+        // A coalition that stands twice.
+        (
+            "{\"bounds\":[],\"coalitions\":[[[1],1],[[2,3],1]],\"earlier\":[],\"excess\":\"-1\",\"total\":1},{\"bounds\":[],\"coalitions\":[[[1,2],1],[[1,2],1],[[1,3],1]],\"earlier\":[[[1],-1]],\"excess\":\"-3/2\",\"total\":1}",
+            REFUSED,
+            Status::Refused,
+        ),
+        // Levels exchanged.
+        (
+            "{\"bounds\":[],\"coalitions\":[[[1,2],1],[[1,3],1]],\"earlier\":[[[1],-1]],\"excess\":\"-3/2\",\"total\":1},{\"bounds\":[],\"coalitions\":[[[1],1],[[2,3],1]],\"earlier\":[],\"excess\":\"-1\",\"total\":1}",
+            REFUSED,
+            Status::Refused,
+        ),
+        // The coalition of all.
+        (
+            "{\"bounds\":[],\"coalitions\":[[[1],1],[[1,2,3],1]],\"earlier\":[],\"excess\":\"-1\",\"total\":1},{\"bounds\":[],\"coalitions\":[[[1,2],1],[[1,3],1]],\"earlier\":[[[1],-1]],\"excess\":\"-3/2\",\"total\":1}",
+            REFUSED,
+            Status::Refused,
+        ),
+        // The empty coalition.
+        (
+            "{\"bounds\":[],\"coalitions\":[[[],1],[[2,3],1]],\"earlier\":[],\"excess\":\"-1\",\"total\":1},{\"bounds\":[],\"coalitions\":[[[1,2],1],[[1,3],1]],\"earlier\":[[[1],-1]],\"excess\":\"-3/2\",\"total\":1}",
+            REFUSED,
+            Status::Refused,
+        ),
+        // An excess not in lowest terms.
+        (
+            "{\"bounds\":[],\"coalitions\":[[[1],1],[[2,3],1]],\"earlier\":[],\"excess\":\"-2/2\",\"total\":1},{\"bounds\":[],\"coalitions\":[[[1,2],1],[[1,3],1]],\"earlier\":[[[1],-1]],\"excess\":\"-3/2\",\"total\":1}",
+            REFUSED,
+            Status::Refused,
+        ),
+        // Another excess.
+        (
+            "{\"bounds\":[],\"coalitions\":[[[1],1],[[2,3],1]],\"earlier\":[],\"excess\":\"-2\",\"total\":1},{\"bounds\":[],\"coalitions\":[[[1,2],1],[[1,3],1]],\"earlier\":[[[1],-1]],\"excess\":\"-3/2\",\"total\":1}",
+            "{\"answer\":\"no\",\"coalition\":[1],\"level\":1,\"reason\":3}\n",
+            Status::Negative,
+        ),
+        // A weight of 0.
+        (
+            "{\"bounds\":[],\"coalitions\":[[[1],1],[[2,3],0]],\"earlier\":[],\"excess\":\"-1\",\"total\":1},{\"bounds\":[],\"coalitions\":[[[1,2],1],[[1,3],1]],\"earlier\":[[[1],-1]],\"excess\":\"-3/2\",\"total\":1}",
+            "{\"answer\":\"no\",\"coalition\":[2,3],\"level\":1,\"reason\":4}\n",
+            Status::Negative,
+        ),
+        // A bound on a player above its own worth.
+        (
+            "{\"bounds\":[[1,1]],\"coalitions\":[[[1],1],[[2,3],2]],\"earlier\":[],\"excess\":\"-1\",\"total\":2},{\"bounds\":[],\"coalitions\":[[[1,2],1],[[1,3],1]],\"earlier\":[[[1],-1]],\"excess\":\"-3/2\",\"total\":1}",
+            "{\"answer\":\"no\",\"level\":1,\"player\":1,\"reason\":6}\n",
+            Status::Negative,
+        ),
+        // One level alone.
+        (
+            "{\"bounds\":[],\"coalitions\":[[[1],1],[[2,3],1]],\"earlier\":[],\"excess\":\"-1\",\"total\":1}",
+            "{\"answer\":\"no\",\"player\":2,\"reason\":8}\n",
+            Status::Negative,
+        ),
+    ] {
+        let text = with_levels(rt.alloc(), levels)?;
+        assert_eq!(rt;
+            checked(rt.alloc(), &text, line)?,
+            (status, true),
+            "{levels}"
+        );
+    }
+    Ok(())
+}
+
+#[test]
+fn no_front_of_a_line_is_a_document(rt: HostRuntime) -> Result<(), Fail> {
+    let text = with_levels(rt.alloc(), LEVELS)?;
+    let bytes = text.as_bytes();
+    for end in 0..bytes.len() {
+        let found = run_on(rt.alloc(), &["check"], &bytes[..end], 100, NOT_JSON)?;
+        assert_eq!(rt; found, (Status::Refused, true), "the first {end} bytes");
+    }
+    Ok(())
+}
+
+#[test]
+fn a_game_of_brackets_alone_is_no_json_that_is_read(rt: HostRuntime) -> Result<(), Fail> {
+    let mut game = String::new(rt.alloc());
+    for bracket in ["[", "]"] {
+        for _ in 0..200 {
+            game.push_str(bracket)?;
+        }
+    }
+    let text = document(rt.alloc(), LEVELS, &game, "\"1\",\"3/2\",\"7/2\"")?;
+    assert_eq!(rt;
+        checked(rt.alloc(), &text, NOT_JSON)?,
+        (Status::Refused, true)
+    );
+    Ok(())
+}
+
+#[test]
+fn a_cost_is_a_whole_number(rt: HostRuntime) -> Result<(), Fail> {
+    let game = "{\"class\":\"airport\",\"costs\":[2.0,4,6]}";
+    let text = document(rt.alloc(), LEVELS, game, "\"1\",\"3/2\",\"7/2\"")?;
+    let line = "{\"number\":5,\"refused\":\"Number\"}\n";
+    assert_eq!(rt; checked(rt.alloc(), &text, line)?, (Status::Refused, true));
+    Ok(())
+}
+
+// The members of a mask as they are written in a document, with the weight 1.
+fn push_coalition(text: &mut String, mask: u32) -> Result<(), Fail> {
+    let mut first = true;
+    let mut rest = mask;
+    for player in PLAYERS {
+        if rest % 2 == 1 {
+            text.push_str(if first { "[[" } else { "," })?;
+            text.push_str(player)?;
+            first = false;
+        }
+        rest /= 2;
+    }
+    text.push_str("],1]")?;
+    Ok(())
+}
+
+const PLAYERS: [&str; 17] = [
+    "1", "2", "3", "4", "5", "6", "7", "8", "9", "10", "11", "12", "13", "14", "15", "16", "17",
+];
+
+#[test]
+fn a_level_of_65537_coalitions_is_no_level(rt: HostRuntime) -> Result<(), Fail> {
+    let mut level = String::from_str(rt.alloc(), "{\"bounds\":[],\"coalitions\":[")?;
+    for mask in 1..65_537 {
+        push_coalition(&mut level, mask)?;
+        level.push_str(",")?;
+    }
+    push_coalition(&mut level, 65_537)?;
+    level.push_str("],\"earlier\":[],\"excess\":\"0\",\"total\":1}")?;
+    let game = "{\"class\":\"airport\",\"costs\":[0,0,0,0,0,0,0,0,0,0,0,0,0,0,0,0,0]}";
+    let zeros = "0,0,0,0,0,0,0,0,0,0,0,0,0,0,0,0,0";
+    let text = document(rt.alloc(), &level, game, zeros)?;
+    assert_eq!(rt;
+        checked(rt.alloc(), &text, REFUSED)?,
+        (Status::Refused, true)
+    );
+    Ok(())
+}
