@@ -24,7 +24,6 @@ use Rattle.nested_programs.specs.Chain.{outer_id}
 use Rattle.nested_programs.proofs.Reading.{of_reading}
 use Rattle.nested_programs.proofs.Advance.{column_outer}
 use Rattle.nested_programs.proofs.Chain.{tabulate, tabulate-at}
-use Rattle.definitions.proofs.SumsOver.{sum_over-same}
 use Rattle.definitions.proofs.Cases.{less_or_last, true_or_false}
 use Rattle.simplex.proofs.Ends.{no_ray}
 
