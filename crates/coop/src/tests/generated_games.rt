@@ -125,20 +125,20 @@ fn gen_has_three_words_more(rt: HostRuntime) -> Result<(), Fail> {
     Ok(())
 }
 
-// The document of a generated table, by a program of its own.
-fn table_document(alloc: Global, players: u32, seed: u64) -> Result<Vec<u8>, Fail> {
+// The document of a generated table of so many players and masks, by a program of its own.
+fn table_document(alloc: Global, players: u32, masks: u32) -> Result<Vec<u8>, Fail> {
     let mut text = format!(in alloc;
         "{{\"game\":{{\"class\":\"table\",\"players\":{players},\"worths\":["
     )?;
-    let mut state = seed;
-    for s in 1..1u32 << players {
+    let mut state: u32 = 1;
+    for s in 1..masks {
         if s > 1 {
             text.push(',')?;
         }
         if s.is_power_of_two() {
             text.push('0')?;
         } else {
-            state = (state * 1103515245 + 12345) % 2147483648;
+            state = ((u64::from(state) * 1103515245 + 12345) % 2147483648) as u32;
             text.push_str(format!(in alloc; "{}", state / 2048)?.as_str())?;
         }
     }
@@ -149,10 +149,13 @@ fn table_document(alloc: Global, players: u32, seed: u64) -> Result<Vec<u8>, Fai
 #[test]
 fn a_generated_table_has_the_nucleolus_of_its_document(rt: HostRuntime) -> Result<(), Fail> {
     let alloc = rt.alloc();
-    for (players, words) in [(3, ["table", "3", "1"]), (12, ["table", "12", "1"])] {
+    for (players, masks, words) in [
+        (3, 8, ["table", "3", "1"]),
+        (12, 4096, ["table", "12", "1"]),
+    ] {
         let (_, line) = made(alloc, &words)?;
         let line = String::from_utf8(line).ok().ok_or("no text")?;
-        let document = table_document(alloc, players, 1)?;
+        let document = table_document(alloc, players, masks)?;
         let (_, found) = printed(alloc, "nucleolus", &document)?;
         let found = String::from_utf8(found).ok().ok_or("no text")?;
         // The first level has the greatest excess of all.
