@@ -1,14 +1,13 @@
 -- A generated game has a nucleolus that is found: its players are few enough, and it has an imputation.
-use Rattle.std.proofs.Common.{◌≡◌, ◌≢◌, ◌≤◌, ◌<◌, ℕ, zero, suc, ℤ, ◌<ℤ◌, ◌≤ℤ◌, true, refl, sym, subst, arith}
+use Rattle.std.proofs.Common.{◌≢◌, ◌≤◌, ℕ, zero, suc, ℤ, refl, sym, subst, arith}
 use Rattle.std.proofs.lemmas.Int.{ints}
-use Rattle.definitions.specs.Coalitions.{grand_coalition, has_player}
+use Rattle.definitions.specs.Coalitions.{grand_coalition}
 use Rattle.definitions.specs.Games.{Game, HasTwo}
 use Rattle.definitions.specs.declared.Family.{Family}
 use Rattle.definitions.proofs.Members.{has_player-grand_coalition}
-use Rattle.game_text.specs.Descriptions.{game_of}
 use Rattle.game_text.specs.declared.kind.Kind.{Kind}
 use Rattle.game_text.specs.declared.kind.Kind.TheVariants.{Table, Airport, Bankruptcy, Tree, Assignment}
-use Rattle.nested_programs.specs.Answer.{singles, LacksImputation}
+use Rattle.nested_programs.specs.Answer.{LacksImputation}
 use Rattle.coop_gen.specs.Generated.{HasKindSize, generated}
 use Rattle.coop_gen.specs.Imputations.{HasImputations}
 use Rattle.coop_gen.proofs.Classes.{generated_players}

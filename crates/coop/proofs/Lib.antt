@@ -11,3 +11,4 @@ pub mod Ended
 pub mod Requests
 pub mod GeneratedGames
 pub mod GeneratorEnds
+pub mod Completed

@@ -1,6 +1,5 @@
 -- Bytes that are checked have one right answer: of a document whose certificate certifies its shares it is yes.
-use Rattle.std.proofs.Common.{◌≡◌, ◌≤◌, ℕ, false, nat_eq, List, [], ◌∷◌, length, refl, sym, ap, subst, ◌∙◌, arith}
-use Rattle.std.proofs.lemmas.Bool.{eq-eqb, false≢true}
+use Rattle.std.proofs.Common.{◌≡◌, ◌≤◌, ℕ, List, [], ◌∷◌, length, refl, sym, ap, subst, ◌∙◌, arith}
 use Rattle.std.proofs.lemmas.Option.{none-some, same_Some}
 use Rattle.serde_json.specs.Data.{Data}
 use Rattle.definitions.specs.Games.{Allocation}
@@ -31,29 +30,12 @@ use Rattle.coop.specs.Checks.{Checks, HasEvidence}
 use Rattle.coop.specs.Headline.{AnswersTo, IsAnsweredFor, Answers}
 use Rattle.coop.specs.ReadBack.{SaysSame, CheckSaysYes}
 use Rattle.coop.specs.Words.{word_of}
+use Rattle.coop.proofs.Requests.{one_command}
 
 -- ---- one command, one tree, one document
 
-abbrev first_word : List (List ℕ) → List ℕ
-first_word [] = []
-first_word (word ∷ words) = word
-
--- the words of the other commands have another length
-other_length : (word : List ℕ) → nat_eq 5 (length word) ≡ false → word_of command.Check ∷ [] ≡ word ∷ [] → ⊥
-other_length word differs e =
-    let same : 5 ≡ length word = ap (λ (words : List (List ℕ)). length (first_word words)) e in
-    false≢true (sym differs ∙ eq-eqb 5 (length word) same)
-
 only_check : (given : Command) → word_of command.Check ∷ [] ≡ word_of given ∷ [] → given ≡ command.Check
-only_check command.Check e = refl
-only_check command.Nucleolus e = absurd (other_length (word_of command.Nucleolus) refl e)
-only_check command.Prenucleolus e = absurd (other_length (word_of command.Prenucleolus) refl e)
-only_check command.Propose e = absurd (other_length (word_of command.Propose) refl e)
-only_check command.Core e = absurd (other_length (word_of command.Core) refl e)
-only_check command.Shapley e = absurd (other_length (word_of command.Shapley) refl e)
-only_check command.Bird e = absurd (other_length (word_of command.Bird) refl e)
-only_check command.Convex e = absurd (other_length (word_of command.Convex) refl e)
-only_check command.Kernel e = absurd (other_length (word_of command.Kernel) refl e)
+only_check given e = sym (one_command command.Check given e)
 
 module _ (given : Command) (bytes : List ℕ) (d : Contents) (document : IsDocument given bytes d) where
   this : IsReadAs given bytes d
@@ -62,7 +44,7 @@ module _ (given : Command) (bytes : List ℕ) (d : Contents) (document : IsDocum
   same_tree : (tree : Data) → IsTextOf bytes tree → this.tree ≡ tree
   same_tree tree text = same_Some this.tree tree (sym this.text.1 ∙ text.1)
 
-  same_document : (e : Contents) → IsDocument given bytes e → d ≡ e
+  pub same_document : (e : Contents) → IsDocument given bytes e → d ≡ e
   same_document e document =
       let other = document_as given bytes e document in
       this.says ∙ ap (contents_of given) (same_tree other.tree other.text) ∙ sym other.says
@@ -72,7 +54,7 @@ module _ (given : Command) (bytes : List ℕ) (d : Contents) (document : IsDocum
       let other = refused_as given bytes r h in
       none-some r (sym this.passed ∙ ap (tree_refusal given) (same_tree other.tree other.text) ∙ other.refused)
 
-  not_refused : (r : Refusal) → IsRefused given bytes r → ⊥
+  pub not_refused : (r : Refusal) → IsRefused given bytes r → ⊥
   not_refused refusal.TooLong long = omega (arith, document.0, long)
   not_refused refusal.NotJson refused = none-some this.tree (sym (refused.1 this.text.0) ∙ this.text.1)
   not_refused r refused = not_refused_so r refused

@@ -1,5 +1,5 @@
 -- What words ask for: the parts of a generated game are told from its words, and other words are those of no command.
-use Rattle.std.proofs.Common.{◌≡◌, ◌≢◌, ◌^◌, ◌<◌, ℕ, zero, suc, pos, List, [], ◌∷◌, length, codes, nat_eq, slice_index, if◌then◌else◌, ℤ, Option, None, Some, refl, sym, ap, ap₂, ◌∙◌, subst, arith}
+use Rattle.std.proofs.Common.{◌≡◌, ◌≢◌, ◌^◌, ◌<◌, ℕ, zero, suc, pos, List, [], ◌∷◌, length, codes, nat_eq, slice_index, if◌then◌else◌, ℤ, None, Some, refl, sym, ap, ap₂, ◌∙◌, subst, arith}
 use Rattle.std.proofs.lemmas.Int.{ints}
 use Rattle.std.proofs.lemmas.Option.{none-some, same_Some}
 use Rattle.fractions.specs.Fraction.{Fraction}
@@ -7,6 +7,7 @@ use Rattle.fractions.specs.FractionTexts.{parsed, fraction_text}
 use Rattle.fractions.proofs.Divisors.{gcd_of_one}
 use Rattle.fractions.proofs.WrittenFractions.{read_back, read_text_is_written}
 use Rattle.game_text.specs.declared.command.Command.{Command}
+use Rattle.game_text.specs.declared.command.Command.TheVariants as command
 use Rattle.game_text.specs.declared.kind.Kind.{Kind}
 use Rattle.game_text.specs.declared.kind.Kind.TheVariants.{Table, Airport, Bankruptcy, Tree, Assignment}
 use Rattle.coop_gen.specs.Generated.{HasKindSize}
@@ -21,6 +22,32 @@ abbrev word_at : ℕ → List (List ℕ) → List ℕ
 word_at k [] = []
 word_at zero (word ∷ words) = word
 word_at (suc k) (word ∷ words) = word_at k words
+
+-- ---- commands
+
+-- the command of a word, by its length, and for two of one length by the first letter
+command_in : List ℕ → Command
+command_in w =
+    if nat_eq (length w) 9 then command.Nucleolus else (if nat_eq (length w) 12 then command.Prenucleolus else (if nat_eq (length w) 5 then command.Check else of_letter (length w) (slice_index w 0)))
+  where
+    of_letter : ℕ → ℕ → Command
+    of_letter n letter =
+        if nat_eq n 7 then (if nat_eq letter 112 then command.Propose else command.Shapley) else (if nat_eq n 4 then (if nat_eq letter 99 then command.Core else command.Bird) else (if nat_eq letter 99 then command.Convex else command.Kernel))
+
+command_read : (given : Command) → command_in (word_of given) ≡ given
+unfolding command_in
+command_read command.Nucleolus = refl
+command_read command.Prenucleolus = refl
+command_read command.Propose = refl
+command_read command.Core = refl
+command_read command.Check = refl
+command_read command.Shapley = refl
+command_read command.Bird = refl
+command_read command.Convex = refl
+command_read command.Kernel = refl
+
+pub one_command : (a b : Command) → word_of a ∷ [] ≡ word_of b ∷ [] → a ≡ b
+one_command a b e = sym (command_read a) ∙ ap (λ (words : List (List ℕ)). command_in (word_at 0 words)) e ∙ command_read b
 
 -- ---- kinds
 

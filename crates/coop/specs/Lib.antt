@@ -11,6 +11,7 @@ pub mod ConvexClaims
 pub mod KernelClaims
 pub mod Headline
 pub mod ReadBack
+pub mod Completeness
 pub mod Outcome
 pub mod Needs
 pub mod Finding

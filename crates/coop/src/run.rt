@@ -5,6 +5,7 @@ ghost use Rattle.game_text.specs.Readings.{contents_in};
 ghost use Rattle.coop.specs.Headline.{AnswersTo};
 ghost use Rattle.coop.specs.Needs.{HasNeeded};
 ghost use Rattle.coop.specs.GeneratorRuns.{AsksForGame, EndsMade, IsMadeFor};
+ghost use Rattle.coop.specs.Completeness.{IsComplete};
 ghost use Rattle.coop.specs.Outcome.{IsRight, Ends, IsCauseOf};
 ghost use Rattle.coop.specs.ReadBack.{CanBeRead};
 ghost use Rattle.coop.specs.Stops.{IsFaultOf};
@@ -30,7 +31,7 @@ use report::{Answer, write_report};
 use std::alloc::Global;
 use worth_core::Family;
 
-/// Runs the command of the words on the input of the source, and prints one line to the sink.
+/// Answers what the words ask for, a command on the input of the source or a generated game, and prints one line to the sink.
 ///
 /// The status says what was answered, or why the line wasn't printed whole: a read failed, a write failed, or memory was not found.
 pub fn run<S: Source, K: Sink>(
@@ -44,6 +45,8 @@ pub fn run<S: Source, K: Sink>(
     // No fault is answered without a cause, and the first fault ends the run.
     ensures read { IsCauseOf Status.ReadFault (S.faults source.old) (S.faults source.new) result }
     ensures write { IsCauseOf Status.WriteFault (K.faults sink.old) (K.faults sink.new) result }
+    // A document that its command serves has its answer, unless memory isn't found or a port fails.
+    ensures complete { IsComplete (map string_bytes words.now) (S.left source.old) (S.faults source.old) (S.faults source.new) (K.faults sink.old) (K.faults sink.new) result }
     // For other words no memory is taken.
     ensures other_words { IsNoCommand (map string_bytes words.now) → (result ≡ Status.Usage) ⊎ (result ≡ Status.WriteFault) }
     // For a generated game nothing is read, and its answer is positive.

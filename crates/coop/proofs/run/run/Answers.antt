@@ -6,7 +6,8 @@ use Rattle.coop.proofs.Ended.{ended}
 use Rattle.coop.proofs.ReadLines.{is_read_back_from}
 use Rattle.coop.proofs.Right.{no_command, right_usage}
 use Rattle.coop.proofs.Requests.{is_fit}
-use Rattle.coop.proofs.GeneratorEnds.{asks_for_something, asks_for_nothing, made}
+use Rattle.coop.proofs.Completed.{positive_or_negative, answered}
+use Rattle.coop.proofs.GeneratorEnds.{asks_for_nothing, made}
 use Rattle.coop.proofs.run.run.Goals as goal
 
 pub answer-requires : goal.answer-requires
@@ -52,3 +53,20 @@ pub returns-clause-generated : goal.returns-clause-generated
 returns-clause-generated g c = λ asks.
     let as_made = made _ c.in-Some.request _ _ c.answer.result c.in-Some.ensures asks c.answer.ensures.made in
     (as_made.0, inr (inr refl))
+
+pub returns-in-Ok-clause-complete : goal.returns-in-Ok-clause-complete
+returns-in-Ok-clause-complete g c = λ command bytes d said told document serves reads writes.
+    absurd ((no_command _ _ c.request_of.ensures c.in_default.not-Some).reads command said)
+
+pub returns-in-Err-clause-complete : goal.returns-in-Err-clause-complete
+returns-in-Err-clause-complete g c = λ command bytes d said told document serves reads writes.
+    absurd ((no_command _ _ c.request_of.ensures c.in_default.not-Some).reads command said)
+
+pub returns-in-Ok-write_line-clause-complete : goal.returns-in-Ok-write_line-clause-complete
+returns-in-Ok-write_line-clause-complete g c = λ command bytes d said told document serves reads writes.
+    let right = c.in-Ok-answer.ensures.right _ c.in-Some.ensures in
+    answered c.status_of-status.ensures (positive_or_negative _ command bytes d said document serves _ _ told c.in-Ok-answer.answer right)
+
+pub returns-clause-complete : goal.returns-clause-complete
+returns-clause-complete g c = λ command bytes d said told document serves reads writes.
+    absurd (writes (c.in-Err-write_line.ensures.cause.failed))

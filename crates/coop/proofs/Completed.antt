@@ -1,0 +1,78 @@
+-- A right answer to a document that its command serves is positive or negative.
+use Rattle.std.proofs.Common.{◌≡◌, ◌⊎◌, ℕ, List, Option, Some, refl, sym, subst, ◌∙◌, inl, inr, arith}
+use Rattle.checker.specs.declared.verdicts.Verdict.TheVariants.{Yes, No}
+use Rattle.convexity.specs.declared.answers.ConvexAnswer.TheVariants.{Convex as ConvexShares, Not as NotConvex}
+use Rattle.game_text.specs.Documents.{Contents}
+use Rattle.game_text.specs.Refusals.{IsDocument, IsRefused}
+use Rattle.game_text.specs.declared.command.Command.{Command}
+use Rattle.game_text.specs.declared.command.Command.TheVariants as command
+use Rattle.report.specs.declared.answer.Answer.{Answer}
+use Rattle.report.specs.declared.answer.Answer.TheVariants.{Nucleolus, NoImputation, InCore, NotEfficient, Blocked, CorePoint, EmptyCore, Shapley, Bird, Convex, Prekernel, NotPrekernel, Verdict, Usage, Refused, Summary}
+use Rattle.report.specs.declared.answer.UsageKind.{UsageKind}
+use Rattle.report.specs.declared.answer.UsageKind.TheVariants.{Words, Class, Players}
+use Rattle.coop.specs.Headline.{AnswersTo, IsAnsweredFor, IsRefusedFor}
+use Rattle.coop.specs.Words.{IsCommand}
+use Rattle.coop.specs.Outcome.{IsLeft, IsRight, status_of}
+use Rattle.coop.specs.Completeness.{Serves}
+use Rattle.coop.specs.declared.status.Status.{Status}
+use Rattle.coop.specs.declared.status.Status.TheVariants as status
+use Rattle.coop.proofs.Requests.{one_command}
+use Rattle.coop.proofs.OneAnswer.{same_document, not_refused}
+
+-- a document that is served is answered with no usage
+no_usage : (given : Command) (d : Contents) (kind : UsageKind) → Serves given d → AnswersTo given d (Usage kind) → ⊥
+no_usage command.Nucleolus d Players serves h = omega (arith, serves, h)
+no_usage command.Prenucleolus d Players serves h = omega (arith, serves, h)
+no_usage command.Check d Players serves h = omega (arith, serves, h)
+no_usage command.Shapley d Players serves h = omega (arith, serves, h)
+no_usage command.Convex d Players serves h = omega (arith, serves, h)
+no_usage command.Kernel d Players serves h = omega (arith, serves, h)
+no_usage command.Kernel d Words serves h = h.says
+no_usage command.Kernel d Class serves h = h.says
+no_usage command.Bird d Class serves h = serves h
+no_usage command.Propose d kind serves h = h.2
+no_usage given d kind serves h = h
+
+module _ (words : List (List ℕ)) (given : Command) (bytes : List ℕ) (d : Contents) (said : IsCommand words given) (document : IsDocument given bytes d) (serves : Serves given d) where
+  -- what is right for the words and the bytes is right for the document
+  served : (a : Answer) → IsAnsweredFor words bytes a → AnswersTo given d a
+  served a h =
+      let same = one_command given h.0 (sym said ∙ h.1.0) in
+      let here : IsDocument given bytes h.1.1.0 × AnswersTo given h.1.1.0 a = subst (λ (k : Command). IsDocument k bytes h.1.1.0 × AnswersTo k h.1.1.0 a) (sym same) (h.1.1.1.0, h.1.1.1.2) in
+      subst (λ (e : Contents). AnswersTo given e a) (sym (same_document given bytes d document h.1.1.0 here.0)) here.1
+
+  none_refused : (r : _) → IsRefusedFor words bytes r → ⊥
+  none_refused r h =
+      let same = one_command given h.0 (sym said ∙ h.1.0) in
+      not_refused given bytes d document r (subst (λ (k : Command). IsRefused k bytes r) (sym same) h.1.1)
+
+  module _ (old new : Option (List ℕ)) (told : old ≡ Some bytes) where
+    same_bytes : (b : List ℕ) → IsLeft old b → b ≡ bytes
+    same_bytes b left = sym (subst (λ (o : Option (List ℕ)). IsLeft o b) told left)
+
+    pub positive_or_negative : (a : Answer) → IsRight words old new a → (status_of a ≡ status.Done) ⊎ (status_of a ≡ status.Negative)
+    positive_or_negative (Usage Words) right = absurd (right.answers.reads given said)
+    positive_or_negative (Usage Class) right = absurd (no_usage given d Class serves (served (Usage Class) (subst (λ (b : List ℕ). IsAnsweredFor words b (Usage Class)) (same_bytes right.bytes right.left) right.answers)))
+    positive_or_negative (Usage Players) right = absurd (no_usage given d Players serves (served (Usage Players) (subst (λ (b : List ℕ). IsAnsweredFor words b (Usage Players)) (same_bytes right.bytes right.left) right.answers)))
+    positive_or_negative (Refused r) right = absurd (none_refused r (subst (λ (b : List ℕ). IsRefusedFor words b r) (same_bytes right.bytes right.left) right.answers))
+    positive_or_negative (Nucleolus family tree are_costs x c) right = inl refl
+    positive_or_negative (NoImputation singles total) right = inr refl
+    positive_or_negative InCore right = inl refl
+    positive_or_negative (NotEfficient sum total) right = inr refl
+    positive_or_negative (Blocked s e) right = inr refl
+    positive_or_negative (CorePoint are_costs x) right = inl refl
+    positive_or_negative (EmptyCore c value against) right = inr refl
+    positive_or_negative (Shapley are_costs x) right = inl refl
+    positive_or_negative (Bird x edges) right = inl refl
+    positive_or_negative (Convex are_costs (ConvexShares shapley marginal)) right = inl refl
+    positive_or_negative (Convex are_costs (NotConvex s i j deficit)) right = inr refl
+    positive_or_negative Prekernel right = inl refl
+    positive_or_negative (NotPrekernel i j ij ji) right = inr refl
+    positive_or_negative (Verdict Yes) right = inl refl
+    positive_or_negative (Verdict (No r)) right = inr refl
+    positive_or_negative (Summary s) right = inl refl
+
+-- the status of such an answer
+pub answered : {s t : Status} → s ≡ t → (t ≡ status.Done) ⊎ (t ≡ status.Negative) → (s ≡ status.Done) ⊎ (s ≡ status.Negative) ⊎ (s ≡ status.OutOfMemory)
+answered e (inl done) = inl (e ∙ done)
+answered e (inr negative) = inr (inl (e ∙ negative))
