@@ -67,46 +67,58 @@ fn the_greatest_games_of_each_kind_are_answered_alike_twice(rt: HostRuntime) -> 
     Ok(())
 }
 
+// Whether the words behind `gen` are those of no command.
+fn are_no_command(alloc: Global, words: &[&str]) -> Result<bool, Fail> {
+    let (status, line) = made(alloc, words)?;
+    Ok(status == Status::Usage && line.as_slice() == b"{\"usage\":\"words\"}\n".as_slice())
+}
+
+#[test]
+fn a_kind_has_no_game_of_other_sizes(rt: HostRuntime) -> Result<(), Fail> {
+    for (kind, players, seed) in [
+        ("table", "0", "1"),
+        ("table", "17", "1"),
+        ("tree", "0", "1"),
+        ("tree", "17", "1"),
+        ("airport", "0", "1"),
+        ("bankruptcy", "0", "1"),
+        ("bankruptcy", "65", "1"),
+        ("assignment", "1", "1"),
+        ("assignment", "17", "1"),
+    ] {
+        let refused = are_no_command(rt.alloc(), &[kind, players, seed])?;
+        assert!(rt; refused, "{kind} of {players}");
+    }
+    Ok(())
+}
+
 #[test]
 fn other_words_behind_gen_are_those_of_no_command(rt: HostRuntime) -> Result<(), Fail> {
-    for words in [
-        ["table", "0", "1"],
-        ["table", "17", "1"],
-        ["tree", "0", "1"],
-        ["tree", "17", "1"],
-        ["airport", "0", "1"],
-        ["airport", "65", "7"],
-        ["bankruptcy", "0", "1"],
-        ["bankruptcy", "65", "1"],
-        ["assignment", "1", "1"],
-        ["assignment", "17", "1"],
-        ["table", "02", "1"],
-        ["table", "2", "01"],
-        ["table", "2", "00"],
-        ["table", "+2", "1"],
-        ["table", "-2", "1"],
-        ["table", "2", "-0"],
-        ["table", "2", "+1"],
-        ["table", "2", "1/2"],
-        ["table", "2", "2/1"],
-        ["table", "2", " 1"],
-        ["table", "", "1"],
-        ["table", "2", ""],
-        ["table", "2", "2147483648"],
-        ["table", "2", "4294967296"],
-        ["table", "2", "4294967297"],
-        ["table", "18446744073709551618", "1"],
-        ["table", "2", "1000000000000000000000000000000000000000000"],
-        ["cost-table", "2", "1"],
-        ["Table", "2", "1"],
-        ["", "2", "1"],
+    for (kind, players, seed) in [
+        ("airport", "65", "7"),
+        ("table", "02", "1"),
+        ("table", "2", "01"),
+        ("table", "2", "00"),
+        ("table", "+2", "1"),
+        ("table", "-2", "1"),
+        ("table", "2", "-0"),
+        ("table", "2", "+1"),
+        ("table", "2", "1/2"),
+        ("table", "2", "2/1"),
+        ("table", "2", " 1"),
+        ("table", "", "1"),
+        ("table", "2", ""),
+        ("table", "2", "2147483648"),
+        ("table", "2", "4294967296"),
+        ("table", "2", "4294967297"),
+        ("table", "18446744073709551618", "1"),
+        ("table", "2", "1000000000000000000000000000000000000000000"),
+        ("cost-table", "2", "1"),
+        ("Table", "2", "1"),
+        ("", "2", "1"),
     ] {
-        let (status, line) = made(rt.alloc(), &words)?;
-        assert_eq!(rt; status, Status::Usage, "on {words:?}");
-        assert!(rt;
-            line.as_slice() == b"{\"usage\":\"words\"}\n".as_slice(),
-            "on {words:?}"
-        );
+        let refused = are_no_command(rt.alloc(), &[kind, players, seed])?;
+        assert!(rt; refused, "{kind} of {players} by {seed}");
     }
     Ok(())
 }
@@ -115,12 +127,7 @@ fn other_words_behind_gen_are_those_of_no_command(rt: HostRuntime) -> Result<(),
 fn gen_has_three_words_more(rt: HostRuntime) -> Result<(), Fail> {
     let words: [&[&str]; 4] = [&[], &["table"], &["table", "2"], &["table", "2", "1", "1"]];
     for words in words {
-        let (status, line) = made(rt.alloc(), words)?;
-        assert_eq!(rt; status, Status::Usage, "on {words:?}");
-        assert!(rt;
-            line.as_slice() == b"{\"usage\":\"words\"}\n".as_slice(),
-            "on {words:?}"
-        );
+        assert!(rt; are_no_command(rt.alloc(), words)?, "on {words:?}");
     }
     Ok(())
 }
