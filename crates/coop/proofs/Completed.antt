@@ -1,5 +1,6 @@
 -- A right answer to a document that its command serves is positive or negative.
 use Rattle.std.proofs.Common.{◌≡◌, ◌⊎◌, ℕ, List, Option, Some, refl, sym, subst, ◌∙◌, inl, inr, arith}
+use Rattle.std.proofs.lemmas.Bool.{true≢false}
 use Rattle.checker.specs.declared.verdicts.Verdict.TheVariants.{Yes, No}
 use Rattle.convexity.specs.declared.answers.ConvexAnswer.TheVariants.{Convex as ConvexShares, Not as NotConvex}
 use Rattle.game_text.specs.Documents.{Contents}
@@ -7,31 +8,35 @@ use Rattle.game_text.specs.Refusals.{IsDocument, IsRefused}
 use Rattle.game_text.specs.declared.command.Command.{Command}
 use Rattle.game_text.specs.declared.command.Command.TheVariants as command
 use Rattle.report.specs.declared.answer.Answer.{Answer}
-use Rattle.report.specs.declared.answer.Answer.TheVariants.{Nucleolus, NoImputation, InCore, NotEfficient, Blocked, CorePoint, EmptyCore, Shapley, Bird, Convex, Prekernel, NotPrekernel, Verdict, Usage, Refused, Summary}
+use Rattle.report.specs.declared.answer.Answer.TheVariants.{Nucleolus, NoImputation, InCore, NotEfficient, Blocked, CorePoint, EmptyCore, Shapley, Bird, Convex, Prekernel, NotPrekernel, Matching, Verdict, Usage, Refused, Summary}
 use Rattle.report.specs.declared.answer.UsageKind.{UsageKind}
 use Rattle.report.specs.declared.answer.UsageKind.TheVariants.{Words, Class, Players}
-use Rattle.coop.specs.Headline.{AnswersTo, IsAnsweredFor, IsRefusedFor}
+use Rattle.coop.specs.Headline.{Says, AnswersTo, IsAnsweredFor, IsRefusedFor}
 use Rattle.coop.specs.Words.{IsCommand}
 use Rattle.coop.specs.Outcome.{IsLeft, IsRight, status_of}
-use Rattle.coop.specs.Completeness.{Serves}
+use Rattle.coop.specs.Completeness.{ServesPlayers, Serves}
 use Rattle.coop.specs.declared.status.Status.{Status}
 use Rattle.coop.specs.declared.status.Status.TheVariants as status
 use Rattle.coop.proofs.Requests.{one_command}
 use Rattle.coop.proofs.OneAnswer.{same_document, not_refused}
 
--- a document that is served is answered with no usage
+-- a document whose class and players are served is answered with no usage
+none_said : (given : Command) (d : Contents) (kind : UsageKind) → ServesPlayers given d → Says given d (Usage kind) → ⊥
+none_said command.Nucleolus d Players serves h = omega (arith, serves, h)
+none_said command.Prenucleolus d Players serves h = omega (arith, serves, h)
+none_said command.Check d Players serves h = omega (arith, serves, h)
+none_said command.Shapley d Players serves h = omega (arith, serves, h)
+none_said command.Convex d Players serves h = omega (arith, serves, h)
+none_said command.Kernel d Players serves h = omega (arith, serves, h)
+none_said command.Kernel d Words serves h = h.says
+none_said command.Kernel d Class serves h = h.says
+none_said command.Propose d kind serves h = h.2
+none_said given d kind serves h = h
+
 no_usage : (given : Command) (d : Contents) (kind : UsageKind) → Serves given d → AnswersTo given d (Usage kind) → ⊥
-no_usage command.Nucleolus d Players serves h = omega (arith, serves, h)
-no_usage command.Prenucleolus d Players serves h = omega (arith, serves, h)
-no_usage command.Check d Players serves h = omega (arith, serves, h)
-no_usage command.Shapley d Players serves h = omega (arith, serves, h)
-no_usage command.Convex d Players serves h = omega (arith, serves, h)
-no_usage command.Kernel d Players serves h = omega (arith, serves, h)
-no_usage command.Kernel d Words serves h = h.says
-no_usage command.Kernel d Class serves h = h.says
-no_usage command.Bird d Class serves h = serves h
-no_usage command.Propose d kind serves h = h.2
-no_usage given d kind serves h = h
+no_usage given d Words serves h = none_said given d Words serves.1 h.1
+no_usage given d Class serves h = true≢false (sym serves.0 ∙ h)
+no_usage given d Players serves h = none_said given d Players serves.1 h.1
 
 module _ (words : List (List ℕ)) (given : Command) (bytes : List ℕ) (d : Contents) (said : IsCommand words given) (document : IsDocument given bytes d) (serves : Serves given d) where
   -- what is right for the words and the bytes is right for the document
@@ -68,6 +73,7 @@ module _ (words : List (List ℕ)) (given : Command) (bytes : List ℕ) (d : Con
     positive_or_negative (Convex are_costs (NotConvex s i j deficit)) right = inr refl
     positive_or_negative Prekernel right = inl refl
     positive_or_negative (NotPrekernel i j ij ji) right = inr refl
+    positive_or_negative (Matching solution) right = inl refl
     positive_or_negative (Verdict Yes) right = inl refl
     positive_or_negative (Verdict (No r)) right = inr refl
     positive_or_negative (Summary s) right = inl refl

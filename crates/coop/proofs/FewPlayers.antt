@@ -1,7 +1,7 @@
--- A game that a document describes, and that has no scheme of its own, has at most 16 players.
+-- A game that a document describes, and that is no market and has no scheme of its own, has at most 16 players.
 use Rattle.std.proofs.Common.{◌-◌, ◌≤◌, ℕ, ℤ, pos, negsuc, Bool, true, false, ◌&&◌, length, Option, Some, None, if◌then◌else◌, codes, nat_lt, nat_le, unwrap_or, option_and_then, refl, arith}
 use Rattle.std.specs.Prelude.{◌≡◌}
-use Rattle.std.proofs.lemmas.Bool.{leb-true}
+use Rattle.std.proofs.lemmas.Bool.{false≢true, leb-true}
 use Rattle.serde_json.specs.Data.{Data}
 use Rattle.serde_json.specs.Find.{get}
 use Rattle.json_trees.specs.Trees.{integer}
@@ -14,9 +14,10 @@ use Rattle.game_text.specs.Denominators.{tree_refusal}
 use Rattle.game_text.proofs.MatrixRows.{points_in, players_in}
 use Rattle.game_text.proofs.Passed.{passed_tests}
 use Rattle.game_text.specs.declared.command.Command.{Command}
-use Rattle.game_text.specs.Descriptions.{Description, table, cost_table, airport, bankruptcy, network, market, game_of, description_as, description_of}
+use Rattle.game_text.specs.Descriptions.{Description, table, cost_table, airport, bankruptcy, network, assignment, market, game_of, description_as, description_of}
 use Rattle.game_text.specs.declared.class.Class.{Class}
-use Rattle.game_text.specs.declared.class.Class.TheVariants.{Table, CostTable, Airport, Bankruptcy, Tree, Assignment}
+use Rattle.game_text.specs.declared.class.Class.TheVariants.{Table, CostTable, Airport, Bankruptcy, Tree, Assignment, Market}
+use Rattle.coop.specs.Classes.{is_no_market}
 use Rattle.coop.specs.Finding.{HasFewPlayers}
 use Rattle.coop.specs.Limits.{nucleolus_limit}
 use Rattle.definitions.specs.declared.Measure.TheVariants.{Plain}
@@ -34,23 +35,25 @@ few_at (Some (negsuc n)) = omega arith
 few_points : (n : ℕ) → n ≤ 17 → n - 1 ≤ 16
 few_points n h = omega (arith, h)
 
-few_as : (c : Option Class) (game : Data) → class_of game ≡ c → has_players_as c game ≡ true → HasFewPlayers (description_as c game)
-few_as None game e h = omega arith
-few_as (Some Table) game e h = rw e (few_at (option_and_then integer (get (codes "players") game)))
-few_as (Some CostTable) game e h = rw e (few_at (option_and_then integer (get (codes "players") game)))
-few_as (Some Airport) game e h = tt
-few_as (Some Bankruptcy) game e h = tt
-few_as (Some Tree) game e h = few_points (length (rows_of game)) (points_in game h).1
-few_as (Some Assignment) game e h = (players_in game h).2
+few_as : (c : Option Class) (game : Data) → class_of game ≡ c → has_players_as c game ≡ true → is_no_market (description_as c game) ≡ true → HasFewPlayers (description_as c game)
+few_as None game e h k = omega arith
+few_as (Some Table) game e h k = rw e (few_at (option_and_then integer (get (codes "players") game)))
+few_as (Some CostTable) game e h k = rw e (few_at (option_and_then integer (get (codes "players") game)))
+few_as (Some Airport) game e h k = tt
+few_as (Some Bankruptcy) game e h k = tt
+few_as (Some Tree) game e h k = few_points (length (rows_of game)) (points_in game h).1
+few_as (Some Assignment) game e h k = (players_in game h).2
+few_as (Some Market) game e h k = absurd (false≢true k)
 
-pub few_players : (command : Command) (document : Data) → tree_refusal command document ≡ None → HasFewPlayers (description_of (game_tree document))
-few_players command document passed = few_as (class_of (game_tree document)) (game_tree document) refl (passed_tests command document passed).players
+pub few_players : (command : Command) (document : Data) → tree_refusal command document ≡ None → is_no_market (description_of (game_tree document)) ≡ true → HasFewPlayers (description_of (game_tree document))
+few_players command document passed served = few_as (class_of (game_tree document)) (game_tree document) refl (passed_tests command document passed).players served
 
 -- within the limit of plain excess there are few players
-pub few_within : (d : Description) → (game_of d).players ≤ nucleolus_limit Plain d → HasFewPlayers d
-few_within (table n worths) h = h
-few_within (cost_table n costs) h = h
-few_within (airport costs) h = tt
-few_within (bankruptcy estate claims) h = tt
-few_within (network rows) h = h
-few_within (market rows) h = h
+pub few_within : (d : Description) → is_no_market d ≡ true → (game_of d).players ≤ nucleolus_limit Plain d → HasFewPlayers d
+few_within (table n worths) k h = h
+few_within (cost_table n costs) k h = h
+few_within (airport costs) k h = tt
+few_within (bankruptcy estate claims) k h = tt
+few_within (network rows) k h = h
+few_within (assignment rows) k h = h
+few_within (market rows) k h = absurd (false≢true k)

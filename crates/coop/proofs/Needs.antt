@@ -65,4 +65,5 @@ module _ (bytes : List ℕ) (d : Contents) where
   has_needed command.Shapley document fit certified k = tt
   has_needed command.Bird document fit certified k = tt
   has_needed command.Convex document fit certified k = tt
+  has_needed command.Matching document fit certified k = tt
   has_needed command.Kernel document fit certified k = has_shares _ (ap (λ (c : Contents). c.shares) (document_as command.Kernel bytes d document).says) fit

@@ -1,5 +1,6 @@
 -- Bytes that are checked have one right answer: of a document whose certificate certifies its shares it is yes.
-use Rattle.std.proofs.Common.{◌≡◌, ◌≤◌, ℕ, List, [], ◌∷◌, length, refl, sym, ap, subst, ◌∙◌, arith}
+use Rattle.std.proofs.Common.{◌≡◌, ◌≤◌, ℕ, List, [], ◌∷◌, length, true, refl, sym, ap, subst, ◌∙◌, arith}
+use Rattle.std.proofs.lemmas.Bool.{true≢false}
 use Rattle.std.proofs.lemmas.Option.{none-some, same_Some}
 use Rattle.serde_json.specs.Data.{Data}
 use Rattle.definitions.specs.Games.{Allocation}
@@ -23,8 +24,9 @@ use Rattle.game_text.specs.declared.refusal.Refusal.{Refusal}
 use Rattle.game_text.specs.declared.refusal.Refusal.TheVariants as refusal
 use Rattle.report.specs.declared.answer.Answer.{Answer}
 use Rattle.report.specs.declared.answer.Answer.TheVariants.{Verdict, Usage, Refused, Summary}
-use Rattle.report.specs.declared.answer.UsageKind.TheVariants.{Words, Players}
+use Rattle.report.specs.declared.answer.UsageKind.TheVariants.{Words, Class, Players}
 use Rattle.game_text.proofs.OfClass.{document_of_class}
+use Rattle.coop.specs.Classes.{serves_class}
 use Rattle.coop.specs.Limits.{check_limit}
 use Rattle.coop.specs.Checks.{Checks, HasEvidence}
 use Rattle.coop.specs.Headline.{AnswersTo, IsAnsweredFor, Answers}
@@ -85,12 +87,17 @@ module _ (d : Contents) (f : Family) (x : Allocation) (c : CertificateData) (evi
 one_word : (word : List ℕ) (first : List ℕ) {second : List ℕ} {words : List (List ℕ)} → word ∷ [] ≡ first ∷ second ∷ words → ⊥
 one_word word first e = absurd (omega (arith, ap (λ (l : List (List ℕ)). length l) e))
 
-module _ (bytes : List ℕ) (d : Contents) (document : IsDocument command.Check bytes d) (only : (answer : Answer) → Checks d answer → answer ≡ Verdict Yes) where
+-- the class is served
+only_said : (d : Contents) → serves_class command.Check d.game ≡ true → ((answer : Answer) → Checks d answer → answer ≡ Verdict Yes) → (answer : Answer) → AnswersTo command.Check d answer → answer ≡ Verdict Yes
+only_said d served only (Usage Class) h = absurd (true≢false (sym served ∙ h))
+only_said d served only answer h = only answer h.1
+
+module _ (bytes : List ℕ) (d : Contents) (document : IsDocument command.Check bytes d) (served : serves_class command.Check d.game ≡ true) (only : (answer : Answer) → Checks d answer → answer ≡ Verdict Yes) where
   only_served : (answer : Answer) → IsAnsweredFor (word_of command.Check ∷ []) bytes answer → answer ≡ Verdict Yes
   only_served answer h =
       let here : IsDocument command.Check bytes h.1.1.0 × AnswersTo command.Check h.1.1.0 answer =
       subst (λ (k : Command). IsDocument k bytes h.1.1.0 × AnswersTo k h.1.1.0 answer) (only_check h.0 h.1.0) (h.1.1.1.0, h.1.1.1.2) in
-      only answer (subst (λ (e : Contents). Checks e answer) (sym (same_document command.Check bytes d document h.1.1.0 here.0)) here.1)
+      only_said d served only answer (subst (λ (e : Contents). AnswersTo command.Check e answer) (sym (same_document command.Check bytes d document h.1.1.0 here.0)) here.1)
 
   only_yes : (answer : Answer) → Answers (word_of command.Check ∷ []) bytes answer → answer ≡ Verdict Yes
   only_yes (Usage Words) h = absurd (h.reads command.Check refl)
@@ -100,6 +107,6 @@ module _ (bytes : List ℕ) (d : Contents) (document : IsDocument command.Check 
 
 pub check_says_yes : (bytes : List ℕ) (d : Contents) → IsDocument command.Check bytes d → (f : Family) (printed : Data) (x : Allocation) (c : CertificateData) → SaysSame f printed x c d → CheckSaysYes bytes
 check_says_yes bytes d document f printed x c says = record {
-  yes = (command.Check, (refl, (d, (document, document_of_class command.Check bytes d document, (says.taken, (f, (says.shares, (c, (says.evidence, says.certifies)))))))));
-  only = only_yes bytes d document (only_verdict d f says.shares c says.evidence says.taken says.certifies);
+  yes = (command.Check, (refl, (d, (document, document_of_class command.Check bytes d document, (says.served, (says.taken, (f, (says.shares, (c, (says.evidence, says.certifies))))))))));
+  only = only_yes bytes d document says.served (only_verdict d f says.shares c says.evidence says.taken says.certifies);
 }

@@ -1,5 +1,5 @@
 -- The line of what a solver found can be checked.
-use Rattle.std.proofs.Common.{◌≡◌, ℕ, ◌+◌, ◌≤◌, List, [], ◌∷◌, length, Bool, None, sym, ap, subst, ◌∙◌, length-append, arith}
+use Rattle.std.proofs.Common.{◌≡◌, ℕ, ◌+◌, ◌≤◌, List, [], ◌∷◌, length, Bool, true, None, sym, ap, subst, ◌∙◌, length-append, arith}
 use Rattle.std.specs.List.{AllByRecursion}
 use Rattle.serde_json.specs.Data.{Data}
 use Rattle.serde_json.specs.View.{view}
@@ -10,7 +10,7 @@ use Rattle.definitions.specs.Certificates.{Level, Certifies}
 use Rattle.definitions.specs.declared.Family.{Family}
 use Rattle.fractions.proofs.WrittenFractions.{read_back}
 use Rattle.kohlberg.specs.Certificate.{CertificateData, IsCertificate}
-use Rattle.game_text.specs.Descriptions.{Description, table, cost_table, airport, bankruptcy, network, market, description_of, game_of, is_cost}
+use Rattle.game_text.specs.Descriptions.{Description, table, cost_table, airport, bankruptcy, network, assignment, market, description_of, game_of, is_cost}
 use Rattle.game_text.specs.Documents.{Contents, game_tree}
 use Rattle.game_text.specs.Denominators.{contents_of, tree_refusal}
 use Rattle.game_text.specs.Text.{document_limit}
@@ -30,6 +30,7 @@ use Rattle.kohlberg.specs.Solved.{HasFew, IsLowest, IsSolved}
 use Rattle.definitions.specs.declared.Measure.{Measure}
 use Rattle.definitions.specs.declared.Measure.TheVariants.{Plain, PerHead}
 use Rattle.game_text.specs.Excess.{measure_of}
+use Rattle.coop.specs.Classes.{serves_class}
 use Rattle.coop.specs.Limits.{nucleolus_limit, check_limit}
 use Rattle.coop.specs.Headline.{IsTaken}
 use Rattle.definitions.proofs.Families.{allocation_of}
@@ -57,13 +58,14 @@ within_check Plain (cost_table n costs) = omega arith
 within_check Plain (airport costs) = omega arith
 within_check Plain (bankruptcy estate claims) = omega arith
 within_check Plain (network rows) = omega arith
+within_check Plain (assignment rows) = omega arith
 within_check Plain (market rows) = omega arith
 
 -- ---- the line
 
 module _ (family : Family) (d : Contents) (value : Value) (are_costs : Bool) (x : Allocation) (c : CertificateData)
     (accepted : IsAccepted d) (same : view value ≡ d.tree) (signs : are_costs ≡ is_cost d.game)
-    (s : IsShares x) (h : IsCertificate c) (found : IsSolved c.mode family d.measure (game_of d.game) x c) (taken : IsTaken d) where
+    (s : IsShares x) (h : IsCertificate c) (found : IsSolved c.mode family d.measure (game_of d.game) x c) (taken : IsTaken d) (served : serves_class command.Check d.game ≡ true) where
   allocation : IsAllocation (game_of d.game) x
   allocation = allocation_of family (game_of d.game) x found.certifies.0
 
@@ -106,6 +108,7 @@ module _ (family : Family) (d : Contents) (value : Value) (are_costs : Bool) (x 
         tree = of.tree;
         game = of.game;
         measure = of.measure;
+        served = subst (λ g. serves_class command.Check g ≡ true) games served;
         taken = subst (λ m. (game_of e.game).players ≤ check_limit m) measures (subst (λ g. (game_of g).players ≤ check_limit d.measure) games checked);
         shares = of.shares.0;
         evidence = record { family = of.family; shares = of.shares.1; certificate = of.certificate };

@@ -28,7 +28,7 @@ word_at (suc k) (word ∷ words) = word_at k words
 -- the command of a word, by its length, and for two of one length by the first letter
 command_in : List ℕ → Command
 command_in w =
-    if nat_eq (length w) 9 then command.Nucleolus else (if nat_eq (length w) 12 then command.Prenucleolus else (if nat_eq (length w) 5 then command.Check else of_letter (length w) (slice_index w 0)))
+    if nat_eq (length w) 9 then command.Nucleolus else (if nat_eq (length w) 12 then command.Prenucleolus else (if nat_eq (length w) 5 then command.Check else (if nat_eq (length w) 8 then command.Matching else of_letter (length w) (slice_index w 0))))
   where
     of_letter : ℕ → ℕ → Command
     of_letter n letter =
@@ -45,6 +45,7 @@ command_read command.Shapley = refl
 command_read command.Bird = refl
 command_read command.Convex = refl
 command_read command.Kernel = refl
+command_read command.Matching = refl
 
 pub one_command : (a b : Command) → word_of a ∷ [] ≡ word_of b ∷ [] → a ≡ b
 one_command a b e = sym (command_read a) ∙ ap (λ (words : List (List ℕ)). command_in (word_at 0 words)) e ∙ command_read b

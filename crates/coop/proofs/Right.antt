@@ -1,5 +1,5 @@
 -- The answer is right for the words and the bytes that were left.
-use Rattle.std.proofs.Common.{◌≡◌, ℕ, ◌+◌, ◌<◌, ◌≤◌, List, [], ◌∷◌, ◌++◌, length, Option, Some, None, refl, ap, ◌∙◌, append-nil, length-append, arith}
+use Rattle.std.proofs.Common.{◌≡◌, ℕ, ◌+◌, ◌<◌, ◌≤◌, List, [], ◌∷◌, ◌++◌, length, true, Option, Some, None, Result, Ok, Err, IfOk, refl, ap, ◌∙◌, append-nil, length-append, arith}
 use Rattle.std.specs.Io.KnownBytes.{Consumes, IsAtEnd}
 use Rattle.game_text.specs.Documents.{Contents}
 use Rattle.game_text.specs.Refusals.{IsRefused, IsDocument}
@@ -11,9 +11,10 @@ use Rattle.game_text.specs.declared.refusal.Refusal.TheVariants as refusal
 use Rattle.report.specs.declared.answer.Answer.{Answer}
 use Rattle.report.specs.declared.answer.Answer.TheVariants.{Usage, Refused, Summary}
 use Rattle.report.specs.declared.summary.Summary.{Summary as Summaries}
-use Rattle.report.specs.declared.answer.UsageKind.TheVariants.{Words}
+use Rattle.report.specs.declared.answer.UsageKind.TheVariants.{Words, Class}
 use Rattle.game_text.proofs.OfClass.{document_of_class}
-use Rattle.coop.specs.Headline.{AnswersTo, IsAnsweredFor}
+use Rattle.coop.specs.Classes.{serves_class}
+use Rattle.coop.specs.Headline.{Says, AnswersTo, IsAnsweredFor}
 use Rattle.coop.specs.Outcome.{IsLeft, IsRight, ReadsAll, ReadsForRefusal}
 use Rattle.coop.specs.GeneratorClaims.{IsSummaryFor}
 use Rattle.coop.specs.Words.{word_of, IsNoCommand, Names}
@@ -47,23 +48,38 @@ module _ (given : Command) where
 
 -- ---- answers to a document
 
+-- no document of a class that is served is answered with the usage of the class
+no_class : (given : Command) (d : Contents) → Says given d (Usage Class) → ⊥
+no_class command.Propose d h = h.2
+no_class command.Kernel d h = h.says
+no_class given d h = h
+
+-- what is right for a document of a class that is served is right for the document
+pub of_class : (given : Command) (d : Contents) → serves_class given d.game ≡ true → (a : Answer) → Says given d a → AnswersTo given d a
+of_class given d served (Usage Class) h = absurd (no_class given d h)
+of_class given d served a h = (served, h)
+
+pub all_of_class : {E : Type 0} (given : Command) (d : Contents) → serves_class given d.game ≡ true → (r : Result Answer E) → IfOk r (Says given d) → IfOk r (AnswersTo given d)
+all_of_class given d served (Ok a) h = of_class given d served a h
+all_of_class given d served (Err e) h = tt
+
 -- no document is answered with the usage of words
 no_usage : (given : Command) (d : Contents) → AnswersTo given d (Usage Words) → ⊥
-no_usage command.Propose d h = h.2
-no_usage command.Kernel d h = h.says
-no_usage given d h = h
+no_usage command.Propose d h = h.1.2
+no_usage command.Kernel d h = h.1.says
+no_usage given d h = h.1
 
 -- nor with the summary of a generated game
 no_summary : (given : Command) (d : Contents) (s : Summaries) → AnswersTo given d (Summary s) → ⊥
-no_summary command.Propose d s h = h.2
-no_summary command.Kernel d s h = h.says
-no_summary given d s h = h
+no_summary command.Propose d s h = h.1.2
+no_summary command.Kernel d s h = h.1.says
+no_summary given d s h = h.1
 
 -- nor with a refusal
 no_refusal : (given : Command) (d : Contents) (r : Refusal) → AnswersTo given d (Refused r) → ⊥
-no_refusal command.Propose d r h = h.2
-no_refusal command.Kernel d r h = h.says
-no_refusal given d r h = h
+no_refusal command.Propose d r h = h.1.2
+no_refusal command.Kernel d r h = h.1.says
+no_refusal given d r h = h.1
 
 module _ (given : Command) (old new : Option (List ℕ)) (input : List ℕ) (p : Consumes old new input) (end : length input ≤ document_limit given → IsAtEnd new) (d : Contents) (document : IsDocument given input d) where
   left : IsLeft old input

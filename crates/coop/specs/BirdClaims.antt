@@ -1,29 +1,21 @@
 -- The right answer on Bird's shares of the game of a document.
 --
 --   IsBirdOf     the shares and the plan are Bird's, of a tree game
---   IsNoTree     the game is of another class
---   SaysOfBird   the answer is right for the game of a document: Bird's shares and plan, or that it is of another class
-use Rattle.std.specs.Prelude.{⊤, ℕ, ℤ, List}
+--   SaysOfBird   the answer is right for the game of a document
+use Rattle.std.specs.Prelude.{ℕ, ℤ, List}
 use Rattle.definitions.specs.Games.{Allocation}
 use Rattle.tree_games.specs.Trees.{IsBird}
 use Rattle.game_text.specs.Descriptions.{Description, network}
 use Rattle.game_text.specs.Documents.{Contents}
 use Rattle.report.specs.declared.answer.Answer.{Answer}
-use Rattle.report.specs.declared.answer.Answer.TheVariants.{Bird, Usage}
-use Rattle.report.specs.declared.answer.UsageKind.TheVariants.{Class}
+use Rattle.report.specs.declared.answer.Answer.TheVariants.{Bird}
 
 -- the edges are the Bird plan of a tree game, which costs least, each player pays for its own, and these shares lie in the core
 abbrev pub IsBirdOf : Description → Allocation → List (ℕ × ℕ × ℤ) → Type 0
 IsBirdOf (network rows) x edges = IsBird rows x edges
 IsBirdOf _ x edges = ⊥
 
--- the game is of another class
-abbrev pub IsNoTree : Description → Type 0
-IsNoTree (network rows) = ⊥
-IsNoTree _ = ⊤
-
 -- the answer is right for the game of a document
 abbrev pub SaysOfBird : Contents → Answer → Type 0
 SaysOfBird d (Bird x edges) = IsBirdOf d.game x edges
-SaysOfBird d (Usage Class) = IsNoTree d.game
 SaysOfBird d _ = ⊥

@@ -1,35 +1,41 @@
 -- When a run answers: always, where its command serves the document, unless memory isn't found or a port fails.
 --
---   Serves      the command answers games of this class, and of so many players
---   IsComplete  a run on a document that its command serves ends with an answer, or for want of memory
-use Rattle.std.specs.Prelude.{◌≡◌, ◌⊎◌, ◌≤◌, ℕ, List, Option, Some, ⊤}
+--   ServesPlayers   the command answers games of so many players
+--   Serves          the command answers games of this class, and of so many players
+--   IsComplete      a run on a document that its command serves ends with an answer, or for want of memory
+use Rattle.std.specs.Prelude.{◌≡◌, ◌⊎◌, ◌≤◌, ℕ, List, true, Option, Some, ⊤}
 use Rattle.ports.specs.Causes.{CountRose}
 use Rattle.game_text.specs.Descriptions.{game_of}
 use Rattle.game_text.specs.Documents.{Contents}
 use Rattle.game_text.specs.Refusals.{IsDocument}
 use Rattle.game_text.specs.declared.command.Command.{Command}
-use Rattle.game_text.specs.declared.command.Command.TheVariants.{Nucleolus, Prenucleolus, Propose, Core, Check, Shapley, Bird, Convex, Kernel}
+use Rattle.game_text.specs.declared.command.Command.TheVariants.{Nucleolus, Prenucleolus, Propose, Core, Check, Shapley, Bird, Convex, Kernel, Matching}
 use Rattle.coop.specs.Words.{IsCommand}
+use Rattle.coop.specs.Classes.{serves_class}
 use Rattle.coop.specs.Limits.{check_limit}
 use Rattle.coop.specs.Headline.{IsTaken}
 use Rattle.coop.specs.ShapleyClaims.{shapley_limit}
-use Rattle.coop.specs.BirdClaims.{IsNoTree}
 use Rattle.coop.specs.ConvexClaims.{convex_limit}
 use Rattle.coop.specs.KernelClaims.{kernel_limit}
 use Rattle.coop.specs.declared.status.Status.{Status}
 use Rattle.coop.specs.declared.status.Status.TheVariants as status
 
+-- the command answers games of so many players
+abbrev pub ServesPlayers : Command → Contents → Type 0
+ServesPlayers Nucleolus d = IsTaken d
+ServesPlayers Prenucleolus d = IsTaken d
+ServesPlayers Propose d = ⊤
+ServesPlayers Core d = ⊤
+ServesPlayers Check d = (game_of d.game).players ≤ check_limit d.measure
+ServesPlayers Shapley d = (game_of d.game).players ≤ shapley_limit d.game
+ServesPlayers Bird d = ⊤
+ServesPlayers Convex d = (game_of d.game).players ≤ convex_limit
+ServesPlayers Kernel d = (game_of d.game).players ≤ kernel_limit
+ServesPlayers Matching d = ⊤
+
 -- the command answers games of this class, and of so many players
 abbrev pub Serves : Command → Contents → Type 0
-Serves Nucleolus d = IsTaken d
-Serves Prenucleolus d = IsTaken d
-Serves Propose d = ⊤
-Serves Core d = ⊤
-Serves Check d = (game_of d.game).players ≤ check_limit d.measure
-Serves Shapley d = (game_of d.game).players ≤ shapley_limit d.game
-Serves Bird d = ¬ IsNoTree d.game
-Serves Convex d = (game_of d.game).players ≤ convex_limit
-Serves Kernel d = (game_of d.game).players ≤ kernel_limit
+Serves command d = (serves_class command d.game ≡ true) × ServesPlayers command d
 
 -- where the words are a command, the bytes that were left are a document that it serves, and no count of failures rose, the status is that of a positive or of a negative answer, or says that memory wasn't found
 abbrev pub IsComplete : List (List ℕ) → Option (List ℕ) → ℕ → ℕ → ℕ → ℕ → Status → Type 0

@@ -20,7 +20,7 @@ use Rattle.balanced.specs.Answer.{ShowsEmpty}
 use Rattle.balanced.specs.declared.CoreAnswer.{CoreAnswer}
 use Rattle.balanced.specs.declared.CoreAnswer.TheVariants.{Point, Empty}
 use Rattle.tree_games.specs.Trees.{IsBird}
-use Rattle.game_text.specs.Descriptions.{Description, table, cost_table, airport, bankruptcy, network, market, game_of, is_cost}
+use Rattle.game_text.specs.Descriptions.{Description, table, cost_table, airport, bankruptcy, network, assignment, market, game_of, is_cost}
 use Rattle.game_text.specs.Documents.{Contents}
 use Rattle.report.specs.declared.answer.Answer.{Answer}
 use Rattle.report.specs.declared.answer.Answer.TheVariants.{CorePoint, EmptyCore}
@@ -33,6 +33,7 @@ IsSchemePoint (cost_table n costs) x = ⊤
 IsSchemePoint (airport costs) x = IsNucleolus Imputations Plain (game_of (airport costs)) x
 IsSchemePoint (bankruptcy estate claims) x = IsNucleolus Imputations Plain (game_of (bankruptcy estate claims)) x
 IsSchemePoint (network rows) x = (edges : List (ℕ × ℕ × ℤ)) × IsBird rows x edges
+IsSchemePoint (assignment rows) x = ⊤
 IsSchemePoint (market rows) x = ⊤
 
 -- what a solver says of the core

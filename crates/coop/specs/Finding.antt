@@ -1,7 +1,7 @@
 -- What the solvers find, as the private functions below `solve_document` and `core_document` say it to one another.
 --
 --   IsFoundFor     what a solver finds: shares and a certificate, or that there is no imputation
---   HasFewPlayers  a game without a scheme of its own has at most 16 players
+--   HasFewPlayers  a game without a scheme of its own has at most 16 players, and is no market, which is matched instead
 use Rattle.std.specs.Prelude.{◌≤◌, ⊤}
 use Rattle.definitions.specs.Games.{Game}
 use Rattle.definitions.specs.declared.Family.{Family}
@@ -9,7 +9,7 @@ use Rattle.definitions.specs.declared.Measure.{Measure}
 use Rattle.tree_games.specs.Trees.{tree_game}
 use Rattle.assignment_games.specs.Assignments.{assignment_game}
 use Rattle.kohlberg.specs.Solved.{IsSolved}
-use Rattle.game_text.specs.Descriptions.{Description, table, cost_table, airport, bankruptcy, network, market}
+use Rattle.game_text.specs.Descriptions.{Description, table, cost_table, airport, bankruptcy, network, assignment, market}
 use Rattle.nested_programs.specs.Answer.{LacksImputation}
 use Rattle.nested_programs.specs.declared.found.Found.{Found}
 use Rattle.nested_programs.specs.declared.found.Found.TheVariants as found
@@ -19,11 +19,12 @@ abbrev pub IsFoundFor : Family → Measure → Game → Found → Type 0
 IsFoundFor family measure g (found.Point x c) = IsSolved c.mode family measure g x c
 IsFoundFor family measure g (found.NoImputation alone total) = LacksImputation family g alone total
 
--- a game without a scheme of its own has at most 16 players
+-- a game without a scheme of its own has at most 16 players, and is no market
 abbrev pub HasFewPlayers : Description → Type 0
 HasFewPlayers (table n worths) = n ≤ 16
 HasFewPlayers (cost_table n costs) = n ≤ 16
 HasFewPlayers (airport costs) = ⊤
 HasFewPlayers (bankruptcy estate claims) = ⊤
 HasFewPlayers (network rows) = (tree_game rows).players ≤ 16
-HasFewPlayers (market rows) = (assignment_game rows).players ≤ 16
+HasFewPlayers (assignment rows) = (assignment_game rows).players ≤ 16
+HasFewPlayers (market rows) = ⊥

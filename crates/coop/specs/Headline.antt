@@ -2,7 +2,8 @@
 -- per head as the document says, listed from the greatest, come lexicographically before those of every other imputation. Its
 -- printed certificate meets written conditions, which a separate checker decides and which alone imply this. And every game
 -- with an imputation is so answered: with plain excess every airport or bankruptcy game to 64 players, and every other of at
--- most sixteen; with excess per head every game of at most eight.
+-- most sixteen; with excess per head every game of at most eight; but for games of the class market, which `matching` alone
+-- answers.
 --
 -- It is the clause `ends` of `run`: after a status of an answer there is an answer that `Answers` the words and the bytes, and
 -- the sink took its line (`Ends` in Outcome.antt). What is below says it from the inside out:
@@ -11,16 +12,17 @@
 --   IsSolution           the nucleolus of the game of a document, with its certificate, as it is printed
 --   IsWithoutImputation  the players alone are worth more than all, and both numbers as they are printed
 --   Solves               the answer is right for the family and the game of a document
+--   Says                 the answer is right for a command and a document of a class that it serves
 --   AnswersTo            the answer is right for a command and its document
 --   Answers              the answer is right for the words and the bytes
 --
 -- What is right for the other commands stands in Judgement.antt (`propose`), CoreClaims.antt (`core`), Checks.antt (`check`),
--- ShapleyClaims.antt (`shapley`), BirdClaims.antt (`bird`), ConvexClaims.antt (`convex`), KernelClaims.antt (`kernel`) and
--- GeneratorClaims.antt (`gen`).
+-- ShapleyClaims.antt (`shapley`), BirdClaims.antt (`bird`), ConvexClaims.antt (`convex`), KernelClaims.antt (`kernel`),
+-- MatchingClaims.antt (`matching`) and GeneratorClaims.antt (`gen`); which classes a command serves, in Classes.antt.
 --
 -- No answer that isn't named is right, and the answers exclude one another: a nucleolus is an imputation, which gives each
 -- player at least what it is worth alone, so it can't come where the players alone are worth more than all.
-use Rattle.std.specs.Prelude.{◌≡◌, ◌<◌, ◌≤◌, ℕ, List, Bool, ℤ, ◌<ℤ◌}
+use Rattle.std.specs.Prelude.{◌≡◌, ◌<◌, ◌≤◌, ℕ, List, Bool, true, false, ℤ, ◌<ℤ◌}
 use Rattle.serde_json.specs.Data.{Data}
 use Rattle.serde_json.specs.View.{view}
 use Rattle.definitions.specs.Coalitions.{grand_coalition}
@@ -34,13 +36,14 @@ use Rattle.game_text.specs.Documents.{Contents}
 use Rattle.game_text.specs.OfClass.{IsOfClass}
 use Rattle.game_text.specs.Refusals.{IsDocument, IsRefused}
 use Rattle.game_text.specs.declared.command.Command.{Command}
-use Rattle.game_text.specs.declared.command.Command.TheVariants.{Nucleolus as NucleolusWord, Prenucleolus as PrenucleolusWord, Propose, Core, Check, Shapley, Bird, Convex, Kernel}
+use Rattle.game_text.specs.declared.command.Command.TheVariants.{Nucleolus as NucleolusWord, Prenucleolus as PrenucleolusWord, Propose, Core, Check, Shapley, Bird, Convex, Kernel, Matching}
 use Rattle.game_text.specs.declared.refusal.Refusal.{Refusal}
 use Rattle.nested_programs.specs.Answer.{singles}
 use Rattle.report.specs.declared.answer.Answer.{Answer}
 use Rattle.report.specs.declared.answer.Answer.TheVariants.{Nucleolus, NoImputation, Usage, Refused, Summary}
-use Rattle.report.specs.declared.answer.UsageKind.TheVariants.{Words, Players}
+use Rattle.report.specs.declared.answer.UsageKind.TheVariants.{Words, Class, Players}
 use Rattle.coop.specs.Words.{IsCommand, IsNoCommand}
+use Rattle.coop.specs.Classes.{serves_class}
 use Rattle.coop.specs.Limits.{nucleolus_limit}
 use Rattle.coop.specs.Judgement.{printed, JudgesAll}
 use Rattle.coop.specs.Checks.{Checks}
@@ -50,6 +53,7 @@ use Rattle.coop.specs.BirdClaims.{SaysOfBird}
 use Rattle.coop.specs.GeneratorClaims.{IsSummaryFor}
 use Rattle.coop.specs.ConvexClaims.{SaysOfConvex}
 use Rattle.coop.specs.KernelClaims.{SaysOfKernel}
+use Rattle.coop.specs.MatchingClaims.{SaysOfMatching}
 
 -- the game has no more players than are answered by its measure
 abbrev pub IsTaken : Contents → Type 0
@@ -80,17 +84,23 @@ Solves family d (NoImputation alone total) = IsTaken d × IsWithoutImputation fa
 Solves family d (Usage Players) = nucleolus_limit d.measure d.game < (game_of d.game).players
 Solves family d _ = ⊥
 
--- the answer is right for a command and what its document says
+-- the answer is right for a command and a document of a class that it serves
+abbrev pub Says : Command → Contents → Answer → Type 0
+Says NucleolusWord d answer = Solves Imputations d answer
+Says PrenucleolusWord d answer = Solves Preimputations d answer
+Says Propose d answer = JudgesAll d answer
+Says Core d answer = SaysOfCore d answer
+Says Check d answer = Checks d answer
+Says Shapley d answer = SaysOfShapley d answer
+Says Bird d answer = SaysOfBird d answer
+Says Convex d answer = SaysOfConvex d answer
+Says Kernel d answer = SaysOfKernel d answer
+Says Matching d answer = SaysOfMatching d answer
+
+-- the answer is right for a command and what its document says: the usage of the class exactly where the command doesn't serve it
 abbrev pub AnswersTo : Command → Contents → Answer → Type 0
-AnswersTo NucleolusWord d answer = Solves Imputations d answer
-AnswersTo PrenucleolusWord d answer = Solves Preimputations d answer
-AnswersTo Propose d answer = JudgesAll d answer
-AnswersTo Core d answer = SaysOfCore d answer
-AnswersTo Check d answer = Checks d answer
-AnswersTo Shapley d answer = SaysOfShapley d answer
-AnswersTo Bird d answer = SaysOfBird d answer
-AnswersTo Convex d answer = SaysOfConvex d answer
-AnswersTo Kernel d answer = SaysOfKernel d answer
+AnswersTo command d (Usage Class) = serves_class command d.game ≡ false
+AnswersTo command d answer = (serves_class command d.game ≡ true) × Says command d answer
 
 -- the words are a command, the bytes are a document of it, whose game has the worths of its class, and the answer is right for both
 abbrev pub IsAnsweredFor : List (List ℕ) → List ℕ → Answer → Type 0

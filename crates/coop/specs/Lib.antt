@@ -1,5 +1,6 @@
 pub mod Words
 pub mod Judgement
+pub mod Classes
 pub mod Limits
 pub mod Checks
 pub mod CoreClaims
@@ -9,6 +10,7 @@ pub mod GeneratorClaims
 pub mod GeneratorRuns
 pub mod ConvexClaims
 pub mod KernelClaims
+pub mod MatchingClaims
 pub mod Headline
 pub mod ReadBack
 pub mod Completeness

@@ -5,7 +5,7 @@
 use Rattle.std.specs.Prelude.{ℕ}
 use Rattle.definitions.specs.declared.Measure.{Measure}
 use Rattle.definitions.specs.declared.Measure.TheVariants.{Plain, PerHead}
-use Rattle.game_text.specs.Descriptions.{Description, table, cost_table, airport, bankruptcy, network, market}
+use Rattle.game_text.specs.Descriptions.{Description, table, cost_table, airport, bankruptcy, network, assignment, market}
 
 -- the most players of a game whose nucleolus is answered: the programs per head are those of few players, and with plain excess airport and bankruptcy games have schemes of their own
 abbrev pub nucleolus_limit : Measure → Description → ℕ
@@ -15,6 +15,7 @@ nucleolus_limit Plain (cost_table n costs) = 16
 nucleolus_limit Plain (airport costs) = 64
 nucleolus_limit Plain (bankruptcy estate claims) = 64
 nucleolus_limit Plain (network rows) = 16
+nucleolus_limit Plain (assignment rows) = 16
 nucleolus_limit Plain (market rows) = 16
 
 -- the most players of a game whose certificates are checked

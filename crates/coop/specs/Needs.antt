@@ -12,7 +12,7 @@ use Rattle.game_text.specs.Excess.{measure_of}
 use Rattle.game_text.specs.Denominators.{tree_refusal}
 use Rattle.game_text.specs.Text.{document_limit}
 use Rattle.game_text.specs.declared.command.Command.{Command}
-use Rattle.game_text.specs.declared.command.Command.TheVariants.{Nucleolus, Prenucleolus, Propose, Core, Check, Shapley, Bird, Convex, Kernel}
+use Rattle.game_text.specs.declared.command.Command.TheVariants.{Nucleolus, Prenucleolus, Propose, Core, Check, Shapley, Bird, Convex, Kernel, Matching}
 use Rattle.coop.specs.Judgement.{HasShares}
 use Rattle.coop.specs.Checks.{IsComplete}
 
@@ -40,3 +40,4 @@ HasNeeded Shapley d = ⊤
 HasNeeded Bird d = ⊤
 HasNeeded Convex d = ⊤
 HasNeeded Kernel d = HasShares d
+HasNeeded Matching d = ⊤

@@ -21,7 +21,7 @@ use Rattle.game_text.specs.declared.refusal.Refusal.{Refusal}
 use Rattle.game_text.specs.declared.refusal.Refusal.TheVariants.{TooLong}
 use Rattle.report.specs.Lines.{line}
 use Rattle.report.specs.declared.answer.Answer.{Answer}
-use Rattle.report.specs.declared.answer.Answer.TheVariants.{Nucleolus, NoImputation, InCore, NotEfficient, Blocked, CorePoint, EmptyCore, Shapley, Bird, Convex, Prekernel, NotPrekernel, Verdict, Usage, Refused, Summary}
+use Rattle.report.specs.declared.answer.Answer.TheVariants.{Nucleolus, NoImputation, InCore, NotEfficient, Blocked, CorePoint, EmptyCore, Shapley, Bird, Convex, Prekernel, NotPrekernel, Matching, Verdict, Usage, Refused, Summary}
 use Rattle.report.specs.declared.answer.UsageKind.TheVariants.{Words}
 use Rattle.checker.specs.declared.verdicts.Verdict.{Verdict as CheckVerdict}
 use Rattle.checker.specs.declared.verdicts.Verdict.TheVariants.{Yes, No}
@@ -90,6 +90,7 @@ status_of (Bird x edges) = status.Done
 status_of (Convex are_costs answer) = convex_status answer
 status_of Prekernel = status.Done
 status_of (NotPrekernel i j ij ji) = status.Negative
+status_of (Matching solution) = status.Done
 status_of (Verdict v) = verdict_status v
 status_of (Usage kind) = status.Usage
 status_of (Refused r) = status.Refused

@@ -4,7 +4,7 @@
 --   CanBeRead     no test refuses the tree of an answer where it is checked, and it says the same
 --   CheckSaysYes  yes is the one right answer to bytes that are checked
 --   IsReadBack    the line of an answer is a document to check, says the same, and gets yes
-use Rattle.std.specs.Prelude.{◌≡◌, ◌≤◌, ⊤, ℕ, List, [], ◌∷◌, length, None}
+use Rattle.std.specs.Prelude.{◌≡◌, ◌≤◌, ⊤, ℕ, List, [], ◌∷◌, length, true, None}
 use Rattle.serde_json.specs.Data.{Data}
 use Rattle.serde_json.specs.View.{view}
 use Rattle.definitions.specs.Games.{Allocation, IsSame}
@@ -23,15 +23,17 @@ use Rattle.report.specs.declared.answer.Answer.{Answer}
 use Rattle.report.specs.declared.answer.Answer.TheVariants.{Nucleolus, Verdict}
 use Rattle.checker.specs.declared.verdicts.Verdict.TheVariants.{Yes}
 use Rattle.coop.specs.Words.{word_of}
+use Rattle.coop.specs.Classes.{serves_class}
 use Rattle.coop.specs.Limits.{check_limit}
 use Rattle.coop.specs.Checks.{HasEvidence}
 use Rattle.coop.specs.Headline.{Answers}
 
--- the document gives the game of this tree and its measure, the family, the same shares over some denominator, and the certificate, which certifies them; the players aren't too many to be checked
+-- the document gives the game of this tree and its measure, the family, the same shares over some denominator, and the certificate, which certifies them; the class and the number of players are checked
 pub record SaysSame (f : Family) (printed : Data) (x : Allocation) (c : CertificateData) (d : Contents) : Type 0 where
   pub tree : d.tree ≡ printed
   pub game : d.game ≡ description_of printed
   pub measure : d.measure ≡ measure_of printed
+  pub served : serves_class Check d.game ≡ true
   pub taken : (game_of d.game).players ≤ check_limit d.measure
   pub shares : Allocation
   pub evidence : HasEvidence d f shares c

@@ -6,7 +6,7 @@
 use Rattle.std.specs.Prelude.{◌≡◌, ◌<◌, ◌≤◌, ℕ, Bool}
 use Rattle.definitions.specs.Games.{Allocation}
 use Rattle.definitions.specs.Shapley.{IsShapley}
-use Rattle.game_text.specs.Descriptions.{Description, table, cost_table, airport, bankruptcy, network, market, game_of, is_cost}
+use Rattle.game_text.specs.Descriptions.{Description, table, cost_table, airport, bankruptcy, network, assignment, market, game_of, is_cost}
 use Rattle.game_text.specs.Documents.{Contents}
 use Rattle.report.specs.declared.answer.Answer.{Answer}
 use Rattle.report.specs.declared.answer.Answer.TheVariants.{Shapley, Usage}
@@ -19,6 +19,7 @@ shapley_limit (cost_table n costs) = 16
 shapley_limit (airport costs) = 32
 shapley_limit (bankruptcy estate claims) = 16
 shapley_limit (network rows) = 16
+shapley_limit (assignment rows) = 16
 shapley_limit (market rows) = 16
 
 -- each share is the mean of what its player adds, over all orders of the players, who aren't too many; and the shares are printed as payments where the numbers of the game are costs

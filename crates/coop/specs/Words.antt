@@ -11,7 +11,7 @@
 use Rattle.std.specs.Prelude.{◌≡◌, ⊤, ◌<◌, ◌^◌, ℕ, pos, List, [], ◌∷◌, codes, Option, Some, None}
 use Rattle.fractions.specs.FractionTexts.{fraction_text}
 use Rattle.game_text.specs.declared.command.Command.{Command}
-use Rattle.game_text.specs.declared.command.Command.TheVariants.{Nucleolus, Prenucleolus, Propose, Core, Check, Shapley, Bird, Convex, Kernel}
+use Rattle.game_text.specs.declared.command.Command.TheVariants.{Nucleolus, Prenucleolus, Propose, Core, Check, Shapley, Bird, Convex, Kernel, Matching}
 use Rattle.game_text.specs.declared.kind.Kind.{Kind}
 use Rattle.coop_gen.specs.Generated.{HasKindSize}
 use Rattle.report.specs.Words.{kind_word}
@@ -29,8 +29,9 @@ word_of Shapley = codes "shapley"
 word_of Bird = codes "bird"
 word_of Convex = codes "convex"
 word_of Kernel = codes "kernel"
+word_of Matching = codes "matching"
 
--- decimal digits without a sign, and without a leading zero but for 0 itself
+-- a whole number's digits: no sign, and a zero in front only where the number is 0
 abbrev pub number_text : ℕ → List ℕ
 number_text n = fraction_text (record { num = pos n; den = pos 1 })
 

@@ -1,17 +1,20 @@
 //! Bird's shares of the game of a document.
-ghost use Rattle.std.specs.Prelude.{IfOk};
+ghost use Rattle.std.specs.Prelude.{◌≡◌, true, IfOk};
+ghost use Rattle.game_text.specs.Games.{description_in};
 ghost use Rattle.game_text.specs.Readings.{contents_in};
 ghost use Rattle.report.specs.Limits.{IsPrintable};
 ghost use Rattle.coop.specs.ReadBack.{CanBeRead};
 ghost use Rattle.coop.specs.BirdClaims.{SaysOfBird};
+ghost use Rattle.coop.specs.Classes.{is_tree};
 
 use fractions::OutOfMemory;
 use game_text::{Document, Game};
-use report::{Answer, UsageKind};
+use report::Answer;
 use std::alloc::Global;
 
-/// What each player of a tree game pays in Bird's plan, with the plan; or that the game is of another class.
+/// What each player of the tree game of a document pays in Bird's plan, with the plan.
 pub fn bird_document(alloc: Global, document: &Document) -> Result<Answer, OutOfMemory>
+    requires { is_tree (description_in document.now.game) ≡ true }
     ensures says { IfOk result (SaysOfBird (contents_in document.now)) }
     ensures printable { IfOk result IsPrintable }
     ensures readable { IfOk result CanBeRead }
@@ -25,6 +28,7 @@ pub fn bird_document(alloc: Global, document: &Document) -> Result<Answer, OutOf
         | Game::Cost(_)
         | Game::Airport(_)
         | Game::Bankruptcy(_)
-        | Game::Assignment(_) => Ok(Answer::Usage(UsageKind::Class)),
+        | Game::Assignment(_)
+        | Game::Market(_) => unreachable!(),
     }
 }

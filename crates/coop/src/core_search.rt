@@ -1,10 +1,11 @@
 //! The core of the game of a document.
-ghost use Rattle.std.specs.Prelude.{◌≡◌, ◌≤◌, IfOk};
+ghost use Rattle.std.specs.Prelude.{◌≡◌, ◌≤◌, true, IfOk};
 ghost use Rattle.kohlberg.specs.Certificate.{IsCertificate};
 ghost use Rattle.balanced.specs.Answer.{ShowsEmpty, IsFound};
 ghost use Rattle.game_text.specs.Games.{description_in};
 ghost use Rattle.game_text.specs.Readings.{contents_in};
 ghost use Rattle.report.specs.Limits.{IsPrintable};
+ghost use Rattle.coop.specs.Classes.{is_no_market};
 ghost use Rattle.coop.specs.CoreClaims.{IsSaidOf, IsShown, SaysOfCore};
 ghost use Rattle.coop.specs.Needs.{IsAccepted};
 ghost use Rattle.coop.specs.ReadBack.{CanBeRead};
@@ -25,7 +26,8 @@ use worth_core::{Shares, Worth};
 /// The point of an airport or bankruptcy game is its nucleolus, that of a tree game has Bird's shares, and the others are
 /// answered by the balanced program.
 pub fn core_document(alloc: Global, document: &Document) -> Result<Answer, OutOfMemory>
-    requires { IsAccepted (contents_in document.now) }
+    requires accepted { IsAccepted (contents_in document.now) }
+    requires class { is_no_market (description_in document.now.game) ≡ true }
     ensures says { IfOk result (SaysOfCore (contents_in document.now)) }
     ensures printable { IfOk result IsPrintable }
     ensures readable { IfOk result CanBeRead }
@@ -49,6 +51,7 @@ fn said_of(alloc: Global, game: &Game) -> Result<CoreAnswer, OutOfMemory>
         Game::Cost(game) => by_program(alloc, game),
         Game::Tree(game) => Ok(CoreAnswer::Point(game.bird(alloc)?.0)),
         Game::Assignment(game) => by_program(alloc, game),
+        Game::Market(_) => unreachable!(),
     }
 }
 

@@ -14,8 +14,10 @@ pub fn nucleolus_limit(measure: Measure, game: &Game) -> u32
     match (measure, game) {
         (Measure::PerHead, _) => 8,
         (Measure::Plain, Game::Airport(_) | Game::Bankruptcy(_)) => 64,
-        (Measure::Plain, Game::Table(_) | Game::Cost(_) | Game::Tree(_) | Game::Assignment(_)) =>
-            16,
+        (
+            Measure::Plain,
+            Game::Table(_) | Game::Cost(_) | Game::Tree(_) | Game::Assignment(_) | Game::Market(_),
+        ) => 16,
     }
 }
 

@@ -4,11 +4,13 @@
 mod adapters;
 mod bird_shares;
 mod check;
+mod classes;
 mod convex_shares;
 mod core_search;
 mod generated;
 mod judge;
 mod limits;
+mod market_matching;
 mod prekernel_test;
 mod run;
 mod shapley_values;

@@ -1,8 +1,10 @@
 //! From the words and the input to the status and the line.
-ghost use Rattle.std.specs.Prelude.{◌≡◌, ◌⊎◌, ℕ, List, [], ◌∷◌, map, string_bytes, IfOk};
+ghost use Rattle.std.specs.Prelude.{◌≡◌, ◌⊎◌, ℕ, List, [], ◌∷◌, map, string_bytes, true, IfOk};
 ghost use Rattle.report.specs.Limits.{IsPrintable};
+ghost use Rattle.game_text.specs.Games.{description_in};
 ghost use Rattle.game_text.specs.Readings.{contents_in};
-ghost use Rattle.coop.specs.Headline.{AnswersTo};
+ghost use Rattle.coop.specs.Classes.{serves_class};
+ghost use Rattle.coop.specs.Headline.{Says, AnswersTo};
 ghost use Rattle.coop.specs.Needs.{HasNeeded};
 ghost use Rattle.coop.specs.GeneratorRuns.{AsksForGame, EndsMade, IsMadeFor};
 ghost use Rattle.coop.specs.Completeness.{IsComplete};
@@ -13,10 +15,12 @@ ghost use Rattle.coop.specs.Words.{word_of, IsFit, IsRequest, IsNoCommand};
 
 use crate::bird_shares::bird_document;
 use crate::check::check_document;
+use crate::classes::serves_class;
 use crate::convex_shares::convex_document;
 use crate::core_search::core_document;
 use crate::generated::summary_of;
 use crate::judge::judge_document;
+use crate::market_matching::matching_document;
 use crate::prekernel_test::kernel_document;
 use crate::shapley_values::shapley_document;
 use crate::solve::solve_document;
@@ -27,7 +31,7 @@ use crate::words::{Request, request_of, usage_line};
 use fractions::OutOfMemory;
 use game_text::{Command, Document, TextFault, document_limit, read_document};
 use ports::{Sink, Source};
-use report::{Answer, write_report};
+use report::{Answer, UsageKind, write_report};
 use std::alloc::Global;
 use worth_core::Family;
 
@@ -121,6 +125,20 @@ fn answer_to(alloc: Global, command: Command, document: Document) -> Result<Answ
     ensures printable { IfOk result IsPrintable }
     ensures readable { IfOk result CanBeRead }
 {
+    if !serves_class(command, &document.game) {
+        return Ok(Answer::Usage(UsageKind::Class));
+    }
+    said_to(alloc, command, document)
+}
+
+// The answer to the command on its document, whose class it serves.
+fn said_to(alloc: Global, command: Command, document: Document) -> Result<Answer, OutOfMemory>
+    requires needed { HasNeeded command (contents_in document) }
+    requires class { serves_class command (description_in document.game) ≡ true }
+    ensures says { IfOk result (Says command (contents_in document)) }
+    ensures printable { IfOk result IsPrintable }
+    ensures readable { IfOk result CanBeRead }
+{
     match command {
         Command::Nucleolus => solve_document(alloc, document, Family::Imputations),
         Command::Prenucleolus => solve_document(alloc, document, Family::Preimputations),
@@ -131,5 +149,6 @@ fn answer_to(alloc: Global, command: Command, document: Document) -> Result<Answ
         Command::Bird => bird_document(alloc, &document),
         Command::Convex => convex_document(alloc, &document),
         Command::Kernel => Ok(kernel_document(&document)),
+        Command::Matching => matching_document(alloc, &document),
     }
 }

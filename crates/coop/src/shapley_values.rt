@@ -1,10 +1,11 @@
 //! The Shapley shares of the game of a document.
-ghost use Rattle.std.specs.Prelude.{◌<◌, ◌↔◌, IfOk, IsErrOf};
+ghost use Rattle.std.specs.Prelude.{◌≡◌, ◌<◌, ◌↔◌, true, IfOk, IsErrOf};
 ghost use Rattle.definitions.specs.Shapley.{IsShapley};
 ghost use Rattle.game_text.specs.Descriptions.{game_of};
 ghost use Rattle.game_text.specs.Games.{description_in};
 ghost use Rattle.game_text.specs.Readings.{contents_in};
 ghost use Rattle.report.specs.Limits.{IsPrintable};
+ghost use Rattle.coop.specs.Classes.{is_no_market};
 ghost use Rattle.coop.specs.ReadBack.{CanBeRead};
 ghost use Rattle.coop.specs.ShapleyClaims.{shapley_limit, SaysOfShapley};
 
@@ -18,6 +19,7 @@ use worth_core::Shares;
 /// The Shapley shares of the game of a document, or that it has more players than are answered: 32 for an airport game, and 16
 /// for another.
 pub fn shapley_document(alloc: Global, document: &Document) -> Result<Answer, OutOfMemory>
+    requires { is_no_market (description_in document.now.game) ≡ true }
     ensures says { IfOk result (SaysOfShapley (contents_in document.now)) }
     ensures printable { IfOk result IsPrintable }
     ensures readable { IfOk result CanBeRead }
@@ -32,6 +34,7 @@ pub fn shapley_document(alloc: Global, document: &Document) -> Result<Answer, Ou
 
 // The shares of an airport game by the steps of its costs, and those of another by its coalitions.
 fn shares_of(alloc: Global, game: &Game) -> Result<Shares, ShapleyFault>
+    requires { is_no_market (description_in game.now) ≡ true }
     ensures value { IfOk result (IsShapley (game_of (description_in game.now))) }
     ensures too_many { IsErrOf result ShapleyFault.TooMany ↔ (shapley_limit (description_in game.now) < (game_of (description_in game.now)).players) }
 {
@@ -42,5 +45,6 @@ fn shares_of(alloc: Global, game: &Game) -> Result<Shares, ShapleyFault>
         Game::Bankruptcy(game) => shapley(alloc, game),
         Game::Tree(game) => shapley(alloc, game),
         Game::Assignment(game) => shapley(alloc, game),
+        Game::Market(_) => unreachable!(),
     }
 }

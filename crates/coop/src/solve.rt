@@ -1,5 +1,5 @@
 //! The nucleolus of the game of a document.
-ghost use Rattle.std.specs.Prelude.{◌≡◌, ◌≤◌, IfOk};
+ghost use Rattle.std.specs.Prelude.{◌≡◌, ◌≤◌, true, IfOk};
 ghost use Rattle.definitions.specs.Games.{IsShares};
 ghost use Rattle.kohlberg.specs.Certificate.{IsCertificate};
 ghost use Rattle.game_text.specs.Descriptions.{game_of};
@@ -9,6 +9,7 @@ ghost use Rattle.report.specs.Limits.{IsPrintable};
 ghost use Rattle.coop.specs.Needs.{IsAccepted};
 ghost use Rattle.coop.specs.ReadBack.{CanBeRead};
 ghost use Rattle.definitions.specs.declared.Measure.{Measure};
+ghost use Rattle.coop.specs.Classes.{is_no_market};
 ghost use Rattle.coop.specs.Limits.{nucleolus_limit};
 ghost use Rattle.coop.specs.Finding.{HasFewPlayers, IsFoundFor};
 ghost use Rattle.coop.specs.Headline.{Solves};
@@ -34,7 +35,8 @@ pub fn solve_document(
     document: Document,
     family: Family,
 ) -> Result<Answer, OutOfMemory>
-    requires { IsAccepted (contents_in document) }
+    requires accepted { IsAccepted (contents_in document) }
+    requires class { is_no_market (description_in document.game) ≡ true }
     ensures solves { IfOk result (Solves family (contents_in document)) }
     ensures printable { IfOk result IsPrintable }
     ensures readable { IfOk result CanBeRead }
@@ -68,7 +70,8 @@ fn found_for(
     family: Family,
     measure: Measure,
 ) -> Result<Found, OutOfMemory>
-    requires { (game_of (description_in game.now)).players ≤ nucleolus_limit measure (description_in game.now) }
+    requires class { is_no_market (description_in game.now) ≡ true }
+    requires few { (game_of (description_in game.now)).players ≤ nucleolus_limit measure (description_in game.now) }
     ensures { IfOk result (IsFoundFor family measure (game_of (description_in game.now))) }
 {
     match measure {
@@ -100,6 +103,7 @@ pub fn found_plainly(alloc: Global, game: &Game, family: Family) -> Result<Found
             Measure::Plain,
         ),
         Game::Assignment(game) => by_programs(alloc, game, family, Measure::Plain),
+        Game::Market(_) => unreachable!(),
     }
 }
 

@@ -49,6 +49,7 @@ pub fn status_of(answer: &Answer) -> Status
             ..
         }
         | Answer::Prekernel
+        | Answer::Matching(_)
         | Answer::Summary(_)
         | Answer::Verdict(Verdict::Yes) => Status::Done,
         Answer::NoImputation { .. }

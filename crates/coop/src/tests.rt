@@ -5,6 +5,7 @@ mod cores;
 mod failing_calls;
 mod generated_games;
 mod hostile_documents;
+mod markets;
 mod networks_and_markets;
 mod nucleolus;
 mod per_head;

@@ -51,6 +51,7 @@ fn command_named(word: &str) -> Option<Command>
         "bird" => Some(Command::Bird),
         "convex" => Some(Command::Convex),
         "kernel" => Some(Command::Kernel),
+        "matching" => Some(Command::Matching),
         _ => None,
     }
 }

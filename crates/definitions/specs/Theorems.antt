@@ -3,7 +3,7 @@
 --   MeasuresDivide         a measured excess over its denominator is the excess over the denominator times the divisor
 --   CertificatesAreSound   a certificate that meets its conditions certifies the nucleolus (Kohlberg 1971)
 --   CollectionsBlock       no core point stands beside a balanced collection of excess worth (Bondareva 1963, Shapley 1967)
---   PrenucleolusBalances   the prenucleolus lies in the prekernel (Maschler, Peleg and Shapley 1972)
+--   PrenucleolusBalances   the prenucleolus lies in the prekernel (Schmeidler 1969; Maschler, Peleg and Shapley 1979)
 use Rattle.std.specs.Prelude.{◌≡◌, ℕ, ◌^◌, ◌<◌, ℤ, pos, ◌*ℤ◌, List}
 use Rattle.definitions.specs.Measures.{divisor, measured, measured_den, IsMeasurable}
 use Rattle.definitions.specs.Games.{Game, Allocation, InCore, IsNucleolus}

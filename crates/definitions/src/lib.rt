@@ -57,7 +57,8 @@ pub fn collections_block()
     ensures { CollectionsBlock }
 {}
 
-/// The prenucleolus balances every two players: it lies in the prekernel (Maschler, Peleg and Shapley 1972).
+/// The prenucleolus balances every two players: it lies in the prekernel (Schmeidler 1969; Maschler, Peleg and
+/// Shapley 1979).
 pub fn prenucleolus_balances()
     ensures { PrenucleolusBalances }
 {}

@@ -21,9 +21,9 @@ use Rattle.game_text.specs.Readings.{IsTreeReading, IsTreeFault}
 use Rattle.game_text.proofs.MatrixRows.{row_count, seller_count_of}
 use Rattle.game_text.proofs.Passed.{IsPassed, behind, passed_tests}
 use Rattle.game_text.specs.declared.class.Class.{Class}
-use Rattle.game_text.specs.declared.class.Class.TheVariants.{Table, CostTable, Airport, Bankruptcy, Tree, Assignment}
+use Rattle.game_text.specs.declared.class.Class.TheVariants.{Table, CostTable, Airport, Bankruptcy, Tree, Assignment, Market}
 use Rattle.game_text.specs.declared.command.Command.{Command}
-use Rattle.game_text.specs.declared.command.Command.TheVariants.{Nucleolus, Prenucleolus, Propose, Core, Check, Shapley, Bird, Convex, Kernel}
+use Rattle.game_text.specs.declared.command.Command.TheVariants.{Nucleolus, Prenucleolus, Propose, Core, Check, Shapley, Bird, Convex, Kernel, Matching}
 use Rattle.game_text.specs.declared.document.Document.{Document}
 use Rattle.game_text.specs.declared.fault.TextFault.{TextFault}
 use Rattle.game_text.specs.declared.refusal.Refusal.{Refusal}
@@ -40,6 +40,7 @@ players_described game (Some Airport) e = costs_length (codes "costs") game
 players_described game (Some Bankruptcy) e = costs_length (codes "claims") game
 players_described game (Some Tree) e = ap (λ n. n - 1) (row_count game)
 players_described game (Some Assignment) e = ap₂ (λ p q. p + q) (row_count game) (seller_count_of game)
+players_described game (Some Market) e = ap₂ (λ p q. p + q) (row_count game) (seller_count_of game)
 
 length_over : (fs : List Fraction) → length (over_least fs).shares ≡ length fs
 length_over fs = length-map fs (numerator_over (pos (least_denominator fs)))
@@ -87,6 +88,7 @@ has_share_each Shapley tree d m = no_shares d (ap (λ c. c.shares) m.says)
 has_share_each Bird tree d m = no_shares d (ap (λ c. c.shares) m.says)
 has_share_each Convex tree d m = no_shares d (ap (λ c. c.shares) m.says)
 has_share_each Kernel tree d m = some_shares tree d (ap (λ c. c.shares) m.says) (described Kernel tree d m) (enough_shares (game_tree tree) tree None (tests_passed Kernel tree d m))
+has_share_each Matching tree d m = no_shares d (ap (λ c. c.shares) m.says)
 
 pub share_each : (command : Command) (tree : Data) (r : Result Document TextFault) → MatchResult r (IsTreeReading command tree) (IsTreeFault command tree) → IfOk r HasShareEach
 share_each command tree (Ok d) m = has_share_each command tree d m
@@ -113,6 +115,7 @@ has_its_players Shapley tree d m = no_certificate d (ap (λ c. c.certificate) m.
 has_its_players Bird tree d m = no_certificate d (ap (λ c. c.certificate) m.says)
 has_its_players Convex tree d m = no_certificate d (ap (λ c. c.certificate) m.says)
 has_its_players Kernel tree d m = no_certificate d (ap (λ c. c.certificate) m.says)
+has_its_players Matching tree d m = no_certificate d (ap (λ c. c.certificate) m.says)
 
 pub its_players : (command : Command) (tree : Data) (r : Result Document TextFault) → MatchResult r (IsTreeReading command tree) (IsTreeFault command tree) → IfOk r HasItsPlayers
 its_players command tree (Ok d) m = has_its_players command tree d m

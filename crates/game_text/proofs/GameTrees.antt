@@ -21,7 +21,7 @@ use Rattle.game_text.specs.Coalitions.{masks, has_coalitions_as, has_coalitions}
 use Rattle.game_text.specs.Members.{player_of, join, joined, mask_of, is_mask, are_coalitions}
 use Rattle.certificate_texts.specs.Levels.{numbered_player}
 use Rattle.game_text.specs.declared.class.Class.{Class}
-use Rattle.game_text.specs.declared.class.Class.TheVariants.{Table, CostTable, Airport, Bankruptcy, Tree, Assignment}
+use Rattle.game_text.specs.declared.class.Class.TheVariants.{Table, CostTable, Airport, Bankruptcy, Tree, Assignment, Market}
 use Rattle.game_text.proofs.PlainTrees.{IsPlain, plain_text, plain_integer, plain_array, all_plain, plain_known, has_members, IsPlainAt, either}
 
 -- ---- numbers
@@ -197,7 +197,7 @@ plain_bankruptcy game o c h w =
       ),
     )
 
--- ---- trees and assignments
+-- ---- trees, assignments and markets
 
 plain_row : (e : Data) → is_array_of is_cost e ≡ true → IsPlain 1 e
 plain_row e h =
@@ -290,6 +290,7 @@ plain_as game (Some Airport) o e h n w m = plain_airport game o e h w
 plain_as game (Some Bankruptcy) o e h n w m = plain_bankruptcy game o e h w
 plain_as game (Some Tree) o e h n w m = plain_matrix game Tree o e h (shaped_as game Tree e h) w
 plain_as game (Some Assignment) o e h n w m = plain_matrix game Assignment o e h (shaped_as game Assignment e h) w
+plain_as game (Some Market) o e h n w m = plain_matrix game Market o e h (shaped_as game Market e h) w
 
 -- the tree of a game of any class holds no float and is nested at most 4 deep
 pub plain_game : (game : Data) → IsOrdered game → is_game_shaped game ≡ true → has_players game ≡ true → has_numbers game ≡ true → has_coalitions game ≡ true → IsPlain 4 game

@@ -4,6 +4,7 @@ pub mod Joining
 pub mod Filling
 pub mod Sizes
 pub mod MatrixRows
+pub mod MarketRows
 pub mod Payments
 pub mod LeastDenominators
 pub mod Computed

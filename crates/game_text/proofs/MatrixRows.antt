@@ -12,7 +12,7 @@ use Rattle.airport.specs.Costs.{IsCost}
 use Rattle.matrices.specs.Rows.{entries_of, HaveEntries, HaveLength}
 use Rattle.tree_games.specs.Trees.{HavePoints, AreLinks, IsTree}
 use Rattle.tree_games.proofs.Squares.{square-symmetric, square-loopless}
-use Rattle.assignment_games.specs.Assignments.{seller_count, HavePlayers, IsEven, IsAssignment}
+use Rattle.assignment_games.specs.Assignments.{seller_count, HavePlayers, IsEven}
 use Rattle.json_trees.specs.Integers.{integer_or_zero, integers_of}
 use Rattle.json_trees.specs.Trees.{parts, parts_at, first_parts, is_array_of}
 use Rattle.game_text.specs.Sizes.{is_cost}
@@ -159,8 +159,8 @@ tree_made made rows there e f h = made_if (are_links there) there made (f ∙ e)
 pub tree_not_made : (rows there : List (List ℤ)) → rows ≡ there → ¬ AreLinks rows → None ≡ (if are_links there then Some there else None)
 tree_not_made rows there e h = none_if (are_links there) there (λ t. h (links_hold rows (ap are_links e ∙ t)))
 
-pub assignment_made : (made rows there : List (List ℤ)) → rows ≡ there → made ≡ rows → IsAssignment rows → Some made ≡ (if are_even there then Some there else None)
-assignment_made made rows there e f h = made_if (are_even there) there made (f ∙ e) (ap are_even (sym e) ∙ length_passes (seller_count rows) rows h.even)
+pub even_made : (made rows there : List (List ℤ)) → rows ≡ there → made ≡ rows → IsEven rows → Some made ≡ (if are_even there then Some there else None)
+even_made made rows there e f h = made_if (are_even there) there made (f ∙ e) (ap are_even (sym e) ∙ length_passes (seller_count rows) rows h)
 
-pub assignment_not_made : (rows there : List (List ℤ)) → rows ≡ there → ¬ IsEven rows → None ≡ (if are_even there then Some there else None)
-assignment_not_made rows there e h = none_if (are_even there) there (λ t. h (length_holds (seller_count rows) rows (ap are_even e ∙ t)))
+pub even_not_made : (rows there : List (List ℤ)) → rows ≡ there → ¬ IsEven rows → None ≡ (if are_even there then Some there else None)
+even_not_made rows there e h = none_if (are_even there) there (λ t. h (length_holds (seller_count rows) rows (ap are_even e ∙ t)))

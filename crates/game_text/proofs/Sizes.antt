@@ -26,7 +26,7 @@ use Rattle.game_text.specs.Descriptions.{table_numbers}
 use Rattle.json_trees.specs.Integers.{integer_or_zero, integer_at, integers_at, second_integer}
 use Rattle.game_text.specs.Readings.{HasSizes, IsTableClass}
 use Rattle.game_text.specs.declared.class.Class.{Class}
-use Rattle.game_text.specs.declared.class.Class.TheVariants.{Table, CostTable, Airport, Bankruptcy, Tree, Assignment}
+use Rattle.game_text.specs.declared.class.Class.TheVariants.{Table, CostTable, Airport, Bankruptcy, Tree, Assignment, Market}
 
 pub all_map : {X Y : Type 0} (P : Y → Type 0) (f : X → Y) (test : X → Bool) → ((x : X) → test x ≡ true → P (f x)) → (xs : List X) → list_all test xs ≡ true → All P (map f xs)
 all_map P f test good xs h = All-map P f xs (λ k d l. good (slice_index_or xs k d) (AllPass-from_list_all test xs h k d l))
@@ -136,6 +136,7 @@ table_as game (Some Airport) k s p q = absurd k
 table_as game (Some Bankruptcy) k s p q = absurd k
 table_as game (Some Tree) k s p q = absurd k
 table_as game (Some Assignment) k s p q = absurd k
+table_as game (Some Market) k s p q = absurd k
 
 pub table_sizes : (game : Data) → IsTableClass (class_of game) → HasSizes game → IsTable (table (players game) (table_numbers game))
 table_sizes game k h = table_as game (class_of game) k (and_parts _ (is_shaped_as (class_of game) game) h.shaped).1 h.players h.numbers

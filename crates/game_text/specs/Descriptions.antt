@@ -18,7 +18,7 @@ use Rattle.game_text.specs.Names.{names_of}
 use Rattle.game_text.specs.TableClass.{numbers_by}
 use Rattle.game_text.specs.MatrixClass.{rows_of}
 use Rattle.game_text.specs.declared.class.Class.{Class}
-use Rattle.game_text.specs.declared.class.Class.TheVariants.{Table, CostTable, Airport, Bankruptcy, Tree, Assignment}
+use Rattle.game_text.specs.declared.class.Class.TheVariants.{Table, CostTable, Airport, Bankruptcy, Tree, Assignment, Market}
 
 -- the class of a game, and its numbers: by coalition in mask order from 1, by player, or by the rows of a matrix
 pub data Description : Type 0 where
@@ -27,6 +27,7 @@ pub data Description : Type 0 where
   airport : List ℕ → Description
   bankruptcy : ℕ → List ℕ → Description
   network : List (List ℤ) → Description
+  assignment : List (List ℤ) → Description
   market : List (List ℤ) → Description
 
 -- the game that is described
@@ -36,6 +37,7 @@ game_of (cost_table n costs) = record { players = n; worth = negated_worth (tabl
 game_of (airport costs) = record { players = length costs; worth = airport_worth costs }
 game_of (bankruptcy estate claims) = record { players = length claims; worth = bankruptcy_worth estate claims }
 game_of (network rows) = tree_game rows
+game_of (assignment rows) = assignment_game rows
 game_of (market rows) = assignment_game rows
 
 -- the numbers are costs, and shares are payments
@@ -45,6 +47,7 @@ is_cost (cost_table n costs) = true
 is_cost (airport costs) = true
 is_cost (bankruptcy estate claims) = false
 is_cost (network rows) = true
+is_cost (assignment rows) = false
 is_cost (market rows) = false
 
 -- ---- tables
@@ -63,7 +66,8 @@ description_as (Some CostTable) game = cost_table (players game) (table_numbers 
 description_as (Some Airport) game = airport (costs_at (codes "costs") game)
 description_as (Some Bankruptcy) game = bankruptcy (unsigned_abs (integer_at (codes "estate") game)) (costs_at (codes "claims") game)
 description_as (Some Tree) game = network (rows_of game)
-description_as (Some Assignment) game = market (rows_of game)
+description_as (Some Assignment) game = assignment (rows_of game)
+description_as (Some Market) game = market (rows_of game)
 
 -- what the tree of a game describes
 abbrev pub description_of : Data → Description

@@ -8,6 +8,7 @@ pub mod BankruptcyClass
 pub mod MatrixClass
 pub mod TreeClass
 pub mod AssignmentClass
+pub mod MarketClass
 pub mod Excess
 pub mod Shape
 pub mod Limits

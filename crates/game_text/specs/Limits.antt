@@ -12,9 +12,10 @@ use Rattle.game_text.specs.BankruptcyClass.{bankruptcy_players, has_bankruptcy_n
 use Rattle.game_text.specs.MatrixClass.{has_matrix_numbers}
 use Rattle.game_text.specs.TreeClass.{tree_players, has_tree_players}
 use Rattle.game_text.specs.AssignmentClass.{assignment_players, has_assignment_players}
+use Rattle.game_text.specs.MarketClass.{has_market_players}
 use Rattle.game_text.specs.Shape.{class_of}
 use Rattle.game_text.specs.declared.class.Class.{Class}
-use Rattle.game_text.specs.declared.class.Class.TheVariants.{Table, CostTable, Airport, Bankruptcy, Tree, Assignment}
+use Rattle.game_text.specs.declared.class.Class.TheVariants.{Table, CostTable, Airport, Bankruptcy, Tree, Assignment, Market}
 
 -- ---- players
 
@@ -27,6 +28,7 @@ has_players_as (Some Airport) game = is_list_size (airport_players game)
 has_players_as (Some Bankruptcy) game = is_list_size (bankruptcy_players game)
 has_players_as (Some Tree) game = has_tree_players game
 has_players_as (Some Assignment) game = has_assignment_players game
+has_players_as (Some Market) game = has_market_players game
 
 -- as many players, and numbers for them, as the class of the game allows
 abbrev pub has_players : Data → Bool
@@ -41,6 +43,7 @@ players_as (Some Airport) game = airport_players game
 players_as (Some Bankruptcy) game = bankruptcy_players game
 players_as (Some Tree) game = tree_players game
 players_as (Some Assignment) game = assignment_players game
+players_as (Some Market) game = assignment_players game
 
 -- the number of players of a game that has as many as its class allows
 abbrev pub players : Data → ℕ
@@ -57,6 +60,7 @@ has_numbers_as (Some Airport) game = has_airport_numbers game
 has_numbers_as (Some Bankruptcy) game = has_bankruptcy_numbers game
 has_numbers_as (Some Tree) game = has_matrix_numbers game
 has_numbers_as (Some Assignment) game = has_matrix_numbers game
+has_numbers_as (Some Market) game = has_matrix_numbers game
 
 -- each number of the game is an integer within its limits
 abbrev pub has_numbers : Data → Bool

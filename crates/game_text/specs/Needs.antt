@@ -1,7 +1,7 @@
 -- What each command needs of a document beside the game.
 use Rattle.std.specs.Prelude.{Bool, true, false, not, ◌||◌, Option, Some, None}
 use Rattle.game_text.specs.declared.command.Command.{Command}
-use Rattle.game_text.specs.declared.command.Command.TheVariants.{Nucleolus, Prenucleolus, Propose, Core, Check, Shapley, Bird, Convex, Kernel}
+use Rattle.game_text.specs.declared.command.Command.TheVariants.{Nucleolus, Prenucleolus, Propose, Core, Check, Shapley, Bird, Convex, Kernel, Matching}
 use Rattle.game_text.specs.declared.command.Inputs.{Inputs}
 
 -- the most bytes, and whether shares, an answer and a certificate are needed: one row for each command
@@ -15,6 +15,7 @@ needs Shapley = record { limit = 2097152; shares = false; answer = false; certif
 needs Bird = record { limit = 2097152; shares = false; answer = false; certificate = false }
 needs Convex = record { limit = 2097152; shares = false; answer = false; certificate = false }
 needs Kernel = record { limit = 2097152; shares = true; answer = false; certificate = false }
+needs Matching = record { limit = 2097152; shares = false; answer = false; certificate = false }
 
 -- the test passes, where it is needed
 abbrev pub if_needed : Bool → Bool → Bool

@@ -1,11 +1,11 @@
 -- What the worths of a described game are, where its class has them computed.
 --
---   IsOfClass d   the worths of a tree game are minus the least costs of attachment plans, and those of an assignment game the
---                 greatest values of matchings; those of the other classes are said by `game_of`
+--   IsOfClass d   the worths of a tree game are minus the least costs of attachment plans, and those of an assignment game or a
+--                 market the greatest values of matchings; those of the other classes are said by `game_of`
 use Rattle.std.specs.Prelude.{⊤, length}
 use Rattle.definitions.specs.Classes.{IsTreeGame, IsAssignmentGame}
 use Rattle.matrices.specs.Rows.{entries_of}
-use Rattle.game_text.specs.Descriptions.{Description, table, cost_table, airport, bankruptcy, network, market, game_of}
+use Rattle.game_text.specs.Descriptions.{Description, table, cost_table, airport, bankruptcy, network, assignment, market, game_of}
 
 -- the worths are those of the class: over all attachment plans (Bird 1976), and over all matchings (Shapley and Shubik 1971)
 abbrev pub IsOfClass : Description → Type 0
@@ -14,4 +14,5 @@ IsOfClass (cost_table n costs) = ⊤
 IsOfClass (airport costs) = ⊤
 IsOfClass (bankruptcy estate claims) = ⊤
 IsOfClass (network rows) = IsTreeGame (entries_of rows) (game_of (network rows))
+IsOfClass (assignment rows) = IsAssignmentGame (entries_of rows) (length rows) (game_of (assignment rows))
 IsOfClass (market rows) = IsAssignmentGame (entries_of rows) (length rows) (game_of (market rows))

@@ -14,7 +14,7 @@ use Rattle.game_text.specs.Documents.{Contents, family_for, certificate_for}
 use Rattle.game_text.specs.Refusals.{IsRefused, IsDocument}
 use Rattle.game_text.specs.Steps.{coalition_refusal, game_refusal, proposal_refusal, share_refusal, certificate_refusal, late_refusal}
 use Rattle.game_text.specs.declared.class.Class.{Class}
-use Rattle.game_text.specs.declared.class.Class.TheVariants.{Table, CostTable, Airport, Bankruptcy, Tree, Assignment}
+use Rattle.game_text.specs.declared.class.Class.TheVariants.{Table, CostTable, Airport, Bankruptcy, Tree, Assignment, Market}
 use Rattle.game_text.specs.declared.command.Command.{Command}
 use Rattle.game_text.specs.declared.document.Document.{Document}
 use Rattle.game_text.specs.declared.fault.TextFault.{TextFault}
@@ -37,6 +37,7 @@ IsTableClass (Some Airport) = ⊥
 IsTableClass (Some Bankruptcy) = ⊥
 IsTableClass (Some Tree) = ⊥
 IsTableClass (Some Assignment) = ⊥
+IsTableClass (Some Market) = ⊥
 
 -- the tests of the coalitions, of the estate and of the matrix pass, and this is the game that is described
 pub record IsBuilt (game : Data) (g : Game) : Type 0 where

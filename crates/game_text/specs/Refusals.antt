@@ -15,7 +15,7 @@ use Rattle.game_text.specs.Shape.{is_shaped}
 use Rattle.game_text.specs.Limits.{players, has_players, has_numbers}
 use Rattle.game_text.specs.Names.{has_names}
 use Rattle.game_text.specs.Coalitions.{has_coalitions}
-use Rattle.game_text.specs.Descriptions.{Description, table, cost_table, airport, bankruptcy, network, market, description_of}
+use Rattle.game_text.specs.Descriptions.{Description, table, cost_table, airport, bankruptcy, network, assignment, market, description_of}
 use Rattle.game_text.specs.Shares.{has_share_numbers, has_shares_for, written_shares, has_small_terms, IsDenominatorOf}
 use Rattle.certificate_texts.specs.Certificates.{has_form}
 use Rattle.game_text.specs.Documents.{Contents, game_tree, contents_over}
@@ -31,15 +31,17 @@ is_covered (cost_table n costs) = true
 is_covered (airport costs) = true
 is_covered (bankruptcy estate claims) = claims_cover estate claims
 is_covered (network rows) = true
+is_covered (assignment rows) = true
 is_covered (market rows) = true
 
--- the rows of a tree game are those of links, and the rows of an assignment game have one length
+-- the rows of a tree game are those of links, and the rows of an assignment game or a market have one length
 abbrev pub has_matrix : Description → Bool
 has_matrix (table n worths) = true
 has_matrix (cost_table n costs) = true
 has_matrix (airport costs) = true
 has_matrix (bankruptcy estate claims) = true
 has_matrix (network rows) = are_links rows
+has_matrix (assignment rows) = are_even rows
 has_matrix (market rows) = are_even rows
 
 -- this refusal, unless the test passes; then the rest decides

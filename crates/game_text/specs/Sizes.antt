@@ -1,7 +1,8 @@
 -- The sizes that several classes keep within.
 --
---   is_cost       an integer from 0, below 2^40
---   is_list_size  a number of players from 1 to 64
+--   is_cost             an integer from 0, below 2^40
+--   is_list_size        a number of players from 1 to 64
+--   is_short_list_size  a number of players, or of those of one side, from 1 to 32
 use Rattle.std.specs.Prelude.{◌^◌, ℕ, ℤ, pos, negsuc, Bool, false, ◌&&◌, Option, Some, None, nat_lt, nat_le}
 use Rattle.serde_json.specs.Data.{Data}
 use Rattle.json_trees.specs.Trees.{integer}
@@ -9,6 +10,10 @@ use Rattle.json_trees.specs.Trees.{integer}
 -- a number of players from 1 to 64
 abbrev pub is_list_size : ℕ → Bool
 is_list_size n = nat_lt 0 n && nat_le n 64
+
+-- a number of players, or of those of one side, from 1 to 32
+abbrev pub is_short_list_size : ℕ → Bool
+is_short_list_size n = nat_lt 0 n && nat_le n 32
 
 -- at least 0, and below 2^40
 abbrev pub is_small_cost : ℤ → Bool

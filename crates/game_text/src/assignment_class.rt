@@ -14,7 +14,7 @@ use serde_json::Value;
 use std::alloc::Global;
 
 /// The number of sellers: one for each item of the first row.
-fn sellers_at(game: &Value) -> usize
+pub fn sellers_at(game: &Value) -> usize
     ensures value { result ≡ sellers_at (view game.now) }
     ensures small { result < 2 ^ 63 }
 {

@@ -15,6 +15,7 @@ use crate::class::Class;
 use crate::fault::TextFault;
 use crate::game::Game;
 use crate::limits::players;
+use crate::market_class::market_of;
 use crate::names::Names;
 use crate::refusal::Refusal;
 use crate::shape::class_of;
@@ -54,6 +55,10 @@ pub fn game_of(alloc: Global, game: &Value, names: &Names) -> Result<Game, TextF
         },
         Some(Class::Assignment) => match assignment_of(alloc, game)? {
             Some(values) => Ok(Game::Assignment(values)),
+            None => Err(TextFault::Refused(Refusal::Matrix)),
+        },
+        Some(Class::Market) => match market_of(alloc, game)? {
+            Some(market) => Ok(Game::Market(market)),
             None => Err(TextFault::Refused(Refusal::Matrix)),
         },
         None => unreachable!(),

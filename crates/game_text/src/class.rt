@@ -15,4 +15,6 @@ pub enum Class {
     Tree,
     /// What each buyer and each seller are worth together.
     Assignment,
+    /// The same for up to 32 buyers and 32 sellers, to be matched.
+    Market,
 }

@@ -23,6 +23,8 @@ pub enum Command {
     Convex,
     /// To find whether the proposed shares are in the prekernel.
     Kernel,
+    /// To match the buyers and the sellers of a market, with the core points that are best for either side.
+    Matching,
 }
 
 /// What a command needs of a document beside the game.
@@ -68,6 +70,7 @@ impl Command {
             Command::Shapley | Command::Bird => row(SHORT, false, false, false),
             Command::Convex => row(SHORT, false, false, false),
             Command::Kernel => row(SHORT, true, false, false),
+            Command::Matching => row(SHORT, false, false, false),
         }
     }
 }

@@ -2,6 +2,7 @@
 use airport::AirportGame;
 use assignment_games::AssignmentGame;
 use bankruptcy::BankruptcyGame;
+use big_assignment::MarketGame;
 use coalitions::Coalition;
 use tree_games::TreeGame;
 use worth_core::{Shares, Worth};
@@ -22,6 +23,8 @@ pub enum Game {
     Tree(TreeGame),
     /// What each buyer and each seller are worth together.
     Assignment(AssignmentGame),
+    /// The same for up to 32 buyers and 32 sellers.
+    Market(MarketGame),
 }
 
 impl Game {
@@ -35,7 +38,7 @@ impl Game {
     {
         match self {
             Game::Cost(_) | Game::Airport(_) | Game::Tree(_) => true,
-            Game::Table(_) | Game::Bankruptcy(_) | Game::Assignment(_) => false,
+            Game::Table(_) | Game::Bankruptcy(_) | Game::Assignment(_) | Game::Market(_) => false,
         }
     }
 }
@@ -54,6 +57,7 @@ impl Worth for Game {
             Game::Bankruptcy(game) => game.players(),
             Game::Tree(game) => game.players(),
             Game::Assignment(game) => game.players(),
+            Game::Market(game) => game.players(),
         }
     }
 
@@ -65,6 +69,7 @@ impl Worth for Game {
             Game::Bankruptcy(game) => game.worth(s),
             Game::Tree(game) => game.worth(s),
             Game::Assignment(game) => game.worth(s),
+            Game::Market(game) => game.worth(s),
         }
     }
 
@@ -76,6 +81,7 @@ impl Worth for Game {
             Game::Bankruptcy(game) => game.blocker(x),
             Game::Tree(game) => game.blocker(x),
             Game::Assignment(game) => game.blocker(x),
+            Game::Market(game) => game.blocker(x),
         }
     }
 
@@ -87,6 +93,7 @@ impl Worth for Game {
             Game::Bankruptcy(game) => game.split_bound(x, free),
             Game::Tree(game) => game.split_bound(x, free),
             Game::Assignment(game) => game.split_bound(x, free),
+            Game::Market(game) => game.split_bound(x, free),
         }
     }
 }

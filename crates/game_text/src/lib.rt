@@ -19,6 +19,7 @@ mod kind;
 #[cfg(test)]
 mod limit_tests;
 mod limits;
+mod market_class;
 mod masks;
 mod matrix_class;
 #[cfg(test)]

@@ -8,6 +8,7 @@ use crate::airport_class::{airport_players, has_airport_numbers};
 use crate::assignment_class::{assignment_players, has_assignment_players};
 use crate::bankruptcy_class::{bankruptcy_players, has_bankruptcy_numbers};
 use crate::class::Class;
+use crate::market_class::has_market_players;
 use crate::matrix_class::has_matrix_numbers;
 use crate::number_forms::is_list_size;
 use crate::shape::class_of;
@@ -25,6 +26,7 @@ pub fn has_players(game: &Value) -> bool
         Some(Class::Bankruptcy) => is_list_size(bankruptcy_players(game)),
         Some(Class::Tree) => has_tree_players(game),
         Some(Class::Assignment) => has_assignment_players(game),
+        Some(Class::Market) => has_market_players(game),
         None => false,
     }
 }
@@ -38,7 +40,7 @@ pub fn players(game: &Value) -> usize
         Some(Class::Airport) => airport_players(game),
         Some(Class::Bankruptcy) => bankruptcy_players(game),
         Some(Class::Tree) => tree_players(game),
-        Some(Class::Assignment) => assignment_players(game),
+        Some(Class::Assignment | Class::Market) => assignment_players(game),
         None => 0,
     }
 }
@@ -51,7 +53,7 @@ pub fn has_numbers(game: &Value) -> bool
         Some(Class::Table | Class::CostTable) => has_table_numbers(game),
         Some(Class::Airport) => has_airport_numbers(game),
         Some(Class::Bankruptcy) => has_bankruptcy_numbers(game),
-        Some(Class::Tree | Class::Assignment) => has_matrix_numbers(game),
+        Some(Class::Tree | Class::Assignment | Class::Market) => has_matrix_numbers(game),
         None => false,
     }
 }

@@ -9,6 +9,11 @@ const SEVENTEEN_ZEROS: &str = "[0,0,0,0,0,0,0,0,0,0,0,0,0,0,0,0,0]";
 
 const EIGHTEEN_ZEROS: &str = "[0,0,0,0,0,0,0,0,0,0,0,0,0,0,0,0,0,0]";
 
+const THIRTY_TWO_ZEROS: &str = "[0,0,0,0,0,0,0,0,0,0,0,0,0,0,0,0,0,0,0,0,0,0,0,0,0,0,0,0,0,0,0,0]";
+
+const THIRTY_THREE_ZEROS: &str =
+    "[0,0,0,0,0,0,0,0,0,0,0,0,0,0,0,0,0,0,0,0,0,0,0,0,0,0,0,0,0,0,0,0,0]";
+
 const SIXTEEN_SHARES: &str = "[0,0,0,0,0,0,0,0,0,0,0,0,0,0,0,0]";
 
 // A game of this class whose matrix has these rows, all alike.
@@ -39,6 +44,13 @@ fn matrices_keep_the_numbers_of_players(rt: HostRuntime) -> Result<(), Fail> {
         ("assignment", "[0]", 16, Some(Refusal::Players)),
         ("assignment", "[0,0,0,0,0,0,0,0]", 8, None),
         ("assignment", "[0,0,0,0,0,0,0,0]", 9, Some(Refusal::Players)),
+        ("market", "[]", 0, Some(Refusal::Players)),
+        ("market", "[]", 1, Some(Refusal::Players)),
+        ("market", "[0]", 15, None),
+        ("market", "[0]", 32, Some(Refusal::Proposal)),
+        ("market", "[0]", 33, Some(Refusal::Players)),
+        ("market", THIRTY_TWO_ZEROS, 32, Some(Refusal::Proposal)),
+        ("market", THIRTY_THREE_ZEROS, 1, Some(Refusal::Players)),
     ] {
         let game = with_rows(rt.alloc(), class, row, count)?;
         let fault = fault_in(rt.alloc(), &game, SIXTEEN_SHARES)?;
@@ -102,6 +114,18 @@ fn matrices_are_refused_by_the_first_test(rt: HostRuntime) -> Result<(), Fail> {
             "{\"class\":\"assignment\",\"matrix\":[[1,2],[3,4]]}",
             Refusal::Proposal,
         ),
+        (
+            "{\"class\":\"market\",\"matrix\":[[1,2],[-3]]}",
+            Refusal::Number,
+        ),
+        (
+            "{\"class\":\"market\",\"matrix\":[[1,2],[3]],\"names\":[]}",
+            Refusal::Names,
+        ),
+        (
+            "{\"class\":\"market\",\"matrix\":[[1,2],[3]]}",
+            Refusal::Matrix,
+        ),
     ] {
         let fault = fault_in(rt.alloc(), game, "[1,2,3,4,5]")?;
         assert_eq!(rt; fault, Some(TextFault::Refused(refusal)), "on {game}");
@@ -120,6 +144,12 @@ fn links_cost_and_pairs_are_worth(rt: HostRuntime) -> Result<(), Fail> {
         ),
         (
             "{\"class\":\"assignment\",\"matrix\":[[5,8],[7,6]]}",
+            "[2,2,5,6]",
+            false,
+            [0, 0, 0, 0, 0, 5, 7, 7, 0, 8, 6, 8, 0, 8, 7, 15].as_slice(),
+        ),
+        (
+            "{\"class\":\"market\",\"matrix\":[[5,8],[7,6]]}",
             "[2,2,5,6]",
             false,
             [0, 0, 0, 0, 0, 5, 7, 7, 0, 8, 6, 8, 0, 8, 7, 15].as_slice(),

@@ -1,6 +1,6 @@
 //! The sizes that several classes keep within.
 ghost use Rattle.std.specs.Prelude.{◌≡◌};
-ghost use Rattle.game_text.specs.Sizes.{is_list_size, is_small_cost};
+ghost use Rattle.game_text.specs.Sizes.{is_list_size, is_short_list_size, is_small_cost};
 
 use json_trees::{Form, integer};
 use serde_json::Value;
@@ -10,6 +10,13 @@ pub fn is_list_size(n: usize) -> bool
     ensures { result ≡ is_list_size n }
 {
     0 < n && n <= 64
+}
+
+/// Whether there are 1 to 32.
+pub fn is_short_list_size(n: usize) -> bool
+    ensures { result ≡ is_short_list_size n }
+{
+    0 < n && n <= 32
 }
 
 fn is_small_cost(z: i64) -> bool

@@ -32,6 +32,8 @@ fn class_named(word: &str) -> Option<Class>
         Some(Class::Tree)
     } else if word == "assignment" {
         Some(Class::Assignment)
+    } else if word == "market" {
+        Some(Class::Market)
     } else {
         None
     }
@@ -52,7 +54,7 @@ fn is_shaped_as(class: Option<Class>, game: &Value) -> bool
         Some(Class::Table | Class::CostTable) => is_table_shaped(game),
         Some(Class::Airport) => is_airport_shaped(game),
         Some(Class::Bankruptcy) => is_bankruptcy_shaped(game),
-        Some(Class::Tree | Class::Assignment) => is_matrix_shaped(game),
+        Some(Class::Tree | Class::Assignment | Class::Market) => is_matrix_shaped(game),
         None => false,
     }
 }

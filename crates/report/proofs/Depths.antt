@@ -11,10 +11,11 @@ use Rattle.report.specs.Verdicts.{verdict_tree}
 use Rattle.report.specs.Limits.{IsPrintable}
 use Rattle.report.specs.Lines.{answer_tree}
 use Rattle.report.specs.declared.answer.Answer.{Answer}
-use Rattle.report.specs.declared.answer.Answer.TheVariants.{Nucleolus, NoImputation, InCore, NotEfficient, Blocked, CorePoint, EmptyCore, Shapley, Bird, Convex, Prekernel, NotPrekernel, Verdict as verdict, Usage, Refused, Summary}
+use Rattle.report.specs.declared.answer.Answer.TheVariants.{Nucleolus, NoImputation, InCore, NotEfficient, Blocked, CorePoint, EmptyCore, Shapley, Bird, Convex, Prekernel, NotPrekernel, Matching, Verdict as verdict, Usage, Refused, Summary}
 use Rattle.report.proofs.Summaries.{summary_depth}
 use Rattle.report.proofs.BirdEdges.{edges_depth}
 use Rattle.report.proofs.ConvexAnswers.{convex_depth}
+use Rattle.report.proofs.Matchings.{matching_depth}
 use Rattle.report.proofs.CertificateDepths.{coalition_depth, pairs_depth, shares_depth, nucleolus_depth}
 
 verdict_depth : (v : Verdict) → depth (verdict_tree v) ≤ max_depth
@@ -42,6 +43,7 @@ shallow (Bird x edges) h = omega (arith, shares_depth true x, edges_depth edges)
 shallow (Convex is_cost answer) h = omega (arith, convex_depth is_cost answer)
 shallow Prekernel h = omega arith
 shallow (NotPrekernel i j ij ji) h = omega arith
+shallow (Matching solution) h = omega (arith, matching_depth solution)
 shallow (verdict v) h = verdict_depth v
 shallow (Usage kind) h = omega arith
 shallow (Refused r) h = omega arith

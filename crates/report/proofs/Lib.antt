@@ -13,6 +13,7 @@ pub mod BirdEdges
 pub mod LeastDenominators
 pub mod Summaries
 pub mod ConvexAnswers
+pub mod Matchings
 pub mod NoFloats
 pub mod Depths
 pub mod AsciiFractions

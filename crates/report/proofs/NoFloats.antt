@@ -10,10 +10,11 @@ use Rattle.report.specs.Verdicts.{verdict_tree}
 use Rattle.report.specs.Limits.{IsPrintable}
 use Rattle.report.specs.Lines.{answer_tree}
 use Rattle.report.specs.declared.answer.Answer.{Answer}
-use Rattle.report.specs.declared.answer.Answer.TheVariants.{Nucleolus, NoImputation, InCore, NotEfficient, Blocked, CorePoint, EmptyCore, Shapley, Bird, Convex, Prekernel, NotPrekernel, Verdict as verdict, Usage, Refused, Summary}
+use Rattle.report.specs.declared.answer.Answer.TheVariants.{Nucleolus, NoImputation, InCore, NotEfficient, Blocked, CorePoint, EmptyCore, Shapley, Bird, Convex, Prekernel, NotPrekernel, Matching, Verdict as verdict, Usage, Refused, Summary}
 use Rattle.report.proofs.Summaries.{summary_whole}
 use Rattle.report.proofs.BirdEdges.{edges_whole}
 use Rattle.report.proofs.ConvexAnswers.{convex_whole}
+use Rattle.report.proofs.Matchings.{matching_whole}
 use Rattle.report.proofs.CertificateNumbers.{coalition_whole, shares_whole, empty_core_whole, nucleolus_whole}
 
 verdict_has_float : (v : Verdict) → has_float (verdict_tree v) ≡ false
@@ -41,6 +42,7 @@ no_float (Bird x edges) h = rw (shares_whole true x, edges_whole edges) refl
 no_float (Convex is_cost answer) h = convex_whole is_cost answer
 no_float Prekernel h = refl
 no_float (NotPrekernel i j ij ji) h = refl
+no_float (Matching solution) h = matching_whole solution
 no_float (verdict v) h = verdict_has_float v
 no_float (Usage kind) h = refl
 no_float (Refused r) h = refl

@@ -9,6 +9,7 @@ pub mod BirdTrees
 pub mod SummaryTrees
 pub mod ConvexTrees
 pub mod KernelTrees
+pub mod MatchingTrees
 pub mod Limits
 pub mod Lines
 pub mod ReadingBack

@@ -21,9 +21,10 @@ use Rattle.report.specs.BirdTrees.{bird_tree}
 use Rattle.report.specs.SummaryTrees.{summary_tree}
 use Rattle.report.specs.ConvexTrees.{convex_tree}
 use Rattle.report.specs.KernelTrees.{prekernel_tree, not_prekernel_tree}
+use Rattle.report.specs.MatchingTrees.{matching_tree}
 use Rattle.report.specs.Words.{refusal_name, usage_word, family_word}
 use Rattle.report.specs.declared.answer.Answer.{Answer}
-use Rattle.report.specs.declared.answer.Answer.TheVariants.{Nucleolus, NoImputation, InCore, NotEfficient, Blocked, CorePoint, EmptyCore, Shapley, Bird, Convex, Prekernel, NotPrekernel, Verdict, Usage, Refused, Summary}
+use Rattle.report.specs.declared.answer.Answer.TheVariants.{Nucleolus, NoImputation, InCore, NotEfficient, Blocked, CorePoint, EmptyCore, Shapley, Bird, Convex, Prekernel, NotPrekernel, Matching, Verdict, Usage, Refused, Summary}
 
 -- the object that is printed for the nucleolus or prenucleolus of a game, its keys ascending
 abbrev pub nucleolus_tree : Family → Data → Bool → Allocation → CertificateData → Data
@@ -51,6 +52,7 @@ answer_tree (Bird x edges) = bird_tree x edges
 answer_tree (Convex is_cost answer) = convex_tree is_cost answer
 answer_tree Prekernel = prekernel_tree
 answer_tree (NotPrekernel i j ij ji) = not_prekernel_tree i j ij ji
+answer_tree (Matching solution) = matching_tree solution
 answer_tree (Verdict v) = verdict_tree v
 answer_tree (Usage kind) = object (member (codes "usage") (string (usage_word kind)) no_members)
 answer_tree (Refused r) =

@@ -1,6 +1,7 @@
 //! What is answered to the words of a command line and the bytes of its input.
 use crate::summary::Summary;
 use balanced::Collection;
+use big_assignment::Solution;
 use checker::Verdict;
 use coalitions::Coalition;
 use convexity::ConvexAnswer;
@@ -90,6 +91,8 @@ pub enum Answer {
         ij: Frac,
         ji: Frac,
     },
+    /// The pairs of a market with their value, and the core points that are best for every buyer and for every seller.
+    Matching(Solution),
     /// Whether a certificate shows that shares are the nucleolus, or why not.
     Verdict(Verdict),
     /// What is wrong with the words of the command line, or why the command doesn't take the document.

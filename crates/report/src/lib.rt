@@ -10,6 +10,7 @@ mod fraction;
 mod kernel_answers;
 mod laws;
 mod line;
+mod matching_answer;
 mod nucleolus;
 mod objects;
 mod players;

@@ -12,6 +12,7 @@ use crate::convex_answers::convex_tree;
 use crate::core_answers::{core_point_tree, empty_core_tree};
 use crate::fraction::{integer_text, text_of};
 use crate::kernel_answers::{not_prekernel_tree, prekernel_tree};
+use crate::matching_answer::matching_tree;
 use crate::nucleolus::nucleolus_tree;
 use crate::players::player_numbers;
 use crate::shapley_answers::shapley_tree;
@@ -66,6 +67,7 @@ fn tree_of(alloc: Global, answer: Answer) -> Result<Value, OutOfMemory>
         Answer::Convex { is_cost, answer } => convex_tree(alloc, is_cost, &answer),
         Answer::Prekernel => prekernel_tree(alloc),
         Answer::NotPrekernel { i, j, ij, ji } => not_prekernel_tree(alloc, i, j, &ij, &ji),
+        Answer::Matching(solution) => matching_tree(alloc, &solution),
         Answer::Verdict(verdict) => verdict_tree(alloc, verdict),
         Answer::Usage(kind) => usage_tree(alloc, kind),
         Answer::Refused(refusal) => refused_tree(alloc, refusal),

@@ -14,7 +14,7 @@ returns-in-Point-clause-solves c =
 pub returns-in-Point-clause-readable : goal.returns-in-Point-clause-readable
 returns-in-Point-clause-readable c =
     let found = rw c.in-Point.is at c.in_ok-shares.ensures in
-    can_be_checked c.args.family (contents_in c.args.document) c.args.document.tree c.is_cost-is_cost.result c.in-Point.shares c.in-Point.certificate c.requires refl c.is_cost-is_cost.ensures c.keep_their_limits.ensures.shares c.keep_their_limits.ensures.certificate found (omega (arith, c.if-players-nucleolus_limit.false, c.nucleolus_limit.ensures, c.players.ensures.count))
+    can_be_checked c.args.family (contents_in c.args.document) c.args.document.tree c.is_cost-is_cost.result c.in-Point.shares c.in-Point.certificate c.requires.accepted refl c.is_cost-is_cost.ensures c.keep_their_limits.ensures.shares c.keep_their_limits.ensures.certificate found (omega (arith, c.if-players-nucleolus_limit.false, c.nucleolus_limit.ensures, c.players.ensures.count)) c.requires.class
 
 pub returns-in-NoImputation-clause-solves : goal.returns-in-NoImputation-clause-solves
 returns-in-NoImputation-clause-solves c =

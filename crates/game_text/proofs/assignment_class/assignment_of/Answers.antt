@@ -1,6 +1,6 @@
 use Rattle.std.proofs.Common.{sym, subst}
 use Rattle.serde_json.specs.View.{view}
-use Rattle.game_text.proofs.MatrixRows.{HasAssignmentSizes, assignment_sizes, assignment_made, assignment_not_made}
+use Rattle.game_text.proofs.MatrixRows.{HasAssignmentSizes, assignment_sizes, even_made, even_not_made}
 use Rattle.game_text.proofs.assignment_class.assignment_of.Goals as goal
 
 pub unreachable-requires : goal.unreachable-requires
@@ -14,7 +14,7 @@ unreachable-requires-in-Err-Number c =
     (rw c.in-Err-Number.field-0-is at c.in-Err-Number.ensures).1 sizes.entries
 
 pub returns-in-Ok : goal.returns-in-Ok
-returns-in-Ok c = assignment_made c.in-Ok.game _ _ c.in_ok-rows.ensures c.in-Ok.ensures.0 c.in-Ok.ensures.1
+returns-in-Ok c = even_made c.in-Ok.game _ _ c.in_ok-rows.ensures c.in-Ok.ensures.0 c.in-Ok.ensures.1.even
 
 pub returns-in-Err-Matrix : goal.returns-in-Err-Matrix
-returns-in-Err-Matrix c = assignment_not_made _ _ c.in_ok-rows.ensures (rw c.in-Err-Matrix.field-0-is at c.in-Err-Matrix.ensures).2
+returns-in-Err-Matrix c = even_not_made _ _ c.in_ok-rows.ensures (rw c.in-Err-Matrix.field-0-is at c.in-Err-Matrix.ensures).2

@@ -14,6 +14,7 @@ small command.Shapley = omega arith
 small command.Bird = omega arith
 small command.Convex = omega arith
 small command.Kernel = omega arith
+small command.Matching = omega arith
 
 pub returns-clause-small : goal.returns-clause-small
 returns-clause-small c = subst (λ inputs. inputs.limit < 2 ^ 40) (sym c.needs.ensures) (small c.args.command)

@@ -1,0 +1,66 @@
+//! The classes of games that a command serves.
+ghost use Rattle.std.specs.Prelude.{◌≡◌};
+ghost use Rattle.game_text.specs.Games.{description_in};
+ghost use Rattle.coop.specs.Classes.{is_market, is_tree, is_no_market, serves_class};
+
+use game_text::{Command, Game};
+
+/// Whether the command serves the class of the game: only `matching` serves a market, and `bird` serves tree games alone.
+pub fn serves_class(command: Command, game: &Game) -> bool
+    ensures { result ≡ serves_class command (description_in game.now) }
+{
+    match command {
+        Command::Matching => is_market(game),
+        Command::Bird => is_tree(game),
+        Command::Nucleolus
+        | Command::Prenucleolus
+        | Command::Propose
+        | Command::Core
+        | Command::Check
+        | Command::Shapley
+        | Command::Convex
+        | Command::Kernel => is_no_market(game),
+    }
+}
+
+fn is_market(game: &Game) -> bool
+    ensures { result ≡ is_market (description_in game.now) }
+{
+    match game {
+        Game::Market(_) => true,
+        Game::Table(_)
+        | Game::Cost(_)
+        | Game::Airport(_)
+        | Game::Bankruptcy(_)
+        | Game::Tree(_)
+        | Game::Assignment(_) => false,
+    }
+}
+
+fn is_tree(game: &Game) -> bool
+    ensures { result ≡ is_tree (description_in game.now) }
+{
+    match game {
+        Game::Tree(_) => true,
+        Game::Table(_)
+        | Game::Cost(_)
+        | Game::Airport(_)
+        | Game::Bankruptcy(_)
+        | Game::Assignment(_)
+        | Game::Market(_) => false,
+    }
+}
+
+fn is_no_market(game: &Game) -> bool
+    ensures { result ≡ is_no_market (description_in game.now) }
+{
+    match game {
+        Game::Table(_)
+        | Game::Cost(_)
+        | Game::Airport(_)
+        | Game::Bankruptcy(_)
+        | Game::Tree(_)
+        | Game::Assignment(_) => true,
+        Game::Market(_) => false,
+    }
+}

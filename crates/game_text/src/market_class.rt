@@ -1,0 +1,40 @@
+//! Markets: what each buyer and each seller are worth together, for up to 32 buyers and 32 sellers.
+ghost use Rattle.std.specs.Prelude.{◌≡◌, IfOk, Some, None, if◌then◌else◌};
+ghost use Rattle.serde_json.specs.View.{view};
+ghost use Rattle.game_text.specs.Shape.{class_of};
+ghost use Rattle.game_text.specs.MatrixClass.{rows_of};
+ghost use Rattle.game_text.specs.AssignmentClass.{are_even};
+ghost use Rattle.game_text.specs.MarketClass.{has_market_players};
+ghost use Rattle.game_text.specs.Readings.{HasSizes};
+ghost use Rattle.game_text.specs.declared.class.Class.TheVariants.{Market};
+
+use crate::assignment_class::sellers_at;
+use crate::number_forms::is_short_list_size;
+use big_assignment::{MarketFault, MarketGame};
+use fractions::OutOfMemory;
+use json_trees::{parts_at, rows_at};
+use serde_json::Value;
+use std::alloc::Global;
+
+/// Whether there are 1 to 32 buyers, and 1 to 32 sellers.
+pub fn has_market_players(game: &Value) -> bool
+    ensures { result ≡ has_market_players (view game.now) }
+{
+    is_short_list_size(parts_at(game, "matrix").len()) && is_short_list_size(sellers_at(game))
+}
+
+/// The market that is described. None where the rows differ in length.
+pub fn market_of(alloc: Global, game: &Value) -> Result<Option<MarketGame>, OutOfMemory>
+    requires class { class_of (view game.now) ≡ Some Market }
+    requires sizes { HasSizes (view game.now) }
+    ensures { IfOk result (λ o. let rows = rows_of (view game.now) in o ≡ (if are_even rows then Some rows else None)) }
+{
+    let rows = rows_at(alloc, game, "matrix")?;
+    match MarketGame::new(alloc, rows) {
+        Ok(game) => Ok(Some(game)),
+        Err(MarketFault::Matrix) => Ok(None),
+        Err(MarketFault::Memory) => Err(OutOfMemory),
+        Err(MarketFault::Players) => unreachable!(),
+        Err(MarketFault::Number) => unreachable!(),
+    }
+}
