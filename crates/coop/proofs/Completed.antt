@@ -25,6 +25,9 @@ none_said : (given : Command) (d : Contents) (kind : UsageKind) → ServesPlayer
 none_said command.Nucleolus d Players serves h = omega (arith, serves, h)
 none_said command.Prenucleolus d Players serves h = omega (arith, serves, h)
 none_said command.Check d Players serves h = omega (arith, serves, h)
+none_said command.Core d Players serves h = omega (arith, serves, h)
+none_said command.Core d Words serves h = h.1
+none_said command.Core d Class serves h = h.1
 none_said command.Shapley d Players serves h = omega (arith, serves, h)
 none_said command.Convex d Players serves h = omega (arith, serves, h)
 none_said command.Kernel d Players serves h = omega (arith, serves, h)

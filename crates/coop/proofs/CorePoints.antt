@@ -1,5 +1,5 @@
 -- What is said of the core is what is printed: a scheme's point is its nucleolus, and a collection's numbers are small.
-use Rattle.std.proofs.Common.{◌≡◌, ℕ, ◌^◌, ◌<◌, Bool, List, [], ◌∷◌, ℤ, unsigned_abs, to_z, of_z, ap, subst, ◌∙◌, arith, refl, inl}
+use Rattle.std.proofs.Common.{◌≡◌, ℕ, ◌^◌, ◌<◌, ◌≤◌, Result, Ok, Err, IfOk, Bool, List, [], ◌∷◌, ℤ, unsigned_abs, to_z, of_z, ap, subst, ◌∙◌, arith, refl, inl}
 use mir.Syntax.{w128}
 use Rattle.std.specs.List.{AllByRecursion}
 use Rattle.definitions.proofs.Casts.{cast_kept}
@@ -16,6 +16,13 @@ use Rattle.balanced.specs.Collections.{CollectionData}
 use Rattle.balanced.specs.Answer.{IsSmall as HasSmallParts}
 use Rattle.report.specs.Limits.{HasSmallNumbers}
 use Rattle.coop.specs.Judgement.{printed}
+use Rattle.game_text.specs.Descriptions.{game_of}
+use Rattle.game_text.specs.Documents.{Contents}
+use Rattle.report.specs.declared.answer.Answer.{Answer}
+use Rattle.report.specs.declared.answer.Answer.TheVariants.{Usage}
+use Rattle.report.specs.declared.answer.UsageKind.TheVariants.{Players as too_many}
+use Rattle.coop.specs.Limits.{core_limit}
+use Rattle.coop.specs.CoreClaims.{FindsCore, SaysOfCore}
 
 -- the point of a scheme is in the core, and is the nucleolus
 pub scheme_point : (g : Game) (x : Allocation) (c : CertificateData) → InCore g x → IsSolved Players Imputations Plain g x c → IsCertificate c → InCore g x × IsNucleolus Imputations Plain g x
@@ -34,3 +41,12 @@ small_weights (p ∷ ps) h = (let lt = h.0 in omega (arith, lt), small_weights p
 
 pub small_numbers : (n : ℕ) (c : CollectionData) → HasSmallParts n c → HasSmallNumbers c
 small_numbers n c h = record { weights = small_weights c.weights h.weights; k = omega (arith, h.k) }
+
+-- what is found for a game that hasn't too many players is right for the document
+of_few : (d : Contents) → (game_of d.game).players ≤ core_limit d.game → (a : Answer) → FindsCore d a → SaysOfCore d a
+of_few d taken (Usage too_many) h = absurd h
+of_few d taken a h = (taken, h)
+
+pub all_of_few : {E : Type 0} (d : Contents) → (game_of d.game).players ≤ core_limit d.game → (r : Result Answer E) → IfOk r (FindsCore d) → IfOk r (SaysOfCore d)
+all_of_few d taken (Ok a) h = of_few d taken a h
+all_of_few d taken (Err e) h = tt

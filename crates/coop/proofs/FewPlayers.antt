@@ -14,12 +14,12 @@ use Rattle.game_text.specs.Denominators.{tree_refusal}
 use Rattle.game_text.proofs.MatrixRows.{points_in, players_in}
 use Rattle.game_text.proofs.Passed.{passed_tests}
 use Rattle.game_text.specs.declared.command.Command.{Command}
-use Rattle.game_text.specs.Descriptions.{Description, table, cost_table, airport, bankruptcy, network, assignment, market, game_of, description_as, description_of}
+use Rattle.game_text.specs.Descriptions.{Description, table, cost_table, airport, bankruptcy, network, assignment, market, voting, game_of, description_as, description_of}
 use Rattle.game_text.specs.declared.class.Class.{Class}
-use Rattle.game_text.specs.declared.class.Class.TheVariants.{Table, CostTable, Airport, Bankruptcy, Tree, Assignment, Market}
+use Rattle.game_text.specs.declared.class.Class.TheVariants.{Table, CostTable, Airport, Bankruptcy, Tree, Assignment, Market, Voting}
 use Rattle.coop.specs.Classes.{is_no_market}
 use Rattle.coop.specs.Finding.{HasFewPlayers}
-use Rattle.coop.specs.Limits.{nucleolus_limit}
+use Rattle.coop.specs.Limits.{nucleolus_limit, core_limit}
 use Rattle.definitions.specs.declared.Measure.TheVariants.{Plain}
 
 few_if : (b c : Bool) (n : ℕ) → (c ≡ true → n ≤ 16) → unwrap_or (if b && c then Some n else None) 0 ≤ 16
@@ -35,18 +35,20 @@ few_at (Some (negsuc n)) = omega arith
 few_points : (n : ℕ) → n ≤ 17 → n - 1 ≤ 16
 few_points n h = omega (arith, h)
 
-few_as : (c : Option Class) (game : Data) → class_of game ≡ c → has_players_as c game ≡ true → is_no_market (description_as c game) ≡ true → HasFewPlayers (description_as c game)
-few_as None game e h k = omega arith
-few_as (Some Table) game e h k = rw e (few_at (option_and_then integer (get (codes "players") game)))
-few_as (Some CostTable) game e h k = rw e (few_at (option_and_then integer (get (codes "players") game)))
-few_as (Some Airport) game e h k = tt
-few_as (Some Bankruptcy) game e h k = tt
-few_as (Some Tree) game e h k = few_points (length (rows_of game)) (points_in game h).1
-few_as (Some Assignment) game e h k = (players_in game h).2
-few_as (Some Market) game e h k = absurd (false≢true k)
+few_as : (c : Option Class) (game : Data) → class_of game ≡ c → has_players_as c game ≡ true → is_no_market (description_as c game) ≡ true → (game_of (description_as c game)).players ≤ core_limit (description_as c game) → HasFewPlayers (description_as c game)
+few_as None game e h k t = omega arith
+few_as (Some Table) game e h k t = rw e (few_at (option_and_then integer (get (codes "players") game)))
+few_as (Some CostTable) game e h k t = rw e (few_at (option_and_then integer (get (codes "players") game)))
+few_as (Some Airport) game e h k t = tt
+few_as (Some Bankruptcy) game e h k t = tt
+few_as (Some Tree) game e h k t = few_points (length (rows_of game)) (points_in game h).1
+few_as (Some Assignment) game e h k t = (players_in game h).2
+few_as (Some Market) game e h k t = absurd (false≢true k)
+few_as (Some Voting) game e h k t = t
 
-pub few_players : (command : Command) (document : Data) → tree_refusal command document ≡ None → is_no_market (description_of (game_tree document)) ≡ true → HasFewPlayers (description_of (game_tree document))
-few_players command document passed served = few_as (class_of (game_tree document)) (game_tree document) refl (passed_tests command document passed).players served
+pub few_players : (command : Command) (document : Data) → tree_refusal command document ≡ None → is_no_market (description_of (game_tree document)) ≡ true
+    → (game_of (description_of (game_tree document))).players ≤ core_limit (description_of (game_tree document)) → HasFewPlayers (description_of (game_tree document))
+few_players command document passed served taken = few_as (class_of (game_tree document)) (game_tree document) refl (passed_tests command document passed).players served taken
 
 -- within the limit of plain excess there are few players
 pub few_within : (d : Description) → is_no_market d ≡ true → (game_of d).players ≤ nucleolus_limit Plain d → HasFewPlayers d
@@ -57,3 +59,4 @@ few_within (bankruptcy estate claims) k h = tt
 few_within (network rows) k h = h
 few_within (assignment rows) k h = h
 few_within (market rows) k h = absurd (false≢true k)
+few_within (voting quota weights) k h = h

@@ -10,7 +10,7 @@ use Rattle.definitions.specs.Certificates.{Level, Certifies}
 use Rattle.definitions.specs.declared.Family.{Family}
 use Rattle.fractions.proofs.WrittenFractions.{read_back}
 use Rattle.kohlberg.specs.Certificate.{CertificateData, IsCertificate}
-use Rattle.game_text.specs.Descriptions.{Description, table, cost_table, airport, bankruptcy, network, assignment, market, description_of, game_of, is_cost}
+use Rattle.game_text.specs.Descriptions.{Description, table, cost_table, airport, bankruptcy, network, assignment, market, voting, description_of, game_of, is_cost}
 use Rattle.game_text.specs.Documents.{Contents, game_tree}
 use Rattle.game_text.specs.Denominators.{contents_of, tree_refusal}
 use Rattle.game_text.specs.Text.{document_limit}
@@ -60,6 +60,7 @@ within_check Plain (bankruptcy estate claims) = omega arith
 within_check Plain (network rows) = omega arith
 within_check Plain (assignment rows) = omega arith
 within_check Plain (market rows) = omega arith
+within_check Plain (voting quota weights) = omega arith
 
 -- ---- the line
 

@@ -52,6 +52,7 @@ module _ (given : Command) where
 no_class : (given : Command) (d : Contents) → Says given d (Usage Class) → ⊥
 no_class command.Propose d h = h.2
 no_class command.Kernel d h = h.says
+no_class command.Core d h = h.1
 no_class given d h = h
 
 -- what is right for a document of a class that is served is right for the document
@@ -67,18 +68,21 @@ all_of_class given d served (Err e) h = tt
 no_usage : (given : Command) (d : Contents) → AnswersTo given d (Usage Words) → ⊥
 no_usage command.Propose d h = h.1.2
 no_usage command.Kernel d h = h.1.says
+no_usage command.Core d h = h.1.1
 no_usage given d h = h.1
 
 -- nor with the summary of a generated game
 no_summary : (given : Command) (d : Contents) (s : Summaries) → AnswersTo given d (Summary s) → ⊥
 no_summary command.Propose d s h = h.1.2
 no_summary command.Kernel d s h = h.1.says
+no_summary command.Core d s h = h.1.1
 no_summary given d s h = h.1
 
 -- nor with a refusal
 no_refusal : (given : Command) (d : Contents) (r : Refusal) → AnswersTo given d (Refused r) → ⊥
 no_refusal command.Propose d r h = h.1.2
 no_refusal command.Kernel d r h = h.1.says
+no_refusal command.Core d r h = h.1.1
 no_refusal given d r h = h.1
 
 module _ (given : Command) (old new : Option (List ℕ)) (input : List ℕ) (p : Consumes old new input) (end : length input ≤ document_limit given → IsAtEnd new) (d : Contents) (document : IsDocument given input d) where

@@ -12,7 +12,7 @@ use Rattle.game_text.specs.declared.command.Command.{Command}
 use Rattle.game_text.specs.declared.command.Command.TheVariants.{Nucleolus, Prenucleolus, Propose, Core, Check, Shapley, Bird, Convex, Kernel, Matching}
 use Rattle.coop.specs.Words.{IsCommand}
 use Rattle.coop.specs.Classes.{serves_class}
-use Rattle.coop.specs.Limits.{check_limit}
+use Rattle.coop.specs.Limits.{check_limit, core_limit}
 use Rattle.coop.specs.Headline.{IsTaken}
 use Rattle.coop.specs.ShapleyClaims.{shapley_limit}
 use Rattle.coop.specs.ConvexClaims.{convex_limit}
@@ -25,7 +25,7 @@ abbrev pub ServesPlayers : Command → Contents → Type 0
 ServesPlayers Nucleolus d = IsTaken d
 ServesPlayers Prenucleolus d = IsTaken d
 ServesPlayers Propose d = ⊤
-ServesPlayers Core d = ⊤
+ServesPlayers Core d = (game_of d.game).players ≤ core_limit d.game
 ServesPlayers Check d = (game_of d.game).players ≤ check_limit d.measure
 ServesPlayers Shapley d = (game_of d.game).players ≤ shapley_limit d.game
 ServesPlayers Bird d = ⊤

@@ -1,14 +1,15 @@
 -- The right answer on the core of the game of a document.
 --
 -- The answers exclude one another: no core point stands beside a balanced collection of excess worth. No other answer is right,
--- so the negative answer comes exactly where the core is empty.
+-- so the negative answer comes exactly where the core of a game that hasn't too many players is empty.
 --
 --   IsSchemePoint   the point of an airport or bankruptcy game is its nucleolus, and that of a tree game has Bird's shares
 --   IsSaidOf        what a solver says of the core
 --   IsCorePoint     a point of the core, as it is printed
 --   IsEmptyCore     a collection that shows that the core is empty, with both numbers as they are printed
+--   FindsCore       the answer is right for a game that has no more players than are answered
 --   SaysOfCore      the answer is right for the game of a document
-use Rattle.std.specs.Prelude.{◌≡◌, ⊤, Bool, ℕ, ℤ, List, ◌*ℤ◌}
+use Rattle.std.specs.Prelude.{◌≡◌, ◌<◌, ◌≤◌, ⊤, Bool, ℕ, ℤ, List, ◌*ℤ◌}
 use Rattle.definitions.specs.Sums.{weighted_sum}
 use Rattle.definitions.specs.Coalitions.{grand_coalition}
 use Rattle.definitions.specs.Games.{Game, Allocation, InCore, IsNucleolus}
@@ -20,11 +21,13 @@ use Rattle.balanced.specs.Answer.{ShowsEmpty}
 use Rattle.balanced.specs.declared.CoreAnswer.{CoreAnswer}
 use Rattle.balanced.specs.declared.CoreAnswer.TheVariants.{Point, Empty}
 use Rattle.tree_games.specs.Trees.{IsBird}
-use Rattle.game_text.specs.Descriptions.{Description, table, cost_table, airport, bankruptcy, network, assignment, market, game_of, is_cost}
+use Rattle.game_text.specs.Descriptions.{Description, table, cost_table, airport, bankruptcy, network, assignment, market, voting, game_of, is_cost}
 use Rattle.game_text.specs.Documents.{Contents}
 use Rattle.report.specs.declared.answer.Answer.{Answer}
-use Rattle.report.specs.declared.answer.Answer.TheVariants.{CorePoint, EmptyCore}
+use Rattle.report.specs.declared.answer.Answer.TheVariants.{CorePoint, EmptyCore, Usage}
+use Rattle.report.specs.declared.answer.UsageKind.TheVariants.{Players}
 use Rattle.coop.specs.Judgement.{printed}
+use Rattle.coop.specs.Limits.{core_limit}
 
 -- the point of an airport or bankruptcy game is its nucleolus, and that of a tree game has Bird's shares; that of another may be any
 abbrev pub IsSchemePoint : Description → Allocation → Type 0
@@ -35,6 +38,7 @@ IsSchemePoint (bankruptcy estate claims) x = IsNucleolus Imputations Plain (game
 IsSchemePoint (network rows) x = (edges : List (ℕ × ℕ × ℤ)) × IsBird rows x edges
 IsSchemePoint (assignment rows) x = ⊤
 IsSchemePoint (market rows) x = ⊤
+IsSchemePoint (voting quota weights) x = ⊤
 
 -- what a solver says of the core
 abbrev pub IsSaidOf : Description → CoreAnswer → Type 0
@@ -59,8 +63,13 @@ abbrev pub IsShown : Bool → Game → Answer → Type 0
 IsShown are_costs g (EmptyCore c value against) = IsEmptyCore are_costs g c value against
 IsShown are_costs g _ = ⊥
 
+-- the answer is right for the game of a document that has no more players than are answered
+abbrev pub FindsCore : Contents → Answer → Type 0
+FindsCore d (CorePoint are_costs x) = IsCorePoint d are_costs x
+FindsCore d (EmptyCore c value against) = IsEmptyCore (is_cost d.game) (game_of d.game) c value against
+FindsCore d _ = ⊥
+
 -- the answer is right for the game of a document
 abbrev pub SaysOfCore : Contents → Answer → Type 0
-SaysOfCore d (CorePoint are_costs x) = IsCorePoint d are_costs x
-SaysOfCore d (EmptyCore c value against) = IsEmptyCore (is_cost d.game) (game_of d.game) c value against
-SaysOfCore d _ = ⊥
+SaysOfCore d (Usage Players) = core_limit d.game < (game_of d.game).players
+SaysOfCore d answer = ((game_of d.game).players ≤ core_limit d.game) × FindsCore d answer

@@ -2,14 +2,14 @@
 --
 --   IsFoundFor     what a solver finds: shares and a certificate, or that there is no imputation
 --   HasFewPlayers  a game without a scheme of its own has at most 16 players, and is no market, which is matched instead
-use Rattle.std.specs.Prelude.{◌≤◌, ⊤}
+use Rattle.std.specs.Prelude.{◌≤◌, ⊤, length}
 use Rattle.definitions.specs.Games.{Game}
 use Rattle.definitions.specs.declared.Family.{Family}
 use Rattle.definitions.specs.declared.Measure.{Measure}
 use Rattle.tree_games.specs.Trees.{tree_game}
 use Rattle.assignment_games.specs.Assignments.{assignment_game}
 use Rattle.kohlberg.specs.Solved.{IsSolved}
-use Rattle.game_text.specs.Descriptions.{Description, table, cost_table, airport, bankruptcy, network, assignment, market}
+use Rattle.game_text.specs.Descriptions.{Description, table, cost_table, airport, bankruptcy, network, assignment, market, voting}
 use Rattle.nested_programs.specs.Answer.{LacksImputation}
 use Rattle.nested_programs.specs.declared.found.Found.{Found}
 use Rattle.nested_programs.specs.declared.found.Found.TheVariants as found
@@ -28,3 +28,4 @@ HasFewPlayers (bankruptcy estate claims) = ⊤
 HasFewPlayers (network rows) = (tree_game rows).players ≤ 16
 HasFewPlayers (assignment rows) = (assignment_game rows).players ≤ 16
 HasFewPlayers (market rows) = ⊥
+HasFewPlayers (voting quota weights) = length weights ≤ 16

@@ -6,13 +6,13 @@
 use Rattle.std.specs.Prelude.{◌≡◌, ◌<◌, ◌≤◌, ℕ, Bool}
 use Rattle.definitions.specs.Games.{Allocation}
 use Rattle.definitions.specs.Shapley.{IsShapley}
-use Rattle.game_text.specs.Descriptions.{Description, table, cost_table, airport, bankruptcy, network, assignment, market, game_of, is_cost}
+use Rattle.game_text.specs.Descriptions.{Description, table, cost_table, airport, bankruptcy, network, assignment, market, voting, game_of, is_cost}
 use Rattle.game_text.specs.Documents.{Contents}
 use Rattle.report.specs.declared.answer.Answer.{Answer}
 use Rattle.report.specs.declared.answer.Answer.TheVariants.{Shapley, Usage}
 use Rattle.report.specs.declared.answer.UsageKind.TheVariants.{Players}
 
--- the most players of a game whose Shapley shares are answered: the steps of an airport's costs are few, and the coalitions of another game many
+-- the most players of a game whose Shapley shares are answered: the steps of an airport's costs and the sums of votes are few, and the coalitions of another game many
 abbrev pub shapley_limit : Description → ℕ
 shapley_limit (table n worths) = 16
 shapley_limit (cost_table n costs) = 16
@@ -21,6 +21,7 @@ shapley_limit (bankruptcy estate claims) = 16
 shapley_limit (network rows) = 16
 shapley_limit (assignment rows) = 16
 shapley_limit (market rows) = 16
+shapley_limit (voting quota weights) = 32
 
 -- each share is the mean of what its player adds, over all orders of the players, who aren't too many; and the shares are printed as payments where the numbers of the game are costs
 pub record IsShapleyAnswer (d : Contents) (are_costs : Bool) (x : Allocation) : Type 0 where

@@ -29,6 +29,7 @@ pub fn bird_document(alloc: Global, document: &Document) -> Result<Answer, OutOf
         | Game::Airport(_)
         | Game::Bankruptcy(_)
         | Game::Assignment(_)
-        | Game::Market(_) => unreachable!(),
+        | Game::Market(_)
+        | Game::Voting(_) => unreachable!(),
     }
 }

@@ -33,7 +33,8 @@ fn is_market(game: &Game) -> bool
         | Game::Airport(_)
         | Game::Bankruptcy(_)
         | Game::Tree(_)
-        | Game::Assignment(_) => false,
+        | Game::Assignment(_)
+        | Game::Voting(_) => false,
     }
 }
 
@@ -47,7 +48,8 @@ fn is_tree(game: &Game) -> bool
         | Game::Airport(_)
         | Game::Bankruptcy(_)
         | Game::Assignment(_)
-        | Game::Market(_) => false,
+        | Game::Market(_)
+        | Game::Voting(_) => false,
     }
 }
 
@@ -60,7 +62,8 @@ fn is_no_market(game: &Game) -> bool
         | Game::Airport(_)
         | Game::Bankruptcy(_)
         | Game::Tree(_)
-        | Game::Assignment(_) => true,
+        | Game::Assignment(_)
+        | Game::Voting(_) => true,
         Game::Market(_) => false,
     }
 }

@@ -50,5 +50,6 @@ fn answer_for(alloc: Global, game: &Game) -> Result<ConvexAnswer, OutOfMemory>
         Game::Tree(game) => answer(alloc, &KeptWorths::new(alloc, game)?),
         Game::Assignment(game) => answer(alloc, game),
         Game::Market(_) => unreachable!(),
+        Game::Voting(game) => answer(alloc, &KeptWorths::new(alloc, game)?),
     }
 }

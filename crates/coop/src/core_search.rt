@@ -2,26 +2,31 @@
 ghost use Rattle.std.specs.Prelude.{◌≡◌, ◌≤◌, true, IfOk};
 ghost use Rattle.kohlberg.specs.Certificate.{IsCertificate};
 ghost use Rattle.balanced.specs.Answer.{ShowsEmpty, IsFound};
+ghost use Rattle.game_text.specs.Descriptions.{game_of};
 ghost use Rattle.game_text.specs.Games.{description_in};
 ghost use Rattle.game_text.specs.Readings.{contents_in};
 ghost use Rattle.report.specs.Limits.{IsPrintable};
 ghost use Rattle.coop.specs.Classes.{is_no_market};
-ghost use Rattle.coop.specs.CoreClaims.{IsSaidOf, IsShown, SaysOfCore};
+ghost use Rattle.coop.specs.CoreClaims.{IsSaidOf, IsShown, FindsCore, SaysOfCore};
+ghost use Rattle.coop.specs.Limits.{core_limit};
 ghost use Rattle.coop.specs.Needs.{IsAccepted};
 ghost use Rattle.coop.specs.ReadBack.{CanBeRead};
 ghost use Rattle.coop.specs.Finding.{HasFewPlayers};
 
 use crate::judge::printed_amount;
+use crate::limits::core_limit;
 use crate::solve::keep_their_limits;
 use balanced::{Collection, CoreAnswer, CoreFault, core_of};
 use fractions::OutOfMemory;
 use game_text::{Document, Game};
 use kohlberg::Certificate;
-use report::Answer;
+use report::{Answer, UsageKind};
 use std::alloc::Global;
 use worth_core::{Shares, Worth};
+use worth_tables::KeptWorths;
 
-/// A point of the core of the game of a document, or a collection that shows that the core is empty.
+/// A point of the core of the game of a document, or a collection that shows that the core is empty; or that the game has more
+/// players than are answered: 16 for a voting game.
 ///
 /// The point of an airport or bankruptcy game is its nucleolus, that of a tree game has Bird's shares, and the others are
 /// answered by the balanced program.
@@ -29,6 +34,21 @@ pub fn core_document(alloc: Global, document: &Document) -> Result<Answer, OutOf
     requires accepted { IsAccepted (contents_in document.now) }
     requires class { is_no_market (description_in document.now.game) ≡ true }
     ensures says { IfOk result (SaysOfCore (contents_in document.now)) }
+    ensures printable { IfOk result IsPrintable }
+    ensures readable { IfOk result CanBeRead }
+{
+    if document.game.players() > core_limit(&document.game) {
+        return Ok(Answer::Usage(UsageKind::Players));
+    }
+    core_of_few(alloc, document)
+}
+
+// The same where the game hasn't more players than are answered.
+fn core_of_few(alloc: Global, document: &Document) -> Result<Answer, OutOfMemory>
+    requires accepted { IsAccepted (contents_in document.now) }
+    requires class { is_no_market (description_in document.now.game) ≡ true }
+    requires taken { (game_of (description_in document.now.game)).players ≤ core_limit (description_in document.now.game) }
+    ensures finds { IfOk result (FindsCore (contents_in document.now)) }
     ensures printable { IfOk result IsPrintable }
     ensures readable { IfOk result CanBeRead }
 {
@@ -52,6 +72,7 @@ fn said_of(alloc: Global, game: &Game) -> Result<CoreAnswer, OutOfMemory>
         Game::Tree(game) => Ok(CoreAnswer::Point(game.bird(alloc)?.0)),
         Game::Assignment(game) => by_program(alloc, game),
         Game::Market(_) => unreachable!(),
+        Game::Voting(game) => by_program(alloc, &KeptWorths::new(alloc, game)?),
     }
 }
 

@@ -1,7 +1,7 @@
 //! How many players a game may have for a command.
 ghost use Rattle.std.specs.Prelude.{◌≡◌};
 ghost use Rattle.game_text.specs.Games.{description_in};
-ghost use Rattle.coop.specs.Limits.{nucleolus_limit, check_limit};
+ghost use Rattle.coop.specs.Limits.{nucleolus_limit, check_limit, core_limit};
 
 use game_text::Game;
 use worth_core::Measure;
@@ -16,7 +16,12 @@ pub fn nucleolus_limit(measure: Measure, game: &Game) -> u32
         (Measure::Plain, Game::Airport(_) | Game::Bankruptcy(_)) => 64,
         (
             Measure::Plain,
-            Game::Table(_) | Game::Cost(_) | Game::Tree(_) | Game::Assignment(_) | Game::Market(_),
+            Game::Table(_)
+            | Game::Cost(_)
+            | Game::Tree(_)
+            | Game::Assignment(_)
+            | Game::Market(_)
+            | Game::Voting(_),
         ) => 16,
     }
 }
@@ -28,5 +33,21 @@ pub fn check_limit(measure: Measure) -> u32
     match measure {
         Measure::Plain => 64,
         Measure::PerHead => 16,
+    }
+}
+
+/// The most players of a game whose core is answered: 16 for a voting game, and 64, which no game exceeds, for another.
+pub fn core_limit(game: &Game) -> u32
+    ensures { result ≡ core_limit (description_in game.now) }
+{
+    match game {
+        Game::Voting(_) => 16,
+        Game::Table(_)
+        | Game::Cost(_)
+        | Game::Airport(_)
+        | Game::Bankruptcy(_)
+        | Game::Tree(_)
+        | Game::Assignment(_)
+        | Game::Market(_) => 64,
     }
 }

@@ -30,6 +30,7 @@ pub fn matching_document(alloc: Global, document: &Document) -> Result<Answer, O
         | Game::Airport(_)
         | Game::Bankruptcy(_)
         | Game::Tree(_)
-        | Game::Assignment(_) => unreachable!(),
+        | Game::Assignment(_)
+        | Game::Voting(_) => unreachable!(),
     }
 }

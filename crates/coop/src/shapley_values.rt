@@ -1,5 +1,5 @@
 //! The Shapley shares of the game of a document.
-ghost use Rattle.std.specs.Prelude.{◌≡◌, ◌<◌, ◌↔◌, true, IfOk, IsErrOf};
+ghost use Rattle.std.specs.Prelude.{◌≡◌, ◌<◌, ◌≤◌, ◌↔◌, true, IfOk, IsErrOf};
 ghost use Rattle.definitions.specs.Shapley.{IsShapley};
 ghost use Rattle.game_text.specs.Descriptions.{game_of};
 ghost use Rattle.game_text.specs.Games.{description_in};
@@ -7,6 +7,7 @@ ghost use Rattle.game_text.specs.Readings.{contents_in};
 ghost use Rattle.report.specs.Limits.{IsPrintable};
 ghost use Rattle.coop.specs.Classes.{is_no_market};
 ghost use Rattle.coop.specs.ReadBack.{CanBeRead};
+ghost use Rattle.voting.specs.Voting.{voting_game};
 ghost use Rattle.coop.specs.ShapleyClaims.{shapley_limit, SaysOfShapley};
 
 use fractions::OutOfMemory;
@@ -14,10 +15,11 @@ use game_text::{Document, Game};
 use report::{Answer, UsageKind};
 use shapley::{ShapleyFault, airport_shapley, shapley};
 use std::alloc::Global;
+use voting::{VotingGame, voting_shapley};
 use worth_core::Shares;
 
-/// The Shapley shares of the game of a document, or that it has more players than are answered: 32 for an airport game, and 16
-/// for another.
+/// The Shapley shares of the game of a document, or that it has more players than are answered: 32 for an airport or voting
+/// game, and 16 for another.
 pub fn shapley_document(alloc: Global, document: &Document) -> Result<Answer, OutOfMemory>
     requires { is_no_market (description_in document.now.game) ≡ true }
     ensures says { IfOk result (SaysOfShapley (contents_in document.now)) }
@@ -32,7 +34,8 @@ pub fn shapley_document(alloc: Global, document: &Document) -> Result<Answer, Ou
     }
 }
 
-// The shares of an airport game by the steps of its costs, and those of another by its coalitions.
+// The shares of an airport game by the steps of its costs, those of a voting game by its sums of weights, and those of another
+// by its coalitions.
 fn shares_of(alloc: Global, game: &Game) -> Result<Shares, ShapleyFault>
     requires { is_no_market (description_in game.now) ≡ true }
     ensures value { IfOk result (IsShapley (game_of (description_in game.now))) }
@@ -46,5 +49,19 @@ fn shares_of(alloc: Global, game: &Game) -> Result<Shares, ShapleyFault>
         Game::Tree(game) => shapley(alloc, game),
         Game::Assignment(game) => shapley(alloc, game),
         Game::Market(_) => unreachable!(),
+        Game::Voting(game) => votes_of(alloc, game),
+    }
+}
+
+// The shares of a voting game, which never has too many players.
+fn votes_of(alloc: Global, game: &VotingGame) -> Result<Shares, ShapleyFault>
+    ensures value { IfOk result (IsShapley (voting_game game.now)) }
+    ensures few { ¬ (IsErrOf result ShapleyFault.TooMany) }
+    ensures players { (voting_game game.now).players ≤ 32 }
+{
+    game.len();
+    match voting_shapley(alloc, game) {
+        Ok(shares) => Ok(shares),
+        Err(_) => Err(ShapleyFault::Memory),
     }
 }

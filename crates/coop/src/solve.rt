@@ -104,6 +104,12 @@ pub fn found_plainly(alloc: Global, game: &Game, family: Family) -> Result<Found
         ),
         Game::Assignment(game) => by_programs(alloc, game, family, Measure::Plain),
         Game::Market(_) => unreachable!(),
+        Game::Voting(game) => by_programs(
+            alloc,
+            &KeptWorths::new(alloc, game)?,
+            family,
+            Measure::Plain,
+        ),
     }
 }
 

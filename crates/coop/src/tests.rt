@@ -16,6 +16,7 @@ mod shapley_shares;
 mod statuses;
 mod tables;
 mod two_refusals;
+mod votes;
 
 use crate::run::run;
 use crate::status::Status;

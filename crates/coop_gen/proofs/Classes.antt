@@ -1,5 +1,5 @@
 -- A generated game has the players that were asked for, and the worths of its class.
-use Rattle.std.proofs.Common.{◌≡◌, ℕ, ◌+◌, ◌-◌, ◌/◌, ◌≤◌, refl, ap₂, ap, ◌∙◌, arith}
+use Rattle.std.proofs.Common.{◌≡◌, ℕ, ◌+◌, ◌-◌, ◌/◌, refl, ap₂, ap, ◌∙◌, arith}
 use Rattle.std.proofs.lemmas.List.FromFn.{length-map-range_with_len}
 use Rattle.tree_games.proofs.Nearest.{tree_is_game}
 use Rattle.assignment_games.proofs.Games.{assignment_is_game}

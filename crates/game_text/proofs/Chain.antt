@@ -9,7 +9,7 @@ use Rattle.game_text.specs.Names.{has_names}
 use Rattle.game_text.specs.Coalitions.{has_coalitions}
 use Rattle.game_text.specs.Descriptions.{description_of}
 use Rattle.game_text.specs.Documents.{game_tree}
-use Rattle.game_text.specs.Refusals.{unless, is_covered, has_matrix, has_needed_numbers, has_needed_shares, has_needed_form, IsRefused}
+use Rattle.game_text.specs.Refusals.{unless, is_covered, has_quota, has_matrix, has_needed_numbers, has_needed_shares, has_needed_form, IsRefused}
 use Rattle.game_text.specs.Denominators.{needed_keep_limits, tree_refusal}
 use Rattle.game_text.specs.Steps.{coalition_refusal, game_refusal, share_refusal, certificate_refusal, needed_refusal, late_refusal}
 use Rattle.game_text.specs.Readings.{IsBuilt, IsBuildFault, IsGameReading, IsGameFault, IsTreeReading, IsTreeFault, IsReading, IsFault}
@@ -19,7 +19,7 @@ use Rattle.game_text.specs.declared.fault.TextFault.{TextFault}
 use Rattle.game_text.specs.declared.fault.TextFault.TheVariants.{Refused, Memory}
 use Rattle.game_text.specs.declared.game.Game.{Game}
 use Rattle.game_text.specs.declared.refusal.Refusal.{Refusal}
-use Rattle.game_text.specs.declared.refusal.Refusal.TheVariants.{TooLong, NotJson, Shape, Players, Number, Names, Coalition, Estate, Matrix, Proposal, TooFine, Certificate}
+use Rattle.game_text.specs.declared.refusal.Refusal.TheVariants.{TooLong, NotJson, Shape, Players, Number, Names, Coalition, Estate, Matrix, Proposal, TooFine, Certificate, Quota}
 use Rattle.game_text.proofs.Computed.{document_from, refused_from}
 
 -- a refusal of the tree is behind the first two
@@ -46,9 +46,11 @@ needed_of_tree command game tree = share_of_tree command game tree (certificate_
 game_of_tree : (game : Data) (rest : Option Refusal) → IsOfTree rest → IsOfTree (game_refusal game rest)
 game_of_tree game rest p =
     let matrix = unless (has_matrix (description_of game)) Matrix rest in
-    let estate = unless (is_covered (description_of game)) Estate matrix in
+    let quota = unless (has_quota (description_of game)) Quota matrix in
+    let estate = unless (is_covered (description_of game)) Estate quota in
     choose (has_names game) Names (unless (has_coalitions game) Coalition estate)
-    (choose (has_coalitions game) Coalition estate (choose (is_covered (description_of game)) Estate matrix (choose (has_matrix (description_of game)) Matrix rest p tt) tt) tt) tt
+    (choose (has_coalitions game) Coalition estate
+    (choose (is_covered (description_of game)) Estate quota (choose (has_quota (description_of game)) Quota matrix (choose (has_matrix (description_of game)) Matrix rest p tt) tt) tt) tt) tt
 
 of_tree : (command : Command) (tree : Data) → IsOfTree (tree_refusal command tree)
 of_tree command tree =
@@ -72,6 +74,7 @@ refused_at command bytes tree h text Matrix k e = refused_from command bytes _ (
 refused_at command bytes tree h text Proposal k e = refused_from command bytes _ (record { short = h; tree = tree; text = text; refused = e })
 refused_at command bytes tree h text TooFine k e = refused_from command bytes _ (record { short = h; tree = tree; text = text; refused = e })
 refused_at command bytes tree h text Certificate k e = refused_from command bytes _ (record { short = h; tree = tree; text = text; refused = e })
+refused_at command bytes tree h text Quota k e = refused_from command bytes _ (record { short = h; tree = tree; text = text; refused = e })
 
 fault_at : (command : Command) (bytes : List ℕ) (tree : Data) → length bytes ≤ document_limit command → IsTextOf bytes tree → (e : TextFault) → IsTreeFault command tree e → IsFault command bytes e
 fault_at command bytes tree h text (Refused r) e = refused_at command bytes tree h text r (subst IsOfTree e (of_tree command tree)) e

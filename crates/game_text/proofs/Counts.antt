@@ -21,7 +21,7 @@ use Rattle.game_text.specs.Readings.{IsTreeReading, IsTreeFault}
 use Rattle.game_text.proofs.MatrixRows.{row_count, seller_count_of}
 use Rattle.game_text.proofs.Passed.{IsPassed, behind, passed_tests}
 use Rattle.game_text.specs.declared.class.Class.{Class}
-use Rattle.game_text.specs.declared.class.Class.TheVariants.{Table, CostTable, Airport, Bankruptcy, Tree, Assignment, Market}
+use Rattle.game_text.specs.declared.class.Class.TheVariants.{Table, CostTable, Airport, Bankruptcy, Tree, Assignment, Market, Voting}
 use Rattle.game_text.specs.declared.command.Command.{Command}
 use Rattle.game_text.specs.declared.command.Command.TheVariants.{Nucleolus, Prenucleolus, Propose, Core, Check, Shapley, Bird, Convex, Kernel, Matching}
 use Rattle.game_text.specs.declared.document.Document.{Document}
@@ -41,6 +41,7 @@ players_described game (Some Bankruptcy) e = costs_length (codes "claims") game
 players_described game (Some Tree) e = ap (λ n. n - 1) (row_count game)
 players_described game (Some Assignment) e = ap₂ (λ p q. p + q) (row_count game) (seller_count_of game)
 players_described game (Some Market) e = ap₂ (λ p q. p + q) (row_count game) (seller_count_of game)
+players_described game (Some Voting) e = costs_length (codes "weights") game
 
 length_over : (fs : List Fraction) → length (over_least fs).shares ≡ length fs
 length_over fs = length-map fs (numerator_over (pos (least_denominator fs)))

@@ -13,6 +13,7 @@ use Rattle.game_text.specs.Excess.{is_measure}
 use Rattle.game_text.specs.Shape.{class_named, class_of, is_shaped_as, is_game_shaped}
 use Rattle.game_text.specs.TableClass.{is_sparse_pair, table_keys, lists_worths, lists_coalitions, is_table_shaped, table_players, players_at, has_worths_for, has_worth, has_table_numbers, is_small, is_worth}
 use Rattle.game_text.specs.BankruptcyClass.{bankruptcy_keys}
+use Rattle.game_text.specs.VotingClass.{voting_keys}
 use Rattle.game_text.specs.MatrixClass.{matrix_keys, is_matrix_shaped, has_matrix_numbers}
 use Rattle.game_text.specs.Limits.{players, has_players_as, has_players, has_numbers_as, has_numbers}
 use Rattle.game_text.specs.Sizes.{if_integer, is_small_cost, is_cost}
@@ -21,7 +22,7 @@ use Rattle.game_text.specs.Coalitions.{masks, has_coalitions_as, has_coalitions}
 use Rattle.game_text.specs.Members.{player_of, join, joined, mask_of, is_mask, are_coalitions}
 use Rattle.certificate_texts.specs.Levels.{numbered_player}
 use Rattle.game_text.specs.declared.class.Class.{Class}
-use Rattle.game_text.specs.declared.class.Class.TheVariants.{Table, CostTable, Airport, Bankruptcy, Tree, Assignment, Market}
+use Rattle.game_text.specs.declared.class.Class.TheVariants.{Table, CostTable, Airport, Bankruptcy, Tree, Assignment, Market, Voting}
 use Rattle.game_text.proofs.PlainTrees.{IsPlain, plain_text, plain_integer, plain_array, all_plain, plain_known, has_members, IsPlainAt, either}
 
 -- ---- numbers
@@ -158,7 +159,7 @@ member_of key d (Some e) g h = has_members key d e g
 is_object : (d : Data) (c : Class) → class_of d ≡ Some c → is_some (as_object d) ≡ true
 is_object d c h = member_of (codes "class") d (get (codes "class") d) refl (has_class (get (codes "class") d) c h)
 
--- ---- airport and bankruptcy
+-- ---- airport, bankruptcy and voting
 
 front_shaped : (game : Data) → is_game_shaped game ≡ true → ((passes_if_there (is_array_of is_text) (get (codes "names") game) && passes_if_there is_measure (get (codes "excess") game)) ≡ true) × (is_shaped_as (class_of game) game ≡ true)
 front_shaped game h = and_parts (passes_if_there (is_array_of is_text) (get (codes "names") game) && passes_if_there is_measure (get (codes "excess") game)) (is_shaped_as (class_of game) game) h
@@ -194,6 +195,25 @@ plain_bankruptcy game o c h w =
       (
         at_deeper 1 3 (codes "claims") game (omega arith) (plain_numbers is_cost (plain_cost 0) (codes "claims") game shape.1 numbers.1),
         ((λ e g. plain_cost 3 e (at_there is_cost (codes "estate") game e numbers.0 g)), (plain_excess 3 game (measured game h), (plain_names 2 game (named game h), tt))),
+      ),
+    )
+
+plain_voting : (game : Data) → IsOrdered game → class_of game ≡ Some Voting → is_game_shaped game ≡ true → has_numbers_as (Some Voting) game ≡ true → IsPlain 4 game
+plain_voting game o c h w =
+    let shape = and_parts (has_only_keys voting_keys game && passes is_number (get (codes "quota") game)) (passes (is_array_of is_number) (get (codes "weights") game)) (shaped_as game Voting c h) in
+    let front = and_parts (has_only_keys voting_keys game) (passes is_number (get (codes "quota") game)) shape.0 in
+    let numbers = and_parts (passes is_cost (get (codes "quota") game)) (list_all is_cost (parts_at (codes "weights") game)) w in
+    plain_known 3 voting_keys game o (is_object game Voting c) front.0 (
+      plain_class 3 game Voting c,
+      (
+        plain_excess 3 game (measured game h),
+        (
+          plain_names 2 game (named game h),
+          (
+            (λ e g. plain_cost 3 e (at_there is_cost (codes "quota") game e numbers.0 g)),
+            (at_deeper 1 3 (codes "weights") game (omega arith) (plain_numbers is_cost (plain_cost 0) (codes "weights") game shape.1 numbers.1), tt),
+          ),
+        ),
       ),
     )
 
@@ -291,6 +311,7 @@ plain_as game (Some Bankruptcy) o e h n w m = plain_bankruptcy game o e h w
 plain_as game (Some Tree) o e h n w m = plain_matrix game Tree o e h (shaped_as game Tree e h) w
 plain_as game (Some Assignment) o e h n w m = plain_matrix game Assignment o e h (shaped_as game Assignment e h) w
 plain_as game (Some Market) o e h n w m = plain_matrix game Market o e h (shaped_as game Market e h) w
+plain_as game (Some Voting) o e h n w m = plain_voting game o e h w
 
 -- the tree of a game of any class holds no float and is nested at most 4 deep
 pub plain_game : (game : Data) → IsOrdered game → is_game_shaped game ≡ true → has_players game ≡ true → has_numbers game ≡ true → has_coalitions game ≡ true → IsPlain 4 game

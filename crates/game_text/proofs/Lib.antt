@@ -5,6 +5,7 @@ pub mod Filling
 pub mod Sizes
 pub mod MatrixRows
 pub mod MarketRows
+pub mod Votes
 pub mod Payments
 pub mod LeastDenominators
 pub mod Computed

@@ -149,7 +149,7 @@ made_if : {A : Type 0} (b : Bool) (x y : A) → y ≡ x → b ≡ true → Some 
 made_if true x y e h = ap Some e
 made_if false x y e h = absurd (true≢false (sym h))
 
-none_if : {A : Type 0} (b : Bool) (x : A) → ¬ (b ≡ true) → None ≡ (if b then Some x else None)
+pub none_if : {A : Type 0} (b : Bool) (x : A) → ¬ (b ≡ true) → None ≡ (if b then Some x else None)
 none_if true x h = absurd (h refl)
 none_if false x h = refl
 

@@ -13,7 +13,7 @@ use Rattle.game_text.specs.OfClass.{IsOfClass}
 use Rattle.game_text.specs.Refusals.{has_matrix, has_needed_numbers, IsDocument}
 use Rattle.game_text.specs.Denominators.{tree_refusal}
 use Rattle.game_text.specs.declared.class.Class.{Class}
-use Rattle.game_text.specs.declared.class.Class.TheVariants.{Table, CostTable, Airport, Bankruptcy, Tree, Assignment, Market}
+use Rattle.game_text.specs.declared.class.Class.TheVariants.{Table, CostTable, Airport, Bankruptcy, Tree, Assignment, Market, Voting}
 use Rattle.game_text.specs.declared.command.Command.{Command}
 use Rattle.game_text.proofs.MatrixRows.{points_in, entries_in, links_hold}
 use Rattle.game_text.proofs.Computed.{document_as}
@@ -28,6 +28,7 @@ class_as (Some Bankruptcy) game p n m = tt
 class_as (Some Tree) game p n m = tree_is_game (rows_of game) (record { points = points_in game p; entries = entries_in game n; links = links_hold (rows_of game) m })
 class_as (Some Assignment) game p n m = assignment_is_game (rows_of game)
 class_as (Some Market) game p n m = assignment_is_game (rows_of game)
+class_as (Some Voting) game p n m = tt
 
 of_class : (command : Command) (tree : Data) → tree_refusal command tree ≡ None → IsOfClass (description_of (game_tree tree))
 of_class command tree e =

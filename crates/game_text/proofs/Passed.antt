@@ -8,12 +8,12 @@ use Rattle.game_text.specs.Names.{has_names}
 use Rattle.game_text.specs.Coalitions.{has_coalitions}
 use Rattle.game_text.specs.Descriptions.{description_of}
 use Rattle.game_text.specs.Documents.{game_tree}
-use Rattle.game_text.specs.Refusals.{unless, is_covered, has_matrix, has_needed_numbers}
+use Rattle.game_text.specs.Refusals.{unless, is_covered, has_quota, has_matrix, has_needed_numbers}
 use Rattle.game_text.specs.Denominators.{tree_refusal}
 use Rattle.game_text.specs.Steps.{needed_refusal}
 use Rattle.game_text.specs.declared.command.Command.{Command}
 use Rattle.game_text.specs.declared.refusal.Refusal.{Refusal}
-use Rattle.game_text.specs.declared.refusal.Refusal.TheVariants.{Shape, Players, Number, Names, Coalition, Estate, Matrix}
+use Rattle.game_text.specs.declared.refusal.Refusal.TheVariants.{Shape, Players, Number, Names, Coalition, Estate, Matrix, Quota}
 
 -- no test refuses
 abbrev pub IsPassed : Option Refusal → Type 0
@@ -32,6 +32,7 @@ pub record Passes (command : Command) (tree : Data) : Type 0 where
   pub names : has_names (game_tree tree) ≡ true
   pub coalitions : has_coalitions (game_tree tree) ≡ true
   pub covered : is_covered (description_of (game_tree tree)) ≡ true
+  pub quota : has_quota (description_of (game_tree tree)) ≡ true
   pub matrix : has_matrix (description_of (game_tree tree)) ≡ true
   pub needed : IsPassed (needed_refusal command (game_tree tree) tree)
 
@@ -40,7 +41,8 @@ passed_tests command tree e =
     let game = game_tree tree in
     let needed = needed_refusal command game tree in
     let matrix = unless (has_matrix (description_of game)) Matrix needed in
-    let estate = unless (is_covered (description_of game)) Estate matrix in
+    let quota = unless (has_quota (description_of game)) Quota matrix in
+    let estate = unless (is_covered (description_of game)) Estate quota in
     let coalition = unless (has_coalitions game) Coalition estate in
     let names = unless (has_names game) Names coalition in
     let numbers = has_numbers game && has_needed_numbers command tree in
@@ -50,6 +52,7 @@ passed_tests command tree e =
     let c = behind numbers Number names b.1 in
     let d = behind (has_names game) Names coalition c.1 in
     let f = behind (has_coalitions game) Coalition estate d.1 in
-    let e = behind (is_covered (description_of game)) Estate matrix f.1 in
-    let m = behind (has_matrix (description_of game)) Matrix needed e.1 in
-    record { shaped = a.0; players = b.0; numbers = c.0; names = d.0; coalitions = f.0; covered = e.0; matrix = m.0; needed = m.1 }
+    let e = behind (is_covered (description_of game)) Estate quota f.1 in
+    let q = behind (has_quota (description_of game)) Quota matrix e.1 in
+    let m = behind (has_matrix (description_of game)) Matrix needed q.1 in
+    record { shaped = a.0; players = b.0; numbers = c.0; names = d.0; coalitions = f.0; covered = e.0; quota = q.0; matrix = m.0; needed = m.1 }

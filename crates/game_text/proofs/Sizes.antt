@@ -26,7 +26,7 @@ use Rattle.game_text.specs.Descriptions.{table_numbers}
 use Rattle.json_trees.specs.Integers.{integer_or_zero, integer_at, integers_at, second_integer}
 use Rattle.game_text.specs.Readings.{HasSizes, IsTableClass}
 use Rattle.game_text.specs.declared.class.Class.{Class}
-use Rattle.game_text.specs.declared.class.Class.TheVariants.{Table, CostTable, Airport, Bankruptcy, Tree, Assignment, Market}
+use Rattle.game_text.specs.declared.class.Class.TheVariants.{Table, CostTable, Airport, Bankruptcy, Tree, Assignment, Market, Voting}
 
 pub all_map : {X Y : Type 0} (P : Y → Type 0) (f : X → Y) (test : X → Bool) → ((x : X) → test x ≡ true → P (f x)) → (xs : List X) → list_all test xs ≡ true → All P (map f xs)
 all_map P f test good xs h = All-map P f xs (λ k d l. good (slice_index_or xs k d) (AllPass-from_list_all test xs h k d l))
@@ -137,6 +137,7 @@ table_as game (Some Bankruptcy) k s p q = absurd k
 table_as game (Some Tree) k s p q = absurd k
 table_as game (Some Assignment) k s p q = absurd k
 table_as game (Some Market) k s p q = absurd k
+table_as game (Some Voting) k s p q = absurd k
 
 pub table_sizes : (game : Data) → IsTableClass (class_of game) → HasSizes game → IsTable (table (players game) (table_numbers game))
 table_sizes game k h = table_as game (class_of game) k (and_parts _ (is_shaped_as (class_of game) game) h.shaped).1 h.players h.numbers
@@ -159,7 +160,7 @@ cost_or_zero (Some (negsuc n)) h = absurd (false≢true h)
 pub cost : (d : Data) → is_cost d ≡ true → IsCost (integer_or_zero d)
 cost d h = cost_or_zero (integer d) h
 
-estate_cost : (o : Option Data) → passes is_cost o ≡ true → IsCost (unwrap_or (option_and_then integer o) (pos 0))
+pub estate_cost : (o : Option Data) → passes is_cost o ≡ true → IsCost (unwrap_or (option_and_then integer o) (pos 0))
 estate_cost None h = absurd (false≢true h)
 estate_cost (Some d) h = cost d h
 
@@ -203,7 +204,7 @@ sizes_of (n ∷ ns) = ap (λ l. n ∷ l) (sizes_of ns)
 pub kept_sizes : (ns : List ℕ) (zs : List ℤ) → map pos ns ≡ zs → ns ≡ map unsigned_abs zs
 kept_sizes ns zs e = sym (sizes_of ns) ∙ ap (map unsigned_abs) e
 
-if_true : {A : Type 0} (b : Bool) (x y : A) → b ≡ true → x ≡ (if b then x else y)
+pub if_true : {A : Type 0} (b : Bool) (x y : A) → b ≡ true → x ≡ (if b then x else y)
 if_true true x y h = refl
 if_true false x y h = absurd (false≢true h)
 

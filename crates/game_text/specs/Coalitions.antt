@@ -7,7 +7,7 @@ use Rattle.game_text.specs.Limits.{players}
 use Rattle.game_text.specs.Shape.{class_of}
 use Rattle.game_text.specs.Names.{names_of}
 use Rattle.game_text.specs.declared.class.Class.{Class}
-use Rattle.game_text.specs.declared.class.Class.TheVariants.{Table, CostTable, Airport, Bankruptcy, Tree, Assignment, Market}
+use Rattle.game_text.specs.declared.class.Class.TheVariants.{Table, CostTable, Airport, Bankruptcy, Tree, Assignment, Market, Voting}
 
 -- the coalition of each pair of a sparse table
 abbrev pub masks : Data → List (Option ℕ)
@@ -23,6 +23,7 @@ has_coalitions_as (Some Bankruptcy) game = true
 has_coalitions_as (Some Tree) game = true
 has_coalitions_as (Some Assignment) game = true
 has_coalitions_as (Some Market) game = true
+has_coalitions_as (Some Voting) game = true
 
 -- each pair of a sparse table has a coalition of players, and no two have the same
 abbrev pub has_coalitions : Data → Bool

@@ -8,7 +8,7 @@ use Rattle.std.specs.Prelude.{ℕ, ℤ, codes, Bool, true, false, List, [], leng
 use Rattle.serde_json.specs.Data.{Data}
 use Rattle.serde_json.specs.Find.{get}
 use Rattle.definitions.specs.Games.{Game}
-use Rattle.definitions.specs.Classes.{table_worth, negated_worth, airport_worth, bankruptcy_worth}
+use Rattle.definitions.specs.Classes.{table_worth, negated_worth, airport_worth, bankruptcy_worth, voting_worth}
 use Rattle.tree_games.specs.Trees.{tree_game}
 use Rattle.assignment_games.specs.Assignments.{assignment_game}
 use Rattle.json_trees.specs.Integers.{integer_at, costs_at}
@@ -18,7 +18,7 @@ use Rattle.game_text.specs.Names.{names_of}
 use Rattle.game_text.specs.TableClass.{numbers_by}
 use Rattle.game_text.specs.MatrixClass.{rows_of}
 use Rattle.game_text.specs.declared.class.Class.{Class}
-use Rattle.game_text.specs.declared.class.Class.TheVariants.{Table, CostTable, Airport, Bankruptcy, Tree, Assignment, Market}
+use Rattle.game_text.specs.declared.class.Class.TheVariants.{Table, CostTable, Airport, Bankruptcy, Tree, Assignment, Market, Voting}
 
 -- the class of a game, and its numbers: by coalition in mask order from 1, by player, or by the rows of a matrix
 pub data Description : Type 0 where
@@ -29,6 +29,7 @@ pub data Description : Type 0 where
   network : List (List ℤ) → Description
   assignment : List (List ℤ) → Description
   market : List (List ℤ) → Description
+  voting : ℕ → List ℕ → Description
 
 -- the game that is described
 abbrev pub game_of : Description → Game
@@ -39,6 +40,7 @@ game_of (bankruptcy estate claims) = record { players = length claims; worth = b
 game_of (network rows) = tree_game rows
 game_of (assignment rows) = assignment_game rows
 game_of (market rows) = assignment_game rows
+game_of (voting quota weights) = record { players = length weights; worth = voting_worth quota weights }
 
 -- the numbers are costs, and shares are payments
 abbrev pub is_cost : Description → Bool
@@ -49,6 +51,7 @@ is_cost (bankruptcy estate claims) = false
 is_cost (network rows) = true
 is_cost (assignment rows) = false
 is_cost (market rows) = false
+is_cost (voting quota weights) = false
 
 -- ---- tables
 
@@ -68,6 +71,7 @@ description_as (Some Bankruptcy) game = bankruptcy (unsigned_abs (integer_at (co
 description_as (Some Tree) game = network (rows_of game)
 description_as (Some Assignment) game = assignment (rows_of game)
 description_as (Some Market) game = market (rows_of game)
+description_as (Some Voting) game = voting (unsigned_abs (integer_at (codes "quota") game)) (costs_at (codes "weights") game)
 
 -- what the tree of a game describes
 abbrev pub description_of : Data → Description

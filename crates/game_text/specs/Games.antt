@@ -1,7 +1,7 @@
 -- What a game in memory keeps.
-use Rattle.game_text.specs.Descriptions.{Description, table, cost_table, airport, bankruptcy, network, assignment, market}
+use Rattle.game_text.specs.Descriptions.{Description, table, cost_table, airport, bankruptcy, network, assignment, market, voting}
 use Rattle.game_text.specs.declared.game.Game.{Game}
-use Rattle.game_text.specs.declared.game.Game.TheVariants.{Table, Cost, Airport, Bankruptcy, Tree, Assignment, Market}
+use Rattle.game_text.specs.declared.game.Game.TheVariants.{Table, Cost, Airport, Bankruptcy, Tree, Assignment, Market, Voting}
 
 -- the description that a game keeps
 abbrev pub description_in : Game → Description
@@ -12,3 +12,4 @@ description_in (Bankruptcy b) = bankruptcy b.estate b.claims
 description_in (Tree rows) = network rows
 description_in (Assignment rows) = assignment rows
 description_in (Market rows) = market rows
+description_in (Voting v) = voting v.quota v.weights

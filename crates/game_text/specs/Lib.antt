@@ -9,6 +9,7 @@ pub mod MatrixClass
 pub mod TreeClass
 pub mod AssignmentClass
 pub mod MarketClass
+pub mod VotingClass
 pub mod Excess
 pub mod Shape
 pub mod Limits

@@ -5,7 +5,7 @@
 --   has_numbers  each number of the game is an integer within its limits
 use Rattle.std.specs.Prelude.{ℕ, Bool, false, Option, Some, None, unwrap_or}
 use Rattle.serde_json.specs.Data.{Data}
-use Rattle.game_text.specs.Sizes.{is_list_size}
+use Rattle.game_text.specs.Sizes.{is_list_size, is_short_list_size}
 use Rattle.game_text.specs.TableClass.{players_at, has_table_players, has_table_numbers}
 use Rattle.game_text.specs.AirportClass.{airport_players, has_airport_numbers}
 use Rattle.game_text.specs.BankruptcyClass.{bankruptcy_players, has_bankruptcy_numbers}
@@ -13,9 +13,10 @@ use Rattle.game_text.specs.MatrixClass.{has_matrix_numbers}
 use Rattle.game_text.specs.TreeClass.{tree_players, has_tree_players}
 use Rattle.game_text.specs.AssignmentClass.{assignment_players, has_assignment_players}
 use Rattle.game_text.specs.MarketClass.{has_market_players}
+use Rattle.game_text.specs.VotingClass.{voting_players, has_voting_numbers}
 use Rattle.game_text.specs.Shape.{class_of}
 use Rattle.game_text.specs.declared.class.Class.{Class}
-use Rattle.game_text.specs.declared.class.Class.TheVariants.{Table, CostTable, Airport, Bankruptcy, Tree, Assignment, Market}
+use Rattle.game_text.specs.declared.class.Class.TheVariants.{Table, CostTable, Airport, Bankruptcy, Tree, Assignment, Market, Voting}
 
 -- ---- players
 
@@ -29,6 +30,7 @@ has_players_as (Some Bankruptcy) game = is_list_size (bankruptcy_players game)
 has_players_as (Some Tree) game = has_tree_players game
 has_players_as (Some Assignment) game = has_assignment_players game
 has_players_as (Some Market) game = has_market_players game
+has_players_as (Some Voting) game = is_short_list_size (voting_players game)
 
 -- as many players, and numbers for them, as the class of the game allows
 abbrev pub has_players : Data → Bool
@@ -44,6 +46,7 @@ players_as (Some Bankruptcy) game = bankruptcy_players game
 players_as (Some Tree) game = tree_players game
 players_as (Some Assignment) game = assignment_players game
 players_as (Some Market) game = assignment_players game
+players_as (Some Voting) game = voting_players game
 
 -- the number of players of a game that has as many as its class allows
 abbrev pub players : Data → ℕ
@@ -61,6 +64,7 @@ has_numbers_as (Some Bankruptcy) game = has_bankruptcy_numbers game
 has_numbers_as (Some Tree) game = has_matrix_numbers game
 has_numbers_as (Some Assignment) game = has_matrix_numbers game
 has_numbers_as (Some Market) game = has_matrix_numbers game
+has_numbers_as (Some Voting) game = has_voting_numbers game
 
 -- each number of the game is an integer within its limits
 abbrev pub has_numbers : Data → Bool

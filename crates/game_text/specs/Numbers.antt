@@ -1,9 +1,9 @@
--- The numbers of the refusals, in the order in which they are tested.
+-- The numbers of the refusals. They are tested in this order, but for Quota, which is tested behind Estate.
 use Rattle.std.specs.Prelude.{ℕ}
 use Rattle.game_text.specs.declared.refusal.Refusal.{Refusal}
-use Rattle.game_text.specs.declared.refusal.Refusal.TheVariants.{TooLong, NotJson, Shape, Players, Number, Names, Coalition, Estate, Matrix, Proposal, TooFine, Certificate}
+use Rattle.game_text.specs.declared.refusal.Refusal.TheVariants.{TooLong, NotJson, Shape, Players, Number, Names, Coalition, Estate, Matrix, Proposal, TooFine, Certificate, Quota}
 
--- the place of a refusal in their order, from 1
+-- the number of a refusal
 abbrev pub refusal_number : Refusal → ℕ
 refusal_number TooLong = 1
 refusal_number NotJson = 2
@@ -17,3 +17,4 @@ refusal_number Matrix = 9
 refusal_number Proposal = 10
 refusal_number TooFine = 11
 refusal_number Certificate = 12
+refusal_number Quota = 13

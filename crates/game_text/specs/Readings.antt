@@ -14,7 +14,7 @@ use Rattle.game_text.specs.Documents.{Contents, family_for, certificate_for}
 use Rattle.game_text.specs.Refusals.{IsRefused, IsDocument}
 use Rattle.game_text.specs.Steps.{coalition_refusal, game_refusal, proposal_refusal, share_refusal, certificate_refusal, late_refusal}
 use Rattle.game_text.specs.declared.class.Class.{Class}
-use Rattle.game_text.specs.declared.class.Class.TheVariants.{Table, CostTable, Airport, Bankruptcy, Tree, Assignment, Market}
+use Rattle.game_text.specs.declared.class.Class.TheVariants.{Table, CostTable, Airport, Bankruptcy, Tree, Assignment, Market, Voting}
 use Rattle.game_text.specs.declared.command.Command.{Command}
 use Rattle.game_text.specs.declared.document.Document.{Document}
 use Rattle.game_text.specs.declared.fault.TextFault.{TextFault}
@@ -38,23 +38,24 @@ IsTableClass (Some Bankruptcy) = ⊥
 IsTableClass (Some Tree) = ⊥
 IsTableClass (Some Assignment) = ⊥
 IsTableClass (Some Market) = ⊥
+IsTableClass (Some Voting) = ⊥
 
--- the tests of the coalitions, of the estate and of the matrix pass, and this is the game that is described
+-- the tests of the coalitions, of the estate, of the quota and of the matrix pass, and this is the game that is described
 pub record IsBuilt (game : Data) (g : Game) : Type 0 where
   pub passed : (rest : Option Refusal) → coalition_refusal game rest ≡ rest
   pub same : description_in g ≡ description_of game
 
--- the tests of the coalitions, of the estate and of the matrix refuse it so; want of memory is free
+-- the tests of the coalitions, of the estate, of the quota and of the matrix refuse it so; want of memory is free
 abbrev pub IsBuildFault : Data → TextFault → Type 0
 IsBuildFault game (Refused r) = (rest : Option Refusal) → coalition_refusal game rest ≡ Some r
 IsBuildFault game Memory = ⊤
 
--- the tests of the names, the coalitions, the estate and the matrix pass, and this is the game that is described
+-- the tests of the names, the coalitions, the estate, the quota and the matrix pass, and this is the game that is described
 pub record IsGameReading (game : Data) (g : Game) : Type 0 where
   pub passed : (rest : Option Refusal) → game_refusal game rest ≡ rest
   pub same : description_in g ≡ description_of game
 
--- the tests of the names, the coalitions, the estate and the matrix refuse it so; want of memory is free
+-- the tests of the names, the coalitions, the estate, the quota and the matrix refuse it so; want of memory is free
 abbrev pub IsGameFault : Data → TextFault → Type 0
 IsGameFault game (Refused r) = (rest : Option Refusal) → game_refusal game rest ≡ Some r
 IsGameFault game Memory = ⊤

@@ -1,6 +1,6 @@
 -- The first refusal that applies, and the document that isn't refused.
 --
---   refusal_over  the first test that a JSON tree doesn't pass, in the order of their numbers
+--   refusal_over  the first test that a JSON tree doesn't pass, in their order
 --   IsRefused     the first refusal that applies to the bytes
 --   IsDocument    no refusal applies to the bytes, and this is what they say
 use Rattle.std.specs.Prelude.{◌≡◌, ◌<◌, ◌≤◌, ◌&&◌, ℕ, codes, List, [], ◌∷◌, length, Bool, true, false, Option, Some, None}
@@ -11,18 +11,19 @@ use Rattle.game_text.specs.Text.{document_limit, IsTextOf, IsNotJson}
 use Rattle.game_text.specs.BankruptcyClass.{claims_cover}
 use Rattle.game_text.specs.TreeClass.{are_links}
 use Rattle.game_text.specs.AssignmentClass.{are_even}
+use Rattle.game_text.specs.VotingClass.{is_quota}
 use Rattle.game_text.specs.Shape.{is_shaped}
 use Rattle.game_text.specs.Limits.{players, has_players, has_numbers}
 use Rattle.game_text.specs.Names.{has_names}
 use Rattle.game_text.specs.Coalitions.{has_coalitions}
-use Rattle.game_text.specs.Descriptions.{Description, table, cost_table, airport, bankruptcy, network, assignment, market, description_of}
+use Rattle.game_text.specs.Descriptions.{Description, table, cost_table, airport, bankruptcy, network, assignment, market, voting, description_of}
 use Rattle.game_text.specs.Shares.{has_share_numbers, has_shares_for, written_shares, has_small_terms, IsDenominatorOf}
 use Rattle.certificate_texts.specs.Certificates.{has_form}
 use Rattle.game_text.specs.Documents.{Contents, game_tree, contents_over}
 use Rattle.game_text.specs.declared.command.Command.{Command}
 use Rattle.game_text.specs.Needs.{needs, if_needed}
 use Rattle.game_text.specs.declared.refusal.Refusal.{Refusal}
-use Rattle.game_text.specs.declared.refusal.Refusal.TheVariants.{TooLong, NotJson, Shape, Players, Number, Names, Coalition, Estate, Matrix, Proposal, TooFine, Certificate}
+use Rattle.game_text.specs.declared.refusal.Refusal.TheVariants.{TooLong, NotJson, Shape, Players, Number, Names, Coalition, Estate, Matrix, Proposal, TooFine, Certificate, Quota}
 
 -- an estate is at most the sum of the claims
 abbrev pub is_covered : Description → Bool
@@ -33,6 +34,7 @@ is_covered (bankruptcy estate claims) = claims_cover estate claims
 is_covered (network rows) = true
 is_covered (assignment rows) = true
 is_covered (market rows) = true
+is_covered (voting quota weights) = true
 
 -- the rows of a tree game are those of links, and the rows of an assignment game or a market have one length
 abbrev pub has_matrix : Description → Bool
@@ -43,6 +45,18 @@ has_matrix (bankruptcy estate claims) = true
 has_matrix (network rows) = are_links rows
 has_matrix (assignment rows) = are_even rows
 has_matrix (market rows) = are_even rows
+has_matrix (voting quota weights) = true
+
+-- the weights of a voting game sum to at most 1,000, and its quota is from 1 to their sum
+abbrev pub has_quota : Description → Bool
+has_quota (table n worths) = true
+has_quota (cost_table n costs) = true
+has_quota (airport costs) = true
+has_quota (bankruptcy estate claims) = true
+has_quota (network rows) = true
+has_quota (assignment rows) = true
+has_quota (market rows) = true
+has_quota (voting quota weights) = is_quota quota weights
 
 -- this refusal, unless the test passes; then the rest decides
 abbrev pub unless : Bool → Refusal → Option Refusal → Option Refusal
@@ -70,7 +84,7 @@ has_needed_terms d command tree = if_needed (needs command).shares (has_small_te
 abbrev pub has_needed_form : Command → Data → Data → Bool
 has_needed_form command game tree = if_needed (needs command).certificate (passes (has_form (players game)) (get (codes "certificate") tree))
 
--- the tests of a tree, in the order of the numbers of their refusals, where d is the denominator of the shares
+-- the tests of a tree, in the order of the numbers of their refusals but for Quota, where d is the denominator of the shares
 abbrev pub tree_tests : ℕ → Command → Data → Data → List (Refusal × Bool)
 tree_tests d command game tree =
     (Shape, is_shaped command tree)
@@ -79,6 +93,7 @@ tree_tests d command game tree =
     ∷ (Names, has_names game)
     ∷ (Coalition, has_coalitions game)
     ∷ (Estate, is_covered (description_of game))
+    ∷ (Quota, has_quota (description_of game))
     ∷ (Matrix, has_matrix (description_of game))
     ∷ (Proposal, has_needed_shares command game tree)
     ∷ (TooFine, has_needed_terms d command tree)

@@ -15,8 +15,9 @@ use Rattle.game_text.specs.TableClass.{is_table_shaped}
 use Rattle.game_text.specs.AirportClass.{is_airport_shaped}
 use Rattle.game_text.specs.BankruptcyClass.{is_bankruptcy_shaped}
 use Rattle.game_text.specs.MatrixClass.{is_matrix_shaped}
+use Rattle.game_text.specs.VotingClass.{is_voting_shaped}
 use Rattle.game_text.specs.declared.class.Class.{Class}
-use Rattle.game_text.specs.declared.class.Class.TheVariants.{Table, CostTable, Airport, Bankruptcy, Tree, Assignment, Market}
+use Rattle.game_text.specs.declared.class.Class.TheVariants.{Table, CostTable, Airport, Bankruptcy, Tree, Assignment, Market, Voting}
 use Rattle.game_text.specs.declared.command.Command.{Command}
 use Rattle.game_text.specs.Needs.{needs, if_needed}
 
@@ -26,7 +27,7 @@ document_keys = codes "answer" ∷ codes "certificate" ∷ codes "game" ∷ code
 
 -- the class that a word names
 abbrev pub class_named : List ℕ → Option Class
-class_named s = if bytes_eq s (codes "table") then Some Table else (if bytes_eq s (codes "cost-table") then Some CostTable else (if bytes_eq s (codes "airport") then Some Airport else (if bytes_eq s (codes "bankruptcy") then Some Bankruptcy else (if bytes_eq s (codes "tree") then Some Tree else (if bytes_eq s (codes "assignment") then Some Assignment else (if bytes_eq s (codes "market") then Some Market else None))))))
+class_named s = if bytes_eq s (codes "table") then Some Table else (if bytes_eq s (codes "cost-table") then Some CostTable else (if bytes_eq s (codes "airport") then Some Airport else (if bytes_eq s (codes "bankruptcy") then Some Bankruptcy else (if bytes_eq s (codes "tree") then Some Tree else (if bytes_eq s (codes "assignment") then Some Assignment else (if bytes_eq s (codes "market") then Some Market else (if bytes_eq s (codes "voting") then Some Voting else None)))))))
 
 -- the class that a game names
 abbrev pub class_of : Data → Option Class
@@ -42,6 +43,7 @@ is_shaped_as (Some Bankruptcy) game = is_bankruptcy_shaped game
 is_shaped_as (Some Tree) game = is_matrix_shaped game
 is_shaped_as (Some Assignment) game = is_matrix_shaped game
 is_shaped_as (Some Market) game = is_matrix_shaped game
+is_shaped_as (Some Voting) game = is_voting_shaped game
 
 -- names are texts and the excess is a measure, where there are any, and the rest is as the class asks
 abbrev pub is_game_shaped : Data → Bool

@@ -7,19 +7,20 @@ use Rattle.game_text.specs.Descriptions.{description_of}
 use Rattle.game_text.specs.Limits.{players}
 use Rattle.game_text.specs.Shares.{has_shares_for, written_shares}
 use Rattle.game_text.specs.Denominators.{keep_limits, needed_keep_limits}
-use Rattle.game_text.specs.Refusals.{unless, is_covered, has_matrix, has_needed_shares, has_needed_form}
+use Rattle.game_text.specs.Refusals.{unless, is_covered, has_quota, has_matrix, has_needed_shares, has_needed_form}
 use Rattle.game_text.specs.declared.command.Command.{Command}
 use Rattle.game_text.specs.declared.refusal.Refusal.{Refusal}
-use Rattle.game_text.specs.declared.refusal.Refusal.TheVariants.{Names, Coalition, Estate, Matrix, Proposal, TooFine, Certificate}
+use Rattle.game_text.specs.declared.refusal.Refusal.TheVariants.{Names, Coalition, Estate, Matrix, Proposal, TooFine, Certificate, Quota}
 
--- the tests of the coalitions, of the estate and of the matrix, and then the rest
+-- the tests of the coalitions, of the estate, of the quota and of the matrix, and then the rest
 abbrev pub coalition_refusal : Data → Option Refusal → Option Refusal
 coalition_refusal game rest =
     unless (has_coalitions game) Coalition (
     unless (is_covered (description_of game)) Estate (
-    unless (has_matrix (description_of game)) Matrix rest))
+    unless (has_quota (description_of game)) Quota (
+    unless (has_matrix (description_of game)) Matrix rest)))
 
--- the tests of the names, the coalitions, the estate and the matrix, and then the rest
+-- the tests of the names, the coalitions, the estate, the quota and the matrix, and then the rest
 abbrev pub game_refusal : Data → Option Refusal → Option Refusal
 game_refusal game rest = unless (has_names game) Names (coalition_refusal game rest)
 

@@ -21,11 +21,12 @@ use crate::refusal::Refusal;
 use crate::shape::class_of;
 use crate::table_class::table_of;
 use crate::tree_class::tree_of;
+use crate::voting_class::voting_of;
 use serde_json::Value;
 use std::alloc::Global;
 use worth_tables::CostGame;
 
-/// The game that a tree describes, or the refusal of its coalitions, of its estate or of its matrix.
+/// The game that a tree describes, or the refusal of its coalitions, of its estate, of its quota or of its matrix.
 pub fn game_of(alloc: Global, game: &Value, names: &Names) -> Result<Game, TextFault>
     requires sizes { HasSizes (view game.now) }
     requires named { length names.now ≤ players (view game.now) }
@@ -60,6 +61,10 @@ pub fn game_of(alloc: Global, game: &Value, names: &Names) -> Result<Game, TextF
         Some(Class::Market) => match market_of(alloc, game)? {
             Some(market) => Ok(Game::Market(market)),
             None => Err(TextFault::Refused(Refusal::Matrix)),
+        },
+        Some(Class::Voting) => match voting_of(alloc, game)? {
+            Some(votes) => Ok(Game::Voting(votes)),
+            None => Err(TextFault::Refused(Refusal::Quota)),
         },
         None => unreachable!(),
     }

@@ -17,4 +17,6 @@ pub enum Class {
     Assignment,
     /// The same for up to 32 buyers and 32 sellers, to be matched.
     Market,
+    /// A quota and the weight of each player.
+    Voting,
 }

@@ -5,6 +5,7 @@ use bankruptcy::BankruptcyGame;
 use big_assignment::MarketGame;
 use coalitions::Coalition;
 use tree_games::TreeGame;
+use voting::VotingGame;
 use worth_core::{Shares, Worth};
 use worth_tables::{CostGame, TableGame};
 
@@ -25,6 +26,8 @@ pub enum Game {
     Assignment(AssignmentGame),
     /// The same for up to 32 buyers and 32 sellers.
     Market(MarketGame),
+    /// A quota and the weight of each player.
+    Voting(VotingGame),
 }
 
 impl Game {
@@ -38,7 +41,11 @@ impl Game {
     {
         match self {
             Game::Cost(_) | Game::Airport(_) | Game::Tree(_) => true,
-            Game::Table(_) | Game::Bankruptcy(_) | Game::Assignment(_) | Game::Market(_) => false,
+            Game::Table(_)
+            | Game::Bankruptcy(_)
+            | Game::Assignment(_)
+            | Game::Market(_)
+            | Game::Voting(_) => false,
         }
     }
 }
@@ -58,6 +65,7 @@ impl Worth for Game {
             Game::Tree(game) => game.players(),
             Game::Assignment(game) => game.players(),
             Game::Market(game) => game.players(),
+            Game::Voting(game) => game.players(),
         }
     }
 
@@ -70,6 +78,7 @@ impl Worth for Game {
             Game::Tree(game) => game.worth(s),
             Game::Assignment(game) => game.worth(s),
             Game::Market(game) => game.worth(s),
+            Game::Voting(game) => game.worth(s),
         }
     }
 
@@ -82,6 +91,7 @@ impl Worth for Game {
             Game::Tree(game) => game.blocker(x),
             Game::Assignment(game) => game.blocker(x),
             Game::Market(game) => game.blocker(x),
+            Game::Voting(game) => game.blocker(x),
         }
     }
 
@@ -94,6 +104,7 @@ impl Worth for Game {
             Game::Tree(game) => game.split_bound(x, free),
             Game::Assignment(game) => game.split_bound(x, free),
             Game::Market(game) => game.split_bound(x, free),
+            Game::Voting(game) => game.split_bound(x, free),
         }
     }
 }

@@ -35,6 +35,9 @@ mod table_class;
 #[cfg(test)]
 mod tests;
 mod tree_class;
+mod voting_class;
+#[cfg(test)]
+mod voting_tests;
 
 pub use command::{Command, Inputs};
 pub use document::Document;

@@ -10,10 +10,11 @@ use crate::bankruptcy_class::{bankruptcy_players, has_bankruptcy_numbers};
 use crate::class::Class;
 use crate::market_class::has_market_players;
 use crate::matrix_class::has_matrix_numbers;
-use crate::number_forms::is_list_size;
+use crate::number_forms::{is_list_size, is_short_list_size};
 use crate::shape::class_of;
 use crate::table_class::{has_table_numbers, has_table_players, players_at};
 use crate::tree_class::{has_tree_players, tree_players};
+use crate::voting_class::{has_voting_numbers, voting_players};
 use serde_json::Value;
 
 /// Whether there are as many players, and numbers for them, as the class of the game allows.
@@ -27,6 +28,7 @@ pub fn has_players(game: &Value) -> bool
         Some(Class::Tree) => has_tree_players(game),
         Some(Class::Assignment) => has_assignment_players(game),
         Some(Class::Market) => has_market_players(game),
+        Some(Class::Voting) => is_short_list_size(voting_players(game)),
         None => false,
     }
 }
@@ -41,6 +43,7 @@ pub fn players(game: &Value) -> usize
         Some(Class::Bankruptcy) => bankruptcy_players(game),
         Some(Class::Tree) => tree_players(game),
         Some(Class::Assignment | Class::Market) => assignment_players(game),
+        Some(Class::Voting) => voting_players(game),
         None => 0,
     }
 }
@@ -54,6 +57,7 @@ pub fn has_numbers(game: &Value) -> bool
         Some(Class::Airport) => has_airport_numbers(game),
         Some(Class::Bankruptcy) => has_bankruptcy_numbers(game),
         Some(Class::Tree | Class::Assignment | Class::Market) => has_matrix_numbers(game),
+        Some(Class::Voting) => has_voting_numbers(game),
         None => false,
     }
 }

@@ -2,7 +2,8 @@
 ghost use Rattle.std.specs.Prelude.{◌≡◌};
 ghost use Rattle.game_text.specs.Numbers.{refusal_number};
 
-/// Why a document is refused. The refusals stand in the order in which they are tested, and the first that applies is given.
+/// Why a document is refused. The refusals stand in the order in which they are tested, but for `Quota`, which is tested
+/// behind `Estate`; the first that applies is given.
 #[derive(Clone, Copy, Debug, PartialEq, Eq)]
 pub enum Refusal {
     /// It has more bytes than a document may have.
@@ -29,10 +30,12 @@ pub enum Refusal {
     TooFine,
     /// The certificate hasn't its form.
     Certificate,
+    /// The quota is 0 or above the sum of the weights, or that sum is above 1,000.
+    Quota,
 }
 
 impl Refusal {
-    /// The place of the refusal in their order, 1 to 12.
+    /// The number of the refusal, 1 to 13.
     pub fn number(self) -> u32
         ensures { result ≡ refusal_number self }
     {

@@ -5,6 +5,7 @@ ghost use Rattle.game_text.specs.Shape.{class_named, class_of, is_shaped_as, has
 ghost use Rattle.game_text.specs.TableClass.{is_table_shaped};
 ghost use Rattle.game_text.specs.BankruptcyClass.{is_bankruptcy_shaped};
 ghost use Rattle.game_text.specs.MatrixClass.{is_matrix_shaped};
+ghost use Rattle.game_text.specs.VotingClass.{is_voting_shaped};
 
 use crate::airport_class::is_airport_shaped;
 use crate::bankruptcy_class::is_bankruptcy_shaped;
@@ -13,6 +14,7 @@ use crate::command::Command;
 use crate::excess::MeasureWord;
 use crate::matrix_class::is_matrix_shaped;
 use crate::table_class::is_table_shaped;
+use crate::voting_class::is_voting_shaped;
 use certificate_texts::{CertificateShape, family_of};
 use json_trees::{ArrayOf, Form, Member, Text, has, has_if_there, has_only_keys};
 use serde_json::Value;
@@ -34,6 +36,8 @@ fn class_named(word: &str) -> Option<Class>
         Some(Class::Assignment)
     } else if word == "market" {
         Some(Class::Market)
+    } else if word == "voting" {
+        Some(Class::Voting)
     } else {
         None
     }
@@ -55,6 +59,7 @@ fn is_shaped_as(class: Option<Class>, game: &Value) -> bool
         Some(Class::Airport) => is_airport_shaped(game),
         Some(Class::Bankruptcy) => is_bankruptcy_shaped(game),
         Some(Class::Tree | Class::Assignment | Class::Market) => is_matrix_shaped(game),
+        Some(Class::Voting) => is_voting_shaped(game),
         None => false,
     }
 }

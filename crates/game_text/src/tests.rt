@@ -304,6 +304,7 @@ fn games_answer_with_the_bodies_of_their_classes(rt: HostRuntime) -> Result<(), 
 fn refusals_are_numbered_from_1(rt: HostRuntime) {
     assert_eq!(rt; Refusal::TooLong.number(), 1);
     assert_eq!(rt; Refusal::Certificate.number(), 12);
+    assert_eq!(rt; Refusal::Quota.number(), 13);
 }
 
 #[test]

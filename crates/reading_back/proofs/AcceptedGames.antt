@@ -11,7 +11,7 @@ use Rattle.game_text.specs.Names.{has_names}
 use Rattle.game_text.specs.Coalitions.{has_coalitions}
 use Rattle.game_text.specs.Descriptions.{game_of, description_of}
 use Rattle.game_text.specs.Documents.{game_tree}
-use Rattle.game_text.specs.Refusals.{is_covered, has_matrix, has_needed_numbers}
+use Rattle.game_text.specs.Refusals.{is_covered, has_quota, has_matrix, has_needed_numbers}
 use Rattle.game_text.specs.Denominators.{tree_refusal}
 use Rattle.game_text.proofs.Passed.{passed_tests}
 use Rattle.game_text.specs.declared.command.Command.{Command}
@@ -26,6 +26,7 @@ pub record IsAccepted (game : Data) : Type 0 where
   pub names : has_names game ≡ true
   pub coalitions : has_coalitions game ≡ true
   pub covered : is_covered (description_of game) ≡ true
+  pub quota : has_quota (description_of game) ≡ true
   pub matrix : has_matrix (description_of game) ≡ true
 
 game_shaped : (command : Command) (tree : Data) → is_shaped command tree ≡ true → is_game_shaped (game_tree tree) ≡ true
@@ -43,6 +44,7 @@ accepted command tree e =
       names = passes.names;
       coalitions = passes.coalitions;
       covered = passes.covered;
+      quota = passes.quota;
       matrix = passes.matrix;
     }
 

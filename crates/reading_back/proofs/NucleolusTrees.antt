@@ -20,12 +20,12 @@ use Rattle.game_text.specs.Shares.{has_share_numbers, has_shares_for, written_sh
 use Rattle.game_text.specs.Denominators.{shares_of, keep_limits, over_least, contents_of, tree_refusal}
 use Rattle.certificate_texts.specs.Certificates.{has_form, certificate_of}
 use Rattle.game_text.specs.Documents.{game_tree}
-use Rattle.game_text.specs.Refusals.{unless, is_covered, has_matrix}
+use Rattle.game_text.specs.Refusals.{unless, is_covered, has_quota, has_matrix}
 use Rattle.game_text.specs.Steps.{certificate_refusal, needed_refusal, late_refusal}
 use Rattle.game_text.specs.declared.command.Command.{Command}
 use Rattle.game_text.specs.declared.command.Command.TheVariants.{Check}
 use Rattle.game_text.specs.declared.refusal.Refusal.{Refusal}
-use Rattle.game_text.specs.declared.refusal.Refusal.TheVariants.{Shape, Players, Number, Names, Coalition, Estate, Matrix, Proposal, TooFine, Certificate}
+use Rattle.game_text.specs.declared.refusal.Refusal.TheVariants.{Shape, Players, Number, Names, Coalition, Estate, Matrix, Proposal, TooFine, Certificate, Quota}
 use Rattle.report.specs.Certificates.{certificate_tree}
 use Rattle.report.specs.ShareLists.{share_data}
 use Rattle.report.specs.Lines.{nucleolus_tree}
@@ -81,10 +81,12 @@ module _ (family : Family) (game : Data) (b : Bool) (x : Allocation) (c : Certif
     late =
         let rest = needed_refusal Check game printed in
         let matrix = unless (has_matrix (description_of game)) Matrix rest in
-        let estate = unless (is_covered (description_of game)) Estate matrix in
+        let quota = unless (has_quota (description_of game)) Quota matrix in
+        let estate = unless (is_covered (description_of game)) Estate quota in
         go_on (has_names game) Names (unless (has_coalitions game) Coalition estate) accept.names
         (go_on (has_coalitions game) Coalition estate accept.coalitions
-        (go_on (is_covered (description_of game)) Estate matrix accept.covered (go_on (has_matrix (description_of game)) Matrix rest accept.matrix proposed)))
+        (go_on (is_covered (description_of game)) Estate quota accept.covered
+        (go_on (has_quota (description_of game)) Quota matrix accept.quota (go_on (has_matrix (description_of game)) Matrix rest accept.matrix proposed))))
 
     pub not_refused : tree_refusal Check printed ≡ None
     not_refused =

@@ -7,7 +7,7 @@ use Rattle.definitions.specs.declared.Mode.TheVariants as mode
 use Rattle.game_text.specs.declared.kind.Kind.{Kind}
 use Rattle.game_text.specs.declared.kind.Kind.TheVariants as kind
 use Rattle.game_text.specs.declared.refusal.Refusal.{Refusal}
-use Rattle.game_text.specs.declared.refusal.Refusal.TheVariants.{TooLong, NotJson, Shape, Players, Number, Names, Coalition, Estate, Matrix, Proposal, TooFine, Certificate}
+use Rattle.game_text.specs.declared.refusal.Refusal.TheVariants.{TooLong, NotJson, Shape, Players, Number, Names, Coalition, Estate, Matrix, Proposal, TooFine, Certificate, Quota}
 use Rattle.report.specs.declared.answer.UsageKind.{UsageKind}
 use Rattle.report.specs.declared.answer.UsageKind.TheVariants as usage
 
@@ -25,6 +25,7 @@ refusal_name Matrix = codes "Matrix"
 refusal_name Proposal = codes "Proposal"
 refusal_name TooFine = codes "TooFine"
 refusal_name Certificate = codes "Certificate"
+refusal_name Quota = codes "Quota"
 
 -- the word for what is wrong with the words of a command line
 abbrev pub usage_word : UsageKind → List ℕ

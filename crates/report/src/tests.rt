@@ -190,6 +190,7 @@ fn refusals_have_their_lines(rt: HostRuntime) -> Result<(), Fail> {
             Refusal::Certificate,
             "{\"number\":12,\"refused\":\"Certificate\"}\n",
         ),
+        (Refusal::Quota, "{\"number\":13,\"refused\":\"Quota\"}\n"),
     ] {
         assert!(rt;
             has_line(rt.alloc(), Answer::Refused(refusal), line)?,

@@ -23,6 +23,7 @@ pub fn refusal_name(refusal: Refusal) -> &'static str
         Refusal::Proposal => "Proposal",
         Refusal::TooFine => "TooFine",
         Refusal::Certificate => "Certificate",
+        Refusal::Quota => "Quota",
     }
 }
 

@@ -100,6 +100,7 @@ fn matching_is_for_markets_alone(rt: HostRuntime) -> Result<(), Fail> {
         "{\"game\":{\"claims\":[100,200,300],\"class\":\"bankruptcy\",\"estate\":200}}",
         "{\"game\":{\"class\":\"tree\",\"matrix\":[[0,3],[3,0]]}}",
         "{\"game\":{\"class\":\"assignment\",\"matrix\":[[9]]}}",
+        "{\"game\":{\"class\":\"voting\",\"quota\":5,\"weights\":[4,2,1]}}",
     ] {
         let line = "{\"usage\":\"class\"}\n";
         let found = run_on(rt.alloc(), &["matching"], input.as_bytes(), 100, line)?;

@@ -1,12 +1,7 @@
-use Rattle.std.proofs.Common.{◌≡◌, true, sym, subst}
-use Rattle.game_text.specs.Descriptions.{Description}
-use Rattle.coop.specs.Classes.{is_no_market}
-use Rattle.coop.specs.Finding.{HasFewPlayers}
-use Rattle.coop.proofs.FewPlayers.{few_players}
+use Rattle.std.proofs.Common.{arith}
+use Rattle.game_text.specs.Readings.{contents_in}
+use Rattle.coop.proofs.CorePoints.{all_of_few}
 use Rattle.coop.proofs.core_search.core_document.Goals as goal
 
-pub said_of-requires : goal.said_of-requires
-said_of-requires c =
-    let accepted = c.requires.accepted in
-    let served = subst (λ (d : Description). is_no_market d ≡ true) accepted.described c.requires.class in
-    subst HasFewPlayers (sym accepted.described) (few_players accepted.command accepted.document accepted.passed served)
+pub returns-clause-says : goal.returns-clause-says
+returns-clause-says c = all_of_few (contents_in c.args.document.now) (omega (arith, c.if-players-core_limit.false, c.core_limit.ensures, c.players.ensures.count)) c.core_of_few.result c.core_of_few.ensures.finds

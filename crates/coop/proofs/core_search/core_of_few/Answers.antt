@@ -1,0 +1,14 @@
+use Rattle.std.proofs.Common.{◌≡◌, ◌≤◌, true, sym, subst}
+use Rattle.game_text.specs.Descriptions.{Description, game_of}
+use Rattle.coop.specs.Classes.{is_no_market}
+use Rattle.coop.specs.Limits.{core_limit}
+use Rattle.coop.specs.Finding.{HasFewPlayers}
+use Rattle.coop.proofs.FewPlayers.{few_players}
+use Rattle.coop.proofs.core_search.core_of_few.Goals as goal
+
+pub said_of-requires : goal.said_of-requires
+said_of-requires c =
+    let accepted = c.requires.accepted in
+    let served = subst (λ (d : Description). is_no_market d ≡ true) accepted.described c.requires.class in
+    let taken = subst (λ (d : Description). (game_of d).players ≤ core_limit d) accepted.described c.requires.taken in
+    subst HasFewPlayers (sym accepted.described) (few_players accepted.command accepted.document accepted.passed served taken)

@@ -1,0 +1,124 @@
+//! Weighted voting games.
+use super::nucleolus::is_checked;
+use super::{printed, run_on};
+use crate::status::Status;
+use std::test::Fail;
+
+const THREE: &str = "{\"game\":{\"class\":\"voting\",\"quota\":5,\"weights\":[4,2,1]}}";
+
+// Five of weight 7 and ten of weight 1.
+const FIFTEEN: &str =
+    "{\"game\":{\"class\":\"voting\",\"quota\":39,\"weights\":[7,7,7,7,7,1,1,1,1,1,1,1,1,1,1]}}";
+
+const THIRTY_TWO: &str =
+    "{\"game\":{\"class\":\"voting\",\"quota\":17,\"weights\":[1,1,1,1,1,1,1,1,1,1,1,1,1,1,1,1,1,1,1,1,1,1,1,1,1,1,1,1,1,1,1,1]}}";
+
+// The shares are those of a dictator. A command that needs none doesn't look at them.
+const SEVENTEEN: &str =
+    "{\"game\":{\"class\":\"voting\",\"quota\":9,\"weights\":[1,1,1,1,1,1,1,1,1,1,1,1,1,1,1,1,1]},\"shares\":[1,0,0,0,0,0,0,0,0,0,0,0,0,0,0,0,0]}";
+
+// All 32 have to agree, and share alike. The certificate has one level, of the players alone.
+const UNANIMOUS: &str =
+    "{\"answer\":\"nucleolus\",\"certificate\":{\"levels\":[{\"bounds\":[],\"coalitions\":[[[1],1],[[2],1],[[3],1],[[4],1],[[5],1],[[6],1],[[7],1],[[8],1],[[9],1],[[10],1],[[11],1],[[12],1],[[13],1],[[14],1],[[15],1],[[16],1],[[17],1],[[18],1],[[19],1],[[20],1],[[21],1],[[22],1],[[23],1],[[24],1],[[25],1],[[26],1],[[27],1],[[28],1],[[29],1],[[30],1],[[31],1],[[32],1]],\"earlier\":[],\"excess\":\"-1/32\",\"total\":1}],\"mode\":\"players\"},\"game\":{\"class\":\"voting\",\"quota\":32,\"weights\":[1,1,1,1,1,1,1,1,1,1,1,1,1,1,1,1,1,1,1,1,1,1,1,1,1,1,1,1,1,1,1,1]},\"shares\":[\"1/32\",\"1/32\",\"1/32\",\"1/32\",\"1/32\",\"1/32\",\"1/32\",\"1/32\",\"1/32\",\"1/32\",\"1/32\",\"1/32\",\"1/32\",\"1/32\",\"1/32\",\"1/32\",\"1/32\",\"1/32\",\"1/32\",\"1/32\",\"1/32\",\"1/32\",\"1/32\",\"1/32\",\"1/32\",\"1/32\",\"1/32\",\"1/32\",\"1/32\",\"1/32\",\"1/32\",\"1/32\"]}";
+
+#[test]
+fn shapley_shares_of_votes(rt: HostRuntime) -> Result<(), Fail> {
+    for (input, line) in [
+        (
+            THREE,
+            "{\"answer\":\"shapley\",\"shares\":[\"2/3\",\"1/6\",\"1/6\"]}\n",
+        ),
+        (
+            FIFTEEN,
+            "{\"answer\":\"shapley\",\"shares\":[\"421/2145\",\"421/2145\",\"421/2145\",\"421/2145\",\"421/2145\",\"4/2145\",\"4/2145\",\"4/2145\",\"4/2145\",\"4/2145\",\"4/2145\",\"4/2145\",\"4/2145\",\"4/2145\",\"4/2145\"]}\n",
+        ),
+        (
+            THIRTY_TWO,
+            "{\"answer\":\"shapley\",\"shares\":[\"1/32\",\"1/32\",\"1/32\",\"1/32\",\"1/32\",\"1/32\",\"1/32\",\"1/32\",\"1/32\",\"1/32\",\"1/32\",\"1/32\",\"1/32\",\"1/32\",\"1/32\",\"1/32\",\"1/32\",\"1/32\",\"1/32\",\"1/32\",\"1/32\",\"1/32\",\"1/32\",\"1/32\",\"1/32\",\"1/32\",\"1/32\",\"1/32\",\"1/32\",\"1/32\",\"1/32\",\"1/32\"]}\n",
+        ),
+    ] {
+        let found = run_on(rt.alloc(), &["shapley"], input.as_bytes(), 400, line)?;
+        assert_eq!(rt; found, (Status::Done, true), "on {input}");
+    }
+    Ok(())
+}
+
+#[test]
+fn who_can_block_gets_all_of_the_nucleolus(rt: HostRuntime) -> Result<(), Fail> {
+    let (status, line) = printed(rt.alloc(), "nucleolus", THREE.as_bytes())?;
+    assert_eq!(rt; status, Status::Done);
+    assert!(rt; line.ends_with(b"\"shares\":[\"1\",\"0\",\"0\"]}\n"));
+    assert!(rt; is_checked(rt.alloc(), THREE)?);
+    let line = "{\"answer\":\"core point\",\"shares\":[\"1\",\"0\",\"0\"]}\n";
+    let found = run_on(rt.alloc(), &["core"], THREE.as_bytes(), 100, line)?;
+    assert_eq!(rt; found, (Status::Done, true));
+    Ok(())
+}
+
+#[test]
+fn proposals_to_voters_are_judged(rt: HostRuntime) -> Result<(), Fail> {
+    for (input, line, status) in [
+        (
+            "{\"game\":{\"class\":\"voting\",\"quota\":5,\"weights\":[4,2,1]},\"shares\":[0,\"1/2\",\"1/2\"]}",
+            "{\"answer\":\"blocked\",\"coalition\":[1,2],\"excess\":\"1/2\"}\n",
+            Status::Negative,
+        ),
+        (
+            "{\"game\":{\"class\":\"voting\",\"quota\":5,\"weights\":[4,2,1]},\"shares\":[1,0,0]}",
+            "{\"answer\":\"core\"}\n",
+            Status::Done,
+        ),
+        (
+            SEVENTEEN,
+            "{\"answer\":\"blocked\",\"coalition\":[2,3,4,5,6,7,8,9,10],\"excess\":\"1\"}\n",
+            Status::Negative,
+        ),
+    ] {
+        let found = run_on(rt.alloc(), &["propose"], input.as_bytes(), 100, line)?;
+        assert_eq!(rt; found, (status, true), "on {input}");
+    }
+    Ok(())
+}
+
+#[test]
+fn the_quota_is_refused_behind_the_estate(rt: HostRuntime) -> Result<(), Fail> {
+    for (input, line) in [
+        (
+            "{\"game\":{\"class\":\"voting\",\"quota\":0,\"weights\":[1]},\"shares\":[]}",
+            "{\"number\":13,\"refused\":\"Quota\"}\n",
+        ),
+        (
+            "{\"game\":{\"class\":\"voting\",\"names\":[],\"quota\":0,\"weights\":[1]},\"shares\":[]}",
+            "{\"number\":6,\"refused\":\"Names\"}\n",
+        ),
+        (
+            "{\"game\":{\"class\":\"voting\",\"quota\":1,\"weights\":[1]},\"shares\":[]}",
+            "{\"number\":10,\"refused\":\"Proposal\"}\n",
+        ),
+    ] {
+        let found = run_on(rt.alloc(), &["propose"], input.as_bytes(), 100, line)?;
+        assert_eq!(rt; found, (Status::Refused, true), "on {input}");
+    }
+    Ok(())
+}
+
+#[test]
+fn certificates_of_32_voters_are_checked(rt: HostRuntime) -> Result<(), Fail> {
+    let line = "{\"answer\":\"yes\"}\n";
+    let found = run_on(rt.alloc(), &["check"], UNANIMOUS.as_bytes(), 100, line)?;
+    assert_eq!(rt; found, (Status::Done, true));
+    Ok(())
+}
+
+#[test]
+fn seventeen_voters_are_too_many_for_coalitions(rt: HostRuntime) -> Result<(), Fail> {
+    for command in ["nucleolus", "prenucleolus", "core", "convex", "kernel"] {
+        let line = "{\"usage\":\"players\"}\n";
+        let found = run_on(rt.alloc(), &[command], SEVENTEEN.as_bytes(), 100, line)?;
+        assert_eq!(rt; found, (Status::Usage, true), "to {command}");
+    }
+    let line = "{\"usage\":\"class\"}\n";
+    let found = run_on(rt.alloc(), &["bird"], SEVENTEEN.as_bytes(), 100, line)?;
+    assert_eq!(rt; found, (Status::Usage, true));
+    Ok(())
+}

@@ -1,0 +1,52 @@
+//! Voting games: limits, refusals, and the worths that they have.
+use super::*;
+use crate::tests::{document, fault_in, worths_of};
+use std::test::Fail;
+use worth_core::Worth;
+
+const THIRTY_TWO: &str = "[1,1,1,1,1,1,1,1,1,1,1,1,1,1,1,1,1,1,1,1,1,1,1,1,1,1,1,1,1,1,1,1]";
+
+const THIRTY_THREE: &str = "[1,1,1,1,1,1,1,1,1,1,1,1,1,1,1,1,1,1,1,1,1,1,1,1,1,1,1,1,1,1,1,1,1]";
+
+#[test]
+fn votes_are_refused_by_the_first_test(rt: HostRuntime) -> Result<(), Fail> {
+    for (quota, weights, rest, refusal) in [
+        ("1", "[]", "", Refusal::Players),
+        ("17", THIRTY_TWO, "", Refusal::Proposal),
+        ("17", THIRTY_THREE, "", Refusal::Players),
+        ("0", "[-1]", "", Refusal::Number),
+        ("0.5", "[1]", "", Refusal::Number),
+        ("1", "[1099511627776]", "", Refusal::Number),
+        ("0", "[1]", ",\"names\":[]", Refusal::Names),
+        ("0", "[1]", "", Refusal::Quota),
+        ("2", "[1]", "", Refusal::Quota),
+        ("1", "[500,501]", "", Refusal::Quota),
+        ("1", "[500,500]", "", Refusal::Proposal),
+        ("1", "[1]", "", Refusal::Proposal),
+        ("\"1\"", "[1]", "", Refusal::Shape),
+        ("1", "[1]", ",\"players\":1", Refusal::Shape),
+    ] {
+        let mut game = String::from_str(rt.alloc(), "{\"class\":\"voting\",\"quota\":")?;
+        game.push_str(quota)?;
+        game.push_str(",\"weights\":")?;
+        game.push_str(weights)?;
+        game.push_str(rest)?;
+        game.push_str("}")?;
+        let fault = fault_in(rt.alloc(), &game, "[1,2,3,4,5]")?;
+        assert_eq!(rt; fault, Some(TextFault::Refused(refusal)), "on {game}");
+    }
+    Ok(())
+}
+
+#[test]
+fn coalitions_that_reach_the_quota_are_worth_1(rt: HostRuntime) -> Result<(), Fail> {
+    let game = "{\"class\":\"voting\",\"quota\":5,\"weights\":[4,2,1]}";
+    let text = document(rt.alloc(), game, "[1,0,0]")?;
+    let read = read_document(rt.alloc(), text.as_bytes(), Command::Propose)?;
+    assert!(rt; !read.game.is_cost());
+    let found = worths_of(&rt, rt.alloc(), &read.game)?;
+    assert_eq!(rt; found.as_slice(), [0, 0, 0, 1, 0, 1, 0, 1].as_slice());
+    let x = read.shares.ok_or("no shares")?;
+    assert_eq!(rt; read.game.blocker(&x), None);
+    Ok(())
+}
