@@ -13,7 +13,7 @@ use Rattle.kohlberg.specs.Certificate.{CertificateData}
 use Rattle.kohlberg.specs.LevelTests.{level_form}
 use Rattle.json_trees.specs.Trees.{parts, parts_at, passes, pair_members, second_passes}
 use Rattle.json_trees.specs.Integers.{is_integer}
-use Rattle.json_trees.specs.Fractions.{is_fraction}
+use Rattle.json_trees.specs.ScaledFractions.{is_scaled}
 use Rattle.certificate_texts.specs.Shape.{mode_of}
 use Rattle.certificate_texts.specs.Levels.{coalition_of, first_player, level_of}
 
@@ -21,13 +21,13 @@ use Rattle.certificate_texts.specs.Levels.{coalition_of, first_player, level_of}
 abbrev pub level_trees : Data → List Data
 level_trees certificate = parts_at (codes "levels") certificate
 
--- the levels
-abbrev pub levels_of : ℕ → Data → List Level
-levels_of n certificate = map (level_of n) (level_trees certificate)
+-- the levels, their excesses times the scale k
+abbrev pub levels_of : ℕ → ℕ → Data → List Level
+levels_of k n certificate = map (level_of k n) (level_trees certificate)
 
--- what the tree of a certificate for n players describes
-abbrev pub certificate_of : ℕ → Data → CertificateData
-certificate_of n certificate = record { players = n; mode = unwrap_or (mode_of certificate) Players; levels = levels_of n certificate }
+-- what the tree of a certificate for n players describes, its excesses times the scale k
+abbrev pub certificate_of : ℕ → ℕ → Data → CertificateData
+certificate_of k n certificate = record { players = n; mode = unwrap_or (mode_of certificate) Players; levels = levels_of k n certificate }
 
 -- ---- the form
 
@@ -49,10 +49,10 @@ lists_coalition n pair = is_some (coalition_of n (pair_members pair)) && second_
 abbrev pub lists_player : ℕ → Data → Bool
 lists_player n pair = is_some (first_player n (parts pair)) && second_passes is_integer (parts pair)
 
--- the excess is a fraction text with parts of 128 bits, coalitions and players are listed, and the total is an integer
-abbrev pub is_written : ℕ → Data → Bool
-is_written n level =
-    passes is_fraction (get (codes "excess") level) && list_all (lists_coalition n) (parts_at (codes "coalitions") level) && list_all (lists_coalition n) (parts_at (codes "earlier") level) && list_all (lists_player n) (parts_at (codes "bounds") level) && passes is_integer (get (codes "total") level)
+-- the excess is a fraction text with parts of 128 bits, also times the scale k, coalitions and players are listed, and the total is an integer
+abbrev pub is_written : ℕ → ℕ → Data → Bool
+is_written k n level =
+    passes (is_scaled k) (get (codes "excess") level) && list_all (lists_coalition n) (parts_at (codes "coalitions") level) && list_all (lists_coalition n) (parts_at (codes "earlier") level) && list_all (lists_player n) (parts_at (codes "bounds") level) && passes is_integer (get (codes "total") level)
 
 -- each level behind those in front has 1 to 65,536 coalitions and at most 65,536 earlier ones; coalitions are neither empty nor all, earlier ones stand in
 -- the coalitions of a level in front; masks and players ascend strictly; weights and totals are below 2^63 in size
@@ -60,7 +60,7 @@ abbrev pub have_form : ℕ → List Level → List Level → Bool
 have_form n front [] = true
 have_form n front (l ∷ levels) = level_form n front l && have_form n (front ++ l ∷ []) levels
 
--- the form of a certificate for n players
-abbrev pub has_form : ℕ → Data → Bool
-has_form n certificate =
-    allows_mode n (mode_of certificate) && has_few_levels n certificate && list_all (is_written n) (level_trees certificate) && have_form n [] (levels_of n certificate)
+-- the form of a certificate for n players, in a document with the scale k
+abbrev pub has_form : ℕ → ℕ → Data → Bool
+has_form k n certificate =
+    allows_mode n (mode_of certificate) && has_few_levels n certificate && list_all (is_written k n) (level_trees certificate) && have_form n [] (levels_of k n certificate)

@@ -1,13 +1,13 @@
 -- The levels that a certificate describes.
 --
 --   coalition_of  the mask of the coalition whose players are listed by number
---   level_of      what the tree of a level describes, where no test refuses it
+--   level_of      what the tree of a level describes, its excess times the scale, where no test refuses it
 use Rattle.std.specs.Prelude.{◌+◌, ◌-◌, ◌^◌, ℕ, ℤ, pos, negsuc, codes, List, [], ◌∷◌, map, ◌&&◌, Option, Some, None, option_and_then, option_map, unwrap_or, nat_lt, nat_le, if◌then◌else◌}
 use Rattle.serde_json.specs.Data.{Data}
 use Rattle.definitions.specs.Certificates.{Level}
 use Rattle.json_trees.specs.Trees.{parts, parts_at, pair_members, integer}
 use Rattle.json_trees.specs.Integers.{integer_at, second_integer}
-use Rattle.json_trees.specs.Fractions.{fraction_at}
+use Rattle.json_trees.specs.ScaledFractions.{scaled_at}
 
 -- ---- coalitions by number
 
@@ -56,11 +56,11 @@ weighted_player n pair = (unwrap_or (first_player n (parts pair)) 0, second_inte
 
 -- ---- levels
 
--- what the tree of a level describes
-abbrev pub level_of : ℕ → Data → Level
-level_of n d = record {
-  excess_num = (fraction_at (codes "excess") d).num;
-  excess_den = (fraction_at (codes "excess") d).den;
+-- what the tree of a level describes, its excess times the scale k
+abbrev pub level_of : ℕ → ℕ → Data → Level
+level_of k n d = record {
+  excess_num = (scaled_at k (codes "excess") d).num;
+  excess_den = (scaled_at k (codes "excess") d).den;
   coalitions = map (weighted_coalition n) (parts_at (codes "coalitions") d);
   earlier = map (weighted_coalition n) (parts_at (codes "earlier") d);
   bounds = map (weighted_player n) (parts_at (codes "bounds") d);

@@ -9,7 +9,7 @@ use crate::ascending::coalition_of;
 use crate::levels::{first_player, levels_of};
 use crate::words::mode_of;
 use fractions::OutOfMemory;
-use json_trees::{Form, Fraction, Integer, SecondOf, each_at, has, pair_members, parts_at};
+use json_trees::{Form, Integer, ScaledFraction, SecondOf, each_at, has, pair_members, parts_at};
 use kohlberg::Certificate;
 use serde_json::Value;
 use std::alloc::Global;
@@ -50,49 +50,51 @@ impl Form for ListsPlayer {
     }
 }
 
-fn is_written(n: u32, level: &Value) -> bool
+fn is_written(n: u32, level: &Value, scale: u32) -> bool
     requires { n ≤ 64 }
-    ensures { result ≡ is_written n (view level.now) }
+    ensures { result ≡ is_written scale n (view level.now) }
 {
-    has(level, "excess", &Fraction)
+    has(level, "excess", &ScaledFraction(scale))
         && has_coalitions(n, level, "coalitions")
         && has_coalitions(n, level, "earlier")
         && each_at(level, "bounds", &ListsPlayer(n))
         && has(level, "total", &Integer)
 }
 
-fn are_written(n: u32, levels: &[Value]) -> bool
+fn are_written(n: u32, levels: &[Value], scale: u32) -> bool
     requires { n ≤ 64 }
-    ensures { result ≡ list_all (λ v. is_written n (view v)) levels.now }
+    ensures { result ≡ list_all (λ v. is_written scale n (view v)) levels.now }
 {
-    levels.iter().all(|v| is_written(n, v))
+    levels.iter().all(|v| is_written(n, v, scale))
 }
 
 #[tactic(auto, using(json_trees::proofs::Values::all_views))]
-fn has_written_levels(n: u32, certificate: &Value) -> bool
+fn has_written_levels(n: u32, certificate: &Value, scale: u32) -> bool
     requires { n ≤ 64 }
-    ensures { result ≡ list_all (is_written n) (level_trees (view certificate.now)) }
+    ensures { result ≡ list_all (is_written scale n) (level_trees (view certificate.now)) }
 {
-    are_written(n, parts_at(certificate, "levels"))
+    are_written(n, parts_at(certificate, "levels"), scale)
 }
 
-/// The certificate for `n` players that a tree describes. None exactly where it hasn't its form.
+/// The certificate for `n` players that a tree describes, its excesses times the scale. None exactly where it hasn't its
+/// form.
 pub fn certificate_of(
     alloc: Global,
     n: u32,
     tree: &Value,
+    scale: u32,
 ) -> Result<Option<Certificate>, OutOfMemory>
     requires some { 1 ≤ n }
     requires few { n ≤ 64 }
-    ensures { IfOk result (λ o. o ≡ (if has_form n (view tree.now) then Some (certificate_of n (view tree.now)) else None)) }
+    ensures { IfOk result (λ o. o ≡ (if has_form scale n (view tree.now) then Some (certificate_of scale n (view tree.now)) else None)) }
 {
     let Some(mode) = mode_of(tree) else {
         return Ok(None);
     };
-    if !has_written_levels(n, tree) {
+    if !has_written_levels(n, tree, scale) {
         return Ok(None);
     }
-    let levels = levels_of(alloc, n, parts_at(tree, "levels"))?;
+    let levels = levels_of(alloc, n, parts_at(tree, "levels"), scale)?;
     match Certificate::new(n, mode, levels) {
         Ok(certificate) => Ok(Some(certificate)),
         Err(_) => Ok(None),

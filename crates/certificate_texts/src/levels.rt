@@ -8,7 +8,7 @@ use crate::ascending::coalition_of;
 use crate::numbered::numbered_player;
 use coalitions::Coalition;
 use fractions::OutOfMemory;
-use json_trees::{fraction_at, integer, integer_at, pair_members, parts, parts_at, second_integer};
+use json_trees::{integer, integer_at, pair_members, parts, parts_at, scaled_at, second_integer};
 use kohlberg::Level;
 use serde_json::Value;
 use std::alloc::Global;
@@ -94,15 +94,15 @@ fn players_at(
     weighted_players(alloc, n, parts_at(level, key))
 }
 
-fn level_of(alloc: Global, n: u32, level: &Value) -> Result<Level, OutOfMemory>
+fn level_of(alloc: Global, n: u32, level: &Value, scale: u32) -> Result<Level, OutOfMemory>
     requires { n ≤ 64 }
-    ensures { IfOk result (λ l. l ≡ level_of n (view level.now)) }
+    ensures { IfOk result (λ l. l ≡ level_of scale n (view level.now)) }
 {
     let coalitions = coalitions_at(alloc, n, level, "coalitions")?;
     let earlier = coalitions_at(alloc, n, level, "earlier")?;
     let bounds = players_at(alloc, n, level, "bounds")?;
     Ok(Level {
-        excess: fraction_at(level, "excess"),
+        excess: scaled_at(level, "excess", scale),
         coalitions,
         earlier,
         bounds,
@@ -110,14 +110,19 @@ fn level_of(alloc: Global, n: u32, level: &Value) -> Result<Level, OutOfMemory>
     })
 }
 
-/// The levels that these trees describe, of a certificate for `n` players.
-pub fn levels_of(alloc: Global, n: u32, trees: &[Value]) -> Result<Vec<Level>, OutOfMemory>
+/// The levels that these trees describe, of a certificate for `n` players, their excesses times the scale.
+pub fn levels_of(
+    alloc: Global,
+    n: u32,
+    trees: &[Value],
+    scale: u32,
+) -> Result<Vec<Level>, OutOfMemory>
     requires { n ≤ 64 }
-    ensures { IfOk result (λ v. v.items ≡ map (λ d. level_of n (view d)) trees.now) }
+    ensures { IfOk result (λ v. v.items ≡ map (λ d. level_of scale n (view d)) trees.now) }
 {
     let mut levels = Vec::new(alloc);
     for tree in trees {
-        let level = level_of(alloc, n, tree)?;
+        let level = level_of(alloc, n, tree, scale)?;
         levels.push(level)?;
     }
     Ok(levels)

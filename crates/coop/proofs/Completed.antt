@@ -1,5 +1,5 @@
 -- A right answer to a document that its command serves is positive or negative.
-use Rattle.std.proofs.Common.{◌≡◌, ◌⊎◌, ℕ, List, Option, Some, refl, sym, subst, ◌∙◌, inl, inr, arith}
+use Rattle.std.proofs.Common.{◌≡◌, ◌⊎◌, ℕ, ℤ, List, Option, Some, refl, sym, subst, ◌∙◌, inl, inr, arith}
 use Rattle.std.proofs.lemmas.Bool.{true≢false}
 use Rattle.checker.specs.declared.verdicts.Verdict.TheVariants.{Yes, No}
 use Rattle.convexity.specs.declared.answers.ConvexAnswer.TheVariants.{Convex as ConvexShares, Not as NotConvex}
@@ -43,10 +43,10 @@ no_usage given d Players serves h = none_said given d Players serves.1 h.1
 
 module _ (words : List (List ℕ)) (given : Command) (bytes : List ℕ) (d : Contents) (said : IsCommand words given) (document : IsDocument given bytes d) (serves : Serves given d) where
   -- what is right for the words and the bytes is right for the document
-  served : (a : Answer) → IsAnsweredFor words bytes a → AnswersTo given d a
-  served a h =
+  served : (k : ℤ) (a : Answer) → IsAnsweredFor words bytes k a → AnswersTo given d a
+  served k a h =
       let same = one_command given h.0 (sym said ∙ h.1.0) in
-      let here : IsDocument given bytes h.1.1.0 × AnswersTo given h.1.1.0 a = subst (λ (k : Command). IsDocument k bytes h.1.1.0 × AnswersTo k h.1.1.0 a) (sym same) (h.1.1.1.0, h.1.1.1.2) in
+      let here : IsDocument given bytes h.1.1.0 × AnswersTo given h.1.1.0 a = subst (λ (k : Command). IsDocument k bytes h.1.1.0 × AnswersTo k h.1.1.0 a) (sym same) (h.1.1.1.0, h.1.1.1.3) in
       subst (λ (e : Contents). AnswersTo given e a) (sym (same_document given bytes d document h.1.1.0 here.0)) here.1
 
   none_refused : (r : _) → IsRefusedFor words bytes r → ⊥
@@ -58,28 +58,28 @@ module _ (words : List (List ℕ)) (given : Command) (bytes : List ℕ) (d : Con
     same_bytes : (b : List ℕ) → IsLeft old b → b ≡ bytes
     same_bytes b left = sym (subst (λ (o : Option (List ℕ)). IsLeft o b) told left)
 
-    pub positive_or_negative : (a : Answer) → IsRight words old new a → (status_of a ≡ status.Done) ⊎ (status_of a ≡ status.Negative)
-    positive_or_negative (Usage Words) right = absurd (right.answers.reads given said)
-    positive_or_negative (Usage Class) right = absurd (no_usage given d Class serves (served (Usage Class) (subst (λ (b : List ℕ). IsAnsweredFor words b (Usage Class)) (same_bytes right.bytes right.left) right.answers)))
-    positive_or_negative (Usage Players) right = absurd (no_usage given d Players serves (served (Usage Players) (subst (λ (b : List ℕ). IsAnsweredFor words b (Usage Players)) (same_bytes right.bytes right.left) right.answers)))
-    positive_or_negative (Refused r) right = absurd (none_refused r (subst (λ (b : List ℕ). IsRefusedFor words b r) (same_bytes right.bytes right.left) right.answers))
-    positive_or_negative (Nucleolus family tree are_costs x c) right = inl refl
-    positive_or_negative (NoImputation singles total) right = inr refl
-    positive_or_negative InCore right = inl refl
-    positive_or_negative (NotEfficient sum total) right = inr refl
-    positive_or_negative (Blocked s e) right = inr refl
-    positive_or_negative (CorePoint are_costs x) right = inl refl
-    positive_or_negative (EmptyCore c value against) right = inr refl
-    positive_or_negative (Shapley are_costs x) right = inl refl
-    positive_or_negative (Bird x edges) right = inl refl
-    positive_or_negative (Convex are_costs (ConvexShares shapley marginal)) right = inl refl
-    positive_or_negative (Convex are_costs (NotConvex s i j deficit)) right = inr refl
-    positive_or_negative Prekernel right = inl refl
-    positive_or_negative (NotPrekernel i j ij ji) right = inr refl
-    positive_or_negative (Matching solution) right = inl refl
-    positive_or_negative (Verdict Yes) right = inl refl
-    positive_or_negative (Verdict (No r)) right = inr refl
-    positive_or_negative (Summary s) right = inl refl
+    pub positive_or_negative : (k : ℤ) (a : Answer) → IsRight words old new k a → (status_of a ≡ status.Done) ⊎ (status_of a ≡ status.Negative)
+    positive_or_negative k (Usage Words) right = absurd (right.answers.1.reads given said)
+    positive_or_negative k (Usage Class) right = absurd (no_usage given d Class serves (served k (Usage Class) (subst (λ (b : List ℕ). IsAnsweredFor words b k (Usage Class)) (same_bytes right.bytes right.left) right.answers)))
+    positive_or_negative k (Usage Players) right = absurd (no_usage given d Players serves (served k (Usage Players) (subst (λ (b : List ℕ). IsAnsweredFor words b k (Usage Players)) (same_bytes right.bytes right.left) right.answers)))
+    positive_or_negative k (Refused r) right = absurd (none_refused r (subst (λ (b : List ℕ). IsRefusedFor words b r) (same_bytes right.bytes right.left) right.answers.1))
+    positive_or_negative k (Nucleolus family tree are_costs x c) right = inl refl
+    positive_or_negative k (NoImputation singles total) right = inr refl
+    positive_or_negative k InCore right = inl refl
+    positive_or_negative k (NotEfficient sum total) right = inr refl
+    positive_or_negative k (Blocked s e) right = inr refl
+    positive_or_negative k (CorePoint are_costs x) right = inl refl
+    positive_or_negative k (EmptyCore c value against) right = inr refl
+    positive_or_negative k (Shapley are_costs x) right = inl refl
+    positive_or_negative k (Bird x edges) right = inl refl
+    positive_or_negative k (Convex are_costs (ConvexShares shapley marginal)) right = inl refl
+    positive_or_negative k (Convex are_costs (NotConvex s i j deficit)) right = inr refl
+    positive_or_negative k Prekernel right = inl refl
+    positive_or_negative k (NotPrekernel i j ij ji) right = inr refl
+    positive_or_negative k (Matching solution) right = inl refl
+    positive_or_negative k (Verdict Yes) right = inl refl
+    positive_or_negative k (Verdict (No r)) right = inr refl
+    positive_or_negative k (Summary s) right = inl refl
 
 -- the status of such an answer
 pub answered : {s t : Status} → s ≡ t → (t ≡ status.Done) ⊎ (t ≡ status.Negative) → (s ≡ status.Done) ⊎ (s ≡ status.Negative) ⊎ (s ≡ status.OutOfMemory)

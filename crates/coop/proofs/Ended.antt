@@ -1,5 +1,5 @@
 -- What stands when the line of a right answer was printed.
-use Rattle.std.proofs.Common.{ℕ, List, Option, refl}
+use Rattle.std.proofs.Common.{ℕ, ℤ, List, Option, refl}
 use Rattle.std.specs.Io.KnownBytes.{Appends}
 use Rattle.checker.specs.declared.verdicts.Verdict.TheVariants.{Yes, No}
 use Rattle.report.specs.Lines.{line}
@@ -9,11 +9,11 @@ use Rattle.report.specs.declared.answer.Answer.TheVariants.{Convex, Verdict}
 use Rattle.coop.specs.Outcome.{IsRight, Answered, Ends, status_of}
 use Rattle.coop.specs.ReadBack.{IsReadBack}
 
-module _ (words : List (List ℕ)) (old new taken_old taken_new : Option (List ℕ)) where
-  printed : (a : Answer) → IsRight words old new a → Appends taken_old taken_new (line a) → IsReadBack a → Answered words old new taken_old taken_new (status_of a)
-  printed a right took again = (a, right, refl, took, again)
+module _ (words : List (List ℕ)) (old new taken_old taken_new : Option (List ℕ)) (k : ℤ) where
+  printed : (a : Answer) → IsRight words old new k a → Appends taken_old taken_new (line k a) → IsReadBack k a → Answered words old new taken_old taken_new (status_of a)
+  printed a right took again = (k, (a, right, refl, took, again))
 
-  pub ended : (a : Answer) → IsRight words old new a → Appends taken_old taken_new (line a) → IsReadBack a → Ends words old new taken_old taken_new (status_of a)
+  pub ended : (a : Answer) → IsRight words old new k a → Appends taken_old taken_new (line k a) → IsReadBack k a → Ends words old new taken_old taken_new (status_of a)
   ended (Verdict Yes) right took again = printed (Verdict Yes) right took again
   ended (Verdict (No r)) right took again = printed (Verdict (No r)) right took again
   ended (Convex are_costs (ConvexShares shapley marginal)) right took again = printed (Convex are_costs (ConvexShares shapley marginal)) right took again

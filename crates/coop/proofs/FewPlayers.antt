@@ -5,6 +5,7 @@ use Rattle.std.proofs.lemmas.Bool.{false≢true, leb-true}
 use Rattle.serde_json.specs.Data.{Data}
 use Rattle.serde_json.specs.Find.{get}
 use Rattle.json_trees.specs.Trees.{integer}
+use Rattle.game_text.specs.Scales.{scale_of}
 use Rattle.game_text.specs.Shape.{class_of}
 use Rattle.game_text.specs.TableClass.{table_players}
 use Rattle.game_text.specs.MatrixClass.{rows_of}
@@ -35,20 +36,20 @@ few_at (Some (negsuc n)) = omega arith
 few_points : (n : ℕ) → n ≤ 17 → n - 1 ≤ 16
 few_points n h = omega (arith, h)
 
-few_as : (c : Option Class) (game : Data) → class_of game ≡ c → has_players_as c game ≡ true → is_no_market (description_as c game) ≡ true → (game_of (description_as c game)).players ≤ core_limit (description_as c game) → HasFewPlayers (description_as c game)
-few_as None game e h k t = omega arith
-few_as (Some Table) game e h k t = rw e (few_at (option_and_then integer (get (codes "players") game)))
-few_as (Some CostTable) game e h k t = rw e (few_at (option_and_then integer (get (codes "players") game)))
-few_as (Some Airport) game e h k t = tt
-few_as (Some Bankruptcy) game e h k t = tt
-few_as (Some Tree) game e h k t = few_points (length (rows_of game)) (points_in game h).1
-few_as (Some Assignment) game e h k t = (players_in game h).2
-few_as (Some Market) game e h k t = absurd (false≢true k)
-few_as (Some Voting) game e h k t = t
+few_as : (k : ℕ) (c : Option Class) (game : Data) → class_of game ≡ c → has_players_as c game ≡ true → is_no_market (description_as k c game) ≡ true → (game_of (description_as k c game)).players ≤ core_limit (description_as k c game) → HasFewPlayers (description_as k c game)
+few_as k None game e h s t = omega arith
+few_as k (Some Table) game e h s t = rw e (few_at (option_and_then integer (get (codes "players") game)))
+few_as k (Some CostTable) game e h s t = rw e (few_at (option_and_then integer (get (codes "players") game)))
+few_as k (Some Airport) game e h s t = tt
+few_as k (Some Bankruptcy) game e h s t = tt
+few_as k (Some Tree) game e h s t = few_points (length (rows_of k game)) (points_in k game h).1
+few_as k (Some Assignment) game e h s t = (players_in k game h).2
+few_as k (Some Market) game e h s t = absurd (false≢true s)
+few_as k (Some Voting) game e h s t = t
 
 pub few_players : (command : Command) (document : Data) → tree_refusal command document ≡ None → is_no_market (description_of (game_tree document)) ≡ true
     → (game_of (description_of (game_tree document))).players ≤ core_limit (description_of (game_tree document)) → HasFewPlayers (description_of (game_tree document))
-few_players command document passed served taken = few_as (class_of (game_tree document)) (game_tree document) refl (passed_tests command document passed).players served taken
+few_players command document passed served taken = few_as (scale_of (game_tree document)) (class_of (game_tree document)) (game_tree document) refl (passed_tests command document passed).players served taken
 
 -- within the limit of plain excess there are few players
 pub few_within : (d : Description) → is_no_market d ≡ true → (game_of d).players ≤ nucleolus_limit Plain d → HasFewPlayers d

@@ -1,6 +1,6 @@
 -- A run whose words ask for a generated game ends as it has to.
 use Rattle.std.proofs.Common.{◌≡◌, ℕ, List, length, Option, Result, MatchResult, sym, ap, ◌∙◌, arith}
-use Rattle.report.specs.declared.answer.Answer.{Answer}
+use Rattle.coop.specs.declared.reply.Reply.{Reply}
 use Rattle.coop.specs.Words.{IsRequest, IsNoCommand}
 use Rattle.coop.specs.Outcome.{status_of}
 use Rattle.coop.specs.GeneratorRuns.{AsksForGame, IsMadeFor}
@@ -15,8 +15,8 @@ pub asks_for_something : (words : List (List ℕ)) → IsNoCommand words → Ask
 asks_for_something words none asks = none.makes asks.0 asks.1.0 asks.1.1.0 asks.1.1.1
 
 -- where they ask for a game, what is answered is what is answered for a game
-pub made : (words : List (List ℕ)) (r : Request) (old new : Option (List ℕ)) (a : Result Answer Stop) → IsRequest words r → AsksForGame words → IsMadeFor r old new a
-    → (new ≡ old) × MatchResult a (λ x. status_of x ≡ status.Done) (λ e. e ≡ Memory)
+pub made : (words : List (List ℕ)) (r : Request) (old new : Option (List ℕ)) (a : Result Reply Stop) → IsRequest words r → AsksForGame words → IsMadeFor r old new a
+    → (new ≡ old) × MatchResult a (λ x. status_of x.answer ≡ status.Done) (λ e. e ≡ Memory)
 made words (Read command) old new a reads asks h = absurd (omega (arith, ap (λ (l : List (List ℕ)). length l) (sym reads ∙ asks.1.1.1.said)))
 made words (Generate kind n seed) old new a makes asks h = h
 

@@ -4,6 +4,8 @@ pub mod FewPlayers
 pub mod Solved
 pub mod NoImputation
 pub mod CorePoints
+pub mod FineLevels
+pub mod PrintableAnswers
 pub mod Readable
 pub mod OneAnswer
 pub mod ReadLines

@@ -48,6 +48,7 @@ module _ (bytes : List ℕ) (d : Contents) where
         described = ap (λ (c : Contents). c.game) this.says;
         same = ap (λ (c : Contents). c.tree) this.says;
         measured = ap (λ (c : Contents). c.measure) this.says;
+        scaled = ap (λ (c : Contents). c.scale) this.says;
         exact = k.exact;
         whole = k.whole;
         shallow = k.shallow;

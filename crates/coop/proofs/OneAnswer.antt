@@ -1,5 +1,5 @@
 -- Bytes that are checked have one right answer: of a document whose certificate certifies its shares it is yes.
-use Rattle.std.proofs.Common.{◌≡◌, ◌≤◌, ℕ, List, [], ◌∷◌, length, true, refl, sym, ap, subst, ◌∙◌, arith}
+use Rattle.std.proofs.Common.{◌≡◌, ◌≤◌, ℕ, ℤ, List, [], ◌∷◌, length, true, refl, sym, ap, subst, ◌∙◌, arith}
 use Rattle.std.proofs.lemmas.Bool.{true≢false}
 use Rattle.std.proofs.lemmas.Option.{none-some, same_Some}
 use Rattle.serde_json.specs.Data.{Data}
@@ -93,20 +93,20 @@ only_said d served only (Usage Class) h = absurd (true≢false (sym served ∙ h
 only_said d served only answer h = only answer h.1
 
 module _ (bytes : List ℕ) (d : Contents) (document : IsDocument command.Check bytes d) (served : serves_class command.Check d.game ≡ true) (only : (answer : Answer) → Checks d answer → answer ≡ Verdict Yes) where
-  only_served : (answer : Answer) → IsAnsweredFor (word_of command.Check ∷ []) bytes answer → answer ≡ Verdict Yes
-  only_served answer h =
+  only_served : (k : ℤ) (answer : Answer) → IsAnsweredFor (word_of command.Check ∷ []) bytes k answer → answer ≡ Verdict Yes
+  only_served k answer h =
       let here : IsDocument command.Check bytes h.1.1.0 × AnswersTo command.Check h.1.1.0 answer =
-      subst (λ (k : Command). IsDocument k bytes h.1.1.0 × AnswersTo k h.1.1.0 answer) (only_check h.0 h.1.0) (h.1.1.1.0, h.1.1.1.2) in
+      subst (λ (k : Command). IsDocument k bytes h.1.1.0 × AnswersTo k h.1.1.0 answer) (only_check h.0 h.1.0) (h.1.1.1.0, h.1.1.1.3) in
       only_said d served only answer (subst (λ (e : Contents). AnswersTo command.Check e answer) (sym (same_document command.Check bytes d document h.1.1.0 here.0)) here.1)
 
-  only_yes : (answer : Answer) → Answers (word_of command.Check ∷ []) bytes answer → answer ≡ Verdict Yes
-  only_yes (Usage Words) h = absurd (h.reads command.Check refl)
-  only_yes (Refused r) h = absurd (not_refused command.Check bytes d document r (subst (λ (k : Command). IsRefused k bytes r) (only_check h.0 h.1.0) h.1.1))
-  only_yes (Summary s) h = absurd (one_word _ _ h.1.1.1.0.said)
-  only_yes answer h = only_served answer h
+  only_yes : (k : ℤ) (answer : Answer) → Answers (word_of command.Check ∷ []) bytes k answer → answer ≡ Verdict Yes
+  only_yes k (Usage Words) h = absurd (h.1.reads command.Check refl)
+  only_yes k (Refused r) h = absurd (not_refused command.Check bytes d document r (subst (λ (g : Command). IsRefused g bytes r) (only_check h.1.0 h.1.1.0) h.1.1.1))
+  only_yes k (Summary s) h = absurd (one_word _ _ h.1.1.1.1.0.said)
+  only_yes k answer h = only_served k answer h
 
 pub check_says_yes : (bytes : List ℕ) (d : Contents) → IsDocument command.Check bytes d → (f : Family) (printed : Data) (x : Allocation) (c : CertificateData) → SaysSame f printed x c d → CheckSaysYes bytes
 check_says_yes bytes d document f printed x c says = record {
-  yes = (command.Check, (refl, (d, (document, document_of_class command.Check bytes d document, (says.served, (says.taken, (f, (says.shares, (c, (says.evidence, says.certifies))))))))));
+  yes = (d.scale, (command.Check, (refl, (d, (document, document_of_class command.Check bytes d document, refl, (says.served, (says.taken, (f, (says.shares, (c, (says.evidence, says.certifies)))))))))));
   only = only_yes bytes d document says.served (only_verdict d f says.shares c says.evidence says.taken says.certifies);
 }

@@ -1,5 +1,5 @@
 -- The line of what a solver found can be checked.
-use Rattle.std.proofs.Common.{◌≡◌, ℕ, ◌+◌, ◌≤◌, List, [], ◌∷◌, length, Bool, true, None, sym, ap, subst, ◌∙◌, length-append, arith}
+use Rattle.std.proofs.Common.{◌≡◌, ℕ, ℤ, pos, ◌+◌, ◌≤◌, List, [], ◌∷◌, length, Bool, true, None, sym, ap, subst, ◌∙◌, length-append, arith}
 use Rattle.std.specs.List.{AllByRecursion}
 use Rattle.serde_json.specs.Data.{Data}
 use Rattle.serde_json.specs.View.{view}
@@ -8,7 +8,6 @@ use Rattle.serde_json.specs.declared.value.Value.{Value}
 use Rattle.definitions.specs.Games.{Allocation, IsAllocation, IsShares}
 use Rattle.definitions.specs.Certificates.{Level, Certifies}
 use Rattle.definitions.specs.declared.Family.{Family}
-use Rattle.fractions.proofs.WrittenFractions.{read_back}
 use Rattle.kohlberg.specs.Certificate.{CertificateData, IsCertificate}
 use Rattle.game_text.specs.Descriptions.{Description, table, cost_table, airport, bankruptcy, network, assignment, market, voting, description_of, game_of, is_cost}
 use Rattle.game_text.specs.Documents.{Contents, game_tree}
@@ -19,7 +18,12 @@ use Rattle.report.specs.Certificates.{excess_of}
 use Rattle.report.specs.Lines.{nucleolus_tree, line}
 use Rattle.report.specs.ReadingBack.{ExcessesAreReadBack}
 use Rattle.report.specs.declared.answer.Answer.TheVariants.{Nucleolus}
-use Rattle.report.proofs.Readers.{short}
+use Rattle.report.specs.Limits.{IsScale}
+use Rattle.report.proofs.Readers.{scaled, short}
+use Rattle.reading_back.proofs.AcceptedGames.{accepted as accepted_game, accepted_scale}
+use Rattle.game_text.specs.Scales.{scale_of}
+use Rattle.report.specs.Limits.{IsFine}
+use Rattle.coop.proofs.FineLevels.{fine_levels}
 use Rattle.reading_back.specs.CertificatesReadBack.{AreInLowestTerms}
 use Rattle.reading_back.specs.DocumentsReadBack.{IsReadOf}
 use Rattle.reading_back.proofs.NucleolusTrees.{printed_is_read}
@@ -37,13 +41,13 @@ use Rattle.definitions.proofs.Families.{allocation_of}
 
 -- ---- the levels
 
-all_lowest : (ls : List Level) → AllByRecursion IsLowest ls → AreInLowestTerms ls
-all_lowest [] h = tt
-all_lowest (l ∷ ls) h = (record { reduced = h.0.0; fits = h.0.1 }, all_lowest ls h.1)
+all_lowest : (ls : List Level) → AllByRecursion IsLowest ls → AllByRecursion (λ l. IsFine l.excess_den) ls → AreInLowestTerms ls
+all_lowest [] h fine = tt
+all_lowest (l ∷ ls) h fine = (record { reduced = h.0.0; fits = h.0.1; fine = fine.0 }, all_lowest ls h.1 fine.1)
 
-all_read_back : (ls : List Level) → AllByRecursion IsLowest ls → ExcessesAreReadBack ls
-all_read_back [] h = tt
-all_read_back (l ∷ ls) h = (read_back (excess_of l) h.0.0 h.0.1, all_read_back ls h.1)
+all_read_back : (k : ℕ) → IsScale (pos k) → (ls : List Level) → AreInLowestTerms ls → ExcessesAreReadBack k ls
+all_read_back k s [] h = tt
+all_read_back k s (l ∷ ls) h = ((scaled k (excess_of l) s h.0.reduced h.0.fits.0 h.0.fine).0, all_read_back k s ls h.1)
 
 all_few : (n : ℕ) → n ≤ 64 → (ls : List Level) → AllByRecursion (HasFew n) ls → AllByRecursion (λ l. length l.coalitions + length l.earlier + length l.bounds ≤ 128) ls
 all_few n few [] h = tt
@@ -81,22 +85,33 @@ module _ (family : Family) (d : Contents) (value : Value) (are_costs : Bool) (x 
   printed_signs = sym (signs ∙ ap is_cost accepted.described)
 
   abbrev Reads : Data → Bool → Type 0
-  Reads g b = (tree_refusal command.Check (nucleolus_tree family g b x c) ≡ None) × IsReadOf family g x c (contents_of command.Check (nucleolus_tree family g b x c))
+  Reads g b = (tree_refusal command.Check (nucleolus_tree (scale_of g) family g b x c) ≡ None) × IsReadOf family g x c (contents_of command.Check (nucleolus_tree (scale_of g) family g b x c))
+
+  -- the excesses are in lowest terms, over denominators that can be printed over a scale
+  lowest : AreInLowestTerms c.levels
+  lowest = all_lowest c.levels found.lowest (fine_levels c.mode family d.measure (game_of d.game) x c s h found)
+
+  -- the scale that the line is printed over
+  scale : IsScale (pos (scale_of (view value)))
+  scale = subst (λ (g : Data). IsScale (pos (scale_of g))) printed_game (accepted_scale (game_tree accepted.document) (accepted_game accepted.command accepted.document accepted.passed).numbers)
+
+  scale_said : d.scale ≡ pos (scale_of (view value))
+  scale_said = accepted.scaled ∙ ap (λ (g : Data). pos (scale_of g)) printed_game
 
   is_read : Reads (view value) are_costs
   is_read =
       let counted = ap (λ e. (game_of e).players) accepted.described in
-      let first : Reads (game_tree accepted.document) (is_cost (description_of (game_tree accepted.document))) = printed_is_read accepted.command accepted.document family x c accepted.passed s (allocation.0 ∙ counted) h (found.players ∙ counted) (all_lowest c.levels found.lowest) in
+      let first : Reads (game_tree accepted.document) (is_cost (description_of (game_tree accepted.document))) = printed_is_read accepted.command accepted.document family x c accepted.passed s (allocation.0 ∙ counted) h (found.players ∙ counted) lowest in
       let second : Reads (view value) (is_cost (description_of (game_tree accepted.document))) = subst (λ (g : Data). Reads g (is_cost (description_of (game_tree accepted.document)))) printed_game first in
       subst (λ (b : Bool). Reads (view value) b) printed_signs second
 
   -- the line is short
-  is_short : length (line (Nucleolus family value are_costs x c)) ≤ document_limit command.Check
+  is_short : length (line (pos (scale_of (view value))) (Nucleolus family value are_costs x c)) ≤ document_limit command.Check
   is_short =
       let players = found.players in
-      let text = short family (view value) are_costs x c s h (all_read_back c.levels found.lowest) (all_few (game_of d.game).players (omega (arith, players, h.few)) c.levels found.few) in
+      let text = short (scale_of (view value)) family (view value) are_costs x c scale s h (all_read_back (scale_of (view value)) scale c.levels lowest) (all_few (game_of d.game).players (omega (arith, players, h.few)) c.levels found.few) in
       let game = subst (λ (t : Data). length (compact_text t) ≤ document_limit command.Nucleolus) (sym same) accepted.short in
-      omega (arith, text, game, length-append (compact_text (nucleolus_tree family (view value) are_costs x c)) (10 ∷ []))
+      omega (arith, text, game, length-append (compact_text (nucleolus_tree (scale_of (view value)) family (view value) are_costs x c)) (10 ∷ []))
 
   says : (e : Contents) → IsReadOf family (view value) x c e → SaysSame family (view value) x c e
   says e of =
@@ -109,6 +124,7 @@ module _ (family : Family) (d : Contents) (value : Value) (are_costs : Bool) (x 
         tree = of.tree;
         game = of.game;
         measure = of.measure;
+        scale = of.scale;
         served = subst (λ g. serves_class command.Check g ≡ true) games served;
         taken = subst (λ m. (game_of e.game).players ≤ check_limit m) measures (subst (λ g. (game_of g).players ≤ check_limit d.measure) games checked);
         shares = of.shares.0;
@@ -117,5 +133,7 @@ module _ (family : Family) (d : Contents) (value : Value) (are_costs : Bool) (x 
         certifies = same_certify c.mode family e.measure (game_of e.game) x of.shares.0 c.levels (again.allocation (game_of e.game) here) (again.same (game_of e.game) here) (subst (λ m. Certifies c.mode family m (game_of e.game) x c.levels) measures (subst (λ g. Certifies c.mode family d.measure (game_of g) x c.levels) games certified));
       }
 
-  pub can_be_checked : CanBeChecked (Nucleolus family value are_costs x c) family (view value) x c
-  can_be_checked = record { short = is_short; passed = is_read.0; says = says _ is_read.1 }
+  pub can_be_checked : CanBeChecked d.scale (Nucleolus family value are_costs x c) family (view value) x c
+  can_be_checked =
+      subst (λ (k : ℤ). CanBeChecked k (Nucleolus family value are_costs x c) family (view value) x c) (sym scale_said)
+      (record { short = is_short; passed = is_read.0; says = says _ is_read.1 })

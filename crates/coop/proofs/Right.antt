@@ -1,5 +1,5 @@
 -- The answer is right for the words and the bytes that were left.
-use Rattle.std.proofs.Common.{◌≡◌, ℕ, ◌+◌, ◌<◌, ◌≤◌, List, [], ◌∷◌, ◌++◌, length, true, Option, Some, None, Result, Ok, Err, IfOk, refl, ap, ◌∙◌, append-nil, length-append, arith}
+use Rattle.std.proofs.Common.{◌≡◌, ℕ, pos, ◌+◌, ◌<◌, ◌≤◌, List, [], ◌∷◌, ◌++◌, length, true, Option, Some, None, Result, Ok, Err, IfOk, refl, ap, ◌∙◌, append-nil, length-append, arith}
 use Rattle.std.specs.Io.KnownBytes.{Consumes, IsAtEnd}
 use Rattle.game_text.specs.Documents.{Contents}
 use Rattle.game_text.specs.Refusals.{IsRefused, IsDocument}
@@ -30,19 +30,19 @@ IsLeft-all (Some x) (Some y) input p end = p ∙ ap (λ l. input ++ l) end ∙ a
 
 module _ (given : Command) where
   right_too_long : (old new : Option (List ℕ)) (input : List ℕ) → Consumes old new input → length input ≤ document_limit given + 1 → document_limit given < length input
-      → IsRight (word_of given ∷ []) old new (Refused refusal.TooLong)
-  right_too_long None new input p most long = record { bytes = input; left = tt; answers = (given, (refl, long)); reads = (given, (refl, (input, tt, omega arith))) }
+      → IsRight (word_of given ∷ []) old new (pos 1) (Refused refusal.TooLong)
+  right_too_long None new input p most long = record { bytes = input; left = tt; answers = (refl, (given, (refl, long))); reads = (given, (refl, (input, tt, omega arith))) }
   right_too_long (Some x) None input p most long = absurd p
   right_too_long (Some x) (Some y) input p most long =
-      record { bytes = x; left = refl; answers = (given, (refl, omega (arith, ap length p, length-append input y))); reads = (given, (refl, (input, p, omega arith))) }
+      record { bytes = x; left = refl; answers = (refl, (given, (refl, omega (arith, ap length p, length-append input y)))); reads = (given, (refl, (input, p, omega arith))) }
 
   right_whole : (old new : Option (List ℕ)) (input : List ℕ) → Consumes old new input → IsAtEnd new → (r : Refusal) → IsRefused given input r → (ReadsAll old new → ReadsForRefusal r (word_of given ∷ []) old new)
-      → IsRight (word_of given ∷ []) old new (Refused r)
+      → IsRight (word_of given ∷ []) old new (pos 1) (Refused r)
   right_whole old new input p end r refused reads =
-      record { bytes = input; left = IsLeft-all old new input p end; answers = (given, (refl, refused)); reads = reads ((input, p), end) }
+      record { bytes = input; left = IsLeft-all old new input p end; answers = (refl, (given, (refl, refused))); reads = reads ((input, p), end) }
 
   pub right_refusal : (old new : Option (List ℕ)) (input : List ℕ) → Consumes old new input → length input ≤ document_limit given + 1 → (length input ≤ document_limit given → IsAtEnd new) → (r : Refusal) → IsRefused given input r
-      → IsRight (word_of given ∷ []) old new (Refused r)
+      → IsRight (word_of given ∷ []) old new (pos 1) (Refused r)
   right_refusal old new input p most end refusal.TooLong long = right_too_long old new input p most long
   right_refusal old new input p most end r refused = right_whole old new input p (end refused.0) r refused (λ h. h)
 
@@ -92,10 +92,10 @@ module _ (given : Command) (old new : Option (List ℕ)) (input : List ℕ) (p :
   read : ReadsAll old new
   read = ((input, p), end document.0)
 
-  served : (a : Answer) → AnswersTo given d a → IsAnsweredFor (word_of given ∷ []) input a
-  served a right = (given, (refl, (d, (document, document_of_class given input d document, right))))
+  served : (a : Answer) → AnswersTo given d a → IsAnsweredFor (word_of given ∷ []) input d.scale a
+  served a right = (given, (refl, (d, (document, document_of_class given input d document, refl, right))))
 
-  pub right_answer : (a : Answer) → AnswersTo given d a → IsRight (word_of given ∷ []) old new a
+  pub right_answer : (a : Answer) → AnswersTo given d a → IsRight (word_of given ∷ []) old new d.scale a
   right_answer (Usage Words) right = absurd (no_usage given d right)
   right_answer (Refused r) right = absurd (no_refusal given d r right)
   right_answer (Summary s) right = absurd (no_summary given d s right)
@@ -109,11 +109,11 @@ no_command words None h none = h
 no_command words (Some given) h none = absurd (none given refl)
 
 -- the summary of the game that the words ask for, and nothing is read
-pub right_summary : (words : List (List ℕ)) (old : Option (List ℕ)) (s : Summaries) → IsSummaryFor words s → IsRight words old old (Summary s)
-right_summary words None s h = record { bytes = []; left = tt; answers = h; reads = refl }
-right_summary words (Some x) s h = record { bytes = x; left = refl; answers = h; reads = refl }
+pub right_summary : (words : List (List ℕ)) (old : Option (List ℕ)) (s : Summaries) → IsSummaryFor words s → IsRight words old old (pos 1) (Summary s)
+right_summary words None s h = record { bytes = []; left = tt; answers = (refl, h); reads = refl }
+right_summary words (Some x) s h = record { bytes = x; left = refl; answers = (refl, h); reads = refl }
 
 -- words that are no command get Usage, and nothing is read
-pub right_usage : (words : List (List ℕ)) (old : Option (List ℕ)) → IsNoCommand words → IsRight words old old (Usage Words)
-right_usage words None h = record { bytes = []; left = tt; answers = h; reads = refl }
-right_usage words (Some x) h = record { bytes = x; left = refl; answers = h; reads = refl }
+pub right_usage : (words : List (List ℕ)) (old : Option (List ℕ)) → IsNoCommand words → IsRight words old old (pos 1) (Usage Words)
+right_usage words None h = record { bytes = []; left = tt; answers = (refl, h); reads = refl }
+right_usage words (Some x) h = record { bytes = x; left = refl; answers = (refl, h); reads = refl }

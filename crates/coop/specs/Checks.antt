@@ -1,14 +1,18 @@
 -- The right verdict on the certificate of a document.
 --
---   HasEvidence  the family, the shares and the certificate that a document gives
---   IsComplete   a document gives them for its players
---   Checks       the answer is the right verdict, or that there are too many players
-use Rattle.std.specs.Prelude.{◌≡◌, ◌<◌, ◌≤◌, length, Some}
+--   HasEvidence      the family, the shares and the certificate that a document gives
+--   IsComplete       a document gives them for its players
+--   Checks           the answer is the right verdict, or that there are too many players
+--   HasLowestExcess  the excess that a verdict carries is in lowest terms
+use Rattle.std.specs.Prelude.{◌≡◌, ◌<◌, ◌≤◌, ⊤, length, Some}
 use Rattle.definitions.specs.Games.{Allocation}
 use Rattle.definitions.specs.declared.Family.{Family}
 use Rattle.kohlberg.specs.Certificate.{CertificateData}
 use Rattle.checker.specs.Meaning.{IsVerdict}
+use Rattle.fractions.specs.Fraction.{IsReduced}
 use Rattle.checker.specs.declared.verdicts.Verdict.{Verdict as CheckVerdict}
+use Rattle.checker.specs.declared.verdicts.Verdict.TheVariants.{No}
+use Rattle.checker.specs.declared.verdicts.Reason.TheVariants.{OutsideAbove}
 use Rattle.game_text.specs.Descriptions.{game_of}
 use Rattle.game_text.specs.Documents.{Contents}
 use Rattle.report.specs.declared.answer.Answer.{Answer}
@@ -40,3 +44,8 @@ abbrev pub Checks : Contents → Answer → Type 0
 Checks d (Verdict v) = ((game_of d.game).players ≤ check_limit d.measure) × IsCheckedAs d v
 Checks d (Usage Players) = check_limit d.measure < (game_of d.game).players
 Checks d _ = ⊥
+
+-- the excess that a verdict carries, where it carries one, is in lowest terms
+abbrev pub HasLowestExcess : CheckVerdict → Type 0
+HasLowestExcess (No (OutsideAbove j e)) = IsReduced e
+HasLowestExcess _ = ⊤

@@ -5,7 +5,7 @@
 --   EndsMade      nothing was read, and the status is Done, or says that memory wasn't found or that a write failed
 use Rattle.std.specs.Prelude.{◌≡◌, ◌⊎◌, ⊤, ℕ, List, Option, Result, MatchResult}
 use Rattle.game_text.specs.declared.kind.Kind.{Kind}
-use Rattle.report.specs.declared.answer.Answer.{Answer}
+use Rattle.coop.specs.declared.reply.Reply.{Reply}
 use Rattle.coop.specs.Words.{IsGeneration}
 use Rattle.coop.specs.Outcome.{status_of}
 use Rattle.coop.specs.declared.status.Status.{Status}
@@ -20,9 +20,9 @@ abbrev pub AsksForGame : List (List ℕ) → Type 0
 AsksForGame words = (kind : Kind) × ((n : ℕ) × ((seed : ℕ) × IsGeneration words kind n seed))
 
 -- for a generated game nothing is read, and the answer is positive, or memory wasn't found
-abbrev pub IsMadeFor : Request → Option (List ℕ) → Option (List ℕ) → Result Answer Stop → Type 0
+abbrev pub IsMadeFor : Request → Option (List ℕ) → Option (List ℕ) → Result Reply Stop → Type 0
 IsMadeFor (Read command) old new r = ⊤
-IsMadeFor (Generate kind n seed) old new r = (new ≡ old) × MatchResult r (λ a. status_of a ≡ status.Done) (λ e. e ≡ Memory)
+IsMadeFor (Generate kind n seed) old new r = (new ≡ old) × MatchResult r (λ a. status_of a.answer ≡ status.Done) (λ e. e ≡ Memory)
 
 -- nothing was read, and the status is Done, or says that memory wasn't found or that a write failed
 abbrev pub EndsMade : Option (List ℕ) → Option (List ℕ) → Status → Type 0

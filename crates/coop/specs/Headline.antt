@@ -14,15 +14,19 @@
 --   Solves               the answer is right for the family and the game of a document
 --   Says                 the answer is right for a command and a document of a class that it serves
 --   AnswersTo            the answer is right for a command and its document
---   Answers              the answer is right for the words and the bytes
+--   Answers              the answer is right for the words and the bytes, and is printed over this scale
 --
 -- What is right for the other commands stands in Judgement.antt (`propose`), CoreClaims.antt (`core`), Checks.antt (`check`),
 -- ShapleyClaims.antt (`shapley`), BirdClaims.antt (`bird`), ConvexClaims.antt (`convex`), KernelClaims.antt (`kernel`),
 -- MatchingClaims.antt (`matching`) and GeneratorClaims.antt (`gen`); which classes a command serves, in Classes.antt.
 --
+-- The game, the shares and the certificate of a document of version 2 are those that it writes, times its scale, and the line
+-- is printed over that scale. One positive factor on all worths and shares changes no comparison (`scales_change_nothing`), so
+-- the sentence holds of the game of fractional worths too.
+--
 -- No answer that isn't named is right, and the answers exclude one another: a nucleolus is an imputation, which gives each
 -- player at least what it is worth alone, so it can't come where the players alone are worth more than all.
-use Rattle.std.specs.Prelude.{◌≡◌, ◌<◌, ◌≤◌, ℕ, List, Bool, true, false, ℤ, ◌<ℤ◌}
+use Rattle.std.specs.Prelude.{◌≡◌, ◌<◌, ◌≤◌, ℕ, List, Bool, true, false, ℤ, pos, ◌<ℤ◌}
 use Rattle.serde_json.specs.Data.{Data}
 use Rattle.serde_json.specs.View.{view}
 use Rattle.definitions.specs.Coalitions.{grand_coalition}
@@ -102,17 +106,17 @@ abbrev pub AnswersTo : Command → Contents → Answer → Type 0
 AnswersTo command d (Usage Class) = serves_class command d.game ≡ false
 AnswersTo command d answer = (serves_class command d.game ≡ true) × Says command d answer
 
--- the words are a command, the bytes are a document of it, whose game has the worths of its class, and the answer is right for both
-abbrev pub IsAnsweredFor : List (List ℕ) → List ℕ → Answer → Type 0
-IsAnsweredFor words bytes answer = (command : Command) × (IsCommand words command × ((d : Contents) × (IsDocument command bytes d × IsOfClass d.game × AnswersTo command d answer)))
+-- the words are a command, the bytes are a document of it with this scale, whose game has the worths of its class, and the answer is right for both
+abbrev pub IsAnsweredFor : List (List ℕ) → List ℕ → ℤ → Answer → Type 0
+IsAnsweredFor words bytes k answer = (command : Command) × (IsCommand words command × ((d : Contents) × (IsDocument command bytes d × IsOfClass d.game × (k ≡ d.scale) × AnswersTo command d answer)))
 
 -- the words are a command, and this is the first refusal that applies to the bytes
 abbrev pub IsRefusedFor : List (List ℕ) → List ℕ → Refusal → Type 0
 IsRefusedFor words bytes r = (command : Command) × (IsCommand words command × IsRefused command bytes r)
 
--- the answer is right for the words and the bytes: for words that are no command, the usage of words; for a generated game its summary; else the first refusal that applies; else what the command says to the document
-abbrev pub Answers : List (List ℕ) → List ℕ → Answer → Type 0
-Answers words bytes (Usage Words) = IsNoCommand words
-Answers words bytes (Refused r) = IsRefusedFor words bytes r
-Answers words bytes (Summary s) = IsSummaryFor words s
-Answers words bytes answer = IsAnsweredFor words bytes answer
+-- the answer is right for the words and the bytes: for words that are no command, the usage of words; for a generated game its summary; else the first refusal that applies; else what the command says to the document; it is printed over the scale k, which is the document's, and 1 where there is none
+abbrev pub Answers : List (List ℕ) → List ℕ → ℤ → Answer → Type 0
+Answers words bytes k (Usage Words) = (k ≡ pos 1) × IsNoCommand words
+Answers words bytes k (Refused r) = (k ≡ pos 1) × IsRefusedFor words bytes r
+Answers words bytes k (Summary s) = (k ≡ pos 1) × IsSummaryFor words s
+Answers words bytes k answer = IsAnsweredFor words bytes k answer

@@ -2,13 +2,14 @@
 --
 --   IsAccepted  no test refused the document of a game, and its tree can be printed again
 --   HasNeeded   what the command needs
-use Rattle.std.specs.Prelude.{◌≡◌, ◌≤◌, ⊤, length, false, None}
+use Rattle.std.specs.Prelude.{◌≡◌, ◌≤◌, ⊤, pos, length, false, None}
 use Rattle.serde_json.specs.Data.{Data, depth}
 use Rattle.serde_json.specs.Written.{compact_text, has_float}
 use Rattle.json_texts.specs.Exact.{IsExact}
 use Rattle.game_text.specs.Descriptions.{description_of}
 use Rattle.game_text.specs.Documents.{Contents, game_tree}
 use Rattle.game_text.specs.Excess.{measure_of}
+use Rattle.game_text.specs.Scales.{scale_of}
 use Rattle.game_text.specs.Denominators.{tree_refusal}
 use Rattle.game_text.specs.Text.{document_limit}
 use Rattle.game_text.specs.declared.command.Command.{Command}
@@ -24,6 +25,7 @@ pub record IsAccepted (d : Contents) : Type 0 where
   pub described : d.game ≡ description_of (game_tree document)
   pub same : d.tree ≡ game_tree document
   pub measured : d.measure ≡ measure_of (game_tree document)
+  pub scaled : d.scale ≡ pos (scale_of (game_tree document))
   pub exact : IsExact d.tree
   pub whole : has_float d.tree ≡ false
   pub shallow : depth d.tree ≤ 8

@@ -10,7 +10,7 @@
 --   Answered, CutShort           its line was printed, or a proper front of it
 --   Ends                         what stands after each status
 --   IsCauseOf                    which count of failures rose
-use Rattle.std.specs.Prelude.{◌≡◌, ◌≢◌, ◌<◌, ◌+◌, ℕ, List, length, take, Option, Some, None, ⊤}
+use Rattle.std.specs.Prelude.{◌≡◌, ◌≢◌, ◌<◌, ◌+◌, ℕ, ℤ, List, length, take, Option, Some, None, ⊤}
 use Rattle.std.specs.Io.KnownBytes.{Appends, Consumes, IsAtEnd}
 use Rattle.ports.specs.Causes.{CountRose}
 use Rattle.coop.specs.Headline.{Answers}
@@ -96,22 +96,22 @@ status_of (Usage kind) = status.Usage
 status_of (Refused r) = status.Refused
 status_of (Summary s) = status.Done
 
--- the answer is right for the words and for the bytes that were left
-pub record IsRight (words : List (List ℕ)) (old new : Option (List ℕ)) (answer : Answer) : Type 0 where
+-- the answer, printed over the scale k, is right for the words and for the bytes that were left
+pub record IsRight (words : List (List ℕ)) (old new : Option (List ℕ)) (k : ℤ) (answer : Answer) : Type 0 where
   pub bytes : List ℕ
   pub left : IsLeft old bytes
-  pub answers : Answers words bytes answer
+  pub answers : Answers words bytes k answer
   pub reads : ReadsFor answer words old new
 
 -- the line of a right answer was printed, and the status goes with it; the line of a nucleolus is read back
 abbrev pub Answered : List (List ℕ) → Option (List ℕ) → Option (List ℕ) → Option (List ℕ) → Option (List ℕ) → Status → Type 0
 Answered words old new taken_old taken_new s =
-    (answer : Answer) × IsRight words old new answer × (s ≡ status_of answer) × Appends taken_old taken_new (line answer) × IsReadBack answer
+    (k : ℤ) × ((answer : Answer) × IsRight words old new k answer × (s ≡ status_of answer) × Appends taken_old taken_new (line k answer) × IsReadBack k answer)
 
 -- a proper front of the line of a right answer was printed
 abbrev pub CutShort : List (List ℕ) → Option (List ℕ) → Option (List ℕ) → Option (List ℕ) → Option (List ℕ) → Type 0
 CutShort words old new taken_old taken_new =
-    (answer : Answer) × IsRight words old new answer × ((n : ℕ) × (n < length (line answer)) × Appends taken_old taken_new (take n (line answer)))
+    (k : ℤ) × ((answer : Answer) × IsRight words old new k answer × ((n : ℕ) × (n < length (line k answer)) × Appends taken_old taken_new (take n (line k answer))))
 
 -- what stands after each status
 abbrev pub Ends : List (List ℕ) → Option (List ℕ) → Option (List ℕ) → Option (List ℕ) → Option (List ℕ) → Status → Type 0

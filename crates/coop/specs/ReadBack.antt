@@ -4,7 +4,7 @@
 --   CanBeRead     no test refuses the tree of an answer where it is checked, and it says the same
 --   CheckSaysYes  yes is the one right answer to bytes that are checked
 --   IsReadBack    the line of an answer is a document to check, says the same, and gets yes
-use Rattle.std.specs.Prelude.{◌≡◌, ◌≤◌, ⊤, ℕ, List, [], ◌∷◌, length, true, None}
+use Rattle.std.specs.Prelude.{◌≡◌, ◌≤◌, ⊤, ℕ, ℤ, pos, List, [], ◌∷◌, length, true, None, unsigned_abs}
 use Rattle.serde_json.specs.Data.{Data}
 use Rattle.serde_json.specs.View.{view}
 use Rattle.definitions.specs.Games.{Allocation, IsSame}
@@ -14,6 +14,7 @@ use Rattle.kohlberg.specs.Certificate.{CertificateData}
 use Rattle.game_text.specs.Descriptions.{description_of, game_of}
 use Rattle.game_text.specs.Documents.{Contents}
 use Rattle.game_text.specs.Excess.{measure_of}
+use Rattle.game_text.specs.Scales.{scale_of}
 use Rattle.game_text.specs.Denominators.{contents_of, tree_refusal}
 use Rattle.game_text.specs.Refusals.{IsDocument}
 use Rattle.game_text.specs.Text.{document_limit}
@@ -28,11 +29,12 @@ use Rattle.coop.specs.Limits.{check_limit}
 use Rattle.coop.specs.Checks.{HasEvidence}
 use Rattle.coop.specs.Headline.{Answers}
 
--- the document gives the game of this tree and its measure, the family, the same shares over some denominator, and the certificate, which certifies them; the class and the number of players are checked
+-- the document gives the game of this tree, its measure and its scale, the family, the same shares over some denominator, and the certificate, which certifies them; the class and the number of players are checked
 pub record SaysSame (f : Family) (printed : Data) (x : Allocation) (c : CertificateData) (d : Contents) : Type 0 where
   pub tree : d.tree ≡ printed
   pub game : d.game ≡ description_of printed
   pub measure : d.measure ≡ measure_of printed
+  pub scale : d.scale ≡ pos (scale_of printed)
   pub served : serves_class Check d.game ≡ true
   pub taken : (game_of d.game).players ≤ check_limit d.measure
   pub shares : Allocation
@@ -41,23 +43,28 @@ pub record SaysSame (f : Family) (printed : Data) (x : Allocation) (c : Certific
   pub certifies : Certifies c.mode f d.measure (game_of d.game) shares c.levels
 
 -- the line is no longer than a document to check may be, no test refuses its tree, and it says the same
-pub record CanBeChecked (answer : Answer) (f : Family) (printed : Data) (x : Allocation) (c : CertificateData) : Type 0 where
-  pub short : length (line answer) ≤ document_limit Check
-  pub passed : tree_refusal Check (answer_tree answer) ≡ None
-  pub says : SaysSame f printed x c (contents_of Check (answer_tree answer))
+pub record CanBeChecked (k : ℤ) (answer : Answer) (f : Family) (printed : Data) (x : Allocation) (c : CertificateData) : Type 0 where
+  pub short : length (line k answer) ≤ document_limit Check
+  pub passed : tree_refusal Check (answer_tree (unsigned_abs k) answer) ≡ None
+  pub says : SaysSame f printed x c (contents_of Check (answer_tree (unsigned_abs k) answer))
 
--- the tree of a nucleolus can be checked
-abbrev pub CanBeRead : Answer → Type 0
-CanBeRead (Nucleolus family tree are_costs x c) = CanBeChecked (Nucleolus family tree are_costs x c) family (view tree) x c
-CanBeRead _ = ⊤
+-- the tree of a nucleolus over the scale k can be checked
+abbrev pub CanBeRead : ℤ → Answer → Type 0
+CanBeRead k (Nucleolus family tree are_costs x c) = CanBeChecked k (Nucleolus family tree are_costs x c) family (view tree) x c
+CanBeRead k _ = ⊤
+
+-- the answer is no nucleolus, whose line alone is read back
+abbrev pub IsNoNucleolus : Answer → Type 0
+IsNoNucleolus (Nucleolus family tree are_costs x c) = ⊥
+IsNoNucleolus _ = ⊤
 
 -- of all answers to the word `check` and these bytes, yes is right, and no other is
 pub record CheckSaysYes (bytes : List ℕ) : Type 0 where
-  pub yes : Answers (word_of Check ∷ []) bytes (Verdict Yes)
-  pub only : (answer : Answer) → Answers (word_of Check ∷ []) bytes answer → answer ≡ Verdict Yes
+  pub yes : (k : ℤ) × Answers (word_of Check ∷ []) bytes k (Verdict Yes)
+  pub only : (k : ℤ) (answer : Answer) → Answers (word_of Check ∷ []) bytes k answer → answer ≡ Verdict Yes
 
 -- the line of a nucleolus is a document to check, with the same game, family, shares and certificate, which certifies the shares; and the verdict on it is yes
-abbrev pub IsReadBack : Answer → Type 0
-IsReadBack (Nucleolus family tree are_costs x c) =
-    let bytes = line (Nucleolus family tree are_costs x c) in (d : Contents) × (IsDocument Check bytes d × SaysSame family (view tree) x c d × CheckSaysYes bytes)
-IsReadBack _ = ⊤
+abbrev pub IsReadBack : ℤ → Answer → Type 0
+IsReadBack k (Nucleolus family tree are_costs x c) =
+    let bytes = line k (Nucleolus family tree are_costs x c) in (d : Contents) × (IsDocument Check bytes d × SaysSame family (view tree) x c d × CheckSaysYes bytes)
+IsReadBack k _ = ⊤

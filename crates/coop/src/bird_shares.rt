@@ -3,7 +3,7 @@ ghost use Rattle.std.specs.Prelude.{◌≡◌, true, IfOk};
 ghost use Rattle.game_text.specs.Games.{description_in};
 ghost use Rattle.game_text.specs.Readings.{contents_in};
 ghost use Rattle.report.specs.Limits.{IsPrintable};
-ghost use Rattle.coop.specs.ReadBack.{CanBeRead};
+ghost use Rattle.coop.specs.ReadBack.{IsNoNucleolus};
 ghost use Rattle.coop.specs.BirdClaims.{SaysOfBird};
 ghost use Rattle.coop.specs.Classes.{is_tree};
 
@@ -17,7 +17,7 @@ pub fn bird_document(alloc: Global, document: &Document) -> Result<Answer, OutOf
     requires { is_tree (description_in document.now.game) ≡ true }
     ensures says { IfOk result (SaysOfBird (contents_in document.now)) }
     ensures printable { IfOk result IsPrintable }
-    ensures readable { IfOk result CanBeRead }
+    ensures readable { IfOk result IsNoNucleolus }
 {
     match &document.game {
         Game::Tree(game) => {

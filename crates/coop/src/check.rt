@@ -1,11 +1,12 @@
 //! The verdict on the certificate of a document.
 ghost use Rattle.game_text.specs.Readings.{contents_in};
 ghost use Rattle.report.specs.Limits.{IsPrintable};
-ghost use Rattle.coop.specs.Checks.{Checks, IsComplete};
-ghost use Rattle.coop.specs.ReadBack.{CanBeRead};
+ghost use Rattle.coop.specs.Checks.{Checks, HasLowestExcess, IsComplete};
+ghost use Rattle.coop.specs.ReadBack.{IsNoNucleolus};
 
 use crate::limits::check_limit;
-use checker::check;
+use crate::solve::keep_their_limits;
+use checker::{Reason, Verdict, check};
 use game_text::Document;
 use report::{Answer, UsageKind};
 use worth_core::Worth;
@@ -16,7 +17,7 @@ pub fn check_document(document: &Document) -> Answer
     requires { IsComplete (contents_in document.now) }
     ensures checks { Checks (contents_in document.now) result }
     ensures printable { IsPrintable result }
-    ensures readable { CanBeRead result }
+    ensures readable { IsNoNucleolus result }
 {
     let (Some(family), Some(shares), Some(certificate)) = (
         document.family,
@@ -30,5 +31,16 @@ pub fn check_document(document: &Document) -> Answer
     }
     let measure = document.measure;
     let verdict = check(&document.game, family, measure, shares, certificate);
+    keep_lowest(&verdict);
+    keep_their_limits(shares, certificate);
     Answer::Verdict(verdict)
+}
+
+// The excess that a verdict carries is in lowest terms by its type; this call says so.
+fn keep_lowest(verdict: &Verdict)
+    ensures { HasLowestExcess verdict.now }
+{
+    if let Verdict::No(Reason::OutsideAbove { excess, .. }) = verdict {
+        excess.den();
+    }
 }

@@ -7,7 +7,7 @@ ghost use Rattle.game_text.specs.Readings.{contents_in};
 ghost use Rattle.report.specs.Limits.{IsPrintable};
 ghost use Rattle.coop.specs.Classes.{is_no_market};
 ghost use Rattle.coop.specs.ConvexClaims.{SaysOfConvex};
-ghost use Rattle.coop.specs.ReadBack.{CanBeRead};
+ghost use Rattle.coop.specs.ReadBack.{IsNoNucleolus};
 
 use convexity::{ConvexAnswer, answer};
 use fractions::OutOfMemory;
@@ -26,7 +26,7 @@ pub fn convex_document(alloc: Global, document: &Document) -> Result<Answer, Out
     requires { is_no_market (description_in document.now.game) ≡ true }
     ensures says { IfOk result (SaysOfConvex (contents_in document.now)) }
     ensures printable { IfOk result IsPrintable }
-    ensures readable { IfOk result CanBeRead }
+    ensures readable { IfOk result IsNoNucleolus }
 {
     if document.game.players() > MOST {
         return Ok(Answer::Usage(UsageKind::Players));

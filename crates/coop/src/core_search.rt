@@ -10,7 +10,7 @@ ghost use Rattle.coop.specs.Classes.{is_no_market};
 ghost use Rattle.coop.specs.CoreClaims.{IsSaidOf, IsShown, FindsCore, SaysOfCore};
 ghost use Rattle.coop.specs.Limits.{core_limit};
 ghost use Rattle.coop.specs.Needs.{IsAccepted};
-ghost use Rattle.coop.specs.ReadBack.{CanBeRead};
+ghost use Rattle.coop.specs.ReadBack.{IsNoNucleolus};
 ghost use Rattle.coop.specs.Finding.{HasFewPlayers};
 
 use crate::judge::printed_amount;
@@ -35,7 +35,7 @@ pub fn core_document(alloc: Global, document: &Document) -> Result<Answer, OutOf
     requires class { is_no_market (description_in document.now.game) ≡ true }
     ensures says { IfOk result (SaysOfCore (contents_in document.now)) }
     ensures printable { IfOk result IsPrintable }
-    ensures readable { IfOk result CanBeRead }
+    ensures readable { IfOk result IsNoNucleolus }
 {
     if document.game.players() > core_limit(&document.game) {
         return Ok(Answer::Usage(UsageKind::Players));
@@ -50,7 +50,7 @@ fn core_of_few(alloc: Global, document: &Document) -> Result<Answer, OutOfMemory
     requires taken { (game_of (description_in document.now.game)).players ≤ core_limit (description_in document.now.game) }
     ensures finds { IfOk result (FindsCore (contents_in document.now)) }
     ensures printable { IfOk result IsPrintable }
-    ensures readable { IfOk result CanBeRead }
+    ensures readable { IfOk result IsNoNucleolus }
 {
     let is_cost = document.game.is_cost();
     match said_of(alloc, &document.game)? {
@@ -102,7 +102,7 @@ fn shown<W: Worth>(game: &W, collection: Collection, are_costs: bool) -> Answer
     requires { ShowsEmpty (W.game game.now) collection }
     ensures shown { IsShown are_costs (W.game game.now) result }
     ensures printable { IsPrintable result }
-    ensures readable { CanBeRead result }
+    ensures readable { IsNoNucleolus result }
 {
     let value = printed_amount(collection.value(game), are_costs);
     let against = printed_amount(collection.against(game), are_costs);

@@ -8,6 +8,7 @@ ghost use Rattle.coop_gen.specs.Generated.{HasKindSize};
 ghost use Rattle.coop_gen.specs.Imputations.{HasImputations};
 ghost use Rattle.game_text.specs.Descriptions.{game_of};
 ghost use Rattle.game_text.specs.Games.{description_in};
+ghost use Rattle.report.specs.Limits.{IsFineIfThere};
 ghost use Rattle.coop.specs.Finding.{HasFewPlayers};
 ghost use Rattle.coop.specs.GeneratorClaims.{IsGreatestExcess, IsSummaryOf};
 
@@ -32,7 +33,8 @@ pub fn summary_of(
 ) -> Result<Summary, OutOfMemory>
     requires size { HasKindSize kind players }
     requires seed { seed < 2 ^ 31 }
-    ensures { IfOk result (IsSummaryOf kind players seed) }
+    ensures summary { IfOk result (IsSummaryOf kind players seed) }
+    ensures fine { IfOk result (λ s. IsFineIfThere s.greatest) }
 {
     let game = generate(alloc, kind, players, seed)?;
     let shares = checked_shares(alloc, &game)?;
@@ -87,7 +89,8 @@ fn approved(game: &Game, shares: Shares, certificate: &Certificate) -> Option<Sh
 // The greatest excess of a coalition that is neither empty nor all, and none for one player.
 fn greatest_excess(game: &Game, shares: &Shares) -> Option<Frac>
     requires { length shares.now.shares ≡ (game_of (description_in game.now)).players }
-    ensures { IsGreatestExcess (game_of (description_in game.now)) shares.now result }
+    ensures greatest { IsGreatestExcess (game_of (description_in game.now)) shares.now result }
+    ensures fine { IsFineIfThere result }
 {
     let players = game.players();
     if players == 1 {
@@ -95,7 +98,8 @@ fn greatest_excess(game: &Game, shares: &Shares) -> Option<Frac>
     }
     let all = Coalition::all(players);
     let greatest = measured_bound(game, shares, all, Measure::Plain);
-    // It is in lowest terms by its type, and this call says so.
+    // It is in lowest terms by its type, and the denominator of shares is within its limit; these calls say so.
     greatest.den();
+    shares.den();
     Some(greatest)
 }

@@ -4,7 +4,7 @@ ghost use Rattle.fractions.specs.Fraction.{IsRatio};
 ghost use Rattle.game_text.specs.Readings.{contents_in};
 ghost use Rattle.report.specs.Limits.{IsPrintable};
 ghost use Rattle.coop.specs.Judgement.{printed, Judges, JudgesAll, HasShares};
-ghost use Rattle.coop.specs.ReadBack.{CanBeRead};
+ghost use Rattle.coop.specs.ReadBack.{IsNoNucleolus};
 
 use coalitions::Coalition;
 use fractions::Frac;
@@ -17,7 +17,7 @@ pub fn judge_document(document: &Document) -> Answer
     requires { HasShares (contents_in document.now) }
     ensures judges { JudgesAll (contents_in document.now) result }
     ensures printable { IsPrintable result }
-    ensures readable { CanBeRead result }
+    ensures readable { IsNoNucleolus result }
 {
     let Some(shares) = &document.shares else {
         unreachable!()
@@ -30,7 +30,7 @@ pub fn judge<W: Worth>(game: &W, shares: &Shares, are_costs: bool) -> Answer
     requires { length shares.now.shares ≡ (W.game game.now).players }
     ensures judges { Judges are_costs (W.game game.now) shares.now result }
     ensures printable { IsPrintable result }
-    ensures readable { CanBeRead result }
+    ensures readable { IsNoNucleolus result }
 {
     let everyone = Coalition::all(game.players());
     let sum = shares.sum_of(everyone);

@@ -12,6 +12,7 @@ mod judge;
 mod limits;
 mod market_matching;
 mod prekernel_test;
+mod reply;
 mod run;
 mod shapley_values;
 mod solve;

@@ -5,7 +5,7 @@ ghost use Rattle.game_text.specs.Readings.{contents_in};
 ghost use Rattle.report.specs.Limits.{IsPrintable};
 ghost use Rattle.coop.specs.Classes.{is_market};
 ghost use Rattle.coop.specs.MatchingClaims.{SaysOfMatching};
-ghost use Rattle.coop.specs.ReadBack.{CanBeRead};
+ghost use Rattle.coop.specs.ReadBack.{IsNoNucleolus};
 
 use fractions::OutOfMemory;
 use game_text::{Document, Game};
@@ -18,7 +18,7 @@ pub fn matching_document(alloc: Global, document: &Document) -> Result<Answer, O
     requires { is_market (description_in document.now.game) ≡ true }
     ensures says { IfOk result (SaysOfMatching (contents_in document.now)) }
     ensures printable { IfOk result IsPrintable }
-    ensures readable { IfOk result CanBeRead }
+    ensures readable { IfOk result IsNoNucleolus }
 {
     match &document.game {
         Game::Market(game) => {

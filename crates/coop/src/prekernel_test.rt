@@ -5,7 +5,7 @@ ghost use Rattle.game_text.specs.Readings.{contents_in};
 ghost use Rattle.report.specs.Limits.{IsPrintable};
 ghost use Rattle.coop.specs.Judgement.{HasShares};
 ghost use Rattle.coop.specs.KernelClaims.{Balances, SaysOfKernel};
-ghost use Rattle.coop.specs.ReadBack.{CanBeRead};
+ghost use Rattle.coop.specs.ReadBack.{IsNoNucleolus};
 
 use crate::judge::judge;
 use game_text::Document;
@@ -22,7 +22,7 @@ pub fn kernel_document(document: &Document) -> Answer
     requires { HasShares (contents_in document.now) }
     ensures says { SaysOfKernel (contents_in document.now) result }
     ensures printable { IsPrintable result }
-    ensures readable { CanBeRead result }
+    ensures readable { IsNoNucleolus result }
 {
     if document.game.players() > MOST {
         return Answer::Usage(UsageKind::Players);
@@ -40,8 +40,10 @@ fn balance<W: Worth>(game: &W, shares: &Shares, are_costs: bool) -> Answer
     ensures balances { Balances are_costs (W.game game.now) shares.now result }
     ensures prenucleolus { IsNucleolus Family.Preimputations Measure.Plain (W.game game.now) shares.now → result ≡ Answer.Prekernel }
     ensures printable { IsPrintable result }
-    ensures readable { CanBeRead result }
+    ensures readable { IsNoNucleolus result }
 {
+    // Its limit is kept by its type, and this call says so.
+    shares.den();
     match prekernel(game, shares) {
         KernelAnswer::Balanced => Answer::Prekernel,
         KernelAnswer::NotEfficient => judge(game, shares, are_costs),

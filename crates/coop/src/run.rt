@@ -1,6 +1,6 @@
 //! From the words and the input to the status and the line.
 ghost use Rattle.std.specs.Prelude.{◌≡◌, ◌⊎◌, ℕ, List, [], ◌∷◌, map, string_bytes, true, IfOk};
-ghost use Rattle.report.specs.Limits.{IsPrintable};
+ghost use Rattle.report.specs.Limits.{IsScale, IsPrintable};
 ghost use Rattle.game_text.specs.Games.{description_in};
 ghost use Rattle.game_text.specs.Readings.{contents_in};
 ghost use Rattle.coop.specs.Classes.{serves_class};
@@ -22,6 +22,7 @@ use crate::generated::summary_of;
 use crate::judge::judge_document;
 use crate::market_matching::matching_document;
 use crate::prekernel_test::kernel_document;
+use crate::reply::{Reply, without_document};
 use crate::shapley_values::shapley_document;
 use crate::solve::solve_document;
 use crate::status::{Status, status_of};
@@ -62,13 +63,13 @@ pub fn run<S: Source, K: Sink>(
             Err(_) => Status::WriteFault,
         };
     };
-    let answer = match answer(alloc, request, source) {
-        Ok(answer) => answer,
+    let reply = match reply_to(alloc, request, source) {
+        Ok(reply) => reply,
         Err(Stop::Fault) => return Status::ReadFault,
         Err(Stop::Memory) => return Status::OutOfMemory,
     };
-    let status = status_of(&answer);
-    let Ok(line) = write_report(alloc, answer) else {
+    let status = status_of(&reply.answer);
+    let Ok(line) = write_report(alloc, reply.answer, reply.scale) else {
         return Status::OutOfMemory;
     };
     match write_line(sink, &line) {
@@ -77,12 +78,13 @@ pub fn run<S: Source, K: Sink>(
     }
 }
 
-// The answer to what the words ask for.
-fn answer<S: Source>(alloc: Global, request: Request, source: &mut S) -> Result<Answer, Stop>
+// The answer to what the words ask for, with its scale.
+fn reply_to<S: Source>(alloc: Global, request: Request, source: &mut S) -> Result<Reply, Stop>
     requires { IsFit request }
-    ensures right { IfOk result (λ a. (words : List (List ℕ)) → IsRequest words request → IsRight words (S.left source.old) (S.left source.new) a) }
-    ensures printable { IfOk result IsPrintable }
-    ensures readable { IfOk result CanBeRead }
+    ensures right { IfOk result (λ r. (words : List (List ℕ)) → IsRequest words request → IsRight words (S.left source.old) (S.left source.new) r.scale r.answer) }
+    ensures scale { IfOk result (λ r. IsScale r.scale) }
+    ensures printable { IfOk result (λ r. IsPrintable r.answer) }
+    ensures readable { IfOk result (λ r. CanBeRead r.scale r.answer) }
     ensures cause { IsFaultOf (S.faults source.old) (S.faults source.new) result }
     ensures made { IsMadeFor request (S.left source.old) (S.left source.new) result }
 {
@@ -93,29 +95,33 @@ fn answer<S: Source>(alloc: Global, request: Request, source: &mut S) -> Result<
             players,
             seed,
         } => match summary_of(alloc, kind, players, seed) {
-            Ok(summary) => Ok(Answer::Summary(summary)),
+            Ok(summary) => Ok(without_document(Answer::Summary(summary))),
             Err(_) => Err(Stop::Memory),
         },
     }
 }
 
-// The answer to the command on the input of the source.
-fn answer_on<S: Source>(alloc: Global, command: Command, source: &mut S) -> Result<Answer, Stop>
-    ensures right { IfOk result (IsRight (word_of command ∷ []) (S.left source.old) (S.left source.new)) }
-    ensures printable { IfOk result IsPrintable }
-    ensures readable { IfOk result CanBeRead }
+// The answer to the command on the input of the source, with its scale.
+fn answer_on<S: Source>(alloc: Global, command: Command, source: &mut S) -> Result<Reply, Stop>
+    ensures right { IfOk result (λ r. IsRight (word_of command ∷ []) (S.left source.old) (S.left source.new) r.scale r.answer) }
+    ensures scale { IfOk result (λ r. IsScale r.scale) }
+    ensures printable { IfOk result (λ r. IsPrintable r.answer) }
+    ensures readable { IfOk result (λ r. CanBeRead r.scale r.answer) }
     ensures cause { IsFaultOf (S.faults source.old) (S.faults source.new) result }
 {
     let input = read_input(alloc, source, document_limit(command))?;
     let document = match read_document(alloc, &input, command) {
         Ok(document) => document,
-        Err(TextFault::Refused(refusal)) => return Ok(Answer::Refused(refusal)),
+        Err(TextFault::Refused(refusal)) => {
+            return Ok(without_document(Answer::Refused(refusal)));
+        }
         Err(TextFault::Memory) => return Err(Stop::Memory),
     };
+    let scale = document.scale;
     let Ok(answer) = answer_to(alloc, command, document) else {
         return Err(Stop::Memory);
     };
-    Ok(answer)
+    Ok(Reply { answer, scale })
 }
 
 // The answer to the command on its document.
@@ -123,7 +129,7 @@ fn answer_to(alloc: Global, command: Command, document: Document) -> Result<Answ
     requires { HasNeeded command (contents_in document) }
     ensures right { IfOk result (AnswersTo command (contents_in document)) }
     ensures printable { IfOk result IsPrintable }
-    ensures readable { IfOk result CanBeRead }
+    ensures readable { IfOk result (CanBeRead document.scale) }
 {
     if !serves_class(command, &document.game) {
         return Ok(Answer::Usage(UsageKind::Class));
@@ -132,12 +138,13 @@ fn answer_to(alloc: Global, command: Command, document: Document) -> Result<Answ
 }
 
 // The answer to the command on its document, whose class it serves.
+#[tactic(auto, using(crate::proofs::ReadLines::readable_anyway, crate::proofs::ReadLines::readable_where_ok))]
 fn said_to(alloc: Global, command: Command, document: Document) -> Result<Answer, OutOfMemory>
     requires needed { HasNeeded command (contents_in document) }
     requires class { serves_class command (description_in document.game) ≡ true }
     ensures says { IfOk result (Says command (contents_in document)) }
     ensures printable { IfOk result IsPrintable }
-    ensures readable { IfOk result CanBeRead }
+    ensures readable { IfOk result (CanBeRead document.scale) }
 {
     match command {
         Command::Nucleolus => solve_document(alloc, document, Family::Imputations),

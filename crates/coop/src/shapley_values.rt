@@ -6,7 +6,7 @@ ghost use Rattle.game_text.specs.Games.{description_in};
 ghost use Rattle.game_text.specs.Readings.{contents_in};
 ghost use Rattle.report.specs.Limits.{IsPrintable};
 ghost use Rattle.coop.specs.Classes.{is_no_market};
-ghost use Rattle.coop.specs.ReadBack.{CanBeRead};
+ghost use Rattle.coop.specs.ReadBack.{IsNoNucleolus};
 ghost use Rattle.voting.specs.Voting.{voting_game};
 ghost use Rattle.coop.specs.ShapleyClaims.{shapley_limit, SaysOfShapley};
 
@@ -24,7 +24,7 @@ pub fn shapley_document(alloc: Global, document: &Document) -> Result<Answer, Ou
     requires { is_no_market (description_in document.now.game) ≡ true }
     ensures says { IfOk result (SaysOfShapley (contents_in document.now)) }
     ensures printable { IfOk result IsPrintable }
-    ensures readable { IfOk result CanBeRead }
+    ensures readable { IfOk result IsNoNucleolus }
 {
     let is_cost = document.game.is_cost();
     match shares_of(alloc, &document.game) {

@@ -39,7 +39,7 @@ pub fn solve_document(
     requires class { is_no_market (description_in document.game) ≡ true }
     ensures solves { IfOk result (Solves family (contents_in document)) }
     ensures printable { IfOk result IsPrintable }
-    ensures readable { IfOk result CanBeRead }
+    ensures readable { IfOk result (CanBeRead document.scale) }
 {
     let is_cost = document.game.is_cost();
     if document.game.players() > nucleolus_limit(document.measure, &document.game) {

@@ -3,6 +3,7 @@ mod certificates;
 mod convex_games;
 mod cores;
 mod failing_calls;
+mod fractional_worths;
 mod generated_games;
 mod hostile_documents;
 mod markets;

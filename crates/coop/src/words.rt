@@ -1,5 +1,5 @@
 //! The words of a command line.
-ghost use Rattle.std.specs.Prelude.{◌≡◌, ◌≢◌, ◌^◌, ◌<◌, ℕ, [], ◌∷◌, codes, map, string_bytes, IfSome, MatchOption};
+ghost use Rattle.std.specs.Prelude.{◌≡◌, ◌≢◌, ◌^◌, ◌<◌, ℕ, pos, [], ◌∷◌, codes, map, string_bytes, IfSome, MatchOption};
 ghost use Rattle.report.specs.Lines.{line};
 ghost use Rattle.report.specs.Words.{kind_word};
 ghost use Rattle.coop.specs.Words.{IsRequest, Names, number_text, word_of};
@@ -110,7 +110,7 @@ fn generation(first: &str, kind: &str, players: &str, seed: &str) -> Option<Requ
 
 /// The line for other words, which takes no memory.
 pub fn usage_line() -> &'static [u8]
-    ensures { result.now ≡ line (Answer.Usage UsageKind.Words) }
+    ensures { result.now ≡ line (pos 1) (Answer.Usage UsageKind.Words) }
 {
     b"{\"usage\":\"words\"}\n"
 }

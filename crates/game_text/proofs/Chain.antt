@@ -38,7 +38,7 @@ certificate_of_tree command game tree = choose (has_needed_form command game tre
 
 share_of_tree : (command : Command) (game tree : Data) (rest : Option Refusal) → IsOfTree rest → IsOfTree (share_refusal command game tree rest)
 share_of_tree command game tree rest p =
-    choose (has_needed_shares command game tree) Proposal (unless (needed_keep_limits command tree) TooFine rest) (choose (needed_keep_limits command tree) TooFine rest p tt) tt
+    choose (has_needed_shares command game tree) Proposal (unless (needed_keep_limits command game tree) TooFine rest) (choose (needed_keep_limits command game tree) TooFine rest p tt) tt
 
 needed_of_tree : (command : Command) (game tree : Data) → IsOfTree (needed_refusal command game tree)
 needed_of_tree command game tree = share_of_tree command game tree (certificate_refusal command game tree) (certificate_of_tree command game tree)

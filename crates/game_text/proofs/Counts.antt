@@ -9,10 +9,11 @@ use Rattle.json_trees.specs.Trees.{parts_at}
 use Rattle.game_text.specs.Shape.{class_of}
 use Rattle.game_text.specs.Limits.{players, players_as}
 use Rattle.game_text.specs.Descriptions.{game_of, is_cost, description_as, description_of}
-use Rattle.json_trees.specs.Integers.{integer_or_zero, integers_at}
-use Rattle.game_text.specs.Denominators.{least_denominator, over_least, keep_limits, shares_of}
-use Rattle.game_text.specs.Shares.{as_worth, has_shares_for, written_shares}
-use Rattle.json_trees.specs.Fractions.{fraction_or_zero}
+use Rattle.game_text.specs.Scales.{scale_of}
+use Rattle.game_text.specs.ScaledNumbers.{number_or_zero, numbers_at}
+use Rattle.game_text.specs.CommonMultiples.{least_denominator}
+use Rattle.game_text.specs.Denominators.{over_least, keep_limits, shares_of}
+use Rattle.game_text.specs.Shares.{as_worth, has_shares_for, scaled_share, scaled_shares}
 use Rattle.game_text.specs.Documents.{game_tree, certificate_for}
 use Rattle.game_text.specs.Games.{description_in}
 use Rattle.game_text.specs.Refusals.{unless}
@@ -29,19 +30,19 @@ use Rattle.game_text.specs.declared.fault.TextFault.{TextFault}
 use Rattle.game_text.specs.declared.refusal.Refusal.{Refusal}
 use Rattle.game_text.specs.declared.refusal.Refusal.TheVariants.{Proposal, TooFine}
 
-pub costs_length : (key : List ℕ) (game : Data) → length (map unsigned_abs (integers_at key game)) ≡ length (parts_at key game)
-costs_length key game = length-map (integers_at key game) unsigned_abs ∙ length-map (parts_at key game) integer_or_zero
+pub costs_length : (k : ℕ) (key : List ℕ) (game : Data) → length (map unsigned_abs (numbers_at k key game)) ≡ length (parts_at key game)
+costs_length k key game = length-map (numbers_at k key game) unsigned_abs ∙ length-map (parts_at key game) (number_or_zero k)
 
-pub players_described : (game : Data) (c : Option Class) → c ≡ class_of game → (game_of (description_as c game)).players ≡ players_as c game
-players_described game None e = refl
-players_described game (Some Table) e = ap (λ k. players_as k game) (sym e)
-players_described game (Some CostTable) e = ap (λ k. players_as k game) (sym e)
-players_described game (Some Airport) e = costs_length (codes "costs") game
-players_described game (Some Bankruptcy) e = costs_length (codes "claims") game
-players_described game (Some Tree) e = ap (λ n. n - 1) (row_count game)
-players_described game (Some Assignment) e = ap₂ (λ p q. p + q) (row_count game) (seller_count_of game)
-players_described game (Some Market) e = ap₂ (λ p q. p + q) (row_count game) (seller_count_of game)
-players_described game (Some Voting) e = costs_length (codes "weights") game
+pub players_described : (k : ℕ) (game : Data) (c : Option Class) → c ≡ class_of game → (game_of (description_as k c game)).players ≡ players_as c game
+players_described k game None e = refl
+players_described k game (Some Table) e = ap (λ o. players_as o game) (sym e)
+players_described k game (Some CostTable) e = ap (λ o. players_as o game) (sym e)
+players_described k game (Some Airport) e = costs_length k (codes "costs") game
+players_described k game (Some Bankruptcy) e = costs_length k (codes "claims") game
+players_described k game (Some Tree) e = ap (λ n. n - 1) (row_count k game)
+players_described k game (Some Assignment) e = ap₂ (λ p q. p + q) (row_count k game) (seller_count_of k game)
+players_described k game (Some Market) e = ap₂ (λ p q. p + q) (row_count k game) (seller_count_of k game)
+players_described k game (Some Voting) e = costs_length 1 (codes "weights") game
 
 length_over : (fs : List Fraction) → length (over_least fs).shares ≡ length fs
 length_over fs = length-map fs (numerator_over (pos (least_denominator fs)))
@@ -55,13 +56,13 @@ HasShareEach d = IfSome d.shares (λ x. length x.shares ≡ (game_of (descriptio
 
 shares_each : (game tree : Data) → has_shares_for (players game) tree ≡ true → length (shares_of game tree).shares ≡ (game_of (description_of game)).players
 shares_each game tree h =
-    length_as_worth (is_cost (description_of game)) (written_shares tree) ∙ length-map (parts_at (codes "shares") tree) fraction_or_zero ∙ eqb-true _ _ h
-    ∙ sym (players_described game (class_of game) refl)
+    length_as_worth (is_cost (description_of game)) (scaled_shares (scale_of game) tree) ∙ length-map (parts_at (codes "shares") tree) (scaled_share (scale_of game)) ∙ eqb-true _ _ h
+    ∙ sym (players_described (scale_of game) game (class_of game) refl)
 
 -- ---- the test of the number of shares passed
 
 enough_shares : (game tree : Data) (rest : Option Refusal) → IsPassed (proposal_refusal game tree rest) → has_shares_for (players game) tree ≡ true
-enough_shares game tree rest h = (behind (has_shares_for (players game) tree) Proposal (unless (keep_limits (written_shares tree)) TooFine rest) h).0
+enough_shares game tree rest h = (behind (has_shares_for (players game) tree) Proposal (unless (keep_limits (scaled_shares (scale_of game) tree)) TooFine rest) h).0
 
 abbrev described : (command : Command) (tree : Data) (d : Document) → IsTreeReading command tree d → description_in d.game ≡ description_of (game_tree tree)
 described command tree d m = ap (λ c. c.game) m.says
@@ -111,7 +112,7 @@ has_its_players Core tree d m = no_certificate d (ap (λ c. c.certificate) m.say
 has_its_players Check tree d m =
     let certificate : d.certificate ≡ certificate_for Check (game_tree tree) tree = ap (λ c. c.certificate) m.says in
     subst (λ o. IfSome o (λ c. c.players ≡ (game_of (description_in d.game)).players)) (sym certificate)
-    (sym (players_described (game_tree tree) (class_of (game_tree tree)) refl) ∙ ap (λ k. (game_of k).players) (sym (described Check tree d m)))
+    (sym (players_described (scale_of (game_tree tree)) (game_tree tree) (class_of (game_tree tree)) refl) ∙ ap (λ k. (game_of k).players) (sym (described Check tree d m)))
 has_its_players Shapley tree d m = no_certificate d (ap (λ c. c.certificate) m.says)
 has_its_players Bird tree d m = no_certificate d (ap (λ c. c.certificate) m.says)
 has_its_players Convex tree d m = no_certificate d (ap (λ c. c.certificate) m.says)

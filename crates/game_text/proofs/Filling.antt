@@ -11,7 +11,7 @@ use Rattle.serde_json.specs.declared.value.Value.{Value}
 use Rattle.json_trees.specs.Trees.{parts, pair_members}
 use Rattle.game_text.specs.Members.{mask_of, is_mask, are_coalitions}
 use Rattle.game_text.specs.TableClass.{sparse_number}
-use Rattle.json_trees.specs.Integers.{second_integer}
+use Rattle.game_text.specs.ScaledNumbers.{second_number}
 use Rattle.game_text.specs.Slots.{HasNumbers}
 use Rattle.definitions.proofs.Cases.{and_false}
 
@@ -19,9 +19,9 @@ use Rattle.definitions.proofs.Cases.{and_false}
 abbrev pub Slot : Type 0
 Slot = Option ℕ × ℤ
 
-module _ (n : ℕ) (names : List (List ℕ)) where
+module _ (k n : ℕ) (names : List (List ℕ)) where
   abbrev pub slot_of : Data → Slot
-  slot_of pair = (mask_of n names (pair_members pair), second_integer (parts pair))
+  slot_of pair = (mask_of n names (pair_members pair), second_number k (parts pair))
 
   abbrev pub slots : List Value → List Slot
   slots vs = map (λ v. slot_of (view v)) vs
@@ -38,9 +38,9 @@ number_step : (b : Bool) (x y other : ℤ) (o : Option ℤ) → y ≡ unwrap_or 
 number_step true x y other o e = refl
 number_step false x y other o e = e
 
-pub number_found : (n : ℕ) (names : List (List ℕ)) (other : ℤ) (s : ℕ) (vs : List Value) → sparse_number n names other s (map view vs) ≡ unwrap_or (found s (slots n names vs)) other
-number_found n names other s [] = refl
-number_found n names other s (v ∷ vs) = number_step (is_mask s (mask_of n names (pair_members (view v)))) _ _ other _ (number_found n names other s vs)
+pub number_found : (k n : ℕ) (names : List (List ℕ)) (other : ℤ) (s : ℕ) (vs : List Value) → sparse_number k n names other s (map view vs) ≡ unwrap_or (found s (slots k n names vs)) other
+number_found k n names other s [] = refl
+number_found k n names other s (v ∷ vs) = number_step (is_mask s (mask_of n names (pair_members (view v)))) _ _ other _ (number_found k n names other s vs)
 
 -- ---- one more slot
 
@@ -111,53 +111,53 @@ coalitions_front (Some s ∷ os) ps h = front_step (list_any (is_mask s) os) (ar
 -- ---- the loop
 
 -- the table has the numbers of the first i pairs, whose coalitions are good
-pub record IsFilled (n : ℕ) (names : List (List ℕ)) (vs : List Value) (i : ℕ) (table : List (Option ℤ)) : Type 0 where
+pub record IsFilled (k n : ℕ) (names : List (List ℕ)) (vs : List Value) (i : ℕ) (table : List (Option ℤ)) : Type 0 where
   pub size : length table ≡ 2 ^ n
-  pub numbers : (s : ℕ) → s < 2 ^ n → get_or table s None ≡ found s (slots n names (take i vs))
-  pub good : are_coalitions (masks (slots n names (take i vs))) ≡ true
+  pub numbers : (s : ℕ) → s < 2 ^ n → get_or table s None ≡ found s (slots k n names (take i vs))
+  pub good : are_coalitions (masks (slots k n names (take i vs))) ≡ true
 
-module _ (n : ℕ) (names : List (List ℕ)) (vs : List Value) where
-  slots_more : (i : ℕ) (v : Value) → i < length vs → v ≡ get_or vs i v → slots n names (take (i + 1) vs) ≡ slots n names (take i vs) ++ slot_of n names (view v) ∷ []
+module _ (k n : ℕ) (names : List (List ℕ)) (vs : List Value) where
+  slots_more : (i : ℕ) (v : Value) → i < length vs → v ≡ get_or vs i v → slots k n names (take (i + 1) vs) ≡ slots k n names (take i vs) ++ slot_of k n names (view v) ∷ []
   slots_more i v h at =
-      ap (slots n names) (take_more vs i v h) ∙ map-append (λ w. slot_of n names (view w)) (take i vs) (get_or vs i v ∷ [])
-      ∙ ap (λ w. slots n names (take i vs) ++ slot_of n names (view w) ∷ []) (sym at)
+      ap (slots k n names) (take_more vs i v h) ∙ map-append (λ w. slot_of k n names (view w)) (take i vs) (get_or vs i v ∷ [])
+      ∙ ap (λ w. slots k n names (take i vs) ++ slot_of k n names (view w) ∷ []) (sym at)
 
-  masks_more : (i : ℕ) (v : Value) → i < length vs → v ≡ get_or vs i v → masks (slots n names (take (i + 1) vs)) ≡ masks (slots n names (take i vs)) ++ mask_of n names (pair_members (view v)) ∷ []
-  masks_more i v h at = ap masks (slots_more i v h at) ∙ map-append (λ p. p.0) (slots n names (take i vs)) (slot_of n names (view v) ∷ [])
+  masks_more : (i : ℕ) (v : Value) → i < length vs → v ≡ get_or vs i v → masks (slots k n names (take (i + 1) vs)) ≡ masks (slots k n names (take i vs)) ++ mask_of n names (pair_members (view v)) ∷ []
+  masks_more i v h at = ap masks (slots_more i v h at) ∙ map-append (λ p. p.0) (slots k n names (take i vs)) (slot_of k n names (view v) ∷ [])
 
-  pub IsFilled-start : (table : List (Option ℤ)) → length table ≡ 2 ^ n → ((s : ℕ) → s < 2 ^ n → get_or table s None ≡ None) → IsFilled n names vs 0 table
+  pub IsFilled-start : (table : List (Option ℤ)) → length table ≡ 2 ^ n → ((s : ℕ) → s < 2 ^ n → get_or table s None ≡ None) → IsFilled k n names vs 0 table
   IsFilled-start table size none = record { size = size; numbers = none; good = refl }
 
-  module _ (i : ℕ) (v : Value) (h : i < length vs) (at : v ≡ get_or vs i v) (table : List (Option ℤ)) (filled : IsFilled n names vs i table) where
-    spoilt : fresh (masks (slots n names (take i vs))) (mask_of n names (pair_members (view v))) ≡ false → are_coalitions (masks (slots n names vs)) ≡ false
+  module _ (i : ℕ) (v : Value) (h : i < length vs) (at : v ≡ get_or vs i v) (table : List (Option ℤ)) (filled : IsFilled k n names vs i table) where
+    spoilt : fresh (masks (slots k n names (take i vs))) (mask_of n names (pair_members (view v))) ≡ false → are_coalitions (masks (slots k n names vs)) ≡ false
     spoilt bad =
-        let front : are_coalitions (masks (slots n names (take (i + 1) vs))) ≡ false =
-        ap are_coalitions (masks_more i v h at) ∙ coalitions_more (masks (slots n names (take i vs))) (mask_of n names (pair_members (view v))) ∙ ap₂ (λ a b. a && b) filled.good bad in
-        let whole : slots n names vs ≡ slots n names (take (i + 1) vs) ++ slots n names (drop (i + 1) vs) =
-        ap (slots n names) (sym (take-append-drop (i + 1) vs)) ∙ map-append (λ w. slot_of n names (view w)) (take (i + 1) vs) (drop (i + 1) vs) in
-        ap are_coalitions (ap masks whole ∙ map-append (λ p. p.0) (slots n names (take (i + 1) vs)) (slots n names (drop (i + 1) vs)))
-        ∙ coalitions_front (masks (slots n names (take (i + 1) vs))) (masks (slots n names (drop (i + 1) vs))) front
+        let front : are_coalitions (masks (slots k n names (take (i + 1) vs))) ≡ false =
+        ap are_coalitions (masks_more i v h at) ∙ coalitions_more (masks (slots k n names (take i vs))) (mask_of n names (pair_members (view v))) ∙ ap₂ (λ a b. a && b) filled.good bad in
+        let whole : slots k n names vs ≡ slots k n names (take (i + 1) vs) ++ slots k n names (drop (i + 1) vs) =
+        ap (slots k n names) (sym (take-append-drop (i + 1) vs)) ∙ map-append (λ w. slot_of k n names (view w)) (take (i + 1) vs) (drop (i + 1) vs) in
+        ap are_coalitions (ap masks whole ∙ map-append (λ p. p.0) (slots k n names (take (i + 1) vs)) (slots k n names (drop (i + 1) vs)))
+        ∙ coalitions_front (masks (slots k n names (take (i + 1) vs))) (masks (slots k n names (drop (i + 1) vs))) front
 
-    pub no_mask : None ≡ mask_of n names (pair_members (view v)) → are_coalitions (masks (slots n names vs)) ≡ false
-    no_mask e = spoilt (ap (fresh (masks (slots n names (take i vs)))) (sym e))
+    pub no_mask : None ≡ mask_of n names (pair_members (view v)) → are_coalitions (masks (slots k n names vs)) ≡ false
+    no_mask e = spoilt (ap (fresh (masks (slots k n names (take i vs)))) (sym e))
 
-    any_at : (m : ℕ) → m < 2 ^ n → list_any (is_mask m) (masks (slots n names (take i vs))) ≡ is_some (get_or table m None)
-    any_at m within = any_found m (slots n names (take i vs)) ∙ ap is_some (sym (filled.numbers m within))
+    any_at : (m : ℕ) → m < 2 ^ n → list_any (is_mask m) (masks (slots k n names (take i vs))) ≡ is_some (get_or table m None)
+    any_at m within = any_found m (slots k n names (take i vs)) ∙ ap is_some (sym (filled.numbers m within))
 
-    pub taken : (m : ℕ) → Some m ≡ mask_of n names (pair_members (view v)) → m < 2 ^ n → is_some (get_or table m None) ≡ true → are_coalitions (masks (slots n names vs)) ≡ false
-    taken m e within there = spoilt (ap (fresh (masks (slots n names (take i vs)))) (sym e) ∙ ap not (any_at m within ∙ there))
+    pub taken : (m : ℕ) → Some m ≡ mask_of n names (pair_members (view v)) → m < 2 ^ n → is_some (get_or table m None) ≡ true → are_coalitions (masks (slots k n names vs)) ≡ false
+    taken m e within there = spoilt (ap (fresh (masks (slots k n names (take i vs)))) (sym e) ∙ ap not (any_at m within ∙ there))
 
-    pub IsFilled-more : (m : ℕ) → Some m ≡ mask_of n names (pair_members (view v)) → m < 2 ^ n → is_some (get_or table m None) ≡ false → IsFilled n names vs (i + 1) (set table m (Some (second_integer (parts (view v)))))
+    pub IsFilled-more : (m : ℕ) → Some m ≡ mask_of n names (pair_members (view v)) → m < 2 ^ n → is_some (get_or table m None) ≡ false → IsFilled k n names vs (i + 1) (set table m (Some (second_number k (parts (view v)))))
     IsFilled-more m e within free =
-        let ps = slots n names (take i vs) in
-        let w = second_integer (parts (view v)) in
+        let ps = slots k n names (take i vs) in
+        let w = second_number k (parts (view v)) in
         let none : get_or table m None ≡ None = none_from (get_or table m None) free in
-        let more = λ (s : ℕ). ap (found s) (slots_more i v h at) ∙ found_more s ps (slot_of n names (view v)) in
+        let more = λ (s : ℕ). ap (found s) (slots_more i v h at) ∙ found_more s ps (slot_of k n names (view v)) in
         record {
           size = length-set table m (Some w) ∙ filled.size;
           numbers = λ s below. elim (cases_eq s m) [
             | inl same ↦
-                subst (λ k. get_or (set table m (Some w)) k None ≡ found k (slots n names (take (i + 1) vs))) (sym same)
+                subst (λ t. get_or (set table m (Some w)) t None ≡ found t (slots k n names (take (i + 1) vs))) (sym same)
                 (get_or-set_same table m (Some w) None (omega (arith, filled.size))
                 ∙ sym (more m ∙ ap₂ (λ a b. first_of_two a (if b then Some w else None)) (sym (filled.numbers m within) ∙ none) (ap (is_mask m) (sym e) ∙ eq-eqb m m refl)))
             | inr other ↦
@@ -176,11 +176,11 @@ module _ (n : ℕ) (names : List (List ℕ)) (vs : List Value) where
         keeps None = refl
         keeps (Some z) = refl
 
-  pub IsFilled-over : (i : ℕ) (table : List (Option ℤ)) → length vs ≤ i → IsFilled n names vs i table
-      → (are_coalitions (masks (slots n names vs)) ≡ true) × ((s : ℕ) → s < 2 ^ n → get_or table s None ≡ found s (slots n names vs))
+  pub IsFilled-over : (i : ℕ) (table : List (Option ℤ)) → length vs ≤ i → IsFilled k n names vs i table
+      → (are_coalitions (masks (slots k n names vs)) ≡ true) × ((s : ℕ) → s < 2 ^ n → get_or table s None ≡ found s (slots k n names vs))
   IsFilled-over i table h filled =
       let all = take_all i vs h in
-      (ap (λ l. are_coalitions (masks (slots n names l))) (sym all) ∙ filled.good, λ s below. filled.numbers s below ∙ ap (λ l. found s (slots n names l)) all)
+      (ap (λ l. are_coalitions (masks (slots k n names l))) (sym all) ∙ filled.good, λ s below. filled.numbers s below ∙ ap (λ l. found s (slots k n names l)) all)
 
 -- ---- from slots to numbers
 
@@ -206,9 +206,9 @@ numbers_are f other (o ∷ table) m size h =
     flip : (s : ℕ) → suc s ≡ 1 + s
     flip s = omega arith
 
-pub masks_are : (n : ℕ) (names : List (List ℕ)) (vs : List Value) → masks (slots n names vs) ≡ map (λ pair. mask_of n names (pair_members pair)) (map view vs)
-masks_are n names [] = refl
-masks_are n names (v ∷ vs) = ap (λ l. mask_of n names (pair_members (view v)) ∷ l) (masks_are n names vs)
+pub masks_are : (k n : ℕ) (names : List (List ℕ)) (vs : List Value) → masks (slots k n names vs) ≡ map (λ pair. mask_of n names (pair_members pair)) (map view vs)
+masks_are k n names [] = refl
+masks_are k n names (v ∷ vs) = ap (λ l. mask_of n names (pair_members (view v)) ∷ l) (masks_are k n names vs)
 
 pub pow_some : (n : ℕ) → 0 < 2 ^ n
 pow_some zero = omega arith
@@ -217,14 +217,14 @@ pow_some (suc n) = omega (arith, pow_some n)
 pub whole_tail : (xs : List (Option ℤ)) → take (length xs - 1) (drop 1 xs) ≡ drop 1 xs
 whole_tail xs = take_all (length xs - 1) (drop 1 xs) (omega (arith, length-drop 1 xs))
 
-pub HasNumbers-over : (n : ℕ) (names : List (List ℕ)) (vs : List Value) (i : ℕ) (table : List (Option ℤ)) → length vs ≤ i → IsFilled n names vs i table → HasNumbers n names (map view vs) table
-HasNumbers-over n names vs i table h filled =
-    let all = IsFilled-over n names vs i table h filled in
+pub HasNumbers-over : (k n : ℕ) (names : List (List ℕ)) (vs : List Value) (i : ℕ) (table : List (Option ℤ)) → length vs ≤ i → IsFilled k n names vs i table → HasNumbers k n names (map view vs) table
+HasNumbers-over k n names vs i table h filled =
+    let all = IsFilled-over k n names vs i table h filled in
     let some = pow_some n in
     let size : length table ≡ 2 ^ n - 1 + 1 = omega (arith, filled.size) in
     record {
-      good = ap are_coalitions (sym (masks_are n names vs)) ∙ all.0;
+      good = ap are_coalitions (sym (masks_are k n names vs)) ∙ all.0;
       size = filled.size;
-      numbers = λ other. numbers_are (λ s. sparse_number n names other s (map view vs)) other table (2 ^ n - 1) size
-          (λ s below. ap (λ o. unwrap_or o other) (all.1 s (omega arith)) ∙ sym (number_found n names other s vs));
+      numbers = λ other. numbers_are (λ s. sparse_number k n names other s (map view vs)) other table (2 ^ n - 1) size
+          (λ s below. ap (λ o. unwrap_or o other) (all.1 s (omega arith)) ∙ sym (number_found k n names other s vs));
     }

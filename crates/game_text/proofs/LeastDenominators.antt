@@ -1,23 +1,31 @@
 -- The least common denominator of fractions in lowest terms is the least common multiple of their denominators.
-use Rattle.std.proofs.Common.{◌≡◌, ℕ, suc, ◌<◌, ◌≤◌, ◌^◌, List, [], ◌∷◌, length, map, get_or, Bool, true, false, nat_le, if◌then◌else◌, pos, unsigned_abs, All, Some, None, codes, refl, sym, ap, ◌∙◌, subst, arith}
+use Rattle.std.proofs.Common.{◌≡◌, ℕ, zero, suc, ◌+◌, ◌*◌, ◌/◌, ◌*ℤ◌, int_div, ◌≤ℤ◌, ℤ, FitsSigned, slice_index_or, ◌<◌, ◌≤◌, ◌^◌, List, [], ◌∷◌, length, map, get_or, Bool, true, false, nat_le, if◌then◌else◌, pos, unsigned_abs, All, Some, None, codes, refl, sym, ap, ◌∙◌, subst, arith}
 use Rattle.std.specs.List.{list_all}
 use Prim.Native.Nat.{◌∣◌}
 use native.Mathlib.Nat.{one-dvd, dvd-mul_right_of_dvd}
 use Rattle.std.proofs.lemmas.Bool.{false≢true, and_parts, and_from, ltb-true, leb-true, le-leb, lt-ltb}
-use Rattle.std.proofs.lemmas.Int.{ints}
+use Rattle.std.proofs.lemmas.Int.{ints, unsigned_abs-mul, fits_signed_from_abs}
 use Rattle.std.proofs.lemmas.List.{length-map, get_or-map}
-use Rattle.std.proofs.lemmas.List.Elements.{All-cons, All-nil}
+use Rattle.std.proofs.lemmas.List.Elements.{All-map, All-cons, All-nil}
 use Rattle.std.proofs.lemmas.List.Sums.{AllPass-from_list_all, list_all-from_AllPass}
 use Rattle.definitions.specs.Games.{Allocation, IsShares}
 use Rattle.fractions.specs.Fraction.{Fraction, IsReduced}
 use Rattle.worth_core.specs.LeastDenominators.{IsWholeTimes, IsLeastDenominator, AreTooFine, numerator_over, over}
 use Rattle.worth_core.specs.Multiples.{IsLeastMultiple}
 use Rattle.worth_core.proofs.LeastMultiples.{least_multiple, denominator_divides, one_denominator, all_multiple}
-use Rattle.game_text.specs.Denominators.{lcm, least_denominator, over_least, keep_limits}
-use Rattle.game_text.specs.Shares.{has_small_numerator, written_shares, IsDenominatorOf}
+use Rattle.game_text.specs.CommonMultiples.{lcm, least_denominator}
+use Rattle.game_text.specs.Denominators.{over_least, keep_limits}
+use Rattle.game_text.specs.Shares.{has_small_numerator, scaled_share, scaled_shares, IsDenominatorOf}
 use Rattle.serde_json.specs.Data.{Data}
 use Rattle.json_trees.specs.Trees.{parts_at}
-use Rattle.json_trees.proofs.Fractions.{written_reduced}
+use Rattle.json_trees.specs.Fractions.{fraction_or_zero}
+use Rattle.json_trees.proofs.Fractions.{written_or_zero}
+use Rattle.json_trees.proofs.LowestTerms.{times_ratio}
+use Rattle.serde_json.specs.Find.{as_str}
+use Rattle.definitions.proofs.Cancel.{quot_exact}
+use Rattle.fractions.proofs.Divisors.{times_quotient}
+use Rattle.fractions.proofs.Ratios.{apart}
+use mir.Syntax.{w128}
 
 -- ---- the least common denominator
 
@@ -53,11 +61,15 @@ least_is (f ∷ fs) r =
 pub least_denominator_is : (fs : List Fraction) → All IsReduced fs → IsLeastDenominator fs (pos (least_denominator fs))
 least_denominator_is fs r = let h = least_is fs r in let p = h.positive in record { positive = omega (arith, ints); common = h.common; least = h.least }
 
-pub denominator_of : (tree : Data) → IsDenominatorOf tree (least_denominator (written_shares tree))
-denominator_of tree = least_denominator_is (written_shares tree) (written_reduced (parts_at (codes "shares") tree))
+pub shares_reduced : (k : ℕ) (ds : List Data) → All IsReduced (map (scaled_share k) ds)
+shares_reduced k ds =
+    All-map IsReduced (scaled_share k) ds (λ i d l. let x = slice_index_or ds i d in (times_ratio k (fraction_or_zero x) (written_or_zero x (as_str x)).positive).reduced)
 
-pub one_denominator_of : (tree : Data) (d : ℕ) → IsDenominatorOf tree d → d ≡ least_denominator (written_shares tree)
-one_denominator_of tree d h = ap unsigned_abs (one_denominator (written_shares tree) (pos d) (pos (least_denominator (written_shares tree))) h (denominator_of tree))
+pub denominator_of : (k : ℕ) (tree : Data) → IsDenominatorOf k tree (least_denominator (scaled_shares k tree))
+denominator_of k tree = least_denominator_is (scaled_shares k tree) (shares_reduced k (parts_at (codes "shares") tree))
+
+pub one_denominator_of : (k : ℕ) (tree : Data) (d : ℕ) → IsDenominatorOf k tree d → d ≡ least_denominator (scaled_shares k tree)
+one_denominator_of k tree d h = ap unsigned_abs (one_denominator (scaled_shares k tree) (pos d) (pos (least_denominator (scaled_shares k tree))) h (denominator_of k tree))
 
 -- ---- shares over it, or too fine
 
@@ -107,3 +119,45 @@ shares_over fs x r d e s =
 pub too_fine : (fs : List Fraction) → All IsReduced fs → 1 ≤ length fs → length fs ≤ 64 → AreTooFine fs → None ≡ (if keep_limits fs then Some (over_least fs) else None)
 too_fine fs r some few h =
     if_false (keep_limits fs) (Some (over_least fs)) None (λ e. h (pos (least_denominator fs)) (least_denominator_is fs r) (to_shares fs some few (least_is fs r).positive e))
+
+-- ---- numbers that are too large for 128 bits break the limits
+
+small_factor : (a c n : ℕ) → 0 < c → a * c < n → a < n
+small_factor a zero n p h = absurd (omega (arith, p))
+small_factor a (suc c) n p h = let e = more a c in omega (arith, h, e)
+  where
+    more : (a c : ℕ) → a * suc c ≡ a * c + a
+    more a c = omega arith
+
+-- over the least common denominator a numerator is no smaller
+small_numerator : (fs : List Fraction) (f : Fraction) (c : ℕ) → pos 1 ≤ℤ f.den → 0 < c → pos (least_denominator fs) ≡ f.den *ℤ pos c → has_small_numerator (least_denominator fs) f ≡ true → unsigned_abs f.num < 2 ^ 110
+small_numerator fs f c p q e h =
+    let whole : int_div (pos (least_denominator fs)) f.den ≡ pos c = quot_exact (pos (least_denominator fs)) f.den (pos c) e (apart f.den p) in
+    let small : unsigned_abs (f.num *ℤ pos c) < 2 ^ 110 = subst (λ (z : ℤ). unsigned_abs (f.num *ℤ z) < 2 ^ 110) whole (ltb-true _ _ h) in
+    small_factor (unsigned_abs f.num) c (2 ^ 110) q (subst (λ (n : ℕ). n < 2 ^ 110) (unsigned_abs-mul f.num (pos c)) small)
+
+not_true : (b : Bool) → (b ≡ true → ⊥) → b ≡ false
+not_true true h = absurd (h refl)
+not_true false h = refl
+
+pub kept_fit : (fs : List Fraction) (i : ℕ) (f : Fraction) → All IsReduced fs → i < length fs → f ≡ get_or fs i f → keep_limits fs ≡ true → FitsSigned w128 f.num
+kept_fit fs i f r lt at h =
+    let least = least_is fs r in
+    let reduced : IsReduced f = subst IsReduced (sym at) (r i f lt) in
+    let divides : unsigned_abs f.den ∣ least_denominator fs = denominator_divides f (least_denominator fs) reduced (subst (IsWholeTimes (least_denominator fs)) (sym at) (least.common i f lt)) in
+    let small = (and_parts (nat_le (least_denominator fs) (2 ^ 63)) (list_all (has_small_numerator (least_denominator fs)) fs) h).1 in
+    let here : has_small_numerator (least_denominator fs) f ≡ true = subst (λ (g : Fraction). has_small_numerator (least_denominator fs) g ≡ true) (sym at) (AllPass-from_list_all (has_small_numerator (least_denominator fs)) fs small i f lt) in
+    let by = factor_of (unsigned_abs f.den) (least_denominator fs) divides least.positive in
+    let size : f.den ≡ pos (unsigned_abs f.den) = let p = reduced.positive in omega (arith, ints) in
+    let whole : pos (least_denominator fs) ≡ f.den *ℤ pos by.0 = ap pos by.2 ∙ ap (λ (z : ℤ). z *ℤ pos by.0) (sym size) in
+    fits_signed_from_abs w128 f.num (omega (arith, small_numerator fs f by.0 reduced.positive by.1 whole here))
+  where
+    above : (a c n : ℕ) → a * c ≡ n → 0 < n → 0 < c
+    above a zero n e p = absurd (omega (arith, e, p))
+    above a (suc c) n e p = omega arith
+
+    factor_of : (a n : ℕ) → a ∣ n → 0 < n → (c : ℕ) × (0 < c) × (n ≡ a * c)
+    factor_of a n d p = let e = times_quotient n a d in (n / a, above a (n / a) n e p, sym e)
+
+pub not_kept : (fs : List Fraction) (i : ℕ) (f : Fraction) → All IsReduced fs → i < length fs → f ≡ get_or fs i f → ¬ FitsSigned w128 f.num → keep_limits fs ≡ false
+not_kept fs i f r lt at h = not_true (keep_limits fs) (λ e. h (kept_fit fs i f r lt at e))

@@ -1,22 +1,24 @@
 -- The rows of a market in a document, and what the tests of them say.
-use Rattle.std.proofs.Common.{◌≡◌, ℤ, List, length, codes, true, nat_lt, nat_le, Some, subst, arith}
+use Rattle.std.proofs.Common.{◌≡◌, ℕ, ℤ, List, length, codes, true, nat_lt, nat_le, Some, subst, arith}
 use Rattle.std.proofs.lemmas.Bool.{and_parts, ltb-true, leb-true}
 use Rattle.serde_json.specs.Data.{Data}
 use Rattle.matrices.specs.Rows.{HaveEntries}
 use Rattle.big_assignment.specs.Markets.{HavePlayers}
 use Rattle.json_trees.specs.Trees.{parts_at}
 use Rattle.game_text.specs.Shape.{class_of}
-use Rattle.game_text.specs.Limits.{has_players_as, has_numbers_as}
+use Rattle.game_text.specs.Limits.{has_players_as}
+use Rattle.game_text.specs.Scales.{scale_of}
 use Rattle.game_text.specs.Sizes.{is_short_list_size}
 use Rattle.game_text.specs.MatrixClass.{rows_of}
 use Rattle.game_text.specs.AssignmentClass.{sellers_at}
 use Rattle.game_text.specs.MarketClass.{has_market_players}
 use Rattle.game_text.specs.Readings.{HasSizes}
 use Rattle.game_text.specs.declared.class.Class.TheVariants.{Market}
+use Rattle.game_text.proofs.Sizes.{numbers_within}
 use Rattle.game_text.proofs.MatrixRows.{row_count, seller_count_of, entries_in}
 
-sides_in : (game : Data) → has_market_players game ≡ true → HavePlayers (rows_of game)
-sides_in game h =
+sides_in : (k : ℕ) (game : Data) → has_market_players game ≡ true → HavePlayers (rows_of k game)
+sides_in k game h =
     let n = length (parts_at (codes "matrix") game) in
     let m = sellers_at game in
     let sides = and_parts (is_short_list_size n) (is_short_list_size m) h in
@@ -26,8 +28,8 @@ sides_in game h =
     let few_buyers = leb-true n 32 buyers.1 in
     let some_sellers = ltb-true 0 m sellers.0 in
     let few_sellers = leb-true m 32 sellers.1 in
-    let rows = row_count game in
-    let first = seller_count_of game in
+    let rows = row_count k game in
+    let first = seller_count_of k game in
     (omega (arith, some_buyers, rows), omega (arith, few_buyers, rows), omega (arith, some_sellers, first), omega (arith, few_sellers, first))
 
 -- the rows have as many players and such entries as a market wants
@@ -35,9 +37,9 @@ pub record HasMarketSizes (rows : List (List ℤ)) : Type 0 where
   pub players : HavePlayers rows
   pub entries : HaveEntries rows
 
-pub market_sizes : (game : Data) → class_of game ≡ Some Market → HasSizes game → HasMarketSizes (rows_of game)
-market_sizes game e h =
+pub market_sizes : (k : ℕ) (game : Data) → k ≡ scale_of game → class_of game ≡ Some Market → HasSizes game → HasMarketSizes (rows_of k game)
+market_sizes k game s e h =
     record {
-      players = sides_in game (subst (λ c. has_players_as c game ≡ true) e h.players);
-      entries = entries_in game (subst (λ c. has_numbers_as c game ≡ true) e h.numbers);
+      players = sides_in k game (subst (λ c. has_players_as c game ≡ true) e h.players);
+      entries = entries_in k game (numbers_within game k Market s e h.numbers);
     }

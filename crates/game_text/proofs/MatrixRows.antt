@@ -13,57 +13,58 @@ use Rattle.matrices.specs.Rows.{entries_of, HaveEntries, HaveLength}
 use Rattle.tree_games.specs.Trees.{HavePoints, AreLinks, IsTree}
 use Rattle.tree_games.proofs.Squares.{square-symmetric, square-loopless}
 use Rattle.assignment_games.specs.Assignments.{seller_count, HavePlayers, IsEven}
-use Rattle.json_trees.specs.Integers.{integer_or_zero, integers_of}
+use Rattle.game_text.specs.Scales.{scale_of}
+use Rattle.game_text.specs.ScaledNumbers.{number_or_zero, numbers_of}
 use Rattle.json_trees.specs.Trees.{parts, parts_at, first_parts, is_array_of}
 use Rattle.game_text.specs.Sizes.{is_cost}
 use Rattle.game_text.specs.Shape.{class_of}
-use Rattle.game_text.specs.Limits.{has_players_as, has_numbers_as}
+use Rattle.game_text.specs.Limits.{has_players_as}
 use Rattle.game_text.specs.MatrixClass.{rows_of, have_length, has_matrix_numbers}
 use Rattle.game_text.specs.TreeClass.{is_turned, is_linked, are_links, has_tree_players}
 use Rattle.game_text.specs.AssignmentClass.{sellers_at, assignment_players, has_assignment_players, are_even}
 use Rattle.game_text.specs.Readings.{HasSizes}
 use Rattle.game_text.specs.declared.class.Class.TheVariants.{Tree, Assignment}
-use Rattle.game_text.proofs.Sizes.{all_map, cost}
+use Rattle.game_text.proofs.Sizes.{all_map, cost, numbers_within}
 
 -- ---- how many rows there are, and how long the first is
 
-pub row_count : (game : Data) → length (rows_of game) ≡ length (parts_at (codes "matrix") game)
-row_count game = length-map (parts_at (codes "matrix") game) integers_of
+pub row_count : (k : ℕ) (game : Data) → length (rows_of k game) ≡ length (parts_at (codes "matrix") game)
+row_count k game = length-map (parts_at (codes "matrix") game) (numbers_of k)
 
-first_length : (ds : List Data) → seller_count (map integers_of ds) ≡ length (first_parts ds)
-first_length [] = refl
-first_length (d ∷ ds) = length-map (parts d) integer_or_zero
+first_length : (k : ℕ) (ds : List Data) → seller_count (map (numbers_of k) ds) ≡ length (first_parts ds)
+first_length k [] = refl
+first_length k (d ∷ ds) = length-map (parts d) (number_or_zero k)
 
-pub seller_count_of : (game : Data) → seller_count (rows_of game) ≡ sellers_at game
-seller_count_of game = first_length (parts_at (codes "matrix") game)
+pub seller_count_of : (k : ℕ) (game : Data) → seller_count (rows_of k game) ≡ sellers_at game
+seller_count_of k game = first_length k (parts_at (codes "matrix") game)
 
 -- ---- entries
 
-row_entries : (d : Data) → is_array_of is_cost d ≡ true → All IsCost (integers_of d)
-row_entries d h = all_map IsCost integer_or_zero is_cost cost (parts d) (and_parts (is_some (as_array d)) (list_all is_cost (parts d)) h).1
+row_entries : (k : ℕ) (d : Data) → is_array_of (is_cost k) d ≡ true → All IsCost (numbers_of k d)
+row_entries k d h = all_map IsCost (number_or_zero k) (is_cost k) (cost k) (parts d) (and_parts (is_some (as_array d)) (list_all (is_cost k) (parts d)) h).1
 
-pub entries_in : (game : Data) → has_matrix_numbers game ≡ true → HaveEntries (rows_of game)
-entries_in game h = all_map (All IsCost) integers_of (is_array_of is_cost) row_entries (parts_at (codes "matrix") game) h
+pub entries_in : (k : ℕ) (game : Data) → has_matrix_numbers k game ≡ true → HaveEntries (rows_of k game)
+entries_in k game h = all_map (All IsCost) (numbers_of k) (is_array_of (is_cost k)) (row_entries k) (parts_at (codes "matrix") game) h
 
-pub points_in : (game : Data) → has_tree_players game ≡ true → HavePoints (rows_of game)
-points_in game h =
+pub points_in : (k : ℕ) (game : Data) → has_tree_players game ≡ true → HavePoints (rows_of k game)
+points_in k game h =
     let n = length (parts_at (codes "matrix") game) in
     let both = and_parts (nat_le 2 n) (nat_le n 17) h in
     let some = leb-true 2 n both.0 in
     let few = leb-true n 17 both.1 in
-    let same = row_count game in
+    let same = row_count k game in
     (omega (arith, some, same), omega (arith, few, same))
 
-pub players_in : (game : Data) → has_assignment_players game ≡ true → HavePlayers (rows_of game)
-players_in game h =
+pub players_in : (k : ℕ) (game : Data) → has_assignment_players game ≡ true → HavePlayers (rows_of k game)
+players_in k game h =
     let n = length (parts_at (codes "matrix") game) in
     let front = and_parts (nat_le 1 n && nat_le 1 (sellers_at game)) (nat_le (assignment_players game) 16) h in
     let both = and_parts (nat_le 1 n) (nat_le 1 (sellers_at game)) front.0 in
     let buyers = leb-true 1 n both.0 in
     let sellers = leb-true 1 (sellers_at game) both.1 in
     let few = leb-true (assignment_players game) 16 front.1 in
-    let rows = row_count game in
-    let first = seller_count_of game in
+    let rows = row_count k game in
+    let first = seller_count_of k game in
     (omega (arith, buyers, rows), omega (arith, sellers, first), omega (arith, few, rows, first))
 
 -- the rows have as many points and such entries as a tree game wants
@@ -71,11 +72,11 @@ pub record HasTreeSizes (rows : List (List ℤ)) : Type 0 where
   pub points : HavePoints rows
   pub entries : HaveEntries rows
 
-pub tree_sizes : (game : Data) → class_of game ≡ Some Tree → HasSizes game → HasTreeSizes (rows_of game)
-tree_sizes game e h =
+pub tree_sizes : (k : ℕ) (game : Data) → k ≡ scale_of game → class_of game ≡ Some Tree → HasSizes game → HasTreeSizes (rows_of k game)
+tree_sizes k game s e h =
     record {
-      points = points_in game (subst (λ c. has_players_as c game ≡ true) e h.players);
-      entries = entries_in game (subst (λ c. has_numbers_as c game ≡ true) e h.numbers);
+      points = points_in k game (subst (λ c. has_players_as c game ≡ true) e h.players);
+      entries = entries_in k game (numbers_within game k Tree s e h.numbers);
     }
 
 -- the rows have as many players and such entries as an assignment game wants
@@ -83,11 +84,11 @@ pub record HasAssignmentSizes (rows : List (List ℤ)) : Type 0 where
   pub players : HavePlayers rows
   pub entries : HaveEntries rows
 
-pub assignment_sizes : (game : Data) → class_of game ≡ Some Assignment → HasSizes game → HasAssignmentSizes (rows_of game)
-assignment_sizes game e h =
+pub assignment_sizes : (k : ℕ) (game : Data) → k ≡ scale_of game → class_of game ≡ Some Assignment → HasSizes game → HasAssignmentSizes (rows_of k game)
+assignment_sizes k game s e h =
     record {
-      players = players_in game (subst (λ c. has_players_as c game ≡ true) e h.players);
-      entries = entries_in game (subst (λ c. has_numbers_as c game ≡ true) e h.numbers);
+      players = players_in k game (subst (λ c. has_players_as c game ≡ true) e h.players);
+      entries = entries_in k game (numbers_within game k Assignment s e h.numbers);
     }
 
 -- ---- tests of all numbers below a bound

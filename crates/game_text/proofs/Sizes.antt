@@ -14,16 +14,20 @@ use Rattle.std.specs.Prelude.{sum}
 use Rattle.bankruptcy.specs.Bankruptcy.{Bankruptcy as Claims, bankruptcy}
 use Rattle.worth_tables.specs.Tables.{table, IsTable, AreSmall}
 use Rattle.game_text.proofs.Filling.{pow_some}
-use Rattle.json_trees.specs.Trees.{parts, parts_at, passes, passes_if_there, is_number, is_array_of, integer, second_passes, pair_members}
+use Rattle.json_trees.specs.Trees.{parts, parts_at, passes, passes_if_there, is_numeric, is_array_of, integer, pair_members}
 use Rattle.game_text.specs.Shape.{class_of, is_shaped_as}
-use Rattle.game_text.specs.TableClass.{is_sparse_pair, is_table_shaped, lists_worths, lists_coalitions, table_players, players_at, has_items, has_worths_for, has_worth, has_table_numbers, is_small, is_worth, masks_by, sparse_number, sparse_numbers, numbers_by}
-use Rattle.game_text.specs.Limits.{has_players_as, players_as, players, has_numbers_as}
+use Rattle.game_text.specs.TableClass.{is_sparse_pair, is_table_shaped, lists_worths, lists_coalitions, table_players, players_at, has_items, has_worths_for, masks_by, sparse_number, sparse_numbers, numbers_by}
+use Rattle.game_text.specs.Limits.{has_players_as, players_as, players, has_numbers_as, has_numbers}
+use Rattle.game_text.specs.Scales.{scale_of}
+use Rattle.game_text.specs.ScaledNumbers.{is_small, if_small, small_number, number_or_zero, number_at, numbers_at, second_number}
+use Rattle.game_text.specs.Version.{has_texts}
+use Rattle.json_trees.specs.Fractions.{fraction_of}
+use Rattle.worth_core.specs.LeastDenominators.{numerator_over}
 use Rattle.game_text.specs.Sizes.{is_small_cost, if_integer, is_cost}
 use Rattle.game_text.specs.Names.{names_of}
 use Rattle.game_text.proofs.Choices.{passed_if}
 use Rattle.game_text.specs.Members.{is_mask, mask_of, are_coalitions}
 use Rattle.game_text.specs.Descriptions.{table_numbers}
-use Rattle.json_trees.specs.Integers.{integer_or_zero, integer_at, integers_at, second_integer}
 use Rattle.game_text.specs.Readings.{HasSizes, IsTableClass}
 use Rattle.game_text.specs.declared.class.Class.{Class}
 use Rattle.game_text.specs.declared.class.Class.TheVariants.{Table, CostTable, Airport, Bankruptcy, Tree, Assignment, Market, Voting}
@@ -39,67 +43,62 @@ Small z = unsigned_abs z < 2 ^ 40
 small_zero : Small (pos 0)
 small_zero = omega arith
 
-small_or_zero : (o : Option ℤ) → if_integer is_small o ≡ true → Small (unwrap_or o (pos 0))
-small_or_zero None h = absurd (false≢true h)
-small_or_zero (Some z) h = ltb-true _ _ h
+small_kept : (o : Option ℤ) → Small (unwrap_or (if_small o) (pos 0))
+small_kept None = small_zero
+small_kept (Some z) = kept (is_small z) refl
+  where
+    kept : (b : Bool) → is_small z ≡ b → Small (unwrap_or (if b then Some z else None) (pos 0))
+    kept true e = ltb-true _ _ e
+    kept false e = small_zero
 
-small_worth : (d : Data) → is_worth d ≡ true → Small (integer_or_zero d)
-small_worth d h = small_or_zero (integer d) h
+small_worth : (k : ℕ) (d : Data) → Small (number_or_zero k d)
+small_worth k d = small_kept (option_map (numerator_over (pos k)) (fraction_of d))
 
-small_default : (o : Option Data) → passes_if_there is_worth o ≡ true → Small (unwrap_or (option_and_then integer o) (pos 0))
-small_default None h = small_zero
-small_default (Some d) h = small_worth d h
+small_default : (k : ℕ) (o : Option Data) → Small (unwrap_or (option_and_then (small_number k) o) (pos 0))
+small_default k None = small_zero
+small_default k (Some d) = small_worth k d
 
-small_second : (ds : List Data) → second_passes is_worth ds ≡ true → Small (second_integer ds)
-small_second [] h = small_zero
-small_second (x ∷ []) h = small_zero
-small_second (x ∷ y ∷ []) h = small_worth y h
-small_second (x ∷ y ∷ z ∷ ds) h = small_zero
+small_second : (k : ℕ) (ds : List Data) → Small (second_number k ds)
+small_second k [] = small_zero
+small_second k (x ∷ []) = small_zero
+small_second k (x ∷ y ∷ []) = small_worth k y
+small_second k (x ∷ y ∷ z ∷ ds) = small_zero
 
 small_choice : (b : Bool) (x y : ℤ) → Small x → Small y → Small (if b then x else y)
 small_choice true x y p q = p
 small_choice false x y p q = q
 
-small_sparse : (n : ℕ) (names : List (List ℕ)) (other : ℤ) (s : ℕ) (pairs : List Data) → Small other → list_all has_worth pairs ≡ true → Small (sparse_number n names other s pairs)
-small_sparse n names other s [] p h = p
-small_sparse n names other s (pair ∷ pairs) p h =
-    let both = and_parts (has_worth pair) (list_all has_worth pairs) h in
-    small_choice (is_mask s (mask_of n names (pair_members pair))) (second_integer (parts pair)) (sparse_number n names other s pairs)
-    (small_second (parts pair) both.0) (small_sparse n names other s pairs p both.1)
+small_sparse : (k n : ℕ) (names : List (List ℕ)) (other : ℤ) (s : ℕ) (pairs : List Data) → Small other → Small (sparse_number k n names other s pairs)
+small_sparse k n names other s [] p = p
+small_sparse k n names other s (pair ∷ pairs) p =
+    small_choice (is_mask s (mask_of n names (pair_members pair))) (second_number k (parts pair)) (sparse_number k n names other s pairs)
+    (small_second k (parts pair)) (small_sparse k n names other s pairs p)
 
-small_numbers : (game : Data) (n : ℕ) (names : List (List ℕ)) (o : Option Data) → has_table_numbers game ≡ true → AreSmall (numbers_by o n names game)
-small_numbers game n names None h =
-    let worths = list_all is_worth (parts_at (codes "worths") game) in
-    let pairs = list_all has_worth (parts_at (codes "sparse") game) in
-    let front = and_parts (worths && pairs) (passes_if_there is_worth (get (codes "default") game)) h in
-    all_map Small integer_or_zero is_worth small_worth (parts_at (codes "worths") game) (and_parts worths pairs front.0).0
-small_numbers game n names (Some d) h =
-    let worths = list_all is_worth (parts_at (codes "worths") game) in
-    let pairs = list_all has_worth (parts_at (codes "sparse") game) in
-    let front = and_parts (worths && pairs) (passes_if_there is_worth (get (codes "default") game)) h in
-    All-map Small (λ s. sparse_number n names (integer_at (codes "default") game) s (parts_at (codes "sparse") game)) (range_with_len 1 (2 ^ n - 1))
-    (λ k d l. small_sparse n names (integer_at (codes "default") game) (slice_index_or (range_with_len 1 (2 ^ n - 1)) k d) (parts_at (codes "sparse") game)
-    (small_default (get (codes "default") game) front.1) (and_parts worths pairs front.0).1)
+small_numbers : (k : ℕ) (game : Data) (n : ℕ) (names : List (List ℕ)) (o : Option Data) → AreSmall (numbers_by k o n names game)
+small_numbers k game n names None = All-map Small (number_or_zero k) (parts_at (codes "worths") game) (λ i d l. small_worth k (slice_index_or (parts_at (codes "worths") game) i d))
+small_numbers k game n names (Some d) =
+    All-map Small (λ s. sparse_number k n names (number_at k (codes "default") game) s (parts_at (codes "sparse") game)) (range_with_len 1 (2 ^ n - 1))
+    (λ i e l. small_sparse k n names (number_at k (codes "default") game) (slice_index_or (range_with_len 1 (2 ^ n - 1)) i e) (parts_at (codes "sparse") game) (small_default k (get (codes "default") game)))
 
 -- ---- as many worths as coalitions
 
 abbrev if_listed : Option Data → List Data
 if_listed o = unwrap_or (option_map parts o) []
 
-listed_length : (n : ℕ) (worths sparse default : Option Data)
-    → ((passes (is_array_of is_number) worths && is_none sparse && is_none default) || (passes (is_array_of is_sparse_pair) sparse && is_none worths && passes_if_there is_number default)) ≡ true
-    → passes_if_there (has_items (2 ^ n)) worths ≡ true → sparse ≡ None → length (map integer_or_zero (if_listed worths)) + 1 ≡ 2 ^ n
-listed_length n worths (Some d) default h k e = absurd (false≢true (ap is_none e))
-listed_length n None None default h k e = absurd (false≢true h)
-listed_length n (Some d) None default h k e = ap (λ m. m + 1) (length-map (parts d) integer_or_zero) ∙ eqb-true _ _ k
+listed_length : (t : Bool) (k n : ℕ) (worths sparse default : Option Data)
+    → ((passes (is_array_of (is_numeric t)) worths && is_none sparse && is_none default) || (passes (is_array_of (is_sparse_pair t)) sparse && is_none worths && passes_if_there (is_numeric t) default)) ≡ true
+    → passes_if_there (has_items (2 ^ n)) worths ≡ true → sparse ≡ None → length (map (number_or_zero k) (if_listed worths)) + 1 ≡ 2 ^ n
+listed_length t k n worths (Some d) default h w e = absurd (false≢true (ap is_none e))
+listed_length t k n None None default h w e = absurd (false≢true h)
+listed_length t k n (Some d) None default h w e = ap (λ m. m + 1) (length-map (parts d) (number_or_zero k)) ∙ eqb-true _ _ w
 
-numbers_length : (game : Data) (n : ℕ) (names : List (List ℕ)) (o : Option Data) → (o ≡ None → length (integers_at (codes "worths") game) + 1 ≡ 2 ^ n) → length (numbers_by o n names game) + 1 ≡ 2 ^ n
-numbers_length game n names None h = h refl
-numbers_length game n names (Some d) h =
-    let long : length (sparse_numbers n names game) ≡ 2 ^ n - 1 = length-map-range_with_len (λ s. sparse_number n names (integer_at (codes "default") game) s (parts_at (codes "sparse") game)) 1 (2 ^ n - 1) in
+numbers_length : (k : ℕ) (game : Data) (n : ℕ) (names : List (List ℕ)) (o : Option Data) → (o ≡ None → length (numbers_at k (codes "worths") game) + 1 ≡ 2 ^ n) → length (numbers_by k o n names game) + 1 ≡ 2 ^ n
+numbers_length k game n names None h = h refl
+numbers_length k game n names (Some d) h =
+    let long : length (sparse_numbers k n names game) ≡ 2 ^ n - 1 = length-map-range_with_len (λ s. sparse_number k n names (number_at k (codes "default") game) s (parts_at (codes "sparse") game)) 1 (2 ^ n - 1) in
     omega (arith, pow_some n)
 
-abbrev IsPlayers : ℕ → Type 0
+abbrev pub IsPlayers : ℕ → Type 0
 IsPlayers n = (1 ≤ n) × (n ≤ 16)
 
 in_range : (b c : Bool) (n : ℕ) → (b ≡ true → 1 ≤ n) → (c ≡ true → n ≤ 16) → IfSome (if b && c then Some n else None) IsPlayers
@@ -107,48 +106,48 @@ in_range true true n p q = (p refl, q refl)
 in_range true false n p q = tt
 in_range false c n p q = tt
 
-players_range : (o : Option ℤ) → IfSome (option_and_then table_players o) IsPlayers
+pub players_range : (o : Option ℤ) → IfSome (option_and_then table_players o) IsPlayers
 players_range None = tt
 players_range (Some (pos n)) = in_range (nat_lt 0 n) (nat_le n 16) n (λ e. ltb-true 0 n e) (λ e. leb-true n 16 e)
 players_range (Some (negsuc n)) = tt
 
-table_by : (game : Data) (o : Option ℕ) → IfSome o IsPlayers → is_table_shaped game ≡ true → has_worths_for game o ≡ true → has_table_numbers game ≡ true
-    → IsTable (table (unwrap_or o 0) (numbers_by (get (codes "sparse") game) (unwrap_or o 0) (names_of game) game))
-table_by game None r s p q = absurd (false≢true p)
-table_by game (Some n) r s p q =
+table_by : (k : ℕ) (game : Data) (o : Option ℕ) → IfSome o IsPlayers → is_table_shaped game ≡ true → has_worths_for game o ≡ true
+    → IsTable (table (unwrap_or o 0) (numbers_by k (get (codes "sparse") game) (unwrap_or o 0) (names_of game) game))
+table_by k game None r s p = absurd (false≢true p)
+table_by k game (Some n) r s p =
     let form = and_parts _ (lists_worths game || lists_coalitions game) s in
     record {
       whole = record {
         some = r.0;
         few = r.1;
-        each_once = numbers_length game n (names_of game) (get (codes "sparse") game)
-            (listed_length n (get (codes "worths") game) (get (codes "sparse") game) (get (codes "default") game) form.1 p);
+        each_once = numbers_length k game n (names_of game) (get (codes "sparse") game)
+            (listed_length (has_texts game) k n (get (codes "worths") game) (get (codes "sparse") game) (get (codes "default") game) form.1 p);
       };
-      small = small_numbers game n (names_of game) (get (codes "sparse") game) q;
+      small = small_numbers k game n (names_of game) (get (codes "sparse") game);
     }
 
-table_as : (game : Data) (c : Option Class) → IsTableClass c → is_shaped_as c game ≡ true → has_players_as c game ≡ true → has_numbers_as c game ≡ true
-    → IsTable (table (players_as c game) (numbers_by (get (codes "sparse") game) (players_as c game) (names_of game) game))
-table_as game None k s p q = absurd k
-table_as game (Some Table) k s p q = table_by game (players_at game) (players_range (option_and_then integer (get (codes "players") game))) s p q
-table_as game (Some CostTable) k s p q = table_by game (players_at game) (players_range (option_and_then integer (get (codes "players") game))) s p q
-table_as game (Some Airport) k s p q = absurd k
-table_as game (Some Bankruptcy) k s p q = absurd k
-table_as game (Some Tree) k s p q = absurd k
-table_as game (Some Assignment) k s p q = absurd k
-table_as game (Some Market) k s p q = absurd k
-table_as game (Some Voting) k s p q = absurd k
+table_as : (k : ℕ) (game : Data) (c : Option Class) → IsTableClass c → is_shaped_as c game ≡ true → has_players_as c game ≡ true
+    → IsTable (table (players_as c game) (numbers_by k (get (codes "sparse") game) (players_as c game) (names_of game) game))
+table_as k game None t s p = absurd t
+table_as k game (Some Table) t s p = table_by k game (players_at game) (players_range (option_and_then integer (get (codes "players") game))) s p
+table_as k game (Some CostTable) t s p = table_by k game (players_at game) (players_range (option_and_then integer (get (codes "players") game))) s p
+table_as k game (Some Airport) t s p = absurd t
+table_as k game (Some Bankruptcy) t s p = absurd t
+table_as k game (Some Tree) t s p = absurd t
+table_as k game (Some Assignment) t s p = absurd t
+table_as k game (Some Market) t s p = absurd t
+table_as k game (Some Voting) t s p = absurd t
 
-pub table_sizes : (game : Data) → IsTableClass (class_of game) → HasSizes game → IsTable (table (players game) (table_numbers game))
-table_sizes game k h = table_as game (class_of game) k (and_parts _ (is_shaped_as (class_of game) game) h.shaped).1 h.players h.numbers
+pub table_sizes : (k : ℕ) (game : Data) → IsTableClass (class_of game) → HasSizes game → IsTable (table (players game) (table_numbers k game))
+table_sizes k game t h = table_as k game (class_of game) t (and_parts _ (is_shaped_as (class_of game) game) h.shaped).1 h.players
 
 -- the worths that a table was made of
-pub table_made : (game : Data) → IsTableClass (class_of game) → HasSizes game → (n : ℕ) (names : List (List ℕ)) (worths : List ℤ) → n ≡ players game → names ≡ names_of game
-    → Some worths ≡ (if are_coalitions (masks_by n names game) then Some (numbers_by (get (codes "sparse") game) n names game) else None) → IsTable (table n worths)
-table_made game k h n names worths e f w =
-    let chosen = passed_if (are_coalitions (masks_by n names game)) (numbers_by (get (codes "sparse") game) n names game) worths w in
-    let same : worths ≡ table_numbers game = chosen.1 ∙ ap₂ (λ m ns. numbers_by (get (codes "sparse") game) m ns game) e f in
-    subst IsTable (sym (ap₂ table e same)) (table_sizes game k h)
+pub table_made : (k : ℕ) (game : Data) → IsTableClass (class_of game) → HasSizes game → (n : ℕ) (names : List (List ℕ)) (worths : List ℤ) → n ≡ players game → names ≡ names_of game
+    → Some worths ≡ (if are_coalitions (masks_by n names game) then Some (numbers_by k (get (codes "sparse") game) n names game) else None) → IsTable (table n worths)
+table_made k game t h n names worths e f w =
+    let chosen = passed_if (are_coalitions (masks_by n names game)) (numbers_by k (get (codes "sparse") game) n names game) worths w in
+    let same : worths ≡ table_numbers k game = chosen.1 ∙ ap₂ (λ m ns. numbers_by k (get (codes "sparse") game) m ns game) e f in
+    subst IsTable (sym (ap₂ table e same)) (table_sizes k game t h)
 
 -- ---- costs, an estate and claims
 
@@ -157,12 +156,12 @@ cost_or_zero None h = absurd (false≢true h)
 cost_or_zero (Some (pos n)) h = let below = ltb-true n (2 ^ 40) h in (omega (arith, ints), omega (arith, ints, below))
 cost_or_zero (Some (negsuc n)) h = absurd (false≢true h)
 
-pub cost : (d : Data) → is_cost d ≡ true → IsCost (integer_or_zero d)
-cost d h = cost_or_zero (integer d) h
+pub cost : (k : ℕ) (d : Data) → is_cost k d ≡ true → IsCost (number_or_zero k d)
+cost k d h = cost_or_zero (small_number k d) h
 
-pub estate_cost : (o : Option Data) → passes is_cost o ≡ true → IsCost (unwrap_or (option_and_then integer o) (pos 0))
-estate_cost None h = absurd (false≢true h)
-estate_cost (Some d) h = cost d h
+pub estate_cost : (k : ℕ) (o : Option Data) → passes (is_cost k) o ≡ true → IsCost (unwrap_or (option_and_then (small_number k) o) (pos 0))
+estate_cost k None h = absurd (false≢true h)
+estate_cost k (Some d) h = cost k d h
 
 -- 1 to 64 costs
 pub record AreCosts (costs : List ℤ) : Type 0 where
@@ -170,29 +169,34 @@ pub record AreCosts (costs : List ℤ) : Type 0 where
   pub few : length costs ≤ 64
   pub small : All IsCost costs
 
-costs_in : (ds : List Data) → (nat_lt 0 (length ds) && nat_le (length ds) 64) ≡ true → list_all is_cost ds ≡ true → AreCosts (map integer_or_zero ds)
-costs_in ds p q =
+costs_in : (k : ℕ) (ds : List Data) → (nat_lt 0 (length ds) && nat_le (length ds) 64) ≡ true → list_all (is_cost k) ds ≡ true → AreCosts (map (number_or_zero k) ds)
+costs_in k ds p q =
     let range = and_parts (nat_lt 0 (length ds)) (nat_le (length ds) 64) p in
     let some = ltb-true 0 (length ds) range.0 in
     let few = leb-true (length ds) 64 range.1 in
-    let long = length-map ds integer_or_zero in
-    record { some = omega (arith, some, long); few = omega (arith, few, long); small = all_map IsCost integer_or_zero is_cost cost ds q }
+    let long = length-map ds (number_or_zero k) in
+    record { some = omega (arith, some, long); few = omega (arith, few, long); small = all_map IsCost (number_or_zero k) (is_cost k) (cost k) ds q }
 
-pub airport_sizes : (game : Data) → class_of game ≡ Some Airport → HasSizes game → AreCosts (integers_at (codes "costs") game)
-airport_sizes game e h =
-    costs_in (parts_at (codes "costs") game) (subst (λ c. has_players_as c game ≡ true) e h.players) (subst (λ c. has_numbers_as c game ≡ true) e h.numbers)
+-- the numbers times the scale are within their limits
+pub numbers_within : (game : Data) (k : ℕ) (c : Class) → k ≡ scale_of game → class_of game ≡ Some c → has_numbers game ≡ true → has_numbers_as k (Some c) game ≡ true
+numbers_within game k c s e h =
+    subst (λ n. has_numbers_as n (Some c) game ≡ true) (sym s) (subst (λ o. has_numbers_as (scale_of game) o game ≡ true) e (and_parts (nat_le (scale_of game) 65536) (has_numbers_as (scale_of game) (class_of game) game) h).1)
+
+pub airport_sizes : (k : ℕ) (game : Data) → k ≡ scale_of game → class_of game ≡ Some Airport → HasSizes game → AreCosts (numbers_at k (codes "costs") game)
+airport_sizes k game s e h =
+    costs_in k (parts_at (codes "costs") game) (subst (λ c. has_players_as c game ≡ true) e h.players) (numbers_within game k Airport s e h.numbers)
 
 -- an estate and claims in their limits
 pub record AreClaims (estate : ℤ) (claims : List ℤ) : Type 0 where
   pub estate_small : IsCost estate
   pub claims_small : AreCosts claims
 
-pub bankruptcy_sizes : (game : Data) → class_of game ≡ Some Bankruptcy → HasSizes game → AreClaims (integer_at (codes "estate") game) (integers_at (codes "claims") game)
-bankruptcy_sizes game e h =
-    let both = and_parts (passes is_cost (get (codes "estate") game)) (list_all is_cost (parts_at (codes "claims") game)) (subst (λ c. has_numbers_as c game ≡ true) e h.numbers) in
+pub bankruptcy_sizes : (k : ℕ) (game : Data) → k ≡ scale_of game → class_of game ≡ Some Bankruptcy → HasSizes game → AreClaims (number_at k (codes "estate") game) (numbers_at k (codes "claims") game)
+bankruptcy_sizes k game s e h =
+    let both = and_parts (passes (is_cost k) (get (codes "estate") game)) (list_all (is_cost k) (parts_at (codes "claims") game)) (numbers_within game k Bankruptcy s e h.numbers) in
     record {
-      estate_small = estate_cost (get (codes "estate") game) both.0;
-      claims_small = costs_in (parts_at (codes "claims") game) (subst (λ c. has_players_as c game ≡ true) e h.players) both.1;
+      estate_small = estate_cost k (get (codes "estate") game) both.0;
+      claims_small = costs_in k (parts_at (codes "claims") game) (subst (λ c. has_players_as c game ≡ true) e h.players) both.1;
     }
 
 -- ---- kept as natural numbers

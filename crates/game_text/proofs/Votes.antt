@@ -11,14 +11,15 @@ use Rattle.serde_json.specs.Find.{get}
 use Rattle.airport.specs.Costs.{IsCost}
 use Rattle.voting.specs.Voting.{Voting as Votes, voting, IsVoting, HavePlayers, AreNumbers, IsQuota}
 use Rattle.json_trees.specs.Trees.{parts_at, passes}
-use Rattle.json_trees.specs.Integers.{integer_or_zero, integer_at, integers_at}
+use Rattle.game_text.specs.ScaledNumbers.{number_or_zero, number_at, numbers_at}
 use Rattle.game_text.specs.Sizes.{is_cost, is_short_list_size}
 use Rattle.game_text.specs.Shape.{class_of}
-use Rattle.game_text.specs.Limits.{has_players_as, has_numbers_as}
+use Rattle.game_text.specs.Limits.{has_players_as}
+use Rattle.game_text.specs.Scales.{scale_of}
 use Rattle.game_text.specs.VotingClass.{is_quota}
 use Rattle.game_text.specs.Readings.{HasSizes}
 use Rattle.game_text.specs.declared.class.Class.TheVariants.{Voting}
-use Rattle.game_text.proofs.Sizes.{all_map, cost, estate_cost, kept_sizes, if_true}
+use Rattle.game_text.proofs.Sizes.{all_map, cost, estate_cost, kept_sizes, if_true, numbers_within}
 use Rattle.game_text.proofs.MatrixRows.{none_if}
 
 -- a quota and weights in their limits
@@ -26,20 +27,20 @@ pub record AreVotes (quota : ℤ) (weights : List ℤ) : Type 0 where
   pub players : HavePlayers weights
   pub numbers : AreNumbers quota weights
 
-players_in : (ds : List Data) → is_short_list_size (length ds) ≡ true → HavePlayers (map integer_or_zero ds)
+players_in : (ds : List Data) → is_short_list_size (length ds) ≡ true → HavePlayers (map (number_or_zero 1) ds)
 players_in ds h =
     let range = and_parts (nat_lt 0 (length ds)) (nat_le (length ds) 32) h in
     let some = ltb-true 0 (length ds) range.0 in
     let few = leb-true (length ds) 32 range.1 in
-    let long = length-map ds integer_or_zero in
+    let long = length-map ds (number_or_zero 1) in
     (omega (arith, some, long), omega (arith, few, long))
 
-pub voting_sizes : (game : Data) → class_of game ≡ Some Voting → HasSizes game → AreVotes (integer_at (codes "quota") game) (integers_at (codes "weights") game)
+pub voting_sizes : (game : Data) → class_of game ≡ Some Voting → HasSizes game → AreVotes (number_at 1 (codes "quota") game) (numbers_at 1 (codes "weights") game)
 voting_sizes game e h =
-    let both = and_parts (passes is_cost (get (codes "quota") game)) (list_all is_cost (parts_at (codes "weights") game)) (subst (λ c. has_numbers_as c game ≡ true) e h.numbers) in
+    let both = and_parts (passes (is_cost 1) (get (codes "quota") game)) (list_all (is_cost 1) (parts_at (codes "weights") game)) (numbers_within game (scale_of game) Voting refl e h.numbers) in
     record {
       players = players_in (parts_at (codes "weights") game) (subst (λ c. has_players_as c game ≡ true) e h.players);
-      numbers = (estate_cost (get (codes "quota") game) both.0, all_map IsCost integer_or_zero is_cost cost (parts_at (codes "weights") game) both.1);
+      numbers = (estate_cost 1 (get (codes "quota") game) both.0, all_map IsCost (number_or_zero 1) (is_cost 1) (cost 1) (parts_at (codes "weights") game) both.1);
     }
 
 -- ---- the game that was made

@@ -10,24 +10,25 @@ use Rattle.std.specs.List.{list_all}
 use Rattle.serde_json.specs.Data.{Data}
 use Rattle.serde_json.specs.Find.{get}
 use Rattle.json_trees.specs.Keys.{has_only_keys}
-use Rattle.json_trees.specs.Trees.{passes, is_number, is_array_of, parts_at}
+use Rattle.json_trees.specs.Trees.{passes, is_numeric, is_array_of, parts_at}
+use Rattle.game_text.specs.Version.{has_texts}
 use Rattle.game_text.specs.Sizes.{is_cost}
 
 -- the keys of a bankruptcy game
 abbrev pub bankruptcy_keys : List (List ℕ)
-bankruptcy_keys = codes "class" ∷ codes "claims" ∷ codes "estate" ∷ codes "excess" ∷ codes "names" ∷ []
+bankruptcy_keys = codes "class" ∷ codes "claims" ∷ codes "estate" ∷ codes "excess" ∷ codes "names" ∷ codes "version" ∷ []
 
 -- an estate and a list of claims
 abbrev pub is_bankruptcy_shaped : Data → Bool
-is_bankruptcy_shaped game = has_only_keys bankruptcy_keys game && passes is_number (get (codes "estate") game) && passes (is_array_of is_number) (get (codes "claims") game)
+is_bankruptcy_shaped game = has_only_keys bankruptcy_keys game && passes (is_numeric (has_texts game)) (get (codes "estate") game) && passes (is_array_of (is_numeric (has_texts game))) (get (codes "claims") game)
 
 -- one player for each claim
 abbrev pub bankruptcy_players : Data → ℕ
 bankruptcy_players game = length (parts_at (codes "claims") game)
 
--- the estate and each claim are integers from 0, below 2^40
-abbrev pub has_bankruptcy_numbers : Data → Bool
-has_bankruptcy_numbers game = passes is_cost (get (codes "estate") game) && list_all is_cost (parts_at (codes "claims") game)
+-- the estate and each claim are from 0, and below 2^40 times the scale k
+abbrev pub has_bankruptcy_numbers : ℕ → Data → Bool
+has_bankruptcy_numbers k game = passes (is_cost k) (get (codes "estate") game) && list_all (is_cost k) (parts_at (codes "claims") game)
 
 -- the estate is at most the sum of the claims
 abbrev pub claims_cover : ℕ → List ℕ → Bool

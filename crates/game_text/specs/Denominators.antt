@@ -1,29 +1,21 @@
 -- What the private functions of reading say by the least common denominator as a number that is computed. The public
 -- clauses speak of the least common denominator itself (`IsDenominatorOf` in Shares.antt), of which there is one.
 --
---   least_denominator  the least common denominator
---   tree_refusal       the first test that a tree doesn't pass
---   contents_of        what a tree says
-use Rattle.std.specs.Prelude.{◌*◌, ◌/◌, ℕ, pos, List, [], ◌∷◌, unsigned_abs, Bool, Option}
+--   over_least    fractions over their least common denominator
+--   tree_refusal  the first test that a tree doesn't pass
+--   contents_of   what a tree says
+use Rattle.std.specs.Prelude.{ℕ, pos, List, Bool, Option}
 use Rattle.serde_json.specs.Data.{Data}
-use Rattle.fractions.specs.Divisors.{gcd}
 use Rattle.fractions.specs.Fraction.{Fraction}
 use Rattle.definitions.specs.Games.{Allocation}
 use Rattle.worth_core.specs.LeastDenominators.{over}
-use Rattle.game_text.specs.Shares.{written_shares, has_small_terms, shares_over}
-use Rattle.game_text.specs.Documents.{Contents, proposed_over, contents_over}
+use Rattle.game_text.specs.CommonMultiples.{least_denominator}
+use Rattle.game_text.specs.Scales.{scale_of}
+use Rattle.game_text.specs.Shares.{scaled_shares, has_small_terms, shares_over}
+use Rattle.game_text.specs.Documents.{Contents, game_tree, proposed_over, contents_over}
 use Rattle.game_text.specs.Refusals.{has_needed_terms, refusal_over}
 use Rattle.game_text.specs.declared.command.Command.{Command}
 use Rattle.game_text.specs.declared.refusal.Refusal.{Refusal}
-
--- the least common multiple of two numbers
-abbrev pub lcm : ℕ → ℕ → ℕ
-lcm a b = a * (b / gcd a b)
-
--- the least common multiple of the denominators of fractions in lowest terms, which is their least common denominator
-abbrev pub least_denominator : List Fraction → ℕ
-least_denominator [] = 1
-least_denominator (f ∷ fs) = lcm (unsigned_abs f.den) (least_denominator fs)
 
 -- the fractions over their least common denominator
 abbrev pub over_least : List Fraction → Allocation
@@ -33,22 +25,26 @@ over_least fs = over (pos (least_denominator fs)) fs
 abbrev pub keep_limits : List Fraction → Bool
 keep_limits fs = has_small_terms (least_denominator fs) fs
 
+-- the least common denominator of the shares that are written, times the scale of the game
+abbrev pub share_denominator : Data → Data → ℕ
+share_denominator game tree = least_denominator (scaled_shares (scale_of game) tree)
+
 -- the shares that a command needs do
-abbrev pub needed_keep_limits : Command → Data → Bool
-needed_keep_limits command tree = has_needed_terms (least_denominator (written_shares tree)) command tree
+abbrev pub needed_keep_limits : Command → Data → Data → Bool
+needed_keep_limits command game tree = has_needed_terms (share_denominator game tree) command game tree
 
 -- the proposed shares as worth
 abbrev pub shares_of : Data → Data → Allocation
-shares_of game tree = shares_over (least_denominator (written_shares tree)) game tree
+shares_of game tree = shares_over (share_denominator game tree) game tree
 
 -- the shares that a command needs
 abbrev pub shares_for : Command → Data → Data → Option Allocation
-shares_for command game tree = proposed_over (least_denominator (written_shares tree)) command game tree
+shares_for command game tree = proposed_over (share_denominator game tree) command game tree
 
 -- what the tree of a document says to a command
 abbrev pub contents_of : Command → Data → Contents
-contents_of command tree = contents_over (least_denominator (written_shares tree)) command tree
+contents_of command tree = contents_over (share_denominator (game_tree tree) tree) command tree
 
 -- the first test that a tree doesn't pass
 abbrev pub tree_refusal : Command → Data → Option Refusal
-tree_refusal command tree = refusal_over (least_denominator (written_shares tree)) command tree
+tree_refusal command tree = refusal_over (share_denominator (game_tree tree) tree) command tree

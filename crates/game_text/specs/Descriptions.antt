@@ -3,7 +3,7 @@
 --   Description     the class of a game, and its numbers
 --   game_of         the game that is described
 --   is_cost         whether its numbers are costs
---   description_of  what the tree of a game describes, where no test refuses it
+--   description_of  what the tree of a game describes, its numbers times its scale, where no test refuses it
 use Rattle.std.specs.Prelude.{ℕ, ℤ, codes, Bool, true, false, List, [], length, Option, Some, None, unsigned_abs}
 use Rattle.serde_json.specs.Data.{Data}
 use Rattle.serde_json.specs.Find.{get}
@@ -11,7 +11,8 @@ use Rattle.definitions.specs.Games.{Game}
 use Rattle.definitions.specs.Classes.{table_worth, negated_worth, airport_worth, bankruptcy_worth, voting_worth}
 use Rattle.tree_games.specs.Trees.{tree_game}
 use Rattle.assignment_games.specs.Assignments.{assignment_game}
-use Rattle.json_trees.specs.Integers.{integer_at, costs_at}
+use Rattle.game_text.specs.Scales.{scale_of}
+use Rattle.game_text.specs.ScaledNumbers.{number_at, costs_at}
 use Rattle.game_text.specs.Shape.{class_of}
 use Rattle.game_text.specs.Limits.{players}
 use Rattle.game_text.specs.Names.{names_of}
@@ -55,24 +56,24 @@ is_cost (voting quota weights) = false
 
 -- ---- tables
 
--- the number of each coalition of a table, in mask order from 1
-abbrev pub table_numbers : Data → List ℤ
-table_numbers game = numbers_by (get (codes "sparse") game) (players game) (names_of game) game
+-- the number of each coalition of a table, times the scale k, in mask order from 1
+abbrev pub table_numbers : ℕ → Data → List ℤ
+table_numbers k game = numbers_by k (get (codes "sparse") game) (players game) (names_of game) game
 
 -- ---- classes
 
--- what the tree of a game of the class describes
-abbrev pub description_as : Option Class → Data → Description
-description_as None game = table 0 []
-description_as (Some Table) game = table (players game) (table_numbers game)
-description_as (Some CostTable) game = cost_table (players game) (table_numbers game)
-description_as (Some Airport) game = airport (costs_at (codes "costs") game)
-description_as (Some Bankruptcy) game = bankruptcy (unsigned_abs (integer_at (codes "estate") game)) (costs_at (codes "claims") game)
-description_as (Some Tree) game = network (rows_of game)
-description_as (Some Assignment) game = assignment (rows_of game)
-description_as (Some Market) game = market (rows_of game)
-description_as (Some Voting) game = voting (unsigned_abs (integer_at (codes "quota") game)) (costs_at (codes "weights") game)
+-- what the tree of a game of the class describes, its numbers times the scale k; a quota and weights are integers
+abbrev pub description_as : ℕ → Option Class → Data → Description
+description_as k None game = table 0 []
+description_as k (Some Table) game = table (players game) (table_numbers k game)
+description_as k (Some CostTable) game = cost_table (players game) (table_numbers k game)
+description_as k (Some Airport) game = airport (costs_at k (codes "costs") game)
+description_as k (Some Bankruptcy) game = bankruptcy (unsigned_abs (number_at k (codes "estate") game)) (costs_at k (codes "claims") game)
+description_as k (Some Tree) game = network (rows_of k game)
+description_as k (Some Assignment) game = assignment (rows_of k game)
+description_as k (Some Market) game = market (rows_of k game)
+description_as k (Some Voting) game = voting (unsigned_abs (number_at 1 (codes "quota") game)) (costs_at 1 (codes "weights") game)
 
--- what the tree of a game describes
+-- what the tree of a game describes, its numbers times its scale
 abbrev pub description_of : Data → Description
-description_of game = description_as (class_of game) game
+description_of game = description_as (scale_of game) (class_of game) game

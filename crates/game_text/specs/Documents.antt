@@ -1,5 +1,5 @@
 -- What a document that isn't refused says.
-use Rattle.std.specs.Prelude.{ℕ, codes, Option, unwrap_or}
+use Rattle.std.specs.Prelude.{ℕ, ℤ, pos, codes, Option, unwrap_or}
 use Rattle.serde_json.specs.Data.{Data, null}
 use Rattle.serde_json.specs.Find.{get}
 use Rattle.definitions.specs.Games.{Allocation}
@@ -8,6 +8,7 @@ use Rattle.definitions.specs.declared.Family.TheVariants.{Imputations}
 use Rattle.definitions.specs.declared.Measure.{Measure}
 use Rattle.kohlberg.specs.Certificate.{CertificateData}
 use Rattle.game_text.specs.Excess.{measure_of}
+use Rattle.game_text.specs.Scales.{scale_of}
 use Rattle.game_text.specs.Limits.{players}
 use Rattle.game_text.specs.Descriptions.{Description, description_of}
 use Rattle.game_text.specs.Shares.{shares_over}
@@ -16,11 +17,13 @@ use Rattle.certificate_texts.specs.Certificates.{certificate_of}
 use Rattle.game_text.specs.declared.command.Command.{Command}
 use Rattle.game_text.specs.Needs.{needs, given}
 
--- a game, the JSON tree that describes it, the measure of its excesses, and the family, the shares and the certificate, where the command needs them
+-- a game, the JSON tree that describes it, the measure of its excesses, its scale, and the family, the shares and the certificate, where the command needs
+-- them; the numbers of the game, the shares and the excesses of the certificate are those of the document times the scale
 pub record Contents : Type 0 where
   pub game : Description
   pub tree : Data
   pub measure : Measure
+  pub scale : ℤ
   pub family : Option Family
   pub shares : Option Allocation
   pub certificate : Option CertificateData
@@ -43,7 +46,7 @@ proposed_over d command game tree = given (needs command).shares (shares_over d 
 
 -- the certificate that a command needs
 abbrev pub certificate_for : Command → Data → Data → Option CertificateData
-certificate_for command game tree = given (needs command).certificate (certificate_of (players game) (certificate_tree tree))
+certificate_for command game tree = given (needs command).certificate (certificate_of (scale_of game) (players game) (certificate_tree tree))
 
 -- what the tree of a document says to a command, with the shares over the denominator d
 abbrev pub contents_over : ℕ → Command → Data → Contents
@@ -51,6 +54,7 @@ contents_over d command tree = record {
   game = description_of (game_tree tree);
   tree = game_tree tree;
   measure = measure_of (game_tree tree);
+  scale = pos (scale_of (game_tree tree));
   family = family_for command tree;
   shares = proposed_over d command (game_tree tree) tree;
   certificate = certificate_for command (game_tree tree) tree;

@@ -1,5 +1,9 @@
 pub mod Needs
 pub mod Text
+pub mod CommonMultiples
+pub mod Scales
+pub mod ScaledNumbers
+pub mod Version
 pub mod Sizes
 pub mod Members
 pub mod TableClass

@@ -2,8 +2,8 @@
 --
 --   players      the number of players
 --   has_players  there are as many players, and numbers for them, as the class allows
---   has_numbers  each number of the game is an integer within its limits
-use Rattle.std.specs.Prelude.{ℕ, Bool, false, Option, Some, None, unwrap_or}
+--   has_numbers  the scale of the game, and each of its numbers times the scale, is within its limits
+use Rattle.std.specs.Prelude.{ℕ, Bool, false, ◌&&◌, nat_le, Option, Some, None, unwrap_or}
 use Rattle.serde_json.specs.Data.{Data}
 use Rattle.game_text.specs.Sizes.{is_list_size, is_short_list_size}
 use Rattle.game_text.specs.TableClass.{players_at, has_table_players, has_table_numbers}
@@ -14,6 +14,7 @@ use Rattle.game_text.specs.TreeClass.{tree_players, has_tree_players}
 use Rattle.game_text.specs.AssignmentClass.{assignment_players, has_assignment_players}
 use Rattle.game_text.specs.MarketClass.{has_market_players}
 use Rattle.game_text.specs.VotingClass.{voting_players, has_voting_numbers}
+use Rattle.game_text.specs.Scales.{scale_of}
 use Rattle.game_text.specs.Shape.{class_of}
 use Rattle.game_text.specs.declared.class.Class.{Class}
 use Rattle.game_text.specs.declared.class.Class.TheVariants.{Table, CostTable, Airport, Bankruptcy, Tree, Assignment, Market, Voting}
@@ -54,18 +55,18 @@ players game = players_as (class_of game) game
 
 -- ---- numbers
 
--- each number of a game of the class is an integer within its limits
-abbrev pub has_numbers_as : Option Class → Data → Bool
-has_numbers_as None game = false
-has_numbers_as (Some Table) game = has_table_numbers game
-has_numbers_as (Some CostTable) game = has_table_numbers game
-has_numbers_as (Some Airport) game = has_airport_numbers game
-has_numbers_as (Some Bankruptcy) game = has_bankruptcy_numbers game
-has_numbers_as (Some Tree) game = has_matrix_numbers game
-has_numbers_as (Some Assignment) game = has_matrix_numbers game
-has_numbers_as (Some Market) game = has_matrix_numbers game
-has_numbers_as (Some Voting) game = has_voting_numbers game
+-- each number of a game of the class, times the scale k, is within its limits; a quota and weights are integers
+abbrev pub has_numbers_as : ℕ → Option Class → Data → Bool
+has_numbers_as k None game = false
+has_numbers_as k (Some Table) game = has_table_numbers k game
+has_numbers_as k (Some CostTable) game = has_table_numbers k game
+has_numbers_as k (Some Airport) game = has_airport_numbers k game
+has_numbers_as k (Some Bankruptcy) game = has_bankruptcy_numbers k game
+has_numbers_as k (Some Tree) game = has_matrix_numbers k game
+has_numbers_as k (Some Assignment) game = has_matrix_numbers k game
+has_numbers_as k (Some Market) game = has_matrix_numbers k game
+has_numbers_as k (Some Voting) game = has_voting_numbers game
 
--- each number of the game is an integer within its limits
+-- the scale is at most 65,536, and each number of the game times the scale is within its limits
 abbrev pub has_numbers : Data → Bool
-has_numbers game = has_numbers_as (class_of game) game
+has_numbers game = nat_le (scale_of game) 65536 && has_numbers_as (scale_of game) (class_of game) game

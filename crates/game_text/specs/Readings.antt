@@ -1,10 +1,11 @@
 -- What the steps of reading a document give.
-use Rattle.std.specs.Prelude.{◌≡◌, ⊤, true, ℕ, List, Option, Some, None}
+use Rattle.std.specs.Prelude.{◌≡◌, ⊤, true, ℕ, pos, List, Option, Some, None}
 use Rattle.serde_json.specs.Data.{Data}
 use Rattle.serde_json.specs.View.{view}
 use Rattle.definitions.specs.Games.{Allocation}
 use Rattle.kohlberg.specs.Certificate.{CertificateData}
 use Rattle.game_text.specs.Excess.{measure_of}
+use Rattle.game_text.specs.Scales.{scale_of}
 use Rattle.game_text.specs.Shape.{is_game_shaped}
 use Rattle.game_text.specs.Limits.{has_players, has_numbers}
 use Rattle.game_text.specs.Descriptions.{description_of}
@@ -92,7 +93,7 @@ IsCertificateFault command game tree Memory = ⊤
 
 -- what a document in memory says
 abbrev pub contents_in : Document → Contents
-contents_in d = record { game = description_in d.game; tree = view d.tree; measure = d.measure; family = d.family; shares = d.shares; certificate = d.certificate }
+contents_in d = record { game = description_in d.game; tree = view d.tree; measure = d.measure; scale = d.scale; family = d.family; shares = d.shares; certificate = d.certificate }
 
 -- the tests behind those of the shape, the players and the numbers pass, and this is what the tree says
 pub record IsLateReading (command : Command) (game tree : Data) (d : Document) : Type 0 where
@@ -100,6 +101,7 @@ pub record IsLateReading (command : Command) (game tree : Data) (d : Document) :
   pub described : description_in d.game ≡ description_of game
   pub same : view d.tree ≡ game
   pub measure : d.measure ≡ measure_of game
+  pub scale : d.scale ≡ pos (scale_of game)
   pub family : d.family ≡ family_for command tree
   pub shares : d.shares ≡ shares_for command game tree
   pub certificate : d.certificate ≡ certificate_for command game tree

@@ -17,7 +17,8 @@ use Rattle.game_text.specs.Limits.{players, has_players, has_numbers}
 use Rattle.game_text.specs.Names.{has_names}
 use Rattle.game_text.specs.Coalitions.{has_coalitions}
 use Rattle.game_text.specs.Descriptions.{Description, table, cost_table, airport, bankruptcy, network, assignment, market, voting, description_of}
-use Rattle.game_text.specs.Shares.{has_share_numbers, has_shares_for, written_shares, has_small_terms, IsDenominatorOf}
+use Rattle.game_text.specs.Scales.{scale_of}
+use Rattle.game_text.specs.Shares.{has_share_numbers, has_shares_for, scaled_shares, has_small_terms, IsDenominatorOf}
 use Rattle.certificate_texts.specs.Certificates.{has_form}
 use Rattle.game_text.specs.Documents.{Contents, game_tree, contents_over}
 use Rattle.game_text.specs.declared.command.Command.{Command}
@@ -76,13 +77,13 @@ has_needed_numbers command tree = if_needed (needs command).shares (has_share_nu
 abbrev pub has_needed_shares : Command → Data → Data → Bool
 has_needed_shares command game tree = if_needed (needs command).shares (has_shares_for (players game) tree)
 
--- over the denominator d, the shares that a command needs keep within the limits of shares
-abbrev pub has_needed_terms : ℕ → Command → Data → Bool
-has_needed_terms d command tree = if_needed (needs command).shares (has_small_terms d (written_shares tree))
+-- over the denominator d, the shares that a command needs, times the scale of the game, keep within the limits of shares
+abbrev pub has_needed_terms : ℕ → Command → Data → Data → Bool
+has_needed_terms d command game tree = if_needed (needs command).shares (has_small_terms d (scaled_shares (scale_of game) tree))
 
 -- the certificate that a command needs has its form
 abbrev pub has_needed_form : Command → Data → Data → Bool
-has_needed_form command game tree = if_needed (needs command).certificate (passes (has_form (players game)) (get (codes "certificate") tree))
+has_needed_form command game tree = if_needed (needs command).certificate (passes (has_form (scale_of game) (players game)) (get (codes "certificate") tree))
 
 -- the tests of a tree, in the order of the numbers of their refusals but for Quota, where d is the denominator of the shares
 abbrev pub tree_tests : ℕ → Command → Data → Data → List (Refusal × Bool)
@@ -96,7 +97,7 @@ tree_tests d command game tree =
     ∷ (Quota, has_quota (description_of game))
     ∷ (Matrix, has_matrix (description_of game))
     ∷ (Proposal, has_needed_shares command game tree)
-    ∷ (TooFine, has_needed_terms d command tree)
+    ∷ (TooFine, has_needed_terms d command game tree)
     ∷ (Certificate, has_needed_form command game tree)
     ∷ []
 
@@ -107,7 +108,7 @@ refusal_over d command tree = first_failed (tree_tests d command (game_tree tree
 -- bytes within the limit are the text of a tree that is refused so
 abbrev pub IsTreeRefused : Command → List ℕ → Refusal → Type 0
 IsTreeRefused command bytes r =
-    (length bytes ≤ document_limit command) × ((tree : Data) × IsTextOf bytes tree × ((d : ℕ) × IsDenominatorOf tree d × (refusal_over d command tree ≡ Some r)))
+    (length bytes ≤ document_limit command) × ((tree : Data) × IsTextOf bytes tree × ((d : ℕ) × IsDenominatorOf (scale_of (game_tree tree)) tree d × (refusal_over d command tree ≡ Some r)))
 
 -- the first refusal that applies
 abbrev pub IsRefused : Command → List ℕ → Refusal → Type 0
@@ -118,4 +119,4 @@ IsRefused command bytes r = IsTreeRefused command bytes r
 -- no refusal applies, and this is what the bytes say
 abbrev pub IsDocument : Command → List ℕ → Contents → Type 0
 IsDocument command bytes p =
-    (length bytes ≤ document_limit command) × ((tree : Data) × IsTextOf bytes tree × ((d : ℕ) × IsDenominatorOf tree d × (refusal_over d command tree ≡ None) × (p ≡ contents_over d command tree)))
+    (length bytes ≤ document_limit command) × ((tree : Data) × IsTextOf bytes tree × ((d : ℕ) × IsDenominatorOf (scale_of (game_tree tree)) tree d × (refusal_over d command tree ≡ None) × (p ≡ contents_over d command tree)))

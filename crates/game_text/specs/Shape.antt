@@ -11,6 +11,7 @@ use Rattle.json_trees.specs.Trees.{passes, passes_if_there, is_member, is_text, 
 use Rattle.json_trees.specs.Keys.{has_only_keys}
 use Rattle.certificate_texts.specs.Shape.{family_of, is_certificate}
 use Rattle.game_text.specs.Excess.{is_measure}
+use Rattle.game_text.specs.Version.{is_version}
 use Rattle.game_text.specs.TableClass.{is_table_shaped}
 use Rattle.game_text.specs.AirportClass.{is_airport_shaped}
 use Rattle.game_text.specs.BankruptcyClass.{is_bankruptcy_shaped}
@@ -45,9 +46,9 @@ is_shaped_as (Some Assignment) game = is_matrix_shaped game
 is_shaped_as (Some Market) game = is_matrix_shaped game
 is_shaped_as (Some Voting) game = is_voting_shaped game
 
--- names are texts and the excess is a measure, where there are any, and the rest is as the class asks
+-- names are texts, the excess is a measure and the version is 1 or 2, where there are any, and the rest is as the class asks
 abbrev pub is_game_shaped : Data → Bool
-is_game_shaped game = passes_if_there (is_array_of is_text) (get (codes "names") game) && passes_if_there is_measure (get (codes "excess") game) && is_shaped_as (class_of game) game
+is_game_shaped game = passes_if_there (is_array_of is_text) (get (codes "names") game) && passes_if_there is_measure (get (codes "excess") game) && passes_if_there is_version (get (codes "version") game) && is_shaped_as (class_of game) game
 
 -- shares are numbers and texts
 abbrev pub has_shares : Data → Bool

@@ -1,6 +1,6 @@
 -- The shares that a document proposes.
 --
---   written_shares   the fractions that are written
+--   scaled_shares    the fractions that are written, times a scale
 --   IsDenominatorOf  their least common denominator
 --   has_small_terms  over a denominator, they keep within the limits of shares
 --   shares_over      the shares as worth, over a denominator
@@ -10,6 +10,8 @@ use Rattle.serde_json.specs.Data.{Data}
 use Rattle.definitions.specs.Games.{Allocation}
 use Rattle.fractions.specs.Fraction.{Fraction}
 use Rattle.json_trees.specs.Fractions.{is_fraction, fraction_or_zero}
+use Rattle.json_trees.specs.LowestTerms.{times_scale}
+use Rattle.game_text.specs.Scales.{scale_of}
 use Rattle.worth_core.specs.LeastDenominators.{IsLeastDenominator, numerator_over, over}
 use Rattle.game_text.specs.Descriptions.{description_of, is_cost}
 use Rattle.json_trees.specs.Trees.{parts_at}
@@ -22,9 +24,13 @@ has_share_numbers tree = list_all is_fraction (parts_at (codes "shares") tree)
 abbrev pub has_shares_for : ℕ → Data → Bool
 has_shares_for n tree = length (parts_at (codes "shares") tree) == n
 
--- the fractions that are written
-abbrev pub written_shares : Data → List Fraction
-written_shares tree = map fraction_or_zero (parts_at (codes "shares") tree)
+-- the fraction that is written, times the scale k
+abbrev pub scaled_share : ℕ → Data → Fraction
+scaled_share k d = times_scale k (fraction_or_zero d)
+
+-- the fractions that are written, times the scale k
+abbrev pub scaled_shares : ℕ → Data → List Fraction
+scaled_shares k tree = map (scaled_share k) (parts_at (codes "shares") tree)
 
 -- the shares with their signs turned
 abbrev pub negated : Allocation → Allocation
@@ -34,9 +40,9 @@ negated x = record { shares = map neg_ℤ x.shares; den = x.den }
 abbrev pub as_worth : Bool → Allocation → Allocation
 as_worth are_payments x = if are_payments then negated x else x
 
--- d is the least common denominator of the fractions that are written, which is 1 where none are
-abbrev pub IsDenominatorOf : Data → ℕ → Type 0
-IsDenominatorOf tree d = IsLeastDenominator (written_shares tree) (pos d)
+-- d is the least common denominator of the fractions that are written, times the scale k; it is 1 where none are
+abbrev pub IsDenominatorOf : ℕ → Data → ℕ → Type 0
+IsDenominatorOf k tree d = IsLeastDenominator (scaled_shares k tree) (pos d)
 
 -- below 2^110 in size, over the denominator d
 abbrev pub has_small_numerator : ℕ → Fraction → Bool
@@ -46,6 +52,6 @@ has_small_numerator d f = nat_lt (unsigned_abs (numerator_over (pos d) f)) (2 ^ 
 abbrev pub has_small_terms : ℕ → List Fraction → Bool
 has_small_terms d fs = nat_le d (2 ^ 63) && list_all (has_small_numerator d) fs
 
--- the proposed shares as worth, over the denominator d
+-- the proposed shares as worth and times the scale of the game, over the denominator d
 abbrev pub shares_over : ℕ → Data → Data → Allocation
-shares_over d game tree = as_worth (is_cost (description_of game)) (over (pos d) (written_shares tree))
+shares_over d game tree = as_worth (is_cost (description_of game)) (over (pos d) (scaled_shares (scale_of game) tree))

@@ -1,11 +1,11 @@
 -- The sizes that several classes keep within.
 --
---   is_cost             an integer from 0, below 2^40
+--   is_cost             a number from 0 that times the scale is below 2^40
 --   is_list_size        a number of players from 1 to 64
 --   is_short_list_size  a number of players, or of those of one side, from 1 to 32
 use Rattle.std.specs.Prelude.{◌^◌, ℕ, ℤ, pos, negsuc, Bool, false, ◌&&◌, Option, Some, None, nat_lt, nat_le}
 use Rattle.serde_json.specs.Data.{Data}
-use Rattle.json_trees.specs.Trees.{integer}
+use Rattle.game_text.specs.ScaledNumbers.{small_number}
 
 -- a number of players from 1 to 64
 abbrev pub is_list_size : ℕ → Bool
@@ -25,6 +25,6 @@ abbrev pub if_integer : (ℤ → Bool) → Option ℤ → Bool
 if_integer test None = false
 if_integer test (Some z) = test z
 
--- an integer from 0, below 2^40
-abbrev pub is_cost : Data → Bool
-is_cost d = if_integer is_small_cost (integer d)
+-- a number from 0 that times the scale k is below 2^40
+abbrev pub is_cost : ℕ → Data → Bool
+is_cost k d = if_integer is_small_cost (small_number k d)

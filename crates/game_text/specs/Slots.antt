@@ -6,8 +6,8 @@ use Rattle.json_trees.specs.Trees.{pair_members}
 use Rattle.game_text.specs.Members.{mask_of, are_coalitions}
 use Rattle.game_text.specs.TableClass.{sparse_number}
 
--- the pairs have coalitions, and the slots from mask 1 on have their numbers
-pub record HasNumbers (n : ℕ) (names : List (List ℕ)) (pairs : List Data) (slots : List (Option ℤ)) : Type 0 where
+-- the pairs have coalitions, and the slots from mask 1 on have their numbers times the scale k
+pub record HasNumbers (k n : ℕ) (names : List (List ℕ)) (pairs : List Data) (slots : List (Option ℤ)) : Type 0 where
   pub good : are_coalitions (map (λ pair. mask_of n names (pair_members pair)) pairs) ≡ true
   pub size : length slots ≡ 2 ^ n
-  pub numbers : (other : ℤ) → map (λ o. unwrap_or o other) (drop 1 slots) ≡ map (λ s. sparse_number n names other s pairs) (range_with_len 1 (2 ^ n - 1))
+  pub numbers : (other : ℤ) → map (λ o. unwrap_or o other) (drop 1 slots) ≡ map (λ s. sparse_number k n names other s pairs) (range_with_len 1 (2 ^ n - 1))

@@ -5,7 +5,8 @@ use Rattle.game_text.specs.Names.{has_names}
 use Rattle.game_text.specs.Coalitions.{has_coalitions}
 use Rattle.game_text.specs.Descriptions.{description_of}
 use Rattle.game_text.specs.Limits.{players}
-use Rattle.game_text.specs.Shares.{has_shares_for, written_shares}
+use Rattle.game_text.specs.Scales.{scale_of}
+use Rattle.game_text.specs.Shares.{has_shares_for, scaled_shares}
 use Rattle.game_text.specs.Denominators.{keep_limits, needed_keep_limits}
 use Rattle.game_text.specs.Refusals.{unless, is_covered, has_quota, has_matrix, has_needed_shares, has_needed_form}
 use Rattle.game_text.specs.declared.command.Command.{Command}
@@ -28,13 +29,13 @@ game_refusal game rest = unless (has_names game) Names (coalition_refusal game r
 abbrev pub proposal_refusal : Data → Data → Option Refusal → Option Refusal
 proposal_refusal game tree rest =
     unless (has_shares_for (players game) tree) Proposal (
-    unless (keep_limits (written_shares tree)) TooFine rest)
+    unless (keep_limits (scaled_shares (scale_of game) tree)) TooFine rest)
 
 -- the tests of the shares that a command needs, and then the rest
 abbrev pub share_refusal : Command → Data → Data → Option Refusal → Option Refusal
 share_refusal command game tree rest =
     unless (has_needed_shares command game tree) Proposal (
-    unless (needed_keep_limits command tree) TooFine rest)
+    unless (needed_keep_limits command game tree) TooFine rest)
 
 -- the test of the certificate that a command needs
 abbrev pub certificate_refusal : Command → Data → Data → Option Refusal

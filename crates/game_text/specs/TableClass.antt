@@ -7,33 +7,33 @@
 --   has_table_numbers  each number is within its limits
 --   masks_by           the coalitions of the pairs
 --   numbers_by         the number of each coalition
-use Rattle.std.specs.Prelude.{◌==◌, ◌+◌, ◌-◌, ◌^◌, ℕ, ℤ, pos, negsuc, List, [], ◌∷◌, length, map, codes, Bool, false, ◌&&◌, ◌||◌, Option, Some, None, is_none, option_and_then, nat_lt, nat_le, unsigned_abs, if◌then◌else◌}
+use Rattle.std.specs.Prelude.{◌==◌, ◌+◌, ◌-◌, ◌^◌, ℕ, ℤ, pos, negsuc, List, [], ◌∷◌, length, map, codes, Bool, false, ◌&&◌, ◌||◌, Option, Some, None, is_some, is_none, option_and_then, nat_lt, nat_le, if◌then◌else◌}
 use Rattle.std.specs.List.{list_all, range_with_len}
 use Rattle.serde_json.specs.Data.{Data}
 use Rattle.serde_json.specs.Find.{get}
 use Rattle.json_trees.specs.Keys.{has_only_keys}
-use Rattle.json_trees.specs.Trees.{parts, parts_at, passes, passes_if_there, second_passes, is_member, is_number, is_array_of, is_pair_of, integer, pair_members}
-use Rattle.json_trees.specs.Integers.{integer_at, integers_at, second_integer}
-use Rattle.game_text.specs.Sizes.{if_integer}
+use Rattle.json_trees.specs.Trees.{parts, parts_at, passes, passes_if_there, second_passes, is_member, is_number, is_numeric, is_array_of, is_pair_of, integer, pair_members}
+use Rattle.game_text.specs.ScaledNumbers.{small_number, number_at, numbers_at, second_number}
+use Rattle.game_text.specs.Version.{has_texts}
 use Rattle.game_text.specs.Members.{mask_of, is_mask}
 
 -- ---- shape
 
 -- the keys of a game of a table of worths or costs
 abbrev pub table_keys : List (List ℕ)
-table_keys = codes "class" ∷ codes "default" ∷ codes "excess" ∷ codes "names" ∷ codes "players" ∷ codes "sparse" ∷ codes "worths" ∷ []
+table_keys = codes "class" ∷ codes "default" ∷ codes "excess" ∷ codes "names" ∷ codes "players" ∷ codes "sparse" ∷ codes "version" ∷ codes "worths" ∷ []
 
--- a coalition and its number
-abbrev pub is_sparse_pair : Data → Bool
-is_sparse_pair d = is_pair_of (is_array_of is_member) is_number d
+-- a coalition and its number, which may be a text where texts are allowed
+abbrev pub is_sparse_pair : Bool → Data → Bool
+is_sparse_pair texts d = is_pair_of (is_array_of is_member) (is_numeric texts) d
 
 -- all numbers are listed, in mask order
 abbrev pub lists_worths : Data → Bool
-lists_worths game = passes (is_array_of is_number) (get (codes "worths") game) && is_none (get (codes "sparse") game) && is_none (get (codes "default") game)
+lists_worths game = passes (is_array_of (is_numeric (has_texts game))) (get (codes "worths") game) && is_none (get (codes "sparse") game) && is_none (get (codes "default") game)
 
 -- some coalitions are listed with their numbers, perhaps with a number for all others
 abbrev pub lists_coalitions : Data → Bool
-lists_coalitions game = passes (is_array_of is_sparse_pair) (get (codes "sparse") game) && is_none (get (codes "worths") game) && passes_if_there is_number (get (codes "default") game)
+lists_coalitions game = passes (is_array_of (is_sparse_pair (has_texts game))) (get (codes "sparse") game) && is_none (get (codes "worths") game) && passes_if_there (is_numeric (has_texts game)) (get (codes "default") game)
 
 -- a number of players, and a table in one of its two forms
 abbrev pub is_table_shaped : Data → Bool
@@ -65,21 +65,17 @@ has_table_players game = has_worths_for game (players_at game)
 
 -- ---- numbers
 
--- below 2^40 in size
-abbrev pub is_small : ℤ → Bool
-is_small z = nat_lt (unsigned_abs z) (2 ^ 40)
-
--- an integer below 2^40 in size
-abbrev pub is_worth : Data → Bool
-is_worth d = if_integer is_small (integer d)
+-- a number that times the scale k is below 2^40 in size
+abbrev pub is_worth : ℕ → Data → Bool
+is_worth k d = is_some (small_number k d)
 
 -- the number of a pair of a coalition and a number is a worth
-abbrev pub has_worth : Data → Bool
-has_worth d = second_passes is_worth (parts d)
+abbrev pub has_worth : ℕ → Data → Bool
+has_worth k d = second_passes (is_worth k) (parts d)
 
 -- each number of a table is a worth, also that of the coalitions that are not listed
-abbrev pub has_table_numbers : Data → Bool
-has_table_numbers game = list_all is_worth (parts_at (codes "worths") game) && list_all has_worth (parts_at (codes "sparse") game) && passes_if_there is_worth (get (codes "default") game)
+abbrev pub has_table_numbers : ℕ → Data → Bool
+has_table_numbers k game = list_all (is_worth k) (parts_at (codes "worths") game) && list_all (has_worth k) (parts_at (codes "sparse") game) && passes_if_there (is_worth k) (get (codes "default") game)
 
 -- ---- coalitions
 
@@ -87,16 +83,16 @@ has_table_numbers game = list_all is_worth (parts_at (codes "worths") game) && l
 abbrev pub masks_by : ℕ → List (List ℕ) → Data → List (Option ℕ)
 masks_by n names game = map (λ pair. mask_of n names (pair_members pair)) (parts_at (codes "sparse") game)
 
--- the number of the first pair with the mask s, and another number where no pair has it
-abbrev pub sparse_number : ℕ → List (List ℕ) → ℤ → ℕ → List Data → ℤ
-sparse_number n names other s [] = other
-sparse_number n names other s (pair ∷ pairs) = if is_mask s (mask_of n names (pair_members pair)) then second_integer (parts pair) else sparse_number n names other s pairs
+-- the number, times the scale k, of the first pair with the mask s, and another number where no pair has it
+abbrev pub sparse_number : ℕ → ℕ → List (List ℕ) → ℤ → ℕ → List Data → ℤ
+sparse_number k n names other s [] = other
+sparse_number k n names other s (pair ∷ pairs) = if is_mask s (mask_of n names (pair_members pair)) then second_number k (parts pair) else sparse_number k n names other s pairs
 
 -- the number of each mask from 1, by the pairs and the number of all others
-abbrev pub sparse_numbers : ℕ → List (List ℕ) → Data → List ℤ
-sparse_numbers n names game = map (λ s. sparse_number n names (integer_at (codes "default") game) s (parts_at (codes "sparse") game)) (range_with_len 1 (2 ^ n - 1))
+abbrev pub sparse_numbers : ℕ → ℕ → List (List ℕ) → Data → List ℤ
+sparse_numbers k n names game = map (λ s. sparse_number k n names (number_at k (codes "default") game) s (parts_at (codes "sparse") game)) (range_with_len 1 (2 ^ n - 1))
 
 -- the number of each mask from 1: by pairs, where there are any, or all listed
-abbrev pub numbers_by : Option Data → ℕ → List (List ℕ) → Data → List ℤ
-numbers_by None n names game = integers_at (codes "worths") game
-numbers_by (Some pairs) n names game = sparse_numbers n names game
+abbrev pub numbers_by : ℕ → Option Data → ℕ → List (List ℕ) → Data → List ℤ
+numbers_by k None n names game = numbers_at k (codes "worths") game
+numbers_by k (Some pairs) n names game = sparse_numbers k n names game

@@ -1,4 +1,5 @@
--- Weighted voting games in a document: a quota, and a weight for each player.
+-- Weighted voting games in a document: a quota, and a weight for each player. They are integers in both versions, so the scale
+-- is 1.
 --
 --   voting_keys         the keys
 --   is_voting_shaped    the keys and kinds
@@ -15,7 +16,7 @@ use Rattle.game_text.specs.Sizes.{is_cost}
 
 -- the keys of a voting game
 abbrev pub voting_keys : List (List ℕ)
-voting_keys = codes "class" ∷ codes "excess" ∷ codes "names" ∷ codes "quota" ∷ codes "weights" ∷ []
+voting_keys = codes "class" ∷ codes "excess" ∷ codes "names" ∷ codes "quota" ∷ codes "version" ∷ codes "weights" ∷ []
 
 -- a quota and a list of weights
 abbrev pub is_voting_shaped : Data → Bool
@@ -27,7 +28,7 @@ voting_players game = length (parts_at (codes "weights") game)
 
 -- the quota and each weight are integers from 0, below 2^40
 abbrev pub has_voting_numbers : Data → Bool
-has_voting_numbers game = passes is_cost (get (codes "quota") game) && list_all is_cost (parts_at (codes "weights") game)
+has_voting_numbers game = passes (is_cost 1) (get (codes "quota") game) && list_all (is_cost 1) (parts_at (codes "weights") game)
 
 -- the weights sum to at most 1,000, and the quota is from 1 to their sum
 abbrev pub is_quota : ℕ → List ℕ → Bool

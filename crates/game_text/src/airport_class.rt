@@ -1,16 +1,19 @@
 //! Airport games: a cost for each player.
 ghost use Rattle.std.specs.Prelude.{◌≡◌, codes, IfOk, Some};
 ghost use Rattle.serde_json.specs.View.{view};
-ghost use Rattle.json_trees.specs.Integers.{costs_at};
+ghost use Rattle.game_text.specs.Scales.{scale_of};
+ghost use Rattle.game_text.specs.ScaledNumbers.{costs_at};
 ghost use Rattle.game_text.specs.Shape.{class_of};
 ghost use Rattle.game_text.specs.AirportClass.{is_airport_shaped, airport_players, has_airport_numbers};
 ghost use Rattle.game_text.specs.Readings.{HasSizes};
 ghost use Rattle.game_text.specs.declared.class.Class.TheVariants.{Airport};
 
 use crate::number_forms::SmallCost;
+use crate::scaled_numbers::numbers_at;
+use crate::version::has_texts;
 use airport::{AirportFault, AirportGame};
 use fractions::OutOfMemory;
-use json_trees::{ArrayOf, Number, each_at, has, has_only_keys, integers_at, parts_at};
+use json_trees::{ArrayOf, Numeric, each_at, has, has_only_keys, parts_at};
 use serde_json::Value;
 use std::alloc::Global;
 
@@ -18,8 +21,9 @@ use std::alloc::Global;
 pub fn is_airport_shaped(game: &Value) -> bool
     ensures { result ≡ is_airport_shaped (view game.now) }
 {
-    has_only_keys(&["class", "costs", "excess", "names"], game)
-        && has(game, "costs", &ArrayOf(Number))
+    let texts = has_texts(game);
+    has_only_keys(&["class", "costs", "excess", "names", "version"], game)
+        && has(game, "costs", &ArrayOf(Numeric { texts }))
 }
 
 /// The number of players: one for each cost.
@@ -29,20 +33,21 @@ pub fn airport_players(game: &Value) -> usize
     parts_at(game, "costs").len()
 }
 
-/// Whether each cost is an integer within its limits.
-pub fn has_airport_numbers(game: &Value) -> bool
-    ensures { result ≡ has_airport_numbers (view game.now) }
+/// Whether each cost times the scale is within its limits.
+pub fn has_airport_numbers(game: &Value, scale: u32) -> bool
+    ensures { result ≡ has_airport_numbers scale (view game.now) }
 {
-    each_at(game, "costs", &SmallCost)
+    each_at(game, "costs", &SmallCost(scale))
 }
 
-/// The game that is described.
-pub fn airport_of(alloc: Global, game: &Value) -> Result<AirportGame, OutOfMemory>
+/// The game that is described, its costs times the scale.
+pub fn airport_of(alloc: Global, game: &Value, scale: u32) -> Result<AirportGame, OutOfMemory>
     requires class { class_of (view game.now) ≡ Some Airport }
     requires sizes { HasSizes (view game.now) }
-    ensures { IfOk result (λ a. a.costs ≡ costs_at (codes "costs") (view game.now)) }
+    requires scale { scale ≡ scale_of (view game.now) }
+    ensures { IfOk result (λ a. a.costs ≡ costs_at scale (codes "costs") (view game.now)) }
 {
-    let costs = integers_at(alloc, game, "costs")?;
+    let costs = numbers_at(alloc, game, "costs", scale)?;
     match AirportGame::new(alloc, costs) {
         Ok(game) => Ok(game),
         Err(AirportFault::Memory) => Err(OutOfMemory),

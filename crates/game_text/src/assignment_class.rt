@@ -1,15 +1,17 @@
 //! Assignment games: what each buyer and each seller are worth together.
 ghost use Rattle.std.specs.Prelude.{◌≡◌, ◌<◌, ◌^◌, IfOk, Some, None, if◌then◌else◌};
 ghost use Rattle.serde_json.specs.View.{view};
+ghost use Rattle.game_text.specs.Scales.{scale_of};
 ghost use Rattle.game_text.specs.Shape.{class_of};
 ghost use Rattle.game_text.specs.MatrixClass.{rows_of};
 ghost use Rattle.game_text.specs.AssignmentClass.{sellers_at, assignment_players, has_assignment_players, are_even};
 ghost use Rattle.game_text.specs.Readings.{HasSizes};
 ghost use Rattle.game_text.specs.declared.class.Class.TheVariants.{Assignment};
 
+use crate::scaled_numbers::rows_at;
 use assignment_games::{AssignmentFault, AssignmentGame};
 use fractions::OutOfMemory;
-use json_trees::{parts, parts_at, rows_at};
+use json_trees::{parts, parts_at};
 use serde_json::Value;
 use std::alloc::Global;
 
@@ -40,13 +42,18 @@ pub fn has_assignment_players(game: &Value) -> bool
     1 <= buyers && 1 <= sellers && assignment_players(game) <= 16
 }
 
-/// The game that is described. None where the rows differ in length.
-pub fn assignment_of(alloc: Global, game: &Value) -> Result<Option<AssignmentGame>, OutOfMemory>
+/// The game that is described, its numbers times the scale. None where the rows differ in length.
+pub fn assignment_of(
+    alloc: Global,
+    game: &Value,
+    scale: u32,
+) -> Result<Option<AssignmentGame>, OutOfMemory>
     requires class { class_of (view game.now) ≡ Some Assignment }
     requires sizes { HasSizes (view game.now) }
-    ensures { IfOk result (λ o. let rows = rows_of (view game.now) in o ≡ (if are_even rows then Some rows else None)) }
+    requires scale { scale ≡ scale_of (view game.now) }
+    ensures { IfOk result (λ o. let rows = rows_of scale (view game.now) in o ≡ (if are_even rows then Some rows else None)) }
 {
-    let rows = rows_at(alloc, game, "matrix")?;
+    let rows = rows_at(alloc, game, "matrix", scale)?;
     match AssignmentGame::new(alloc, rows) {
         Ok(game) => Ok(Some(game)),
         Err(AssignmentFault::Matrix) => Ok(None),

@@ -2,16 +2,19 @@
 ghost use Rattle.std.specs.Prelude.{◌≡◌, codes, IfOk, Some, None, unsigned_abs, if◌then◌else◌};
 ghost use Rattle.serde_json.specs.View.{view};
 ghost use Rattle.bankruptcy.specs.Bankruptcy.{bankruptcy};
-ghost use Rattle.json_trees.specs.Integers.{integer_at, costs_at};
+ghost use Rattle.game_text.specs.Scales.{scale_of};
+ghost use Rattle.game_text.specs.ScaledNumbers.{number_at, costs_at};
 ghost use Rattle.game_text.specs.Shape.{class_of};
 ghost use Rattle.game_text.specs.BankruptcyClass.{is_bankruptcy_shaped, bankruptcy_players, has_bankruptcy_numbers, claims_cover};
 ghost use Rattle.game_text.specs.Readings.{HasSizes};
 ghost use Rattle.game_text.specs.declared.class.Class.TheVariants.{Bankruptcy};
 
 use crate::number_forms::SmallCost;
+use crate::scaled_numbers::{number_at, numbers_at};
+use crate::version::has_texts;
 use bankruptcy::{BankruptcyFault, BankruptcyGame};
 use fractions::OutOfMemory;
-use json_trees::{ArrayOf, Number, each_at, has, has_only_keys, integer_at, integers_at, parts_at};
+use json_trees::{ArrayOf, Numeric, each_at, has, has_only_keys, parts_at};
 use serde_json::Value;
 use std::alloc::Global;
 
@@ -19,9 +22,12 @@ use std::alloc::Global;
 pub fn is_bankruptcy_shaped(game: &Value) -> bool
     ensures { result ≡ is_bankruptcy_shaped (view game.now) }
 {
-    has_only_keys(&["class", "claims", "estate", "excess", "names"], game)
-        && has(game, "estate", &Number)
-        && has(game, "claims", &ArrayOf(Number))
+    let texts = has_texts(game);
+    has_only_keys(
+        &["class", "claims", "estate", "excess", "names", "version"],
+        game,
+    ) && has(game, "estate", &Numeric { texts })
+        && has(game, "claims", &ArrayOf(Numeric { texts }))
 }
 
 /// The number of players: one for each claim.
@@ -31,24 +37,29 @@ pub fn bankruptcy_players(game: &Value) -> usize
     parts_at(game, "claims").len()
 }
 
-/// Whether the estate and each claim are integers within their limits.
-pub fn has_bankruptcy_numbers(game: &Value) -> bool
-    ensures { result ≡ has_bankruptcy_numbers (view game.now) }
+/// Whether the estate and each claim, times the scale, are within their limits.
+pub fn has_bankruptcy_numbers(game: &Value, scale: u32) -> bool
+    ensures { result ≡ has_bankruptcy_numbers scale (view game.now) }
 {
-    has(game, "estate", &SmallCost) && each_at(game, "claims", &SmallCost)
+    has(game, "estate", &SmallCost(scale)) && each_at(game, "claims", &SmallCost(scale))
 }
 
-/// The game that is described. None where the estate is above the sum of the claims.
-pub fn bankruptcy_of(alloc: Global, game: &Value) -> Result<Option<BankruptcyGame>, OutOfMemory>
+/// The game that is described, its estate and claims times the scale. None where the estate is above the sum of the claims.
+pub fn bankruptcy_of(
+    alloc: Global,
+    game: &Value,
+    scale: u32,
+) -> Result<Option<BankruptcyGame>, OutOfMemory>
     requires class { class_of (view game.now) ≡ Some Bankruptcy }
     requires sizes { HasSizes (view game.now) }
+    requires scale { scale ≡ scale_of (view game.now) }
     ensures { IfOk result (λ o.
-        let estate = unsigned_abs (integer_at (codes "estate") (view game.now)) in
-        let claims = costs_at (codes "claims") (view game.now) in
+        let estate = unsigned_abs (number_at scale (codes "estate") (view game.now)) in
+        let claims = costs_at scale (codes "claims") (view game.now) in
         o ≡ (if claims_cover estate claims then Some (bankruptcy estate claims) else None)) }
 {
-    let estate = integer_at(game, "estate");
-    let claims = integers_at(alloc, game, "claims")?;
+    let estate = number_at(game, "estate", scale);
+    let claims = numbers_at(alloc, game, "claims", scale)?;
     match BankruptcyGame::new(alloc, estate, claims) {
         Ok(game) => {
             // Its laws say that the claims cover the estate.

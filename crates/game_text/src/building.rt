@@ -2,6 +2,7 @@
 ghost use Rattle.std.specs.Prelude.{◌≡◌, ◌≤◌, length, MatchResult, Some, None};
 ghost use Rattle.serde_json.specs.View.{view};
 ghost use Rattle.worth_tables.specs.Tables.{table};
+ghost use Rattle.game_text.specs.Scales.{scale_of};
 ghost use Rattle.game_text.specs.Shape.{class_of};
 ghost use Rattle.game_text.specs.Limits.{players};
 ghost use Rattle.game_text.specs.Names.{names_of};
@@ -26,39 +27,41 @@ use serde_json::Value;
 use std::alloc::Global;
 use worth_tables::CostGame;
 
-/// The game that a tree describes, or the refusal of its coalitions, of its estate, of its quota or of its matrix.
-pub fn game_of(alloc: Global, game: &Value, names: &Names) -> Result<Game, TextFault>
+/// The game that a tree describes, its numbers times the scale, or the refusal of its coalitions, of its estate, of its
+/// quota or of its matrix.
+pub fn game_of(alloc: Global, game: &Value, names: &Names, scale: u32) -> Result<Game, TextFault>
     requires sizes { HasSizes (view game.now) }
     requires named { length names.now ≤ players (view game.now) }
     requires names { names.now ≡ names_of (view game.now) }
+    requires scale { scale ≡ scale_of (view game.now) }
     ensures { MatchResult result (IsBuilt (view game.now)) (IsBuildFault (view game.now)) }
 {
     match class_of(game) {
-        Some(Class::Table) => match table_of(alloc, game, names)? {
+        Some(Class::Table) => match table_of(alloc, game, names, scale)? {
             Some(table) => Ok(Game::Table(table)),
             None => Err(TextFault::Refused(Refusal::Coalition)),
         },
-        Some(Class::CostTable) => match table_of(alloc, game, names)? {
+        Some(Class::CostTable) => match table_of(alloc, game, names, scale)? {
             Some(costs) => Ok(Game::Cost(CostGame::new(costs))),
             None => Err(TextFault::Refused(Refusal::Coalition)),
         },
         Some(Class::Airport) => {
-            let costs = airport_of(alloc, game)?;
+            let costs = airport_of(alloc, game, scale)?;
             Ok(Game::Airport(costs))
         }
-        Some(Class::Bankruptcy) => match bankruptcy_of(alloc, game)? {
+        Some(Class::Bankruptcy) => match bankruptcy_of(alloc, game, scale)? {
             Some(claims) => Ok(Game::Bankruptcy(claims)),
             None => Err(TextFault::Refused(Refusal::Estate)),
         },
-        Some(Class::Tree) => match tree_of(alloc, game)? {
+        Some(Class::Tree) => match tree_of(alloc, game, scale)? {
             Some(links) => Ok(Game::Tree(links)),
             None => Err(TextFault::Refused(Refusal::Matrix)),
         },
-        Some(Class::Assignment) => match assignment_of(alloc, game)? {
+        Some(Class::Assignment) => match assignment_of(alloc, game, scale)? {
             Some(values) => Ok(Game::Assignment(values)),
             None => Err(TextFault::Refused(Refusal::Matrix)),
         },
-        Some(Class::Market) => match market_of(alloc, game)? {
+        Some(Class::Market) => match market_of(alloc, game, scale)? {
             Some(market) => Ok(Game::Market(market)),
             None => Err(TextFault::Refused(Refusal::Matrix)),
         },

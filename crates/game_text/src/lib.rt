@@ -28,6 +28,8 @@ mod names;
 mod number_forms;
 mod reading;
 mod refusal;
+mod scale;
+mod scaled_numbers;
 mod shape;
 mod shares;
 mod table;
@@ -35,6 +37,9 @@ mod table_class;
 #[cfg(test)]
 mod tests;
 mod tree_class;
+mod version;
+#[cfg(test)]
+mod version_tests;
 mod voting_class;
 #[cfg(test)]
 mod voting_tests;

@@ -1,7 +1,8 @@
 //! The numbers of players, and the sizes of worths and costs, that a game keeps within.
 ghost use Rattle.std.specs.Prelude.{◌≡◌};
 ghost use Rattle.serde_json.specs.View.{view};
-ghost use Rattle.game_text.specs.Limits.{has_players, players, has_numbers};
+ghost use Rattle.game_text.specs.Shape.{class_of};
+ghost use Rattle.game_text.specs.Limits.{has_players, players, has_numbers_as};
 ghost use Rattle.game_text.specs.TableClass.{players_at, has_table_numbers};
 
 use crate::airport_class::{airport_players, has_airport_numbers};
@@ -48,15 +49,15 @@ pub fn players(game: &Value) -> usize
     }
 }
 
-/// Whether each number of the game is an integer within its limits.
-pub fn has_numbers(game: &Value) -> bool
-    ensures { result ≡ has_numbers (view game.now) }
+/// Whether each number of the game, times the scale, is within its limits.
+pub fn has_numbers(game: &Value, scale: u32) -> bool
+    ensures { result ≡ has_numbers_as scale (class_of (view game.now)) (view game.now) }
 {
     match class_of(game) {
-        Some(Class::Table | Class::CostTable) => has_table_numbers(game),
-        Some(Class::Airport) => has_airport_numbers(game),
-        Some(Class::Bankruptcy) => has_bankruptcy_numbers(game),
-        Some(Class::Tree | Class::Assignment | Class::Market) => has_matrix_numbers(game),
+        Some(Class::Table | Class::CostTable) => has_table_numbers(game, scale),
+        Some(Class::Airport) => has_airport_numbers(game, scale),
+        Some(Class::Bankruptcy) => has_bankruptcy_numbers(game, scale),
+        Some(Class::Tree | Class::Assignment | Class::Market) => has_matrix_numbers(game, scale),
         Some(Class::Voting) => has_voting_numbers(game),
         None => false,
     }

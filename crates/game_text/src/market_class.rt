@@ -1,6 +1,7 @@
 //! Markets: what each buyer and each seller are worth together, for up to 32 buyers and 32 sellers.
 ghost use Rattle.std.specs.Prelude.{◌≡◌, IfOk, Some, None, if◌then◌else◌};
 ghost use Rattle.serde_json.specs.View.{view};
+ghost use Rattle.game_text.specs.Scales.{scale_of};
 ghost use Rattle.game_text.specs.Shape.{class_of};
 ghost use Rattle.game_text.specs.MatrixClass.{rows_of};
 ghost use Rattle.game_text.specs.AssignmentClass.{are_even};
@@ -10,9 +11,10 @@ ghost use Rattle.game_text.specs.declared.class.Class.TheVariants.{Market};
 
 use crate::assignment_class::sellers_at;
 use crate::number_forms::is_short_list_size;
+use crate::scaled_numbers::rows_at;
 use big_assignment::{MarketFault, MarketGame};
 use fractions::OutOfMemory;
-use json_trees::{parts_at, rows_at};
+use json_trees::parts_at;
 use serde_json::Value;
 use std::alloc::Global;
 
@@ -23,13 +25,14 @@ pub fn has_market_players(game: &Value) -> bool
     is_short_list_size(parts_at(game, "matrix").len()) && is_short_list_size(sellers_at(game))
 }
 
-/// The market that is described. None where the rows differ in length.
-pub fn market_of(alloc: Global, game: &Value) -> Result<Option<MarketGame>, OutOfMemory>
+/// The market that is described, its numbers times the scale. None where the rows differ in length.
+pub fn market_of(alloc: Global, game: &Value, scale: u32) -> Result<Option<MarketGame>, OutOfMemory>
     requires class { class_of (view game.now) ≡ Some Market }
     requires sizes { HasSizes (view game.now) }
-    ensures { IfOk result (λ o. let rows = rows_of (view game.now) in o ≡ (if are_even rows then Some rows else None)) }
+    requires scale { scale ≡ scale_of (view game.now) }
+    ensures { IfOk result (λ o. let rows = rows_of scale (view game.now) in o ≡ (if are_even rows then Some rows else None)) }
 {
-    let rows = rows_at(alloc, game, "matrix")?;
+    let rows = rows_at(alloc, game, "matrix", scale)?;
     match MarketGame::new(alloc, rows) {
         Ok(game) => Ok(Some(game)),
         Err(MarketFault::Matrix) => Ok(None),

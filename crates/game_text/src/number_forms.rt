@@ -2,7 +2,8 @@
 ghost use Rattle.std.specs.Prelude.{◌≡◌};
 ghost use Rattle.game_text.specs.Sizes.{is_list_size, is_short_list_size, is_small_cost};
 
-use json_trees::{Form, integer};
+use crate::scaled_numbers::small_number;
+use json_trees::Form;
 use serde_json::Value;
 
 /// Whether there are 1 to 64.
@@ -25,17 +26,17 @@ fn is_small_cost(z: i64) -> bool
     0 <= z && z < 1 << 40
 }
 
-/// An integer from 0, below 2^40.
+/// A number from 0 that times the scale is below 2^40.
 #[derive(Clone, Copy, Debug)]
-pub struct SmallCost;
+pub struct SmallCost(pub u32);
 
 impl Form for SmallCost {
     ghost use Rattle.game_text.specs.Sizes.{is_cost};
 
-    ghost form = { λ _. is_cost };
+    ghost form = { λ f. is_cost f.0 };
 
     fn fits(&self, value: &Value) -> bool {
-        match integer(value) {
+        match small_number(value, self.0) {
             Some(z) => is_small_cost(z),
             None => false,
         }

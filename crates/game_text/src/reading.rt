@@ -1,5 +1,5 @@
 //! From the bytes of a document to what it says, or to its refusal.
-ghost use Rattle.std.specs.Prelude.{◌≡◌, ◌≤◌, ◌<◌, ◌^◌, MatchResult, IfOk, IfSome, Some, None, codes, length, if◌then◌else◌};
+ghost use Rattle.std.specs.Prelude.{◌≡◌, ◌≤◌, ◌<◌, ◌^◌, ◌≤ℤ◌, pos, MatchResult, IfOk, IfSome, Some, None, codes, length, if◌then◌else◌};
 ghost use Rattle.serde_json.specs.View.{view};
 ghost use Rattle.serde_json.specs.Find.{get};
 ghost use Rattle.json_trees.specs.Trees.{passes};
@@ -9,6 +9,7 @@ ghost use Rattle.game_text.specs.Descriptions.{description_of, game_of, is_cost}
 ghost use Rattle.game_text.specs.Games.{description_in};
 ghost use Rattle.game_text.specs.Kept.{IsKept};
 ghost use Rattle.game_text.specs.Limits.{players};
+ghost use Rattle.game_text.specs.Scales.{scale_of, IsScaleOf};
 ghost use Rattle.game_text.specs.Names.{has_names, names_of};
 ghost use Rattle.game_text.specs.Refusals.{has_needed_numbers};
 ghost use Rattle.game_text.specs.Text.{document_limit, without_newline};
@@ -23,6 +24,7 @@ use crate::game::Game;
 use crate::limits::{has_numbers, has_players, players};
 use crate::names::{Names, know_sparse, names_of};
 use crate::refusal::Refusal;
+use crate::scale::scale_of;
 use crate::shape::is_shaped;
 use crate::shares::{has_share_numbers, has_shares_for, shares_as_worth};
 use certificate_texts::{certificate_of, family_of};
@@ -34,13 +36,16 @@ use std::alloc::Global;
 use worth_core::Shares;
 
 /// The document that the bytes are the text of, or the first refusal that applies to them. Where the command needs shares,
-/// there is one for each player of the game; where it needs a certificate, it is one for the players of the game.
+/// there is one for each player of the game; where it needs a certificate, it is one for the players of the game. The game,
+/// the shares and the certificate are over the scale, the least common denominator of the numbers of the game, from 1 to
+/// 65,536; it is 1 where they are all integers.
 ///
 /// The kept tree of the game holds no float, is nested at most 8 deep, and is written in no more bytes than were read.
 pub fn read_document(alloc: Global, bytes: &[u8], command: Command) -> Result<Document, TextFault>
     ensures reading { MatchResult result (IsReading command bytes.now) (IsFault command bytes.now) }
     ensures count { IfOk result (λ d. IfSome d.shares (λ x. length x.shares ≡ (game_of (description_in d.game)).players)) }
     ensures kept { IfOk result (λ d. IsKept bytes.now (view d.tree)) }
+    ensures scale { IfOk result (λ d. (d.scale ≤ℤ pos 65536) × IsScaleOf (view d.tree) d.scale) }
     ensures players { IfOk result (λ d. IfSome d.certificate (λ c. c.players ≡ (game_of (description_in d.game)).players)) }
 {
     if bytes.len() > document_limit(command) {
@@ -85,10 +90,13 @@ fn document_of(alloc: Global, command: Command, tree: &Value) -> Result<Document
     if !has_players(game) {
         return Err(TextFault::Refused(Refusal::Players));
     }
-    if !has_numbers(game) || !has_needed_numbers(command, tree) {
+    let Some(scale) = scale_of(game) else {
+        return Err(TextFault::Refused(Refusal::Number));
+    };
+    if !has_numbers(game, scale) || !has_needed_numbers(command, tree) {
         return Err(TextFault::Refused(Refusal::Number));
     }
-    document_of_numbers(alloc, command, game, tree)
+    document_of_numbers(alloc, command, game, tree, scale)
 }
 
 fn has_needed_numbers(command: Command, tree: &Value) -> bool
@@ -103,19 +111,21 @@ fn document_of_numbers(
     command: Command,
     game: &Value,
     tree: &Value,
+    scale: u32,
 ) -> Result<Document, TextFault>
-    requires { HasSizes (view game.now) }
+    requires sizes { HasSizes (view game.now) }
+    requires scale { scale ≡ scale_of (view game.now) }
     ensures { MatchResult result (IsLateReading command (view game.now) (view tree.now)) (IsLateFault command (view game.now) (view tree.now)) }
 {
-    let described = match right_game(alloc, game) {
+    let described = match right_game(alloc, game, scale) {
         Ok(described) => described,
         Err(e) => return Err(e),
     };
-    let shares = match needed_shares(alloc, command, game, tree, described.is_cost()) {
+    let shares = match needed_shares(alloc, command, game, tree, scale, described.is_cost()) {
         Ok(shares) => shares,
         Err(e) => return Err(e),
     };
-    let certificate = match needed_certificate(alloc, command, game, tree) {
+    let certificate = match needed_certificate(alloc, command, game, tree, scale) {
         Ok(certificate) => certificate,
         Err(e) => return Err(e),
     };
@@ -126,6 +136,7 @@ fn document_of_numbers(
         game: described,
         tree: copy,
         measure: measure_of(game),
+        scale: i64::from(scale),
         family: needed_family(command, tree),
         shares,
         certificate,
@@ -133,14 +144,15 @@ fn document_of_numbers(
 }
 
 /// The game, where its names, its coalitions and its estate are right.
-fn right_game(alloc: Global, game: &Value) -> Result<Game, TextFault>
-    requires { HasSizes (view game.now) }
+fn right_game(alloc: Global, game: &Value, scale: u32) -> Result<Game, TextFault>
+    requires sizes { HasSizes (view game.now) }
+    requires scale { scale ≡ scale_of (view game.now) }
     ensures { MatchResult result (IsGameReading (view game.now)) (IsGameFault (view game.now)) }
 {
     let Some(names) = right_names(alloc, game)? else {
         return Err(TextFault::Refused(Refusal::Names));
     };
-    game_of(alloc, game, &names)
+    game_of(alloc, game, &names, scale)
 }
 
 /// The names of the players, where they are right and a sparse table uses no other.
@@ -173,16 +185,18 @@ fn right_shares(
     alloc: Global,
     game: &Value,
     tree: &Value,
+    scale: u32,
     are_payments: bool,
 ) -> Result<Shares, TextFault>
     requires sizes { HasSizes (view game.now) }
+    requires scale { scale ≡ scale_of (view game.now) }
     requires sign { are_payments ≡ is_cost (description_of (view game.now)) }
     ensures { MatchResult result (IsProposal (view game.now) (view tree.now)) (IsProposalFault (view game.now) (view tree.now)) }
 {
     if !has_shares_for(players(game), tree) {
         return Err(TextFault::Refused(Refusal::Proposal));
     }
-    let Some(shares) = shares_as_worth(alloc, tree, are_payments)? else {
+    let Some(shares) = shares_as_worth(alloc, tree, scale, are_payments)? else {
         return Err(TextFault::Refused(Refusal::TooFine));
     };
     Ok(shares)
@@ -194,16 +208,18 @@ fn needed_shares(
     command: Command,
     game: &Value,
     tree: &Value,
+    scale: u32,
     are_payments: bool,
 ) -> Result<Option<Shares>, TextFault>
     requires sizes { HasSizes (view game.now) }
+    requires scale { scale ≡ scale_of (view game.now) }
     requires sign { are_payments ≡ is_cost (description_of (view game.now)) }
     ensures { MatchResult result (IsShareReading command (view game.now) (view tree.now)) (IsShareFault command (view game.now) (view tree.now)) }
 {
     if !command.needs().shares {
         return Ok(None);
     }
-    match right_shares(alloc, game, tree, are_payments) {
+    match right_shares(alloc, game, tree, scale, are_payments) {
         Ok(shares) => Ok(Some(shares)),
         Err(e) => Err(e),
     }
@@ -214,14 +230,15 @@ fn right_certificate(
     alloc: Global,
     players: u32,
     tree: &Value,
+    scale: u32,
 ) -> Result<Option<Certificate>, OutOfMemory>
     requires some { 1 ≤ players }
     requires few { players ≤ 64 }
-    ensures { IfOk result (λ o. o ≡ (if passes (has_form players) (get (codes "certificate") (view tree.now))
-        then Some (certificate_of players (certificate_tree (view tree.now))) else None)) }
+    ensures { IfOk result (λ o. o ≡ (if passes (has_form scale players) (get (codes "certificate") (view tree.now))
+        then Some (certificate_of scale players (certificate_tree (view tree.now))) else None)) }
 {
     match tree.get("certificate") {
-        Some(certificate) => certificate_of(alloc, players, certificate),
+        Some(certificate) => certificate_of(alloc, players, certificate, scale),
         None => Ok(None),
     }
 }
@@ -232,14 +249,16 @@ fn needed_certificate(
     command: Command,
     game: &Value,
     tree: &Value,
+    scale: u32,
 ) -> Result<Option<Certificate>, TextFault>
-    requires { HasSizes (view game.now) }
+    requires sizes { HasSizes (view game.now) }
+    requires scale { scale ≡ scale_of (view game.now) }
     ensures { MatchResult result (IsCertificateReading command (view game.now) (view tree.now)) (IsCertificateFault command (view game.now) (view tree.now)) }
 {
     if !command.needs().certificate {
         return Ok(None);
     }
-    let Some(certificate) = right_certificate(alloc, players(game) as u32, tree)? else {
+    let Some(certificate) = right_certificate(alloc, players(game) as u32, tree, scale)? else {
         return Err(TextFault::Refused(Refusal::Certificate));
     };
     Ok(Some(certificate))

@@ -14,6 +14,7 @@ use crate::command::Command;
 use crate::excess::MeasureWord;
 use crate::matrix_class::is_matrix_shaped;
 use crate::table_class::is_table_shaped;
+use crate::version::VersionNumber;
 use crate::voting_class::is_voting_shaped;
 use certificate_texts::{CertificateShape, family_of};
 use json_trees::{ArrayOf, Form, Member, Text, has, has_if_there, has_only_keys};
@@ -76,6 +77,7 @@ impl Form for GameShape {
     fn fits(&self, game: &Value) -> bool {
         has_if_there(game, "names", &ArrayOf(Text))
             && has_if_there(game, "excess", &MeasureWord)
+            && has_if_there(game, "version", &VersionNumber)
             && is_shaped_as(class_of(game), game)
     }
 }

@@ -1,13 +1,12 @@
 //! The shares of a document.
-ghost use Rattle.std.specs.Prelude.{◌≡◌, ◌≤◌, map, IfOk, All, length, Some, None, if◌then◌else◌};
+ghost use Rattle.std.specs.Prelude.{◌≡◌, ◌≤◌, map, false, MatchOption, IfOk, All, length, Some, None, if◌then◌else◌};
 ghost use Rattle.serde_json.specs.View.{view};
 ghost use Rattle.fractions.specs.Fraction.{IsReduced};
 ghost use Rattle.game_text.specs.Denominators.{keep_limits, over_least};
-ghost use Rattle.game_text.specs.Shares.{has_share_numbers, has_shares_for, written_shares, negated, as_worth};
-ghost use Rattle.json_trees.specs.Fractions.{fraction_or_zero};
+ghost use Rattle.game_text.specs.Shares.{has_share_numbers, has_shares_for, scaled_share, scaled_shares, negated, as_worth};
 
 use fractions::{Frac, OutOfMemory};
-use json_trees::{Fraction, each_at, fraction_or_zero, parts_at};
+use json_trees::{Fraction, each_at, fraction_or_zero, parts_at, scaled};
 use serde_json::Value;
 use std::alloc::Global;
 use worth_core::{Shares, SharesFault};
@@ -26,21 +25,34 @@ pub fn has_shares_for(players: usize, tree: &Value) -> bool
     parts_at(tree, "shares").len() == players
 }
 
-fn fractions(alloc: Global, values: &[Value]) -> Result<Vec<Frac>, OutOfMemory>
-    ensures { IfOk result (λ v. v.items ≡ map (λ d. fraction_or_zero (view d)) values.now) }
+/// The fractions that are written, times the scale. None only where a numerator has no form in 128 bits, and then they
+/// break a limit of `Shares`.
+fn scaled_fractions(
+    alloc: Global,
+    values: &[Value],
+    scale: u32,
+) -> Result<Option<Vec<Frac>>, OutOfMemory>
+    ensures { IfOk result (λ o. MatchOption o
+        (keep_limits (map (λ v. scaled_share scale (view v)) values.now) ≡ false)
+        (λ v. v.items ≡ map (λ d. scaled_share scale (view d)) values.now)) }
 {
     let mut found = Vec::new(alloc);
     for value in values {
-        found.push(fraction_or_zero(value))?;
+        let number = fraction_or_zero(value);
+        let Some(product) = scaled(&number, scale) else {
+            return Ok(None);
+        };
+        found.push(product)?;
     }
-    Ok(found)
+    Ok(Some(found))
 }
 
-#[tactic(auto, using(json_trees::proofs::Values::map_views))]
-fn written_shares(alloc: Global, tree: &Value) -> Result<Vec<Frac>, OutOfMemory>
-    ensures { IfOk result (λ v. v.items ≡ written_shares (view tree.now)) }
+fn scaled_shares(alloc: Global, tree: &Value, scale: u32) -> Result<Option<Vec<Frac>>, OutOfMemory>
+    ensures { IfOk result (λ o. MatchOption o
+        (keep_limits (scaled_shares scale (view tree.now)) ≡ false)
+        (λ v. v.items ≡ scaled_shares scale (view tree.now))) }
 {
-    fractions(alloc, parts_at(tree, "shares"))
+    scaled_fractions(alloc, parts_at(tree, "shares"), scale)
 }
 
 /// The fractions over their least common denominator, and none where they break a limit of `Shares` there.
@@ -57,19 +69,22 @@ fn over_least(alloc: Global, written: &[Frac]) -> Result<Option<Shares>, OutOfMe
     }
 }
 
-/// The written shares over their least common denominator, as worth: payments are negated. None where the denominator is
-/// above 2^63, or a numerator reaches 2^110 in size.
+/// The written shares times the scale, over their least common denominator, as worth: payments are negated. None where the
+/// denominator is above 2^63, or a numerator reaches 2^110 in size.
 pub fn shares_as_worth(
     alloc: Global,
     tree: &Value,
+    scale: u32,
     are_payments: bool,
 ) -> Result<Option<Shares>, OutOfMemory>
-    requires some { 1 ≤ length (written_shares (view tree.now)) }
-    requires few { length (written_shares (view tree.now)) ≤ 64 }
-    ensures { IfOk result (λ o. o ≡ (if keep_limits (written_shares (view tree.now))
-        then Some (as_worth are_payments (over_least (written_shares (view tree.now)))) else None)) }
+    requires some { 1 ≤ length (scaled_shares scale (view tree.now)) }
+    requires few { length (scaled_shares scale (view tree.now)) ≤ 64 }
+    ensures { IfOk result (λ o. o ≡ (if keep_limits (scaled_shares scale (view tree.now))
+        then Some (as_worth are_payments (over_least (scaled_shares scale (view tree.now)))) else None)) }
 {
-    let written = written_shares(alloc, tree)?;
+    let Some(written) = scaled_shares(alloc, tree, scale)? else {
+        return Ok(None);
+    };
     let Some(shares) = over_least(alloc, &written)? else {
         return Ok(None);
     };

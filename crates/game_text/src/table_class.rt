@@ -1,7 +1,10 @@
 //! Tables of worths and of costs: a number for each coalition, all listed or some in pairs.
-ghost use Rattle.std.specs.Prelude.{◌≡◌, ◌<◌, ◌≤◌, ◌^◌, length, IfOk, IfSome, Some, None, if◌then◌else◌};
+ghost use Rattle.std.specs.Prelude.{◌≡◌, ◌<◌, ◌≤◌, ◌^◌, codes, length, IfOk, IfSome, Some, None, if◌then◌else◌};
+ghost use Rattle.serde_json.specs.Find.{get};
 ghost use Rattle.serde_json.specs.View.{view};
+ghost use Rattle.json_trees.specs.Trees.{passes, is_array_of};
 ghost use Rattle.worth_tables.specs.Tables.{table};
+ghost use Rattle.game_text.specs.Scales.{scale_of};
 ghost use Rattle.game_text.specs.Shape.{class_of};
 ghost use Rattle.game_text.specs.Limits.{players};
 ghost use Rattle.game_text.specs.Names.{names_of};
@@ -9,15 +12,17 @@ ghost use Rattle.game_text.specs.Coalitions.{masks};
 ghost use Rattle.game_text.specs.Members.{are_coalitions};
 ghost use Rattle.game_text.specs.Descriptions.{table_numbers};
 ghost use Rattle.game_text.specs.Readings.{HasSizes, IsTableClass};
-ghost use Rattle.game_text.specs.TableClass.{lists_worths, lists_coalitions, is_table_shaped, table_players, has_items, has_worths_for, players_at, has_table_players, is_small, has_table_numbers};
+ghost use Rattle.game_text.specs.TableClass.{is_sparse_pair, lists_worths, lists_coalitions, is_table_shaped, table_players, has_items, has_worths_for, players_at, has_table_players, has_table_numbers};
 
 use crate::limits::players;
 use crate::names::Names;
+use crate::scaled_numbers::small_number;
 use crate::table::table_numbers;
+use crate::version::has_texts;
 use fractions::OutOfMemory;
 use json_trees::{
-    ArrayOf, Form, Member, Number, PairOf, SecondOf, each_at, has, has_if_there, has_only_keys,
-    integer, parts,
+    ArrayOf, Form, Member, Number, Numeric, PairOf, SecondOf, each_at, has, has_if_there,
+    has_only_keys, integer, parts,
 };
 use serde_json::Value;
 use std::alloc::Global;
@@ -26,17 +31,30 @@ use worth_tables::{TableFault, TableGame};
 fn lists_worths(game: &Value) -> bool
     ensures { result ≡ lists_worths (view game.now) }
 {
-    has(game, "worths", &ArrayOf(Number))
+    let texts = has_texts(game);
+    has(game, "worths", &ArrayOf(Numeric { texts }))
         && game.get("sparse").is_none()
         && game.get("default").is_none()
+}
+
+// Whether there are pairs of a coalition and a number, which may be a text where texts are allowed.
+fn lists_pairs(game: &Value, texts: bool) -> bool
+    ensures { result ≡ passes (is_array_of (is_sparse_pair texts)) (get (codes "sparse") (view game.now)) }
+{
+    has(
+        game,
+        "sparse",
+        &ArrayOf(PairOf(ArrayOf(Member), Numeric { texts })),
+    )
 }
 
 fn lists_coalitions(game: &Value) -> bool
     ensures { result ≡ lists_coalitions (view game.now) }
 {
-    has(game, "sparse", &ArrayOf(PairOf(ArrayOf(Member), Number)))
+    let texts = has_texts(game);
+    lists_pairs(game, texts)
         && game.get("worths").is_none()
-        && has_if_there(game, "default", &Number)
+        && has_if_there(game, "default", &Numeric { texts })
 }
 
 /// Whether it has the keys and kinds of a table.
@@ -45,7 +63,7 @@ pub fn is_table_shaped(game: &Value) -> bool
 {
     has_only_keys(
         &[
-            "class", "default", "excess", "names", "players", "sparse", "worths",
+            "class", "default", "excess", "names", "players", "sparse", "version", "worths",
         ],
         game,
     ) && has(game, "players", &Number)
@@ -101,53 +119,46 @@ pub fn has_table_players(game: &Value) -> bool
     has_worths_for(game, players)
 }
 
-fn is_small(z: i64) -> bool
-    ensures { result ≡ is_small z }
-{
-    z.unsigned_abs() < 1 << 40
-}
-
-/// An integer below 2^40 in size.
+/// A number that times the scale is below 2^40 in size.
 #[derive(Clone, Copy, Debug)]
-struct SmallWorth;
+struct SmallWorth(u32);
 
 impl Form for SmallWorth {
     ghost use Rattle.game_text.specs.TableClass.{is_worth};
 
-    ghost form = { λ _. is_worth };
+    ghost form = { λ f. is_worth f.0 };
 
     fn fits(&self, value: &Value) -> bool {
-        match integer(value) {
-            Some(z) => is_small(z),
-            None => false,
-        }
+        small_number(value, self.0).is_some()
     }
 }
 
-/// Whether each number of a table is an integer within its limits.
-pub fn has_table_numbers(game: &Value) -> bool
-    ensures { result ≡ has_table_numbers (view game.now) }
+/// Whether each number of a table, times the scale, is within its limits.
+pub fn has_table_numbers(game: &Value, scale: u32) -> bool
+    ensures { result ≡ has_table_numbers scale (view game.now) }
 {
-    each_at(game, "worths", &SmallWorth)
-        && each_at(game, "sparse", &SecondOf(SmallWorth))
-        && has_if_there(game, "default", &SmallWorth)
+    each_at(game, "worths", &SmallWorth(scale))
+        && each_at(game, "sparse", &SecondOf(SmallWorth(scale)))
+        && has_if_there(game, "default", &SmallWorth(scale))
 }
 
-/// The table. None where a pair of a sparse table has no coalition, or two have the same.
+/// The table, its numbers times the scale. None where a pair of a sparse table has no coalition, or two have the same.
 pub fn table_of(
     alloc: Global,
     game: &Value,
     names: &Names,
+    scale: u32,
 ) -> Result<Option<TableGame>, OutOfMemory>
     requires class { IsTableClass (class_of (view game.now)) }
     requires sizes { HasSizes (view game.now) }
     requires named { length names.now ≤ players (view game.now) }
     requires names { names.now ≡ names_of (view game.now) }
+    requires scale { scale ≡ scale_of (view game.now) }
     ensures { IfOk result (λ o. o ≡ (if are_coalitions (masks (view game.now))
-        then Some (table (players (view game.now)) (table_numbers (view game.now))) else None)) }
+        then Some (table (players (view game.now)) (table_numbers scale (view game.now))) else None)) }
 {
     let count = players(game) as u32;
-    let Some(worths) = table_numbers(alloc, game, count, names)? else {
+    let Some(worths) = table_numbers(alloc, game, count, names, scale)? else {
         return Ok(None);
     };
     match TableGame::new(alloc, count, worths) {

@@ -1,14 +1,16 @@
 //! Tree games: the cost of the link between each two of the source and the players.
 ghost use Rattle.std.specs.Prelude.{◌≡◌, IfOk, Some, None, if◌then◌else◌};
 ghost use Rattle.serde_json.specs.View.{view};
+ghost use Rattle.game_text.specs.Scales.{scale_of};
 ghost use Rattle.game_text.specs.Shape.{class_of};
 ghost use Rattle.game_text.specs.MatrixClass.{rows_of};
 ghost use Rattle.game_text.specs.TreeClass.{tree_players, has_tree_players, are_links};
 ghost use Rattle.game_text.specs.Readings.{HasSizes};
 ghost use Rattle.game_text.specs.declared.class.Class.TheVariants.{Tree};
 
+use crate::scaled_numbers::rows_at;
 use fractions::OutOfMemory;
-use json_trees::{parts_at, rows_at};
+use json_trees::parts_at;
 use serde_json::Value;
 use std::alloc::Global;
 use tree_games::{TreeFault, TreeGame};
@@ -28,13 +30,14 @@ pub fn has_tree_players(game: &Value) -> bool
     2 <= rows && rows <= 17
 }
 
-/// The game that is described. None where the rows aren't those of links.
-pub fn tree_of(alloc: Global, game: &Value) -> Result<Option<TreeGame>, OutOfMemory>
+/// The game that is described, its numbers times the scale. None where the rows aren't those of links.
+pub fn tree_of(alloc: Global, game: &Value, scale: u32) -> Result<Option<TreeGame>, OutOfMemory>
     requires class { class_of (view game.now) ≡ Some Tree }
     requires sizes { HasSizes (view game.now) }
-    ensures { IfOk result (λ o. let rows = rows_of (view game.now) in o ≡ (if are_links rows then Some rows else None)) }
+    requires scale { scale ≡ scale_of (view game.now) }
+    ensures { IfOk result (λ o. let rows = rows_of scale (view game.now) in o ≡ (if are_links rows then Some rows else None)) }
 {
-    let rows = rows_at(alloc, game, "matrix")?;
+    let rows = rows_at(alloc, game, "matrix", scale)?;
     match TreeGame::new(alloc, rows) {
         Ok(game) => Ok(Some(game)),
         Err(TreeFault::Matrix) => Ok(None),

@@ -1,16 +1,17 @@
-//! Weighted voting games: a quota, and a weight for each player.
+//! Weighted voting games: a quota, and a weight for each player. They are integers in both versions, so the scale is 1.
 ghost use Rattle.std.specs.Prelude.{◌≡◌, codes, IfOk, Some, None, unsigned_abs, if◌then◌else◌};
 ghost use Rattle.serde_json.specs.View.{view};
 ghost use Rattle.voting.specs.Voting.{voting};
-ghost use Rattle.json_trees.specs.Integers.{integer_at, costs_at};
+ghost use Rattle.game_text.specs.ScaledNumbers.{number_at, costs_at};
 ghost use Rattle.game_text.specs.Shape.{class_of};
 ghost use Rattle.game_text.specs.VotingClass.{is_voting_shaped, voting_players, has_voting_numbers, is_quota};
 ghost use Rattle.game_text.specs.Readings.{HasSizes};
 ghost use Rattle.game_text.specs.declared.class.Class.TheVariants.{Voting};
 
 use crate::number_forms::SmallCost;
+use crate::scaled_numbers::{number_at, numbers_at};
 use fractions::OutOfMemory;
-use json_trees::{ArrayOf, Number, each_at, has, has_only_keys, integer_at, integers_at, parts_at};
+use json_trees::{ArrayOf, Number, each_at, has, has_only_keys, parts_at};
 use serde_json::Value;
 use std::alloc::Global;
 use voting::{VotingFault, VotingGame};
@@ -19,8 +20,10 @@ use voting::{VotingFault, VotingGame};
 pub fn is_voting_shaped(game: &Value) -> bool
     ensures { result ≡ is_voting_shaped (view game.now) }
 {
-    has_only_keys(&["class", "excess", "names", "quota", "weights"], game)
-        && has(game, "quota", &Number)
+    has_only_keys(
+        &["class", "excess", "names", "quota", "version", "weights"],
+        game,
+    ) && has(game, "quota", &Number)
         && has(game, "weights", &ArrayOf(Number))
 }
 
@@ -35,7 +38,7 @@ pub fn voting_players(game: &Value) -> usize
 pub fn has_voting_numbers(game: &Value) -> bool
     ensures { result ≡ has_voting_numbers (view game.now) }
 {
-    has(game, "quota", &SmallCost) && each_at(game, "weights", &SmallCost)
+    has(game, "quota", &SmallCost(1)) && each_at(game, "weights", &SmallCost(1))
 }
 
 /// The game that is described. None where the weights sum to more than 1,000, or the quota isn't from 1 to their sum.
@@ -43,12 +46,12 @@ pub fn voting_of(alloc: Global, game: &Value) -> Result<Option<VotingGame>, OutO
     requires class { class_of (view game.now) ≡ Some Voting }
     requires sizes { HasSizes (view game.now) }
     ensures { IfOk result (λ o.
-        let quota = unsigned_abs (integer_at (codes "quota") (view game.now)) in
-        let weights = costs_at (codes "weights") (view game.now) in
+        let quota = unsigned_abs (number_at 1 (codes "quota") (view game.now)) in
+        let weights = costs_at 1 (codes "weights") (view game.now) in
         o ≡ (if is_quota quota weights then Some (voting quota weights) else None)) }
 {
-    let quota = integer_at(game, "quota");
-    let weights = integers_at(alloc, game, "weights")?;
+    let quota = number_at(game, "quota", 1);
+    let weights = numbers_at(alloc, game, "weights", 1)?;
     match VotingGame::new(alloc, quota, weights) {
         Ok(game) => {
             // Its laws say that the weights reach the quota, and are few enough together.

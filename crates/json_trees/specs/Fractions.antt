@@ -4,7 +4,7 @@
 --   fraction_or_zero  that fraction, and 0 where none is written
 use Rattle.std.specs.Prelude.{ℕ, ℤ, pos, List, Bool, Option, Some, None, is_some, option_map, unwrap_or}
 use Rattle.serde_json.specs.Data.{Data}
-use Rattle.serde_json.specs.Find.{get, as_str}
+use Rattle.serde_json.specs.Find.{as_str}
 use Rattle.fractions.specs.Fraction.{Fraction}
 use Rattle.fractions.specs.FractionTexts.{parsed}
 use Rattle.json_trees.specs.Trees.{integer}
@@ -29,7 +29,3 @@ is_fraction d = is_some (fraction_of d)
 -- the fraction that is written, and 0 where it is none
 abbrev pub fraction_or_zero : Data → Fraction
 fraction_or_zero d = unwrap_or (fraction_of d) (record { num = pos 0; den = pos 1 })
-
--- the fraction at a key, and 0 where it is absent
-abbrev pub fraction_at : List ℕ → Data → Fraction
-fraction_at key d = unwrap_or (option_map fraction_or_zero (get key d)) (record { num = pos 0; den = pos 1 })

@@ -1,6 +1,8 @@
 pub mod Trees
 pub mod Integers
 pub mod Fractions
+pub mod LowestTerms
+pub mod ScaledFractions
 pub mod Keys
 pub use Rattle.serde_json.specs.Data
 pub use Rattle.serde_json.specs.Find

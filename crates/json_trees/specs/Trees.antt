@@ -82,3 +82,7 @@ second_passes test _ = false
 -- a number or a text
 abbrev pub is_member : Data → Bool
 is_member d = is_number d || is_text d
+
+-- the kind of a number that may be written as a text too, where texts are allowed
+abbrev pub is_numeric : Bool → Data → Bool
+is_numeric texts d = is_number d || (texts && is_text d)

@@ -96,6 +96,23 @@ impl Form for Member {
     }
 }
 
+/// A number, and a text too where texts are allowed.
+#[derive(Clone, Copy, Debug)]
+pub struct Numeric {
+    /// Whether texts are allowed.
+    pub texts: bool,
+}
+
+impl Form for Numeric {
+    ghost use Rattle.json_trees.specs.Trees.{is_numeric};
+
+    ghost form = { λ f. is_numeric f.texts };
+
+    fn fits(&self, value: &Value) -> bool {
+        value.is_number() || (self.texts && value.is_string())
+    }
+}
+
 /// An integer.
 #[derive(Clone, Copy, Debug)]
 pub struct Integer;

@@ -2,7 +2,7 @@
 ghost use Rattle.std.specs.Prelude.{◌≡◌};
 ghost use Rattle.serde_json.specs.View.{view};
 ghost use Rattle.json_trees.specs.Trees.{integer};
-ghost use Rattle.json_trees.specs.Fractions.{whole_fraction, fraction_of, fraction_or_zero, fraction_at};
+ghost use Rattle.json_trees.specs.Fractions.{whole_fraction, fraction_of, fraction_or_zero};
 
 use crate::form::Form;
 use crate::integers::integer;
@@ -31,16 +31,6 @@ pub fn fraction_or_zero(value: &Value) -> Frac
     ensures { result ≡ fraction_or_zero (view value.now) }
 {
     fraction_of(value).unwrap_or(Frac::from_int(0))
-}
-
-/// The fraction at a key, and 0 where it is absent.
-pub fn fraction_at(value: &Value, key: &str) -> Frac
-    ensures { result ≡ fraction_at key.now (view value.now) }
-{
-    match value.get(key) {
-        Some(part) => fraction_or_zero(part),
-        None => Frac::from_int(0),
-    }
 }
 
 /// An integer, or a fraction text.

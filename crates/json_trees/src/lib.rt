@@ -2,6 +2,7 @@
 #![tactic(auto)]
 
 mod form;
+mod fractions_scaled;
 mod fractions_written;
 mod integers;
 mod keys;
@@ -10,9 +11,11 @@ mod looking;
 mod tests;
 
 pub use form::{
-    ArrayOf, Form, Integer, Member, Number, PairOf, SecondOf, Text, each_at, has, has_if_there,
+    ArrayOf, Form, Integer, Member, Number, Numeric, PairOf, SecondOf, Text, each_at, has,
+    has_if_there,
 };
-pub use fractions_written::{Fraction, fraction_at, fraction_of, fraction_or_zero};
-pub use integers::{integer, integer_at, integers_at, rows_at, second_integer};
+pub use fractions_scaled::{ScaledFraction, scaled, scaled_at, scaled_of};
+pub use fractions_written::{Fraction, fraction_of, fraction_or_zero};
+pub use integers::{integer, integer_at, second_integer};
 pub use keys::has_only_keys;
 pub use looking::{pair_members, parts, parts_at, text};

@@ -1,19 +1,24 @@
 -- The game of a document that isn't refused passes each test of a game.
-use Rattle.std.proofs.Common.{◌≡◌, true, ◌&&◌, None, codes, refl}
-use Rattle.std.proofs.lemmas.Bool.{and_parts}
+use Rattle.std.proofs.Common.{◌≡◌, true, ◌&&◌, nat_le, pos, None, codes, refl, arith}
+use Rattle.std.proofs.lemmas.Bool.{and_parts, leb-true}
+use Rattle.std.proofs.lemmas.Int.{ints}
 use Rattle.serde_json.specs.Data.{Data}
 use Rattle.serde_json.specs.Find.{get}
 use Rattle.json_trees.specs.Keys.{has_only_keys}
 use Rattle.json_trees.specs.Trees.{passes}
 use Rattle.game_text.specs.Shape.{class_of, document_keys, is_game_shaped, has_needed, is_shaped}
-use Rattle.game_text.specs.Limits.{players, has_players, has_numbers}
+use Rattle.game_text.specs.Scales.{game_numbers, game_fractions, scale_of}
+use Rattle.game_text.specs.Limits.{players, has_players, has_numbers, has_numbers_as}
 use Rattle.game_text.specs.Names.{has_names}
 use Rattle.game_text.specs.Coalitions.{has_coalitions}
 use Rattle.game_text.specs.Descriptions.{game_of, description_of}
 use Rattle.game_text.specs.Documents.{game_tree}
 use Rattle.game_text.specs.Refusals.{is_covered, has_quota, has_matrix, has_needed_numbers}
 use Rattle.game_text.specs.Denominators.{tree_refusal}
+use Rattle.game_text.proofs.LeastDenominators.{least_denominator_is}
 use Rattle.game_text.proofs.Passed.{passed_tests}
+use Rattle.json_trees.proofs.Fractions.{written_reduced}
+use Rattle.report.specs.Limits.{IsScale}
 use Rattle.game_text.specs.declared.command.Command.{Command}
 use Rattle.game_text.proofs.KeptTrees.{passes_there}
 use Rattle.game_text.proofs.Counts.{players_described as players_described_as}
@@ -48,7 +53,15 @@ accepted command tree e =
       matrix = passes.matrix;
     }
 
+-- ---- its scale can be printed over
+
+pub accepted_scale : (game : Data) → has_numbers game ≡ true → IsScale (pos (scale_of game))
+accepted_scale game h =
+    let few = leb-true (scale_of game) 65536 (and_parts (nat_le (scale_of game) 65536) (has_numbers_as (scale_of game) (class_of game) game) h).0 in
+    let least = least_denominator_is (game_fractions game) (written_reduced (game_numbers game)) in
+    (least.positive, omega (arith, ints, few))
+
 -- ---- the game that is described has the players of the tree
 
 pub players_described : (game : Data) → (game_of (description_of game)).players ≡ players game
-players_described game = players_described_as game (class_of game) refl
+players_described game = players_described_as (scale_of game) game (class_of game) refl

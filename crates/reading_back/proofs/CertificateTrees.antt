@@ -1,5 +1,5 @@
 -- A certificate that was printed is read as that certificate.
-use Rattle.std.proofs.Common.{◌≡◌, ℕ, ◌^◌, ◌<◌, ◌≤◌, Bool, true, false, ◌&&◌, ◌||◌, nat_eq, IsTrue, List, [], ◌∷◌, ◌++◌, Option, Some, ℤ, codes, refl, sym, ap, subst, ◌∙◌, arith}
+use Rattle.std.proofs.Common.{◌≡◌, ℕ, ◌^◌, ◌<◌, ◌≤◌, Bool, true, false, ◌&&◌, ◌||◌, nat_eq, IsTrue, List, [], ◌∷◌, ◌++◌, Option, Some, ℤ, pos, codes, refl, sym, ap, subst, ◌∙◌, arith}
 use Rattle.std.specs.Prelude.{is_some, unwrap_or}
 use Rattle.std.specs.List.{list_any, AllByRecursion}
 use Rattle.std.proofs.lemmas.Bool.{false≢true, and_from, eqb-true}
@@ -16,6 +16,7 @@ use Rattle.certificate_texts.specs.Shape.{mode_of, is_level, is_certificate}
 use Rattle.certificate_texts.specs.Certificates.{levels_of, is_written}
 use Rattle.certificate_texts.specs.Levels.{level_of}
 use Rattle.certificate_texts.proofs.FormTests.{form_passes}
+use Rattle.report.specs.Limits.{IsScale}
 use Rattle.report.specs.Certificates.{level_tree, certificate_tree}
 use Rattle.reading_back.specs.CertificatesReadBack.{HasLowestExcess, AreInLowestTerms, IsReadAs}
 use Rattle.reading_back.proofs.WeightTexts.{IsWeighted, IsBound, all_read, all_pass, every_pass}
@@ -75,35 +76,35 @@ all_readable n front (l ∷ levels) h f e = (
 
 -- ---- the certificate
 
-mode_read : (c : CertificateData) → mode_of (certificate_tree c) ≡ Some c.mode
-mode_read c = named c.mode
+mode_read : (k : ℕ) (c : CertificateData) → mode_of (certificate_tree k c) ≡ Some c.mode
+mode_read k c = named c.mode
   where
-    named : (m : Mode) → mode_of (certificate_tree (record { players = 0; mode = m; levels = [] })) ≡ Some m
+    named : (m : Mode) → mode_of (certificate_tree k (record { players = 0; mode = m; levels = [] })) ≡ Some m
     named Players = refl
     named Span = refl
 
-levels_read : (c : CertificateData) → c.players ≤ 64 → AllByRecursion (IsReadable c.players) c.levels → levels_of c.players (certificate_tree c) ≡ c.levels
-levels_read c m h = all_read (IsReadable c.players) level_tree (level_of c.players) (level_read c.players m) c.levels h
+levels_read : (k : ℕ) (c : CertificateData) → IsScale (pos k) → c.players ≤ 64 → AllByRecursion (IsReadable c.players) c.levels → levels_of k c.players (certificate_tree k c) ≡ c.levels
+levels_read k c s m h = all_read (IsReadable c.players) (level_tree k) (level_of k c.players) (level_read k c.players s m) c.levels h
 
-certificate_shaped : (c : CertificateData) → is_certificate (certificate_tree c) ≡ true
-certificate_shaped c =
-    let d = certificate_tree c in
+certificate_shaped : (k : ℕ) (c : CertificateData) → is_certificate (certificate_tree k c) ≡ true
+certificate_shaped k c =
+    let d = certificate_tree k c in
     and_from (has_only_keys certificate_keys d && passes (is_array_of is_level) (get (codes "levels") d)) (is_some (mode_of d))
-    (and_from (has_only_keys certificate_keys d) (passes (is_array_of is_level) (get (codes "levels") d)) refl (every_pass level_tree is_level level_shaped c.levels))
-    (ap is_some (mode_read c))
+    (and_from (has_only_keys certificate_keys d) (passes (is_array_of is_level) (get (codes "levels") d)) refl (every_pass (level_tree k) is_level (level_shaped k) c.levels))
+    (ap is_some (mode_read k c))
 
 abbrev made : ℕ → Option Mode → List Level → CertificateData
 made n o levels = record { players = n; mode = unwrap_or o Players; levels = levels }
 
-pub certificate_read : (c : CertificateData) → IsCertificate c → AreInLowestTerms c.levels → IsReadAs c (certificate_tree c)
-certificate_read c h e =
+pub certificate_read : (k : ℕ) (c : CertificateData) → IsScale (pos k) → IsCertificate c → AreInLowestTerms c.levels → IsReadAs k c (certificate_tree k c)
+certificate_read k c s h e =
     let n = c.players in
-    let d = certificate_tree c in
+    let d = certificate_tree k c in
     let ready = all_readable n [] c.levels tt h.form.each e in
-    let levels = levels_read c h.few ready in
+    let levels = levels_read k c s h.few ready in
     record {
-      shaped = certificate_shaped c;
-      formed = form_passes n c.mode d (mode_read c) (all_pass (IsReadable n) level_tree (is_written n) (level_written n h.few) c.levels ready)
+      shaped = certificate_shaped k c;
+      formed = form_passes k n c.mode d (mode_read k c) (all_pass (IsReadable n) (level_tree k) (is_written k n) (level_written k n s h.few) c.levels ready)
           (subst (λ ls. HasForm c.mode n ls) (sym levels) h.form);
-      same = ap (λ o. made n o (levels_of n d)) (mode_read c) ∙ ap (λ ls. made n (Some c.mode) ls) levels;
+      same = ap (λ o. made n o (levels_of k n d)) (mode_read k c) ∙ ap (λ ls. made n (Some c.mode) ls) levels;
     }

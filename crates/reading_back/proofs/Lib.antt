@@ -1,4 +1,3 @@
-pub mod LowestTerms
 pub mod OverLeast
 pub mod Signs
 pub mod ShareTexts

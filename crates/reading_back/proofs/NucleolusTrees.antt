@@ -16,7 +16,8 @@ use Rattle.game_text.specs.Limits.{players, has_players, has_numbers}
 use Rattle.game_text.specs.Names.{has_names}
 use Rattle.game_text.specs.Coalitions.{has_coalitions}
 use Rattle.game_text.specs.Descriptions.{game_of, is_cost, description_of}
-use Rattle.game_text.specs.Shares.{has_share_numbers, has_shares_for, written_shares, as_worth}
+use Rattle.game_text.specs.Scales.{scale_of}
+use Rattle.game_text.specs.Shares.{has_share_numbers, has_shares_for, scaled_shares, as_worth}
 use Rattle.game_text.specs.Denominators.{shares_of, keep_limits, over_least, contents_of, tree_refusal}
 use Rattle.certificate_texts.specs.Certificates.{has_form, certificate_of}
 use Rattle.game_text.specs.Documents.{game_tree}
@@ -36,30 +37,30 @@ use Rattle.json_trees.proofs.Values.{listed-items_of}
 use Rattle.reading_back.proofs.ShareTexts.{listed_members}
 use Rattle.reading_back.proofs.Again.{are_read_back}
 use Rattle.reading_back.proofs.CertificateTrees.{certificate_read}
-use Rattle.reading_back.proofs.AcceptedGames.{IsAccepted, accepted, players_described}
+use Rattle.reading_back.proofs.AcceptedGames.{IsAccepted, accepted, accepted_scale, players_described}
 
 go_on : (b : Bool) (r : Refusal) (rest : Option Refusal) → b ≡ true → rest ≡ None → unless b r rest ≡ None
 go_on b r rest e h = ap (λ t. unless t r rest) e ∙ h
 
 module _ (family : Family) (game : Data) (b : Bool) (x : Allocation) (c : CertificateData) where
   abbrev printed : Data
-  printed = nucleolus_tree family game b x c
+  printed = nucleolus_tree (scale_of game) family game b x c
 
   family_read : family_of printed ≡ Some family
   family_read = named family
     where
-      named : (f : Family) → family_of (nucleolus_tree f game b x c) ≡ Some f
+      named : (f : Family) → family_of (nucleolus_tree (scale_of game) f game b x c) ≡ Some f
       named Imputations = refl
       named Preimputations = refl
 
-  shares_written : parts_at (codes "shares") printed ≡ map (share_data b x.den) x.shares
-  shares_written = listed-items_of (map (share_data b x.den) x.shares)
+  shares_written : parts_at (codes "shares") printed ≡ map (share_data (scale_of game) b x.den) x.shares
+  shares_written = listed-items_of (map (share_data (scale_of game) b x.den) x.shares)
 
-  module _ (accept : IsAccepted game) (shares : AreReadBack b x printed) (read : IsReadAs c (certificate_tree c)) (each : length x.shares ≡ players game) (same : c.players ≡ players game) where
+  module _ (accept : IsAccepted game) (shares : AreReadBack (scale_of game) b x printed) (read : IsReadAs (scale_of game) c (certificate_tree (scale_of game) c)) (each : length x.shares ≡ players game) (same : c.players ≡ players game) where
     needed : has_needed Check printed ≡ true
     needed =
         and_from (has_shares printed && is_some (family_of printed)) (passes is_certificate (get (codes "certificate") printed))
-        (and_from (has_shares printed) (is_some (family_of printed)) (listed_members b x.den x.shares) (ap is_some family_read)) read.shaped
+        (and_from (has_shares printed) (is_some (family_of printed)) (listed_members (scale_of game) b x.den x.shares) (ap is_some family_read)) read.shaped
 
     shaped : is_shaped Check printed ≡ true
     shaped =
@@ -68,14 +69,14 @@ module _ (family : Family) (game : Data) (b : Bool) (x : Allocation) (c : Certif
 
     certified : certificate_refusal Check game printed ≡ None
     certified =
-        go_on (passes (has_form (players game)) (get (codes "certificate") printed)) Certificate None
-        (subst (λ n. has_form n (certificate_tree c) ≡ true) same read.formed) refl
+        go_on (passes (has_form (scale_of game) (players game)) (get (codes "certificate") printed)) Certificate None
+        (subst (λ n. has_form (scale_of game) n (certificate_tree (scale_of game) c) ≡ true) same read.formed) refl
 
     proposed : needed_refusal Check game printed ≡ None
     proposed =
         let rest = certificate_refusal Check game printed in
-        go_on (has_shares_for (players game) printed) Proposal (unless (keep_limits (written_shares printed)) TooFine rest)
-        (subst (λ n. has_shares_for n printed ≡ true) each shares.enough) (go_on (keep_limits (written_shares printed)) TooFine rest shares.coarse certified)
+        go_on (has_shares_for (players game) printed) Proposal (unless (keep_limits (scaled_shares (scale_of game) printed)) TooFine rest)
+        (subst (λ n. has_shares_for n printed ≡ true) each shares.enough) (go_on (keep_limits (scaled_shares (scale_of game) printed)) TooFine rest shares.coarse certified)
 
     late : late_refusal Check game printed ≡ None
     late =
@@ -96,16 +97,17 @@ module _ (family : Family) (game : Data) (b : Bool) (x : Allocation) (c : Certif
         (go_on (has_players game) Players number accept.players
         (go_on numbers Number (late_refusal Check game printed) (and_from (has_numbers game) (has_share_numbers printed) accept.numbers shares.numbers) late))
 
-    certificate : certificate_of (players game) (certificate_tree c) ≡ c
-    certificate = ap (λ n. certificate_of n (certificate_tree c)) (sym same) ∙ read.same
+    certificate : certificate_of (scale_of game) (players game) (certificate_tree (scale_of game) c) ≡ c
+    certificate = ap (λ n. certificate_of (scale_of game) n (certificate_tree (scale_of game) c)) (sym same) ∙ read.same
 
     pub contents : b ≡ is_cost (description_of game) → IsReadOf family game x c (contents_of Check printed)
     contents e = record {
       game = refl;
       tree = refl;
       measure = refl;
+      scale = refl;
       family = ap (λ o. Some (unwrap_or o Imputations)) family_read;
-      shares = (shares_of game printed, refl, subst (λ t. IsAgain x (as_worth t (over_least (written_shares printed)))) e shares.again);
+      shares = (shares_of game printed, refl, subst (λ t. IsAgain x (as_worth t (over_least (scaled_shares (scale_of game) printed)))) e shares.again);
       certificate = ap Some certificate;
     }
 
@@ -113,14 +115,15 @@ pub printed_is_read : (command : Command) (document : Data) (family : Family) (x
     → tree_refusal command document ≡ None
     → IsShares x → length x.shares ≡ (game_of (description_of (game_tree document))).players
     → IsCertificate c → c.players ≡ (game_of (description_of (game_tree document))).players → AreInLowestTerms c.levels
-    → (tree_refusal Check (nucleolus_tree family (game_tree document) (is_cost (description_of (game_tree document))) x c) ≡ None)
-    × IsReadOf family (game_tree document) x c (contents_of Check (nucleolus_tree family (game_tree document) (is_cost (description_of (game_tree document))) x c))
+    → (tree_refusal Check (nucleolus_tree (scale_of (game_tree document)) family (game_tree document) (is_cost (description_of (game_tree document))) x c) ≡ None)
+    × IsReadOf family (game_tree document) x c (contents_of Check (nucleolus_tree (scale_of (game_tree document)) family (game_tree document) (is_cost (description_of (game_tree document))) x c))
 printed_is_read command document family x c passed s each h same e =
     let game = game_tree document in
     let b = is_cost (description_of game) in
     let accept = accepted command document passed in
-    let shares = are_read_back b x (nucleolus_tree family game b x c) s (shares_written family game b x c) in
-    let read = certificate_read c h e in
+    let scale = accepted_scale game accept.numbers in
+    let shares = are_read_back (scale_of game) b x (nucleolus_tree (scale_of game) family game b x c) scale s (shares_written family game b x c) in
+    let read = certificate_read (scale_of game) c scale h e in
     let of_each = each ∙ players_described game in
     let of_same = same ∙ players_described game in
     (not_refused family game b x c accept shares read of_each of_same, contents family game b x c accept shares read of_each of_same refl)

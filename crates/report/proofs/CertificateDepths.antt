@@ -27,14 +27,14 @@ pairs_depth ps = omega (arith, items_shallow coalition_pair 2 ps (all_any (λ p.
 bounds_depth : (ps : List (ℕ × ℤ)) → depth (bound_pairs ps) ≤ 3
 bounds_depth ps = omega (arith, items_shallow bound_pair 2 ps (all_any (λ p. depth (bound_pair p) ≤ 2) ps (λ p. omega arith)))
 
-level_depth : (l : Level) → depth (level_tree l) ≤ 4
-level_depth l = omega (arith, bounds_depth l.bounds, pairs_depth l.coalitions, pairs_depth l.earlier)
+level_depth : (k : ℕ) (l : Level) → depth (level_tree k l) ≤ 4
+level_depth k l = omega (arith, bounds_depth l.bounds, pairs_depth l.coalitions, pairs_depth l.earlier)
 
-certificate_depth : (c : CertificateData) → depth (certificate_tree c) ≤ 6
-certificate_depth c = omega (arith, items_shallow level_tree 4 c.levels (all_any (λ l. depth (level_tree l) ≤ 4) c.levels level_depth))
+certificate_depth : (k : ℕ) (c : CertificateData) → depth (certificate_tree k c) ≤ 6
+certificate_depth k c = omega (arith, items_shallow (level_tree k) 4 c.levels (all_any (λ l. depth (level_tree k l) ≤ 4) c.levels (level_depth k)))
 
-pub shares_depth : (is_cost : Bool) (x : Allocation) → depth (share_list is_cost x) ≤ 1
-shares_depth is_cost x = omega (arith, items_shallow (share_data is_cost x.den) 0 x.shares (all_any (λ z. depth (share_data is_cost x.den z) ≤ 0) x.shares (λ z. omega arith)))
+pub shares_depth : (k : ℕ) (is_cost : Bool) (x : Allocation) → depth (share_list k is_cost x) ≤ 1
+shares_depth k is_cost x = omega (arith, items_shallow (share_data k is_cost x.den) 0 x.shares (all_any (λ z. depth (share_data k is_cost x.den z) ≤ 0) x.shares (λ z. omega arith)))
 
-pub nucleolus_depth : (family : Family) (game : Data) (is_cost : Bool) (x : Allocation) (c : CertificateData) → depth game ≤ 8 → depth (nucleolus_tree family game is_cost x c) ≤ 9
-nucleolus_depth family game is_cost x c h = omega (arith, h, certificate_depth c, shares_depth is_cost x)
+pub nucleolus_depth : (k : ℕ) (family : Family) (game : Data) (is_cost : Bool) (x : Allocation) (c : CertificateData) → depth game ≤ 8 → depth (nucleolus_tree k family game is_cost x c) ≤ 9
+nucleolus_depth k family game is_cost x c h = omega (arith, h, certificate_depth k c, shares_depth k is_cost x)

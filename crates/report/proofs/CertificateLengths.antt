@@ -17,7 +17,8 @@ use Rattle.definitions.specs.declared.Mode.TheVariants.{Players, Span}
 use Rattle.fractions.specs.Fraction.{Fraction}
 use Rattle.fractions.specs.FractionTexts.{is_i128, fraction_text}
 use Rattle.kohlberg.specs.Certificate.{CertificateData}
-use Rattle.report.specs.Values.{fraction_data, player_data, player_numbers}
+use Rattle.json_trees.specs.LowestTerms.{over_scale}
+use Rattle.report.specs.Values.{fraction_data, scaled_data, player_data, player_numbers}
 use Rattle.report.specs.Words.{family_word, mode_word}
 use Rattle.report.specs.Certificates.{weight_data, coalition_pair, bound_pair, coalition_pairs, bound_pairs, excess_of, level_tree, certificate_tree}
 use Rattle.report.specs.ShareLists.{share_data, share_list}
@@ -79,16 +80,16 @@ bound_pairs_length ps h k =
 -- ---- levels
 
 -- what can be printed of a level in few bytes
-pub record IsShortLevel (l : Level) : Type 0 where
+pub record IsShortLevel (k : ℕ) (l : Level) : Type 0 where
   pub printable : IsPrintableLevel l
-  pub excess : IsReadBack (excess_of l)
+  pub excess : IsReadBack (over_scale (pos k) (excess_of l))
   pub few : length l.coalitions + length l.earlier + length l.bounds ≤ 128
 
-level_length : (l : Level) → IsShortLevel l → length (compact_text (level_tree l)) ≤ 28772
-level_length l h =
+level_length : (k : ℕ) (l : Level) → IsShortLevel k l → length (compact_text (level_tree k l)) ≤ 28772
+level_length k l h =
     let small = h.printable.small in
     let total = member (codes "total") (weight_data l.total) no_members in
-    let excess = member (codes "excess") (fraction_data (excess_of l)) total in
+    let excess = member (codes "excess") (scaled_data k (excess_of l)) total in
     let earlier = member (codes "earlier") (coalition_pairs l.earlier) excess in
     let coalitions = member (codes "coalitions") (coalition_pairs l.coalitions) earlier in
     omega (
@@ -97,12 +98,12 @@ level_length l h =
       bound_pairs_length l.bounds small.bounds h.printable.players,
       coalition_pairs_length l.coalitions small.coalitions,
       coalition_pairs_length l.earlier small.earlier,
-      fraction_length (excess_of l) h.excess,
+      fraction_length (over_scale (pos k) (excess_of l)) h.excess,
       weight_length l.total small.total,
       member_length false (codes "bounds") (bound_pairs l.bounds) coalitions,
       member_length true (codes "coalitions") (coalition_pairs l.coalitions) earlier,
       member_length true (codes "earlier") (coalition_pairs l.earlier) excess,
-      member_length true (codes "excess") (fraction_data (excess_of l)) total,
+      member_length true (codes "excess") (scaled_data k (excess_of l)) total,
       member_length true (codes "total") (weight_data l.total) no_members,
     )
 
@@ -114,36 +115,36 @@ family_length : (f : Family) → length (compact_text (string (family_word f))) 
 family_length Imputations = omega (arith, quoted_length (codes "nucleolus"))
 family_length Preimputations = quoted_length (codes "prenucleolus")
 
-certificate_length : (c : CertificateData) → length c.levels ≤ 63 → AllByRecursion IsShortLevel c.levels → length (compact_text (certificate_tree c)) ≤ 1812815
-certificate_length c few h =
-    let levels = array (items_of (map level_tree c.levels)) in
+certificate_length : (k : ℕ) (c : CertificateData) → length c.levels ≤ 63 → AllByRecursion (IsShortLevel k) c.levels → length (compact_text (certificate_tree k c)) ≤ 1812815
+certificate_length k c few h =
+    let levels = array (items_of (map (level_tree k) c.levels)) in
     let mode = member (codes "mode") (string (mode_word c.mode)) no_members in
     omega (
       arith,
       few,
-      array_length level_tree 28772 c.levels (all_weaken IsShortLevel (λ l. length (compact_text (level_tree l)) ≤ 28772) c.levels level_length h),
+      array_length (level_tree k) 28772 c.levels (all_weaken (IsShortLevel k) (λ l. length (compact_text (level_tree k l)) ≤ 28772) c.levels (level_length k) h),
       mode_length c.mode,
       member_length false (codes "levels") levels mode,
       member_length true (codes "mode") (string (mode_word c.mode)) no_members,
     )
 
-shares_length : (is_cost : Bool) (x : Allocation) → length x.shares ≤ 64 → SharesAreReadBack is_cost x → length (compact_text (share_list is_cost x)) ≤ 31298
-shares_length is_cost x few h =
-    omega (arith, few, array_length (share_data is_cost x.den) 488 x.shares (all_weaken _ (λ z. length (compact_text (share_data is_cost x.den z)) ≤ 488) x.shares (λ z r. fraction_length _ r) h))
+shares_length : (k : ℕ) (is_cost : Bool) (x : Allocation) → length x.shares ≤ 64 → SharesAreReadBack k is_cost x → length (compact_text (share_list k is_cost x)) ≤ 31298
+shares_length k is_cost x few h =
+    omega (arith, few, array_length (share_data k is_cost x.den) 488 x.shares (all_weaken _ (λ z. length (compact_text (share_data k is_cost x.den z)) ≤ 488) x.shares (λ z r. fraction_length _ r) h))
 
-pub nucleolus_length : (family : Family) (game : Data) (is_cost : Bool) (x : Allocation) (c : CertificateData) → length c.levels ≤ 63 → length x.shares ≤ 64 → AllByRecursion IsShortLevel c.levels → SharesAreReadBack is_cost x
-    → length (compact_text (nucleolus_tree family game is_cost x c)) ≤ length (compact_text game) + 2 ^ 21
-nucleolus_length family game is_cost x c levels shares h r =
-    let list = member (codes "shares") (share_list is_cost x) no_members in
+pub nucleolus_length : (k : ℕ) (family : Family) (game : Data) (is_cost : Bool) (x : Allocation) (c : CertificateData) → length c.levels ≤ 63 → length x.shares ≤ 64 → AllByRecursion (IsShortLevel k) c.levels → SharesAreReadBack k is_cost x
+    → length (compact_text (nucleolus_tree k family game is_cost x c)) ≤ length (compact_text game) + 2 ^ 21
+nucleolus_length k family game is_cost x c levels shares h r =
+    let list = member (codes "shares") (share_list k is_cost x) no_members in
     let games = member (codes "game") game list in
-    let certificates = member (codes "certificate") (certificate_tree c) games in
+    let certificates = member (codes "certificate") (certificate_tree k c) games in
     omega (
       arith,
       family_length family,
-      certificate_length c levels h,
-      shares_length is_cost x shares r,
+      certificate_length k c levels h,
+      shares_length k is_cost x shares r,
       member_length false (codes "answer") (string (family_word family)) certificates,
-      member_length true (codes "certificate") (certificate_tree c) games,
+      member_length true (codes "certificate") (certificate_tree k c) games,
       member_length true (codes "game") game list,
-      member_length true (codes "shares") (share_list is_cost x) no_members,
+      member_length true (codes "shares") (share_list k is_cost x) no_members,
     )

@@ -32,15 +32,15 @@ coalition_pair_whole p = rw (coalition_whole p.0, weight_whole p.1) refl
 bound_pair_whole : (p : ℕ × ℤ) → has_float (bound_pair p) ≡ false
 bound_pair_whole p = rw (weight_whole p.1) refl
 
-level_whole : (l : Level) → has_float (level_tree l) ≡ false
-level_whole l =
+level_whole : (k : ℕ) (l : Level) → has_float (level_tree k l) ≡ false
+level_whole k l =
     rw (items_whole bound_pair l.bounds bound_pair_whole, items_whole coalition_pair l.coalitions coalition_pair_whole, items_whole coalition_pair l.earlier coalition_pair_whole, weight_whole l.total) refl
 
-pub shares_whole : (is_cost : Bool) (x : Allocation) → has_float (share_list is_cost x) ≡ false
-shares_whole is_cost x = items_whole (share_data is_cost x.den) x.shares (λ z. refl)
+pub shares_whole : (k : ℕ) (is_cost : Bool) (x : Allocation) → has_float (share_list k is_cost x) ≡ false
+shares_whole k is_cost x = items_whole (share_data k is_cost x.den) x.shares (λ z. refl)
 
-pub empty_core_whole : (c : CollectionData) (value against : ℤ) → has_float (empty_core_tree c value against) ≡ false
-empty_core_whole c value against = rw (items_whole coalition_pair c.weights coalition_pair_whole, weight_whole c.k) refl
+pub empty_core_whole : (k : ℕ) (c : CollectionData) (value against : ℤ) → has_float (empty_core_tree k c value against) ≡ false
+empty_core_whole k c value against = rw (items_whole coalition_pair c.weights coalition_pair_whole, weight_whole c.k) refl
 
-pub nucleolus_whole : (family : Family) (game : Data) (is_cost : Bool) (x : Allocation) (c : CertificateData) → has_float game ≡ false → has_float (nucleolus_tree family game is_cost x c) ≡ false
-nucleolus_whole family game is_cost x c h = rw (items_whole level_tree c.levels level_whole, h, shares_whole is_cost x) refl
+pub nucleolus_whole : (k : ℕ) (family : Family) (game : Data) (is_cost : Bool) (x : Allocation) (c : CertificateData) → has_float game ≡ false → has_float (nucleolus_tree k family game is_cost x c) ≡ false
+nucleolus_whole k family game is_cost x c h = rw (items_whole (level_tree k) c.levels (level_whole k), h, shares_whole k is_cost x) refl

@@ -46,8 +46,8 @@ bound_pairs_exact : (ps : List (ℕ × ℤ)) → AllByRecursion (λ p. IsSmall p
 bound_pairs_exact ps h k =
     items_exact bound_pair ps (all_weaken (λ p. IsSmall p.1 × (p.0 < 64)) (λ p. IsExact (bound_pair p)) ps bound_pair_exact (all_both (λ p. IsSmall p.1) (λ p. p.0 < 64) ps h k))
 
-level_exact : (l : Level) → IsPrintableLevel l → IsExact (level_tree l)
-level_exact l h = (
+level_exact : (k : ℕ) (l : Level) → IsPrintableLevel l → IsExact (level_tree k l)
+level_exact k l h = (
   (refl, (refl, (refl, (refl, tt)))),
   bound_pairs_exact l.bounds h.small.bounds h.players,
   (
@@ -57,13 +57,13 @@ level_exact l h = (
   ),
 )
 
-pub certificate_exact : (c : CertificateData) → AllByRecursion IsPrintableLevel c.levels → IsExact (certificate_tree c)
-certificate_exact c h =
-    ((refl, tt), items_exact level_tree c.levels (all_weaken IsPrintableLevel (λ l. IsExact (level_tree l)) c.levels level_exact h), (tt, tt, tt))
+pub certificate_exact : (k : ℕ) (c : CertificateData) → AllByRecursion IsPrintableLevel c.levels → IsExact (certificate_tree k c)
+certificate_exact k c h =
+    ((refl, tt), items_exact (level_tree k) c.levels (all_weaken IsPrintableLevel (λ l. IsExact (level_tree k l)) c.levels (level_exact k) h), (tt, tt, tt))
 
-pub shares_exact : (is_cost : Bool) (x : Allocation) → IsExact (share_list is_cost x)
-shares_exact is_cost x = items_exact (share_data is_cost x.den) x.shares (all_any (λ z. IsExact (share_data is_cost x.den z)) x.shares (λ z. tt))
+pub shares_exact : (k : ℕ) (is_cost : Bool) (x : Allocation) → IsExact (share_list k is_cost x)
+shares_exact k is_cost x = items_exact (share_data k is_cost x.den) x.shares (all_any (λ z. IsExact (share_data k is_cost x.den z)) x.shares (λ z. tt))
 
-pub nucleolus_exact : (family : Family) (game : Data) (is_cost : Bool) (x : Allocation) (c : CertificateData) → AllByRecursion IsPrintableLevel c.levels → IsExact game → IsExact (nucleolus_tree family game is_cost x c)
-nucleolus_exact family game is_cost x c h k =
-    ((refl, (refl, (refl, tt))), tt, ((refl, (refl, tt)), certificate_exact c h, ((refl, tt), k, (tt, shares_exact is_cost x, tt))))
+pub nucleolus_exact : (k : ℕ) (family : Family) (game : Data) (is_cost : Bool) (x : Allocation) (c : CertificateData) → AllByRecursion IsPrintableLevel c.levels → IsExact game → IsExact (nucleolus_tree k family game is_cost x c)
+nucleolus_exact k family game is_cost x c h e =
+    ((refl, (refl, (refl, tt))), tt, ((refl, (refl, tt)), certificate_exact k c h, ((refl, tt), e, (tt, shares_exact k is_cost x, tt))))

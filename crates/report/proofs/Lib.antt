@@ -1,5 +1,4 @@
 pub mod Lists
-pub mod LowestTerms
 pub mod TextViews
 pub mod PrintableLevels
 pub mod CertificateDepths

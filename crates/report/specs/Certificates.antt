@@ -13,7 +13,7 @@ use Rattle.serde_json.specs.View.{items_of}
 use Rattle.definitions.specs.Certificates.{Level}
 use Rattle.fractions.specs.Fraction.{Fraction}
 use Rattle.kohlberg.specs.Certificate.{CertificateData}
-use Rattle.report.specs.Values.{fraction_data, player_data, player_numbers}
+use Rattle.report.specs.Values.{scaled_data, player_data, player_numbers}
 use Rattle.report.specs.Words.{mode_word}
 
 -- a weight, or a total
@@ -44,19 +44,19 @@ bound_pairs ps = array (items_of (map bound_pair ps))
 abbrev pub excess_of : Level → Fraction
 excess_of l = record { num = l.excess_num; den = l.excess_den }
 
--- a level
-abbrev pub level_tree : Level → Data
-level_tree l =
+-- a level, its excess over the scale k
+abbrev pub level_tree : ℕ → Level → Data
+level_tree k l =
     object
     (member (codes "bounds") (bound_pairs l.bounds)
     (member (codes "coalitions") (coalition_pairs l.coalitions)
     (member (codes "earlier") (coalition_pairs l.earlier)
-    (member (codes "excess") (fraction_data (excess_of l))
+    (member (codes "excess") (scaled_data k (excess_of l))
     (member (codes "total") (weight_data l.total) no_members)))))
 
 -- the levels, from the first, and the mode
-abbrev pub certificate_tree : CertificateData → Data
-certificate_tree c =
+abbrev pub certificate_tree : ℕ → CertificateData → Data
+certificate_tree k c =
     object
-    (member (codes "levels") (array (items_of (map level_tree c.levels)))
+    (member (codes "levels") (array (items_of (map (level_tree k) c.levels)))
     (member (codes "mode") (string (mode_word c.mode)) no_members))

@@ -5,18 +5,18 @@
 use Rattle.std.specs.Prelude.{ℕ, codes}
 use Rattle.serde_json.specs.Data.{Data, string, object, member, no_members}
 use Rattle.fractions.specs.Fraction.{Fraction}
-use Rattle.report.specs.Values.{fraction_data, player_data}
+use Rattle.report.specs.Values.{scaled_data, player_data}
 
 -- the shares are in the prekernel
 abbrev pub prekernel_tree : Data
 prekernel_tree = object (member (codes "answer") (string (codes "prekernel")) no_members)
 
 -- the two players, the surplus of i against j, and that of j against i
-abbrev pub not_prekernel_tree : ℕ → ℕ → Fraction → Fraction → Data
-not_prekernel_tree i j ij ji =
+abbrev pub not_prekernel_tree : ℕ → ℕ → ℕ → Fraction → Fraction → Data
+not_prekernel_tree k i j ij ji =
     object
     (member (codes "answer") (string (codes "not prekernel"))
     (member (codes "i") (player_data i)
-    (member (codes "ij") (fraction_data ij)
+    (member (codes "ij") (scaled_data k ij)
     (member (codes "j") (player_data j)
-    (member (codes "ji") (fraction_data ji) no_members)))))
+    (member (codes "ji") (scaled_data k ji) no_members)))))

@@ -1,5 +1,9 @@
 -- What can be printed.
-use Rattle.std.specs.Prelude.{◌≡◌, ◌≤◌, ⊤, false}
+--
+--   IsScale      a scale, from 1 to 65,536
+--   IsFine       a denominator that can be printed over a scale
+--   IsPrintable  an answer that can be printed over any scale
+use Rattle.std.specs.Prelude.{◌≡◌, ◌≤◌, ◌^◌, ⊤, false, ℤ, pos, ◌≤ℤ◌, ◌<ℤ◌, Option, Some, None}
 use Rattle.std.specs.List.{AllByRecursion}
 use Rattle.serde_json.specs.Data.{Data, depth}
 use Rattle.serde_json.specs.View.{view}
@@ -7,7 +11,39 @@ use Rattle.serde_json.specs.Written.{has_float}
 use Rattle.definitions.specs.Certificates.{Level, IsSmall}
 use Rattle.balanced.specs.Collections.{CollectionData}
 use Rattle.report.specs.declared.answer.Answer.{Answer}
-use Rattle.report.specs.declared.answer.Answer.TheVariants.{Nucleolus, EmptyCore}
+use Rattle.report.specs.declared.answer.Answer.TheVariants.{Nucleolus, NotEfficient, Blocked, EmptyCore, NotPrekernel, Verdict, Summary}
+use Rattle.checker.specs.declared.verdicts.Verdict.{Verdict as CheckVerdict}
+use Rattle.checker.specs.declared.verdicts.Verdict.TheVariants.{No}
+use Rattle.checker.specs.declared.verdicts.Reason.TheVariants.{OutsideAbove}
+use Rattle.fractions.specs.Fraction.{Fraction}
+
+-- a scale
+abbrev pub IsScale : ℤ → Type 0
+IsScale k = (pos 1 ≤ℤ k) × (k ≤ℤ pos 65536)
+
+-- a denominator of at least 1 and below 2^100
+abbrev pub IsFine : ℤ → Type 0
+IsFine d = (pos 1 ≤ℤ d) × (d <ℤ pos (2 ^ 100))
+
+-- the excess that a verdict carries, where it carries one, has such a denominator
+abbrev pub IsFineVerdict : CheckVerdict → Type 0
+IsFineVerdict (No (OutsideAbove j e)) = IsFine e.den
+IsFineVerdict _ = ⊤
+
+-- the fraction has such a denominator, where there is one
+abbrev pub IsFineIfThere : Option Fraction → Type 0
+IsFineIfThere None = ⊤
+IsFineIfThere (Some f) = IsFine f.den
+
+-- each fraction in an answer has a denominator below 2^100
+abbrev pub HasFineNumbers : Answer → Type 0
+HasFineNumbers (Nucleolus family tree is_cost shares certificate) = AllByRecursion (λ l. IsFine l.excess_den) certificate.levels
+HasFineNumbers (NotEfficient sum total) = IsFine sum.den
+HasFineNumbers (Blocked s e) = IsFine e.den
+HasFineNumbers (NotPrekernel i j ij ji) = IsFine ij.den × IsFine ji.den
+HasFineNumbers (Verdict v) = IsFineVerdict v
+HasFineNumbers (Summary s) = IsFineIfThere s.greatest
+HasFineNumbers _ = ⊤
 
 -- no number but integers, and nested at most 8 deep
 abbrev pub IsGameTree : Data → Type 0
@@ -19,10 +55,15 @@ pub record HasSmallNumbers (c : CollectionData) : Type 0 where
   pub k : IsSmall c.k
 
 -- a game that is printed has such a tree, and a collection small numbers
-abbrev pub IsPrintable : Answer → Type 0
-IsPrintable (Nucleolus family tree is_cost shares certificate) = IsGameTree (view tree)
-IsPrintable (EmptyCore c value against) = HasSmallNumbers c
-IsPrintable _ = ⊤
+abbrev pub HasPrintableForm : Answer → Type 0
+HasPrintableForm (Nucleolus family tree is_cost shares certificate) = IsGameTree (view tree)
+HasPrintableForm (EmptyCore c value against) = HasSmallNumbers c
+HasPrintableForm _ = ⊤
+
+-- the answer can be printed over a scale
+pub record IsPrintable (answer : Answer) : Type 0 where
+  pub fine : HasFineNumbers answer
+  pub form : HasPrintableForm answer
 
 -- the weights and the total of a level are below 2^63 in size
 pub record HasSmallWeights (l : Level) : Type 0 where

@@ -18,12 +18,12 @@ pair_tree p = array (item (player_data p.0) (item (player_data p.1) no_items))
 abbrev pub pair_list : List (ℕ × ℕ) → Data
 pair_list pairs = array (items_of (map pair_tree pairs))
 
--- the pairs with their value, and the core points that are best for every buyer and for every seller
-abbrev pub matching_tree : Solution → Data
-matching_tree solution =
+-- the pairs with their value, and the core points that are best for every buyer and for every seller, over the scale k
+abbrev pub matching_tree : ℕ → Solution → Data
+matching_tree k solution =
     object
     (member (codes "answer") (string (codes "matching"))
-    (member (codes "buyers best") (share_list false solution.buyers_best)
+    (member (codes "buyers best") (share_list k false solution.buyers_best)
     (member (codes "pairs") (pair_list solution.pairs.items)
-    (member (codes "sellers best") (share_list false solution.sellers_best)
-    (member (codes "value") (integer_data solution.value) no_members)))))
+    (member (codes "sellers best") (share_list k false solution.sellers_best)
+    (member (codes "value") (integer_data k solution.value) no_members)))))

@@ -10,7 +10,7 @@ use Rattle.serde_json.specs.Data.{Data, string, object, member, no_members}
 use Rattle.definitions.specs.Games.{Allocation, share}
 use Rattle.fractions.specs.Divisors.{gcd}
 use Rattle.fractions.specs.Fraction.{Fraction}
-use Rattle.report.specs.Values.{fraction_data, integer_data, count_data}
+use Rattle.report.specs.Values.{scaled_data, integer_data, count_data}
 use Rattle.report.specs.ShareLists.{share_data}
 use Rattle.report.specs.Words.{kind_word}
 use Rattle.report.specs.declared.summary.Summary.{Summary}
@@ -25,23 +25,23 @@ abbrev pub least_denominator : Allocation → ℤ
 least_denominator x = pos (unsigned_abs x.den / common_divisor (unsigned_abs x.den) x.shares)
 
 -- the share of a player, or where the numbers are costs what it pays
-abbrev pub player_share : Summary → ℕ → Data
-player_share s i = share_data s.is_cost s.shares.den (share s.shares i)
+abbrev pub player_share : ℕ → Summary → ℕ → Data
+player_share k s i = share_data k s.is_cost s.shares.den (share s.shares i)
 
 -- the greatest excess, and none for one player
-abbrev pub greatest_data : Option Fraction → Data
-greatest_data None = string (codes "none")
-greatest_data (Some f) = fraction_data f
+abbrev pub greatest_data : ℕ → Option Fraction → Data
+greatest_data k None = string (codes "none")
+greatest_data k (Some f) = scaled_data k f
 
 -- the summary: of the shares the least common denominator, the first and the last
-abbrev pub summary_tree : Summary → Data
-summary_tree s =
+abbrev pub summary_tree : ℕ → Summary → Data
+summary_tree k s =
     object
     (member (codes "class") (string (kind_word s.kind))
-    (member (codes "common") (integer_data (least_denominator s.shares))
-    (member (codes "first") (player_share s 0)
-    (member (codes "greatest") (greatest_data s.greatest)
-    (member (codes "last") (player_share s (length s.shares.shares - 1))
+    (member (codes "common") (integer_data k (least_denominator s.shares))
+    (member (codes "first") (player_share k s 0)
+    (member (codes "greatest") (greatest_data k s.greatest)
+    (member (codes "last") (player_share k s (length s.shares.shares - 1))
     (member (codes "players") (count_data s.players)
     (member (codes "seed") (count_data s.seed)
     (member (codes "verdict") (string (codes "yes")) no_members))))))))

@@ -1,18 +1,23 @@
--- Fractions, players and coalitions as JSON.
+-- Fractions over a scale, players and coalitions as JSON.
 use Rattle.std.specs.Prelude.{ℕ, ℤ, pos, ◌+◌, map}
 use Rattle.serde_json.specs.Data.{Data, number, unsigned, string, array}
 use Rattle.serde_json.specs.View.{items_of}
 use Rattle.definitions.specs.Coalitions.{members}
 use Rattle.fractions.specs.Fraction.{Fraction}
 use Rattle.fractions.specs.FractionTexts.{fraction_text}
+use Rattle.json_trees.specs.LowestTerms.{over_scale}
 
 -- the text of a fraction
 abbrev pub fraction_data : Fraction → Data
 fraction_data f = string (fraction_text f)
 
--- the text of an integer
-abbrev pub integer_data : ℤ → Data
-integer_data z = fraction_data (record { num = z; den = pos 1 })
+-- the text of a fraction over the scale k
+abbrev pub scaled_data : ℕ → Fraction → Data
+scaled_data k f = fraction_data (over_scale (pos k) f)
+
+-- the text of an integer over the scale k
+abbrev pub integer_data : ℕ → ℤ → Data
+integer_data k z = scaled_data k (record { num = z; den = pos 1 })
 
 -- a level, or the number of a refusal or a reason
 abbrev pub count_data : ℕ → Data

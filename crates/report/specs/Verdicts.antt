@@ -7,7 +7,7 @@ use Rattle.checker.specs.declared.verdicts.Verdict.TheVariants.{Yes, No}
 use Rattle.checker.specs.declared.verdicts.Place.TheVariants.{Coalition, Player}
 use Rattle.checker.specs.declared.verdicts.Reason.{Reason}
 use Rattle.checker.specs.declared.verdicts.Reason.TheVariants.{NotEfficient, NotIndividual, WrongExcess, WeightSign, Unbalanced, BoundNotTight, OutsideAbove, NotAll}
-use Rattle.report.specs.Values.{fraction_data, count_data, player_data, player_numbers}
+use Rattle.report.specs.Values.{scaled_data, count_data, player_data, player_numbers}
 
 -- a reason without a place
 abbrev pub no_alone : ℕ → Data
@@ -28,24 +28,24 @@ abbrev pub no_at_level : ℕ → ℕ → ℕ → Data
 no_at_level reason j i =
     object (member (codes "answer") (string (codes "no")) (member (codes "level") (count_data j) (member (codes "player") (player_data i) (member (codes "reason") (count_data reason) no_members))))
 
--- a reason with a level and the greatest excess of a coalition outside
-abbrev pub no_above : ℕ → ℕ → Fraction → Data
-no_above reason j e =
-    object (member (codes "answer") (string (codes "no")) (member (codes "excess") (fraction_data e) (member (codes "level") (count_data j) (member (codes "reason") (count_data reason) no_members))))
+-- a reason with a level and the greatest excess of a coalition outside, over the scale k
+abbrev pub no_above : ℕ → ℕ → ℕ → Fraction → Data
+no_above k reason j e =
+    object (member (codes "answer") (string (codes "no")) (member (codes "excess") (scaled_data k e) (member (codes "level") (count_data j) (member (codes "reason") (count_data reason) no_members))))
 
 -- the first condition that fails
-abbrev pub reason_tree : Reason → Data
-reason_tree NotEfficient = no_alone 1
-reason_tree (NotIndividual i) = no_at_player 2 i
-reason_tree (WrongExcess j s) = no_at_coalition 3 j s
-reason_tree (WeightSign j (Coalition s)) = no_at_coalition 4 j s
-reason_tree (WeightSign j (Player i)) = no_at_level 4 j i
-reason_tree (Unbalanced j i) = no_at_level 5 j i
-reason_tree (BoundNotTight j i) = no_at_level 6 j i
-reason_tree (OutsideAbove j e) = no_above 7 j e
-reason_tree (NotAll i) = no_at_player 8 i
+abbrev pub reason_tree : ℕ → Reason → Data
+reason_tree k NotEfficient = no_alone 1
+reason_tree k (NotIndividual i) = no_at_player 2 i
+reason_tree k (WrongExcess j s) = no_at_coalition 3 j s
+reason_tree k (WeightSign j (Coalition s)) = no_at_coalition 4 j s
+reason_tree k (WeightSign j (Player i)) = no_at_level 4 j i
+reason_tree k (Unbalanced j i) = no_at_level 5 j i
+reason_tree k (BoundNotTight j i) = no_at_level 6 j i
+reason_tree k (OutsideAbove j e) = no_above k 7 j e
+reason_tree k (NotAll i) = no_at_player 8 i
 
 -- yes, or no and why
-abbrev pub verdict_tree : Verdict → Data
-verdict_tree Yes = object (member (codes "answer") (string (codes "yes")) no_members)
-verdict_tree (No r) = reason_tree r
+abbrev pub verdict_tree : ℕ → Verdict → Data
+verdict_tree k Yes = object (member (codes "answer") (string (codes "yes")) no_members)
+verdict_tree k (No r) = reason_tree k r

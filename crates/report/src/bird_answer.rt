@@ -1,8 +1,10 @@
 //! Bird's shares and plan, as JSON.
-ghost use Rattle.std.specs.Prelude.{◌≡◌, map, IfOk};
+ghost use Rattle.std.specs.Prelude.{◌≡◌, pos, map, IfOk};
 ghost use Rattle.serde_json.specs.View.{view};
-ghost use Rattle.report.specs.BirdTrees.{edge_tree, bird_tree};
+ghost use Rattle.report.specs.Limits.{IsScale};
+ghost use Rattle.report.specs.BirdTrees.{edge_cost, edge_tree, bird_tree};
 
+use crate::fraction::integer_value;
 use crate::shares::share_texts;
 use fractions::OutOfMemory;
 use serde_json::{Value, json};
@@ -11,28 +13,58 @@ use tree_games::Tree;
 use worth_core::Shares;
 
 /// The JSON tree of what each player pays in Bird's plan, beside the edges of the plan.
-pub fn bird_tree(alloc: Global, shares: &Shares, tree: &Tree) -> Result<Value, OutOfMemory>
-    ensures { IfOk result (λ v. view v ≡ bird_tree shares.now tree.now) }
+pub fn bird_tree(
+    alloc: Global,
+    shares: &Shares,
+    tree: &Tree,
+    scale: u32,
+) -> Result<Value, OutOfMemory>
+    requires { IsScale (pos scale) }
+    ensures { IfOk result (λ v. view v ≡ bird_tree scale shares.now tree.now) }
 {
-    let shares = share_texts(alloc, shares, true)?;
-    let edges = edge_trees(alloc, &tree.edges)?;
+    let shares = share_texts(alloc, shares, true, scale)?;
+    let edges = edge_trees(alloc, &tree.edges, scale)?;
     let tree = json!(in alloc; {"answer": "bird", "shares": shares, "tree": edges})?;
     Ok(tree)
 }
 
-fn edge_trees(alloc: Global, edges: &[(u32, u32, i64)]) -> Result<Vec<Value>, OutOfMemory>
-    ensures { IfOk result (λ v. map view v.items ≡ map edge_tree edges.now) }
+fn edge_trees(
+    alloc: Global,
+    edges: &[(u32, u32, i64)],
+    scale: u32,
+) -> Result<Vec<Value>, OutOfMemory>
+    requires { IsScale (pos scale) }
+    ensures { IfOk result (λ v. map view v.items ≡ map (edge_tree scale) edges.now) }
 {
     let mut trees = Vec::new(alloc);
     for (end, player, cost) in edges {
-        trees.push(edge_tree(alloc, *end, *player, *cost)?)?;
+        trees.push(edge_tree(alloc, *end, *player, *cost, scale)?)?;
     }
     Ok(trees)
 }
 
-fn edge_tree(alloc: Global, end: u32, player: u32, cost: i64) -> Result<Value, OutOfMemory>
-    ensures { IfOk result (λ v. view v ≡ edge_tree (end, player, cost)) }
+/// What a link costs, over the scale: an integer where the scale is 1, and else a text.
+fn cost_value(alloc: Global, cost: i64, scale: u32) -> Result<Value, OutOfMemory>
+    requires { IsScale (pos scale) }
+    ensures { IfOk result (λ v. view v ≡ edge_cost scale cost) }
 {
+    if scale == 1 {
+        return Ok(Value::from(cost));
+    }
+    integer_value(alloc, i128::from(cost), scale)
+}
+
+fn edge_tree(
+    alloc: Global,
+    end: u32,
+    player: u32,
+    cost: i64,
+    scale: u32,
+) -> Result<Value, OutOfMemory>
+    requires { IsScale (pos scale) }
+    ensures { IfOk result (λ v. view v ≡ edge_tree scale (end, player, cost)) }
+{
+    let cost = cost_value(alloc, cost, scale)?;
     let edge = json!(in alloc; [end, player, cost])?;
     Ok(edge)
 }

@@ -1,13 +1,13 @@
 //! Certificates as JSON.
-ghost use Rattle.std.specs.Prelude.{◌≡◌, map, codes, IfOk};
+ghost use Rattle.std.specs.Prelude.{◌≡◌, pos, map, codes, IfOk};
 ghost use Rattle.std.specs.List.{AllByRecursion};
-ghost use Rattle.serde_json.specs.Data.{Data, object, member, no_members};
-ghost use Rattle.serde_json.specs.View.{view};
+ghost use Rattle.serde_json.specs.Data.{Data, array, object, member, no_members};
+ghost use Rattle.serde_json.specs.View.{view, items_of};
 ghost use Rattle.definitions.specs.Certificates.{IsSmall};
 ghost use Rattle.report.specs.Certificates.{weight_data, weight_pair, level_tree, certificate_tree};
-ghost use Rattle.report.specs.Limits.{HasSmallWeights};
+ghost use Rattle.report.specs.Limits.{IsScale, IsFine, HasSmallWeights};
 
-use crate::fraction::text_of;
+use crate::fraction::value_over;
 use crate::objects::with;
 use crate::players::{player_numbers, player_value};
 use crate::words::mode_word;
@@ -17,41 +17,51 @@ use kohlberg::{Certificate, Level};
 use serde_json::{Map, Value, json};
 use std::alloc::Global;
 
-/// The JSON tree of a certificate.
-pub fn certificate_tree(alloc: Global, certificate: &Certificate) -> Result<Value, OutOfMemory>
-    ensures { IfOk result (λ v. view v ≡ certificate_tree certificate.now) }
+/// The JSON tree of a certificate, its excesses over the scale.
+pub fn certificate_tree(
+    alloc: Global,
+    certificate: &Certificate,
+    scale: u32,
+) -> Result<Value, OutOfMemory>
+    requires scale { IsScale (pos scale) }
+    requires fine { AllByRecursion (λ l. IsFine l.excess_den) certificate.now.levels }
+    ensures { IfOk result (λ v. view v ≡ certificate_tree scale certificate.now) }
 {
-    let levels = level_trees(alloc, certificate.levels())?;
+    let levels = level_trees(alloc, certificate.levels(), scale)?;
     let mode = mode_word(certificate.mode());
     let tree = json!(in alloc; {"levels": levels, "mode": mode})?;
     Ok(tree)
 }
 
-fn level_trees(alloc: Global, levels: &[Level]) -> Result<Vec<Value>, OutOfMemory>
-    requires { AllByRecursion HasSmallWeights levels.now }
-    ensures { IfOk result (λ v. map view v.items ≡ map level_tree levels.now) }
+fn level_trees(alloc: Global, levels: &[Level], scale: u32) -> Result<Vec<Value>, OutOfMemory>
+    requires scale { IsScale (pos scale) }
+    requires small { AllByRecursion HasSmallWeights levels.now }
+    requires fine { AllByRecursion (λ l. IsFine l.excess_den) levels.now }
+    ensures { IfOk result (λ v. map view v.items ≡ map (level_tree scale) levels.now) }
 {
     let mut trees = Vec::new(alloc);
     for level in levels {
-        trees.push(level_tree(alloc, level)?)?;
+        trees.push(level_tree(alloc, level, scale)?)?;
     }
     Ok(trees)
 }
 
-fn level_tree(alloc: Global, level: &Level) -> Result<Value, OutOfMemory>
-    requires { HasSmallWeights level.now }
-    ensures { IfOk result (λ v. view v ≡ level_tree level.now) }
+fn level_tree(alloc: Global, level: &Level, scale: u32) -> Result<Value, OutOfMemory>
+    requires scale { IsScale (pos scale) }
+    requires small { HasSmallWeights level.now }
+    requires fine { IsFine level.now.excess_den }
+    ensures { IfOk result (λ v. view v ≡ level_tree scale level.now) }
 {
-    let bounds = weight_pairs(alloc, &level.bounds)?;
-    let coalitions = weight_pairs(alloc, &level.coalitions)?;
-    let earlier = weight_pairs(alloc, &level.earlier)?;
-    let excess = text_of(alloc, &level.excess)?;
+    let bounds = weight_list(alloc, &level.bounds)?;
+    let coalitions = weight_list(alloc, &level.coalitions)?;
+    let earlier = weight_list(alloc, &level.earlier)?;
+    let excess = value_over(alloc, &level.excess, scale)?;
     level_object(
         alloc,
-        Value::Array(bounds),
-        Value::Array(coalitions),
-        Value::Array(earlier),
-        Value::String(excess),
+        bounds,
+        coalitions,
+        earlier,
+        excess,
         weight_value(level.total),
     )
 }
@@ -110,11 +120,17 @@ impl Weighted for u32 {
     }
 }
 
+/// What has weights, each with its weight, as one value.
+pub fn weight_list<K: Weighted>(alloc: Global, pairs: &[(K, i128)]) -> Result<Value, OutOfMemory>
+    requires { AllByRecursion (λ p. IsSmall p.1) pairs.now }
+    ensures { IfOk result (λ v. view v ≡ array (items_of (map (weight_pair K.tree) pairs.now))) }
+{
+    let trees = weight_pairs(alloc, pairs)?;
+    Ok(Value::Array(trees))
+}
+
 /// What has weights, each with its weight.
-pub fn weight_pairs<K: Weighted>(
-    alloc: Global,
-    pairs: &[(K, i128)],
-) -> Result<Vec<Value>, OutOfMemory>
+fn weight_pairs<K: Weighted>(alloc: Global, pairs: &[(K, i128)]) -> Result<Vec<Value>, OutOfMemory>
     requires { AllByRecursion (λ p. IsSmall p.1) pairs.now }
     ensures { IfOk result (λ v. map view v.items ≡ map (weight_pair K.tree) pairs.now) }
 {

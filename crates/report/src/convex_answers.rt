@@ -1,10 +1,11 @@
 //! What is said of a game's convexity, as JSON.
-ghost use Rattle.std.specs.Prelude.{◌≡◌, codes, false, IfOk};
+ghost use Rattle.std.specs.Prelude.{◌≡◌, pos, codes, false, IfOk};
 ghost use Rattle.serde_json.specs.Data.{object, member, no_members};
 ghost use Rattle.serde_json.specs.View.{view};
+ghost use Rattle.report.specs.Limits.{IsScale};
 ghost use Rattle.report.specs.ConvexTrees.{convex_tree};
 
-use crate::fraction::integer_text;
+use crate::fraction::integer_value;
 use crate::objects::with;
 use crate::players::{player_numbers, player_value};
 use crate::shares::share_texts;
@@ -20,14 +21,16 @@ pub fn convex_tree(
     alloc: Global,
     is_cost: bool,
     answer: &ConvexAnswer,
+    scale: u32,
 ) -> Result<Value, OutOfMemory>
-    ensures { IfOk result (λ v. view v ≡ convex_tree is_cost answer.now) }
+    requires { IsScale (pos scale) }
+    ensures { IfOk result (λ v. view v ≡ convex_tree scale is_cost answer.now) }
 {
     match answer {
         ConvexAnswer::Convex { shapley, marginal } => {
-            both_shares_tree(alloc, is_cost, shapley, marginal)
+            both_shares_tree(alloc, is_cost, shapley, marginal, scale)
         }
-        ConvexAnswer::Not { s, i, j, deficit } => failure_tree(alloc, *s, *i, *j, *deficit),
+        ConvexAnswer::Not { s, i, j, deficit } => failure_tree(alloc, *s, *i, *j, *deficit, scale),
     }
 }
 
@@ -37,11 +40,13 @@ fn both_shares_tree(
     is_cost: bool,
     shapley: &Shares,
     marginal: &Shares,
+    scale: u32,
 ) -> Result<Value, OutOfMemory>
-    ensures { IfOk result (λ v. view v ≡ convex_tree is_cost (ConvexAnswer.Convex shapley.now marginal.now)) }
+    requires { IsScale (pos scale) }
+    ensures { IfOk result (λ v. view v ≡ convex_tree scale is_cost (ConvexAnswer.Convex shapley.now marginal.now)) }
 {
-    let marginal = share_texts(alloc, marginal, is_cost)?;
-    let shapley = share_texts(alloc, shapley, is_cost)?;
+    let marginal = share_texts(alloc, marginal, is_cost, scale)?;
+    let shapley = share_texts(alloc, shapley, is_cost, scale)?;
     let tree = json!(in alloc; {"answer": "convex", "marginal": marginal, "shapley": shapley})?;
     Ok(tree)
 }
@@ -53,16 +58,18 @@ fn failure_tree(
     i: u32,
     j: u32,
     deficit: i64,
+    scale: u32,
 ) -> Result<Value, OutOfMemory>
-    ensures { IfOk result (λ v. view v ≡ convex_tree false (ConvexAnswer.Not s i j deficit)) }
+    requires { IsScale (pos scale) }
+    ensures { IfOk result (λ v. view v ≡ convex_tree scale false (ConvexAnswer.Not s i j deficit)) }
 {
     let answer = Value::try_from_str(alloc, "not convex")?;
-    let deficit = integer_text(alloc, i128::from(deficit))?;
+    let deficit = integer_value(alloc, i128::from(deficit), scale)?;
     let set = player_numbers(alloc, s)?;
     failure_object(
         alloc,
         answer,
-        Value::String(deficit),
+        deficit,
         player_value(i),
         player_value(j),
         Value::Array(set),

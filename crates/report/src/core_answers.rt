@@ -1,13 +1,14 @@
 //! What is said of the core, as JSON.
-ghost use Rattle.std.specs.Prelude.{◌≡◌, codes, IfOk};
+ghost use Rattle.std.specs.Prelude.{◌≡◌, pos, codes, IfOk};
 ghost use Rattle.std.specs.List.{AllByRecursion};
 ghost use Rattle.serde_json.specs.Data.{object, member, no_members};
 ghost use Rattle.serde_json.specs.View.{view};
 ghost use Rattle.definitions.specs.Certificates.{IsSmall};
+ghost use Rattle.report.specs.Limits.{IsScale};
 ghost use Rattle.report.specs.CoreTrees.{core_point_tree, empty_core_tree};
 
-use crate::certificate::{weight_pairs, weight_value};
-use crate::fraction::integer_text;
+use crate::certificate::{weight_list, weight_value};
+use crate::fraction::integer_value;
 use crate::objects::with;
 use crate::shares::share_texts;
 use balanced::Collection;
@@ -17,10 +18,16 @@ use std::alloc::Global;
 use worth_core::Shares;
 
 /// The JSON tree of a point of the core.
-pub fn core_point_tree(alloc: Global, is_cost: bool, shares: &Shares) -> Result<Value, OutOfMemory>
-    ensures { IfOk result (λ v. view v ≡ core_point_tree is_cost shares.now) }
+pub fn core_point_tree(
+    alloc: Global,
+    is_cost: bool,
+    shares: &Shares,
+    scale: u32,
+) -> Result<Value, OutOfMemory>
+    requires { IsScale (pos scale) }
+    ensures { IfOk result (λ v. view v ≡ core_point_tree scale is_cost shares.now) }
 {
-    let shares = share_texts(alloc, shares, is_cost)?;
+    let shares = share_texts(alloc, shares, is_cost, scale)?;
     let tree = json!(in alloc; {"answer": "core point", "shares": shares})?;
     Ok(tree)
 }
@@ -31,22 +38,24 @@ pub fn empty_core_tree(
     collection: &Collection,
     value: i128,
     against: i128,
+    scale: u32,
 ) -> Result<Value, OutOfMemory>
+    requires scale { IsScale (pos scale) }
     requires weights { AllByRecursion (λ p. IsSmall p.1) collection.now.weights }
     requires k { IsSmall collection.now.k }
-    ensures { IfOk result (λ v. view v ≡ empty_core_tree collection.now value against) }
+    ensures { IfOk result (λ v. view v ≡ empty_core_tree scale collection.now value against) }
 {
-    let against = integer_text(alloc, against)?;
+    let against = integer_value(alloc, against, scale)?;
     let answer = Value::try_from_str(alloc, "empty core")?;
-    let pairs = weight_pairs(alloc, &collection.weights)?;
-    let value = integer_text(alloc, value)?;
+    let pairs = weight_list(alloc, &collection.weights)?;
+    let value = integer_value(alloc, value, scale)?;
     empty_core_object(
         alloc,
-        Value::String(against),
+        against,
         answer,
-        Value::Array(pairs),
+        pairs,
         weight_value(collection.k),
-        Value::String(value),
+        value,
     )
 }
 

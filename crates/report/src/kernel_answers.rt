@@ -1,10 +1,11 @@
 //! What is said of shares and the prekernel, as JSON.
-ghost use Rattle.std.specs.Prelude.{◌≡◌, codes, IfOk};
+ghost use Rattle.std.specs.Prelude.{◌≡◌, pos, codes, IfOk};
 ghost use Rattle.serde_json.specs.Data.{object, member, no_members};
 ghost use Rattle.serde_json.specs.View.{view};
+ghost use Rattle.report.specs.Limits.{IsScale, IsFine};
 ghost use Rattle.report.specs.KernelTrees.{prekernel_tree, not_prekernel_tree};
 
-use crate::fraction::text_of;
+use crate::fraction::value_over;
 use crate::objects::with;
 use crate::players::player_value;
 use fractions::{Frac, OutOfMemory};
@@ -26,20 +27,17 @@ pub fn not_prekernel_tree(
     j: u32,
     ij: &Frac,
     ji: &Frac,
+    scale: u32,
 ) -> Result<Value, OutOfMemory>
-    ensures { IfOk result (λ v. view v ≡ not_prekernel_tree i j ij.now ji.now) }
+    requires scale { IsScale (pos scale) }
+    requires ij { IsFine ij.now.den }
+    requires ji { IsFine ji.now.den }
+    ensures { IfOk result (λ v. view v ≡ not_prekernel_tree scale i j ij.now ji.now) }
 {
     let answer = Value::try_from_str(alloc, "not prekernel")?;
-    let ij = text_of(alloc, ij)?;
-    let ji = text_of(alloc, ji)?;
-    surpluses_object(
-        alloc,
-        answer,
-        player_value(i),
-        Value::String(ij),
-        player_value(j),
-        Value::String(ji),
-    )
+    let ij = value_over(alloc, ij, scale)?;
+    let ji = value_over(alloc, ji, scale)?;
+    surpluses_object(alloc, answer, player_value(i), ij, player_value(j), ji)
 }
 
 fn surpluses_object(

@@ -1,5 +1,5 @@
 //! What a reader of the line of a nucleolus finds. Each function's contract is a theorem.
-ghost use Rattle.report.specs.ReadingBack.{NucleoliAreReadBack, NucleoliAreShort};
+ghost use Rattle.report.specs.ReadingBack.{NucleoliAreReadBack, NucleoliAreShort, ScaledFractionsAreReadBack};
 
 use json_texts::written_is_read_back;
 
@@ -14,4 +14,9 @@ pub fn nucleoli_are_read_back()
 /// The text of a nucleolus is less than 2 MiB longer than that of its game.
 pub fn nucleoli_are_short()
     ensures { NucleoliAreShort }
+{}
+
+/// A fraction is read over the scale from its text, and times the scale it is as before.
+pub fn scaled_fractions_are_read_back()
+    ensures { ScaledFractionsAreReadBack }
 {}

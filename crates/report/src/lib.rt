@@ -23,6 +23,6 @@ mod verdict;
 mod words;
 
 pub use answer::{Answer, UsageKind};
-pub use laws::{nucleoli_are_read_back, nucleoli_are_short};
+pub use laws::{nucleoli_are_read_back, nucleoli_are_short, scaled_fractions_are_read_back};
 pub use line::write_report;
 pub use summary::Summary;

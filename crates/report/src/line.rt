@@ -1,19 +1,21 @@
 //! The line of an answer.
-ghost use Rattle.std.specs.Prelude.{◌≡◌, IfOk, IsUtf8, Some};
+ghost use Rattle.std.specs.Prelude.{◌≡◌, pos, codes, unsigned_abs, IfOk, IsUtf8, Some};
+ghost use Rattle.serde_json.specs.Data.{object, member, no_members};
 ghost use Rattle.serde_json.specs.Read.{read};
 ghost use Rattle.serde_json.specs.View.{view};
 ghost use Rattle.game_text.specs.Text.{without_newline};
-ghost use Rattle.report.specs.Limits.{IsPrintable};
+ghost use Rattle.report.specs.Limits.{IsScale, IsFine, IsPrintable};
 ghost use Rattle.report.specs.Lines.{answer_tree, line};
 
 use crate::answer::{Answer, UsageKind};
 use crate::bird_answer::bird_tree;
 use crate::convex_answers::convex_tree;
 use crate::core_answers::{core_point_tree, empty_core_tree};
-use crate::fraction::{integer_text, text_of};
+use crate::fraction::{integer_value, value_over};
 use crate::kernel_answers::{not_prekernel_tree, prekernel_tree};
 use crate::matching_answer::matching_tree;
 use crate::nucleolus::nucleolus_tree;
+use crate::objects::with;
 use crate::players::player_numbers;
 use crate::shapley_answers::shapley_tree;
 use crate::summary::summary_tree;
@@ -22,27 +24,39 @@ use crate::words::{refusal_name, usage_word};
 use coalitions::Coalition;
 use fractions::{Frac, OutOfMemory};
 use game_text::Refusal;
-use serde_json::{Value, json};
+use serde_json::{Map, Value, json};
 use std::alloc::Global;
 
-/// The line of an answer: compact JSON with ascending keys, and a newline.
-pub fn write_report(alloc: Global, answer: Answer) -> Result<Vec<u8>, OutOfMemory>
-    requires { IsPrintable answer }
-    ensures text { IfOk result (λ v. v.items ≡ line answer) }
+/// The line of an answer: compact JSON with ascending keys, and a newline. Its fractions and shares are printed over the
+/// scale, which is from 1 to 65,536.
+pub fn write_report(alloc: Global, answer: Answer, scale: i64) -> Result<Vec<u8>, OutOfMemory>
+    requires scale { IsScale scale }
+    requires printable { IsPrintable answer }
+    ensures text { IfOk result (λ v. v.items ≡ line scale answer) }
     // What stands in front of the newline is JSON, and reads as the tree that was written.
     ensures utf8 { IfOk result (λ v. IsUtf8 (without_newline v.items)) }
-    ensures reads_back { IfOk result (λ v. read (without_newline v.items) ≡ Some (answer_tree answer)) }
+    ensures reads_back { IfOk result (λ v. read (without_newline v.items) ≡ Some (answer_tree (unsigned_abs scale) answer)) }
 {
-    let tree = tree_of(alloc, answer)?;
+    let tree = tree_of(alloc, answer, narrow(scale))?;
     let mut text = tree.to_vec(alloc)?;
     text.push(b'\n')?;
     Ok(text)
 }
 
-/// The JSON tree of an answer.
-fn tree_of(alloc: Global, answer: Answer) -> Result<Value, OutOfMemory>
-    requires { IsPrintable answer }
-    ensures { IfOk result (λ v. view v ≡ answer_tree answer) }
+// The same scale in 32 bits.
+fn narrow(scale: i64) -> u32
+    requires { IsScale scale }
+    ensures value { result ≡ unsigned_abs scale }
+    ensures within { IsScale (pos result) }
+{
+    scale as u32
+}
+
+/// The JSON tree of an answer over the scale.
+fn tree_of(alloc: Global, answer: Answer, scale: u32) -> Result<Value, OutOfMemory>
+    requires scale { IsScale (pos scale) }
+    requires printable { IsPrintable answer }
+    ensures { IfOk result (λ v. view v ≡ answer_tree scale answer) }
 {
     match answer {
         Answer::Nucleolus {
@@ -51,66 +65,120 @@ fn tree_of(alloc: Global, answer: Answer) -> Result<Value, OutOfMemory>
             is_cost,
             shares,
             certificate,
-        } => nucleolus_tree(alloc, family, tree, is_cost, &shares, &certificate),
-        Answer::NoImputation { singles, total } => no_imputation_tree(alloc, singles, total),
+        } => nucleolus_tree(alloc, family, tree, is_cost, &shares, &certificate, scale),
+        Answer::NoImputation { singles, total } => no_imputation_tree(alloc, singles, total, scale),
         Answer::InCore => core_tree(alloc),
-        Answer::NotEfficient { sum, total } => not_efficient_tree(alloc, &sum, total),
-        Answer::Blocked { coalition, excess } => blocked_tree(alloc, coalition, &excess),
-        Answer::CorePoint { is_cost, shares } => core_point_tree(alloc, is_cost, &shares),
+        Answer::NotEfficient { sum, total } => not_efficient_tree(alloc, &sum, total, scale),
+        Answer::Blocked { coalition, excess } => blocked_tree(alloc, coalition, &excess, scale),
+        Answer::CorePoint { is_cost, shares } => core_point_tree(alloc, is_cost, &shares, scale),
         Answer::EmptyCore {
             collection,
             value,
             against,
-        } => empty_core_tree(alloc, &collection, value, against),
-        Answer::Shapley { is_cost, shares } => shapley_tree(alloc, is_cost, &shares),
-        Answer::Bird { shares, tree } => bird_tree(alloc, &shares, &tree),
-        Answer::Convex { is_cost, answer } => convex_tree(alloc, is_cost, &answer),
+        } => empty_core_tree(alloc, &collection, value, against, scale),
+        Answer::Shapley { is_cost, shares } => shapley_tree(alloc, is_cost, &shares, scale),
+        Answer::Bird { shares, tree } => bird_tree(alloc, &shares, &tree, scale),
+        Answer::Convex { is_cost, answer } => convex_tree(alloc, is_cost, &answer, scale),
         Answer::Prekernel => prekernel_tree(alloc),
-        Answer::NotPrekernel { i, j, ij, ji } => not_prekernel_tree(alloc, i, j, &ij, &ji),
-        Answer::Matching(solution) => matching_tree(alloc, &solution),
-        Answer::Verdict(verdict) => verdict_tree(alloc, verdict),
+        Answer::NotPrekernel { i, j, ij, ji } => not_prekernel_tree(alloc, i, j, &ij, &ji, scale),
+        Answer::Matching(solution) => matching_tree(alloc, &solution, scale),
+        Answer::Verdict(verdict) => verdict_tree(alloc, verdict, scale),
         Answer::Usage(kind) => usage_tree(alloc, kind),
         Answer::Refused(refusal) => refused_tree(alloc, refusal),
-        Answer::Summary(summary) => summary_tree(alloc, &summary),
+        Answer::Summary(summary) => summary_tree(alloc, &summary, scale),
     }
 }
 
-fn no_imputation_tree(alloc: Global, singles: i64, total: i64) -> Result<Value, OutOfMemory>
-    ensures { IfOk result (λ v. view v ≡ answer_tree (Answer.NoImputation singles total)) }
+fn no_imputation_tree(
+    alloc: Global,
+    singles: i64,
+    total: i64,
+    scale: u32,
+) -> Result<Value, OutOfMemory>
+    requires { IsScale (pos scale) }
+    ensures { IfOk result (λ v. view v ≡ answer_tree scale (Answer.NoImputation singles total)) }
 {
-    let singles = integer_text(alloc, i128::from(singles))?;
-    let total = integer_text(alloc, i128::from(total))?;
-    let tree = json!(in alloc; {"answer": "no imputation", "singles": singles, "total": total})?;
-    Ok(tree)
+    let singles = integer_value(alloc, i128::from(singles), scale)?;
+    let total = integer_value(alloc, i128::from(total), scale)?;
+    let answer = Value::try_from_str(alloc, "no imputation")?;
+    no_imputation_object(alloc, answer, singles, total)
+}
+
+fn no_imputation_object(
+    alloc: Global,
+    answer: Value,
+    singles: Value,
+    total: Value,
+) -> Result<Value, OutOfMemory>
+    ensures { IfOk result (λ v. view v ≡ object
+        (member (codes "answer") (view answer)
+        (member (codes "singles") (view singles)
+        (member (codes "total") (view total) no_members)))) }
+{
+    let members = with(alloc, Map::new(alloc), "answer", answer)?;
+    let members = with(alloc, members, "singles", singles)?;
+    let members = with(alloc, members, "total", total)?;
+    Ok(Value::Object(members))
 }
 
 fn core_tree(alloc: Global) -> Result<Value, OutOfMemory>
-    ensures { IfOk result (λ v. view v ≡ answer_tree Answer.InCore) }
+    ensures { IfOk result (λ v. view v ≡ answer_tree 1 Answer.InCore) }
 {
     let tree = json!(in alloc; {"answer": "core"})?;
     Ok(tree)
 }
 
-fn not_efficient_tree(alloc: Global, sum: &Frac, total: i64) -> Result<Value, OutOfMemory>
-    ensures { IfOk result (λ v. view v ≡ answer_tree (Answer.NotEfficient sum.now total)) }
+fn not_efficient_tree(
+    alloc: Global,
+    sum: &Frac,
+    total: i64,
+    scale: u32,
+) -> Result<Value, OutOfMemory>
+    requires scale { IsScale (pos scale) }
+    requires fine { IsFine sum.now.den }
+    ensures { IfOk result (λ v. view v ≡ answer_tree scale (Answer.NotEfficient sum.now total)) }
 {
-    let sum = text_of(alloc, sum)?;
-    let total = integer_text(alloc, i128::from(total))?;
-    let tree = json!(in alloc; {"answer": "not efficient", "sum": sum, "total": total})?;
-    Ok(tree)
+    let sum = value_over(alloc, sum, scale)?;
+    let total = integer_value(alloc, i128::from(total), scale)?;
+    let answer = Value::try_from_str(alloc, "not efficient")?;
+    not_efficient_object(alloc, answer, sum, total)
 }
 
-fn blocked_tree(alloc: Global, coalition: Coalition, excess: &Frac) -> Result<Value, OutOfMemory>
-    ensures { IfOk result (λ v. view v ≡ answer_tree (Answer.Blocked coalition excess.now)) }
+fn not_efficient_object(
+    alloc: Global,
+    answer: Value,
+    sum: Value,
+    total: Value,
+) -> Result<Value, OutOfMemory>
+    ensures { IfOk result (λ v. view v ≡ object
+        (member (codes "answer") (view answer)
+        (member (codes "sum") (view sum)
+        (member (codes "total") (view total) no_members)))) }
+{
+    let members = with(alloc, Map::new(alloc), "answer", answer)?;
+    let members = with(alloc, members, "sum", sum)?;
+    let members = with(alloc, members, "total", total)?;
+    Ok(Value::Object(members))
+}
+
+fn blocked_tree(
+    alloc: Global,
+    coalition: Coalition,
+    excess: &Frac,
+    scale: u32,
+) -> Result<Value, OutOfMemory>
+    requires scale { IsScale (pos scale) }
+    requires fine { IsFine excess.now.den }
+    ensures { IfOk result (λ v. view v ≡ answer_tree scale (Answer.Blocked coalition excess.now)) }
 {
     let players = player_numbers(alloc, coalition)?;
-    let excess = text_of(alloc, excess)?;
+    let excess = value_over(alloc, excess, scale)?;
     let tree = json!(in alloc; {"answer": "blocked", "coalition": players, "excess": excess})?;
     Ok(tree)
 }
 
 fn usage_tree(alloc: Global, kind: UsageKind) -> Result<Value, OutOfMemory>
-    ensures { IfOk result (λ v. view v ≡ answer_tree (Answer.Usage kind)) }
+    ensures { IfOk result (λ v. view v ≡ answer_tree 1 (Answer.Usage kind)) }
 {
     let word = usage_word(kind);
     let tree = json!(in alloc; {"usage": word})?;
@@ -118,7 +186,7 @@ fn usage_tree(alloc: Global, kind: UsageKind) -> Result<Value, OutOfMemory>
 }
 
 fn refused_tree(alloc: Global, refusal: Refusal) -> Result<Value, OutOfMemory>
-    ensures { IfOk result (λ v. view v ≡ answer_tree (Answer.Refused refusal)) }
+    ensures { IfOk result (λ v. view v ≡ answer_tree 1 (Answer.Refused refusal)) }
 {
     let number = refusal.number();
     let name = refusal_name(refusal);

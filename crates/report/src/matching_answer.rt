@@ -1,10 +1,11 @@
 //! The solution of a market, as JSON.
-ghost use Rattle.std.specs.Prelude.{◌≡◌, codes, map, IfOk};
+ghost use Rattle.std.specs.Prelude.{◌≡◌, pos, codes, map, IfOk};
 ghost use Rattle.serde_json.specs.Data.{object, member, no_members};
 ghost use Rattle.serde_json.specs.View.{view};
+ghost use Rattle.report.specs.Limits.{IsScale};
 ghost use Rattle.report.specs.MatchingTrees.{pair_tree, matching_tree};
 
-use crate::fraction::integer_text;
+use crate::fraction::integer_value;
 use crate::objects::with;
 use crate::players::player_value;
 use crate::shares::share_texts;
@@ -14,21 +15,22 @@ use serde_json::{Map, Value, json};
 use std::alloc::Global;
 
 /// The JSON tree of the pairs of a market with their value, beside the core points that are best for either side.
-pub fn matching_tree(alloc: Global, solution: &Solution) -> Result<Value, OutOfMemory>
-    ensures { IfOk result (λ v. view v ≡ matching_tree solution.now) }
+pub fn matching_tree(alloc: Global, solution: &Solution, scale: u32) -> Result<Value, OutOfMemory>
+    requires { IsScale (pos scale) }
+    ensures { IfOk result (λ v. view v ≡ matching_tree scale solution.now) }
 {
     let answer = Value::try_from_str(alloc, "matching")?;
-    let buyers_best = share_texts(alloc, &solution.buyers_best, false)?;
+    let buyers_best = share_texts(alloc, &solution.buyers_best, false, scale)?;
     let pairs = pair_trees(alloc, &solution.pairs)?;
-    let sellers_best = share_texts(alloc, &solution.sellers_best, false)?;
-    let value = integer_text(alloc, i128::from(solution.value))?;
+    let sellers_best = share_texts(alloc, &solution.sellers_best, false, scale)?;
+    let value = integer_value(alloc, i128::from(solution.value), scale)?;
     solution_object(
         alloc,
         answer,
         Value::Array(buyers_best),
         Value::Array(pairs),
         Value::Array(sellers_best),
-        Value::String(value),
+        value,
     )
 }
 

@@ -1,7 +1,9 @@
 //! The nucleolus or the prenucleolus of a game, with its certificate, as JSON.
-ghost use Rattle.std.specs.Prelude.{◌≡◌, codes, IfOk};
+ghost use Rattle.std.specs.Prelude.{◌≡◌, pos, codes, IfOk};
+ghost use Rattle.std.specs.List.{AllByRecursion};
 ghost use Rattle.serde_json.specs.Data.{object, member, no_members};
 ghost use Rattle.serde_json.specs.View.{view};
+ghost use Rattle.report.specs.Limits.{IsScale, IsFine};
 ghost use Rattle.report.specs.Lines.{nucleolus_tree};
 
 use crate::certificate::certificate_tree;
@@ -22,11 +24,14 @@ pub fn nucleolus_tree(
     is_cost: bool,
     shares: &Shares,
     certificate: &Certificate,
+    scale: u32,
 ) -> Result<Value, OutOfMemory>
-    ensures { IfOk result (λ v. view v ≡ nucleolus_tree family (view game) is_cost shares.now certificate.now) }
+    requires scale { IsScale (pos scale) }
+    requires fine { AllByRecursion (λ l. IsFine l.excess_den) certificate.now.levels }
+    ensures { IfOk result (λ v. view v ≡ nucleolus_tree scale family (view game) is_cost shares.now certificate.now) }
 {
-    let shares = share_texts(alloc, shares, is_cost)?;
-    let certificate = certificate_tree(alloc, certificate)?;
+    let shares = share_texts(alloc, shares, is_cost, scale)?;
+    let certificate = certificate_tree(alloc, certificate, scale)?;
     let answer = Value::try_from_str(alloc, family_word(family))?;
     nucleolus_object(alloc, answer, certificate, game, Value::Array(shares))
 }

@@ -1,11 +1,12 @@
 //! What is said of a generated game, as JSON.
-ghost use Rattle.std.specs.Prelude.{◌≡◌, ◌<◌, ◌-◌, length, codes, IfOk};
+ghost use Rattle.std.specs.Prelude.{◌≡◌, ◌<◌, ◌-◌, pos, length, codes, IfOk};
 ghost use Rattle.serde_json.specs.Data.{object, member, no_members};
 ghost use Rattle.serde_json.specs.View.{view};
+ghost use Rattle.report.specs.Limits.{IsScale, IsFineIfThere};
 ghost use Rattle.report.specs.SummaryTrees.{least_denominator, player_share, greatest_data, summary_tree};
 ghost use Rattle.report.specs.Values.{integer_data};
 
-use crate::fraction::{integer_text, text_of};
+use crate::fraction::{integer_value, value_over};
 use crate::objects::with;
 use crate::shares::share_text;
 use crate::words::kind_word;
@@ -33,15 +34,17 @@ pub struct Summary {
 }
 
 /// The JSON tree of a summary.
-pub fn summary_tree(alloc: Global, summary: &Summary) -> Result<Value, OutOfMemory>
-    ensures { IfOk result (λ v. view v ≡ summary_tree summary.now) }
+pub fn summary_tree(alloc: Global, summary: &Summary, scale: u32) -> Result<Value, OutOfMemory>
+    requires scale { IsScale (pos scale) }
+    requires fine { IsFineIfThere summary.now.greatest }
+    ensures { IfOk result (λ v. view v ≡ summary_tree scale summary.now) }
 {
     let players = summary.shares.players();
     let class = Value::try_from_str(alloc, kind_word(summary.kind))?;
-    let common = common_value(alloc, &summary.shares)?;
-    let first = player_value(alloc, summary, 0)?;
-    let greatest = greatest_value(alloc, &summary.greatest)?;
-    let last = player_value(alloc, summary, players - 1)?;
+    let common = common_value(alloc, &summary.shares, scale)?;
+    let first = player_value(alloc, summary, 0, scale)?;
+    let greatest = greatest_value(alloc, &summary.greatest, scale)?;
+    let last = player_value(alloc, summary, players - 1, scale)?;
     let members = with(alloc, Map::new(alloc), "class", class)?;
     let members = with(alloc, members, "common", common)?;
     let members = with(alloc, members, "first", first)?;
@@ -59,36 +62,33 @@ pub fn summary_tree(alloc: Global, summary: &Summary) -> Result<Value, OutOfMemo
 }
 
 /// The least common denominator of shares.
-fn common_value(alloc: Global, shares: &Shares) -> Result<Value, OutOfMemory>
-    ensures { IfOk result (λ v. view v ≡ integer_data (least_denominator shares.now)) }
+fn common_value(alloc: Global, shares: &Shares, scale: u32) -> Result<Value, OutOfMemory>
+    requires { IsScale (pos scale) }
+    ensures { IfOk result (λ v. view v ≡ integer_data scale (least_denominator shares.now)) }
 {
     let common = shares.least_den();
     shares.den();
-    integer_value(alloc, common)
-}
-
-/// An integer.
-fn integer_value(alloc: Global, value: i128) -> Result<Value, OutOfMemory>
-    ensures { IfOk result (λ v. view v ≡ integer_data value) }
-{
-    Ok(Value::String(integer_text(alloc, value)?))
+    integer_value(alloc, common, scale)
 }
 
 /// The share of a player, or what it pays.
-fn player_value(alloc: Global, summary: &Summary, i: u32) -> Result<Value, OutOfMemory>
-    requires { i < length summary.now.shares.shares }
-    ensures { IfOk result (λ v. view v ≡ player_share summary.now i) }
+fn player_value(alloc: Global, summary: &Summary, i: u32, scale: u32) -> Result<Value, OutOfMemory>
+    requires scale { IsScale (pos scale) }
+    requires player { i < length summary.now.shares.shares }
+    ensures { IfOk result (λ v. view v ≡ player_share scale summary.now i) }
 {
     let shares = &summary.shares;
-    share_text(alloc, shares.num(i), shares.den(), summary.is_cost)
+    share_text(alloc, shares.num(i), shares.den(), summary.is_cost, scale)
 }
 
 /// The greatest excess, or that there is none.
-fn greatest_value(alloc: Global, greatest: &Option<Frac>) -> Result<Value, OutOfMemory>
-    ensures { IfOk result (λ v. view v ≡ greatest_data greatest.now) }
+fn greatest_value(alloc: Global, greatest: &Option<Frac>, scale: u32) -> Result<Value, OutOfMemory>
+    requires scale { IsScale (pos scale) }
+    requires fine { IsFineIfThere greatest.now }
+    ensures { IfOk result (λ v. view v ≡ greatest_data scale greatest.now) }
 {
     match greatest {
-        Some(excess) => Ok(Value::String(text_of(alloc, excess)?)),
+        Some(excess) => value_over(alloc, excess, scale),
         None => Ok(Value::try_from_str(alloc, "none")?),
     }
 }

@@ -1,4 +1,5 @@
-ghost use Rattle.report.specs.Limits.{IsPrintable};
+ghost use Rattle.std.specs.Prelude.{IfOk};
+ghost use Rattle.report.specs.Limits.{IsFine, IsPrintable};
 
 mod nucleolus;
 mod summaries;
@@ -17,8 +18,19 @@ use worth_core::Shares;
 fn has_line(alloc: Global, answer: Answer, line: &str) -> Result<bool, Fail>
     requires { IsPrintable answer }
 {
-    let written = write_report(alloc, answer).ok().ok_or("memory")?;
+    let written = write_report(alloc, answer, 1).ok().ok_or("memory")?;
     Ok(written.as_slice() == line.as_bytes())
+}
+
+// The value of `num` over `den`, where it can be printed over a scale.
+fn fraction(num: i128, den: i128) -> Result<Frac, Fail>
+    ensures { IfOk result (λ f. IsFine f.den) }
+{
+    let found = Frac::new(num, den).ok_or("not a fraction")?;
+    if found.den() >= 1 << 100 {
+        return Err("too fine".into());
+    }
+    Ok(found)
 }
 
 #[test]
@@ -26,7 +38,7 @@ fn judgements_have_their_lines(rt: HostRuntime) -> Result<(), Fail> {
     let core = "{\"answer\":\"core\"}\n";
     assert!(rt; has_line(rt.alloc(), Answer::InCore, core)?);
     let inefficient = Answer::NotEfficient {
-        sum: Frac::new(1, -2).ok_or("a fraction")?,
+        sum: fraction(1, -2)?,
         total: -7,
     };
     let line = "{\"answer\":\"not efficient\",\"sum\":\"-1/2\",\"total\":\"-7\"}\n";
@@ -136,7 +148,7 @@ fn verdicts_have_their_lines(rt: HostRuntime) -> Result<(), Fail> {
         (
             Reason::OutsideAbove {
                 level: 1,
-                excess: Frac::new(-3, 2).ok_or("a fraction")?,
+                excess: fraction(-3, 2)?,
             },
             "{\"answer\":\"no\",\"excess\":\"-3/2\",\"level\":1,\"reason\":7}\n",
         ),

@@ -1,9 +1,10 @@
 //! Verdicts as JSON.
-ghost use Rattle.std.specs.Prelude.{◌≡◌, IfOk};
+ghost use Rattle.std.specs.Prelude.{◌≡◌, pos, IfOk};
 ghost use Rattle.serde_json.specs.View.{view};
+ghost use Rattle.report.specs.Limits.{IsScale, IsFine, IsFineVerdict};
 ghost use Rattle.report.specs.Verdicts.{no_alone, no_at_player, no_at_coalition, no_at_level, no_above, reason_tree, verdict_tree};
 
-use crate::fraction::text_of;
+use crate::fraction::text_over;
 use crate::players::{player_numbers, player_value};
 use checker::{Place, Reason, Verdict};
 use coalitions::Coalition;
@@ -12,24 +13,28 @@ use serde_json::{Value, json};
 use std::alloc::Global;
 
 /// The JSON tree of a verdict.
-pub fn verdict_tree(alloc: Global, verdict: Verdict) -> Result<Value, OutOfMemory>
-    ensures { IfOk result (λ v. view v ≡ verdict_tree verdict) }
+pub fn verdict_tree(alloc: Global, verdict: Verdict, scale: u32) -> Result<Value, OutOfMemory>
+    requires scale { IsScale (pos scale) }
+    requires fine { IsFineVerdict verdict }
+    ensures { IfOk result (λ v. view v ≡ verdict_tree scale verdict) }
 {
     match verdict {
         Verdict::Yes => yes_tree(alloc),
-        Verdict::No(reason) => reason_tree(alloc, reason),
+        Verdict::No(reason) => reason_tree(alloc, reason, scale),
     }
 }
 
 fn yes_tree(alloc: Global) -> Result<Value, OutOfMemory>
-    ensures { IfOk result (λ v. view v ≡ verdict_tree Verdict.Yes) }
+    ensures { IfOk result (λ v. view v ≡ verdict_tree 1 Verdict.Yes) }
 {
     let tree = json!(in alloc; {"answer": "yes"})?;
     Ok(tree)
 }
 
-fn reason_tree(alloc: Global, reason: Reason) -> Result<Value, OutOfMemory>
-    ensures { IfOk result (λ v. view v ≡ reason_tree reason) }
+fn reason_tree(alloc: Global, reason: Reason, scale: u32) -> Result<Value, OutOfMemory>
+    requires scale { IsScale (pos scale) }
+    requires fine { IsFineVerdict (Verdict.No reason) }
+    ensures { IfOk result (λ v. view v ≡ reason_tree scale reason) }
 {
     match reason {
         Reason::NotEfficient => no_alone(alloc, 1),
@@ -38,13 +43,13 @@ fn reason_tree(alloc: Global, reason: Reason) -> Result<Value, OutOfMemory>
         Reason::WeightSign { level, place } => weight_tree(alloc, level, place),
         Reason::Unbalanced { level, player } => no_at_level(alloc, 5, level, player),
         Reason::BoundNotTight { level, player } => no_at_level(alloc, 6, level, player),
-        Reason::OutsideAbove { level, excess } => no_above(alloc, 7, level, &excess),
+        Reason::OutsideAbove { level, excess } => no_above(alloc, 7, level, &excess, scale),
         Reason::NotAll { player } => no_at_player(alloc, 8, player),
     }
 }
 
 fn weight_tree(alloc: Global, level: u32, place: Place) -> Result<Value, OutOfMemory>
-    ensures { IfOk result (λ v. view v ≡ reason_tree (Reason.WeightSign level place)) }
+    ensures { IfOk result (λ v. view v ≡ reason_tree 1 (Reason.WeightSign level place)) }
 {
     match place {
         Place::Coalition(coalition) => no_at_coalition(alloc, 4, level, coalition),
@@ -90,10 +95,18 @@ fn no_at_level(alloc: Global, reason: u32, level: u32, player: u32) -> Result<Va
     Ok(tree)
 }
 
-fn no_above(alloc: Global, reason: u32, level: u32, excess: &Frac) -> Result<Value, OutOfMemory>
-    ensures { IfOk result (λ v. view v ≡ no_above reason level excess.now) }
+fn no_above(
+    alloc: Global,
+    reason: u32,
+    level: u32,
+    excess: &Frac,
+    scale: u32,
+) -> Result<Value, OutOfMemory>
+    requires scale { IsScale (pos scale) }
+    requires fine { IsFine excess.now.den }
+    ensures { IfOk result (λ v. view v ≡ no_above scale reason level excess.now) }
 {
-    let excess = text_of(alloc, excess)?;
+    let excess = text_over(alloc, excess, scale)?;
     let tree =
         json!(in alloc; {"answer": "no", "excess": excess, "level": level, "reason": reason})?;
     Ok(tree)

@@ -3,4 +3,4 @@ use Rattle.reading_back.proofs.ShareTexts.{listed_members}
 use Rattle.reading_back.proofs.share_lists_are_arrays.Goals as goal
 
 pub returns : goal.returns
-returns c = λ b x. (listed_members b x.den x.shares, listed-items_of _)
+returns c = λ k b x. (listed_members k b x.den x.shares, listed-items_of _)

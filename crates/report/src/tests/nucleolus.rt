@@ -2,12 +2,14 @@
 ghost use Rattle.std.specs.Prelude.{◌≡◌, codes, IfOk};
 ghost use Rattle.serde_json.specs.Data.{number, unsigned, string, array, object, item, no_items, member, no_members};
 ghost use Rattle.serde_json.specs.View.{view};
-ghost use Rattle.report.specs.Limits.{IsGameTree};
+ghost use Rattle.std.specs.List.{AllByRecursion};
+ghost use Rattle.report.specs.Limits.{IsFine, IsGameTree};
 
+use super::fraction;
 use crate::objects::with;
 use crate::{Answer, write_report};
 use coalitions::Coalition;
-use fractions::{Frac, OutOfMemory};
+use fractions::OutOfMemory;
 use kohlberg::{Certificate, Level, Mode};
 use serde_json::{Map, Value, json};
 use std::alloc::Global;
@@ -29,9 +31,11 @@ fn level(
     earlier: &[(Coalition, i128)],
     bounds: &[(u32, i128)],
     total: i128,
-) -> Result<Level, Fail> {
+) -> Result<Level, Fail>
+    ensures { IfOk result (λ l. IsFine l.excess_den) }
+{
     Ok(Level {
-        excess: Frac::new(excess.0, excess.1).ok_or("not a fraction")?,
+        excess: fraction(excess.0, excess.1)?,
         coalitions: coalitions.to_vec(rt.alloc())?,
         earlier: earlier.to_vec(rt.alloc())?,
         bounds: bounds.to_vec(rt.alloc())?,
@@ -48,7 +52,8 @@ fn written(
     mode: Mode,
     levels: Vec<Level>,
 ) -> Result<Vec<u8>, Fail>
-    requires { IsGameTree (view tree) }
+    requires tree { IsGameTree (view tree) }
+    requires fine { AllByRecursion (λ l. IsFine l.excess_den) levels.items }
 {
     let x = Shares::new(shares.0.to_vec(rt.alloc())?, shares.1).ok_or("not shares")?;
     let certificate = Certificate::new(x.players(), mode, levels).map_err(|_| "malformed")?;
@@ -59,7 +64,7 @@ fn written(
         shares: x,
         certificate,
     };
-    Ok(write_report(rt.alloc(), answer).ok().ok_or("memory")?)
+    Ok(write_report(rt.alloc(), answer, 1).ok().ok_or("memory")?)
 }
 
 /// The tree of an airport game.

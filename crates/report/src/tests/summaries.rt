@@ -1,7 +1,6 @@
 //! Lines on generated games.
-use super::has_line;
+use super::{fraction, has_line};
 use crate::{Answer, Summary};
-use fractions::Frac;
 use game_text::Kind;
 use std::test::Fail;
 use worth_core::Shares;
@@ -36,7 +35,7 @@ fn summaries_have_their_lines(rt: HostRuntime) -> Result<(), Fail> {
         ),
     ] {
         let shares = Shares::new([-4, -10, -22, 12].to_vec(rt.alloc())?, 6).ok_or("shares")?;
-        let greatest = Frac::new(-5, 2);
+        let greatest = Some(fraction(-5, 2)?);
         let summary = Summary {
             kind,
             players: 4,

@@ -10,4 +10,4 @@ returns-clause-shown g c = record {
 }
 
 pub returns-clause-printable : goal.returns-clause-printable
-returns-clause-printable g c = small_numbers _ c.args.collection c.requires.small
+returns-clause-printable g c = record { fine = tt; form = small_numbers _ c.args.collection c.requires.small }

@@ -13,8 +13,8 @@ pub checked_shares-requires-clause-imputations : goal.checked_shares-requires-cl
 checked_shares-requires-clause-imputations c =
     subst (λ d. HasImputations (game_of d)) (sym c.in_ok-game.ensures) (generated_imputations c.args.kind c.args.players c.args.seed c.requires.size)
 
-pub returns : goal.returns
-returns c =
+pub returns-clause-summary : goal.returns-clause-summary
+returns-clause-summary c =
     let made = c.in_ok-game.ensures in
     record {
       kind_is = refl;
@@ -23,5 +23,5 @@ returns c =
       class = generated_of_class c.args.kind c.args.players c.args.seed c.requires.size;
       signs = c.is_cost.ensures ∙ ap is_cost made;
       nucleolus = subst (λ d. IsNucleolus Imputations Plain (game_of d) c.in_ok-shares.shares) made c.in_ok-shares.ensures;
-      greatest = subst (λ d. IsGreatestExcess (game_of d) c.in_ok-shares.shares c.greatest_excess-greatest.result) made c.greatest_excess-greatest.ensures;
+      greatest = subst (λ d. IsGreatestExcess (game_of d) c.in_ok-shares.shares c.greatest_excess-greatest.result) made c.greatest_excess-greatest.ensures.greatest;
     }

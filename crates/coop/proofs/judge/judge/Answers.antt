@@ -6,6 +6,7 @@ use Rattle.definitions.specs.Coalitions.{grand_coalition}
 use Rattle.definitions.specs.Games.{amount}
 use Rattle.fractions.specs.Fraction.{IsRatio}
 use Rattle.coop.specs.Judgement.{printed}
+use Rattle.coop.proofs.FineLevels.{fine_ratio}
 use Rattle.coop.proofs.judge.judge.Goals as goal
 use Rattle.definitions.proofs.Casts.{cast_kept}
 
@@ -30,3 +31,15 @@ returns-then-sum-scaled-clause-judges g c =
       worth_of_all =
           to_z-of_z w64 c.printed_worth.result (omega (arith, ints, c.printed_worth.ensures.small)) ∙ c.printed_worth.ensures.value ∙ ap (printed c.args.are_costs) (total_kept ∙ worth);
     }
+
+pub returns-then-sum-scaled-clause-printable : goal.returns-then-sum-scaled-clause-printable
+returns-then-sum-scaled-clause-printable g c =
+    let den_kept = cast_kept w128 c.den-then-sum-scaled.result (omega (arith, ints, c.den-then-sum-scaled.ensures.positive, c.den-then-sum-scaled.ensures.common)) in
+    let ratio : IsRatio c.over.result _ c.den-then-sum-scaled.result = rw den_kept at c.over.ensures in
+    record { fine = fine_ratio c.over.result _ c.den-then-sum-scaled.result ratio c.den-then-sum-scaled.ensures.positive c.den-then-sum-scaled.ensures.common; form = tt }
+
+pub returns-in-Some-clause-printable : goal.returns-in-Some-clause-printable
+returns-in-Some-clause-printable g c =
+    let den_kept = cast_kept w128 c.den-in-Some.result (omega (arith, ints, c.den-in-Some.ensures.positive, c.den-in-Some.ensures.common)) in
+    let ratio : IsRatio c.over-in-Some.result _ c.den-in-Some.result = rw den_kept at c.over-in-Some.ensures in
+    record { fine = fine_ratio c.over-in-Some.result _ c.den-in-Some.result ratio c.den-in-Some.ensures.positive c.den-in-Some.ensures.common; form = tt }

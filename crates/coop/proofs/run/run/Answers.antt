@@ -1,4 +1,5 @@
-use Rattle.std.proofs.Common.{◌<◌, ℕ, List, length, take, refl, subst, ◌∙◌, inl, inr}
+use Rattle.std.proofs.Common.{◌≡◌, to_z, of_z, w64, rules, ◌<◌, ℕ, ℤ, pos, unsigned_abs, List, length, take, Some, refl, ap, subst, ◌∙◌, inl, inr}
+use Rattle.report.specs.Lines.{answer_tree, line}
 use Rattle.std.specs.Io.KnownBytes.{Appends}
 use Rattle.report.specs.declared.answer.Answer.TheVariants.{Usage}
 use Rattle.report.specs.declared.answer.UsageKind.TheVariants.{Words}
@@ -10,48 +11,50 @@ use Rattle.coop.proofs.Completed.{positive_or_negative, answered}
 use Rattle.coop.proofs.GeneratorEnds.{asks_for_nothing, made}
 use Rattle.coop.proofs.run.run.Goals as goal
 
-pub answer-requires : goal.answer-requires
-answer-requires g c = is_fit _ c.in-Some.request c.in-Some.ensures
+pub reply_to-requires : goal.reply_to-requires
+reply_to-requires g c = is_fit _ c.in-Some.request c.in-Some.ensures
 
 pub returns-in-Ok-clause-ends : goal.returns-in-Ok-clause-ends
 returns-in-Ok-clause-ends g c =
     let took = Appends (g.K.Sink.taken c.args.sink.now) (g.K.Sink.taken c.write_line.new.sink) in
-    (Usage Words, right_usage _ _ (no_command _ _ c.request_of.ensures c.in_default.not-Some), refl, subst took c.usage_line.ensures c.in-Ok.ensures.ok, tt)
+    (pos 1, (Usage Words, right_usage _ _ (no_command _ _ c.request_of.ensures c.in_default.not-Some), refl, subst took c.usage_line.ensures c.in-Ok.ensures.ok, tt))
 
 pub returns-in-Err-clause-ends : goal.returns-in-Err-clause-ends
 returns-in-Err-clause-ends g c =
     let took = Appends (g.K.Sink.taken c.args.sink.now) (g.K.Sink.taken c.write_line.new.sink) in
-    (Usage Words, right_usage _ _ (no_command _ _ c.request_of.ensures c.in_default.not-Some), subst (λ (l : List ℕ). (n : ℕ) × (n < length l) × took (take n l)) c.usage_line.ensures c.in-Err.ensures.err)
+    (pos 1, (Usage Words, right_usage _ _ (no_command _ _ c.request_of.ensures c.in_default.not-Some), subst (λ (l : List ℕ). (n : ℕ) × (n < length l) × took (take n l)) c.usage_line.ensures c.in-Err.ensures.err))
 
 pub returns-in-Ok-write_line-clause-ends : goal.returns-in-Ok-write_line-clause-ends
 returns-in-Ok-write_line-clause-ends g c =
-    let answer = c.in-Ok-answer.answer in
-    let text = c.in-Ok-write_report.ensures.text in
-    let right = c.in-Ok-answer.ensures.right _ c.in-Some.ensures in
+    let reply = c.in-Ok-reply_to.reply in
+    let kept : to_z w64 (of_z w64 reply.scale) ≡ reply.scale = search rules in
+    let text : c.in-Ok-write_report.line.items ≡ line reply.scale reply.answer = c.in-Ok-write_report.ensures.text ∙ ap (λ (k : ℤ). line k reply.answer) kept in
+    let right = c.in-Ok-reply_to.ensures.right _ c.in-Some.ensures in
     let took = subst (λ (l : List ℕ). Appends (g.K.Sink.taken c.args.sink.now) (g.K.Sink.taken c.write_line-2.new.sink) l) (c.deref.ensures.value ∙ text) c.in-Ok-write_line.ensures.ok in
-    let again = is_read_back_from answer c.in-Ok-write_report.line.items text c.in-Ok-answer.ensures.readable c.in-Ok-write_report.ensures.utf8 c.in-Ok-write_report.ensures.reads_back in
-    rw c.status_of-status.ensures (ended _ _ _ _ _ answer right took again)
+    let again = is_read_back_from reply.scale reply.answer c.in-Ok-write_report.line.items text c.in-Ok-reply_to.ensures.readable c.in-Ok-write_report.ensures.utf8 (c.in-Ok-write_report.ensures.reads_back ∙ ap (λ (k : ℤ). Some (answer_tree (unsigned_abs k) reply.answer)) kept) in
+    rw c.status_of-status.ensures (ended _ _ _ _ _ reply.scale reply.answer right took again)
 
 pub returns-in-Ok-write_line-clause-other_words : goal.returns-in-Ok-write_line-clause-other_words
 returns-in-Ok-write_line-clause-other_words g c = λ none. absurd (asks_for_nothing _ c.in-Some.request c.in-Some.ensures none)
 
 pub returns-in-Ok-write_line-clause-generated : goal.returns-in-Ok-write_line-clause-generated
 returns-in-Ok-write_line-clause-generated g c = λ asks.
-    let as_made = made _ c.in-Some.request _ _ c.answer.result c.in-Some.ensures asks c.answer.ensures.made in
-    let done = (rw c.in-Ok-answer.is at as_made).1 in
+    let as_made = made _ c.in-Some.request _ _ c.reply_to.result c.in-Some.ensures asks c.reply_to.ensures.made in
+    let done = (rw c.in-Ok-reply_to.is at as_made).1 in
     (as_made.0, inl (c.status_of-status.ensures ∙ done))
 
 pub returns-clause-ends : goal.returns-clause-ends
 returns-clause-ends g c =
-    let answer = c.in-Ok-answer.answer in
-    let text = c.in-Ok-write_report.ensures.text in
-    let right = c.in-Ok-answer.ensures.right _ c.in-Some.ensures in
+    let reply = c.in-Ok-reply_to.reply in
+    let kept : to_z w64 (of_z w64 reply.scale) ≡ reply.scale = search rules in
+    let text : c.in-Ok-write_report.line.items ≡ line reply.scale reply.answer = c.in-Ok-write_report.ensures.text ∙ ap (λ (k : ℤ). line k reply.answer) kept in
+    let right = c.in-Ok-reply_to.ensures.right _ c.in-Some.ensures in
     let took = Appends (g.K.Sink.taken c.args.sink.now) (g.K.Sink.taken c.write_line-2.new.sink) in
-    (answer, right, subst (λ (l : List ℕ). (n : ℕ) × (n < length l) × took (take n l)) (c.deref.ensures.value ∙ text) c.in-Err-write_line.ensures.err)
+    (reply.scale, (reply.answer, right, subst (λ (l : List ℕ). (n : ℕ) × (n < length l) × took (take n l)) (c.deref.ensures.value ∙ text) c.in-Err-write_line.ensures.err))
 
 pub returns-clause-generated : goal.returns-clause-generated
 returns-clause-generated g c = λ asks.
-    let as_made = made _ c.in-Some.request _ _ c.answer.result c.in-Some.ensures asks c.answer.ensures.made in
+    let as_made = made _ c.in-Some.request _ _ c.reply_to.result c.in-Some.ensures asks c.reply_to.ensures.made in
     (as_made.0, inr (inr refl))
 
 pub returns-in-Ok-clause-complete : goal.returns-in-Ok-clause-complete
@@ -64,8 +67,8 @@ returns-in-Err-clause-complete g c = λ command bytes d said told document serve
 
 pub returns-in-Ok-write_line-clause-complete : goal.returns-in-Ok-write_line-clause-complete
 returns-in-Ok-write_line-clause-complete g c = λ command bytes d said told document serves reads writes.
-    let right = c.in-Ok-answer.ensures.right _ c.in-Some.ensures in
-    answered c.status_of-status.ensures (positive_or_negative _ command bytes d said document serves _ _ told c.in-Ok-answer.answer right)
+    let right = c.in-Ok-reply_to.ensures.right _ c.in-Some.ensures in
+    answered c.status_of-status.ensures (positive_or_negative _ command bytes d said document serves _ _ told c.in-Ok-reply_to.reply.scale c.in-Ok-reply_to.reply.answer right)
 
 pub returns-clause-complete : goal.returns-clause-complete
 returns-clause-complete g c = λ command bytes d said told document serves reads writes.

@@ -3,6 +3,7 @@ use Rattle.game_text.specs.Descriptions.{game_of}
 use Rattle.game_text.specs.Readings.{contents_in}
 use Rattle.coop.proofs.Solved.{is_solution}
 use Rattle.coop.proofs.NoImputation.{is_above, no_imputation}
+use Rattle.coop.proofs.FineLevels.{fine_levels}
 use Rattle.coop.proofs.Readable.{can_be_checked}
 use Rattle.coop.proofs.solve.solve_document.Goals as goal
 
@@ -10,6 +11,14 @@ pub returns-in-Point-clause-solves : goal.returns-in-Point-clause-solves
 returns-in-Point-clause-solves c =
     let found = rw c.in-Point.is at c.in_ok-shares.ensures in
     (refl, is_solution c.args.family (contents_in c.args.document) c.is_cost-is_cost.result c.in-Point.shares c.in-Point.certificate c.in-Point.certificate.levels c.is_cost-is_cost.ensures found (omega (arith, c.if-players-nucleolus_limit.false, c.nucleolus_limit.ensures, c.players.ensures.count)) refl c.keep_their_limits.ensures.certificate.form)
+
+pub returns-in-Point-clause-printable : goal.returns-in-Point-clause-printable
+returns-in-Point-clause-printable c =
+    let found = rw c.in-Point.is at c.in_ok-shares.ensures in
+    record {
+      fine = fine_levels c.in-Point.certificate.mode c.args.family c.args.document.measure (game_of (contents_in c.args.document).game) c.in-Point.shares c.in-Point.certificate c.keep_their_limits.ensures.shares c.keep_their_limits.ensures.certificate found;
+      form = (c.requires.accepted.whole, c.requires.accepted.shallow);
+    }
 
 pub returns-in-Point-clause-readable : goal.returns-in-Point-clause-readable
 returns-in-Point-clause-readable c =

@@ -5,6 +5,7 @@ use Rattle.game_text.specs.Text.{IsTextOf}
 use Rattle.game_text.proofs.Chain.{from_tree}
 use Rattle.game_text.proofs.KeptTrees.{kept_tree}
 use Rattle.game_text.proofs.Counts.{share_each, its_players}
+use Rattle.game_text.proofs.ScalesKept.{scale_kept}
 use Rattle.game_text.proofs.reading.read_document.Goals as goal
 
 pub returns-clause-reading : goal.returns-clause-reading
@@ -15,6 +16,9 @@ returns-clause-reading c =
 
 pub returns-clause-count : goal.returns-clause-count
 returns-clause-count c = share_each c.args.command (view c.in-Ok.tree) c.document_of.result c.document_of.ensures
+
+pub returns-clause-scale : goal.returns-clause-scale
+returns-clause-scale c = scale_kept c.args.command (view c.in-Ok.tree) c.document_of.result c.document_of.ensures
 
 pub returns-clause-players : goal.returns-clause-players
 returns-clause-players c = its_players c.args.command (view c.in-Ok.tree) c.document_of.result c.document_of.ensures

@@ -5,12 +5,12 @@ use Rattle.game_text.proofs.tree_class.tree_of.Goals as goal
 
 pub unreachable-requires : goal.unreachable-requires
 unreachable-requires c =
-    let sizes = subst HasTreeSizes (sym c.in_ok-rows.ensures) (tree_sizes (view c.args.game.now) c.requires.class c.requires.sizes) in
+    let sizes = subst HasTreeSizes (sym c.in_ok-rows.ensures) (tree_sizes c.args.scale (view c.args.game.now) c.requires.scale c.requires.class c.requires.sizes) in
     (rw c.in-Err-Players.field-0-is at c.in-Err-Players.ensures) sizes.points
 
 pub unreachable-requires-in-Err-Number : goal.unreachable-requires-in-Err-Number
 unreachable-requires-in-Err-Number c =
-    let sizes = subst HasTreeSizes (sym c.in_ok-rows.ensures) (tree_sizes (view c.args.game.now) c.requires.class c.requires.sizes) in
+    let sizes = subst HasTreeSizes (sym c.in_ok-rows.ensures) (tree_sizes c.args.scale (view c.args.game.now) c.requires.scale c.requires.class c.requires.sizes) in
     (rw c.in-Err-Number.field-0-is at c.in-Err-Number.ensures).1 sizes.entries
 
 pub returns-in-Ok : goal.returns-in-Ok

@@ -4,4 +4,4 @@ use Rattle.report.specs.BirdTrees.{edge_tree}
 use Rattle.report.proofs.bird_answer.edge_trees.Given as goal
 
 abbrev pub invariant-loop-end : goal.invariant-loop-end
-invariant-loop-end l = map view l.trees.items ≡ map edge_tree (take l.end-index l.edges)
+invariant-loop-end l = map view l.trees.items ≡ map (edge_tree l.scale) (take l.end-index l.edges)

@@ -1,0 +1,14 @@
+use Rattle.game_text.specs.Descriptions.{game_of}
+use Rattle.game_text.specs.Games.{description_in}
+use Rattle.coop.proofs.PrintableAnswers.{verdict_fine}
+use Rattle.coop.proofs.check.check_document.Goals as goal
+
+pub returns-clause-printable : goal.returns-clause-printable
+returns-clause-printable c =
+    let document = c.args.document.now in
+    let given = c.in-Some-Some-Some in
+    record {
+      fine = verdict_fine given.certificate.mode given.family document.measure (game_of (description_in document.game)) given.shares given.certificate.levels c.check-verdict.result
+          c.keep_their_limits.ensures.shares c.check-verdict.ensures.verdict c.keep_lowest.ensures;
+      form = tt;
+    }

@@ -1,0 +1,155 @@
+//! Games of version 2, whose numbers may be fraction texts.
+use super::nucleolus::is_checked;
+use super::{printed, run_on};
+use crate::status::Status;
+use std::test::Fail;
+
+// The two together have more than alone, by 1/3.
+const TWO: &str =
+    "{\"class\":\"table\",\"players\":2,\"version\":2,\"worths\":[\"1/2\",\"1/3\",\"7/6\"]}";
+
+#[test]
+fn nucleoli_are_printed_over_the_scale(rt: HostRuntime) -> Result<(), Fail> {
+    for (game, part) in [
+        (TWO, "\"shares\":[\"2/3\",\"1/2\"]}\n"),
+        (
+            "{\"class\":\"table\",\"players\":2,\"version\":2,\"worths\":[\"1/65536\",0,1]}",
+            "\"shares\":[\"65537/131072\",\"65535/131072\"]}\n",
+        ),
+        (
+            "{\"claims\":[\"100/3\",\"200/3\",100],\"class\":\"bankruptcy\",\"estate\":\"200/3\",\"version\":2}",
+            "\"shares\":[\"50/3\",\"25\",\"25\"]}\n",
+        ),
+    ] {
+        let mut input = String::from_str(rt.alloc(), "{\"game\":")?;
+        input.push_str(game)?;
+        input.push_str("}")?;
+        let (status, line) = printed(rt.alloc(), "nucleolus", input.as_bytes())?;
+        assert_eq!(rt; status, Status::Done);
+        assert!(rt; line.ends_with(part.as_bytes()), "on {game}");
+        assert!(rt; is_checked(rt.alloc(), input.as_str())?, "on {game}");
+    }
+    Ok(())
+}
+
+#[test]
+fn the_level_of_two_players_has_its_excess_over_the_scale(rt: HostRuntime) -> Result<(), Fail> {
+    let input =
+        "{\"game\":{\"class\":\"table\",\"players\":2,\"version\":2,\"worths\":[\"1/2\",\"1/3\",\"7/6\"]}}";
+    let front =
+        "{\"answer\":\"nucleolus\",\"certificate\":{\"levels\":[{\"bounds\":[],\"coalitions\":[[[1],1],[[2],1]],\"earlier\":[],\"excess\":\"-1/6\",\"total\":1}],";
+    let (status, line) = printed(rt.alloc(), "nucleolus", input.as_bytes())?;
+    assert_eq!(rt; status, Status::Done);
+    assert!(rt; line.starts_with(front.as_bytes()));
+    Ok(())
+}
+
+#[test]
+fn other_answers_are_over_the_scale(rt: HostRuntime) -> Result<(), Fail> {
+    for (command, input, line, status) in [
+        (
+            "nucleolus",
+            "{\"game\":{\"class\":\"table\",\"players\":2,\"version\":2,\"worths\":[\"1/65537\",0,1]}}",
+            "{\"number\":5,\"refused\":\"Number\"}\n",
+            Status::Refused,
+        ),
+        (
+            "bird",
+            "{\"game\":{\"class\":\"tree\",\"matrix\":[[0,\"1/2\"],[\"1/2\",0]],\"version\":2}}",
+            "{\"answer\":\"bird\",\"shares\":[\"1/2\"],\"tree\":[[0,1,\"1/2\"]]}\n",
+            Status::Done,
+        ),
+        (
+            "bird",
+            "{\"game\":{\"class\":\"tree\",\"matrix\":[[0,2],[2,0]],\"version\":2}}",
+            "{\"answer\":\"bird\",\"shares\":[\"2\"],\"tree\":[[0,1,2]]}\n",
+            Status::Done,
+        ),
+        (
+            "propose",
+            "{\"game\":{\"class\":\"table\",\"players\":2,\"version\":2,\"worths\":[\"1/2\",\"1/3\",\"7/6\"]},\"shares\":[\"1/3\",\"5/6\"]}",
+            "{\"answer\":\"blocked\",\"coalition\":[1],\"excess\":\"1/6\"}\n",
+            Status::Negative,
+        ),
+        (
+            "propose",
+            "{\"game\":{\"class\":\"table\",\"players\":2,\"version\":2,\"worths\":[\"1/2\",\"1/3\",\"7/6\"]},\"shares\":[\"1/3\",\"1/3\"]}",
+            "{\"answer\":\"not efficient\",\"sum\":\"2/3\",\"total\":\"7/6\"}\n",
+            Status::Negative,
+        ),
+        (
+            "nucleolus",
+            "{\"game\":{\"class\":\"table\",\"players\":2,\"version\":2,\"worths\":[\"1/2\",\"1/3\",\"1/6\"]}}",
+            "{\"answer\":\"no imputation\",\"singles\":\"5/6\",\"total\":\"1/6\"}\n",
+            Status::Negative,
+        ),
+        (
+            "shapley",
+            "{\"game\":{\"class\":\"airport\",\"costs\":[\"1/2\",1],\"version\":2}}",
+            "{\"answer\":\"shapley\",\"shares\":[\"1/4\",\"3/4\"]}\n",
+            Status::Done,
+        ),
+        (
+            "core",
+            "{\"game\":{\"class\":\"table\",\"players\":2,\"version\":2,\"worths\":[\"1/2\",\"1/3\",\"1/6\"]}}",
+            "{\"against\":\"1/6\",\"answer\":\"empty core\",\"collection\":[[[1],1],[[2],1]],\"k\":1,\"value\":\"5/6\"}\n",
+            Status::Negative,
+        ),
+        (
+            "check",
+            "{\"answer\":\"nucleolus\",\"certificate\":{\"levels\":[{\"bounds\":[],\"coalitions\":[[[1],1],[[2],1]],\"earlier\":[],\"excess\":\"-1/6\",\"total\":1}],\"mode\":\"span\"},\"game\":{\"class\":\"table\",\"players\":2,\"version\":2,\"worths\":[\"1/2\",\"1/3\",\"7/6\"]},\"shares\":[\"2/3\",\"1/2\"]}",
+            "{\"answer\":\"yes\"}\n",
+            Status::Done,
+        ),
+        (
+            "check",
+            "{\"answer\":\"nucleolus\",\"certificate\":{\"levels\":[{\"bounds\":[],\"coalitions\":[[[1],1],[[2],1]],\"earlier\":[],\"excess\":\"-1\",\"total\":1}],\"mode\":\"span\"},\"game\":{\"class\":\"table\",\"players\":2,\"version\":2,\"worths\":[\"1/2\",\"1/3\",\"7/6\"]},\"shares\":[\"2/3\",\"1/2\"]}",
+            "{\"answer\":\"no\",\"coalition\":[1],\"level\":1,\"reason\":3}\n",
+            Status::Negative,
+        ),
+    ] {
+        let found = run_on(rt.alloc(), &[command], input.as_bytes(), 300, line)?;
+        assert_eq!(rt; found, (status, true), "on {input}");
+    }
+    Ok(())
+}
+
+#[test]
+fn matchings_deficits_and_surpluses_are_over_the_scale(rt: HostRuntime) -> Result<(), Fail> {
+    for (command, input, line, status) in [
+        (
+            "matching",
+            "{\"game\":{\"class\":\"market\",\"matrix\":[[\"5/2\"],[\"3/2\"]],\"version\":2}}",
+            "{\"answer\":\"matching\",\"buyers best\":[\"1\",\"0\",\"3/2\"],\"pairs\":[[1,3]],\"sellers best\":[\"0\",\"0\",\"5/2\"],\"value\":\"5/2\"}\n",
+            Status::Done,
+        ),
+        (
+            "convex",
+            "{\"game\":{\"class\":\"table\",\"players\":2,\"version\":2,\"worths\":[\"1/2\",\"1/3\",\"1/6\"]}}",
+            "{\"answer\":\"not convex\",\"deficit\":\"2/3\",\"i\":1,\"j\":2,\"set\":[]}\n",
+            Status::Negative,
+        ),
+        (
+            "kernel",
+            "{\"game\":{\"class\":\"table\",\"players\":2,\"version\":2,\"worths\":[\"1/2\",\"1/3\",\"7/6\"]},\"shares\":[\"1/3\",\"5/6\"]}",
+            "{\"answer\":\"not prekernel\",\"i\":1,\"ij\":\"1/6\",\"j\":2,\"ji\":\"-1/2\"}\n",
+            Status::Negative,
+        ),
+        (
+            "shapley",
+            "{\"game\":{\"class\":\"voting\",\"quota\":5,\"version\":2,\"weights\":[4,2,1]}}",
+            "{\"answer\":\"shapley\",\"shares\":[\"2/3\",\"1/6\",\"1/6\"]}\n",
+            Status::Done,
+        ),
+        (
+            "shapley",
+            "{\"game\":{\"class\":\"voting\",\"quota\":\"5\",\"version\":2,\"weights\":[4,2,1]}}",
+            "{\"number\":3,\"refused\":\"Shape\"}\n",
+            Status::Refused,
+        ),
+    ] {
+        let found = run_on(rt.alloc(), &[command], input.as_bytes(), 300, line)?;
+        assert_eq!(rt; found, (status, true), "on {input}");
+    }
+    Ok(())
+}
