@@ -1,4 +1,11 @@
 -- Airport games: the costs, and the players in the order of their costs.
+--
+--   Airport        costs, and the players by cost and then by number
+--   airport        these parts together
+--   IsAirport      1 to 64 costs below 2 ^ 40, and the players in order
+--   airport_game   a coalition is worth minus the greatest cost among its members
+--   place          the player at a place of the order
+--   IsRefused      why costs make no game
 use Rattle.std.specs.Prelude.{ℕ, ◌≤◌, List, length, ℤ, slice_index, All}
 use Rattle.definitions.specs.Games.{Game}
 use Rattle.definitions.specs.Classes.{airport_worth}

@@ -1,5 +1,7 @@
 //! The levels of the blocks, the runs of places that pay the same.
-ghost use Rattle.std.specs.Prelude.{◌≡◌, ◌+◌, ◌-◌, ◌^◌, ◌<◌, ◌≤◌, length, pos, unsigned_abs, IfOk, nat_lt, [], ◌∷◌, if◌then◌else◌, All};
+ghost use Rattle.std.specs.Prelude.{◌≡◌, IfOk, if◌then◌else◌};
+ghost use Rattle.std.specs.Prelude.{◌+◌, ◌-◌, ◌^◌, ◌<◌, ◌≤◌, pos, unsigned_abs, nat_lt};
+ghost use Rattle.std.specs.Prelude.{length, [], ◌∷◌, All};
 ghost use Rattle.std.specs.List.{AllByRecursion};
 ghost use Rattle.kohlberg.specs.Solved.{IsLowest};
 ghost use Rattle.airport.specs.Airport.{place};
@@ -41,7 +43,8 @@ fn block_coalitions(
     requires some { i < k }
     requires within { k ≤ length game.now.costs }
     requires after { after ≡ front (place game.now) k }
-    ensures { IfOk result (λ v. v.items ≡ with_others (length game.now.costs) (place game.now) (front_pair (place game.now) k (pos 1) (nat_lt k (length game.now.costs))) i (k - i)) }
+    ensures { IfOk result (λ v. v.items ≡ with_others (length game.now.costs) (place game.now)
+        (front_pair (place game.now) k (pos 1) (nat_lt k (length game.now.costs))) i (k - i)) }
 {
     let n = game.len();
     let mut v = pair_if(alloc, after, 1, k < n)?;
@@ -103,7 +106,11 @@ fn block_level(
 }
 
 /// The levels of the blocks that begin while two players are left.
-pub fn all_levels(alloc: Global, game: &AirportGame, paid: &Paid) -> Result<Vec<Level>, AllocError>
+pub(crate) fn all_levels(
+    alloc: Global,
+    game: &AirportGame,
+    paid: &Paid,
+) -> Result<Vec<Level>, AllocError>
     requires payment { IsPayment (length game.now.costs) (cost_at game.now) paid.now.pay.items paid.now.den }
     ensures levels { IfOk result (λ v. AreLevels (length game.now.costs) (place game.now) (pay_at paid.now.pay.items) paid.now.den v.items) }
     ensures lowest { IfOk result (λ v. AllByRecursion IsLowest v.items) }

@@ -1,5 +1,7 @@
 //! The payments of the scheme, by place and by player.
-ghost use Rattle.std.specs.Prelude.{◌≡◌, ℕ, ◌^◌, ◌<◌, length, pos, ◌*ℤ◌, unsigned_abs, slice_index_or, IfOk, OnOk, All};
+ghost use Rattle.std.specs.Prelude.{◌≡◌, IfOk, OnOk};
+ghost use Rattle.std.specs.Prelude.{ℕ, ◌^◌, ◌<◌, pos, ◌*ℤ◌, unsigned_abs};
+ghost use Rattle.std.specs.Prelude.{length, slice_index_or, All};
 ghost use Rattle.airport.specs.Airport.{IsAirport, place};
 ghost use Rattle.airport_scheme.specs.Scheme.{cost_at, IsGrown, IsPayment, IsByPlayer};
 
@@ -9,9 +11,9 @@ use std::alloc::{AllocError, Global};
 
 /// The payments at the places, over a common denominator.
 #[derive(Drop)]
-pub struct Paid {
-    pub pay: Vec<i128>,
-    pub den: i128,
+pub(crate) struct Paid {
+    pub(crate) pay: Vec<i128>,
+    pub(crate) den: i128,
 }
 
 /// Each payment times a small number.
@@ -40,7 +42,7 @@ fn grow(pay: &mut Vec<i128>, size: i128, rate: i128, count: u32) -> Result<(), A
 }
 
 /// The payment at each place, block by block.
-pub fn by_place(alloc: Global, game: &AirportGame) -> Result<Paid, AllocError>
+pub(crate) fn by_place(alloc: Global, game: &AirportGame) -> Result<Paid, AllocError>
     ensures payment { IfOk result (λ p. IsPayment (length game.now.costs) (cost_at game.now) p.pay.items p.den) }
     ensures laws { IsAirport game.now }
 {
@@ -61,7 +63,11 @@ pub fn by_place(alloc: Global, game: &AirportGame) -> Result<Paid, AllocError>
 }
 
 /// The share of each player: minus the payment of its place.
-pub fn by_player(alloc: Global, game: &AirportGame, pay: &[i128]) -> Result<Vec<i128>, AllocError>
+pub(crate) fn by_player(
+    alloc: Global,
+    game: &AirportGame,
+    pay: &[i128],
+) -> Result<Vec<i128>, AllocError>
     requires long { length pay.now ≡ length game.now.costs }
     requires small { All (λ z. unsigned_abs z < 2 ^ 104) pay.now }
     ensures { IfOk result (λ v. IsByPlayer (length game.now.costs) (place game.now) pay.now v.items) }

@@ -1,19 +1,20 @@
 //! What the players of the next block pay.
-ghost use Rattle.std.specs.Prelude.{◌≡◌, ◌^◌, ◌<◌, ◌≤◌, length, pos, ◌-ℤ◌, ◌*ℤ◌, ◌≤ℤ◌, ◌<ℤ◌, int_lt, unsigned_abs};
+ghost use Rattle.std.specs.Prelude.{◌≡◌, length};
+ghost use Rattle.std.specs.Prelude.{◌^◌, ◌<◌, ◌≤◌, pos, ◌-ℤ◌, ◌*ℤ◌, ◌≤ℤ◌, ◌<ℤ◌, int_lt, unsigned_abs};
 ghost use Rattle.airport_scheme.specs.Scheme.{cost_at, IsTerm, IsLeastTerm};
 
 use airport::AirportGame;
 
 /// A payment over `size` times the denominator, of each place up to `last`.
 #[derive(Clone, Copy)]
-pub struct Rate {
-    pub last: u32,
-    pub size: i128,
-    pub value: i128,
+pub(crate) struct Rate {
+    pub(crate) last: u32,
+    pub(crate) size: i128,
+    pub(crate) value: i128,
 }
 
 /// A number times a small one.
-pub fn times(a: i128, b: i128) -> i128
+pub(crate) fn times(a: i128, b: i128) -> i128
     requires left { unsigned_abs a < 2 ^ 112 }
     requires right { unsigned_abs b < 2 ^ 7 }
     ensures value { result ≡ a *ℤ b }
@@ -74,7 +75,7 @@ fn less(a: Rate, b: Rate) -> bool
 }
 
 /// The least rate of a block that begins at place `done`.
-pub fn next(game: &AirportGame, done: u32, den: i128, paid: i128) -> Rate
+pub(crate) fn next(game: &AirportGame, done: u32, den: i128, paid: i128) -> Rate
     requires within { done < length game.now.costs }
     requires positive { pos 1 ≤ℤ den }
     requires common { den ≤ℤ pos (2 ^ 63) }

@@ -1,11 +1,14 @@
--- Assignment games by the rows of their matrix: row i is buyer i, which is player i, and column j is seller j, which is the player behind the buyers and j sellers (Shapley and Shubik 1971).
+-- Assignment games by the rows of their matrix: row i is buyer i, which is player i, and column j is seller j, which is the player behind
+-- the buyers and j sellers (Shapley and Shubik 1971).
 --
---   seller_count rows        the sellers: the length of the first row
---   IsAssignment rows        buyers and sellers, at most 16 together, with an entry below 2 ^ 40 for each two
---   IsRefused rows fault     why rows make no assignment game
---   assignment_game rows     each worth is the value of an optimal matching of the members
---   HasSides rows p q        p buyers and q sellers
---   IsFilled                 the value of an optimal matching for each mask below a bound
+--   seller_count rows      the sellers: the length of the first row
+--   HavePlayers rows       a buyer and a seller at least, and at most 16 players
+--   IsEven rows            each row is as long as the first
+--   IsAssignment rows      buyers and sellers, at most 16 together, with an entry below 2 ^ 40 for each two
+--   IsRefused rows fault   why rows make no assignment game
+--   assignment_game rows   each worth is the value of an optimal matching of the members
+--   HasSides rows p q      p buyers and q sellers
+--   IsFilled               the value of an optimal matching for each mask below a bound
 use Rattle.std.specs.Prelude.{◌≡◌, ℕ, ◌+◌, ◌<◌, ◌≤◌, List, [], length, ℤ, pos, slice_index, slice_index_or}
 use Rattle.definitions.specs.Coalitions.{has_player}
 use Rattle.definitions.specs.Games.{Game}

@@ -41,15 +41,18 @@ impl Model for AssignmentGame {
 
     ghost view = { λ a. map (λ row. row.items) a.matrix.items };
 
-    ghost invariant = { λ a. let rows = map (λ row. row.items) a.matrix.items in IsAssignment rows × IsFilled (entries_of rows) (length rows) a.values.items (2 ^ (length rows + seller_count rows)) };
+    ghost invariant = { λ a. let rows = map (λ row. row.items) a.matrix.items in
+        IsAssignment rows × IsFilled (entries_of rows) (length rows) a.values.items (2 ^ (length rows + seller_count rows)) };
 }
 
 impl AssignmentGame {
-    /// The game of these rows, one for each buyer, with an entry for each seller, from 0 to below 2^40 as worth, and of at
-    /// most 16 players; else the first cause in the order of `AssignmentFault`. The worths of all coalitions are found
-    /// here.
+    /// The game of these rows, one for each buyer, with an entry for each seller, from 0 to below 2^40 as worth, and of
+    /// at most 16 players; else the first cause in the order of `AssignmentFault`. The worths of all coalitions are
+    /// found here.
     pub fn new(alloc: Global, matrix: Vec<Vec<i64>>) -> Result<AssignmentGame, AssignmentFault>
-        ensures { let rows = map (λ row. row.items) matrix.items in MatchResult result (λ game. (game ≡ rows) × IsAssignment rows × IsAssignmentGame (entries_of rows) (length rows) (assignment_game rows)) (IsRefused rows) }
+        ensures { let rows = map (λ row. row.items) matrix.items in MatchResult result
+            (λ game. (game ≡ rows) × IsAssignment rows × IsAssignmentGame (entries_of rows) (length rows) (assignment_game rows))
+            (IsRefused rows) }
     {
         let buyers = matrix.len();
         if buyers < 1 || buyers > 15 {

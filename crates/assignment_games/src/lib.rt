@@ -1,5 +1,5 @@
-//! Assignment games: a coalition of buyers and sellers is worth what its members make in an optimal matching (Shapley and Shubik
-//! 1971).
+//! Assignment games: a coalition of buyers and sellers is worth what its members make in an optimal matching (Shapley
+//! and Shubik 1971).
 #![tactic(auto)]
 
 mod assignment_game;

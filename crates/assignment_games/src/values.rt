@@ -1,5 +1,6 @@
 //! The values of optimal matchings (Shapley and Shubik 1971), for all coalitions in mask order.
-ghost use Rattle.std.specs.Prelude.{◌≡◌, ℕ, ◌+◌, ◌^◌, ◌<◌, ◌≤◌, IsTrue, false, length, map, IfOk, MatchOption};
+ghost use Rattle.std.specs.Prelude.{◌≡◌, IsTrue, false, IfOk, MatchOption, map};
+ghost use Rattle.std.specs.Prelude.{ℕ, ◌+◌, ◌^◌, ◌<◌, ◌≤◌};
 ghost use Rattle.definitions.specs.Coalitions.{has_player};
 ghost use Rattle.matrices.specs.Rows.{entries_of};
 ghost use Rattle.assignment_games.specs.Values.{IsOptimalAmong};

@@ -72,7 +72,7 @@ fn weighted_worth<W: Worth>(game: &W, weights: &[(Coalition, i128)]) -> i128
 }
 
 /// The coalitions that have a weight in an optimum, in mask order, over the weights' denominator.
-pub fn collection_of(alloc: Global, best: &Optimal) -> Result<Collection, OutOfMemory>
+pub(crate) fn collection_of(alloc: Global, best: &Optimal) -> Result<Collection, OutOfMemory>
     ensures { IfOk result (λ c. c ≡ record { weights = placed best.now.weights.items; k = best.now.weight_den }) }
 {
     let mut weights = Vec::new(alloc);

@@ -1,9 +1,10 @@
-//! The core of any game of at most 16 players: a point of it, or the evidence that it is empty (Bondareva 1963, Shapley 1967).
+//! The core of any game of at most 16 players: a point of it, or the evidence that it is empty (Bondareva 1963,
+//! Shapley 1967).
 //!
-//! The balanced program asks for the greatest worth that coalitions have by weights that hold each player once. Its optimal
-//! multipliers are shares that no coalition blocks. Where they add to the worth of all they are a point of the core. Where
-//! they add to more, so do the optimal weights: they are a balanced collection of excess worth, beside which no core point
-//! stands.
+//! The balanced program asks for the greatest worth that coalitions have by weights that hold each player once. Its
+//! optimal multipliers are shares that no coalition blocks. Where they add to the worth of all they are a point of the
+//! core. Where they add to more, so do the optimal weights: they are a balanced collection of excess worth, beside
+//! which no core point stands.
 #![tactic(auto)]
 
 mod collection;
@@ -47,12 +48,12 @@ pub enum CoreFault {
 /// `Empty` comes exactly where it is.
 ///
 /// The collection has at most as many coalitions as there are players; its weights and its `k` are at least 1 and below
-/// 2^62, and no number above 1 divides them all. `TooMany` comes exactly where there are more than 16 players, and `Memory`
-/// for want of memory.
+/// 2^62, and no number above 1 divides them all. `TooMany` comes exactly where there are more than 16 players, and
+/// `Memory` for want of memory.
 ///
-/// The clause `bondareva_shapley` is the theorem of Bondareva (1963) and Shapley (1967): there is a point in the core and no
-/// balanced collection of excess worth, or there is such a collection and no point. It is proved of each game of at most 16
-/// players, by the run that finds the one or the other.
+/// The clause `bondareva_shapley` is the theorem of Bondareva (1963) and Shapley (1967): there is a point in the core
+/// and no balanced collection of excess worth, or there is such a collection and no point. It is proved of each game of
+/// at most 16 players, by the run that finds the one or the other.
 pub fn core_of<W: Worth>(alloc: Global, game: &W) -> Result<CoreAnswer, CoreFault>
     ensures answer { MatchResult result (IsFound (W.game game.now)) (IsFault (W.game game.now)) }
     ensures few { IfOk result (λ _. (W.game game.now).players ≤ 16) }

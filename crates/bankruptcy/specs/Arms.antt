@@ -1,10 +1,11 @@
 -- The arms of a bankruptcy game: two linear functions of the coalition, of which the excess is the greater one.
 --
---   arm_number factor b x i    what player i adds to an arm as a member
---   arm_base factor b          what an arm has without members
---   arm_at factor b x s        an arm at the coalition s
---   IsLeastGreatest            a greatest number, and the least mask that has it
---   IsSplitGreatest            a greatest number over the coalitions that split some players
+--   arm_number factor b x i   what player i adds to an arm as a member
+--   estate_less_claims b      the estate less all claims
+--   arm_base factor b         what an arm has without members
+--   arm_at factor b x s       an arm at the coalition s
+--   IsLeastGreatest           a greatest number, and the least mask that has it
+--   IsSplitGreatest           a greatest number over the coalitions that split some players
 use Rattle.std.specs.Prelude.{◌≡◌, ℕ, ◌^◌, ◌<◌, length, IsTrue, ℤ, pos, ◌+ℤ◌, ◌-ℤ◌, ◌*ℤ◌, ◌<ℤ◌, ◌≤ℤ◌, slice_index}
 use Rattle.definitions.specs.Sums.{sum_below, IsGreatest}
 use Rattle.definitions.specs.Coalitions.{has_player, sum_over, splits}

@@ -1,4 +1,13 @@
 -- Bankruptcy games: an estate, and claims to it.
+--
+--   Bankruptcy        an estate and claims
+--   bankruptcy        these parts together
+--   IsBankruptcy      1 to 64 claims, and an estate of at most their sum
+--   bankruptcy_game   the game of an estate and claims
+--   HavePlayers       there are 1 to 64 claims
+--   AreNumbers        the estate and each claim are in range
+--   IsAboveClaims     the estate is above the sum of the claims
+--   IsRefused         why an estate and claims make no game
 use Rattle.std.specs.Prelude.{ℕ, ◌^◌, ◌<◌, ◌≤◌, List, length, All, ℤ, pos, ◌<ℤ◌, sum, unsigned_abs}
 use Rattle.std.specs.List.{sum_by}
 use Rattle.definitions.specs.Games.{Game}

@@ -3,7 +3,8 @@
 //! With the estate `E`, the claims `d`, the shares `x` over `q` and all players `N`, what the others leave to `S` is
 //! `E - d(N) + d(S)`, or nothing where that is negative. So the excess of `S` is the greater of
 //! `f (E - d(N) + d(S)) - x(S)` at the factors `f = 0` and `f = q`.
-ghost use Rattle.std.specs.Prelude.{◌≡◌, ℕ, ◌^◌, ◌<◌, length, Some, None, pos, ℤ, ◌*ℤ◌, ◌<ℤ◌, ◌≤ℤ◌, unsigned_abs};
+ghost use Rattle.std.specs.Prelude.{◌≡◌, Some, None, length};
+ghost use Rattle.std.specs.Prelude.{ℕ, ◌^◌, ◌<◌, pos, ℤ, ◌*ℤ◌, ◌<ℤ◌, ◌≤ℤ◌, unsigned_abs};
 ghost use Rattle.std.specs.Int.{int_max};
 ghost use Rattle.definitions.specs.Games.{HasTwo};
 ghost use Rattle.bankruptcy.specs.Arms.{arm_number, arm_base, arm_at, IsLeastGreatest, IsSplitGreatest};
@@ -104,7 +105,10 @@ pub(crate) struct Candidate {
 impl Candidate {
     /// The candidate of greater excess, and of two with the same the one with the lesser mask.
     pub(crate) fn or(self, other: Candidate) -> Candidate
-        ensures { (v w : ℕ → ℤ) (top : ℕ) → IsLeastGreatest v top self.coalition self.excess → IsLeastGreatest w top other.coalition other.excess → IsLeastGreatest (λ s. int_max (v s) (w s)) top result.coalition result.excess }
+        ensures { (v w : ℕ → ℤ) (top : ℕ)
+            → IsLeastGreatest v top self.coalition self.excess
+            → IsLeastGreatest w top other.coalition other.excess
+            → IsLeastGreatest (λ s. int_max (v s) (w s)) top result.coalition result.excess }
     {
         if other.excess > self.excess {
             return other;

@@ -1,5 +1,7 @@
 //! Claims: their limits and their sums.
-ghost use Rattle.std.specs.Prelude.{◌≡◌, ◌↔◌, ◌^◌, ◌<◌, ◌≤◌, length, pos, slice_index, All, IsTrue, unsigned_abs};
+ghost use Rattle.std.specs.Prelude.{◌≡◌, ◌↔◌, IsTrue};
+ghost use Rattle.std.specs.Prelude.{◌^◌, ◌<◌, ◌≤◌, pos, unsigned_abs};
+ghost use Rattle.std.specs.Prelude.{length, slice_index, All};
 ghost use Rattle.std.specs.List.{sum_by};
 ghost use Rattle.definitions.specs.Coalitions.{sum_over};
 ghost use Rattle.orders.specs.Numbers.{IsNumber};

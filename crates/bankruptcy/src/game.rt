@@ -42,8 +42,8 @@ impl BankruptcyGame {
     ghost use Rattle.bankruptcy.specs.Bankruptcy.{IsBankruptcy, IsRefused};
     ghost use Rattle.bankruptcy.specs.Arms.{estate_less_claims};
 
-    /// The game of an estate and 1 to 64 claims, each from 0 to below 2^40 as worth, where the estate is at most the sum of
-    /// the claims; else the first cause in the order of `BankruptcyFault`.
+    /// The game of an estate and 1 to 64 claims, each from 0 to below 2^40 as worth, where the estate is at most the
+    /// sum of the claims; else the first cause in the order of `BankruptcyFault`.
     pub fn new(
         alloc: Global,
         estate: i64,

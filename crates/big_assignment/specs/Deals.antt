@@ -1,4 +1,18 @@
 -- Deals by their arrays.
+--
+--   offers          what a row of the table offers for a column
+--   AreDealOffers   the offers are in range, and nothing is offered for column 32
+--   IsFairDeal      the prices are fair for the first rows
+--   IsDealOfAll     the deal of a market, whose buyers have their columns at fair prices
+--   IsCoveredDeal   gains and prices cover the offers
+--   IsReachedIn     the search has reached a row
+--   IsNearestIn     a reached row and a column that is not reached, of least slack
+--   IsOpenIn        a column is to be handed to its parent
+--   unreached       how many columns are not reached
+--   IsSearchIn      the columns that were reached from a row, in their order
+--   AreColumns      each row has a column, or 32 for none
+--   IsImprovedIn    of a pair and the pairs of one more row, the one of least slack
+--   IsTight         an offer is the gain of its row and the price of its column
 use Rattle.std.specs.Prelude.{◌≡◌, ℕ, ◌+◌, ◌*◌, ◌<◌, ◌≤◌, List, length, ℤ, slice_index, sum_by, nat_eq, if◌then◌else◌}
 use Rattle.matrices.specs.Rows.{entries_of}
 use Rattle.big_assignment.specs.Markets.{everybody, offered}

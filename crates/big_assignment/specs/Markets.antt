@@ -1,9 +1,11 @@
--- Markets of up to 32 buyers and 32 sellers by the rows of their matrix: row i is buyer i, which is player i, and column j is seller j, which is the player behind the buyers and j sellers. Their game is the assignment game of the rows (Shapley and Shubik 1971).
+-- Markets of up to 32 buyers and 32 sellers by the rows of their matrix: row i is buyer i, which is player i, and column j is seller j,
+-- which is the player behind the buyers and j sellers. Their game is the assignment game of the rows (Shapley and Shubik 1971).
 --
---   IsMarket rows              1 to 32 rows of 1 to 32 entries each, each from 0 to below 2 ^ 40
---   IsRefused rows fault       why rows make no market
---   everybody rows             the coalition of all players
---   offered matrix rows s      what the members of s are worth to each other, 0 for other players
+--   HavePlayers rows        1 to 32 buyers, and 1 to 32 sellers
+--   IsMarket rows           1 to 32 rows of 1 to 32 entries each, each from 0 to below 2 ^ 40
+--   IsRefused rows fault    why rows make no market
+--   everybody rows          the coalition of all players
+--   offered matrix rows s   what the members of s are worth to each other, 0 for other players
 use Rattle.std.specs.Prelude.{ℕ, ◌+◌, ◌≤◌, List, length, ℤ, ◌&&◌, if◌then◌else◌}
 use Rattle.definitions.specs.Coalitions.{has_player, grand_coalition}
 use Rattle.definitions.specs.Classes.{Matrix}

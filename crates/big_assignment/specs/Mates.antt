@@ -1,8 +1,9 @@
 -- Matchings given by the column of each row.
 --
---   pairs_from mate columns i k    the pairs of the k rows from i on, each with its column where that is below columns
---   sellers_of rows ps             the same pairs, with the player's number in place of the column
---   AreAscending i ps              the first of each pair is at least i, and each greater than the one before
+--   pairs_from mate columns i k   the pairs of the k rows from i on, each with its column where that is below columns
+--   AreAscending i ps             the first of each pair is at least i, and each greater than the one before
+--   payoff rows u p k             what each player gets: u of a row, and p of a column
+--   total_below n f               what all of n players get
 use Rattle.std.specs.Prelude.{ℕ, zero, suc, ◌+◌, ◌-◌, ◌≤◌, List, [], ◌∷◌, nat_lt, if◌then◌else◌}
 
 -- the pairs of the k rows from i on, each with its column where that is below columns

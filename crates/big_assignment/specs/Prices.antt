@@ -1,11 +1,26 @@
--- Prices for a table of offers, and the search for a matching that goes with them. Column 32 stands for no column: nothing is offered for it, and it is never sold.
+-- Prices for a table of offers, and the search for a matching that goes with them. Column 32 stands for no column: nothing is offered
+-- for it, and it is never sold.
 --
---   IsFair m n u p mate             rows below n have their columns at prices at which no row would rather have another
---   IsReached n mate ranks i        row i is reached: it is row n, or its column is
---   IsJoined m n u p mate ranks parents k    column k is tight with a row that was reached before
---   IsSearch m n u p mate ranks parents count  the columns that were reached from row n, in their order
---   Meets m n mate d q              the prices q, over d, leave each row content with its column
---   IsBelow m n mate p              no such prices are lower anywhere than p
+--   Offers       what a row offers for a column
+--   IsFair       rows below n have their columns at prices at which no row would rather have another
+--   IsReached    a row is reached: it is row n, or its column is
+--   IsJoined     a column is tight with a row that was reached before
+--   IsSearch     the columns that were reached from row n, in their order
+--   Meets        prices over a denominator leave each row content with its column
+--   IsBelow      no such prices are lower anywhere
+--   IsOpen       a column is to be handed to its parent, and rows give way from parent to parent
+--   IsCovered    gains and prices cover the offers, and are small
+--   AreOffers    offers are below 2 ^ 40, and nothing is offered for column 32
+--   IsNearest    a reached row and a column that is not reached, of least slack
+--   IsShifted    what the reached rows gain falls, and what the reached columns cost rises
+--   IsPut        one function is the other, but for one place
+--   IsImproved   of a pair and the pairs of one more row, the one of least slack
+--   IsGain       what each row gains at its column's price
+--   NoneWanted   a row would rather have no other column than its own
+--   IsWanted     it would rather have another, and is content where that costs so much
+--   Holds        the row that has a column, or 32 where none has
+--   IsOutside    nothing is offered outside of so many rows and columns
+--   IsTurned     rows and columns exchanged
 use Rattle.std.specs.Prelude.{◌≡◌, ◌≢◌, ◌⊎◌, ℕ, ◌+◌, ◌*◌, ◌^◌, ◌<◌, ◌≤◌}
 
 -- what row i offers for column k

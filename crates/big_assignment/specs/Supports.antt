@@ -1,8 +1,8 @@
 -- Shares as prices of a matching, and the ends of the core (Shapley and Shubik 1971).
 --
---   IsSingle rows ps k         player k is in no pair of the matching
---   Supports rows ps x         the pairs of the matching get what they are worth, the other players nothing, and no two players together less than they are worth
---   IsWorstFor g side x        in the core, and no core point gives a player of the side less
+--   IsSingle rows ps k    player k is in no pair of the matching
+--   Supports rows ps x    each pair of the matching gets its worth, the other players nothing, and no two players less than they are worth
+--   IsWorstFor g side x   in the core, and no core point gives a player of the side less
 use Rattle.std.specs.Prelude.{◌≡◌, ◌≢◌, ℕ, ◌+◌, ◌<◌, List, length, ℤ, pos, ◌+ℤ◌, ◌*ℤ◌, ◌≤ℤ◌}
 use Rattle.std.specs.List.{AllByRecursion}
 use Rattle.definitions.specs.Games.{Game, Allocation, IsAllocation, InCore, share}

@@ -4,29 +4,29 @@ ghost use Rattle.big_assignment.specs.Prices.{IsPut};
 ghost use Rattle.big_assignment.specs.Deals.{offers, IsCoveredDeal, unreached};
 
 /// What stands for no column: nothing is offered for it.
-pub const NONE: usize = 32;
+pub(crate) const NONE: usize = 32;
 
 /// At most 32 rows and columns, what each row offers for each column, what each row gains, what each column costs, and
 /// the column that each row has.
 #[derive(Clone, Copy, Debug, Drop)]
-pub struct Deal {
-    pub table: [u64; 1056],
-    pub gains: [u64; 33],
-    pub prices: [u64; 33],
-    pub columns: [usize; 33],
+pub(crate) struct Deal {
+    pub(crate) table: [u64; 1056],
+    pub(crate) gains: [u64; 33],
+    pub(crate) prices: [u64; 33],
+    pub(crate) columns: [usize; 33],
 }
 
 /// The columns that were reached: each with its place in their order, from 1, and the row that it was reached from.
 #[derive(Clone, Copy, Debug, Drop)]
-pub struct Search {
-    pub ranks: [u32; 33],
-    pub parents: [usize; 33],
-    pub count: u32,
+pub(crate) struct Search {
+    pub(crate) ranks: [u32; 33],
+    pub(crate) parents: [usize; 33],
+    pub(crate) count: u32,
 }
 
 impl Deal {
     /// No row has a column yet, and all columns are free.
-    pub fn new(table: [u64; 1056]) -> Deal
+    pub(crate) fn new(table: [u64; 1056]) -> Deal
         ensures table { result.table ≡ table }
         ensures free { (k : ℕ) → k ≤ 32 → slice_index result.prices k ≡ 0 }
     {
@@ -39,7 +39,7 @@ impl Deal {
     }
 
     /// What row `i` offers for column `k`.
-    pub fn offer(&self, i: usize, k: usize) -> u64
+    pub(crate) fn offer(&self, i: usize, k: usize) -> u64
         requires row { i < 32 }
         requires column { k ≤ 32 }
         ensures { result ≡ offers self.now.table i k }
@@ -48,7 +48,7 @@ impl Deal {
     }
 
     /// What row `i` would lose with column `k`.
-    pub fn slack(&self, n: usize, i: usize, k: usize) -> u64
+    pub(crate) fn slack(&self, n: usize, i: usize, k: usize) -> u64
         requires rows { n < 32 }
         requires covered { IsCoveredDeal self.now n }
         requires row { i ≤ n }
@@ -61,7 +61,7 @@ impl Deal {
 
 impl Search {
     /// Nothing is reached.
-    pub fn new() -> Search
+    pub(crate) fn new() -> Search
         ensures ranks { (k : ℕ) → k ≤ 32 → slice_index result.ranks k ≡ 0 }
         ensures count { result.count ≡ 0 }
         ensures total { result.count + unreached result.ranks ≡ 33 }
@@ -74,7 +74,7 @@ impl Search {
     }
 
     /// Column `k` is reached from row `i`.
-    pub fn mark(&mut self, k: usize, i: usize)
+    pub(crate) fn mark(&mut self, k: usize, i: usize)
         requires column { k ≤ 32 }
         requires unreached { slice_index self.old.ranks k ≡ 0 }
         requires total { self.old.count + unreached self.old.ranks ≡ 33 }

@@ -86,7 +86,7 @@ fn gains_at(deal: &Deal, n: usize, prices: &[u64; 33]) -> [u64; 33]
 }
 
 /// The same columns at the least prices.
-pub fn cheapest(deal: &Deal, n: usize) -> Deal
+pub(crate) fn cheapest(deal: &Deal, n: usize) -> Deal
     requires rows { n ≤ 32 }
     requires offers { AreDealOffers deal.now }
     requires fair { IsFairDeal deal.now n }

@@ -1,5 +1,5 @@
-//! Markets of up to 32 buyers and 32 sellers: an optimal matching, and the core points that are best for either side (Shapley
-//! and Shubik 1971).
+//! Markets of up to 32 buyers and 32 sellers: an optimal matching, and the core points that are best for either side
+//! (Shapley and Shubik 1971).
 #![tactic(auto)]
 
 mod deal;

@@ -28,8 +28,8 @@ pub enum MarketFault {
     Memory,
 }
 
-/// What each buyer and each seller are worth together. A coalition is worth what its members make in an optimal matching.
-/// Row `i` is buyer `i`, which is player `i`; the sellers are the players behind the buyers.
+/// What each buyer and each seller are worth together. A coalition is worth what its members make in an optimal
+/// matching. Row `i` is buyer `i`, which is player `i`; the sellers are the players behind the buyers.
 #[derive(Debug, Drop)]
 pub struct MarketGame {
     matrix: Vec<Vec<i64>>,
@@ -47,10 +47,12 @@ impl Model for MarketGame {
 }
 
 impl MarketGame {
-    /// The market of these rows, one for each buyer, with an entry for each seller, from 0 to below 2^40 as worth, and of at
-    /// most 32 buyers and 32 sellers; else the first cause in the order of `MarketFault`. No memory is taken.
+    /// The market of these rows, one for each buyer, with an entry for each seller, from 0 to below 2^40 as worth, and
+    /// of at most 32 buyers and 32 sellers; else the first cause in the order of `MarketFault`. No memory is taken.
     pub fn new(_alloc: Global, matrix: Vec<Vec<i64>>) -> Result<MarketGame, MarketFault>
-        ensures { let rows = map (λ row. row.items) matrix.items in MatchResult result (λ game. (game ≡ rows) × IsMarket rows × IsAssignmentGame (entries_of rows) (length rows) (assignment_game rows)) (IsRefused rows) }
+        ensures { let rows = map (λ row. row.items) matrix.items in MatchResult result
+            (λ game. (game ≡ rows) × IsMarket rows × IsAssignmentGame (entries_of rows) (length rows) (assignment_game rows))
+            (IsRefused rows) }
     {
         let buyers = matrix.len();
         if buyers < 1 || buyers > 32 {

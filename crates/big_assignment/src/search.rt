@@ -2,7 +2,8 @@
 ghost use Rattle.std.specs.Prelude.{◌≡◌, ℕ, ◌+◌, ◌<◌, ◌≤◌, ◌^◌, true, false, slice_index};
 ghost use Rattle.std.specs.Bool.{Decides};
 ghost use Rattle.big_assignment.specs.Prices.{IsFair};
-ghost use Rattle.big_assignment.specs.Deals.{offers, AreDealOffers, IsFairDeal, IsCoveredDeal, IsReachedIn, IsNearestIn, IsImprovedIn, IsOpenIn, IsSearchIn, IsTight, unreached, AreColumns};
+ghost use Rattle.big_assignment.specs.Deals.{offers, AreDealOffers, IsFairDeal, IsCoveredDeal, IsTight, AreColumns};
+ghost use Rattle.big_assignment.specs.Deals.{IsReachedIn, IsNearestIn, IsImprovedIn, IsOpenIn, IsSearchIn, unreached};
 
 use crate::deal::{Deal, NONE, Search};
 
@@ -128,7 +129,8 @@ fn approach(deal: &mut Deal, search: &Search, n: usize) -> (usize, usize)
     (i, k)
 }
 
-/// The columns where a free one is handed to its parent, which gives up its own to the parent of that, until row `n` has one.
+/// The columns where a free one is handed to its parent, which gives up its own to the parent of that, until row `n`
+/// has one.
 fn hand_over(deal: &Deal, search: &Search, n: usize, last: usize) -> [usize; 33]
     requires rows { n < 32 }
     requires open { IsOpenIn deal.now search.now n last }
@@ -168,7 +170,7 @@ fn advance(deal: &mut Deal, search: &mut Search, n: usize) -> bool
 }
 
 /// Gives row `n` a column too.
-pub fn add_row(deal: &mut Deal, n: usize)
+pub(crate) fn add_row(deal: &mut Deal, n: usize)
     requires rows { n < 32 }
     requires offers { AreDealOffers deal.old }
     requires fair { IsFairDeal deal.old n }

@@ -12,7 +12,8 @@ use fractions::OutOfMemory;
 use std::alloc::Global;
 use worth_core::{Shares, Worth};
 
-/// An optimal matching of a market with its value, and the core points that are best for every buyer and for every seller.
+/// An optimal matching of a market with its value, and the core points that are best for every buyer and for every
+/// seller.
 #[derive(Debug, Drop)]
 pub struct Solution {
     /// Each matched buyer with its seller, as players counted from 0, the buyers ascending. Seller `j` of `n` buyers is

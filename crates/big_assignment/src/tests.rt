@@ -1,4 +1,5 @@
-//! Markets that are refused and markets that are solved, with prices and worths worked by hand, and a market of scattered numbers.
+//! Markets that are refused and markets that are solved, with prices and worths worked by hand, and a market of
+//! scattered numbers.
 ghost use Rattle.std.specs.Prelude.{◌+◌, ◌^◌, ◌<◌, ◌≤◌, length, unsigned_abs, MatchOption};
 ghost use Rattle.assignment_games.specs.Assignments.{seller_count};
 

@@ -72,11 +72,13 @@ fn gains_alone(deal: &Deal, rows: usize) -> [u64; 33]
 }
 
 /// The deal where the columns are the rows: what each column costs is what it gains.
-pub fn exchanged(deal: &Deal, rows: usize, columns: usize) -> Deal
+pub(crate) fn exchanged(deal: &Deal, rows: usize, columns: usize) -> Deal
     requires rows { rows ≤ 32 }
     requires few { columns ≤ 32 }
     requires columns { AreColumns deal.now rows }
-    ensures { IsTurned (offers deal.now.table) rows columns (slice_index deal.now.gains) (slice_index deal.now.prices) (slice_index deal.now.columns) (offers result.table) (slice_index result.gains) (slice_index result.prices) (slice_index result.columns) }
+    ensures { IsTurned (offers deal.now.table) rows columns
+        (slice_index deal.now.gains) (slice_index deal.now.prices) (slice_index deal.now.columns)
+        (offers result.table) (slice_index result.gains) (slice_index result.prices) (slice_index result.columns) }
 {
     Deal {
         table: turned_table(deal),

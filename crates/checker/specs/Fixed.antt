@@ -1,8 +1,10 @@
 -- What levels fix, as it is carried from level to level.
 --
---   IsFreeSet            a coalition of the players that no level fixes
---   AreOfPlayers         marks of coalitions of the players that aren't empty
---   Fixes                what is carried stands for what levels fix
+--   IsFreeSet      a coalition of the players that no level fixes
+--   AreOfPlayers   marks of coalitions of the players that aren't empty
+--   mode_of        the mode in which levels fix
+--   IsOver         what is carried is of n players
+--   Fixes          what is carried stands for what levels fix
 use Rattle.std.specs.Prelude.{◌≡◌, ℕ, ◌^◌, ◌<◌, ◌≤◌, ◌&&◌, nat_lt, List, IsTrue}
 use Rattle.definitions.specs.Coalitions.{has_player}
 use Rattle.definitions.specs.Certificates.{Level, is_free}

@@ -1,4 +1,9 @@
 -- What the checker's verdict says.
+--
+--   IsGreatestOutside   the greatest measured excess of the coalitions that the levels don't fix
+--   IsWrongSign         the first weight of a level that is below 1
+--   Means               what a reason says of the failure that it names
+--   IsVerdict           Yes to what certifies the shares, No with the first failure
 use Rattle.std.specs.Prelude.{ℕ, ◌^◌, ◌<◌, List, ℤ, pos, ◌≤ℤ◌, Option, None, Some}
 use Rattle.fractions.specs.Fraction.{Fraction}
 use Rattle.definitions.specs.Sums.{IsGreatest}

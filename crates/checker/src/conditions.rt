@@ -1,6 +1,7 @@
 //! The conditions on shares and on one level, each by the first place that fails.
 
-ghost use Rattle.std.specs.Prelude.{◌≡◌, ℕ, ◌+ℤ◌, unsigned_abs, ◌^◌, ◌<◌, ◌≤◌, ◌⊎◌, pos, ◌-ℤ◌, ◌*ℤ◌, ◌≤ℤ◌, length, IsTrue, MatchOption};
+ghost use Rattle.std.specs.Prelude.{◌≡◌, ◌⊎◌, IsTrue, MatchOption, length};
+ghost use Rattle.std.specs.Prelude.{ℕ, ◌+ℤ◌, unsigned_abs, ◌^◌, ◌<◌, ◌≤◌, pos, ◌-ℤ◌, ◌*ℤ◌, ◌≤ℤ◌};
 ghost use Rattle.std.specs.Bool.{Decides};
 ghost use Rattle.std.specs.List.{AllByRecursion};
 ghost use Rattle.definitions.specs.Coalitions.{singleton};
@@ -16,7 +17,7 @@ use std::cmp::Ordering;
 use worth_core::{Divided, Measure, Shares, Worth, scaled_excess};
 
 /// Whether the shares add to the worth of all.
-pub fn is_efficient<W: Worth>(game: &W, shares: &Shares) -> bool
+pub(crate) fn is_efficient<W: Worth>(game: &W, shares: &Shares) -> bool
     requires { length shares.now.shares ≡ (W.game game.now).players }
     ensures { Decides result (IsEfficient (W.game game.now) shares.now) }
 {
@@ -25,7 +26,7 @@ pub fn is_efficient<W: Worth>(game: &W, shares: &Shares) -> bool
 }
 
 /// What a player's worth alone exceeds its share by, over the denominator.
-pub fn excess_alone<W: Worth>(game: &W, shares: &Shares, i: u32) -> i128
+pub(crate) fn excess_alone<W: Worth>(game: &W, shares: &Shares, i: u32) -> i128
     requires shares { length shares.now.shares ≡ (W.game game.now).players }
     requires player { i < (W.game game.now).players }
     ensures { result ≡ shares.now.den *ℤ (W.game game.now).worth (singleton i) -ℤ share shares.now i }
@@ -35,7 +36,7 @@ pub fn excess_alone<W: Worth>(game: &W, shares: &Shares, i: u32) -> i128
 }
 
 /// The least player whose share is below its worth alone.
-pub fn first_short<W: Worth>(game: &W, shares: &Shares) -> Option<u32>
+pub(crate) fn first_short<W: Worth>(game: &W, shares: &Shares) -> Option<u32>
     requires { length shares.now.shares ≡ (W.game game.now).players }
     ensures { MatchOption result
         (IsIndividuallyRational (W.game game.now) shares.now)
@@ -75,7 +76,7 @@ fn is_excess_of(level: &Level, excess: &Frac) -> bool
 }
 
 /// The first coalition of a level that does not have its excess.
-pub fn first_wrong_excess<W: Worth>(
+pub(crate) fn first_wrong_excess<W: Worth>(
     game: &W,
     measure: Measure,
     shares: &Shares,
@@ -97,7 +98,7 @@ pub fn first_wrong_excess<W: Worth>(
 }
 
 /// The first coalition whose weight is below 1.
-pub fn first_weightless(pairs: &[(Coalition, i128)]) -> Option<Coalition>
+pub(crate) fn first_weightless(pairs: &[(Coalition, i128)]) -> Option<Coalition>
     ensures { MatchOption result
         (AllByRecursion (λ c. pos 1 ≤ℤ c.1) pairs.now)
         (IsFirstFailing (λ c. pos 1 ≤ℤ c.1) pairs.now) }
@@ -118,7 +119,7 @@ fn weighs(front: &[Level], i: u32, weight: i128) -> bool
 }
 
 /// The first player whose bound has a weight below 1, and had none of at least 1 before.
-pub fn first_weightless_bound(front: &[Level], bounds: &[(u32, i128)]) -> Option<u32>
+pub(crate) fn first_weightless_bound(front: &[Level], bounds: &[(u32, i128)]) -> Option<u32>
     ensures { MatchOption result
         (AllByRecursion (BoundWeighs front.now) bounds.now)
         (IsFirstFailing (BoundWeighs front.now) bounds.now) }
@@ -173,7 +174,7 @@ fn is_same(a: i128, b: i128) -> bool
 }
 
 /// The least player at which the weights of a level do not add to its total.
-pub fn first_unbalanced(n: u32, level: &Level) -> Option<u32>
+pub(crate) fn first_unbalanced(n: u32, level: &Level) -> Option<u32>
     requires players { n ≤ 64 }
     requires few { length level.now.coalitions ≤ 65536 }
     requires few_earlier { length level.now.earlier ≤ 65536 }
@@ -203,7 +204,7 @@ fn is_tight<W: Worth>(game: &W, shares: &Shares, family: Family, i: u32) -> bool
 }
 
 /// The first player in bounds that isn't at its bound.
-pub fn first_loose<W: Worth>(
+pub(crate) fn first_loose<W: Worth>(
     game: &W,
     shares: &Shares,
     family: Family,

@@ -1,10 +1,13 @@
 //! The first condition that fails, in the order in which they are tested.
 
-ghost use Rattle.std.specs.Prelude.{◌≡◌, ◌⊎◌, ◌≤◌, pos, ◌*ℤ◌, ◌<ℤ◌, ◌≤ℤ◌, List, [], length, Some, MatchOption};
+ghost use Rattle.std.specs.Prelude.{◌≡◌, ◌⊎◌, Some, MatchOption};
+ghost use Rattle.std.specs.Prelude.{◌≤◌, pos, ◌*ℤ◌, ◌<ℤ◌, ◌≤ℤ◌};
+ghost use Rattle.std.specs.Prelude.{List, [], length};
 ghost use Rattle.std.specs.Bool.{Decides};
 ghost use Rattle.definitions.specs.Measures.{IsMeasurable};
 ghost use Rattle.definitions.specs.Games.{InFamily};
-ghost use Rattle.definitions.specs.Certificates.{Level as LevelData, LevelForm, LevelsForm, Weights, BoundWeights, OutsideIsLow, LevelHolds, LevelsHold, Certifies};
+ghost use Rattle.definitions.specs.Certificates.{Level as LevelData, LevelForm, LevelsForm};
+ghost use Rattle.definitions.specs.Certificates.{Weights, BoundWeights, OutsideIsLow, LevelHolds, LevelsHold, Certifies};
 ghost use Rattle.definitions.specs.Failures.{LevelFails, LevelsFail, IsFirstFailure};
 ghost use Rattle.checker.specs.Fixed.{mode_of, IsOver, Fixes};
 ghost use Rattle.checker.specs.Meaning.{IsWrongSign, Means, IsGreatestOutside};
@@ -150,7 +153,7 @@ fn levels_failure<W: Worth>(
 }
 
 /// The first condition that a certificate fails: of the shares, of a level, or of what all levels fix.
-pub fn first_failure<W: Worth>(
+pub(crate) fn first_failure<W: Worth>(
     game: &W,
     family: Family,
     measure: Measure,
@@ -179,7 +182,8 @@ fn family_failure<W: Worth>(game: &W, family: Family, shares: &Shares) -> Option
     requires { length shares.now.shares ≡ (W.game game.now).players }
     ensures { MatchOption result
         (InFamily family (W.game game.now) shares.now)
-        (λ r. (mode : Mode) (measure : Measure) (levels : List LevelData) → Means measure shares.now (IsFirstFailure mode family measure (W.game game.now) shares.now levels) r) }
+        (λ r. (mode : Mode) (measure : Measure) (levels : List LevelData)
+        → Means measure shares.now (IsFirstFailure mode family measure (W.game game.now) shares.now levels) r) }
 {
     shares.den();
     if !is_efficient(game, shares) {

@@ -1,6 +1,8 @@
 //! What levels fix, carried from level to level.
 
-ghost use Rattle.std.specs.Prelude.{◌≡◌, ◌⊎◌, ◌++◌, [], ℕ, List, ◌<◌, ◌≤◌, ◌&&◌, nat_lt, not};
+ghost use Rattle.std.specs.Prelude.{◌≡◌, ◌⊎◌, ◌&&◌, not};
+ghost use Rattle.std.specs.Prelude.{ℕ, ◌<◌, ◌≤◌, nat_lt};
+ghost use Rattle.std.specs.Prelude.{◌++◌, [], List};
 ghost use Rattle.std.specs.List.{AllByRecursion};
 ghost use Rattle.definitions.specs.Coalitions.{has_player};
 ghost use Rattle.definitions.specs.Certificates.{Level as LevelData, is_fixed};
@@ -12,7 +14,7 @@ use kohlberg::{Level, Mode, Outside, Span, add_levels};
 
 /// What levels fix, by the mode of the certificate.
 #[derive(Drop)]
-pub enum Fixed {
+pub(crate) enum Fixed {
     /// Of the players, those that no level fixes.
     FreePlayers(Coalition),
     /// Of the vectors, the span of those that levels fix; and the coalitions outside of it.
@@ -21,7 +23,7 @@ pub enum Fixed {
 
 impl Fixed {
     /// What no level at all fixes.
-    pub fn by_none(mode: Mode, n: u32) -> Fixed
+    pub(crate) fn by_none(mode: Mode, n: u32) -> Fixed
         requires some { 1 ≤ n }
         requires small { n ≤ 64 }
         requires few { (mode ≡ Mode.Players) ⊎ (n ≤ 16) }
@@ -40,7 +42,7 @@ impl Fixed {
     }
 
     /// What these levels fix too.
-    pub fn with(self, n: u32, levels: &[Level]) -> Fixed
+    pub(crate) fn with(self, n: u32, levels: &[Level]) -> Fixed
         requires small { n ≤ 64 }
         requires over { IsOver n self }
         requires within { AllByRecursion (IsOf n) levels.now }

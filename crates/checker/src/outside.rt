@@ -1,6 +1,7 @@
 //! What is outside of what levels fix.
 
-ghost use Rattle.std.specs.Prelude.{◌≡◌, ℕ, List, ◌^◌, ◌<◌, ◌≤◌, false, length, IsTrue, MatchOption, unsigned_abs};
+ghost use Rattle.std.specs.Prelude.{◌≡◌, false, IsTrue, MatchOption, List, length};
+ghost use Rattle.std.specs.Prelude.{ℕ, ◌^◌, ◌<◌, ◌≤◌, unsigned_abs};
 ghost use Rattle.std.specs.Option.{ForSome};
 ghost use Rattle.std.specs.Bool.{Decides};
 ghost use Rattle.definitions.specs.Coalitions.{has_player};
@@ -58,7 +59,8 @@ fn greatest_split<W: Worth>(
     requires shares { length shares.now.shares ≡ (W.game game.now).players }
     requires measurable { IsMeasurable measure (W.game game.now).players }
     requires within { free < 2 ^ (W.game game.now).players }
-    ensures { (levels : List LevelData) → IsFreeSet (W.game game.now).players levels free → IsGreatestOutside Mode.Players measure (W.game game.now) shares.now levels result }
+    ensures { (levels : List LevelData) → IsFreeSet (W.game game.now).players levels free
+        → IsGreatestOutside Mode.Players measure (W.game game.now) shares.now levels result }
 {
     if has_two(free, game.players()) {
         Some(measured_bound(game, shares, free, measure))
@@ -81,8 +83,8 @@ fn first_free(free: Coalition, n: u32) -> Option<u32>
     }
 }
 
-/// What the members of a coalition get, from what those of the one before it in Gray order got: the share of the one player
-/// who comes is added, and that of the one who goes is taken off.
+/// What the members of a coalition get, from what those of the one before it in Gray order got: the share of the one
+/// player who comes is added, and that of the one who goes is taken off.
 fn paid_after(shares: &Shares, paid: i128, s: Coalition, flipped: Option<u32>) -> i128
     requires player { ForSome flipped (λ i. i < length shares.now.shares) }
     requires small { unsigned_abs paid < 2 ^ 117 }
@@ -132,7 +134,8 @@ fn greatest_unspanned<W: Worth>(
     requires measurable { IsMeasurable measure (W.game game.now).players }
     requires few { (W.game game.now).players ≤ 16 }
     requires of_players { AreOfPlayers (W.game game.now).players outside.now }
-    ensures { (levels : List LevelData) → IsMarking (W.game game.now).players levels outside.now → IsGreatestOutside Mode.Span measure (W.game game.now) shares.now levels result }
+    ensures { (levels : List LevelData) → IsMarking (W.game game.now).players levels outside.now
+        → IsGreatestOutside Mode.Span measure (W.game game.now) shares.now levels result }
 {
     shares.players();
     let mut most: Option<Divided> = None;
@@ -152,7 +155,7 @@ fn greatest_unspanned<W: Worth>(
 }
 
 /// The greatest measured excess of a coalition outside, if there is one.
-pub fn greatest_outside<W: Worth>(
+pub(crate) fn greatest_outside<W: Worth>(
     game: &W,
     measure: Measure,
     shares: &Shares,
@@ -161,7 +164,8 @@ pub fn greatest_outside<W: Worth>(
     requires shares { length shares.now.shares ≡ (W.game game.now).players }
     requires measurable { IsMeasurable measure (W.game game.now).players }
     requires over { IsOver (W.game game.now).players fixed.now }
-    ensures { (levels : List LevelData) → Fixes (W.game game.now).players levels fixed.now → IsGreatestOutside (mode_of fixed.now) measure (W.game game.now) shares.now levels result }
+    ensures { (levels : List LevelData) → Fixes (W.game game.now).players levels fixed.now
+        → IsGreatestOutside (mode_of fixed.now) measure (W.game game.now) shares.now levels result }
 {
     match fixed {
         Fixed::FreePlayers(free) => greatest_split(game, measure, shares, *free),
@@ -170,7 +174,7 @@ pub fn greatest_outside<W: Worth>(
 }
 
 /// The least player that isn't fixed, where not everything is.
-pub fn first_unfixed(fixed: &Fixed, n: u32) -> Option<u32>
+pub(crate) fn first_unfixed(fixed: &Fixed, n: u32) -> Option<u32>
     requires small { n ≤ 64 }
     requires over { IsOver n fixed.now }
     ensures { (levels : List LevelData) → Fixes n levels fixed.now → MatchOption result

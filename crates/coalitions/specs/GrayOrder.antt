@@ -2,6 +2,8 @@
 --
 --   gray_mask k      the coalition of step k
 --   gray_step k      step k, with the player in which it differs from the step before
+--   steps_from n k   the steps of n players from step k on
+--   gray_steps n     all steps of n players
 --   IsFlip k         what that player is
 --   IsOnce n s       s comes at one step of n players, and at no other
 use Rattle.std.specs.Prelude.{◌≡◌, ℕ, ◌-◌, ◌/◌, ◌^◌, ◌<◌, not, nat_eq, List, map, Some, None, MatchOption, if◌then◌else◌, bit_xor}

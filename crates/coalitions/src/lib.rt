@@ -1,17 +1,18 @@
 //! Coalitions, the sets of players of a cooperative game, as masks of 64 bits.
 #![tactic(auto)]
 
-ghost use Rattle.std.specs.Prelude.{◌≡◌, ℕ, ◌+◌, ◌-◌, ◌^◌, ◌<◌, ◌≤◌, length, MatchOption, nat_eq, not, ◌||◌, ◌&&◌};
+mod gray;
+mod subsets;
+#[cfg(test)]
+mod tests;
+
+ghost use Rattle.std.specs.Prelude.{◌≡◌, MatchOption, not, ◌||◌, ◌&&◌, length};
+ghost use Rattle.std.specs.Prelude.{ℕ, ◌+◌, ◌-◌, ◌^◌, ◌<◌, ◌≤◌, nat_eq};
 ghost use Rattle.std.specs.Iterator.{YieldsFirst};
 ghost use Rattle.std.specs.Iterator.Runs.{YieldsInOrder};
 ghost use Rattle.definitions.specs.Coalitions.{has_player, singleton, grand_coalition, members};
 ghost use Rattle.coalitions.specs.Masks.{all_masks};
 ghost use Rattle.coalitions.specs.GrayOrder.{gray_mask, gray_steps, IsFlip, IsOnce};
-
-mod gray;
-mod subsets;
-#[cfg(test)]
-mod tests;
 
 use arrayvec::ArrayVec;
 pub use gray::{Gray, GrayStep};
@@ -141,8 +142,8 @@ impl Coalition {
         Subsets::from_empty(n)
     }
 
-    /// Every coalition of `n` players once, in Gray order (Gray 1953), each with the player in which it differs from the
-    /// one before.
+    /// Every coalition of `n` players once, in Gray order (Gray 1953), each with the player in which it differs from
+    /// the one before.
     pub fn gray(n: u32) -> Gray
         requires { n ≤ 16 }
         ensures steps { result ≡ gray_steps n }

@@ -1,6 +1,7 @@
 -- The search for the first coalition and players at which a game isn't convex.
 --
 --   HoldsAt g s i j            what a convex game needs at one coalition and two players
+--   FailsBy g s i j d          that fails by d
 --   IsFirstPartner g s i j d   j is the first player after i that fails with it at s
 --   IsFirstPair g s i j d      i and j are the first two players that fail at s
 use Rattle.std.specs.Prelude.{◌≡◌, ◌⊎◌, ℕ, ◌<◌, ℤ, ◌-ℤ◌, ◌<ℤ◌, ◌≤ℤ◌}

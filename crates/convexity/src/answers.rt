@@ -15,7 +15,8 @@ use worth_core::{Shares, Worth};
 /// A convex game's shares, or where the game isn't convex.
 #[derive(Debug, Drop)]
 pub enum ConvexAnswer {
-    /// The game is convex: its Shapley shares, and the marginal shares of the order of its players. Both lie in its core.
+    /// The game is convex: its Shapley shares, and the marginal shares of the order of its players. Both lie in its
+    /// core.
     Convex {
         shapley: Shares,
         marginal: Shares,
@@ -53,9 +54,9 @@ fn shares_of<W: Worth>(alloc: Global, game: &W) -> Result<(Shares, Shares), OutO
     }
 }
 
-/// Whether a game of at most 16 players is convex: `Convex` exactly where it is, with its Shapley shares and the marginal
-/// shares of the players in ascending order, both of which lie in its core (Shapley 1971); and else the first coalition and
-/// players at which it isn't.
+/// Whether a game of at most 16 players is convex: `Convex` exactly where it is, with its Shapley shares and the
+/// marginal shares of the players in ascending order, both of which lie in its core (Shapley 1971); and else the first
+/// coalition and players at which it isn't.
 ///
 /// Its one error is want of memory.
 pub fn answer<W: Worth>(alloc: Global, game: &W) -> Result<ConvexAnswer, OutOfMemory>

@@ -13,8 +13,8 @@ use worth_core::Worth;
 pub enum Convexity {
     /// It is.
     Convex,
-    /// It isn't: of all coalitions `s` and players `i < j` outside, in the order of (mask, i, j), these are the first of which
-    /// `s` with each of the two is worth more, by `deficit`, than `s` with both and `s` itself.
+    /// It isn't: of all coalitions `s` and players `i < j` outside, in the order of (mask, i, j), these are the first
+    /// of which `s` with each of the two is worth more, by `deficit`, than `s` with both and `s` itself.
     Not {
         s: Coalition,
         i: u32,
@@ -93,8 +93,8 @@ fn first_pair<W: Worth>(game: &W, s: Coalition) -> Option<Pair>
     None
 }
 
-/// Whether a game of at most 16 players is convex: `Convex` exactly where it is, and else the first coalition and players at
-/// which it isn't (Shapley 1971).
+/// Whether a game of at most 16 players is convex: `Convex` exactly where it is, and else the first coalition and
+/// players at which it isn't (Shapley 1971).
 ///
 /// It takes no memory and always answers.
 pub fn test<W: Worth>(game: &W) -> Convexity

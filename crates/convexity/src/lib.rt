@@ -1,4 +1,5 @@
-//! Convex games: whether a game is convex, and its Shapley and marginal shares, which then lie in its core (Shapley 1971).
+//! Convex games: whether a game is convex, and its Shapley and marginal shares, which then lie in its core
+//! (Shapley 1971).
 #![tactic(auto)]
 
 mod answers;

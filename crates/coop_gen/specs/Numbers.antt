@@ -7,6 +7,7 @@
 --   long_draws seed n      the first n long draws
 --   rows_of                rows and columns of numbers by their places
 --   links_before n i       the pairs of points whose lesser one is below i, of n + 1 points
+--   link_place n i j       the pairs of points in front of i and j, where i is the lesser one
 --   link, pair_value       the numbers of a matrix from a list of numbers, by pairs of points or row by row
 use Rattle.std.specs.Prelude.{ℕ, zero, suc, ◌+◌, ◌-◌, ◌*◌, ◌^◌, Bool, ◌||◌, nat_eq, nat_lt, List, map, ℤ, pos, if◌then◌else◌}
 use Rattle.std.specs.List.{range_with_len}

@@ -1,6 +1,6 @@
-//! The numbers of the generator: a linear congruential generator (Lehmer 1951) with the constants of the example of `rand` in the
-//! C standard.
-ghost use Rattle.std.specs.Prelude.{◌≡◌, ℕ, ◌+◌, ◌-◌, ◌*◌, ◌^◌, ◌<◌, length, map, pos, IfOk, slice_index};
+//! The numbers of the generator: a linear congruential generator (Lehmer 1951) with the constants of the example of
+//! `rand` in the C standard.
+ghost use Rattle.std.specs.Prelude.{◌≡◌, ◌^◌, ◌<◌, map, pos, IfOk};
 ghost use Rattle.std.specs.List.{range_with_len};
 ghost use Rattle.coop_gen.specs.Draws.{next_state, state, long_of, short_of, short_draw};
 ghost use Rattle.coop_gen.specs.Numbers.{long_draws};

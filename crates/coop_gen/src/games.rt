@@ -1,5 +1,6 @@
 //! The game of each kind, of a number of players and a seed.
-ghost use Rattle.std.specs.Prelude.{◌≡◌, ◌^◌, ◌<◌, ◌≤◌, ◌-◌, ◌/◌, ◌+◌, length, sum, All, IfOk, unsigned_abs};
+ghost use Rattle.std.specs.Prelude.{◌≡◌, IfOk, length, All};
+ghost use Rattle.std.specs.Prelude.{◌^◌, ◌<◌, ◌≤◌, ◌-◌, ◌/◌, ◌+◌, sum, unsigned_abs};
 ghost use Rattle.std.specs.List.{sum_by};
 ghost use Rattle.worth_tables.specs.Tables.{table};
 ghost use Rattle.bankruptcy.specs.Bankruptcy.{bankruptcy};

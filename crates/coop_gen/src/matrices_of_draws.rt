@@ -1,5 +1,7 @@
 //! Matrices of links and of pairs from the draws.
-ghost use Rattle.std.specs.Prelude.{◌≡◌, ◌+◌, ◌-◌, ◌*◌, ◌^◌, ◌<◌, ◌≤◌, length, map, pos, All, IfOk, slice_index};
+ghost use Rattle.std.specs.Prelude.{◌≡◌, IfOk};
+ghost use Rattle.std.specs.Prelude.{◌+◌, ◌*◌, ◌^◌, ◌<◌, ◌≤◌, pos};
+ghost use Rattle.std.specs.Prelude.{length, map, slice_index};
 ghost use Rattle.std.specs.List.{range_with_len};
 ghost use Rattle.coop_gen.specs.Draws.{short_draw};
 ghost use Rattle.coop_gen.specs.Numbers.{rows_of, link, links_before, pair_value};

@@ -1,13 +1,26 @@
 -- Certificates of the nucleolus: their form and their conditions (Kohlberg 1971, as a chain of levels).
 --
---   Level                an excess, and weights on coalitions, on coalitions of earlier levels and on players at their bound
---   is_fixed, is_free    mode players: what some levels have fixed of a player
---   InSpan               mode span: a coalition's vector is in the rational span of the fixed vectors
---   IsOutside            the coalition isn't fixed by the levels in front
---   IsAllFixed           the levels fix everything
---   HasForm              the form of a certificate
---   LevelHolds           the conditions of one level behind the levels in front of it
---   Certifies            all conditions of a certificate of these levels for these shares
+--   Level                        an excess, and weights on coalitions, on coalitions of earlier levels and on players at their bound
+--   is_listed, has_bound         a coalition stands in some level; a player has a weight of at least 1 in the bounds of some level
+--   is_fixed, is_free            mode players: what some levels have fixed of a player
+--   IsFixedVector                mode span: the vectors that the levels fix
+--   InSpan                       mode span: a coalition's vector is in the rational span of the fixed vectors
+--   IsOutside                    the coalition isn't fixed by the levels in front
+--   IsAllFixed                   the levels fix everything
+--   Ascends, IsSmall             keys ascend strictly; a weight or total of a certificate
+--   LevelForm, LevelsForm        the form of a level, and of each of some levels, behind the levels in front
+--   HasForm                      the form of a certificate
+--   number_at                    the weights of the pairs of a player, added
+--   HasExcess, HasAtMostExcess   a coalition has the excess of a level, or at most that
+--   Excesses                     each coalition of the level has its excess
+--   Weights                      each weight on a coalition is at least 1
+--   BoundWeighs, BoundWeights    a weight on a bound is at least 1, but where a level in front gave its player such a weight; each is so
+--   Balances, IsBalanced         the weights of the level add to its total at a player; at each player
+--   IsTight, AreTight            a bound stands on a player at its worth alone, and only for imputations; each does
+--   OutsideIsLow                 no coalition outside has more than the excess of the level
+--   LevelHolds                   the conditions of one level behind the levels in front of it
+--   LevelsHold                   each level meets its conditions, and all together fix everything
+--   Certifies                    all conditions of a certificate of these levels for these shares
 use Rattle.std.specs.Prelude.{◌≡◌, ◌≢◌, ◌⊎◌, ℕ, ◌+◌, ◌-◌, ◌^◌, ◌<◌, ◌≤◌, Bool, ◌&&◌, ◌||◌, not, IsTrue, nat_eq, List, [], ◌∷◌, ◌++◌, ℤ, pos, ◌+ℤ◌, ◌*ℤ◌, ◌≤ℤ◌, int_le, if◌then◌else◌, length, unsigned_abs}
 use Rattle.std.specs.List.{list_any, AllByRecursion}
 use Rattle.definitions.specs.Coalitions.{has_player, singleton, grand_coalition, weight_at, splits}

@@ -1,14 +1,26 @@
 -- The worth of a coalition in each class of games, from what the class keeps.
--- Sources: Littlechild 1974 (airport games); O'Neill 1982 (bankruptcy games); Bird 1976 (tree games); Shapley and Shubik 1971 (assignment games), 1954 (voting games).
+-- Sources: Littlechild 1974 (airport games); O'Neill 1982 (bankruptcy games); Bird 1976 (tree games); Shapley and Shubik 1971
+-- (assignment games), 1954 (voting games).
 --
---   table_worth worths s              the listed worth
---   negated_worth v s                 minus the worth in another game: a game of costs
---   airport_worth costs s             minus the greatest cost among the members
---   bankruptcy_worth estate claims s  what the claims of the others leave of the estate
---   voting_worth quota weights s      1 where the members' weights sum to at least the quota, and 0 otherwise
---   IsTreeGame matrix g               each worth is minus the least cost of an attachment plan
---   IsBirdPlan, IsBirdShares          the plan of least pairs, and what each player pays in it
---   IsAssignmentGame matrix rows g    each worth is the greatest value of a matching
+--   table_worth worths s               the listed worth
+--   negated_worth v s                  minus the worth in another game: a game of costs
+--   greatest_cost                      the greatest cost among the members
+--   airport_worth costs s              minus the greatest cost among the members
+--   bankruptcy_worth estate claims s   what the claims of the others leave of the estate
+--   voting_worth quota weights s       1 where the members' weights sum to at least the quota, and 0 otherwise
+--   Matrix, entry                      an entry for each row and column
+--   joined, removed                    what passes a test, with one more point; without one
+--   is_point_of, is_source             the points of the members; the source alone
+--   IsAttachment, IsPlan               pairs of a connected end and a new point, until no point waits; those that connect a coalition to the source
+--   plan_cost, IsLeastCost             the entries of the pairs, added; the least cost of a plan
+--   IsNoLater                          triples compare by entry, then end, then player
+--   IsBirdFrom                         each pair is the least of those that lead from a connected point to a waiting one
+--   IsBirdPlan, IsBirdShares           the plan of least pairs, and what each player pays in it
+--   IsSymmetric                        a matrix that is the same in both directions
+--   IsTreeGame matrix g                each worth is minus the least cost of an attachment plan
+--   IsMatching                         pairs of a row and a column whose players are members, no member twice
+--   matching_value, IsGreatestValue    the entries of the pairs, added; the greatest value of a matching
+--   IsAssignmentGame matrix rows g     each worth is the greatest value of a matching
 use Rattle.std.specs.Prelude.{◌≡◌, ◌⊎◌, ℕ, zero, suc, ◌+◌, ◌-◌, ◌^◌, ◌<◌, ◌≤◌, IsTrue, Bool, false, not, ◌&&◌, ◌||◌, nat_eq, List, [], ◌∷◌, length, ℤ, pos, ◌-ℤ◌, neg_ℤ, slice_index, slice_index_or, if◌then◌else◌, max, int_le}
 use Rattle.std.specs.List.{AllByRecursion}
 use Rattle.std.specs.Int.{int_max}

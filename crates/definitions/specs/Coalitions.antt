@@ -1,15 +1,16 @@
 -- Coalitions as masks: player i, from 0, is a member of s where s has the bit of value 2 ^ i. So the coalitions of n players are the numbers below 2 ^ n.
 -- Source: Peleg and Sudhölter, Introduction to the Theory of Cooperative Games.
 --
---   has_player s i       player i is a member of s
---   singleton i          the coalition of player i alone
---   grand_coalition n    the coalition of all n players
---   proper_coalitions n  every coalition but the empty one and the grand coalition, in mask order
---   sum_over n a s       the sum of the members' numbers
---   weight_at ps i       the weights of the coalitions that hold player i, added
---   splits n test s      s holds some but not all of the players that pass the test
---   members n s          the members below n, in ascending order
---   size s               the number of members
+--   has_player s i        player i is a member of s
+--   singleton i           the coalition of player i alone
+--   grand_coalition n     the coalition of all n players
+--   proper_coalitions n   every coalition but the empty one and the grand coalition, in mask order
+--   sum_over n a s        the sum of the members' numbers
+--   weight_at ps i        the weights of the coalitions that hold player i, added
+--   some_below n test     the test passes at some number below n
+--   splits n test s       s holds some but not all of the players that pass the test
+--   members n s           the members below n, in ascending order
+--   size s                the number of members
 use Rattle.std.specs.Prelude.{ℕ, zero, suc, ◌-◌, ◌^◌, Bool, false, ◌&&◌, ◌||◌, not, nat_eq, List, [], ◌∷◌, length, ℤ, pos, ◌+ℤ◌, if◌then◌else◌, ◌++◌}
 use Rattle.std.specs.Int.{bit_at}
 use Rattle.std.specs.List.{range_with_len}

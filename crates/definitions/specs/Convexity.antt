@@ -1,10 +1,11 @@
 -- Convex games (Shapley 1971).
 --
---   AreOutside n s i j          two different players outside the coalition s
---   apart, together             the worths of s with each of two players; of s with both, and of s itself
---   IsConvex g                  together is at least apart, for all coalitions and players outside
---   IsFirstNonconvexity g s i j d  the first coalition and the first two players at which this fails, and by how much
---   IsMarginal g order x        each player gets what it adds to the worth of those in front of it
+--   AreOutside n s i j              two different players outside the coalition s
+--   apart, together                 the worths of s with each of two players; of s with both, and of s itself
+--   IsConvex g                      together is at least apart, for all coalitions and players outside
+--   ComesEarlier                    triples compare by mask, then by the first player, then by the second
+--   IsFirstNonconvexity g s i j d   the first coalition and the first two players at which this fails, and by how much
+--   IsMarginal g order x            each player gets what it adds to the worth of those in front of it
 use Rattle.std.specs.Prelude.{◌≡◌, ◌⊎◌, ℕ, ◌+◌, ◌^◌, ◌<◌, false, List, ℤ, pos, ◌+ℤ◌, ◌-ℤ◌, ◌*ℤ◌, ◌<ℤ◌, ◌≤ℤ◌}
 use Rattle.definitions.specs.Coalitions.{has_player, singleton}
 use Rattle.definitions.specs.Games.{Game, Allocation, share, IsAllocation}

@@ -1,10 +1,13 @@
 -- The first condition that a certificate fails, in the order in which conditions are tested. Levels count from 1, players from 0.
 --
---   Reason               a failed condition, with its level and its place
---   IsLeastFailing       the least player that a fact fails of
---   IsFirstFailing       the key of the first pair that a fact fails of
---   LevelFails           a level fails for a reason, and for no reason before it
---   IsFirstFailure       the reason is the first failed condition of the certificate
+--   Reason           a failed condition, with its level and its place
+--   IsLeastFailing   the least player that a fact fails of
+--   IsFirstFailing   the key of the first pair that a fact fails of
+--   LevelFails       a level fails for a reason, and for no reason before it
+--   IsLeastUnfixed   the least player that isn't fixed
+--   NotAllFixed      after the last level something is left, and the reason names the least player of it
+--   LevelsFail       the first failure among the levels, and of what they fix
+--   IsFirstFailure   the reason is the first failed condition of the certificate
 use Rattle.std.specs.Prelude.{◌≡◌, ◌⊎◌, ℕ, ◌+◌, ◌^◌, ◌<◌, IsTrue, List, [], ◌∷◌, ◌++◌, ℤ, pos, ◌*ℤ◌, ◌≤ℤ◌}
 use Rattle.definitions.specs.Sums.{IsGreatest}
 use Rattle.definitions.specs.Coalitions.{singleton}

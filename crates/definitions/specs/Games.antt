@@ -1,22 +1,26 @@
 -- Games with transferable worth, allocations, the nucleolus and the core.
 -- Sources: Peleg and Sudhölter, Introduction to the Theory of Cooperative Games; for the nucleolus Schmeidler 1969.
 --
---   Game                    players, and the worth of each coalition
---   Allocation              a share of each player over a common denominator
---   amount x s              what the members of s get together, over the denominator
---   excess g x s            the worth of s less what its members get, over the denominator
---   IsEfficient             the shares add to the worth of the grand coalition
---   IsIndividuallyRational  each player gets at least its worth alone
---   InFamily                an imputation, or a preimputation
---   measured_excess         the excess of s by a measure
---   excess_list             the measured excesses of all proper coalitions, in mask order
---   Beats                   the excesses from the greatest come before those of another allocation
---   IsNucleolus             a member of the family that beats every other member
---   Blocks, InCore          a coalition is worth more than its members get; none is
---   IsChosenBlocker         the least mask among the coalitions of greatest positive excess
---   IsSplitMaximum          the greatest excess over the coalitions that split a set of players
---   IsMeasuredMaximum       the greatest measured excess over these coalitions
---   IsGame, IsShares        the limits of the toolbox
+--   Game                     players, and the worth of each coalition
+--   Allocation               a share of each player over a common denominator
+--   share x i                the share of player i, over the denominator
+--   amount x s               what the members of s get together, over the denominator
+--   excess g x s             the worth of s less what its members get, over the denominator
+--   IsAllocation             a share for each player, over a positive denominator
+--   IsEfficient              the shares add to the worth of the grand coalition
+--   IsIndividuallyRational   each player gets at least its worth alone
+--   InFamily                 an imputation, or a preimputation
+--   measured_excess          the excess of s by a measure
+--   excess_list              the measured excesses of all proper coalitions, in mask order
+--   Beats                    the excesses from the greatest come before those of another allocation
+--   IsSame                   two allocations have the same shares
+--   IsNucleolus              a member of the family that beats every other member
+--   Blocks, InCore           a coalition is worth more than its members get; none is
+--   IsChosenBlocker          the least mask among the coalitions of greatest positive excess
+--   IsSplitMaximum           the greatest excess over the coalitions that split a set of players
+--   IsMeasuredMaximum        the greatest measured excess over these coalitions
+--   HasTwo                   a coalition has at least two players
+--   IsGame, IsShares         the limits of the toolbox
 use Rattle.std.specs.Prelude.{◌≡◌, ℕ, ◌^◌, ◌<◌, ◌≤◌, List, length, map, IsTrue, ℤ, pos, ◌-ℤ◌, ◌*ℤ◌, ◌<ℤ◌, ◌≤ℤ◌, slice_index_or, unsigned_abs}
 use Rattle.definitions.specs.Sums.{IsGreatest}
 use Rattle.definitions.specs.Coalitions.{has_player, singleton, grand_coalition, proper_coalitions, sum_over, splits}

@@ -1,9 +1,9 @@
 -- Measures of excess: as it is, or per head, over the number of members (Grotte 1970).
 --
---   divisor measure s      what the excess of s is divided by
---   measured measure s e   the excess e of s by the measure, over measured_den
---   measured_den measure q the denominator of measured excesses, where q is that of the excesses
---   IsMeasurable measure n excesses of games of n players have the measure
+--   divisor measure s        what the excess of s is divided by
+--   measured measure s e     the excess e of s by the measure, over measured_den
+--   measured_den measure q   the denominator of measured excesses, where q is that of the excesses
+--   IsMeasurable measure n   excesses of games of n players have the measure
 use Rattle.std.specs.Prelude.{◌≡◌, ◌⊎◌, ℕ, ◌/◌, ◌≤◌, ℤ, pos, ◌*ℤ◌}
 use Rattle.definitions.specs.Coalitions.{size}
 use Rattle.definitions.specs.declared.Measure.{Measure}

@@ -1,4 +1,14 @@
 -- What the plain programs take, so that 128 bits hold every number they meet, and the list of blocking coalitions.
+--
+--   WorthTable       worths in mask order
+--   game_of          the game of the listed worths
+--   IsSmallTable     1 to 16 players, and each worth below 2 ^ 46 in size
+--   IsSmallPoint     at most 16 shares below 2 ^ 84 in size, over a denominator from 1 to 2 ^ 38
+--   IsSmallerPoint   shares below 2 ^ 74 in size, over a denominator of at most 2 ^ 28
+--   Fits             excesses of the point have the measure
+--   scale_limit      the greatest size of a scale
+--   excess_limit     what measured excesses are below in size
+--   blocking_masks   the coalitions that are worth more than their members get
 use Rattle.std.specs.Prelude.{◌≡◌, ℕ, ◌+◌, ◌^◌, ◌<◌, ◌≤◌, List, length, All, ℤ, pos, ◌*ℤ◌, ◌≤ℤ◌, int_lt, unsigned_abs}
 use Rattle.std.specs.List.{filter, range_with_len}
 use Rattle.definitions.specs.Games.{Game, Allocation, amount}

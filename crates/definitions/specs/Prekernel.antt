@@ -1,11 +1,12 @@
 -- The surplus of one player against another, and the prekernel.
 -- Source: Davis and Maschler 1965; Maschler, Peleg and Shapley 1972; Peleg and Sudhölter, Introduction to the Theory of Cooperative Games.
 --
---   holds_without i j s    s holds i and lacks j
---   IsSurplus g x i j m    m is the greatest excess over the coalitions that hold i and lack j, over the denominator
---   AreBalanced g x i j    the surplus of i against j is that of j against i
---   InPrekernel g x        efficient, and every two players are balanced
---   IsFirstUnbalanced      the first pair of players that aren't balanced
+--   holds_without i j s     s holds i and lacks j
+--   IsSurplus g x i j m     m is the greatest excess over the coalitions that hold i and lack j, over the denominator
+--   AreBalanced g x i j     the surplus of i against j is that of j against i
+--   InPrekernel g x         efficient, and every two players are balanced
+--   IsEarlierPair a b i j   pairs compare by the first player and then by the second
+--   IsFirstUnbalanced       the first pair of players that aren't balanced
 use Rattle.std.specs.Prelude.{◌≡◌, ◌≢◌, ◌⊎◌, ℕ, ◌^◌, ◌<◌, Bool, ◌&&◌, not, IsTrue, ℤ}
 use Rattle.definitions.specs.Sums.{IsGreatest}
 use Rattle.definitions.specs.Coalitions.{has_player}

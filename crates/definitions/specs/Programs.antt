@@ -1,12 +1,15 @@
 -- Linear programs in rows and columns, their solutions, bounds and optima.
 -- Source: any text on linear programming, as Chvátal, Linear Programming, 1983.
 --
---   Program              rows with right sides, columns with an entry per row and a cost
---   Solves               weights, each at least 0, that meet each row
---   Bounds               multipliers by which no column's cost is above its value
---   IsOptimal            weights that solve, multipliers that bound, and equal values
---   HasNoSolution        no weights solve it
---   HasRay               weights that sum to 0 in each row, of positive cost
+--   Program         rows with right sides, columns with an entry per row and a cost
+--   row_value       the weighted entries of a row
+--   AreWeights      weights on columns, each once and at least 0
+--   Solves          weights, each at least 0, that meet each row
+--   value_of        what multipliers make of a number per row
+--   Bounds          multipliers by which no column's cost is above its value
+--   IsOptimal       weights that solve, multipliers that bound, and equal values
+--   HasNoSolution   no weights solve it
+--   HasRay          weights that sum to 0 in each row, of positive cost
 use Rattle.std.specs.Prelude.{◌≡◌, ℕ, ◌<◌, Bool, IsTrue, nat_eq, List, map, ℤ, pos, ◌*ℤ◌, ◌≤ℤ◌, slice_index_or}
 use Rattle.std.specs.List.{AllByRecursion, IsDistinct}
 use Rattle.definitions.specs.Sums.{sum_below, weighted_sum}

@@ -3,16 +3,24 @@
 --
 -- Each definition is the one for a game of whole worths, with both sides of each comparison times k.
 --
---   times k x              shares times the scale
---   excess_over k g x s    the excess of s, over k times the denominator of the shares
---   measured_excess_over   that excess by a measure
---   InFamilyOver           an imputation, or a preimputation
---   BeatsOver              the excesses from the greatest come before those of another allocation
---   IsNucleolusOver        a member of the family that beats every other member
---   BlocksOver, InCoreOver, IsChosenBlockerOver     the core, and the chosen blocker
---   AreLevelsOver          levels whose excesses are k times those of others
---   CertifiesOver          the conditions of a certificate
---   ScalesChangeNothing    in the game of whole worths the shares times k are what the shares are in the game of fractions
+--   times k x                                     shares times the scale
+--   excess_over k g x s                           the excess of s, over k times the denominator of the shares
+--   IsEfficientOver                               the shares add to the worth of all
+--   IsIndividuallyRationalOver                    each player gets at least its worth alone
+--   InFamilyOver                                  an imputation, or a preimputation
+--   measured_excess_over                          the excess of s by a measure
+--   excess_list_over                              the measured excesses of all proper coalitions
+--   BeatsOver                                     the excesses from the greatest come before those of another allocation
+--   IsNucleolusOver                               a member of the family that beats every other member
+--   BlocksOver, InCoreOver, IsChosenBlockerOver   the core, and the chosen blocker
+--   IsLevelOver                                   a level with the same lists, and k times the excess
+--   AreLevelsOver                                 levels whose excesses are k times those of others
+--   HasExcessOver, HasAtMostExcessOver            a coalition has the excess of a level, or at most that
+--   IsTightOver                                   a bound stands on a player at its worth alone, and only for imputations
+--   LevelHoldsOver, LevelsHoldOver                the conditions of a level, and of each of some levels
+--   CertifiesOver                                 the conditions of a certificate
+--   AreAlike                                      the shares in the game of fractions, and the shares times k in the game of whole worths
+--   ScalesChangeNothing                           in the game of whole worths the shares times k are what the shares are in the game of fractions
 use Rattle.std.specs.Prelude.{◌≡◌, ◌↔◌, ℕ, ◌^◌, ◌<◌, List, [], ◌∷◌, ◌++◌, map, ℤ, pos, ◌-ℤ◌, ◌*ℤ◌, ◌<ℤ◌, ◌≤ℤ◌}
 use Rattle.std.specs.List.{AllByRecursion}
 use Rattle.definitions.specs.Coalitions.{singleton, grand_coalition, proper_coalitions}

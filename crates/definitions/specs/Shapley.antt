@@ -1,10 +1,14 @@
 -- The Shapley value (Shapley 1953).
 --
---   IsOrder n order      the list holds each player below n once
---   orders n             those lists
---   marginal_worth       what a player adds to the worth of those in front of it in an order
---   shapley_total g i    the sum of what player i adds, over all orders
---   IsShapley g x        each share is the player's total over n!
+--   AllDiffer           no number stands twice
+--   IsOrder n order     the list holds each player below n once
+--   insertions          each way to put a number into a list
+--   orders n            the lists that hold each player below n once
+--   marginal_worth      what a player adds to the worth of those in front of it in an order
+--   total_over          what a player adds, over the orders in a list
+--   shapley_total g i   the sum of what player i adds, over all orders
+--   factorial n         1 * 2 * .. * n
+--   IsShapley g x       each share is the player's total over n!
 use Rattle.std.specs.Prelude.{ℕ, zero, suc, ◌≡◌, ◌+◌, ◌*◌, ◌^◌, ◌<◌, List, [], ◌∷◌, map, nat_eq, ℤ, pos, ◌+ℤ◌, ◌-ℤ◌, ◌*ℤ◌, if◌then◌else◌, length, false}
 use Rattle.std.specs.List.{flat_map, AllByRecursion}
 use Rattle.definitions.specs.Games.{Game, Allocation, share, IsAllocation}

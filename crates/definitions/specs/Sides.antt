@@ -1,7 +1,7 @@
 -- Core points that are best for one side of a game, as for the buyers of a market (Shapley and Shubik 1971).
 --
---   IsBestFor g side x        in the core, and no core point gives a player of the side more
---   IsBuyer p i, IsSeller p i the sides of a market of p buyers, who are its first players
+--   IsBestFor g side x          in the core, and no core point gives a player of the side more
+--   IsBuyer p i, IsSeller p i   the sides of a market of p buyers, who are its first players
 use Rattle.std.specs.Prelude.{ℕ, ◌<◌, ◌≤◌, ◌*ℤ◌, ◌≤ℤ◌}
 use Rattle.definitions.specs.Games.{Game, Allocation, InCore, share}
 

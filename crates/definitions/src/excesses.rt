@@ -1,7 +1,8 @@
 //! The excess list of a point, and which of two points comes first (Schmeidler 1969; per head
 //! Grotte 1970).
 
-ghost use Rattle.std.specs.Prelude.{◌≡◌, ◌↔◌, ◌*◌, ◌/◌, ◌^◌, ◌<◌, ◌≤◌, pos, ◌*ℤ◌, IsTrue, IfOk, unsigned_abs};
+ghost use Rattle.std.specs.Prelude.{◌≡◌, ◌↔◌, IsTrue, IfOk};
+ghost use Rattle.std.specs.Prelude.{◌*◌, ◌/◌, ◌^◌, ◌<◌, ◌≤◌, ◌*ℤ◌, unsigned_abs};
 ghost use Rattle.definitions.specs.Coalitions.{size};
 ghost use Rattle.definitions.specs.Measures.{measured};
 ghost use Rattle.definitions.specs.Games.{measured_excess, excess_list, Beats};

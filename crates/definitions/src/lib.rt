@@ -2,14 +2,14 @@
 //! they imply, and plain slow programs that compute them.
 #![tactic(auto)]
 
-ghost use Rattle.definitions.specs.Scales.{ScalesChangeNothing};
-ghost use Rattle.definitions.specs.Theorems.{MeasuresDivide, CertificatesAreSound, CollectionsBlock, PrenucleolusBalances};
-
 pub mod blockers;
 pub mod excesses;
 pub mod order;
 pub mod table;
 pub mod verdicts;
+
+ghost use Rattle.definitions.specs.Scales.{ScalesChangeNothing};
+ghost use Rattle.definitions.specs.Theorems.{MeasuresDivide, CertificatesAreSound, CollectionsBlock, PrenucleolusBalances};
 
 /// The allocations that a nucleolus is compared with (Schmeidler 1969; for preimputations Sobolev 1975).
 #[derive(Clone, Copy, Debug, PartialEq, Eq)]
@@ -63,9 +63,9 @@ pub fn prenucleolus_balances()
     ensures { PrenucleolusBalances }
 {}
 
-/// Multiplying all worths and all shares by one positive number changes no comparison: a game whose worths are fractions
-/// over a scale, and the game of its whole numbers, have the same imputations, excesses, nucleolus, core, blockers and
-/// certificates, where the shares and the excesses of levels are times the scale.
+/// Multiplying all worths and all shares by one positive number changes no comparison: a game whose worths are
+/// fractions over a scale, and the game of its whole numbers, have the same imputations, excesses, nucleolus, core,
+/// blockers and certificates, where the shares and the excesses of levels are times the scale.
 pub fn scales_change_nothing()
     ensures { ScalesChangeNothing }
 {}

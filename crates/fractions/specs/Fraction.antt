@@ -1,9 +1,16 @@
 -- Fractions in lowest terms, their values, and when an operation's result has a form in 128 bits.
 --
---   IsReduced f      the denominator is positive, and has no divisor above 1 in common with the numerator
---   IsRatio f n d    f is n/d in lowest terms. There is one such f where d isn't 0, and none where it is
---   HasNoForm n d    no pair of 128-bit numbers is n/d in lowest terms
---   HasSum x y       every number that the sum of x and y takes has a form of 128 bits; and HasDifference x y, of their difference
+--   Fraction             a numerator over a denominator
+--   IsReduced f          the denominator is positive, and has no divisor above 1 in common with the numerator
+--   IsRatio f n d        f is n/d in lowest terms. There is one such f where d isn't 0, and none where it is
+--   HasForm f            both numbers have a form of 128 bits
+--   HasNoForm n d        no pair of 128-bit numbers is n/d in lowest terms
+--   common_divisor x y   the greatest common divisor of two denominators
+--   HasCommonForm x y    the numerators over the least common denominator have such a form, and so has that
+--   combined             the difference of two numbers, or their sum
+--   HasCombined          every number that a difference or a sum takes has such a form
+--   HasSum x y           every number that the sum of x and y takes has such a form
+--   HasDifference x y    the same of the difference
 use Rattle.std.specs.Prelude.{◌≡◌, Bool, true, false, ◌≢◌, ℤ, pos, ◌+ℤ◌, ◌-ℤ◌, ◌*ℤ◌, ◌≤ℤ◌, unsigned_abs, int_div, FitsSigned}
 use Rattle.std.specs.Int.{w128}
 use Rattle.fractions.specs.Divisors.{gcd}

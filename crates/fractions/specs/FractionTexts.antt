@@ -1,10 +1,19 @@
 -- Texts of fractions: an optional minus, digits, and for a denominator above 1 a slash and digits. Each fraction has one text.
 --
---   is_numeral s          decimal digits without a leading zero, but for 0 itself
---   is_fraction_text s    the grammar of a fraction's text
---   text_fraction s       the fraction that such a text writes
---   parsed s              that fraction, if s is such a text and both numbers have a form of 128 bits
---   fraction_text f       the text of a fraction
+--   is_numeral s                       decimal digits without a leading zero, but for 0 itself
+--   before_slash, has_slash            how many bytes stand in front of a slash; whether there is one
+--   numerator_text, denominator_text   what stands in front of the slash, and behind it
+--   numerator, denominator             the numbers of these; 1 where there is no slash
+--   has_denominator                    no slash, or a numeral above 1 behind it
+--   is_unsigned_fraction               a text without a sign, in lowest terms
+--   has_minus, without_minus           a minus stands first; what is behind it
+--   is_signed_fraction                 a sign and an unsigned text; -0 is none
+--   is_fraction_text s                 the grammar of a fraction's text
+--   signed_fraction                    the fraction that a text without its minus writes
+--   text_fraction s                    the fraction that such a text writes
+--   is_i128                            a number that has a form of 128 bits
+--   parsed s                           that fraction, if s is such a text and both numbers have a form of 128 bits
+--   fraction_text f                    the text of a fraction
 use Rattle.std.specs.Prelude.{◌==◌, ◌+◌, ◌^◌, ℕ, ℤ, pos, negsuc, neg_ℤ, List, [], ◌∷◌, ◌++◌, length, take, drop, slice_index, Bool, not, ◌&&◌, ◌||◌, Option, Some, None, nat_lt, if◌then◌else◌}
 use Rattle.std.specs.Ordering.{int_eq}
 use Rattle.std.specs.List.{list_all, prefix_len}

@@ -1,6 +1,7 @@
 //! Exact fractions in lowest terms, with a numerator and a denominator of 128 bits.
 
-ghost use Rattle.std.specs.Prelude.{◌≡◌, ◌≢◌, ◌↔◌, pos, neg_ℤ, ◌+ℤ◌, ◌-ℤ◌, ◌*ℤ◌, ◌≤ℤ◌, int_div, FitsSigned, if◌then◌else◌, IsSome, IsOk, IfOk, MatchOption, MatchResult};
+ghost use Rattle.std.specs.Prelude.{◌≡◌, ◌≢◌, ◌↔◌, if◌then◌else◌, IsSome, IsOk, IfOk, MatchOption, MatchResult};
+ghost use Rattle.std.specs.Prelude.{pos, neg_ℤ, ◌+ℤ◌, ◌-ℤ◌, ◌*ℤ◌, ◌≤ℤ◌, int_div, FitsSigned};
 ghost use Rattle.std.specs.Int.{w128};
 ghost use Rattle.std.specs.Result.{OkIff};
 ghost use Rattle.std.specs.Option.{SomeIff};
@@ -110,8 +111,8 @@ impl Frac {
         Ok(Frac { num, den })
     }
 
-    /// The quotient by a fraction other than 0. `OutOfRange` exactly where the quotient in lowest terms leaves the range
-    /// of `i128`.
+    /// The quotient by a fraction other than 0. `OutOfRange` exactly where the quotient in lowest terms leaves the
+    /// range of `i128`.
     pub fn div(&self, other: &Frac) -> Result<Frac, OutOfRange>
         requires { other.now.num ≢ pos 0 }
         ensures { let n = self.now.num *ℤ other.now.den in

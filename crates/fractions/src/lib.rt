@@ -8,9 +8,11 @@ mod order;
 #[cfg(test)]
 mod tests;
 
-pub use euclid::gcd;
 pub use frac::Frac;
 use std::alloc::{AllocError, AllocFailed};
+
+// For the crates above.
+pub use euclid::gcd;
 
 /// Memory was not found.
 #[derive(Clone, Copy, Debug, PartialEq, Eq)]

@@ -1,4 +1,15 @@
 -- JSON trees that hold no number but integers, and what is kept when a tree is written and read.
+--
+--   IsExactNumber       an integer of 64 bits, in its one form
+--   AllAbove            each key comes after another
+--   IsExact             a tree with no number but integers, whose keys ascend; AreExact and HasExact of the parts of arrays and objects
+--   IsOrdered           the same with floats too; AreOrdered and HasOrdered of the parts of arrays and objects
+--   WrittenIsReadBack   what is written for an exact tree is read as that tree
+--   ReadIsOrdered       a tree that was read is ordered
+--   OrderedIsExact      an ordered tree without a float is exact
+--   WrittenIsNoLonger   the text that is written for a tree has no more bytes than the text that it was read from
+--   IsPartOf            ordered, less deep than the whole, and written in fewer bytes
+--   MembersKeep         a member of an ordered object is such a part
 use Rattle.std.specs.Prelude.{◌≡◌, ◌<◌, ◌≤◌, ◌^◌, ℕ, pos, negsuc, List, length, false, Some}
 use Rattle.std.specs.Ordering.{nat_cmp}
 use Rattle.std.specs.declared.cmp.Ordering.TheVariants.{Less}

@@ -1,12 +1,16 @@
 -- The greatest excesses over the coalitions that hold one player and lack another, in a table of 16 rows and columns.
 --
---   number_at table i j    the number in row i and column j
---   raised_where           the greater of a number and the greatest so far, where a test passes
---   is_less_so_far         the least so far is below a number, or isn't known
---   lesser_where           the lesser of two numbers that are there, where a test passes
---   AreFloors table least  no number of a row is below the row's floor, where that is there
---   AreThere n table       there is a number for each two of n players
---   AreSurpluses g x table each number is the surplus of the row's player against the column's
+--   number_at table i j      the number in row i and column j
+--   raised_where             the greater of a number and the greatest so far, where a test passes
+--   floor_of least i         the floor of row i
+--   is_less_so_far           the least so far is below a number, or isn't known
+--   lesser                   the lesser of two numbers that are there
+--   lesser_where             the lesser of two numbers that are there, where a test passes
+--   IsFrom                   a number that is there, and at least so great
+--   IsFloor                  what the floor of a row is, up to a column
+--   AreFloors table least    no number of a row is below the row's floor, where that is there
+--   AreThere n table         there is a number for each two of n players
+--   AreSurpluses g x table   each number is the surplus of the row's player against the column's
 use Rattle.std.specs.Prelude.{◌≡◌, ◌≢◌, ℕ, ◌+◌, ◌*◌, ◌<◌, Bool, true, List, ℤ, ◌≤ℤ◌, int_lt, Option, Some, None, IsSome, slice_index_or, if◌then◌else◌}
 use Rattle.definitions.specs.Games.{Game, Allocation}
 use Rattle.definitions.specs.Prekernel.{IsSurplus}

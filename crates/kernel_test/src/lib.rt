@@ -1,15 +1,15 @@
 //! The surpluses of players against each other, and whether shares are in the prekernel.
 #![tactic(auto)]
 
+mod surpluses;
+#[cfg(test)]
+mod tests;
+
 ghost use Rattle.std.specs.Prelude.{◌≡◌, ◌≢◌, ◌↔◌, ◌<◌, ◌≤◌, length};
 ghost use Rattle.std.specs.Bool.{Decides};
 ghost use Rattle.definitions.specs.Games.{IsEfficient, IsNucleolus};
 ghost use Rattle.definitions.specs.Prekernel.{IsSurplus, InPrekernel, holds_without};
 ghost use Rattle.kernel_test.specs.Answers.{IsSurplusFraction, IsKernelAnswer};
-
-mod surpluses;
-#[cfg(test)]
-mod tests;
 
 use crate::surpluses::Surpluses;
 use coalitions::Coalition;

@@ -1,5 +1,6 @@
 //! The surpluses of all players against each other, from one scan of the coalitions.
-ghost use Rattle.std.specs.Prelude.{◌≡◌, ◌≢◌, ℕ, ◌<◌, ◌≤◌, length, nat_eq, not, ◌&&◌, true, None, Some, IsSome, MatchOption};
+ghost use Rattle.std.specs.Prelude.{◌≡◌, ◌≢◌, not, ◌&&◌, true, None, Some, IsSome, MatchOption, length};
+ghost use Rattle.std.specs.Prelude.{ℕ, ◌<◌, ◌≤◌, nat_eq};
 ghost use Rattle.definitions.specs.Coalitions.{has_player};
 ghost use Rattle.definitions.specs.Prekernel.{IsEarlierPair, holds_without};
 ghost use Rattle.kernel_test.specs.Tables.{number_at, floor_of, raised_where, is_less_so_far, lesser_where, AreFloors, AreThere, AreSurpluses};
@@ -10,7 +11,7 @@ use worth_core::{Shares, Worth, raised};
 /// For each two of at most 16 players, the greatest excess so far over the coalitions that hold the one and lack the
 /// other, in row order and over the denominator of the shares; none before there is such a coalition.
 #[derive(Drop)]
-pub struct Surpluses {
+pub(crate) struct Surpluses {
     greatest: [Option<i128>; 256],
     /// For each player a number that none of its surpluses so far is below, so that few coalitions need its row; none
     /// before all are there.
@@ -19,7 +20,7 @@ pub struct Surpluses {
 
 impl Surpluses {
     /// The surpluses of each player against each other.
-    pub fn of<W: Worth>(game: &W, x: &Shares) -> Surpluses
+    pub(crate) fn of<W: Worth>(game: &W, x: &Shares) -> Surpluses
         requires few { (W.game game.now).players ≤ 16 }
         requires shares { length x.now.shares ≡ (W.game game.now).players }
         ensures surpluses { AreSurpluses (W.game game.now) x.now result.greatest }
@@ -46,7 +47,8 @@ impl Surpluses {
     /// One more coalition is seen, of that excess.
     fn raise(&mut self, s: Coalition, excess: i128)
         requires { AreFloors self.old.greatest self.old.least }
-        ensures raised { (i j : ℕ) → i < 16 → j < 16 → number_at self.new.greatest i j ≡ raised_where (holds_without i j s) (number_at self.old.greatest i j) excess }
+        ensures raised { (i j : ℕ) → i < 16 → j < 16
+            → number_at self.new.greatest i j ≡ raised_where (holds_without i j s) (number_at self.old.greatest i j) excess }
         ensures floors { AreFloors self.new.greatest self.new.least }
     {
         for i in 0..16 {
@@ -61,7 +63,8 @@ impl Surpluses {
         requires player { i < 16 }
         requires member { has_player s i ≡ true }
         requires floors { AreFloors self.old.greatest self.old.least }
-        ensures raised { (a j : ℕ) → a < 16 → j < 16 → number_at self.new.greatest a j ≡ raised_where (nat_eq a i && not (has_player s j)) (number_at self.old.greatest a j) excess }
+        ensures raised { (a j : ℕ) → a < 16 → j < 16
+            → number_at self.new.greatest a j ≡ raised_where (nat_eq a i && not (has_player s j)) (number_at self.old.greatest a j) excess }
         ensures floors { AreFloors self.new.greatest self.new.least }
     {
         if self.can_rise(i, excess) {
@@ -84,7 +87,8 @@ impl Surpluses {
     fn write_row(&mut self, i: u32, s: Coalition, excess: i128)
         requires player { i < 16 }
         requires floors { AreFloors self.old.greatest self.old.least }
-        ensures raised { (a j : ℕ) → a < 16 → j < 16 → number_at self.new.greatest a j ≡ raised_where (nat_eq a i && not (has_player s j)) (number_at self.old.greatest a j) excess }
+        ensures raised { (a j : ℕ) → a < 16 → j < 16
+            → number_at self.new.greatest a j ≡ raised_where (nat_eq a i && not (has_player s j)) (number_at self.old.greatest a j) excess }
         ensures floors { AreFloors self.new.greatest self.new.least }
     {
         let mut least = Some(i128::MAX);
@@ -97,7 +101,7 @@ impl Surpluses {
     }
 
     /// The surplus of one player against another.
-    pub fn against(&self, i: u32, j: u32) -> i128
+    pub(crate) fn against(&self, i: u32, j: u32) -> i128
         requires row { i < 16 }
         requires column { j < 16 }
         requires found { IsSome (number_at self.now.greatest i j) }
@@ -107,7 +111,7 @@ impl Surpluses {
     }
 
     /// The first two of `n` players, by the first of them and then by the second, whose surpluses differ.
-    pub fn first_unbalanced(&self, n: u32) -> Option<(u32, u32)>
+    pub(crate) fn first_unbalanced(&self, n: u32) -> Option<(u32, u32)>
         requires few { n ≤ 16 }
         requires there { AreThere n self.now.greatest }
         ensures { MatchOption result

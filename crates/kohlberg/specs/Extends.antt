@@ -1,4 +1,11 @@
 -- A span that was extended, and spans of what levels fix.
+--
+--   Extends         a span that was extended by what was added
+--   IsPaired        a coalition of the pairs
+--   IsBoundVector   a player alone whose bound has a weight of at least 1 among the pairs
+--   IsLevelVector   a coalition of levels, or a player alone whose bound has such a weight there
+--   SpansFixed      coalitions span exactly what levels fix
+--   IsOf            a level is of n players
 use Rattle.std.specs.Prelude.{◌≡◌, ◌⊎◌, ℕ, ◌^◌, ◌<◌, ◌&&◌, IsTrue, nat_eq, List, ◌++◌, ℤ, pos, int_le}
 use Rattle.std.specs.List.{list_any, AllByRecursion}
 use Rattle.definitions.specs.Coalitions.{singleton}

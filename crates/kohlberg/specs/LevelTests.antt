@@ -1,4 +1,10 @@
 -- The form of a level as tests.
+--
+--   has_sizes     how many coalitions it may have
+--   has_keys      which coalitions and players it may have
+--   has_order     its coalitions and players ascend
+--   has_weights   its weights and its total are small
+--   level_form    all of these
 use Rattle.std.specs.Prelude.{ℕ, Bool, ◌&&◌, nat_lt, nat_le, List, length}
 use Rattle.std.specs.List.{list_all}
 use Rattle.definitions.specs.Coalitions.{grand_coalition}

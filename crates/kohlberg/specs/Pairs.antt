@@ -1,7 +1,8 @@
 -- Pairs of a coalition and its weight, in mask order.
 --
---   with_pair   a pair put among pairs
---   AreExactly  the pairs ascend and are those that a fact holds of
+--   with_pair               a pair put among pairs
+--   placed_behind, placed   pairs put in mask order, one by one from the first
+--   AreExactly              the pairs ascend and are those that a fact holds of
 use Rattle.std.specs.Prelude.{ℕ, IsTrue, nat_eq, nat_lt, List, [], ◌∷◌, ℤ, if◌then◌else◌}
 use Rattle.std.specs.List.{list_any, AllByRecursion}
 use Rattle.definitions.specs.Certificates.{Ascends}

@@ -30,7 +30,7 @@ fn is_found(pairs: &[(Coalition, i128)], s: Coalition) -> bool
 }
 
 /// Whether halving finds the coalition in some level.
-pub fn is_found_in(levels: &[Level], s: Coalition) -> bool
+pub(crate) fn is_found_in(levels: &[Level], s: Coalition) -> bool
     ensures { IsTrue result → IsTrue (is_listed levels.now s) }
 {
     for l in levels {

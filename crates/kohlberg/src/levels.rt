@@ -1,11 +1,12 @@
 //! Levels of a certificate.
 
-ghost use Rattle.std.specs.Prelude.{◌≡◌, ◌+◌, ◌*◌, ◌^◌, ◌<◌, ◌≤◌, ◌&&◌, pos, ◌*ℤ◌, length, unsigned_abs, nat_eq, nat_lt, int_le, if◌then◌else◌};
+ghost use Rattle.std.specs.Prelude.{◌≡◌, ◌&&◌, if◌then◌else◌, length};
+ghost use Rattle.std.specs.Prelude.{◌^◌, ◌<◌, ◌≤◌, pos, ◌*ℤ◌, unsigned_abs, nat_eq, nat_lt, int_le};
 ghost use Rattle.std.specs.Bool.{Decides};
 ghost use Rattle.std.specs.Ordering.{int_cmp};
 ghost use Rattle.std.specs.List.{AllByRecursion, list_any, list_all};
 ghost use Rattle.definitions.specs.Coalitions.{weight_at, grand_coalition};
-ghost use Rattle.definitions.specs.Certificates.{IsSmall, number_at, is_listed, has_bound, Level as LevelData};
+ghost use Rattle.definitions.specs.Certificates.{IsSmall, number_at, is_listed, has_bound};
 ghost use Rattle.kohlberg.specs.Form.{is_small, ascends};
 
 use crate::halving::is_found_in;

@@ -12,10 +12,11 @@ mod tests;
 pub use certificates::{Certificate, Malformed};
 pub use definitions::{Family, Mode};
 pub use levels::Level;
-pub use spans::{Outside, Span};
+pub use spans::Span;
 
 // For the crates above.
 pub use levels::{bounds_at, weights_at};
 pub use mask_order::put_pair;
 pub use spanned::{add_levels, first_unspanned};
+pub use spans::Outside;
 pub use worth_core::ratio;

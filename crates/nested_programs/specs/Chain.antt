@@ -1,5 +1,16 @@
 -- For the private functions of this crate.
 -- Chains of stages, each optimal behind the levels that the stages in front gave.
+--
+--   single_id      the number of the column of a player alone
+--   outer_id       the number of the column of an outside coalition
+--   HasWeight      a column has a weight of at least 1
+--   Follows        a level takes its coalitions and bounds from a stage's weights
+--   Stage          a level, and the weights and multipliers that it came from
+--   StageHolds     they are optimal behind the levels in front, and the level follows
+--   levels_of      the levels of stages
+--   IsChain        each stage holds behind the levels of those in front
+--   last_of        the last stage
+--   HaveExcesses   the levels' excesses are multipliers of the level rows
 use Rattle.std.specs.Prelude.{◌≡◌, ◌⊎◌, ℕ, ◌+◌, ◌<◌, Bool, IsTrue, List, [], ◌∷◌, ◌++◌, length, ℤ, pos, ◌+ℤ◌, ◌-ℤ◌, ◌*ℤ◌, ◌≤ℤ◌, Decides}
 use Rattle.std.specs.List.{AllByRecursion}
 use Rattle.definitions.specs.Sums.{weighted_sum}

@@ -1,13 +1,15 @@
 -- For the private functions of this crate.
 -- The stages so far, and all of them.
 --
---   IsLeft         some player alone isn't spanned by what the levels fix
---   IsBest         an optimum of the stage behind levels
---   OwnExcesses    the excess of each level is the optimum of its stage
---   AreStages      levels that optimal stages gave, and the multipliers of the last stage
---   IsBounded      the stage behind the levels has no endless ray
---   AreUnderway    the levels so far, with what they fix
---   AreDone        the levels of all stages
+--   IsLeft        some player alone isn't spanned by what the levels fix
+--   IsBest        an optimum of the stage behind levels
+--   OwnExcesses   the excess of each level is the optimum of its stage
+--   AreLast       the last stage has these multipliers
+--   AreWide       multipliers for the players, at least
+--   AreStages     levels that optimal stages gave, and the multipliers of the last stage
+--   IsBounded     the stage behind the levels has no endless ray
+--   AreUnderway   the levels so far, with what they fix
+--   AreDone       the levels of all stages
 use Rattle.std.specs.Prelude.{◌≡◌, ℕ, ◌+◌, ◌<◌, ◌≤◌, Bool, List, [], ◌∷◌, length, ℤ, pos, ◌*ℤ◌, ◌≤ℤ◌, IsTrue, Option, Some, None}
 use Rattle.std.specs.Bool.{Decides}
 use Rattle.std.specs.List.{AllByRecursion}

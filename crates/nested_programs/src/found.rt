@@ -7,7 +7,8 @@ use worth_core::Shares;
 pub enum Found {
     /// The shares of the nucleolus or the prenucleolus, as worth, and their certificate in mode span.
     Point(Shares, Certificate),
-    /// There is no imputation: the worths of the players alone add to `singles`, and all are worth `total`, which is less.
+    /// There is no imputation: the worths of the players alone add to `singles`, and all are worth `total`, which is
+    /// less.
     NoImputation { singles: i64, total: i64 },
 }
 

@@ -14,7 +14,8 @@ use separation::coalition_count;
 use simplex::Optimal;
 use std::alloc::{AllocError, Global};
 
-/// The coalitions outside that have a number, in mask order, where `first` is the number of the column of the empty one.
+/// The coalitions outside that have a number, in mask order, where `first` is the number of the column of the empty
+/// one.
 fn outer_numbers(
     alloc: Global,
     weights: &[(u64, i128)],
@@ -31,8 +32,8 @@ fn outer_numbers(
     Ok(coalitions)
 }
 
-/// Puts the coalitions of a level in front whose net number isn't 0 in mask order, where `first` is the number of the column
-/// of its first.
+/// Puts the coalitions of a level in front whose net number isn't 0 in mask order, where `first` is the number of the
+/// column of its first.
 fn put_level(
     earlier: &mut Vec<(Coalition, i128)>,
     weights: &[(u64, i128)],
@@ -97,9 +98,14 @@ fn bound_numbers(
     Ok(bounds)
 }
 
-/// The level of the optimum of a stage behind these levels: the coalitions, earlier coalitions and bounds with a number, and
-/// the optimum as excess.
-pub fn level_of(alloc: Global, n: u32, front: &[Level], best: &Optimal) -> Result<Level, AllocError>
+/// The level of the optimum of a stage behind these levels: the coalitions, earlier coalitions and bounds with a
+/// number, and the optimum as excess.
+pub(crate) fn level_of(
+    alloc: Global,
+    n: u32,
+    front: &[Level],
+    best: &Optimal,
+) -> Result<Level, AllocError>
     requires few { n ≤ 16 }
     requires levels { length front.now + 2 ≤ n }
     requires small { AllByRecursion (λ l. length l.coalitions ≤ 65536) front.now }

@@ -1,9 +1,10 @@
 //! The nucleolus and the prenucleolus of any game of at most 16 players, by nested linear programs (Kopelowitz 1967,
 //! Maschler, Peleg and Shapley 1979).
 //!
-//! Each stage looks for the least greatest measured excess of the coalitions that the levels in front don't fix. Its optimal
-//! weights are the next level of the certificate, and its optimal multipliers are shares, and excesses of the levels so far.
-//! After at most one stage less than there are players everything is fixed, and the shares of the last stage are the answer.
+//! Each stage looks for the least greatest measured excess of the coalitions that the levels in front don't fix. Its
+//! optimal weights are the next level of the certificate, and its optimal multipliers are shares, and excesses of the
+//! levels so far. After at most one stage less than there are players everything is fixed, and the shares of the last
+//! stage are the answer.
 #![tactic(auto)]
 
 mod found;
@@ -26,14 +27,14 @@ use kohlberg::Family;
 use std::alloc::Global;
 use worth_core::{Measure, Worth};
 
-/// The nucleolus of a game of at most 16 players for the imputations, or its prenucleolus for the preimputations, with a
-/// certificate in mode span (Schmeidler 1969, Kohlberg 1971), of excesses as they are or per head (Grotte 1970). Per head
-/// there must be at most 8 players. Each level has fewer entries in its three lists than there are players twice, and its
-/// excess is a fraction in lowest terms with parts of 128 bits.
+/// The nucleolus of a game of at most 16 players for the imputations, or its prenucleolus for the preimputations, with
+/// a certificate in mode span (Schmeidler 1969, Kohlberg 1971), of excesses as they are or per head (Grotte 1970). Per
+/// head there must be at most 8 players. Each level has fewer entries in its three lists than there are players twice,
+/// and its excess is a fraction in lowest terms with parts of 128 bits.
 ///
-/// `NoImputation` comes exactly where the family is the imputations and the worths of the players alone add to more than
-/// the worth of all; it carries both. `TooMany` comes exactly where there are more than 16 players, and `Memory` for want of
-/// memory.
+/// `NoImputation` comes exactly where the family is the imputations and the worths of the players alone add to more
+/// than the worth of all; it carries both. `TooMany` comes exactly where there are more than 16 players, and `Memory`
+/// for want of memory.
 pub fn solve<W: Worth>(
     alloc: Global,
     game: &W,

@@ -19,7 +19,7 @@ fn number_of(weights: &[(u64, i128)], id: u64) -> i128
 }
 
 /// The number of a column less that of the same column negated.
-pub fn net_of(weights: &[(u64, i128)], id: u64, negated: u64) -> i128
+pub(crate) fn net_of(weights: &[(u64, i128)], id: u64, negated: u64) -> i128
     requires { AreNumbers weights.now }
     ensures value { result ≡ number_at weights.now id -ℤ number_at weights.now negated }
     ensures small { unsigned_abs result < 2 ^ 62 }

@@ -14,8 +14,8 @@ use simplex::Multipliers;
 use std::alloc::Global;
 use worth_core::{Measure, Shares, Worth};
 
-/// The shares that are the multipliers of the players' rows, over their denominator. Without multipliers it is one share, the
-/// worth of all.
+/// The shares that are the multipliers of the players' rows, over their denominator. Without multipliers it is one
+/// share, the worth of all.
 fn shares_of<W: Worth>(
     alloc: Global,
     game: &W,
@@ -38,8 +38,9 @@ fn shares_of<W: Worth>(
     }
 }
 
-/// The nucleolus or prenucleolus by a measure of a game of at most 16 players whose family has a member, with its certificate.
-pub fn point_of<W: Worth>(
+/// The nucleolus or prenucleolus by a measure of a game of at most 16 players whose family has a member, with its
+/// certificate.
+pub(crate) fn point_of<W: Worth>(
     alloc: Global,
     game: &W,
     family: Family,

@@ -18,8 +18,9 @@ fn singles<W: Worth>(game: &W) -> i64
     sum
 }
 
-/// The worths of the players alone, added, and the worth of all, where the first is more and the family is the imputations.
-pub fn lacks_imputation<W: Worth>(game: &W, family: Family) -> Option<(i64, i64)>
+/// The worths of the players alone, added, and the worth of all, where the first is more and the family is the
+/// imputations.
+pub(crate) fn lacks_imputation<W: Worth>(game: &W, family: Family) -> Option<(i64, i64)>
     requires { (W.game game.now).players ≤ 16 }
     ensures { MatchOption result (HasMember family (W.game game.now)) (λ found. LacksImputation family (W.game game.now) found.0 found.1) }
 {

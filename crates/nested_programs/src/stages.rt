@@ -31,7 +31,8 @@ fn best_of<W: Worth>(
     requires spans { SpansFixed (W.game game.now).players span.now.kept levels.now }
     requires left { IsLeft (W.game game.now).players levels.now }
     requires bounded { IsBounded family measure (W.game game.now) levels.now }
-    ensures { IfOk result (λ best. IsBest family measure (W.game game.now) levels.now best.weights.items best.weight_den best.multipliers.num.items best.multipliers.den) }
+    ensures { IfOk result (λ best. IsBest family measure (W.game game.now) levels.now
+        best.weights.items best.weight_den best.multipliers.num.items best.multipliers.den) }
 {
     let mut program = Lazy::stage(alloc, game, family, measure, levels, span)?;
     let mut work = Workspace::new(alloc, game.players() + levels.len() as u32 + 1)?;
@@ -42,7 +43,7 @@ fn best_of<W: Worth>(
 }
 
 /// The levels of all stages, until they fix everything, and the multipliers of the last, if there is one.
-pub fn all_stages<W: Worth>(
+pub(crate) fn all_stages<W: Worth>(
     alloc: Global,
     game: &W,
     family: Family,

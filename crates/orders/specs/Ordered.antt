@@ -1,9 +1,10 @@
 -- The numbers of a game's players, and the players in the order of these.
 --
---   OrderedNumbers   the number of each player, and the players in their order
---   IsOrdered        what holds of these
---   place o k        the player at place k
---   number_at o k    its number
+--   OrderedNumbers    the number of each player, and the players in their order
+--   ordered_numbers   these parts together
+--   IsOrdered         what holds of these
+--   place o k         the player at place k
+--   number_at o k     its number
 use Rattle.std.specs.Prelude.{ℕ, ◌^◌, ◌<◌, ◌≤◌, List, length, slice_index, All}
 use Rattle.orders.specs.Orders.{IsSortedOrder}
 

@@ -1,4 +1,9 @@
 -- What a port in memory holds that fails at chosen calls.
+--
+--   is_chosen   a call is chosen to fail
+--   after       the number of the next call
+--   Remaining   what a source holds: the bytes that are left, and its calls
+--   Held        what a sink holds: the bytes taken so far, and its calls
 use Rattle.std.specs.Prelude.{ℕ, ◌+◌, ◌-◌, ◌^◌, ◌==◌, min, List, Bool}
 use Rattle.std.specs.List.{list_any}
 

@@ -1,4 +1,5 @@
-ghost use Rattle.std.specs.Prelude.{◌≡◌, ◌⊎◌, ◌↔◌, ◌<◌, ◌≤◌, ◌-◌, length, min, [], IfOk, IsErr, IsTrue};
+ghost use Rattle.std.specs.Prelude.{◌≡◌, ◌⊎◌, ◌↔◌, IfOk, IsErr, IsTrue, length, []};
+ghost use Rattle.std.specs.Prelude.{◌<◌, ◌≤◌, ◌-◌, min};
 ghost use Rattle.ports.specs.Writes.{IsWrite};
 ghost use Rattle.ports.specs.Failing.{is_chosen, after};
 
@@ -7,7 +8,8 @@ use fractions::OutOfMemory;
 use std::alloc::Global;
 use std::marker::Model;
 
-/// Memory of a fixed capacity, which takes a few bytes at a time, with writes that fail. A write to a full sink fails too.
+/// Memory of a fixed capacity, which takes a few bytes at a time, with writes that fail. A write to a full sink fails
+/// too.
 #[derive(Drop)]
 pub struct FailingSink {
     memory: MemorySink,
@@ -22,7 +24,14 @@ impl Model for FailingSink {
 
     ghost Value = { Held };
 
-    ghost view = { λ s. record { bytes = s.memory.bytes; capacity = s.memory.capacity; piece = s.piece; fails = s.fails.items; calls = s.calls; faults = s.memory.faults } };
+    ghost view = { λ s. record {
+      bytes = s.memory.bytes;
+      capacity = s.memory.capacity;
+      piece = s.piece;
+      fails = s.fails.items;
+      calls = s.calls;
+      faults = s.memory.faults;
+    } };
 
     ghost invariant = { λ s. 1 ≤ s.piece };
 }
@@ -69,7 +78,8 @@ impl Sink for FailingSink {
     /// Fails exactly at the chosen calls, and where none fits of a piece that isn't empty.
     fn write(&mut self, piece: &[u8]) -> Result<usize, Failed>
         ensures write { IsWrite (Some self.old.bytes) (Some self.new.bytes) self.old.faults self.new.faults result piece.now }
-        ensures chosen { IsErr result ↔ IsTrue (is_chosen self.old.fails self.old.calls) ⊎ ((length self.old.bytes ≡ self.old.capacity) × (0 < length piece.now)) }
+        ensures chosen { IsErr result ↔ IsTrue (is_chosen self.old.fails self.old.calls)
+            ⊎ ((length self.old.bytes ≡ self.old.capacity) × (0 < length piece.now)) }
         ensures count { IfOk result (λ n. n ≡ min (self.old.capacity - length self.old.bytes) (min self.old.piece (length piece.now))) }
         ensures next { self.new.calls ≡ after self.old.calls }
         ensures same_capacity { self.new.capacity ≡ self.old.capacity }

@@ -14,7 +14,8 @@ pub trait Source {
 
     /// Reads bytes into the front of `buf`, and gives their number.
     ///
-    /// 0 for a buffer that isn't empty says that the input has ended. `Failed` comes only where the count of faults rises or stands at its last value, and keeps the bytes that are left.
+    /// 0 for a buffer that isn't empty says that the input has ended. `Failed` comes only where the count of faults
+    /// rises or stands at its last value, and keeps the bytes that are left.
     fn read(&mut self, buf: &mut [u8]) -> Result<usize, Failed>
         ensures bound { ReadsAtMost result buf.new }
         ensures bytes { ReadConsumes (left self.old) (left self.new) result buf.new }

@@ -2,12 +2,13 @@
 -- The columns of a program whose columns are found by their numbers: those in front, if it is a stage, and those of the
 -- coalitions that have one.
 --
---   front_columns    the columns in front
---   front_level      the level of the coalitions' columns
---   front_rows       the number of level rows
---   has_mark         whether a coalition has a column
---   marked_column    the column of a coalition, if it has one
---   lazy_columns     all columns in their order
+--   front_columns   the columns in front
+--   front_level     the level of the coalitions' columns
+--   front_rows      the number of level rows
+--   has_mark        whether a coalition has a column
+--   marked_column   the column of a coalition, if it has one
+--   lazy_columns    all columns in their order
+--   IsSmallLevel    a level of at most 65536 coalitions
 use Rattle.std.specs.Prelude.{ℕ, ◌+◌, ◌^◌, ◌<◌, ◌≤◌, Bool, nat_lt, List, [], ◌++◌, length, if◌then◌else◌, Option, Some, None}
 use Rattle.std.specs.List.{AllByRecursion}
 use Rattle.definitions.specs.Games.{Game}

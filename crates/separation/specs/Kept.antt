@@ -1,10 +1,14 @@
 -- Columns kept under their numbers, as a program.
 --
---   column_entry     the entry of a column in a row
---   kept_program     the program of the columns in a list, each under its place
---   AreSmall         costs below 2^46, and level rows that are there
---   AreShort         per head, few rows and columns with a small sum of sizes
---   kept_lawful      such a program keeps the laws
+--   is_level            the level of a column is a level row
+--   plain_entry         the entry in a row, unless the column is negated
+--   column_entry        the entry of a column in a row
+--   column_at           the column under a number
+--   entry_at, cost_at   its entry in a row, and its cost
+--   right_at            the right side of a row
+--   kept_program        the program of the columns in a list, each under its place
+--   AreSmall            costs below 2^46, and level rows that are there
+--   AreShort            per head, few rows and columns with a small sum of sizes
 use Rattle.std.specs.Prelude.{◌≡◌, ℕ, ◌+◌, ◌-◌, ◌^◌, ◌<◌, Bool, false, nat_eq, nat_lt, List, ℤ, pos, if◌then◌else◌, slice_index_or, Option, Some, None, unsigned_abs}
 use Rattle.std.specs.Option.{ForSome, is_some}
 use Rattle.definitions.specs.Coalitions.{has_player}

@@ -1,5 +1,7 @@
 -- A program of kept columns lies within the laws of the simplex: the proof that the ghost items of `Listed` and `Lazy` give. It
 -- stands here, without tactics, since such an item may cite only the definitions of its own crate.
+--
+--   kept_lawful   such a program is lawful; all others are steps of it
 use Rattle.std.specs.Prelude.{◌≡◌, ◌⊎◌, ℕ, ◌+◌, ◌-◌, ◌≤◌, ◌<◌, Bool, true, false, IsTrue, nat_eq, nat_lt, cond, List, ℤ, pos, negsuc, Option, Some, None, refl, ◌^◌, unsigned_abs}
 use Rattle.std.proofs.Common.{inl, inr, sym, ap, subst, ◌∙◌}
 use Rattle.std.proofs.lemmas.Bool.{false≢true}

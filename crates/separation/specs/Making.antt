@@ -2,11 +2,16 @@
 -- The lists of columns that the programs are made of.
 --
 --   listed            the first n columns of a sequence
+--   plain, minus      the column of a coalition at its worth, and this negated
 --   earlier_columns   two columns for each coalition of a level
+--   whole_columns     both columns of all players
 --   single, bound     the column of a player alone, and this negated
+--   IsOuter           the column of a coalition, where it is outside
 --   AreOuter          the columns of the coalitions outside
+--   EndsOuter         columns, and behind them those of the coalitions outside
 --   inner_columns     the columns in front of these
 --   balanced_column   a column of the balanced program
+--   AreWithin         the coalitions of a level are of n players
 use Rattle.std.specs.Prelude.{◌≡◌, ℕ, zero, suc, ◌<◌, true, false, ◌&&◌, nat_lt, ◌^◌, List, [], ◌∷◌, ◌++◌, length, pos, ◌-ℤ◌, if◌then◌else◌, Option, Some, None}
 use Rattle.std.specs.List.{AllByRecursion}
 use Rattle.definitions.specs.Coalitions.{singleton, grand_coalition}

@@ -10,6 +10,17 @@
 --   b + 2n + s   vector of s, its divisor in the last row; s outside    worth of s
 --
 -- The divisor is what the measure divides the excess of the coalition by: 1, or the number of members.
+--
+--   Column                    a coalition and its level row, or this negated
+--   signed, plus_entry        a number or minus it; the entry of a column that isn't negated
+--   entry_of                  the entry of a column in a row
+--   earlier_of, doubled       the coalitions of the levels with their levels; each as a column, and negated
+--   settled_columns           the columns below b
+--   further_column            those from b on, by how far they are past it
+--   no_column, column         an empty column; the column of a number
+--   is_imputations            the family is the imputations
+--   is_further                there is a column so far past b
+--   stage_program             the program of all these
 use Rattle.std.specs.Prelude.{ℕ, ◌+◌, ◌-◌, Bool, true, false, ◌&&◌, nat_eq, nat_lt, List, [], ◌∷◌, ◌++◌, length, map, ℤ, pos, ◌-ℤ◌, if◌then◌else◌, slice_index_or}
 use Rattle.definitions.specs.Coalitions.{has_player, singleton, grand_coalition}
 use Rattle.definitions.specs.Measures.{divisor}

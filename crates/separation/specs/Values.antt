@@ -1,10 +1,15 @@
 -- For the private functions of this crate.
 -- What multipliers make of columns.
 --
+--   multiplier_at       the multiplier of a row
 --   player_multiplier   the multiplier of a player, or 0 past the players
+--   member_multiplier   the multiplier of one of eight players, if the coalition has it
 --   eight               the multipliers of the members of a coalition of eight players
+--   IsEight, IsTable    a number is such a sum, and small; a table of such sums
 --   AreSums             the tables of the first and the next eight players
+--   level_multiplier    the multiplier of a column's level row
 --   column_value        the sum of multiplier times entry
+--   counted             what a cost counts for, with costs or without them
 --   Rises, IsFirst      a column's cost is above its value; the first such
 --   IsFirstBelow        the first such of so many columns
 use Rattle.std.specs.Prelude.{◌≡◌, ℕ, ◌+◌, ◌<◌, ◌≤◌, Bool, true, false, nat_lt, List, length, ℤ, pos, ◌*ℤ◌, ◌<ℤ◌, if◌then◌else◌, slice_index_or, Option, Some, None, ◌^◌, unsigned_abs}

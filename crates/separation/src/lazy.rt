@@ -20,8 +20,8 @@ use simplex::{Columns, Multipliers};
 use std::alloc::Global;
 use worth_core::{Measure, Worth};
 
-/// A program that keeps a mark for each coalition and no columns. It finds each column by its number, and the one that enters
-/// by going over the numbers.
+/// A program that keeps a mark for each coalition and no columns. It finds each column by its number, and the one that
+/// enters by going over the numbers.
 #[derive(Drop)]
 pub struct Lazy<'a, W: Worth> {
     pub(crate) game: &'a W,
@@ -50,9 +50,9 @@ impl<'a, W: Worth> Lazy<'a, W> {
     ghost use Rattle.separation.specs.Same.{IsSame, IsSpanOf, IsStage};
     ghost use Rattle.separation.specs.Balanced.{balanced_program};
 
-    /// The stage program of a game of 2 to 16 players behind levels (Kopelowitz 1967; per head Grotte 1970): its weights are
-    /// those of the next level, and its multipliers the shares and the measured excesses of the levels. Per head there are
-    /// at most 8 players. It keeps one bit for each coalition.
+    /// The stage program of a game of 2 to 16 players behind levels (Kopelowitz 1967; per head Grotte 1970): its
+    /// weights are those of the next level, and its multipliers the shares and the measured excesses of the levels. Per
+    /// head there are at most 8 players. It keeps one bit for each coalition.
     ///
     /// There are at most n - 2 levels, in the form of a certificate. `span` holds exactly the coalitions that the
     /// levels fix in span mode. The one error is want of memory, and no memory is taken.
@@ -87,9 +87,9 @@ impl<'a, W: Worth> Lazy<'a, W> {
     }
 
     /// The balanced program of a game of at most 16 players (Bondareva 1963, Shapley 1967): the greatest worth that
-    /// coalitions have by weights that hold each player once. Where that is the worth of all, the multipliers are a point of
-    /// the core; where it is more, the weights show that there is none. The one error is want of memory, and no memory is
-    /// taken.
+    /// coalitions have by weights that hold each player once. Where that is the worth of all, the multipliers are a
+    /// point of the core; where it is more, the weights show that there is none. The one error is want of memory, and
+    /// no memory is taken.
     pub fn balanced(_alloc: Global, game: &'a W) -> Result<Lazy<'a, W>, OutOfMemory>
         requires { (W.game game.now).players ≤ 16 }
         ensures { IfOk result (λ l. (⟦<Lazy<'a, W> as Columns>⟧.players l ≡ (W.game game.now).players)

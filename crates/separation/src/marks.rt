@@ -7,8 +7,8 @@ ghost use Rattle.separation.specs.Same.{IsSpanOf};
 
 use kohlberg::{Outside, Span};
 
-/// The coalitions of `n` players that a span doesn't hold, but for the empty one and that of all. These are the coalitions
-/// outside behind any levels of which the span holds exactly what they fix.
+/// The coalitions of `n` players that a span doesn't hold, but for the empty one and that of all. These are the
+/// coalitions outside behind any levels of which the span holds exactly what they fix.
 pub(crate) fn outside_of(span: &Span, n: u32) -> Outside
     requires few { n ≤ 16 }
     requires players { span.now.players ≡ n }

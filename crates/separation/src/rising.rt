@@ -62,8 +62,10 @@ fn marked_rises<W: Worth>(
     s: Coalition,
 ) -> bool
     requires within { s < 2 ^ program.now.players }
-    requires value { value ≡ column_value program.now.measure m.now.num.items program.now.players (plain (W.game program.now.game.now) s (front_level program.now.front)) }
-    ensures { Decides result (Rises program.now.measure m.now.num.items m.now.den program.now.players with_costs (marked_column (W.game program.now.game.now) (front_level program.now.front) program.now.marks s)) }
+    requires value { value ≡ column_value program.now.measure m.now.num.items program.now.players
+        (plain (W.game program.now.game.now) s (front_level program.now.front)) }
+    ensures { Decides result (Rises program.now.measure m.now.num.items m.now.den program.now.players with_costs
+        (marked_column (W.game program.now.game.now) (front_level program.now.front) program.now.marks s)) }
 {
     if program.has_mark(s) {
         let worth = counted_worth(program.game, s, with_costs);
@@ -73,8 +75,8 @@ fn marked_rises<W: Worth>(
     }
 }
 
-/// The first coalition of the 256 from 256 * `block` on that has a column whose cost is above its value with plain excess,
-/// where no lesser coalition has one.
+/// The first coalition of the 256 from 256 * `block` on that has a column whose cost is above its value with plain
+/// excess, where no lesser coalition has one.
 fn first_of_block<W: Worth>(
     program: &Lazy<'_, W>,
     m: &Multipliers,
@@ -86,9 +88,12 @@ fn first_of_block<W: Worth>(
     requires plain { program.now.measure ≡ Measure.Plain }
     requires rows { length m.now.num.items ≡ program.now.players + program.now.levels }
     requires sums { AreSums m.now.num.items program.now.players sums.now.low sums.now.high }
-    requires before { (j : ℕ) → j < 256 * block → j < 2 ^ program.now.players → ¬ Rises program.now.measure m.now.num.items m.now.den program.now.players with_costs (marked_column (W.game program.now.game.now) (front_level program.now.front) program.now.marks j) }
+    requires before { (j : ℕ) → j < 256 * block → j < 2 ^ program.now.players
+        → ¬ Rises program.now.measure m.now.num.items m.now.den program.now.players with_costs
+        (marked_column (W.game program.now.game.now) (front_level program.now.front) program.now.marks j) }
     ensures { let column = marked_column (W.game program.now.game.now) (front_level program.now.front) program.now.marks in MatchOption result
-        ((j : ℕ) → j < 256 * (block + 1) → j < 2 ^ program.now.players → ¬ Rises program.now.measure m.now.num.items m.now.den program.now.players with_costs (column j))
+        ((j : ℕ) → j < 256 * (block + 1) → j < 2 ^ program.now.players
+        → ¬ Rises program.now.measure m.now.num.items m.now.den program.now.players with_costs (column j))
         (IsFirstBelow program.now.measure m.now.num.items m.now.den program.now.players with_costs column (2 ^ program.now.players)) }
 {
     let base = sums.base(m, program.players, program.level(), block);
@@ -153,8 +158,9 @@ fn first_one_by_one<W: Worth>(
     None
 }
 
-/// The first coalition that has a column whose cost is above its value. With plain excess the coalitions of a block have the
-/// multiplier of their level row in common; per head there are at most 8 players, and each coalition has its own entry there.
+/// The first coalition that has a column whose cost is above its value. With plain excess the coalitions of a block
+/// have the multiplier of their level row in common; per head there are at most 8 players, and each coalition has its
+/// own entry there.
 fn first_marked<W: Worth>(
     program: &Lazy<'_, W>,
     m: &Multipliers,

@@ -66,7 +66,8 @@ fn stage_columns<W: Worth>(
     requires within { AllByRecursion (AreWithin (W.game game.now).players) levels.now }
     requires players { span.now.players ≡ (W.game game.now).players }
     requires spans { IsSpanOf (W.game game.now).players span.now.kept levels.now }
-    ensures { IfOk result (λ v. EndsOuter (W.game game.now) levels.now (2 ^ (W.game game.now).players) (inner_columns family (W.game game.now) levels.now) v.items) }
+    ensures { IfOk result (λ v. EndsOuter (W.game game.now) levels.now (2 ^ (W.game game.now).players)
+        (inner_columns family (W.game game.now) levels.now) v.items) }
 {
     let mut columns = Vec::new(alloc);
     push_whole(&mut columns, game)?;
@@ -79,9 +80,9 @@ fn stage_columns<W: Worth>(
 }
 
 impl Listed {
-    /// The stage program of a game of 2 to 16 players behind levels, with every column kept (Kopelowitz 1967; per head Grotte
-    /// 1970): its weights are those of the next level, and its multipliers the shares and the measured excesses of the
-    /// levels. Per head there are at most 8 players.
+    /// The stage program of a game of 2 to 16 players behind levels, with every column kept (Kopelowitz 1967; per head
+    /// Grotte 1970): its weights are those of the next level, and its multipliers the shares and the measured excesses
+    /// of the levels. Per head there are at most 8 players.
     ///
     /// There are at most n - 2 levels, in the form of a certificate. `span` holds exactly the coalitions that the
     /// levels fix in span mode. The one error is want of memory.

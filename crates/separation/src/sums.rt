@@ -1,7 +1,11 @@
-//! What multipliers make of columns. The multipliers of a coalition's members are added by two tables, one for the members
-//! among the first eight players and one for those among the next eight, so that a coalition costs one addition.
+//! What multipliers make of columns. The multipliers of a coalition's members are added by two tables, one for the
+//! members among the first eight players and one for those among the next eight, so that a coalition costs one
+//! addition.
 
-ghost use Rattle.std.specs.Prelude.{◌≡◌, ℕ, ◌+◌, ◌%◌, ◌^◌, ◌<◌, ◌≤◌, length, List, ℤ, pos, ◌+ℤ◌, ◌*ℤ◌, ◌<ℤ◌, slice_index_or, unsigned_abs, MatchOption};
+ghost use Rattle.std.specs.Prelude.{◌≡◌, MatchOption};
+ghost use Rattle.std.specs.Prelude.{ℕ, ◌+◌, ◌%◌, ◌^◌, ◌<◌, ◌≤◌};
+ghost use Rattle.std.specs.Prelude.{ℤ, pos, ◌+ℤ◌, ◌*ℤ◌, ◌<ℤ◌, unsigned_abs};
+ghost use Rattle.std.specs.Prelude.{length, List, slice_index_or};
 ghost use Rattle.std.specs.Bool.{Decides};
 ghost use Rattle.std.specs.Option.{ForSome};
 ghost use Rattle.definitions.specs.Coalitions.{sum_over};
@@ -23,8 +27,8 @@ fn player_multiplier(m: &Multipliers, n: u32, i: u32) -> i128
     if i < n { m.num[i as usize] } else { 0 }
 }
 
-/// The multipliers of the members of a coalition of the eight players from `first` on, added: those of the coalition without
-/// its last player, which is listed before, and the multiplier of that player.
+/// The multipliers of the members of a coalition of the eight players from `first` on, added: those of the coalition
+/// without its last player, which is listed before, and the multiplier of that player.
 fn next_eight(sums: &[i128; 256], m: &Multipliers, n: u32, first: u32, s: usize) -> i128
     requires count { n ≤ length m.now.num.items }
     requires first { first ≤ 8 }
@@ -80,8 +84,8 @@ impl Sums {
         self.low[(s.0 % 256) as usize] + self.high[(s.0 / 256 % 256) as usize]
     }
 
-    /// What the 256 coalitions from 256 * `block` on have in common with plain excess: the multipliers of the members past the
-    /// first eight players, and that of a level row.
+    /// What the 256 coalitions from 256 * `block` on have in common with plain excess: the multipliers of the members
+    /// past the first eight players, and that of a level row.
     pub(crate) fn base(&self, m: &Multipliers, n: u32, level: Option<u32>, block: u64) -> i128
         requires block { block < 256 }
         requires few { n ≤ 16 }

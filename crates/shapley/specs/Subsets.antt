@@ -1,6 +1,7 @@
 -- Shapley totals as sums over coalitions.
 --
 --   orders_with n k      how many orders of n players have k given ones in front of another given one
+--   subset_term v n i    what player i adds to a coalition, as often as that stands in front
 --   subset_total v n i   what player i adds to the coalitions without it, each as often as it stands in front
 --   credit n s w i       what the worth w of s adds to the total of player i
 use Rattle.std.specs.Prelude.{ℕ, ◌+◌, ◌-◌, ◌*◌, ◌^◌, length, ℤ, pos, neg_ℤ, ◌-ℤ◌, ◌*ℤ◌, if◌then◌else◌}

@@ -1,5 +1,6 @@
 //! The Shapley value of an airport game, step by step of the costs (Littlechild and Owen 1973).
-ghost use Rattle.std.specs.Prelude.{◌≡◌, ℕ, ◌-◌, ◌*◌, ◌^◌, ◌<◌, ◌≤◌, length, unsigned_abs, pos, IfOk, IsErrOf, ◌↔◌, slice_index, neg_ℤ};
+ghost use Rattle.std.specs.Prelude.{◌≡◌, IfOk, IsErrOf, ◌↔◌, length, slice_index};
+ghost use Rattle.std.specs.Prelude.{ℕ, ◌-◌, ◌*◌, ◌^◌, ◌<◌, ◌≤◌, unsigned_abs, pos, neg_ℤ};
 ghost use Rattle.definitions.specs.Shapley.{IsShapley};
 ghost use Rattle.airport.specs.Airport.{airport_game};
 ghost use Rattle.shapley.specs.Layers.{common, above, count, units_below};
@@ -60,8 +61,8 @@ fn step_cost(from: u64, next: u64, share: u64) -> u128
     (next - from) as u128 * share as u128
 }
 
-/// What player `i` pays, over the common denominator: each step of the costs up to its own is shared equally by the players
-/// whose costs are above it.
+/// What player `i` pays, over the common denominator: each step of the costs up to its own is shared equally by the
+/// players whose costs are above it.
 fn paid(game: &AirportGame, i: u32) -> u128
     requires few { length game.now.costs ≤ 32 }
     requires player { i < length game.now.costs }
@@ -101,8 +102,8 @@ fn step_shares(alloc: Global, game: &AirportGame) -> Result<Shares, AllocError>
     Ok(Shares::new(num, COMMON as i128).unwrap())
 }
 
-/// The Shapley shares of an airport game of at most 32 players, as worths over the least common multiple of 1 to 32: each
-/// step of the sorted costs is shared equally by the players at or above it (Littlechild and Owen 1973).
+/// The Shapley shares of an airport game of at most 32 players, as worths over the least common multiple of 1 to 32:
+/// each step of the sorted costs is shared equally by the players at or above it (Littlechild and Owen 1973).
 ///
 /// # Errors
 ///

@@ -1,19 +1,16 @@
-//! The Shapley value: for each player the mean, over all orders of the players, of what it adds to the worth of those in
-//! front of it (Shapley 1953).
+//! The Shapley value: for each player the mean, over all orders of the players, of what it adds to the worth of those
+//! in front of it (Shapley 1953).
 #![tactic(auto)]
-
-ghost use Rattle.shapley.specs.Theorems.{OrdersSumToSubsets, OrdersAreAll};
 
 mod airport_steps;
 #[cfg(test)]
 mod tests;
 mod totals;
 
+ghost use Rattle.shapley.specs.Theorems.{OrdersSumToSubsets, OrdersAreAll};
+
 pub use airport_steps::airport_shapley;
 pub use totals::shapley;
-
-/// The least common multiple of 1 to 32, over which the shares of classes with bodies of their own stand.
-pub const COMMON: u64 = 144403552893600;
 
 /// Why there are no Shapley shares.
 #[derive(Clone, Copy, Debug, PartialEq, Eq)]
@@ -33,3 +30,8 @@ pub fn orders_sum_to_subsets()
 pub fn orders_are_all()
     ensures { OrdersAreAll }
 {}
+
+// For the crates above.
+
+/// The least common multiple of 1 to 32, over which the shares of classes with bodies of their own stand.
+pub const COMMON: u64 = 144403552893600;

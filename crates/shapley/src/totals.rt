@@ -1,6 +1,7 @@
 //! Shapley totals by the worths of all coalitions.
-ghost use Rattle.std.specs.Prelude.{◌≡◌, ℕ, ◌+◌, ◌-◌, ◌*◌, ◌^◌, ◌<◌, ◌≤◌, length, unsigned_abs, pos, neg_ℤ, ◌+ℤ◌, ◌*ℤ◌, IfOk, IsErrOf, ◌↔◌, slice_index_or, All, if◌then◌else◌};
-ghost use Rattle.definitions.specs.Coalitions.{has_player};
+ghost use Rattle.std.specs.Prelude.{◌≡◌, IfOk, IsErrOf, ◌↔◌, if◌then◌else◌};
+ghost use Rattle.std.specs.Prelude.{ℕ, ◌-◌, ◌^◌, ◌<◌, ◌≤◌, unsigned_abs, pos, neg_ℤ, ◌+ℤ◌, ◌*ℤ◌};
+ghost use Rattle.std.specs.Prelude.{length, slice_index_or, All};
 ghost use Rattle.definitions.specs.Shapley.{factorial, shapley_total, IsShapley};
 ghost use Rattle.shapley.specs.Subsets.{orders_with, credit};
 
@@ -43,8 +44,8 @@ fn weighted(n: u32, k: u32, worth: i64) -> i128
     orders_with(n, k) as i128 * worth as i128
 }
 
-/// What the worth of a coalition with so many members counts for each of them: as often as the other members stand in front of
-/// it, and all other players behind. 0 for nobody.
+/// What the worth of a coalition with so many members counts for each of them: as often as the other members stand in
+/// front of it, and all other players behind. 0 for nobody.
 fn gain(n: u32, members: u32, worth: i64) -> i128
     requires few { n ≤ 16 }
     requires members { members ≤ n }
@@ -59,7 +60,8 @@ fn gain(n: u32, members: u32, worth: i64) -> i128
     }
 }
 
-/// What it counts against each other player: as often as the members stand in front of it. 0 where there is no other player.
+/// What it counts against each other player: as often as the members stand in front of it. 0 where there is no other
+/// player.
 fn loss(n: u32, members: u32, worth: i64) -> i128
     requires few { n ≤ 16 }
     requires members { members ≤ n }
@@ -110,7 +112,8 @@ fn add_worth(totals: &mut [i128], n: u32, s: Coalition, worth: i64)
 fn all_totals<W: Worth>(alloc: Global, game: &W) -> Result<Vec<i128>, AllocError>
     requires { (W.game game.now).players ≤ 16 }
     ensures long { IfOk result (λ totals. length totals.items ≡ (W.game game.now).players) }
-    ensures value { IfOk result (λ totals. (k : ℕ) → k < (W.game game.now).players → slice_index_or totals.items k (pos 0) ≡ shapley_total (W.game game.now) k) }
+    ensures value { IfOk result (λ totals. (k : ℕ) → k < (W.game game.now).players
+        → slice_index_or totals.items k (pos 0) ≡ shapley_total (W.game game.now) k) }
     ensures small { IfOk result (λ totals. All (λ z. unsigned_abs z < 2 ^ 109) totals.items) }
 {
     let n = game.players();
@@ -131,8 +134,8 @@ fn mean_shares<W: Worth>(alloc: Global, game: &W) -> Result<Shares, AllocError>
     Ok(Shares::new(totals, factorial(game.players()) as i128).unwrap())
 }
 
-/// The Shapley shares of a game of at most 16 players, as worths over the number of orders: for each player the mean, over
-/// all orders, of what it adds to the worth of those in front of it (Shapley 1953).
+/// The Shapley shares of a game of at most 16 players, as worths over the number of orders: for each player the mean,
+/// over all orders, of what it adds to the worth of those in front of it (Shapley 1953).
 ///
 /// # Errors
 ///

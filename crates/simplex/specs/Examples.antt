@@ -1,4 +1,9 @@
 -- Examples, for the tests alone: small programs of one row, which keep the laws.
+--
+--   one_column          one column in one row, with a solution or without
+--   one_column_lawful   it keeps the laws
+--   two_ways            two columns in one row, whose cost has no bound
+--   two_ways_lawful     it keeps the laws
 use Rattle.std.specs.Prelude.{ℕ, Bool, ◌<◌, ◌≡◌, ◌⊎◌, ◌^◌, true, false, cond, nat_eq, nat_lt, ℤ, pos, negsuc, refl, unsigned_abs}
 use Rattle.std.proofs.Common.{inl, inr}
 use Rattle.std.proofs.Math.Nat.{le_trans, le_of_lt, not-le_of_lt}

@@ -1,8 +1,12 @@
 -- The laws of a program, by which no step of the simplex leaves 128 bits, and what they say of its minors.
 --
+--   IsSparse         entries of one sign and of size at most 1, and at most one of them in the level rows
 --   IsInBandA        entries of one sign and of size at most 1, and few of them in the level rows
+--   sizes            the sum of the sizes of the first entries
 --   IsInBandB        few rows, and columns with a small sum of sizes
 --   IsLawful         one of both, few player rows, right sides 0 or 1, and small costs
+--   first_columns    the first columns of a sequence
+--   put              the columns with another one at a place
 --   AreMinorsSmall   each determinant of columns, units and at most one right side is below 2^58
 use Rattle.std.specs.Prelude.{ℕ, zero, suc, ◌+◌, ◌^◌, ◌≤◌, ◌<◌, ◌≡◌, ◌⊎◌, IsTrue, cond, nat_eq, List, [], ◌∷◌, ℤ, pos, negsuc, unsigned_abs}
 use Rattle.definitions.specs.Programs.{Program}

@@ -1,9 +1,11 @@
 -- A program with its costs or without them, and its columns as the simplex reads them: from the last row to the first.
 --
---   priced        the program, or the program whose costs are all 0
---   column        a column of the program, from its last row
---   right_side    the right sides, from the last row
---   IsOf          a column of the program, or the unit of one of its rows
+--   price        the cost of a column, or 0 where costs don't count
+--   priced       the program, or the program whose costs are all 0
+--   flipped      numbers from the last, as a column
+--   column       a column of the program, from its last row
+--   right_side   the right sides, from the last row
+--   IsOf         a column of the program, or the unit of one of its rows
 use Rattle.std.specs.Prelude.{ℕ, ◌-◌, ◌<◌, ◌≡◌, ◌⊎◌, Bool, true, false, IsTrue, cond, nat_lt, ℤ, pos}
 use Rattle.definitions.specs.Programs.{Program}
 use Rattle.determinants.specs.Determinant.{Column}

@@ -1,5 +1,10 @@
 -- For the private functions of this crate.
 -- The position that a column replaces: that of the lexicographically least ratio (Dantzig, Orden and Wolfe 1955).
+--
+--   ratio_gap      how much more the ratio of a row is than that of another
+--   IsLeast        a position of positive weight with the least ratio
+--   NonePositive   no weight is positive
+--   IsChoice       the position of the least ratio, if there is one
 use Rattle.std.specs.Prelude.{ℕ, suc, ◌<◌, ℤ, pos, ◌-ℤ◌, ◌*ℤ◌, ◌<ℤ◌, List, Option, Some, None}
 use Rattle.determinants.specs.Lexicographic.{IsLexNonnegative}
 use Rattle.determinants.specs.Matrix.{entry_at, weight_at}

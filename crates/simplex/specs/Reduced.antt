@@ -1,9 +1,12 @@
 -- For the private functions of this crate.
 -- The weights of a basis as the list of an answer, in lowest terms.
 --
---   listed       the columns that have a positive weight, by their positions
---   IsCommon     the greatest common divisor of the denominator and the weights
---   AreReduced   the listed weights and the denominator over their greatest common divisor
+--   is_positive   a number is positive
+--   with_weight   one more column, if its weight is positive
+--   listed        the columns that have a positive weight, by their positions
+--   IsMultiple    a number divides another
+--   IsCommon      the greatest common divisor of the denominator and the weights
+--   AreReduced    the listed weights and the denominator over their greatest common divisor
 use Rattle.std.specs.Prelude.{ℕ, zero, suc, ◌<◌, ◌≡◌, Bool, true, false, cond, ℤ, pos, negsuc, ◌*ℤ◌, ◌<ℤ◌, List, [], ◌∷◌, ◌++◌, Option, Some, None, unsigned_abs}
 use Prim.Native.Nat.{◌∣◌}
 use Rattle.determinants.specs.Matrix.{entry_at}

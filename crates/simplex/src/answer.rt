@@ -12,9 +12,9 @@ use fractions::gcd;
 
 /// Optimal weights and optimal multipliers.
 ///
-/// Each weight stands beside the number of its column, as a whole number over `weight_den`. The weights are positive and
-/// the columns distinct, and there are at most as many as the program has rows. All weights and `weight_den`, which is at
-/// least 1, are less than 2^62 and have no common divisor but 1.
+/// Each weight stands beside the number of its column, as a whole number over `weight_den`. The weights are positive
+/// and the columns distinct, and there are at most as many as the program has rows. All weights and `weight_den`, which
+/// is at least 1, are less than 2^62 and have no common divisor but 1.
 #[derive(Drop)]
 pub struct Optimal {
     pub weights: ArrayVec<(u64, i128), 31>,

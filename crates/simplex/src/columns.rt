@@ -12,15 +12,16 @@ ghost use Rattle.simplex.specs.Tableau.{IsId};
 
 use crate::multipliers::Multipliers;
 
-/// A linear program in standard form, known by its rows and columns. A row has a right side; a column has a cost, and an
-/// entry in each row. Sought are nonnegative weights of the columns that meet every right side, at the greatest total cost.
+/// A linear program in standard form, known by its rows and columns. A row has a right side; a column has a cost, and
+/// an entry in each row. Sought are nonnegative weights of the columns that meet every right side, at the greatest
+/// total cost.
 ///
-/// The first rows are those of at most 16 players, the others are level rows, and there are at most 31. No call changes the
-/// program. Its right sides are 0 or 1, and its costs are below 2^46 in size. It lies in one of two bands, so that each
-/// minor of it is below 2^58 in size:
+/// The first rows are those of at most 16 players, the others are level rows, and there are at most 31. No call changes
+/// the program. Its right sides are 0 or 1, and its costs are below 2^46 in size. It lies in one of two bands, so that
+/// each minor of it is below 2^58 in size:
 ///
-/// - entries of a column, and the right sides, are all 0 or 1 or all 0 or -1, at most one of them in the level rows isn't
-///   0, and there are at most 15 level rows;
+/// - entries of a column, and the right sides, are all 0 or 1 or all 0 or -1, at most one of them in the level rows
+///   isn't 0, and there are at most 15 level rows;
 /// - there are at most 15 rows, and the sizes of a column's entries sum to at most 14.
 pub trait Columns {
     ghost program: { Self → Program };
@@ -51,8 +52,8 @@ pub trait Columns {
         requires { IsTrue ((program self.now).is_column id) }
         ensures { result ≡ (program self.now).cost id };
 
-    /// The column of least number that costs more than its value under the multipliers; none exactly where no column does.
-    /// Without costs each column counts as costing 0.
+    /// The column of least number that costs more than its value under the multipliers; none exactly where no column
+    /// does. Without costs each column counts as costing 0.
     fn entering(&mut self, m: &Multipliers, with_costs: bool) -> Option<u64>
         requires { array_vec_len m.now.num ≡ (program self.old).rows }
         ensures same { program self.new ≡ program self.old }

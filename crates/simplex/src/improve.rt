@@ -5,8 +5,8 @@
 //!     d·z'(t) = d'·z(t) + (d·c_s - z(s))·T_p(t)
 //!
 //! for the right sides and each reference column t. The factor is positive, since s enters, and the row T_p is
-//! lexicographically positive, so the vector z/d grows lexicographically. Its numbers are bounded and their denominators are
-//! at most 2^58: so a natural number, `objective_room`, goes down at each step, and the steps end.
+//! lexicographically positive, so the vector z/d grows lexicographically. Its numbers are bounded and their
+//! denominators are at most 2^58: so a natural number, `objective_room`, goes down at each step, and the steps end.
 
 ghost use Rattle.std.specs.Prelude.{◌≡◌, MatchOption};
 ghost use Rattle.definitions.specs.Programs.{Bounds};
@@ -19,8 +19,8 @@ use crate::ratio::least_ratio;
 use crate::state::State;
 use crate::weights::weights_of;
 
-/// Pivots until no column improves the objective, and gives the multipliers that show it; None where a column improves it
-/// without end.
+/// Pivots until no column improves the objective, and gives the multipliers that show it; None where a column improves
+/// it without end.
 pub(crate) fn improve<C: Columns>(
     work: &mut State,
     columns: &mut C,
@@ -32,7 +32,8 @@ pub(crate) fn improve<C: Columns>(
     ensures state { IsImproving (C.program columns.new) with_costs work.new.rows work.new.ids work.new.inverse work.new.tracked work.new.den work.new.costs }
     ensures answer { MatchOption result
         (HasDirection (C.program columns.new) with_costs work.new.inverse work.new.den work.new.costs)
-        (λ m. AreMultipliers work.new.inverse work.new.costs work.new.rows work.new.den m.num.items m.den × Bounds (priced (C.program columns.new) with_costs) m.num.items m.den) }
+        (λ m. AreMultipliers work.new.inverse work.new.costs work.new.rows work.new.den m.num.items m.den
+        × Bounds (priced (C.program columns.new) with_costs) m.num.items m.den) }
 {
     loop {
         let m = multipliers_of(&work.inverse, &work.costs, work.rows, work.den);

@@ -15,8 +15,8 @@ use fractions::OutOfMemory;
 use std::alloc::Global;
 use std::marker::Model;
 
-/// Why a program has no optimal weights: no weights meet its rows, or some do and weights that sum to 0 in every row have a
-/// positive cost.
+/// Why a program has no optimal weights: no weights meet its rows, or some do and weights that sum to 0 in every row
+/// have a positive cost.
 #[derive(Clone, Copy, Debug, PartialEq, Eq)]
 pub enum LpFault {
     NoSolution,
@@ -82,8 +82,8 @@ fn solve_in<C: Columns>(work: &mut State, columns: &mut C) -> Result<Optimal, Lp
 /// The best weights of a program, and multipliers that show that they are best: the weights solve the program, the
 /// multipliers bound it, and both have one value.
 ///
-/// `NoSolution` exactly where nothing solves the program. `Unbounded` exactly where something does, and a ray, which adds
-/// nothing in any row, has a cost above 0.
+/// `NoSolution` exactly where nothing solves the program. `Unbounded` exactly where something does, and a ray, which
+/// adds nothing in any row, has a cost above 0.
 pub fn solve<C: Columns>(workspace: &mut Workspace, columns: &mut C) -> Result<Optimal, LpFault>
     requires { workspace.old ≡ (C.program columns.old).rows }
     ensures same { C.program columns.new ≡ C.program columns.old }

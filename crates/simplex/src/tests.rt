@@ -4,7 +4,8 @@ ghost use Rattle.simplex.specs.Examples.{one_column, one_column_lawful, two_ways
 
 use crate::{Columns, LpFault, Multipliers, Workspace, solve};
 
-/// A row with right side 1, and one column: with entry -1 and cost 0 where `opposite`, or else with entry 1 and cost -3.
+/// A row with right side 1, and one column: with entry -1 and cost 0 where `opposite`, or else with entry 1 and cost
+/// -3.
 #[derive(Drop)]
 struct OneColumn {
     opposite: bool,

@@ -1,7 +1,8 @@
 //! The coalitions outside of a span, found all at once. A coalition's weight at a place is the sum of two numbers from
 //! tables, one for the members among the first eight players and one for those among the rest.
 
-ghost use Rattle.std.specs.Prelude.{◌≡◌, ℕ, ◌*◌, ◌+◌, ◌^◌, ◌<◌, ◌≤◌, ◌&&◌, ◌||◌, not, nat_eq, pos, unsigned_abs, slice_index_or, IsTrue};
+ghost use Rattle.std.specs.Prelude.{◌≡◌, ◌&&◌, ◌||◌, not, IsTrue, slice_index_or};
+ghost use Rattle.std.specs.Prelude.{ℕ, ◌*◌, ◌+◌, ◌^◌, ◌<◌, ◌≤◌, nat_eq, pos, unsigned_abs};
 ghost use Rattle.std.specs.Bool.{Decides};
 ghost use Rattle.definitions.specs.Coalitions.{grand_coalition, has_player};
 ghost use Rattle.definitions.specs.Certificates.{InSpan};
@@ -172,7 +173,8 @@ fn without_weights(
 impl Span {
     /// Of some coalitions, those that the span holds.
     fn held_among(&self, words: [u64; 1024]) -> [u64; 1024]
-        ensures { (s : ℕ) → s < 2 ^ self.now.players → Decides (is_marked result s) (IsTrue (is_marked words s) × InSpan self.now.players (IsKept self.now.kept) s) }
+        ensures { (s : ℕ) → s < 2 ^ self.now.players
+            → Decides (is_marked result s) (IsTrue (is_marked words s) × InSpan self.now.players (IsKept self.now.kept) s) }
     {
         without_weights(words, &self.entries, &self.fixed, self.players)
     }

@@ -1,10 +1,11 @@
 -- How the estate is divided: what the code keeps.
 --
---   claim_sum                 the sum of the claims
---   divided                   what is divided by halves: the estate, or what the claims are above it
---   IsSplit                   how many get half of their claims, and what is left for the others
---   IsDivision                who gets half, and the bound for the others
---   award                     the share of a claim
+--   claim_sum    the sum of the claims
+--   divided      what is divided by halves: the estate, or what the claims are above it
+--   IsSplit      how many get half of their claims, and what is left for the others
+--   IsSide       whether the estate is at most half of the claims
+--   IsDivision   who gets half, and the bound for the others
+--   award        the share of a claim
 use Rattle.std.specs.Prelude.{◌≡◌, ℕ, ◌-◌, ◌*◌, ◌<◌, ◌≤◌, Bool, true, false, length, min, ℤ, pos, ◌+ℤ◌, ◌-ℤ◌, ◌*ℤ◌, ◌<ℤ◌, ◌≤ℤ◌, slice_index, if◌then◌else◌}
 use Rattle.definitions.specs.Sums.{sum_below}
 use Rattle.orders.specs.Ordered.{OrderedNumbers, number_at}

@@ -12,7 +12,7 @@ use worth_core::Worth;
 
 /// The claims, cut to the estate, and the players in the order of these.
 #[derive(Drop)]
-pub struct CutClaims {
+pub(crate) struct CutClaims {
     claims: Ordered,
 }
 
@@ -28,7 +28,7 @@ impl CutClaims {
     ghost use Rattle.orders.specs.Ordered.{IsOrdered, place};
 
     /// The claims of a game, each cut to its estate.
-    pub fn new(alloc: Global, game: &BankruptcyGame) -> Result<CutClaims, AllocError>
+    pub(crate) fn new(alloc: Global, game: &BankruptcyGame) -> Result<CutClaims, AllocError>
         ensures cuts { IfOk result (λ c. c.numbers ≡ cut_claims game.now.estate game.now.claims) }
         ensures ordered { IfOk result IsOrdered }
         ensures laws { IsBankruptcy game.now }
@@ -38,7 +38,7 @@ impl CutClaims {
     }
 
     /// The number of claims, and so of places.
-    pub fn len(&self) -> u32
+    pub(crate) fn len(&self) -> u32
         ensures count { result ≡ length self.now.numbers }
         ensures laws { IsOrdered self.now }
     {
@@ -46,7 +46,7 @@ impl CutClaims {
     }
 
     /// The cut claim of player `i`.
-    pub fn cut(&self, i: u32) -> u64
+    pub(crate) fn cut(&self, i: u32) -> u64
         requires { i < length self.now.numbers }
         ensures value { result ≡ slice_index self.now.numbers i }
         ensures small { result < 2 ^ 40 }
@@ -55,7 +55,7 @@ impl CutClaims {
     }
 
     /// The player at place `k` from the least cut claim; of equal ones the lesser player stands first.
-    pub fn place(&self, k: u32) -> u32
+    pub(crate) fn place(&self, k: u32) -> u32
         requires { k < length self.now.numbers }
         ensures value { result ≡ place self.now k }
         ensures player { result < length self.now.numbers }
@@ -64,7 +64,7 @@ impl CutClaims {
     }
 
     /// The sum of the cut claims.
-    pub fn total(&self) -> u64
+    pub(crate) fn total(&self) -> u64
         ensures value { pos result ≡ sum_below (length self.now.numbers) (λ i. pos (slice_index self.now.numbers i)) }
         ensures small { result < 2 ^ 46 }
     {

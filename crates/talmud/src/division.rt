@@ -1,9 +1,11 @@
 //! How the estate is divided: who gets half of its claim, and what the others get or lose.
 //!
-//! With the cut claims `d` in ascending order, of `n` players, and with `S` the estate or, where that is more than half of
-//! the claims, what they are above it: the player at place `m` gets (or loses) `d_m / 2` as long as `(n - m) d_m` is at most
-//! `2 S - (d_0 + .. + d_(m-1))`. The others get (or lose) `(2 S - (d_0 + .. + d_(m-1))) / (2 (n - m))`.
-ghost use Rattle.std.specs.Prelude.{◌≡◌, ◌-◌, ◌*◌, ◌^◌, ◌<◌, ◌≤◌, length, map, pos, ◌≤ℤ◌, IfOk, All};
+//! With the cut claims `d` in ascending order, of `n` players, and with `S` the estate or, where that is more than half
+//! of the claims, what they are above it: the player at place `m` gets (or loses) `d_m / 2` as long as `(n - m) d_m` is
+//! at most `2 S - (d_0 + .. + d_(m-1))`. The others get (or lose) `(2 S - (d_0 + .. + d_(m-1))) / (2 (n - m))`.
+ghost use Rattle.std.specs.Prelude.{◌≡◌, IfOk};
+ghost use Rattle.std.specs.Prelude.{◌-◌, ◌*◌, ◌^◌, ◌<◌, ◌≤◌, pos, ◌≤ℤ◌};
+ghost use Rattle.std.specs.Prelude.{length, map, All};
 ghost use Rattle.orders.specs.Ordered.{number_at};
 ghost use Rattle.talmud.specs.Division.{IsSplit, IsSide, IsDivision, claim_sum, divided, award};
 
@@ -19,15 +21,16 @@ struct Split {
 
 /// The division of an estate among claims.
 #[derive(Clone, Copy)]
-pub struct Division {
-    /// Whether the estate is at most half of the claims, so that the bound is on what players get and not on what they lose.
-    pub gain: bool,
+pub(crate) struct Division {
+    /// Whether the estate is at most half of the claims, so that the bound is on what players get and not on what they
+    /// lose.
+    pub(crate) gain: bool,
     /// How many players, in the order of the claims, get half of them.
-    pub half: u32,
+    pub(crate) half: u32,
     /// Half the denominator.
-    pub half_den: u64,
+    pub(crate) half_den: u64,
     /// What each of the other players gets or loses, over the denominator.
-    pub bound: u64,
+    pub(crate) bound: u64,
     ghost some: { 1 ≤ half_den },
     ghost few: { half_den ≤ 64 },
     ghost small: { bound < 2 ^ 48 },
@@ -35,7 +38,7 @@ pub struct Division {
 
 impl Division {
     /// The division of an estate among claims of at most the estate.
-    pub fn new(estate: u64, claims: &CutClaims) -> Division
+    pub(crate) fn new(estate: u64, claims: &CutClaims) -> Division
         requires small { estate < 2 ^ 40 }
         requires cut { All (λ c. c ≤ estate) claims.now.numbers }
         requires enough { pos estate ≤ℤ claim_sum claims.now }
@@ -78,14 +81,14 @@ impl Division {
     }
 
     /// The denominator of the shares.
-    pub fn den(self) -> i128
+    pub(crate) fn den(self) -> i128
         ensures { result ≡ pos (2 * self.half_den) }
     {
         2 * self.half_den as i128
     }
 
     /// The share of each player, over the denominator.
-    pub fn awards(self, alloc: Global, claims: &CutClaims) -> Result<Vec<i128>, AllocError>
+    pub(crate) fn awards(self, alloc: Global, claims: &CutClaims) -> Result<Vec<i128>, AllocError>
         ensures { IfOk result (λ v. v.items ≡ map (λ c. pos (award self.gain self.half_den self.bound c)) claims.now.numbers) }
     {
         let mut num = Vec::new(alloc);

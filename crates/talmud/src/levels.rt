@@ -1,5 +1,6 @@
 //! The levels: one for each claim of the players who get half of it, and one for the other players.
-ghost use Rattle.std.specs.Prelude.{◌≡◌, ◌⊎◌, ℕ, ◌+◌, ◌-◌, ◌*◌, ◌<◌, ◌≤◌, length, pos, ◌-ℤ◌, slice_index, IfOk, if◌then◌else◌};
+ghost use Rattle.std.specs.Prelude.{◌≡◌, ◌⊎◌, IfOk, if◌then◌else◌, length, slice_index};
+ghost use Rattle.std.specs.Prelude.{ℕ, ◌+◌, ◌-◌, ◌*◌, ◌<◌, ◌≤◌, pos, ◌-ℤ◌};
 ghost use Rattle.std.specs.List.{AllByRecursion};
 ghost use Rattle.kohlberg.specs.Solved.{IsLowest};
 ghost use Rattle.definitions.specs.Coalitions.{singleton, grand_coalition};
@@ -62,8 +63,8 @@ fn both(
     Ok(pairs)
 }
 
-/// Where the half players with the claim of place `i` end, of whom there are `m` in all. Of two players the first stands for
-/// both.
+/// Where the half players with the claim of place `i` end, of whom there are `m` in all. Of two players the first
+/// stands for both.
 fn half_end(claims: &CutClaims, m: u32, i: u32) -> u32
     requires from { i < m }
     requires within { m ≤ length claims.now.numbers }
@@ -82,7 +83,9 @@ fn half_level(alloc: Global, claims: &CutClaims, i: u32, k: u32) -> Result<Level
     requires two { i + 2 ≤ length claims.now.numbers }
     requires some { i < k }
     requires within { k ≤ length claims.now.numbers }
-    ensures level { IfOk result (λ l. (m : ℕ) → IsHalfEnd (length claims.now.numbers) (slice_index claims.now.numbers) (place claims.now) m i k → IsHalfLevel (length claims.now.numbers) (slice_index claims.now.numbers) (place claims.now) m i k l) }
+    ensures level { IfOk result (λ l. (m : ℕ)
+        → IsHalfEnd (length claims.now.numbers) (slice_index claims.now.numbers) (place claims.now) m i k
+        → IsHalfLevel (length claims.now.numbers) (slice_index claims.now.numbers) (place claims.now) m i k l) }
     ensures lowest { IfOk result IsLowest }
 {
     let claim = claims.cut(claims.place(i));
@@ -106,7 +109,8 @@ fn rest_total(n: u32, alone: bool) -> i128
 /// The level of the players who aren't half players.
 fn rest_level(alloc: Global, claims: &CutClaims, division: Division) -> Result<Level, AllocError>
     requires { division.half + 2 ≤ length claims.now.numbers }
-    ensures level { IfOk result (λ l. IsRestLevel (length claims.now.numbers) (place claims.now) division.half division.gain (pos division.bound) (pos (2 * division.half_den)) l) }
+    ensures level { IfOk result (λ l. IsRestLevel (length claims.now.numbers) (place claims.now)
+        division.half division.gain (pos division.bound) (pos (2 * division.half_den)) l) }
     ensures lowest { IfOk result IsLowest }
 {
     let n = claims.len();
@@ -125,7 +129,9 @@ fn rest_level(alloc: Global, claims: &CutClaims, division: Division) -> Result<L
 /// The levels of the half players while two players are left.
 fn half_levels(alloc: Global, claims: &CutClaims, m: u32) -> Result<Vec<Level>, AllocError>
     requires { m ≤ length claims.now.numbers }
-    ensures levels { IfOk result (λ v. (k : ℕ) × AreHalves (length claims.now.numbers) (slice_index claims.now.numbers) (place claims.now) m 0 v.items k × ((k ≡ m) ⊎ (length claims.now.numbers ≤ k + 1))) }
+    ensures levels { IfOk result (λ v. (k : ℕ)
+        × AreHalves (length claims.now.numbers) (slice_index claims.now.numbers) (place claims.now) m 0 v.items k
+        × ((k ≡ m) ⊎ (length claims.now.numbers ≤ k + 1))) }
     ensures lowest { IfOk result (λ v. AllByRecursion IsLowest v.items) }
 {
     let n = claims.len();
@@ -140,13 +146,14 @@ fn half_levels(alloc: Global, claims: &CutClaims, m: u32) -> Result<Vec<Level>, 
 }
 
 /// All levels: those of the half players by ascending claims, and that of the others where they are two at least.
-pub fn all_levels(
+pub(crate) fn all_levels(
     alloc: Global,
     claims: &CutClaims,
     division: Division,
 ) -> Result<Vec<Level>, AllocError>
     requires { division.half ≤ length claims.now.numbers }
-    ensures levels { IfOk result (λ v. AreLevels (length claims.now.numbers) (slice_index claims.now.numbers) (place claims.now) division.half division.gain (pos division.bound) (pos (2 * division.half_den)) v.items) }
+    ensures levels { IfOk result (λ v. AreLevels (length claims.now.numbers) (slice_index claims.now.numbers) (place claims.now)
+        division.half division.gain (pos division.bound) (pos (2 * division.half_den)) v.items) }
     ensures lowest { IfOk result (λ v. AllByRecursion IsLowest v.items) }
 {
     let n = claims.len();

@@ -1,5 +1,5 @@
-//! The Talmud rule for an estate and the claims to it: the nucleolus of a bankruptcy game from the claims alone, with its
-//! certificate (O'Neill 1982, Aumann and Maschler 1985).
+//! The Talmud rule for an estate and the claims to it: the nucleolus of a bankruptcy game from the claims alone, with
+//! its certificate (O'Neill 1982, Aumann and Maschler 1985).
 #![tactic(auto)]
 
 mod cut_claims;
@@ -28,8 +28,8 @@ use kohlberg::Mode;
 use std::alloc::Global;
 use worth_core::{Shares, Worth};
 
-/// The shares of the Talmud rule for an estate and 1 to 64 claims, and the certificate that they are the nucleolus of the
-/// bankruptcy game, in mode players and with no bounds (O'Neill 1982, Aumann and Maschler 1985). They are the
+/// The shares of the Talmud rule for an estate and 1 to 64 claims, and the certificate that they are the nucleolus of
+/// the bankruptcy game, in mode players and with no bounds (O'Neill 1982, Aumann and Maschler 1985). They are the
 /// prenucleolus too and lie in the core.
 ///
 /// Each claim is first cut to the estate. Where the estate is at most half of the claims, each player gets half of its

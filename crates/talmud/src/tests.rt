@@ -17,8 +17,8 @@ fn gets(x: &Shares, i: u32, share: (i128, i128)) -> bool {
     i < x.players() && Some(ratio(x.num(i), x.den())) == Frac::new(share.0, share.1)
 }
 
-/// Whether a level has this excess over a denominator, these coalitions and earlier ones, all of weight 1, no bounds, and
-/// this total.
+/// Whether a level has this excess over a denominator, these coalitions and earlier ones, all of weight 1, no bounds,
+/// and this total.
 fn is_level(
     level: &Level,
     excess: (i128, i128),

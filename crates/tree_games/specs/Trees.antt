@@ -1,12 +1,13 @@
 -- Tree games by the rows of their matrix: row and column 0 are the source, and row and column i + 1 are player i (Bird 1976).
 --
---   AreLinks rows            square, the same in both directions, and 0 from a point to itself
---   IsTree rows              2 to 17 points, with an entry below 2 ^ 40 for each two
---   IsRefused rows fault     why rows make no tree game
---   tree_game rows           each worth is minus the cost of Prim's steps
---   plan_of edges            the pairs of the edges
---   IsEdge rows e            an end, a player, and the cost of their link
---   IsBird rows x edges      the Bird plan, its costs, and what each player pays in it
+--   HavePoints rows        2 to 17 rows: a source and 1 to 16 players
+--   AreLinks rows          square, the same in both directions, and 0 from a point to itself
+--   IsTree rows            2 to 17 points, with an entry below 2 ^ 40 for each two
+--   IsRefused rows fault   why rows make no tree game
+--   tree_game rows         each worth is minus the cost of Prim's steps
+--   plan_of edges          the pairs of the edges
+--   IsEdge rows e          an end, a player, and the cost of their link
+--   IsBird rows x edges    the Bird plan, its costs, and what each player pays in it
 use Rattle.std.specs.Prelude.{◌≡◌, ℕ, ◌-◌, ◌<◌, ◌≤◌, List, length, map, ℤ, neg_ℤ, pos}
 use Rattle.std.specs.List.{AllByRecursion}
 use Rattle.definitions.specs.Coalitions.{grand_coalition}

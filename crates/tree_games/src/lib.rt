@@ -1,4 +1,5 @@
-//! Tree games: a coalition pays the least cost of connecting its members to a source, through members alone (Bird 1976).
+//! Tree games: a coalition pays the least cost of connecting its members to a source, through members alone
+//! (Bird 1976).
 #![tactic(auto)]
 
 mod bird;

@@ -33,7 +33,8 @@ fn is_turned(matrix: &[Vec<i64>], i: usize) -> bool
     requires entries { HaveEntries (map (λ row. row.items) matrix.now) }
     requires square { HaveLength (length matrix.now) (map (λ row. row.items) matrix.now) }
     requires row { i < length matrix.now }
-    ensures { IsTrue result ↔ ((j : ℕ) → j < length matrix.now → entries_of (map (λ row. row.items) matrix.now) i j ≡ entries_of (map (λ row. row.items) matrix.now) j i) }
+    ensures { IsTrue result ↔ ((j : ℕ) → j < length matrix.now
+        → entries_of (map (λ row. row.items) matrix.now) i j ≡ entries_of (map (λ row. row.items) matrix.now) j i) }
 {
     for j in 0..matrix.len() {
         if entry(matrix, i, j) != entry(matrix, j, i) {

@@ -48,7 +48,9 @@ impl TreeGame {
     /// square, the same in both directions, and 0 from a point to itself; else the first cause in the order of
     /// `TreeFault`. No memory is taken.
     pub fn new(_alloc: Global, matrix: Vec<Vec<i64>>) -> Result<TreeGame, TreeFault>
-        ensures { let rows = map (λ row. row.items) matrix.items in MatchResult result (λ game. (game ≡ rows) × IsTree rows × IsTreeGame (entries_of rows) (tree_game rows)) (IsRefused rows) }
+        ensures { let rows = map (λ row. row.items) matrix.items in MatchResult result
+            (λ game. (game ≡ rows) × IsTree rows × IsTreeGame (entries_of rows) (tree_game rows))
+            (IsRefused rows) }
     {
         if matrix.len() < 2 || matrix.len() > 17 {
             return Err(TreeFault::Players);

@@ -1,12 +1,18 @@
 -- Sets of greatest sum, and of those with the same the one with the least mask: one for each weight.
 --
---   is_behind c d        d has a greater sum, or the same and a lesser mask
---   better c d           the one of the two that isn't behind, where there are any
---   joined c i number    the candidate with player i, whose number that is
---   raised c number      the candidate with a number added to its sum
---   at_weight l w        the candidate of weight w
---   chosen_of c          the coalition of a candidate whose sum is positive
---   IsBest P v c         the set of the kind P with the greatest number, and of those with the same the one with the least mask
+--   is_behind c d       d has a greater sum, or the same and a lesser mask
+--   better c d          the one of the two that isn't behind, where there are any
+--   joined c i number   the candidate with player i, whose number that is
+--   raised c number     the candidate with a number added to its sum
+--   at_weight l w       the candidate of weight w
+--   with_at             what a player makes of a lighter candidate
+--   joined_at           the better one of a set without the player, and of one with it
+--   best_below          the best one of the lesser weights
+--   chosen_of c         the coalition of a candidate whose sum is positive
+--   IsBestOf            the best set of the kind P, and the least mask of these
+--   IsBest P v c        the set of the kind P with the greatest number, and of those with the same the one with the least mask
+--   IsSmallCandidate    a set of the first players, and a sum over at most so many
+--   AreSmall            each candidate of a layer is such a one
 use Rattle.std.specs.Prelude.{◌≡◌, ℕ, zero, suc, ◌+◌, ◌-◌, ◌*◌, ◌^◌, ◌<◌, ◌≤◌, Bool, ◌&&◌, ◌||◌, nat_lt, nat_le, ℤ, pos, ◌+ℤ◌, ◌≤ℤ◌, ◌<ℤ◌, int_lt, Option, None, Some, IfSome, unsigned_abs, slice_index_or, if◌then◌else◌}
 use Rattle.std.specs.Ordering.{int_eq}
 use Rattle.voting.specs.declared.candidate.Candidate.{Candidate}

@@ -1,12 +1,17 @@
 -- The coalitions without a player, counted by size and weight, and the Shapley value of a voting game by these counts.
 --
---   way_at r w                     the count of weight w in a row
---   ways_at t size w               the count of that size and weight in a table
---   with_lighter r weight w        what one more player of that weight brings from a row to weight w
---   ways weight i j size w         how many coalitions of the first j players without player i have that size and weight
---   row_total                      the counts of the weights of a range, added
---   share_unit n k                 what a coalition of k players in front gives of the common denominator, the least common multiple of 1 to 32
---   numerator weight i n low high  what player i gets over it, where it makes the weights of the range winning
+--   way_at r w                           the count of weight w in a row
+--   row_at t size                        the row of a size
+--   ways_at t size w                     the count of that size and weight in a table
+--   lighter r weight w                   what one more player of that weight brings from a row to weight w
+--   smaller t size weight w              the same from the row of the size that is one less
+--   IsSmallRow, IsSmallTable             no count is above 2 ^ 32
+--   ways weight i j size w               how many coalitions of the first j players without player i have that size and weight
+--   IsTable weight i j t                 the table of these counts
+--   range_total r low high               the counts of the weights of a range, added
+--   row_total weight i n size low high   the same of all coalitions of a size without player i
+--   share_unit n k                       what a coalition of k players in front gives of the common denominator
+--   numerator weight i n low high        what player i gets over it, where it makes the weights of the range winning
 use Rattle.std.specs.Prelude.{◌≡◌, ℕ, zero, suc, ◌+◌, ◌-◌, ◌*◌, ◌/◌, ◌^◌, ◌<◌, ◌≤◌, ◌&&◌, nat_eq, nat_le, [], ℤ, pos, ◌*ℤ◌, slice_index, slice_index_or, if◌then◌else◌}
 use Rattle.definitions.specs.Sums.{sum_below}
 use Rattle.definitions.specs.Shapley.{factorial}

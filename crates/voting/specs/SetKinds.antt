@@ -1,12 +1,15 @@
 -- The sets of the first players by their weight, and by whether they have to hold some player of a coalition f, and to lack some.
 --
---   passes needed answer     the answer is yes where it is needed
---   holds_some f count s     s holds some of the first players of f
---   lacks_some f count s     s lacks some of the first players of f
---   IsOfKind                 a set of the first players that passes
---   IsOfWeight               one of the kind, of that weight
---   IsLayer                  the best set of the kind for each weight
---   AreSplitLayers           the layers of the four kinds
+--   passes needed answer   the answer is yes where it is needed
+--   holds_some f count s   s holds some of the first players of f
+--   lacks_some f count s   s lacks some of the first players of f
+--   IsOfKind               a set of the first players that passes
+--   Numbers, weights       a weight and a number of each player; the weights as integers
+--   IsOfWeight             one of the kind, of that weight
+--   IsLayer                the best set of the kind for each weight
+--   AreSplitLayers         the layers of the four kinds
+--   IsOneMore              the layers with one more player seen
+--   AreSmallLayers         each candidate of the four layers is one of the first players
 use Rattle.std.specs.Prelude.{◌≡◌, ℕ, ◌+◌, ◌^◌, ◌<◌, Bool, true, false, not, ◌&&◌, ℤ, pos, if◌then◌else◌}
 use Rattle.definitions.specs.Coalitions.{has_player, some_below, sum_over}
 use Rattle.voting.specs.declared.layer.Layer.{Layer}

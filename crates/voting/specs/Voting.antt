@@ -1,4 +1,13 @@
 -- Weighted voting games: a quota and weights.
+--
+--   Voting        a quota and weights
+--   voting        these parts together
+--   IsVoting      1 to 32 weights that sum to at most 1,000, and a quota of at most their sum
+--   voting_game   the game of a quota and weights
+--   HavePlayers   there are 1 to 32 weights
+--   AreNumbers    the quota and each weight are in range
+--   IsQuota       the weights sum to at most 1,000, and the quota is from 1 to their sum
+--   IsRefused     why a quota and weights make no game
 use Rattle.std.specs.Prelude.{ℕ, ◌^◌, ◌<◌, ◌≤◌, List, length, All, ℤ, pos, ◌≤ℤ◌, sum, unsigned_abs}
 use Rattle.std.specs.List.{sum_by}
 use Rattle.definitions.specs.Games.{Game}

@@ -1,5 +1,6 @@
 //! Coalitions counted by size and weight.
-ghost use Rattle.std.specs.Prelude.{◌≡◌, ℕ, ◌+◌, ◌-◌, ◌*◌, ◌^◌, ◌<◌, ◌≤◌, pos, nat_le, nat_eq, ◌&&◌, if◌then◌else◌};
+ghost use Rattle.std.specs.Prelude.{◌≡◌, ◌&&◌, if◌then◌else◌};
+ghost use Rattle.std.specs.Prelude.{ℕ, ◌+◌, ◌*◌, ◌^◌, ◌<◌, ◌≤◌, pos, nat_eq};
 ghost use Rattle.voting.specs.Counts.{way_at, row_at, ways_at, lighter, smaller, IsSmallRow, IsSmallTable, range_total};
 
 /// How many coalitions of one size there are of each weight from 0 to 1,000.

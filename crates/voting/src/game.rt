@@ -1,5 +1,7 @@
 //! The game of a quota and weights.
-ghost use Rattle.std.specs.Prelude.{◌≡◌, ◌^◌, ◌<◌, length, map, pos, neg_ℤ, slice_index, ◌<ℤ◌, MatchResult, unsigned_abs};
+ghost use Rattle.std.specs.Prelude.{◌≡◌, MatchResult};
+ghost use Rattle.std.specs.Prelude.{◌^◌, ◌<◌, pos, neg_ℤ, ◌<ℤ◌, unsigned_abs};
+ghost use Rattle.std.specs.Prelude.{length, map, slice_index};
 ghost use Rattle.definitions.specs.Games.{share};
 
 use crate::candidate::{chosen, sum_of};
@@ -47,8 +49,8 @@ impl Model for VotingGame {
 impl VotingGame {
     ghost use Rattle.voting.specs.Voting.{IsVoting, IsRefused};
 
-    /// The game of a quota and of 1 to 32 weights, which are from 0 and add to at most 1,000, where the quota is from 1 to
-    /// that sum; else the first cause in the order of `VotingFault`.
+    /// The game of a quota and of 1 to 32 weights, which are from 0 and add to at most 1,000, where the quota is from 1
+    /// to that sum; else the first cause in the order of `VotingFault`.
     pub fn new(alloc: Global, quota: i64, weights: Vec<i64>) -> Result<VotingGame, VotingFault>
         ensures { MatchResult result (λ g. (pos g.quota ≡ quota) × (map pos g.weights ≡ weights.items)) (IsRefused quota weights.items) }
     {
@@ -119,7 +121,8 @@ impl VotingGame {
     /// winning gives what its size is worth.
     pub(crate) fn numerator(&self, i: u32) -> i128
         requires { i < length self.now.weights }
-        ensures value { result ≡ numerator (slice_index self.now.weights) i (length self.now.weights) (self.now.quota - slice_index self.now.weights i) self.now.quota }
+        ensures value { result ≡ numerator (slice_index self.now.weights) i (length self.now.weights)
+            (self.now.quota - slice_index self.now.weights i) self.now.quota }
         ensures small { unsigned_abs result < 2 ^ 110 }
     {
         let table = self.counts_without(i);

@@ -1,5 +1,6 @@
 //! The best sets of each weight.
-ghost use Rattle.std.specs.Prelude.{◌≡◌, ℕ, ◌^◌, ◌<◌, ◌+◌, ◌≤◌, None, Some, IfSome, length, ℤ, pos, unsigned_abs, nat_le, if◌then◌else◌};
+ghost use Rattle.std.specs.Prelude.{◌≡◌, None, Some, IfSome, if◌then◌else◌};
+ghost use Rattle.std.specs.Prelude.{ℕ, ◌^◌, ◌<◌, ◌+◌, pos, unsigned_abs, nat_le};
 ghost use Rattle.voting.specs.Candidates.{at_weight, with_at, joined_at, raised, AreSmall, IsSmallCandidate, best_below};
 
 use crate::candidate::{Candidate, better_of, plus, with_player};

@@ -9,8 +9,8 @@ use shapley::COMMON;
 use std::alloc::Global;
 use worth_core::Shares;
 
-/// The Shapley value of a voting game, over the least common multiple of 1 to 32. It goes over sizes and sums of weights
-/// and not over orders. It always answers, want of memory aside.
+/// The Shapley value of a voting game, over the least common multiple of 1 to 32. It goes over sizes and sums of
+/// weights and not over orders. It always answers, want of memory aside.
 pub fn voting_shapley(alloc: Global, game: &VotingGame) -> Result<Shares, OutOfMemory>
     ensures { IfOk result (IsShapley (voting_game game.now)) }
 {

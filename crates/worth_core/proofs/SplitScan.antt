@@ -1,5 +1,5 @@
 -- What a scan over the masks in ascending order knows of the greatest excess of the splitting masks behind it.
-use Rattle.std.proofs.Common.{◌≡◌, ◌⊎◌, ℕ, zero, suc, ◌+◌, ◌^◌, ◌<◌, Bool, true, false, not, ◌&&◌, ◌||◌, cond, ℤ, ◌≤ℤ◌, Option, Some, None, MatchOption, IsSome, IsTrue, arith, refl, sym, ap, ◌∙◌, inl, inr, int_lt}
+use Rattle.std.proofs.Common.{◌≡◌, ℕ, zero, suc, ◌+◌, ◌^◌, ◌<◌, Bool, true, false, ◌&&◌, cond, ℤ, ◌≤ℤ◌, Option, Some, None, MatchOption, IsSome, IsTrue, arith, refl, sym, ap, ◌∙◌, inl, inr, int_lt}
 use Rattle.std.proofs.lemmas.Int.{ints}
 use Rattle.std.proofs.lemmas.Bool.{false≢true}
 use Rattle.std.proofs.Math.Pow.{pow-lt}
@@ -7,7 +7,7 @@ use Rattle.definitions.specs.Coalitions.{has_player, singleton, some_below, spli
 use Rattle.definitions.specs.Games.{Game, Allocation, excess, IsSplitMaximum, HasTwo}
 use Rattle.definitions.proofs.Members.{has_player-empty}
 use Rattle.worth_core.specs.Greatest.{max_so_far}
-use Rattle.definitions.proofs.Cases.{less_or_last, less_or_last_of, or_true}
+use Rattle.definitions.proofs.Cases.{less_or_last_of}
 use Rattle.definitions.proofs.Splits.{splits-singleton}
 
 abbrev pub is_split : Game → ℕ → ℕ → Bool

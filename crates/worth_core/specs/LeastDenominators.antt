@@ -1,4 +1,11 @@
 -- The least common denominator of fractions, and fractions over a common denominator.
+--
+--   IsWholeTimes         a multiple of a fraction is a whole number
+--   IsLeastDenominator   the least common denominator of fractions
+--   as_fractions         the shares of an allocation as fractions
+--   numerator_over       a fraction's numerator over a multiple of its denominator
+--   over                 fractions over a common denominator, as an allocation
+--   AreTooFine           over the least one they are out of the limits of shares
 use Rattle.std.specs.Prelude.{ℕ, ◌*◌, List, map, All, ℤ, pos, ◌*ℤ◌, ◌≤ℤ◌, unsigned_abs, int_div}
 use Prim.Native.Nat.{◌∣◌}
 use Rattle.definitions.specs.Games.{Allocation, IsShares}

@@ -1,11 +1,12 @@
 -- Measured excesses as they are found: an excess over the denominator of shares, and what the measure divides it by.
 --
---   Divided                 an excess and what it is divided by
---   IsDivided               those of a coalition
---   IsGreatestDivided       those of a coalition of greatest measured excess
---   is_below                the first over its divisor is less than the second over its own
---   IsValueOf               a fraction is a measured excess over its denominator
---   IsMeasuredBound         a fraction is the greatest measured excess over the coalitions that split some players
+--   Divided             an excess and what it is divided by
+--   IsSmallDivided      an excess below 2 ^ 118 in size, divided by 1 to 64
+--   IsDivided           the excess of a coalition, and what its measure divides it by
+--   IsGreatestDivided   those of a coalition of greatest measured excess
+--   is_below            the first over its divisor is less than the second over its own
+--   IsValueOf           a fraction is a measured excess over its denominator
+--   IsMeasuredBound     a fraction is the greatest measured excess over the coalitions that split some players
 use Rattle.std.specs.Prelude.{◌≡◌, ℕ, ◌^◌, ◌<◌, ◌≤◌, Bool, ℤ, pos, ◌*ℤ◌, ◌≤ℤ◌, int_lt, unsigned_abs}
 use Rattle.fractions.specs.Fraction.{Fraction}
 use Rattle.definitions.specs.Measures.{divisor, measured_den}

@@ -1,11 +1,15 @@
 -- The sets of the players seen so far, told apart by what they hold and lack of some players f, and the greatest sum of each kind.
 --
---   holds_some n f s            s holds some player of f
---   lacks_some n f seen s       s lacks some player of f that is seen
---   IsSeenSet                   a set of seen players that passes a test of these two
---   IsGreatestSum               the greatest sum of the members' numbers over these sets, and none where there is none
---   AreSplitSums                the greatest sums of the four kinds
---   IsOneMore                   the sums with one more player seen
+--   holds_some n f s           s holds some player of f
+--   lacks_some n f seen s      s lacks some player of f that is seen
+--   IsSeenSet                  a set of seen players that passes a test of these two
+--   IsGreatestSum              the greatest sum of the members' numbers over these sets, and none where there is none
+--   Sums                       a sum for each kind of sets, and the number of players seen
+--   AreSplitSums               the greatest sums of the four kinds
+--   IsOneMore                  the sums with one more player seen
+--   IsSmallSum, AreSmallSums   a sum over at most so many players; each sum is such a one
+--   greater_sum                the greater of two sums, where there are any
+--   longer_sum                 a sum and one more number
 use Rattle.std.specs.Prelude.{◌≡◌, ℕ, ◌+◌, ◌*◌, ◌^◌, ◌<◌, ◌≤◌, Bool, true, false, not, ◌&&◌, IsTrue, ℤ, ◌+ℤ◌, Option, None, Some, IfSome, MatchOption, unsigned_abs}
 use Rattle.std.specs.Int.{int_max}
 use Rattle.definitions.specs.Sums.{IsGreatest}

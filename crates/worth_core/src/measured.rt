@@ -1,5 +1,6 @@
 //! Excesses by a measure: as they are, or over the number of members (Grotte 1970).
-ghost use Rattle.std.specs.Prelude.{◌≡◌, true, false, Some, ◌^◌, ◌<◌, ◌≤◌, length, unsigned_abs, pos, ◌*ℤ◌, ◌≤ℤ◌, IsTrue, MatchOption};
+ghost use Rattle.std.specs.Prelude.{◌≡◌, true, false, Some, IsTrue, MatchOption, length};
+ghost use Rattle.std.specs.Prelude.{◌^◌, ◌<◌, ◌≤◌, unsigned_abs, pos, ◌*ℤ◌, ◌≤ℤ◌};
 ghost use Rattle.fractions.specs.Fraction.{IsRatio};
 ghost use Rattle.definitions.specs.Coalitions.{has_player, splits};
 ghost use Rattle.definitions.specs.Measures.{divisor, IsMeasurable};

@@ -1,5 +1,6 @@
 //! Shares of a worth over a common denominator.
-ghost use Rattle.std.specs.Prelude.{◌≡◌, ◌↔◌, ◌^◌, ◌<◌, length, unsigned_abs, pos, ◌-ℤ◌, ◌*ℤ◌, ◌≤ℤ◌, IsTrue, MatchOption, All};
+ghost use Rattle.std.specs.Prelude.{◌≡◌, ◌↔◌, IsTrue, MatchOption, length, All};
+ghost use Rattle.std.specs.Prelude.{◌^◌, ◌<◌, unsigned_abs, pos, ◌-ℤ◌, ◌*ℤ◌, ◌≤ℤ◌};
 ghost use Rattle.definitions.specs.Games.{IsShares, share, amount};
 ghost use Rattle.worth_core.specs.Allocations.{allocation};
 

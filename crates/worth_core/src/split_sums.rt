@@ -1,5 +1,6 @@
 //! The greatest sums over the sets of some players that split others, found player by player.
-ghost use Rattle.std.specs.Prelude.{◌≡◌, ℕ, ℤ, ◌+◌, ◌*◌, ◌^◌, ◌<◌, ◌≤◌, ◌&&◌, ◌||◌, None, IfSome, unsigned_abs};
+ghost use Rattle.std.specs.Prelude.{◌≡◌, ◌&&◌, ◌||◌, None, IfSome};
+ghost use Rattle.std.specs.Prelude.{ℕ, ℤ, ◌+◌, ◌^◌, ◌<◌, ◌≤◌, unsigned_abs};
 ghost use Rattle.worth_core.specs.SplitKinds.{AreSplitSums, IsGreatestSum, IsOneMore, IsSmallSum, greater_sum, longer_sum};
 
 use std::marker::Model;
@@ -61,7 +62,8 @@ impl SplitSums {
     /// The greatest sum over the sets that hold some of `F` and lack some of it, where `others_free` says that some
     /// player of `F` isn't seen yet. None exactly where there is no such set.
     pub fn best(&self, others_free: bool) -> Option<i128>
-        ensures sum { (n : ℕ) (a : ℕ → ℤ) (f seen : ℕ) → AreSplitSums n a f seen self.now → IsGreatestSum n a f seen (λ holds lacks. holds && (lacks || others_free)) result }
+        ensures sum { (n : ℕ) (a : ℕ → ℤ) (f seen : ℕ) → AreSplitSums n a f seen self.now
+            → IsGreatestSum n a f seen (λ holds lacks. holds && (lacks || others_free)) result }
         ensures small { IfSome result (λ m. unsigned_abs m ≤ 2 ^ 118) }
     {
         if others_free {

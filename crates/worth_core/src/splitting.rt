@@ -6,7 +6,7 @@ ghost use Rattle.worth_core.specs.Greatest.{max_so_far};
 use coalitions::Coalition;
 
 /// Whether a coalition holds some but not all of the players of `free`.
-pub fn splits(s: Coalition, free: Coalition, players: u32) -> bool
+pub(crate) fn splits(s: Coalition, free: Coalition, players: u32) -> bool
     requires { players ≤ 64 }
     ensures { result ≡ splits players (has_player free) s }
 {

@@ -1,4 +1,13 @@
 -- Tables of worths, and the games that are made of them.
+--
+--   Table         a number of players, and worths in mask order
+--   table         these parts together
+--   HasEachOnce   1 to 16 players, and one worth for each coalition but the empty one
+--   AreSmall      each worth is below 2 ^ 40 in size
+--   IsTable       both
+--   IsRefused     why a table makes no game
+--   table_game    the game of the listed worths
+--   cost_game     the game with minus the worths of another
 use Rattle.std.specs.Prelude.{◌≡◌, ℕ, ◌+◌, ◌^◌, ◌<◌, ◌≤◌, List, length, All, ℤ, unsigned_abs}
 use Rattle.definitions.specs.Games.{Game}
 use Rattle.definitions.specs.Classes.{table_worth, negated_worth}

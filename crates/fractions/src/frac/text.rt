@@ -1,8 +1,11 @@
 //! Fractions as texts: a minus for a value below 0, the numerator, and for a denominator above 1 a slash and it.
 
-ghost use Rattle.std.specs.Prelude.{◌≡◌, ◌++◌, ◌^◌, ◌<◌, length, take, IsTrue, IfSome, OnOk, OnErr, Some};
+ghost use Rattle.std.specs.Prelude.{◌≡◌, IsTrue, IfSome, OnOk, OnErr, Some};
+ghost use Rattle.std.specs.Prelude.{◌^◌, ◌<◌};
+ghost use Rattle.std.specs.Prelude.{◌++◌, length, take};
 ghost use Rattle.std.specs.Option.{SomeIff};
-ghost use Rattle.fractions.specs.FractionTexts.{before_slash, has_minus, without_minus, is_unsigned_fraction, has_denominator, numerator, denominator, parsed, fraction_text};
+ghost use Rattle.fractions.specs.FractionTexts.{before_slash, has_minus, without_minus, is_unsigned_fraction};
+ghost use Rattle.fractions.specs.FractionTexts.{has_denominator, numerator, denominator, parsed, fraction_text};
 
 use super::{Frac, signed};
 use crate::OutOfMemory;

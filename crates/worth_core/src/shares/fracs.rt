@@ -1,5 +1,6 @@
 //! Shares from fractions, and as fractions in lowest terms.
-ghost use Rattle.std.specs.Prelude.{◌≡◌, ℕ, ◌^◌, ◌<◌, ◌≤◌, length, pos, ◌≤ℤ◌, unsigned_abs, IfOk, MatchOption};
+ghost use Rattle.std.specs.Prelude.{◌≡◌, IfOk, MatchOption, length};
+ghost use Rattle.std.specs.Prelude.{ℕ, ◌^◌, ◌<◌, ◌≤◌, pos, ◌≤ℤ◌, unsigned_abs};
 ghost use Rattle.std.specs.Option.{SomeIff};
 ghost use Rattle.definitions.specs.Coalitions.{grand_coalition};
 ghost use Rattle.definitions.specs.Games.{IsShares, share, amount};
