@@ -10,7 +10,8 @@ use Rattle.game_text.specs.Documents.{Contents}
 use Rattle.report.specs.declared.answer.Answer.{Answer}
 use Rattle.report.specs.declared.answer.Answer.TheVariants.{Bird}
 
--- the edges are the Bird plan of a tree game, which costs least, each player pays for its own, and these shares lie in the core
+-- the edges are the Bird plan of a tree game, which costs least, each player pays for its own, and these shares lie in
+-- the core
 abbrev pub IsBirdOf : Description → Allocation → List (ℕ × ℕ × ℤ) → Type 0
 IsBirdOf (network rows) x edges = IsBird rows x edges
 IsBirdOf _ x edges = ⊥

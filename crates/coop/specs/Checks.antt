@@ -1,9 +1,10 @@
 -- The right verdict on the certificate of a document.
 --
---   HasEvidence      the family, the shares and the certificate that a document gives
---   IsComplete       a document gives them for its players
---   Checks           the answer is the right verdict, or that there are too many players
---   HasLowestExcess  the excess that a verdict carries is in lowest terms
+--   HasEvidence       the family, the shares and the certificate that a document gives
+--   IsComplete        a document gives them for its players
+--   IsCheckedAs       the verdict is the right one
+--   Checks            the answer is the right verdict, or that there are too many players
+--   HasLowestExcess   the excess that a verdict carries is in lowest terms
 use Rattle.std.specs.Prelude.{◌≡◌, ◌<◌, ◌≤◌, ⊤, length, Some}
 use Rattle.definitions.specs.Games.{Allocation}
 use Rattle.definitions.specs.declared.Family.{Family}
@@ -35,11 +36,13 @@ pub record IsComplete (d : Contents) : Type 0 where
   pub share_each : length shares.shares ≡ (game_of d.game).players
   pub players : certificate.players ≡ (game_of d.game).players
 
--- yes where the certificate meets all conditions for the shares by the measure of the document, and no with the first that fails
+-- yes where the certificate meets all conditions for the shares by the measure of the document, and no with the first
+-- that fails
 abbrev pub IsCheckedAs : Contents → CheckVerdict → Type 0
 IsCheckedAs d v = (family : Family) × ((x : Allocation) × ((c : CertificateData) × (HasEvidence d family x c × IsVerdict c.mode family d.measure (game_of d.game) x c.levels v)))
 
--- the answer is the right verdict on the certificate of a document, or says that its game has more players than are checked
+-- the answer is the right verdict on the certificate of a document, or says that its game has more players than are
+-- checked
 abbrev pub Checks : Contents → Answer → Type 0
 Checks d (Verdict v) = ((game_of d.game).players ≤ check_limit d.measure) × IsCheckedAs d v
 Checks d (Usage Players) = check_limit d.measure < (game_of d.game).players

@@ -1,4 +1,5 @@
--- The classes of games that a command serves. Where it doesn't serve the class, the usage of the class is the right answer.
+-- The classes of games that a command serves. Where it doesn't serve the class, the usage of the class is the right
+-- answer.
 --
 --   is_market, is_tree   the class of the game
 --   is_no_market         the game is of another class than a market

@@ -37,7 +37,8 @@ ServesPlayers Matching d = ⊤
 abbrev pub Serves : Command → Contents → Type 0
 Serves command d = (serves_class command d.game ≡ true) × ServesPlayers command d
 
--- where the words are a command, the bytes that were left are a document that it serves, and no count of failures rose, the status is that of a positive or of a negative answer, or says that memory wasn't found
+-- where the words are a command, the bytes that were left are a document that it serves, and no count of failures rose,
+-- the status is that of a positive or of a negative answer, or says that memory wasn't found
 abbrev pub IsComplete : List (List ℕ) → Option (List ℕ) → ℕ → ℕ → ℕ → ℕ → Status → Type 0
 IsComplete words left reads_before reads_now writes_before writes_now s =
     (command : Command) (bytes : List ℕ) (d : Contents) → IsCommand words command → left ≡ Some bytes → IsDocument command bytes d → Serves command d

@@ -1,12 +1,14 @@
 -- The right answer on the core of the game of a document.
 --
--- The answers exclude one another: no core point stands beside a balanced collection of excess worth. No other answer is right,
--- so the negative answer comes exactly where the core of a game that hasn't too many players is empty.
+-- The answers exclude one another: no core point stands beside a balanced collection of excess worth. No other answer
+-- is right, so the negative answer comes exactly where the core of a game that hasn't too many players is empty.
 --
---   IsSchemePoint   the point of an airport or bankruptcy game is its nucleolus, and that of a tree game has Bird's shares
+--   IsSchemePoint   the point of an airport or bankruptcy game is its nucleolus, and that of a tree game has
+--                   Bird's shares
 --   IsSaidOf        what a solver says of the core
 --   IsCorePoint     a point of the core, as it is printed
 --   IsEmptyCore     a collection that shows that the core is empty, with both numbers as they are printed
+--   IsShown         the answer is such a collection
 --   FindsCore       the answer is right for a game that has no more players than are answered
 --   SaysOfCore      the answer is right for the game of a document
 use Rattle.std.specs.Prelude.{◌≡◌, ◌<◌, ◌≤◌, ⊤, Bool, ℕ, ℤ, List, ◌*ℤ◌}
@@ -29,7 +31,8 @@ use Rattle.report.specs.declared.answer.UsageKind.TheVariants.{Players}
 use Rattle.coop.specs.Judgement.{printed}
 use Rattle.coop.specs.Limits.{core_limit}
 
--- the point of an airport or bankruptcy game is its nucleolus, and that of a tree game has Bird's shares; that of another may be any
+-- the point of an airport or bankruptcy game is its nucleolus, and that of a tree game has Bird's shares; that of
+-- another may be any
 abbrev pub IsSchemePoint : Description → Allocation → Type 0
 IsSchemePoint (table n worths) x = ⊤
 IsSchemePoint (cost_table n costs) x = ⊤
@@ -51,7 +54,8 @@ pub record IsCorePoint (d : Contents) (are_costs : Bool) (x : Allocation) : Type
   pub chosen : IsSchemePoint d.game x
   pub signs : are_costs ≡ is_cost d.game
 
--- the coalitions balance, and are worth more together than k times all, so no point is in the core; both numbers are given as they are printed
+-- the coalitions balance, and are worth more together than k times all, so no point is in the core; both numbers are
+-- given as they are printed
 pub record IsEmptyCore (are_costs : Bool) (g : Game) (c : CollectionData) (value against : ℤ) : Type 0 where
   pub balanced : IsBalancedOfExcessWorth g c.weights c.k
   pub none : (x : Allocation) → ¬ InCore g x

@@ -1,7 +1,8 @@
 -- What the solvers find, as the private functions below `solve_document` and `core_document` say it to one another.
 --
---   IsFoundFor     what a solver finds: shares and a certificate, or that there is no imputation
---   HasFewPlayers  a game without a scheme of its own has at most 16 players, and is no market, which is matched instead
+--   IsFoundFor      what a solver finds: shares and a certificate, or that there is no imputation
+--   HasFewPlayers   a game without a scheme of its own has at most 16 players, and is no market, which is
+--                   matched instead
 use Rattle.std.specs.Prelude.{◌≤◌, ⊤, length}
 use Rattle.definitions.specs.Games.{Game}
 use Rattle.definitions.specs.declared.Family.{Family}

@@ -17,7 +17,8 @@ use Rattle.coop_gen.specs.Generated.{generated}
 use Rattle.report.specs.declared.summary.Summary.{Summary}
 use Rattle.coop.specs.Words.{IsGeneration}
 
--- one player has no proper coalition; of more players it is the greatest excess over those that hold some but not all of them
+-- one player has no proper coalition; of more players it is the greatest excess over those that hold some but not all
+-- of them
 abbrev pub IsGreatestExcess : Game → Allocation → Option Fraction → Type 0
 IsGreatestExcess g x None = g.players ≡ 1
 IsGreatestExcess g x (Some f) = (2 ≤ g.players) × IsReduced f × IsMeasuredBound Plain g x (grand_coalition g.players) f

@@ -1,31 +1,34 @@
--- THE HEADLINE. Every nucleolus printed for a game that was read is an imputation whose excesses over all coalitions, plain or
--- per head as the document says, listed from the greatest, come lexicographically before those of every other imputation. Its
--- printed certificate meets written conditions, which a separate checker decides and which alone imply this. And every game
--- with an imputation is so answered: with plain excess every airport or bankruptcy game to 64 players, and every other of at
--- most sixteen; with excess per head every game of at most eight; but for games of the class market, which `matching` alone
--- answers.
+-- THE HEADLINE. Every nucleolus printed for a game that was read is an imputation whose excesses over all coalitions,
+-- plain or per head as the document says, listed from the greatest, come lexicographically before those of every other
+-- imputation. Its printed certificate meets written conditions, which a separate checker decides and which alone imply
+-- this. And every game with an imputation is so answered: with plain excess every airport or bankruptcy game to 64
+-- players, and every other of at most sixteen; with excess per head every game of at most eight; but for games of the
+-- class market, which `matching` alone answers.
 --
--- It is the clause `ends` of `run`: after a status of an answer there is an answer that `Answers` the words and the bytes, and
--- the sink took its line (`Ends` in Outcome.antt). What is below says it from the inside out:
+-- It is the clause `ends` of `run`: after a status of an answer there is an answer that `Answers` the words and the
+-- bytes, and the sink took its line (`Ends` in Outcome.antt). What is below says it from the inside out:
 --
---   IsTaken              the game has no more players than are answered by its measure
---   IsSolution           the nucleolus of the game of a document, with its certificate, as it is printed
---   IsWithoutImputation  the players alone are worth more than all, and both numbers as they are printed
---   Solves               the answer is right for the family and the game of a document
---   Says                 the answer is right for a command and a document of a class that it serves
---   AnswersTo            the answer is right for a command and its document
---   Answers              the answer is right for the words and the bytes, and is printed over this scale
+--   IsTaken               the game has no more players than are answered by its measure
+--   IsSolution            the nucleolus of the game of a document, with its certificate, as it is printed
+--   IsWithoutImputation   the players alone are worth more than all, and both numbers as they are printed
+--   Solves                the answer is right for the family and the game of a document
+--   Says                  the answer is right for a command and a document of a class that it serves
+--   AnswersTo             the answer is right for a command and its document
+--   IsAnsweredFor         the words are a command, and the answer is right for it and the document of the bytes
+--   IsRefusedFor          the words are a command, and this is the first refusal that applies to the bytes
+--   Answers               the answer is right for the words and the bytes, and is printed over this scale
 --
--- What is right for the other commands stands in Judgement.antt (`propose`), CoreClaims.antt (`core`), Checks.antt (`check`),
--- ShapleyClaims.antt (`shapley`), BirdClaims.antt (`bird`), ConvexClaims.antt (`convex`), KernelClaims.antt (`kernel`),
--- MatchingClaims.antt (`matching`) and GeneratorClaims.antt (`gen`); which classes a command serves, in Classes.antt.
+-- What is right for the other commands stands in Judgement.antt (`propose`), CoreClaims.antt (`core`), Checks.antt
+-- (`check`), ShapleyClaims.antt (`shapley`), BirdClaims.antt (`bird`), ConvexClaims.antt (`convex`), KernelClaims.antt
+-- (`kernel`), MatchingClaims.antt (`matching`) and GeneratorClaims.antt (`gen`); which classes a command serves, in
+-- Classes.antt.
 --
--- The game, the shares and the certificate of a document of version 2 are those that it writes, times its scale, and the line
--- is printed over that scale. One positive factor on all worths and shares changes no comparison (`scales_change_nothing`), so
--- the sentence holds of the game of fractional worths too.
+-- The game, the shares and the certificate of a document of version 2 are those that it writes, times its scale, and
+-- the line is printed over that scale. One positive factor on all worths and shares changes no comparison
+-- (`scales_change_nothing`), so the sentence holds of the game of fractional worths too.
 --
--- No answer that isn't named is right, and the answers exclude one another: a nucleolus is an imputation, which gives each
--- player at least what it is worth alone, so it can't come where the players alone are worth more than all.
+-- No answer that isn't named is right, and the answers exclude one another: a nucleolus is an imputation, which gives
+-- each player at least what it is worth alone, so it can't come where the players alone are worth more than all.
 use Rattle.std.specs.Prelude.{◌≡◌, ◌<◌, ◌≤◌, ℕ, List, Bool, true, false, ℤ, pos, ◌<ℤ◌}
 use Rattle.serde_json.specs.Data.{Data}
 use Rattle.serde_json.specs.View.{view}
@@ -63,7 +66,10 @@ use Rattle.coop.specs.MatchingClaims.{SaysOfMatching}
 abbrev pub IsTaken : Contents → Type 0
 IsTaken d = (game_of d.game).players ≤ nucleolus_limit d.measure d.game
 
--- The shares are a member of the family whose excesses over all coalitions, by the measure of the document and listed from the greatest, come before those of every other member. The certificate has its form for the game's players and meets all conditions for the shares, which alone imply this (`certificates_are_sound`). They stand beside the tree of the game that was read.
+-- The shares are a member of the family whose excesses over all coalitions, by the measure of the document and listed
+-- from the greatest, come before those of every other member. The certificate has its form for the game's players and
+-- meets all conditions for the shares, which alone imply this (`certificates_are_sound`). They stand beside the tree of
+-- the game that was read.
 pub record IsSolution (family : Family) (d : Contents) (printed : Data) (are_costs : Bool) (x : Allocation) (c : CertificateData) : Type 0 where
   pub taken : IsTaken d
   pub nucleolus : IsNucleolus family d.measure (game_of d.game) x
@@ -73,7 +79,8 @@ pub record IsSolution (family : Family) (d : Contents) (printed : Data) (are_cos
   pub tree : printed ≡ d.tree
   pub signs : are_costs ≡ is_cost d.game
 
--- imputations are asked for and there are none, since the worths of the players alone add to more than the worth of all; both are given as they are printed
+-- imputations are asked for and there are none, since the worths of the players alone add to more than the worth of
+-- all; both are given as they are printed
 pub record IsWithoutImputation (family : Family) (g : Game) (are_costs : Bool) (alone total : ℤ) : Type 0 where
   pub imputations : family ≡ Imputations
   pub alone_is : alone ≡ printed are_costs (singles g)
@@ -81,7 +88,8 @@ pub record IsWithoutImputation (family : Family) (g : Game) (are_costs : Bool) (
   pub above : g.worth (grand_coalition g.players) <ℤ singles g
   pub none : (y : Allocation) → ¬ InFamily Imputations g y
 
--- the answer is right for the family and the game of a document: its nucleolus, that there is no imputation, or that it has more players than are answered
+-- the answer is right for the family and the game of a document: its nucleolus, that there is no imputation, or that it
+-- has more players than are answered
 abbrev pub Solves : Family → Contents → Answer → Type 0
 Solves family d (Nucleolus f tree are_costs x c) = (f ≡ family) × IsSolution family d (view tree) are_costs x c
 Solves family d (NoImputation alone total) = IsTaken d × IsWithoutImputation family (game_of d.game) (is_cost d.game) alone total
@@ -101,12 +109,14 @@ Says Convex d answer = SaysOfConvex d answer
 Says Kernel d answer = SaysOfKernel d answer
 Says Matching d answer = SaysOfMatching d answer
 
--- the answer is right for a command and what its document says: the usage of the class exactly where the command doesn't serve it
+-- the answer is right for a command and what its document says: the usage of the class exactly where the command
+-- doesn't serve it
 abbrev pub AnswersTo : Command → Contents → Answer → Type 0
 AnswersTo command d (Usage Class) = serves_class command d.game ≡ false
 AnswersTo command d answer = (serves_class command d.game ≡ true) × Says command d answer
 
--- the words are a command, the bytes are a document of it with this scale, whose game has the worths of its class, and the answer is right for both
+-- the words are a command, the bytes are a document of it with this scale, whose game has the worths of its class, and
+-- the answer is right for both
 abbrev pub IsAnsweredFor : List (List ℕ) → List ℕ → ℤ → Answer → Type 0
 IsAnsweredFor words bytes k answer = (command : Command) × (IsCommand words command × ((d : Contents) × (IsDocument command bytes d × IsOfClass d.game × (k ≡ d.scale) × AnswersTo command d answer)))
 
@@ -114,7 +124,9 @@ IsAnsweredFor words bytes k answer = (command : Command) × (IsCommand words com
 abbrev pub IsRefusedFor : List (List ℕ) → List ℕ → Refusal → Type 0
 IsRefusedFor words bytes r = (command : Command) × (IsCommand words command × IsRefused command bytes r)
 
--- the answer is right for the words and the bytes: for words that are no command, the usage of words; for a generated game its summary; else the first refusal that applies; else what the command says to the document; it is printed over the scale k, which is the document's, and 1 where there is none
+-- the answer is right for the words and the bytes: for words that are no command, the usage of words; for a generated
+-- game its summary; else the first refusal that applies; else what the command says to the document; it is printed over
+-- the scale k, which is the document's, and 1 where there is none
 abbrev pub Answers : List (List ℕ) → List ℕ → ℤ → Answer → Type 0
 Answers words bytes k (Usage Words) = (k ≡ pos 1) × IsNoCommand words
 Answers words bytes k (Refused r) = (k ≡ pos 1) × IsRefusedFor words bytes r

@@ -1,8 +1,11 @@
 -- The right judgement on what a document proposes.
 --
---   printed    a number as it is printed: costs and payments are negative worth
---   Judges     the answer is right for an allocation of a game
---   JudgesAll  the answer is right for the game and the shares of a document
+--   printed         a number as it is printed: costs and payments are negative worth
+--   IsInefficient   the shares add to something else than the worth of all, with both sums
+--   IsBlockedBy     they add to it, and this coalition blocks them
+--   Judges          the answer is right for an allocation of a game
+--   JudgesAll       the answer is right for the game and the shares of a document
+--   HasShares       there is a share for each player
 use Rattle.std.specs.Prelude.{◌≡◌, ℕ, ℤ, neg_ℤ, Bool, Some, length, if◌then◌else◌}
 use Rattle.definitions.specs.Coalitions.{grand_coalition}
 use Rattle.definitions.specs.Games.{Game, Allocation, amount, excess, IsEfficient, IsChosenBlocker, InCore}

@@ -22,14 +22,16 @@ use Rattle.coop.specs.Judgement.{IsInefficient}
 abbrev pub kernel_limit : ℕ
 kernel_limit = 16
 
--- the allocation is in the prekernel; or it isn't efficient, with both sums; or it is, and these are the first two players that aren't balanced, with both surpluses
+-- the allocation is in the prekernel; or it isn't efficient, with both sums; or it is, and these are the first two
+-- players that aren't balanced, with both surpluses
 abbrev pub Balances : Bool → Game → Allocation → Answer → Type 0
 Balances are_costs g x Prekernel = InPrekernel g x
 Balances are_costs g x (NotEfficient sum total) = IsInefficient are_costs g x sum total
 Balances are_costs g x (NotPrekernel i j ij ji) = IsKernelAnswer g x (Differs i j ij ji)
 Balances are_costs g x _ = ⊥
 
--- there are these shares, for players that aren't too many, and the answer is right for them. To the prenucleolus it is that it is in the prekernel (Schmeidler 1969; Maschler, Peleg and Shapley 1979)
+-- there are these shares, for players that aren't too many, and the answer is right for them. To the prenucleolus it is
+-- that it is in the prekernel (Schmeidler 1969; Maschler, Peleg and Shapley 1979)
 pub record IsBalanceOf (d : Contents) (answer : Answer) : Type 0 where
   pub shares : Allocation
   pub given : d.shares ≡ Some shares

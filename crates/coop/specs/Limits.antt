@@ -8,7 +8,8 @@ use Rattle.definitions.specs.declared.Measure.{Measure}
 use Rattle.definitions.specs.declared.Measure.TheVariants.{Plain, PerHead}
 use Rattle.game_text.specs.Descriptions.{Description, table, cost_table, airport, bankruptcy, network, assignment, market, voting}
 
--- the most players of a game whose nucleolus is answered: the programs per head are those of few players, and with plain excess airport and bankruptcy games have schemes of their own
+-- the most players of a game whose nucleolus is answered: the programs per head are those of few players, and with
+-- plain excess airport and bankruptcy games have schemes of their own
 abbrev pub nucleolus_limit : Measure → Description → ℕ
 nucleolus_limit PerHead d = 8
 nucleolus_limit Plain (table n worths) = 16
@@ -25,7 +26,8 @@ abbrev pub check_limit : Measure → ℕ
 check_limit Plain = 64
 check_limit PerHead = 16
 
--- the most players of a game whose core is answered: of the classes that have more than 16 players, only voting games have no point of their own
+-- the most players of a game whose core is answered: of the classes that have more than 16 players, only voting games
+-- have no point of their own
 abbrev pub core_limit : Description → ℕ
 core_limit (voting quota weights) = 16
 core_limit _ = 64

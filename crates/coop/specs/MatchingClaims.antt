@@ -13,7 +13,8 @@ use Rattle.game_text.specs.Documents.{Contents}
 use Rattle.report.specs.declared.answer.Answer.{Answer}
 use Rattle.report.specs.declared.answer.Answer.TheVariants.{Matching}
 
--- the pairs are an optimal matching of all players and have this value; of the core points, none gives a buyer more than the first, and none gives a seller more than the second (Shapley and Shubik 1971)
+-- the pairs are an optimal matching of all players and have this value; of the core points, none gives a buyer more
+-- than the first, and none gives a seller more than the second (Shapley and Shubik 1971)
 pub record IsMarketSolution (rows : List (List ℤ)) (solution : Solution) : Type 0 where
   pub pairs : IsOptimalMatching rows solution.pairs.items solution.value
   pub buyers : IsBestFor (assignment_game rows) (IsBuyer (length rows)) solution.buyers_best

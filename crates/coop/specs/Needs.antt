@@ -17,7 +17,8 @@ use Rattle.game_text.specs.declared.command.Command.TheVariants.{Nucleolus, Pren
 use Rattle.coop.specs.Judgement.{HasShares}
 use Rattle.coop.specs.Checks.{IsComplete}
 
--- no test of a command refused the document of the game, whose tree has no number but integers, is nested at most 8 deep, and is written within the limit
+-- no test of a command refused the document of the game, whose tree has no number but integers, is nested at most 8
+-- deep, and is written within the limit
 pub record IsAccepted (d : Contents) : Type 0 where
   pub command : Command
   pub document : Data

@@ -1,9 +1,11 @@
 -- What `check` reads of the line of a nucleolus.
 --
---   SaysSame      a document says the same as a nucleolus that was printed
---   CanBeRead     no test refuses the tree of an answer where it is checked, and it says the same
---   CheckSaysYes  yes is the one right answer to bytes that are checked
---   IsReadBack    the line of an answer is a document to check, says the same, and gets yes
+--   SaysSame        a document says the same as a nucleolus that was printed
+--   CanBeChecked    its line is short enough, no test refuses its tree, and it says the same
+--   CanBeRead       the tree of an answer can be checked, where it is a nucleolus
+--   IsNoNucleolus   the answer is no nucleolus
+--   CheckSaysYes    yes is the one right answer to bytes that are checked
+--   IsReadBack      the line of an answer is a document to check, says the same, and gets yes
 use Rattle.std.specs.Prelude.{◌≡◌, ◌≤◌, ⊤, ℕ, ℤ, pos, List, [], ◌∷◌, length, true, None, unsigned_abs}
 use Rattle.serde_json.specs.Data.{Data}
 use Rattle.serde_json.specs.View.{view}
@@ -29,7 +31,8 @@ use Rattle.coop.specs.Limits.{check_limit}
 use Rattle.coop.specs.Checks.{HasEvidence}
 use Rattle.coop.specs.Headline.{Answers}
 
--- the document gives the game of this tree, its measure and its scale, the family, the same shares over some denominator, and the certificate, which certifies them; the class and the number of players are checked
+-- the document gives the game of this tree, its measure and its scale, the family, the same shares over some
+-- denominator, and the certificate, which certifies them; the class and the number of players are checked
 pub record SaysSame (f : Family) (printed : Data) (x : Allocation) (c : CertificateData) (d : Contents) : Type 0 where
   pub tree : d.tree ≡ printed
   pub game : d.game ≡ description_of printed
@@ -63,7 +66,8 @@ pub record CheckSaysYes (bytes : List ℕ) : Type 0 where
   pub yes : (k : ℤ) × Answers (word_of Check ∷ []) bytes k (Verdict Yes)
   pub only : (k : ℤ) (answer : Answer) → Answers (word_of Check ∷ []) bytes k answer → answer ≡ Verdict Yes
 
--- the line of a nucleolus is a document to check, with the same game, family, shares and certificate, which certifies the shares; and the verdict on it is yes
+-- the line of a nucleolus is a document to check, with the same game, family, shares and certificate, which certifies
+-- the shares; and the verdict on it is yes
 abbrev pub IsReadBack : ℤ → Answer → Type 0
 IsReadBack k (Nucleolus family tree are_costs x c) =
     let bytes = line k (Nucleolus family tree are_costs x c) in (d : Contents) × (IsDocument Check bytes d × SaysSame family (view tree) x c d × CheckSaysYes bytes)

@@ -12,7 +12,8 @@ use Rattle.report.specs.declared.answer.Answer.{Answer}
 use Rattle.report.specs.declared.answer.Answer.TheVariants.{Shapley, Usage}
 use Rattle.report.specs.declared.answer.UsageKind.TheVariants.{Players}
 
--- the most players of a game whose Shapley shares are answered: the steps of an airport's costs and the sums of votes are few, and the coalitions of another game many
+-- the most players of a game whose Shapley shares are answered: the steps of an airport's costs and the sums of votes
+-- are few, and the coalitions of another game many
 abbrev pub shapley_limit : Description → ℕ
 shapley_limit (table n worths) = 16
 shapley_limit (cost_table n costs) = 16
@@ -23,7 +24,8 @@ shapley_limit (assignment rows) = 16
 shapley_limit (market rows) = 16
 shapley_limit (voting quota weights) = 32
 
--- each share is the mean of what its player adds, over all orders of the players, who aren't too many; and the shares are printed as payments where the numbers of the game are costs
+-- each share is the mean of what its player adds, over all orders of the players, who aren't too many; and the shares
+-- are printed as payments where the numbers of the game are costs
 pub record IsShapleyAnswer (d : Contents) (are_costs : Bool) (x : Allocation) : Type 0 where
   pub taken : (game_of d.game).players ≤ shapley_limit d.game
   pub means : IsShapley (game_of d.game) x

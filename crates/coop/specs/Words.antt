@@ -1,13 +1,14 @@
 -- The words of a command line.
 --
---   word_of                the word of a command that reads a document
---   number_text            the decimal digits of a number
---   generation_words       the words that ask for a generated game
---   IsCommand              the words are the one word of a command
---   IsGeneration           the words ask for the game of a kind, of so many players and a seed
---   IsNoCommand            they are neither
---   IsFit                  a request that words can make
---   Names                  what the words ask for
+--   word_of            the word of a command that reads a document
+--   number_text        the decimal digits of a number
+--   generation_words   the words that ask for a generated game
+--   IsCommand          the words are the one word of a command
+--   IsGeneration       the words ask for the game of a kind, of so many players and a seed
+--   IsNoCommand        they are neither
+--   IsRequest          what the words ask for
+--   IsFit              a request that words can make
+--   Names              what the words ask for, or that they are those of no command
 use Rattle.std.specs.Prelude.{◌≡◌, ⊤, ◌<◌, ◌^◌, ℕ, pos, List, [], ◌∷◌, codes, Option, Some, None}
 use Rattle.fractions.specs.FractionTexts.{fraction_text}
 use Rattle.game_text.specs.declared.command.Command.{Command}

@@ -5,13 +5,13 @@ use std::rt::{Stdin, Stdout};
 
 /// Standard input.
 #[derive(Drop)]
-pub struct StdSource {
+pub(crate) struct StdSource {
     input: Stdin,
     faults: u64,
 }
 
 impl StdSource {
-    pub fn new(input: Stdin) -> StdSource {
+    pub(crate) fn new(input: Stdin) -> StdSource {
         StdSource { input, faults: 0 }
     }
 }
@@ -36,13 +36,13 @@ impl Source for StdSource {
 
 /// Standard output, flushed after each write. A write that takes nothing of a piece with bytes counts as a failure.
 #[derive(Drop)]
-pub struct StdSink {
+pub(crate) struct StdSink {
     output: Stdout,
     faults: u64,
 }
 
 impl StdSink {
-    pub fn new(output: Stdout) -> StdSink {
+    pub(crate) fn new(output: Stdout) -> StdSink {
         StdSink { output, faults: 0 }
     }
 }

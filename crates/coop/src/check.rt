@@ -11,9 +11,9 @@ use game_text::Document;
 use report::{Answer, UsageKind};
 use worth_core::Worth;
 
-/// The verdict on what a document says is the nucleolus of its game, or the prenucleolus, by the measure that it says; or that
-/// the game has more players than are checked by it.
-pub fn check_document(document: &Document) -> Answer
+/// The verdict on what a document says is the nucleolus of its game, or the prenucleolus, by the measure that it says;
+/// or that the game has more players than are checked by it.
+pub(crate) fn check_document(document: &Document) -> Answer
     requires { IsComplete (contents_in document.now) }
     ensures checks { Checks (contents_in document.now) result }
     ensures printable { IsPrintable result }

@@ -5,8 +5,9 @@ ghost use Rattle.coop.specs.Classes.{is_market, is_tree, is_no_market, serves_cl
 
 use game_text::{Command, Game};
 
-/// Whether the command serves the class of the game: only `matching` serves a market, and `bird` serves tree games alone.
-pub fn serves_class(command: Command, game: &Game) -> bool
+/// Whether the command serves the class of the game: only `matching` serves a market, and `bird` serves tree games
+/// alone.
+pub(crate) fn serves_class(command: Command, game: &Game) -> bool
     ensures { result ≡ serves_class command (description_in game.now) }
 {
     match command {

@@ -20,9 +20,9 @@ use worth_tables::KeptWorths;
 /// The most players of a game that is tested.
 const MOST: u32 = 16;
 
-/// Whether the game of a document is convex, with its Shapley and marginal shares, or where it first isn't; or that it has more
-/// than 16 players.
-pub fn convex_document(alloc: Global, document: &Document) -> Result<Answer, OutOfMemory>
+/// Whether the game of a document is convex, with its Shapley and marginal shares, or where it first isn't; or that it
+/// has more than 16 players.
+pub(crate) fn convex_document(alloc: Global, document: &Document) -> Result<Answer, OutOfMemory>
     requires { is_no_market (description_in document.now.game) ≡ true }
     ensures says { IfOk result (SaysOfConvex (contents_in document.now)) }
     ensures printable { IfOk result IsPrintable }
@@ -36,7 +36,8 @@ pub fn convex_document(alloc: Global, document: &Document) -> Result<Answer, Out
     Ok(Answer::Convex { is_cost, answer })
 }
 
-// The answer for a game of few players. Each worth is asked for many times: where a class finds it anew each time, all are kept.
+// The answer for a game of few players. Each worth is asked for many times: where a class finds it anew each time, all
+// are kept.
 fn answer_for(alloc: Global, game: &Game) -> Result<ConvexAnswer, OutOfMemory>
     requires class { is_no_market (description_in game.now) ≡ true }
     requires few { (game_of (description_in game.now)).players ≤ 16 }

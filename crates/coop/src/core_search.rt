@@ -25,12 +25,12 @@ use std::alloc::Global;
 use worth_core::{Shares, Worth};
 use worth_tables::KeptWorths;
 
-/// A point of the core of the game of a document, or a collection that shows that the core is empty; or that the game has more
-/// players than are answered: 16 for a voting game.
+/// A point of the core of the game of a document, or a collection that shows that the core is empty; or that the game
+/// has more players than are answered: 16 for a voting game.
 ///
-/// The point of an airport or bankruptcy game is its nucleolus, that of a tree game has Bird's shares, and the others are
-/// answered by the balanced program.
-pub fn core_document(alloc: Global, document: &Document) -> Result<Answer, OutOfMemory>
+/// The point of an airport or bankruptcy game is its nucleolus, that of a tree game has Bird's shares, and the others
+/// are answered by the balanced program.
+pub(crate) fn core_document(alloc: Global, document: &Document) -> Result<Answer, OutOfMemory>
     requires accepted { IsAccepted (contents_in document.now) }
     requires class { is_no_market (description_in document.now.game) ≡ true }
     ensures says { IfOk result (SaysOfCore (contents_in document.now)) }

@@ -25,7 +25,7 @@ use std::alloc::Global;
 use worth_core::{Family, Measure, Shares, Worth, measured_bound};
 
 /// What is said of the nucleolus of a generated game, after the checker has said yes to its certificate.
-pub fn summary_of(
+pub(crate) fn summary_of(
     alloc: Global,
     kind: Kind,
     players: u32,
@@ -71,7 +71,9 @@ fn checked_shares(alloc: Global, game: &Game) -> Result<Shares, OutOfMemory>
 fn approved(game: &Game, shares: Shares, certificate: &Certificate) -> Option<Shares>
     requires shares { length shares.shares ≡ (game_of (description_in game.now)).players }
     requires certificate { certificate.now.players ≡ (game_of (description_in game.now)).players }
-    ensures { MatchOption result (¬ Certifies certificate.now.mode Imputations Plain (game_of (description_in game.now)) shares certificate.now.levels) (IsNucleolus Imputations Plain (game_of (description_in game.now))) }
+    ensures { MatchOption result
+        (¬ Certifies certificate.now.mode Imputations Plain (game_of (description_in game.now)) shares certificate.now.levels)
+        (IsNucleolus Imputations Plain (game_of (description_in game.now))) }
 {
     let verdict = check(
         game,

@@ -13,7 +13,7 @@ use report::Answer;
 use worth_core::{Shares, Worth, scaled, scaled_excess};
 
 /// The judgement on what a document proposes.
-pub fn judge_document(document: &Document) -> Answer
+pub(crate) fn judge_document(document: &Document) -> Answer
     requires { HasShares (contents_in document.now) }
     ensures judges { JudgesAll (contents_in document.now) result }
     ensures printable { IsPrintable result }
@@ -26,7 +26,7 @@ pub fn judge_document(document: &Document) -> Answer
 }
 
 /// Whether the shares add to the worth of all, and whether a coalition blocks them.
-pub fn judge<W: Worth>(game: &W, shares: &Shares, are_costs: bool) -> Answer
+pub(crate) fn judge<W: Worth>(game: &W, shares: &Shares, are_costs: bool) -> Answer
     requires { length shares.now.shares ≡ (W.game game.now).players }
     ensures judges { Judges are_costs (W.game game.now) shares.now result }
     ensures printable { IsPrintable result }
@@ -59,7 +59,7 @@ fn over(num: i128, den: i128) -> Frac
 }
 
 /// A sum of worths as it is printed.
-pub fn printed_amount(amount: i128, are_costs: bool) -> i128
+pub(crate) fn printed_amount(amount: i128, are_costs: bool) -> i128
     requires { unsigned_abs amount < 2 ^ 117 }
     ensures value { result ≡ printed are_costs amount }
     ensures small { unsigned_abs result < 2 ^ 117 }
@@ -68,7 +68,7 @@ pub fn printed_amount(amount: i128, are_costs: bool) -> i128
 }
 
 /// A worth as it is printed.
-pub fn printed_worth(worth: i64, are_costs: bool) -> i64
+pub(crate) fn printed_worth(worth: i64, are_costs: bool) -> i64
     requires { unsigned_abs worth < 2 ^ 63 }
     ensures value { result ≡ printed are_costs worth }
     ensures small { unsigned_abs result < 2 ^ 63 }

@@ -8,7 +8,7 @@ use worth_core::Measure;
 
 /// The most players of a game whose nucleolus is answered: 8 with excess per head. With plain excess they are 64 for an
 /// airport or bankruptcy game, which has a scheme of its own, and 16 for another.
-pub fn nucleolus_limit(measure: Measure, game: &Game) -> u32
+pub(crate) fn nucleolus_limit(measure: Measure, game: &Game) -> u32
     ensures { result ≡ nucleolus_limit measure (description_in game.now) }
 {
     match (measure, game) {
@@ -27,7 +27,7 @@ pub fn nucleolus_limit(measure: Measure, game: &Game) -> u32
 }
 
 /// The most players of a game whose certificates are checked: 16 with excess per head, and 64 with plain excess.
-pub fn check_limit(measure: Measure) -> u32
+pub(crate) fn check_limit(measure: Measure) -> u32
     ensures { result ≡ check_limit measure }
 {
     match measure {
@@ -37,7 +37,7 @@ pub fn check_limit(measure: Measure) -> u32
 }
 
 /// The most players of a game whose core is answered: 16 for a voting game, and 64, which no game exceeds, for another.
-pub fn core_limit(game: &Game) -> u32
+pub(crate) fn core_limit(game: &Game) -> u32
     ensures { result ≡ core_limit (description_in game.now) }
 {
     match game {

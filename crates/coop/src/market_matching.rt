@@ -12,9 +12,9 @@ use game_text::{Document, Game};
 use report::Answer;
 use std::alloc::Global;
 
-/// An optimal matching of the market of a document with its value, and the core points that are best for every buyer and for
-/// every seller.
-pub fn matching_document(alloc: Global, document: &Document) -> Result<Answer, OutOfMemory>
+/// An optimal matching of the market of a document with its value, and the core points that are best for every buyer
+/// and for every seller.
+pub(crate) fn matching_document(alloc: Global, document: &Document) -> Result<Answer, OutOfMemory>
     requires { is_market (description_in document.now.game) ≡ true }
     ensures says { IfOk result (SaysOfMatching (contents_in document.now)) }
     ensures printable { IfOk result IsPrintable }

@@ -16,9 +16,9 @@ use worth_core::{Family, Measure, Shares, Worth};
 /// The most players of a game whose prekernel is tested.
 const MOST: u32 = 16;
 
-/// Whether the shares of a document are in the prekernel of its game, or the first two players that aren't balanced; or that
-/// the game has more than 16 players.
-pub fn kernel_document(document: &Document) -> Answer
+/// Whether the shares of a document are in the prekernel of its game, or the first two players that aren't balanced; or
+/// that the game has more than 16 players.
+pub(crate) fn kernel_document(document: &Document) -> Answer
     requires { HasShares (contents_in document.now) }
     ensures says { SaysOfKernel (contents_in document.now) result }
     ensures printable { IsPrintable result }

@@ -13,7 +13,7 @@ pub struct Reply {
 }
 
 /// What is answered without a document.
-pub fn without_document(answer: Answer) -> Reply
+pub(crate) fn without_document(answer: Answer) -> Reply
     ensures { result ≡ record { answer = answer; scale = pos 1 } }
 {
     Reply { answer, scale: 1 }

@@ -36,9 +36,11 @@ use report::{Answer, UsageKind, write_report};
 use std::alloc::Global;
 use worth_core::Family;
 
-/// Answers what the words ask for, a command on the input of the source or a generated game, and prints one line to the sink.
+/// Answers what the words ask for, a command on the input of the source or a generated game, and prints one line to the
+/// sink.
 ///
-/// The status says what was answered, or why the line wasn't printed whole: a read failed, a write failed, or memory was not found.
+/// The status says what was answered, or why the line wasn't printed whole: a read failed, a write failed, or memory
+/// was not found.
 pub fn run<S: Source, K: Sink>(
     alloc: Global,
     words: &[String],
@@ -51,7 +53,8 @@ pub fn run<S: Source, K: Sink>(
     ensures read { IsCauseOf Status.ReadFault (S.faults source.old) (S.faults source.new) result }
     ensures write { IsCauseOf Status.WriteFault (K.faults sink.old) (K.faults sink.new) result }
     // A document that its command serves has its answer, unless memory isn't found or a port fails.
-    ensures complete { IsComplete (map string_bytes words.now) (S.left source.old) (S.faults source.old) (S.faults source.new) (K.faults sink.old) (K.faults sink.new) result }
+    ensures complete { IsComplete (map string_bytes words.now) (S.left source.old)
+        (S.faults source.old) (S.faults source.new) (K.faults sink.old) (K.faults sink.new) result }
     // For other words no memory is taken.
     ensures other_words { IsNoCommand (map string_bytes words.now) → (result ≡ Status.Usage) ⊎ (result ≡ Status.WriteFault) }
     // For a generated game nothing is read, and its answer is positive.
@@ -81,7 +84,8 @@ pub fn run<S: Source, K: Sink>(
 // The answer to what the words ask for, with its scale.
 fn reply_to<S: Source>(alloc: Global, request: Request, source: &mut S) -> Result<Reply, Stop>
     requires { IsFit request }
-    ensures right { IfOk result (λ r. (words : List (List ℕ)) → IsRequest words request → IsRight words (S.left source.old) (S.left source.new) r.scale r.answer) }
+    ensures right { IfOk result (λ r. (words : List (List ℕ)) → IsRequest words request
+        → IsRight words (S.left source.old) (S.left source.new) r.scale r.answer) }
     ensures scale { IfOk result (λ r. IsScale r.scale) }
     ensures printable { IfOk result (λ r. IsPrintable r.answer) }
     ensures readable { IfOk result (λ r. CanBeRead r.scale r.answer) }

@@ -18,9 +18,9 @@ use std::alloc::Global;
 use voting::{VotingGame, voting_shapley};
 use worth_core::Shares;
 
-/// The Shapley shares of the game of a document, or that it has more players than are answered: 32 for an airport or voting
-/// game, and 16 for another.
-pub fn shapley_document(alloc: Global, document: &Document) -> Result<Answer, OutOfMemory>
+/// The Shapley shares of the game of a document, or that it has more players than are answered: 32 for an airport or
+/// voting game, and 16 for another.
+pub(crate) fn shapley_document(alloc: Global, document: &Document) -> Result<Answer, OutOfMemory>
     requires { is_no_market (description_in document.now.game) ≡ true }
     ensures says { IfOk result (SaysOfShapley (contents_in document.now)) }
     ensures printable { IfOk result IsPrintable }
@@ -34,8 +34,8 @@ pub fn shapley_document(alloc: Global, document: &Document) -> Result<Answer, Ou
     }
 }
 
-// The shares of an airport game by the steps of its costs, those of a voting game by its sums of weights, and those of another
-// by its coalitions.
+// The shares of an airport game by the steps of its costs, those of a voting game by its sums of weights, and those of
+// another by its coalitions.
 fn shares_of(alloc: Global, game: &Game) -> Result<Shares, ShapleyFault>
     requires { is_no_market (description_in game.now) ≡ true }
     ensures value { IfOk result (IsShapley (game_of (description_in game.now))) }

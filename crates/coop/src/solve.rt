@@ -25,12 +25,12 @@ use std::alloc::Global;
 use worth_core::{Family, Measure, Shares, Worth};
 use worth_tables::KeptWorths;
 
-/// The nucleolus of the game of a document, or its prenucleolus, by the measure that the document says, with its certificate;
-/// or that there is no imputation; or that the game has more players than are answered by the measure.
+/// The nucleolus of the game of a document, or its prenucleolus, by the measure that the document says, with its
+/// certificate; or that there is no imputation; or that the game has more players than are answered by the measure.
 ///
-/// With plain excess airport and bankruptcy games have schemes of their own. The others, and all games with excess per head,
-/// are solved by nested linear programs.
-pub fn solve_document(
+/// With plain excess airport and bankruptcy games have schemes of their own. The others, and all games with excess per
+/// head, are solved by nested linear programs.
+pub(crate) fn solve_document(
     alloc: Global,
     document: Document,
     family: Family,
@@ -81,7 +81,11 @@ fn found_for(
 }
 
 /// What the scheme of the game's class finds with plain excess, or else the nested programs.
-pub fn found_plainly(alloc: Global, game: &Game, family: Family) -> Result<Found, OutOfMemory>
+pub(crate) fn found_plainly(
+    alloc: Global,
+    game: &Game,
+    family: Family,
+) -> Result<Found, OutOfMemory>
     requires { HasFewPlayers (description_in game.now) }
     ensures { IfOk result (IsFoundFor family Measure.Plain (game_of (description_in game.now))) }
 {
@@ -138,7 +142,7 @@ fn by_programs<W: Worth>(
 }
 
 /// Shares and certificates are within their limits by their types; these calls say so.
-pub fn keep_their_limits(shares: &Shares, certificate: &Certificate)
+pub(crate) fn keep_their_limits(shares: &Shares, certificate: &Certificate)
     ensures shares { IsShares shares.now }
     ensures certificate { IsCertificate certificate.now }
 {

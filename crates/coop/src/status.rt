@@ -27,7 +27,7 @@ pub enum Status {
 
 impl Status {
     /// The number that the program ends with: 0 to 3 after an answer, 5 to 7 after a fault.
-    pub fn number(self) -> u8
+    pub(crate) fn number(self) -> u8
         ensures { result ≡ status_number self }
     {
         self as u8
@@ -35,7 +35,7 @@ impl Status {
 }
 
 /// The status after an answer was printed.
-pub fn status_of(answer: &Answer) -> Status
+pub(crate) fn status_of(answer: &Answer) -> Status
     ensures { result ≡ status_of answer.now }
 {
     match answer {

@@ -1,5 +1,7 @@
 //! Reading the input whole, and writing a line whole.
-ghost use Rattle.std.specs.Prelude.{◌+◌, ◌^◌, ◌<◌, ◌≤◌, ℕ, length, take, IfOk, OnOk, OnErr, vec_len};
+ghost use Rattle.std.specs.Prelude.{IfOk, OnOk, OnErr};
+ghost use Rattle.std.specs.Prelude.{◌+◌, ◌^◌, ◌<◌, ◌≤◌, ℕ};
+ghost use Rattle.std.specs.Prelude.{length, take, vec_len};
 ghost use Rattle.std.specs.Io.KnownBytes.{Appends, Consumes, IsAtEnd};
 ghost use Rattle.ports.specs.Causes.{HasCause};
 ghost use Rattle.coop.specs.Stops.{IsFaultOf};
@@ -12,7 +14,11 @@ use std::alloc::Global;
 const PIECE: usize = 4096;
 
 /// The bytes up to the end of the source, or one byte more than the limit where there are as many.
-pub fn read_input<S: Source>(alloc: Global, source: &mut S, limit: usize) -> Result<Vec<u8>, Stop>
+pub(crate) fn read_input<S: Source>(
+    alloc: Global,
+    source: &mut S,
+    limit: usize,
+) -> Result<Vec<u8>, Stop>
     requires { limit < 2 ^ 40 }
     ensures bytes { IfOk result (λ v. Consumes (S.left source.old) (S.left source.new) v.items) }
     ensures most { IfOk result (λ v. vec_len v ≤ limit + 1) }
@@ -35,7 +41,7 @@ pub fn read_input<S: Source>(alloc: Global, source: &mut S, limit: usize) -> Res
 }
 
 /// Writes the whole line; where a write fails, the sink has taken a proper front of it.
-pub fn write_line<K: Sink>(sink: &mut K, line: &[u8]) -> Result<(), Failed>
+pub(crate) fn write_line<K: Sink>(sink: &mut K, line: &[u8]) -> Result<(), Failed>
     ensures ok { OnOk result (Appends (K.taken sink.old) (K.taken sink.new) line.now) }
     ensures err { OnErr result ((n : ℕ) × (n < length line.now) × Appends (K.taken sink.old) (K.taken sink.new) (take n line.now)) }
     ensures cause { HasCause (K.faults sink.old) (K.faults sink.new) result }

@@ -1,5 +1,7 @@
 //! The words of a command line.
-ghost use Rattle.std.specs.Prelude.{◌≡◌, ◌≢◌, ◌^◌, ◌<◌, ℕ, pos, [], ◌∷◌, codes, map, string_bytes, IfSome, MatchOption};
+ghost use Rattle.std.specs.Prelude.{◌≡◌, ◌≢◌, IfSome, MatchOption};
+ghost use Rattle.std.specs.Prelude.{◌^◌, ◌<◌, ℕ, pos};
+ghost use Rattle.std.specs.Prelude.{[], ◌∷◌, codes, map, string_bytes};
 ghost use Rattle.report.specs.Lines.{line};
 ghost use Rattle.report.specs.Words.{kind_word};
 ghost use Rattle.coop.specs.Words.{IsRequest, Names, number_text, word_of};
@@ -22,7 +24,7 @@ pub enum Request {
 
 /// What the words ask for: the one word of a command that reads a document, or `gen`, a kind, a number of players and a
 /// seed.
-pub fn request_of(words: &[String]) -> Option<Request>
+pub(crate) fn request_of(words: &[String]) -> Option<Request>
     ensures { Names (map string_bytes words.now) result }
 {
     match words {
@@ -109,7 +111,7 @@ fn generation(first: &str, kind: &str, players: &str, seed: &str) -> Option<Requ
 }
 
 /// The line for other words, which takes no memory.
-pub fn usage_line() -> &'static [u8]
+pub(crate) fn usage_line() -> &'static [u8]
     ensures { result.now ≡ line (pos 1) (Answer.Usage UsageKind.Words) }
 {
     b"{\"usage\":\"words\"}\n"

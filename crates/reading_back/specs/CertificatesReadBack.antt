@@ -1,7 +1,9 @@
 -- What is read of a printed certificate.
 --
---   AreInLowestTerms         each level's excess is in lowest terms
---   CertificatesAreReadBack  the certificate that is read is the one that was printed
+--   HasLowestExcess           a level's excess is in lowest terms
+--   AreInLowestTerms          each level's is
+--   IsReadAs                  a certificate is read of a tree, which passes each test of one
+--   CertificatesAreReadBack   the certificate that is read is the one that was printed
 use Rattle.std.specs.Prelude.{◌≡◌, ℕ, pos, List, true}
 use Rattle.std.specs.List.{AllByRecursion}
 use Rattle.serde_json.specs.Data.{Data}

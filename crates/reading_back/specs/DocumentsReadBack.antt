@@ -1,6 +1,7 @@
 -- What is read of a printed nucleolus or prenucleolus, where it is checked.
 --
---   PrintedNucleolusIsADocument  its game, family, shares and certificate are those that were printed
+--   IsReadOf                      what a document is read as
+--   PrintedNucleolusIsADocument   its game, family, shares and certificate are those that were printed
 use Rattle.std.specs.Prelude.{◌≡◌, pos, length, Some, None}
 use Rattle.serde_json.specs.Data.{Data}
 use Rattle.definitions.specs.Games.{Allocation, IsShares}
@@ -17,7 +18,8 @@ use Rattle.report.specs.Lines.{nucleolus_tree}
 use Rattle.reading_back.specs.ReadBack.{IsAgain}
 use Rattle.reading_back.specs.CertificatesReadBack.{AreInLowestTerms}
 
--- the contents are the game, the measure and the scale of the tree g, the family f, the shares of x and the certificate c
+-- the contents are the game, the measure and the scale of the tree g, the family f, the shares of x and the
+-- certificate c
 pub record IsReadOf (f : Family) (g : Data) (x : Allocation) (c : CertificateData) (contents : Contents) : Type 0 where
   pub game : contents.game ≡ description_of g
   pub tree : contents.tree ≡ g
@@ -27,8 +29,9 @@ pub record IsReadOf (f : Family) (g : Data) (x : Allocation) (c : CertificateDat
   pub shares : (y : Allocation) × (contents.shares ≡ Some y) × IsAgain x y
   pub certificate : contents.certificate ≡ Some c
 
--- a game whose document no test refused, with a share for each player and a certificate for them: what is printed of them is not refused where it is
--- checked, and is read with the game, the measure, the family, the shares and the certificate that were printed
+-- a game whose document no test refused, with a share for each player and a certificate for them: what is printed of
+-- them is not refused where it is checked, and is read with the game, the measure, the family, the shares and the
+-- certificate that were printed
 abbrev pub PrintedNucleolusIsADocument : Type 0
 PrintedNucleolusIsADocument = (command : Command) (document : Data) (family : Family) (x : Allocation) (c : CertificateData)
     → tree_refusal command document ≡ None

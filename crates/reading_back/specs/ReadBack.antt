@@ -1,8 +1,10 @@
 -- What is read of a printed list of shares.
 --
---   kept_share           a share as it is kept, in lowest terms
---   ShareListsAreArrays  it is an array of texts, one a share
---   SharesAreReadBack    the shares that are read of it are those that were printed
+--   kept_share            a share as it is kept, in lowest terms
+--   ShareListsAreArrays   a printed list is an array of texts, one a share
+--   IsAgain               shares within their limits that are the same in each game
+--   AreReadBack           the tree passes each test of its shares, and they are those that were printed
+--   SharesAreReadBack     the law: the texts of shares are so read
 use Rattle.std.specs.Prelude.{◌≡◌, ℕ, ℤ, pos, codes, length, map, Bool, true}
 use Rattle.serde_json.specs.Data.{Data}
 use Rattle.definitions.specs.Games.{Game, Allocation, IsAllocation, IsSame, IsShares}

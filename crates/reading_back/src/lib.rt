@@ -23,8 +23,8 @@ pub fn certificates_are_read_back()
     ensures { CertificatesAreReadBack }
 {}
 
-/// What is printed of the nucleolus or the prenucleolus of a game is not refused where it is checked, and is read with the
-/// same game, measure, family and certificate, and with the same shares, perhaps over another denominator.
+/// What is printed of the nucleolus or the prenucleolus of a game is not refused where it is checked, and is read with
+/// the same game, measure, family and certificate, and with the same shares, perhaps over another denominator.
 pub fn printed_nucleolus_is_a_document()
     ensures { PrintedNucleolusIsADocument }
 {}

@@ -1,9 +1,10 @@
 -- Bird's shares and plan as JSON, the object's keys ascending.
 --
---   edge_cost   what a link costs, over the scale
---   edge_tree   an edge of the plan: the connected end, the new player and the cost
---   edge_list   the edges in the order of connection
---   bird_tree   the shares, as payments, and the edges
+--   edge_cost_by   what a link costs: an integer, or a text over the scale
+--   edge_cost      the one at scale 1, the other at each other scale
+--   edge_tree      an edge of the plan: the connected end, the new player and the cost
+--   edge_list      the edges in the order of connection
+--   bird_tree      the shares, as payments, and the edges
 use Rattle.std.specs.Prelude.{ℕ, ℤ, List, map, Bool, true, false, codes, nat_eq}
 use Rattle.serde_json.specs.Data.{Data, number, string, array, object, item, no_items, member, no_members}
 use Rattle.serde_json.specs.Find.{of_integer}

@@ -1,11 +1,14 @@
 -- A certificate as JSON, each object's keys ascending.
 --
---   weight_data       a weight, or a total
---   weight_pair       what has a weight, and its weight
---   coalition_pair    a coalition and its weight
---   bound_pair        a player and the weight of its bound
---   level_tree        a level
---   certificate_tree  the levels and the mode
+--   weight_data        a weight, or a total
+--   weight_pair        what has a weight, and its weight
+--   coalition_pair     a coalition and its weight
+--   bound_pair         a player and the weight of its bound
+--   coalition_pairs    coalitions and their weights
+--   bound_pairs        players and the weights of their bounds
+--   excess_of          the excess of a level, as a fraction
+--   level_tree         a level
+--   certificate_tree   the levels and the mode
 use Rattle.std.specs.Prelude.{ℕ, ℤ, List, map, codes}
 use Rattle.serde_json.specs.Data.{Data, number, string, array, object, item, no_items, member, no_members}
 use Rattle.serde_json.specs.Find.{of_integer}

@@ -8,7 +8,8 @@ use Rattle.convexity.specs.declared.answers.ConvexAnswer.TheVariants.{Convex, No
 use Rattle.report.specs.Values.{integer_data, player_data, player_numbers}
 use Rattle.report.specs.ShareLists.{share_list}
 
--- both lists of shares of a convex game; or the coalition and the players at which the game isn't convex, and the worth that is missing there
+-- both lists of shares of a convex game; or the coalition and the players at which the game isn't convex, and the worth
+-- that is missing there
 abbrev pub convex_tree : ℕ → Bool → ConvexAnswer → Data
 convex_tree k is_cost (Convex shapley marginal) =
     object

@@ -1,8 +1,15 @@
 -- What can be printed.
 --
---   IsScale      a scale, from 1 to 65,536
---   IsFine       a denominator that can be printed over a scale
---   IsPrintable  an answer that can be printed over any scale
+--   IsScale            a scale, from 1 to 65,536
+--   IsFine             a denominator that can be printed over a scale
+--   IsFineVerdict      the excess of a verdict has such a denominator
+--   IsFineIfThere      so has the fraction, where there is one
+--   HasFineNumbers     each fraction in an answer has one
+--   IsGameTree         the tree of a game that can be printed
+--   HasSmallNumbers    the weights and the k of a collection are below 2^63 in size
+--   HasPrintableForm   an answer has such a tree, or such numbers
+--   IsPrintable        an answer that can be printed over any scale
+--   HasSmallWeights    the weights and the total of a level are below 2^63 in size
 use Rattle.std.specs.Prelude.{◌≡◌, ◌≤◌, ◌^◌, ⊤, false, ℤ, pos, ◌≤ℤ◌, ◌<ℤ◌, Option, Some, None}
 use Rattle.std.specs.List.{AllByRecursion}
 use Rattle.serde_json.specs.Data.{Data, depth}

@@ -1,8 +1,12 @@
 -- What the line of a nucleolus says to a reader.
 --
---   IsReadBack          a fraction is read from its text
---   SaysNucleolus       the tree is read from its text, and has its parts at their keys
---   NucleoliAreReadBack, NucleoliAreShort, ScaledFractionsAreReadBack     the laws
+--   IsReadBack                   a fraction is read from its text
+--   ExcessesAreReadBack          so is the excess of each level
+--   SharesAreReadBack            so is each share
+--   SaysNucleolus                the tree is read from its text, and has its parts at their keys
+--   NucleoliAreReadBack          the law: the tree of a nucleolus is so, and its shares are read back
+--   NucleoliAreShort             the law: its text is little longer than that of the game
+--   ScaledFractionsAreReadBack   the law: a fraction is read over a scale, and times the scale is as before
 use Rattle.std.specs.Prelude.{◌≡◌, ◌+◌, ◌^◌, ◌≤◌, ℕ, pos, List, length, Some, Bool, codes, FitsSigned}
 use Rattle.std.specs.List.{AllByRecursion}
 use Rattle.serde_json.specs.Data.{Data, string, depth}

@@ -1,8 +1,9 @@
 -- Lists of shares.
 --
---   printed_share  a share as it is printed, over the scale
---   share_data     its text
---   share_list     the shares of all players
+--   as_printed      a numerator as it is printed
+--   printed_share   a share as it is printed, over the scale
+--   share_data      its text
+--   share_list      the shares of all players
 use Rattle.std.specs.Prelude.{ℕ, ℤ, pos, neg_ℤ, ◌*ℤ◌, map, Bool, if◌then◌else◌}
 use Rattle.serde_json.specs.Data.{Data, array}
 use Rattle.serde_json.specs.View.{items_of}

@@ -1,4 +1,11 @@
 -- Fractions over a scale, players and coalitions as JSON.
+--
+--   fraction_data    the text of a fraction
+--   scaled_data      the text of a fraction over the scale
+--   integer_data     the text of an integer over the scale
+--   count_data       a level, or the number of a refusal or a reason
+--   player_data      a player, from 1
+--   player_numbers   the members of a coalition
 use Rattle.std.specs.Prelude.{ℕ, ℤ, pos, ◌+◌, map}
 use Rattle.serde_json.specs.Data.{Data, number, unsigned, string, array}
 use Rattle.serde_json.specs.View.{items_of}

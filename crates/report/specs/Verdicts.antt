@@ -1,4 +1,13 @@
--- What is printed for a verdict. Levels and players count from 1, reasons from 1 in the order in which conditions are tested.
+-- What is printed for a verdict. Levels and players count from 1, reasons from 1 in the order in which conditions are
+-- tested.
+--
+--   no_alone          a reason without a place
+--   no_at_player      a reason with a player
+--   no_at_coalition   a reason with a level and a coalition
+--   no_at_level       a reason with a level and a player
+--   no_above          a reason with a level and an excess
+--   reason_tree       the first condition that fails
+--   verdict_tree      yes, or no and why
 use Rattle.std.specs.Prelude.{ℕ, codes}
 use Rattle.serde_json.specs.Data.{Data, string, object, member, no_members}
 use Rattle.fractions.specs.Fraction.{Fraction}

@@ -1,4 +1,10 @@
 -- The words that stand in a line.
+--
+--   refusal_name   the name of a refusal
+--   usage_word     what is wrong with the words of a command line
+--   family_word    the nucleolus, or the prenucleolus
+--   mode_word      what the levels of a certificate fix
+--   kind_word      the kind of a generated game
 use Rattle.std.specs.Prelude.{ℕ, List, codes}
 use Rattle.definitions.specs.declared.Family.{Family}
 use Rattle.definitions.specs.declared.Family.TheVariants.{Imputations, Preimputations}

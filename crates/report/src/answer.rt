@@ -75,16 +75,16 @@ pub enum Answer {
         shares: Shares,
         tree: Tree,
     },
-    /// The Shapley and the marginal shares of a convex game as worth, printed as payments where `is_cost`; or where the game
-    /// isn't convex, and how much worth is missing there.
+    /// The Shapley and the marginal shares of a convex game as worth, printed as payments where `is_cost`; or where the
+    /// game isn't convex, and how much worth is missing there.
     Convex {
         is_cost: bool,
         answer: ConvexAnswer,
     },
     /// The shares are in the prekernel.
     Prekernel,
-    /// They aren't: `i` and `j` are the first players of different surpluses, `ij` of `i` against `j` and `ji` of `j` against
-    /// `i`, both as worth.
+    /// They aren't: `i` and `j` are the first players of different surpluses, `ij` of `i` against `j` and `ji` of `j`
+    /// against `i`, both as worth.
     NotPrekernel {
         i: u32,
         j: u32,

@@ -13,7 +13,7 @@ use tree_games::Tree;
 use worth_core::Shares;
 
 /// The JSON tree of what each player pays in Bird's plan, beside the edges of the plan.
-pub fn bird_tree(
+pub(crate) fn bird_tree(
     alloc: Global,
     shares: &Shares,
     tree: &Tree,

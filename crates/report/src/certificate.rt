@@ -18,7 +18,7 @@ use serde_json::{Map, Value, json};
 use std::alloc::Global;
 
 /// The JSON tree of a certificate, its excesses over the scale.
-pub fn certificate_tree(
+pub(crate) fn certificate_tree(
     alloc: Global,
     certificate: &Certificate,
     scale: u32,
@@ -90,7 +90,7 @@ fn level_object(
 }
 
 /// What has a weight: a coalition, or a player for its bound.
-pub trait Weighted {
+pub(crate) trait Weighted {
     /// Its JSON.
     ghost tree: { Self → Data };
 
@@ -121,7 +121,10 @@ impl Weighted for u32 {
 }
 
 /// What has weights, each with its weight, as one value.
-pub fn weight_list<K: Weighted>(alloc: Global, pairs: &[(K, i128)]) -> Result<Value, OutOfMemory>
+pub(crate) fn weight_list<K: Weighted>(
+    alloc: Global,
+    pairs: &[(K, i128)],
+) -> Result<Value, OutOfMemory>
     requires { AllByRecursion (λ p. IsSmall p.1) pairs.now }
     ensures { IfOk result (λ v. view v ≡ array (items_of (map (weight_pair K.tree) pairs.now))) }
 {
@@ -152,7 +155,7 @@ fn weight_pair<K: Weighted>(alloc: Global, key: &K, weight: i128) -> Result<Valu
 }
 
 /// A weight, or a total.
-pub fn weight_value(weight: i128) -> Value
+pub(crate) fn weight_value(weight: i128) -> Value
     requires { IsSmall weight }
     ensures { view result ≡ weight_data weight }
 {

@@ -17,7 +17,7 @@ use std::alloc::Global;
 use worth_core::Shares;
 
 /// The JSON tree of what is said of a game's convexity.
-pub fn convex_tree(
+pub(crate) fn convex_tree(
     alloc: Global,
     is_cost: bool,
     answer: &ConvexAnswer,

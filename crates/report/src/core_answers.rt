@@ -18,7 +18,7 @@ use std::alloc::Global;
 use worth_core::Shares;
 
 /// The JSON tree of a point of the core.
-pub fn core_point_tree(
+pub(crate) fn core_point_tree(
     alloc: Global,
     is_cost: bool,
     shares: &Shares,
@@ -32,8 +32,9 @@ pub fn core_point_tree(
     Ok(tree)
 }
 
-/// The JSON tree of a collection that shows that the core is empty, beside the two numbers that it sets against each other.
-pub fn empty_core_tree(
+/// The JSON tree of a collection that shows that the core is empty, beside the two numbers that it sets against each
+/// other.
+pub(crate) fn empty_core_tree(
     alloc: Global,
     collection: &Collection,
     value: i128,

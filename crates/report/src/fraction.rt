@@ -12,7 +12,7 @@ use serde_json::Value;
 use std::alloc::Global;
 
 /// The text of a fraction.
-pub fn text_of(alloc: Global, value: &Frac) -> Result<String, OutOfMemory>
+pub(crate) fn text_of(alloc: Global, value: &Frac) -> Result<String, OutOfMemory>
     ensures { IfOk result (λ s. string_bytes s ≡ fraction_text value.now) }
 {
     let mut text = Vec::new(alloc);
@@ -34,7 +34,7 @@ fn over(value: &Frac, scale: u32) -> Frac
 }
 
 /// The text of a fraction over the scale, in lowest terms.
-pub fn text_over(alloc: Global, value: &Frac, scale: u32) -> Result<String, OutOfMemory>
+pub(crate) fn text_over(alloc: Global, value: &Frac, scale: u32) -> Result<String, OutOfMemory>
     requires scale { IsScale (pos scale) }
     requires fine { IsFine value.now.den }
     ensures { IfOk result (λ s. string_bytes s ≡ fraction_text (over_scale (pos scale) value.now)) }
@@ -43,7 +43,7 @@ pub fn text_over(alloc: Global, value: &Frac, scale: u32) -> Result<String, OutO
 }
 
 /// The text of an integer over the scale, in lowest terms.
-pub fn integer_over(alloc: Global, value: i128, scale: u32) -> Result<String, OutOfMemory>
+fn integer_over(alloc: Global, value: i128, scale: u32) -> Result<String, OutOfMemory>
     requires { IsScale (pos scale) }
     ensures { IfOk result (λ s. string_bytes s ≡ fraction_text (over_scale (pos scale) (record { num = value; den = pos 1 }))) }
 {
@@ -51,7 +51,7 @@ pub fn integer_over(alloc: Global, value: i128, scale: u32) -> Result<String, Ou
 }
 
 /// The text of a fraction over the scale, as JSON.
-pub fn value_over(alloc: Global, value: &Frac, scale: u32) -> Result<Value, OutOfMemory>
+pub(crate) fn value_over(alloc: Global, value: &Frac, scale: u32) -> Result<Value, OutOfMemory>
     requires scale { IsScale (pos scale) }
     requires fine { IsFine value.now.den }
     ensures { IfOk result (λ v. view v ≡ scaled_data scale value.now) }
@@ -61,7 +61,7 @@ pub fn value_over(alloc: Global, value: &Frac, scale: u32) -> Result<Value, OutO
 }
 
 /// The text of an integer over the scale, as JSON.
-pub fn integer_value(alloc: Global, value: i128, scale: u32) -> Result<Value, OutOfMemory>
+pub(crate) fn integer_value(alloc: Global, value: i128, scale: u32) -> Result<Value, OutOfMemory>
     requires { IsScale (pos scale) }
     ensures { IfOk result (λ v. view v ≡ integer_data scale value) }
 {

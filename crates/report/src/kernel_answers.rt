@@ -13,7 +13,7 @@ use serde_json::{Map, Value, json};
 use std::alloc::Global;
 
 /// The JSON tree of shares in the prekernel.
-pub fn prekernel_tree(alloc: Global) -> Result<Value, OutOfMemory>
+pub(crate) fn prekernel_tree(alloc: Global) -> Result<Value, OutOfMemory>
     ensures { IfOk result (λ v. view v ≡ prekernel_tree) }
 {
     let tree = json!(in alloc; {"answer": "prekernel"})?;
@@ -21,7 +21,7 @@ pub fn prekernel_tree(alloc: Global) -> Result<Value, OutOfMemory>
 }
 
 /// The JSON tree of two players whose surpluses differ.
-pub fn not_prekernel_tree(
+pub(crate) fn not_prekernel_tree(
     alloc: Global,
     i: u32,
     j: u32,

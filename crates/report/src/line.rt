@@ -27,8 +27,8 @@ use game_text::Refusal;
 use serde_json::{Map, Value, json};
 use std::alloc::Global;
 
-/// The line of an answer: compact JSON with ascending keys, and a newline. Its fractions and shares are printed over the
-/// scale, which is from 1 to 65,536.
+/// The line of an answer: compact JSON with ascending keys, and a newline. Its fractions and shares are printed over
+/// the scale, which is from 1 to 65,536.
 pub fn write_report(alloc: Global, answer: Answer, scale: i64) -> Result<Vec<u8>, OutOfMemory>
     requires scale { IsScale scale }
     requires printable { IsPrintable answer }

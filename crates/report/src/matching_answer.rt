@@ -15,7 +15,11 @@ use serde_json::{Map, Value, json};
 use std::alloc::Global;
 
 /// The JSON tree of the pairs of a market with their value, beside the core points that are best for either side.
-pub fn matching_tree(alloc: Global, solution: &Solution, scale: u32) -> Result<Value, OutOfMemory>
+pub(crate) fn matching_tree(
+    alloc: Global,
+    solution: &Solution,
+    scale: u32,
+) -> Result<Value, OutOfMemory>
     requires { IsScale (pos scale) }
     ensures { IfOk result (λ v. view v ≡ matching_tree scale solution.now) }
 {

@@ -17,7 +17,7 @@ use std::alloc::Global;
 use worth_core::{Family, Shares};
 
 /// The JSON tree of the nucleolus or the prenucleolus, beside the tree of the game.
-pub fn nucleolus_tree(
+pub(crate) fn nucleolus_tree(
     alloc: Global,
     family: Family,
     game: Value,

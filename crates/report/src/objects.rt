@@ -8,7 +8,7 @@ use serde_json::{Map, Value, put};
 use std::alloc::Global;
 
 /// The members, with this one at its key.
-pub fn with(
+pub(crate) fn with(
     alloc: Global,
     members: Map<String, Value>,
     key: &str,

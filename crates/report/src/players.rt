@@ -10,7 +10,7 @@ use serde_json::Value;
 use std::alloc::Global;
 
 /// The members of a coalition, from 1 and ascending.
-pub fn player_numbers(alloc: Global, coalition: Coalition) -> Result<Vec<Value>, OutOfMemory>
+pub(crate) fn player_numbers(alloc: Global, coalition: Coalition) -> Result<Vec<Value>, OutOfMemory>
     ensures { IfOk result (λ v. map view v.items ≡ map player_data (members 64 coalition)) }
 {
     let members = coalition.members();
@@ -22,7 +22,7 @@ pub fn player_numbers(alloc: Global, coalition: Coalition) -> Result<Vec<Value>,
 }
 
 /// A player, from 1.
-pub fn player_value(player: u32) -> Value
+pub(crate) fn player_value(player: u32) -> Value
     ensures { view result ≡ player_data player }
 {
     Value::from(u64::from(player) + 1)

@@ -11,7 +11,7 @@ use std::alloc::Global;
 use worth_core::Shares;
 
 /// The JSON tree of the Shapley shares.
-pub fn shapley_tree(
+pub(crate) fn shapley_tree(
     alloc: Global,
     is_cost: bool,
     shares: &Shares,

@@ -12,7 +12,7 @@ use std::alloc::Global;
 use worth_core::Shares;
 
 /// The texts of the shares over the scale, in lowest terms; where the game is one of costs, of the payments.
-pub fn share_texts(
+pub(crate) fn share_texts(
     alloc: Global,
     shares: &Shares,
     is_cost: bool,
@@ -30,7 +30,7 @@ pub fn share_texts(
 }
 
 /// The text of the share num/den over the scale, in lowest terms; where the game is one of costs, of the payment.
-pub fn share_text(
+pub(crate) fn share_text(
     alloc: Global,
     num: i128,
     den: i128,

@@ -34,7 +34,11 @@ pub struct Summary {
 }
 
 /// The JSON tree of a summary.
-pub fn summary_tree(alloc: Global, summary: &Summary, scale: u32) -> Result<Value, OutOfMemory>
+pub(crate) fn summary_tree(
+    alloc: Global,
+    summary: &Summary,
+    scale: u32,
+) -> Result<Value, OutOfMemory>
     requires scale { IsScale (pos scale) }
     requires fine { IsFineIfThere summary.now.greatest }
     ensures { IfOk result (λ v. view v ≡ summary_tree scale summary.now) }

@@ -13,7 +13,11 @@ use serde_json::{Value, json};
 use std::alloc::Global;
 
 /// The JSON tree of a verdict.
-pub fn verdict_tree(alloc: Global, verdict: Verdict, scale: u32) -> Result<Value, OutOfMemory>
+pub(crate) fn verdict_tree(
+    alloc: Global,
+    verdict: Verdict,
+    scale: u32,
+) -> Result<Value, OutOfMemory>
     requires scale { IsScale (pos scale) }
     requires fine { IsFineVerdict verdict }
     ensures { IfOk result (λ v. view v ≡ verdict_tree scale verdict) }

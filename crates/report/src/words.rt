@@ -7,7 +7,7 @@ use game_text::{Kind, Refusal};
 use kohlberg::{Family, Mode};
 
 /// The name of a refusal.
-pub fn refusal_name(refusal: Refusal) -> &'static str
+pub(crate) fn refusal_name(refusal: Refusal) -> &'static str
     ensures { result.now ≡ refusal_name refusal }
 {
     match refusal {
@@ -28,7 +28,7 @@ pub fn refusal_name(refusal: Refusal) -> &'static str
 }
 
 /// The word for what is wrong with the words of a command line.
-pub fn usage_word(kind: UsageKind) -> &'static str
+pub(crate) fn usage_word(kind: UsageKind) -> &'static str
     ensures { result.now ≡ usage_word kind }
 {
     match kind {
@@ -39,7 +39,7 @@ pub fn usage_word(kind: UsageKind) -> &'static str
 }
 
 /// The word for the best of the imputations, or of the preimputations.
-pub fn family_word(family: Family) -> &'static str
+pub(crate) fn family_word(family: Family) -> &'static str
     ensures { result.now ≡ family_word family }
 {
     match family {
@@ -49,7 +49,7 @@ pub fn family_word(family: Family) -> &'static str
 }
 
 /// The word for what the levels of a certificate fix.
-pub fn mode_word(mode: Mode) -> &'static str
+pub(crate) fn mode_word(mode: Mode) -> &'static str
     ensures { result.now ≡ mode_word mode }
 {
     match mode {
@@ -59,7 +59,7 @@ pub fn mode_word(mode: Mode) -> &'static str
 }
 
 /// The word for a kind of generated games.
-pub fn kind_word(kind: Kind) -> &'static str
+pub(crate) fn kind_word(kind: Kind) -> &'static str
     ensures { result.now ≡ kind_word kind }
 {
     match kind {

@@ -7,42 +7,60 @@ use std::test::Fail;
 fn checks_the_worked_certificates(rt: HostRuntime) -> Result<(), Fail> {
     for (input, line, status) in [
         (
-            "{\"answer\":\"nucleolus\",\"certificate\":{\"levels\":[{\"bounds\":[],\"coalitions\":[[[1],1],[[2,3],1]],\"earlier\":[],\"excess\":\"-1\",\"total\":1},{\"bounds\":[],\"coalitions\":[[[1,2],1],[[1,3],1]],\"earlier\":[[[1],-1]],\"excess\":\"-3/2\",\"total\":1}],\"mode\":\"players\"},\"game\":{\"class\":\"airport\",\"costs\":[2,4,6]},\"shares\":[\"1\",\"3/2\",\"7/2\"]}",
+            "{\"answer\":\"nucleolus\",\"certificate\":{\"levels\":[{\"bounds\":[],\"coalitions\":[[[1],1],[[2,3],1]],\"earlier\":[],\
+             \"excess\":\"-1\",\"total\":1},{\"bounds\":[],\"coalitions\":[[[1,2],1],[[1,3],1]],\"earlier\":[[[1],-1]],\"excess\":\"-3/2\",\
+             \"total\":1}],\"mode\":\"players\"},\"game\":{\"class\":\"airport\",\"costs\":[2,4,6]},\"shares\":[\"1\",\"3/2\",\"7/2\"]}",
             "{\"answer\":\"yes\"}\n",
             Status::Done,
         ),
         (
-            "{\"answer\":\"nucleolus\",\"certificate\":{\"levels\":[{\"bounds\":[],\"coalitions\":[[[1],1],[[2,3],1]],\"earlier\":[],\"excess\":\"-1\",\"total\":1},{\"bounds\":[],\"coalitions\":[[[1,2],2],[[1,3],1]],\"earlier\":[[[1],-1]],\"excess\":\"-3/2\",\"total\":1}],\"mode\":\"players\"},\"game\":{\"class\":\"airport\",\"costs\":[2,4,6]},\"shares\":[\"1\",\"3/2\",\"7/2\"]}",
+            "{\"answer\":\"nucleolus\",\"certificate\":{\"levels\":[{\"bounds\":[],\"coalitions\":[[[1],1],[[2,3],1]],\"earlier\":[],\
+             \"excess\":\"-1\",\"total\":1},{\"bounds\":[],\"coalitions\":[[[1,2],2],[[1,3],1]],\"earlier\":[[[1],-1]],\"excess\":\"-3/2\",\
+             \"total\":1}],\"mode\":\"players\"},\"game\":{\"class\":\"airport\",\"costs\":[2,4,6]},\"shares\":[\"1\",\"3/2\",\"7/2\"]}",
             "{\"answer\":\"no\",\"level\":2,\"player\":1,\"reason\":5}\n",
             Status::Negative,
         ),
         (
-            "{\"answer\":\"nucleolus\",\"certificate\":{\"levels\":[{\"bounds\":[],\"coalitions\":[[[1],1],[[2,3],1]],\"earlier\":[],\"excess\":\"-1\",\"total\":1},{\"bounds\":[],\"coalitions\":[[[1,2],1],[[1,3],1]],\"earlier\":[[[1],-1]],\"excess\":\"-3/2\",\"total\":1}],\"mode\":\"players\"},\"game\":{\"class\":\"airport\",\"costs\":[2,4,6]},\"shares\":[\"1\",\"3/2\",\"9/2\"]}",
+            "{\"answer\":\"nucleolus\",\"certificate\":{\"levels\":[{\"bounds\":[],\"coalitions\":[[[1],1],[[2,3],1]],\"earlier\":[],\
+             \"excess\":\"-1\",\"total\":1},{\"bounds\":[],\"coalitions\":[[[1,2],1],[[1,3],1]],\"earlier\":[[[1],-1]],\"excess\":\"-3/2\",\
+             \"total\":1}],\"mode\":\"players\"},\"game\":{\"class\":\"airport\",\"costs\":[2,4,6]},\"shares\":[\"1\",\"3/2\",\"9/2\"]}",
             "{\"answer\":\"no\",\"reason\":1}\n",
             Status::Negative,
         ),
         (
-            "{\"answer\":\"prenucleolus\",\"certificate\":{\"levels\":[{\"bounds\":[],\"coalitions\":[[[1,2],1],[[3],1]],\"earlier\":[],\"excess\":\"2\",\"total\":1},{\"bounds\":[],\"coalitions\":[[[1,3],1],[[2,3],1]],\"earlier\":[[[3],-1]],\"excess\":\"1\",\"total\":1}],\"mode\":\"span\"},\"game\":{\"class\":\"table\",\"players\":3,\"worths\":[0,0,4,0,0,0,0]},\"shares\":[\"1\",\"1\",\"-2\"]}",
+            "{\"answer\":\"prenucleolus\",\"certificate\":{\"levels\":[{\"bounds\":[],\"coalitions\":[[[1,2],1],[[3],1]],\"earlier\":[],\
+             \"excess\":\"2\",\"total\":1},{\"bounds\":[],\"coalitions\":[[[1,3],1],[[2,3],1]],\"earlier\":[[[3],-1]],\"excess\":\"1\",\"total\":1}],\
+             \"mode\":\"span\"},\"game\":{\"class\":\"table\",\"players\":3,\"worths\":[0,0,4,0,0,0,0]},\"shares\":[\"1\",\"1\",\"-2\"]}",
             "{\"answer\":\"yes\"}\n",
             Status::Done,
         ),
         (
-            "{\"answer\":\"nucleolus\",\"certificate\":{\"levels\":[{\"bounds\":[],\"coalitions\":[[[1,2],1],[[3],1]],\"earlier\":[],\"excess\":\"2\",\"total\":1},{\"bounds\":[],\"coalitions\":[[[1,3],1],[[2,3],1]],\"earlier\":[[[3],-1]],\"excess\":\"1\",\"total\":1}],\"mode\":\"span\"},\"game\":{\"class\":\"table\",\"players\":3,\"worths\":[0,0,4,0,0,0,0]},\"shares\":[\"1\",\"1\",\"-2\"]}",
+            "{\"answer\":\"nucleolus\",\"certificate\":{\"levels\":[{\"bounds\":[],\"coalitions\":[[[1,2],1],[[3],1]],\"earlier\":[],\
+             \"excess\":\"2\",\"total\":1},{\"bounds\":[],\"coalitions\":[[[1,3],1],[[2,3],1]],\"earlier\":[[[3],-1]],\"excess\":\"1\",\"total\":1}],\
+             \"mode\":\"span\"},\"game\":{\"class\":\"table\",\"players\":3,\"worths\":[0,0,4,0,0,0,0]},\"shares\":[\"1\",\"1\",\"-2\"]}",
             "{\"answer\":\"no\",\"player\":3,\"reason\":2}\n",
             Status::Negative,
         ),
         (
-            "{\"answer\":\"nucleolus\",\"certificate\":{\"levels\":[{\"bounds\":[],\"coalitions\":[[[2,3],1],[[1,4],1]],\"earlier\":[],\"excess\":\"0\",\"total\":1},{\"bounds\":[],\"coalitions\":[[[1,3],1],[[2,4],1]],\"earlier\":[],\"excess\":\"-2\",\"total\":1},{\"bounds\":[],\"coalitions\":[[[1],1],[[3],1]],\"earlier\":[[[1,3],-1]],\"excess\":\"-7/2\",\"total\":0}],\"mode\":\"span\"},\"game\":{\"class\":\"table\",\"players\":4,\"worths\":[0,0,0,0,5,7,7,0,8,6,8,0,8,7,15]},\"shares\":[\"7/2\",\"7/2\",\"7/2\",\"9/2\"]}",
+            "{\"answer\":\"nucleolus\",\"certificate\":{\"levels\":[{\"bounds\":[],\"coalitions\":[[[2,3],1],[[1,4],1]],\"earlier\":[],\
+             \"excess\":\"0\",\"total\":1},{\"bounds\":[],\"coalitions\":[[[1,3],1],[[2,4],1]],\"earlier\":[],\"excess\":\"-2\",\"total\":1},\
+             {\"bounds\":[],\"coalitions\":[[[1],1],[[3],1]],\"earlier\":[[[1,3],-1]],\"excess\":\"-7/2\",\"total\":0}],\"mode\":\"span\"},\
+             \"game\":{\"class\":\"table\",\"players\":4,\"worths\":[0,0,0,0,5,7,7,0,8,6,8,0,8,7,15]},\"shares\":[\"7/2\",\"7/2\",\"7/2\",\"9/2\"]}",
             "{\"answer\":\"yes\"}\n",
             Status::Done,
         ),
         (
-            "{\"answer\":\"nucleolus\",\"certificate\":{\"levels\":[{\"bounds\":[],\"coalitions\":[[[2,3],1],[[1,4],1]],\"earlier\":[],\"excess\":\"0\",\"total\":1},{\"bounds\":[],\"coalitions\":[[[1,3],1],[[2,4],1]],\"earlier\":[],\"excess\":\"-2\",\"total\":1}],\"mode\":\"span\"},\"game\":{\"class\":\"table\",\"players\":4,\"worths\":[0,0,0,0,5,7,7,0,8,6,8,0,8,7,15]},\"shares\":[\"2\",\"2\",\"5\",\"6\"]}",
+            "{\"answer\":\"nucleolus\",\"certificate\":{\"levels\":[{\"bounds\":[],\"coalitions\":[[[2,3],1],[[1,4],1]],\"earlier\":[],\
+             \"excess\":\"0\",\"total\":1},{\"bounds\":[],\"coalitions\":[[[1,3],1],[[2,4],1]],\"earlier\":[],\"excess\":\"-2\",\"total\":1}],\
+             \"mode\":\"span\"},\"game\":{\"class\":\"table\",\"players\":4,\"worths\":[0,0,0,0,5,7,7,0,8,6,8,0,8,7,15]},\
+             \"shares\":[\"2\",\"2\",\"5\",\"6\"]}",
             "{\"answer\":\"no\",\"player\":1,\"reason\":8}\n",
             Status::Negative,
         ),
         (
-            "{\"answer\":\"nucleolus\",\"certificate\":{\"levels\":[{\"bounds\":[],\"coalitions\":[[[1,3],1],[[2,4],1]],\"earlier\":[],\"excess\":\"-2\",\"total\":1}],\"mode\":\"span\"},\"game\":{\"class\":\"table\",\"players\":4,\"worths\":[0,0,0,0,5,7,7,0,8,6,8,0,8,7,15]},\"shares\":[\"7/2\",\"7/2\",\"7/2\",\"9/2\"]}",
+            "{\"answer\":\"nucleolus\",\"certificate\":{\"levels\":[{\"bounds\":[],\"coalitions\":[[[1,3],1],[[2,4],1]],\"earlier\":[],\
+             \"excess\":\"-2\",\"total\":1}],\"mode\":\"span\"},\"game\":{\"class\":\"table\",\"players\":4,\
+             \"worths\":[0,0,0,0,5,7,7,0,8,6,8,0,8,7,15]},\"shares\":[\"7/2\",\"7/2\",\"7/2\",\"9/2\"]}",
             "{\"answer\":\"no\",\"excess\":\"0\",\"level\":1,\"reason\":7}\n",
             Status::Negative,
         ),
@@ -56,7 +74,9 @@ fn checks_the_worked_certificates(rt: HostRuntime) -> Result<(), Fail> {
 #[test]
 fn refuses_spans_of_17_players(rt: HostRuntime) -> Result<(), Fail> {
     let input =
-        "{\"answer\":\"nucleolus\",\"certificate\":{\"levels\":[{\"bounds\":[],\"coalitions\":[[[1],1]],\"earlier\":[],\"excess\":\"0\",\"total\":1}],\"mode\":\"span\"},\"game\":{\"class\":\"airport\",\"costs\":[1,1,1,1,1,1,1,1,1,1,1,1,1,1,1,1,1]},\"shares\":[\"1\",\"0\",\"0\",\"0\",\"0\",\"0\",\"0\",\"0\",\"0\",\"0\",\"0\",\"0\",\"0\",\"0\",\"0\",\"0\",\"0\"]}";
+        "{\"answer\":\"nucleolus\",\"certificate\":{\"levels\":[{\"bounds\":[],\"coalitions\":[[[1],1]],\"earlier\":[],\"excess\":\"0\",\
+         \"total\":1}],\"mode\":\"span\"},\"game\":{\"class\":\"airport\",\"costs\":[1,1,1,1,1,1,1,1,1,1,1,1,1,1,1,1,1]},\
+         \"shares\":[\"1\",\"0\",\"0\",\"0\",\"0\",\"0\",\"0\",\"0\",\"0\",\"0\",\"0\",\"0\",\"0\",\"0\",\"0\",\"0\",\"0\"]}";
     let line = "{\"number\":12,\"refused\":\"Certificate\"}\n";
     let found = run_on(rt.alloc(), &["check"], input.as_bytes(), 100, line)?;
     assert_eq!(rt; found, (Status::Refused, true));

@@ -51,7 +51,8 @@ fn prints_a_collection_where_the_core_is_empty(rt: HostRuntime) -> Result<(), Fa
 fn departments_and_tables_that_are_large_have_points(rt: HostRuntime) -> Result<(), Fail> {
     for (input, front) in [
         (
-            "{\"game\":{\"class\":\"cost-table\",\"default\":18,\"names\":[\"Sales\",\"Ops\",\"Legal\",\"IT\",\"HR\"],\"players\":5,\"sparse\":[[[\"Sales\"],6],[[\"Ops\"],6],[[\"Legal\"],6],[[\"IT\"],6],[[\"HR\"],6],[[\"Sales\",\"Ops\",\"Legal\",\"IT\",\"HR\"],20]]}}",
+            "{\"game\":{\"class\":\"cost-table\",\"default\":18,\"names\":[\"Sales\",\"Ops\",\"Legal\",\"IT\",\"HR\"],\"players\":5,\
+             \"sparse\":[[[\"Sales\"],6],[[\"Ops\"],6],[[\"Legal\"],6],[[\"IT\"],6],[[\"HR\"],6],[[\"Sales\",\"Ops\",\"Legal\",\"IT\",\"HR\"],20]]}}",
             "{\"answer\":\"core point\",\"shares\":[",
         ),
         (

@@ -22,8 +22,8 @@ fn with_failing_read(alloc: Global, piece: usize, call: u64) -> Result<(Status, 
     Ok((status, sink.taken().len()))
 }
 
-// The status of a run whose sink takes one byte a call and fails at that call, and whether it took the front of the line that
-// so many calls take.
+// The status of a run whose sink takes one byte a call and fails at that call, and whether it took the front of the
+// line that so many calls take.
 fn with_failing_write(alloc: Global, call: u64) -> Result<(Status, bool), Fail> {
     let words = words_of(alloc, &["propose"])?;
     let mut source = MemorySource::new(BLOCKED.as_bytes().to_vec(alloc)?);

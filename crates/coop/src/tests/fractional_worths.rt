@@ -37,7 +37,8 @@ fn the_level_of_two_players_has_its_excess_over_the_scale(rt: HostRuntime) -> Re
     let input =
         "{\"game\":{\"class\":\"table\",\"players\":2,\"version\":2,\"worths\":[\"1/2\",\"1/3\",\"7/6\"]}}";
     let front =
-        "{\"answer\":\"nucleolus\",\"certificate\":{\"levels\":[{\"bounds\":[],\"coalitions\":[[[1],1],[[2],1]],\"earlier\":[],\"excess\":\"-1/6\",\"total\":1}],";
+        "{\"answer\":\"nucleolus\",\"certificate\":{\"levels\":[{\"bounds\":[],\"coalitions\":[[[1],1],[[2],1]],\"earlier\":[],\"excess\":\"-1/6\",\
+         \"total\":1}],";
     let (status, line) = printed(rt.alloc(), "nucleolus", input.as_bytes())?;
     assert_eq!(rt; status, Status::Done);
     assert!(rt; line.starts_with(front.as_bytes()));
@@ -97,13 +98,17 @@ fn other_answers_are_over_the_scale(rt: HostRuntime) -> Result<(), Fail> {
         ),
         (
             "check",
-            "{\"answer\":\"nucleolus\",\"certificate\":{\"levels\":[{\"bounds\":[],\"coalitions\":[[[1],1],[[2],1]],\"earlier\":[],\"excess\":\"-1/6\",\"total\":1}],\"mode\":\"span\"},\"game\":{\"class\":\"table\",\"players\":2,\"version\":2,\"worths\":[\"1/2\",\"1/3\",\"7/6\"]},\"shares\":[\"2/3\",\"1/2\"]}",
+            "{\"answer\":\"nucleolus\",\"certificate\":{\"levels\":[{\"bounds\":[],\"coalitions\":[[[1],1],[[2],1]],\"earlier\":[],\
+             \"excess\":\"-1/6\",\"total\":1}],\"mode\":\"span\"},\"game\":{\"class\":\"table\",\"players\":2,\"version\":2,\
+             \"worths\":[\"1/2\",\"1/3\",\"7/6\"]},\"shares\":[\"2/3\",\"1/2\"]}",
             "{\"answer\":\"yes\"}\n",
             Status::Done,
         ),
         (
             "check",
-            "{\"answer\":\"nucleolus\",\"certificate\":{\"levels\":[{\"bounds\":[],\"coalitions\":[[[1],1],[[2],1]],\"earlier\":[],\"excess\":\"-1\",\"total\":1}],\"mode\":\"span\"},\"game\":{\"class\":\"table\",\"players\":2,\"version\":2,\"worths\":[\"1/2\",\"1/3\",\"7/6\"]},\"shares\":[\"2/3\",\"1/2\"]}",
+            "{\"answer\":\"nucleolus\",\"certificate\":{\"levels\":[{\"bounds\":[],\"coalitions\":[[[1],1],[[2],1]],\"earlier\":[],\"excess\":\"-1\",\
+             \"total\":1}],\"mode\":\"span\"},\"game\":{\"class\":\"table\",\"players\":2,\"version\":2,\"worths\":[\"1/2\",\"1/3\",\"7/6\"]},\
+             \"shares\":[\"2/3\",\"1/2\"]}",
             "{\"answer\":\"no\",\"coalition\":[1],\"level\":1,\"reason\":3}\n",
             Status::Negative,
         ),

@@ -23,15 +23,18 @@ fn prints_what_it_found_of_a_generated_game(rt: HostRuntime) -> Result<(), Fail>
     for (words, line) in [
         (
             ["table", "2", "1"],
-            "{\"class\":\"table\",\"common\":\"2\",\"first\":\"538831/2\",\"greatest\":\"-538831/2\",\"last\":\"538831/2\",\"players\":2,\"seed\":1,\"verdict\":\"yes\"}\n",
+            "{\"class\":\"table\",\"common\":\"2\",\"first\":\"538831/2\",\"greatest\":\"-538831/2\",\"last\":\"538831/2\",\"players\":2,\"seed\":1,\
+             \"verdict\":\"yes\"}\n",
         ),
         (
             ["airport", "2", "1"],
-            "{\"class\":\"airport\",\"common\":\"1\",\"first\":\"446692\",\"greatest\":\"-92139\",\"last\":\"92139\",\"players\":2,\"seed\":1,\"verdict\":\"yes\"}\n",
+            "{\"class\":\"airport\",\"common\":\"1\",\"first\":\"446692\",\"greatest\":\"-92139\",\"last\":\"92139\",\"players\":2,\"seed\":1,\
+             \"verdict\":\"yes\"}\n",
         ),
         (
             ["bankruptcy", "2", "1"],
-            "{\"class\":\"bankruptcy\",\"common\":\"1\",\"first\":\"269415\",\"greatest\":\"-92139\",\"last\":\"92139\",\"players\":2,\"seed\":1,\"verdict\":\"yes\"}\n",
+            "{\"class\":\"bankruptcy\",\"common\":\"1\",\"first\":\"269415\",\"greatest\":\"-92139\",\"last\":\"92139\",\"players\":2,\"seed\":1,\
+             \"verdict\":\"yes\"}\n",
         ),
         (
             ["tree", "1", "1"],
@@ -39,7 +42,8 @@ fn prints_what_it_found_of_a_generated_game(rt: HostRuntime) -> Result<(), Fail>
         ),
         (
             ["assignment", "2", "1"],
-            "{\"class\":\"assignment\",\"common\":\"1\",\"first\":\"16838\",\"greatest\":\"-16838\",\"last\":\"16838\",\"players\":2,\"seed\":1,\"verdict\":\"yes\"}\n",
+            "{\"class\":\"assignment\",\"common\":\"1\",\"first\":\"16838\",\"greatest\":\"-16838\",\"last\":\"16838\",\"players\":2,\"seed\":1,\
+             \"verdict\":\"yes\"}\n",
         ),
     ] {
         let (status, found) = made(rt.alloc(), &words)?;

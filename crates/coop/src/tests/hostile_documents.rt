@@ -7,7 +7,8 @@ use std::test::Fail;
 const FRONT: &str = "{\"answer\":\"nucleolus\",\"certificate\":{\"levels\":[";
 
 const LEVELS: &str =
-    "{\"bounds\":[],\"coalitions\":[[[1],1],[[2,3],1]],\"earlier\":[],\"excess\":\"-1\",\"total\":1},{\"bounds\":[],\"coalitions\":[[[1,2],1],[[1,3],1]],\"earlier\":[[[1],-1]],\"excess\":\"-3/2\",\"total\":1}";
+    "{\"bounds\":[],\"coalitions\":[[[1],1],[[2,3],1]],\"earlier\":[],\"excess\":\"-1\",\"total\":1},\
+     {\"bounds\":[],\"coalitions\":[[[1,2],1],[[1,3],1]],\"earlier\":[[[1],-1]],\"excess\":\"-3/2\",\"total\":1}";
 
 const REFUSED: &str = "{\"number\":12,\"refused\":\"Certificate\"}\n";
 
@@ -51,61 +52,71 @@ fn each_change_of_a_certificate_has_its_answer(rt: HostRuntime) -> Result<(), Fa
         (LEVELS, "{\"answer\":\"yes\"}\n", Status::Done),
         // A weight of 2^63 - 1.
         (
-            "{\"bounds\":[],\"coalitions\":[[[1],1],[[2,3],1]],\"earlier\":[],\"excess\":\"-1\",\"total\":1},{\"bounds\":[],\"coalitions\":[[[1,2],9223372036854775807],[[1,3],1]],\"earlier\":[[[1],-1]],\"excess\":\"-3/2\",\"total\":1}",
+            "{\"bounds\":[],\"coalitions\":[[[1],1],[[2,3],1]],\"earlier\":[],\"excess\":\"-1\",\"total\":1},\
+             {\"bounds\":[],\"coalitions\":[[[1,2],9223372036854775807],[[1,3],1]],\"earlier\":[[[1],-1]],\"excess\":\"-3/2\",\"total\":1}",
             "{\"answer\":\"no\",\"level\":2,\"player\":1,\"reason\":5}\n",
             Status::Negative,
         ),
         // A weight of -2^63.
         (
-            "{\"bounds\":[],\"coalitions\":[[[1],1],[[2,3],1]],\"earlier\":[],\"excess\":\"-1\",\"total\":1},{\"bounds\":[],\"coalitions\":[[[1,2],-9223372036854775808],[[1,3],1]],\"earlier\":[[[1],-1]],\"excess\":\"-3/2\",\"total\":1}",
+            "{\"bounds\":[],\"coalitions\":[[[1],1],[[2,3],1]],\"earlier\":[],\"excess\":\"-1\",\"total\":1},\
+             {\"bounds\":[],\"coalitions\":[[[1,2],-9223372036854775808],[[1,3],1]],\"earlier\":[[[1],-1]],\"excess\":\"-3/2\",\"total\":1}",
             REFUSED,
             Status::Refused,
         ),
         // A coalition that stands twice.
         (
-            "{\"bounds\":[],\"coalitions\":[[[1],1],[[2,3],1]],\"earlier\":[],\"excess\":\"-1\",\"total\":1},{\"bounds\":[],\"coalitions\":[[[1,2],1],[[1,2],1],[[1,3],1]],\"earlier\":[[[1],-1]],\"excess\":\"-3/2\",\"total\":1}",
+            "{\"bounds\":[],\"coalitions\":[[[1],1],[[2,3],1]],\"earlier\":[],\"excess\":\"-1\",\"total\":1},\
+             {\"bounds\":[],\"coalitions\":[[[1,2],1],[[1,2],1],[[1,3],1]],\"earlier\":[[[1],-1]],\"excess\":\"-3/2\",\"total\":1}",
             REFUSED,
             Status::Refused,
         ),
         // Levels exchanged.
         (
-            "{\"bounds\":[],\"coalitions\":[[[1,2],1],[[1,3],1]],\"earlier\":[[[1],-1]],\"excess\":\"-3/2\",\"total\":1},{\"bounds\":[],\"coalitions\":[[[1],1],[[2,3],1]],\"earlier\":[],\"excess\":\"-1\",\"total\":1}",
+            "{\"bounds\":[],\"coalitions\":[[[1,2],1],[[1,3],1]],\"earlier\":[[[1],-1]],\"excess\":\"-3/2\",\"total\":1},\
+             {\"bounds\":[],\"coalitions\":[[[1],1],[[2,3],1]],\"earlier\":[],\"excess\":\"-1\",\"total\":1}",
             REFUSED,
             Status::Refused,
         ),
         // The coalition of all.
         (
-            "{\"bounds\":[],\"coalitions\":[[[1],1],[[1,2,3],1]],\"earlier\":[],\"excess\":\"-1\",\"total\":1},{\"bounds\":[],\"coalitions\":[[[1,2],1],[[1,3],1]],\"earlier\":[[[1],-1]],\"excess\":\"-3/2\",\"total\":1}",
+            "{\"bounds\":[],\"coalitions\":[[[1],1],[[1,2,3],1]],\"earlier\":[],\"excess\":\"-1\",\"total\":1},\
+             {\"bounds\":[],\"coalitions\":[[[1,2],1],[[1,3],1]],\"earlier\":[[[1],-1]],\"excess\":\"-3/2\",\"total\":1}",
             REFUSED,
             Status::Refused,
         ),
         // The empty coalition.
         (
-            "{\"bounds\":[],\"coalitions\":[[[],1],[[2,3],1]],\"earlier\":[],\"excess\":\"-1\",\"total\":1},{\"bounds\":[],\"coalitions\":[[[1,2],1],[[1,3],1]],\"earlier\":[[[1],-1]],\"excess\":\"-3/2\",\"total\":1}",
+            "{\"bounds\":[],\"coalitions\":[[[],1],[[2,3],1]],\"earlier\":[],\"excess\":\"-1\",\"total\":1},\
+             {\"bounds\":[],\"coalitions\":[[[1,2],1],[[1,3],1]],\"earlier\":[[[1],-1]],\"excess\":\"-3/2\",\"total\":1}",
             REFUSED,
             Status::Refused,
         ),
         // An excess not in lowest terms.
         (
-            "{\"bounds\":[],\"coalitions\":[[[1],1],[[2,3],1]],\"earlier\":[],\"excess\":\"-2/2\",\"total\":1},{\"bounds\":[],\"coalitions\":[[[1,2],1],[[1,3],1]],\"earlier\":[[[1],-1]],\"excess\":\"-3/2\",\"total\":1}",
+            "{\"bounds\":[],\"coalitions\":[[[1],1],[[2,3],1]],\"earlier\":[],\"excess\":\"-2/2\",\"total\":1},\
+             {\"bounds\":[],\"coalitions\":[[[1,2],1],[[1,3],1]],\"earlier\":[[[1],-1]],\"excess\":\"-3/2\",\"total\":1}",
             REFUSED,
             Status::Refused,
         ),
         // Another excess.
         (
-            "{\"bounds\":[],\"coalitions\":[[[1],1],[[2,3],1]],\"earlier\":[],\"excess\":\"-2\",\"total\":1},{\"bounds\":[],\"coalitions\":[[[1,2],1],[[1,3],1]],\"earlier\":[[[1],-1]],\"excess\":\"-3/2\",\"total\":1}",
+            "{\"bounds\":[],\"coalitions\":[[[1],1],[[2,3],1]],\"earlier\":[],\"excess\":\"-2\",\"total\":1},\
+             {\"bounds\":[],\"coalitions\":[[[1,2],1],[[1,3],1]],\"earlier\":[[[1],-1]],\"excess\":\"-3/2\",\"total\":1}",
             "{\"answer\":\"no\",\"coalition\":[1],\"level\":1,\"reason\":3}\n",
             Status::Negative,
         ),
         // A weight of 0.
         (
-            "{\"bounds\":[],\"coalitions\":[[[1],1],[[2,3],0]],\"earlier\":[],\"excess\":\"-1\",\"total\":1},{\"bounds\":[],\"coalitions\":[[[1,2],1],[[1,3],1]],\"earlier\":[[[1],-1]],\"excess\":\"-3/2\",\"total\":1}",
+            "{\"bounds\":[],\"coalitions\":[[[1],1],[[2,3],0]],\"earlier\":[],\"excess\":\"-1\",\"total\":1},\
+             {\"bounds\":[],\"coalitions\":[[[1,2],1],[[1,3],1]],\"earlier\":[[[1],-1]],\"excess\":\"-3/2\",\"total\":1}",
             "{\"answer\":\"no\",\"coalition\":[2,3],\"level\":1,\"reason\":4}\n",
             Status::Negative,
         ),
         // A bound on a player above its own worth.
         (
-            "{\"bounds\":[[1,1]],\"coalitions\":[[[1],1],[[2,3],2]],\"earlier\":[],\"excess\":\"-1\",\"total\":2},{\"bounds\":[],\"coalitions\":[[[1,2],1],[[1,3],1]],\"earlier\":[[[1],-1]],\"excess\":\"-3/2\",\"total\":1}",
+            "{\"bounds\":[[1,1]],\"coalitions\":[[[1],1],[[2,3],2]],\"earlier\":[],\"excess\":\"-1\",\"total\":2},\
+             {\"bounds\":[],\"coalitions\":[[[1,2],1],[[1,3],1]],\"earlier\":[[[1],-1]],\"excess\":\"-3/2\",\"total\":1}",
             "{\"answer\":\"no\",\"level\":1,\"player\":1,\"reason\":6}\n",
             Status::Negative,
         ),

@@ -13,7 +13,8 @@ fn markets_are_printed_with_their_pairs(rt: HostRuntime) -> Result<(), Fail> {
         ),
         (
             "{\"game\":{\"class\":\"market\",\"matrix\":[[5,8],[7,6]],\"names\":[\"Ann\",\"Ben\",\"house\",\"flat\"]}}",
-            "{\"answer\":\"matching\",\"buyers best\":[\"8\",\"7\",\"0\",\"0\"],\"pairs\":[[1,4],[2,3]],\"sellers best\":[\"0\",\"0\",\"7\",\"8\"],\"value\":\"15\"}\n",
+            "{\"answer\":\"matching\",\"buyers best\":[\"8\",\"7\",\"0\",\"0\"],\"pairs\":[[1,4],[2,3]],\"sellers best\":[\"0\",\"0\",\"7\",\"8\"],\
+             \"value\":\"15\"}\n",
         ),
     ] {
         let found = run_on(rt.alloc(), &["matching"], input.as_bytes(), 200, line)?;
@@ -23,9 +24,11 @@ fn markets_are_printed_with_their_pairs(rt: HostRuntime) -> Result<(), Fail> {
 }
 
 const DIAGONAL_PAIRS: &str =
-    "[[1,33],[2,34],[3,35],[4,36],[5,37],[6,38],[7,39],[8,40],[9,41],[10,42],[11,43],[12,44],[13,45],[14,46],[15,47],[16,48],[17,49],[18,50],[19,51],[20,52],[21,53],[22,54],[23,55],[24,56],[25,57],[26,58],[27,59],[28,60],[29,61],[30,62],[31,63],[32,64]]";
+    "[[1,33],[2,34],[3,35],[4,36],[5,37],[6,38],[7,39],[8,40],[9,41],[10,42],[11,43],[12,44],[13,45],[14,46],[15,47],[16,48],[17,49],[18,50],[19,51],\
+     [20,52],[21,53],[22,54],[23,55],[24,56],[25,57],[26,58],[27,59],[28,60],[29,61],[30,62],[31,63],[32,64]]";
 
-// A market of so many buyers, each with an entry for each of so many sellers: 1 for the seller of its own number, else 0.
+// A market of so many buyers, each with an entry for each of so many sellers: 1 for the seller of its own number,
+// else 0.
 fn diagonal(alloc: Global, buyers: u32, sellers: u32) -> Result<String, Fail> {
     let mut text = String::from_str(alloc, "{\"game\":{\"class\":\"market\",\"matrix\":[")?;
     for i in 0..buyers {

@@ -58,12 +58,17 @@ fn nucleoli_of_networks_and_markets_are_checked(rt: HostRuntime) -> Result<(), F
 fn certificates_of_a_market_are_judged(rt: HostRuntime) -> Result<(), Fail> {
     for (input, line, status) in [
         (
-            "{\"answer\":\"nucleolus\",\"certificate\":{\"levels\":[{\"bounds\":[],\"coalitions\":[[[2,3],1],[[1,4],1]],\"earlier\":[],\"excess\":\"0\",\"total\":1},{\"bounds\":[],\"coalitions\":[[[1,3],1],[[2,4],1]],\"earlier\":[],\"excess\":\"-2\",\"total\":1},{\"bounds\":[],\"coalitions\":[[[1],1],[[3],1]],\"earlier\":[[[1,3],-1]],\"excess\":\"-7/2\",\"total\":0}],\"mode\":\"span\"},\"game\":{\"class\":\"assignment\",\"matrix\":[[5,8],[7,6]]},\"shares\":[\"7/2\",\"7/2\",\"7/2\",\"9/2\"]}",
+            "{\"answer\":\"nucleolus\",\"certificate\":{\"levels\":[{\"bounds\":[],\"coalitions\":[[[2,3],1],[[1,4],1]],\"earlier\":[],\
+             \"excess\":\"0\",\"total\":1},{\"bounds\":[],\"coalitions\":[[[1,3],1],[[2,4],1]],\"earlier\":[],\"excess\":\"-2\",\"total\":1},\
+             {\"bounds\":[],\"coalitions\":[[[1],1],[[3],1]],\"earlier\":[[[1,3],-1]],\"excess\":\"-7/2\",\"total\":0}],\"mode\":\"span\"},\
+             \"game\":{\"class\":\"assignment\",\"matrix\":[[5,8],[7,6]]},\"shares\":[\"7/2\",\"7/2\",\"7/2\",\"9/2\"]}",
             "{\"answer\":\"yes\"}\n",
             Status::Done,
         ),
         (
-            "{\"answer\":\"nucleolus\",\"certificate\":{\"levels\":[{\"bounds\":[],\"coalitions\":[[[2,3],1],[[1,4],1]],\"earlier\":[],\"excess\":\"0\",\"total\":1},{\"bounds\":[],\"coalitions\":[[[1,3],1],[[2,4],1]],\"earlier\":[],\"excess\":\"-2\",\"total\":1}],\"mode\":\"span\"},\"game\":{\"class\":\"assignment\",\"matrix\":[[5,8],[7,6]]},\"shares\":[\"2\",\"2\",\"5\",\"6\"]}",
+            "{\"answer\":\"nucleolus\",\"certificate\":{\"levels\":[{\"bounds\":[],\"coalitions\":[[[2,3],1],[[1,4],1]],\"earlier\":[],\
+             \"excess\":\"0\",\"total\":1},{\"bounds\":[],\"coalitions\":[[[1,3],1],[[2,4],1]],\"earlier\":[],\"excess\":\"-2\",\"total\":1}],\
+             \"mode\":\"span\"},\"game\":{\"class\":\"assignment\",\"matrix\":[[5,8],[7,6]]},\"shares\":[\"2\",\"2\",\"5\",\"6\"]}",
             "{\"answer\":\"no\",\"player\":1,\"reason\":8}\n",
             Status::Negative,
         ),

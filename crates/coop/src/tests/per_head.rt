@@ -13,7 +13,8 @@ fn the_pair_that_is_worth_half_gets_more_per_head(rt: HostRuntime) -> Result<(),
     let input =
         "{\"game\":{\"class\":\"table\",\"excess\":\"per-head\",\"players\":3,\"worths\":[0,0,6,0,0,0,12]}}";
     let front =
-        "{\"answer\":\"nucleolus\",\"certificate\":{\"levels\":[{\"bounds\":[],\"coalitions\":[[[1,2],1],[[3],1]],\"earlier\":[],\"excess\":\"-2\",\"total\":1},";
+        "{\"answer\":\"nucleolus\",\"certificate\":{\"levels\":[{\"bounds\":[],\"coalitions\":[[[1,2],1],[[3],1]],\"earlier\":[],\"excess\":\"-2\",\
+         \"total\":1},";
     let end = "\"shares\":[\"5\",\"5\",\"2\"]}\n";
     let (status, line) = printed(rt.alloc(), "nucleolus", input.as_bytes())?;
     assert_eq!(rt; status, Status::Done);
@@ -27,22 +28,33 @@ fn the_pair_that_is_worth_half_gets_more_per_head(rt: HostRuntime) -> Result<(),
 fn certificates_are_checked_per_head(rt: HostRuntime) -> Result<(), Fail> {
     for (input, line, status) in [
         (
-            "{\"answer\":\"nucleolus\",\"certificate\":{\"levels\":[{\"bounds\":[],\"coalitions\":[[[1,2],1],[[3],1]],\"earlier\":[],\"excess\":\"-2\",\"total\":1},{\"bounds\":[],\"coalitions\":[[[1,3],1],[[2,3],1]],\"earlier\":[[[3],-1]],\"excess\":\"-7/2\",\"total\":1}],\"mode\":\"span\"},\"game\":{\"class\":\"table\",\"excess\":\"per-head\",\"players\":3,\"worths\":[0,0,6,0,0,0,12]},\"shares\":[\"5\",\"5\",\"2\"]}",
+            "{\"answer\":\"nucleolus\",\"certificate\":{\"levels\":[{\"bounds\":[],\"coalitions\":[[[1,2],1],[[3],1]],\"earlier\":[],\
+             \"excess\":\"-2\",\"total\":1},{\"bounds\":[],\"coalitions\":[[[1,3],1],[[2,3],1]],\"earlier\":[[[3],-1]],\"excess\":\"-7/2\",\
+             \"total\":1}],\"mode\":\"span\"},\"game\":{\"class\":\"table\",\"excess\":\"per-head\",\"players\":3,\"worths\":[0,0,6,0,0,0,12]},\
+             \"shares\":[\"5\",\"5\",\"2\"]}",
             "{\"answer\":\"yes\"}\n",
             Status::Done,
         ),
         (
-            "{\"answer\":\"nucleolus\",\"certificate\":{\"levels\":[{\"bounds\":[],\"coalitions\":[[[1,2],1],[[3],1]],\"earlier\":[],\"excess\":\"-2\",\"total\":1},{\"bounds\":[],\"coalitions\":[[[1,3],1],[[2,3],1]],\"earlier\":[[[3],-1]],\"excess\":\"-7/2\",\"total\":1}],\"mode\":\"span\"},\"game\":{\"class\":\"table\",\"excess\":\"per-head\",\"players\":3,\"worths\":[0,0,6,0,0,0,12]},\"shares\":[\"9/2\",\"9/2\",\"3\"]}",
+            "{\"answer\":\"nucleolus\",\"certificate\":{\"levels\":[{\"bounds\":[],\"coalitions\":[[[1,2],1],[[3],1]],\"earlier\":[],\
+             \"excess\":\"-2\",\"total\":1},{\"bounds\":[],\"coalitions\":[[[1,3],1],[[2,3],1]],\"earlier\":[[[3],-1]],\"excess\":\"-7/2\",\
+             \"total\":1}],\"mode\":\"span\"},\"game\":{\"class\":\"table\",\"excess\":\"per-head\",\"players\":3,\"worths\":[0,0,6,0,0,0,12]},\
+             \"shares\":[\"9/2\",\"9/2\",\"3\"]}",
             "{\"answer\":\"no\",\"coalition\":[1,2],\"level\":1,\"reason\":3}\n",
             Status::Negative,
         ),
         (
-            "{\"answer\":\"nucleolus\",\"certificate\":{\"levels\":[{\"bounds\":[],\"coalitions\":[[[1,2],1],[[3],1]],\"earlier\":[],\"excess\":\"-2\",\"total\":1},{\"bounds\":[],\"coalitions\":[[[1,3],1],[[2,3],1]],\"earlier\":[[[3],-1]],\"excess\":\"-7/2\",\"total\":1}],\"mode\":\"span\"},\"game\":{\"class\":\"table\",\"excess\":\"plain\",\"players\":3,\"worths\":[0,0,6,0,0,0,12]},\"shares\":[\"5\",\"5\",\"2\"]}",
+            "{\"answer\":\"nucleolus\",\"certificate\":{\"levels\":[{\"bounds\":[],\"coalitions\":[[[1,2],1],[[3],1]],\"earlier\":[],\
+             \"excess\":\"-2\",\"total\":1},{\"bounds\":[],\"coalitions\":[[[1,3],1],[[2,3],1]],\"earlier\":[[[3],-1]],\"excess\":\"-7/2\",\
+             \"total\":1}],\"mode\":\"span\"},\"game\":{\"class\":\"table\",\"excess\":\"plain\",\"players\":3,\"worths\":[0,0,6,0,0,0,12]},\
+             \"shares\":[\"5\",\"5\",\"2\"]}",
             "{\"answer\":\"no\",\"coalition\":[1,2],\"level\":1,\"reason\":3}\n",
             Status::Negative,
         ),
         (
-            "{\"answer\":\"nucleolus\",\"certificate\":{\"levels\":[],\"mode\":\"players\"},\"game\":{\"class\":\"airport\",\"costs\":[1,1,1,1,1,1,1,1,1,1,1,1,1,1,1,1,1],\"excess\":\"per-head\"},\"shares\":[1,0,0,0,0,0,0,0,0,0,0,0,0,0,0,0,0]}",
+            "{\"answer\":\"nucleolus\",\"certificate\":{\"levels\":[],\"mode\":\"players\"},\
+             \"game\":{\"class\":\"airport\",\"costs\":[1,1,1,1,1,1,1,1,1,1,1,1,1,1,1,1,1],\"excess\":\"per-head\"},\
+             \"shares\":[1,0,0,0,0,0,0,0,0,0,0,0,0,0,0,0,0]}",
             "{\"usage\":\"players\"}\n",
             Status::Usage,
         ),

@@ -5,7 +5,8 @@ use std::alloc::Global;
 use std::test::Fail;
 
 const DEPARTMENTS: &str =
-    "{\"game\":{\"class\":\"cost-table\",\"default\":18,\"names\":[\"Sales\",\"Ops\",\"Legal\",\"IT\",\"HR\"],\"players\":5,\"sparse\":[[[\"Sales\"],6],[[\"Ops\"],6],[[\"Legal\"],6],[[\"IT\"],6],[[\"HR\"],6],[[\"Sales\",\"Ops\",\"Legal\",\"IT\",\"HR\"],20]]}}";
+    "{\"game\":{\"class\":\"cost-table\",\"default\":18,\"names\":[\"Sales\",\"Ops\",\"Legal\",\"IT\",\"HR\"],\"players\":5,\
+     \"sparse\":[[[\"Sales\"],6],[[\"Ops\"],6],[[\"Legal\"],6],[[\"IT\"],6],[[\"HR\"],6],[[\"Sales\",\"Ops\",\"Legal\",\"IT\",\"HR\"],20]]}}";
 
 #[test]
 fn prints_shares_of_tables_that_are_checked(rt: HostRuntime) -> Result<(), Fail> {
@@ -58,7 +59,8 @@ fn prints_shares_of_tables_that_are_checked(rt: HostRuntime) -> Result<(), Fail>
         (
             "nucleolus",
             "{\"game\":{\"class\":\"table\",\"players\":10,\"sparse\":[[[1,2,3,4,5,6,7,8,9,10],1099511627775]]}}",
-            "\"shares\":[\"219902325555/2\",\"219902325555/2\",\"219902325555/2\",\"219902325555/2\",\"219902325555/2\",\"219902325555/2\",\"219902325555/2\",\"219902325555/2\",\"219902325555/2\",\"219902325555/2\"]}\n",
+            "\"shares\":[\"219902325555/2\",\"219902325555/2\",\"219902325555/2\",\"219902325555/2\",\"219902325555/2\",\"219902325555/2\",\
+             \"219902325555/2\",\"219902325555/2\",\"219902325555/2\",\"219902325555/2\"]}\n",
         ),
         (
             "nucleolus",
@@ -89,7 +91,8 @@ fn prints_shares_of_tables_that_are_checked(rt: HostRuntime) -> Result<(), Fail>
 fn one_player_gets_all_without_a_level(rt: HostRuntime) -> Result<(), Fail> {
     let input = "{\"game\":{\"class\":\"table\",\"players\":1,\"worths\":[5]}}";
     let line =
-        "{\"answer\":\"nucleolus\",\"certificate\":{\"levels\":[],\"mode\":\"span\"},\"game\":{\"class\":\"table\",\"players\":1,\"worths\":[5]},\"shares\":[\"5\"]}\n";
+        "{\"answer\":\"nucleolus\",\"certificate\":{\"levels\":[],\"mode\":\"span\"},\"game\":{\"class\":\"table\",\"players\":1,\"worths\":[5]},\
+         \"shares\":[\"5\"]}\n";
     let found = run_on(rt.alloc(), &["nucleolus"], input.as_bytes(), 200, line)?;
     assert_eq!(rt; found, (Status::Done, true));
     Ok(())

@@ -113,7 +113,9 @@ fn payments_and_excesses_of_a_cost_class(rt: HostRuntime) -> Result<(), Fail> {
         levels,
     )?;
     let line =
-        "{\"answer\":\"nucleolus\",\"certificate\":{\"levels\":[{\"bounds\":[],\"coalitions\":[[[1],1],[[2,3],1]],\"earlier\":[],\"excess\":\"-1\",\"total\":1},{\"bounds\":[],\"coalitions\":[[[1,2],1],[[1,3],1]],\"earlier\":[[[1],-1]],\"excess\":\"-3/2\",\"total\":1}],\"mode\":\"players\"},\"game\":{\"class\":\"airport\",\"costs\":[2,4,6]},\"shares\":[\"1\",\"3/2\",\"7/2\"]}\n";
+        "{\"answer\":\"nucleolus\",\"certificate\":{\"levels\":[{\"bounds\":[],\"coalitions\":[[[1],1],[[2,3],1]],\"earlier\":[],\"excess\":\"-1\",\
+         \"total\":1},{\"bounds\":[],\"coalitions\":[[[1,2],1],[[1,3],1]],\"earlier\":[[[1],-1]],\"excess\":\"-3/2\",\"total\":1}],\
+         \"mode\":\"players\"},\"game\":{\"class\":\"airport\",\"costs\":[2,4,6]},\"shares\":[\"1\",\"3/2\",\"7/2\"]}\n";
     assert_eq!(rt; written.as_slice(), line.as_bytes());
     Ok(())
 }
@@ -125,7 +127,8 @@ fn one_player_without_levels(rt: HostRuntime) -> Result<(), Fail> {
     let levels = Vec::new(rt.alloc());
     let written = written(&rt, Family::Imputations, tree, shares, Mode::Span, levels)?;
     let line =
-        "{\"answer\":\"nucleolus\",\"certificate\":{\"levels\":[],\"mode\":\"span\"},\"game\":{\"class\":\"table\",\"players\":1,\"worths\":[5]},\"shares\":[\"5\"]}\n";
+        "{\"answer\":\"nucleolus\",\"certificate\":{\"levels\":[],\"mode\":\"span\"},\"game\":{\"class\":\"table\",\"players\":1,\"worths\":[5]},\
+         \"shares\":[\"5\"]}\n";
     assert_eq!(rt; written.as_slice(), line.as_bytes());
     Ok(())
 }
@@ -147,7 +150,9 @@ fn bounds_and_the_greatest_weights(rt: HostRuntime) -> Result<(), Fail> {
         levels,
     )?;
     let line =
-        "{\"answer\":\"prenucleolus\",\"certificate\":{\"levels\":[{\"bounds\":[[1,1],[2,-9223372036854775807]],\"coalitions\":[[[3],9223372036854775807]],\"earlier\":[],\"excess\":\"2\",\"total\":9223372036854775807}],\"mode\":\"span\"},\"game\":null,\"shares\":[\"1\",\"1\",\"-2\"]}\n";
+        "{\"answer\":\"prenucleolus\",\"certificate\":{\"levels\":[{\"bounds\":[[1,1],[2,-9223372036854775807]],\
+         \"coalitions\":[[[3],9223372036854775807]],\"earlier\":[],\"excess\":\"2\",\"total\":9223372036854775807}],\"mode\":\"span\"},\"game\":null,\
+         \"shares\":[\"1\",\"1\",\"-2\"]}\n";
     assert_eq!(rt; written.as_slice(), line.as_bytes());
     Ok(())
 }

@@ -21,7 +21,8 @@ fn summaries_have_their_lines(rt: HostRuntime) -> Result<(), Fail> {
         (
             Kind::Bankruptcy,
             false,
-            "{\"class\":\"bankruptcy\",\"common\":\"3\",\"first\":\"-2/3\",\"greatest\":\"-5/2\",\"last\":\"2\",\"players\":4,\"seed\":9,\"verdict\":\"yes\"}\n",
+            "{\"class\":\"bankruptcy\",\"common\":\"3\",\"first\":\"-2/3\",\"greatest\":\"-5/2\",\"last\":\"2\",\"players\":4,\"seed\":9,\
+             \"verdict\":\"yes\"}\n",
         ),
         (
             Kind::Tree,
@@ -31,7 +32,8 @@ fn summaries_have_their_lines(rt: HostRuntime) -> Result<(), Fail> {
         (
             Kind::Assignment,
             false,
-            "{\"class\":\"assignment\",\"common\":\"3\",\"first\":\"-2/3\",\"greatest\":\"-5/2\",\"last\":\"2\",\"players\":4,\"seed\":9,\"verdict\":\"yes\"}\n",
+            "{\"class\":\"assignment\",\"common\":\"3\",\"first\":\"-2/3\",\"greatest\":\"-5/2\",\"last\":\"2\",\"players\":4,\"seed\":9,\
+             \"verdict\":\"yes\"}\n",
         ),
     ] {
         let shares = Shares::new([-4, -10, -22, 12].to_vec(rt.alloc())?, 6).ok_or("shares")?;
