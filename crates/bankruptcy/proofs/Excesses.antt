@@ -8,7 +8,7 @@ use Rattle.definitions.specs.Coalitions.{has_player, grand_coalition, sum_over}
 use Rattle.definitions.specs.Games.{Allocation, share, amount, excess}
 use Rattle.bankruptcy.specs.Bankruptcy.{Bankruptcy, bankruptcy_game}
 use Rattle.bankruptcy.specs.Arms.{arm_at}
-use Rattle.bankruptcy.proofs.Laws.{claim}
+use Rattle.orders.proofs.ListSums.{number_of}
 use Rattle.definitions.proofs.Cases.{int_max-cases}
 
 -- ---- sums of differences
@@ -38,21 +38,21 @@ scaled_max q w y h = elim (int_max-cases (pos 0) w) [
       rw e (elim (int_max-cases (neg_ℤ y) (q *ℤ w -ℤ y)) [ inl a ↦ omega (arith, linear, a.0, a.1) | inr a ↦ omega (arith, linear, a.0) ])
 ]
 
-arm-alone : (f : ℤ) (b : Bankruptcy) (x : Allocation) (s : ℕ) → s < 2 ^ length b.claims → arm_at f b x s ≡ f *ℤ (pos b.estate -ℤ sum_over (length b.claims) (claim b.claims) (grand_coalition (length b.claims) - s)) -ℤ sum_over (length b.claims) (share x) s
+arm-alone : (f : ℤ) (b : Bankruptcy) (x : Allocation) (s : ℕ) → s < 2 ^ length b.claims → arm_at f b x s ≡ f *ℤ (pos b.estate -ℤ sum_over (length b.claims) (number_of b.claims) (grand_coalition (length b.claims) - s)) -ℤ sum_over (length b.claims) (share x) s
 arm-alone f b x s lt =
     let n = length b.claims in
-    let all = sum_below n (claim b.claims) in
-    let mine = sum_over n (claim b.claims) s in
-    let others = sum_over n (claim b.claims) (grand_coalition n - s) in
-    let parts : others +ℤ mine ≡ all = sum_over-complement n s (claim b.claims) lt in
-    let e = sum_over-scaled n s f (claim b.claims) (share x) in
+    let all = sum_below n (number_of b.claims) in
+    let mine = sum_over n (number_of b.claims) s in
+    let others = sum_over n (number_of b.claims) (grand_coalition n - s) in
+    let parts : others +ℤ mine ≡ all = sum_over-complement n s (number_of b.claims) lt in
+    let e = sum_over-scaled n s f (number_of b.claims) (share x) in
     let scaled = ap (λ (z : ℤ). f *ℤ z) parts in
     omega (arith, linear, e, scaled, mul-addℤ f others mine, mul-subℤ f (pos b.estate) all, mul-subℤ f (pos b.estate) others)
 
 pub excess-arms : (b : Bankruptcy) (x : Allocation) (f g : ℤ) (s : ℕ) → length x.shares ≡ length b.claims → pos 1 ≤ℤ x.den → f ≡ pos 0 → g ≡ x.den → s < 2 ^ length b.claims → excess (bankruptcy_game b) x s ≡ int_max (arm_at f b x s) (arm_at g b x s)
 excess-arms b x f g s same positive none den lt =
     let n = length b.claims in
-    let w = pos b.estate -ℤ sum_over n (claim b.claims) (grand_coalition n - s) in
+    let w = pos b.estate -ℤ sum_over n (number_of b.claims) (grand_coalition n - s) in
     let y = sum_over n (share x) s in
     let at : amount x s ≡ y = ap (λ (k : ℕ). sum_over k (share x) s) same in
     let nothing : arm_at f b x s ≡ neg_ℤ y = arm-alone f b x s lt ∙ ap (λ (z : ℤ). z *ℤ w -ℤ y) none ∙ omega (arith, linear, zero-mulℤ w) in

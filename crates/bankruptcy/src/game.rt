@@ -1,8 +1,10 @@
 //! The game of an estate and the claims to it.
-ghost use Rattle.std.specs.Prelude.{◌≡◌, ◌^◌, ◌<◌, length, map, pos, slice_index, ◌<ℤ◌, MatchResult, unsigned_abs};
+ghost use Rattle.std.specs.Prelude.{◌≡◌, ◌↔◌, IsTrue, MatchResult};
+ghost use Rattle.std.specs.Prelude.{◌^◌, ◌<◌, pos, ◌<ℤ◌, unsigned_abs};
+ghost use Rattle.std.specs.Prelude.{length, map, slice_index};
+ghost use Rattle.bankruptcy.specs.Bankruptcy.{AreNumbers};
 
 use crate::arms::Arm;
-use crate::claims;
 use coalitions::Coalition;
 use std::alloc::Global;
 use std::marker::Model;
@@ -54,10 +56,10 @@ impl BankruptcyGame {
         if claims.is_empty() || claims.len() > 64 {
             return Err(BankruptcyFault::Players);
         }
-        if !claims::are_numbers(estate, &claims) {
+        if !are_numbers(estate, &claims) {
             return Err(BankruptcyFault::Number);
         }
-        if claims::total(&claims) < estate as u64 {
+        if orders::total(&claims) < estate as u64 {
             return Err(BankruptcyFault::Estate);
         }
         let Ok(claims) = orders::naturals(alloc, &claims) else {
@@ -93,8 +95,15 @@ impl BankruptcyGame {
         ensures small { unsigned_abs result < 2 ^ 46 }
     {
         let everyone = Coalition::all(self.claims.len() as u32);
-        self.estate as i64 - claims::sum_of(&self.claims, everyone) as i64
+        self.estate as i64 - orders::sum_of(&self.claims, everyone) as i64
     }
+}
+
+/// Whether the estate and each claim are from 0 to below 2^40.
+fn are_numbers(estate: i64, claims: &[i64]) -> bool
+    ensures { IsTrue result ↔ AreNumbers estate claims.now }
+{
+    orders::is_number(estate) && orders::are_numbers(claims)
 }
 
 impl Worth for BankruptcyGame {
@@ -109,7 +118,7 @@ impl Worth for BankruptcyGame {
 
     fn worth(&self, s: Coalition) -> i64 {
         let others = s.complement(self.claims.len() as u32);
-        let taken = claims::sum_of(&self.claims, others);
+        let taken = orders::sum_of(&self.claims, others);
         if taken < self.estate {
             (self.estate - taken) as i64
         } else {

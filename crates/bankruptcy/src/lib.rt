@@ -2,7 +2,6 @@
 #![tactic(auto)]
 
 mod arms;
-mod claims;
 mod game;
 #[cfg(test)]
 mod tests;

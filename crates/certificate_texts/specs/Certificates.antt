@@ -1,7 +1,15 @@
 -- The certificate that a document gives, and its form.
 --
---   has_form        the form of a certificate for n players
---   certificate_of  what the tree of a certificate describes, where no test refuses it
+--   level_trees       the trees of the levels
+--   levels_of         the levels, their excesses times a scale
+--   certificate_of    what the tree of a certificate describes, where no test refuses it
+--   allows_mode       the mode is players, or there are at most 16 players
+--   has_few_levels    there are fewer levels than players
+--   lists_coalition   a pair lists a coalition with an integer
+--   lists_player      a pair lists a player with an integer
+--   is_written        the excess, the pairs and the total of a level can be read
+--   have_form         each level has its form behind those in front
+--   has_form          the form of a certificate for n players
 use Rattle.std.specs.Prelude.{ℕ, codes, List, [], ◌∷◌, ◌++◌, length, map, Bool, true, false, ◌&&◌, Option, Some, None, is_some, unwrap_or, nat_lt, nat_le}
 use Rattle.std.specs.List.{list_all}
 use Rattle.serde_json.specs.Data.{Data}
@@ -49,13 +57,15 @@ lists_coalition n pair = is_some (coalition_of n (pair_members pair)) && second_
 abbrev pub lists_player : ℕ → Data → Bool
 lists_player n pair = is_some (first_player n (parts pair)) && second_passes is_integer (parts pair)
 
--- the excess is a fraction text with parts of 128 bits, also times the scale k, coalitions and players are listed, and the total is an integer
+-- the excess is a fraction text with parts of 128 bits, also times the scale k, coalitions and players are listed, and
+-- the total is an integer
 abbrev pub is_written : ℕ → ℕ → Data → Bool
 is_written k n level =
     passes (is_scaled k) (get (codes "excess") level) && list_all (lists_coalition n) (parts_at (codes "coalitions") level) && list_all (lists_coalition n) (parts_at (codes "earlier") level) && list_all (lists_player n) (parts_at (codes "bounds") level) && passes is_integer (get (codes "total") level)
 
--- each level behind those in front has 1 to 65,536 coalitions and at most 65,536 earlier ones; coalitions are neither empty nor all, earlier ones stand in
--- the coalitions of a level in front; masks and players ascend strictly; weights and totals are below 2^63 in size
+-- each level behind those in front has 1 to 65,536 coalitions and at most 65,536 earlier ones; coalitions are neither
+-- empty nor all, earlier ones stand in the coalitions of a level in front; masks and players ascend strictly; weights
+-- and totals are below 2^63 in size
 abbrev pub have_form : ℕ → List Level → List Level → Bool
 have_form n front [] = true
 have_form n front (l ∷ levels) = level_form n front l && have_form n (front ++ l ∷ []) levels

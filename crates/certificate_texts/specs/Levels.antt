@@ -1,7 +1,15 @@
 -- The levels that a certificate describes.
 --
---   coalition_of  the mask of the coalition whose players are listed by number
---   level_of      what the tree of a level describes, its excess times the scale, where no test refuses it
+--   number_between       an integer above one number, at most another
+--   number_above         the number of a player within such bounds
+--   numbers_above        numbers that ascend strictly, within such bounds
+--   mask_by_numbers      the mask of the players with some numbers
+--   coalition_of         the mask of the coalition whose players are listed by number
+--   numbered_player      the player that a number names
+--   weighted_coalition   a coalition and its weight
+--   first_player         the player that the first of two items names
+--   weighted_player      a player and its weight
+--   level_of             what the tree of a level describes, its excess times the scale, where no test refuses it
 use Rattle.std.specs.Prelude.{◌+◌, ◌-◌, ◌^◌, ℕ, ℤ, pos, negsuc, codes, List, [], ◌∷◌, map, ◌&&◌, Option, Some, None, option_and_then, option_map, unwrap_or, nat_lt, nat_le, if◌then◌else◌}
 use Rattle.serde_json.specs.Data.{Data}
 use Rattle.definitions.specs.Certificates.{Level}

@@ -1,8 +1,15 @@
 -- The kinds, keys and words of a certificate, and the words of the families.
 --
---   family_of       the family that the answer of a document names
---   mode_of         the mode that a certificate names
---   is_certificate  a certificate has its keys and kinds
+--   family_named            the family that a word names
+--   family_of               the family that the answer of a document names
+--   mode_named              the mode that a word names
+--   mode_of                 the mode that a certificate names
+--   certificate_keys        the keys of a certificate
+--   level_keys              the keys of a level
+--   is_weighted_coalition   the numbers of the players of a coalition, and a weight
+--   is_weighted_player      the number of a player, and a weight
+--   is_level                a level has its keys and kinds
+--   is_certificate          a certificate has its keys, kinds and words
 use Rattle.std.specs.Prelude.{ℕ, List, [], ◌∷◌, codes, Bool, ◌&&◌, Option, Some, None, is_some, option_and_then, if◌then◌else◌}
 use Rattle.std.specs.Str.{bytes_eq}
 use Rattle.serde_json.specs.Data.{Data}

@@ -39,7 +39,7 @@ fn with_number(mask: u64, low: u32, number: u32) -> u64
 }
 
 /// The coalition of players from 1 to `n`, listed by ascending numbers.
-pub fn coalition_of(n: u32, members: &[Value]) -> Option<Coalition>
+pub(crate) fn coalition_of(n: u32, members: &[Value]) -> Option<Coalition>
     requires { n ≤ 64 }
     ensures { result ≡ coalition_of n (map view members.now) }
 {

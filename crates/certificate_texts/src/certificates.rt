@@ -76,8 +76,8 @@ fn has_written_levels(n: u32, certificate: &Value, scale: u32) -> bool
     are_written(n, parts_at(certificate, "levels"), scale)
 }
 
-/// The certificate for `n` players that a tree describes, its excesses times the scale. None exactly where it hasn't its
-/// form.
+/// The certificate for `n` players that a tree describes, its excesses times the scale. None exactly where it hasn't
+/// its form.
 pub fn certificate_of(
     alloc: Global,
     n: u32,

@@ -51,7 +51,7 @@ fn coalitions_at(
 }
 
 /// The player that the first of two items names by its number from 1 to `n`.
-pub fn first_player(n: u32, pair: &Value) -> Option<u32>
+pub(crate) fn first_player(n: u32, pair: &Value) -> Option<u32>
     ensures player { result ≡ first_player n (parts (view pair.now)) }
     ensures within { IfSome result (λ i. i < n) }
 {
@@ -111,7 +111,7 @@ fn level_of(alloc: Global, n: u32, level: &Value, scale: u32) -> Result<Level, O
 }
 
 /// The levels that these trees describe, of a certificate for `n` players, their excesses times the scale.
-pub fn levels_of(
+pub(crate) fn levels_of(
     alloc: Global,
     n: u32,
     trees: &[Value],

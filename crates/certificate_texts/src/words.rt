@@ -39,7 +39,7 @@ fn mode_named(word: &str) -> Option<Mode>
 }
 
 /// The mode that a certificate names.
-pub fn mode_of(certificate: &Value) -> Option<Mode>
+pub(crate) fn mode_of(certificate: &Value) -> Option<Mode>
     ensures { result ≡ mode_of (view certificate.now) }
 {
     let word = certificate.get("mode").and_then(Value::as_str)?;

@@ -14,7 +14,7 @@ use Rattle.definitions.specs.Sums.{sum_below}
 use Rattle.definitions.specs.Coalitions.{has_player, singleton, grand_coalition, members, size, sum_over}
 use Rattle.definitions.specs.Classes.{Matrix, IsMatching, matching_value, table_worth, greatest_cost, airport_worth, bankruptcy_worth}
 use Rattle.airport.proofs.GreatestCosts.{greatest_cost-at_least}
-use Rattle.bankruptcy.proofs.Laws.{sum-claims}
+use Rattle.orders.proofs.ListSums.{sum-sum_below}
 use Rattle.matrices.specs.Rows.{entries_of}
 use Rattle.assignment_games.specs.Assignments.{assignment_game, seller_count}
 use Rattle.assignment_games.proofs.Games.{assignment_is_game}
@@ -118,7 +118,7 @@ exceed-sum (suc m) d f r some positive h =
 pub bankruptcy_imputations : (estate : ℕ) (claims : List ℕ) → estate ≤ sum claims → HasImputations (record { players = length claims; worth = bankruptcy_worth estate claims })
 bankruptcy_imputations estate claims enough =
     let n = length claims in
-    let total = sum-claims claims in
+    let total = sum-sum_below claims in
     let most = exceed-sum (length claims) claim (λ i. bankruptcy_worth estate claims (singleton i)) (sum_below (length claims) claim -ℤ pos estate) (rest (sum claims) (sum_below (length claims) claim) enough total) (λ i lt. omega (arith, ints)) alone in
     let whole = none_left (length claims) claim in
     ends (sum_below (length claims) claim) (sum_over (length claims) claim (grand_coalition (length claims) - grand_coalition (length claims))) (sum_below (length claims) (λ i. bankruptcy_worth estate claims (singleton i))) whole most.1

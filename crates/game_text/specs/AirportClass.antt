@@ -1,9 +1,9 @@
 -- Airport games in a document: a cost for each player.
 --
---   airport_keys         the keys
---   is_airport_shaped    the keys and kinds
---   airport_players      the number of players
---   has_airport_numbers  each number is within its limits
+--   airport_keys          the keys
+--   is_airport_shaped     the keys and kinds
+--   airport_players       the number of players
+--   has_airport_numbers   each number is within its limits
 use Rattle.std.specs.Prelude.{ℕ, List, [], ◌∷◌, length, codes, Bool, ◌&&◌}
 use Rattle.std.specs.List.{list_all}
 use Rattle.serde_json.specs.Data.{Data}

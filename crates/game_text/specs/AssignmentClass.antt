@@ -1,9 +1,10 @@
--- Assignment games in a document: what each buyer and each seller are worth together, a row for each buyer and a column for
--- each seller.
+-- Assignment games in a document: what each buyer and each seller are worth together, a row for each buyer and a column
+-- for each seller.
 --
---   assignment_players      the number of players
---   has_assignment_players  there are buyers and sellers, at most 16 together
---   are_even                the rows have one length
+--   sellers_at               the number of sellers
+--   assignment_players       the number of players
+--   has_assignment_players   there are buyers and sellers, at most 16 together
+--   are_even                 the rows have one length
 use Rattle.std.specs.Prelude.{◌+◌, ℕ, ℤ, List, length, codes, Bool, ◌&&◌, nat_le}
 use Rattle.serde_json.specs.Data.{Data}
 use Rattle.assignment_games.specs.Assignments.{seller_count}

@@ -1,10 +1,10 @@
 -- Bankruptcy games in a document: an estate, and a claim for each player.
 --
---   bankruptcy_keys         the keys
---   is_bankruptcy_shaped    the keys and kinds
---   bankruptcy_players      the number of players
---   has_bankruptcy_numbers  each number is within its limits
---   claims_cover            the estate is at most the sum of the claims
+--   bankruptcy_keys          the keys
+--   is_bankruptcy_shaped     the keys and kinds
+--   bankruptcy_players       the number of players
+--   has_bankruptcy_numbers   each number is within its limits
+--   claims_cover             the estate is at most the sum of the claims
 use Rattle.std.specs.Prelude.{ℕ, List, [], ◌∷◌, length, codes, Bool, ◌&&◌, nat_le, sum}
 use Rattle.std.specs.List.{list_all}
 use Rattle.serde_json.specs.Data.{Data}

@@ -1,9 +1,14 @@
 -- What the private functions of reading say by the least common denominator as a number that is computed. The public
 -- clauses speak of the least common denominator itself (`IsDenominatorOf` in Shares.antt), of which there is one.
 --
---   over_least    fractions over their least common denominator
---   tree_refusal  the first test that a tree doesn't pass
---   contents_of   what a tree says
+--   over_least           fractions over their least common denominator
+--   keep_limits          they keep within the limits of shares there
+--   share_denominator    the least common denominator of the shares that are written, times the scale of the game
+--   needed_keep_limits   over it, the shares that a command needs keep within the limits of shares
+--   shares_of            the proposed shares as worth
+--   shares_for           the shares that a command needs
+--   contents_of          what a tree says
+--   tree_refusal         the first test that a tree doesn't pass
 use Rattle.std.specs.Prelude.{ℕ, pos, List, Bool, Option}
 use Rattle.serde_json.specs.Data.{Data}
 use Rattle.fractions.specs.Fraction.{Fraction}

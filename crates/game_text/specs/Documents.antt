@@ -1,4 +1,12 @@
 -- What a document that isn't refused says.
+--
+--   Contents           a game, how it is described and measured, and what a command needs beside it
+--   game_tree          the tree of the game
+--   certificate_tree   the tree of the certificate
+--   family_for         the family that a command needs
+--   proposed_over      the shares that a command needs, over a denominator
+--   certificate_for    the certificate that a command needs
+--   contents_over      what a tree says to a command, with the shares over a denominator
 use Rattle.std.specs.Prelude.{ℕ, ℤ, pos, codes, Option, unwrap_or}
 use Rattle.serde_json.specs.Data.{Data, null}
 use Rattle.serde_json.specs.Find.{get}
@@ -17,8 +25,9 @@ use Rattle.certificate_texts.specs.Certificates.{certificate_of}
 use Rattle.game_text.specs.declared.command.Command.{Command}
 use Rattle.game_text.specs.Needs.{needs, given}
 
--- a game, the JSON tree that describes it, the measure of its excesses, its scale, and the family, the shares and the certificate, where the command needs
--- them; the numbers of the game, the shares and the excesses of the certificate are those of the document times the scale
+-- a game, the JSON tree that describes it, the measure of its excesses, its scale, and the family, the shares and the
+-- certificate, where the command needs them; the numbers of the game, the shares and the excesses of the certificate
+-- are those of the document times the scale
 pub record Contents : Type 0 where
   pub game : Description
   pub tree : Data

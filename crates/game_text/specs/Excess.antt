@@ -1,7 +1,9 @@
 -- The excess by which the coalitions of a game are to be compared.
 --
---   measure_of  plain excess, or excess per head where the game says so
---   is_measure  a text that names one of both
+--   measure_named   the measure that a word names
+--   measure_in      the measure that a text names
+--   is_measure      a text that names one of both
+--   measure_of      plain excess, or excess per head where the game says so
 use Rattle.std.specs.Prelude.{ℕ, codes, List, Bool, Option, Some, None, is_some, option_and_then, unwrap_or, if◌then◌else◌}
 use Rattle.std.specs.Str.{bytes_eq}
 use Rattle.serde_json.specs.Data.{Data}

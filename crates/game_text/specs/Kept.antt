@@ -1,7 +1,9 @@
 -- What holds of the tree of the game that a document keeps.
 --
---   has_integers  each number is an integer that `as_i64` gives
---   IsKept        no number but such integers, nested at most 8 deep, and written in no more bytes than were read
+--   has_integers            each number is an integer that `as_i64` gives
+--   items_have_integers     the same of the items of an array
+--   members_have_integers   the same of the members of an object
+--   IsKept                  no other numbers, nested at most 8 deep, and written in no more bytes than were read
 use Rattle.std.specs.Prelude.{◌≡◌, ◌≤◌, ◌&&◌, ℕ, List, Bool, length, true, false, is_some}
 use Rattle.serde_json.specs.Data.{Data, null, boolean, number, string, array, object, Items, no_items, item, Members, no_members, member, depth}
 use Rattle.serde_json.specs.Find.{as_i64}

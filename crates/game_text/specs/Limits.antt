@@ -1,8 +1,11 @@
 -- The numbers of players, and the sizes of worths and costs, that a game keeps within.
 --
---   players      the number of players
---   has_players  there are as many players, and numbers for them, as the class allows
---   has_numbers  the scale of the game, and each of its numbers times the scale, is within its limits
+--   has_players_as   there are as many players, and numbers for them, as a class allows
+--   has_players      as many as the class of the game allows
+--   players_as       the number of players of a game of a class
+--   players          the number of players
+--   has_numbers_as   each number of a game of a class, times a scale, is within its limits
+--   has_numbers      the scale of the game, and each of its numbers times the scale, is within its limits
 use Rattle.std.specs.Prelude.{ℕ, Bool, false, ◌&&◌, nat_le, Option, Some, None, unwrap_or}
 use Rattle.serde_json.specs.Data.{Data}
 use Rattle.game_text.specs.Sizes.{is_list_size, is_short_list_size}

@@ -1,6 +1,6 @@
 -- Markets in a document: a matrix as that of an assignment game, of more buyers and sellers.
 --
---   has_market_players  there are 1 to 32 buyers, and 1 to 32 sellers
+--   has_market_players   there are 1 to 32 buyers, and 1 to 32 sellers
 use Rattle.std.specs.Prelude.{length, codes, Bool, ◌&&◌}
 use Rattle.serde_json.specs.Data.{Data}
 use Rattle.json_trees.specs.Trees.{parts_at}

@@ -1,10 +1,10 @@
 -- Games by a matrix in a document: rows of numbers.
 --
---   matrix_keys         the keys
---   is_matrix_shaped    the keys and kinds
---   has_matrix_numbers  each number is within its limits
---   rows_of             the numbers of the rows, times the scale
---   have_length         each row has so many numbers
+--   matrix_keys          the keys
+--   is_matrix_shaped     the keys and kinds
+--   has_matrix_numbers   each number is within its limits
+--   rows_of              the numbers of the rows, times the scale
+--   have_length          each row has so many numbers
 use Rattle.std.specs.Prelude.{◌==◌, ℕ, ℤ, List, [], ◌∷◌, length, codes, Bool, ◌&&◌}
 use Rattle.std.specs.List.{list_all}
 use Rattle.serde_json.specs.Data.{Data}

@@ -1,7 +1,12 @@
 -- The coalition that the members in a document name, each by its number or by its name.
 --
---   mask_of         the mask of the coalition that members name
---   are_coalitions  each is a coalition, and no two are the same
+--   player_by        the player that a number, or else a text, names
+--   player_of        the player that a member names
+--   join             a coalition with one more player
+--   joined           a coalition with some more members
+--   mask_of          the mask of the coalition that members name
+--   is_mask          there is a mask, and it is s
+--   are_coalitions   each is a coalition, and no two are the same
 use Rattle.std.specs.Prelude.{◌+◌, ◌^◌, ℕ, List, [], ◌∷◌, Bool, true, false, not, ◌&&◌, Option, Some, None, option_and_then, position, nat_eq, if◌then◌else◌}
 use Rattle.std.specs.List.{list_any}
 use Rattle.std.specs.Str.{bytes_eq}

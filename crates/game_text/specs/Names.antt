@@ -1,7 +1,14 @@
 -- The names of the players, and the names that a sparse table uses.
 --
---   names_of   the names of the players, in their order
---   has_names  one name for each player, and the sparse table uses no other
+--   names_of       the names of the players, in their order
+--   texts          the texts of values in memory
+--   is_name        a name has 1 to 64 bytes
+--   are_distinct   no two are alike
+--   good_names     each is a name, and no two are alike
+--   are_names      one name for each player, where there are any
+--   is_known       a member that is a text is among the names
+--   are_known      each such member of a pair is
+--   has_names      one name for each player, and the sparse table uses no other
 use Rattle.std.specs.Prelude.{◌==◌, ℕ, codes, List, [], ◌∷◌, length, map, Bool, true, not, ◌&&◌, Option, Some, None, nat_lt, nat_le}
 use Rattle.std.specs.List.{list_all}
 use Rattle.serde_json.specs.Data.{Data}

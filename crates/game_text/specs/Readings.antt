@@ -1,4 +1,16 @@
 -- What the steps of reading a document give.
+--
+--   HasSizes                                   the game passed the tests of its shape, players and numbers
+--   IsTableClass                               a class that a table describes
+--   IsBuilt, IsBuildFault                      the described game; a refusal of its coalitions, estate, quota or matrix
+--   IsGameReading, IsGameFault                 the same behind the test of the names; a refusal of these too
+--   IsProposal, IsProposalFault                the shares that are proposed; their refusal
+--   IsShareReading, IsShareFault               the shares that a command needs; their refusal
+--   IsCertificateReading, IsCertificateFault   the certificate that a command needs; its refusal
+--   contents_in                                what a document in memory says
+--   IsLateReading, IsLateFault                 the document of a game with its sizes; the first refusal then
+--   IsTreeReading, IsTreeFault                 the document of a tree; the first refusal of a tree
+--   IsReading, IsFault                         the document of the bytes; the first refusal of the bytes
 use Rattle.std.specs.Prelude.{◌≡◌, ⊤, true, ℕ, pos, List, Option, Some, None}
 use Rattle.serde_json.specs.Data.{Data}
 use Rattle.serde_json.specs.View.{view}
@@ -41,7 +53,8 @@ IsTableClass (Some Assignment) = ⊥
 IsTableClass (Some Market) = ⊥
 IsTableClass (Some Voting) = ⊥
 
--- the tests of the coalitions, of the estate, of the quota and of the matrix pass, and this is the game that is described
+-- the tests of the coalitions, of the estate, of the quota and of the matrix pass, and this is the game that is
+-- described
 pub record IsBuilt (game : Data) (g : Game) : Type 0 where
   pub passed : (rest : Option Refusal) → coalition_refusal game rest ≡ rest
   pub same : description_in g ≡ description_of game
@@ -51,7 +64,8 @@ abbrev pub IsBuildFault : Data → TextFault → Type 0
 IsBuildFault game (Refused r) = (rest : Option Refusal) → coalition_refusal game rest ≡ Some r
 IsBuildFault game Memory = ⊤
 
--- the tests of the names, the coalitions, the estate, the quota and the matrix pass, and this is the game that is described
+-- the tests of the names, the coalitions, the estate, the quota and the matrix pass, and this is the game that is
+-- described
 pub record IsGameReading (game : Data) (g : Game) : Type 0 where
   pub passed : (rest : Option Refusal) → game_refusal game rest ≡ rest
   pub same : description_in g ≡ description_of game

@@ -1,8 +1,19 @@
 -- The first refusal that applies, and the document that isn't refused.
 --
---   refusal_over  the first test that a JSON tree doesn't pass, in their order
---   IsRefused     the first refusal that applies to the bytes
---   IsDocument    no refusal applies to the bytes, and this is what they say
+--   is_covered           an estate is at most the sum of the claims
+--   has_matrix           the rows are those of links, or have one length, as the class asks
+--   has_quota            the weights sum to at most 1,000, and the quota is from 1 to their sum
+--   unless               a refusal, unless its test passes
+--   first_failed         the first of some tests that isn't passed
+--   has_needed_numbers   each share that a command needs is an integer or a fraction text
+--   has_needed_shares    there is a share for each player, where a command needs shares
+--   has_needed_terms     over a denominator, the shares that a command needs keep within the limits of shares
+--   has_needed_form      the certificate that a command needs has its form
+--   tree_tests           the tests of a JSON tree, in their order
+--   refusal_over         the first test that a JSON tree doesn't pass, in their order
+--   IsTreeRefused        the bytes are the text of a tree that is refused so
+--   IsRefused            the first refusal that applies to the bytes
+--   IsDocument           no refusal applies to the bytes, and this is what they say
 use Rattle.std.specs.Prelude.{◌≡◌, ◌<◌, ◌≤◌, ◌&&◌, ℕ, codes, List, [], ◌∷◌, length, Bool, true, false, Option, Some, None}
 use Rattle.serde_json.specs.Data.{Data}
 use Rattle.serde_json.specs.Find.{get}
@@ -77,7 +88,8 @@ has_needed_numbers command tree = if_needed (needs command).shares (has_share_nu
 abbrev pub has_needed_shares : Command → Data → Data → Bool
 has_needed_shares command game tree = if_needed (needs command).shares (has_shares_for (players game) tree)
 
--- over the denominator d, the shares that a command needs, times the scale of the game, keep within the limits of shares
+-- over the denominator d, the shares that a command needs, times the scale of the game, keep within the limits of
+-- shares
 abbrev pub has_needed_terms : ℕ → Command → Data → Data → Bool
 has_needed_terms d command game tree = if_needed (needs command).shares (has_small_terms d (scaled_shares (scale_of game) tree))
 
@@ -85,7 +97,8 @@ has_needed_terms d command game tree = if_needed (needs command).shares (has_sma
 abbrev pub has_needed_form : Command → Data → Data → Bool
 has_needed_form command game tree = if_needed (needs command).certificate (passes (has_form (scale_of game) (players game)) (get (codes "certificate") tree))
 
--- the tests of a tree, in the order of the numbers of their refusals but for Quota, where d is the denominator of the shares
+-- the tests of a tree, in the order of the numbers of their refusals but for Quota, where d is the denominator of the
+-- shares
 abbrev pub tree_tests : ℕ → Command → Data → Data → List (Refusal × Bool)
 tree_tests d command game tree =
     (Shape, is_shaped command tree)

@@ -1,7 +1,15 @@
 -- The numbers of a game, times its scale.
 --
---   small_number    a number times the scale, where it is below 2^40 in size
---   number_or_zero  the same, and 0 where there is none
+--   is_small         below 2^40 in size
+--   if_small         a number, where it is below 2^40 in size
+--   small_number     a number times the scale, where it is below 2^40 in size
+--   number_or_zero   the same, and 0 where there is none
+--   number_at        the number at a key
+--   numbers_at       the numbers of the array at a key
+--   costs_at         the same, none of them negative
+--   numbers_of       the numbers of the items of an array
+--   rows_at          the numbers of each array in the array at a key
+--   second_number    the number of the second of two items
 use Rattle.std.specs.Prelude.{◌^◌, ℕ, ℤ, pos, List, [], ◌∷◌, map, Bool, Option, Some, None, option_map, option_and_then, unwrap_or, nat_lt, unsigned_abs, if◌then◌else◌}
 use Rattle.serde_json.specs.Data.{Data}
 use Rattle.serde_json.specs.Find.{get}

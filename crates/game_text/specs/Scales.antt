@@ -1,8 +1,20 @@
--- The scale of a game: the least common denominator of its numbers. It is 1 for a game of version 1, where each is an integer.
+-- The scale of a game: the least common denominator of its numbers. It is 1 for a game of version 1, where each is an
+-- integer.
 --
---   game_numbers  the numbers of a game, where they stand in its tree
---   scale_of      their least common denominator
---   IsScaleOf     the same, said of a number
+--   if_there            what is there
+--   second_part         the second of two items
+--   pair_number         the number of a pair of a coalition and a number
+--   all_parts           what each of some trees has, one after another
+--   table_numbers_in    the numbers of a table
+--   player_numbers_in   costs, an estate and claims
+--   matrix_numbers_in   the entries of a matrix
+--   game_numbers        the numbers of a game, where they stand in its tree
+--   game_fractions      these numbers as fractions
+--   scale_of            their least common denominator
+--   IsScaleOf           the same, said of a number
+--   if_scale            a scale, where it is at most 65,536
+--   with_number         the least common multiple of a scale and the denominator of a number, within that limit
+--   with_numbers        the same with the denominators of some numbers
 use Rattle.std.specs.Prelude.{ℕ, ℤ, codes, List, [], ◌∷◌, ◌++◌, map, unsigned_abs, Option, Some, None, option_and_then, nat_le, if◌then◌else◌}
 use Rattle.serde_json.specs.Data.{Data}
 use Rattle.serde_json.specs.Find.{get}

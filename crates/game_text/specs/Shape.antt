@@ -1,8 +1,13 @@
 -- The kinds, keys and words of a document.
 --
---   class_of        the class that a game names
---   is_game_shaped  a game has the keys and kinds of its class
---   is_shaped       a document has the keys and kinds that a command needs
+--   document_keys    the keys of a document
+--   class_named      the class that a word names
+--   class_of         the class that a game names
+--   is_shaped_as     a game has the keys and kinds that a class asks for
+--   is_game_shaped   a game has the keys and kinds of its class
+--   has_shares       shares are numbers and texts
+--   has_needed       there is what a command needs beside the game
+--   is_shaped        a document has the keys and kinds that a command needs
 use Rattle.std.specs.Prelude.{ℕ, List, [], ◌∷◌, codes, Bool, false, ◌&&◌, Option, Some, None, is_some, option_and_then, if◌then◌else◌}
 use Rattle.std.specs.Str.{bytes_eq}
 use Rattle.serde_json.specs.Data.{Data}
@@ -46,7 +51,8 @@ is_shaped_as (Some Assignment) game = is_matrix_shaped game
 is_shaped_as (Some Market) game = is_matrix_shaped game
 is_shaped_as (Some Voting) game = is_voting_shaped game
 
--- names are texts, the excess is a measure and the version is 1 or 2, where there are any, and the rest is as the class asks
+-- names are texts, the excess is a measure and the version is 1 or 2, where there are any, and the rest is as the class
+-- asks
 abbrev pub is_game_shaped : Data → Bool
 is_game_shaped game = passes_if_there (is_array_of is_text) (get (codes "names") game) && passes_if_there is_measure (get (codes "excess") game) && passes_if_there is_version (get (codes "version") game) && is_shaped_as (class_of game) game
 

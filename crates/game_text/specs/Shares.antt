@@ -1,9 +1,15 @@
 -- The shares that a document proposes.
 --
---   scaled_shares    the fractions that are written, times a scale
---   IsDenominatorOf  their least common denominator
---   has_small_terms  over a denominator, they keep within the limits of shares
---   shares_over      the shares as worth, over a denominator
+--   has_share_numbers     each share is an integer or a fraction text
+--   has_shares_for        there are so many shares
+--   scaled_share          the fraction that is written, times a scale
+--   scaled_shares         the fractions that are written, times a scale
+--   negated               shares with their signs turned
+--   as_worth              shares as worth: payments are negated
+--   IsDenominatorOf       the least common denominator of the fractions that are written, times a scale
+--   has_small_numerator   over a denominator, a fraction has a numerator below 2^110 in size
+--   has_small_terms       over a denominator, fractions keep within the limits of shares
+--   shares_over           the shares as worth, over a denominator
 use Rattle.std.specs.Prelude.{◌==◌, ◌^◌, ◌&&◌, ℕ, pos, neg_ℤ, unsigned_abs, nat_lt, nat_le, codes, List, length, map, Bool, if◌then◌else◌}
 use Rattle.std.specs.List.{list_all}
 use Rattle.serde_json.specs.Data.{Data}

@@ -1,8 +1,10 @@
 -- The sizes that several classes keep within.
 --
---   is_cost             a number from 0 that times the scale is below 2^40
---   is_list_size        a number of players from 1 to 64
---   is_short_list_size  a number of players, or of those of one side, from 1 to 32
+--   is_list_size         a number of players from 1 to 64
+--   is_short_list_size   a number of players, or of those of one side, from 1 to 32
+--   is_small_cost        at least 0, and below 2^40
+--   if_integer           an integer that passes a test
+--   is_cost              a number from 0 that times the scale is below 2^40
 use Rattle.std.specs.Prelude.{◌^◌, ℕ, ℤ, pos, negsuc, Bool, false, ◌&&◌, Option, Some, None, nat_lt, nat_le}
 use Rattle.serde_json.specs.Data.{Data}
 use Rattle.game_text.specs.ScaledNumbers.{small_number}

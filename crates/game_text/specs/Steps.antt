@@ -1,4 +1,12 @@
 -- The tests of a tree from one of them on, as the steps of reading go through them.
+--
+--   coalition_refusal     the tests of the coalitions, the estate, the quota and the matrix, and then the rest
+--   game_refusal          that of the names in front of these
+--   proposal_refusal      as many shares as players, over a denominator that isn't too large, and then the rest
+--   share_refusal         the tests of the shares that a command needs, and then the rest
+--   certificate_refusal   the test of the certificate that a command needs
+--   needed_refusal        the tests of what a command needs beside the game
+--   late_refusal          the tests behind those of the shape, the players and the numbers
 use Rattle.std.specs.Prelude.{Option, None}
 use Rattle.serde_json.specs.Data.{Data}
 use Rattle.game_text.specs.Names.{has_names}

@@ -1,12 +1,22 @@
 -- Tables of worths and of costs in a document: a number for each coalition, all listed or some in pairs.
 --
---   table_keys         the keys
---   is_table_shaped    the keys and kinds
---   players_at         the number of players
---   has_table_players  1 to 16 players, and a number for each coalition where all are listed
---   has_table_numbers  each number is within its limits
---   masks_by           the coalitions of the pairs
---   numbers_by         the number of each coalition
+--   table_keys          the keys
+--   is_sparse_pair      a coalition and its number
+--   lists_worths        all numbers are listed
+--   lists_coalitions    some coalitions are listed with their numbers
+--   is_table_shaped     the keys and kinds
+--   table_players       a number of players from 1 to 16
+--   players_at          the number of players
+--   has_items           an array has one item fewer than n
+--   has_worths_for      a number for each coalition of so many players, where all are listed
+--   has_table_players   1 to 16 players, and a number for each coalition where all are listed
+--   is_worth            a number that times the scale is below 2^40 in size
+--   has_worth           the number of a pair is such a number
+--   has_table_numbers   each number is within its limits
+--   masks_by            the coalitions of the pairs
+--   sparse_number       the number of a coalition, by the pairs
+--   sparse_numbers      the number of each coalition, by the pairs
+--   numbers_by          the number of each coalition
 use Rattle.std.specs.Prelude.{◌==◌, ◌+◌, ◌-◌, ◌^◌, ℕ, ℤ, pos, negsuc, List, [], ◌∷◌, length, map, codes, Bool, false, ◌&&◌, ◌||◌, Option, Some, None, is_some, is_none, option_and_then, nat_lt, nat_le, if◌then◌else◌}
 use Rattle.std.specs.List.{list_all, range_with_len}
 use Rattle.serde_json.specs.Data.{Data}

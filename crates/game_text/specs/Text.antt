@@ -1,4 +1,9 @@
 -- The text of a document: bytes, and the JSON tree that they are the text of.
+--
+--   document_limit    the most bytes that a document for a command may have
+--   without_newline   the bytes without a newline at their end
+--   IsTextOf          the bytes are the text of a JSON tree
+--   IsNotJson         the bytes are the text of none
 use Rattle.std.specs.Prelude.{◌≡◌, ◌==◌, ◌-◌, ◌&&◌, ℕ, List, length, take, slice_index, Some, None, if◌then◌else◌, IsUtf8, nat_lt}
 use Rattle.serde_json.specs.Data.{Data}
 use Rattle.serde_json.specs.Read.{read}
@@ -17,6 +22,7 @@ without_newline bytes = if nat_lt 0 (length bytes) && (slice_index bytes (length
 abbrev pub IsTextOf : List ℕ → Data → Type 0
 IsTextOf bytes tree = IsUtf8 (without_newline bytes) × (read (without_newline bytes) ≡ Some tree)
 
--- the bytes aren't UTF-8, or `serde_json` refuses them: they aren't one JSON text (a byte order mark is no part of one), are nested deeper than 127, have a number too large for a float of 64 bits, or half of a surrogate pair
+-- the bytes aren't UTF-8, or `serde_json` refuses them: they aren't one JSON text (a byte order mark is no part of
+-- one), are nested deeper than 127, have a number too large for a float of 64 bits, or half of a surrogate pair
 abbrev pub IsNotJson : List ℕ → Type 0
 IsNotJson bytes = IsUtf8 (without_newline bytes) → read (without_newline bytes) ≡ None

@@ -1,9 +1,11 @@
--- Tree games in a document: the cost of the link between each two of the source and the players, of which row and column 0
--- are the source.
+-- Tree games in a document: the cost of the link between each two of the source and the players, of which row and
+-- column 0 are the source.
 --
---   tree_players      the number of players
---   has_tree_players  there are 1 to 16, and the source
---   are_links         the rows are those of links
+--   tree_players       the number of players
+--   has_tree_players   there are 1 to 16, and the source
+--   is_turned          an entry is the same in both directions
+--   is_linked          so are all entries from a point, and that to itself is 0
+--   are_links          the rows are those of links
 use Rattle.std.specs.Prelude.{◌==◌, ◌-◌, ℕ, ℤ, List, length, codes, Bool, ◌&&◌, nat_le}
 use Rattle.std.specs.List.{list_all, range_with_len}
 use Rattle.serde_json.specs.Data.{Data}

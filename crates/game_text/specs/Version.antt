@@ -1,7 +1,7 @@
 -- The version of a game. In version 2 a number may be written as a fraction text.
 --
---   is_version  the integer 1 or 2
---   has_texts   the game is of version 2
+--   is_version   the integer 1 or 2
+--   has_texts    the game is of version 2
 use Rattle.std.specs.Prelude.{pos, codes, Bool, ◌||◌}
 use Rattle.std.specs.Ordering.{int_eq}
 use Rattle.serde_json.specs.Data.{Data}

@@ -1,11 +1,11 @@
--- Weighted voting games in a document: a quota, and a weight for each player. They are integers in both versions, so the scale
--- is 1.
+-- Weighted voting games in a document: a quota, and a weight for each player. They are integers in both versions, so
+-- the scale is 1.
 --
---   voting_keys         the keys
---   is_voting_shaped    the keys and kinds
---   voting_players      the number of players
---   has_voting_numbers  each number is within its limits
---   is_quota            the weights sum to at most 1,000, and the quota is from 1 to their sum
+--   voting_keys          the keys
+--   is_voting_shaped     the keys and kinds
+--   voting_players       the number of players
+--   has_voting_numbers   each number is within its limits
+--   is_quota             the weights sum to at most 1,000, and the quota is from 1 to their sum
 use Rattle.std.specs.Prelude.{ℕ, List, [], ◌∷◌, length, codes, Bool, ◌&&◌, nat_lt, nat_le, sum}
 use Rattle.std.specs.List.{list_all}
 use Rattle.serde_json.specs.Data.{Data}

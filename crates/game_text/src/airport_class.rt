@@ -18,7 +18,7 @@ use serde_json::Value;
 use std::alloc::Global;
 
 /// Whether it has the keys and kinds of an airport game.
-pub fn is_airport_shaped(game: &Value) -> bool
+pub(crate) fn is_airport_shaped(game: &Value) -> bool
     ensures { result ≡ is_airport_shaped (view game.now) }
 {
     let texts = has_texts(game);
@@ -27,21 +27,25 @@ pub fn is_airport_shaped(game: &Value) -> bool
 }
 
 /// The number of players: one for each cost.
-pub fn airport_players(game: &Value) -> usize
+pub(crate) fn airport_players(game: &Value) -> usize
     ensures { result ≡ airport_players (view game.now) }
 {
     parts_at(game, "costs").len()
 }
 
 /// Whether each cost times the scale is within its limits.
-pub fn has_airport_numbers(game: &Value, scale: u32) -> bool
+pub(crate) fn has_airport_numbers(game: &Value, scale: u32) -> bool
     ensures { result ≡ has_airport_numbers scale (view game.now) }
 {
     each_at(game, "costs", &SmallCost(scale))
 }
 
 /// The game that is described, its costs times the scale.
-pub fn airport_of(alloc: Global, game: &Value, scale: u32) -> Result<AirportGame, OutOfMemory>
+pub(crate) fn airport_of(
+    alloc: Global,
+    game: &Value,
+    scale: u32,
+) -> Result<AirportGame, OutOfMemory>
     requires class { class_of (view game.now) ≡ Some Airport }
     requires sizes { HasSizes (view game.now) }
     requires scale { scale ≡ scale_of (view game.now) }

@@ -16,7 +16,7 @@ use serde_json::Value;
 use std::alloc::Global;
 
 /// The number of sellers: one for each item of the first row.
-pub fn sellers_at(game: &Value) -> usize
+pub(crate) fn sellers_at(game: &Value) -> usize
     ensures value { result ≡ sellers_at (view game.now) }
     ensures small { result < 2 ^ 63 }
 {
@@ -27,14 +27,14 @@ pub fn sellers_at(game: &Value) -> usize
 }
 
 /// The number of players: one for each row and one for each item of the first row.
-pub fn assignment_players(game: &Value) -> usize
+pub(crate) fn assignment_players(game: &Value) -> usize
     ensures { result ≡ assignment_players (view game.now) }
 {
     parts_at(game, "matrix").len() + sellers_at(game)
 }
 
 /// Whether there are buyers and sellers, at most 16 together.
-pub fn has_assignment_players(game: &Value) -> bool
+pub(crate) fn has_assignment_players(game: &Value) -> bool
     ensures { result ≡ has_assignment_players (view game.now) }
 {
     let buyers = parts_at(game, "matrix").len();
@@ -43,7 +43,7 @@ pub fn has_assignment_players(game: &Value) -> bool
 }
 
 /// The game that is described, its numbers times the scale. None where the rows differ in length.
-pub fn assignment_of(
+pub(crate) fn assignment_of(
     alloc: Global,
     game: &Value,
     scale: u32,

@@ -19,7 +19,7 @@ use serde_json::Value;
 use std::alloc::Global;
 
 /// Whether it has the keys and kinds of a bankruptcy game.
-pub fn is_bankruptcy_shaped(game: &Value) -> bool
+pub(crate) fn is_bankruptcy_shaped(game: &Value) -> bool
     ensures { result ≡ is_bankruptcy_shaped (view game.now) }
 {
     let texts = has_texts(game);
@@ -31,21 +31,22 @@ pub fn is_bankruptcy_shaped(game: &Value) -> bool
 }
 
 /// The number of players: one for each claim.
-pub fn bankruptcy_players(game: &Value) -> usize
+pub(crate) fn bankruptcy_players(game: &Value) -> usize
     ensures { result ≡ bankruptcy_players (view game.now) }
 {
     parts_at(game, "claims").len()
 }
 
 /// Whether the estate and each claim, times the scale, are within their limits.
-pub fn has_bankruptcy_numbers(game: &Value, scale: u32) -> bool
+pub(crate) fn has_bankruptcy_numbers(game: &Value, scale: u32) -> bool
     ensures { result ≡ has_bankruptcy_numbers scale (view game.now) }
 {
     has(game, "estate", &SmallCost(scale)) && each_at(game, "claims", &SmallCost(scale))
 }
 
-/// The game that is described, its estate and claims times the scale. None where the estate is above the sum of the claims.
-pub fn bankruptcy_of(
+/// The game that is described, its estate and claims times the scale. None where the estate is above the sum of the
+/// claims.
+pub(crate) fn bankruptcy_of(
     alloc: Global,
     game: &Value,
     scale: u32,

@@ -29,7 +29,12 @@ use worth_tables::CostGame;
 
 /// The game that a tree describes, its numbers times the scale, or the refusal of its coalitions, of its estate, of its
 /// quota or of its matrix.
-pub fn game_of(alloc: Global, game: &Value, names: &Names, scale: u32) -> Result<Game, TextFault>
+pub(crate) fn game_of(
+    alloc: Global,
+    game: &Value,
+    names: &Names,
+    scale: u32,
+) -> Result<Game, TextFault>
     requires sizes { HasSizes (view game.now) }
     requires named { length names.now ≤ players (view game.now) }
     requires names { names.now ≡ names_of (view game.now) }

@@ -4,10 +4,10 @@ use std::alloc::Global;
 use std::test::Fail;
 
 /// An airport game of three players.
-pub const AIRPORT: &str = "{\"class\":\"airport\",\"costs\":[2,4,6]}";
+pub(crate) const AIRPORT: &str = "{\"class\":\"airport\",\"costs\":[2,4,6]}";
 
 // The text of a document with all four keys.
-pub fn whole_document(
+pub(crate) fn whole_document(
     alloc: Global,
     answer: &str,
     certificate: &str,
@@ -35,7 +35,7 @@ fn certificate(alloc: Global, levels: &str) -> Result<String, Fail> {
 }
 
 // Why a document with all four keys isn't one to check.
-pub fn check_fault(
+pub(crate) fn check_fault(
     alloc: Global,
     answer: &str,
     certificate: &str,

@@ -159,7 +159,8 @@ fn commands_look_at_what_they_need(rt: HostRuntime) {
         ),
         (
             Command::Check,
-            "{\"answer\":\"nucleolus\",\"certificate\":{\"levels\":[],\"mode\":\"span\"},\"game\":{\"class\":\"airport\",\"costs\":[2,4,6]},\"shares\":[1,1,1]}\n",
+            "{\"answer\":\"nucleolus\",\"certificate\":{\"levels\":[],\"mode\":\"span\"},\
+            \"game\":{\"class\":\"airport\",\"costs\":[2,4,6]},\"shares\":[1,1,1]}\n",
             None,
         ),
         (
@@ -201,8 +202,10 @@ fn documents_to_check_have_at_most_8_mib(rt: HostRuntime) -> Result<(), Fail> {
     Ok(())
 }
 
-const TWO_LEVELS: &str =
-    "{\"levels\":[{\"bounds\":[],\"coalitions\":[[[1],1],[[2,3],1]],\"earlier\":[],\"excess\":\"-1\",\"total\":1},{\"bounds\":[],\"coalitions\":[[[1,2],1],[[1,3],1]],\"earlier\":[[[1],-1]],\"excess\":\"-3/2\",\"total\":1}],\"mode\":\"players\"}";
+const TWO_LEVELS: &str = "{\"levels\":[\
+    {\"bounds\":[],\"coalitions\":[[[1],1],[[2,3],1]],\"earlier\":[],\"excess\":\"-1\",\"total\":1},\
+    {\"bounds\":[],\"coalitions\":[[[1,2],1],[[1,3],1]],\"earlier\":[[[1],-1]],\"excess\":\"-3/2\",\"total\":1}\
+    ],\"mode\":\"players\"}";
 
 #[test]
 fn a_certificate_is_read_whole(rt: HostRuntime) -> Result<(), Fail> {

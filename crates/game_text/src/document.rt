@@ -15,8 +15,8 @@ pub struct Document {
     /// How the excesses of coalitions are measured: plain, or per head where the game says so. The nucleolus, the
     /// prenucleolus and certificates go by it.
     pub measure: Measure,
-    /// The least common denominator of the numbers that the game is written in, from 1 to 65,536. The game, the shares and
-    /// the certificate are those of the document times this scale.
+    /// The least common denominator of the numbers that the game is written in, from 1 to 65,536. The game, the shares
+    /// and the certificate are those of the document times this scale.
     pub scale: i64,
     /// The family that the answer names; there for every command that needs it.
     pub family: Option<Family>,

@@ -19,7 +19,7 @@ use crate::voting_class::{has_voting_numbers, voting_players};
 use serde_json::Value;
 
 /// Whether there are as many players, and numbers for them, as the class of the game allows.
-pub fn has_players(game: &Value) -> bool
+pub(crate) fn has_players(game: &Value) -> bool
     ensures { result ≡ has_players (view game.now) }
 {
     match class_of(game) {
@@ -35,7 +35,7 @@ pub fn has_players(game: &Value) -> bool
 }
 
 /// The number of players of a game that has as many as its class allows.
-pub fn players(game: &Value) -> usize
+pub(crate) fn players(game: &Value) -> usize
     ensures { result ≡ players (view game.now) }
 {
     match class_of(game) {
@@ -50,7 +50,7 @@ pub fn players(game: &Value) -> usize
 }
 
 /// Whether each number of the game, times the scale, is within its limits.
-pub fn has_numbers(game: &Value, scale: u32) -> bool
+pub(crate) fn has_numbers(game: &Value, scale: u32) -> bool
     ensures { result ≡ has_numbers_as scale (class_of (view game.now)) (view game.now) }
 {
     match class_of(game) {

@@ -19,14 +19,18 @@ use serde_json::Value;
 use std::alloc::Global;
 
 /// Whether there are 1 to 32 buyers, and 1 to 32 sellers.
-pub fn has_market_players(game: &Value) -> bool
+pub(crate) fn has_market_players(game: &Value) -> bool
     ensures { result ≡ has_market_players (view game.now) }
 {
     is_short_list_size(parts_at(game, "matrix").len()) && is_short_list_size(sellers_at(game))
 }
 
 /// The market that is described, its numbers times the scale. None where the rows differ in length.
-pub fn market_of(alloc: Global, game: &Value, scale: u32) -> Result<Option<MarketGame>, OutOfMemory>
+pub(crate) fn market_of(
+    alloc: Global,
+    game: &Value,
+    scale: u32,
+) -> Result<Option<MarketGame>, OutOfMemory>
     requires class { class_of (view game.now) ≡ Some Market }
     requires sizes { HasSizes (view game.now) }
     requires scale { scale ≡ scale_of (view game.now) }

@@ -51,7 +51,7 @@ fn join(s: Coalition, i: u32, players: u32) -> Option<Coalition>
 }
 
 /// The coalition of members: at least one, and none twice.
-pub fn mask_of(players: u32, names: &Names, members: &[Value]) -> Option<Coalition>
+pub(crate) fn mask_of(players: u32, names: &Names, members: &[Value]) -> Option<Coalition>
     requires few { players ≤ 16 }
     requires named { length names.now ≤ players }
     ensures mask { result ≡ mask_of players names.now (map view members.now) }

@@ -1,5 +1,6 @@
 //! The names of the players.
-ghost use Rattle.std.specs.Prelude.{◌≡◌, ◌++◌, ◌∷◌, [], map, length, not, IfOk, IfSome, ◌<◌, ◌≤◌, codes, position, if◌then◌else◌, Some, None};
+ghost use Rattle.std.specs.Prelude.{◌≡◌, ◌<◌, ◌≤◌, not, Some, None, IfOk, IfSome, if◌then◌else◌};
+ghost use Rattle.std.specs.Prelude.{[], ◌∷◌, ◌++◌, codes, length, map, position};
 ghost use Rattle.std.specs.Str.{bytes_eq};
 ghost use Rattle.serde_json.specs.View.{view};
 ghost use Rattle.std.specs.List.{list_all};
@@ -17,7 +18,7 @@ use std::marker::Model;
 
 /// The names of the players, in the order of the players.
 #[derive(Drop)]
-pub struct Names<'a> {
+pub(crate) struct Names<'a> {
     set: IndexSet<&'a str>,
 }
 
@@ -31,7 +32,7 @@ impl<'a> Model for Names<'a> {
 
 impl<'a> Names<'a> {
     /// No names.
-    pub fn new(alloc: Global) -> Names<'a>
+    pub(crate) fn new(alloc: Global) -> Names<'a>
         ensures { result ≡ [] }
     {
         Names {
@@ -40,7 +41,7 @@ impl<'a> Names<'a> {
     }
 
     /// Adds the name, and says whether it is a new one.
-    pub fn insert(&mut self, name: &'a str) -> Result<bool, OutOfMemory>
+    pub(crate) fn insert(&mut self, name: &'a str) -> Result<bool, OutOfMemory>
         ensures added { IfOk result (λ b. b ≡ not (is_among self.old name.now)) }
         ensures names { IfOk result (λ b. self.new ≡ (if b then self.old ++ name.now ∷ [] else self.old)) }
     {
@@ -49,7 +50,7 @@ impl<'a> Names<'a> {
     }
 
     /// The place of the name, from 0.
-    pub fn place(&self, name: &str) -> Option<usize>
+    pub(crate) fn place(&self, name: &str) -> Option<usize>
         ensures place { result ≡ position (bytes_eq name.now) self.now }
         ensures within { IfSome result (λ i. i < length self.now) }
     {
@@ -57,7 +58,7 @@ impl<'a> Names<'a> {
     }
 
     /// Whether it is one of the names.
-    pub fn contains(&self, name: &str) -> bool
+    pub(crate) fn contains(&self, name: &str) -> bool
         ensures { result ≡ is_among self.now name.now }
     {
         self.set.contains(name)
@@ -90,13 +91,14 @@ fn read_names<'a>(alloc: Global, values: &'a [Value]) -> Result<Option<Names<'a>
 
 /// The names of a game of `players` players; no names where the game gives none. None where there isn't one name for
 /// each player.
-pub fn names_of<'a>(
+pub(crate) fn names_of<'a>(
     alloc: Global,
     game: &'a Value,
     players: usize,
 ) -> Result<Option<Names<'a>>, OutOfMemory>
     ensures few { IfOk result (λ o. IfSome o (λ names. length names ≤ players)) }
-    ensures names { IfOk result (λ o. o ≡ (if are_names players (get (codes "names") (view game.now)) (names_of (view game.now)) then Some (names_of (view game.now)) else None)) }
+    ensures names { IfOk result (λ o. o ≡ (if are_names players (get (codes "names") (view game.now)) (names_of (view game.now))
+        then Some (names_of (view game.now)) else None)) }
 {
     let Some(value) = game.get("names") else {
         return Ok(Some(Names::new(alloc)));
@@ -138,7 +140,7 @@ fn know_pairs(names: &Names, pairs: &[Value]) -> bool
 
 /// Whether each member of a sparse coalition that is a text is among the names.
 #[tactic(auto, using(json_trees::proofs::Values::all_views))]
-pub fn know_sparse(names: &Names, game: &Value) -> bool
+pub(crate) fn know_sparse(names: &Names, game: &Value) -> bool
     ensures { result ≡ list_all (are_known names.now) (parts_at (codes "sparse") (view game.now)) }
 {
     know_pairs(names, parts_at(game, "sparse"))

@@ -7,14 +7,14 @@ use json_trees::Form;
 use serde_json::Value;
 
 /// Whether there are 1 to 64.
-pub fn is_list_size(n: usize) -> bool
+pub(crate) fn is_list_size(n: usize) -> bool
     ensures { result ≡ is_list_size n }
 {
     0 < n && n <= 64
 }
 
 /// Whether there are 1 to 32.
-pub fn is_short_list_size(n: usize) -> bool
+pub(crate) fn is_short_list_size(n: usize) -> bool
     ensures { result ≡ is_short_list_size n }
 {
     0 < n && n <= 32
@@ -28,7 +28,7 @@ fn is_small_cost(z: i64) -> bool
 
 /// A number from 0 that times the scale is below 2^40.
 #[derive(Clone, Copy, Debug)]
-pub struct SmallCost(pub u32);
+pub(crate) struct SmallCost(pub(crate) u32);
 
 impl Form for SmallCost {
     ghost use Rattle.game_text.specs.Sizes.{is_cost};

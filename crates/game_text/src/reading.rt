@@ -1,5 +1,7 @@
 //! From the bytes of a document to what it says, or to its refusal.
-ghost use Rattle.std.specs.Prelude.{◌≡◌, ◌≤◌, ◌<◌, ◌^◌, ◌≤ℤ◌, pos, MatchResult, IfOk, IfSome, Some, None, codes, length, if◌then◌else◌};
+ghost use Rattle.std.specs.Prelude.{◌≡◌, Some, None, MatchResult, IfOk, IfSome, if◌then◌else◌};
+ghost use Rattle.std.specs.Prelude.{◌^◌, ◌<◌, ◌≤◌, pos, ◌≤ℤ◌};
+ghost use Rattle.std.specs.Prelude.{codes, length};
 ghost use Rattle.serde_json.specs.View.{view};
 ghost use Rattle.serde_json.specs.Find.{get};
 ghost use Rattle.json_trees.specs.Trees.{passes};
@@ -13,7 +15,9 @@ ghost use Rattle.game_text.specs.Scales.{scale_of, IsScaleOf};
 ghost use Rattle.game_text.specs.Names.{has_names, names_of};
 ghost use Rattle.game_text.specs.Refusals.{has_needed_numbers};
 ghost use Rattle.game_text.specs.Text.{document_limit, without_newline};
-ghost use Rattle.game_text.specs.Readings.{HasSizes, IsFault, IsReading, IsTreeFault, IsTreeReading, IsLateFault, IsLateReading, IsGameFault, IsGameReading, IsProposal, IsProposalFault, IsShareReading, IsShareFault, IsCertificateReading, IsCertificateFault};
+ghost use Rattle.game_text.specs.Readings.{HasSizes, IsReading, IsFault, IsTreeReading, IsTreeFault, IsLateReading, IsLateFault};
+ghost use Rattle.game_text.specs.Readings.{IsGameReading, IsGameFault, IsProposal, IsProposalFault};
+ghost use Rattle.game_text.specs.Readings.{IsShareReading, IsShareFault, IsCertificateReading, IsCertificateFault};
 
 use crate::building::game_of;
 use crate::command::Command;
@@ -35,10 +39,10 @@ use serde_json::Value;
 use std::alloc::Global;
 use worth_core::Shares;
 
-/// The document that the bytes are the text of, or the first refusal that applies to them. Where the command needs shares,
-/// there is one for each player of the game; where it needs a certificate, it is one for the players of the game. The game,
-/// the shares and the certificate are over the scale, the least common denominator of the numbers of the game, from 1 to
-/// 65,536; it is 1 where they are all integers.
+/// The document that the bytes are the text of, or the first refusal that applies to them. Where the command needs
+/// shares, there is one for each player of the game; where it needs a certificate, it is one for the players of the
+/// game. The game, the shares and the certificate are over the scale, the least common denominator of the numbers of
+/// the game, from 1 to 65,536; it is 1 where they are all integers.
 ///
 /// The kept tree of the game holds no float, is nested at most 8 deep, and is written in no more bytes than were read.
 pub fn read_document(alloc: Global, bytes: &[u8], command: Command) -> Result<Document, TextFault>

@@ -2,8 +2,8 @@
 ghost use Rattle.std.specs.Prelude.{◌≡◌};
 ghost use Rattle.game_text.specs.Numbers.{refusal_number};
 
-/// Why a document is refused. The refusals stand in the order in which they are tested, but for `Quota`, which is tested
-/// behind `Estate`; the first that applies is given.
+/// Why a document is refused. The refusals stand in the order in which they are tested, but for `Quota`, which is
+/// tested behind `Estate`; the first that applies is given.
 #[derive(Clone, Copy, Debug, PartialEq, Eq)]
 pub enum Refusal {
     /// It has more bytes than a document may have.

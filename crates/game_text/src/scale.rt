@@ -4,7 +4,8 @@ ghost use Rattle.serde_json.specs.View.{view};
 ghost use Rattle.serde_json.specs.Find.{get};
 ghost use Rattle.json_trees.specs.Trees.{parts};
 ghost use Rattle.game_text.specs.CommonMultiples.{lcm};
-ghost use Rattle.game_text.specs.Scales.{if_scale, if_there, pair_number, all_parts, table_numbers_in, player_numbers_in, matrix_numbers_in, scale_of, with_number, with_numbers};
+ghost use Rattle.game_text.specs.Scales.{if_there, pair_number, all_parts, table_numbers_in, player_numbers_in, matrix_numbers_in};
+ghost use Rattle.game_text.specs.Scales.{scale_of, if_scale, with_number, with_numbers};
 
 use fractions::gcd;
 use json_trees::{fraction_or_zero, parts, parts_at};

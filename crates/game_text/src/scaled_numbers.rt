@@ -21,7 +21,7 @@ fn times_scale(number: &Frac, scale: u32) -> Option<i64>
 }
 
 /// The number times the scale, where it is below 2^40 in size.
-pub fn small_number(value: &Value, scale: u32) -> Option<i64>
+pub(crate) fn small_number(value: &Value, scale: u32) -> Option<i64>
     ensures { result ≡ small_number scale (view value.now) }
 {
     match fraction_of(value) {
@@ -38,7 +38,7 @@ fn number_or_zero(value: &Value, scale: u32) -> i64
 }
 
 /// The number at a key, times the scale, and 0 where it is absent.
-pub fn number_at(game: &Value, key: &str, scale: u32) -> i64
+pub(crate) fn number_at(game: &Value, key: &str, scale: u32) -> i64
     ensures { result ≡ number_at scale key.now (view game.now) }
 {
     match game.get(key) {
@@ -48,7 +48,7 @@ pub fn number_at(game: &Value, key: &str, scale: u32) -> i64
 }
 
 /// The number of the second of two items, times the scale, and 0 where there is none.
-pub fn second_number(pair: &Value, scale: u32) -> i64
+pub(crate) fn second_number(pair: &Value, scale: u32) -> i64
     ensures { result ≡ second_number scale (parts (view pair.now)) }
 {
     match parts(pair) {
@@ -74,7 +74,7 @@ fn numbers(alloc: Global, values: &[Value], scale: u32) -> Result<Vec<i64>, OutO
 ///
 /// Where memory was not found.
 #[tactic(auto, using(json_trees::proofs::Values::map_views))]
-pub fn numbers_at(
+pub(crate) fn numbers_at(
     alloc: Global,
     game: &Value,
     key: &str,
@@ -108,7 +108,7 @@ fn rows(alloc: Global, arrays: &[Value], scale: u32) -> Result<Vec<Vec<i64>>, Ou
 ///
 /// Where memory was not found.
 #[tactic(auto, using(json_trees::proofs::Values::map_views))]
-pub fn rows_at(
+pub(crate) fn rows_at(
     alloc: Global,
     game: &Value,
     key: &str,

@@ -45,7 +45,7 @@ fn class_named(word: &str) -> Option<Class>
 }
 
 /// The class that a game names.
-pub fn class_of(game: &Value) -> Option<Class>
+pub(crate) fn class_of(game: &Value) -> Option<Class>
     ensures { result ≡ class_of (view game.now) }
 {
     let word = game.get("class").and_then(Value::as_str)?;
@@ -98,7 +98,7 @@ fn has_needed(command: Command, tree: &Value) -> bool
 }
 
 /// Whether a document has the kinds, keys and words that the command needs.
-pub fn is_shaped(command: Command, tree: &Value) -> bool
+pub(crate) fn is_shaped(command: Command, tree: &Value) -> bool
     ensures { result ≡ is_shaped command (view tree.now) }
 {
     has_only_keys(&["answer", "certificate", "game", "shares"], tree)

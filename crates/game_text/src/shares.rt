@@ -1,5 +1,6 @@
 //! The shares of a document.
-ghost use Rattle.std.specs.Prelude.{◌≡◌, ◌≤◌, map, false, MatchOption, IfOk, All, length, Some, None, if◌then◌else◌};
+ghost use Rattle.std.specs.Prelude.{◌≡◌, false, Some, None, MatchOption, IfOk, if◌then◌else◌};
+ghost use Rattle.std.specs.Prelude.{◌≤◌, length, map, All};
 ghost use Rattle.serde_json.specs.View.{view};
 ghost use Rattle.fractions.specs.Fraction.{IsReduced};
 ghost use Rattle.game_text.specs.Denominators.{keep_limits, over_least};
@@ -12,14 +13,14 @@ use std::alloc::Global;
 use worth_core::{Shares, SharesFault};
 
 /// Whether each share is an integer or a fraction text.
-pub fn has_share_numbers(tree: &Value) -> bool
+pub(crate) fn has_share_numbers(tree: &Value) -> bool
     ensures { result ≡ has_share_numbers (view tree.now) }
 {
     each_at(tree, "shares", &Fraction)
 }
 
 /// Whether there is a share for each of `players` players.
-pub fn has_shares_for(players: usize, tree: &Value) -> bool
+pub(crate) fn has_shares_for(players: usize, tree: &Value) -> bool
     ensures { result ≡ has_shares_for players (view tree.now) }
 {
     parts_at(tree, "shares").len() == players
@@ -69,9 +70,9 @@ fn over_least(alloc: Global, written: &[Frac]) -> Result<Option<Shares>, OutOfMe
     }
 }
 
-/// The written shares times the scale, over their least common denominator, as worth: payments are negated. None where the
-/// denominator is above 2^63, or a numerator reaches 2^110 in size.
-pub fn shares_as_worth(
+/// The written shares times the scale, over their least common denominator, as worth: payments are negated. None where
+/// the denominator is above 2^63, or a numerator reaches 2^110 in size.
+pub(crate) fn shares_as_worth(
     alloc: Global,
     tree: &Value,
     scale: u32,

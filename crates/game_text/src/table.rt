@@ -1,5 +1,7 @@
 //! The numbers of a table.
-ghost use Rattle.std.specs.Prelude.{◌≡◌, ◌<◌, ◌≤◌, ◌-◌, ◌^◌, codes, map, length, replicate, drop, None, Some, false, IfOk, IfSome, IfNone, option_map, unwrap_or, if◌then◌else◌};
+ghost use Rattle.std.specs.Prelude.{◌≡◌, false, Some, None, IfOk, IfSome, IfNone, option_map, unwrap_or, if◌then◌else◌};
+ghost use Rattle.std.specs.Prelude.{◌-◌, ◌^◌, ◌<◌, ◌≤◌};
+ghost use Rattle.std.specs.Prelude.{codes, length, map, replicate, drop};
 ghost use Rattle.std.specs.List.{range_with_len};
 ghost use Rattle.serde_json.specs.View.{view};
 ghost use Rattle.serde_json.specs.Find.{get};
@@ -85,8 +87,10 @@ fn sparse_numbers(
 ) -> Result<Option<Vec<i64>>, OutOfMemory>
     requires few { players ≤ 16 }
     requires named { length names.now ≤ players }
-    ensures { IfOk result (λ o. option_map (λ v. v.items) o ≡ (if are_coalitions (map (λ pair. mask_of players names.now (pair_members pair)) (map view pairs.now))
-        then Some (map (λ s. sparse_number scale players names.now other s (map view pairs.now)) (range_with_len 1 (2 ^ players - 1))) else None)) }
+    ensures { IfOk result (λ o. option_map (λ v. v.items) o
+        ≡ (if are_coalitions (map (λ pair. mask_of players names.now (pair_members pair)) (map view pairs.now))
+        then Some (map (λ s. sparse_number scale players names.now other s (map view pairs.now)) (range_with_len 1 (2 ^ players - 1)))
+        else None)) }
 {
     let slots = empty_slots(alloc, 1 << players)?;
     let Some(slots) = filled(players, names, pairs, scale, slots) else {
@@ -96,9 +100,9 @@ fn sparse_numbers(
     Ok(Some(found))
 }
 
-/// The number of each coalition of a table, times the scale, in mask order from 1. None where a pair of a sparse table has
-/// no coalition, or two have the same.
-pub fn table_numbers(
+/// The number of each coalition of a table, times the scale, in mask order from 1. None where a pair of a sparse table
+/// has no coalition, or two have the same.
+pub(crate) fn table_numbers(
     alloc: Global,
     game: &Value,
     count: u32,

@@ -1,5 +1,6 @@
 //! Tables of worths and of costs: a number for each coalition, all listed or some in pairs.
-ghost use Rattle.std.specs.Prelude.{◌≡◌, ◌<◌, ◌≤◌, ◌^◌, codes, length, IfOk, IfSome, Some, None, if◌then◌else◌};
+ghost use Rattle.std.specs.Prelude.{◌≡◌, Some, None, IfOk, IfSome, if◌then◌else◌};
+ghost use Rattle.std.specs.Prelude.{◌^◌, ◌<◌, ◌≤◌, codes, length};
 ghost use Rattle.serde_json.specs.Find.{get};
 ghost use Rattle.serde_json.specs.View.{view};
 ghost use Rattle.json_trees.specs.Trees.{passes, is_array_of};
@@ -12,7 +13,8 @@ ghost use Rattle.game_text.specs.Coalitions.{masks};
 ghost use Rattle.game_text.specs.Members.{are_coalitions};
 ghost use Rattle.game_text.specs.Descriptions.{table_numbers};
 ghost use Rattle.game_text.specs.Readings.{HasSizes, IsTableClass};
-ghost use Rattle.game_text.specs.TableClass.{is_sparse_pair, lists_worths, lists_coalitions, is_table_shaped, table_players, has_items, has_worths_for, players_at, has_table_players, has_table_numbers};
+ghost use Rattle.game_text.specs.TableClass.{is_table_shaped, is_sparse_pair, lists_worths, lists_coalitions};
+ghost use Rattle.game_text.specs.TableClass.{players_at, table_players, has_items, has_worths_for, has_table_players, has_table_numbers};
 
 use crate::limits::players;
 use crate::names::Names;
@@ -58,7 +60,7 @@ fn lists_coalitions(game: &Value) -> bool
 }
 
 /// Whether it has the keys and kinds of a table.
-pub fn is_table_shaped(game: &Value) -> bool
+pub(crate) fn is_table_shaped(game: &Value) -> bool
     ensures { result ≡ is_table_shaped (view game.now) }
 {
     has_only_keys(
@@ -83,7 +85,7 @@ fn table_players(n: i64) -> Option<u32>
 }
 
 /// The number of players that a table says it has, where it is 1 to 16.
-pub fn players_at(game: &Value) -> Option<u32>
+pub(crate) fn players_at(game: &Value) -> Option<u32>
     ensures value { result ≡ players_at (view game.now) }
     ensures range { IfSome result (λ n. (0 < n) × (n ≤ 16)) }
 {
@@ -112,7 +114,7 @@ fn has_worths_for(game: &Value, players: Option<u32>) -> bool
 }
 
 /// Whether there are 1 to 16 players, and a number for each coalition where all are listed.
-pub fn has_table_players(game: &Value) -> bool
+pub(crate) fn has_table_players(game: &Value) -> bool
     ensures { result ≡ has_table_players (view game.now) }
 {
     let players = players_at(game);
@@ -134,7 +136,7 @@ impl Form for SmallWorth {
 }
 
 /// Whether each number of a table, times the scale, is within its limits.
-pub fn has_table_numbers(game: &Value, scale: u32) -> bool
+pub(crate) fn has_table_numbers(game: &Value, scale: u32) -> bool
     ensures { result ≡ has_table_numbers scale (view game.now) }
 {
     each_at(game, "worths", &SmallWorth(scale))
@@ -143,7 +145,7 @@ pub fn has_table_numbers(game: &Value, scale: u32) -> bool
 }
 
 /// The table, its numbers times the scale. None where a pair of a sparse table has no coalition, or two have the same.
-pub fn table_of(
+pub(crate) fn table_of(
     alloc: Global,
     game: &Value,
     names: &Names,

@@ -8,7 +8,7 @@ use std::test::Fail;
 use worth_core::Worth;
 
 // The text of a document of this game and these shares.
-pub fn document(alloc: Global, game: &str, shares: &str) -> Result<String, Fail> {
+pub(crate) fn document(alloc: Global, game: &str, shares: &str) -> Result<String, Fail> {
     let mut text = String::from_str(alloc, "{\"game\":")?;
     text.push_str(game)?;
     text.push_str(",\"shares\":")?;
@@ -23,12 +23,12 @@ fn fault_of(alloc: Global, bytes: &[u8]) -> Option<TextFault> {
 }
 
 // That many blanks.
-pub fn blanks(alloc: Global, count: usize) -> Result<Vec<u8>, Fail> {
+pub(crate) fn blanks(alloc: Global, count: usize) -> Result<Vec<u8>, Fail> {
     Ok(vec![in alloc; b' '; count]?)
 }
 
 // Why this game and these shares give no document.
-pub fn fault_in(alloc: Global, game: &str, shares: &str) -> Result<Option<TextFault>, Fail> {
+pub(crate) fn fault_in(alloc: Global, game: &str, shares: &str) -> Result<Option<TextFault>, Fail> {
     let text = document(alloc, game, shares)?;
     Ok(fault_of(alloc, text.as_bytes()))
 }
@@ -218,7 +218,7 @@ fn the_last_of_two_equal_keys_counts(rt: HostRuntime) {
 }
 
 // The worth of each coalition, in mask order.
-pub fn worths_of(rt: &impl Abort, alloc: Global, game: &Game) -> Result<Vec<i64>, Fail> {
+pub(crate) fn worths_of(rt: &impl Abort, alloc: Global, game: &Game) -> Result<Vec<i64>, Fail> {
     let players = game.players();
     let mut worths = Vec::new(alloc);
     for s in Coalition::subsets(players) {

@@ -16,14 +16,14 @@ use std::alloc::Global;
 use tree_games::{TreeFault, TreeGame};
 
 /// The number of players: one for each row but that of the source.
-pub fn tree_players(game: &Value) -> usize
+pub(crate) fn tree_players(game: &Value) -> usize
     ensures { result ≡ tree_players (view game.now) }
 {
     parts_at(game, "matrix").len().saturating_sub(1)
 }
 
 /// Whether there is the source with 1 to 16 players.
-pub fn has_tree_players(game: &Value) -> bool
+pub(crate) fn has_tree_players(game: &Value) -> bool
     ensures { result ≡ has_tree_players (view game.now) }
 {
     let rows = parts_at(game, "matrix").len();
@@ -31,7 +31,11 @@ pub fn has_tree_players(game: &Value) -> bool
 }
 
 /// The game that is described, its numbers times the scale. None where the rows aren't those of links.
-pub fn tree_of(alloc: Global, game: &Value, scale: u32) -> Result<Option<TreeGame>, OutOfMemory>
+pub(crate) fn tree_of(
+    alloc: Global,
+    game: &Value,
+    scale: u32,
+) -> Result<Option<TreeGame>, OutOfMemory>
     requires class { class_of (view game.now) ≡ Some Tree }
     requires sizes { HasSizes (view game.now) }
     requires scale { scale ≡ scale_of (view game.now) }

@@ -17,7 +17,7 @@ use std::alloc::Global;
 use voting::{VotingFault, VotingGame};
 
 /// Whether it has the keys and kinds of a voting game.
-pub fn is_voting_shaped(game: &Value) -> bool
+pub(crate) fn is_voting_shaped(game: &Value) -> bool
     ensures { result ≡ is_voting_shaped (view game.now) }
 {
     has_only_keys(
@@ -28,21 +28,21 @@ pub fn is_voting_shaped(game: &Value) -> bool
 }
 
 /// The number of players: one for each weight.
-pub fn voting_players(game: &Value) -> usize
+pub(crate) fn voting_players(game: &Value) -> usize
     ensures { result ≡ voting_players (view game.now) }
 {
     parts_at(game, "weights").len()
 }
 
 /// Whether the quota and each weight are integers within their limits.
-pub fn has_voting_numbers(game: &Value) -> bool
+pub(crate) fn has_voting_numbers(game: &Value) -> bool
     ensures { result ≡ has_voting_numbers (view game.now) }
 {
     has(game, "quota", &SmallCost(1)) && each_at(game, "weights", &SmallCost(1))
 }
 
 /// The game that is described. None where the weights sum to more than 1,000, or the quota isn't from 1 to their sum.
-pub fn voting_of(alloc: Global, game: &Value) -> Result<Option<VotingGame>, OutOfMemory>
+pub(crate) fn voting_of(alloc: Global, game: &Value) -> Result<Option<VotingGame>, OutOfMemory>
     requires class { class_of (view game.now) ≡ Some Voting }
     requires sizes { HasSizes (view game.now) }
     ensures { IfOk result (λ o.

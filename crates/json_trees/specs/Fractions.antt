@@ -1,7 +1,10 @@
 -- The fractions that are written in a JSON tree.
 --
---   fraction_of       the fraction that a number or a text writes
---   fraction_or_zero  that fraction, and 0 where none is written
+--   whole_fraction     an integer as a fraction
+--   written_fraction   the fraction that a text, or else an integer, writes
+--   fraction_of        the fraction that a number or a text writes
+--   is_fraction        an integer, or a fraction text
+--   fraction_or_zero   that fraction, and 0 where none is written
 use Rattle.std.specs.Prelude.{ℕ, ℤ, pos, List, Bool, Option, Some, None, is_some, option_map, unwrap_or}
 use Rattle.serde_json.specs.Data.{Data}
 use Rattle.serde_json.specs.Find.{as_str}

@@ -1,4 +1,9 @@
 -- The integers of a JSON tree.
+--
+--   is_integer        an integer
+--   integer_or_zero   the integer that a number is, and 0 for anything else
+--   integer_at        the integer at a key
+--   second_integer    the integer of the second of two items
 use Rattle.std.specs.Prelude.{ℕ, ℤ, pos, List, [], ◌∷◌, Bool, is_some, option_and_then, unwrap_or}
 use Rattle.serde_json.specs.Data.{Data}
 use Rattle.serde_json.specs.Find.{get}

@@ -1,9 +1,9 @@
 -- Fractions in lowest terms, times a scale and over it.
 --
---   in_lowest_terms  n/d in lowest terms
---   times_scale      a fraction times a scale
---   over_scale       a fraction over a scale
---   if_scaled        a fraction times a scale, where it has a form of 128 bits
+--   in_lowest_terms   n/d in lowest terms
+--   times_scale       a fraction times a scale
+--   over_scale        a fraction over a scale
+--   if_scaled         a fraction times a scale, where it has a form of 128 bits
 use Rattle.std.specs.Prelude.{ℕ, ℤ, pos, ◌*ℤ◌, int_div, unsigned_abs, Option, Some, None, if◌then◌else◌}
 use Rattle.fractions.specs.FractionTexts.{is_i128}
 use Rattle.fractions.specs.Divisors.{gcd}

@@ -1,8 +1,9 @@
 -- The fractions that are written in a JSON tree, times a scale.
 --
---   scaled_of       the fraction that is written, times the scale
---   is_scaled       there is one, with parts of 128 bits before and after
---   scaled_or_zero  that fraction, and 0 where there is none
+--   scaled_of        the fraction that is written, times the scale
+--   is_scaled        there is one, with parts of 128 bits before and after
+--   scaled_or_zero   that fraction, and 0 where there is none
+--   scaled_at        the fraction at a key, times the scale
 use Rattle.std.specs.Prelude.{ℕ, pos, List, Bool, Option, is_some, option_map, option_and_then, unwrap_or}
 use Rattle.serde_json.specs.Data.{Data}
 use Rattle.serde_json.specs.Find.{get}

@@ -1,4 +1,24 @@
 -- Looking into a JSON tree.
+--
+--   listed            the items of an array, as a list
+--   parts             the items of an array, and none of anything else
+--   keys_of           the keys of the members, as a list
+--   keys              the keys of an object, and none of anything else
+--   passes            a part is there and passes a test
+--   passes_if_there   a part passes a test, where it is there
+--   is_number         a number of any kind
+--   is_text           a text
+--   is_array_of       an array whose items all pass a test
+--   are_two           two items that pass a test each
+--   is_pair_of        an array of two such items
+--   integer           the integer that a number is
+--   text_of           the text
+--   parts_at          the items of the array at a key
+--   first_parts       the items of the first item
+--   pair_members      the members of the coalition of a pair
+--   second_passes     the second of two items passes a test
+--   is_member         a number or a text
+--   is_numeric        a number, or a text where texts are allowed
 use Rattle.std.specs.Prelude.{◌&&◌, ◌||◌, ℕ, ℤ, List, [], ◌∷◌, Bool, true, false, Option, Some, None, is_some, option_map, option_and_then, unwrap_or}
 use Rattle.std.specs.List.{list_all}
 use Rattle.serde_json.specs.Data.{Data, Items, no_items, item, Members, no_members, member}

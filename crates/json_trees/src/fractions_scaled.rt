@@ -23,7 +23,8 @@ pub fn scaled(number: &Frac, scale: u32) -> Option<Frac>
     }
 }
 
-/// The fraction that is written, times the scale. None where there is none, or its numerator has no form in 128 bits then.
+/// The fraction that is written, times the scale. None where there is none, or its numerator has no form in 128 bits
+/// then.
 pub fn scaled_of(value: &Value, scale: u32) -> Option<Frac>
     ensures { result ≡ scaled_of scale (view value.now) }
 {

@@ -1,5 +1,6 @@
-//! Lists of numbers and their orders, and the numbers that are refused.
+//! Lists of numbers, their orders and their sums, and the numbers that are refused.
 use super::*;
+use coalitions::Coalition;
 use std::test::Fail;
 
 #[test]
@@ -34,5 +35,21 @@ fn players_stand_in_the_order_of_their_numbers(rt: HostRuntime) -> Result<(), Fa
         ordered.place(3),
     ];
     assert_eq!(rt; order.as_slice(), [1, 3, 0, 2].as_slice());
+    Ok(())
+}
+
+#[test]
+fn all_numbers_add_to_their_total(rt: HostRuntime) -> Result<(), Fail> {
+    assert_eq!(rt; total(&[4, 0, 6, 2]), 12);
+    assert_eq!(rt; total(&[]), 0);
+    Ok(())
+}
+
+#[test]
+fn the_numbers_of_a_coalition_are_those_of_its_members(rt: HostRuntime) -> Result<(), Fail> {
+    let numbers = naturals(rt.alloc(), &[4, 1, 6, 2])?;
+    for (members, sum) in [(0b0000, 0), (0b0001, 4), (0b1010, 3), (0b1111, 13)] {
+        assert_eq!(rt; sum_of(&numbers, Coalition(members)), sum, "{members}");
+    }
     Ok(())
 }

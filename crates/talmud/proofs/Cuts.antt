@@ -8,7 +8,7 @@ use Rattle.definitions.proofs.Members.{sum_over-grand_coalition}
 use Rattle.definitions.specs.Sums.{sum_below}
 use Rattle.definitions.specs.Coalitions.{grand_coalition}
 use Rattle.bankruptcy.specs.Bankruptcy.{Bankruptcy, IsBankruptcy}
-use Rattle.bankruptcy.proofs.Laws.{claim, sum-claims}
+use Rattle.orders.proofs.ListSums.{number_of, sum-sum_below}
 use Rattle.talmud.specs.Rule.{cut_claims, cut, cut_sum}
 use Rattle.talmud.proofs.Worths.{cut-covers}
 
@@ -39,8 +39,8 @@ cut-enough b h cuts e =
     let n = length b.claims in
     let covers = cut-covers b.estate b.claims n (grand_coalition n) in
     let cut_all = sum_over-grand_coalition n (λ i. pos (cut b.estate b.claims i)) in
-    let all = sum_over-grand_coalition n (claim b.claims) in
-    let total = sum-claims b.claims in
+    let all = sum_over-grand_coalition n (number_of b.claims) in
+    let total = sum-sum_below b.claims in
     let same = claim_sum-cut b.estate b.claims cuts e in
     elim covers.2 [
       | inl equal ↦ let enough = up h.enough in omega (arith, linear, same, cut_all, equal, all, total, enough)

@@ -10,7 +10,7 @@ use Rattle.definitions.specs.Sums.{sum_below}
 use Rattle.definitions.specs.Coalitions.{has_player, singleton, grand_coalition, sum_over}
 use Rattle.definitions.specs.Games.{Game, Allocation, share, amount, excess}
 use Rattle.definitions.specs.Classes.{bankruptcy_worth}
-use Rattle.bankruptcy.proofs.Laws.{claim}
+use Rattle.orders.proofs.ListSums.{number_of}
 use Rattle.talmud.specs.Rule.{cut, loss}
 use Rattle.definitions.proofs.Cases.{int_max-cases, same_or_other}
 
@@ -32,11 +32,11 @@ abbrev pub cut_claim : ℕ → List ℕ → ℕ → ℤ
 cut_claim estate claims i = pos (cut estate claims i)
 
 -- the cut claims of a coalition add to as much as its claims, or to the estate at least; and to no more
-pub cut-covers : (estate : ℕ) (claims : List ℕ) (n s : ℕ) → (sum_over n (cut_claim estate claims) s ≤ℤ sum_over n (claim claims) s) × (pos 0 ≤ℤ sum_over n (cut_claim estate claims) s) × ((sum_over n (cut_claim estate claims) s ≡ sum_over n (claim claims) s) ⊎ (pos estate ≤ℤ sum_over n (cut_claim estate claims) s))
+pub cut-covers : (estate : ℕ) (claims : List ℕ) (n s : ℕ) → (sum_over n (cut_claim estate claims) s ≤ℤ sum_over n (number_of claims) s) × (pos 0 ≤ℤ sum_over n (cut_claim estate claims) s) × ((sum_over n (cut_claim estate claims) s ≡ sum_over n (number_of claims) s) ⊎ (pos estate ≤ℤ sum_over n (cut_claim estate claims) s))
 cut-covers estate claims zero s = (omega (arith, ints), omega (arith, ints), inl refl)
 cut-covers estate claims (suc n) s =
     let ih = cut-covers estate claims n s in
-    rw (cut-is estate claims n) (step (has_player s n) (sum_over n (cut_claim estate claims) s) (sum_over n (claim claims) s) (get_or claims n 0) ih.0 ih.1 ih.2)
+    rw (cut-is estate claims n) (step (has_player s n) (sum_over n (cut_claim estate claims) s) (sum_over n (number_of claims) s) (get_or claims n 0) ih.0 ih.1 ih.2)
   where
     cases : (c : ℕ) → (c ≤ estate) ⊎ (estate < c)
     cases c = grind arith
@@ -52,7 +52,7 @@ pub worth-cut : (estate : ℕ) (claims : List ℕ) (s : ℕ) → bankruptcy_wort
 worth-cut estate claims s =
     let t = grand_coalition (length claims) - s in
     let c = cut-covers estate claims (length claims) t in
-    same (sum_over (length claims) (cut_claim estate claims) t) (sum_over (length claims) (claim claims) t) c.0 c.2
+    same (sum_over (length claims) (cut_claim estate claims) t) (sum_over (length claims) (number_of claims) t) c.0 c.2
   where
     same : (u v : ℤ) → u ≤ℤ v → (u ≡ v) ⊎ (pos estate ≤ℤ u) → int_max (pos 0) (pos estate -ℤ v) ≡ int_max (pos 0) (pos estate -ℤ u)
     same u v le (inl e) = ap (λ (z : ℤ). int_max (pos 0) (pos estate -ℤ z)) (sym e)
@@ -167,8 +167,8 @@ pub worth-grand_coalition : (estate : ℕ) (claims : List ℕ) → bankruptcy_wo
 worth-grand_coalition estate claims =
     let n = length claims in
     let nobody : grand_coalition n - grand_coalition n ≡ 0 = omega arith in
-    let none : sum_over n (claim claims) (grand_coalition n - grand_coalition n) ≡ pos 0 = ap (sum_over n (claim claims)) nobody ∙ sum_over-nobody n (claim claims) in
-    elim (int_max-cases (pos 0) (pos estate -ℤ sum_over n (claim claims) (grand_coalition n - grand_coalition n))) [
+    let none : sum_over n (number_of claims) (grand_coalition n - grand_coalition n) ≡ pos 0 = ap (sum_over n (number_of claims)) nobody ∙ sum_over-nobody n (number_of claims) in
+    elim (int_max-cases (pos 0) (pos estate -ℤ sum_over n (number_of claims) (grand_coalition n - grand_coalition n))) [
       | inl a ↦ omega (arith, ints, none, a.0, a.1)
       | inr a ↦ omega (arith, ints, none, a.0)
     ]

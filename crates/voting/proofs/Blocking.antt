@@ -16,7 +16,8 @@ use Rattle.voting.specs.Voting.{Voting, voting, IsVoting, voting_game}
 use Rattle.voting.specs.Candidates.{best_below, chosen_of, IsBest}
 use Rattle.voting.specs.SetKinds.{Numbers, weights, holds_some, lacks_some, IsLayer}
 use Rattle.voting.proofs.Best.{IsBest-same}
-use Rattle.voting.proofs.Laws.{weight, weight_few}
+use Rattle.orders.proofs.ListSums.{number_of}
+use Rattle.voting.proofs.Laws.{weight_few}
 use Rattle.voting.proofs.Layers.{IsBelow, bonus, IsBest-below}
 
 -- the players by their weights, and minus their shares
@@ -54,7 +55,7 @@ scaled d false = mul-zeroℤ d
 
 pub excess-at : (g : Voting) (x : Allocation) → length x.shares ≡ length g.weights → (s w : ℕ) → sum_over (length g.weights) (weights (numbers g x)) s ≡ pos w → excess (voting_game g) x s ≡ sum_over (length g.weights) (numbers g x).number s +ℤ bonus x.den g.quota w
 excess-at g x same s w e =
-    let test : int_le (pos g.quota) (sum_over (length g.weights) (weight g.weights) s) ≡ nat_le g.quota w = ap (λ (z : ℤ). int_le (pos g.quota) z) e ∙ same_test g.quota w in
+    let test : int_le (pos g.quota) (sum_over (length g.weights) (number_of g.weights) s) ≡ nat_le g.quota w = ap (λ (z : ℤ). int_le (pos g.quota) z) e ∙ same_test g.quota w in
     let worth : x.den *ℤ voting_worth g.quota g.weights s ≡ bonus x.den g.quota w = ap (λ (b : Bool). x.den *ℤ cond b (pos 1) (pos 0)) test ∙ scaled x.den (nat_le g.quota w) in
     let paid : amount x s ≡ sum_over (length g.weights) (share x) s = ap (λ (n : ℕ). sum_over n (share x) s) same in
     join _ _ _ _ _ worth paid (sum_over-neg (length g.weights) s (share x))

@@ -1,29 +1,13 @@
 -- A voting game is a game of the toolbox.
-use Rattle.std.proofs.Common.{◌≡◌, ℕ, zero, suc, ◌+◌, ◌^◌, ◌<◌, ◌≤◌, Bool, true, false, cond, List, [], ◌∷◌, length, get_or, sum, ℤ, pos, ◌+ℤ◌, ◌≤ℤ◌, ◌<ℤ◌, int_le, unsigned_abs, refl, arith}
-use Rattle.std.proofs.lemmas.List.Sums.{sum_by-cons}
+use Rattle.std.proofs.Common.{◌≡◌, ℕ, zero, suc, ◌^◌, ◌<◌, ◌≤◌, Bool, true, false, cond, length, get_or, sum, ℤ, pos, ◌+ℤ◌, ◌≤ℤ◌, ◌<ℤ◌, int_le, unsigned_abs, refl, arith}
 use Rattle.std.proofs.lemmas.Int.{ints}
 use Rattle.definitions.proofs.Ring.{linear}
-use Rattle.definitions.proofs.Members.{sum_below-front}
 use Rattle.definitions.specs.Sums.{sum_below}
 use Rattle.definitions.specs.Coalitions.{has_player, sum_over}
 use Rattle.definitions.specs.Games.{IsGame}
+use Rattle.orders.proofs.ListSums.{number_of, sum-sum_below}
 use Rattle.voting.specs.Voting.{Voting, IsVoting, voting_game}
 use Rattle.voting.proofs.SetKinds.{sum_over-empty}
-
-abbrev pub weight : List ℕ → ℕ → ℤ
-weight weights i = pos (get_or weights i 0)
-
-pub sum-weights : (weights : List ℕ) → pos (sum weights) ≡ sum_below (length weights) (weight weights)
-sum-weights [] = refl
-sum-weights (w ∷ weights) =
-    let step : sum (w ∷ weights) ≡ w + sum weights = sum_by-cons (λ (x : ℕ). x) w weights in
-    rw step (
-    let ih = sum-weights weights in
-    let front = sum_below-front (length weights) (weight (w ∷ weights)) in
-    joined w (sum weights) _ _ ih front)
-  where
-    joined : (c s : ℕ) (y z : ℤ) → pos s ≡ y → z ≡ pos c +ℤ y → pos (c + s) ≡ z
-    joined c s y z e f = omega (arith, ints)
 
 -- a coalition weighs no more than all
 pub sum_over-most : (n s : ℕ) (a : ℕ → ℤ) → ((i : ℕ) → pos 0 ≤ℤ a i) → sum_over n a s ≤ℤ sum_below n a
@@ -37,10 +21,10 @@ sum_over-most (suc n) s a low =
 natural : (k : ℕ) → pos 0 ≤ℤ pos k
 natural k = omega (arith, ints)
 
-pub weight_few : (g : Voting) (s : ℕ) → IsVoting g → sum_over (length g.weights) (weight g.weights) s <ℤ pos 1001
+pub weight_few : (g : Voting) (s : ℕ) → IsVoting g → sum_over (length g.weights) (number_of g.weights) s <ℤ pos 1001
 weight_few g s h =
-    let most = sum_over-most (length g.weights) s (weight g.weights) (λ i. natural (get_or g.weights i 0)) in
-    let all = sum-weights g.weights in
+    let most = sum_over-most (length g.weights) s (number_of g.weights) (λ i. natural (get_or g.weights i 0)) in
+    let all = sum-sum_below g.weights in
     let light = h.light in
     few (sum g.weights) _ _ all most light
   where
@@ -51,8 +35,8 @@ pub IsGame-voting : (g : Voting) → IsVoting g → IsGame (voting_game g)
 IsGame-voting g h = record {
   some = h.some;
   few = let few = h.few in omega arith;
-  nobody = rw (sum_over-empty (length g.weights) (weight g.weights)) (nobody g.quota h.positive);
-  small = λ s lt. small (int_le (pos g.quota) (sum_over (length g.weights) (weight g.weights) s));
+  nobody = rw (sum_over-empty (length g.weights) (number_of g.weights)) (nobody g.quota h.positive);
+  small = λ s lt. small (int_le (pos g.quota) (sum_over (length g.weights) (number_of g.weights) s));
 }
   where
     decide : (q : ℕ) → 1 ≤ q → (b : Bool) → int_le (pos q) (pos 0) ≡ b → cond b (pos 1) (pos 0) ≡ pos 0

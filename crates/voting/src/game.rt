@@ -1,15 +1,15 @@
 //! The game of a quota and weights.
-ghost use Rattle.std.specs.Prelude.{◌≡◌, MatchResult};
+ghost use Rattle.std.specs.Prelude.{◌≡◌, ◌↔◌, IsTrue, MatchResult};
 ghost use Rattle.std.specs.Prelude.{◌^◌, ◌<◌, pos, neg_ℤ, ◌<ℤ◌, unsigned_abs};
 ghost use Rattle.std.specs.Prelude.{length, map, slice_index};
 ghost use Rattle.definitions.specs.Games.{share};
+ghost use Rattle.voting.specs.Voting.{AreNumbers};
 
 use crate::candidate::{chosen, sum_of};
 use crate::counts::Table;
 use crate::layer::Layer;
 use crate::split_layers::SplitLayers;
 use crate::units::{product, share_unit};
-use crate::weights;
 use coalitions::Coalition;
 use std::alloc::Global;
 use std::marker::Model;
@@ -57,10 +57,10 @@ impl VotingGame {
         if weights.is_empty() || weights.len() > 32 {
             return Err(VotingFault::Players);
         }
-        if !weights::are_numbers(quota, &weights) {
+        if !are_numbers(quota, &weights) {
             return Err(VotingFault::Number);
         }
-        let total = weights::total(&weights);
+        let total = orders::total(&weights);
         if total > 1000 || quota < 1 || total < quota as u64 {
             return Err(VotingFault::Quota);
         }
@@ -139,6 +139,13 @@ impl VotingGame {
     }
 }
 
+/// Whether the quota and each weight are from 0 to below 2^40.
+fn are_numbers(quota: i64, weights: &[i64]) -> bool
+    ensures { IsTrue result ↔ AreNumbers quota weights.now }
+{
+    orders::is_number(quota) && orders::are_numbers(weights)
+}
+
 impl Worth for VotingGame {
     ghost use Rattle.voting.specs.Voting.{voting_game};
 
@@ -150,7 +157,7 @@ impl Worth for VotingGame {
     }
 
     fn worth(&self, s: Coalition) -> i64 {
-        if weights::sum_of(&self.weights, s) >= self.quota {
+        if orders::sum_of(&self.weights, s) >= self.quota {
             1
         } else {
             0

@@ -13,7 +13,6 @@ mod split_layers;
 #[cfg(test)]
 mod tests;
 mod units;
-mod weights;
 
 pub use game::{VotingFault, VotingGame};
 pub use shapley_value::voting_shapley;
