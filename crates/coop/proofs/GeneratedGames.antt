@@ -5,8 +5,8 @@ use Rattle.definitions.specs.Coalitions.{grand_coalition}
 use Rattle.definitions.specs.Games.{Game, HasTwo}
 use Rattle.definitions.specs.declared.Family.{Family}
 use Rattle.definitions.proofs.Members.{has_player-grand_coalition}
-use Rattle.game_text.specs.declared.kind.Kind.{Kind}
-use Rattle.game_text.specs.declared.kind.Kind.TheVariants.{Table, Airport, Bankruptcy, Tree, Assignment}
+use Rattle.kinds.specs.declared.kind.Kind.{Kind}
+use Rattle.kinds.specs.declared.kind.Kind.TheVariants.{Table, Airport, Bankruptcy, Tree, Assignment}
 use Rattle.nested_programs.specs.Answer.{LacksImputation}
 use Rattle.coop_gen.specs.Generated.{HasKindSize, generated}
 use Rattle.coop_gen.specs.Imputations.{HasImputations}

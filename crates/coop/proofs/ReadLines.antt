@@ -4,7 +4,7 @@ use Rattle.serde_json.specs.Read.{read}
 use Rattle.serde_json.specs.View.{view}
 use Rattle.game_text.specs.Denominators.{contents_of}
 use Rattle.game_text.specs.Refusals.{IsDocument}
-use Rattle.game_text.specs.Text.{without_newline}
+use Rattle.json_texts.specs.Newlines.{without_newline}
 use Rattle.game_text.specs.declared.command.Command.TheVariants as command
 use Rattle.report.specs.Lines.{answer_tree, line}
 use Rattle.report.specs.declared.answer.Answer.{Answer}

@@ -8,8 +8,8 @@ use Rattle.fractions.proofs.Divisors.{gcd_of_one}
 use Rattle.fractions.proofs.WrittenFractions.{read_back, read_text_is_written}
 use Rattle.game_text.specs.declared.command.Command.{Command}
 use Rattle.game_text.specs.declared.command.Command.TheVariants as command
-use Rattle.game_text.specs.declared.kind.Kind.{Kind}
-use Rattle.game_text.specs.declared.kind.Kind.TheVariants.{Table, Airport, Bankruptcy, Tree, Assignment}
+use Rattle.kinds.specs.declared.kind.Kind.{Kind}
+use Rattle.kinds.specs.declared.kind.Kind.TheVariants.{Table, Airport, Bankruptcy, Tree, Assignment}
 use Rattle.coop_gen.specs.Generated.{HasKindSize}
 use Rattle.report.specs.Words.{kind_word}
 use Rattle.coop.specs.Words.{word_of, number_text, IsGeneration, IsNoCommand, IsRequest, IsFit}

@@ -12,7 +12,7 @@ use Rattle.fractions.specs.Fraction.{Fraction, IsReduced}
 use Rattle.worth_core.specs.Measured.{IsMeasuredBound}
 use Rattle.game_text.specs.Descriptions.{game_of, is_cost}
 use Rattle.game_text.specs.OfClass.{IsOfClass}
-use Rattle.game_text.specs.declared.kind.Kind.{Kind}
+use Rattle.kinds.specs.declared.kind.Kind.{Kind}
 use Rattle.coop_gen.specs.Generated.{generated}
 use Rattle.report.specs.declared.summary.Summary.{Summary}
 use Rattle.coop.specs.Words.{IsGeneration}

@@ -4,7 +4,7 @@
 --   IsMadeFor     for a generated game nothing is read, and the answer is positive, or memory wasn't found
 --   EndsMade      nothing was read, and the status is Done, or says that memory wasn't found or that a write failed
 use Rattle.std.specs.Prelude.{◌≡◌, ◌⊎◌, ⊤, ℕ, List, Option, Result, MatchResult}
-use Rattle.game_text.specs.declared.kind.Kind.{Kind}
+use Rattle.kinds.specs.declared.kind.Kind.{Kind}
 use Rattle.coop.specs.declared.reply.Reply.{Reply}
 use Rattle.coop.specs.Words.{IsGeneration}
 use Rattle.coop.specs.Outcome.{status_of}

@@ -44,7 +44,7 @@ use Rattle.game_text.specs.OfClass.{IsOfClass}
 use Rattle.game_text.specs.Refusals.{IsDocument, IsRefused}
 use Rattle.game_text.specs.declared.command.Command.{Command}
 use Rattle.game_text.specs.declared.command.Command.TheVariants.{Nucleolus as NucleolusWord, Prenucleolus as PrenucleolusWord, Propose, Core, Check, Shapley, Bird, Convex, Kernel, Matching}
-use Rattle.game_text.specs.declared.refusal.Refusal.{Refusal}
+use Rattle.kinds.specs.declared.refusal.Refusal.{Refusal}
 use Rattle.nested_programs.specs.Answer.{singles}
 use Rattle.report.specs.declared.answer.Answer.{Answer}
 use Rattle.report.specs.declared.answer.Answer.TheVariants.{Nucleolus, NoImputation, Usage, Refused, Summary}

@@ -13,7 +13,7 @@ use Rattle.std.specs.Prelude.{◌≡◌, ⊤, ◌<◌, ◌^◌, ℕ, pos, List, 
 use Rattle.fractions.specs.FractionTexts.{fraction_text}
 use Rattle.game_text.specs.declared.command.Command.{Command}
 use Rattle.game_text.specs.declared.command.Command.TheVariants.{Nucleolus, Prenucleolus, Propose, Core, Check, Shapley, Bird, Convex, Kernel, Matching}
-use Rattle.game_text.specs.declared.kind.Kind.{Kind}
+use Rattle.kinds.specs.declared.kind.Kind.{Kind}
 use Rattle.coop_gen.specs.Generated.{HasKindSize}
 use Rattle.report.specs.Words.{kind_word}
 use Rattle.coop.specs.declared.words.Request.{Request}

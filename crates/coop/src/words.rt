@@ -6,7 +6,7 @@ ghost use Rattle.report.specs.Lines.{line};
 ghost use Rattle.report.specs.Words.{kind_word};
 ghost use Rattle.coop.specs.Words.{IsRequest, Names, number_text, word_of};
 ghost use Rattle.game_text.specs.declared.command.Command.{Command as Commands};
-ghost use Rattle.game_text.specs.declared.kind.Kind.{Kind as Kinds};
+ghost use Rattle.kinds.specs.declared.kind.Kind.{Kind as Kinds};
 
 use coop_gen::has_size;
 use fractions::Frac;

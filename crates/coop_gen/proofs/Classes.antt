@@ -5,8 +5,8 @@ use Rattle.tree_games.proofs.Nearest.{tree_is_game}
 use Rattle.assignment_games.proofs.Games.{assignment_is_game}
 use Rattle.game_text.specs.Descriptions.{game_of}
 use Rattle.game_text.specs.OfClass.{IsOfClass}
-use Rattle.game_text.specs.declared.kind.Kind.{Kind}
-use Rattle.game_text.specs.declared.kind.Kind.TheVariants.{Table, Airport, Bankruptcy, Tree, Assignment}
+use Rattle.kinds.specs.declared.kind.Kind.{Kind}
+use Rattle.kinds.specs.declared.kind.Kind.TheVariants.{Table, Airport, Bankruptcy, Tree, Assignment}
 use Rattle.coop_gen.proofs.Sizes.{rows_count, tree_sizes, pair_sellers}
 use Rattle.coop_gen.specs.Draws.{long_draw, short_draw}
 use Rattle.coop_gen.specs.Generated.{HasKindSize, generated}

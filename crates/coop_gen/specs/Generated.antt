@@ -4,8 +4,8 @@
 --   generated kind n seed  the description of the game
 use Rattle.std.specs.Prelude.{ℕ, ◌+◌, ◌-◌, ◌/◌, ◌≤◌, sum}
 use Rattle.game_text.specs.Descriptions.{Description, table, airport, bankruptcy, network, assignment}
-use Rattle.game_text.specs.declared.kind.Kind.{Kind}
-use Rattle.game_text.specs.declared.kind.Kind.TheVariants.{Table, Airport, Bankruptcy, Tree, Assignment}
+use Rattle.kinds.specs.declared.kind.Kind.{Kind}
+use Rattle.kinds.specs.declared.kind.Kind.TheVariants.{Table, Airport, Bankruptcy, Tree, Assignment}
 use Rattle.coop_gen.specs.Draws.{short_draw}
 use Rattle.coop_gen.specs.Numbers.{table_numbers, long_draws, rows_of, link, pair_value}
 

@@ -2,7 +2,7 @@
 use Rattle.std.specs.Prelude.{◌≡◌, ℕ}
 use Rattle.game_text.specs.Descriptions.{game_of}
 use Rattle.game_text.specs.OfClass.{IsOfClass}
-use Rattle.game_text.specs.declared.kind.Kind.{Kind}
+use Rattle.kinds.specs.declared.kind.Kind.{Kind}
 use Rattle.coop_gen.specs.Generated.{HasKindSize, generated}
 use Rattle.coop_gen.specs.Imputations.{HasImputations}
 

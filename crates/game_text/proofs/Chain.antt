@@ -18,8 +18,8 @@ use Rattle.game_text.specs.declared.document.Document.{Document}
 use Rattle.game_text.specs.declared.fault.TextFault.{TextFault}
 use Rattle.game_text.specs.declared.fault.TextFault.TheVariants.{Refused, Memory}
 use Rattle.game_text.specs.declared.game.Game.{Game}
-use Rattle.game_text.specs.declared.refusal.Refusal.{Refusal}
-use Rattle.game_text.specs.declared.refusal.Refusal.TheVariants.{TooLong, NotJson, Shape, Players, Number, Names, Coalition, Estate, Matrix, Proposal, TooFine, Certificate, Quota}
+use Rattle.kinds.specs.declared.refusal.Refusal.{Refusal}
+use Rattle.kinds.specs.declared.refusal.Refusal.TheVariants.{TooLong, NotJson, Shape, Players, Number, Names, Coalition, Estate, Matrix, Proposal, TooFine, Certificate, Quota}
 use Rattle.game_text.proofs.Computed.{document_from, refused_from}
 
 -- a refusal of the tree is behind the first two

@@ -7,7 +7,7 @@ use Rattle.game_text.specs.Documents.{Contents, game_tree, contents_over}
 use Rattle.game_text.specs.Refusals.{refusal_over, IsTreeRefused, IsDocument}
 use Rattle.game_text.specs.Denominators.{share_denominator, contents_of, tree_refusal}
 use Rattle.game_text.specs.declared.command.Command.{Command}
-use Rattle.game_text.specs.declared.refusal.Refusal.{Refusal}
+use Rattle.kinds.specs.declared.refusal.Refusal.{Refusal}
 use Rattle.game_text.proofs.LeastDenominators.{denominator_of, one_denominator_of}
 
 -- a tree of the bytes that no test refuses, and what it says

@@ -27,8 +27,8 @@ use Rattle.game_text.specs.declared.command.Command.{Command}
 use Rattle.game_text.specs.declared.command.Command.TheVariants.{Nucleolus, Prenucleolus, Propose, Core, Check, Shapley, Bird, Convex, Kernel, Matching}
 use Rattle.game_text.specs.declared.document.Document.{Document}
 use Rattle.game_text.specs.declared.fault.TextFault.{TextFault}
-use Rattle.game_text.specs.declared.refusal.Refusal.{Refusal}
-use Rattle.game_text.specs.declared.refusal.Refusal.TheVariants.{Proposal, TooFine}
+use Rattle.kinds.specs.declared.refusal.Refusal.{Refusal}
+use Rattle.kinds.specs.declared.refusal.Refusal.TheVariants.{Proposal, TooFine}
 
 pub costs_length : (k : ℕ) (key : List ℕ) (game : Data) → length (map unsigned_abs (numbers_at k key game)) ≡ length (parts_at key game)
 costs_length k key game = length-map (numbers_at k key game) unsigned_abs ∙ length-map (parts_at key game) (number_or_zero k)

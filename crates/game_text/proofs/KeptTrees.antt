@@ -12,7 +12,7 @@ use Rattle.json_texts.proofs.Lighter.{no_longer}
 use Rattle.json_texts.proofs.Parts.{member_keeps}
 use Rattle.json_trees.specs.Keys.{has_only_keys}
 use Rattle.json_trees.specs.Trees.{passes}
-use Rattle.game_text.specs.Text.{without_newline}
+use Rattle.json_texts.specs.Newlines.{without_newline}
 use Rattle.game_text.specs.Shape.{document_keys, is_game_shaped, has_needed, is_shaped}
 use Rattle.game_text.specs.Limits.{has_numbers}
 use Rattle.game_text.specs.Documents.{game_tree}

@@ -12,8 +12,8 @@ use Rattle.game_text.specs.Refusals.{unless, is_covered, has_quota, has_matrix, 
 use Rattle.game_text.specs.Denominators.{tree_refusal}
 use Rattle.game_text.specs.Steps.{needed_refusal}
 use Rattle.game_text.specs.declared.command.Command.{Command}
-use Rattle.game_text.specs.declared.refusal.Refusal.{Refusal}
-use Rattle.game_text.specs.declared.refusal.Refusal.TheVariants.{Shape, Players, Number, Names, Coalition, Estate, Matrix, Quota}
+use Rattle.kinds.specs.declared.refusal.Refusal.{Refusal}
+use Rattle.kinds.specs.declared.refusal.Refusal.TheVariants.{Shape, Players, Number, Names, Coalition, Estate, Matrix, Quota}
 
 -- no test refuses
 abbrev pub IsPassed : Option Refusal → Type 0

@@ -20,7 +20,7 @@ use Rattle.game_text.specs.Shares.{scaled_shares, has_small_terms, shares_over}
 use Rattle.game_text.specs.Documents.{Contents, game_tree, proposed_over, contents_over}
 use Rattle.game_text.specs.Refusals.{has_needed_terms, refusal_over}
 use Rattle.game_text.specs.declared.command.Command.{Command}
-use Rattle.game_text.specs.declared.refusal.Refusal.{Refusal}
+use Rattle.kinds.specs.declared.refusal.Refusal.{Refusal}
 
 -- the fractions over their least common denominator
 abbrev pub over_least : List Fraction → Allocation

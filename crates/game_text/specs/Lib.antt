@@ -30,7 +30,6 @@ pub mod Denominators
 pub mod Steps
 pub mod Readings
 pub mod Kept
-pub mod Numbers
 pub use Rattle.serde_json.specs.Data
 pub use Rattle.serde_json.specs.Read
 pub use Rattle.serde_json.specs.Find

@@ -33,7 +33,7 @@ use Rattle.game_text.specs.declared.document.Document.{Document}
 use Rattle.game_text.specs.declared.fault.TextFault.{TextFault}
 use Rattle.game_text.specs.declared.fault.TextFault.TheVariants.{Refused, Memory}
 use Rattle.game_text.specs.declared.game.Game.{Game}
-use Rattle.game_text.specs.declared.refusal.Refusal.{Refusal}
+use Rattle.kinds.specs.declared.refusal.Refusal.{Refusal}
 
 -- the game passed the tests of its shape, players and numbers
 pub record HasSizes (game : Data) : Type 0 where

@@ -1,22 +1,18 @@
 -- The text of a document: bytes, and the JSON tree that they are the text of.
 --
---   document_limit    the most bytes that a document for a command may have
---   without_newline   the bytes without a newline at their end
---   IsTextOf          the bytes are the text of a JSON tree
---   IsNotJson         the bytes are the text of none
-use Rattle.std.specs.Prelude.{◌≡◌, ◌==◌, ◌-◌, ◌&&◌, ℕ, List, length, take, slice_index, Some, None, if◌then◌else◌, IsUtf8, nat_lt}
+--   document_limit   the most bytes that a document for a command may have
+--   IsTextOf         the bytes are the text of a JSON tree
+--   IsNotJson        the bytes are the text of none
+use Rattle.std.specs.Prelude.{◌≡◌, ℕ, List, Some, None, IsUtf8}
 use Rattle.serde_json.specs.Data.{Data}
 use Rattle.serde_json.specs.Read.{read}
+use Rattle.json_texts.specs.Newlines.{without_newline}
 use Rattle.game_text.specs.declared.command.Command.{Command}
 use Rattle.game_text.specs.Needs.{needs}
 
 -- the most bytes that a document for a command may have
 abbrev pub document_limit : Command → ℕ
 document_limit command = (needs command).limit
-
--- the bytes without a newline at their end
-abbrev pub without_newline : List ℕ → List ℕ
-without_newline bytes = if nat_lt 0 (length bytes) && (slice_index bytes (length bytes - 1) == 10) then take (length bytes - 1) bytes else bytes
 
 -- the bytes are the text of this JSON tree
 abbrev pub IsTextOf : List ℕ → Data → Type 0

@@ -1,6 +1,6 @@
 //! Why bytes give no document.
-use crate::refusal::Refusal;
 use fractions::OutOfMemory;
+use kinds::Refusal;
 use thiserror::Error;
 
 /// Why bytes give no document.

@@ -25,8 +25,8 @@ use Rattle.game_text.specs.Refusals.{unless, is_covered, has_quota, has_matrix}
 use Rattle.game_text.specs.Steps.{certificate_refusal, needed_refusal, late_refusal}
 use Rattle.game_text.specs.declared.command.Command.{Command}
 use Rattle.game_text.specs.declared.command.Command.TheVariants.{Check}
-use Rattle.game_text.specs.declared.refusal.Refusal.{Refusal}
-use Rattle.game_text.specs.declared.refusal.Refusal.TheVariants.{Shape, Players, Number, Names, Coalition, Estate, Matrix, Proposal, TooFine, Certificate, Quota}
+use Rattle.kinds.specs.declared.refusal.Refusal.{Refusal}
+use Rattle.kinds.specs.declared.refusal.Refusal.TheVariants.{Shape, Players, Number, Names, Coalition, Estate, Matrix, Proposal, TooFine, Certificate, Quota}
 use Rattle.report.specs.Certificates.{certificate_tree}
 use Rattle.report.specs.ShareLists.{share_data}
 use Rattle.report.specs.Lines.{nucleolus_tree}

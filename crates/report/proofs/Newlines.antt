@@ -2,7 +2,7 @@
 use Rattle.std.proofs.Common.{◌≡◌, ◌==◌, ℕ, ◌+◌, ◌-◌, ◌<◌, true, cond, List, [], ◌∷◌, ◌++◌, length, take, slice_index, nat_lt, ap, ◌∙◌, arith, length-append}
 use Rattle.std.proofs.Math.Seq.{take-append_seam, get_or-append_seam}
 use Rattle.std.proofs.lemmas.Bool.Decides.{nat_tests}
-use Rattle.game_text.specs.Text.{without_newline}
+use Rattle.json_texts.specs.Newlines.{without_newline}
 use Rattle.definitions.proofs.Cases.{and_both}
 
 some : (n : ℕ) → 0 < n → nat_lt 0 n ≡ true

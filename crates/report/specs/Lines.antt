@@ -9,7 +9,7 @@ use Rattle.serde_json.specs.View.{view}
 use Rattle.serde_json.specs.Written.{compact_text}
 use Rattle.definitions.specs.Games.{Allocation}
 use Rattle.definitions.specs.declared.Family.{Family}
-use Rattle.game_text.specs.Numbers.{refusal_number}
+use Rattle.kinds.specs.Numbers.{refusal_number}
 use Rattle.kohlberg.specs.Certificate.{CertificateData}
 use Rattle.report.specs.Values.{scaled_data, integer_data, count_data, player_numbers}
 use Rattle.report.specs.Verdicts.{verdict_tree}

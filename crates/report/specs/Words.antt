@@ -10,10 +10,10 @@ use Rattle.definitions.specs.declared.Family.{Family}
 use Rattle.definitions.specs.declared.Family.TheVariants.{Imputations, Preimputations}
 use Rattle.definitions.specs.declared.Mode.{Mode}
 use Rattle.definitions.specs.declared.Mode.TheVariants as mode
-use Rattle.game_text.specs.declared.kind.Kind.{Kind}
-use Rattle.game_text.specs.declared.kind.Kind.TheVariants as kind
-use Rattle.game_text.specs.declared.refusal.Refusal.{Refusal}
-use Rattle.game_text.specs.declared.refusal.Refusal.TheVariants.{TooLong, NotJson, Shape, Players, Number, Names, Coalition, Estate, Matrix, Proposal, TooFine, Certificate, Quota}
+use Rattle.kinds.specs.declared.kind.Kind.{Kind}
+use Rattle.kinds.specs.declared.kind.Kind.TheVariants as kind
+use Rattle.kinds.specs.declared.refusal.Refusal.{Refusal}
+use Rattle.kinds.specs.declared.refusal.Refusal.TheVariants.{TooLong, NotJson, Shape, Players, Number, Names, Coalition, Estate, Matrix, Proposal, TooFine, Certificate, Quota}
 use Rattle.report.specs.declared.answer.UsageKind.{UsageKind}
 use Rattle.report.specs.declared.answer.UsageKind.TheVariants as usage
 

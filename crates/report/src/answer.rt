@@ -6,7 +6,7 @@ use checker::Verdict;
 use coalitions::Coalition;
 use convexity::ConvexAnswer;
 use fractions::Frac;
-use game_text::Refusal;
+use kinds::Refusal;
 use kohlberg::Certificate;
 use serde_json::Value;
 use tree_games::Tree;

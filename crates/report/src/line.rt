@@ -3,7 +3,7 @@ ghost use Rattle.std.specs.Prelude.{◌≡◌, pos, codes, unsigned_abs, IfOk, I
 ghost use Rattle.serde_json.specs.Data.{object, member, no_members};
 ghost use Rattle.serde_json.specs.Read.{read};
 ghost use Rattle.serde_json.specs.View.{view};
-ghost use Rattle.game_text.specs.Text.{without_newline};
+ghost use Rattle.json_texts.specs.Newlines.{without_newline};
 ghost use Rattle.report.specs.Limits.{IsScale, IsFine, IsPrintable};
 ghost use Rattle.report.specs.Lines.{answer_tree, line};
 
@@ -23,7 +23,7 @@ use crate::verdict::verdict_tree;
 use crate::words::{refusal_name, usage_word};
 use coalitions::Coalition;
 use fractions::{Frac, OutOfMemory};
-use game_text::Refusal;
+use kinds::Refusal;
 use serde_json::{Map, Value, json};
 use std::alloc::Global;
 

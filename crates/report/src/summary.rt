@@ -11,7 +11,7 @@ use crate::objects::with;
 use crate::shares::share_text;
 use crate::words::kind_word;
 use fractions::{Frac, OutOfMemory};
-use game_text::Kind;
+use kinds::Kind;
 use serde_json::{Map, Value};
 use std::alloc::Global;
 use worth_core::Shares;

@@ -9,7 +9,7 @@ use balanced::Collection;
 use checker::{Place, Reason, Verdict};
 use coalitions::Coalition;
 use fractions::Frac;
-use game_text::Refusal;
+use kinds::Refusal;
 use std::alloc::Global;
 use std::test::Fail;
 use worth_core::Shares;

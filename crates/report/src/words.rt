@@ -3,7 +3,7 @@ ghost use Rattle.std.specs.Prelude.{◌≡◌};
 ghost use Rattle.report.specs.Words.{refusal_name, usage_word, family_word, mode_word, kind_word};
 
 use crate::answer::UsageKind;
-use game_text::{Kind, Refusal};
+use kinds::{Kind, Refusal};
 use kohlberg::{Family, Mode};
 
 /// The name of a refusal.

@@ -1,7 +1,7 @@
 //! Lines on generated games.
 use super::{fraction, has_line};
 use crate::{Answer, Summary};
-use game_text::Kind;
+use kinds::Kind;
 use std::test::Fail;
 use worth_core::Shares;
 

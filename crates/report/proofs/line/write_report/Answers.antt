@@ -3,7 +3,7 @@ use Rattle.std.specs.Str.{IsUtf8}
 use Rattle.serde_json.specs.Read.{read}
 use Rattle.serde_json.specs.View.{view}
 use Rattle.serde_json.specs.Written.{compact_text}
-use Rattle.game_text.specs.Text.{without_newline}
+use Rattle.json_texts.specs.Newlines.{without_newline}
 use Rattle.report.specs.Lines.{answer_tree}
 use Rattle.report.proofs.NoFloats.{no_float}
 use Rattle.report.proofs.Depths.{shallow}

@@ -1,6 +1,6 @@
 //! Why a document is refused.
 ghost use Rattle.std.specs.Prelude.{◌≡◌};
-ghost use Rattle.game_text.specs.Numbers.{refusal_number};
+ghost use Rattle.kinds.specs.Numbers.{refusal_number};
 
 /// Why a document is refused. The refusals stand in the order in which they are tested, but for `Quota`, which is
 /// tested behind `Estate`; the first that applies is given.
