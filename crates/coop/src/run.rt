@@ -1,6 +1,7 @@
 //! From the words and the input to the status and the line.
 ghost use Rattle.std.specs.Prelude.{◌≡◌, ◌⊎◌, ℕ, List, [], ◌∷◌, map, string_bytes, true, IfOk};
 ghost use Rattle.report.specs.Limits.{IsScale, IsPrintable};
+ghost use Rattle.game_text.specs.declared.command.Command.{Command};
 ghost use Rattle.game_text.specs.Games.{description_in};
 ghost use Rattle.game_text.specs.Readings.{contents_in};
 ghost use Rattle.coop.specs.Classes.{serves_class};
@@ -9,7 +10,7 @@ ghost use Rattle.coop.specs.Needs.{HasNeeded};
 ghost use Rattle.coop.specs.GeneratorRuns.{AsksForGame, EndsMade, IsMadeFor};
 ghost use Rattle.coop.specs.Completeness.{IsComplete};
 ghost use Rattle.coop.specs.Outcome.{IsRight, Ends, IsCauseOf};
-ghost use Rattle.coop.specs.ReadBack.{CanBeRead};
+ghost use Rattle.coop.specs.ReadBack.{CanBeRead, IsNoNucleolus};
 ghost use Rattle.coop.specs.Stops.{IsFaultOf};
 ghost use Rattle.coop.specs.Words.{word_of, IsFit, IsRequest, IsNoCommand};
 
@@ -141,8 +142,8 @@ fn answer_to(alloc: Global, command: Command, document: Document) -> Result<Answ
     said_to(alloc, command, document)
 }
 
-// The answer to the command on its document, whose class it serves.
-#[tactic(auto, using(crate::proofs::ReadLines::readable_anyway, crate::proofs::ReadLines::readable_where_ok))]
+// The answer to the command on its document, whose class it serves. A nucleolus takes the document's tree over.
+#[tactic(auto, using(crate::proofs::ReadLines::readable_where_ok))]
 fn said_to(alloc: Global, command: Command, document: Document) -> Result<Answer, OutOfMemory>
     requires needed { HasNeeded command (contents_in document) }
     requires class { serves_class command (description_in document.game) ≡ true }
@@ -153,13 +154,29 @@ fn said_to(alloc: Global, command: Command, document: Document) -> Result<Answer
     match command {
         Command::Nucleolus => solve_document(alloc, document, Family::Imputations),
         Command::Prenucleolus => solve_document(alloc, document, Family::Preimputations),
-        Command::Propose => Ok(judge_document(&document)),
-        Command::Core => core_document(alloc, &document),
-        Command::Check => Ok(check_document(&document)),
-        Command::Shapley => shapley_document(alloc, &document),
-        Command::Bird => bird_document(alloc, &document),
-        Command::Convex => convex_document(alloc, &document),
-        Command::Kernel => Ok(kernel_document(&document)),
-        Command::Matching => matching_document(alloc, &document),
+        _ => said_of(alloc, command, &document),
+    }
+}
+
+// The answer to a command that leaves the document as it is.
+fn said_of(alloc: Global, command: Command, document: &Document) -> Result<Answer, OutOfMemory>
+    requires needed { HasNeeded command (contents_in document.now) }
+    requires class { serves_class command (description_in document.now.game) ≡ true }
+    requires imputations { ¬ (command ≡ Command.Nucleolus) }
+    requires preimputations { ¬ (command ≡ Command.Prenucleolus) }
+    ensures says { IfOk result (Says command (contents_in document.now)) }
+    ensures printable { IfOk result IsPrintable }
+    ensures readable { IfOk result IsNoNucleolus }
+{
+    match command {
+        Command::Nucleolus | Command::Prenucleolus => unreachable!(),
+        Command::Propose => Ok(judge_document(document)),
+        Command::Core => core_document(alloc, document),
+        Command::Check => Ok(check_document(document)),
+        Command::Shapley => shapley_document(alloc, document),
+        Command::Bird => bird_document(alloc, document),
+        Command::Convex => convex_document(alloc, document),
+        Command::Kernel => Ok(kernel_document(document)),
+        Command::Matching => matching_document(alloc, document),
     }
 }

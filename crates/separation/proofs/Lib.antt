@@ -17,3 +17,5 @@ pub mod InnerColumns
 pub mod LazyColumns
 pub mod Blocks
 pub mod FirstFound
+pub mod Products
+pub mod Searches

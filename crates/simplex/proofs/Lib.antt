@@ -1,5 +1,6 @@
 pub mod Signs
 pub mod Sizes
+pub mod Rows
 pub mod Positions
 pub mod DotProducts
 pub mod Ratios
@@ -13,6 +14,8 @@ pub mod Asked
 pub mod Exchanged
 pub mod Minors
 pub mod ListedWeights
+pub mod DrivenOut
+pub mod Entered
 pub mod Ends
 pub mod Solutions
 pub mod CommonDivisors

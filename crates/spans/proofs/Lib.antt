@@ -3,3 +3,4 @@ pub mod Inside
 pub mod Grown
 pub mod Started
 pub mod Marks
+pub mod Weighing

@@ -1,5 +1,17 @@
+use Rattle.std.proofs.Common.{ℕ, ℤ, ◌^◌, ◌<◌, sym, subst}
+use Rattle.definitions.proofs.Alls.{all_at}
 use Rattle.separation.proofs.Pushed.{level-push}
 use Rattle.separation.proofs.earlier.push_level.Goals as goal
+
+pub plain-requires : goal.plain-requires
+plain-requires g c =
+    let few = λ (q : ℕ × ℤ). q.0 < 2 ^ (g.W.Worth.game c.args.game.now).players in
+    subst few (sym c.loop-s-item.is) (all_at few c.args.pairs.now c.loop-s.s-index c.loop-s-item.result c.loop-s-test.true c.requires)
+
+pub minus-requires : goal.minus-requires
+minus-requires g c =
+    let few = λ (q : ℕ × ℤ). q.0 < 2 ^ (g.W.Worth.game c.args.game.now).players in
+    subst few (sym c.loop-s-item.is) (all_at few c.args.pairs.now c.loop-s.s-index c.loop-s-item.result c.loop-s-test.true c.requires)
 
 pub loop-s-preserved : goal.loop-s-preserved
 loop-s-preserved g c =

@@ -1,12 +1,53 @@
-use Rattle.std.proofs.Common.{◌≡◌, ◌≤◌, ◌<◌, ◌+◌, ◌*◌, ◌%◌, ◌^◌, ℕ, ℤ, pos, ◌+ℤ◌, Option, length, slice_index_or, unsigned_abs, to_z, of_z, ap, ◌∙◌, sym, subst, arith, rules}
+use Rattle.std.proofs.Common.{◌≡◌, ◌≤◌, ◌<◌, ◌+◌, ◌*◌, ◌%◌, ◌^◌, ℕ, ℤ, pos, ◌+ℤ◌, Option, length, slice_index_or, unsigned_abs, to_z, of_z, ap, ◌∙◌, sym, subst, arith, rules, refl}
 use mir.Syntax.{w128}
+use Rattle.std.proofs.lemmas.Bool.{false≢true}
 use Rattle.definitions.proofs.Casts.{cast_kept}
 use Rattle.definitions.specs.declared.Measure.{Measure}
 use Rattle.separation.specs.Making.{plain}
-use Rattle.separation.specs.Fronts.{front_level}
+use Rattle.separation.specs.Fronts.{front_level, marked_column}
 use Rattle.separation.specs.Values.{level_multiplier, column_value}
 use Rattle.separation.proofs.Blocks.{front_within, block_value}
+use Rattle.separation.proofs.Balance.{masks_of}
+use Rattle.separation.proofs.Searches
 use Rattle.separation.proofs.rising.first_of_block.Goals as goal
+
+pub base-base-requires-clause-block : goal.base-base-requires-clause-block
+base-base-requires-clause-block g c = c.requires.block
+
+pub base-base-requires-clause-few : goal.base-base-requires-clause-few
+base-base-requires-clause-few g c = c.requires.sums.few
+
+pub overflow_shl-program : goal.overflow_shl-program
+overflow_shl-program g c = Searches.below_64 c.args.program.now.players c.requires.sums.few
+
+pub loop-s-init : goal.loop-s-init
+loop-s-init g c = c.requires.before
+
+pub marked_rises-requires-clause-within : goal.marked_rises-requires-clause-within
+marked_rises-requires-clause-within g c =
+    let mask = masks_of c.args.program.now.players c.requires.sums.few in
+    omega (arith, mask, c.loop-s-test.true, c.min-end.ensures)
+
+pub returns-then-marked_rises : goal.returns-then-marked_rises
+returns-then-marked_rises g c =
+    let p = c.args.program.now in
+    let m = c.args.m.now in
+    let mask = masks_of p.players c.requires.sums.few in
+    let within : c.loop-s.s < 2 ^ p.players = omega (arith, mask, c.loop-s-test.true, c.min-end.ensures) in
+    Searches.first_here p.measure m.num.items m.den p.players c.args.with_costs (marked_column (g.W.Worth.game p.game.now) (front_level p.front) p.marks) (2 ^ p.players) c.loop-s.s c.loop-s.invariant
+    within (c.if-marked_rises.ensures.0 refl)
+
+pub loop-s-preserved : goal.loop-s-preserved
+loop-s-preserved g c =
+    let p = c.args.program.now in
+    let m = c.args.m.now in
+    Searches.none_more p.measure m.num.items m.den p.players c.args.with_costs (marked_column (g.W.Worth.game p.game.now) (front_level p.front) p.marks) (2 ^ p.players) c.loop-s.s c.loop-s.invariant
+    (λ r. false≢true (c.if-marked_rises.ensures.1 r))
+
+pub returns : goal.returns
+returns g c =
+    let mask = masks_of c.args.program.now.players c.requires.sums.few in
+    λ j lt within. c.loop-s.invariant j (omega (arith, mask, lt, within, c.loop-s-test.false, c.min-end.ensures)) within
 
 pub marked_rises-requires-clause-value : goal.marked_rises-requires-clause-value
 marked_rises-requires-clause-value g c =

@@ -1,0 +1,34 @@
+-- Products of small numbers, as the machine computes them.
+use Rattle.std.proofs.Common.{◌≡◌, ℕ, ◌*◌, ◌^◌, ◌<◌, ◌≤◌, ℤ, pos, ◌*ℤ◌, unsigned_abs, FitsSigned, to_z, of_z, sym, subst, ◌∙◌, le_trans, lt_of_le_of_lt, le_of_lt, mul-le-mul}
+use mir.Syntax.{w64, w128}
+use lib.Dec.{lit≤}
+use Rattle.std.proofs.lemmas.Int.{to_z-of_z, unsigned_abs-mul, fits_signed_mul, fits_signed_from_abs}
+
+-- a number as it is kept
+abbrev held : ℤ → ℤ
+held z = to_z w128 (of_z w128 z)
+
+small_fits : (z : ℤ) → unsigned_abs z ≤ 2 ^ 110 → FitsSigned w128 z
+small_fits z h = fits_signed_from_abs w128 z (lt_of_le_of_lt h (lit≤ tt))
+
+abs_mul : (a b : ℤ) (m n : ℕ) → unsigned_abs a ≤ m → unsigned_abs b ≤ n → unsigned_abs (a *ℤ b) ≤ m * n
+abs_mul a b m n h k = rw (unsigned_abs-mul a b) (mul-le-mul h k)
+
+-- a denominator times a cost
+pub bar_product : (d e c : ℤ) → unsigned_abs d ≤ 2 ^ 63 → unsigned_abs c < 2 ^ 46 → FitsSigned w64 c → e ≡ to_z w64 (of_z w64 c) → FitsSigned w128 (held d *ℤ held e) × (held (held d *ℤ held e) ≡ d *ℤ c)
+bar_product d e c hd hc fc same =
+    let is : e ≡ c = same ∙ to_z-of_z w64 c fc in
+    let fd : FitsSigned w128 d = small_fits d (le_trans hd (lit≤ tt)) in
+    let fe : FitsSigned w128 c = small_fits c (le_trans (le_of_lt hc) (lit≤ tt)) in
+    let f : FitsSigned w128 (d *ℤ c) = fits_signed_mul w128 d c (2 ^ 63) (2 ^ 46) hd (le_of_lt hc) (lit≤ tt) in
+    subst (λ (t : ℤ). FitsSigned w128 (held d *ℤ held t) × (held (held d *ℤ held t) ≡ d *ℤ c)) (sym is) (simp to_z-of_z f, simp to_z-of_z)
+
+-- an entry times a multiplier
+pub level_product : (e l : ℤ) (n : ℕ) → e ≡ pos n → n ≤ 64 → unsigned_abs l < 2 ^ 110
+    → FitsSigned w128 (held e *ℤ held l) × ((held (held e *ℤ held l) ≡ pos n *ℤ l) × (unsigned_abs (held (held e *ℤ held l)) ≤ 2 ^ 116))
+level_product e l n is hn hl =
+    let fe : FitsSigned w128 (pos n) = small_fits (pos n) (le_trans hn (lit≤ tt)) in
+    let fl : FitsSigned w128 l = small_fits l (le_of_lt hl) in
+    let f : FitsSigned w128 (pos n *ℤ l) = fits_signed_mul w128 (pos n) l 64 (2 ^ 110) hn (le_of_lt hl) (lit≤ tt) in
+    let size : unsigned_abs (pos n *ℤ l) ≤ 2 ^ 116 = le_trans (abs_mul (pos n) l 64 (2 ^ 110) hn (le_of_lt hl)) (lit≤ tt) in
+    subst (λ (t : ℤ). FitsSigned w128 (held t *ℤ held l) × ((held (held t *ℤ held l) ≡ pos n *ℤ l) × (unsigned_abs (held (held t *ℤ held l)) ≤ 2 ^ 116))) (sym is) (simp to_z-of_z f, (simp to_z-of_z, simp to_z-of_z size))
