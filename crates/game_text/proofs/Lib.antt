@@ -1,6 +1,7 @@
 pub mod Choices
 pub mod NamesRead
 pub mod Joining
+pub mod Pushed
 pub mod Filling
 pub mod Sizes
 pub mod PlayerCounts
@@ -10,6 +11,7 @@ pub mod Votes
 pub mod Payments
 pub mod LeastDenominators
 pub mod CommonScales
+pub mod Built
 pub mod Computed
 pub mod Chain
 pub mod Passed

@@ -1,11 +1,13 @@
 //! The kinds, keys and words of a document.
-ghost use Rattle.std.specs.Prelude.{◌≡◌};
+ghost use Rattle.std.specs.Prelude.{◌≡◌, codes, Some, None, if◌then◌else◌};
+ghost use Rattle.std.specs.Str.{bytes_eq};
 ghost use Rattle.serde_json.specs.View.{view};
 ghost use Rattle.game_text.specs.Shape.{class_named, class_of, is_shaped_as, has_shares, has_needed, is_shaped};
 ghost use Rattle.game_text.specs.TableClass.{is_table_shaped};
 ghost use Rattle.game_text.specs.BankruptcyClass.{is_bankruptcy_shaped};
 ghost use Rattle.game_text.specs.MatrixClass.{is_matrix_shaped};
 ghost use Rattle.game_text.specs.VotingClass.{is_voting_shaped};
+ghost use Rattle.game_text.specs.declared.class.Class.TheVariants.{Tree, Assignment, Market, Voting};
 
 use crate::airport_class::is_airport_shaped;
 use crate::bankruptcy_class::is_bankruptcy_shaped;
@@ -20,6 +22,26 @@ use certificate_texts::{CertificateShape, family_of};
 use json_trees::{ArrayOf, Form, Member, Text, has, has_if_there, has_only_keys};
 use serde_json::Value;
 
+/// The class that a word names, of the classes from the tree game on.
+fn later_class_named(word: &str) -> Option<Class>
+    ensures { result ≡ (if bytes_eq word.now (codes "tree") then Some Tree
+        else (if bytes_eq word.now (codes "assignment") then Some Assignment
+        else (if bytes_eq word.now (codes "market") then Some Market
+        else (if bytes_eq word.now (codes "voting") then Some Voting else None)))) }
+{
+    if word == "tree" {
+        Some(Class::Tree)
+    } else if word == "assignment" {
+        Some(Class::Assignment)
+    } else if word == "market" {
+        Some(Class::Market)
+    } else if word == "voting" {
+        Some(Class::Voting)
+    } else {
+        None
+    }
+}
+
 fn class_named(word: &str) -> Option<Class>
     ensures { result ≡ class_named word.now }
 {
@@ -31,16 +53,8 @@ fn class_named(word: &str) -> Option<Class>
         Some(Class::Airport)
     } else if word == "bankruptcy" {
         Some(Class::Bankruptcy)
-    } else if word == "tree" {
-        Some(Class::Tree)
-    } else if word == "assignment" {
-        Some(Class::Assignment)
-    } else if word == "market" {
-        Some(Class::Market)
-    } else if word == "voting" {
-        Some(Class::Voting)
     } else {
-        None
+        later_class_named(word)
     }
 }
 

@@ -8,6 +8,7 @@ use Rattle.json_trees.specs.LowestTerms.{times_scale}
 use Rattle.game_text.specs.Shares.{scaled_share}
 use Rattle.json_trees.proofs.Values.{map_views}
 use Rattle.game_text.proofs.LeastDenominators.{shares_reduced, not_kept}
+use Rattle.game_text.proofs.Pushed.{map_all, no_value}
 use Rattle.game_text.proofs.shares.scaled_fractions.Goals as goal
 
 pub returns-in_default : goal.returns-in_default
@@ -21,3 +22,10 @@ returns-in_default c =
     let reduced : All IsReduced (map f c.args.values.now) = subst (All IsReduced) (map_views (scaled_share k) c.args.values.now) (shares_reduced k (map view c.args.values.now)) in
     not_kept (map f c.args.values.now) c.loop-value.value-index x reduced (omega (arith, long, lt)) at
     (subst (λ (n : Fraction). ¬ FitsSigned w128 (times_scale k n).num) c.fraction_or_zero-number.ensures c.in_default.ensures.value)
+
+pub returns-in_err-push : goal.returns-in_err-push
+returns-in_err-push c = no_value c.from_residual.result _ c.from_residual.ensures.0
+
+pub returns : goal.returns
+returns c =
+    map_all (λ v. scaled_share c.args.scale (view v)) c.args.values.now c.loop-value.value-index c.loop-value.found.items c.loop-value-test.false c.loop-value.invariant

@@ -1,0 +1,19 @@
+-- A list that is filled with what a function gives for one item after another.
+use Rattle.std.proofs.Common.{◌≡◌, ℕ, ◌+◌, ◌<◌, ◌≤◌, List, [], ◌∷◌, ◌++◌, length, take, get_or, map, Result, Ok, Err, IfOk, sym, ap, ap₂, ◌∙◌}
+use Rattle.std.specs.Result.{IsErr}
+use Rattle.std.proofs.lemmas.Bool.{false≢true}
+use Rattle.std.proofs.lemmas.List.{take_more, take_all, map-append}
+
+-- one more item
+pub map_pushed : {A B : Type 0} (f : A → B) (xs : List A) (i : ℕ) (d : A) (ys : List B) (y : B) → i < length xs → ys ≡ map f (take i xs) → y ≡ f (get_or xs i d) → ys ++ y ∷ [] ≡ map f (take (i + 1) xs)
+map_pushed f xs i d ys y h so same =
+    ap₂ (λ l z. l ++ z ∷ []) so same ∙ sym (ap (map f) (take_more xs i d h) ∙ map-append f (take i xs) (get_or xs i d ∷ []))
+
+-- the last one
+pub map_all : {A B : Type 0} (f : A → B) (xs : List A) (i : ℕ) (ys : List B) → length xs ≤ i → ys ≡ map f (take i xs) → ys ≡ map f xs
+map_all f xs i ys h so = so ∙ ap (map f) (take_all i xs h)
+
+-- with an error nothing is said of a value
+pub no_value : {T E : Type 0} (r : Result T E) (P : T → Type 0) → IsErr r → IfOk r P
+no_value (Ok x) P h = absurd (false≢true h)
+no_value (Err e) P h = tt
