@@ -1,7 +1,7 @@
 -- Products that fit 128 bits.
-use Rattle.std.proofs.Common.{◌≡◌, ℕ, ◌-◌, ◌^◌, ◌<◌, ◌≤◌, ℤ, pos, ◌-ℤ◌, ◌*ℤ◌, ◌≤ℤ◌, ◌<ℤ◌, unsigned_abs, neg_ℤ, to_z, of_z, arith, ap, sym, refl, zero, suc, List, [], ◌∷◌, length, get_or, ◌∙◌}
+use Rattle.std.proofs.Common.{◌≡◌, ℕ, ◌-◌, ◌^◌, ◌<◌, ◌≤◌, ℤ, pos, ◌-ℤ◌, ◌*ℤ◌, ◌≤ℤ◌, ◌<ℤ◌, unsigned_abs, neg_ℤ, to_z, of_z, FitsSigned, arith, ap, sym, refl, zero, suc, List, [], ◌∷◌, length, get_or, ◌∙◌}
 use Rattle.std.proofs.Math.Nat.{mul-le-mul}
-use Rattle.std.proofs.lemmas.Int.{ints, unsigned_abs-mul}
+use Rattle.std.proofs.lemmas.Int.{ints, fits_signed_from_abs, unsigned_abs-mul}
 use mir.Syntax.{w64, w128}
 use Rattle.definitions.proofs.Casts.{cast_kept}
 use Rattle.definitions.proofs.Ring.{zero-subℤ}
@@ -30,14 +30,30 @@ rest_small den cost paid a b c d e = apart (den *ℤ cost) paid (cost_small den 
     apart : (u v : ℤ) → unsigned_abs u < 2 ^ 104 → unsigned_abs v < 2 ^ 104 → unsigned_abs (u -ℤ v) < 2 ^ 105
     apart u v h k = omega (arith, ints)
 
-pub rest_value : (den cost paid : ℤ) → pos 1 ≤ℤ den → den ≤ℤ pos (2 ^ 63) → pos 0 ≤ℤ cost → cost <ℤ pos (2 ^ 40) → unsigned_abs paid < 2 ^ 104 → to_z w128 (of_z w128 (to_z w128 (of_z w128 (to_z w128 (of_z w128 den) *ℤ to_z w128 (of_z w128 (to_z w64 (of_z w64 cost))))) -ℤ to_z w128 (of_z w128 paid))) ≡ den *ℤ cost -ℤ paid
-rest_value den cost paid a b c d e =
+-- a cost over the denominator, as the code computes it
+cost_kept : (den cost : ℤ) → pos 1 ≤ℤ den → den ≤ℤ pos (2 ^ 63) → pos 0 ≤ℤ cost → cost <ℤ pos (2 ^ 40) → to_z w128 (of_z w128 den) *ℤ to_z w128 (of_z w128 (to_z w64 (of_z w64 cost))) ≡ den *ℤ cost
+cost_kept den cost a b c d =
     let u : to_z w128 (of_z w128 den) ≡ den = cast_kept w128 den (omega (arith, ints)) in
     let v : to_z w64 (of_z w64 cost) ≡ cost = cast_kept w64 cost (omega (arith, ints)) in
     let w : to_z w128 (of_z w128 cost) ≡ cost = cast_kept w128 cost (omega (arith, ints)) in
+    rw (u, v, w) refl
+
+pub cost_fits : (den cost : ℤ) → pos 1 ≤ℤ den → den ≤ℤ pos (2 ^ 63) → pos 0 ≤ℤ cost → cost <ℤ pos (2 ^ 40) → FitsSigned w128 (to_z w128 (of_z w128 den) *ℤ to_z w128 (of_z w128 (to_z w64 (of_z w64 cost))))
+cost_fits den cost a b c d = rw (cost_kept den cost a b c d) (fits_signed_from_abs w128 (den *ℤ cost) (let s = cost_small den cost a b c d in omega (arith, s)))
+
+-- what is left of a cost, as the code computes it
+rest_kept : (den cost paid : ℤ) → pos 1 ≤ℤ den → den ≤ℤ pos (2 ^ 63) → pos 0 ≤ℤ cost → cost <ℤ pos (2 ^ 40) → unsigned_abs paid < 2 ^ 104 → to_z w128 (of_z w128 (to_z w128 (of_z w128 den) *ℤ to_z w128 (of_z w128 (to_z w64 (of_z w64 cost))))) -ℤ to_z w128 (of_z w128 paid) ≡ den *ℤ cost -ℤ paid
+rest_kept den cost paid a b c d e =
     let p : to_z w128 (of_z w128 paid) ≡ paid = cast_kept w128 paid (omega arith) in
     let m : to_z w128 (of_z w128 (den *ℤ cost)) ≡ den *ℤ cost = cast_kept w128 (den *ℤ cost) (let s = cost_small den cost a b c d in omega (arith, s)) in
-    rw (u, v, w, m, p) (cast_kept w128 (den *ℤ cost -ℤ paid) (let s = rest_small den cost paid a b c d e in omega (arith, s)))
+    rw (cost_kept den cost a b c d, m, p) refl
+
+pub rest_fits : (den cost paid : ℤ) → pos 1 ≤ℤ den → den ≤ℤ pos (2 ^ 63) → pos 0 ≤ℤ cost → cost <ℤ pos (2 ^ 40) → unsigned_abs paid < 2 ^ 104 → FitsSigned w128 (to_z w128 (of_z w128 (to_z w128 (of_z w128 den) *ℤ to_z w128 (of_z w128 (to_z w64 (of_z w64 cost))))) -ℤ to_z w128 (of_z w128 paid))
+rest_fits den cost paid a b c d e = rw (rest_kept den cost paid a b c d e) (fits_signed_from_abs w128 (den *ℤ cost -ℤ paid) (let s = rest_small den cost paid a b c d e in omega (arith, s)))
+
+pub rest_value : (den cost paid : ℤ) → pos 1 ≤ℤ den → den ≤ℤ pos (2 ^ 63) → pos 0 ≤ℤ cost → cost <ℤ pos (2 ^ 40) → unsigned_abs paid < 2 ^ 104 → to_z w128 (of_z w128 (to_z w128 (of_z w128 (to_z w128 (of_z w128 den) *ℤ to_z w128 (of_z w128 (to_z w64 (of_z w64 cost))))) -ℤ to_z w128 (of_z w128 paid))) ≡ den *ℤ cost -ℤ paid
+rest_value den cost paid a b c d e =
+    rw (rest_kept den cost paid a b c d e) (cast_kept w128 (den *ℤ cost -ℤ paid) (let s = rest_small den cost paid a b c d e in omega (arith, s)))
 
 pub negated_value : (z : ℤ) → unsigned_abs z < 2 ^ 104 → to_z w128 (of_z w128 (pos 0 -ℤ to_z w128 (of_z w128 z))) ≡ neg_ℤ z
 negated_value z h =
