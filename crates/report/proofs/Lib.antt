@@ -17,3 +17,4 @@ pub mod NoFloats
 pub mod Depths
 pub mod AsciiFractions
 pub mod Newlines
+pub mod MemberLists

@@ -5,7 +5,7 @@ ghost use Rattle.report.specs.Limits.{IsScale};
 ghost use Rattle.report.specs.BirdTrees.{edge_cost, edge_tree, bird_tree};
 
 use crate::fraction::integer_value;
-use crate::shares::share_texts;
+use crate::objects::{with, with_answer, with_shares};
 use fractions::OutOfMemory;
 use serde_json::{Value, json};
 use std::alloc::Global;
@@ -22,10 +22,11 @@ pub(crate) fn bird_tree(
     requires { IsScale (pos scale) }
     ensures { IfOk result (λ v. view v ≡ bird_tree scale shares.now tree.now) }
 {
-    let shares = share_texts(alloc, shares, true, scale)?;
+    let members = with_answer(alloc, "bird")?;
+    let members = with_shares(alloc, members, "shares", shares, true, scale)?;
     let edges = edge_trees(alloc, &tree.edges, scale)?;
-    let tree = json!(in alloc; {"answer": "bird", "shares": shares, "tree": edges})?;
-    Ok(tree)
+    let members = with(alloc, members, "tree", Value::Array(edges))?;
+    Ok(Value::Object(members))
 }
 
 fn edge_trees(

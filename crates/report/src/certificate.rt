@@ -1,20 +1,19 @@
 //! Certificates as JSON.
-ghost use Rattle.std.specs.Prelude.{◌≡◌, pos, map, codes, IfOk};
+ghost use Rattle.std.specs.Prelude.{◌≡◌, pos, map, IfOk};
 ghost use Rattle.std.specs.List.{AllByRecursion};
-ghost use Rattle.serde_json.specs.Data.{Data, array, object, member, no_members};
-ghost use Rattle.serde_json.specs.View.{view, items_of};
+ghost use Rattle.serde_json.specs.Data.{Data, array, put as with_member};
+ghost use Rattle.serde_json.specs.View.{view, items_of, members_view};
 ghost use Rattle.definitions.specs.Certificates.{IsSmall};
 ghost use Rattle.report.specs.Certificates.{weight_data, weight_pair, level_tree, certificate_tree};
 ghost use Rattle.report.specs.Limits.{IsScale, IsFine, HasSmallWeights};
 
-use crate::fraction::value_over;
-use crate::objects::with;
+use crate::objects::{pair, with, with_text, with_value};
 use crate::players::{player_numbers, player_value};
 use crate::words::mode_word;
 use coalitions::Coalition;
 use fractions::OutOfMemory;
 use kohlberg::{Certificate, Level};
-use serde_json::{Map, Value, json};
+use serde_json::{Map, Value};
 use std::alloc::Global;
 
 /// The JSON tree of a certificate, its excesses over the scale.
@@ -28,9 +27,9 @@ pub(crate) fn certificate_tree(
     ensures { IfOk result (λ v. view v ≡ certificate_tree scale certificate.now) }
 {
     let levels = level_trees(alloc, certificate.levels(), scale)?;
-    let mode = mode_word(certificate.mode());
-    let tree = json!(in alloc; {"levels": levels, "mode": mode})?;
-    Ok(tree)
+    let members = with(alloc, Map::new(alloc), "levels", Value::Array(levels))?;
+    let members = with_text(alloc, members, "mode", mode_word(certificate.mode()))?;
+    Ok(Value::Object(members))
 }
 
 fn level_trees(alloc: Global, levels: &[Level], scale: u32) -> Result<Vec<Value>, OutOfMemory>
@@ -52,40 +51,11 @@ fn level_tree(alloc: Global, level: &Level, scale: u32) -> Result<Value, OutOfMe
     requires fine { IsFine level.now.excess_den }
     ensures { IfOk result (λ v. view v ≡ level_tree scale level.now) }
 {
-    let bounds = weight_list(alloc, &level.bounds)?;
-    let coalitions = weight_list(alloc, &level.coalitions)?;
-    let earlier = weight_list(alloc, &level.earlier)?;
-    let excess = value_over(alloc, &level.excess, scale)?;
-    level_object(
-        alloc,
-        bounds,
-        coalitions,
-        earlier,
-        excess,
-        weight_value(level.total),
-    )
-}
-
-fn level_object(
-    alloc: Global,
-    bounds: Value,
-    coalitions: Value,
-    earlier: Value,
-    excess: Value,
-    total: Value,
-) -> Result<Value, OutOfMemory>
-    ensures { IfOk result (λ v. view v ≡ object
-        (member (codes "bounds") (view bounds)
-        (member (codes "coalitions") (view coalitions)
-        (member (codes "earlier") (view earlier)
-        (member (codes "excess") (view excess)
-        (member (codes "total") (view total) no_members)))))) }
-{
-    let members = with(alloc, Map::new(alloc), "bounds", bounds)?;
-    let members = with(alloc, members, "coalitions", coalitions)?;
-    let members = with(alloc, members, "earlier", earlier)?;
-    let members = with(alloc, members, "excess", excess)?;
-    let members = with(alloc, members, "total", total)?;
+    let members = with_weights(alloc, Map::new(alloc), "bounds", &level.bounds)?;
+    let members = with_weights(alloc, members, "coalitions", &level.coalitions)?;
+    let members = with_weights(alloc, members, "earlier", &level.earlier)?;
+    let members = with_value(alloc, members, "excess", &level.excess, scale)?;
+    let members = with(alloc, members, "total", weight_value(level.total))?;
     Ok(Value::Object(members))
 }
 
@@ -120,11 +90,23 @@ impl Weighted for u32 {
     }
 }
 
-/// What has weights, each with its weight, as one value.
-pub(crate) fn weight_list<K: Weighted>(
+/// The members, with the list of what has weights, each with its weight, at its key.
+pub(crate) fn with_weights<K: Weighted>(
     alloc: Global,
+    members: Map<String, Value>,
+    key: &str,
     pairs: &[(K, i128)],
-) -> Result<Value, OutOfMemory>
+) -> Result<Map<String, Value>, OutOfMemory>
+    requires { AllByRecursion (λ p. IsSmall p.1) pairs.now }
+    ensures { IfOk result (λ m. members_view m.entries ≡
+        with_member key.now (array (items_of (map (weight_pair K.tree) pairs.now))) (members_view members.entries)) }
+{
+    let list = weight_list(alloc, pairs)?;
+    with(alloc, members, key, list)
+}
+
+/// What has weights, each with its weight, as one value.
+fn weight_list<K: Weighted>(alloc: Global, pairs: &[(K, i128)]) -> Result<Value, OutOfMemory>
     requires { AllByRecursion (λ p. IsSmall p.1) pairs.now }
     ensures { IfOk result (λ v. view v ≡ array (items_of (map (weight_pair K.tree) pairs.now))) }
 {
@@ -149,9 +131,7 @@ fn weight_pair<K: Weighted>(alloc: Global, key: &K, weight: i128) -> Result<Valu
     ensures { IfOk result (λ v. view v ≡ weight_pair K.tree (key.now, weight)) }
 {
     let key = key.value(alloc)?;
-    let weight = weight_value(weight);
-    let pair = json!(in alloc; [key, weight])?;
-    Ok(pair)
+    pair(alloc, key, weight_value(weight))
 }
 
 /// A weight, or a total.

@@ -1,18 +1,15 @@
 //! What is said of a game's convexity, as JSON.
-ghost use Rattle.std.specs.Prelude.{◌≡◌, pos, codes, false, IfOk};
-ghost use Rattle.serde_json.specs.Data.{object, member, no_members};
+ghost use Rattle.std.specs.Prelude.{◌≡◌, pos, false, IfOk};
 ghost use Rattle.serde_json.specs.View.{view};
 ghost use Rattle.report.specs.Limits.{IsScale};
 ghost use Rattle.report.specs.ConvexTrees.{convex_tree};
 
-use crate::fraction::integer_value;
-use crate::objects::with;
-use crate::players::{player_numbers, player_value};
-use crate::shares::share_texts;
+use crate::objects::{with, with_answer, with_coalition, with_integer, with_shares};
+use crate::players::player_value;
 use coalitions::Coalition;
 use convexity::ConvexAnswer;
 use fractions::OutOfMemory;
-use serde_json::{Map, Value, json};
+use serde_json::Value;
 use std::alloc::Global;
 use worth_core::Shares;
 
@@ -45,10 +42,10 @@ fn both_shares_tree(
     requires { IsScale (pos scale) }
     ensures { IfOk result (λ v. view v ≡ convex_tree scale is_cost (ConvexAnswer.Convex shapley.now marginal.now)) }
 {
-    let marginal = share_texts(alloc, marginal, is_cost, scale)?;
-    let shapley = share_texts(alloc, shapley, is_cost, scale)?;
-    let tree = json!(in alloc; {"answer": "convex", "marginal": marginal, "shapley": shapley})?;
-    Ok(tree)
+    let members = with_answer(alloc, "convex")?;
+    let members = with_shares(alloc, members, "marginal", marginal, is_cost, scale)?;
+    let members = with_shares(alloc, members, "shapley", shapley, is_cost, scale)?;
+    Ok(Value::Object(members))
 }
 
 // The coalition and the players at which a game isn't convex, and by how much.
@@ -63,38 +60,10 @@ fn failure_tree(
     requires { IsScale (pos scale) }
     ensures { IfOk result (λ v. view v ≡ convex_tree scale false (ConvexAnswer.Not s i j deficit)) }
 {
-    let answer = Value::try_from_str(alloc, "not convex")?;
-    let deficit = integer_value(alloc, i128::from(deficit), scale)?;
-    let set = player_numbers(alloc, s)?;
-    failure_object(
-        alloc,
-        answer,
-        deficit,
-        player_value(i),
-        player_value(j),
-        Value::Array(set),
-    )
-}
-
-fn failure_object(
-    alloc: Global,
-    answer: Value,
-    deficit: Value,
-    i: Value,
-    j: Value,
-    set: Value,
-) -> Result<Value, OutOfMemory>
-    ensures { IfOk result (λ v. view v ≡ object
-        (member (codes "answer") (view answer)
-        (member (codes "deficit") (view deficit)
-        (member (codes "i") (view i)
-        (member (codes "j") (view j)
-        (member (codes "set") (view set) no_members)))))) }
-{
-    let members = with(alloc, Map::new(alloc), "answer", answer)?;
-    let members = with(alloc, members, "deficit", deficit)?;
-    let members = with(alloc, members, "i", i)?;
-    let members = with(alloc, members, "j", j)?;
-    let members = with(alloc, members, "set", set)?;
+    let members = with_answer(alloc, "not convex")?;
+    let members = with_integer(alloc, members, "deficit", i128::from(deficit), scale)?;
+    let members = with(alloc, members, "i", player_value(i))?;
+    let members = with(alloc, members, "j", player_value(j))?;
+    let members = with_coalition(alloc, members, "set", s)?;
     Ok(Value::Object(members))
 }

@@ -1,19 +1,16 @@
 //! What is said of the core, as JSON.
-ghost use Rattle.std.specs.Prelude.{◌≡◌, pos, codes, IfOk};
+ghost use Rattle.std.specs.Prelude.{◌≡◌, pos, IfOk};
 ghost use Rattle.std.specs.List.{AllByRecursion};
-ghost use Rattle.serde_json.specs.Data.{object, member, no_members};
 ghost use Rattle.serde_json.specs.View.{view};
 ghost use Rattle.definitions.specs.Certificates.{IsSmall};
 ghost use Rattle.report.specs.Limits.{IsScale};
 ghost use Rattle.report.specs.CoreTrees.{core_point_tree, empty_core_tree};
 
-use crate::certificate::{weight_list, weight_value};
-use crate::fraction::integer_value;
-use crate::objects::with;
-use crate::shares::share_texts;
+use crate::certificate::{weight_value, with_weights};
+use crate::objects::{with, with_answer, with_integer, with_shares, with_text};
 use balanced::Collection;
 use fractions::OutOfMemory;
-use serde_json::{Map, Value, json};
+use serde_json::{Map, Value};
 use std::alloc::Global;
 use worth_core::Shares;
 
@@ -27,9 +24,9 @@ pub(crate) fn core_point_tree(
     requires { IsScale (pos scale) }
     ensures { IfOk result (λ v. view v ≡ core_point_tree scale is_cost shares.now) }
 {
-    let shares = share_texts(alloc, shares, is_cost, scale)?;
-    let tree = json!(in alloc; {"answer": "core point", "shares": shares})?;
-    Ok(tree)
+    let members = with_answer(alloc, "core point")?;
+    let members = with_shares(alloc, members, "shares", shares, is_cost, scale)?;
+    Ok(Value::Object(members))
 }
 
 /// The JSON tree of a collection that shows that the core is empty, beside the two numbers that it sets against each
@@ -46,39 +43,10 @@ pub(crate) fn empty_core_tree(
     requires k { IsSmall collection.now.k }
     ensures { IfOk result (λ v. view v ≡ empty_core_tree scale collection.now value against) }
 {
-    let against = integer_value(alloc, against, scale)?;
-    let answer = Value::try_from_str(alloc, "empty core")?;
-    let pairs = weight_list(alloc, &collection.weights)?;
-    let value = integer_value(alloc, value, scale)?;
-    empty_core_object(
-        alloc,
-        against,
-        answer,
-        pairs,
-        weight_value(collection.k),
-        value,
-    )
-}
-
-fn empty_core_object(
-    alloc: Global,
-    against: Value,
-    answer: Value,
-    collection: Value,
-    k: Value,
-    value: Value,
-) -> Result<Value, OutOfMemory>
-    ensures { IfOk result (λ v. view v ≡ object
-        (member (codes "against") (view against)
-        (member (codes "answer") (view answer)
-        (member (codes "collection") (view collection)
-        (member (codes "k") (view k)
-        (member (codes "value") (view value) no_members)))))) }
-{
-    let members = with(alloc, Map::new(alloc), "against", against)?;
-    let members = with(alloc, members, "answer", answer)?;
-    let members = with(alloc, members, "collection", collection)?;
-    let members = with(alloc, members, "k", k)?;
-    let members = with(alloc, members, "value", value)?;
+    let members = with_integer(alloc, Map::new(alloc), "against", against, scale)?;
+    let members = with_text(alloc, members, "answer", "empty core")?;
+    let members = with_weights(alloc, members, "collection", &collection.weights)?;
+    let members = with(alloc, members, "k", weight_value(collection.k))?;
+    let members = with_integer(alloc, members, "value", value, scale)?;
     Ok(Value::Object(members))
 }

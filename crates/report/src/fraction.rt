@@ -34,7 +34,7 @@ fn over(value: &Frac, scale: u32) -> Frac
 }
 
 /// The text of a fraction over the scale, in lowest terms.
-pub(crate) fn text_over(alloc: Global, value: &Frac, scale: u32) -> Result<String, OutOfMemory>
+fn text_over(alloc: Global, value: &Frac, scale: u32) -> Result<String, OutOfMemory>
     requires scale { IsScale (pos scale) }
     requires fine { IsFine value.now.den }
     ensures { IfOk result (λ s. string_bytes s ≡ fraction_text (over_scale (pos scale) value.now)) }

@@ -1,15 +1,13 @@
 //! What is said of shares and the prekernel, as JSON.
-ghost use Rattle.std.specs.Prelude.{◌≡◌, pos, codes, IfOk};
-ghost use Rattle.serde_json.specs.Data.{object, member, no_members};
+ghost use Rattle.std.specs.Prelude.{◌≡◌, pos, IfOk};
 ghost use Rattle.serde_json.specs.View.{view};
 ghost use Rattle.report.specs.Limits.{IsScale, IsFine};
 ghost use Rattle.report.specs.KernelTrees.{prekernel_tree, not_prekernel_tree};
 
-use crate::fraction::value_over;
-use crate::objects::with;
+use crate::objects::{with, with_answer, with_value};
 use crate::players::player_value;
 use fractions::{Frac, OutOfMemory};
-use serde_json::{Map, Value, json};
+use serde_json::{Value, json};
 use std::alloc::Global;
 
 /// The JSON tree of shares in the prekernel.
@@ -34,31 +32,10 @@ pub(crate) fn not_prekernel_tree(
     requires ji { IsFine ji.now.den }
     ensures { IfOk result (λ v. view v ≡ not_prekernel_tree scale i j ij.now ji.now) }
 {
-    let answer = Value::try_from_str(alloc, "not prekernel")?;
-    let ij = value_over(alloc, ij, scale)?;
-    let ji = value_over(alloc, ji, scale)?;
-    surpluses_object(alloc, answer, player_value(i), ij, player_value(j), ji)
-}
-
-fn surpluses_object(
-    alloc: Global,
-    answer: Value,
-    i: Value,
-    ij: Value,
-    j: Value,
-    ji: Value,
-) -> Result<Value, OutOfMemory>
-    ensures { IfOk result (λ v. view v ≡ object
-        (member (codes "answer") (view answer)
-        (member (codes "i") (view i)
-        (member (codes "ij") (view ij)
-        (member (codes "j") (view j)
-        (member (codes "ji") (view ji) no_members)))))) }
-{
-    let members = with(alloc, Map::new(alloc), "answer", answer)?;
-    let members = with(alloc, members, "i", i)?;
-    let members = with(alloc, members, "ij", ij)?;
-    let members = with(alloc, members, "j", j)?;
-    let members = with(alloc, members, "ji", ji)?;
+    let members = with_answer(alloc, "not prekernel")?;
+    let members = with(alloc, members, "i", player_value(i))?;
+    let members = with_value(alloc, members, "ij", ij, scale)?;
+    let members = with(alloc, members, "j", player_value(j))?;
+    let members = with_value(alloc, members, "ji", ji, scale)?;
     Ok(Value::Object(members))
 }

@@ -1,6 +1,5 @@
 //! The line of an answer.
-ghost use Rattle.std.specs.Prelude.{◌≡◌, pos, codes, unsigned_abs, IfOk, IsUtf8, Some};
-ghost use Rattle.serde_json.specs.Data.{object, member, no_members};
+ghost use Rattle.std.specs.Prelude.{◌≡◌, pos, unsigned_abs, IfOk, IsUtf8, Some};
 ghost use Rattle.serde_json.specs.Read.{read};
 ghost use Rattle.serde_json.specs.View.{view};
 ghost use Rattle.json_texts.specs.Newlines.{without_newline};
@@ -11,12 +10,10 @@ use crate::answer::{Answer, UsageKind};
 use crate::bird_answer::bird_tree;
 use crate::convex_answers::convex_tree;
 use crate::core_answers::{core_point_tree, empty_core_tree};
-use crate::fraction::{integer_value, value_over};
 use crate::kernel_answers::{not_prekernel_tree, prekernel_tree};
 use crate::matching_answer::matching_tree;
 use crate::nucleolus::nucleolus_tree;
-use crate::objects::with;
-use crate::players::player_numbers;
+use crate::objects::{with_answer, with_coalition, with_integer, with_value};
 use crate::shapley_answers::shapley_tree;
 use crate::summary::summary_tree;
 use crate::verdict::verdict_tree;
@@ -24,7 +21,7 @@ use crate::words::{refusal_name, usage_word};
 use coalitions::Coalition;
 use fractions::{Frac, OutOfMemory};
 use kinds::Refusal;
-use serde_json::{Map, Value, json};
+use serde_json::{Value, json};
 use std::alloc::Global;
 
 /// The line of an answer: compact JSON with ascending keys, and a newline. Its fractions and shares are printed over
@@ -98,26 +95,9 @@ fn no_imputation_tree(
     requires { IsScale (pos scale) }
     ensures { IfOk result (λ v. view v ≡ answer_tree scale (Answer.NoImputation singles total)) }
 {
-    let singles = integer_value(alloc, i128::from(singles), scale)?;
-    let total = integer_value(alloc, i128::from(total), scale)?;
-    let answer = Value::try_from_str(alloc, "no imputation")?;
-    no_imputation_object(alloc, answer, singles, total)
-}
-
-fn no_imputation_object(
-    alloc: Global,
-    answer: Value,
-    singles: Value,
-    total: Value,
-) -> Result<Value, OutOfMemory>
-    ensures { IfOk result (λ v. view v ≡ object
-        (member (codes "answer") (view answer)
-        (member (codes "singles") (view singles)
-        (member (codes "total") (view total) no_members)))) }
-{
-    let members = with(alloc, Map::new(alloc), "answer", answer)?;
-    let members = with(alloc, members, "singles", singles)?;
-    let members = with(alloc, members, "total", total)?;
+    let members = with_answer(alloc, "no imputation")?;
+    let members = with_integer(alloc, members, "singles", i128::from(singles), scale)?;
+    let members = with_integer(alloc, members, "total", i128::from(total), scale)?;
     Ok(Value::Object(members))
 }
 
@@ -138,26 +118,9 @@ fn not_efficient_tree(
     requires fine { IsFine sum.now.den }
     ensures { IfOk result (λ v. view v ≡ answer_tree scale (Answer.NotEfficient sum.now total)) }
 {
-    let sum = value_over(alloc, sum, scale)?;
-    let total = integer_value(alloc, i128::from(total), scale)?;
-    let answer = Value::try_from_str(alloc, "not efficient")?;
-    not_efficient_object(alloc, answer, sum, total)
-}
-
-fn not_efficient_object(
-    alloc: Global,
-    answer: Value,
-    sum: Value,
-    total: Value,
-) -> Result<Value, OutOfMemory>
-    ensures { IfOk result (λ v. view v ≡ object
-        (member (codes "answer") (view answer)
-        (member (codes "sum") (view sum)
-        (member (codes "total") (view total) no_members)))) }
-{
-    let members = with(alloc, Map::new(alloc), "answer", answer)?;
-    let members = with(alloc, members, "sum", sum)?;
-    let members = with(alloc, members, "total", total)?;
+    let members = with_answer(alloc, "not efficient")?;
+    let members = with_value(alloc, members, "sum", sum, scale)?;
+    let members = with_integer(alloc, members, "total", i128::from(total), scale)?;
     Ok(Value::Object(members))
 }
 
@@ -171,10 +134,10 @@ fn blocked_tree(
     requires fine { IsFine excess.now.den }
     ensures { IfOk result (λ v. view v ≡ answer_tree scale (Answer.Blocked coalition excess.now)) }
 {
-    let players = player_numbers(alloc, coalition)?;
-    let excess = value_over(alloc, excess, scale)?;
-    let tree = json!(in alloc; {"answer": "blocked", "coalition": players, "excess": excess})?;
-    Ok(tree)
+    let members = with_answer(alloc, "blocked")?;
+    let members = with_coalition(alloc, members, "coalition", coalition)?;
+    let members = with_value(alloc, members, "excess", excess, scale)?;
+    Ok(Value::Object(members))
 }
 
 fn usage_tree(alloc: Global, kind: UsageKind) -> Result<Value, OutOfMemory>

@@ -1,11 +1,26 @@
-//! JSON objects, member by member.
-ghost use Rattle.std.specs.Prelude.{◌≡◌, IfOk};
-ghost use Rattle.serde_json.specs.Data.{put as with_member};
+//! JSON objects, member by member, and pairs.
+ghost use Rattle.std.specs.Prelude.{◌≡◌, pos, codes, IfOk};
+ghost use Rattle.serde_json.specs.Data.{put as with_member, string, array, item, no_items, member, no_members};
 ghost use Rattle.serde_json.specs.View.{view, members_view};
+ghost use Rattle.report.specs.Limits.{IsScale, IsFine};
+ghost use Rattle.report.specs.ShareLists.{share_list};
+ghost use Rattle.report.specs.Values.{scaled_data, integer_data, player_numbers};
 
-use fractions::OutOfMemory;
-use serde_json::{Map, Value, put};
+use crate::fraction::{integer_value, value_over};
+use crate::players::player_numbers;
+use crate::shares::share_texts;
+use coalitions::Coalition;
+use fractions::{Frac, OutOfMemory};
+use serde_json::{Map, Value, json, put};
 use std::alloc::Global;
+use worth_core::Shares;
+
+/// The first member of most answers, the word for what is answered.
+pub(crate) fn with_answer(alloc: Global, word: &str) -> Result<Map<String, Value>, OutOfMemory>
+    ensures { IfOk result (λ m. members_view m.entries ≡ member (codes "answer") (string word.now) no_members) }
+{
+    with_text(alloc, Map::new(alloc), "answer", word)
+}
 
 /// The members, with this one at its key.
 pub(crate) fn with(
@@ -19,4 +34,85 @@ pub(crate) fn with(
     let mut members = members;
     put(&mut members, alloc, key, value)?;
     Ok(members)
+}
+
+/// The members, with this text at its key.
+pub(crate) fn with_text(
+    alloc: Global,
+    members: Map<String, Value>,
+    key: &str,
+    text: &str,
+) -> Result<Map<String, Value>, OutOfMemory>
+    ensures { IfOk result (λ m. members_view m.entries ≡ with_member key.now (string text.now) (members_view members.entries)) }
+{
+    let value = Value::try_from_str(alloc, text)?;
+    with(alloc, members, key, value)
+}
+
+/// The members, with the text of a number over the scale at its key.
+pub(crate) fn with_value(
+    alloc: Global,
+    members: Map<String, Value>,
+    key: &str,
+    value: &Frac,
+    scale: u32,
+) -> Result<Map<String, Value>, OutOfMemory>
+    requires scale { IsScale (pos scale) }
+    requires fine { IsFine value.now.den }
+    ensures { IfOk result (λ m. members_view m.entries ≡ with_member key.now (scaled_data scale value.now) (members_view members.entries)) }
+{
+    let value = value_over(alloc, value, scale)?;
+    with(alloc, members, key, value)
+}
+
+/// The members, with the text of an integer over the scale at its key.
+pub(crate) fn with_integer(
+    alloc: Global,
+    members: Map<String, Value>,
+    key: &str,
+    value: i128,
+    scale: u32,
+) -> Result<Map<String, Value>, OutOfMemory>
+    requires { IsScale (pos scale) }
+    ensures { IfOk result (λ m. members_view m.entries ≡ with_member key.now (integer_data scale value) (members_view members.entries)) }
+{
+    let value = integer_value(alloc, value, scale)?;
+    with(alloc, members, key, value)
+}
+
+/// The members, with the list of shares over the scale at its key; where the game is one of costs, of the payments.
+pub(crate) fn with_shares(
+    alloc: Global,
+    members: Map<String, Value>,
+    key: &str,
+    shares: &Shares,
+    is_cost: bool,
+    scale: u32,
+) -> Result<Map<String, Value>, OutOfMemory>
+    requires { IsScale (pos scale) }
+    ensures { IfOk result (λ m. members_view m.entries ≡ with_member key.now (share_list scale is_cost shares.now) (members_view members.entries)) }
+{
+    let texts = share_texts(alloc, shares, is_cost, scale)?;
+    with(alloc, members, key, Value::Array(texts))
+}
+
+/// The members, with the list of a coalition's players at its key.
+pub(crate) fn with_coalition(
+    alloc: Global,
+    members: Map<String, Value>,
+    key: &str,
+    coalition: Coalition,
+) -> Result<Map<String, Value>, OutOfMemory>
+    ensures { IfOk result (λ m. members_view m.entries ≡ with_member key.now (player_numbers coalition) (members_view members.entries)) }
+{
+    let players = player_numbers(alloc, coalition)?;
+    with(alloc, members, key, Value::Array(players))
+}
+
+/// The list of two values.
+pub(crate) fn pair(alloc: Global, first: Value, second: Value) -> Result<Value, OutOfMemory>
+    ensures { IfOk result (λ v. view v ≡ array (item (view first) (item (view second) no_items))) }
+{
+    let pair = json!(in alloc; [first, second])?;
+    Ok(pair)
 }

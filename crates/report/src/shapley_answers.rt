@@ -4,9 +4,9 @@ ghost use Rattle.serde_json.specs.View.{view};
 ghost use Rattle.report.specs.Limits.{IsScale};
 ghost use Rattle.report.specs.ShapleyTrees.{shapley_tree};
 
-use crate::shares::share_texts;
+use crate::objects::{with_answer, with_shares};
 use fractions::OutOfMemory;
-use serde_json::{Value, json};
+use serde_json::Value;
 use std::alloc::Global;
 use worth_core::Shares;
 
@@ -20,7 +20,7 @@ pub(crate) fn shapley_tree(
     requires { IsScale (pos scale) }
     ensures { IfOk result (λ v. view v ≡ shapley_tree scale is_cost shares.now) }
 {
-    let shares = share_texts(alloc, shares, is_cost, scale)?;
-    let tree = json!(in alloc; {"answer": "shapley", "shares": shares})?;
-    Ok(tree)
+    let members = with_answer(alloc, "shapley")?;
+    let members = with_shares(alloc, members, "shares", shares, is_cost, scale)?;
+    Ok(Value::Object(members))
 }

@@ -1,13 +1,12 @@
 //! What is said of a generated game, as JSON.
-ghost use Rattle.std.specs.Prelude.{◌≡◌, ◌<◌, ◌-◌, pos, length, codes, IfOk};
-ghost use Rattle.serde_json.specs.Data.{object, member, no_members};
+ghost use Rattle.std.specs.Prelude.{◌≡◌, ◌<◌, ◌-◌, pos, length, IfOk};
 ghost use Rattle.serde_json.specs.View.{view};
 ghost use Rattle.report.specs.Limits.{IsScale, IsFineIfThere};
 ghost use Rattle.report.specs.SummaryTrees.{least_denominator, player_share, greatest_data, summary_tree};
 ghost use Rattle.report.specs.Values.{integer_data};
 
 use crate::fraction::{integer_value, value_over};
-use crate::objects::with;
+use crate::objects::{with, with_text};
 use crate::shares::share_text;
 use crate::words::kind_word;
 use fractions::{Frac, OutOfMemory};
@@ -44,24 +43,18 @@ pub(crate) fn summary_tree(
     ensures { IfOk result (λ v. view v ≡ summary_tree scale summary.now) }
 {
     let players = summary.shares.players();
-    let class = Value::try_from_str(alloc, kind_word(summary.kind))?;
+    let members = with_text(alloc, Map::new(alloc), "class", kind_word(summary.kind))?;
     let common = common_value(alloc, &summary.shares, scale)?;
-    let first = player_value(alloc, summary, 0, scale)?;
-    let greatest = greatest_value(alloc, &summary.greatest, scale)?;
-    let last = player_value(alloc, summary, players - 1, scale)?;
-    let members = with(alloc, Map::new(alloc), "class", class)?;
     let members = with(alloc, members, "common", common)?;
+    let first = player_value(alloc, summary, 0, scale)?;
     let members = with(alloc, members, "first", first)?;
+    let greatest = greatest_value(alloc, &summary.greatest, scale)?;
     let members = with(alloc, members, "greatest", greatest)?;
+    let last = player_value(alloc, summary, players - 1, scale)?;
     let members = with(alloc, members, "last", last)?;
     let members = with(alloc, members, "players", Value::from(summary.players))?;
     let members = with(alloc, members, "seed", Value::from(summary.seed))?;
-    let members = with(
-        alloc,
-        members,
-        "verdict",
-        Value::try_from_str(alloc, "yes")?,
-    )?;
+    let members = with_text(alloc, members, "verdict", "yes")?;
     Ok(Value::Object(members))
 }
 

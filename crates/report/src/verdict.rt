@@ -4,8 +4,8 @@ ghost use Rattle.serde_json.specs.View.{view};
 ghost use Rattle.report.specs.Limits.{IsScale, IsFine, IsFineVerdict};
 ghost use Rattle.report.specs.Verdicts.{no_alone, no_at_player, no_at_coalition, no_at_level, no_above, reason_tree, verdict_tree};
 
-use crate::fraction::text_over;
-use crate::players::{player_numbers, player_value};
+use crate::objects::{with, with_answer, with_coalition, with_value};
+use crate::players::player_value;
 use checker::{Place, Reason, Verdict};
 use coalitions::Coalition;
 use fractions::{Frac, OutOfMemory};
@@ -64,16 +64,18 @@ fn weight_tree(alloc: Global, level: u32, place: Place) -> Result<Value, OutOfMe
 fn no_alone(alloc: Global, reason: u32) -> Result<Value, OutOfMemory>
     ensures { IfOk result (λ v. view v ≡ no_alone reason) }
 {
-    let tree = json!(in alloc; {"answer": "no", "reason": reason})?;
-    Ok(tree)
+    let members = with_answer(alloc, "no")?;
+    let members = with(alloc, members, "reason", Value::from(reason))?;
+    Ok(Value::Object(members))
 }
 
 fn no_at_player(alloc: Global, reason: u32, player: u32) -> Result<Value, OutOfMemory>
     ensures { IfOk result (λ v. view v ≡ no_at_player reason player) }
 {
-    let player = player_value(player);
-    let tree = json!(in alloc; {"answer": "no", "player": player, "reason": reason})?;
-    Ok(tree)
+    let members = with_answer(alloc, "no")?;
+    let members = with(alloc, members, "player", player_value(player))?;
+    let members = with(alloc, members, "reason", Value::from(reason))?;
+    Ok(Value::Object(members))
 }
 
 fn no_at_coalition(
@@ -84,19 +86,21 @@ fn no_at_coalition(
 ) -> Result<Value, OutOfMemory>
     ensures { IfOk result (λ v. view v ≡ no_at_coalition reason level coalition) }
 {
-    let players = player_numbers(alloc, coalition)?;
-    let tree =
-        json!(in alloc; {"answer": "no", "coalition": players, "level": level, "reason": reason})?;
-    Ok(tree)
+    let members = with_answer(alloc, "no")?;
+    let members = with_coalition(alloc, members, "coalition", coalition)?;
+    let members = with(alloc, members, "level", Value::from(level))?;
+    let members = with(alloc, members, "reason", Value::from(reason))?;
+    Ok(Value::Object(members))
 }
 
 fn no_at_level(alloc: Global, reason: u32, level: u32, player: u32) -> Result<Value, OutOfMemory>
     ensures { IfOk result (λ v. view v ≡ no_at_level reason level player) }
 {
-    let player = player_value(player);
-    let tree =
-        json!(in alloc; {"answer": "no", "level": level, "player": player, "reason": reason})?;
-    Ok(tree)
+    let members = with_answer(alloc, "no")?;
+    let members = with(alloc, members, "level", Value::from(level))?;
+    let members = with(alloc, members, "player", player_value(player))?;
+    let members = with(alloc, members, "reason", Value::from(reason))?;
+    Ok(Value::Object(members))
 }
 
 fn no_above(
@@ -110,8 +114,9 @@ fn no_above(
     requires fine { IsFine excess.now.den }
     ensures { IfOk result (λ v. view v ≡ no_above scale reason level excess.now) }
 {
-    let excess = text_over(alloc, excess, scale)?;
-    let tree =
-        json!(in alloc; {"answer": "no", "excess": excess, "level": level, "reason": reason})?;
-    Ok(tree)
+    let members = with_answer(alloc, "no")?;
+    let members = with_value(alloc, members, "excess", excess, scale)?;
+    let members = with(alloc, members, "level", Value::from(level))?;
+    let members = with(alloc, members, "reason", Value::from(reason))?;
+    Ok(Value::Object(members))
 }
