@@ -7,8 +7,6 @@ mod generating;
 mod laws;
 mod matrices_of_draws;
 mod table_of_draws;
-#[cfg(test)]
-mod tests;
 
 pub use fractions::OutOfMemory;
 pub use game_text::{Game, Kind};

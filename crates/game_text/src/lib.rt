@@ -5,24 +5,16 @@ mod airport_class;
 mod assignment_class;
 mod bankruptcy_class;
 mod building;
-#[cfg(test)]
-mod certificate_tests;
-#[cfg(test)]
-mod check_tests;
 mod class;
 mod command;
 mod document;
 mod excess;
 mod fault;
 mod game;
-#[cfg(test)]
-mod limit_tests;
 mod limits;
 mod market_class;
 mod masks;
 mod matrix_class;
-#[cfg(test)]
-mod matrix_tests;
 mod names;
 mod number_forms;
 mod reading;
@@ -32,15 +24,9 @@ mod shape;
 mod shares;
 mod table;
 mod table_class;
-#[cfg(test)]
-mod tests;
 mod tree_class;
 mod version;
-#[cfg(test)]
-mod version_tests;
 mod voting_class;
-#[cfg(test)]
-mod voting_tests;
 
 pub use command::{Command, Inputs};
 pub use document::Document;

@@ -7,8 +7,6 @@ mod fractions_written;
 mod integers;
 mod keys;
 mod looking;
-#[cfg(test)]
-mod tests;
 
 pub use form::{
     ArrayOf, Form, Integer, Member, Number, Numeric, PairOf, SecondOf, Text, each_at, has,

@@ -7,8 +7,6 @@ mod memory_sink;
 mod memory_source;
 mod sink;
 mod source;
-#[cfg(test)]
-mod tests;
 
 pub use failing_sink::FailingSink;
 pub use failing_source::FailingSource;

@@ -17,8 +17,6 @@ mod players;
 mod shapley_answers;
 mod shares;
 mod summary;
-#[cfg(test)]
-mod tests;
 mod verdict;
 mod words;
 

@@ -1,4 +1,4 @@
-use crate::{Failed, FailingSink, FailingSource, MemorySink, MemorySource, Sink, Source};
+use ports::{Failed, FailingSink, FailingSource, MemorySink, MemorySource, Sink, Source};
 use std::test::Fail;
 
 fn read<S: Source>(source: &mut S, buf: &mut [u8]) -> Option<usize> {

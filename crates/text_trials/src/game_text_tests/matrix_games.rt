@@ -1,6 +1,6 @@
 //! Games by their matrix: limits, refusals, and the worths that they have.
-use super::*;
-use crate::tests::{document, fault_in, worths_of};
+use super::{document, fault_in, worths_of};
+use game_text::{Command, Refusal, TextFault, read_document};
 use std::alloc::Global;
 use std::test::Fail;
 use worth_core::Worth;

@@ -1,7 +1,7 @@
 //! Lines on generated games.
 use super::{fraction, has_line};
-use crate::{Answer, Summary};
 use kinds::Kind;
+use report::{Answer, Summary};
 use std::test::Fail;
 use worth_core::Shares;
 

@@ -1,6 +1,6 @@
 //! Games of version 2, whose numbers may be fraction texts.
-use super::*;
-use crate::tests::{document, fault_in, worths_of};
+use super::{document, fault_in, worths_of};
+use game_text::{Command, Refusal, TextFault, read_document};
 use std::test::Fail;
 
 // One player whose number is within each limit, with that number in its place.

@@ -1,9 +1,9 @@
 //! Documents for the commands that find and check a nucleolus.
-use super::*;
-use crate::certificate_tests::{AIRPORT, check_fault, whole_document};
-use crate::tests::blanks;
+use super::blanks;
+use super::certificates::{AIRPORT, check_fault, whole_document};
 use coalitions::Coalition;
 use definitions::{Family, Mode};
+use game_text::{Command, Refusal, TextFault, read_document};
 use std::alloc::Global;
 use std::test::Fail;
 

@@ -1,7 +1,14 @@
 //! Documents that are refused, and what the others say.
-use super::*;
+mod certificates;
+mod checks;
+mod limits;
+mod matrix_games;
+mod versions;
+mod votes;
+
 use coalitions::Coalition;
 use definitions::Measure;
+use game_text::{Command, Game, Refusal, TextFault, read_document};
 use std::alloc::Global;
 use std::process::Abort;
 use std::test::Fail;

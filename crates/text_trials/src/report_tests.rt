@@ -4,12 +4,12 @@ ghost use Rattle.report.specs.Limits.{IsFine, IsPrintable};
 mod nucleolus;
 mod summaries;
 
-use crate::{Answer, UsageKind, write_report};
 use balanced::Collection;
 use checker::{Place, Reason, Verdict};
 use coalitions::Coalition;
 use fractions::Frac;
 use kinds::Refusal;
+use report::{Answer, UsageKind, write_report};
 use std::alloc::Global;
 use std::test::Fail;
 use worth_core::Shares;

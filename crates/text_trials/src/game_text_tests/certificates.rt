@@ -1,5 +1,5 @@
 //! Certificates in documents, line by line of their form.
-use super::*;
+use game_text::{Command, Refusal, TextFault, read_document};
 use std::alloc::Global;
 use std::test::Fail;
 

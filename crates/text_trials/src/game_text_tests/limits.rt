@@ -1,6 +1,6 @@
 //! Games, shares, names and coalitions at their limits and past them.
-use super::*;
-use crate::tests::fault_in;
+use super::fault_in;
+use game_text::{Refusal, TextFault};
 use std::alloc::Global;
 use std::test::Fail;
 

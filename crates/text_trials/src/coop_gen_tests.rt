@@ -1,6 +1,6 @@
 //! Generated games against numbers that were worked out elsewhere, and the greatest sizes.
-use super::*;
 use coalitions::Coalition;
+use coop_gen::{Kind, generate, has_size};
 use std::test::Fail;
 use worth_core::Worth;
 

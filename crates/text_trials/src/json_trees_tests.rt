@@ -1,5 +1,5 @@
 //! What no clause says: that forms are put together and asked of what stands at a key.
-use crate::{ArrayOf, Form, Number, PairOf, has, has_only_keys};
+use json_trees::{ArrayOf, Form, Number, PairOf, has, has_only_keys};
 use serde_json::Value;
 use std::test::Fail;
 

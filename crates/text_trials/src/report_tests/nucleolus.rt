@@ -1,17 +1,16 @@
 //! Lines of a nucleolus.
 ghost use Rattle.std.specs.Prelude.{◌≡◌, codes, IfOk};
-ghost use Rattle.serde_json.specs.Data.{number, unsigned, string, array, object, item, no_items, member, no_members};
-ghost use Rattle.serde_json.specs.View.{view};
+ghost use Rattle.serde_json.specs.Data.{put as with_member, number, unsigned, string, array, object, item, no_items, member, no_members};
+ghost use Rattle.serde_json.specs.View.{view, members_view};
 ghost use Rattle.std.specs.List.{AllByRecursion};
 ghost use Rattle.report.specs.Limits.{IsFine, IsGameTree};
 
 use super::fraction;
-use crate::objects::with;
-use crate::{Answer, write_report};
 use coalitions::Coalition;
 use fractions::OutOfMemory;
 use kohlberg::{Certificate, Level, Mode};
-use serde_json::{Map, Value, json};
+use report::{Answer, write_report};
+use serde_json::{Map, Value, json, put};
 use std::alloc::Global;
 use std::test::Fail;
 use worth_core::{Family, Shares};
@@ -65,6 +64,20 @@ fn written(
         certificate,
     };
     Ok(write_report(rt.alloc(), answer, 1).ok().ok_or("memory")?)
+}
+
+/// The members, with this one at its key.
+fn with(
+    alloc: Global,
+    members: Map<String, Value>,
+    key: &str,
+    value: Value,
+) -> Result<Map<String, Value>, OutOfMemory>
+    ensures { IfOk result (λ m. members_view m.entries ≡ with_member key.now (view value) (members_view members.entries)) }
+{
+    let mut members = members;
+    put(&mut members, alloc, key, value)?;
+    Ok(members)
 }
 
 /// The tree of an airport game.
