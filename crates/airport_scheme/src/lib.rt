@@ -4,8 +4,6 @@
 mod blocks;
 mod payments;
 mod rates;
-#[cfg(test)]
-mod tests;
 
 ghost use Rattle.std.specs.Prelude.{IfOk};
 ghost use Rattle.definitions.specs.Games.{InCore};

@@ -9,8 +9,6 @@
 
 mod collection;
 mod optimum;
-#[cfg(test)]
-mod tests;
 
 ghost use Rattle.std.specs.Prelude.{◌≡◌, ◌≤◌, IfOk, MatchResult};
 ghost use Rattle.std.specs.Bool.{Decides};

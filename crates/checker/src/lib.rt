@@ -6,8 +6,6 @@ mod conditions;
 mod failures;
 mod fixed;
 mod outside;
-#[cfg(test)]
-mod tests;
 mod verdicts;
 
 ghost use Rattle.std.specs.Prelude.{◌≡◌, ◌↔◌, length};

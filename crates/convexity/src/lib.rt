@@ -5,8 +5,6 @@
 mod answers;
 mod failures;
 mod marginals;
-#[cfg(test)]
-mod tests;
 
 pub use answers::{ConvexAnswer, answer};
 pub use failures::{Convexity, test};

@@ -2,8 +2,6 @@
 #![tactic(auto)]
 
 mod surpluses;
-#[cfg(test)]
-mod tests;
 
 ghost use Rattle.std.specs.Prelude.{◌≡◌, ◌≢◌, ◌↔◌, ◌<◌, ◌≤◌, length};
 ghost use Rattle.std.specs.Bool.{Decides};

@@ -6,8 +6,6 @@ mod halving;
 mod levels;
 mod mask_order;
 mod spanned;
-#[cfg(test)]
-mod tests;
 
 pub use certificates::{Certificate, Malformed};
 pub use definitions::{Family, Mode};

@@ -13,8 +13,6 @@ mod numbers;
 mod point;
 mod singles;
 mod stages;
-#[cfg(test)]
-mod tests;
 
 ghost use Rattle.std.specs.Prelude.{◌≡◌, ◌≤◌, IfOk, MatchResult};
 ghost use Rattle.definitions.specs.declared.Measure.{Measure};

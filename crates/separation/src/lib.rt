@@ -3,8 +3,6 @@
 
 mod balanced;
 mod column;
-#[cfg(test)]
-mod compared;
 mod earlier;
 mod found;
 mod front;
@@ -15,8 +13,6 @@ mod rising;
 mod shares;
 mod stage;
 mod sums;
-#[cfg(test)]
-mod tests;
 
 pub use front::coalition_count;
 pub use lazy::Lazy;

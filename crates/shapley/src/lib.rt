@@ -3,8 +3,6 @@
 #![tactic(auto)]
 
 mod airport_steps;
-#[cfg(test)]
-mod tests;
 mod totals;
 
 ghost use Rattle.shapley.specs.Theorems.{OrdersSumToSubsets, OrdersAreAll};

@@ -1,4 +1,4 @@
--- To be read in this order. From Matrix on they are for the private functions, and the last for the tests.
+-- To be read in this order. From Matrix on they are for the private functions.
 pub mod Program
 pub mod Entering
 pub mod Laws
@@ -10,4 +10,3 @@ pub mod Measure
 pub mod Improving
 pub mod Between
 pub mod Reduced
-pub mod Examples

@@ -20,8 +20,6 @@ mod restart;
 mod solving;
 mod start;
 mod state;
-#[cfg(test)]
-mod tests;
 mod weights;
 
 pub use answer::Optimal;

@@ -5,8 +5,6 @@
 mod cut_claims;
 mod division;
 mod levels;
-#[cfg(test)]
-mod tests;
 
 ghost use Rattle.std.specs.Prelude.{IfOk};
 ghost use Rattle.definitions.specs.Games.{InCore};
