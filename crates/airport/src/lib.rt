@@ -3,7 +3,5 @@
 
 mod airport_game;
 mod costs;
-#[cfg(test)]
-mod tests;
 
 pub use airport_game::{AirportFault, AirportGame};

@@ -4,8 +4,6 @@
 
 mod assignment_game;
 mod laws;
-#[cfg(test)]
-mod tests;
 mod values;
 
 pub use assignment_game::{AssignmentFault, AssignmentGame};

@@ -3,7 +3,5 @@
 
 mod arms;
 mod game;
-#[cfg(test)]
-mod tests;
 
 pub use game::{BankruptcyFault, BankruptcyGame};

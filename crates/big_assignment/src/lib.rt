@@ -10,8 +10,6 @@ mod payoffs;
 mod points;
 mod search;
 mod solution;
-#[cfg(test)]
-mod tests;
 mod turned;
 
 pub use fractions::OutOfMemory;

@@ -3,8 +3,6 @@
 
 mod gray;
 mod subsets;
-#[cfg(test)]
-mod tests;
 
 ghost use Rattle.std.specs.Prelude.{◌≡◌, MatchOption, not, ◌||◌, ◌&&◌, length};
 ghost use Rattle.std.specs.Prelude.{ℕ, ◌+◌, ◌-◌, ◌^◌, ◌<◌, ◌≤◌, nat_eq};

@@ -73,35 +73,3 @@ pub fn chosen_blocker(table: &Table, point: &Point) -> Option<u64>
     }
     None
 }
-
-#[cfg(test)]
-mod tests {
-    use super::*;
-    use std::test::Fail;
-
-    #[test]
-    fn the_two_others_block_where_one_takes_all(rt: HostRuntime) -> Result<(), Fail> {
-        let majority = Table::new(3, &[0, 0, 1, 0, 1, 1, 1]);
-        let first_takes_all = Point::new(&[1, 0, 0], 1);
-        let thirds = Point::new(&[1, 1, 1], 3);
-        assert_eq!(rt; chosen_blocker(&majority, &first_takes_all), Some(0b110));
-        assert_eq!(rt; excess(&majority, &first_takes_all, 0b110), 1);
-        assert_eq!(rt;
-            chosen_blocker(&majority, &thirds),
-            Some(0b011),
-            "of three the least mask"
-        );
-        let pairs = blockers(rt.alloc(), &majority, &thirds)?;
-        assert_eq!(rt; pairs.as_slice(), [0b011, 0b101, 0b110].as_slice());
-        Ok(())
-    }
-
-    #[test]
-    fn nobody_blocks_a_core_point(rt: HostRuntime) -> Result<(), Fail> {
-        let pair = Table::new(2, &[0, 0, 4]);
-        let halves = Point::new(&[2, 2], 1);
-        assert_eq!(rt; chosen_blocker(&pair, &halves), None);
-        assert_eq!(rt; blockers(rt.alloc(), &pair, &halves)?.len(), 0);
-        Ok(())
-    }
-}

@@ -5,8 +5,6 @@ mod euclid;
 mod frac;
 mod numerals;
 mod order;
-#[cfg(test)]
-mod tests;
 
 pub use frac::Frac;
 use std::alloc::{AllocError, AllocFailed};

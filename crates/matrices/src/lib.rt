@@ -1,9 +1,6 @@
 //! Matrices as lists of rows: what is tested of them, and how their entries are read.
 #![tactic(auto)]
 
-#[cfg(test)]
-mod tests;
-
 ghost use Rattle.std.specs.Prelude.{◌≡◌, ◌↔◌, ◌^◌, ◌<◌, [], length, map, slice_index_or, IsTrue, All};
 ghost use Rattle.orders.specs.Numbers.{IsNumber};
 ghost use Rattle.matrices.specs.Rows.{HaveEntries, HaveLength, entries_of};

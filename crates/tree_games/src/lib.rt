@@ -6,8 +6,6 @@ mod bird;
 mod laws;
 mod links;
 mod prim;
-#[cfg(test)]
-mod tests;
 mod tree_game;
 
 pub use bird::Tree;

@@ -10,8 +10,6 @@ mod game;
 mod layer;
 mod shapley_value;
 mod split_layers;
-#[cfg(test)]
-mod tests;
 mod units;
 
 pub use game::{VotingFault, VotingGame};

@@ -7,8 +7,6 @@ mod ratios;
 mod shares;
 mod split_sums;
 mod splitting;
-#[cfg(test)]
-mod tests;
 mod worth;
 
 pub use definitions::{Family, Measure};

@@ -137,27 +137,3 @@ fn longer(sum: Option<i128>, weight: i128) -> Option<i128>
         Some(m) => Some(m + weight),
     }
 }
-
-#[cfg(test)]
-mod tests {
-    use super::*;
-
-    #[test]
-    fn the_greatest_splitting_sums_are_those_found_by_hand(rt: HostRuntime) {
-        let mut sums = SplitSums::new();
-        assert_eq!(rt; sums.best(true), None);
-        for (is_free, weight, splitting, holding) in [
-            (true, 5, None, Some(5)),
-            (false, -3, None, Some(5)),
-            (true, 2, Some(5), Some(7)),
-            (false, 4, Some(9), Some(11)),
-            (true, -1, Some(11), Some(11)),
-            (true, 6, Some(17), Some(17)),
-        ] {
-            assert!(rt; sums.count < 64);
-            sums.add(is_free, weight);
-            assert_eq!(rt; sums.best(false), splitting, "with {weight}");
-            assert_eq!(rt; sums.best(true), holding, "with {weight}");
-        }
-    }
-}

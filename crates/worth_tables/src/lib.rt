@@ -4,8 +4,6 @@
 mod cost_game;
 mod kept_worths;
 mod table_game;
-#[cfg(test)]
-mod tests;
 
 pub use cost_game::CostGame;
 pub use kept_worths::KeptWorths;

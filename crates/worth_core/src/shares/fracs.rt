@@ -8,9 +8,6 @@ ghost use Rattle.fractions.specs.Fraction.{IsRatio};
 ghost use Rattle.worth_core.specs.LeastDenominators.{IsLeastDenominator, as_fractions, numerator_over, over, AreTooFine};
 ghost use Rattle.worth_core.specs.Multiples.{IsLeastMultiple};
 
-#[cfg(test)]
-mod tests;
-
 use super::Shares;
 use coalitions::Coalition;
 use fractions::{Frac, gcd};

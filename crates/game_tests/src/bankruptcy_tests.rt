@@ -1,0 +1,157 @@
+//! Bankruptcy games that are made and refused, and their blockers and bounds.
+ghost use Rattle.std.specs.Prelude.{length, IsTrue};
+ghost use Rattle.definitions.specs.Games.{HasTwo};
+ghost use Rattle.bankruptcy.specs.Bankruptcy.{bankruptcy_game};
+
+use crate::digits::chosen;
+use bankruptcy::{BankruptcyFault, BankruptcyGame};
+use coalitions::Coalition;
+use std::process::Abort;
+use std::test::Fail;
+use worth_core::{Shares, Worth};
+
+#[test]
+fn games_are_refused_by_the_first_cause(rt: HostRuntime) -> Result<(), Fail> {
+    let limit: i64 = 1 << 40;
+    for (count, claim, estate, fault) in [
+        (0, 0, 0, Some(BankruptcyFault::Players)),
+        (1, 0, 0, None),
+        (3, 200, 600, None),
+        (3, 200, 601, Some(BankruptcyFault::Estate)),
+        (64, 1, 64, None),
+        (65, 1, 64, Some(BankruptcyFault::Players)),
+        (65, -1, 64, Some(BankruptcyFault::Players)),
+        (2, -1, 0, Some(BankruptcyFault::Number)),
+        (2, 1, -1, Some(BankruptcyFault::Number)),
+        (2, limit - 1, limit - 1, None),
+        (2, limit, 5, Some(BankruptcyFault::Number)),
+        (2, limit - 1, limit, Some(BankruptcyFault::Number)),
+        (2, 1, limit, Some(BankruptcyFault::Number)),
+        (2, 1, limit - 1, Some(BankruptcyFault::Estate)),
+    ] {
+        let claims = vec![in rt.alloc(); claim; count]?;
+        let made = BankruptcyGame::new(rt.alloc(), estate, claims).err();
+        assert_eq!(rt; made, fault, "{count} claims of {claim} to {estate}");
+    }
+    Ok(())
+}
+
+#[test]
+fn what_the_others_leave_blocks(rt: HostRuntime) -> Result<(), Fail> {
+    let claims = [100, 200, 300].to_vec(rt.alloc())?;
+    let game = BankruptcyGame::new(rt.alloc(), 200, claims).map_err(|_| "no game")?;
+    let x = Shares::new([110, 45, 45].to_vec(rt.alloc())?, 1).ok_or("not shares")?;
+    assert!(rt; game.players() == 3 && x.players() == 3);
+    assert_eq!(rt; game.estate(), 200);
+    assert_eq!(rt; game.claim(1), 200);
+    assert_eq!(rt; game.worth(Coalition(6)), 100);
+    assert_eq!(rt; game.blocker(&x), Some(Coalition(6)));
+    Ok(())
+}
+
+#[test]
+fn sixty_four_players_need_no_list_of_coalitions(rt: HostRuntime) -> Result<(), Fail> {
+    let claims = vec![in rt.alloc(); 1; 64]?;
+    let game = BankruptcyGame::new(rt.alloc(), 32, claims).map_err(|_| "no game")?;
+    for (numerator, blocker, bound) in [
+        (1, None, -1),
+        (5, None, -1),
+        (-1, Some(Coalition::all(64)), 1),
+        (-3, Some(Coalition::all(64)), 3),
+    ] {
+        let mut num = vec![in rt.alloc(); 1; 64]?;
+        num[5] = numerator;
+        let x = Shares::new(num, 2).ok_or("not shares")?;
+        assert!(rt; game.players() == 64 && x.players() == 64);
+        assert_eq!(rt; game.blocker(&x), blocker);
+        let everyone = Coalition::all(64);
+        assert!(rt; has_two(&game, everyone));
+        assert_eq!(rt; game.split_bound(&x, everyone), bound);
+    }
+    Ok(())
+}
+
+/// The same game, with the bodies that list every coalition.
+#[derive(Clone, Copy)]
+struct Listed<'a>(&'a BankruptcyGame);
+
+impl Worth for Listed<'_> {
+    ghost game = { λ l. bankruptcy_game l.0.now };
+
+    fn players(&self) -> u32 {
+        self.0.players()
+    }
+
+    fn worth(&self, s: Coalition) -> i64 {
+        self.0.worth(s)
+    }
+}
+
+/// Whether a coalition has two of the players.
+fn has_two(game: &BankruptcyGame, s: Coalition) -> bool
+    ensures { IsTrue result → HasTwo (length game.now.claims) s }
+{
+    let players = game.players();
+    for i in 0..players {
+        for j in i + 1..players {
+            if s.contains(i) && s.contains(j) {
+                return true;
+            }
+        }
+    }
+    false
+}
+
+/// Compares the blocker and each split bound at some shares.
+fn compare(rt: &impl Abort, game: &BankruptcyGame, x: &Shares) {
+    let listed = Listed(game);
+    let players = game.players();
+    assert!(rt; x.players() == players);
+    assert_eq!(rt; game.blocker(x), listed.blocker(x), "{game:?} at {x:?}");
+    for free in Coalition::subsets(players) {
+        assert!(rt; free <= Coalition::all(players));
+        if has_two(game, free) {
+            assert_eq!(rt;
+                game.split_bound(x, free),
+                listed.split_bound(x, free),
+                "{game:?} at {x:?}"
+            );
+        }
+    }
+}
+
+// Up to three players with every list of claims from 0 to 3, and four and five with the ascending ones; of the points
+// of five players every seventh.
+#[test]
+fn own_bodies_answer_as_those_that_list_coalitions(rt: HostRuntime) -> Result<(), Fail> {
+    for (n, lists, points) in [
+        (1, 4, 3),
+        (2, 16, 9),
+        (3, 64, 27),
+        (4, 256, 81),
+        (5, 1024, 243),
+    ] {
+        for list in 0..lists {
+            for estate in 0..16 {
+                let claims = chosen(rt.alloc(), &[0, 1, 2, 3], list, n)?;
+                if n > 3 && !claims.is_sorted() {
+                    continue;
+                }
+                let Ok(game) = BankruptcyGame::new(rt.alloc(), estate, claims) else {
+                    continue;
+                };
+                for point in 0..points {
+                    if n == 5 && point % 7 != 0 {
+                        continue;
+                    }
+                    for den in [1, 2] {
+                        let num = chosen(rt.alloc(), &[-1, 0, 2], point, n)?;
+                        let x = Shares::new(num, den).ok_or("not shares")?;
+                        compare(&rt, &game, &x);
+                    }
+                }
+            }
+        }
+    }
+    Ok(())
+}

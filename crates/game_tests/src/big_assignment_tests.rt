@@ -1,0 +1,251 @@
+//! Markets that are refused and markets that are solved, with prices and worths worked by hand, and a market of
+//! scattered numbers.
+ghost use Rattle.std.specs.Prelude.{◌+◌, ◌^◌, ◌<◌, ◌≤◌, length, unsigned_abs, MatchOption};
+ghost use Rattle.assignment_games.specs.Assignments.{seller_count};
+
+use big_assignment::{MarketFault, MarketGame};
+use coalitions::Coalition;
+use std::alloc::{AllocError, Global};
+use std::test::Fail;
+use worth_core::{Shares, Worth};
+
+/// A matrix of so many rows and columns, with the first number on the diagonal and the second elsewhere.
+fn diagonal(
+    alloc: Global,
+    rows: usize,
+    columns: usize,
+    on: i64,
+    off: i64,
+) -> Result<Vec<Vec<i64>>, AllocError>
+    requires rows { rows < 100 }
+    requires columns { columns < 100 }
+{
+    let mut matrix = Vec::new(alloc);
+    for i in 0..rows {
+        let mut row = Vec::new(alloc);
+        for j in 0..columns {
+            row.push(if i == j { on } else { off })?;
+        }
+        matrix.push(row)?;
+    }
+    Ok(matrix)
+}
+
+/// The share of each player, over 1.
+fn numbers(alloc: Global, x: &Shares) -> Result<Vec<i128>, AllocError> {
+    let mut found = Vec::new(alloc);
+    for i in 0..x.players() {
+        found.push(x.num(i))?;
+    }
+    Ok(found)
+}
+
+#[test]
+fn rows_are_refused_by_the_first_cause(rt: HostRuntime) -> Result<(), Fail> {
+    let limit: i64 = 1 << 40;
+    for (rows, columns, entry, fault) in [
+        (0, 1, 0, Some(MarketFault::Players)),
+        (1, 0, 0, Some(MarketFault::Players)),
+        (33, 1, 0, Some(MarketFault::Players)),
+        (1, 33, -1, Some(MarketFault::Players)),
+        (32, 32, 0, None),
+        (1, 1, limit - 1, None),
+        (1, 1, limit, Some(MarketFault::Number)),
+        (2, 2, -1, Some(MarketFault::Number)),
+    ] {
+        let matrix = diagonal(rt.alloc(), rows, columns, entry, entry)?;
+        let made = MarketGame::new(rt.alloc(), matrix).err();
+        assert_eq!(rt; made, fault, "{rows} rows of {columns} times {entry}");
+    }
+    Ok(())
+}
+
+#[test]
+fn rows_of_different_lengths_are_refused_last(rt: HostRuntime) -> Result<(), Fail> {
+    for (entry, fault) in [(0, MarketFault::Matrix), (-1, MarketFault::Number)] {
+        let mut matrix = diagonal(rt.alloc(), 1, 2, 0, 0)?;
+        matrix.push([entry].to_vec(rt.alloc())?)?;
+        assert_eq!(rt; MarketGame::new(rt.alloc(), matrix).err(), Some(fault));
+    }
+    Ok(())
+}
+
+#[test]
+fn two_buyers_of_one_good_leave_the_lesser_with_nothing(rt: HostRuntime) -> Result<(), Fail> {
+    let mut matrix = Vec::new(rt.alloc());
+    matrix.push([5].to_vec(rt.alloc())?)?;
+    matrix.push([3].to_vec(rt.alloc())?)?;
+    let game = MarketGame::new(rt.alloc(), matrix).map_err(|_| "no market")?;
+    let solution = game.solve(rt.alloc())?;
+    assert_eq!(rt; solution.pairs.as_slice(), [(0, 2)].as_slice());
+    assert_eq!(rt; solution.value, 5);
+    let buyers = numbers(rt.alloc(), &solution.buyers_best)?;
+    let sellers = numbers(rt.alloc(), &solution.sellers_best)?;
+    assert_eq!(rt; buyers.as_slice(), [2, 0, 3].as_slice());
+    assert_eq!(rt; sellers.as_slice(), [0, 0, 5].as_slice());
+    Ok(())
+}
+
+// The greatest entry, 8, stands in the one optimal matching beside 7, and not beside 6.
+#[test]
+fn two_buyers_of_two_goods(rt: HostRuntime) -> Result<(), Fail> {
+    let mut matrix = Vec::new(rt.alloc());
+    matrix.push([5, 8].to_vec(rt.alloc())?)?;
+    matrix.push([7, 6].to_vec(rt.alloc())?)?;
+    let game = MarketGame::new(rt.alloc(), matrix).map_err(|_| "no market")?;
+    let solution = game.solve(rt.alloc())?;
+    assert_eq!(rt; solution.pairs.as_slice(), [(0, 3), (1, 2)].as_slice());
+    assert_eq!(rt; solution.value, 15);
+    let buyers = numbers(rt.alloc(), &solution.buyers_best)?;
+    let sellers = numbers(rt.alloc(), &solution.sellers_best)?;
+    assert_eq!(rt; buyers.as_slice(), [8, 7, 0, 0].as_slice());
+    assert_eq!(rt; sellers.as_slice(), [0, 0, 7, 8].as_slice());
+    Ok(())
+}
+
+#[test]
+fn the_greatest_market_is_solved(rt: HostRuntime) -> Result<(), Fail> {
+    let matrix = diagonal(rt.alloc(), 32, 32, 1, 0)?;
+    let game = MarketGame::new(rt.alloc(), matrix).map_err(|_| "no market")?;
+    let solution = game.solve(rt.alloc())?;
+    assert_eq!(rt; solution.value, 32);
+    for k in 0..64 {
+        assert!(rt; k < solution.buyers_best.players());
+        assert_eq!(rt; solution.buyers_best.num(k), if k < 32 { 1 } else { 0 });
+    }
+    Ok(())
+}
+
+// 32 buyers who all want each of 31 goods bid the whole of it.
+#[test]
+fn too_many_buyers_pay_all(rt: HostRuntime) -> Result<(), Fail> {
+    let all: i64 = (1 << 40) - 1;
+    let matrix = diagonal(rt.alloc(), 32, 31, all, all)?;
+    let game = MarketGame::new(rt.alloc(), matrix).map_err(|_| "no market")?;
+    let solution = game.solve(rt.alloc())?;
+    assert_eq!(rt; solution.value, 31 * all);
+    for k in 0..63 {
+        assert!(rt; k < solution.buyers_best.players());
+        assert_eq!(rt;
+            solution.buyers_best.num(k),
+            if k < 32 { 0 } else { i128::from(all) }
+        );
+    }
+    Ok(())
+}
+
+/// The worth of each coalition, in mask order.
+fn worths(alloc: Global, game: &MarketGame) -> Result<Vec<i64>, AllocError>
+    requires { length game.now + seller_count game.now ≤ 5 }
+{
+    let n = game.players();
+    let mut found = Vec::new(alloc);
+    for mask in 0..1u64 << n {
+        found.push(game.worth(Coalition(mask)))?;
+    }
+    Ok(found)
+}
+
+#[test]
+fn worths_are_the_greatest_values(rt: HostRuntime) -> Result<(), Fail> {
+    let mut matrix = Vec::new(rt.alloc());
+    matrix.push([5, 8].to_vec(rt.alloc())?)?;
+    matrix.push([7, 6].to_vec(rt.alloc())?)?;
+    let game = MarketGame::new(rt.alloc(), matrix).map_err(|_| "no market")?;
+    assert!(rt; game.players() <= 5);
+    let worths = worths(rt.alloc(), &game)?;
+    let wanted = [0, 0, 0, 0, 0, 5, 7, 7, 0, 8, 6, 8, 0, 8, 7, 15];
+    assert_eq!(rt; worths.as_slice(), wanted.as_slice());
+    Ok(())
+}
+
+/// A matrix of 32 rows and columns with numbers from 0 to below 2^40, by a linear congruence modulo 2^64.
+fn scattered(alloc: Global, seed: u64) -> Result<Vec<Vec<i64>>, AllocError> {
+    let mut state = seed;
+    let mut matrix = Vec::new(alloc);
+    for _ in 0..32 {
+        let mut row = Vec::new(alloc);
+        for _ in 0..32 {
+            state = state
+                .wrapping_mul(6364136223846793005)
+                .wrapping_add(1442695040888963407);
+            row.push((state / 16777216) as i64)?;
+        }
+        matrix.push(row)?;
+    }
+    Ok(matrix)
+}
+
+/// A player's share, none for who is no player.
+fn share_of(x: &Shares, k: usize) -> Option<i128>
+    ensures { MatchOption result (Unit {0}) (λ z. unsigned_abs z < 2 ^ 110) }
+{
+    if k < x.players() as usize {
+        Some(x.num(k as u32))
+    } else {
+        None
+    }
+}
+
+/// Whether a player and row `i`'s seller `j` get no less than `entry` together.
+fn are_content(x: &Shares, buyers: usize, i: usize, j: usize, entry: i64) -> bool
+    requires { buyers + j < 100 }
+{
+    match (share_of(x, i), share_of(x, buyers + j)) {
+        (Some(buyer), Some(seller)) => buyer + seller >= i128::from(entry),
+        _ => false,
+    }
+}
+
+/// Whether no player gets less than nothing, and no buyer and seller less than they are worth together: then no
+/// coalition blocks, since what a matching of its members is worth is a sum over pairs.
+fn is_stable(x: &Shares, matrix: &[Vec<i64>]) -> bool
+    requires { length matrix.now < 50 }
+{
+    for k in 0..x.players() {
+        if x.num(k) < 0 {
+            return false;
+        }
+    }
+    for i in 0..matrix.len() {
+        for j in 0..matrix[i].len().min(50) {
+            if !are_content(x, matrix.len(), i, j, matrix[i][j]) {
+                return false;
+            }
+        }
+    }
+    true
+}
+
+/// The sum of all shares.
+fn total_of(x: &Shares) -> i128 {
+    let mut sum: i128 = 0;
+    for k in 0..x.players() {
+        sum = sum.wrapping_add(x.num(k));
+    }
+    sum
+}
+
+#[test]
+fn no_pair_blocks_the_ends_of_a_market_of_scattered_numbers(rt: HostRuntime) -> Result<(), Fail> {
+    for seed in [1, 1971] {
+        let matrix = scattered(rt.alloc(), seed)?;
+        let game = MarketGame::new(rt.alloc(), scattered(rt.alloc(), seed)?).map_err(
+            |_| "no market",
+        )?;
+        let solution = game.solve(rt.alloc())?;
+        assert_eq!(rt; solution.pairs.len(), 32);
+        for x in [&solution.buyers_best, &solution.sellers_best] {
+            assert_eq!(rt; x.den(), 1);
+            assert_eq!(rt; x.players(), 64);
+            assert_eq!(rt; total_of(x), i128::from(solution.value));
+            assert!(rt; matrix.len() == 32);
+            assert!(rt; is_stable(x, &matrix));
+        }
+        assert_ne!(rt;
+            numbers(rt.alloc(), &solution.buyers_best)?.as_slice(),
+            numbers(rt.alloc(), &solution.sellers_best)?.as_slice()
+        );
+    }
+    Ok(())
+}

@@ -1,0 +1,100 @@
+//! The plain slow programs at small games worked by hand.
+use definitions::Measure;
+use definitions::blockers::{blockers, chosen_blocker};
+use definitions::excesses::{beats, excess_list};
+use definitions::order::{comes_before, sorted};
+use definitions::table::{Point, Table, excess};
+use std::test::Fail;
+
+// Costs 2, 4, 6: each coalition is worth minus its greatest cost. The payments 1, 3/2, 7/2
+// beat 1, 2, 3.
+#[test]
+fn fair_airport_payments_come_first(rt: HostRuntime) -> Result<(), Fail> {
+    let airport = Table::new(3, &[-2, -4, -4, -6, -6, -6, -6]);
+    let fair = Point::new(&[-2, -3, -7], 2);
+    let other = Point::new(&[-1, -2, -3], 1);
+    let excesses = excess_list(rt.alloc(), Measure::Plain, &airport, &fair, 1)?;
+    assert_eq!(rt; excesses.as_slice(), [-2, -5, -3, -5, -3, -2].as_slice());
+    assert!(rt; beats(rt.alloc(), Measure::Plain, &airport, &fair, &other)?);
+    assert!(rt; !beats(rt.alloc(), Measure::Plain, &airport, &other, &fair)?);
+    assert!(rt;
+        !beats(rt.alloc(), Measure::Plain, &airport, &fair, &fair)?,
+        "it doesn't beat itself"
+    );
+    Ok(())
+}
+
+// Only players 1 and 2 together are worth something: without the bound of what each is
+// worth alone, the third player pays.
+#[test]
+fn a_share_below_the_own_worth_can_come_first(rt: HostRuntime) -> Result<(), Fail> {
+    let pair = Table::new(3, &[0, 0, 4, 0, 0, 0, 0]);
+    let nothing = Point::new(&[0, 0, 0], 1);
+    let paid = Point::new(&[1, 1, -2], 1);
+    assert!(rt; beats(rt.alloc(), Measure::Plain, &pair, &paid, &nothing)?);
+    assert!(rt; !beats(rt.alloc(), Measure::Plain, &pair, &nothing, &paid)?);
+    Ok(())
+}
+
+// The first two are worth 6 together, and all three 12. Per head the shares 5, 5, 2 beat
+// 9/2, 9/2, 3, which are better by the plain excess.
+#[test]
+fn excess_per_head_prefers_other_shares(rt: HostRuntime) -> Result<(), Fail> {
+    let savings = Table::new(3, &[0, 0, 6, 0, 0, 0, 12]);
+    let by_head = Point::new(&[5, 5, 2], 1);
+    let plain = Point::new(&[9, 9, 6], 2);
+    let list = excess_list(rt.alloc(), Measure::PerHead, &savings, &by_head, 1)?;
+    assert_eq!(rt;
+        list.as_slice(),
+        [-3603600, -3603600, -1441440, -1441440, -2522520, -2522520].as_slice(),
+        "-5, -5, -2, -2, -7/2 and -7/2 over 720720"
+    );
+    assert!(rt; beats(rt.alloc(), Measure::PerHead, &savings, &by_head, &plain)?);
+    assert!(rt; !beats(rt.alloc(), Measure::PerHead, &savings, &plain, &by_head)?);
+    assert!(rt; beats(rt.alloc(), Measure::Plain, &savings, &plain, &by_head)?);
+    Ok(())
+}
+
+#[test]
+fn sorted_keeps_a_number_as_often_as_it_stands(rt: HostRuntime) -> Result<(), Fail> {
+    let list = sorted(rt.alloc(), &[-2, 3, -2, 0, 3])?;
+    assert_eq!(rt; list.as_slice(), [3, 3, 0, -2, -2].as_slice());
+    Ok(())
+}
+
+#[test]
+fn the_first_place_that_differs_decides(rt: HostRuntime) {
+    let none: [i128; 0] = [];
+    assert!(rt; comes_before(&[4, 1, 9], &[4, 2, 0]));
+    assert!(rt; !comes_before(&[4, 2, 0], &[4, 1, 9]));
+    assert!(rt; !comes_before(&[4, 1], &[4, 1]), "equal lists");
+    assert!(rt; !comes_before(&none, &none), "empty lists");
+    assert!(rt; !comes_before(&[1], &[2, 0]), "lists of different length");
+    assert!(rt; !comes_before(&[1, 0], &[2]), "lists of different length");
+}
+
+#[test]
+fn the_two_others_block_where_one_takes_all(rt: HostRuntime) -> Result<(), Fail> {
+    let majority = Table::new(3, &[0, 0, 1, 0, 1, 1, 1]);
+    let first_takes_all = Point::new(&[1, 0, 0], 1);
+    let thirds = Point::new(&[1, 1, 1], 3);
+    assert_eq!(rt; chosen_blocker(&majority, &first_takes_all), Some(0b110));
+    assert_eq!(rt; excess(&majority, &first_takes_all, 0b110), 1);
+    assert_eq!(rt;
+        chosen_blocker(&majority, &thirds),
+        Some(0b011),
+        "of three the least mask"
+    );
+    let pairs = blockers(rt.alloc(), &majority, &thirds)?;
+    assert_eq!(rt; pairs.as_slice(), [0b011, 0b101, 0b110].as_slice());
+    Ok(())
+}
+
+#[test]
+fn nobody_blocks_a_core_point(rt: HostRuntime) -> Result<(), Fail> {
+    let pair = Table::new(2, &[0, 0, 4]);
+    let halves = Point::new(&[2, 2], 1);
+    assert_eq!(rt; chosen_blocker(&pair, &halves), None);
+    assert_eq!(rt; blockers(rt.alloc(), &pair, &halves)?.len(), 0);
+    Ok(())
+}

@@ -1,0 +1,200 @@
+//! Voting games that are made and refused, their blockers and bounds, and their Shapley values.
+ghost use Rattle.std.specs.Prelude.{length, IsTrue};
+ghost use Rattle.definitions.specs.Games.{HasTwo};
+ghost use Rattle.voting.specs.Voting.{voting_game};
+
+use crate::digits::chosen;
+use coalitions::Coalition;
+use std::process::Abort;
+use std::test::Fail;
+use voting::{VotingFault, VotingGame, voting_shapley};
+use worth_core::{Shares, Worth};
+
+#[test]
+fn games_are_refused_by_the_first_cause(rt: HostRuntime) -> Result<(), Fail> {
+    let limit: i64 = 1 << 40;
+    for (count, weight, quota, fault) in [
+        (0, 0, 0, Some(VotingFault::Players)),
+        (1, 1, 1, None),
+        (1, 1, 0, Some(VotingFault::Quota)),
+        (1, 0, 0, Some(VotingFault::Quota)),
+        (1, 1, 2, Some(VotingFault::Quota)),
+        (1, 1000, 1000, None),
+        (1, 1001, 1, Some(VotingFault::Quota)),
+        (20, 50, 1000, None),
+        (20, 51, 1000, Some(VotingFault::Quota)),
+        (32, 1, 32, None),
+        (33, 1, 33, Some(VotingFault::Players)),
+        (33, -1, 33, Some(VotingFault::Players)),
+        (2, -1, 1, Some(VotingFault::Number)),
+        (2, 1, -1, Some(VotingFault::Number)),
+        (2, limit, 1, Some(VotingFault::Number)),
+        (2, limit - 1, 1, Some(VotingFault::Quota)),
+        (2, 1, limit, Some(VotingFault::Number)),
+        (2, 1, limit - 1, Some(VotingFault::Quota)),
+        (2, 1001, -1, Some(VotingFault::Number)),
+    ] {
+        let weights = vec![in rt.alloc(); weight; count]?;
+        let made = VotingGame::new(rt.alloc(), quota, weights).err();
+        assert_eq!(rt; made, fault, "{count} weights of {weight}, quota {quota}");
+    }
+    Ok(())
+}
+
+#[test]
+fn the_great_player_and_the_middle_one_block(rt: HostRuntime) -> Result<(), Fail> {
+    let weights = [4, 2, 1].to_vec(rt.alloc())?;
+    let game = VotingGame::new(rt.alloc(), 5, weights).map_err(|_| "no game")?;
+    assert_eq!(rt; game.quota(), 5);
+    assert!(rt; game.len() == 3);
+    assert_eq!(rt; game.weight(1), 2);
+    assert_eq!(rt; game.worth(Coalition(5)), 1);
+    assert_eq!(rt; game.worth(Coalition(6)), 0);
+    for (num, den, blocker) in [
+        ([0, 1, 1], 2, Some(Coalition(3))),
+        ([1, 0, 0], 1, None),
+        ([2, -1, -1], 1, Some(Coalition(6))),
+        ([0, 0, 0], 1, Some(Coalition(3))),
+    ] {
+        let x = Shares::new(num.to_vec(rt.alloc())?, den).ok_or("not shares")?;
+        assert!(rt; x.players() == 3);
+        assert_eq!(rt; game.blocker(&x), blocker, "{num:?} over {den}");
+    }
+    Ok(())
+}
+
+#[test]
+fn thirty_two_players_need_no_list_of_coalitions(rt: HostRuntime) -> Result<(), Fail> {
+    let weights = vec![in rt.alloc(); 31; 32]?;
+    let game = VotingGame::new(rt.alloc(), 17 * 31, weights).map_err(|_| "no game")?;
+    for (numerator, blocker, bound) in [
+        (1, Some(Coalition::all(17)), 15),
+        (3, Some(Coalition(Coalition::all(18).0 - 32)), 15),
+        (-1, Some(Coalition::all(17)), 17),
+    ] {
+        let mut num = vec![in rt.alloc(); 1; 32]?;
+        num[5] = numerator;
+        let x = Shares::new(num, 32).ok_or("not shares")?;
+        assert!(rt; game.players() == 32 && x.players() == 32);
+        assert_eq!(rt; game.blocker(&x), blocker);
+        let everyone = Coalition::all(32);
+        assert!(rt; has_two(&game, everyone));
+        assert_eq!(rt; game.split_bound(&x, everyone), bound);
+    }
+    Ok(())
+}
+
+#[test]
+fn the_shapley_value_is_that_found_by_hand(rt: HostRuntime) -> Result<(), Fail> {
+    let unit: i128 = 144_403_552_893_600;
+    let weights = [4, 2, 1].to_vec(rt.alloc())?;
+    let game = VotingGame::new(rt.alloc(), 5, weights).map_err(|_| "no game")?;
+    let x = voting_shapley(rt.alloc(), &game).map_err(|_| "no memory")?;
+    assert!(rt; x.players() == 3);
+    assert_eq!(rt; (x.den(), x.num(0)), (unit, unit / 3 * 2));
+    assert_eq!(rt; (x.num(1), x.num(2)), (unit / 6, unit / 6));
+    Ok(())
+}
+
+// Five members with a veto and ten without, of whom four have to join.
+#[test]
+fn the_security_council_shares_as_known(rt: HostRuntime) -> Result<(), Fail> {
+    let unit: i128 = 144_403_552_893_600;
+    let mut weights = vec![in rt.alloc(); 1; 15]?;
+    for w in &mut weights[..5] {
+        *w = 7;
+    }
+    let game = VotingGame::new(rt.alloc(), 39, weights).map_err(|_| "no game")?;
+    let x = voting_shapley(rt.alloc(), &game).map_err(|_| "no memory")?;
+    assert!(rt; x.players() == 15);
+    for i in 0..15 {
+        let share = if i < 5 { 421 } else { 4 };
+        assert_eq!(rt; x.num(i) * 2145, share * unit);
+    }
+    Ok(())
+}
+
+#[test]
+fn thirty_two_like_players_share_alike(rt: HostRuntime) -> Result<(), Fail> {
+    let weights = vec![in rt.alloc(); 1; 32]?;
+    let game = VotingGame::new(rt.alloc(), 17, weights).map_err(|_| "no game")?;
+    let x = voting_shapley(rt.alloc(), &game).map_err(|_| "no memory")?;
+    assert!(rt; x.players() == 32);
+    for i in 0..32 {
+        assert_eq!(rt; x.num(i), 144_403_552_893_600 / 32);
+    }
+    Ok(())
+}
+
+/// The same game, with the bodies that list every coalition.
+#[derive(Clone, Copy)]
+struct Listed<'a>(&'a VotingGame);
+
+impl Worth for Listed<'_> {
+    ghost game = { λ l. voting_game l.0.now };
+
+    fn players(&self) -> u32 {
+        self.0.players()
+    }
+
+    fn worth(&self, s: Coalition) -> i64 {
+        self.0.worth(s)
+    }
+}
+
+/// Whether a coalition has two of the players.
+fn has_two(game: &VotingGame, s: Coalition) -> bool
+    ensures { IsTrue result → HasTwo (length game.now.weights) s }
+{
+    let players = game.players();
+    for i in 0..players {
+        for j in i + 1..players {
+            if s.contains(i) && s.contains(j) {
+                return true;
+            }
+        }
+    }
+    false
+}
+
+/// Compares the blocker and each split bound at some shares.
+fn compare(rt: &impl Abort, game: &VotingGame, x: &Shares) {
+    let listed = Listed(game);
+    let players = game.players();
+    assert!(rt; x.players() == players);
+    assert_eq!(rt; game.blocker(x), listed.blocker(x), "{game:?} at {x:?}");
+    for free in Coalition::subsets(players) {
+        assert!(rt; free <= Coalition::all(players));
+        if has_two(game, free) {
+            assert_eq!(rt;
+                game.split_bound(x, free),
+                listed.split_bound(x, free),
+                "{game:?} at {x:?}"
+            );
+        }
+    }
+}
+
+// One to three players with every list of weights from 0 to 2; of the points of three players every fifth.
+#[test]
+fn own_bodies_answer_as_those_that_list_coalitions(rt: HostRuntime) -> Result<(), Fail> {
+    for (n, lists, points) in [(1, 3, 3), (2, 9, 9), (3, 27, 27)] {
+        for list in 0..lists {
+            for quota in 1..7 {
+                let weights = chosen(rt.alloc(), &[0, 1, 2], list, n)?;
+                let Ok(game) = VotingGame::new(rt.alloc(), quota, weights) else {
+                    continue;
+                };
+                for point in 0..points {
+                    if n == 3 && point % 5 != 0 {
+                        continue;
+                    }
+                    let num = chosen(rt.alloc(), &[-1, 0, 2], point, n)?;
+                    let x = Shares::new(num, 2).ok_or("not shares")?;
+                    compare(&rt, &game, &x);
+                }
+            }
+        }
+    }
+    Ok(())
+}
