@@ -124,22 +124,22 @@ fn are_same_bounds(slow: &OverAllMasks, x: &Shares) -> bool
 #[test]
 fn both_bodies_agree_on_all_small_games(rt: HostRuntime) -> Result<(), Fail> {
     for (n, games, points) in [
-        (1, 4, 3),
+        (1_u32, 4_usize, 3_usize),
         (2, 16, 9),
         (3, 64, 27),
         (4, 256, 81),
         (5, 1024, 243),
     ] {
         for code in 0..games {
-            let costs = chosen(rt.alloc(), &[0, 1, 2, 3], code as usize, n as usize)?;
+            let costs = chosen(rt.alloc(), &[0, 1, 2, 3], code, n as usize)?;
             if n == 5 && !costs.is_sorted() {
                 continue;
             }
             let game = AirportGame::new(rt.alloc(), costs).map_err(|_| "no game")?;
             let slow = OverAllMasks { game };
             for code in 0..2 * points {
-                let num = chosen(rt.alloc(), &[-3, 0, 1], code as usize / 2, n as usize)?;
-                let x = Shares::new(num, i128::from(code % 2 + 1)).ok_or("not shares")?;
+                let num = chosen(rt.alloc(), &[-3, 0, 1], code / 2, n as usize)?;
+                let x = Shares::new(num, (code % 2 + 1) as i128).ok_or("not shares")?;
                 assert!(rt; n <= 5 && slow.game.len() == n && x.players() == n);
                 assert_eq!(rt; slow.game.blocker(&x), slow.blocker(&x), "at {x:?}");
                 assert!(rt; are_same_bounds(&slow, &x), "at {x:?}");

@@ -3,7 +3,7 @@ use Rattle.definitions.specs.Coalitions.{grand_coalition}
 use Rattle.spans.specs.Span.{SpanData}
 use Rattle.kohlberg.proofs.SpanScan.{SpansFixed-start}
 use Rattle.separation.specs.Same.{IsSpanOf}
-use Rattle.separation.proofs.compared.compare_first.Goals as goal
+use Rattle.solver_tests.proofs.separation_columns_tests.compare_first.Goals as goal
 
 -- the span of all players is that of no levels
 start_span : (n : ℕ) → IsSpanOf n (grand_coalition n ∷ []) []

@@ -1,5 +1,5 @@
 use Rattle.std.proofs.Common.{◌≡◌, ℕ, ◌<◌, ◌^◌, length, pos, slice_index_or, unsigned_abs}
-use Rattle.separation.proofs.compared.for_players.Given as goal
+use Rattle.solver_tests.proofs.separation_columns_tests.for_players.Given as goal
 
 abbrev pub invariant-loop-row : goal.invariant-loop-row
 invariant-loop-row l = record {
