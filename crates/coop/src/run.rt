@@ -23,7 +23,7 @@ use crate::generated::summary_of;
 use crate::judge::judge_document;
 use crate::market_matching::matching_document;
 use crate::prekernel_test::kernel_document;
-use crate::reply::{Reply, without_document};
+use crate::reply::Reply;
 use crate::shapley_values::shapley_document;
 use crate::solve::solve_document;
 use crate::status::{Status, status_of};
@@ -100,7 +100,10 @@ fn reply_to<S: Source>(alloc: Global, request: Request, source: &mut S) -> Resul
             players,
             seed,
         } => match summary_of(alloc, kind, players, seed) {
-            Ok(summary) => Ok(without_document(Answer::Summary(summary))),
+            Ok(summary) => Ok(Reply {
+                answer: Answer::Summary(summary),
+                scale: 1,
+            }),
             Err(_) => Err(Stop::Memory),
         },
     }
@@ -115,26 +118,33 @@ fn answer_on<S: Source>(alloc: Global, command: Command, source: &mut S) -> Resu
     ensures cause { IsFaultOf (S.faults source.old) (S.faults source.new) result }
 {
     let input = read_input(alloc, source, document_limit(command))?;
-    let document = match read_document(alloc, &input, command) {
+    let mut document = match read_document(alloc, &input, command) {
         Ok(document) => document,
         Err(TextFault::Refused(refusal)) => {
-            return Ok(without_document(Answer::Refused(refusal)));
+            return Ok(Reply {
+                answer: Answer::Refused(refusal),
+                scale: 1,
+            });
         }
         Err(TextFault::Memory) => return Err(Stop::Memory),
     };
     let scale = document.scale;
-    let Ok(answer) = answer_to(alloc, command, document) else {
+    let Ok(answer) = answer_to(alloc, command, &mut document) else {
         return Err(Stop::Memory);
     };
     Ok(Reply { answer, scale })
 }
 
 // The answer to the command on its document.
-fn answer_to(alloc: Global, command: Command, document: Document) -> Result<Answer, OutOfMemory>
-    requires { HasNeeded command (contents_in document) }
-    ensures right { IfOk result (AnswersTo command (contents_in document)) }
+fn answer_to(
+    alloc: Global,
+    command: Command,
+    document: &mut Document,
+) -> Result<Answer, OutOfMemory>
+    requires { HasNeeded command (contents_in document.old) }
+    ensures right { IfOk result (AnswersTo command (contents_in document.old)) }
     ensures printable { IfOk result IsPrintable }
-    ensures readable { IfOk result (CanBeRead document.scale) }
+    ensures readable { IfOk result (CanBeRead document.old.scale) }
 {
     if !serves_class(command, &document.game) {
         return Ok(Answer::Usage(UsageKind::Class));
@@ -144,17 +154,21 @@ fn answer_to(alloc: Global, command: Command, document: Document) -> Result<Answ
 
 // The answer to the command on its document, whose class it serves. A nucleolus takes the document's tree over.
 #[tactic(auto, using(crate::proofs::ReadLines::readable_where_ok))]
-fn said_to(alloc: Global, command: Command, document: Document) -> Result<Answer, OutOfMemory>
-    requires needed { HasNeeded command (contents_in document) }
-    requires class { serves_class command (description_in document.game) ≡ true }
-    ensures says { IfOk result (Says command (contents_in document)) }
+fn said_to(
+    alloc: Global,
+    command: Command,
+    document: &mut Document,
+) -> Result<Answer, OutOfMemory>
+    requires needed { HasNeeded command (contents_in document.old) }
+    requires class { serves_class command (description_in document.old.game) ≡ true }
+    ensures says { IfOk result (Says command (contents_in document.old)) }
     ensures printable { IfOk result IsPrintable }
-    ensures readable { IfOk result (CanBeRead document.scale) }
+    ensures readable { IfOk result (CanBeRead document.old.scale) }
 {
     match command {
         Command::Nucleolus => solve_document(alloc, document, Family::Imputations),
         Command::Prenucleolus => solve_document(alloc, document, Family::Preimputations),
-        _ => said_of(alloc, command, &document),
+        _ => said_of(alloc, command, document),
     }
 }
 

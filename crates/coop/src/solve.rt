@@ -26,20 +26,21 @@ use worth_core::{Family, Measure, Shares, Worth};
 use worth_tables::KeptWorths;
 
 /// The nucleolus of the game of a document, or its prenucleolus, by the measure that the document says, with its
-/// certificate; or that there is no imputation; or that the game has more players than are answered by the measure.
+/// certificate and the document's tree, which it takes; or that there is no imputation; or that the game has more
+/// players than are answered by the measure.
 ///
 /// With plain excess airport and bankruptcy games have schemes of their own. The others, and all games with excess per
 /// head, are solved by nested linear programs.
 pub(crate) fn solve_document(
     alloc: Global,
-    document: Document,
+    document: &mut Document,
     family: Family,
 ) -> Result<Answer, OutOfMemory>
-    requires accepted { IsAccepted (contents_in document) }
-    requires class { is_no_market (description_in document.game) ≡ true }
-    ensures solves { IfOk result (Solves family (contents_in document)) }
+    requires accepted { IsAccepted (contents_in document.old) }
+    requires class { is_no_market (description_in document.old.game) ≡ true }
+    ensures solves { IfOk result (Solves family (contents_in document.old)) }
     ensures printable { IfOk result IsPrintable }
-    ensures readable { IfOk result (CanBeRead document.scale) }
+    ensures readable { IfOk result (CanBeRead document.old.scale) }
 {
     let is_cost = document.game.is_cost();
     if document.game.players() > nucleolus_limit(document.measure, &document.game) {
@@ -50,7 +51,7 @@ pub(crate) fn solve_document(
             keep_their_limits(&shares, &certificate);
             Ok(Answer::Nucleolus {
                 family,
-                tree: document.tree,
+                tree: document.tree.take(),
                 is_cost,
                 shares,
                 certificate,

@@ -2,7 +2,6 @@ use Rattle.std.proofs.Common.{◌≡◌, to_z, of_z, w64, rules, ℤ, [], ◌∷
 use Rattle.game_text.specs.Readings.{contents_in}
 use Rattle.coop.specs.Outcome.{IsRight}
 use Rattle.coop.specs.Words.{word_of}
-use Rattle.coop.specs.declared.reply.Reply.{Reply}
 use Rattle.coop.proofs.Right.{right_refusal, right_answer}
 use Rattle.coop.proofs.Needs.{has_needed}
 use Rattle.coop.proofs.run.answer_on.Goals as goal
@@ -12,7 +11,7 @@ returns-in-Err-Refused-clause-right g c =
     let input = c.in_ok-input.input in
     let refused = rw (c.in-Err-Refused.field-0-is, c.deref.ensures.value) at c.in-Err-Refused.ensures.reading in
     let right = right_refusal c.args.command _ _ input.items c.in_ok-input.ensures.bytes (omega (arith, input.ok.0, c.in_ok-input.ensures.most, c.document_limit.ensures.value)) (λ h. c.in_ok-input.ensures.end (omega (arith, input.ok.0, c.document_limit.ensures.value))) c.in-Err-Refused.refusal refused in
-    subst (λ (r : Reply). IsRight (word_of c.args.command ∷ []) (g.S.Source.left c.args.source.now) (g.S.Source.left c.read_input.new.source) r.scale r.answer) (sym c.without_document.ensures) (rw c.in-Err-Refused.refusal-is right)
+    rw c.in-Err-Refused.refusal-is right
 
 pub answer_to-requires : goal.answer_to-requires
 answer_to-requires g c =

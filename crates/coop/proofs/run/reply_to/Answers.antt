@@ -1,10 +1,7 @@
-use Rattle.std.proofs.Common.{sym, subst}
-use Rattle.coop.specs.Outcome.{IsRight}
-use Rattle.coop.specs.declared.reply.Reply.{Reply}
 use Rattle.coop.proofs.Right.{right_summary}
 use Rattle.coop.proofs.run.reply_to.Goals as goal
 
 pub returns-in-Ok-clause-right : goal.returns-in-Ok-clause-right
 returns-in-Ok-clause-right g c = λ words asked.
     let makes = rw c.in-Generate.is at asked in
-    subst (λ (r : Reply). IsRight words (g.S.Source.left c.args.source.now) (g.S.Source.left c.args.source.now) r.scale r.answer) (sym c.without_document.ensures) (right_summary words _ c.in-Ok.summary (c.in-Generate.kind, (c.in-Generate.players, (c.in-Generate.seed, (makes, c.in-Ok.ensures.summary)))))
+    right_summary words _ c.in-Ok.summary (c.in-Generate.kind, (c.in-Generate.players, (c.in-Generate.seed, (makes, c.in-Ok.ensures.summary))))

@@ -10,24 +10,24 @@ use Rattle.coop.proofs.solve.solve_document.Goals as goal
 pub returns-in-Point-clause-solves : goal.returns-in-Point-clause-solves
 returns-in-Point-clause-solves c =
     let found = rw c.in-Point.is at c.in_ok-shares.ensures in
-    (refl, is_solution c.args.family (contents_in c.args.document) c.is_cost-is_cost.result c.in-Point.shares c.in-Point.certificate c.in-Point.certificate.levels c.is_cost-is_cost.ensures found (omega (arith, c.if-players-nucleolus_limit.false, c.nucleolus_limit.ensures, c.players.ensures.count)) refl c.keep_their_limits.ensures.certificate.form)
+    (refl, rw c.take.ensures.taken (is_solution c.args.family (contents_in c.args.document.now) c.is_cost-is_cost.result c.in-Point.shares c.in-Point.certificate c.in-Point.certificate.levels c.is_cost-is_cost.ensures found (omega (arith, c.if-players-nucleolus_limit.false, c.nucleolus_limit.ensures, c.players.ensures.count)) refl c.keep_their_limits.ensures.certificate.form))
 
 pub returns-in-Point-clause-printable : goal.returns-in-Point-clause-printable
 returns-in-Point-clause-printable c =
     let found = rw c.in-Point.is at c.in_ok-shares.ensures in
     record {
-      fine = fine_levels c.in-Point.certificate.mode c.args.family c.args.document.measure (game_of (contents_in c.args.document).game) c.in-Point.shares c.in-Point.certificate c.keep_their_limits.ensures.shares c.keep_their_limits.ensures.certificate found;
-      form = (c.requires.accepted.whole, c.requires.accepted.shallow);
+      fine = fine_levels c.in-Point.certificate.mode c.args.family c.args.document.now.measure (game_of (contents_in c.args.document.now).game) c.in-Point.shares c.in-Point.certificate c.keep_their_limits.ensures.shares c.keep_their_limits.ensures.certificate found;
+      form = rw c.take.ensures.taken (c.requires.accepted.whole, c.requires.accepted.shallow);
     }
 
 pub returns-in-Point-clause-readable : goal.returns-in-Point-clause-readable
 returns-in-Point-clause-readable c =
     let found = rw c.in-Point.is at c.in_ok-shares.ensures in
-    can_be_checked c.args.family (contents_in c.args.document) c.args.document.tree c.is_cost-is_cost.result c.in-Point.shares c.in-Point.certificate c.requires.accepted refl c.is_cost-is_cost.ensures c.keep_their_limits.ensures.shares c.keep_their_limits.ensures.certificate found (omega (arith, c.if-players-nucleolus_limit.false, c.nucleolus_limit.ensures, c.players.ensures.count)) c.requires.class
+    rw c.take.ensures.taken (can_be_checked c.args.family (contents_in c.args.document.now) c.args.document.now.tree c.is_cost-is_cost.result c.in-Point.shares c.in-Point.certificate c.requires.accepted refl c.is_cost-is_cost.ensures c.keep_their_limits.ensures.shares c.keep_their_limits.ensures.certificate found (omega (arith, c.if-players-nucleolus_limit.false, c.nucleolus_limit.ensures, c.players.ensures.count)) c.requires.class)
 
 pub returns-in-NoImputation-clause-solves : goal.returns-in-NoImputation-clause-solves
 returns-in-NoImputation-clause-solves c =
-    let g = game_of (contents_in c.args.document).game in
+    let g = game_of (contents_in c.args.document.now).game in
     let lacks = rw c.in-NoImputation.is at c.in_ok-shares.ensures in (
       omega (arith, c.if-players-nucleolus_limit.false, c.nucleolus_limit.ensures, c.players.ensures.count),
       record {
