@@ -1,2 +1,3 @@
 pub mod Ascents
 pub mod FormTests
+mod Pushed
