@@ -1,9 +1,33 @@
 -- The first pair of a list that fails.
-use Rattle.std.proofs.Common.{ℕ, List, drop, ℤ}
+use Rattle.std.proofs.Common.{◌≡◌, ℕ, ◌+◌, ◌<◌, ◌≤◌, List, ◌∷◌, length, get_or, drop, ℤ, refl, sym, ap, subst, ◌∙◌, inl, inr}
 use Rattle.std.specs.List.{AllByRecursion}
+use Rattle.std.proofs.lemmas.List.{at_drop_more, drop_all}
 use Rattle.definitions.specs.Failures.{IsFirstFailing}
 
 -- what is known of the pairs from place i on decides the list
 pub record Leads (P : ℕ × ℤ → Type 0) (ps : List (ℕ × ℤ)) (i : ℕ) : Type 0 where
   pub all : AllByRecursion P (drop i ps) → AllByRecursion P ps
   pub first : (k : ℕ) → IsFirstFailing P (drop i ps) k → IsFirstFailing P ps k
+
+module _ (P : ℕ × ℤ → Type 0) (ps : List (ℕ × ℤ)) where
+  pub leads_start : Leads P ps 0
+  leads_start = record { all = λ a. a; first = λ k f. f }
+
+  -- behind the last pair
+  pub leads_end : (i : ℕ) → Leads P ps i → length ps ≤ i → AllByRecursion P ps
+  leads_end i l h = l.all (subst (AllByRecursion P) (sym (drop_all i ps h)) tt)
+
+  module _ (i : ℕ) (p : ℕ × ℤ) (h : i < length ps) (at : p ≡ get_or ps i p) (l : Leads P ps i) where
+    turn : p ∷ drop (i + 1) ps ≡ drop i ps
+    turn = ap (λ q. q ∷ drop (i + 1) ps) at ∙ sym (at_drop_more (λ qs. qs) ps i p h)
+
+    -- the pair at place i passes
+    pub leads_more : P p → Leads P ps (i + 1)
+    leads_more passed = record {
+      all = λ a. l.all (subst (AllByRecursion P) turn (passed, a));
+      first = λ k f. l.first k (subst (λ qs. IsFirstFailing P qs k) turn (inr (passed, f)));
+    }
+
+    -- it fails
+    pub leads_failing : ¬ P p → IsFirstFailing P ps p.0
+    leads_failing failed = l.first p.0 (subst (λ qs. IsFirstFailing P qs p.0) turn (inl (failed, refl)))
