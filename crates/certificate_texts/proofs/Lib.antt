@@ -1,3 +1,3 @@
 pub mod Ascents
 pub mod FormTests
-mod Pushed
+pub mod Pushed

@@ -1,7 +1,6 @@
 pub mod Choices
 pub mod NamesRead
 pub mod Joining
-pub mod Pushed
 pub mod Filling
 pub mod Sizes
 pub mod PlayerCounts

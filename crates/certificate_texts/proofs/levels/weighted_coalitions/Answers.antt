@@ -2,11 +2,11 @@ use Rattle.std.proofs.lemmas.Result.{IfOk-from_err}
 use Rattle.serde_json.specs.View.{view}
 use Rattle.serde_json.specs.declared.value.Value.{Value}
 use Rattle.certificate_texts.specs.Levels.{weighted_coalition}
-use Rattle.certificate_texts.proofs.Pushed.{map_pushed, map_all}
+use Rattle.certificate_texts.proofs.Pushed.{map_grown, map_all}
 use Rattle.certificate_texts.proofs.levels.weighted_coalitions.Goals as goal
 
 pub loop-pair-preserved : goal.loop-pair-preserved
-loop-pair-preserved c = map_pushed (λ (v : Value). weighted_coalition c.args.n (view v)) c.args.pairs.now c.loop-pair.pair-index c.pair-item.result c.loop-pair.found.items _ _ c.loop-pair-test.true c.loop-pair.invariant c.in_ok-push.ensures.items c.weighted_coalition.ensures c.pair-item.is
+loop-pair-preserved c = map_grown (λ (v : Value). weighted_coalition c.args.n (view v)) c.args.pairs.now c.loop-pair.pair-index c.pair-item.result c.loop-pair.found.items _ _ c.loop-pair-test.true c.loop-pair.invariant c.in_ok-push.ensures.items c.weighted_coalition.ensures c.pair-item.is
 
 pub returns-in_err-push : goal.returns-in_err-push
 returns-in_err-push c = IfOk-from_err c.from_residual.result _ c.from_residual.ensures.0

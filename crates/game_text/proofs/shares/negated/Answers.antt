@@ -1,7 +1,8 @@
 use Rattle.std.proofs.Common.{◌≡◌, ◌<◌, ◌≤◌, List, length, get_or, ℤ, pos, neg_ℤ, ◌-ℤ◌, to_z, of_z, ap, rules, ◌∙◌, arith}
 use Rattle.std.specs.Int.{w128}
+use Rattle.std.proofs.lemmas.Result.{IfOk-from_err}
 use Rattle.game_text.proofs.Payments.{turned_shares}
-use Rattle.game_text.proofs.Pushed.{map_pushed, no_value}
+use Rattle.certificate_texts.proofs.Pushed.{map_pushed}
 use Rattle.game_text.proofs.shares.negated.Goals as goal
 
 pub unreachable-requires : goal.unreachable-requires
@@ -11,7 +12,7 @@ unreachable-requires c =
     c.in-None.ensures (turned_shares c.args.shares.now c.loop-i.num.items _ c.loop-i.i c.players-i-end.ensures.shares c.loop-i.invariant over (kept ∙ c.den.ensures.value))
 
 pub returns-in_err-push : goal.returns-in_err-push
-returns-in_err-push c = no_value c.from_residual.result _ c.from_residual.ensures.0
+returns-in_err-push c = IfOk-from_err c.from_residual.result _ c.from_residual.ensures.0
 
 pub loop-i-preserved : goal.loop-i-preserved
 loop-i-preserved c =

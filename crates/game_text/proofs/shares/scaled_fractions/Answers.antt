@@ -1,5 +1,6 @@
 use Rattle.std.proofs.Common.{◌≡◌, get_or, map, All, FitsSigned, subst, sym, ap, ◌∙◌, arith}
 use Rattle.std.proofs.lemmas.List.{length-map, get_or-map}
+use Rattle.std.proofs.lemmas.Result.{IfOk-from_err}
 use mir.Syntax.{w128}
 use Rattle.serde_json.specs.View.{view}
 use Rattle.serde_json.specs.declared.value.Value.{Value}
@@ -8,7 +9,7 @@ use Rattle.json_trees.specs.LowestTerms.{times_scale}
 use Rattle.game_text.specs.Shares.{scaled_share}
 use Rattle.json_trees.proofs.Values.{map_views}
 use Rattle.game_text.proofs.LeastDenominators.{shares_reduced, not_kept}
-use Rattle.game_text.proofs.Pushed.{map_all, no_value}
+use Rattle.certificate_texts.proofs.Pushed.{map_all}
 use Rattle.game_text.proofs.shares.scaled_fractions.Goals as goal
 
 pub returns-in_default : goal.returns-in_default
@@ -24,7 +25,7 @@ returns-in_default c =
     (subst (λ (n : Fraction). ¬ FitsSigned w128 (times_scale k n).num) c.fraction_or_zero-number.ensures c.in_default.ensures.value)
 
 pub returns-in_err-push : goal.returns-in_err-push
-returns-in_err-push c = no_value c.from_residual.result _ c.from_residual.ensures.0
+returns-in_err-push c = IfOk-from_err c.from_residual.result _ c.from_residual.ensures.0
 
 pub returns : goal.returns
 returns c =

@@ -1,8 +1,9 @@
 use Rattle.std.proofs.Common.{◌≡◌, ℤ, List, get_or, map, Option, None, to_z, of_z, ◌∙◌, subst}
 use Rattle.std.specs.Prelude.{unwrap_or}
 use Rattle.std.proofs.lemmas.Int.{to_z-of_z}
+use Rattle.std.proofs.lemmas.Result.{IfOk-from_err}
 use mir.Syntax.{w64}
-use Rattle.game_text.proofs.Pushed.{map_pushed, map_all, no_value}
+use Rattle.certificate_texts.proofs.Pushed.{map_pushed, map_all}
 use Rattle.game_text.proofs.table.numbers.Goals as goal
 
 pub loop-slot-preserved : goal.loop-slot-preserved
@@ -13,7 +14,7 @@ loop-slot-preserved c =
     ◌∙◌ {A = List ℤ} c.in_ok-push.ensures.items (map_pushed f c.args.slots.now c.loop-slot.slot-index None c.loop-slot.found.items _ c.loop-slot-test.true c.loop-slot.invariant item)
 
 pub returns-in_err-push : goal.returns-in_err-push
-returns-in_err-push c = no_value c.from_residual.result _ c.from_residual.ensures.0
+returns-in_err-push c = IfOk-from_err c.from_residual.result _ c.from_residual.ensures.0
 
 pub returns : goal.returns
 returns c =
