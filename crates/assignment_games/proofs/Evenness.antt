@@ -1,9 +1,10 @@
 -- Rows that make an assignment game.
-use Rattle.std.proofs.Common.{◌≡◌, ℕ, ◌+◌, ◌-◌, ◌^◌, ◌<◌, ◌≤◌, Bool, true, IsTrue, List, [], length, map, ℤ, slice_index_or, get_or, sym, ap, subst, ◌∙◌, arith}
+use Rattle.std.proofs.Common.{◌≡◌, ℕ, ◌+◌, ◌-◌, ◌^◌, ◌<◌, ◌≤◌, ◌⊎◌, Bool, true, false, IsTrue, List, [], length, map, ℤ, slice_index_or, get_or, inl, inr, sym, ap, subst, ◌∙◌, arith}
 use Rattle.std.proofs.lemmas.List.{length-map}
+use Rattle.std.proofs.lemmas.Bool.{false≢true}
 use Rattle.matrices.specs.Rows.{entries_of, HaveEntries, HaveLength}
 use Rattle.matrices.proofs.Rows.{row_read}
-use Rattle.assignment_games.specs.Assignments.{HasSides, IsFilled, seller_count}
+use Rattle.assignment_games.specs.Assignments.{HasSides, IsFilled, seller_count, HavePlayers, IsEven}
 
 pub sides_few : (rows : List (List ℤ)) (p q : ℕ) → HasSides rows p q → p + q ≤ 16
 sides_few rows p q h =
@@ -46,3 +47,43 @@ sides_made {X = X} f xs ys zs v p q b d rows some few first columns some_q few_q
 pub filled_whole : (rows read : List (List ℤ)) (values : List ℕ) (p q : ℕ) → read ≡ rows → HasSides rows p q → IsFilled (entries_of read) p values (2 ^ (p + q)) → IsFilled (entries_of rows) (length rows) values (2 ^ (length rows + seller_count rows))
 filled_whole rows read values p q e h filled =
     subst (λ (k : ℕ). IsFilled (entries_of rows) (length rows) values (2 ^ (length rows + k))) h.sellers (subst (λ (k : ℕ). IsFilled (entries_of rows) k values (2 ^ (k + q))) h.buyers (subst (λ (r : List (List ℤ)). IsFilled (entries_of r) p values (2 ^ (p + q))) e filled))
+
+-- rows that fail a test, of p buyers
+module _ {X : Type 0} (f : X → List ℤ) (xs : List X) (p : ℕ) (rows : p ≡ length xs) where
+  pub no_buyers : (p < 1) ⊎ ((1 ≤ p) × (15 < p)) → ¬ HavePlayers (map f xs)
+  no_buyers fails = λ players.
+      let same = length-map xs f in
+      elim fails [
+        | inl few ↦ omega (arith, rows, same, few, players.0)
+        | inr many ↦ omega (arith, rows, same, many.1, players.1, players.2)
+      ]
+
+  -- of q sellers in the first
+  module _ (v : X) (q : ℕ) (some : 1 ≤ p) (small : p ≤ 15) (first : v ≡ get_or xs 0 v) (columns : q ≡ length (f v)) where
+    sellers : q ≡ seller_count (map f xs)
+    sellers = columns ∙ ap (λ (r : List ℤ). length r) (row_read f xs 0 v (omega (arith, rows, some)) first)
+
+    pub no_sellers : (q < 1) ⊎ ((1 ≤ q) × (16 - p < q)) → ¬ HavePlayers (map f xs)
+    no_sellers fails = λ players.
+        let same = length-map xs f in
+        elim fails [
+          | inl few ↦ omega (arith, sellers, few, players.1)
+          | inr many ↦ omega (arith, rows, same, sellers, small, many.1, players.1, players.2)
+        ]
+
+    module _ (some_q : 1 ≤ q) (few_q : q ≤ 16 - p) where
+      players : HavePlayers (map f xs)
+      players =
+          let same = length-map xs f in
+          (omega (arith, rows, some, same), omega (arith, sellers, some_q), omega (arith, rows, same, sellers, small, few_q))
+
+      pub no_entries : (b : Bool) (ys : List X) → ys ≡ xs → b ≡ false → (HaveEntries (map f ys) → IsTrue b) → HavePlayers (map f xs) × (¬ HaveEntries (map f xs))
+      no_entries b ys e failed entries =
+          (players, λ h. false≢true (sym failed ∙ entries (subst (λ (l : List X). HaveEntries (map f l)) (sym e) h)))
+
+      pub uneven : (b d : Bool) (ys zs : List X) → ys ≡ xs → b ≡ true → (IsTrue b → HaveEntries (map f ys)) → zs ≡ xs → d ≡ false → (HaveLength q (map f zs) → IsTrue d) → HavePlayers (map f xs) × HaveEntries (map f xs) × (¬ IsEven (map f xs))
+      uneven b d ys zs e passed entries g failed even = (
+        players,
+        subst (λ (l : List X). HaveEntries (map f l)) e (entries passed),
+        λ h. false≢true (sym failed ∙ even (subst (λ (l : List X). HaveLength q (map f l)) (sym g) (subst (λ (k : ℕ). HaveLength k (map f xs)) (sym sellers) h))),
+      )

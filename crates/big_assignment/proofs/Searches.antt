@@ -1,6 +1,6 @@
 -- The search keeps fair prices: the reached rows give up the least slack, and a column is reached.
 use Rattle.std.proofs.Common.{◌≡◌, ◌≢◌, ◌⊎◌, ℕ, ◌+◌, ◌^◌, ◌<◌, ◌≤◌, refl, sym, ap, subst, ◌∙◌, inl, inr, arith}
-use Rattle.big_assignment.specs.Prices.{Offers, IsFair, IsReached, IsJoined, IsSearch, IsShifted, IsPut, AreOffers, IsNearest}
+use Rattle.big_assignment.specs.Prices.{Offers, IsFair, IsReached, IsJoined, IsSearch, IsShifted, IsPut, AreOffers, IsNearest, IsCovered}
 use Rattle.definitions.proofs.Cases.{same_or_other, below_or_above}
 
 none_or_some : (x : ℕ) → (x ≡ 0) ⊎ (1 ≤ x)
@@ -166,3 +166,20 @@ slack_enough m n by r c u p mate ranks parents count o few h near e i il reached
     let b = h.fair.free in
     let d = o.nothing i (omega arith) in
     omega (arith, a, b, d, e)
+
+pub slack_covers : (m : Offers) (n by r c : ℕ) (u p mate ranks : ℕ → ℕ) → IsNearest m n u p mate ranks r c → by + m r c ≡ u r + p c → (i k : ℕ) → i ≤ n → IsReached n mate ranks i → k ≤ 32 → ranks k ≡ 0 → by + m i k ≤ u i + p k
+slack_covers m n by r c u p mate ranks near slack i k row reached column none =
+    let least = near.least i k row reached column none in
+    omega (arith, slack, least)
+
+pub search_covered : (m : Offers) (n : ℕ) (u p mate ranks parents : ℕ → ℕ) (count : ℕ) → AreOffers m → n < 32 → IsSearch m n u p mate ranks parents count → IsCovered m n u p
+search_covered m n u p mate ranks parents count offers rows search =
+    let few : n ≤ 32 = omega (arith, rows) in
+    record {
+      covers = search_covers m n u p mate ranks parents count search;
+      gains = λ i le. elim (below_or_above i n) [
+        | inl lt ↦ fair_gain m n u p mate offers few search.fair i lt
+        | inr ge ↦ subst (λ (l : ℕ). u l ≤ 2 ^ 40) (let e : n ≡ i = omega (arith, le, ge) in e) search.gain
+      ];
+      prices = fair_price m n u p mate offers few search.fair;
+    }
