@@ -1,5 +1,5 @@
 -- The rows of a lawful program are few, and their numbers fit.
-use Rattle.std.proofs.Common.{◌≡◌, ℕ, ◌+◌, ◌<◌, ◌≤◌, arith, sym, subst}
+use Rattle.std.proofs.Common.{◌≡◌, ℕ, ◌+◌, ◌*◌, ◌<◌, ◌≤◌, arith, sym, subst}
 use mir.Syntax.{w64}
 use mir.Val.{Fits}
 use Rattle.definitions.specs.Programs.{Program}
@@ -19,3 +19,6 @@ next_within_32 n h = omega arith
 
 pub next_fits : (n : ℕ) → n ≤ 31 → Fits w64 (n + 1)
 next_fits n h = omega arith
+
+pub offset_fits : (k n : ℕ) → k < n → n ≤ 31 → Fits w64 (k * 16)
+offset_fits k n lt h = omega arith
