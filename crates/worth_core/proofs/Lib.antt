@@ -9,3 +9,4 @@ pub mod SmallSums
 pub mod LeastMultiples
 pub mod SharedDivisors
 pub mod FineShares
+mod MemberSums
