@@ -154,11 +154,7 @@ fn answer_to(
 
 // The answer to the command on its document, whose class it serves. A nucleolus takes the document's tree over.
 #[tactic(auto, using(crate::proofs::ReadLines::readable_where_ok))]
-fn said_to(
-    alloc: Global,
-    command: Command,
-    document: &mut Document,
-) -> Result<Answer, OutOfMemory>
+fn said_to(alloc: Global, command: Command, document: &mut Document) -> Result<Answer, OutOfMemory>
     requires needed { HasNeeded command (contents_in document.old) }
     requires class { serves_class command (description_in document.old.game) ≡ true }
     ensures says { IfOk result (Says command (contents_in document.old)) }
