@@ -48,6 +48,23 @@ pub filled_whole : (rows read : List (List ℤ)) (values : List ℕ) (p q : ℕ)
 filled_whole rows read values p q e h filled =
     subst (λ (k : ℕ). IsFilled (entries_of rows) (length rows) values (2 ^ (length rows + k))) h.sellers (subst (λ (k : ℕ). IsFilled (entries_of rows) k values (2 ^ (k + q))) h.buyers (subst (λ (r : List (List ℤ)). IsFilled (entries_of r) p values (2 ^ (p + q))) e filled))
 
+-- what the tests of rows tell
+module _ {X : Type 0} (f : X → List ℤ) (xs : List X) where
+  -- the sellers are those of the first row
+  pub sellers_counted : (p q : ℕ) (v : X) → p ≡ length xs → 1 ≤ p → v ≡ get_or xs 0 v → q ≡ length (f v) → q ≡ seller_count (map f xs)
+  sellers_counted p q v rows some first columns =
+      columns ∙ ap (λ (r : List ℤ). length r) (row_read f xs 0 v (omega (arith, rows, some)) first)
+
+  pub good_entries : (b : Bool) (ys : List X) → ys ≡ xs → b ≡ true → (IsTrue b → HaveEntries (map f ys)) → HaveEntries (map f xs)
+  good_entries b ys e passed entries = subst (λ (l : List X). HaveEntries (map f l)) e (entries passed)
+
+  pub bad_entries : (b : Bool) (ys : List X) → ys ≡ xs → b ≡ false → (HaveEntries (map f ys) → IsTrue b) → ¬ HaveEntries (map f xs)
+  bad_entries b ys e failed entries = λ h. false≢true (sym failed ∙ entries (subst (λ (l : List X). HaveEntries (map f l)) (sym e) h))
+
+  pub bad_lengths : (q : ℕ) (d : Bool) (zs : List X) → q ≡ seller_count (map f xs) → zs ≡ xs → d ≡ false → (HaveLength q (map f zs) → IsTrue d) → ¬ IsEven (map f xs)
+  bad_lengths q d zs sellers e failed even = λ h.
+      false≢true (sym failed ∙ even (subst (λ (l : List X). HaveLength q (map f l)) (sym e) (subst (λ (k : ℕ). HaveLength k (map f xs)) (sym sellers) h)))
+
 -- rows that fail a test, of p buyers
 module _ {X : Type 0} (f : X → List ℤ) (xs : List X) (p : ℕ) (rows : p ≡ length xs) where
   pub no_buyers : (p < 1) ⊎ ((1 ≤ p) × (15 < p)) → ¬ HavePlayers (map f xs)
@@ -61,7 +78,7 @@ module _ {X : Type 0} (f : X → List ℤ) (xs : List X) (p : ℕ) (rows : p ≡
   -- of q sellers in the first
   module _ (v : X) (q : ℕ) (some : 1 ≤ p) (small : p ≤ 15) (first : v ≡ get_or xs 0 v) (columns : q ≡ length (f v)) where
     sellers : q ≡ seller_count (map f xs)
-    sellers = columns ∙ ap (λ (r : List ℤ). length r) (row_read f xs 0 v (omega (arith, rows, some)) first)
+    sellers = sellers_counted f xs p q v rows some first columns
 
     pub no_sellers : (q < 1) ⊎ ((1 ≤ q) × (16 - p < q)) → ¬ HavePlayers (map f xs)
     no_sellers fails = λ players.
@@ -78,12 +95,8 @@ module _ {X : Type 0} (f : X → List ℤ) (xs : List X) (p : ℕ) (rows : p ≡
           (omega (arith, rows, some, same), omega (arith, sellers, some_q), omega (arith, rows, same, sellers, small, few_q))
 
       pub no_entries : (b : Bool) (ys : List X) → ys ≡ xs → b ≡ false → (HaveEntries (map f ys) → IsTrue b) → HavePlayers (map f xs) × (¬ HaveEntries (map f xs))
-      no_entries b ys e failed entries =
-          (players, λ h. false≢true (sym failed ∙ entries (subst (λ (l : List X). HaveEntries (map f l)) (sym e) h)))
+      no_entries b ys e failed entries = (players, bad_entries f xs b ys e failed entries)
 
       pub uneven : (b d : Bool) (ys zs : List X) → ys ≡ xs → b ≡ true → (IsTrue b → HaveEntries (map f ys)) → zs ≡ xs → d ≡ false → (HaveLength q (map f zs) → IsTrue d) → HavePlayers (map f xs) × HaveEntries (map f xs) × (¬ IsEven (map f xs))
-      uneven b d ys zs e passed entries g failed even = (
-        players,
-        subst (λ (l : List X). HaveEntries (map f l)) e (entries passed),
-        λ h. false≢true (sym failed ∙ even (subst (λ (l : List X). HaveLength q (map f l)) (sym g) (subst (λ (k : ℕ). HaveLength k (map f xs)) (sym sellers) h))),
-      )
+      uneven b d ys zs e passed entries g failed even =
+          (players, good_entries f xs b ys e passed entries, bad_lengths f xs q d zs sellers g failed even)

@@ -1,10 +1,10 @@
 -- Rows that make a market.
 use Rattle.std.proofs.Common.{◌≡◌, ℕ, ◌≤◌, ◌⊎◌, ◌<◌, Bool, true, false, IsTrue, List, length, map, ℤ, get_or, inl, inr, sym, ap, subst, ◌∙◌, arith}
 use Rattle.std.proofs.lemmas.List.{length-map}
-use Rattle.std.proofs.lemmas.Bool.{false≢true}
 use Rattle.matrices.specs.Rows.{HaveEntries, HaveLength}
 use Rattle.matrices.proofs.Rows.{row_read}
 use Rattle.assignment_games.specs.Assignments.{seller_count, IsEven}
+use Rattle.assignment_games.proofs.Evenness.{sellers_counted, good_entries, bad_entries, bad_lengths}
 use Rattle.big_assignment.specs.Markets.{IsMarket, HavePlayers}
 
 -- rows that were tested for p buyers and q sellers
@@ -42,7 +42,7 @@ module _ {X : Type 0} (f : X → List ℤ) (xs : List X) (p : ℕ) (rows : p ≡
   -- of q sellers in the first
   module _ (v : X) (q : ℕ) (some : 1 ≤ p) (small : p ≤ 32) (first : v ≡ get_or xs 0 v) (columns : q ≡ length (f v)) where
     sellers : q ≡ seller_count (map f xs)
-    sellers = columns ∙ ap (λ (r : List ℤ). length r) (row_read f xs 0 v (omega (arith, rows, some)) first)
+    sellers = sellers_counted f xs p q v rows some first columns
 
     pub no_sellers : (q < 1) ⊎ ((1 ≤ q) × (32 < q)) → ¬ HavePlayers (map f xs)
     no_sellers fails = λ players.
@@ -59,12 +59,8 @@ module _ {X : Type 0} (f : X → List ℤ) (xs : List X) (p : ℕ) (rows : p ≡
           (omega (arith, rows, some, same), omega (arith, rows, small, same), omega (arith, sellers, some_q), omega (arith, sellers, few_q))
 
       pub no_entries : (b : Bool) (ys : List X) → ys ≡ xs → b ≡ false → (HaveEntries (map f ys) → IsTrue b) → HavePlayers (map f xs) × (¬ HaveEntries (map f xs))
-      no_entries b ys e failed entries =
-          (players, λ h. false≢true (sym failed ∙ entries (subst (λ (l : List X). HaveEntries (map f l)) (sym e) h)))
+      no_entries b ys e failed entries = (players, bad_entries f xs b ys e failed entries)
 
       pub uneven : (b d : Bool) (ys zs : List X) → ys ≡ xs → b ≡ true → (IsTrue b → HaveEntries (map f ys)) → zs ≡ xs → d ≡ false → (HaveLength q (map f zs) → IsTrue d) → HavePlayers (map f xs) × HaveEntries (map f xs) × (¬ IsEven (map f xs))
-      uneven b d ys zs e passed entries g failed even = (
-        players,
-        subst (λ (l : List X). HaveEntries (map f l)) e (entries passed),
-        λ h. false≢true (sym failed ∙ even (subst (λ (l : List X). HaveLength q (map f l)) (sym g) (subst (λ (k : ℕ). HaveLength k (map f xs)) (sym sellers) h))),
-      )
+      uneven b d ys zs e passed entries g failed even =
+          (players, good_entries f xs b ys e passed entries, bad_lengths f xs q d zs sellers g failed even)
