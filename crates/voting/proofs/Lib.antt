@@ -9,3 +9,4 @@ pub mod Counting
 pub mod WholeUnits
 pub mod Pivots
 pub mod Tables
+mod Quotas

@@ -1,0 +1,57 @@
+-- What a quota and weights are tested for.
+use Rattle.std.proofs.Common.{◌≡◌, ℕ, zero, suc, ◌<◌, ◌≤◌, eqb, Bool, true, false, List, [], ◌∷◌, length, map, sum, fold, All, ◌+◌, ◌^◌, refl, ap, ℤ, pos, nat_abs, unsigned_abs, sym, ◌∙◌, arith}
+use Rattle.std.specs.List.{sum_by}
+use Rattle.std.proofs.lemmas.List.{length-map}
+use Rattle.std.proofs.lemmas.Int.{ints}
+use Rattle.std.proofs.lemmas.Bool.{false≢true}
+use lib.Signed.{lt_z}
+use Rattle.voting.specs.Voting.{HavePlayers, IsQuota, IsVoting, voting}
+
+not_zero : (l : ℕ) (b : Bool) → b ≡ eqb l 0 → b ≡ false → 1 ≤ l
+not_zero zero b e f = absurd (false≢true (sym f ∙ e))
+not_zero (suc l) b e f = omega arith
+
+pub have_players : (weights : List ℤ) (l k : ℕ) (b : Bool) → l ≡ length weights → b ≡ eqb l 0 → b ≡ false → k ≡ l → k ≤ 32 → HavePlayers weights
+have_players weights l k b all e f same few =
+    let some = not_zero l b e f in
+    (omega (arith, all, some), omega (arith, all, same, few))
+
+-- a quota z
+module _ (quota z : ℤ) (weights : List ℤ) (total : ℕ) (kept : z ≡ quota) (sums : total ≡ sum_by unsigned_abs weights) where
+  pub is_quota : total ≤ 1000 → lt_z z (pos 1) ≡ false → nat_abs z ≤ total → IsQuota quota weights
+  is_quota light low reached = record {
+    light = omega (arith, sums, light);
+    positive = omega (arith, ints, kept, low);
+    reached = omega (arith, ints, kept, low, reached, sums);
+  }
+
+  pub same_quota : lt_z z (pos 1) ≡ false → pos (nat_abs z) ≡ quota
+  same_quota low = omega (arith, ints, kept, low)
+
+  pub too_heavy : 1000 < total → ¬ IsQuota quota weights
+  too_heavy heavy = λ q. omega (arith, sums, heavy, q.light)
+
+  pub too_low : lt_z z (pos 1) ≡ true → ¬ IsQuota quota weights
+  too_low low = λ q. omega (arith, ints, kept, low, q.positive)
+
+  pub too_high : total < nat_abs z → ¬ IsQuota quota weights
+  too_high high = λ q. omega (arith, ints, kept, high, sums, q.positive, q.reached)
+
+same_sum : (a : ℕ) (ws : List ℕ) → fold (λ s z. s + unsigned_abs z) a (map pos ws) ≡ fold ◌+◌ a ws
+same_sum a [] = refl
+same_sum a (w ∷ ws) = same_sum (a + w) ws
+
+-- the numbers that are kept
+pub is_voting : (quota z : ℤ) (weights : List ℤ) (ws : List ℕ) → z ≡ quota → map pos ws ≡ weights → All (λ w. w < 2 ^ 40) ws → HavePlayers weights → IsQuota quota weights → IsVoting (voting (nat_abs z) ws)
+is_voting quota z weights ws kept same small players q =
+    let count = ap length same in
+    let long = length-map ws pos in
+    let sums : sum_by unsigned_abs weights ≡ sum ws = ap (sum_by unsigned_abs) (sym same) ∙ same_sum 0 ws in
+    record {
+      some = omega (arith, players.0, count, long);
+      few = omega (arith, players.1, count, long);
+      small = small;
+      light = omega (arith, q.light, sums);
+      positive = omega (arith, ints, kept, q.positive);
+      reached = omega (arith, ints, kept, q.positive, q.reached, sums);
+    }
