@@ -3,3 +3,4 @@ pub mod Excesses
 pub mod LeastGreatest
 pub mod Totals
 pub mod Splits
+mod Estates
