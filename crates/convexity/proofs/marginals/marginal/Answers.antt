@@ -1,9 +1,12 @@
-use Rattle.std.proofs.Common.{◌≡◌, ◌<◌, ◌+◌, ◌^◌, ◌-ℤ◌, get_or, to_z, of_z, unsigned_abs, arith, ap, ◌∙◌}
+use Rattle.std.proofs.Common.{◌≡◌, ◌<◌, ◌+◌, ◌^◌, ◌-ℤ◌, get_or, pos, to_z, of_z, unsigned_abs, arith, ap, ◌∙◌}
 use Rattle.std.proofs.lemmas.Int.{ints, fits_signed_from_abs}
 use mir.Syntax.{w64, w128}
 use Rattle.definitions.proofs.Casts.{cast_kept}
+use Rattle.definitions.specs.Games.{IsShares}
+use Rattle.definitions.proofs.Given.{is_some}
+use Rattle.worth_core.specs.Allocations.{allocation}
 use Rattle.convexity.proofs.Search.{with_one}
-use Rattle.convexity.proofs.Partway.{partway_start, partway_next, partway_end, next_of}
+use Rattle.convexity.proofs.Partway.{partway_start, partway_next, partway_end, partway_fit, next_of}
 use Rattle.convexity.proofs.MarginalCore.{marginal_in_core}
 use Rattle.convexity.proofs.marginals.marginal.Goals as goal
 
@@ -55,3 +58,15 @@ returns-clause-core g c = λ convex.
     let made = rw c.unwrap.ensures at c.new.ensures in
     let marginal = partway_end game order c.loop-k.k c.loop-k.front _ c.loop-k.num.items c.loop-k.invariant (omega (arith, c.loop-k-test.false)) in
     marginal_in_core game order c.unwrap.result c.players-n.ensures.laws.nobody c.requires (rw made.0 marginal) convex
+
+pub unwrap-requires : goal.unwrap-requires
+unwrap-requires g c =
+    let game = g.W.Worth.game c.args.game.now in
+    is_some (IsShares (allocation c.loop-k.num.items (pos 1))) _ c.new.result c.new.ensures (partway_fit game c.args.order.now c.loop-k.k c.loop-k.front _ c.loop-k.num.items c.players-n.ensures.laws c.loop-k.invariant)
+
+pub returns-clause-marginal : goal.returns-clause-marginal
+returns-clause-marginal g c =
+    let game = g.W.Worth.game c.args.game.now in
+    let made = rw c.unwrap.ensures at c.new.ensures in
+    let marginal = partway_end game c.args.order.now c.loop-k.k c.loop-k.front _ c.loop-k.num.items c.loop-k.invariant (omega (arith, c.loop-k-test.false)) in
+    rw made.0 marginal
