@@ -8,7 +8,7 @@ use worth_core::Worth;
 // 538831, 184278 and 323644, and the first below 2^16 are 33676, 11517 and 20227.
 #[test]
 fn games_of_two_players_from_seed_1(rt: HostRuntime) -> Result<(), Fail> {
-    for (kind, first, second, both) in [
+    for &(kind, first, second, both) in &[
         (Kind::Table, 0, 0, 538831),
         (Kind::Airport, -538831, -184278, -538831),
         (Kind::Bankruptcy, 177276, 0, 361554),
@@ -26,7 +26,7 @@ fn games_of_two_players_from_seed_1(rt: HostRuntime) -> Result<(), Fail> {
 
 #[test]
 fn games_of_five_players_from_the_greatest_seed(rt: HostRuntime) -> Result<(), Fail> {
-    for (kind, last, first_and_last, all) in [
+    for &(kind, last, first_and_last, all) in &[
         (Kind::Table, 0, 274226, 776825),
         (Kind::Airport, -278825, -509756, -854995),
         (Kind::Bankruptcy, 0, 0, 1050138),
@@ -44,7 +44,7 @@ fn games_of_five_players_from_the_greatest_seed(rt: HostRuntime) -> Result<(), F
 
 #[test]
 fn each_kind_has_its_least_and_greatest_size(rt: HostRuntime) -> Result<(), Fail> {
-    for (kind, least, greatest) in [
+    for &(kind, least, greatest) in &[
         (Kind::Table, 1, 16),
         (Kind::Airport, 1, 64),
         (Kind::Bankruptcy, 1, 64),

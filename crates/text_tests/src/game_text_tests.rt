@@ -8,7 +8,7 @@ mod votes;
 
 use coalitions::Coalition;
 use definitions::Measure;
-use game_text::{Command, Game, Refusal, TextFault, read_document};
+use game_text::{Command, Document, Game, Refusal, TextFault, read_document};
 use std::alloc::Global;
 use std::process::Abort;
 use std::test::Fail;
@@ -22,6 +22,12 @@ pub(crate) fn document(alloc: Global, game: &str, shares: &str) -> Result<String
     text.push_str(shares)?;
     text.push_str("}")?;
     Ok(text)
+}
+
+// The document of this game and these shares.
+pub(crate) fn proposal(alloc: Global, game: &str, shares: &str) -> Result<Document, Fail> {
+    let text = document(alloc, game, shares)?;
+    Ok(read_document(alloc, text.as_bytes(), Command::Propose)?)
 }
 
 // Why bytes give no document.
@@ -42,7 +48,7 @@ pub(crate) fn fault_in(alloc: Global, game: &str, shares: &str) -> Result<Option
 
 #[test]
 fn other_kinds_keys_and_words_are_refused(rt: HostRuntime) {
-    for text in [
+    for text in &[
         "[]",
         "{\"shares\":[1]}",
         "{\"game\":{\"class\":\"airport\",\"costs\":[1]}}",
@@ -89,7 +95,7 @@ fn other_kinds_keys_and_words_are_refused(rt: HostRuntime) {
 
 #[test]
 fn of_two_refusals_the_first_is_given(rt: HostRuntime) -> Result<(), Fail> {
-    for (game, shares, refusal) in [
+    for &(game, shares, refusal) in &[
         (
             "{\"class\":\"airport\",\"cost\":[],\"costs\":[]}",
             "[1]",
@@ -178,7 +184,7 @@ fn of_two_refusals_the_first_is_given(rt: HostRuntime) -> Result<(), Fail> {
 
 #[test]
 fn bytes_are_at_most_2_mib(rt: HostRuntime) -> Result<(), Fail> {
-    for (count, refusal) in [(2_097_153, Refusal::TooLong), (2_097_152, Refusal::NotJson)] {
+    for &(count, refusal) in &[(2_097_153, Refusal::TooLong), (2_097_152, Refusal::NotJson)] {
         let bytes = blanks(rt.alloc(), count)?;
         let fault = fault_of(rt.alloc(), &bytes);
         assert_eq!(rt; fault, Some(TextFault::Refused(refusal)));
@@ -188,12 +194,12 @@ fn bytes_are_at_most_2_mib(rt: HostRuntime) -> Result<(), Fail> {
 
 #[test]
 fn bytes_are_json(rt: HostRuntime) {
-    for (bytes, refusal) in [
-        (b"".as_slice(), Refusal::NotJson),
-        (b"{\"game\":{\"class\":".as_slice(), Refusal::NotJson),
-        (b"{\"game\":{},}".as_slice(), Refusal::NotJson),
-        (b"\"\xff\"".as_slice(), Refusal::NotJson),
-        (b"[1e999]".as_slice(), Refusal::NotJson),
+    for &(bytes, refusal) in &[
+        (b"" as &[u8], Refusal::NotJson),
+        (b"{\"game\":{\"class\":" as &[u8], Refusal::NotJson),
+        (b"{\"game\":{},}" as &[u8], Refusal::NotJson),
+        (b"\"\xff\"" as &[u8], Refusal::NotJson),
+        (b"[1e999]" as &[u8], Refusal::NotJson),
     ] {
         assert_eq!(rt;
             fault_of(rt.alloc(), bytes),
@@ -205,7 +211,7 @@ fn bytes_are_json(rt: HostRuntime) {
 // Of a key that comes twice the last counts. A newline may stand at the end.
 #[test]
 fn the_last_of_two_equal_keys_counts(rt: HostRuntime) {
-    for (text, refusal) in [
+    for &(text, refusal) in &[
         (
             "{\"game\":{\"class\":\"airport\",\"costs\":[]},\"game\":{\"class\":\"airport\",\"costs\":[1]},\"shares\":[1]}\n",
             None,
@@ -240,7 +246,7 @@ fn payments_are_negated_shares_over_the_least_denominator(rt: HostRuntime) -> Re
     let game = "{\"class\":\"airport\",\"costs\":[2,4,6]}";
     let text = document(rt.alloc(), game, "[\"3/4\",-1,\"5/6\"]")?;
     let read = read_document(rt.alloc(), text.as_bytes(), Command::Propose)?;
-    let x = read.shares.ok_or("no shares")?;
+    let x = read.shares.as_ref().ok_or("no shares")?;
     assert!(rt; x.players() == 3 && read.game.players() == 3);
     assert!(rt; read.game.is_cost());
     assert_eq!(rt;
@@ -261,7 +267,7 @@ fn sparse_tables_list_some_coalitions_by_names(rt: HostRuntime) -> Result<(), Fa
         "{\"class\":\"table\",\"default\":-5,\"names\":[\"a\",\"b\"],\"players\":2,\"sparse\":[[[\"b\",1],7]]}";
     let text = document(rt.alloc(), game, "[\"1/3\",\"-1/3\"]")?;
     let read = read_document(rt.alloc(), text.as_bytes(), Command::Propose)?;
-    let x = read.shares.ok_or("no shares")?;
+    let x = read.shares.as_ref().ok_or("no shares")?;
     assert!(rt; x.players() == 2 && read.game.players() == 2);
     assert!(rt; !read.game.is_cost());
     assert_eq!(rt;
@@ -276,7 +282,7 @@ fn sparse_tables_list_some_coalitions_by_names(rt: HostRuntime) -> Result<(), Fa
 // The worked proposals: who is blocked by whom.
 #[test]
 fn games_answer_with_the_bodies_of_their_classes(rt: HostRuntime) -> Result<(), Fail> {
-    for (game, shares, blocker) in [
+    for &(game, shares, blocker) in &[
         (
             "{\"class\":\"airport\",\"costs\":[2,4,6]}",
             "[3,1,2]",
@@ -298,11 +304,10 @@ fn games_answer_with_the_bodies_of_their_classes(rt: HostRuntime) -> Result<(), 
             None,
         ),
     ] {
-        let text = document(rt.alloc(), game, shares)?;
-        let read = read_document(rt.alloc(), text.as_bytes(), Command::Propose)?;
-        let x = read.shares.ok_or("no shares")?;
+        let read = proposal(rt.alloc(), game, shares)?;
+        let x = read.shares.as_ref().ok_or("no shares")?;
         assert!(rt; x.players() == 3 && read.game.players() == 3);
-        assert_eq!(rt; read.game.blocker(&x), blocker, "on {game}");
+        assert_eq!(rt; read.game.blocker(x), blocker, "on {game}");
     }
     Ok(())
 }
@@ -314,9 +319,14 @@ fn refusals_are_numbered_from_1(rt: HostRuntime) {
     assert_eq!(rt; Refusal::Quota.number(), 13);
 }
 
+// How excess is measured in this game with these shares.
+fn measure_in(alloc: Global, game: &str, shares: &str) -> Result<Measure, Fail> {
+    Ok(proposal(alloc, game, shares)?.measure)
+}
+
 #[test]
 fn every_class_may_say_how_excess_is_measured(rt: HostRuntime) -> Result<(), Fail> {
-    for (game, shares, measure) in [
+    for &(game, shares, measure) in &[
         (
             "{\"class\":\"airport\",\"costs\":[1]}",
             "[1]",
@@ -353,9 +363,8 @@ fn every_class_may_say_how_excess_is_measured(rt: HostRuntime) -> Result<(), Fai
             Measure::PerHead,
         ),
     ] {
-        let text = document(rt.alloc(), game, shares)?;
-        let read = read_document(rt.alloc(), text.as_bytes(), Command::Propose)?;
-        assert!(rt; read.measure == measure, "on {game}");
+        let found = measure_in(rt.alloc(), game, shares)?;
+        assert!(rt; found == measure, "on {game}");
     }
     Ok(())
 }

@@ -13,7 +13,7 @@ fn write<K: Sink>(sink: &mut K, piece: &[u8]) -> Option<usize> {
 fn a_source_gives_its_bytes_in_order_and_then_ends(rt: HostRuntime) -> Result<(), Fail> {
     let mut source = MemorySource::new(b"abcdef".to_vec(rt.alloc())?);
     let mut buf = [0; 4];
-    for (count, front) in [(4, b"abcd"), (2, b"efcd"), (0, b"efcd")] {
+    for &(count, front) in &[(4, b"abcd"), (2, b"efcd"), (0, b"efcd")] {
         assert_eq!(rt; read(&mut source, &mut buf), Some(count));
         assert_eq!(rt; buf, *front);
     }
@@ -23,7 +23,7 @@ fn a_source_gives_its_bytes_in_order_and_then_ends(rt: HostRuntime) -> Result<()
 #[test]
 fn a_sink_takes_what_fits_and_then_fails(rt: HostRuntime) -> Result<(), Fail> {
     let mut sink = MemorySink::new(rt.alloc(), 5).ok().ok_or("memory")?;
-    for (count, taken) in [(Some(3), "abc"), (Some(2), "abcab"), (None, "abcab")] {
+    for &(count, taken) in &[(Some(3), "abc"), (Some(2), "abcab"), (None, "abcab")] {
         assert_eq!(rt; write(&mut sink, b"abc"), count);
         assert!(rt; sink.taken() == taken.as_bytes());
     }
@@ -37,7 +37,7 @@ fn a_failing_source_loses_nothing_at_its_failures(rt: HostRuntime) -> Result<(),
     let fails = [1, 2].to_vec(rt.alloc())?;
     let mut source = FailingSource::new(b"abcde".to_vec(rt.alloc())?, 2, fails);
     let mut buf = [0; 4];
-    for (count, front) in [
+    for &(count, front) in &[
         (Some(2), b"ab\0\0"),
         (None, b"ab\0\0"),
         (None, b"ab\0\0"),
@@ -57,7 +57,7 @@ fn a_failing_sink_loses_nothing_at_its_failures(rt: HostRuntime) -> Result<(), F
     let mut sink = FailingSink::new(rt.alloc(), 5, 2, fails)
         .ok()
         .ok_or("memory")?;
-    for (count, taken) in [
+    for &(count, taken) in &[
         (None, ""),
         (Some(2), "ab"),
         (None, "ab"),

@@ -83,7 +83,7 @@ fn what_is_said_of_the_core_has_its_line(rt: HostRuntime) -> Result<(), Fail> {
 
 #[test]
 fn shapley_shares_have_their_line(rt: HostRuntime) -> Result<(), Fail> {
-    for (is_cost, line) in [
+    for &(is_cost, line) in &[
         (
             true,
             "{\"answer\":\"shapley\",\"shares\":[\"2/3\",\"5/3\",\"11/3\",\"-2\"]}\n",
@@ -104,7 +104,7 @@ fn shapley_shares_have_their_line(rt: HostRuntime) -> Result<(), Fail> {
 fn verdicts_have_their_lines(rt: HostRuntime) -> Result<(), Fail> {
     let yes = "{\"answer\":\"yes\"}\n";
     assert!(rt; has_line(rt.alloc(), Answer::Verdict(Verdict::Yes), yes)?);
-    for (reason, line) in [
+    for &(reason, line) in &[
         (Reason::NotEfficient, "{\"answer\":\"no\",\"reason\":1}\n"),
         (
             Reason::NotIndividual { player: 2 },
@@ -146,13 +146,6 @@ fn verdicts_have_their_lines(rt: HostRuntime) -> Result<(), Fail> {
             "{\"answer\":\"no\",\"level\":3,\"player\":64,\"reason\":6}\n",
         ),
         (
-            Reason::OutsideAbove {
-                level: 1,
-                excess: fraction(-3, 2)?,
-            },
-            "{\"answer\":\"no\",\"excess\":\"-3/2\",\"level\":1,\"reason\":7}\n",
-        ),
-        (
             Reason::NotAll { player: 0 },
             "{\"answer\":\"no\",\"player\":1,\"reason\":8}\n",
         ),
@@ -160,12 +153,21 @@ fn verdicts_have_their_lines(rt: HostRuntime) -> Result<(), Fail> {
         let verdict = Answer::Verdict(Verdict::No(reason));
         assert!(rt; has_line(rt.alloc(), verdict, line)?, "{line}");
     }
+    let above = Reason::OutsideAbove {
+        level: 1,
+        excess: fraction(-3, 2)?,
+    };
+    let line = "{\"answer\":\"no\",\"excess\":\"-3/2\",\"level\":1,\"reason\":7}\n";
+    assert!(rt;
+        has_line(rt.alloc(), Answer::Verdict(Verdict::No(above)), line)?,
+        "{line}"
+    );
     Ok(())
 }
 
 #[test]
 fn usages_have_their_lines(rt: HostRuntime) -> Result<(), Fail> {
-    for (kind, line) in [
+    for &(kind, line) in &[
         (UsageKind::Words, "{\"usage\":\"words\"}\n"),
         (UsageKind::Class, "{\"usage\":\"class\"}\n"),
         (UsageKind::Players, "{\"usage\":\"players\"}\n"),
@@ -177,7 +179,7 @@ fn usages_have_their_lines(rt: HostRuntime) -> Result<(), Fail> {
 
 #[test]
 fn refusals_have_their_lines(rt: HostRuntime) -> Result<(), Fail> {
-    for (refusal, line) in [
+    for &(refusal, line) in &[
         (Refusal::TooLong, "{\"number\":1,\"refused\":\"TooLong\"}\n"),
         (Refusal::NotJson, "{\"number\":2,\"refused\":\"NotJson\"}\n"),
         (Refusal::Shape, "{\"number\":3,\"refused\":\"Shape\"}\n"),

@@ -49,7 +49,7 @@ pub(crate) fn check_fault(
 // The text of a level, with another value at one key.
 fn level_with(alloc: Global, key: &str, value: &str) -> Result<String, Fail> {
     let mut text = String::from_str(alloc, "{")?;
-    for (name, usual, end) in [
+    for &(name, usual, end) in &[
         ("bounds", "[]", ","),
         ("coalitions", "[[[1],1],[[2,3],1]]", ","),
         ("earlier", "[]", ","),
@@ -73,7 +73,7 @@ fn fault_of_levels(alloc: Global, levels: &str) -> Result<Option<TextFault>, Fai
 
 #[test]
 fn each_line_of_the_form_of_a_level_is_tested(rt: HostRuntime) -> Result<(), Fail> {
-    for (key, value, refusal) in [
+    for &(key, value, refusal) in &[
         ("excess", "\"2/4\"", Some(Refusal::Certificate)),
         (
             "excess",
@@ -121,7 +121,7 @@ fn each_line_of_the_form_of_a_level_is_tested(rt: HostRuntime) -> Result<(), Fai
 
 #[test]
 fn weights_and_totals_are_integers_below_2_to_63(rt: HostRuntime) -> Result<(), Fail> {
-    for (key, value, refusal) in [
+    for &(key, value, refusal) in &[
         ("total", "9223372036854775807", None),
         ("coalitions", "[[[1],9223372036854775807],[[2,3],1]]", None),
         ("bounds", "[[1,9223372036854775807]]", None),
@@ -172,9 +172,18 @@ fn weights_and_totals_are_integers_below_2_to_63(rt: HostRuntime) -> Result<(), 
     Ok(())
 }
 
+// The text of two levels, the second with these earlier coalitions.
+fn levels_with(alloc: Global, earlier: &str) -> Result<String, Fail> {
+    let mut levels = level_with(alloc, "", "")?;
+    levels.push_str(",{\"bounds\":[],\"coalitions\":[[[1,2],1]],\"earlier\":")?;
+    levels.push_str(earlier)?;
+    levels.push_str(",\"excess\":\"-2\",\"total\":1}")?;
+    Ok(levels)
+}
+
 #[test]
 fn earlier_coalitions_stand_in_earlier_levels(rt: HostRuntime) -> Result<(), Fail> {
-    for (earlier, refusal) in [
+    for &(earlier, refusal) in &[
         ("[[[1],9223372036854775807]]", None),
         ("[[[1],9223372036854775808]]", Some(Refusal::Certificate)),
         ("[[[1],-9223372036854775807]]", None),
@@ -188,10 +197,7 @@ fn earlier_coalitions_stand_in_earlier_levels(rt: HostRuntime) -> Result<(), Fai
         ("[[[1,2],1]]", Some(Refusal::Certificate)),
         ("[[[1],1],[[1],1]]", Some(Refusal::Certificate)),
     ] {
-        let mut levels = level_with(rt.alloc(), "", "")?;
-        levels.push_str(",{\"bounds\":[],\"coalitions\":[[[1,2],1]],\"earlier\":")?;
-        levels.push_str(earlier)?;
-        levels.push_str(",\"excess\":\"-2\",\"total\":1}")?;
+        let levels = levels_with(rt.alloc(), earlier)?;
         let fault = fault_of_levels(rt.alloc(), &levels)?;
         assert_eq!(rt; fault, refusal.map(TextFault::Refused), "on {levels}");
     }
@@ -218,7 +224,7 @@ fn there_are_fewer_levels_than_players(rt: HostRuntime) -> Result<(), Fail> {
 
 #[test]
 fn other_kinds_keys_and_words_of_certificates_are_refused(rt: HostRuntime) -> Result<(), Fail> {
-    for (answer, certificate) in [
+    for &(answer, certificate) in &[
         ("\"nucleolus\"", "[]"),
         ("\"nucleolus\"", "{\"levels\":[]}"),
         ("\"nucleolus\"", "{\"mode\":\"players\"}"),

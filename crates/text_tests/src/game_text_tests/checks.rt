@@ -3,13 +3,16 @@ use super::blanks;
 use super::certificates::{AIRPORT, check_fault, whole_document};
 use coalitions::Coalition;
 use definitions::{Family, Mode};
-use game_text::{Command, Refusal, TextFault, read_document};
+use game_text::{Command, Document, Refusal, TextFault, read_document};
+use kohlberg::{Certificate, Level};
 use std::alloc::Global;
+use std::process::Abort;
 use std::test::Fail;
+use worth_core::Shares;
 
 #[test]
 fn certificates_are_tested_last(rt: HostRuntime) -> Result<(), Fail> {
-    for (certificate, game, shares, refusal) in [
+    for &(certificate, game, shares, refusal) in &[
         (
             "{\"levels\":[{\"bounds\":[[1]],\"coalitions\":[],\"earlier\":[],\"excess\":\"-1\",\"total\":1}],\"mode\":\"players\"}",
             "{\"class\":\"airport\",\"costs\":[]}",
@@ -65,7 +68,7 @@ fn certificates_are_tested_last(rt: HostRuntime) -> Result<(), Fail> {
 
 #[test]
 fn mode_span_is_for_at_most_16_players(rt: HostRuntime) -> Result<(), Fail> {
-    for (players, certificate, refusal) in [
+    for &(players, certificate, refusal) in &[
         (
             17,
             "{\"levels\":[],\"mode\":\"span\"}",
@@ -74,11 +77,7 @@ fn mode_span_is_for_at_most_16_players(rt: HostRuntime) -> Result<(), Fail> {
         (17, "{\"levels\":[],\"mode\":\"players\"}", None),
         (16, "{\"levels\":[],\"mode\":\"span\"}", None),
     ] {
-        let ones = ones(rt.alloc(), players)?;
-        let mut game = String::from_str(rt.alloc(), "{\"class\":\"airport\",\"costs\":")?;
-        game.push_str(&ones)?;
-        game.push_str("}")?;
-        let fault = check_fault(rt.alloc(), "\"nucleolus\"", certificate, &game, &ones)?;
+        let fault = fault_of_ones(rt.alloc(), players, certificate)?;
         assert_eq!(rt;
             fault,
             refusal.map(TextFault::Refused),
@@ -86,6 +85,19 @@ fn mode_span_is_for_at_most_16_players(rt: HostRuntime) -> Result<(), Fail> {
         );
     }
     Ok(())
+}
+
+// Why a certificate isn't one for so many players, who cost and pay 1 each.
+fn fault_of_ones(
+    alloc: Global,
+    players: u32,
+    certificate: &str,
+) -> Result<Option<TextFault>, Fail> {
+    let ones = ones(alloc, players)?;
+    let mut game = String::from_str(alloc, "{\"class\":\"airport\",\"costs\":")?;
+    game.push_str(&ones)?;
+    game.push_str("}")?;
+    check_fault(alloc, "\"nucleolus\"", certificate, &game, &ones)
 }
 
 // The text of an array of ones.
@@ -101,7 +113,7 @@ fn ones(alloc: Global, count: u32) -> Result<String, Fail> {
 // What a command doesn't need isn't looked at; but each key is known.
 #[test]
 fn commands_look_at_what_they_need(rt: HostRuntime) {
-    for (command, text, refusal) in [
+    for &(command, text, refusal) in &[
         (
             Command::Nucleolus,
             "{\"answer\":1,\"certificate\":[],\"game\":{\"class\":\"airport\",\"costs\":[2,4,6]},\"shares\":null}",
@@ -180,7 +192,7 @@ fn commands_look_at_what_they_need(rt: HostRuntime) {
 
 #[test]
 fn documents_to_check_have_at_most_8_mib(rt: HostRuntime) -> Result<(), Fail> {
-    for (command, count, refusal) in [
+    for &(command, count, refusal) in &[
         (Command::Check, 8_388_609, Refusal::TooLong),
         (Command::Check, 8_388_608, Refusal::NotJson),
         (Command::Nucleolus, 2_097_153, Refusal::TooLong),
@@ -207,25 +219,25 @@ const TWO_LEVELS: &str = "{\"levels\":[\
     {\"bounds\":[],\"coalitions\":[[[1,2],1],[[1,3],1]],\"earlier\":[[[1],-1]],\"excess\":\"-3/2\",\"total\":1}\
     ],\"mode\":\"players\"}";
 
-#[test]
-fn a_certificate_is_read_whole(rt: HostRuntime) -> Result<(), Fail> {
+// What a document to check says of the two levels.
+fn certified(alloc: Global) -> Result<(Option<Family>, Shares, Certificate), Fail> {
     let answer = "\"prenucleolus\"";
     let shares = "[\"1\",\"3/2\",\"7/2\"]";
-    let text = whole_document(rt.alloc(), answer, TWO_LEVELS, AIRPORT, shares)?;
-    let read = read_document(rt.alloc(), text.as_bytes(), Command::Check)?;
-    assert_eq!(rt; read.family, Some(Family::Preimputations));
-    let x = read.shares.ok_or("no shares")?;
-    assert!(rt; x.players() == 3);
-    assert_eq!(rt;
-        [x.num(0), x.num(1), x.num(2), x.den()].as_slice(),
-        [-2, -3, -7, 2].as_slice()
-    );
-    let found = read.certificate.ok_or("no certificate")?;
-    assert_eq!(rt; found.players(), 3);
-    assert_eq!(rt; found.mode(), Mode::Players);
-    let [first, second] = found.levels() else {
-        return Err(Fail::from("not two levels"));
-    };
+    let text = whole_document(alloc, answer, TWO_LEVELS, AIRPORT, shares)?;
+    let read = read_document(alloc, text.as_bytes(), Command::Check)?;
+    let Document {
+        family,
+        shares,
+        certificate,
+        ..
+    } = read;
+    let x = shares.ok_or("no shares")?;
+    let found = certificate.ok_or("no certificate")?;
+    Ok((family, x, found))
+}
+
+// The first level, field by field.
+fn expect_first(rt: &impl Abort, first: &Level) {
     assert_eq!(rt;
         (first.excess.num(), first.excess.den(), first.total),
         (-1, 1, 1)
@@ -235,6 +247,10 @@ fn a_certificate_is_read_whole(rt: HostRuntime) -> Result<(), Fail> {
         [(Coalition(1), 1), (Coalition(6), 1)].as_slice()
     );
     assert!(rt; first.earlier.is_empty() && first.bounds.is_empty());
+}
+
+// The second level, field by field.
+fn expect_second(rt: &impl Abort, second: &Level) {
     assert_eq!(rt;
         (second.excess.num(), second.excess.den(), second.total),
         (-3, 2, 1)
@@ -245,5 +261,23 @@ fn a_certificate_is_read_whole(rt: HostRuntime) -> Result<(), Fail> {
     );
     assert_eq!(rt; second.earlier.as_slice(), [(Coalition(1), -1)].as_slice());
     assert!(rt; second.bounds.is_empty());
+}
+
+#[test]
+fn a_certificate_is_read_whole(rt: HostRuntime) -> Result<(), Fail> {
+    let (family, x, found) = certified(rt.alloc())?;
+    assert_eq!(rt; family, Some(Family::Preimputations));
+    assert!(rt; x.players() == 3);
+    assert_eq!(rt;
+        [x.num(0), x.num(1), x.num(2), x.den()].as_slice(),
+        [-2, -3, -7, 2].as_slice()
+    );
+    assert_eq!(rt; found.players(), 3);
+    assert_eq!(rt; found.mode(), Mode::Players);
+    let [first, second] = found.levels() else {
+        return Err(Fail::from("not two levels"));
+    };
+    expect_first(&rt, first);
+    expect_second(&rt, second);
     Ok(())
 }

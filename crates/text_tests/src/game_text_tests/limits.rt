@@ -6,7 +6,7 @@ use std::test::Fail;
 
 #[test]
 fn games_keep_their_limits(rt: HostRuntime) -> Result<(), Fail> {
-    for (game, shares, refusal) in [
+    for &(game, shares, refusal) in &[
         (
             "{\"class\":\"table\",\"players\":0,\"sparse\":[]}",
             "[]",
@@ -145,7 +145,7 @@ const ONE_PLAYER: &str = "{\"class\":\"airport\",\"costs\":[1]}";
 
 #[test]
 fn shares_are_texts_of_fractions_within_their_limits(rt: HostRuntime) -> Result<(), Fail> {
-    for (shares, refusal) in [
+    for &(shares, refusal) in &[
         ("[1.5]", Some(Refusal::Number)),
         ("[\"2/4\"]", Some(Refusal::Number)),
         ("[\"+1\"]", Some(Refusal::Number)),
@@ -202,7 +202,7 @@ fn shares_are_texts_of_fractions_within_their_limits(rt: HostRuntime) -> Result<
 
 #[test]
 fn names_have_1_to_64_bytes(rt: HostRuntime) -> Result<(), Fail> {
-    for (names, refusal) in [
+    for &(names, refusal) in &[
         (
             "[\"xxxxxxxxxxxxxxxxxxxxxxxxxxxxxxxxxxxxxxxxxxxxxxxxxxxxxxxxxxxxxxxx\"]",
             None,
@@ -228,7 +228,7 @@ fn names_have_1_to_64_bytes(rt: HostRuntime) -> Result<(), Fail> {
 
 #[test]
 fn sparse_coalitions_are_sets_of_players(rt: HostRuntime) -> Result<(), Fail> {
-    for (pairs, refusal) in [
+    for &(pairs, refusal) in &[
         (
             "[[\"Ann\"],1],[[2,\"Élodie\"],2],[[\"Bob\",\"Ann\"],3]",
             None,

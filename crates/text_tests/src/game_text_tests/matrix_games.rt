@@ -1,6 +1,6 @@
 //! Games by their matrix: limits, refusals, and the worths that they have.
-use super::{document, fault_in, worths_of};
-use game_text::{Command, Refusal, TextFault, read_document};
+use super::{fault_in, proposal, worths_of};
+use game_text::{Refusal, TextFault};
 use std::alloc::Global;
 use std::test::Fail;
 use worth_core::Worth;
@@ -33,7 +33,7 @@ fn with_rows(alloc: Global, class: &str, row: &str, count: usize) -> Result<Stri
 
 #[test]
 fn matrices_keep_the_numbers_of_players(rt: HostRuntime) -> Result<(), Fail> {
-    for (class, row, count, refusal) in [
+    for &(class, row, count, refusal) in &[
         ("tree", "[0]", 1, Some(Refusal::Players)),
         ("tree", "[0,0]", 2, Some(Refusal::Proposal)),
         ("tree", SEVENTEEN_ZEROS, 17, None),
@@ -61,7 +61,7 @@ fn matrices_keep_the_numbers_of_players(rt: HostRuntime) -> Result<(), Fail> {
 
 #[test]
 fn matrices_are_refused_by_the_first_test(rt: HostRuntime) -> Result<(), Fail> {
-    for (game, refusal) in [
+    for &(game, refusal) in &[
         (
             "{\"class\":\"tree\",\"matrix\":[[0,1],[1,0]]}",
             Refusal::Proposal,
@@ -135,34 +135,33 @@ fn matrices_are_refused_by_the_first_test(rt: HostRuntime) -> Result<(), Fail> {
 
 #[test]
 fn links_cost_and_pairs_are_worth(rt: HostRuntime) -> Result<(), Fail> {
-    for (game, shares, is_cost, worths) in [
+    for &(game, shares, is_cost, worths) in &[
         (
             "{\"class\":\"tree\",\"matrix\":[[0,10,10],[10,0,1],[10,1,0]]}",
             "[10,1]",
             true,
-            [0, -10, -10, -11].as_slice(),
+            &[0i64, -10, -10, -11] as &[i64],
         ),
         (
             "{\"class\":\"assignment\",\"matrix\":[[5,8],[7,6]]}",
             "[2,2,5,6]",
             false,
-            [0, 0, 0, 0, 0, 5, 7, 7, 0, 8, 6, 8, 0, 8, 7, 15].as_slice(),
+            &[0i64, 0, 0, 0, 0, 5, 7, 7, 0, 8, 6, 8, 0, 8, 7, 15] as &[i64],
         ),
         (
             "{\"class\":\"market\",\"matrix\":[[5,8],[7,6]]}",
             "[2,2,5,6]",
             false,
-            [0, 0, 0, 0, 0, 5, 7, 7, 0, 8, 6, 8, 0, 8, 7, 15].as_slice(),
+            &[0i64, 0, 0, 0, 0, 5, 7, 7, 0, 8, 6, 8, 0, 8, 7, 15] as &[i64],
         ),
     ] {
-        let text = document(rt.alloc(), game, shares)?;
-        let read = read_document(rt.alloc(), text.as_bytes(), Command::Propose)?;
+        let read = proposal(rt.alloc(), game, shares)?;
         assert_eq!(rt; read.game.is_cost(), is_cost, "on {game}");
         let found = worths_of(&rt, rt.alloc(), &read.game)?;
         assert_eq!(rt; found.as_slice(), worths, "on {game}");
-        let x = read.shares.ok_or("no shares")?;
+        let x = read.shares.as_ref().ok_or("no shares")?;
         assert!(rt; x.players() == read.game.players());
-        assert_eq!(rt; read.game.blocker(&x), None, "on {game}");
+        assert_eq!(rt; read.game.blocker(x), None, "on {game}");
     }
     Ok(())
 }

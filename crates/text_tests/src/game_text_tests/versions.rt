@@ -1,6 +1,6 @@
 //! Games of version 2, whose numbers may be fraction texts.
-use super::{document, fault_in, worths_of};
-use game_text::{Command, Refusal, TextFault, read_document};
+use super::{fault_in, proposal, worths_of};
+use game_text::{Refusal, TextFault};
 use std::test::Fail;
 
 // One player whose number is within each limit, with that number in its place.
@@ -8,65 +8,64 @@ const SHARE: &str = "[0]";
 
 #[test]
 fn the_scale_is_the_least_common_denominator(rt: HostRuntime) -> Result<(), Fail> {
-    for (game, scale, worths) in [
+    for &(game, scale, worths) in &[
         (
             "{\"class\":\"table\",\"players\":2,\"version\":2,\"worths\":[\"1/2\",\"1/3\",\"7/6\"]}",
             6,
-            vec![in rt.alloc(); 0, 3, 2, 7]?,
+            [0, 3, 2, 7],
         ),
         (
             "{\"class\":\"table\",\"players\":2,\"version\":2,\"worths\":[\"1/65536\",0,1]}",
             65_536,
-            vec![in rt.alloc(); 0, 1, 0, 65_536]?,
+            [0, 1, 0, 65_536],
         ),
         (
             "{\"class\":\"cost-table\",\"default\":\"1/4\",\"players\":2,\"sparse\":[[[1],\"5/6\"]],\"version\":2}",
             12,
-            vec![in rt.alloc(); 0, -10, -3, -3]?,
+            [0, -10, -3, -3],
         ),
         (
             "{\"class\":\"airport\",\"costs\":[\"1/2\",2],\"version\":2}",
             2,
-            vec![in rt.alloc(); 0, -1, -4, -4]?,
+            [0, -1, -4, -4],
         ),
         (
             "{\"claims\":[\"1/3\",1],\"class\":\"bankruptcy\",\"estate\":\"1/2\",\"version\":2}",
             6,
-            vec![in rt.alloc(); 0, 0, 1, 3]?,
+            [0, 0, 1, 3],
         ),
         (
             "{\"class\":\"tree\",\"matrix\":[[0,\"1/2\",3],[\"1/2\",0,1],[3,1,0]],\"version\":2}",
             2,
-            vec![in rt.alloc(); 0, -1, -6, -3]?,
+            [0, -1, -6, -3],
         ),
         (
             "{\"class\":\"assignment\",\"matrix\":[[\"5/7\"]],\"version\":2}",
             7,
-            vec![in rt.alloc(); 0, 0, 0, 5]?,
+            [0, 0, 0, 5],
         ),
         (
             "{\"class\":\"market\",\"matrix\":[[\"5/7\"]],\"version\":2}",
             7,
-            vec![in rt.alloc(); 0, 0, 0, 5]?,
+            [0, 0, 0, 5],
         ),
         (
             "{\"class\":\"voting\",\"quota\":3,\"version\":2,\"weights\":[2,1]}",
             1,
-            vec![in rt.alloc(); 0, 0, 0, 1]?,
+            [0, 0, 0, 1],
         ),
         (
             "{\"class\":\"airport\",\"costs\":[1,2],\"version\":2}",
             1,
-            vec![in rt.alloc(); 0, -1, -2, -2]?,
+            [0, -1, -2, -2],
         ),
         (
             "{\"class\":\"airport\",\"costs\":[1,2],\"version\":1}",
             1,
-            vec![in rt.alloc(); 0, -1, -2, -2]?,
+            [0, -1, -2, -2],
         ),
     ] {
-        let text = document(rt.alloc(), game, "[\"1/2\",\"-1/5\"]")?;
-        let read = read_document(rt.alloc(), text.as_bytes(), Command::Propose)?;
+        let read = proposal(rt.alloc(), game, "[\"1/2\",\"-1/5\"]")?;
         assert_eq!(rt; read.scale, scale, "of {game}");
         let found = worths_of(&rt, rt.alloc(), &read.game)?;
         assert_eq!(rt; found.as_slice(), worths.as_slice(), "of {game}");
@@ -78,9 +77,8 @@ fn the_scale_is_the_least_common_denominator(rt: HostRuntime) -> Result<(), Fail
 fn shares_are_times_the_scale(rt: HostRuntime) -> Result<(), Fail> {
     let game =
         "{\"class\":\"table\",\"players\":2,\"version\":2,\"worths\":[\"1/2\",\"1/3\",\"7/6\"]}";
-    let text = document(rt.alloc(), game, "[\"1/3\",\"5/12\"]")?;
-    let read = read_document(rt.alloc(), text.as_bytes(), Command::Propose)?;
-    let x = read.shares.ok_or("no shares")?;
+    let read = proposal(rt.alloc(), game, "[\"1/3\",\"5/12\"]")?;
+    let x = read.shares.as_ref().ok_or("no shares")?;
     assert!(rt; x.players() == 2);
     assert_eq!(rt;
         [x.num(0), x.num(1), x.den()].as_slice(),
@@ -91,7 +89,7 @@ fn shares_are_times_the_scale(rt: HostRuntime) -> Result<(), Fail> {
 
 #[test]
 fn versions_are_1_and_2_and_texts_are_fractions(rt: HostRuntime) -> Result<(), Fail> {
-    for (game, refusal) in [
+    for &(game, refusal) in &[
         (
             "{\"class\":\"airport\",\"costs\":[\"1/2\"]}",
             Some(Refusal::Shape),
@@ -157,28 +155,31 @@ fn versions_are_1_and_2_and_texts_are_fractions(rt: HostRuntime) -> Result<(), F
     Ok(())
 }
 
+// A cost of a half, and a whole one.
+const HALVES: &str = "{\"class\":\"airport\",\"costs\":[\"1/2\"],\"version\":2}";
+
+const WHOLE: &str = "{\"class\":\"airport\",\"costs\":[1],\"version\":2}";
+
 #[test]
 fn shares_keep_their_limits_times_the_scale(rt: HostRuntime) -> Result<(), Fail> {
-    let halves = "{\"class\":\"airport\",\"costs\":[\"1/2\"],\"version\":2}";
-    let whole = "{\"class\":\"airport\",\"costs\":[1],\"version\":2}";
-    for (game, share, refusal) in [
+    for &(game, share, refusal) in &[
         // 2^64 below the line, and 2^63 times the scale
-        (halves, "[\"1/18446744073709551616\"]", None),
+        (HALVES, "[\"1/18446744073709551616\"]", None),
         (
-            whole,
+            WHOLE,
             "[\"1/18446744073709551616\"]",
             Some(Refusal::TooFine),
         ),
         // 2^109
-        (whole, "[\"649037107316853453566312041152512\"]", None),
+        (WHOLE, "[\"649037107316853453566312041152512\"]", None),
         (
-            halves,
+            HALVES,
             "[\"649037107316853453566312041152512\"]",
             Some(Refusal::TooFine),
         ),
         // 2^126, which leaves 128 bits times the scale
         (
-            halves,
+            HALVES,
             "[\"85070591730234615865843651857942052864\"]",
             Some(Refusal::TooFine),
         ),

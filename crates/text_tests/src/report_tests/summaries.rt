@@ -7,7 +7,7 @@ use worth_core::Shares;
 
 #[test]
 fn summaries_have_their_lines(rt: HostRuntime) -> Result<(), Fail> {
-    for (kind, is_cost, line) in [
+    for &(kind, is_cost, line) in &[
         (
             Kind::Table,
             false,
