@@ -5,7 +5,7 @@ use std::test::Fail;
 
 #[test]
 fn checks_the_worked_certificates(rt: HostRuntime) -> Result<(), Fail> {
-    for (input, line, status) in [
+    for &(input, line, status) in &[
         (
             "{\"answer\":\"nucleolus\",\"certificate\":{\"levels\":[{\"bounds\":[],\"coalitions\":[[[1],1],[[2,3],1]],\"earlier\":[],\
              \"excess\":\"-1\",\"total\":1},{\"bounds\":[],\"coalitions\":[[[1,2],1],[[1,3],1]],\"earlier\":[[[1],-1]],\"excess\":\"-3/2\",\

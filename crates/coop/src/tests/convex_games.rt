@@ -5,7 +5,7 @@ use std::test::Fail;
 
 #[test]
 fn convex_games_are_printed_with_their_shares(rt: HostRuntime) -> Result<(), Fail> {
-    for (input, line) in [
+    for &(input, line) in &[
         (
             "{\"game\":{\"class\":\"airport\",\"costs\":[2,4,6]}}",
             "{\"answer\":\"convex\",\"marginal\":[\"2\",\"2\",\"2\"],\"shapley\":[\"2/3\",\"5/3\",\"11/3\"]}\n",
@@ -31,7 +31,7 @@ fn convex_games_are_printed_with_their_shares(rt: HostRuntime) -> Result<(), Fai
 
 #[test]
 fn other_games_are_printed_with_their_first_failure(rt: HostRuntime) -> Result<(), Fail> {
-    for (input, line) in [
+    for &(input, line) in &[
         (
             "{\"game\":{\"class\":\"table\",\"players\":3,\"worths\":[0,0,1,0,1,1,1]}}",
             "{\"answer\":\"not convex\",\"deficit\":\"1\",\"i\":2,\"j\":3,\"set\":[1]}\n",
@@ -54,7 +54,7 @@ fn other_games_are_printed_with_their_first_failure(rt: HostRuntime) -> Result<(
 #[test]
 fn games_of_17_have_too_many_players_to_be_tested(rt: HostRuntime) -> Result<(), Fail> {
     let line = "{\"usage\":\"players\"}\n";
-    for input in [
+    for &input in &[
         "{\"game\":{\"class\":\"airport\",\"costs\":[1,1,1,1,1,1,1,1,1,1,1,1,1,1,1,1,1]}}",
         "{\"game\":{\"claims\":[1,1,1,1,1,1,1,1,1,1,1,1,1,1,1,1,1],\"class\":\"bankruptcy\",\"estate\":17}}",
     ] {

@@ -5,7 +5,7 @@ use std::test::Fail;
 
 #[test]
 fn prints_the_point_of_the_scheme(rt: HostRuntime) -> Result<(), Fail> {
-    for (input, line) in [
+    for &(input, line) in &[
         (
             "{\"game\":{\"class\":\"airport\",\"costs\":[2,4,6]}}",
             "{\"answer\":\"core point\",\"shares\":[\"1\",\"3/2\",\"7/2\"]}\n",
@@ -31,7 +31,7 @@ fn prints_the_point_of_the_scheme(rt: HostRuntime) -> Result<(), Fail> {
 
 #[test]
 fn prints_a_collection_where_the_core_is_empty(rt: HostRuntime) -> Result<(), Fail> {
-    for (input, line) in [
+    for &(input, line) in &[
         (
             "{\"game\":{\"class\":\"table\",\"players\":3,\"worths\":[0,0,1,0,1,1,1]}}",
             "{\"against\":\"2\",\"answer\":\"empty core\",\"collection\":[[[1,2],1],[[1,3],1],[[2,3],1]],\"k\":2,\"value\":\"3\"}\n",
@@ -49,7 +49,7 @@ fn prints_a_collection_where_the_core_is_empty(rt: HostRuntime) -> Result<(), Fa
 
 #[test]
 fn departments_and_tables_that_are_large_have_points(rt: HostRuntime) -> Result<(), Fail> {
-    for (input, front) in [
+    for &(input, front) in &[
         (
             "{\"game\":{\"class\":\"cost-table\",\"default\":18,\"names\":[\"Sales\",\"Ops\",\"Legal\",\"IT\",\"HR\"],\"players\":5,\
              \"sparse\":[[[\"Sales\"],6],[[\"Ops\"],6],[[\"Legal\"],6],[[\"IT\"],6],[[\"HR\"],6],[[\"Sales\",\"Ops\",\"Legal\",\"IT\",\"HR\"],20]]}}",

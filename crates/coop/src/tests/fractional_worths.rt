@@ -10,7 +10,7 @@ const TWO: &str =
 
 #[test]
 fn nucleoli_are_printed_over_the_scale(rt: HostRuntime) -> Result<(), Fail> {
-    for (game, part) in [
+    for &(game, part) in &[
         (TWO, "\"shares\":[\"2/3\",\"1/2\"]}\n"),
         (
             "{\"class\":\"table\",\"players\":2,\"version\":2,\"worths\":[\"1/65536\",0,1]}",
@@ -47,7 +47,7 @@ fn the_level_of_two_players_has_its_excess_over_the_scale(rt: HostRuntime) -> Re
 
 #[test]
 fn other_answers_are_over_the_scale(rt: HostRuntime) -> Result<(), Fail> {
-    for (command, input, line, status) in [
+    for &(command, input, line, status) in &[
         (
             "nucleolus",
             "{\"game\":{\"class\":\"table\",\"players\":2,\"version\":2,\"worths\":[\"1/65537\",0,1]}}",
@@ -121,7 +121,7 @@ fn other_answers_are_over_the_scale(rt: HostRuntime) -> Result<(), Fail> {
 
 #[test]
 fn matchings_deficits_and_surpluses_are_over_the_scale(rt: HostRuntime) -> Result<(), Fail> {
-    for (command, input, line, status) in [
+    for &(command, input, line, status) in &[
         (
             "matching",
             "{\"game\":{\"class\":\"market\",\"matrix\":[[\"5/2\"],[\"3/2\"]],\"version\":2}}",

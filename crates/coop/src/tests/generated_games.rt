@@ -20,7 +20,7 @@ fn made(alloc: Global, words: &[&str]) -> Result<(Status, Vec<u8>), Fail> {
 
 #[test]
 fn prints_what_it_found_of_a_generated_game(rt: HostRuntime) -> Result<(), Fail> {
-    for (words, line) in [
+    for &(words, line) in &[
         (
             ["table", "2", "1"],
             "{\"class\":\"table\",\"common\":\"2\",\"first\":\"538831/2\",\"greatest\":\"-538831/2\",\"last\":\"538831/2\",\"players\":2,\"seed\":1,\
@@ -55,7 +55,7 @@ fn prints_what_it_found_of_a_generated_game(rt: HostRuntime) -> Result<(), Fail>
 
 #[test]
 fn the_greatest_games_of_each_kind_are_answered_alike_twice(rt: HostRuntime) -> Result<(), Fail> {
-    for words in [
+    for &words in &[
         ["airport", "64", "7"],
         ["table", "12", "1"],
         ["bankruptcy", "64", "2147483647"],
@@ -79,7 +79,7 @@ fn are_no_command(alloc: Global, words: &[&str]) -> Result<bool, Fail> {
 
 #[test]
 fn a_kind_has_no_game_of_other_sizes(rt: HostRuntime) -> Result<(), Fail> {
-    for (kind, players, seed) in [
+    for &(kind, players, seed) in &[
         ("table", "0", "1"),
         ("table", "17", "1"),
         ("tree", "0", "1"),
@@ -98,7 +98,7 @@ fn a_kind_has_no_game_of_other_sizes(rt: HostRuntime) -> Result<(), Fail> {
 
 #[test]
 fn other_words_behind_gen_are_those_of_no_command(rt: HostRuntime) -> Result<(), Fail> {
-    for (kind, players, seed) in [
+    for &(kind, players, seed) in &[
         ("airport", "65", "7"),
         ("table", "02", "1"),
         ("table", "2", "01"),
@@ -160,7 +160,7 @@ fn table_document(alloc: Global, players: u32, masks: u32) -> Result<Vec<u8>, Fa
 #[test]
 fn a_generated_table_has_the_nucleolus_of_its_document(rt: HostRuntime) -> Result<(), Fail> {
     let alloc = rt.alloc();
-    for (players, masks, words) in [
+    for &(players, masks, words) in &[
         (3, 8, ["table", "3", "1"]),
         (12, 4096, ["table", "12", "1"]),
     ] {

@@ -17,7 +17,7 @@ const NOT_JSON: &str = "{\"number\":2,\"refused\":\"NotJson\"}\n";
 // A document to check of these levels, this game and these shares.
 fn document(alloc: Global, levels: &str, game: &str, shares: &str) -> Result<String, Fail> {
     let mut text = String::from_str(alloc, FRONT)?;
-    for part in [
+    for &part in &[
         levels,
         "],\"mode\":\"players\"},\"game\":",
         game,
@@ -47,7 +47,7 @@ fn checked(alloc: Global, text: &str, line: &str) -> Result<(Status, bool), Fail
 
 #[test]
 fn each_change_of_a_certificate_has_its_answer(rt: HostRuntime) -> Result<(), Fail> {
-    for (levels, line, status) in [
+    for &(levels, line, status) in &[
         // The certificate as printed.
         (LEVELS, "{\"answer\":\"yes\"}\n", Status::Done),
         // A weight of 2^63 - 1.
@@ -151,7 +151,7 @@ fn no_front_of_a_line_is_a_document(rt: HostRuntime) -> Result<(), Fail> {
 #[test]
 fn a_game_of_brackets_alone_is_no_json_that_is_read(rt: HostRuntime) -> Result<(), Fail> {
     let mut game = String::new(rt.alloc());
-    for bracket in ["[", "]"] {
+    for &bracket in &["[", "]"] {
         for _ in 0..200 {
             game.push_str(bracket)?;
         }

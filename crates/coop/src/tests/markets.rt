@@ -6,7 +6,7 @@ use std::test::Fail;
 
 #[test]
 fn markets_are_printed_with_their_pairs(rt: HostRuntime) -> Result<(), Fail> {
-    for (input, line) in [
+    for &(input, line) in &[
         (
             "{\"game\":{\"class\":\"market\",\"matrix\":[[5],[3]]}}",
             "{\"answer\":\"matching\",\"buyers best\":[\"2\",\"0\",\"3\"],\"pairs\":[[1,3]],\"sellers best\":[\"0\",\"0\",\"5\"],\"value\":\"5\"}\n",
@@ -72,7 +72,7 @@ fn each_of_32_buyers_is_matched_with_its_own_seller(rt: HostRuntime) -> Result<(
 fn markets_are_refused_by_the_first_cause(rt: HostRuntime) -> Result<(), Fail> {
     let tall = diagonal(rt.alloc(), 33, 1)?;
     let wide = diagonal(rt.alloc(), 1, 33)?;
-    for (input, line) in [
+    for &(input, line) in &[
         (tall.as_str(), "{\"number\":4,\"refused\":\"Players\"}\n"),
         (wide.as_str(), "{\"number\":4,\"refused\":\"Players\"}\n"),
         (
@@ -96,7 +96,7 @@ fn markets_are_refused_by_the_first_cause(rt: HostRuntime) -> Result<(), Fail> {
 
 #[test]
 fn matching_is_for_markets_alone(rt: HostRuntime) -> Result<(), Fail> {
-    for input in [
+    for &input in &[
         "{\"game\":{\"class\":\"table\",\"players\":1,\"worths\":[5]}}",
         "{\"game\":{\"class\":\"cost-table\",\"players\":1,\"worths\":[5]}}",
         "{\"game\":{\"class\":\"airport\",\"costs\":[2,4,6]}}",
@@ -116,7 +116,7 @@ fn matching_is_for_markets_alone(rt: HostRuntime) -> Result<(), Fail> {
 fn markets_are_for_matching_alone(rt: HostRuntime) -> Result<(), Fail> {
     let input =
         "{\"answer\":\"nucleolus\",\"certificate\":{\"levels\":[],\"mode\":\"players\"},\"game\":{\"class\":\"market\",\"matrix\":[[9]]},\"shares\":[4,5]}";
-    for command in [
+    for &command in &[
         "nucleolus",
         "prenucleolus",
         "propose",

@@ -10,7 +10,7 @@ const MARKET: &str = "{\"game\":{\"class\":\"assignment\",\"matrix\":[[5,8],[7,6
 
 #[test]
 fn the_later_player_of_a_network_links_to_the_nearer(rt: HostRuntime) -> Result<(), Fail> {
-    for (command, line) in [
+    for &(command, line) in &[
         (
             "bird",
             "{\"answer\":\"bird\",\"shares\":[\"10\",\"1\"],\"tree\":[[0,1,10],[1,2,1]]}\n",
@@ -32,7 +32,7 @@ fn the_later_player_of_a_network_links_to_the_nearer(rt: HostRuntime) -> Result<
 
 #[test]
 fn nucleoli_of_networks_and_markets_are_checked(rt: HostRuntime) -> Result<(), Fail> {
-    for (input, end) in [
+    for &(input, end) in &[
         (NETWORK, "\"shares\":[\"11/2\",\"11/2\"]}\n"),
         (MARKET, "\"shares\":[\"7/2\",\"7/2\",\"7/2\",\"9/2\"]}\n"),
         (
@@ -56,7 +56,7 @@ fn nucleoli_of_networks_and_markets_are_checked(rt: HostRuntime) -> Result<(), F
 
 #[test]
 fn certificates_of_a_market_are_judged(rt: HostRuntime) -> Result<(), Fail> {
-    for (input, line, status) in [
+    for &(input, line, status) in &[
         (
             "{\"answer\":\"nucleolus\",\"certificate\":{\"levels\":[{\"bounds\":[],\"coalitions\":[[[2,3],1],[[1,4],1]],\"earlier\":[],\
              \"excess\":\"0\",\"total\":1},{\"bounds\":[],\"coalitions\":[[[1,3],1],[[2,4],1]],\"earlier\":[],\"excess\":\"-2\",\"total\":1},\
@@ -81,7 +81,7 @@ fn certificates_of_a_market_are_judged(rt: HostRuntime) -> Result<(), Fail> {
 
 #[test]
 fn proposals_for_networks_and_markets_are_judged(rt: HostRuntime) -> Result<(), Fail> {
-    for (input, line, status) in [
+    for &(input, line, status) in &[
         (
             "{\"game\":{\"class\":\"tree\",\"matrix\":[[0,10,10],[10,0,1],[10,1,0]]},\"shares\":[10,1]}",
             "{\"answer\":\"core\"}\n",
@@ -111,7 +111,7 @@ fn proposals_for_networks_and_markets_are_judged(rt: HostRuntime) -> Result<(), 
 
 #[test]
 fn matrices_that_fit_no_class_are_refused(rt: HostRuntime) -> Result<(), Fail> {
-    for input in [
+    for &input in &[
         "{\"game\":{\"class\":\"tree\",\"matrix\":[[0,1],[2,0]]}}",
         "{\"game\":{\"class\":\"assignment\",\"matrix\":[[5,8],[7]]}}",
     ] {
@@ -124,7 +124,7 @@ fn matrices_that_fit_no_class_are_refused(rt: HostRuntime) -> Result<(), Fail> {
 
 #[test]
 fn bird_is_for_trees_alone(rt: HostRuntime) -> Result<(), Fail> {
-    for input in [
+    for &input in &[
         "{\"game\":{\"class\":\"airport\",\"costs\":[2,4,6]}}",
         "{\"game\":{\"class\":\"table\",\"players\":1,\"worths\":[5]}}",
         MARKET,

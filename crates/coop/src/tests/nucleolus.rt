@@ -6,7 +6,7 @@ use std::test::Fail;
 
 // Whether `check` says yes to the line of `nucleolus`, and to that of `prenucleolus`.
 pub(crate) fn is_checked(alloc: Global, input: &str) -> Result<bool, Fail> {
-    for command in ["nucleolus", "prenucleolus"] {
+    for &command in &["nucleolus", "prenucleolus"] {
         let (status, line) = printed(alloc, command, input.as_bytes())?;
         let yes = run_on(alloc, &["check"], &line, 100, "{\"answer\":\"yes\"}\n")?;
         if status != Status::Done || yes != (Status::Done, true) {
@@ -18,7 +18,7 @@ pub(crate) fn is_checked(alloc: Global, input: &str) -> Result<bool, Fail> {
 
 #[test]
 fn prints_shares_and_certificate(rt: HostRuntime) -> Result<(), Fail> {
-    for (input, line) in [
+    for &(input, line) in &[
         (
             "{\"game\":{\"class\":\"airport\",\"costs\":[2,4,6]}}",
             "{\"answer\":\"nucleolus\",\"certificate\":{\"levels\":[{\"bounds\":[],\"coalitions\":[[[1],1],[[2,3],1]],\"earlier\":[],\
@@ -59,7 +59,7 @@ fn prints_shares_and_certificate(rt: HostRuntime) -> Result<(), Fail> {
 
 #[test]
 fn prints_shares_that_are_checked(rt: HostRuntime) -> Result<(), Fail> {
-    for (input, end) in [
+    for &(input, end) in &[
         (
             "{\"game\":{\"claims\":[100,200,300],\"class\":\"bankruptcy\",\"estate\":100}}",
             "\"shares\":[\"100/3\",\"100/3\",\"100/3\"]}\n",

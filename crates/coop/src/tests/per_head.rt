@@ -26,7 +26,7 @@ fn the_pair_that_is_worth_half_gets_more_per_head(rt: HostRuntime) -> Result<(),
 
 #[test]
 fn certificates_are_checked_per_head(rt: HostRuntime) -> Result<(), Fail> {
-    for (input, line, status) in [
+    for &(input, line, status) in &[
         (
             "{\"answer\":\"nucleolus\",\"certificate\":{\"levels\":[{\"bounds\":[],\"coalitions\":[[[1,2],1],[[3],1]],\"earlier\":[],\
              \"excess\":\"-2\",\"total\":1},{\"bounds\":[],\"coalitions\":[[[1,3],1],[[2,3],1]],\"earlier\":[[[3],-1]],\"excess\":\"-7/2\",\
@@ -67,7 +67,7 @@ fn certificates_are_checked_per_head(rt: HostRuntime) -> Result<(), Fail> {
 
 #[test]
 fn nine_players_are_too_many_per_head(rt: HostRuntime) -> Result<(), Fail> {
-    for command in ["nucleolus", "prenucleolus"] {
+    for &command in &["nucleolus", "prenucleolus"] {
         let found = run_on(
             rt.alloc(),
             &[command],
@@ -82,7 +82,7 @@ fn nine_players_are_too_many_per_head(rt: HostRuntime) -> Result<(), Fail> {
 
 #[test]
 fn each_class_is_solved_per_head(rt: HostRuntime) -> Result<(), Fail> {
-    for input in [
+    for &input in &[
         "{\"game\":{\"class\":\"airport\",\"costs\":[2,4,6],\"excess\":\"per-head\"}}",
         "{\"game\":{\"claims\":[100,200,300],\"class\":\"bankruptcy\",\"estate\":400,\"excess\":\"per-head\"}}",
         "{\"game\":{\"class\":\"cost-table\",\"excess\":\"per-head\",\"players\":3,\"worths\":[2,2,3,2,3,3,4]}}",
@@ -97,7 +97,7 @@ fn each_class_is_solved_per_head(rt: HostRuntime) -> Result<(), Fail> {
 
 #[test]
 fn the_other_commands_go_by_plain_excess(rt: HostRuntime) -> Result<(), Fail> {
-    for (command, input, line, status) in [
+    for &(command, input, line, status) in &[
         (
             "core",
             "{\"game\":{\"class\":\"airport\",\"costs\":[2,4,6],\"excess\":\"per-head\"}}",

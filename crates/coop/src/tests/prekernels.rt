@@ -6,7 +6,7 @@ use std::test::Fail;
 #[test]
 fn balanced_shares_are_in_the_prekernel(rt: HostRuntime) -> Result<(), Fail> {
     let line = "{\"answer\":\"prekernel\"}\n";
-    for input in [
+    for &input in &[
         "{\"game\":{\"class\":\"table\",\"players\":3,\"worths\":[0,0,1,0,1,1,1]},\"shares\":[\"1/3\",\"1/3\",\"1/3\"]}",
         "{\"game\":{\"class\":\"table\",\"players\":3,\"worths\":[0,0,4,0,0,0,0]},\"shares\":[1,1,-2]}",
         "{\"game\":{\"class\":\"assignment\",\"matrix\":[[5,8],[7,6]]},\"shares\":[\"7/2\",\"7/2\",\"7/2\",\"9/2\"]}",
@@ -21,7 +21,7 @@ fn balanced_shares_are_in_the_prekernel(rt: HostRuntime) -> Result<(), Fail> {
 
 #[test]
 fn of_other_shares_the_first_two_players_are_printed(rt: HostRuntime) -> Result<(), Fail> {
-    for (input, line) in [
+    for &(input, line) in &[
         (
             "{\"game\":{\"class\":\"table\",\"players\":3,\"worths\":[0,0,1,0,1,1,1]},\"shares\":[1,0,0]}",
             "{\"answer\":\"not prekernel\",\"i\":1,\"ij\":\"0\",\"j\":2,\"ji\":\"1\"}\n",

@@ -5,7 +5,7 @@ use std::test::Fail;
 
 #[test]
 fn judges_the_worked_documents(rt: HostRuntime) -> Result<(), Fail> {
-    for (input, line, status) in [
+    for &(input, line, status) in &[
         (
             BLOCKED,
             "{\"answer\":\"blocked\",\"coalition\":[2,3],\"excess\":\"1\"}\n",
@@ -31,7 +31,7 @@ fn judges_the_worked_documents(rt: HostRuntime) -> Result<(), Fail> {
 
 #[test]
 fn judges_fractions_costs_and_named_players(rt: HostRuntime) -> Result<(), Fail> {
-    for (input, line, status) in [
+    for &(input, line, status) in &[
         (
             "{\"game\":{\"class\":\"table\",\"players\":3,\"worths\":[0,0,1,0,1,1,1]},\"shares\":[\"1/3\",\"1/3\",\"1/3\"]}",
             "{\"answer\":\"blocked\",\"coalition\":[1,2],\"excess\":\"1/3\"}\n",

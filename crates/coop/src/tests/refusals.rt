@@ -14,7 +14,7 @@ fn is_refused(alloc: Global, input: &[u8], line: &str) -> Result<bool, Fail> {
 
 #[test]
 fn refuses_what_is_no_json(rt: HostRuntime) -> Result<(), Fail> {
-    for input in [
+    for &input in &[
         b"{\"game\":{\"class\":".as_slice(),
         b"\"\xff\"".as_slice(),
         b"".as_slice(),
@@ -47,7 +47,7 @@ fn refuses_what_is_nested_deeper_than_is_read(rt: HostRuntime) -> Result<(), Fai
 
 #[test]
 fn refuses_each_for_its_first_reason(rt: HostRuntime) -> Result<(), Fail> {
-    for (input, line) in [
+    for &(input, line) in &[
         ("[]", "{\"number\":3,\"refused\":\"Shape\"}\n"),
         (
             "{\"game\":{\"class\":\"table\",\"players\":1,\"worths\":[5]},\"shares\":[5],\"answers\":1}",

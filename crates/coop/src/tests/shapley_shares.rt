@@ -5,7 +5,7 @@ use std::test::Fail;
 
 #[test]
 fn prints_shapley_shares(rt: HostRuntime) -> Result<(), Fail> {
-    for (input, line) in [
+    for &(input, line) in &[
         (
             "{\"game\":{\"class\":\"table\",\"players\":3,\"worths\":[0,0,1,0,1,1,1]}}",
             "{\"answer\":\"shapley\",\"shares\":[\"1/3\",\"1/3\",\"1/3\"]}\n",
@@ -34,7 +34,7 @@ fn prints_shapley_shares(rt: HostRuntime) -> Result<(), Fail> {
 #[test]
 fn airports_of_33_and_estates_of_17_have_too_many_players(rt: HostRuntime) -> Result<(), Fail> {
     let line = "{\"usage\":\"players\"}\n";
-    for input in [
+    for &input in &[
         "{\"game\":{\"class\":\"airport\",\"costs\":[32,32,32,32,32,32,32,32,32,32,32,32,32,32,32,32,32,32,32,32,32,32,32,32,32,32,32,32,32,32,32,32,32]}}",
         "{\"game\":{\"claims\":[1,1,1,1,1,1,1,1,1,1,1,1,1,1,1,1,1],\"class\":\"bankruptcy\",\"estate\":17}}",
     ] {

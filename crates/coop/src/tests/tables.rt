@@ -10,7 +10,7 @@ const DEPARTMENTS: &str =
 
 #[test]
 fn prints_shares_of_tables_that_are_checked(rt: HostRuntime) -> Result<(), Fail> {
-    for (command, input, end) in [
+    for &(command, input, end) in &[
         (
             "nucleolus",
             "{\"game\":{\"class\":\"table\",\"players\":2,\"worths\":[1,2,7]}}",
@@ -100,7 +100,7 @@ fn one_player_gets_all_without_a_level(rt: HostRuntime) -> Result<(), Fail> {
 
 #[test]
 fn players_who_have_more_alone_have_no_imputation(rt: HostRuntime) -> Result<(), Fail> {
-    for (input, line) in [
+    for &(input, line) in &[
         (
             "{\"game\":{\"class\":\"table\",\"players\":2,\"worths\":[3,3,5]}}",
             "{\"answer\":\"no imputation\",\"singles\":\"6\",\"total\":\"5\"}\n",
@@ -125,7 +125,7 @@ fn is_refused(alloc: Global, input: &[u8], line: &str) -> Result<bool, Fail> {
 
 #[test]
 fn refuses_tables_that_are_none(rt: HostRuntime) -> Result<(), Fail> {
-    for (input, line) in [
+    for &(input, line) in &[
         (
             "{\"game\":{\"class\":\"table\",\"players\":2,\"worths\":[0,0,1099511627776]}}",
             "{\"number\":5,\"refused\":\"Number\"}\n",

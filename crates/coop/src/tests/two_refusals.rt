@@ -5,7 +5,7 @@ use std::test::Fail;
 
 #[test]
 fn of_two_refusals_the_first_is_answered(rt: HostRuntime) -> Result<(), Fail> {
-    for (input, line) in [
+    for &(input, line) in &[
         (
             "{\"game\":{\"clas\":",
             "{\"number\":2,\"refused\":\"NotJson\"}\n",

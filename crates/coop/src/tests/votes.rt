@@ -29,7 +29,7 @@ const UNANIMOUS: &str = "{\"answer\":\"nucleolus\",\"certificate\":{\"levels\":[
 
 #[test]
 fn shapley_shares_of_votes(rt: HostRuntime) -> Result<(), Fail> {
-    for (input, line) in [
+    for &(input, line) in &[
         (
             THREE,
             "{\"answer\":\"shapley\",\"shares\":[\"2/3\",\"1/6\",\"1/6\"]}\n",
@@ -66,7 +66,7 @@ fn who_can_block_gets_all_of_the_nucleolus(rt: HostRuntime) -> Result<(), Fail> 
 
 #[test]
 fn proposals_to_voters_are_judged(rt: HostRuntime) -> Result<(), Fail> {
-    for (input, line, status) in [
+    for &(input, line, status) in &[
         (
             "{\"game\":{\"class\":\"voting\",\"quota\":5,\"weights\":[4,2,1]},\"shares\":[0,\"1/2\",\"1/2\"]}",
             "{\"answer\":\"blocked\",\"coalition\":[1,2],\"excess\":\"1/2\"}\n",
@@ -91,7 +91,7 @@ fn proposals_to_voters_are_judged(rt: HostRuntime) -> Result<(), Fail> {
 
 #[test]
 fn the_quota_is_refused_behind_the_estate(rt: HostRuntime) -> Result<(), Fail> {
-    for (input, line) in [
+    for &(input, line) in &[
         (
             "{\"game\":{\"class\":\"voting\",\"quota\":0,\"weights\":[1]},\"shares\":[]}",
             "{\"number\":13,\"refused\":\"Quota\"}\n",
@@ -121,7 +121,7 @@ fn certificates_of_32_voters_are_checked(rt: HostRuntime) -> Result<(), Fail> {
 
 #[test]
 fn seventeen_voters_are_too_many_for_coalitions(rt: HostRuntime) -> Result<(), Fail> {
-    for command in ["nucleolus", "prenucleolus", "core", "convex", "kernel"] {
+    for &command in &["nucleolus", "prenucleolus", "core", "convex", "kernel"] {
         let line = "{\"usage\":\"players\"}\n";
         let found = run_on(rt.alloc(), &[command], SEVENTEEN.as_bytes(), 100, line)?;
         assert_eq!(rt; found, (Status::Usage, true), "to {command}");
