@@ -3,8 +3,11 @@ ghost use Rattle.std.specs.Prelude.{◌≡◌, ◌^◌, ◌<◌, ◌≤◌, leng
 ghost use Rattle.definitions.specs.Games.{HasTwo};
 
 use crate::digits::chosen;
+use crate::shares::shares_of;
 use airport::{AirportFault, AirportGame};
 use coalitions::Coalition;
+use std::alloc::Global;
+use std::process::Abort;
 use std::test::Fail;
 use worth_core::{Shares, Worth, scaled_excess};
 
@@ -28,44 +31,70 @@ fn costs_are_refused_by_the_first_cause(rt: HostRuntime) -> Result<(), Fail> {
     Ok(())
 }
 
+/// The game of these costs.
+fn game_of(alloc: Global, costs: &[i64]) -> Result<AirportGame, Fail> {
+    Ok(
+        AirportGame::new(alloc, costs.to_vec(alloc)?)
+            .ok()
+            .ok_or("no game")?,
+    )
+}
+
 #[test]
 fn of_equal_costs_the_lesser_player_stands_first(rt: HostRuntime) -> Result<(), Fail> {
-    let costs = [4, 2, 6, 2].to_vec(rt.alloc())?;
-    let game = AirportGame::new(rt.alloc(), costs).map_err(|_| "no game")?;
+    let game = game_of(rt.alloc(), &[4, 2, 6, 2])?;
     assert_eq!(rt; game.len(), 4);
-    let order = [game.place(0), game.place(1), game.place(2), game.place(3)];
-    assert_eq!(rt; order.as_slice(), [1, 3, 0, 2].as_slice());
-    assert_eq!(rt; game.cost(2), 6);
+    assert_eq!(rt;
+        (
+            game.place(0),
+            game.place(1),
+            game.place(2),
+            game.place(3),
+            game.cost(2)
+        ),
+        (1, 3, 0, 2, 6)
+    );
     Ok(())
 }
 
 #[test]
 fn a_player_who_pays_more_than_its_cost_blocks(rt: HostRuntime) -> Result<(), Fail> {
-    let costs = [2, 4, 6].to_vec(rt.alloc())?;
-    let game = AirportGame::new(rt.alloc(), costs).map_err(|_| "no game")?;
-    let x = Shares::new([-3, -1, -2].to_vec(rt.alloc())?, 1).ok_or("not shares")?;
+    let game = game_of(rt.alloc(), &[2, 4, 6])?;
+    let x = shares_of(rt.alloc(), &[-3, -1, -2], 1)?;
     assert!(rt; game.len() == 3 && x.players() == 3);
-    assert_eq!(rt; game.blocker(&x), Some(Coalition(1)));
-    assert_eq!(rt; scaled_excess(&game, &x, Coalition(1)), 1);
+    assert_eq!(rt;
+        (game.blocker(&x), scaled_excess(&game, &x, Coalition(1))),
+        (Some(Coalition(1)), 1)
+    );
     Ok(())
 }
 
 #[test]
 fn the_two_who_pay_nothing_gain_nothing(rt: HostRuntime) -> Result<(), Fail> {
-    let costs = [2, 4, 6].to_vec(rt.alloc())?;
-    let game = AirportGame::new(rt.alloc(), costs).map_err(|_| "no game")?;
-    let x = Shares::new([0, 0, -6].to_vec(rt.alloc())?, 1).ok_or("not shares")?;
+    let game = game_of(rt.alloc(), &[2, 4, 6])?;
+    let x = shares_of(rt.alloc(), &[0, 0, -6], 1)?;
     assert_eq!(rt; x.players(), 3);
     assert_eq!(rt; game.len(), 3);
     assert_eq!(rt; game.split_bound(&x, Coalition(7)), 0);
     Ok(())
 }
 
+/// The game of 64 players who cost 64 each.
+fn game_of_64(alloc: Global) -> Result<AirportGame, Fail> {
+    let costs = vec![in alloc; 64; 64]?;
+    Ok(AirportGame::new(alloc, costs).ok().ok_or("no game")?)
+}
+
+/// Shares of -1 for 64 players.
+fn shares_of_64(alloc: Global) -> Result<Shares, Fail> {
+    let num = vec![in alloc; -1; 64]?;
+    Ok(Shares::new(num, 1).ok_or("not shares")?)
+}
+
 #[test]
 fn nobody_blocks_where_all_pay_an_equal_part_of_one_cost(rt: HostRuntime) -> Result<(), Fail> {
-    let costs = vec![in rt.alloc(); 64; 64]?;
-    let game = AirportGame::new(rt.alloc(), costs).map_err(|_| "no game")?;
-    let x = Shares::new(vec![in rt.alloc(); -1; 64]?, 1).ok_or("not shares")?;
+    let game = game_of_64(rt.alloc())?;
+    let x = shares_of_64(rt.alloc())?;
     assert!(rt; game.len() == 64 && x.players() == 64);
     assert_eq!(rt; game.blocker(&x), None);
     Ok(())
@@ -120,6 +149,19 @@ fn are_same_bounds(slow: &OverAllMasks, x: &Shares) -> bool
     same
 }
 
+/// Shares, over 1 or 2, that the digits of a number choose.
+fn point_of(alloc: Global, code: usize, n: usize) -> Result<Shares, Fail> {
+    let num = chosen(alloc, &[-3, 0, 1], code / 2, n)?;
+    Ok(Shares::new(num, (code % 2 + 1) as i128).ok_or("not shares")?)
+}
+
+/// Compares the blockers and the split bounds of both bodies at some shares of `n` players.
+fn compare(rt: &impl Abort, slow: &OverAllMasks, n: u32, x: &Shares) {
+    assert!(rt; n <= 5 && slow.game.len() == n && x.players() == n);
+    assert_eq!(rt; slow.game.blocker(x), slow.blocker(x), "at {x:?}");
+    assert!(rt; are_same_bounds(slow, x), "at {x:?}");
+}
+
 // Up to four players with every list of costs from 0 to 3, and five with the ascending ones.
 #[test]
 fn both_bodies_agree_on_all_small_games(rt: HostRuntime) -> Result<(), Fail> {
@@ -135,14 +177,11 @@ fn both_bodies_agree_on_all_small_games(rt: HostRuntime) -> Result<(), Fail> {
             if n == 5 && !costs.is_sorted() {
                 continue;
             }
-            let game = AirportGame::new(rt.alloc(), costs).map_err(|_| "no game")?;
+            let game = AirportGame::new(rt.alloc(), costs).ok().ok_or("no game")?;
             let slow = OverAllMasks { game };
             for code in 0..2 * points {
-                let num = chosen(rt.alloc(), &[-3, 0, 1], code / 2, n as usize)?;
-                let x = Shares::new(num, (code % 2 + 1) as i128).ok_or("not shares")?;
-                assert!(rt; n <= 5 && slow.game.len() == n && x.players() == n);
-                assert_eq!(rt; slow.game.blocker(&x), slow.blocker(&x), "at {x:?}");
-                assert!(rt; are_same_bounds(&slow, &x), "at {x:?}");
+                let x = point_of(rt.alloc(), code, n as usize)?;
+                compare(&rt, &slow, n, &x);
             }
         }
     }

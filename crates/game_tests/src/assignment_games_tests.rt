@@ -1,8 +1,10 @@
 //! Matrices that make games and matrices that don't, and two markets of the literature.
 use crate::rows::matrix_of;
+use crate::shares::shares_of;
 use assignment_games::{AssignmentFault, AssignmentGame};
 use coalitions::Coalition;
 use std::alloc::{AllocError, Global};
+use std::process::Abort;
 use std::test::Fail;
 use worth_core::{Shares, Worth};
 
@@ -12,35 +14,53 @@ fn fault_of(alloc: Global, rows: &[&[i64]]) -> Result<Option<AssignmentFault>, A
     Ok(AssignmentGame::new(alloc, matrix).err())
 }
 
+const LIMIT: i64 = 1 << 40;
+
+const ONE: &[i64] = &[0];
+
+const EIGHT: &[i64] = &[0; 8];
+
+const NINE: &[i64] = &[0; 9];
+
+/// Rows, and why they make no game.
+const FAULTS: [(&[&[i64]], Option<AssignmentFault>); 15] = [
+    (&[&[5]], None),
+    (&[&[LIMIT - 1, 0], &[0, 3]], None),
+    (&[&[0; 15]], None),
+    (&[EIGHT; 8], None),
+    (&[ONE; 15], None),
+    (&[], Some(AssignmentFault::Players)),
+    (&[&[], &[-1]], Some(AssignmentFault::Players)),
+    (&[&[0; 16]], Some(AssignmentFault::Players)),
+    (&[NINE; 8], Some(AssignmentFault::Players)),
+    (&[ONE; 16], Some(AssignmentFault::Players)),
+    (&[&[LIMIT]], Some(AssignmentFault::Number)),
+    (&[&[5, 6], &[-1]], Some(AssignmentFault::Number)),
+    (&[&[5], &[6, -1]], Some(AssignmentFault::Number)),
+    (&[&[5, 6], &[1]], Some(AssignmentFault::Matrix)),
+    (&[&[5], &[6, 1]], Some(AssignmentFault::Matrix)),
+];
+
 #[test]
 fn matrices_are_refused_by_the_first_cause(rt: HostRuntime) -> Result<(), Fail> {
-    let heap = rt.alloc();
-    let limit: i64 = 1 << 40;
-    assert_eq!(rt; fault_of(heap, &[&[5]])?, None);
-    assert_eq!(rt; fault_of(heap, &[&[limit - 1, 0], &[0, 3]])?, None);
-    assert_eq!(rt; fault_of(heap, &[&[0; 15]])?, None);
-    assert_eq!(rt; fault_of(heap, &[[0; 8].as_slice(); 8])?, None);
-    assert_eq!(rt; fault_of(heap, &[[0].as_slice(); 15])?, None);
-    let players = Some(AssignmentFault::Players);
-    assert_eq!(rt; fault_of(heap, &[])?, players);
-    assert_eq!(rt; fault_of(heap, &[&[], &[-1]])?, players);
-    assert_eq!(rt; fault_of(heap, &[&[0; 16]])?, players);
-    assert_eq!(rt; fault_of(heap, &[[0; 9].as_slice(); 8])?, players);
-    assert_eq!(rt; fault_of(heap, &[[0].as_slice(); 16])?, players);
-    let number = Some(AssignmentFault::Number);
-    assert_eq!(rt; fault_of(heap, &[&[limit]])?, number);
-    assert_eq!(rt; fault_of(heap, &[&[5, 6], &[-1]])?, number);
-    assert_eq!(rt; fault_of(heap, &[&[5], &[6, -1]])?, number);
-    let matrix = Some(AssignmentFault::Matrix);
-    assert_eq!(rt; fault_of(heap, &[&[5, 6], &[1]])?, matrix);
-    assert_eq!(rt; fault_of(heap, &[&[5], &[6, 1]])?, matrix);
+    for (rows, fault) in FAULTS {
+        assert_eq!(rt; fault_of(rt.alloc(), rows)?, fault, "{rows:?}");
+    }
     Ok(())
+}
+
+/// The game of these rows.
+fn game_of(alloc: Global, rows: &[&[i64]]) -> Result<AssignmentGame, Fail> {
+    Ok(
+        AssignmentGame::new(alloc, matrix_of(alloc, rows)?)
+            .ok()
+            .ok_or("no game")?,
+    )
 }
 
 #[test]
 fn each_coalition_of_two_buyers_and_two_sellers(rt: HostRuntime) -> Result<(), Fail> {
-    let matrix = matrix_of(rt.alloc(), &[&[5, 8], &[7, 6]])?;
-    let game = AssignmentGame::new(rt.alloc(), matrix).map_err(|_| "no game")?;
+    let game = game_of(rt.alloc(), &[&[5, 8], &[7, 6]])?;
     assert!(rt; game.buyers() == 2 && game.sellers() == 2 && game.players() == 4);
     let mut s = Coalition::empty();
     for worth in [0, 0, 0, 0, 0, 5, 7, 7, 0, 8, 6, 8, 0, 8, 7, 15] {
@@ -51,19 +71,30 @@ fn each_coalition_of_two_buyers_and_two_sellers(rt: HostRuntime) -> Result<(), F
     Ok(())
 }
 
+/// The worths of three coalitions of three buyers and three sellers.
+fn worths_of(rt: &impl Abort, game: &AssignmentGame) -> (i64, i64, i64) {
+    assert!(rt; game.buyers() == 3 && game.sellers() == 3 && game.players() == 6);
+    (
+        game.worth(Coalition(63)),
+        game.worth(Coalition(27)),
+        game.worth(Coalition(7)),
+    )
+}
+
+/// The blocker at the shares of six players.
+fn blocker_at(rt: &impl Abort, game: &AssignmentGame, x: Shares) -> Option<Coalition> {
+    assert!(rt; game.players() == 6 && x.players() == 6);
+    game.blocker(&x)
+}
+
 /// The three houses of Shapley and Shubik 1971. Whoever takes the best pair first, 9, is left with 5 and 0.
 #[test]
 fn three_houses_change_hands(rt: HostRuntime) -> Result<(), Fail> {
-    let matrix = matrix_of(rt.alloc(), &[&[5, 8, 2], &[7, 9, 6], &[2, 3, 0]])?;
-    let game = AssignmentGame::new(rt.alloc(), matrix).map_err(|_| "no game")?;
-    assert!(rt; game.buyers() == 3 && game.sellers() == 3 && game.players() == 6);
-    assert_eq!(rt; game.worth(Coalition(63)), 16);
-    assert_eq!(rt; game.worth(Coalition(27)), 15);
-    assert_eq!(rt; game.worth(Coalition(7)), 0);
-    let x = Shares::new([17, 23, 1, 7, 15, 1].to_vec(rt.alloc())?, 4).ok_or("not shares")?;
-    let y = Shares::new([3, 5, 0, 1, 6, 1].to_vec(rt.alloc())?, 1).ok_or("not shares")?;
-    assert!(rt; x.players() == 6 && y.players() == 6);
-    assert_eq!(rt; game.blocker(&x), None);
-    assert_eq!(rt; game.blocker(&y), Some(Coalition(9)));
+    let game = game_of(rt.alloc(), &[&[5, 8, 2], &[7, 9, 6], &[2, 3, 0]])?;
+    assert_eq!(rt; worths_of(&rt, &game), (16, 15, 0));
+    let x = shares_of(rt.alloc(), &[17, 23, 1, 7, 15, 1], 4)?;
+    assert_eq!(rt; blocker_at(&rt, &game, x), None);
+    let y = shares_of(rt.alloc(), &[3, 5, 0, 1, 6, 1], 1)?;
+    assert_eq!(rt; blocker_at(&rt, &game, y), Some(Coalition(9)));
     Ok(())
 }

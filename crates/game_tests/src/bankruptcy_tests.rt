@@ -4,8 +4,10 @@ ghost use Rattle.definitions.specs.Games.{HasTwo};
 ghost use Rattle.bankruptcy.specs.Bankruptcy.{bankruptcy_game};
 
 use crate::digits::chosen;
+use crate::shares::shares_of;
 use bankruptcy::{BankruptcyFault, BankruptcyGame};
 use coalitions::Coalition;
+use std::alloc::Global;
 use std::process::Abort;
 use std::test::Fail;
 use worth_core::{Shares, Worth};
@@ -36,37 +38,72 @@ fn games_are_refused_by_the_first_cause(rt: HostRuntime) -> Result<(), Fail> {
     Ok(())
 }
 
+/// The game of these claims.
+fn game_of(alloc: Global, estate: i64, claims: &[i64]) -> Result<BankruptcyGame, Fail> {
+    Ok(
+        BankruptcyGame::new(alloc, estate, claims.to_vec(alloc)?)
+            .ok()
+            .ok_or("no game")?,
+    )
+}
+
 #[test]
 fn what_the_others_leave_blocks(rt: HostRuntime) -> Result<(), Fail> {
-    let claims = [100, 200, 300].to_vec(rt.alloc())?;
-    let game = BankruptcyGame::new(rt.alloc(), 200, claims).map_err(|_| "no game")?;
-    let x = Shares::new([110, 45, 45].to_vec(rt.alloc())?, 1).ok_or("not shares")?;
+    let game = game_of(rt.alloc(), 200, &[100, 200, 300])?;
+    let x = shares_of(rt.alloc(), &[110, 45, 45], 1)?;
     assert!(rt; game.players() == 3 && x.players() == 3);
-    assert_eq!(rt; game.estate(), 200);
-    assert_eq!(rt; game.claim(1), 200);
-    assert_eq!(rt; game.worth(Coalition(6)), 100);
-    assert_eq!(rt; game.blocker(&x), Some(Coalition(6)));
+    assert_eq!(rt;
+        (
+            game.estate(),
+            game.claim(1),
+            game.worth(Coalition(6)),
+            game.blocker(&x)
+        ),
+        (200, 200, 100, Some(Coalition(6)))
+    );
     Ok(())
+}
+
+/// The game of an estate of 32 and 64 claims of 1.
+fn game_of_64(alloc: Global) -> Result<BankruptcyGame, Fail> {
+    let claims = vec![in alloc; 1; 64]?;
+    Ok(
+        BankruptcyGame::new(alloc, 32, claims)
+            .ok()
+            .ok_or("no game")?,
+    )
+}
+
+/// Halves, but for the sixth of 64 players.
+fn shares_but_one(alloc: Global, numerator: i128) -> Result<Shares, Fail> {
+    let mut num = vec![in alloc; 1; 64]?;
+    num[5] = numerator;
+    Ok(Shares::new(num, 2).ok_or("not shares")?)
+}
+
+/// The blocker, and the split bound of everyone.
+fn blocker_and_bound(
+    rt: &impl Abort,
+    game: &BankruptcyGame,
+    x: &Shares,
+) -> (Option<Coalition>, i128) {
+    assert!(rt; game.players() == 64 && x.players() == 64);
+    let everyone = Coalition::all(64);
+    assert!(rt; has_two(game, everyone));
+    (game.blocker(x), game.split_bound(x, everyone))
 }
 
 #[test]
 fn sixty_four_players_need_no_list_of_coalitions(rt: HostRuntime) -> Result<(), Fail> {
-    let claims = vec![in rt.alloc(); 1; 64]?;
-    let game = BankruptcyGame::new(rt.alloc(), 32, claims).map_err(|_| "no game")?;
+    let game = game_of_64(rt.alloc())?;
     for (numerator, blocker, bound) in [
         (1, None, -1),
         (5, None, -1),
         (-1, Some(Coalition::all(64)), 1),
         (-3, Some(Coalition::all(64)), 3),
     ] {
-        let mut num = vec![in rt.alloc(); 1; 64]?;
-        num[5] = numerator;
-        let x = Shares::new(num, 2).ok_or("not shares")?;
-        assert!(rt; game.players() == 64 && x.players() == 64);
-        assert_eq!(rt; game.blocker(&x), blocker);
-        let everyone = Coalition::all(64);
-        assert!(rt; has_two(&game, everyone));
-        assert_eq!(rt; game.split_bound(&x, everyone), bound);
+        let x = shares_but_one(rt.alloc(), numerator)?;
+        assert_eq!(rt; blocker_and_bound(&rt, &game, &x), (blocker, bound));
     }
     Ok(())
 }
@@ -120,6 +157,12 @@ fn compare(rt: &impl Abort, game: &BankruptcyGame, x: &Shares) {
     }
 }
 
+/// Shares that the digits of a number choose.
+fn point_of(alloc: Global, point: usize, n: usize, den: i128) -> Result<Shares, Fail> {
+    let num = chosen(alloc, &[-1, 0, 2], point, n)?;
+    Ok(Shares::new(num, den).ok_or("not shares")?)
+}
+
 // Up to three players with every list of claims from 0 to 3, and four and five with the ascending ones; of the points
 // of five players every seventh.
 #[test]
@@ -145,8 +188,7 @@ fn own_bodies_answer_as_those_that_list_coalitions(rt: HostRuntime) -> Result<()
                         continue;
                     }
                     for den in [1, 2] {
-                        let num = chosen(rt.alloc(), &[-1, 0, 2], point, n)?;
-                        let x = Shares::new(num, den).ok_or("not shares")?;
+                        let x = point_of(rt.alloc(), point, n, den)?;
                         compare(&rt, &game, &x);
                     }
                 }

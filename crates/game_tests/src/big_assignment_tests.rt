@@ -3,9 +3,11 @@
 ghost use Rattle.std.specs.Prelude.{◌+◌, ◌^◌, ◌<◌, ◌≤◌, length, unsigned_abs, MatchOption};
 ghost use Rattle.assignment_games.specs.Assignments.{seller_count};
 
-use big_assignment::{MarketFault, MarketGame};
+use crate::rows::matrix_of;
+use big_assignment::{MarketFault, MarketGame, Solution};
 use coalitions::Coalition;
 use std::alloc::{AllocError, Global};
+use std::process::Abort;
 use std::test::Fail;
 use worth_core::{Shares, Worth};
 
@@ -63,51 +65,58 @@ fn rows_are_refused_by_the_first_cause(rt: HostRuntime) -> Result<(), Fail> {
 #[test]
 fn rows_of_different_lengths_are_refused_last(rt: HostRuntime) -> Result<(), Fail> {
     for (entry, fault) in [(0, MarketFault::Matrix), (-1, MarketFault::Number)] {
-        let mut matrix = diagonal(rt.alloc(), 1, 2, 0, 0)?;
-        matrix.push([entry].to_vec(rt.alloc())?)?;
+        let matrix = matrix_of(rt.alloc(), &[&[0, 0], &[entry]])?;
         assert_eq!(rt; MarketGame::new(rt.alloc(), matrix).err(), Some(fault));
     }
     Ok(())
 }
 
+/// The market of these rows.
+fn market_of(alloc: Global, matrix: Vec<Vec<i64>>) -> Result<MarketGame, Fail> {
+    Ok(MarketGame::new(alloc, matrix).ok().ok_or("no market")?)
+}
+
+/// The solution of the market of these rows.
+fn solution_of(alloc: Global, matrix: Vec<Vec<i64>>) -> Result<Solution, Fail> {
+    let game = market_of(alloc, matrix)?;
+    Ok(game.solve(alloc)?)
+}
+
+/// Compares both ends of the core.
+fn ends_are(
+    rt: &impl Abort,
+    alloc: Global,
+    solution: &Solution,
+    buyers_best: &[i128],
+    sellers_best: &[i128],
+) -> Result<(), Fail> {
+    let buyers = numbers(alloc, &solution.buyers_best)?;
+    let sellers = numbers(alloc, &solution.sellers_best)?;
+    assert_eq!(rt; buyers.as_slice(), buyers_best);
+    assert_eq!(rt; sellers.as_slice(), sellers_best);
+    Ok(())
+}
+
 #[test]
 fn two_buyers_of_one_good_leave_the_lesser_with_nothing(rt: HostRuntime) -> Result<(), Fail> {
-    let mut matrix = Vec::new(rt.alloc());
-    matrix.push([5].to_vec(rt.alloc())?)?;
-    matrix.push([3].to_vec(rt.alloc())?)?;
-    let game = MarketGame::new(rt.alloc(), matrix).map_err(|_| "no market")?;
-    let solution = game.solve(rt.alloc())?;
+    let solution = solution_of(rt.alloc(), matrix_of(rt.alloc(), &[&[5], &[3]])?)?;
     assert_eq!(rt; solution.pairs.as_slice(), [(0, 2)].as_slice());
     assert_eq!(rt; solution.value, 5);
-    let buyers = numbers(rt.alloc(), &solution.buyers_best)?;
-    let sellers = numbers(rt.alloc(), &solution.sellers_best)?;
-    assert_eq!(rt; buyers.as_slice(), [2, 0, 3].as_slice());
-    assert_eq!(rt; sellers.as_slice(), [0, 0, 5].as_slice());
-    Ok(())
+    ends_are(&rt, rt.alloc(), &solution, &[2, 0, 3], &[0, 0, 5])
 }
 
 // The greatest entry, 8, stands in the one optimal matching beside 7, and not beside 6.
 #[test]
 fn two_buyers_of_two_goods(rt: HostRuntime) -> Result<(), Fail> {
-    let mut matrix = Vec::new(rt.alloc());
-    matrix.push([5, 8].to_vec(rt.alloc())?)?;
-    matrix.push([7, 6].to_vec(rt.alloc())?)?;
-    let game = MarketGame::new(rt.alloc(), matrix).map_err(|_| "no market")?;
-    let solution = game.solve(rt.alloc())?;
+    let solution = solution_of(rt.alloc(), matrix_of(rt.alloc(), &[&[5, 8], &[7, 6]])?)?;
     assert_eq!(rt; solution.pairs.as_slice(), [(0, 3), (1, 2)].as_slice());
     assert_eq!(rt; solution.value, 15);
-    let buyers = numbers(rt.alloc(), &solution.buyers_best)?;
-    let sellers = numbers(rt.alloc(), &solution.sellers_best)?;
-    assert_eq!(rt; buyers.as_slice(), [8, 7, 0, 0].as_slice());
-    assert_eq!(rt; sellers.as_slice(), [0, 0, 7, 8].as_slice());
-    Ok(())
+    ends_are(&rt, rt.alloc(), &solution, &[8, 7, 0, 0], &[0, 0, 7, 8])
 }
 
 #[test]
 fn the_greatest_market_is_solved(rt: HostRuntime) -> Result<(), Fail> {
-    let matrix = diagonal(rt.alloc(), 32, 32, 1, 0)?;
-    let game = MarketGame::new(rt.alloc(), matrix).map_err(|_| "no market")?;
-    let solution = game.solve(rt.alloc())?;
+    let solution = solution_of(rt.alloc(), diagonal(rt.alloc(), 32, 32, 1, 0)?)?;
     assert_eq!(rt; solution.value, 32);
     for k in 0..64 {
         assert!(rt; k < solution.buyers_best.players());
@@ -120,9 +129,7 @@ fn the_greatest_market_is_solved(rt: HostRuntime) -> Result<(), Fail> {
 #[test]
 fn too_many_buyers_pay_all(rt: HostRuntime) -> Result<(), Fail> {
     let all: i64 = (1 << 40) - 1;
-    let matrix = diagonal(rt.alloc(), 32, 31, all, all)?;
-    let game = MarketGame::new(rt.alloc(), matrix).map_err(|_| "no market")?;
-    let solution = game.solve(rt.alloc())?;
+    let solution = solution_of(rt.alloc(), diagonal(rt.alloc(), 32, 31, all, all)?)?;
     assert_eq!(rt; solution.value, 31 * all);
     for k in 0..63 {
         assert!(rt; k < solution.buyers_best.players());
@@ -148,10 +155,7 @@ fn worths(alloc: Global, game: &MarketGame) -> Result<Vec<i64>, AllocError>
 
 #[test]
 fn worths_are_the_greatest_values(rt: HostRuntime) -> Result<(), Fail> {
-    let mut matrix = Vec::new(rt.alloc());
-    matrix.push([5, 8].to_vec(rt.alloc())?)?;
-    matrix.push([7, 6].to_vec(rt.alloc())?)?;
-    let game = MarketGame::new(rt.alloc(), matrix).map_err(|_| "no market")?;
+    let game = market_of(rt.alloc(), matrix_of(rt.alloc(), &[&[5, 8], &[7, 6]])?)?;
     assert!(rt; game.players() <= 5);
     let worths = worths(rt.alloc(), &game)?;
     let wanted = [0, 0, 0, 0, 0, 5, 7, 7, 0, 8, 6, 8, 0, 8, 7, 15];
@@ -226,26 +230,31 @@ fn total_of(x: &Shares) -> i128 {
     sum
 }
 
+/// Compares an end of the core of a market of 32 buyers and 32 sellers with the value of all, and tries its pairs.
+fn end_is_stable(rt: &impl Abort, x: &Shares, value: i64, matrix: &[Vec<i64>]) {
+    assert_eq!(rt;
+        (x.den(), x.players(), total_of(x)),
+        (1, 64, i128::from(value))
+    );
+    assert!(rt; matrix.len() == 32 && is_stable(x, matrix));
+}
+
+/// Whether the ends of the core differ.
+fn ends_differ(alloc: Global, solution: &Solution) -> Result<bool, AllocError> {
+    let buyers = numbers(alloc, &solution.buyers_best)?;
+    let sellers = numbers(alloc, &solution.sellers_best)?;
+    Ok(buyers.as_slice() != sellers.as_slice())
+}
+
 #[test]
 fn no_pair_blocks_the_ends_of_a_market_of_scattered_numbers(rt: HostRuntime) -> Result<(), Fail> {
     for seed in [1, 1971] {
         let matrix = scattered(rt.alloc(), seed)?;
-        let game = MarketGame::new(rt.alloc(), scattered(rt.alloc(), seed)?).map_err(
-            |_| "no market",
-        )?;
-        let solution = game.solve(rt.alloc())?;
+        let solution = solution_of(rt.alloc(), scattered(rt.alloc(), seed)?)?;
         assert_eq!(rt; solution.pairs.len(), 32);
-        for x in [&solution.buyers_best, &solution.sellers_best] {
-            assert_eq!(rt; x.den(), 1);
-            assert_eq!(rt; x.players(), 64);
-            assert_eq!(rt; total_of(x), i128::from(solution.value));
-            assert!(rt; matrix.len() == 32);
-            assert!(rt; is_stable(x, &matrix));
-        }
-        assert_ne!(rt;
-            numbers(rt.alloc(), &solution.buyers_best)?.as_slice(),
-            numbers(rt.alloc(), &solution.sellers_best)?.as_slice()
-        );
+        end_is_stable(&rt, &solution.buyers_best, solution.value, &matrix);
+        end_is_stable(&rt, &solution.sellers_best, solution.value, &matrix);
+        assert!(rt; ends_differ(rt.alloc(), &solution)?);
     }
     Ok(())
 }

@@ -3,15 +3,34 @@ ghost use Rattle.std.specs.Prelude.{◌≡◌, ◌≤◌};
 ghost use Rattle.definitions.specs.Coalitions.{grand_coalition};
 
 use coalitions::{Coalition, GrayStep};
+use std::process::Abort;
+
+/// Compares a coalition's number of members with `len`, the other players with `complement`, and the next mask.
+fn compare(
+    rt: &impl Abort,
+    (set, n): (Coalition, u32),
+    len: u32,
+    complement: Coalition,
+    next: Option<Coalition>,
+) {
+    assert_eq!(rt; set.len(), len, "members of {set:?}");
+    assert!(rt; n <= 64 && set <= Coalition::all(n));
+    assert_eq!(rt; set.complement(n), complement, "others than {set:?} of {n}");
+    assert_eq!(rt; set.next_mask(n), next, "after {set:?} of {n}");
+}
 
 #[test]
 fn calls_answer_as_worked_by_hand(rt: HostRuntime) {
     let pair = Coalition::single(0).with(63);
-    assert_eq!(rt; pair, Coalition(0x8000_0000_0000_0001));
-    assert_eq!(rt; pair.without(0), Coalition::single(63));
-    assert_eq!(rt; pair.without(5), pair);
-    assert_eq!(rt; pair.contains(63), true);
-    assert_eq!(rt; pair.contains(62), false);
+    assert_eq!(rt;
+        (pair, pair.without(0), pair.without(5)),
+        (
+            Coalition(0x8000_0000_0000_0001),
+            Coalition::single(63),
+            pair
+        )
+    );
+    assert_eq!(rt; (pair.contains(63), pair.contains(62)), (true, false));
     assert_eq!(rt; pair.members().as_slice(), [0u32, 63].as_slice());
     assert_eq!(rt; pair.complement(64), Coalition(0x7fff_ffff_ffff_fffe));
     assert_eq!(rt; Coalition::empty().next_mask(64), Some(Coalition(1)));
@@ -28,10 +47,7 @@ fn calls_answer_as_worked_by_hand(rt: HostRuntime) {
             Some(Coalition::all(64)),
         ),
     ] {
-        assert_eq!(rt; set.len(), len, "members of {set:?}");
-        assert!(rt; n <= 64 && set <= Coalition::all(n));
-        assert_eq!(rt; set.complement(n), complement, "others than {set:?} of {n}");
-        assert_eq!(rt; set.next_mask(n), next, "after {set:?} of {n}");
+        compare(&rt, (set, n), len, complement, next);
     }
 }
 
@@ -54,8 +70,13 @@ fn subsets_come_in_ascending_order(rt: HostRuntime) {
         assert_eq!(rt; subsets.next(), Some(Coalition(mask)));
     }
     assert_eq!(rt; subsets.next(), None);
-    assert_eq!(rt; Coalition::subsets(0).count(), 1);
-    assert_eq!(rt; Coalition::subsets(10).count(), 1024);
+    assert_eq!(rt;
+        (
+            Coalition::subsets(0).count(),
+            Coalition::subsets(10).count()
+        ),
+        (1, 1024)
+    );
     assert_eq!(rt; last_of(7), Coalition(127));
 }
 
@@ -67,6 +88,8 @@ fn gray_order_of_two_players(rt: HostRuntime) {
         assert_eq!(rt; steps.next(), Some(GrayStep { mask, flipped }));
     }
     assert_eq!(rt; steps.next(), None);
-    assert_eq!(rt; Coalition::gray(0).count(), 1);
-    assert_eq!(rt; Coalition::gray(16).count(), 65536);
+    assert_eq!(rt;
+        (Coalition::gray(0).count(), Coalition::gray(16).count()),
+        (1, 65536)
+    );
 }

@@ -1,10 +1,29 @@
 //! The plain slow programs at small games worked by hand.
+ghost use Rattle.definitions.specs.Plain.{Fits};
+
 use definitions::Measure;
 use definitions::blockers::{blockers, chosen_blocker};
 use definitions::excesses::{beats, excess_list};
 use definitions::order::{comes_before, sorted};
 use definitions::table::{Point, Table, excess};
+use std::alloc::{AllocError, Global};
 use std::test::Fail;
+
+/// Whether the first point beats the second, and whether the second beats the first.
+fn beat_each_other(
+    alloc: Global,
+    measure: Measure,
+    game: &Table,
+    x: &Point,
+    y: &Point,
+) -> Result<(bool, bool), AllocError>
+    requires first { Fits measure x.now }
+    requires second { Fits measure y.now }
+{
+    let first = beats(alloc, measure, game, x, y)?;
+    let second = beats(alloc, measure, game, y, x)?;
+    Ok((first, second))
+}
 
 // Costs 2, 4, 6: each coalition is worth minus its greatest cost. The payments 1, 3/2, 7/2
 // beat 1, 2, 3.
@@ -15,8 +34,8 @@ fn fair_airport_payments_come_first(rt: HostRuntime) -> Result<(), Fail> {
     let other = Point::new(&[-1, -2, -3], 1);
     let excesses = excess_list(rt.alloc(), Measure::Plain, &airport, &fair, 1)?;
     assert_eq!(rt; excesses.as_slice(), [-2, -5, -3, -5, -3, -2].as_slice());
-    assert!(rt; beats(rt.alloc(), Measure::Plain, &airport, &fair, &other)?);
-    assert!(rt; !beats(rt.alloc(), Measure::Plain, &airport, &other, &fair)?);
+    let found = beat_each_other(rt.alloc(), Measure::Plain, &airport, &fair, &other)?;
+    assert_eq!(rt; found, (true, false));
     assert!(rt;
         !beats(rt.alloc(), Measure::Plain, &airport, &fair, &fair)?,
         "it doesn't beat itself"
@@ -31,8 +50,8 @@ fn a_share_below_the_own_worth_can_come_first(rt: HostRuntime) -> Result<(), Fai
     let pair = Table::new(3, &[0, 0, 4, 0, 0, 0, 0]);
     let nothing = Point::new(&[0, 0, 0], 1);
     let paid = Point::new(&[1, 1, -2], 1);
-    assert!(rt; beats(rt.alloc(), Measure::Plain, &pair, &paid, &nothing)?);
-    assert!(rt; !beats(rt.alloc(), Measure::Plain, &pair, &nothing, &paid)?);
+    let found = beat_each_other(rt.alloc(), Measure::Plain, &pair, &paid, &nothing)?;
+    assert_eq!(rt; found, (true, false));
     Ok(())
 }
 
@@ -49,8 +68,8 @@ fn excess_per_head_prefers_other_shares(rt: HostRuntime) -> Result<(), Fail> {
         [-3603600, -3603600, -1441440, -1441440, -2522520, -2522520].as_slice(),
         "-5, -5, -2, -2, -7/2 and -7/2 over 720720"
     );
-    assert!(rt; beats(rt.alloc(), Measure::PerHead, &savings, &by_head, &plain)?);
-    assert!(rt; !beats(rt.alloc(), Measure::PerHead, &savings, &plain, &by_head)?);
+    let found = beat_each_other(rt.alloc(), Measure::PerHead, &savings, &by_head, &plain)?;
+    assert_eq!(rt; found, (true, false));
     assert!(rt; beats(rt.alloc(), Measure::Plain, &savings, &plain, &by_head)?);
     Ok(())
 }

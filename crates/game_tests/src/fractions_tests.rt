@@ -1,6 +1,9 @@
 //! Fractions at the limits of `i128`. The wanted values are those of Python's `fractions`.
+use crate::fracs::fracs_of;
 use fractions::{Frac, OutOfRange};
+use std::alloc::Global;
 use std::cmp::Ordering;
+use std::process::Abort;
 use std::test::Fail;
 
 const LEAST: i128 = i128::MIN;
@@ -66,8 +69,7 @@ fn sums_and_differences_at_the_limits(rt: HostRuntime) -> Result<(), Fail> {
             None,
         ),
     ] {
-        let x = Frac::new(a, b).ok_or("left")?;
-        let y = Frac::new(c, d).ok_or("right")?;
+        let (x, y) = fracs_of(a, b, c, d)?;
         assert_eq!(rt; parts(x.add(&y)), sum, "{a}/{b} + {c}/{d}");
         assert_eq!(rt; parts(x.sub(&y)), difference, "{a}/{b} - {c}/{d}");
     }
@@ -107,8 +109,7 @@ fn products_and_quotients_at_the_limits(rt: HostRuntime) -> Result<(), Fail> {
             Some((-85070591730234615865843651857942052864, 1)),
         ),
     ] {
-        let x = Frac::new(a, b).ok_or("left")?;
-        let y = Frac::new(c, d).ok_or("right")?;
+        let (x, y) = fracs_of(a, b, c, d)?;
         assert_ne!(rt; y.num(), 0);
         assert_eq!(rt; parts(x.mul(&y)), product, "{a}/{b} * {c}/{d}");
         assert_eq!(rt; parts(x.div(&y)), quotient, "{a}/{b} over {c}/{d}");
@@ -125,36 +126,26 @@ fn values_are_ordered_and_reduced_at_the_limits(rt: HostRuntime) -> Result<(), F
         (MOST - 1, MOST, MOST - 2, MOST - 1, Ordering::Greater),
         (-2, 4, 3, -6, Ordering::Equal),
     ] {
-        let x = Frac::new(a, b).ok_or("left")?;
-        let y = Frac::new(c, d).ok_or("right")?;
+        let (x, y) = fracs_of(a, b, c, d)?;
         assert_eq!(rt; x.compare(&y), order, "{a}/{b} and {c}/{d}");
     }
-    assert_eq!(rt; Frac::new(1, 0), None);
-    assert_eq!(rt; Frac::new(LEAST, -1), None);
-    assert_eq!(rt; Frac::new(1, LEAST), None);
+    assert_eq!(rt;
+        (Frac::new(1, 0), Frac::new(LEAST, -1), Frac::new(1, LEAST)),
+        (None, None, None)
+    );
     assert_eq!(rt; Frac::new(LEAST, LEAST), Some(Frac::from_int(1)));
     Ok(())
 }
 
-#[test]
-fn texts_are_read_and_written(rt: HostRuntime) -> Result<(), Fail> {
-    for (text, num, den) in [
-        ("0", 0, 1),
-        ("-7/4", -7, 4),
-        ("1/9223372036854775809", 1, HALF + 1),
-        ("-170141183460469231731687303715884105728", LEAST, 1),
-        (
-            "170141183460469231731687303715884105726/170141183460469231731687303715884105727",
-            MOST - 1,
-            MOST,
-        ),
-    ] {
-        let f = Frac::parse(text.as_bytes()).ok_or("no fraction")?;
-        assert_eq!(rt; (f.num(), f.den()), (num, den), "{text}");
-        let mut out = Vec::new(rt.alloc());
-        f.write_to(&mut out).ok().ok_or("memory")?;
-        assert_eq!(rt; out.as_slice(), text.as_bytes());
-    }
+/// A fraction's text.
+fn written(alloc: Global, f: Frac) -> Result<Vec<u8>, Fail> {
+    let mut out = Vec::new(alloc);
+    f.write_to(&mut out).ok().ok_or("memory")?;
+    Ok(out)
+}
+
+/// Tries texts that are no fractions.
+fn none_are_fractions(rt: &impl Abort) {
     for text in [
         "",
         "-",
@@ -178,5 +169,26 @@ fn texts_are_read_and_written(rt: HostRuntime) -> Result<(), Fail> {
     ] {
         assert_eq!(rt; Frac::parse(text.as_bytes()), None, "{text}");
     }
+}
+
+#[test]
+fn texts_are_read_and_written(rt: HostRuntime) -> Result<(), Fail> {
+    for (text, num, den) in [
+        ("0", 0, 1),
+        ("-7/4", -7, 4),
+        ("1/9223372036854775809", 1, HALF + 1),
+        ("-170141183460469231731687303715884105728", LEAST, 1),
+        (
+            "170141183460469231731687303715884105726/170141183460469231731687303715884105727",
+            MOST - 1,
+            MOST,
+        ),
+    ] {
+        let f = Frac::parse(text.as_bytes()).ok_or("no fraction")?;
+        assert_eq!(rt; (f.num(), f.den()), (num, den), "{text}");
+        let out = written(rt.alloc(), f)?;
+        assert_eq!(rt; out.as_slice(), text.as_bytes());
+    }
+    none_are_fractions(&rt);
     Ok(())
 }

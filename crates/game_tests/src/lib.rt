@@ -16,6 +16,8 @@ mod definitions_tests;
 #[cfg(test)]
 mod digits;
 #[cfg(test)]
+mod fracs;
+#[cfg(test)]
 mod fractions_tests;
 #[cfg(test)]
 mod matrices_tests;
@@ -23,6 +25,8 @@ mod matrices_tests;
 mod orders_tests;
 #[cfg(test)]
 mod rows;
+#[cfg(test)]
+mod shares;
 #[cfg(test)]
 mod tree_games_tests;
 #[cfg(test)]

@@ -2,6 +2,7 @@
 use crate::rows::matrix_of;
 use coalitions::Coalition;
 use std::alloc::{AllocError, Global};
+use std::process::Abort;
 use std::test::Fail;
 use tree_games::{TreeFault, TreeGame};
 use worth_core::{Shares, Worth};
@@ -25,32 +26,27 @@ fn fault_of(alloc: Global, rows: &[&[i64]]) -> Result<Option<TreeFault>, AllocEr
     Ok(TreeGame::new(alloc, matrix).err())
 }
 
+const LIMIT: i64 = 1 << 40;
+
+/// Rows, and why they make no game.
+const FAULTS: [(&[&[i64]], Option<TreeFault>); 10] = [
+    (&[&[0, 5], &[5, 0]], None),
+    (&[&[0, LIMIT - 1], &[LIMIT - 1, 0]], None),
+    (&[], Some(TreeFault::Players)),
+    (&[&[-1]], Some(TreeFault::Players)),
+    (&[&[0, LIMIT], &[LIMIT, 0]], Some(TreeFault::Number)),
+    (&[&[0, -1], &[5]], Some(TreeFault::Number)),
+    (&[&[0, 5], &[5]], Some(TreeFault::Matrix)),
+    (&[&[0, 5], &[5, 0], &[0, 0]], Some(TreeFault::Matrix)),
+    (&[&[0, 5], &[6, 0]], Some(TreeFault::Matrix)),
+    (&[&[0, 5], &[5, 1]], Some(TreeFault::Matrix)),
+];
+
 #[test]
 fn matrices_are_refused_by_the_first_cause(rt: HostRuntime) -> Result<(), Fail> {
-    let heap = rt.alloc();
-    let limit: i64 = 1 << 40;
-    assert_eq!(rt; fault_of(heap, &[&[0, 5], &[5, 0]])?, None);
-    assert_eq!(rt; fault_of(heap, &[&[0, limit - 1], &[limit - 1, 0]])?, None);
-    assert_eq!(rt; fault_of(heap, &[])?, Some(TreeFault::Players));
-    assert_eq!(rt; fault_of(heap, &[&[-1]])?, Some(TreeFault::Players));
-    assert_eq!(rt;
-        fault_of(heap, &[&[0, limit], &[limit, 0]])?,
-        Some(TreeFault::Number)
-    );
-    assert_eq!(rt; fault_of(heap, &[&[0, -1], &[5]])?, Some(TreeFault::Number));
-    assert_eq!(rt; fault_of(heap, &[&[0, 5], &[5]])?, Some(TreeFault::Matrix));
-    assert_eq!(rt;
-        fault_of(heap, &[&[0, 5], &[5, 0], &[0, 0]])?,
-        Some(TreeFault::Matrix)
-    );
-    assert_eq!(rt;
-        fault_of(heap, &[&[0, 5], &[6, 0]])?,
-        Some(TreeFault::Matrix)
-    );
-    assert_eq!(rt;
-        fault_of(heap, &[&[0, 5], &[5, 1]])?,
-        Some(TreeFault::Matrix)
-    );
+    for (rows, fault) in FAULTS {
+        assert_eq!(rt; fault_of(rt.alloc(), rows)?, fault, "{rows:?}");
+    }
     Ok(())
 }
 
@@ -72,41 +68,68 @@ fn there_are_1_to_16_players_and_a_source(rt: HostRuntime) -> Result<(), Fail> {
     Ok(())
 }
 
+/// The game of these rows.
+fn game_of(alloc: Global, rows: &[&[i64]]) -> Result<TreeGame, Fail> {
+    Ok(
+        TreeGame::new(alloc, matrix_of(alloc, rows)?)
+            .ok()
+            .ok_or("no game")?,
+    )
+}
+
+/// Two costs and all worths of a game of two players.
+fn numbers_of(rt: &impl Abort, game: &TreeGame) -> (u64, u64, i64, i64, i64) {
+    assert!(rt; game.points() == 3 && game.players() == 2);
+    (
+        game.cost(0, 2),
+        game.cost(1, 2),
+        game.worth(Coalition(1)),
+        game.worth(Coalition(2)),
+        game.worth(Coalition(3)),
+    )
+}
+
+/// What two players pay, over which denominator, and who blocks.
+fn parts_of(rt: &impl Abort, game: &TreeGame, x: &Shares) -> (i128, i128, i128, Option<Coalition>) {
+    assert!(rt; game.players() == 2 && x.players() == 2);
+    (x.num(0), x.num(1), x.den(), game.blocker(x))
+}
+
 #[test]
 fn the_farther_of_two_neighbours_pays_for_the_short_link(rt: HostRuntime) -> Result<(), Fail> {
-    let matrix = matrix_of(rt.alloc(), &[&[0, 10, 10], &[10, 0, 1], &[10, 1, 0]])?;
-    let game = TreeGame::new(rt.alloc(), matrix).map_err(|_| "no game")?;
-    assert!(rt; game.points() == 3);
-    assert_eq!(rt; (game.cost(0, 2), game.cost(1, 2)), (10, 1));
-    assert!(rt; game.players() == 2);
-    assert_eq!(rt; game.worth(Coalition(1)), -10);
-    assert_eq!(rt; game.worth(Coalition(2)), -10);
-    assert_eq!(rt; game.worth(Coalition(3)), -11);
+    let game = game_of(rt.alloc(), &[&[0, 10, 10], &[10, 0, 1], &[10, 1, 0]])?;
+    assert_eq!(rt; numbers_of(&rt, &game), (10, 1, -10, -10, -11));
     let (shares, tree) = game.bird(rt.alloc())?;
     assert_eq!(rt; tree.edges.as_slice(), [(0, 1, 10), (1, 2, 1)].as_slice());
-    assert!(rt; shares.players() == 2);
-    assert_eq!(rt; (shares.num(0), shares.num(1), shares.den()), (-10, -1, 1));
-    assert_eq!(rt; game.blocker(&shares), None);
+    assert_eq!(rt; parts_of(&rt, &game, &shares), (-10, -1, 1, None));
     Ok(())
 }
 
 // Player 3 stands between the source and the others: without it each of these costs 9, and with it the shortcut.
 #[test]
 fn no_shortcut_leads_through_players_outside(rt: HostRuntime) -> Result<(), Fail> {
-    let matrix = matrix_of(
+    let game = game_of(
         rt.alloc(),
         &[&[0, 9, 9, 1], &[9, 0, 8, 2], &[9, 8, 0, 2], &[1, 2, 2, 0]],
     )?;
-    let game = TreeGame::new(rt.alloc(), matrix).map_err(|_| "no game")?;
-    assert!(rt; game.players() == 3);
-    assert_eq!(rt; game.worth(Coalition(0)), 0);
-    assert_eq!(rt; game.worth(Coalition(1)), -9);
-    assert_eq!(rt; game.worth(Coalition(2)), -9);
-    assert_eq!(rt; game.worth(Coalition(3)), -17);
-    assert_eq!(rt; game.worth(Coalition(4)), -1);
-    assert_eq!(rt; game.worth(Coalition(5)), -3);
-    assert_eq!(rt; game.worth(Coalition(6)), -3);
-    assert_eq!(rt; game.worth(Coalition(7)), -5);
+    let wanted = [0, -9, -9, -17, -1, -3, -3, -5];
+    for mask in 0..8u64 {
+        assert!(rt; game.players() == 3);
+        assert_eq!(rt; game.worth(Coalition(mask)), wanted[mask as usize]);
+    }
+    Ok(())
+}
+
+/// Compares the links of a plan.
+fn plan_has(
+    rt: &impl Abort,
+    alloc: Global,
+    matrix: Vec<Vec<i64>>,
+    links: &[(u32, u32, i64)],
+) -> Result<(), Fail> {
+    let game = TreeGame::new(alloc, matrix).ok().ok_or("no game")?;
+    let (_, tree) = game.bird(alloc)?;
+    assert_eq!(rt; tree.edges.as_slice(), links);
     Ok(())
 }
 
@@ -115,22 +138,20 @@ fn no_shortcut_leads_through_players_outside(rt: HostRuntime) -> Result<(), Fail
 fn of_equal_costs_the_least_end_and_then_the_least_player_comes_first(
     rt: HostRuntime,
 ) -> Result<(), Fail> {
-    let matrix = alike(rt.alloc(), 4, 4)?;
-    let game = TreeGame::new(rt.alloc(), matrix).map_err(|_| "no game")?;
-    let (_, tree) = game.bird(rt.alloc())?;
-    assert_eq!(rt;
-        tree.edges.as_slice(),
-        [(0, 1, 4), (0, 2, 4), (0, 3, 4)].as_slice()
-    );
-    let matrix = matrix_of(
-        rt.alloc(),
-        &[&[0, 5, 2, 2], &[5, 0, 2, 1], &[2, 2, 0, 2], &[2, 1, 2, 0]],
+    let heap = rt.alloc();
+    plan_has(
+        &rt,
+        heap,
+        alike(heap, 4, 4)?,
+        &[(0, 1, 4), (0, 2, 4), (0, 3, 4)],
     )?;
-    let game = TreeGame::new(rt.alloc(), matrix).map_err(|_| "no game")?;
-    let (_, tree) = game.bird(rt.alloc())?;
-    assert_eq!(rt;
-        tree.edges.as_slice(),
-        [(0, 2, 2), (0, 3, 2), (3, 1, 1)].as_slice()
-    );
-    Ok(())
+    plan_has(
+        &rt,
+        heap,
+        matrix_of(
+            heap,
+            &[&[0, 5, 2, 2], &[5, 0, 2, 1], &[2, 2, 0, 2], &[2, 1, 2, 0]],
+        )?,
+        &[(0, 2, 2), (0, 3, 2), (3, 1, 1)],
+    )
 }

@@ -4,7 +4,9 @@ ghost use Rattle.definitions.specs.Games.{HasTwo};
 ghost use Rattle.voting.specs.Voting.{voting_game};
 
 use crate::digits::chosen;
+use crate::shares::shares_of;
 use coalitions::Coalition;
+use std::alloc::Global;
 use std::process::Abort;
 use std::test::Fail;
 use voting::{VotingFault, VotingGame, voting_shapley};
@@ -41,71 +43,120 @@ fn games_are_refused_by_the_first_cause(rt: HostRuntime) -> Result<(), Fail> {
     Ok(())
 }
 
+/// The game of these weights.
+fn game_of(alloc: Global, quota: i64, weights: &[i64]) -> Result<VotingGame, Fail> {
+    Ok(
+        VotingGame::new(alloc, quota, weights.to_vec(alloc)?)
+            .ok()
+            .ok_or("no game")?,
+    )
+}
+
+/// The quota, the weight of the middle player, and the worths of the greatest player with the least and of the others.
+fn numbers_of(rt: &impl Abort, game: &VotingGame) -> (i64, i64, i64, i64) {
+    assert!(rt; game.len() == 3);
+    (
+        game.quota(),
+        game.weight(1),
+        game.worth(Coalition(5)),
+        game.worth(Coalition(6)),
+    )
+}
+
+/// The blocker in a game of three players.
+fn blocker_of_three(rt: &impl Abort, game: &VotingGame, x: &Shares) -> Option<Coalition> {
+    assert!(rt; game.len() == 3 && x.players() == 3);
+    game.blocker(x)
+}
+
 #[test]
 fn the_great_player_and_the_middle_one_block(rt: HostRuntime) -> Result<(), Fail> {
-    let weights = [4, 2, 1].to_vec(rt.alloc())?;
-    let game = VotingGame::new(rt.alloc(), 5, weights).map_err(|_| "no game")?;
-    assert_eq!(rt; game.quota(), 5);
-    assert!(rt; game.len() == 3);
-    assert_eq!(rt; game.weight(1), 2);
-    assert_eq!(rt; game.worth(Coalition(5)), 1);
-    assert_eq!(rt; game.worth(Coalition(6)), 0);
+    let game = game_of(rt.alloc(), 5, &[4, 2, 1])?;
+    assert_eq!(rt; numbers_of(&rt, &game), (5, 2, 1, 0));
     for (num, den, blocker) in [
         ([0, 1, 1], 2, Some(Coalition(3))),
         ([1, 0, 0], 1, None),
         ([2, -1, -1], 1, Some(Coalition(6))),
         ([0, 0, 0], 1, Some(Coalition(3))),
     ] {
-        let x = Shares::new(num.to_vec(rt.alloc())?, den).ok_or("not shares")?;
-        assert!(rt; x.players() == 3);
-        assert_eq!(rt; game.blocker(&x), blocker, "{num:?} over {den}");
+        let x = shares_of(rt.alloc(), &num, den)?;
+        let found = blocker_of_three(&rt, &game, &x);
+        assert_eq!(rt; found, blocker, "{num:?} over {den}");
     }
     Ok(())
 }
 
+/// The game of 32 players of this weight.
+fn game_of_32(alloc: Global, quota: i64, weight: i64) -> Result<VotingGame, Fail> {
+    let weights = vec![in alloc; weight; 32]?;
+    Ok(
+        VotingGame::new(alloc, quota, weights)
+            .ok()
+            .ok_or("no game")?,
+    )
+}
+
+/// Shares of 1/32, but for the sixth player.
+fn shares_but_one(alloc: Global, numerator: i128) -> Result<Shares, Fail> {
+    let mut num = vec![in alloc; 1; 32]?;
+    num[5] = numerator;
+    Ok(Shares::new(num, 32).ok_or("not shares")?)
+}
+
+/// The blocker, and the split bound of everyone.
+fn blocker_and_bound(rt: &impl Abort, game: &VotingGame, x: &Shares) -> (Option<Coalition>, i128) {
+    assert!(rt; game.players() == 32 && x.players() == 32);
+    let everyone = Coalition::all(32);
+    assert!(rt; has_two(game, everyone));
+    (game.blocker(x), game.split_bound(x, everyone))
+}
+
 #[test]
 fn thirty_two_players_need_no_list_of_coalitions(rt: HostRuntime) -> Result<(), Fail> {
-    let weights = vec![in rt.alloc(); 31; 32]?;
-    let game = VotingGame::new(rt.alloc(), 17 * 31, weights).map_err(|_| "no game")?;
+    let game = game_of_32(rt.alloc(), 17 * 31, 31)?;
     for (numerator, blocker, bound) in [
         (1, Some(Coalition::all(17)), 15),
         (3, Some(Coalition(Coalition::all(18).0 - 32)), 15),
         (-1, Some(Coalition::all(17)), 17),
     ] {
-        let mut num = vec![in rt.alloc(); 1; 32]?;
-        num[5] = numerator;
-        let x = Shares::new(num, 32).ok_or("not shares")?;
-        assert!(rt; game.players() == 32 && x.players() == 32);
-        assert_eq!(rt; game.blocker(&x), blocker);
-        let everyone = Coalition::all(32);
-        assert!(rt; has_two(&game, everyone));
-        assert_eq!(rt; game.split_bound(&x, everyone), bound);
+        let x = shares_but_one(rt.alloc(), numerator)?;
+        assert_eq!(rt; blocker_and_bound(&rt, &game, &x), (blocker, bound));
     }
     Ok(())
+}
+
+/// The Shapley shares.
+fn shapley_of(alloc: Global, game: &VotingGame) -> Result<Shares, Fail> {
+    Ok(voting_shapley(alloc, game).ok().ok_or("no memory")?)
 }
 
 #[test]
 fn the_shapley_value_is_that_found_by_hand(rt: HostRuntime) -> Result<(), Fail> {
     let unit: i128 = 144_403_552_893_600;
-    let weights = [4, 2, 1].to_vec(rt.alloc())?;
-    let game = VotingGame::new(rt.alloc(), 5, weights).map_err(|_| "no game")?;
-    let x = voting_shapley(rt.alloc(), &game).map_err(|_| "no memory")?;
+    let game = game_of(rt.alloc(), 5, &[4, 2, 1])?;
+    let x = shapley_of(rt.alloc(), &game)?;
     assert!(rt; x.players() == 3);
-    assert_eq!(rt; (x.den(), x.num(0)), (unit, unit / 3 * 2));
-    assert_eq!(rt; (x.num(1), x.num(2)), (unit / 6, unit / 6));
+    assert_eq!(rt;
+        (x.den(), x.num(0), x.num(1), x.num(2)),
+        (unit, unit / 3 * 2, unit / 6, unit / 6)
+    );
     Ok(())
 }
 
-// Five members with a veto and ten without, of whom four have to join.
-#[test]
-fn the_security_council_shares_as_known(rt: HostRuntime) -> Result<(), Fail> {
-    let unit: i128 = 144_403_552_893_600;
-    let mut weights = vec![in rt.alloc(); 1; 15]?;
+/// Five members with a veto and ten without, of whom four have to join.
+fn security_council(alloc: Global) -> Result<VotingGame, Fail> {
+    let mut weights = vec![in alloc; 1; 15]?;
     for w in &mut weights[..5] {
         *w = 7;
     }
-    let game = VotingGame::new(rt.alloc(), 39, weights).map_err(|_| "no game")?;
-    let x = voting_shapley(rt.alloc(), &game).map_err(|_| "no memory")?;
+    Ok(VotingGame::new(alloc, 39, weights).ok().ok_or("no game")?)
+}
+
+#[test]
+fn the_security_council_shares_as_known(rt: HostRuntime) -> Result<(), Fail> {
+    let unit: i128 = 144_403_552_893_600;
+    let game = security_council(rt.alloc())?;
+    let x = shapley_of(rt.alloc(), &game)?;
     assert!(rt; x.players() == 15);
     for i in 0..15 {
         let share = if i < 5 { 421 } else { 4 };
@@ -116,9 +167,8 @@ fn the_security_council_shares_as_known(rt: HostRuntime) -> Result<(), Fail> {
 
 #[test]
 fn thirty_two_like_players_share_alike(rt: HostRuntime) -> Result<(), Fail> {
-    let weights = vec![in rt.alloc(); 1; 32]?;
-    let game = VotingGame::new(rt.alloc(), 17, weights).map_err(|_| "no game")?;
-    let x = voting_shapley(rt.alloc(), &game).map_err(|_| "no memory")?;
+    let game = game_of_32(rt.alloc(), 17, 1)?;
+    let x = shapley_of(rt.alloc(), &game)?;
     assert!(rt; x.players() == 32);
     for i in 0..32 {
         assert_eq!(rt; x.num(i), 144_403_552_893_600 / 32);
@@ -175,6 +225,12 @@ fn compare(rt: &impl Abort, game: &VotingGame, x: &Shares) {
     }
 }
 
+/// Shares that the digits of a number choose.
+fn point_of(alloc: Global, point: usize, n: usize) -> Result<Shares, Fail> {
+    let num = chosen(alloc, &[-1, 0, 2], point, n)?;
+    Ok(Shares::new(num, 2).ok_or("not shares")?)
+}
+
 // One to three players with every list of weights from 0 to 2; of the points of three players every fifth.
 #[test]
 fn own_bodies_answer_as_those_that_list_coalitions(rt: HostRuntime) -> Result<(), Fail> {
@@ -189,8 +245,7 @@ fn own_bodies_answer_as_those_that_list_coalitions(rt: HostRuntime) -> Result<()
                     if n == 3 && point % 5 != 0 {
                         continue;
                     }
-                    let num = chosen(rt.alloc(), &[-1, 0, 2], point, n)?;
-                    let x = Shares::new(num, 2).ok_or("not shares")?;
+                    let x = point_of(rt.alloc(), point, n)?;
                     compare(&rt, &game, &x);
                 }
             }

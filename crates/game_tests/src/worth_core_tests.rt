@@ -3,8 +3,12 @@
 ghost use Rattle.std.specs.Prelude.{◌≡◌, ℕ, ◌^◌, ◌<◌, length, pos, false, MatchOption, slice_index_or, if◌then◌else◌};
 ghost use Rattle.definitions.specs.Games.{Blocks, IsChosenBlocker, IsSplitMaximum, HasTwo};
 
+use crate::fracs::fracs_of;
+use crate::shares::shares_of;
 use coalitions::Coalition;
 use fractions::Frac;
+use std::alloc::{AllocError, Global};
+use std::process::Abort;
 use std::test::Fail;
 use worth_core::{
     Divisor, Measure, Shares, SharesFault, SplitSums, Worth, measured_bound, scaled_excess,
@@ -29,6 +33,20 @@ impl Worth for SimpleGame {
     }
 }
 
+/// Two players are a majority.
+fn majority() -> SimpleGame {
+    SimpleGame {
+        wins: [false, false, false, true, false, true, true, true],
+    }
+}
+
+/// All three players have to agree.
+fn unanimity() -> SimpleGame {
+    SimpleGame {
+        wins: [false, false, false, false, false, false, false, true],
+    }
+}
+
 /// The blocker, by the bound alone.
 fn blocker_of<W: Worth>(game: &W, x: &Shares) -> Option<Coalition>
     requires { length x.now.shares ≡ (W.game game.now).players }
@@ -41,22 +59,19 @@ fn blocker_of<W: Worth>(game: &W, x: &Shares) -> Option<Coalition>
 
 #[test]
 fn blockers_have_the_greatest_excess_and_the_least_mask(rt: HostRuntime) -> Result<(), Fail> {
-    let majority = SimpleGame {
-        wins: [false, false, false, true, false, true, true, true],
-    };
-    let unanimity = SimpleGame {
-        wins: [false, false, false, false, false, false, false, true],
-    };
+    let (majority, unanimity) = (majority(), unanimity());
     for (num, den, in_majority, in_unanimity) in [
         ([1, 0, 0], 1, Some(Coalition(6)), None),
         ([1, 1, 1], 3, Some(Coalition(3)), None),
         ([2, 1, 1], 4, Some(Coalition(6)), None),
         ([0, 1, 0], 2, Some(Coalition(5)), Some(Coalition(7))),
     ] {
-        let x = Shares::new(num.to_vec(rt.alloc())?, den).ok_or("not shares")?;
+        let x = shares_of(rt.alloc(), &num, den)?;
         assert_eq!(rt; x.players(), 3);
-        assert_eq!(rt; blocker_of(&majority, &x), in_majority);
-        assert_eq!(rt; blocker_of(&unanimity, &x), in_unanimity);
+        assert_eq!(rt;
+            (blocker_of(&majority, &x), blocker_of(&unanimity, &x)),
+            (in_majority, in_unanimity)
+        );
     }
     Ok(())
 }
@@ -71,52 +86,84 @@ fn split_bound_of<W: Worth>(game: &W, x: &Shares, free: Coalition) -> i128
     game.split_bound(x, free)
 }
 
+/// The greatest excesses over the coalitions that split all three players and the first two, and the excess of these.
+fn bounds_of(game: &SimpleGame, x: &Shares) -> (i128, i128, i128)
+    requires { length x.now.shares ≡ 3 }
+{
+    (
+        split_bound_of(game, x, Coalition(7)),
+        split_bound_of(game, x, Coalition(3)),
+        scaled_excess(game, x, Coalition(3)),
+    )
+}
+
 #[test]
 fn split_bounds_pass_over_sets_that_hold_all_or_none(rt: HostRuntime) -> Result<(), Fail> {
-    let majority = SimpleGame {
-        wins: [false, false, false, true, false, true, true, true],
-    };
-    let unanimity = SimpleGame {
-        wins: [false, false, false, false, false, false, false, true],
-    };
+    let (majority, unanimity) = (majority(), unanimity());
     for (num, den, of_all, of_two, in_unanimity, of_pair) in [
         ([1, 0, 0], 1, 1, 1, 0, 0),
         ([1, 1, 1], 3, 1, 1, -1, 1),
         ([0, 0, -5], 2, 7, 7, 5, 2),
     ] {
-        let x = Shares::new(num.to_vec(rt.alloc())?, den).ok_or("not shares")?;
+        let x = shares_of(rt.alloc(), &num, den)?;
         assert_eq!(rt; x.players(), 3);
-        assert_eq!(rt; split_bound_of(&majority, &x, Coalition(7)), of_all);
-        assert_eq!(rt; split_bound_of(&majority, &x, Coalition(3)), of_two);
+        assert_eq!(rt; bounds_of(&majority, &x), (of_all, of_two, of_pair));
         assert_eq!(rt; split_bound_of(&unanimity, &x, Coalition(7)), in_unanimity);
-        assert_eq!(rt; scaled_excess(&majority, &x, Coalition(3)), of_pair);
     }
     Ok(())
 }
 
+/// The greatest excesses, plain and per head, over the coalitions that split all three players.
+fn measured_bounds(game: &SimpleGame, x: &Shares) -> (Option<Frac>, Option<Frac>)
+    requires { length x.now.shares ≡ 3 }
+{
+    let all = Coalition(7);
+    (
+        Some(measured_bound(game, x, all, Measure::Plain)),
+        Some(measured_bound(game, x, all, Measure::PerHead)),
+    )
+}
+
 #[test]
 fn bounds_per_head_divide_by_the_members(rt: HostRuntime) -> Result<(), Fail> {
-    let majority = SimpleGame {
-        wins: [false, false, false, true, false, true, true, true],
-    };
+    let majority = majority();
     for (num, den, plain, by_head) in [
         ([1, 1, 1], 3, (1, 3), (1, 6)),
         ([0, 0, -5], 2, (7, 2), (5, 2)),
     ] {
-        let x = Shares::new(num.to_vec(rt.alloc())?, den).ok_or("not shares")?;
+        let x = shares_of(rt.alloc(), &num, den)?;
         assert_eq!(rt; x.players(), 3);
-        let all = Coalition(7);
-        assert_eq!(rt;
-            Some(measured_bound(&majority, &x, all, Measure::Plain)),
-            Frac::new(plain.0, plain.1)
-        );
-        assert_eq!(rt;
-            Some(measured_bound(&majority, &x, all, Measure::PerHead)),
-            Frac::new(by_head.0, by_head.1)
-        );
+        let wanted = (Frac::new(plain.0, plain.1), Frac::new(by_head.0, by_head.1));
+        assert_eq!(rt; measured_bounds(&majority, &x), wanted);
     }
-    assert_eq!(rt; Measure::Plain.divisor(Coalition(6)), 1);
-    assert_eq!(rt; Measure::PerHead.divisor(Coalition(6)), 2);
+    let pair = Coalition(6);
+    assert_eq!(rt;
+        (Measure::Plain.divisor(pair), Measure::PerHead.divisor(pair)),
+        (1, 2)
+    );
+    Ok(())
+}
+
+/// Whether so many times this numerator make shares over this denominator.
+fn are_shares(alloc: Global, count: usize, numerator: i128, den: i128) -> Result<bool, AllocError> {
+    let num = vec![in alloc; numerator; count]?;
+    Ok(Shares::new(num, den).is_some())
+}
+
+/// Compares what the shares 5/4 and -3/4 tell.
+fn two_shares_are_kept(rt: &impl Abort, alloc: Global) -> Result<(), Fail> {
+    let x = shares_of(alloc, &[5, -3], 4)?;
+    assert_eq!(rt; x.players(), 2);
+    assert_eq!(rt;
+        (
+            x.num(0),
+            x.num(1),
+            x.den(),
+            x.sum_of(Coalition(3)),
+            x.excess_over(10, Coalition(1))
+        ),
+        (5, -3, 4, 2, 35)
+    );
     Ok(())
 }
 
@@ -137,23 +184,23 @@ fn shares_keep_their_limits(rt: HostRuntime) -> Result<(), Fail> {
         (2, 1 - limit, 1, true),
         (2, -limit, 1, false),
     ] {
-        let num = vec![in rt.alloc(); numerator; count]?;
-        let made = Shares::new(num, den);
-        assert_eq!(rt;
-            made.is_some(),
-            accepted,
-            "{count} of {numerator} over {den}"
-        );
+        let made = are_shares(rt.alloc(), count, numerator, den)?;
+        assert_eq!(rt; made, accepted, "{count} of {numerator} over {den}");
     }
-    let x = Shares::new([5, -3].to_vec(rt.alloc())?, 4).ok_or("not shares")?;
+    two_shares_are_kept(&rt, rt.alloc())
+}
+
+/// The numerators and the denominator of the shares that are these fractions.
+fn parts_of(
+    rt: &impl Abort,
+    alloc: Global,
+    left: Frac,
+    right: Frac,
+) -> Result<(i128, i128, i128), SharesFault> {
+    let x = Shares::from_fracs(alloc, &[left, right])?;
     assert_eq!(rt; x.players(), 2);
-    assert_eq!(rt;
-        [x.num(0), x.num(1), x.den()].as_slice(),
-        [5, -3, 4].as_slice()
-    );
-    assert_eq!(rt; x.sum_of(Coalition(3)), 2);
-    assert_eq!(rt; x.excess_over(10, Coalition(1)), 35);
-    Ok(())
+    assert_eq!(rt; x.share(1), right);
+    Ok((x.num(0), x.num(1), x.den()))
 }
 
 #[test]
@@ -172,17 +219,8 @@ fn fractions_stand_over_their_least_common_denominator(rt: HostRuntime) -> Resul
         (-large - 1, 1, 0, 1, Err(SharesFault::TooFine)),
         (1, i128::MAX, 1, i128::MAX - 1, Err(SharesFault::TooFine)),
     ] {
-        let left = Frac::new(a, b).ok_or("left")?;
-        let right = Frac::new(c, d).ok_or("right")?;
-        let made = Shares::from_fracs(rt.alloc(), &[left, right]);
-        let answer = match made {
-            Ok(x) => {
-                assert_eq!(rt; x.players(), 2);
-                assert_eq!(rt; x.share(1), right);
-                Ok((x.num(0), x.num(1), x.den()))
-            }
-            Err(fault) => Err(fault),
-        };
+        let (left, right) = fracs_of(a, b, c, d)?;
+        let answer = parts_of(&rt, rt.alloc(), left, right);
         assert_eq!(rt; answer, wanted, "{a}/{b} and {c}/{d}");
     }
     Ok(())
@@ -190,14 +228,14 @@ fn fractions_stand_over_their_least_common_denominator(rt: HostRuntime) -> Resul
 
 #[test]
 fn shares_are_reduced(rt: HostRuntime) -> Result<(), Fail> {
-    let x = Shares::new([2, 4, -9].to_vec(rt.alloc())?, 12).ok_or("not shares")?;
+    let x = shares_of(rt.alloc(), &[2, 4, -9], 12)?;
     assert_eq!(rt; x.players(), 3);
-    assert_eq!(rt; Some(x.share(1)), Frac::new(1, 3));
-    assert_eq!(rt; Some(x.sum()), Frac::new(-1, 4));
-    assert_eq!(rt; x.least_den(), 12);
-    let y = Shares::new([2, 4, -6].to_vec(rt.alloc())?, 12).ok_or("not shares")?;
-    assert_eq!(rt; y.least_den(), 6);
-    assert_eq!(rt; y.sum(), Frac::from_int(0));
+    assert_eq!(rt;
+        (Some(x.share(1)), Some(x.sum()), x.least_den()),
+        (Frac::new(1, 3), Frac::new(-1, 4), 12)
+    );
+    let y = shares_of(rt.alloc(), &[2, 4, -6], 12)?;
+    assert_eq!(rt; (y.least_den(), y.sum()), (6, Frac::from_int(0)));
     Ok(())
 }
 
@@ -206,20 +244,30 @@ fn bests(sums: &SplitSums) -> (Option<i128>, Option<i128>) {
     (sums.best(false), sums.best(true))
 }
 
+/// Compares these sums after a number was added.
+fn bests_are(
+    rt: &impl Abort,
+    sums: &SplitSums,
+    number: i128,
+    wanted: (Option<i128>, Option<i128>),
+) {
+    assert_eq!(rt; bests(sums), wanted, "with {number}");
+}
+
 #[test]
 fn the_greatest_splitting_sums_are_those_found_by_hand(rt: HostRuntime) {
     let mut sums = SplitSums::new();
     assert_eq!(rt; sums.best(true), None);
     sums.add(true, 5);
-    assert_eq!(rt; bests(&sums), (None, Some(5)), "with 5");
+    bests_are(&rt, &sums, 5, (None, Some(5)));
     sums.add(false, -3);
-    assert_eq!(rt; bests(&sums), (None, Some(5)), "with -3");
+    bests_are(&rt, &sums, -3, (None, Some(5)));
     sums.add(true, 2);
-    assert_eq!(rt; bests(&sums), (Some(5), Some(7)), "with 2");
+    bests_are(&rt, &sums, 2, (Some(5), Some(7)));
     sums.add(false, 4);
-    assert_eq!(rt; bests(&sums), (Some(9), Some(11)), "with 4");
+    bests_are(&rt, &sums, 4, (Some(9), Some(11)));
     sums.add(true, -1);
-    assert_eq!(rt; bests(&sums), (Some(11), Some(11)), "with -1");
+    bests_are(&rt, &sums, -1, (Some(11), Some(11)));
     sums.add(true, 6);
-    assert_eq!(rt; bests(&sums), (Some(17), Some(17)), "with 6");
+    bests_are(&rt, &sums, 6, (Some(17), Some(17)));
 }

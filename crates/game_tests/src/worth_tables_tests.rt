@@ -2,9 +2,11 @@
 ghost use Rattle.std.specs.Prelude.{◌≡◌, ℕ, ◌^◌, ◌<◌, ◌≤◌, length, IfOk, MatchOption};
 ghost use Rattle.definitions.specs.Games.{Blocks, IsChosenBlocker};
 
+use crate::shares::shares_of;
 use coalitions::Coalition;
 use fractions::OutOfMemory;
 use std::alloc::Global;
+use std::process::Abort;
 use std::test::Fail;
 use worth_core::{Shares, Worth};
 use worth_tables::{CostGame, KeptWorths, TableFault, TableGame};
@@ -30,26 +32,36 @@ fn tables_are_refused_by_the_first_cause(rt: HostRuntime) -> Result<(), Fail> {
     Ok(())
 }
 
+/// The game of these worths.
+fn game_of(alloc: Global, n: u32, worths: &[i64]) -> Result<TableGame, Fail> {
+    Ok(
+        TableGame::new(alloc, n, worths.to_vec(alloc)?)
+            .ok()
+            .ok_or("no game")?,
+    )
+}
+
 #[test]
 fn the_pair_of_greatest_excess_blocks(rt: HostRuntime) -> Result<(), Fail> {
-    let worths = [0, 0, 6, 0, 6, 6, 8].to_vec(rt.alloc())?;
-    let game = TableGame::new(rt.alloc(), 3, worths).map_err(|_| "no game")?;
-    let x = Shares::new([4, 3, 1].to_vec(rt.alloc())?, 1).ok_or("not shares")?;
+    let game = game_of(rt.alloc(), 3, &[0, 0, 6, 0, 6, 6, 8])?;
+    let x = shares_of(rt.alloc(), &[4, 3, 1], 1)?;
     assert!(rt; game.players() == 3 && x.players() == 3);
-    assert_eq!(rt; game.worth(Coalition(6)), 6);
-    assert_eq!(rt; game.blocker(&x), Some(Coalition(6)));
+    assert_eq!(rt;
+        (game.worth(Coalition(6)), game.blocker(&x)),
+        (6, Some(Coalition(6)))
+    );
     Ok(())
 }
 
 #[test]
 fn who_pays_more_than_its_cost_blocks(rt: HostRuntime) -> Result<(), Fail> {
-    let worths = [4, 5, 7].to_vec(rt.alloc())?;
-    let costs = TableGame::new(rt.alloc(), 2, worths).map_err(|_| "no game")?;
-    let game = CostGame::new(costs);
-    let x = Shares::new([-1, -6].to_vec(rt.alloc())?, 1).ok_or("not shares")?;
+    let game = CostGame::new(game_of(rt.alloc(), 2, &[4, 5, 7])?);
+    let x = shares_of(rt.alloc(), &[-1, -6], 1)?;
     assert!(rt; game.players() == 2 && x.players() == 2);
-    assert_eq!(rt; game.worth(Coalition(2)), -5);
-    assert_eq!(rt; game.blocker(&x), Some(Coalition(2)));
+    assert_eq!(rt;
+        (game.worth(Coalition(2)), game.blocker(&x)),
+        (-5, Some(Coalition(2)))
+    );
     Ok(())
 }
 
@@ -71,20 +83,26 @@ fn blocker_of_kept<W: Worth>(
     }
 }
 
-#[test]
-fn kept_worths_are_those_of_the_game(rt: HostRuntime) -> Result<(), Fail> {
-    let worths = [4, 5, 7, 6, 9, 9, 10].to_vec(rt.alloc())?;
-    let costs = TableGame::new(rt.alloc(), 3, worths).map_err(|_| "no game")?;
-    let game = CostGame::new(costs);
+/// Compares the worths of a game of three players with those that are kept.
+fn worths_are_kept(rt: &impl Abort, alloc: Global, game: &CostGame<TableGame>) -> Result<(), Fail> {
     assert!(rt; game.players() == 3);
-    let kept = KeptWorths::new(rt.alloc(), &game).map_err(|_| "no memory")?;
+    let kept = KeptWorths::new(alloc, game).ok().ok_or("no memory")?;
     assert!(rt; kept.players() == 3);
     for s in 0..8 {
         assert_eq!(rt; kept.worth(Coalition(s)), game.worth(Coalition(s)));
     }
-    let x = Shares::new([-2, -5, -3].to_vec(rt.alloc())?, 1).ok_or("not shares")?;
-    assert!(rt; x.players() == 3);
-    let found = blocker_of_kept(rt.alloc(), &game, &x).map_err(|_| "no memory")?;
+    Ok(())
+}
+
+#[test]
+fn kept_worths_are_those_of_the_game(rt: HostRuntime) -> Result<(), Fail> {
+    let game = CostGame::new(game_of(rt.alloc(), 3, &[4, 5, 7, 6, 9, 9, 10])?);
+    worths_are_kept(&rt, rt.alloc(), &game)?;
+    let x = shares_of(rt.alloc(), &[-2, -5, -3], 1)?;
+    assert!(rt; game.players() == 3 && x.players() == 3);
+    let found = blocker_of_kept(rt.alloc(), &game, &x)
+        .ok()
+        .ok_or("no memory")?;
     assert_eq!(rt; found, game.blocker(&x));
     Ok(())
 }
