@@ -19,3 +19,33 @@ loop-j-preserved c =
       floor = floor_more table (slice_set table (16 * i + j) v) i j c.loop-j.least c.lesser_where-least.result c.loop-j.invariant.floor (λ k lt. written-elsewhere table i j i k v c.loop-j-test.true (omega (arith, c.loop-j-test.true)) (λ _ same. omega arith)) c.lesser_where-least.ensures;
       kept = c.loop-j.invariant.kept;
     }
+
+pub overflow_mul-place : goal.overflow_mul-place
+overflow_mul-place c = omega (arith, c.requires.player, c.loop-j-test.true)
+
+pub overflow_add-place : goal.overflow_add-place
+overflow_add-place c = omega (arith, c.requires.player, c.loop-j-test.true)
+
+pub overflow_cast-place : goal.overflow_cast-place
+overflow_cast-place c = omega (arith, c.requires.player, c.loop-j-test.true)
+
+pub offset_bounds-self-place : goal.offset_bounds-self-place
+offset_bounds-self-place c = omega (arith, c.requires.player, c.loop-j-test.true)
+
+pub bounds-self-place : goal.bounds-self-place
+bounds-self-place c = omega (arith, c.requires.player, c.loop-j-test.true)
+
+pub offset_bounds-self-place-in-loop-j : goal.offset_bounds-self-place-in-loop-j
+offset_bounds-self-place-in-loop-j c = omega (arith, c.requires.player, c.loop-j-test.true)
+
+pub bounds-self-place-in-loop-j : goal.bounds-self-place-in-loop-j
+bounds-self-place-in-loop-j c = omega (arith, c.requires.player, c.loop-j-test.true)
+
+pub offset_bounds-self-place-in-loop-j-2 : goal.offset_bounds-self-place-in-loop-j-2
+offset_bounds-self-place-in-loop-j-2 c = omega (arith, c.requires.player, c.loop-j-test.true)
+
+pub bounds-self-place-in-loop-j-2 : goal.bounds-self-place-in-loop-j-2
+bounds-self-place-in-loop-j-2 c = omega (arith, c.requires.player, c.loop-j-test.true)
+
+pub offset_bounds-self-i : goal.offset_bounds-self-i
+offset_bounds-self-i c = omega (arith, c.requires.player)
