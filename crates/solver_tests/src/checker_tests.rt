@@ -62,7 +62,7 @@ fn spans_certify_an_assignment_game(rt: HostRuntime) -> Result<(), Fail> {
     let pairs = [(of![2, 3], 1), (of![1, 4], 1)];
     let others = [(of![1, 3], 1), (of![2, 4], 1)];
     let singles = [(of![1], 1), (of![3], 1)];
-    for (shares, den, first, last, wanted) in [
+    for &(shares, den, first, last, wanted) in &[
         ([7, 7, 7, 9], 2, 0, 3, Verdict::Yes),
         (
             [2, 2, 5, 6],
@@ -108,7 +108,7 @@ fn spans_certify_an_assignment_game(rt: HostRuntime) -> Result<(), Fail> {
 #[test]
 fn a_prenucleolus_may_be_below_a_worth_alone(rt: HostRuntime) -> Result<(), Fail> {
     let game = table(&rt, 3, &[0, 0, 4, 0, 0, 0, 0])?;
-    for (family, wanted) in [
+    for &(family, wanted) in &[
         (Family::Preimputations, Verdict::Yes),
         (
             Family::Imputations,
@@ -137,7 +137,7 @@ fn a_prenucleolus_may_be_below_a_worth_alone(rt: HostRuntime) -> Result<(), Fail
 #[test]
 fn bounds_stand_for_imputations_alone(rt: HostRuntime) -> Result<(), Fail> {
     let game = table(&rt, 3, &[0, 0, 4, 0, 0, 0, 0])?;
-    for (family, wanted) in [
+    for &(family, wanted) in &[
         (Family::Imputations, Verdict::Yes),
         (
             Family::Preimputations,
@@ -147,7 +147,7 @@ fn bounds_stand_for_imputations_alone(rt: HostRuntime) -> Result<(), Fail> {
             }),
         ),
     ] {
-        for mode in [Mode::Players, Mode::Span] {
+        for &mode in &[Mode::Players, Mode::Span] {
             let first = level(&rt, (4, 1), &[(of![1, 2], 1)], &[], &[(2, 1)], 1)?;
             let singles = [(of![1], 1), (of![2], 1)];
             let second = level(&rt, (0, 1), &singles, &[], &[(2, 1)], 1)?;
@@ -166,7 +166,7 @@ fn bounds_stand_for_imputations_alone(rt: HostRuntime) -> Result<(), Fail> {
 #[test]
 fn players_certify_an_airport_game(rt: HostRuntime) -> Result<(), Fail> {
     let game = table(&rt, 3, &[-2, -4, -4, -6, -6, -6, -6])?;
-    for (last, weight, wanted) in [
+    for &(last, weight, wanted) in &[
         (-7, 1, Verdict::Yes),
         (
             -7,
@@ -228,7 +228,7 @@ fn on_two(
 fn each_condition_of_a_level_fails_in_both_modes(rt: HostRuntime) -> Result<(), Fail> {
     let (level, player) = (1, 0);
     let coalition = of![1];
-    for mode in [Mode::Players, Mode::Span] {
+    for &mode in &[Mode::Players, Mode::Span] {
         let found = on_two(&rt, mode, [1, 1], -1, [1, 1], &[], 1)?;
         assert_eq!(rt; found, Verdict::Yes);
         let found = on_two(&rt, mode, [1, 2], -1, [1, 1], &[], 1)?;
@@ -258,7 +258,7 @@ fn each_condition_of_a_level_fails_in_both_modes(rt: HostRuntime) -> Result<(), 
 fn what_is_outside_or_left_is_found_in_both_modes(rt: HostRuntime) -> Result<(), Fail> {
     let game = table(&rt, 3, &[0, 0, 0, 0, 0, 0, 3])?;
     let shares = [1, 1, 1];
-    for mode in [Mode::Players, Mode::Span] {
+    for &mode in &[Mode::Players, Mode::Span] {
         let pairs = [(of![1, 2], 1), (of![1, 3], 1), (of![2, 3], 1)];
         let only = level(&rt, (-2, 1), &pairs, &[], &[], 2)?;
         let levels = vec![in rt.alloc(); only]?;
@@ -296,7 +296,7 @@ fn what_is_outside_or_left_is_found_in_both_modes(rt: HostRuntime) -> Result<(),
 #[test]
 fn excess_per_head_is_certified_in_both_modes(rt: HostRuntime) -> Result<(), Fail> {
     let game = table(&rt, 3, &[0, 0, 6, 0, 0, 0, 12])?;
-    for (shares, den, measure, wanted) in [
+    for &(shares, den, measure, wanted) in &[
         ([5, 5, 2], 1, Measure::PerHead, Verdict::Yes),
         (
             [9, 9, 6],
@@ -317,7 +317,7 @@ fn excess_per_head_is_certified_in_both_modes(rt: HostRuntime) -> Result<(), Fai
             }),
         ),
     ] {
-        for mode in [Mode::Players, Mode::Span] {
+        for &mode in &[Mode::Players, Mode::Span] {
             let first = level(&rt, (-2, 1), &[(of![1, 2], 1), (of![3], 1)], &[], &[], 1)?;
             let pairs = [(of![1, 3], 1), (of![2, 3], 1)];
             let second = level(&rt, (-7, 2), &pairs, &[(of![3], -1)], &[], 1)?;
@@ -338,7 +338,7 @@ fn the_greatest_excess_outside_is_per_head(rt: HostRuntime) -> Result<(), Fail> 
         level: 1,
         excess: Frac::new(-1, 2).ok_or("not a fraction")?,
     };
-    for mode in [Mode::Players, Mode::Span] {
+    for &mode in &[Mode::Players, Mode::Span] {
         let singles = [(of![1], 1), (of![2], 1), (of![3], 1)];
         let only = level(&rt, (-1, 1), &singles, &[], &[], 1)?;
         let levels = vec![in rt.alloc(); only]?;

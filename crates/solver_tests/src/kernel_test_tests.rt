@@ -58,7 +58,7 @@ fn the_prenucleolus_is_balanced(rt: HostRuntime) -> Result<(), Fail> {
 
 #[test]
 fn the_first_pair_that_differs_is_told_with_both_surpluses(rt: HostRuntime) -> Result<(), Fail> {
-    for (worths, num, den, i, j, ij, ji) in [
+    for &(worths, num, den, i, j, ij, ji) in &[
         (MAJORITY, [1, 0, 0], 1, 0, 1, (0, 1), (1, 1)),
         (ONE_PAIR, [0, 0, 0], 1, 0, 2, (4, 1), (0, 1)),
         (MAJORITY, [1, 1, 2], 4, 0, 2, (1, 2), (1, 4)),
@@ -105,7 +105,7 @@ fn surpluses_are_the_greatest_excesses_found_by_hand(rt: HostRuntime) -> Result<
     if x.players() != 3 || game.players() != 3 {
         Err("another number of shares")?;
     }
-    for (i, j, num) in [
+    for &(i, j, num) in &[
         (0, 1, 1),
         (1, 0, -1),
         (0, 2, 4),
@@ -145,7 +145,7 @@ fn one_scan_answers_as_a_scan_for_each_pair(rt: HostRuntime) -> Result<(), Fail>
     let game = TableGame::new(rt.alloc(), 4, ASSIGNMENT.to_vec(rt.alloc())?).map_err(
         |_| "no game",
     )?;
-    for (num, den) in [
+    for &(num, den) in &[
         ([7, 7, 7, 9], 2),
         ([2, 2, 5, 6], 1),
         ([8, 7, 0, 0], 1),

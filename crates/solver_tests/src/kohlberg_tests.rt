@@ -25,8 +25,8 @@ fn level(
 
 #[test]
 fn certificates_of_one_level(rt: HostRuntime) -> Result<(), Fail> {
-    let limit: i128 = 1 << 63;
-    for (players, mode, first, second, bound, weight, total, formed) in [
+    const LIMIT: i128 = 1 << 63;
+    for &(players, mode, first, second, bound, weight, total, formed) in &[
         (3, Mode::Players, 1, 6, 0, 1, 1, true),
         (3, Mode::Span, 1, 6, 2, 1, 1, true),
         (
@@ -35,8 +35,8 @@ fn certificates_of_one_level(rt: HostRuntime) -> Result<(), Fail> {
             1,
             1 << 63,
             63,
-            1 - limit,
-            limit - 1,
+            1 - LIMIT,
+            LIMIT - 1,
             true,
         ),
         (16, Mode::Span, 1, 65534, 15, 0, 0, true),
@@ -47,8 +47,8 @@ fn certificates_of_one_level(rt: HostRuntime) -> Result<(), Fail> {
         (3, Mode::Players, 6, 1, 0, 1, 1, false),
         (3, Mode::Players, 6, 6, 0, 1, 1, false),
         (3, Mode::Players, 1, 6, 3, 1, 1, false),
-        (3, Mode::Players, 1, 6, 0, limit, 1, false),
-        (3, Mode::Players, 1, 6, 0, 1, -limit, false),
+        (3, Mode::Players, 1, 6, 0, LIMIT, 1, false),
+        (3, Mode::Players, 1, 6, 0, 1, -LIMIT, false),
     ] {
         let pairs = [(Coalition(first), weight), (Coalition(second), 1)];
         let only = level(rt.alloc(), &pairs, &[], &[(bound, weight)], total)?;
@@ -62,7 +62,7 @@ fn certificates_of_one_level(rt: HostRuntime) -> Result<(), Fail> {
 #[test]
 fn earlier_coalitions_stand_in_front(rt: HostRuntime) -> Result<(), Fail> {
     let pair = [(Coalition(1), 1), (Coalition(6), 1)];
-    for (earlier, formed) in [(Coalition(6), true), (Coalition(3), false)] {
+    for &(earlier, formed) in &[(Coalition(6), true), (Coalition(3), false)] {
         let first = level(rt.alloc(), &pair, &[], &[], 1)?;
         let second = level(rt.alloc(), &[(Coalition(3), 1)], &[(earlier, -1)], &[], 0)?;
         let made = Certificate::new(3, Mode::Players, vec![in rt.alloc(); first, second]?);

@@ -109,15 +109,15 @@ fn compare<A: Columns, B: Columns>(
     }
     let mut work = Workspace::new(alloc, rows).map_err(|_| "no memory")?;
     let best = solve(&mut work, listed).map_err(|_| "no optimum")?;
-    for multiplier in [0, 262144] {
+    for &multiplier in &[0, 262144] {
         let m = for_players(multiplier, players, rows);
-        for with_costs in [true, false] {
+        for &with_costs in &[true, false] {
             if !same_entering(listed, found, &m, with_costs) {
                 Err("another column enters")?;
             }
         }
     }
-    for with_costs in [true, false] {
+    for &with_costs in &[true, false] {
         if !same_entering(listed, found, &best.multipliers, with_costs) {
             Err("another column enters at the optimum")?;
         }
@@ -161,7 +161,7 @@ fn found_columns_are_the_listed_ones(rt: HostRuntime) -> Result<(), Fail> {
             let game = drawn(rt.alloc(), players, seed)?;
             assert!(&rt; game.players() == players);
             compare_balanced(rt.alloc(), &game)?;
-            for measure in [Measure::Plain, Measure::PerHead] {
+            for &measure in &[Measure::Plain, Measure::PerHead] {
                 compare_first(rt.alloc(), &game, Family::Imputations, measure)?;
                 compare_first(rt.alloc(), &game, Family::Preimputations, measure)?;
             }

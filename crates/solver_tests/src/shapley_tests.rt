@@ -25,7 +25,7 @@ fn a_majority_of_three_shares_equally(rt: HostRuntime) -> Result<(), Fail> {
 #[test]
 fn departments_of_equal_cost_pay_equally(rt: HostRuntime) -> Result<(), Fail> {
     let mut costs = vec![in rt.alloc(); 18i64; 31]?;
-    for single in [0usize, 1, 3, 7, 15] {
+    for &single in &[0usize, 1, 3, 7, 15] {
         costs[single] = 6;
     }
     costs[30] = 20;
@@ -49,7 +49,7 @@ fn three_airlines_share_the_steps_of_their_costs(rt: HostRuntime) -> Result<(), 
 
 #[test]
 fn airports_of_17_players_have_steps_alone(rt: HostRuntime) -> Result<(), Fail> {
-    for (count, by_orders, by_steps) in [
+    for &(count, by_orders, by_steps) in &[
         (16, None, None),
         (17, Some(ShapleyFault::TooMany), None),
         (33, Some(ShapleyFault::TooMany), Some(ShapleyFault::TooMany)),

@@ -47,7 +47,7 @@ fn are_masks(pairs: &[(Coalition, i128)], masks: &[u64]) -> bool {
 
 #[test]
 fn claims_of_100_and_200_and_300_are_shared_as_in_the_talmud(rt: HostRuntime) -> Result<(), Fail> {
-    for (estate, shares) in [
+    for &(estate, shares) in &[
         (0, [(0, 1), (0, 1), (0, 1)]),
         (100, [(100, 3), (100, 3), (100, 3)]),
         (200, [(50, 1), (75, 1), (75, 1)]),
@@ -131,7 +131,7 @@ fn one_player_gets_the_estate_without_a_level(rt: HostRuntime) -> Result<(), Fai
 
 #[test]
 fn two_players_have_one_level_with_each_alone(rt: HostRuntime) -> Result<(), Fail> {
-    for (estate, claims, shares, excess) in [
+    for &(estate, claims, shares, excess) in &[
         (3, [4, 4], [(3, 2), (3, 2)], (-3, 2)),
         (4, [6, 2], [(3, 1), (1, 1)], (-1, 1)),
         (6, [6, 2], [(5, 1), (1, 1)], (-1, 1)),
@@ -152,7 +152,7 @@ fn two_players_have_one_level_with_each_alone(rt: HostRuntime) -> Result<(), Fai
 
 #[test]
 fn equal_claims_of_64_players_are_shared_equally(rt: HostRuntime) -> Result<(), Fail> {
-    for estate in [1, 1600, 6399] {
+    for &estate in &[1, 1600, 6399] {
         let (x, _) = solved(rt.alloc(), estate, &[100; 64])?;
         for i in 0..64 {
             assert!(rt;
@@ -233,21 +233,24 @@ fn agrees(alloc: Global, estate: i64, claims: &[i64]) -> Result<bool, Fail> {
     Ok(gets_all(&x, &plain))
 }
 
+/// Claims and their sums.
+const CLAIMS: &[(&[i64], i64)] = &[
+    (&[3], 3),
+    (&[1, 1], 2),
+    (&[0, 2], 2),
+    (&[4, 1], 5),
+    (&[0, 0, 3], 3),
+    (&[1, 2, 3], 6),
+    (&[2, 2, 2], 6),
+    (&[5, 1, 5], 11),
+    (&[1, 2, 3, 4], 10),
+    (&[3, 2, 2, 3], 10),
+    (&[0, 1, 6, 6], 13),
+];
+
 #[test]
 fn shares_at_each_estate_are_those_of_the_plain_rule(rt: HostRuntime) -> Result<(), Fail> {
-    for (claims, most) in [
-        (&[3][..], 3),
-        (&[1, 1][..], 2),
-        (&[0, 2][..], 2),
-        (&[4, 1][..], 5),
-        (&[0, 0, 3][..], 3),
-        (&[1, 2, 3][..], 6),
-        (&[2, 2, 2][..], 6),
-        (&[5, 1, 5][..], 11),
-        (&[1, 2, 3, 4][..], 10),
-        (&[3, 2, 2, 3][..], 10),
-        (&[0, 1, 6, 6][..], 13),
-    ] {
+    for &(claims, most) in CLAIMS {
         for estate in 0..=most {
             let agrees = agrees(rt.alloc(), estate, claims)?;
             assert!(rt; agrees, "estate {estate} of {claims:?}");
