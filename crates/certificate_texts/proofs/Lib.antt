@@ -1,3 +1,2 @@
 pub mod Ascents
 pub mod FormTests
-pub mod Pushed

@@ -5,7 +5,6 @@
 --   numbers_above        numbers that ascend strictly, within such bounds
 --   mask_by_numbers      the mask of the players with some numbers
 --   coalition_of         the mask of the coalition whose players are listed by number
---   numbered_player      the player that a number names
 --   weighted_coalition   a coalition and its weight
 --   first_player         the player that the first of two items names
 --   weighted_player      a player and its weight
@@ -15,6 +14,7 @@ use Rattle.serde_json.specs.Data.{Data}
 use Rattle.definitions.specs.Certificates.{Level}
 use Rattle.json_trees.specs.Trees.{parts, parts_at, pair_members, integer}
 use Rattle.json_trees.specs.Integers.{integer_at, second_integer}
+use Rattle.json_trees.specs.Players.{numbered_player}
 use Rattle.json_trees.specs.ScaledFractions.{scaled_at}
 
 -- ---- coalitions by number
@@ -43,11 +43,6 @@ abbrev pub coalition_of : ℕ → List Data → Option ℕ
 coalition_of n ds = option_map mask_by_numbers (numbers_above 0 n ds)
 
 -- ---- pairs
-
--- the player that a number from 1 to n names
-abbrev pub numbered_player : ℕ → ℤ → Option ℕ
-numbered_player n (pos k) = if nat_lt 0 k && nat_le k n then Some (k - 1) else None
-numbered_player n (negsuc k) = None
 
 -- a coalition and its weight; the empty one where none is listed
 abbrev pub weighted_coalition : ℕ → Data → ℕ × ℤ

@@ -5,10 +5,11 @@ ghost use Rattle.json_trees.specs.Trees.{parts, parts_at};
 ghost use Rattle.certificate_texts.specs.Levels.{weighted_coalition, first_player, weighted_player, level_of};
 
 use crate::ascending::coalition_of;
-use crate::numbered::numbered_player;
 use coalitions::Coalition;
 use fractions::OutOfMemory;
-use json_trees::{integer, integer_at, pair_members, parts, parts_at, scaled_at, second_integer};
+use json_trees::{
+    integer, integer_at, numbered_player, pair_members, parts, parts_at, scaled_at, second_integer,
+};
 use kohlberg::Level;
 use serde_json::Value;
 use std::alloc::Global;

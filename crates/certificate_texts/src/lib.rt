@@ -4,11 +4,9 @@
 mod ascending;
 mod certificates;
 mod levels;
-mod numbered;
 mod shape;
 mod words;
 
 pub use certificates::certificate_of;
-pub use numbered::numbered_player;
 pub use shape::CertificateShape;
 pub use words::family_of;

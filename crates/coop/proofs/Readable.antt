@@ -21,7 +21,7 @@ use Rattle.report.specs.declared.answer.Answer.TheVariants.{Nucleolus}
 use Rattle.report.specs.Limits.{IsScale}
 use Rattle.report.proofs.Readers.{scaled, short}
 use Rattle.reading_back.proofs.AcceptedGames.{accepted as accepted_game, accepted_scale}
-use Rattle.game_text.specs.Scales.{scale_of}
+use Rattle.document_parts.specs.Scales.{scale_of}
 use Rattle.report.specs.Limits.{IsFine}
 use Rattle.coop.proofs.FineLevels.{fine_levels}
 use Rattle.reading_back.specs.CertificatesReadBack.{AreInLowestTerms}
@@ -33,7 +33,7 @@ use Rattle.coop.specs.ReadBack.{SaysSame, CanBeChecked}
 use Rattle.kohlberg.specs.Solved.{HasFew, IsLowest, IsSolved}
 use Rattle.definitions.specs.declared.Measure.{Measure}
 use Rattle.definitions.specs.declared.Measure.TheVariants.{Plain, PerHead}
-use Rattle.game_text.specs.Excess.{measure_of}
+use Rattle.document_parts.specs.Excess.{measure_of}
 use Rattle.coop.specs.Classes.{serves_class}
 use Rattle.coop.specs.Limits.{nucleolus_limit, check_limit}
 use Rattle.coop.specs.Headline.{IsTaken}

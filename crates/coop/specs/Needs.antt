@@ -8,8 +8,8 @@ use Rattle.serde_json.specs.Written.{compact_text, has_float}
 use Rattle.json_texts.specs.Exact.{IsExact}
 use Rattle.game_text.specs.Descriptions.{description_of}
 use Rattle.game_text.specs.Documents.{Contents, game_tree}
-use Rattle.game_text.specs.Excess.{measure_of}
-use Rattle.game_text.specs.Scales.{scale_of}
+use Rattle.document_parts.specs.Excess.{measure_of}
+use Rattle.document_parts.specs.Scales.{scale_of}
 use Rattle.game_text.specs.Denominators.{tree_refusal}
 use Rattle.game_text.specs.Text.{document_limit}
 use Rattle.game_text.specs.declared.command.Command.{Command}

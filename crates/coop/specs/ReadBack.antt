@@ -15,8 +15,8 @@ use Rattle.definitions.specs.declared.Family.{Family}
 use Rattle.kohlberg.specs.Certificate.{CertificateData}
 use Rattle.game_text.specs.Descriptions.{description_of, game_of}
 use Rattle.game_text.specs.Documents.{Contents}
-use Rattle.game_text.specs.Excess.{measure_of}
-use Rattle.game_text.specs.Scales.{scale_of}
+use Rattle.document_parts.specs.Excess.{measure_of}
+use Rattle.document_parts.specs.Scales.{scale_of}
 use Rattle.game_text.specs.Denominators.{contents_of, tree_refusal}
 use Rattle.game_text.specs.Refusals.{IsDocument}
 use Rattle.game_text.specs.Text.{document_limit}

@@ -3,7 +3,7 @@ use Rattle.std.proofs.Common.{◌≡◌, ℕ, Bool, true, false, Option, Some, N
 use Rattle.std.specs.Result.{IsErr, IsErrAnd}
 use Rattle.std.proofs.lemmas.Bool.{false≢true}
 use Rattle.serde_json.specs.Data.{Data}
-use Rattle.game_text.specs.Scales.{scale_of}
+use Rattle.document_parts.specs.Scales.{scale_of}
 use Rattle.game_text.specs.Shape.{class_of}
 use Rattle.game_text.specs.Coalitions.{has_coalitions_as}
 use Rattle.game_text.specs.Descriptions.{description_as}

@@ -2,13 +2,13 @@
 use Rattle.std.proofs.Common.{◌≡◌, ◌≤◌, ℕ, List, length, Some, None, sym, ap, ◌∙◌}
 use Rattle.serde_json.specs.Data.{Data}
 use Rattle.game_text.specs.Text.{document_limit, IsTextOf}
-use Rattle.game_text.specs.Scales.{scale_of}
+use Rattle.document_parts.specs.Scales.{scale_of}
 use Rattle.game_text.specs.Documents.{Contents, game_tree, contents_over}
 use Rattle.game_text.specs.Refusals.{refusal_over, IsTreeRefused, IsDocument}
 use Rattle.game_text.specs.Denominators.{share_denominator, contents_of, tree_refusal}
 use Rattle.game_text.specs.declared.command.Command.{Command}
 use Rattle.kinds.specs.declared.refusal.Refusal.{Refusal}
-use Rattle.game_text.proofs.LeastDenominators.{denominator_of, one_denominator_of}
+use Rattle.document_parts.proofs.LeastDenominators.{denominator_of, one_denominator_of}
 
 -- a tree of the bytes that no test refuses, and what it says
 pub record IsReadAs (command : Command) (bytes : List ℕ) (p : Contents) : Type 0 where

@@ -9,11 +9,12 @@ use Rattle.json_trees.specs.Trees.{parts_at}
 use Rattle.game_text.specs.Shape.{class_of}
 use Rattle.game_text.specs.Limits.{players, players_as}
 use Rattle.game_text.specs.Descriptions.{game_of, is_cost, description_as, description_of}
-use Rattle.game_text.specs.Scales.{scale_of}
-use Rattle.game_text.specs.ScaledNumbers.{number_or_zero, numbers_at}
-use Rattle.game_text.specs.CommonMultiples.{least_denominator}
-use Rattle.game_text.specs.Denominators.{over_least, keep_limits, shares_of}
-use Rattle.game_text.specs.Shares.{as_worth, has_shares_for, scaled_share, scaled_shares}
+use Rattle.document_parts.specs.Scales.{scale_of}
+use Rattle.document_parts.specs.ScaledNumbers.{number_or_zero, numbers_at}
+use Rattle.document_parts.specs.CommonMultiples.{least_denominator}
+use Rattle.document_parts.specs.Denominators.{over_least, keep_limits}
+use Rattle.game_text.specs.Denominators.{shares_of}
+use Rattle.document_parts.specs.Shares.{as_worth, has_shares_for, scaled_share, scaled_shares}
 use Rattle.game_text.specs.Documents.{game_tree, certificate_for}
 use Rattle.game_text.specs.Games.{description_in}
 use Rattle.game_text.specs.Refusals.{unless}

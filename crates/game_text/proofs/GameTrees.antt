@@ -13,21 +13,21 @@ use Rattle.std.specs.Ordering.{int_eq}
 use Rattle.fractions.specs.Fraction.{Fraction}
 use Rattle.worth_core.specs.LeastDenominators.{numerator_over}
 use Rattle.json_trees.specs.Fractions.{whole_fraction, fraction_of}
-use Rattle.game_text.specs.Scales.{scale_of}
-use Rattle.game_text.specs.ScaledNumbers.{if_small, small_number}
-use Rattle.game_text.specs.Version.{is_version, has_texts}
-use Rattle.game_text.specs.Excess.{is_measure}
+use Rattle.document_parts.specs.Scales.{scale_of}
+use Rattle.document_parts.specs.ScaledNumbers.{if_small, small_number}
+use Rattle.document_parts.specs.Version.{is_version, has_texts}
+use Rattle.document_parts.specs.Excess.{is_measure}
 use Rattle.game_text.specs.Shape.{class_named, class_of, is_shaped_as, is_game_shaped}
 use Rattle.game_text.specs.TableClass.{is_sparse_pair, table_keys, lists_worths, lists_coalitions, is_table_shaped, table_players, players_at, has_worths_for, has_worth, has_table_numbers, is_worth}
 use Rattle.game_text.specs.BankruptcyClass.{bankruptcy_keys}
 use Rattle.game_text.specs.VotingClass.{voting_keys}
 use Rattle.game_text.specs.MatrixClass.{matrix_keys, is_matrix_shaped, has_matrix_numbers}
 use Rattle.game_text.specs.Limits.{players, has_players_as, has_players, has_numbers_as, has_numbers}
-use Rattle.game_text.specs.Sizes.{if_integer, is_small_cost, is_cost}
-use Rattle.game_text.specs.Names.{names_of}
+use Rattle.document_parts.specs.Sizes.{if_integer, is_small_cost, is_cost}
+use Rattle.document_parts.specs.Names.{names_of}
 use Rattle.game_text.specs.Coalitions.{masks, has_coalitions_as, has_coalitions}
-use Rattle.game_text.specs.Members.{player_of, join, joined, mask_of, is_mask, are_coalitions}
-use Rattle.certificate_texts.specs.Levels.{numbered_player}
+use Rattle.document_parts.specs.Members.{player_of, join, joined, mask_of, is_mask, are_coalitions}
+use Rattle.json_trees.specs.Players.{numbered_player}
 use Rattle.game_text.specs.declared.class.Class.{Class}
 use Rattle.game_text.specs.declared.class.Class.TheVariants.{Table, CostTable, Airport, Bankruptcy, Tree, Assignment, Market, Voting}
 use Rattle.game_text.proofs.PlainTrees.{IsPlain, plain_text, plain_integer, plain_array, all_plain, plain_known, has_members, IsPlainAt, either}

@@ -1,15 +1,9 @@
 pub mod Choices
-pub mod NamesRead
-pub mod Joining
-pub mod Filling
 pub mod Sizes
 pub mod PlayerCounts
 pub mod MatrixRows
 pub mod MarketRows
 pub mod Votes
-pub mod Payments
-pub mod LeastDenominators
-pub mod CommonScales
 pub mod Built
 pub mod Computed
 pub mod Chain

@@ -7,8 +7,8 @@ use Rattle.big_assignment.specs.Markets.{HavePlayers}
 use Rattle.json_trees.specs.Trees.{parts_at}
 use Rattle.game_text.specs.Shape.{class_of}
 use Rattle.game_text.specs.Limits.{has_players_as}
-use Rattle.game_text.specs.Scales.{scale_of}
-use Rattle.game_text.specs.Sizes.{is_short_list_size}
+use Rattle.document_parts.specs.Scales.{scale_of}
+use Rattle.document_parts.specs.Sizes.{is_short_list_size}
 use Rattle.game_text.specs.MatrixClass.{rows_of}
 use Rattle.game_text.specs.AssignmentClass.{sellers_at}
 use Rattle.game_text.specs.MarketClass.{has_market_players}

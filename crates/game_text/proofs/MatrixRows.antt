@@ -13,10 +13,10 @@ use Rattle.matrices.specs.Rows.{entries_of, HaveEntries, HaveLength}
 use Rattle.tree_games.specs.Trees.{HavePoints, AreLinks, IsTree}
 use Rattle.tree_games.proofs.Squares.{square-symmetric, square-loopless}
 use Rattle.assignment_games.specs.Assignments.{seller_count, HavePlayers, IsEven}
-use Rattle.game_text.specs.Scales.{scale_of}
-use Rattle.game_text.specs.ScaledNumbers.{number_or_zero, numbers_of}
+use Rattle.document_parts.specs.Scales.{scale_of}
+use Rattle.document_parts.specs.ScaledNumbers.{number_or_zero, numbers_of}
 use Rattle.json_trees.specs.Trees.{parts, parts_at, first_parts, is_array_of}
-use Rattle.game_text.specs.Sizes.{is_cost}
+use Rattle.document_parts.specs.Sizes.{is_cost}
 use Rattle.game_text.specs.Shape.{class_of}
 use Rattle.game_text.specs.Limits.{has_players_as}
 use Rattle.game_text.specs.MatrixClass.{rows_of, have_length, has_matrix_numbers}

@@ -4,7 +4,7 @@ use Rattle.std.proofs.lemmas.Bool.{and_parts}
 use Rattle.serde_json.specs.Data.{Data}
 use Rattle.tree_games.proofs.Nearest.{tree_is_game}
 use Rattle.assignment_games.proofs.Games.{assignment_is_game}
-use Rattle.game_text.specs.Scales.{scale_of}
+use Rattle.document_parts.specs.Scales.{scale_of}
 use Rattle.game_text.specs.Shape.{class_of}
 use Rattle.game_text.specs.Limits.{has_players_as, has_numbers_as, has_numbers}
 use Rattle.game_text.specs.MatrixClass.{rows_of}

@@ -5,7 +5,7 @@ use Rattle.std.proofs.lemmas.Bool.{false≢true, and_parts, ltb-true, leb-true}
 use Rattle.serde_json.specs.Data.{Data}
 use Rattle.serde_json.specs.Find.{get}
 use Rattle.json_trees.specs.Trees.{parts_at, integer}
-use Rattle.game_text.specs.Sizes.{is_list_size, is_short_list_size}
+use Rattle.document_parts.specs.Sizes.{is_list_size, is_short_list_size}
 use Rattle.game_text.specs.TableClass.{has_worths_for, players_at}
 use Rattle.game_text.specs.AirportClass.{airport_players}
 use Rattle.game_text.specs.BankruptcyClass.{bankruptcy_players}

@@ -8,13 +8,13 @@ use Rattle.json_trees.proofs.Fractions.{written_reduced}
 use Rattle.game_text.specs.Documents.{game_tree}
 use Rattle.game_text.specs.Limits.{has_numbers, has_numbers_as}
 use Rattle.game_text.specs.Refusals.{has_needed_numbers}
-use Rattle.game_text.specs.Scales.{game_numbers, game_fractions, scale_of, IsScaleOf}
+use Rattle.document_parts.specs.Scales.{game_numbers, game_fractions, scale_of, IsScaleOf}
 use Rattle.game_text.specs.Shape.{class_of}
 use Rattle.game_text.specs.Readings.{IsTreeReading, IsTreeFault}
 use Rattle.game_text.specs.declared.command.Command.{Command}
 use Rattle.game_text.specs.declared.document.Document.{Document}
 use Rattle.game_text.specs.declared.fault.TextFault.{TextFault}
-use Rattle.game_text.proofs.LeastDenominators.{least_denominator_is}
+use Rattle.document_parts.proofs.LeastDenominators.{least_denominator_is}
 use Rattle.game_text.proofs.Passed.{passed_tests}
 
 abbrev HasScale : Data → ℤ → Type 0

@@ -13,20 +13,21 @@ use Rattle.airport.specs.Costs.{IsCost}
 use Rattle.std.specs.Prelude.{sum}
 use Rattle.bankruptcy.specs.Bankruptcy.{Bankruptcy as Claims, bankruptcy}
 use Rattle.worth_tables.specs.Tables.{table, IsTable, AreSmall}
-use Rattle.game_text.proofs.Filling.{pow_some}
+use Rattle.document_parts.proofs.Filling.{pow_some}
 use Rattle.json_trees.specs.Trees.{parts, parts_at, passes, passes_if_there, is_numeric, is_array_of, integer, pair_members}
 use Rattle.game_text.specs.Shape.{class_of, is_shaped_as}
-use Rattle.game_text.specs.TableClass.{is_sparse_pair, is_table_shaped, lists_worths, lists_coalitions, table_players, players_at, has_items, has_worths_for, masks_by, sparse_number, sparse_numbers, numbers_by}
+use Rattle.document_parts.specs.TableNumbers.{masks_by, sparse_number, sparse_numbers, numbers_by}
+use Rattle.game_text.specs.TableClass.{is_sparse_pair, is_table_shaped, lists_worths, lists_coalitions, table_players, players_at, has_items, has_worths_for}
 use Rattle.game_text.specs.Limits.{has_players_as, players_as, players, has_numbers_as, has_numbers}
-use Rattle.game_text.specs.Scales.{scale_of}
-use Rattle.game_text.specs.ScaledNumbers.{is_small, if_small, small_number, number_or_zero, number_at, numbers_at, second_number}
-use Rattle.game_text.specs.Version.{has_texts}
+use Rattle.document_parts.specs.Scales.{scale_of}
+use Rattle.document_parts.specs.ScaledNumbers.{is_small, if_small, small_number, number_or_zero, number_at, numbers_at, second_number}
+use Rattle.document_parts.specs.Version.{has_texts}
 use Rattle.json_trees.specs.Fractions.{fraction_of}
 use Rattle.worth_core.specs.LeastDenominators.{numerator_over}
-use Rattle.game_text.specs.Sizes.{is_small_cost, if_integer, is_cost}
-use Rattle.game_text.specs.Names.{names_of}
+use Rattle.document_parts.specs.Sizes.{is_small_cost, if_integer, is_cost}
+use Rattle.document_parts.specs.Names.{names_of}
 use Rattle.game_text.proofs.Choices.{passed_if}
-use Rattle.game_text.specs.Members.{is_mask, mask_of, are_coalitions}
+use Rattle.document_parts.specs.Members.{is_mask, mask_of, are_coalitions}
 use Rattle.game_text.specs.Descriptions.{table_numbers}
 use Rattle.game_text.specs.Readings.{HasSizes, IsTableClass}
 use Rattle.game_text.specs.declared.class.Class.{Class}

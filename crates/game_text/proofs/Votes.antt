@@ -11,11 +11,11 @@ use Rattle.serde_json.specs.Find.{get}
 use Rattle.airport.specs.Costs.{IsCost}
 use Rattle.voting.specs.Voting.{Voting as Votes, voting, IsVoting, HavePlayers, AreNumbers, IsQuota}
 use Rattle.json_trees.specs.Trees.{parts_at, passes}
-use Rattle.game_text.specs.ScaledNumbers.{number_or_zero, number_at, numbers_at}
-use Rattle.game_text.specs.Sizes.{is_cost, is_short_list_size}
+use Rattle.document_parts.specs.ScaledNumbers.{number_or_zero, number_at, numbers_at}
+use Rattle.document_parts.specs.Sizes.{is_cost, is_short_list_size}
 use Rattle.game_text.specs.Shape.{class_of}
 use Rattle.game_text.specs.Limits.{has_players_as}
-use Rattle.game_text.specs.Scales.{scale_of}
+use Rattle.document_parts.specs.Scales.{scale_of}
 use Rattle.game_text.specs.VotingClass.{is_quota}
 use Rattle.game_text.specs.Readings.{HasSizes}
 use Rattle.game_text.specs.declared.class.Class.TheVariants.{Voting}

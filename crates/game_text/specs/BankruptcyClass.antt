@@ -11,8 +11,8 @@ use Rattle.serde_json.specs.Data.{Data}
 use Rattle.serde_json.specs.Find.{get}
 use Rattle.json_trees.specs.Keys.{has_only_keys}
 use Rattle.json_trees.specs.Trees.{passes, is_numeric, is_array_of, parts_at}
-use Rattle.game_text.specs.Version.{has_texts}
-use Rattle.game_text.specs.Sizes.{is_cost}
+use Rattle.document_parts.specs.Version.{has_texts}
+use Rattle.document_parts.specs.Sizes.{is_cost}
 
 -- the keys of a bankruptcy game
 abbrev pub bankruptcy_keys : List (List ℕ)

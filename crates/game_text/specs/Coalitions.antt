@@ -1,11 +1,11 @@
 -- The test of the coalitions that a game names: the list of classes.
 use Rattle.std.specs.Prelude.{ℕ, List, Bool, true, false, Option, Some, None}
 use Rattle.serde_json.specs.Data.{Data}
-use Rattle.game_text.specs.TableClass.{masks_by}
-use Rattle.game_text.specs.Members.{are_coalitions}
+use Rattle.document_parts.specs.TableNumbers.{masks_by}
+use Rattle.document_parts.specs.Members.{are_coalitions}
 use Rattle.game_text.specs.Limits.{players}
 use Rattle.game_text.specs.Shape.{class_of}
-use Rattle.game_text.specs.Names.{names_of}
+use Rattle.document_parts.specs.Names.{names_of}
 use Rattle.game_text.specs.declared.class.Class.{Class}
 use Rattle.game_text.specs.declared.class.Class.TheVariants.{Table, CostTable, Airport, Bankruptcy, Tree, Assignment, Market, Voting}
 

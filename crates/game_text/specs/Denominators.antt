@@ -1,40 +1,29 @@
 -- What the private functions of reading say by the least common denominator as a number that is computed. The public
--- clauses speak of the least common denominator itself (`IsDenominatorOf` in Shares.antt), of which there is one.
+-- clauses speak of the least common denominator itself (`IsDenominatorOf` in Shares.antt of `document_parts`), of
+-- which there is one.
 --
---   over_least           fractions over their least common denominator
---   keep_limits          they keep within the limits of shares there
 --   share_denominator    the least common denominator of the shares that are written, times the scale of the game
 --   needed_keep_limits   over it, the shares that a command needs keep within the limits of shares
 --   shares_of            the proposed shares as worth
 --   shares_for           the shares that a command needs
 --   contents_of          what a tree says
 --   tree_refusal         the first test that a tree doesn't pass
-use Rattle.std.specs.Prelude.{ℕ, pos, List, Bool, Option}
+use Rattle.std.specs.Prelude.{ℕ, Bool, Option}
 use Rattle.serde_json.specs.Data.{Data}
-use Rattle.fractions.specs.Fraction.{Fraction}
 use Rattle.definitions.specs.Games.{Allocation}
-use Rattle.worth_core.specs.LeastDenominators.{over}
-use Rattle.game_text.specs.CommonMultiples.{least_denominator}
-use Rattle.game_text.specs.Scales.{scale_of}
-use Rattle.game_text.specs.Shares.{scaled_shares, has_small_terms, shares_over}
-use Rattle.game_text.specs.Documents.{Contents, game_tree, proposed_over, contents_over}
+use Rattle.document_parts.specs.CommonMultiples.{least_denominator}
+use Rattle.document_parts.specs.Scales.{scale_of}
+use Rattle.document_parts.specs.Shares.{scaled_shares}
+use Rattle.game_text.specs.Documents.{Contents, game_tree, shares_over, proposed_over, contents_over}
 use Rattle.game_text.specs.Refusals.{has_needed_terms, refusal_over}
 use Rattle.game_text.specs.declared.command.Command.{Command}
 use Rattle.kinds.specs.declared.refusal.Refusal.{Refusal}
-
--- the fractions over their least common denominator
-abbrev pub over_least : List Fraction → Allocation
-over_least fs = over (pos (least_denominator fs)) fs
-
--- over their least common denominator, the fractions keep within the limits of shares
-abbrev pub keep_limits : List Fraction → Bool
-keep_limits fs = has_small_terms (least_denominator fs) fs
 
 -- the least common denominator of the shares that are written, times the scale of the game
 abbrev pub share_denominator : Data → Data → ℕ
 share_denominator game tree = least_denominator (scaled_shares (scale_of game) tree)
 
--- the shares that a command needs do
+-- over it, the shares that a command needs keep within the limits of shares
 abbrev pub needed_keep_limits : Command → Data → Data → Bool
 needed_keep_limits command game tree = has_needed_terms (share_denominator game tree) command game tree
 

@@ -13,12 +13,12 @@ use Rattle.definitions.specs.Games.{Game}
 use Rattle.definitions.specs.Classes.{table_worth, negated_worth, airport_worth, bankruptcy_worth, voting_worth}
 use Rattle.tree_games.specs.Trees.{tree_game}
 use Rattle.assignment_games.specs.Assignments.{assignment_game}
-use Rattle.game_text.specs.Scales.{scale_of}
-use Rattle.game_text.specs.ScaledNumbers.{number_at, costs_at}
+use Rattle.document_parts.specs.Scales.{scale_of}
+use Rattle.document_parts.specs.ScaledNumbers.{number_at, costs_at}
 use Rattle.game_text.specs.Shape.{class_of}
 use Rattle.game_text.specs.Limits.{players}
-use Rattle.game_text.specs.Names.{names_of}
-use Rattle.game_text.specs.TableClass.{numbers_by}
+use Rattle.document_parts.specs.Names.{names_of}
+use Rattle.document_parts.specs.TableNumbers.{numbers_by}
 use Rattle.game_text.specs.MatrixClass.{rows_of}
 use Rattle.game_text.specs.declared.class.Class.{Class}
 use Rattle.game_text.specs.declared.class.Class.TheVariants.{Table, CostTable, Airport, Bankruptcy, Tree, Assignment, Market, Voting}

@@ -4,6 +4,7 @@
 --   game_tree          the tree of the game
 --   certificate_tree   the tree of the certificate
 --   family_for         the family that a command needs
+--   shares_over        the shares as worth, over a denominator
 --   proposed_over      the shares that a command needs, over a denominator
 --   certificate_for    the certificate that a command needs
 --   contents_over      what a tree says to a command, with the shares over a denominator
@@ -14,12 +15,13 @@ use Rattle.definitions.specs.Games.{Allocation}
 use Rattle.definitions.specs.declared.Family.{Family}
 use Rattle.definitions.specs.declared.Family.TheVariants.{Imputations}
 use Rattle.definitions.specs.declared.Measure.{Measure}
+use Rattle.worth_core.specs.LeastDenominators.{over}
 use Rattle.kohlberg.specs.Certificate.{CertificateData}
-use Rattle.game_text.specs.Excess.{measure_of}
-use Rattle.game_text.specs.Scales.{scale_of}
+use Rattle.document_parts.specs.Excess.{measure_of}
+use Rattle.document_parts.specs.Scales.{scale_of}
 use Rattle.game_text.specs.Limits.{players}
-use Rattle.game_text.specs.Descriptions.{Description, description_of}
-use Rattle.game_text.specs.Shares.{shares_over}
+use Rattle.game_text.specs.Descriptions.{Description, description_of, is_cost}
+use Rattle.document_parts.specs.Shares.{scaled_shares, as_worth}
 use Rattle.certificate_texts.specs.Shape.{family_of}
 use Rattle.certificate_texts.specs.Certificates.{certificate_of}
 use Rattle.game_text.specs.declared.command.Command.{Command}
@@ -48,6 +50,10 @@ certificate_tree tree = unwrap_or (get (codes "certificate") tree) null
 -- the family that a command needs
 abbrev pub family_for : Command → Data → Option Family
 family_for command tree = given (needs command).answer (unwrap_or (family_of tree) Imputations)
+
+-- the proposed shares as worth and times the scale of the game, over the denominator d
+abbrev pub shares_over : ℕ → Data → Data → Allocation
+shares_over d game tree = as_worth (is_cost (description_of game)) (over (pos d) (scaled_shares (scale_of game) tree))
 
 -- the shares that a command needs, over the denominator d
 abbrev pub proposed_over : ℕ → Command → Data → Data → Option Allocation

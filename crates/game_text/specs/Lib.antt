@@ -1,11 +1,5 @@
 pub mod Needs
 pub mod Text
-pub mod CommonMultiples
-pub mod Scales
-pub mod ScaledNumbers
-pub mod Version
-pub mod Sizes
-pub mod Members
 pub mod TableClass
 pub mod AirportClass
 pub mod BankruptcyClass
@@ -14,15 +8,12 @@ pub mod TreeClass
 pub mod AssignmentClass
 pub mod MarketClass
 pub mod VotingClass
-pub mod Excess
 pub mod Shape
 pub mod Limits
 pub mod Names
 pub mod Coalitions
 pub mod Descriptions
 pub mod OfClass
-pub mod Slots
-pub mod Shares
 pub mod Documents
 pub mod Games
 pub mod Refusals

@@ -8,7 +8,7 @@
 --   has_numbers      the scale of the game, and each of its numbers times the scale, is within its limits
 use Rattle.std.specs.Prelude.{ℕ, Bool, false, ◌&&◌, nat_le, Option, Some, None, unwrap_or}
 use Rattle.serde_json.specs.Data.{Data}
-use Rattle.game_text.specs.Sizes.{is_list_size, is_short_list_size}
+use Rattle.document_parts.specs.Sizes.{is_list_size, is_short_list_size}
 use Rattle.game_text.specs.TableClass.{players_at, has_table_players, has_table_numbers}
 use Rattle.game_text.specs.AirportClass.{airport_players, has_airport_numbers}
 use Rattle.game_text.specs.BankruptcyClass.{bankruptcy_players, has_bankruptcy_numbers}
@@ -17,7 +17,7 @@ use Rattle.game_text.specs.TreeClass.{tree_players, has_tree_players}
 use Rattle.game_text.specs.AssignmentClass.{assignment_players, has_assignment_players}
 use Rattle.game_text.specs.MarketClass.{has_market_players}
 use Rattle.game_text.specs.VotingClass.{voting_players, has_voting_numbers}
-use Rattle.game_text.specs.Scales.{scale_of}
+use Rattle.document_parts.specs.Scales.{scale_of}
 use Rattle.game_text.specs.Shape.{class_of}
 use Rattle.game_text.specs.declared.class.Class.{Class}
 use Rattle.game_text.specs.declared.class.Class.TheVariants.{Table, CostTable, Airport, Bankruptcy, Tree, Assignment, Market, Voting}

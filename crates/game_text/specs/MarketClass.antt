@@ -4,7 +4,7 @@
 use Rattle.std.specs.Prelude.{length, codes, Bool, ◌&&◌}
 use Rattle.serde_json.specs.Data.{Data}
 use Rattle.json_trees.specs.Trees.{parts_at}
-use Rattle.game_text.specs.Sizes.{is_short_list_size}
+use Rattle.document_parts.specs.Sizes.{is_short_list_size}
 use Rattle.game_text.specs.AssignmentClass.{sellers_at}
 
 -- 1 to 32 rows, and 1 to 32 items in the first

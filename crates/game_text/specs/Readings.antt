@@ -16,8 +16,8 @@ use Rattle.serde_json.specs.Data.{Data}
 use Rattle.serde_json.specs.View.{view}
 use Rattle.definitions.specs.Games.{Allocation}
 use Rattle.kohlberg.specs.Certificate.{CertificateData}
-use Rattle.game_text.specs.Excess.{measure_of}
-use Rattle.game_text.specs.Scales.{scale_of}
+use Rattle.document_parts.specs.Excess.{measure_of}
+use Rattle.document_parts.specs.Scales.{scale_of}
 use Rattle.game_text.specs.Shape.{is_game_shaped}
 use Rattle.game_text.specs.Limits.{has_players, has_numbers}
 use Rattle.game_text.specs.Descriptions.{description_of}

@@ -28,8 +28,8 @@ use Rattle.game_text.specs.Limits.{players, has_players, has_numbers}
 use Rattle.game_text.specs.Names.{has_names}
 use Rattle.game_text.specs.Coalitions.{has_coalitions}
 use Rattle.game_text.specs.Descriptions.{Description, table, cost_table, airport, bankruptcy, network, assignment, market, voting, description_of}
-use Rattle.game_text.specs.Scales.{scale_of}
-use Rattle.game_text.specs.Shares.{has_share_numbers, has_shares_for, scaled_shares, has_small_terms, IsDenominatorOf}
+use Rattle.document_parts.specs.Scales.{scale_of}
+use Rattle.document_parts.specs.Shares.{has_share_numbers, has_shares_for, scaled_shares, has_small_terms, IsDenominatorOf}
 use Rattle.certificate_texts.specs.Certificates.{has_form}
 use Rattle.game_text.specs.Documents.{Contents, game_tree, contents_over}
 use Rattle.game_text.specs.declared.command.Command.{Command}

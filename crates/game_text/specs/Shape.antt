@@ -15,8 +15,8 @@ use Rattle.serde_json.specs.Find.{get, as_str}
 use Rattle.json_trees.specs.Trees.{passes, passes_if_there, is_member, is_text, is_array_of}
 use Rattle.json_trees.specs.Keys.{has_only_keys}
 use Rattle.certificate_texts.specs.Shape.{family_of, is_certificate}
-use Rattle.game_text.specs.Excess.{is_measure}
-use Rattle.game_text.specs.Version.{is_version}
+use Rattle.document_parts.specs.Excess.{is_measure}
+use Rattle.document_parts.specs.Version.{is_version}
 use Rattle.game_text.specs.TableClass.{is_table_shaped}
 use Rattle.game_text.specs.AirportClass.{is_airport_shaped}
 use Rattle.game_text.specs.BankruptcyClass.{is_bankruptcy_shaped}

@@ -13,9 +13,10 @@ use Rattle.game_text.specs.Names.{has_names}
 use Rattle.game_text.specs.Coalitions.{has_coalitions}
 use Rattle.game_text.specs.Descriptions.{description_of}
 use Rattle.game_text.specs.Limits.{players}
-use Rattle.game_text.specs.Scales.{scale_of}
-use Rattle.game_text.specs.Shares.{has_shares_for, scaled_shares}
-use Rattle.game_text.specs.Denominators.{keep_limits, needed_keep_limits}
+use Rattle.document_parts.specs.Scales.{scale_of}
+use Rattle.document_parts.specs.Shares.{has_shares_for, scaled_shares}
+use Rattle.document_parts.specs.Denominators.{keep_limits}
+use Rattle.game_text.specs.Denominators.{needed_keep_limits}
 use Rattle.game_text.specs.Refusals.{unless, is_covered, has_quota, has_matrix, has_needed_shares, has_needed_form}
 use Rattle.game_text.specs.declared.command.Command.{Command}
 use Rattle.kinds.specs.declared.refusal.Refusal.{Refusal}

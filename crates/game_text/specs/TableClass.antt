@@ -13,19 +13,14 @@
 --   is_worth            a number that times the scale is below 2^40 in size
 --   has_worth           the number of a pair is such a number
 --   has_table_numbers   each number is within its limits
---   masks_by            the coalitions of the pairs
---   sparse_number       the number of a coalition, by the pairs
---   sparse_numbers      the number of each coalition, by the pairs
---   numbers_by          the number of each coalition
-use Rattle.std.specs.Prelude.{◌==◌, ◌+◌, ◌-◌, ◌^◌, ℕ, ℤ, pos, negsuc, List, [], ◌∷◌, length, map, codes, Bool, false, ◌&&◌, ◌||◌, Option, Some, None, is_some, is_none, option_and_then, nat_lt, nat_le, if◌then◌else◌}
-use Rattle.std.specs.List.{list_all, range_with_len}
+use Rattle.std.specs.Prelude.{◌==◌, ◌+◌, ◌^◌, ℕ, ℤ, pos, negsuc, List, [], ◌∷◌, length, codes, Bool, false, ◌&&◌, ◌||◌, Option, Some, None, is_some, is_none, option_and_then, nat_lt, nat_le, if◌then◌else◌}
+use Rattle.std.specs.List.{list_all}
 use Rattle.serde_json.specs.Data.{Data}
 use Rattle.serde_json.specs.Find.{get}
 use Rattle.json_trees.specs.Keys.{has_only_keys}
-use Rattle.json_trees.specs.Trees.{parts, parts_at, passes, passes_if_there, second_passes, is_member, is_number, is_numeric, is_array_of, is_pair_of, integer, pair_members}
-use Rattle.game_text.specs.ScaledNumbers.{small_number, number_at, numbers_at, second_number}
-use Rattle.game_text.specs.Version.{has_texts}
-use Rattle.game_text.specs.Members.{mask_of, is_mask}
+use Rattle.json_trees.specs.Trees.{parts, parts_at, passes, passes_if_there, second_passes, is_member, is_number, is_numeric, is_array_of, is_pair_of, integer}
+use Rattle.document_parts.specs.ScaledNumbers.{small_number}
+use Rattle.document_parts.specs.Version.{has_texts}
 
 -- ---- shape
 
@@ -86,23 +81,3 @@ has_worth k d = second_passes (is_worth k) (parts d)
 -- each number of a table is a worth, also that of the coalitions that are not listed
 abbrev pub has_table_numbers : ℕ → Data → Bool
 has_table_numbers k game = list_all (is_worth k) (parts_at (codes "worths") game) && list_all (has_worth k) (parts_at (codes "sparse") game) && passes_if_there (is_worth k) (get (codes "default") game)
-
--- ---- coalitions
-
--- the coalition of each pair of a sparse table of n players
-abbrev pub masks_by : ℕ → List (List ℕ) → Data → List (Option ℕ)
-masks_by n names game = map (λ pair. mask_of n names (pair_members pair)) (parts_at (codes "sparse") game)
-
--- the number, times the scale k, of the first pair with the mask s, and another number where no pair has it
-abbrev pub sparse_number : ℕ → ℕ → List (List ℕ) → ℤ → ℕ → List Data → ℤ
-sparse_number k n names other s [] = other
-sparse_number k n names other s (pair ∷ pairs) = if is_mask s (mask_of n names (pair_members pair)) then second_number k (parts pair) else sparse_number k n names other s pairs
-
--- the number of each mask from 1, by the pairs and the number of all others
-abbrev pub sparse_numbers : ℕ → ℕ → List (List ℕ) → Data → List ℤ
-sparse_numbers k n names game = map (λ s. sparse_number k n names (number_at k (codes "default") game) s (parts_at (codes "sparse") game)) (range_with_len 1 (2 ^ n - 1))
-
--- the number of each mask from 1: by pairs, where there are any, or all listed
-abbrev pub numbers_by : ℕ → Option Data → ℕ → List (List ℕ) → Data → List ℤ
-numbers_by k None n names game = numbers_at k (codes "worths") game
-numbers_by k (Some pairs) n names game = sparse_numbers k n names game

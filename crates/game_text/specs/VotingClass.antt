@@ -12,7 +12,7 @@ use Rattle.serde_json.specs.Data.{Data}
 use Rattle.serde_json.specs.Find.{get}
 use Rattle.json_trees.specs.Keys.{has_only_keys}
 use Rattle.json_trees.specs.Trees.{passes, is_number, is_array_of, parts_at}
-use Rattle.game_text.specs.Sizes.{is_cost}
+use Rattle.document_parts.specs.Sizes.{is_cost}
 
 -- the keys of a voting game
 abbrev pub voting_keys : List (List ℕ)

@@ -1,17 +1,15 @@
 //! Airport games: a cost for each player.
 ghost use Rattle.std.specs.Prelude.{◌≡◌, codes, IfOk, Some};
 ghost use Rattle.serde_json.specs.View.{view};
-ghost use Rattle.game_text.specs.Scales.{scale_of};
-ghost use Rattle.game_text.specs.ScaledNumbers.{costs_at};
+ghost use Rattle.document_parts.specs.Scales.{scale_of};
+ghost use Rattle.document_parts.specs.ScaledNumbers.{costs_at};
 ghost use Rattle.game_text.specs.Shape.{class_of};
 ghost use Rattle.game_text.specs.AirportClass.{is_airport_shaped, airport_players, has_airport_numbers};
 ghost use Rattle.game_text.specs.Readings.{HasSizes};
 ghost use Rattle.game_text.specs.declared.class.Class.TheVariants.{Airport};
 
-use crate::number_forms::SmallCost;
-use crate::scaled_numbers::numbers_at;
-use crate::version::has_texts;
 use airport::{AirportFault, AirportGame};
+use document_parts::{SmallCost, has_texts, numbers_at};
 use fractions::OutOfMemory;
 use json_trees::{ArrayOf, Numeric, each_at, has, has_only_keys, parts_at};
 use serde_json::Value;

@@ -1,15 +1,15 @@
 //! Assignment games: what each buyer and each seller are worth together.
 ghost use Rattle.std.specs.Prelude.{◌≡◌, ◌<◌, ◌^◌, IfOk, Some, None, if◌then◌else◌};
 ghost use Rattle.serde_json.specs.View.{view};
-ghost use Rattle.game_text.specs.Scales.{scale_of};
+ghost use Rattle.document_parts.specs.Scales.{scale_of};
 ghost use Rattle.game_text.specs.Shape.{class_of};
 ghost use Rattle.game_text.specs.MatrixClass.{rows_of};
 ghost use Rattle.game_text.specs.AssignmentClass.{sellers_at, assignment_players, has_assignment_players, are_even};
 ghost use Rattle.game_text.specs.Readings.{HasSizes};
 ghost use Rattle.game_text.specs.declared.class.Class.TheVariants.{Assignment};
 
-use crate::scaled_numbers::rows_at;
 use assignment_games::{AssignmentFault, AssignmentGame};
+use document_parts::rows_at;
 use fractions::OutOfMemory;
 use json_trees::{parts, parts_at};
 use serde_json::Value;

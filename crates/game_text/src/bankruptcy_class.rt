@@ -2,17 +2,15 @@
 ghost use Rattle.std.specs.Prelude.{◌≡◌, codes, IfOk, Some, None, unsigned_abs, if◌then◌else◌};
 ghost use Rattle.serde_json.specs.View.{view};
 ghost use Rattle.bankruptcy.specs.Bankruptcy.{bankruptcy};
-ghost use Rattle.game_text.specs.Scales.{scale_of};
-ghost use Rattle.game_text.specs.ScaledNumbers.{number_at, costs_at};
+ghost use Rattle.document_parts.specs.Scales.{scale_of};
+ghost use Rattle.document_parts.specs.ScaledNumbers.{number_at, costs_at};
 ghost use Rattle.game_text.specs.Shape.{class_of};
 ghost use Rattle.game_text.specs.BankruptcyClass.{is_bankruptcy_shaped, bankruptcy_players, has_bankruptcy_numbers, claims_cover};
 ghost use Rattle.game_text.specs.Readings.{HasSizes};
 ghost use Rattle.game_text.specs.declared.class.Class.TheVariants.{Bankruptcy};
 
-use crate::number_forms::SmallCost;
-use crate::scaled_numbers::{number_at, numbers_at};
-use crate::version::has_texts;
 use bankruptcy::{BankruptcyFault, BankruptcyGame};
+use document_parts::{SmallCost, has_texts, number_at, numbers_at};
 use fractions::OutOfMemory;
 use json_trees::{ArrayOf, Numeric, each_at, has, has_only_keys, parts_at};
 use serde_json::Value;

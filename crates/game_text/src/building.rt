@@ -2,10 +2,10 @@
 ghost use Rattle.std.specs.Prelude.{◌≡◌, ◌≤◌, length, MatchResult, Some, None};
 ghost use Rattle.serde_json.specs.View.{view};
 ghost use Rattle.worth_tables.specs.Tables.{table};
-ghost use Rattle.game_text.specs.Scales.{scale_of};
+ghost use Rattle.document_parts.specs.Scales.{scale_of};
 ghost use Rattle.game_text.specs.Shape.{class_of};
 ghost use Rattle.game_text.specs.Limits.{players};
-ghost use Rattle.game_text.specs.Names.{names_of};
+ghost use Rattle.document_parts.specs.Names.{names_of};
 ghost use Rattle.game_text.specs.Readings.{HasSizes, IsBuilt, IsBuildFault};
 ghost use Rattle.game_text.specs.declared.class.Class.TheVariants.{Bankruptcy};
 
@@ -17,11 +17,11 @@ use crate::fault::TextFault;
 use crate::game::Game;
 use crate::limits::players;
 use crate::market_class::market_of;
-use crate::names::Names;
 use crate::shape::class_of;
 use crate::table_class::table_of;
 use crate::tree_class::tree_of;
 use crate::voting_class::voting_of;
+use document_parts::Names;
 use kinds::Refusal;
 use serde_json::Value;
 use std::alloc::Global;

@@ -11,11 +11,11 @@ use crate::bankruptcy_class::{bankruptcy_players, has_bankruptcy_numbers};
 use crate::class::Class;
 use crate::market_class::has_market_players;
 use crate::matrix_class::has_matrix_numbers;
-use crate::number_forms::{is_list_size, is_short_list_size};
 use crate::shape::class_of;
 use crate::table_class::{has_table_numbers, has_table_players, players_at};
 use crate::tree_class::{has_tree_players, tree_players};
 use crate::voting_class::{has_voting_numbers, voting_players};
+use document_parts::{is_list_size, is_short_list_size};
 use serde_json::Value;
 
 /// Whether there are as many players, and numbers for them, as the class of the game allows.

@@ -1,7 +1,7 @@
 //! Markets: what each buyer and each seller are worth together, for up to 32 buyers and 32 sellers.
 ghost use Rattle.std.specs.Prelude.{◌≡◌, IfOk, Some, None, if◌then◌else◌};
 ghost use Rattle.serde_json.specs.View.{view};
-ghost use Rattle.game_text.specs.Scales.{scale_of};
+ghost use Rattle.document_parts.specs.Scales.{scale_of};
 ghost use Rattle.game_text.specs.Shape.{class_of};
 ghost use Rattle.game_text.specs.MatrixClass.{rows_of};
 ghost use Rattle.game_text.specs.AssignmentClass.{are_even};
@@ -10,9 +10,8 @@ ghost use Rattle.game_text.specs.Readings.{HasSizes};
 ghost use Rattle.game_text.specs.declared.class.Class.TheVariants.{Market};
 
 use crate::assignment_class::sellers_at;
-use crate::number_forms::is_short_list_size;
-use crate::scaled_numbers::rows_at;
 use big_assignment::{MarketFault, MarketGame};
+use document_parts::{is_short_list_size, rows_at};
 use fractions::OutOfMemory;
 use json_trees::parts_at;
 use serde_json::Value;

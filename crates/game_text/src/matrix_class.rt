@@ -5,8 +5,7 @@ ghost use Rattle.serde_json.specs.View.{view};
 ghost use Rattle.json_trees.specs.Trees.{passes, is_array_of, is_numeric};
 ghost use Rattle.game_text.specs.MatrixClass.{is_matrix_shaped, has_matrix_numbers};
 
-use crate::number_forms::SmallCost;
-use crate::version::has_texts;
+use document_parts::{SmallCost, has_texts};
 use json_trees::{ArrayOf, Numeric, each_at, has, has_only_keys};
 use serde_json::Value;
 

@@ -11,8 +11,9 @@ ghost use Rattle.game_text.specs.Descriptions.{description_of, game_of, is_cost}
 ghost use Rattle.game_text.specs.Games.{description_in};
 ghost use Rattle.game_text.specs.Kept.{IsKept};
 ghost use Rattle.game_text.specs.Limits.{players};
-ghost use Rattle.game_text.specs.Scales.{scale_of, IsScaleOf};
-ghost use Rattle.game_text.specs.Names.{has_names, names_of};
+ghost use Rattle.document_parts.specs.Scales.{scale_of, IsScaleOf};
+ghost use Rattle.document_parts.specs.Names.{names_of};
+ghost use Rattle.game_text.specs.Names.{has_names};
 ghost use Rattle.game_text.specs.Refusals.{has_needed_numbers};
 ghost use Rattle.game_text.specs.Text.{document_limit};
 ghost use Rattle.json_texts.specs.Newlines.{without_newline};
@@ -23,16 +24,16 @@ ghost use Rattle.game_text.specs.Readings.{IsShareReading, IsShareFault, IsCerti
 use crate::building::game_of;
 use crate::command::Command;
 use crate::document::Document;
-use crate::excess::measure_of;
 use crate::fault::TextFault;
 use crate::game::Game;
 use crate::limits::{has_numbers, has_players, players};
-use crate::names::{Names, know_sparse, names_of};
-use crate::scale::scale_of;
 use crate::shape::is_shaped;
-use crate::shares::{has_share_numbers, has_shares_for, shares_as_worth};
 use certificate_texts::{certificate_of, family_of};
 use definitions::Family;
+use document_parts::{
+    Names, has_share_numbers, has_shares_for, know_sparse, measure_of, names_of, scale_of,
+    shares_as_worth,
+};
 use fractions::OutOfMemory;
 use kinds::Refusal;
 use kohlberg::Certificate;

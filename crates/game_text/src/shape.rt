@@ -13,12 +13,11 @@ use crate::airport_class::is_airport_shaped;
 use crate::bankruptcy_class::is_bankruptcy_shaped;
 use crate::class::Class;
 use crate::command::Command;
-use crate::excess::MeasureWord;
 use crate::matrix_class::is_matrix_shaped;
 use crate::table_class::is_table_shaped;
-use crate::version::VersionNumber;
 use crate::voting_class::is_voting_shaped;
 use certificate_texts::{CertificateShape, family_of};
+use document_parts::{MeasureWord, VersionNumber};
 use json_trees::{ArrayOf, Form, Member, Text, has, has_if_there, has_only_keys};
 use serde_json::Value;
 

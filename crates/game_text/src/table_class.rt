@@ -5,22 +5,19 @@ ghost use Rattle.serde_json.specs.Find.{get};
 ghost use Rattle.serde_json.specs.View.{view};
 ghost use Rattle.json_trees.specs.Trees.{passes, is_array_of};
 ghost use Rattle.worth_tables.specs.Tables.{table};
-ghost use Rattle.game_text.specs.Scales.{scale_of};
+ghost use Rattle.document_parts.specs.Scales.{scale_of};
 ghost use Rattle.game_text.specs.Shape.{class_of};
 ghost use Rattle.game_text.specs.Limits.{players};
-ghost use Rattle.game_text.specs.Names.{names_of};
+ghost use Rattle.document_parts.specs.Names.{names_of};
 ghost use Rattle.game_text.specs.Coalitions.{masks};
-ghost use Rattle.game_text.specs.Members.{are_coalitions};
+ghost use Rattle.document_parts.specs.Members.{are_coalitions};
 ghost use Rattle.game_text.specs.Descriptions.{table_numbers};
 ghost use Rattle.game_text.specs.Readings.{HasSizes, IsTableClass};
 ghost use Rattle.game_text.specs.TableClass.{is_table_shaped, is_sparse_pair, lists_worths, lists_coalitions};
 ghost use Rattle.game_text.specs.TableClass.{players_at, table_players, has_items, has_worths_for, has_table_players, has_table_numbers};
 
 use crate::limits::players;
-use crate::names::Names;
-use crate::scaled_numbers::small_number;
-use crate::table::table_numbers;
-use crate::version::has_texts;
+use document_parts::{Names, has_texts, small_number, table_numbers};
 use fractions::OutOfMemory;
 use json_trees::{
     ArrayOf, Form, Member, Number, Numeric, PairOf, SecondOf, each_at, has, has_if_there,

@@ -1,14 +1,14 @@
 //! Tree games: the cost of the link between each two of the source and the players.
 ghost use Rattle.std.specs.Prelude.{◌≡◌, IfOk, Some, None, if◌then◌else◌};
 ghost use Rattle.serde_json.specs.View.{view};
-ghost use Rattle.game_text.specs.Scales.{scale_of};
+ghost use Rattle.document_parts.specs.Scales.{scale_of};
 ghost use Rattle.game_text.specs.Shape.{class_of};
 ghost use Rattle.game_text.specs.MatrixClass.{rows_of};
 ghost use Rattle.game_text.specs.TreeClass.{tree_players, has_tree_players, are_links};
 ghost use Rattle.game_text.specs.Readings.{HasSizes};
 ghost use Rattle.game_text.specs.declared.class.Class.TheVariants.{Tree};
 
-use crate::scaled_numbers::rows_at;
+use document_parts::rows_at;
 use fractions::OutOfMemory;
 use json_trees::parts_at;
 use serde_json::Value;

@@ -2,14 +2,13 @@
 ghost use Rattle.std.specs.Prelude.{◌≡◌, codes, IfOk, Some, None, unsigned_abs, if◌then◌else◌};
 ghost use Rattle.serde_json.specs.View.{view};
 ghost use Rattle.voting.specs.Voting.{voting};
-ghost use Rattle.game_text.specs.ScaledNumbers.{number_at, costs_at};
+ghost use Rattle.document_parts.specs.ScaledNumbers.{number_at, costs_at};
 ghost use Rattle.game_text.specs.Shape.{class_of};
 ghost use Rattle.game_text.specs.VotingClass.{is_voting_shaped, voting_players, has_voting_numbers, is_quota};
 ghost use Rattle.game_text.specs.Readings.{HasSizes};
 ghost use Rattle.game_text.specs.declared.class.Class.TheVariants.{Voting};
 
-use crate::number_forms::SmallCost;
-use crate::scaled_numbers::{number_at, numbers_at};
+use document_parts::{SmallCost, number_at, numbers_at};
 use fractions::OutOfMemory;
 use json_trees::{ArrayOf, Number, each_at, has, has_only_keys, parts_at};
 use serde_json::Value;

@@ -1,3 +1,4 @@
 pub mod Values
 pub mod LowestTerms
 pub mod Fractions
+pub mod Pushed

@@ -4,6 +4,7 @@ pub mod Fractions
 pub mod LowestTerms
 pub mod ScaledFractions
 pub mod Keys
+pub mod Players
 pub use Rattle.serde_json.specs.Data
 pub use Rattle.serde_json.specs.Find
 pub use Rattle.serde_json.specs.View

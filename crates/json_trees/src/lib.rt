@@ -1,4 +1,5 @@
-//! Looking into a JSON tree: its parts, its keys, its integers and fractions, and the forms that its parts may have.
+//! Looking into a JSON tree: its parts, its keys, its integers and fractions, the players that its integers name, and the
+//! forms that its parts may have.
 #![tactic(auto)]
 
 mod form;
@@ -7,6 +8,7 @@ mod fractions_written;
 mod integers;
 mod keys;
 mod looking;
+mod numbered;
 
 pub use form::{
     ArrayOf, Form, Integer, Member, Number, Numeric, PairOf, SecondOf, Text, each_at, has,
@@ -17,3 +19,4 @@ pub use fractions_written::{Fraction, fraction_of, fraction_or_zero};
 pub use integers::{integer, integer_at, second_integer};
 pub use keys::has_only_keys;
 pub use looking::{pair_members, parts, parts_at, text};
+pub use numbered::numbered_player;

@@ -7,7 +7,7 @@ use Rattle.serde_json.specs.Find.{get}
 use Rattle.json_trees.specs.Keys.{has_only_keys}
 use Rattle.json_trees.specs.Trees.{passes}
 use Rattle.game_text.specs.Shape.{class_of, document_keys, is_game_shaped, has_needed, is_shaped}
-use Rattle.game_text.specs.Scales.{game_numbers, game_fractions, scale_of}
+use Rattle.document_parts.specs.Scales.{game_numbers, game_fractions, scale_of}
 use Rattle.game_text.specs.Limits.{players, has_players, has_numbers, has_numbers_as}
 use Rattle.game_text.specs.Names.{has_names}
 use Rattle.game_text.specs.Coalitions.{has_coalitions}
@@ -15,7 +15,7 @@ use Rattle.game_text.specs.Descriptions.{game_of, description_of}
 use Rattle.game_text.specs.Documents.{game_tree}
 use Rattle.game_text.specs.Refusals.{is_covered, has_quota, has_matrix, has_needed_numbers}
 use Rattle.game_text.specs.Denominators.{tree_refusal}
-use Rattle.game_text.proofs.LeastDenominators.{least_denominator_is}
+use Rattle.document_parts.proofs.LeastDenominators.{least_denominator_is}
 use Rattle.game_text.proofs.Passed.{passed_tests}
 use Rattle.json_trees.proofs.Fractions.{written_reduced}
 use Rattle.report.specs.Limits.{IsScale}

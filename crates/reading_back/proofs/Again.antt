@@ -10,12 +10,12 @@ use Rattle.serde_json.specs.Data.{Data}
 use Rattle.definitions.specs.Games.{Allocation, share, IsShares}
 use Rattle.fractions.specs.Fraction.{Fraction}
 use Rattle.worth_core.specs.LeastDenominators.{numerator_over}
-use Rattle.game_text.specs.CommonMultiples.{least_denominator}
-use Rattle.game_text.specs.Denominators.{over_least, keep_limits}
-use Rattle.game_text.specs.Shares.{has_small_numerator, scaled_share, scaled_shares, as_worth}
+use Rattle.document_parts.specs.CommonMultiples.{least_denominator}
+use Rattle.document_parts.specs.Denominators.{over_least, keep_limits}
+use Rattle.document_parts.specs.Shares.{has_small_numerator, scaled_share, scaled_shares, as_worth}
 use Rattle.json_trees.specs.Fractions.{is_fraction}
 use Rattle.json_trees.specs.Trees.{parts_at}
-use Rattle.game_text.proofs.LeastDenominators.{least_denominator_is}
+use Rattle.document_parts.proofs.LeastDenominators.{least_denominator_is}
 use Rattle.reading_back.specs.ReadBack.{kept_share, IsAgain, AreReadBack}
 use Rattle.report.specs.Limits.{IsScale}
 use Rattle.report.specs.ShareLists.{as_printed, share_data}

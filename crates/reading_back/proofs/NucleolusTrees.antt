@@ -16,9 +16,10 @@ use Rattle.game_text.specs.Limits.{players, has_players, has_numbers}
 use Rattle.game_text.specs.Names.{has_names}
 use Rattle.game_text.specs.Coalitions.{has_coalitions}
 use Rattle.game_text.specs.Descriptions.{game_of, is_cost, description_of}
-use Rattle.game_text.specs.Scales.{scale_of}
-use Rattle.game_text.specs.Shares.{has_share_numbers, has_shares_for, scaled_shares, as_worth}
-use Rattle.game_text.specs.Denominators.{shares_of, keep_limits, over_least, contents_of, tree_refusal}
+use Rattle.document_parts.specs.Scales.{scale_of}
+use Rattle.document_parts.specs.Shares.{has_share_numbers, has_shares_for, scaled_shares, as_worth}
+use Rattle.document_parts.specs.Denominators.{keep_limits, over_least}
+use Rattle.game_text.specs.Denominators.{shares_of, contents_of, tree_refusal}
 use Rattle.certificate_texts.specs.Certificates.{has_form, certificate_of}
 use Rattle.game_text.specs.Documents.{game_tree}
 use Rattle.game_text.specs.Refusals.{unless, is_covered, has_quota, has_matrix}

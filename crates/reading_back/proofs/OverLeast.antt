@@ -13,8 +13,8 @@ use Rattle.definitions.proofs.Cancel.{cancel, quot_exact}
 use Rattle.fractions.proofs.Divisors.{times_quotient}
 use Rattle.worth_core.specs.LeastDenominators.{IsWholeTimes, numerator_over}
 use Rattle.worth_core.proofs.LeastMultiples.{denominator_divides}
-use Rattle.game_text.proofs.LeastDenominators.{least_denominator_is}
-use Rattle.game_text.specs.CommonMultiples.{least_denominator}
+use Rattle.document_parts.proofs.LeastDenominators.{least_denominator_is}
+use Rattle.document_parts.specs.CommonMultiples.{least_denominator}
 use Rattle.fractions.proofs.Ratios.{apart, size_of, denominator_divides as divides}
 
 -- ---- a fraction f that is n over d, and a number m that its denominator divides

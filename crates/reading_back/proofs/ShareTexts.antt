@@ -17,7 +17,7 @@ use Rattle.report.specs.ShareLists.{as_printed, printed_share, share_data}
 use Rattle.definitions.proofs.Ring.{ring_laws}
 use Rattle.json_trees.specs.LowestTerms.{times_scale}
 use Rattle.json_trees.proofs.LowestTerms.{lowest_ratio, is_lowest, times_ratio}
-use Rattle.game_text.specs.Shares.{scaled_share}
+use Rattle.document_parts.specs.Shares.{scaled_share}
 use Rattle.report.specs.Limits.{IsScale}
 use Rattle.report.proofs.LowestTexts.{scaled_low, scaled_high}
 use Rattle.reading_back.specs.ReadBack.{kept_share}

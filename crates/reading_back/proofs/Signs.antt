@@ -3,7 +3,7 @@ use Rattle.std.proofs.Common.{◌≡◌, ℕ, ◌<◌, length, Bool, true, false
 use Rattle.std.proofs.lemmas.List.{get_or-map, length-map}
 use Rattle.definitions.proofs.Ring.{neg-mulℤ}
 use Rattle.definitions.specs.Games.{Allocation, share}
-use Rattle.game_text.specs.Shares.{as_worth}
+use Rattle.document_parts.specs.Shares.{as_worth}
 use Rattle.report.specs.ShareLists.{as_printed}
 use lib.IntN.{neg_ℤ-neg_ℤ}
 

@@ -9,7 +9,8 @@ use Rattle.definitions.specs.Certificates.{IsSmall}
 use Rattle.definitions.specs.Coalitions.{members}
 use Rattle.json_trees.specs.Trees.{listed, parts, integer, is_number, is_array_of, second_passes, pair_members}
 use Rattle.certificate_texts.specs.Shape.{is_weighted_coalition, is_weighted_player}
-use Rattle.certificate_texts.specs.Levels.{numbered_player, coalition_of, weighted_coalition, first_player, weighted_player}
+use Rattle.json_trees.specs.Players.{numbered_player}
+use Rattle.certificate_texts.specs.Levels.{coalition_of, weighted_coalition, first_player, weighted_player}
 use Rattle.json_trees.specs.Integers.{is_integer}
 use Rattle.certificate_texts.specs.Certificates.{lists_coalition, lists_player}
 use Rattle.report.specs.Certificates.{weight_data, coalition_pair, bound_pair}

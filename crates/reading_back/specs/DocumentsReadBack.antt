@@ -9,8 +9,8 @@ use Rattle.definitions.specs.declared.Family.{Family}
 use Rattle.kohlberg.specs.Certificate.{CertificateData, IsCertificate}
 use Rattle.game_text.specs.Descriptions.{game_of, is_cost, description_of}
 use Rattle.game_text.specs.Documents.{Contents, game_tree}
-use Rattle.game_text.specs.Excess.{measure_of}
-use Rattle.game_text.specs.Scales.{scale_of}
+use Rattle.document_parts.specs.Excess.{measure_of}
+use Rattle.document_parts.specs.Scales.{scale_of}
 use Rattle.game_text.specs.Denominators.{contents_of, tree_refusal}
 use Rattle.game_text.specs.declared.command.Command.{Command}
 use Rattle.game_text.specs.declared.command.Command.TheVariants.{Check}

@@ -8,9 +8,9 @@
 use Rattle.std.specs.Prelude.{◌≡◌, ℕ, ℤ, pos, codes, length, map, Bool, true}
 use Rattle.serde_json.specs.Data.{Data}
 use Rattle.definitions.specs.Games.{Game, Allocation, IsAllocation, IsSame, IsShares}
-use Rattle.game_text.specs.Denominators.{keep_limits, over_least}
+use Rattle.document_parts.specs.Denominators.{keep_limits, over_least}
 use Rattle.json_trees.specs.Trees.{is_member, is_array_of, parts, parts_at}
-use Rattle.game_text.specs.Shares.{has_share_numbers, has_shares_for, scaled_shares, as_worth}
+use Rattle.document_parts.specs.Shares.{has_share_numbers, has_shares_for, scaled_shares, as_worth}
 use Rattle.fractions.specs.Fraction.{Fraction}
 use Rattle.json_trees.specs.LowestTerms.{in_lowest_terms}
 use Rattle.report.specs.Limits.{IsScale}

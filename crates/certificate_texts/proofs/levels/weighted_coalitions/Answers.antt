@@ -2,7 +2,7 @@ use Rattle.std.proofs.lemmas.Result.{IfOk-from_err}
 use Rattle.serde_json.specs.View.{view}
 use Rattle.serde_json.specs.declared.value.Value.{Value}
 use Rattle.certificate_texts.specs.Levels.{weighted_coalition}
-use Rattle.certificate_texts.proofs.Pushed.{map_grown, map_all}
+use Rattle.json_trees.proofs.Pushed.{map_grown, map_all}
 use Rattle.certificate_texts.proofs.levels.weighted_coalitions.Goals as goal
 
 pub loop-pair-preserved : goal.loop-pair-preserved

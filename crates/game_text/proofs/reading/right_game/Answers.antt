@@ -1,6 +1,7 @@
 use Rattle.std.proofs.Common.{sym, ◌∙◌}
 use Rattle.serde_json.specs.View.{view}
-use Rattle.game_text.specs.Names.{has_names, names_of}
+use Rattle.document_parts.specs.Names.{names_of}
+use Rattle.game_text.specs.Names.{has_names}
 use Rattle.game_text.proofs.Choices.{passed_if}
 use Rattle.game_text.proofs.Chain.{behind_names}
 use Rattle.game_text.proofs.reading.right_game.Goals as goal

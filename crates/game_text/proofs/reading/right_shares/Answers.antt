@@ -4,7 +4,7 @@ use Rattle.std.proofs.lemmas.List.{length-map}
 use Rattle.serde_json.specs.View.{view}
 use Rattle.json_trees.specs.Trees.{parts_at}
 use Rattle.game_text.specs.Shape.{class_of}
-use Rattle.game_text.specs.Shares.{scaled_share}
+use Rattle.document_parts.specs.Shares.{scaled_share}
 use Rattle.game_text.proofs.PlayerCounts.{counted}
 use Rattle.game_text.proofs.reading.right_shares.Goals as goal
 

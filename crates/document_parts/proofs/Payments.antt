@@ -1,0 +1,30 @@
+-- Shares with their signs turned are shares.
+use Rattle.std.proofs.Common.{◌≡◌, ℕ, zero, suc, ◌<◌, ◌≤◌, ◌^◌, List, length, map, take, ℤ, pos, negsuc, neg_ℤ, unsigned_abs, refl, sym, ap, ap₂, ◌∙◌, subst, arith}
+use Rattle.std.proofs.Math.ListN.{get_or-map}
+use Rattle.std.proofs.lemmas.List.{length-map, take_all}
+use Rattle.definitions.specs.Games.{Allocation, IsShares, share}
+use Rattle.worth_core.specs.Allocations.{allocation}
+use Rattle.document_parts.specs.Shares.{negated}
+
+turned_size : (z : ℤ) → unsigned_abs (neg_ℤ z) ≡ unsigned_abs z
+turned_size (pos zero) = refl
+turned_size (pos (suc n)) = refl
+turned_size (negsuc n) = refl
+
+negated_shares : (x : Allocation) → IsShares x → IsShares (negated x)
+negated_shares x h =
+    let long = length-map x.shares neg_ℤ in
+    record {
+      some = omega (arith, h.some, long);
+      few = omega (arith, h.few, long);
+      positive = h.positive;
+      common = h.common;
+      small = λ i l.
+          let same = ap unsigned_abs (get_or-map neg_ℤ x.shares i (pos 0)) ∙ turned_size (share x i) in
+          subst (λ k. k < 2 ^ 110) (sym same) (h.small i (omega (arith, l, long)));
+    }
+
+pub turned_shares : (x : Allocation) (num : List ℤ) (den : ℤ) (i : ℕ) → IsShares x → num ≡ map neg_ℤ (take i x.shares) → length x.shares ≤ i → den ≡ x.den → IsShares (allocation num den)
+turned_shares x num den i h e over f =
+    let same : num ≡ map neg_ℤ x.shares = e ∙ ap (map neg_ℤ) (take_all i x.shares over) in
+    subst IsShares (sym (ap₂ allocation same f)) (negated_shares x h)

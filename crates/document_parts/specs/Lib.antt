@@ -1,0 +1,15 @@
+pub mod CommonMultiples
+pub mod Scales
+pub mod ScaledNumbers
+pub mod Sizes
+pub mod Version
+pub mod Excess
+pub mod Names
+pub mod Members
+pub mod TableNumbers
+pub mod Slots
+pub mod Shares
+pub mod Denominators
+pub use Rattle.serde_json.specs.Data
+pub use Rattle.serde_json.specs.Find
+pub use Rattle.serde_json.specs.View

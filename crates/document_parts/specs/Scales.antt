@@ -1,0 +1,89 @@
+-- The scale of a game: the least common denominator of its numbers. It is 1 for a game of version 1, where each is an
+-- integer.
+--
+--   if_there            what is there
+--   second_part         the second of two items
+--   pair_number         the number of a pair of a coalition and a number
+--   all_parts           what each of some trees has, one after another
+--   table_numbers_in    the numbers of a table
+--   player_numbers_in   costs, an estate and claims
+--   matrix_numbers_in   the entries of a matrix
+--   game_numbers        the numbers of a game, where they stand in its tree
+--   game_fractions      these numbers as fractions
+--   scale_of            their least common denominator
+--   IsScaleOf           the same, said of a number
+--   if_scale            a scale, where it is at most 65,536
+--   with_number         the least common multiple of a scale and the denominator of a number, within that limit
+--   with_numbers        the same with the denominators of some numbers
+use Rattle.std.specs.Prelude.{ℕ, ℤ, codes, List, [], ◌∷◌, ◌++◌, map, unsigned_abs, Option, Some, None, option_and_then, nat_le, if◌then◌else◌}
+use Rattle.serde_json.specs.Data.{Data}
+use Rattle.serde_json.specs.Find.{get}
+use Rattle.fractions.specs.Fraction.{Fraction}
+use Rattle.json_trees.specs.Fractions.{fraction_or_zero}
+use Rattle.json_trees.specs.Trees.{parts, parts_at}
+use Rattle.worth_core.specs.LeastDenominators.{IsLeastDenominator}
+use Rattle.document_parts.specs.CommonMultiples.{lcm, least_denominator}
+
+-- ---- the numbers of a game
+
+-- what is there
+abbrev pub if_there : Option Data → List Data
+if_there None = []
+if_there (Some d) = d ∷ []
+
+-- the second of two items
+abbrev pub second_part : List Data → List Data
+second_part (x ∷ y ∷ []) = y ∷ []
+second_part _ = []
+
+-- the number of a pair of a coalition and a number
+abbrev pub pair_number : Data → List Data
+pair_number pair = second_part (parts pair)
+
+-- what each of them has, one after another
+abbrev pub all_parts : (Data → List Data) → List Data → List Data
+all_parts f [] = []
+all_parts f (d ∷ ds) = f d ++ all_parts f ds
+
+-- the numbers of a table: of all coalitions, of those in pairs, and of the others
+abbrev pub table_numbers_in : Data → List Data
+table_numbers_in game = parts_at (codes "worths") game ++ (all_parts pair_number (parts_at (codes "sparse") game) ++ if_there (get (codes "default") game))
+
+-- costs, an estate and claims
+abbrev pub player_numbers_in : Data → List Data
+player_numbers_in game = parts_at (codes "costs") game ++ (if_there (get (codes "estate") game) ++ parts_at (codes "claims") game)
+
+-- the entries of a matrix, row by row
+abbrev pub matrix_numbers_in : Data → List Data
+matrix_numbers_in game = all_parts parts (parts_at (codes "matrix") game)
+
+-- the worths, costs, claims, estate and matrix entries of a game; a game of one class has no keys of another
+abbrev pub game_numbers : Data → List Data
+game_numbers game = table_numbers_in game ++ (player_numbers_in game ++ matrix_numbers_in game)
+
+-- ---- the scale
+
+-- the numbers of a game as fractions
+abbrev pub game_fractions : Data → List Fraction
+game_fractions game = map fraction_or_zero (game_numbers game)
+
+-- the least common denominator of the numbers of a game
+abbrev pub scale_of : Data → ℕ
+scale_of game = least_denominator (game_fractions game)
+
+-- k is the least common denominator of the numbers of a game
+abbrev pub IsScaleOf : Data → ℤ → Type 0
+IsScaleOf game k = IsLeastDenominator (game_fractions game) k
+
+-- a scale, where it is at most 65,536
+abbrev pub if_scale : ℕ → Option ℕ
+if_scale k = if nat_le k 65536 then Some k else None
+
+-- the least common multiple of k and the denominator of a number, where it is at most 65,536
+abbrev pub with_number : ℕ → Data → Option ℕ
+with_number k d = if_scale (lcm k (unsigned_abs (fraction_or_zero d).den))
+
+-- the least common multiple of k and the denominators of numbers, taken one by one, where each is at most 65,536
+abbrev pub with_numbers : ℕ → List Data → Option ℕ
+with_numbers k [] = Some k
+with_numbers k (d ∷ ds) = option_and_then (λ m. with_numbers m ds) (with_number k d)

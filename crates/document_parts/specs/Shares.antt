@@ -1,0 +1,56 @@
+-- The shares that a document proposes.
+--
+--   has_share_numbers     each share is an integer or a fraction text
+--   has_shares_for        there are so many shares
+--   scaled_share          the fraction that is written, times a scale
+--   scaled_shares         the fractions that are written, times a scale
+--   negated               shares with their signs turned
+--   as_worth              shares as worth: payments are negated
+--   IsDenominatorOf       the least common denominator of the fractions that are written, times a scale
+--   has_small_numerator   over a denominator, a fraction has a numerator below 2^110 in size
+--   has_small_terms       over a denominator, fractions keep within the limits of shares
+use Rattle.std.specs.Prelude.{◌==◌, ◌^◌, ◌&&◌, ℕ, pos, neg_ℤ, unsigned_abs, nat_lt, nat_le, codes, List, length, map, Bool, if◌then◌else◌}
+use Rattle.std.specs.List.{list_all}
+use Rattle.serde_json.specs.Data.{Data}
+use Rattle.definitions.specs.Games.{Allocation}
+use Rattle.fractions.specs.Fraction.{Fraction}
+use Rattle.json_trees.specs.Fractions.{is_fraction, fraction_or_zero}
+use Rattle.json_trees.specs.LowestTerms.{times_scale}
+use Rattle.worth_core.specs.LeastDenominators.{IsLeastDenominator, numerator_over}
+use Rattle.json_trees.specs.Trees.{parts_at}
+
+-- each share is an integer or a fraction text
+abbrev pub has_share_numbers : Data → Bool
+has_share_numbers tree = list_all is_fraction (parts_at (codes "shares") tree)
+
+-- there are n shares
+abbrev pub has_shares_for : ℕ → Data → Bool
+has_shares_for n tree = length (parts_at (codes "shares") tree) == n
+
+-- the fraction that is written, times the scale k
+abbrev pub scaled_share : ℕ → Data → Fraction
+scaled_share k d = times_scale k (fraction_or_zero d)
+
+-- the fractions that are written, times the scale k
+abbrev pub scaled_shares : ℕ → Data → List Fraction
+scaled_shares k tree = map (scaled_share k) (parts_at (codes "shares") tree)
+
+-- the shares with their signs turned
+abbrev pub negated : Allocation → Allocation
+negated x = record { shares = map neg_ℤ x.shares; den = x.den }
+
+-- the shares as worth: where the numbers are costs, the written ones are payments
+abbrev pub as_worth : Bool → Allocation → Allocation
+as_worth are_payments x = if are_payments then negated x else x
+
+-- d is the least common denominator of the fractions that are written, times the scale k; it is 1 where none are
+abbrev pub IsDenominatorOf : ℕ → Data → ℕ → Type 0
+IsDenominatorOf k tree d = IsLeastDenominator (scaled_shares k tree) (pos d)
+
+-- below 2^110 in size, over the denominator d
+abbrev pub has_small_numerator : ℕ → Fraction → Bool
+has_small_numerator d f = nat_lt (unsigned_abs (numerator_over (pos d) f)) (2 ^ 110)
+
+-- a denominator of at most 2^63, and numerators over it below 2^110 in size
+abbrev pub has_small_terms : ℕ → List Fraction → Bool
+has_small_terms d fs = nat_le d (2 ^ 63) && list_all (has_small_numerator d) fs

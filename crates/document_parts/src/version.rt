@@ -1,0 +1,43 @@
+//! The version of a game. In version 2 a number may be written as a fraction text.
+ghost use Rattle.std.specs.Prelude.{◌≡◌};
+ghost use Rattle.serde_json.specs.View.{view};
+ghost use Rattle.document_parts.specs.Version.{is_second_version, has_texts};
+
+use json_trees::{Form, has, integer};
+use serde_json::Value;
+
+/// The integer 1 or 2.
+#[derive(Clone, Copy, Debug)]
+pub struct VersionNumber;
+
+impl Form for VersionNumber {
+    ghost use Rattle.document_parts.specs.Version.{is_version};
+
+    ghost form = { λ _. is_version };
+
+    fn fits(&self, value: &Value) -> bool {
+        let version = integer(value).unwrap_or(0);
+        version == 1 || version == 2
+    }
+}
+
+/// The integer 2.
+#[derive(Clone, Copy, Debug)]
+struct SecondVersion;
+
+impl Form for SecondVersion {
+    ghost use Rattle.document_parts.specs.Version.{is_second_version};
+
+    ghost form = { λ _. is_second_version };
+
+    fn fits(&self, value: &Value) -> bool {
+        integer(value).unwrap_or(0) == 2
+    }
+}
+
+/// Whether the game is of version 2, where a number may be written as a text.
+pub fn has_texts(game: &Value) -> bool
+    ensures { result ≡ has_texts (view game.now) }
+{
+    has(game, "version", &SecondVersion)
+}

@@ -1,5 +1,0 @@
-use Rattle.std.proofs.Common.{◌≡◌, map, take, neg_ℤ}
-use Rattle.game_text.proofs.shares.negated.Given as goal
-
-abbrev pub invariant-loop-i : goal.invariant-loop-i
-invariant-loop-i l = l.num.items ≡ map neg_ℤ (take l.i l.shares.shares)

@@ -1,5 +1,0 @@
-use Rattle.game_text.proofs.Filling.{IsFilled}
-use Rattle.game_text.proofs.table.filled.Given as goal
-
-abbrev pub invariant-loop-pair : goal.invariant-loop-pair
-invariant-loop-pair l = IsFilled l.fn.scale l.fn.players l.fn.names l.pairs l.pair-index l.slots.items
