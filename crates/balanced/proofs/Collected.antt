@@ -20,7 +20,7 @@ use Rattle.simplex.specs.Answer.{IsAnswer}
 use Rattle.separation.specs.Balanced.{balanced_program}
 use Rattle.separation.specs.Shares.{IsReadFrom}
 use Rattle.separation.specs.Values.{multiplier_at}
-use Rattle.balanced.specs.Answer.{ShowsEmpty}
+use Rattle.balanced_collections.specs.Collections.{ShowsEmpty}
 use Rattle.balanced.proofs.Values.{above_none, below_all, unit, value_right}
 use Rattle.balanced.proofs.Points.{amount_read, above_worth}
 

@@ -1,5 +1,4 @@
 -- To be read in this order.
-mod Totals
 mod Values
 mod Solvable
 mod Points

@@ -1,3 +1,2 @@
 -- To be read in this order.
-pub mod Collections
 pub mod Answer

@@ -17,8 +17,8 @@ ghost use Rattle.balanced.specs.Answer.{IsFound, IsFault, BondarevaShapley};
 
 use crate::collection::collection_of;
 use crate::optimum::best_of;
+pub use balanced_collections::Collection;
 use coalitions::Coalition;
-pub use collection::Collection;
 use fractions::OutOfMemory;
 use separation::{Lazy, shares_of};
 use std::alloc::Global;

@@ -12,8 +12,7 @@ use Rattle.definitions.specs.declared.Mode.TheVariants.{Players}
 use Rattle.definitions.proofs.Soundness.{IsNucleolus-from_certificate}
 use Rattle.kohlberg.specs.Certificate.{CertificateData, IsCertificate}
 use Rattle.kohlberg.specs.Solved.{IsSolved}
-use Rattle.balanced.specs.Collections.{CollectionData}
-use Rattle.balanced.specs.Answer.{IsSmall as HasSmallParts}
+use Rattle.balanced_collections.specs.Collections.{CollectionData, IsSmall as HasSmallParts}
 use Rattle.report.specs.Limits.{HasSmallNumbers}
 use Rattle.coop.specs.Judgement.{printed}
 use Rattle.game_text.specs.Descriptions.{game_of}

@@ -18,8 +18,7 @@ use Rattle.definitions.specs.Games.{Game, Allocation, InCore, IsNucleolus}
 use Rattle.definitions.specs.Balanced.{IsBalancedOfExcessWorth}
 use Rattle.definitions.specs.declared.Family.TheVariants.{Imputations}
 use Rattle.definitions.specs.declared.Measure.TheVariants.{Plain}
-use Rattle.balanced.specs.Collections.{CollectionData}
-use Rattle.balanced.specs.Answer.{ShowsEmpty}
+use Rattle.balanced_collections.specs.Collections.{CollectionData, ShowsEmpty}
 use Rattle.balanced.specs.declared.CoreAnswer.{CoreAnswer}
 use Rattle.balanced.specs.declared.CoreAnswer.TheVariants.{Point, Empty}
 use Rattle.tree_games.specs.Trees.{IsBird}

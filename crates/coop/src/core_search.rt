@@ -1,7 +1,8 @@
 //! The core of the game of a document.
 ghost use Rattle.std.specs.Prelude.{◌≡◌, ◌≤◌, true, IfOk};
 ghost use Rattle.kohlberg.specs.Certificate.{IsCertificate};
-ghost use Rattle.balanced.specs.Answer.{ShowsEmpty, IsFound};
+ghost use Rattle.balanced_collections.specs.Collections.{ShowsEmpty};
+ghost use Rattle.balanced.specs.Answer.{IsFound};
 ghost use Rattle.game_text.specs.Descriptions.{game_of};
 ghost use Rattle.game_text.specs.Games.{description_in};
 ghost use Rattle.game_text.specs.Readings.{contents_in};

@@ -11,7 +11,7 @@ use Rattle.kohlberg.specs.Certificate.{CertificateData}
 use Rattle.report.specs.Values.{player_data, player_numbers}
 use Rattle.report.specs.Certificates.{weight_data, coalition_pair, bound_pair, level_tree}
 use Rattle.report.specs.ShareLists.{share_data, share_list}
-use Rattle.balanced.specs.Collections.{CollectionData}
+use Rattle.balanced_collections.specs.Collections.{CollectionData}
 use Rattle.report.specs.CoreTrees.{empty_core_tree}
 use Rattle.report.specs.Lines.{nucleolus_tree}
 

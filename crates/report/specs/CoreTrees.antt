@@ -5,7 +5,7 @@
 use Rattle.std.specs.Prelude.{ℕ, Bool, ℤ, codes}
 use Rattle.serde_json.specs.Data.{Data, string, object, member, no_members}
 use Rattle.definitions.specs.Games.{Allocation}
-use Rattle.balanced.specs.Collections.{CollectionData}
+use Rattle.balanced_collections.specs.Collections.{CollectionData}
 use Rattle.report.specs.Values.{integer_data}
 use Rattle.report.specs.Certificates.{weight_data, coalition_pairs}
 use Rattle.report.specs.ShareLists.{share_list}

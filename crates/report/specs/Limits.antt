@@ -16,7 +16,7 @@ use Rattle.serde_json.specs.Data.{Data, depth}
 use Rattle.serde_json.specs.View.{view}
 use Rattle.serde_json.specs.Written.{has_float}
 use Rattle.definitions.specs.Certificates.{Level, IsSmall}
-use Rattle.balanced.specs.Collections.{CollectionData}
+use Rattle.balanced_collections.specs.Collections.{CollectionData}
 use Rattle.report.specs.declared.answer.Answer.{Answer}
 use Rattle.report.specs.declared.answer.Answer.TheVariants.{Nucleolus, NotEfficient, Blocked, EmptyCore, NotPrekernel, Verdict, Summary}
 use Rattle.checker.specs.declared.verdicts.Verdict.{Verdict as CheckVerdict}

@@ -1,6 +1,6 @@
 //! What is answered to the words of a command line and the bytes of its input.
 use crate::summary::Summary;
-use balanced::Collection;
+use balanced_collections::Collection;
 use big_assignment::Solution;
 use checker::Verdict;
 use coalitions::Coalition;

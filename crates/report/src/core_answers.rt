@@ -8,7 +8,7 @@ ghost use Rattle.report.specs.CoreTrees.{core_point_tree, empty_core_tree};
 
 use crate::certificate::{weight_value, with_weights};
 use crate::objects::{with, with_answer, with_integer, with_shares, with_text};
-use balanced::Collection;
+use balanced_collections::Collection;
 use fractions::OutOfMemory;
 use serde_json::{Map, Value};
 use std::alloc::Global;

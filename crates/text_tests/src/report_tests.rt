@@ -4,7 +4,7 @@ ghost use Rattle.report.specs.Limits.{IsFine, IsPrintable};
 mod nucleolus;
 mod summaries;
 
-use balanced::Collection;
+use balanced_collections::Collection;
 use checker::{Place, Reason, Verdict};
 use coalitions::Coalition;
 use fractions::Frac;

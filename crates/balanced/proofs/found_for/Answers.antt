@@ -1,6 +1,6 @@
 use Rattle.std.proofs.Common.{ℕ, sym, subst, ◌∙◌}
 use Rattle.std.proofs.lemmas.Bool.{false≢true}
-use Rattle.balanced.specs.Answer.{ShowsEmpty}
+use Rattle.balanced_collections.specs.Collections.{ShowsEmpty}
 use Rattle.separation.specs.Shares.{IsReadFrom}
 use Rattle.balanced.proofs.Points.{in_core}
 use Rattle.balanced.proofs.Collected.{shows_empty}

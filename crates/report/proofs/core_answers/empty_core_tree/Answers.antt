@@ -2,7 +2,7 @@ use Rattle.std.proofs.Common.{◌≡◌, codes, ap, ◌∙◌, refl, rules}
 use Rattle.serde_json.specs.Data.{string, object, member, no_members}
 use Rattle.serde_json.specs.View.{members_view}
 use Rattle.serde_json.proofs.Views.{view-Object}
-use Rattle.balanced.specs.Collections.{CollectionData}
+use Rattle.balanced_collections.specs.Collections.{CollectionData}
 use Rattle.kohlberg.proofs.Kept.{kept}
 use Rattle.report.specs.Values.{integer_data}
 use Rattle.report.specs.Certificates.{weight_data, coalition_pairs}

@@ -1,8 +1,8 @@
 use Rattle.std.proofs.Common.{ℕ, ℤ, ◌^◌, ◌<◌, length, to_z, unsigned_abs, sym, subst, arith}
 use mir.Syntax.{w128}
 use Rattle.definitions.proofs.Alls.{all_at}
-use Rattle.balanced.proofs.Totals.{weighted_more, added, term}
-use Rattle.balanced.proofs.collection.weighted_worth.Goals as goal
+use Rattle.balanced_collections.proofs.Totals.{weighted_more, added, term}
+use Rattle.balanced_collections.proofs.weighted_worth.Goals as goal
 
 pub loop-coalition-preserved : goal.loop-coalition-preserved
 loop-coalition-preserved g c =

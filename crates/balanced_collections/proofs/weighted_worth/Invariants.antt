@@ -1,6 +1,6 @@
 use Rattle.std.proofs.Common.{◌≡◌, ◌*◌, ◌^◌, ◌≤◌, ◌+ℤ◌, drop, unsigned_abs}
 use Rattle.definitions.specs.Sums.{weighted_sum}
-use Rattle.balanced.proofs.collection.weighted_worth.Given as goal
+use Rattle.balanced_collections.proofs.weighted_worth.Given as goal
 
 abbrev pub invariant-loop-coalition : goal.invariant-loop-coalition
 invariant-loop-coalition g l =

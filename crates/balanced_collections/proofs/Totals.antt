@@ -1,13 +1,16 @@
 -- One more coalition in a weighted sum of worths.
-use Rattle.std.proofs.Common.{◌≡◌, ℕ, ◌+◌, ◌*◌, ◌^◌, ◌<◌, ◌≤◌, List, length, drop, get_or, ℤ, ◌+ℤ◌, ◌*ℤ◌, unsigned_abs, to_z, of_z, ap, subst, ◌∙◌, arith}
+use Rattle.std.proofs.Common.{◌≡◌, ℕ, ◌+◌, ◌*◌, ◌^◌, ◌<◌, ◌≤◌, List, ◌∷◌, length, drop, get_or, add-one, ℤ, ◌+ℤ◌, ◌*ℤ◌, unsigned_abs, to_z, of_z, ap, subst, ◌∙◌, arith}
+use Rattle.std.proofs.Math.Seq.{drop-cons}
 use Rattle.std.proofs.lemmas.Int.{ints}
 use mir.Syntax.{w64, w128}
 use Rattle.definitions.proofs.Casts.{cast_kept}
-use Rattle.kohlberg.proofs.Pairs.{drop-more}
 use Rattle.definitions.specs.Sums.{weighted_sum}
 
 pub weighted_more : (f : ℕ → ℤ) (ps : List (ℕ × ℤ)) (j : ℕ) (d : ℕ × ℤ) → j < length ps → weighted_sum f (drop j ps) ≡ (get_or ps j d).1 *ℤ f (get_or ps j d).0 +ℤ weighted_sum f (drop (j + 1) ps)
-weighted_more f ps j d lt = ap (weighted_sum f) (drop-more ps j d lt)
+weighted_more f ps j d lt = ap (weighted_sum f) split
+  where
+    split : drop j ps ≡ get_or ps j d ∷ drop (j + 1) ps
+    split = rw add-one (drop-cons ps j d lt)
 
 pub added : (s v n w r t : ℤ) (j : ℕ) → unsigned_abs s ≤ j * 2 ^ 110 → j < 64 → unsigned_abs v < 2 ^ 110 → s +ℤ n ≡ t → n ≡ w +ℤ r → v ≡ w → (to_z w128 (of_z w128 (s +ℤ to_z w128 (of_z w128 v))) +ℤ r ≡ t) × (unsigned_abs (to_z w128 (of_z w128 (s +ℤ to_z w128 (of_z w128 v)))) ≤ (j + 1) * 2 ^ 110)
 added s v n w r t j few most small sum split same =

@@ -1,0 +1,2 @@
+-- To be read in this order.
+mod Totals
