@@ -28,7 +28,6 @@ pub struct Solution {
 }
 
 /// Each row that has a column with the player of that column, ascending.
-#[tactic(auto, using(crate::proofs::Snocs::player_pairs_more, crate::proofs::Snocs::player_pairs_same))]
 fn pairs_of(
     alloc: Global,
     deal: &Deal,
