@@ -1,6 +1,6 @@
 -- The columns of the levels' coalitions, found by their numbers.
-use Rattle.std.proofs.Common.{◌≡◌, ℕ, zero, suc, ◌+◌, ◌-◌, ◌*◌, ◌/◌, ◌%◌, ◌<◌, ◌≤◌, List, [], ◌∷◌, ◌++◌, length, map, drop, get_or, ℤ, Option, Some, None, refl, ap, ◌∙◌, arith}
-use Rattle.std.proofs.lemmas.List.{get_or-append_right, get_or_append_left}
+use Rattle.std.proofs.Common.{◌≡◌, ℕ, zero, suc, ◌+◌, ◌-◌, ◌*◌, ◌/◌, ◌%◌, ◌<◌, ◌≤◌, List, [], ◌∷◌, ◌++◌, length, map, drop, get_or, ℤ, Option, Some, None, refl, sym, ap, ◌∙◌, arith}
+use Rattle.std.proofs.lemmas.List.{get_or-append_right, get_or_append_left, drop_all}
 use Rattle.definitions.specs.Games.{Game}
 use Rattle.definitions.specs.Certificates.{Level}
 use Rattle.kohlberg.proofs.Pairs.{drop-more}
@@ -52,3 +52,7 @@ module _ (g : Game) (levels : List Level) (k : ℕ) (d : Level) (lt : k < length
   level_past id le =
       ap (λ (t : List (Option Column)). column_at t id) split
       ∙ get_or-append_right here behind (2 * length (get_or levels k d).coalitions) id None (level_length g k (get_or levels k d).coalitions) le
+
+-- behind all levels there is none
+pub none_left : (g : Game) (k id : ℕ) (levels : List Level) → length levels ≤ k → None ≡ column_at (earlier_columns g (earlier_of k (drop k levels))) id
+none_left g k id levels le = ap (λ (ls : List Level). column_at (earlier_columns g (earlier_of k ls)) id) (sym (drop_all k levels le))

@@ -1,8 +1,9 @@
--- Products of small numbers, as the machine computes them.
-use Rattle.std.proofs.Common.{◌≡◌, ℕ, ◌*◌, ◌^◌, ◌<◌, ◌≤◌, ℤ, pos, ◌*ℤ◌, unsigned_abs, FitsSigned, to_z, of_z, sym, subst, ◌∙◌, le_trans, lt_of_le_of_lt, le_of_lt, mul-le-mul}
+-- Products and sums of small numbers, as the machine computes them.
+use Rattle.std.proofs.Common.{◌≡◌, ℕ, ◌+◌, ◌*◌, ◌^◌, ◌<◌, ◌≤◌, ℤ, pos, ◌+ℤ◌, ◌-ℤ◌, ◌*ℤ◌, unsigned_abs, arith, FitsSigned, to_z, of_z, sym, subst, ◌∙◌, le_trans, lt_of_le_of_lt, le_of_lt, mul-le-mul}
 use mir.Syntax.{w64, w128}
 use lib.Dec.{lit≤}
-use Rattle.std.proofs.lemmas.Int.{to_z-of_z, unsigned_abs-mul, fits_signed_mul, fits_signed_from_abs}
+use Rattle.std.proofs.lemmas.Int.{ints, to_z-of_z, unsigned_abs-mul, fits_signed_mul, fits_signed_from_abs}
+use Rattle.definitions.proofs.Casts.{cast_kept}
 
 -- a number as it is kept
 abbrev held : ℤ → ℤ
@@ -32,3 +33,24 @@ level_product e l n is hn hl =
     let f : FitsSigned w128 (pos n *ℤ l) = fits_signed_mul w128 (pos n) l 64 (2 ^ 110) hn (le_of_lt hl) (lit≤ tt) in
     let size : unsigned_abs (pos n *ℤ l) ≤ 2 ^ 116 = le_trans (abs_mul (pos n) l 64 (2 ^ 110) hn (le_of_lt hl)) (lit≤ tt) in
     subst (λ (t : ℤ). FitsSigned w128 (held t *ℤ held l) × ((held (held t *ℤ held l) ≡ pos n *ℤ l) × (unsigned_abs (held (held t *ℤ held l)) ≤ 2 ^ 116))) (sym is) (simp to_z-of_z f, (simp to_z-of_z, simp to_z-of_z size))
+
+-- ---- sums
+
+-- a sum of two small numbers
+pub sum_held : (a b : ℤ) (m n : ℕ) → unsigned_abs a ≤ m → unsigned_abs b ≤ n → m + n ≤ 2 ^ 118
+    → FitsSigned w128 (held a +ℤ held b) × ((held (held a +ℤ held b) ≡ a +ℤ b) × (unsigned_abs (held (held a +ℤ held b)) ≤ m + n))
+sum_held a b m n ha hb few =
+    let ka : held a ≡ a = cast_kept w128 a (omega (arith, ha, few)) in
+    let kb : held b ≡ b = cast_kept w128 b (omega (arith, hb, few)) in
+    let small : unsigned_abs (a +ℤ b) ≤ m + n = omega (arith, ints, ha, hb) in
+    let kept : held (a +ℤ b) ≡ a +ℤ b = cast_kept w128 (a +ℤ b) (omega (arith, small, few)) in
+    rw (ka, kb) (fits_signed_from_abs w128 (a +ℤ b) (omega (arith, small, few)), (kept, rw kept small))
+
+-- minus such a sum
+pub minus_sum_held : (a b : ℤ) (m n : ℕ) → unsigned_abs a ≤ m → unsigned_abs b ≤ n → m + n ≤ 2 ^ 118
+    → FitsSigned w128 (pos 0 -ℤ held (held a +ℤ held b)) × (unsigned_abs (held (pos 0 -ℤ held (held a +ℤ held b))) ≤ m + n)
+minus_sum_held a b m n ha hb few =
+    let z : ℤ = held (held a +ℤ held b) in
+    let h : unsigned_abs z ≤ m + n = (sum_held a b m n ha hb few).1.1 in
+    let small : unsigned_abs (pos 0 -ℤ z) ≤ m + n = omega (arith, ints, h) in
+    (fits_signed_from_abs w128 (pos 0 -ℤ z) (omega (arith, small, few)), rw (cast_kept w128 (pos 0 -ℤ z) (omega (arith, small, few))) small)

@@ -1,10 +1,12 @@
-use Rattle.std.proofs.Common.{◌≡◌, ◌^◌, ◌≤◌, Bool, true, false, ℤ, pos, ◌+ℤ◌, ◌-ℤ◌, ◌*ℤ◌, unsigned_abs, to_z, of_z, arith, ap, ◌∙◌, refl, sym}
+use Rattle.std.proofs.Common.{◌≡◌, ◌+◌, ◌^◌, ◌≤◌, Bool, true, false, ℤ, pos, ◌+ℤ◌, ◌-ℤ◌, ◌*ℤ◌, unsigned_abs, to_z, of_z, arith, ap, ◌∙◌, refl, sym, le_trans}
 use Rattle.std.proofs.lemmas.Int.{ints}
 use mir.Syntax.{w128}
 use Rattle.definitions.specs.Coalitions.{sum_over}
 use Rattle.definitions.specs.Measures.{divisor}
 use Rattle.separation.specs.Stage.{signed}
 use Rattle.separation.specs.Values.{multiplier_at, level_multiplier}
+use lib.Dec.{lit≤}
+use Rattle.separation.proofs.Products.{sum_held, minus_sum_held}
 use Rattle.separation.proofs.Valued.{value_is}
 use Rattle.separation.proofs.sums.value.Goals as goal
 use Rattle.definitions.proofs.Casts.{cast_kept}
@@ -31,3 +33,17 @@ returns-else-column-clause-value c =
     kept_plain _ _ _ _ c.of.ensures.small c.level_value.ensures.small (c.of.ensures.value m c.args.n c.requires.sums) c.level_value.ensures.value
     ∙ ap (λ (b : Bool). signed b z) (sym c.if-column.false)
     ∙ sym (value_is c.args.measure m c.args.n c.args.column c.requires.players c.requires.within)
+
+pub overflow_add-plain : goal.overflow_add-plain
+overflow_add-plain c = (sum_held c.of.result c.level_value.result (2 ^ 114) (2 ^ 116) c.of.ensures.small c.level_value.ensures.small (lit≤ tt)).0
+
+pub overflow_sub-result : goal.overflow_sub-result
+overflow_sub-result c = (minus_sum_held c.of.result c.level_value.result (2 ^ 114) (2 ^ 116) c.of.ensures.small c.level_value.ensures.small (lit≤ tt)).0
+
+pub returns-then-column-clause-small : goal.returns-then-column-clause-small
+returns-then-column-clause-small c =
+    le_trans (minus_sum_held c.of.result c.level_value.result (2 ^ 114) (2 ^ 116) c.of.ensures.small c.level_value.ensures.small (lit≤ tt)).1 (lit≤ tt)
+
+pub returns-else-column-clause-small : goal.returns-else-column-clause-small
+returns-else-column-clause-small c =
+    le_trans (sum_held c.of.result c.level_value.result (2 ^ 114) (2 ^ 116) c.of.ensures.small c.level_value.ensures.small (lit≤ tt)).1.1 (lit≤ tt)
