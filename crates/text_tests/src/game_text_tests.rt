@@ -12,10 +12,10 @@ use game_text::{Command, Document, Game, Refusal, TextFault, read_document};
 use std::alloc::Global;
 use std::process::Abort;
 use std::test::Fail;
-use worth_core::Worth;
+use worth_core::{Shares, Worth};
 
 // The text of a document of this game and these shares.
-pub(crate) fn document(alloc: Global, game: &str, shares: &str) -> Result<String, Fail> {
+fn document(alloc: Global, game: &str, shares: &str) -> Result<String, Fail> {
     let mut text = String::from_str(alloc, "{\"game\":")?;
     text.push_str(game)?;
     text.push_str(",\"shares\":")?;
@@ -25,7 +25,7 @@ pub(crate) fn document(alloc: Global, game: &str, shares: &str) -> Result<String
 }
 
 // The document of this game and these shares.
-pub(crate) fn proposal(alloc: Global, game: &str, shares: &str) -> Result<Document, Fail> {
+fn proposal(alloc: Global, game: &str, shares: &str) -> Result<Document, Fail> {
     let text = document(alloc, game, shares)?;
     Ok(read_document(alloc, text.as_bytes(), Command::Propose)?)
 }
@@ -35,15 +35,37 @@ fn fault_of(alloc: Global, bytes: &[u8]) -> Option<TextFault> {
     read_document(alloc, bytes, Command::Propose).err()
 }
 
-// That many blanks.
-pub(crate) fn blanks(alloc: Global, count: usize) -> Result<Vec<u8>, Fail> {
-    Ok(vec![in alloc; b' '; count]?)
+// Why that many blanks give this command no document.
+pub(crate) fn fault_of_blanks(
+    alloc: Global,
+    command: Command,
+    count: usize,
+) -> Result<Option<TextFault>, Fail> {
+    let bytes = vec![in alloc; b' '; count]?;
+    Ok(read_document(alloc, &bytes, command).err())
 }
 
 // Why this game and these shares give no document.
-pub(crate) fn fault_in(alloc: Global, game: &str, shares: &str) -> Result<Option<TextFault>, Fail> {
+fn fault_in(alloc: Global, game: &str, shares: &str) -> Result<Option<TextFault>, Fail> {
     let text = document(alloc, game, shares)?;
     Ok(fault_of(alloc, text.as_bytes()))
+}
+
+// This game and these shares give a document, or are refused for that reason.
+pub(crate) fn expect_fault(
+    rt: &impl Abort,
+    alloc: Global,
+    game: &str,
+    shares: &str,
+    refusal: Option<Refusal>,
+) -> Result<(), Fail> {
+    let fault = fault_in(alloc, game, shares)?;
+    assert_eq!(rt;
+        fault,
+        refusal.map(TextFault::Refused),
+        "on {game} and {shares}"
+    );
+    Ok(())
 }
 
 #[test]
@@ -172,12 +194,7 @@ fn of_two_refusals_the_first_is_given(rt: HostRuntime) -> Result<(), Fail> {
             Refusal::Proposal,
         ),
     ] {
-        let fault = fault_in(rt.alloc(), game, shares)?;
-        assert_eq!(rt;
-            fault,
-            Some(TextFault::Refused(refusal)),
-            "on {game} and {shares}"
-        );
+        expect_fault(&rt, rt.alloc(), game, shares, Some(refusal))?;
     }
     Ok(())
 }
@@ -185,8 +202,7 @@ fn of_two_refusals_the_first_is_given(rt: HostRuntime) -> Result<(), Fail> {
 #[test]
 fn bytes_are_at_most_2_mib(rt: HostRuntime) -> Result<(), Fail> {
     for &(count, refusal) in &[(2_097_153, Refusal::TooLong), (2_097_152, Refusal::NotJson)] {
-        let bytes = blanks(rt.alloc(), count)?;
-        let fault = fault_of(rt.alloc(), &bytes);
+        let fault = fault_of_blanks(rt.alloc(), Command::Propose, count)?;
         assert_eq!(rt; fault, Some(TextFault::Refused(refusal)));
     }
     Ok(())
@@ -241,22 +257,74 @@ pub(crate) fn worths_of(rt: &impl Abort, alloc: Global, game: &Game) -> Result<V
     Ok(worths)
 }
 
+// The numerators of the shares, and then their denominator.
+fn numbers_of(alloc: Global, x: &Shares) -> Result<Vec<i128>, Fail> {
+    let mut numbers = Vec::new(alloc);
+    for i in 0..x.players() {
+        numbers.push(x.num(i))?;
+    }
+    numbers.push(x.den())?;
+    Ok(numbers)
+}
+
+// What a proposal says, in numbers.
+#[derive(Debug, Drop)]
+pub(crate) struct Contents {
+    // How many players the game has, and as many shares.
+    pub(crate) players: u32,
+    pub(crate) is_cost: bool,
+    pub(crate) scale: i64,
+    // The worth of each coalition, in mask order.
+    pub(crate) worths: Vec<i64>,
+    // The numerators of the shares, and then their denominator.
+    pub(crate) shares: Vec<i128>,
+    pub(crate) blocker: Option<Coalition>,
+}
+
+// What the document of a proposal says.
+fn said_of(rt: &impl Abort, alloc: Global, read: &Document) -> Result<Contents, Fail> {
+    let x = read.shares.as_ref().ok_or("no shares")?;
+    let players = read.game.players();
+    assert!(rt; x.players() == players);
+    let shares = numbers_of(alloc, x)?;
+    Ok(Contents {
+        players,
+        is_cost: read.game.is_cost(),
+        scale: read.scale,
+        worths: worths_of(rt, alloc, &read.game)?,
+        shares,
+        blocker: read.game.blocker(x),
+    })
+}
+
+// What the proposal of this game and these shares says.
+pub(crate) fn said(
+    rt: &impl Abort,
+    alloc: Global,
+    game: &str,
+    shares: &str,
+) -> Result<Contents, Fail> {
+    let read = proposal(alloc, game, shares)?;
+    said_of(rt, alloc, &read)
+}
+
 #[test]
 fn payments_are_negated_shares_over_the_least_denominator(rt: HostRuntime) -> Result<(), Fail> {
     let game = "{\"class\":\"airport\",\"costs\":[2,4,6]}";
-    let text = document(rt.alloc(), game, "[\"3/4\",-1,\"5/6\"]")?;
-    let read = read_document(rt.alloc(), text.as_bytes(), Command::Propose)?;
-    let x = read.shares.as_ref().ok_or("no shares")?;
-    assert!(rt; x.players() == 3 && read.game.players() == 3);
-    assert!(rt; read.game.is_cost());
+    let found = said(&rt, rt.alloc(), game, "[\"3/4\",-1,\"5/6\"]")?;
     assert_eq!(rt;
-        [x.num(0), x.num(1), x.num(2), x.den()].as_slice(),
-        [-9, 12, -10, 12].as_slice()
-    );
-    let worths = worths_of(&rt, rt.alloc(), &read.game)?;
-    assert_eq!(rt;
-        worths.as_slice(),
-        [0, -2, -4, -4, -6, -6, -6, -6].as_slice()
+        (
+            found.players,
+            found.is_cost,
+            found.shares.as_slice(),
+            found.worths.as_slice()
+        ),
+        (
+            3,
+            true,
+            [-9, 12, -10, 12].as_slice(),
+            [0, -2, -4, -4, -6, -6, -6, -6].as_slice()
+        )
     );
     Ok(())
 }
@@ -265,17 +333,16 @@ fn payments_are_negated_shares_over_the_least_denominator(rt: HostRuntime) -> Re
 fn sparse_tables_list_some_coalitions_by_names(rt: HostRuntime) -> Result<(), Fail> {
     let game =
         "{\"class\":\"table\",\"default\":-5,\"names\":[\"a\",\"b\"],\"players\":2,\"sparse\":[[[\"b\",1],7]]}";
-    let text = document(rt.alloc(), game, "[\"1/3\",\"-1/3\"]")?;
-    let read = read_document(rt.alloc(), text.as_bytes(), Command::Propose)?;
-    let x = read.shares.as_ref().ok_or("no shares")?;
-    assert!(rt; x.players() == 2 && read.game.players() == 2);
-    assert!(rt; !read.game.is_cost());
+    let found = said(&rt, rt.alloc(), game, "[\"1/3\",\"-1/3\"]")?;
     assert_eq!(rt;
-        [x.num(0), x.num(1), x.den()].as_slice(),
-        [1, -1, 3].as_slice()
+        (
+            found.players,
+            found.is_cost,
+            found.shares.as_slice(),
+            found.worths.as_slice()
+        ),
+        (2, false, [1, -1, 3].as_slice(), [0, -5, -5, 7].as_slice())
     );
-    let worths = worths_of(&rt, rt.alloc(), &read.game)?;
-    assert_eq!(rt; worths.as_slice(), [0, -5, -5, 7].as_slice());
     Ok(())
 }
 
@@ -304,19 +371,20 @@ fn games_answer_with_the_bodies_of_their_classes(rt: HostRuntime) -> Result<(), 
             None,
         ),
     ] {
-        let read = proposal(rt.alloc(), game, shares)?;
-        let x = read.shares.as_ref().ok_or("no shares")?;
-        assert!(rt; x.players() == 3 && read.game.players() == 3);
-        assert_eq!(rt; read.game.blocker(x), blocker, "on {game}");
+        let found = said(&rt, rt.alloc(), game, shares)?;
+        assert_eq!(rt; (found.players, found.blocker), (3, blocker), "on {game}");
     }
     Ok(())
 }
 
 #[test]
 fn refusals_are_numbered_from_1(rt: HostRuntime) {
-    assert_eq!(rt; Refusal::TooLong.number(), 1);
-    assert_eq!(rt; Refusal::Certificate.number(), 12);
-    assert_eq!(rt; Refusal::Quota.number(), 13);
+    let numbers = (
+        Refusal::TooLong.number(),
+        Refusal::Certificate.number(),
+        Refusal::Quota.number(),
+    );
+    assert_eq!(rt; numbers, (1, 12, 13));
 }
 
 // How excess is measured in this game with these shares.

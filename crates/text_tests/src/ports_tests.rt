@@ -14,8 +14,8 @@ fn a_source_gives_its_bytes_in_order_and_then_ends(rt: HostRuntime) -> Result<()
     let mut source = MemorySource::new(b"abcdef".to_vec(rt.alloc())?);
     let mut buf = [0; 4];
     for &(count, front) in &[(4, b"abcd"), (2, b"efcd"), (0, b"efcd")] {
-        assert_eq!(rt; read(&mut source, &mut buf), Some(count));
-        assert_eq!(rt; buf, *front);
+        let found = read(&mut source, &mut buf);
+        assert_eq!(rt; (found, buf), (Some(count), *front));
     }
     Ok(())
 }
@@ -24,11 +24,12 @@ fn a_source_gives_its_bytes_in_order_and_then_ends(rt: HostRuntime) -> Result<()
 fn a_sink_takes_what_fits_and_then_fails(rt: HostRuntime) -> Result<(), Fail> {
     let mut sink = MemorySink::new(rt.alloc(), 5).ok().ok_or("memory")?;
     for &(count, taken) in &[(Some(3), "abc"), (Some(2), "abcab"), (None, "abcab")] {
-        assert_eq!(rt; write(&mut sink, b"abc"), count);
-        assert!(rt; sink.taken() == taken.as_bytes());
+        let found = write(&mut sink, b"abc");
+        let has_taken = sink.taken() == taken.as_bytes();
+        assert_eq!(rt; (found, has_taken), (count, true));
     }
-    assert_eq!(rt; sink.write(b""), Ok(0));
-    assert_eq!(rt; sink.write(b"a"), Err(Failed));
+    let found = (sink.write(b""), sink.write(b"a"));
+    assert_eq!(rt; found, (Ok(0), Err(Failed)));
     Ok(())
 }
 
@@ -45,8 +46,8 @@ fn a_failing_source_loses_nothing_at_its_failures(rt: HostRuntime) -> Result<(),
         (Some(1), b"ed\0\0"),
         (Some(0), b"ed\0\0"),
     ] {
-        assert_eq!(rt; read(&mut source, &mut buf), count);
-        assert_eq!(rt; buf, *front);
+        let found = read(&mut source, &mut buf);
+        assert_eq!(rt; (found, buf), (count, *front));
     }
     Ok(())
 }
@@ -65,8 +66,9 @@ fn a_failing_sink_loses_nothing_at_its_failures(rt: HostRuntime) -> Result<(), F
         (Some(1), "ababa"),
         (None, "ababa"),
     ] {
-        assert_eq!(rt; write(&mut sink, b"abc"), count);
-        assert!(rt; sink.taken() == taken.as_bytes());
+        let found = write(&mut sink, b"abc");
+        let has_taken = sink.taken() == taken.as_bytes();
+        assert_eq!(rt; (found, has_taken), (count, true));
     }
     Ok(())
 }

@@ -11,6 +11,7 @@ use fractions::Frac;
 use kinds::Refusal;
 use report::{Answer, UsageKind, write_report};
 use std::alloc::Global;
+use std::process::Abort;
 use std::test::Fail;
 use worth_core::Shares;
 
@@ -20,6 +21,21 @@ fn has_line(alloc: Global, answer: Answer, line: &str) -> Result<bool, Fail>
 {
     let written = write_report(alloc, answer, 1).ok().ok_or("memory")?;
     Ok(written.as_slice() == line.as_bytes())
+}
+
+// That line is written for the answer.
+fn expect_line(rt: &impl Abort, alloc: Global, answer: Answer, line: &str) -> Result<(), Fail>
+    requires { IsPrintable answer }
+{
+    let is_written = has_line(alloc, answer, line)?;
+    assert!(rt; is_written, "{line}");
+    Ok(())
+}
+
+// Shares of these numerators over a denominator.
+fn shares(alloc: Global, num: &[i128], den: i128) -> Result<Shares, Fail> {
+    let num = num.to_vec(alloc)?;
+    Ok(Shares::new(num, den).ok_or("shares")?)
 }
 
 // The value of `num` over `den`, where it can be printed over a scale.
@@ -36,37 +52,36 @@ fn fraction(num: i128, den: i128) -> Result<Frac, Fail>
 #[test]
 fn judgements_have_their_lines(rt: HostRuntime) -> Result<(), Fail> {
     let core = "{\"answer\":\"core\"}\n";
-    assert!(rt; has_line(rt.alloc(), Answer::InCore, core)?);
+    expect_line(&rt, rt.alloc(), Answer::InCore, core)?;
     let inefficient = Answer::NotEfficient {
         sum: fraction(1, -2)?,
         total: -7,
     };
     let line = "{\"answer\":\"not efficient\",\"sum\":\"-1/2\",\"total\":\"-7\"}\n";
-    assert!(rt; has_line(rt.alloc(), inefficient, line)?);
+    expect_line(&rt, rt.alloc(), inefficient, line)?;
     let none = Answer::NoImputation {
         singles: 6,
         total: 5,
     };
     let line = "{\"answer\":\"no imputation\",\"singles\":\"6\",\"total\":\"5\"}\n";
-    assert!(rt; has_line(rt.alloc(), none, line)?);
+    expect_line(&rt, rt.alloc(), none, line)?;
     let blocked = Answer::Blocked {
         coalition: Coalition(0b1000_0101),
         excess: Frac::from_int(3),
     };
     let line = "{\"answer\":\"blocked\",\"coalition\":[1,3,8],\"excess\":\"3\"}\n";
-    assert!(rt; has_line(rt.alloc(), blocked, line)?);
+    expect_line(&rt, rt.alloc(), blocked, line)?;
     Ok(())
 }
 
 #[test]
 fn what_is_said_of_the_core_has_its_line(rt: HostRuntime) -> Result<(), Fail> {
-    let shares = Shares::new([-2, -3].to_vec(rt.alloc())?, 2).ok_or("shares")?;
     let point = Answer::CorePoint {
         is_cost: true,
-        shares,
+        shares: shares(rt.alloc(), &[-2, -3], 2)?,
     };
     let line = "{\"answer\":\"core point\",\"shares\":[\"1\",\"3/2\"]}\n";
-    assert!(rt; has_line(rt.alloc(), point, line)?);
+    expect_line(&rt, rt.alloc(), point, line)?;
     let empty = Answer::EmptyCore {
         collection: Collection {
             weights: [(Coalition(3), 1), (Coalition(5), 1), (Coalition(6), 1)].to_vec(rt.alloc())?,
@@ -77,7 +92,7 @@ fn what_is_said_of_the_core_has_its_line(rt: HostRuntime) -> Result<(), Fail> {
     };
     let line =
         "{\"against\":\"2\",\"answer\":\"empty core\",\"collection\":[[[1,2],1],[[1,3],1],[[2,3],1]],\"k\":2,\"value\":\"3\"}\n";
-    assert!(rt; has_line(rt.alloc(), empty, line)?);
+    expect_line(&rt, rt.alloc(), empty, line)?;
     Ok(())
 }
 
@@ -93,9 +108,9 @@ fn shapley_shares_have_their_line(rt: HostRuntime) -> Result<(), Fail> {
             "{\"answer\":\"shapley\",\"shares\":[\"-2/3\",\"-5/3\",\"-11/3\",\"2\"]}\n",
         ),
     ] {
-        let shares = Shares::new([-4, -10, -22, 12].to_vec(rt.alloc())?, 6).ok_or("shares")?;
+        let shares = shares(rt.alloc(), &[-4, -10, -22, 12], 6)?;
         let answer = Answer::Shapley { is_cost, shares };
-        assert!(rt; has_line(rt.alloc(), answer, line)?, "{line}");
+        expect_line(&rt, rt.alloc(), answer, line)?;
     }
     Ok(())
 }
@@ -103,7 +118,7 @@ fn shapley_shares_have_their_line(rt: HostRuntime) -> Result<(), Fail> {
 #[test]
 fn verdicts_have_their_lines(rt: HostRuntime) -> Result<(), Fail> {
     let yes = "{\"answer\":\"yes\"}\n";
-    assert!(rt; has_line(rt.alloc(), Answer::Verdict(Verdict::Yes), yes)?);
+    expect_line(&rt, rt.alloc(), Answer::Verdict(Verdict::Yes), yes)?;
     for &(reason, line) in &[
         (Reason::NotEfficient, "{\"answer\":\"no\",\"reason\":1}\n"),
         (
@@ -151,17 +166,14 @@ fn verdicts_have_their_lines(rt: HostRuntime) -> Result<(), Fail> {
         ),
     ] {
         let verdict = Answer::Verdict(Verdict::No(reason));
-        assert!(rt; has_line(rt.alloc(), verdict, line)?, "{line}");
+        expect_line(&rt, rt.alloc(), verdict, line)?;
     }
     let above = Reason::OutsideAbove {
         level: 1,
         excess: fraction(-3, 2)?,
     };
     let line = "{\"answer\":\"no\",\"excess\":\"-3/2\",\"level\":1,\"reason\":7}\n";
-    assert!(rt;
-        has_line(rt.alloc(), Answer::Verdict(Verdict::No(above)), line)?,
-        "{line}"
-    );
+    expect_line(&rt, rt.alloc(), Answer::Verdict(Verdict::No(above)), line)?;
     Ok(())
 }
 
@@ -172,7 +184,7 @@ fn usages_have_their_lines(rt: HostRuntime) -> Result<(), Fail> {
         (UsageKind::Class, "{\"usage\":\"class\"}\n"),
         (UsageKind::Players, "{\"usage\":\"players\"}\n"),
     ] {
-        assert!(rt; has_line(rt.alloc(), Answer::Usage(kind), line)?, "{line}");
+        expect_line(&rt, rt.alloc(), Answer::Usage(kind), line)?;
     }
     Ok(())
 }
@@ -206,10 +218,7 @@ fn refusals_have_their_lines(rt: HostRuntime) -> Result<(), Fail> {
         ),
         (Refusal::Quota, "{\"number\":13,\"refused\":\"Quota\"}\n"),
     ] {
-        assert!(rt;
-            has_line(rt.alloc(), Answer::Refused(refusal), line)?,
-            "{line}"
-        );
+        expect_line(&rt, rt.alloc(), Answer::Refused(refusal), line)?;
     }
     Ok(())
 }

@@ -1,6 +1,7 @@
 //! Certificates in documents, line by line of their form.
 use game_text::{Command, Refusal, TextFault, read_document};
 use std::alloc::Global;
+use std::process::Abort;
 use std::test::Fail;
 
 /// An airport game of three players.
@@ -35,7 +36,7 @@ fn certificate(alloc: Global, levels: &str) -> Result<String, Fail> {
 }
 
 // Why a document with all four keys isn't one to check.
-pub(crate) fn check_fault(
+fn check_fault(
     alloc: Global,
     answer: &str,
     certificate: &str,
@@ -44,6 +45,25 @@ pub(crate) fn check_fault(
 ) -> Result<Option<TextFault>, Fail> {
     let text = whole_document(alloc, answer, certificate, game, shares)?;
     Ok(read_document(alloc, text.as_bytes(), Command::Check).err())
+}
+
+// A document with all four keys is one to check, or is refused for that reason.
+pub(crate) fn expect_check(
+    rt: &impl Abort,
+    alloc: Global,
+    answer: &str,
+    certificate: &str,
+    game: &str,
+    shares: &str,
+    refusal: Option<Refusal>,
+) -> Result<(), Fail> {
+    let fault = check_fault(alloc, answer, certificate, game, shares)?;
+    assert_eq!(rt;
+        fault,
+        refusal.map(TextFault::Refused),
+        "on {answer}, {certificate} and {game}"
+    );
+    Ok(())
 }
 
 // The text of a level, with another value at one key.
@@ -65,10 +85,35 @@ fn level_with(alloc: Global, key: &str, value: &str) -> Result<String, Fail> {
     Ok(text)
 }
 
-// Why a certificate of these levels isn't one for three players.
-fn fault_of_levels(alloc: Global, levels: &str) -> Result<Option<TextFault>, Fail> {
+// A certificate of these levels is one for three players, or is refused for that reason.
+fn expect_levels(
+    rt: &impl Abort,
+    alloc: Global,
+    levels: &str,
+    refusal: Option<Refusal>,
+) -> Result<(), Fail> {
     let text = certificate(alloc, levels)?;
-    check_fault(alloc, "\"nucleolus\"", &text, AIRPORT, "[1,1,1]")
+    expect_check(
+        rt,
+        alloc,
+        "\"nucleolus\"",
+        &text,
+        AIRPORT,
+        "[1,1,1]",
+        refusal,
+    )
+}
+
+// So is a certificate of one level with another value at one key.
+fn expect_level(
+    rt: &impl Abort,
+    alloc: Global,
+    key: &str,
+    value: &str,
+    refusal: Option<Refusal>,
+) -> Result<(), Fail> {
+    let level = level_with(alloc, key, value)?;
+    expect_levels(rt, alloc, &level, refusal)
 }
 
 #[test]
@@ -112,9 +157,7 @@ fn each_line_of_the_form_of_a_level_is_tested(rt: HostRuntime) -> Result<(), Fai
         ("bounds", "[[4,1]]", Some(Refusal::Certificate)),
         ("bounds", "[[1.5,1]]", Some(Refusal::Certificate)),
     ] {
-        let level = level_with(rt.alloc(), key, value)?;
-        let fault = fault_of_levels(rt.alloc(), &level)?;
-        assert_eq!(rt; fault, refusal.map(TextFault::Refused), "on {level}");
+        expect_level(&rt, rt.alloc(), key, value, refusal)?;
     }
     Ok(())
 }
@@ -165,9 +208,7 @@ fn weights_and_totals_are_integers_below_2_to_63(rt: HostRuntime) -> Result<(), 
         ),
         ("bounds", "[[1,1e2]]", Some(Refusal::Certificate)),
     ] {
-        let level = level_with(rt.alloc(), key, value)?;
-        let fault = fault_of_levels(rt.alloc(), &level)?;
-        assert_eq!(rt; fault, refusal.map(TextFault::Refused), "on {level}");
+        expect_level(&rt, rt.alloc(), key, value, refusal)?;
     }
     Ok(())
 }
@@ -179,6 +220,17 @@ fn levels_with(alloc: Global, earlier: &str) -> Result<String, Fail> {
     levels.push_str(earlier)?;
     levels.push_str(",\"excess\":\"-2\",\"total\":1}")?;
     Ok(levels)
+}
+
+// So is a certificate of two levels, the second with these earlier coalitions.
+fn expect_earlier(
+    rt: &impl Abort,
+    alloc: Global,
+    earlier: &str,
+    refusal: Option<Refusal>,
+) -> Result<(), Fail> {
+    let levels = levels_with(alloc, earlier)?;
+    expect_levels(rt, alloc, &levels, refusal)
 }
 
 #[test]
@@ -197,28 +249,43 @@ fn earlier_coalitions_stand_in_earlier_levels(rt: HostRuntime) -> Result<(), Fai
         ("[[[1,2],1]]", Some(Refusal::Certificate)),
         ("[[[1],1],[[1],1]]", Some(Refusal::Certificate)),
     ] {
-        let levels = levels_with(rt.alloc(), earlier)?;
-        let fault = fault_of_levels(rt.alloc(), &levels)?;
-        assert_eq!(rt; fault, refusal.map(TextFault::Refused), "on {levels}");
+        expect_earlier(&rt, rt.alloc(), earlier, refusal)?;
     }
     Ok(())
 }
 
+// The text of so many levels, all alike.
+fn alike(alloc: Global, count: u32) -> Result<String, Fail> {
+    let level = level_with(alloc, "", "")?;
+    let mut levels = String::new(alloc);
+    for i in 0..count {
+        levels.push_str(if i == 0 { "" } else { "," })?;
+        levels.push_str(&level)?;
+    }
+    Ok(levels)
+}
+
+// So is a certificate of so many levels, all alike.
+fn expect_alike(
+    rt: &impl Abort,
+    alloc: Global,
+    count: u32,
+    refusal: Option<Refusal>,
+) -> Result<(), Fail> {
+    let levels = alike(alloc, count)?;
+    expect_levels(rt, alloc, &levels, refusal)
+}
+
 #[test]
 fn there_are_fewer_levels_than_players(rt: HostRuntime) -> Result<(), Fail> {
-    let mut levels = level_with(rt.alloc(), "", "")?;
-    assert_eq!(rt; fault_of_levels(rt.alloc(), "")?, None);
-    assert_eq!(rt; fault_of_levels(rt.alloc(), &levels)?, None);
-    let one = level_with(rt.alloc(), "", "")?;
-    levels.push_str(",")?;
-    levels.push_str(&one)?;
-    assert_eq!(rt; fault_of_levels(rt.alloc(), &levels)?, None);
-    levels.push_str(",")?;
-    levels.push_str(&one)?;
-    assert_eq!(rt;
-        fault_of_levels(rt.alloc(), &levels)?,
-        Some(TextFault::Refused(Refusal::Certificate))
-    );
+    for &(count, refusal) in &[
+        (0, None),
+        (1, None),
+        (2, None),
+        (3, Some(Refusal::Certificate)),
+    ] {
+        expect_alike(&rt, rt.alloc(), count, refusal)?;
+    }
     Ok(())
 }
 
@@ -295,12 +362,16 @@ fn other_kinds_keys_and_words_of_certificates_are_refused(rt: HostRuntime) -> Re
             "{\"levels\":[{\"bounds\":[],\"coalitions\":[[[1],1],[[2,3],1]],\"earlier\":[],\"excess\":\"-1\",\"total\":1}],\"mode\":\"players\"}",
         ),
     ] {
-        let fault = check_fault(rt.alloc(), answer, certificate, AIRPORT, "[1,1,1]")?;
-        assert_eq!(rt;
-            fault,
-            Some(TextFault::Refused(Refusal::Shape)),
-            "on {answer} and {certificate}"
-        );
+        let shape = Some(Refusal::Shape);
+        expect_check(
+            &rt,
+            rt.alloc(),
+            answer,
+            certificate,
+            AIRPORT,
+            "[1,1,1]",
+            shape,
+        )?;
     }
     Ok(())
 }

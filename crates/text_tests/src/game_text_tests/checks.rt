@@ -1,6 +1,6 @@
 //! Documents for the commands that find and check a nucleolus.
-use super::blanks;
-use super::certificates::{AIRPORT, check_fault, whole_document};
+use super::certificates::{AIRPORT, expect_check, whole_document};
+use super::fault_of_blanks;
 use coalitions::Coalition;
 use definitions::{Family, Mode};
 use game_text::{Command, Document, Refusal, TextFault, read_document};
@@ -56,12 +56,16 @@ fn certificates_are_tested_last(rt: HostRuntime) -> Result<(), Fail> {
             Refusal::Certificate,
         ),
     ] {
-        let fault = check_fault(rt.alloc(), "\"nucleolus\"", certificate, game, shares)?;
-        assert_eq!(rt;
-            fault,
-            Some(TextFault::Refused(refusal)),
-            "on {certificate} and {game}"
-        );
+        let answer = "\"nucleolus\"";
+        expect_check(
+            &rt,
+            rt.alloc(),
+            answer,
+            certificate,
+            game,
+            shares,
+            Some(refusal),
+        )?;
     }
     Ok(())
 }
@@ -77,27 +81,32 @@ fn mode_span_is_for_at_most_16_players(rt: HostRuntime) -> Result<(), Fail> {
         (17, "{\"levels\":[],\"mode\":\"players\"}", None),
         (16, "{\"levels\":[],\"mode\":\"span\"}", None),
     ] {
-        let fault = fault_of_ones(rt.alloc(), players, certificate)?;
-        assert_eq!(rt;
-            fault,
-            refusal.map(TextFault::Refused),
-            "{players} and {certificate}"
-        );
+        expect_ones(&rt, rt.alloc(), players, certificate, refusal)?;
     }
     Ok(())
 }
 
-// Why a certificate isn't one for so many players, who cost and pay 1 each.
-fn fault_of_ones(
+// A certificate is one for so many players, who cost and pay 1 each, or is refused for that reason.
+fn expect_ones(
+    rt: &impl Abort,
     alloc: Global,
     players: u32,
     certificate: &str,
-) -> Result<Option<TextFault>, Fail> {
+    refusal: Option<Refusal>,
+) -> Result<(), Fail> {
     let ones = ones(alloc, players)?;
     let mut game = String::from_str(alloc, "{\"class\":\"airport\",\"costs\":")?;
     game.push_str(&ones)?;
     game.push_str("}")?;
-    check_fault(alloc, "\"nucleolus\"", certificate, &game, &ones)
+    expect_check(
+        rt,
+        alloc,
+        "\"nucleolus\"",
+        certificate,
+        &game,
+        &ones,
+        refusal,
+    )
 }
 
 // The text of an array of ones.
@@ -203,8 +212,7 @@ fn documents_to_check_have_at_most_8_mib(rt: HostRuntime) -> Result<(), Fail> {
         (Command::Shapley, 2_097_153, Refusal::TooLong),
         (Command::Shapley, 2_097_152, Refusal::NotJson),
     ] {
-        let bytes = blanks(rt.alloc(), count)?;
-        let fault = read_document(rt.alloc(), &bytes, command).err();
+        let fault = fault_of_blanks(rt.alloc(), command, count)?;
         assert_eq!(rt;
             fault,
             Some(TextFault::Refused(refusal)),
@@ -219,32 +227,24 @@ const TWO_LEVELS: &str = "{\"levels\":[\
     {\"bounds\":[],\"coalitions\":[[[1,2],1],[[1,3],1]],\"earlier\":[[[1],-1]],\"excess\":\"-3/2\",\"total\":1}\
     ],\"mode\":\"players\"}";
 
-// What a document to check says of the two levels.
-fn certified(alloc: Global) -> Result<(Option<Family>, Shares, Certificate), Fail> {
+// A document to check the two levels.
+fn certified(alloc: Global) -> Result<Document, Fail> {
     let answer = "\"prenucleolus\"";
     let shares = "[\"1\",\"3/2\",\"7/2\"]";
     let text = whole_document(alloc, answer, TWO_LEVELS, AIRPORT, shares)?;
-    let read = read_document(alloc, text.as_bytes(), Command::Check)?;
-    let Document {
-        family,
-        shares,
-        certificate,
-        ..
-    } = read;
-    let x = shares.ok_or("no shares")?;
-    let found = certificate.ok_or("no certificate")?;
-    Ok((family, x, found))
+    Ok(read_document(alloc, text.as_bytes(), Command::Check)?)
 }
 
 // The first level, field by field.
 fn expect_first(rt: &impl Abort, first: &Level) {
     assert_eq!(rt;
-        (first.excess.num(), first.excess.den(), first.total),
-        (-1, 1, 1)
-    );
-    assert_eq!(rt;
-        first.coalitions.as_slice(),
-        [(Coalition(1), 1), (Coalition(6), 1)].as_slice()
+        (
+            first.excess.num(),
+            first.excess.den(),
+            first.total,
+            first.coalitions.as_slice()
+        ),
+        (-1, 1, 1, [(Coalition(1), 1), (Coalition(6), 1)].as_slice())
     );
     assert!(rt; first.earlier.is_empty() && first.bounds.is_empty());
 }
@@ -252,32 +252,51 @@ fn expect_first(rt: &impl Abort, first: &Level) {
 // The second level, field by field.
 fn expect_second(rt: &impl Abort, second: &Level) {
     assert_eq!(rt;
-        (second.excess.num(), second.excess.den(), second.total),
-        (-3, 2, 1)
+        (
+            second.excess.num(),
+            second.excess.den(),
+            second.total,
+            second.coalitions.as_slice()
+        ),
+        (-3, 2, 1, [(Coalition(3), 1), (Coalition(5), 1)].as_slice())
     );
     assert_eq!(rt;
-        second.coalitions.as_slice(),
-        [(Coalition(3), 1), (Coalition(5), 1)].as_slice()
+        (second.earlier.as_slice(), second.bounds.is_empty()),
+        ([(Coalition(1), -1)].as_slice(), true)
     );
-    assert_eq!(rt; second.earlier.as_slice(), [(Coalition(1), -1)].as_slice());
-    assert!(rt; second.bounds.is_empty());
 }
 
-#[test]
-fn a_certificate_is_read_whole(rt: HostRuntime) -> Result<(), Fail> {
-    let (family, x, found) = certified(rt.alloc())?;
-    assert_eq!(rt; family, Some(Family::Preimputations));
+// The certificate, level by level.
+fn expect_levels(rt: &impl Abort, found: &Certificate) -> Result<(), Fail> {
+    assert_eq!(rt; (found.players(), found.mode()), (3, Mode::Players));
+    let [first, second] = found.levels() else {
+        return Err(Fail::from("not two levels"));
+    };
+    expect_first(rt, first);
+    expect_second(rt, second);
+    Ok(())
+}
+
+// The shares, player by player.
+fn expect_shares(rt: &impl Abort, x: &Shares) {
     assert!(rt; x.players() == 3);
     assert_eq!(rt;
         [x.num(0), x.num(1), x.num(2), x.den()].as_slice(),
         [-2, -3, -7, 2].as_slice()
     );
-    assert_eq!(rt; found.players(), 3);
-    assert_eq!(rt; found.mode(), Mode::Players);
-    let [first, second] = found.levels() else {
-        return Err(Fail::from("not two levels"));
-    };
-    expect_first(&rt, first);
-    expect_second(&rt, second);
-    Ok(())
+}
+
+// The document, part by part.
+fn expect_certified(rt: &impl Abort, read: &Document) -> Result<(), Fail> {
+    assert_eq!(rt; read.family, Some(Family::Preimputations));
+    let x = read.shares.as_ref().ok_or("no shares")?;
+    expect_shares(rt, x);
+    let found = read.certificate.as_ref().ok_or("no certificate")?;
+    expect_levels(rt, found)
+}
+
+#[test]
+fn a_certificate_is_read_whole(rt: HostRuntime) -> Result<(), Fail> {
+    let read = certified(rt.alloc())?;
+    expect_certified(&rt, &read)
 }

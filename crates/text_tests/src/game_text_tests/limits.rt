@@ -1,7 +1,8 @@
 //! Games, shares, names and coalitions at their limits and past them.
-use super::fault_in;
-use game_text::{Refusal, TextFault};
+use super::expect_fault;
+use game_text::Refusal;
 use std::alloc::Global;
+use std::process::Abort;
 use std::test::Fail;
 
 #[test]
@@ -131,12 +132,7 @@ fn games_keep_their_limits(rt: HostRuntime) -> Result<(), Fail> {
             Some(Refusal::Proposal),
         ),
     ] {
-        let fault = fault_in(rt.alloc(), game, shares)?;
-        assert_eq!(rt;
-            fault,
-            refusal.map(TextFault::Refused),
-            "on {game} and {shares}"
-        );
+        expect_fault(&rt, rt.alloc(), game, shares, refusal)?;
     }
     Ok(())
 }
@@ -194,8 +190,7 @@ fn shares_are_texts_of_fractions_within_their_limits(rt: HostRuntime) -> Result<
             Some(Refusal::TooFine),
         ),
     ] {
-        let fault = fault_in(rt.alloc(), ONE_PLAYER, shares)?;
-        assert_eq!(rt; fault, refusal.map(TextFault::Refused), "on {shares}");
+        expect_fault(&rt, rt.alloc(), ONE_PLAYER, shares, refusal)?;
     }
     Ok(())
 }
@@ -220,8 +215,7 @@ fn names_have_1_to_64_bytes(rt: HostRuntime) -> Result<(), Fail> {
         ("[]", Some(Refusal::Names)),
         ("[\"a\",\"b\"]", Some(Refusal::Names)),
     ] {
-        let fault = fault_in(rt.alloc(), &named(rt.alloc(), names)?, "[1]")?;
-        assert_eq!(rt; fault, refusal.map(TextFault::Refused), "on {names}");
+        expect_names(&rt, rt.alloc(), names, refusal)?;
     }
     Ok(())
 }
@@ -245,8 +239,7 @@ fn sparse_coalitions_are_sets_of_players(rt: HostRuntime) -> Result<(), Fail> {
         ("[[\"Ann\",\"Bob\"],1],[[2,1],1]", Some(Refusal::Coalition)),
         ("[[1,2],1],[[1,2],1]", Some(Refusal::Coalition)),
     ] {
-        let fault = fault_in(rt.alloc(), &sparse(rt.alloc(), pairs)?, "[1,1,1]")?;
-        assert_eq!(rt; fault, refusal.map(TextFault::Refused), "on {pairs}");
+        expect_pairs(&rt, rt.alloc(), pairs, refusal)?;
     }
     Ok(())
 }
@@ -267,4 +260,26 @@ fn sparse(alloc: Global, pairs: &str) -> Result<String, Fail> {
     text.push_str(pairs)?;
     text.push_str("]}")?;
     Ok(text)
+}
+
+// These are names of one player, or are refused for that reason.
+fn expect_names(
+    rt: &impl Abort,
+    alloc: Global,
+    names: &str,
+    refusal: Option<Refusal>,
+) -> Result<(), Fail> {
+    let game = named(alloc, names)?;
+    expect_fault(rt, alloc, &game, "[1]", refusal)
+}
+
+// These are coalitions of three players with names, each with its cost, or are refused for that reason.
+fn expect_pairs(
+    rt: &impl Abort,
+    alloc: Global,
+    pairs: &str,
+    refusal: Option<Refusal>,
+) -> Result<(), Fail> {
+    let game = sparse(alloc, pairs)?;
+    expect_fault(rt, alloc, &game, "[1,1,1]", refusal)
 }

@@ -1,9 +1,9 @@
 //! Games by their matrix: limits, refusals, and the worths that they have.
-use super::{fault_in, proposal, worths_of};
-use game_text::{Refusal, TextFault};
+use super::{expect_fault, said};
+use game_text::Refusal;
 use std::alloc::Global;
+use std::process::Abort;
 use std::test::Fail;
-use worth_core::Worth;
 
 const SEVENTEEN_ZEROS: &str = "[0,0,0,0,0,0,0,0,0,0,0,0,0,0,0,0,0]";
 
@@ -31,6 +31,19 @@ fn with_rows(alloc: Global, class: &str, row: &str, count: usize) -> Result<Stri
     Ok(text)
 }
 
+// A class and so many rows, all alike, give a game of sixteen players, or are refused for that reason.
+fn expect_rows(
+    rt: &impl Abort,
+    alloc: Global,
+    class: &str,
+    row: &str,
+    count: usize,
+    refusal: Option<Refusal>,
+) -> Result<(), Fail> {
+    let game = with_rows(alloc, class, row, count)?;
+    expect_fault(rt, alloc, &game, SIXTEEN_SHARES, refusal)
+}
+
 #[test]
 fn matrices_keep_the_numbers_of_players(rt: HostRuntime) -> Result<(), Fail> {
     for &(class, row, count, refusal) in &[
@@ -52,9 +65,7 @@ fn matrices_keep_the_numbers_of_players(rt: HostRuntime) -> Result<(), Fail> {
         ("market", THIRTY_TWO_ZEROS, 32, Some(Refusal::Proposal)),
         ("market", THIRTY_THREE_ZEROS, 1, Some(Refusal::Players)),
     ] {
-        let game = with_rows(rt.alloc(), class, row, count)?;
-        let fault = fault_in(rt.alloc(), &game, SIXTEEN_SHARES)?;
-        assert_eq!(rt; fault, refusal.map(TextFault::Refused), "on {game}");
+        expect_rows(&rt, rt.alloc(), class, row, count, refusal)?;
     }
     Ok(())
 }
@@ -127,8 +138,7 @@ fn matrices_are_refused_by_the_first_test(rt: HostRuntime) -> Result<(), Fail> {
             Refusal::Matrix,
         ),
     ] {
-        let fault = fault_in(rt.alloc(), game, "[1,2,3,4,5]")?;
-        assert_eq!(rt; fault, Some(TextFault::Refused(refusal)), "on {game}");
+        expect_fault(&rt, rt.alloc(), game, "[1,2,3,4,5]", Some(refusal))?;
     }
     Ok(())
 }
@@ -155,13 +165,12 @@ fn links_cost_and_pairs_are_worth(rt: HostRuntime) -> Result<(), Fail> {
             &[0i64, 0, 0, 0, 0, 5, 7, 7, 0, 8, 6, 8, 0, 8, 7, 15] as &[i64],
         ),
     ] {
-        let read = proposal(rt.alloc(), game, shares)?;
-        assert_eq!(rt; read.game.is_cost(), is_cost, "on {game}");
-        let found = worths_of(&rt, rt.alloc(), &read.game)?;
-        assert_eq!(rt; found.as_slice(), worths, "on {game}");
-        let x = read.shares.as_ref().ok_or("no shares")?;
-        assert!(rt; x.players() == read.game.players());
-        assert_eq!(rt; read.game.blocker(x), None, "on {game}");
+        let found = said(&rt, rt.alloc(), game, shares)?;
+        assert_eq!(rt;
+            (found.is_cost, found.worths.as_slice(), found.blocker),
+            (is_cost, worths, None),
+            "on {game}"
+        );
     }
     Ok(())
 }

@@ -1,6 +1,6 @@
 //! Games of version 2, whose numbers may be fraction texts.
-use super::{fault_in, proposal, worths_of};
-use game_text::{Refusal, TextFault};
+use super::{expect_fault, said};
+use game_text::Refusal;
 use std::test::Fail;
 
 // One player whose number is within each limit, with that number in its place.
@@ -65,10 +65,12 @@ fn the_scale_is_the_least_common_denominator(rt: HostRuntime) -> Result<(), Fail
             [0, -1, -2, -2],
         ),
     ] {
-        let read = proposal(rt.alloc(), game, "[\"1/2\",\"-1/5\"]")?;
-        assert_eq!(rt; read.scale, scale, "of {game}");
-        let found = worths_of(&rt, rt.alloc(), &read.game)?;
-        assert_eq!(rt; found.as_slice(), worths.as_slice(), "of {game}");
+        let found = said(&rt, rt.alloc(), game, "[\"1/2\",\"-1/5\"]")?;
+        assert_eq!(rt;
+            (found.scale, found.worths.as_slice()),
+            (scale, worths.as_slice()),
+            "of {game}"
+        );
     }
     Ok(())
 }
@@ -77,12 +79,10 @@ fn the_scale_is_the_least_common_denominator(rt: HostRuntime) -> Result<(), Fail
 fn shares_are_times_the_scale(rt: HostRuntime) -> Result<(), Fail> {
     let game =
         "{\"class\":\"table\",\"players\":2,\"version\":2,\"worths\":[\"1/2\",\"1/3\",\"7/6\"]}";
-    let read = proposal(rt.alloc(), game, "[\"1/3\",\"5/12\"]")?;
-    let x = read.shares.as_ref().ok_or("no shares")?;
-    assert!(rt; x.players() == 2);
+    let found = said(&rt, rt.alloc(), game, "[\"1/3\",\"5/12\"]")?;
     assert_eq!(rt;
-        [x.num(0), x.num(1), x.den()].as_slice(),
-        [4, 5, 2].as_slice()
+        (found.players, found.shares.as_slice()),
+        (2, [4, 5, 2].as_slice())
     );
     Ok(())
 }
@@ -143,16 +143,12 @@ fn versions_are_1_and_2_and_texts_are_fractions(rt: HostRuntime) -> Result<(), F
             Some(Refusal::Number),
         ),
     ] {
-        let fault = fault_in(rt.alloc(), game, SHARE)?;
-        assert_eq!(rt; fault, refusal.map(TextFault::Refused), "on {game}");
+        expect_fault(&rt, rt.alloc(), game, SHARE, refusal)?;
     }
     let apart = "{\"class\":\"airport\",\"costs\":[\"1/256\",\"1/257\"],\"version\":2}";
-    let fault = fault_in(rt.alloc(), apart, "[0,0]")?;
-    assert_eq!(rt; fault, Some(TextFault::Refused(Refusal::Number)));
+    expect_fault(&rt, rt.alloc(), apart, "[0,0]", Some(Refusal::Number))?;
     let low = "{\"class\":\"airport\",\"costs\":[549755813888,\"1/2\"],\"version\":2}";
-    let fault = fault_in(rt.alloc(), low, "[0,0]")?;
-    assert_eq!(rt; fault, Some(TextFault::Refused(Refusal::Number)));
-    Ok(())
+    expect_fault(&rt, rt.alloc(), low, "[0,0]", Some(Refusal::Number))
 }
 
 // A cost of a half, and a whole one.
@@ -184,8 +180,7 @@ fn shares_keep_their_limits_times_the_scale(rt: HostRuntime) -> Result<(), Fail>
             Some(Refusal::TooFine),
         ),
     ] {
-        let fault = fault_in(rt.alloc(), game, share)?;
-        assert_eq!(rt; fault, refusal.map(TextFault::Refused), "on {share}");
+        expect_fault(&rt, rt.alloc(), game, share, refusal)?;
     }
     Ok(())
 }

@@ -1,9 +1,9 @@
 //! Voting games: limits, refusals, and the worths that they have.
-use super::{document, fault_in, worths_of};
-use game_text::{Command, Refusal, TextFault, read_document};
+use super::{expect_fault, said};
+use game_text::Refusal;
 use std::alloc::Global;
+use std::process::Abort;
 use std::test::Fail;
-use worth_core::Worth;
 
 const THIRTY_TWO: &str = "[1,1,1,1,1,1,1,1,1,1,1,1,1,1,1,1,1,1,1,1,1,1,1,1,1,1,1,1,1,1,1,1]";
 
@@ -18,6 +18,19 @@ fn voting(alloc: Global, quota: &str, weights: &str, rest: &str) -> Result<Strin
     game.push_str(rest)?;
     game.push_str("}")?;
     Ok(game)
+}
+
+// A voting game is refused for that reason beside five shares.
+fn expect_refused(
+    rt: &impl Abort,
+    alloc: Global,
+    quota: &str,
+    weights: &str,
+    rest: &str,
+    refusal: Refusal,
+) -> Result<(), Fail> {
+    let game = voting(alloc, quota, weights, rest)?;
+    expect_fault(rt, alloc, &game, "[1,2,3,4,5]", Some(refusal))
 }
 
 #[test]
@@ -38,9 +51,7 @@ fn votes_are_refused_by_the_first_test(rt: HostRuntime) -> Result<(), Fail> {
         ("\"1\"", "[1]", "", Refusal::Shape),
         ("1", "[1]", ",\"players\":1", Refusal::Shape),
     ] {
-        let game = voting(rt.alloc(), quota, weights, rest)?;
-        let fault = fault_in(rt.alloc(), &game, "[1,2,3,4,5]")?;
-        assert_eq!(rt; fault, Some(TextFault::Refused(refusal)), "on {game}");
+        expect_refused(&rt, rt.alloc(), quota, weights, rest, refusal)?;
     }
     Ok(())
 }
@@ -48,12 +59,10 @@ fn votes_are_refused_by_the_first_test(rt: HostRuntime) -> Result<(), Fail> {
 #[test]
 fn coalitions_that_reach_the_quota_are_worth_1(rt: HostRuntime) -> Result<(), Fail> {
     let game = "{\"class\":\"voting\",\"quota\":5,\"weights\":[4,2,1]}";
-    let text = document(rt.alloc(), game, "[1,0,0]")?;
-    let read = read_document(rt.alloc(), text.as_bytes(), Command::Propose)?;
-    assert!(rt; !read.game.is_cost());
-    let found = worths_of(&rt, rt.alloc(), &read.game)?;
-    assert_eq!(rt; found.as_slice(), [0, 0, 0, 1, 0, 1, 0, 1].as_slice());
-    let x = read.shares.as_ref().ok_or("no shares")?;
-    assert_eq!(rt; read.game.blocker(x), None);
+    let found = said(&rt, rt.alloc(), game, "[1,0,0]")?;
+    assert_eq!(rt;
+        (found.is_cost, found.worths.as_slice(), found.blocker),
+        (false, [0, 0, 0, 1, 0, 1, 0, 1].as_slice(), None)
+    );
     Ok(())
 }

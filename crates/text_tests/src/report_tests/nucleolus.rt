@@ -108,13 +108,21 @@ fn single_player(alloc: Global) -> Result<Value, OutOfMemory>
     Ok(Value::Object(members))
 }
 
-#[test]
-fn payments_and_excesses_of_a_cost_class(rt: HostRuntime) -> Result<(), Fail> {
+/// The two levels of an airport game.
+fn airport_levels(rt: &HostRuntime) -> Result<Vec<Level>, Fail>
+    ensures { IfOk result (λ v. AllByRecursion (λ l. IsFine l.excess_den) v.items) }
+{
     let singles = [(of![1], 1), (of![2, 3], 1)];
     let pairs = [(of![1, 2], 1), (of![1, 3], 1)];
     let mut levels = Vec::new(rt.alloc());
-    levels.push(level(&rt, (-1, 1), &singles, &[], &[], 1)?)?;
-    levels.push(level(&rt, (-3, 2), &pairs, &[(of![1], -1)], &[], 1)?)?;
+    levels.push(level(rt, (-1, 1), &singles, &[], &[], 1)?)?;
+    levels.push(level(rt, (-3, 2), &pairs, &[(of![1], -1)], &[], 1)?)?;
+    Ok(levels)
+}
+
+#[test]
+fn payments_and_excesses_of_a_cost_class(rt: HostRuntime) -> Result<(), Fail> {
+    let levels = airport_levels(&rt)?;
     let tree = airport(rt.alloc()).ok().ok_or("memory")?;
     let shares: (&[i128], i128, bool) = (&[-2, -3, -7], 2, true);
     let written = written(

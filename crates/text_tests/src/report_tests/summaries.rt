@@ -1,9 +1,8 @@
 //! Lines on generated games.
-use super::{fraction, has_line};
+use super::{expect_line, fraction, shares};
 use kinds::Kind;
 use report::{Answer, Summary};
 use std::test::Fail;
-use worth_core::Shares;
 
 #[test]
 fn summaries_have_their_lines(rt: HostRuntime) -> Result<(), Fail> {
@@ -36,8 +35,8 @@ fn summaries_have_their_lines(rt: HostRuntime) -> Result<(), Fail> {
              \"verdict\":\"yes\"}\n",
         ),
     ] {
-        let shares = Shares::new([-4, -10, -22, 12].to_vec(rt.alloc())?, 6).ok_or("shares")?;
         let greatest = Some(fraction(-5, 2)?);
+        let shares = shares(rt.alloc(), &[-4, -10, -22, 12], 6)?;
         let summary = Summary {
             kind,
             players: 4,
@@ -46,10 +45,7 @@ fn summaries_have_their_lines(rt: HostRuntime) -> Result<(), Fail> {
             shares,
             greatest,
         };
-        assert!(rt;
-            has_line(rt.alloc(), Answer::Summary(summary), line)?,
-            "{line}"
-        );
+        expect_line(&rt, rt.alloc(), Answer::Summary(summary), line)?;
     }
     Ok(())
 }
@@ -61,11 +57,11 @@ fn one_player_has_no_greatest_excess(rt: HostRuntime) -> Result<(), Fail> {
         players: 1,
         seed: 0,
         is_cost: true,
-        shares: Shares::new([-5].to_vec(rt.alloc())?, 1).ok_or("shares")?,
+        shares: shares(rt.alloc(), &[-5], 1)?,
         greatest: None,
     };
     let line =
         "{\"class\":\"tree\",\"common\":\"1\",\"first\":\"5\",\"greatest\":\"none\",\"last\":\"5\",\"players\":1,\"seed\":0,\"verdict\":\"yes\"}\n";
-    assert!(rt; has_line(rt.alloc(), Answer::Summary(summary), line)?);
+    expect_line(&rt, rt.alloc(), Answer::Summary(summary), line)?;
     Ok(())
 }
