@@ -1,5 +1,5 @@
 -- The first pair of a list that fails.
-use Rattle.std.proofs.Common.{◌≡◌, ℕ, ◌+◌, ◌<◌, ◌≤◌, List, ◌∷◌, length, get_or, drop, ℤ, refl, sym, ap, subst, ◌∙◌, inl, inr}
+use Rattle.std.proofs.Common.{◌≡◌, ℕ, zero, suc, ◌+◌, ◌<◌, ◌≤◌, List, [], ◌∷◌, length, get_or, drop, ℤ, refl, sym, ap, subst, ◌∙◌, inl, inr, arith}
 use Rattle.std.specs.List.{AllByRecursion}
 use Rattle.std.proofs.lemmas.List.{at_drop_more, drop_all}
 use Rattle.definitions.specs.Failures.{IsFirstFailing}
@@ -31,3 +31,16 @@ module _ (P : ℕ × ℤ → Type 0) (ps : List (ℕ × ℤ)) where
     -- it fails
     pub leads_failing : ¬ P p → IsFirstFailing P ps p.0
     leads_failing failed = l.first p.0 (subst (λ qs. IsFirstFailing P qs p.0) turn (inl (failed, refl)))
+
+-- whatever stands for what is past the end
+same_read : (ps : List (ℕ × ℤ)) (i : ℕ) (d e : ℕ × ℤ) → i < length ps → get_or ps i d ≡ get_or ps i e
+same_read [] i d e h = absurd (omega arith)
+same_read (p ∷ ps) zero d e h = refl
+same_read (p ∷ ps) (suc i) d e h = same_read ps i d e (omega arith)
+
+module _ (P : ℕ × ℤ → Type 0) (ps : List (ℕ × ℤ)) (i : ℕ) (d : ℕ × ℤ) (h : i < length ps) (l : Leads P ps i) where
+  pub leads_more_at : P (get_or ps i d) → Leads P ps (i + 1)
+  leads_more_at passed = leads_more P ps i (get_or ps i d) h (same_read ps i d (get_or ps i d) h) l passed
+
+  pub leads_failing_at : ¬ P (get_or ps i d) → IsFirstFailing P ps (get_or ps i d).0
+  leads_failing_at failed = leads_failing P ps i (get_or ps i d) h (same_read ps i d (get_or ps i d) h) l failed

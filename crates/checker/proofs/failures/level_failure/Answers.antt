@@ -1,5 +1,5 @@
-use Rattle.std.proofs.Common.{◌++◌, arith, refl, rules}
-use Rattle.definitions.specs.Certificates.{IsSmall}
+use Rattle.std.proofs.Common.{◌++◌, ◌∙◌, ap, arith, refl}
+use Rattle.definitions.specs.Certificates.{Level, IsSmall}
 use Rattle.checker.proofs.Judged.{ascending_few}
 use Rattle.checker.proofs.failures.level_failure.Goals as goal
 use Rattle.definitions.proofs.Alls.{all_left, all_right}
@@ -27,7 +27,40 @@ first_unbalanced-requires-clause-small_bounds g c =
     let l = c.args.tested.now in
     all_right (λ p. IsSmall p.1) (l.coalitions ++ l.earlier) l.bounds c.requires.form.small
 
+pub returns-in-Some-first_unbalanced : goal.returns-in-Some-first_unbalanced
+returns-in-Some-first_unbalanced g c =
+    let signs = c.in_default-first_wrong_sign.ensures {u = tt} in
+    let least = rw c.players.ensures.count at (c.in-Some-first_unbalanced.ensures {u = tt}) in
+    (refl, c.in_default.ensures {u = tt}, signs.0, signs.1, least)
+
+pub returns-in-Some-first_loose : goal.returns-in-Some-first_loose
+returns-in-Some-first_loose g c =
+    let signs = c.in_default-first_wrong_sign.ensures {u = tt} in
+    let balanced = rw c.players.ensures.count at (c.in_default-first_unbalanced.ensures {u = tt}) in
+    let bounds = c.deref.ensures.value ∙ ap (λ (l : Level). l.bounds) c.tested.view_is in
+    let loose = rw bounds at (c.in-Some-first_loose.ensures {u = tt}) in
+    (refl, c.in_default.ensures {u = tt}, signs.0, signs.1, balanced, loose)
+
+pub returns-in_err-excess : goal.returns-in_err-excess
+returns-in_err-excess g c =
+    let signs = c.in_default-first_wrong_sign.ensures {u = tt} in
+    let balanced = rw c.players.ensures.count at (c.in_default-first_unbalanced.ensures {u = tt}) in
+    let bounds = c.deref.ensures.value ∙ ap (λ (l : Level). l.bounds) c.tested.view_is in
+    let tight = rw bounds at (c.in_default-first_loose.ensures {u = tt}) in
+    rw c.from_residual.ensures (record {
+      excesses = c.in_default.ensures {u = tt};
+      weights = signs.0;
+      bound_weights = signs.1;
+      balanced = balanced;
+      tight = tight;
+      outside = c.in_err-excess.ensures c.args.front.now c.requires.fixes;
+    })
+
 pub returns : goal.returns
 returns g c =
+    let signs = c.in_default-first_wrong_sign.ensures {u = tt} in
+    let balanced = rw c.players.ensures.count at (c.in_default-first_unbalanced.ensures {u = tt}) in
+    let bounds = c.deref.ensures.value ∙ ap (λ (l : Level). l.bounds) c.tested.view_is in
+    let tight = rw bounds at (c.in_default-first_loose.ensures {u = tt}) in
     let outside = c.in_ok-excess.ensures c.args.front.now c.requires.fixes in
-    (outside.1.0, outside.1.2, (refl, search rules, search rules, search rules, search rules, search rules, outside.0, outside.1.1))
+    (outside.1.0, outside.1.2, (refl, c.in_default.ensures {u = tt}, signs.0, signs.1, balanced, tight, outside.0, outside.1.1))
