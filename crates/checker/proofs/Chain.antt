@@ -1,8 +1,10 @@
 -- The levels from one on, behind those in front, decide all levels.
-use Rattle.std.proofs.Common.{◌≡◌, ℕ, ◌+◌, ◌-◌, ◌<◌, List, [], ◌∷◌, ◌++◌, length, take, drop, get_or, sym, ap, subst, ◌∙◌, arith, inl, inr}
+use Rattle.std.proofs.Common.{◌≡◌, ℕ, ◌+◌, ◌-◌, ◌<◌, ◌≤◌, List, [], ◌∷◌, ◌++◌, length, take, drop, get_or, sym, ap, subst, ◌∙◌, arith, inl, inr}
 use Rattle.definitions.specs.Games.{Game, Allocation}
-use Rattle.definitions.specs.Certificates.{Level, LevelsForm, LevelHolds, LevelsHold}
-use Rattle.definitions.specs.Failures.{Reason, LevelFails, LevelsFail}
+use Rattle.std.proofs.lemmas.List.{drop_all}
+use Rattle.definitions.proofs.Alls.{all_at}
+use Rattle.definitions.specs.Certificates.{Level, LevelForm, LevelsForm, LevelHolds, LevelsHold, IsAllFixed}
+use Rattle.definitions.specs.Failures.{Reason, LevelFails, NotAllFixed, LevelsFail}
 use Rattle.definitions.specs.declared.Family.{Family}
 use Rattle.definitions.specs.declared.Measure.{Measure}
 use Rattle.definitions.specs.declared.Mode.{Mode}
@@ -51,3 +53,22 @@ Fixes-next n levels i d fixed lt h = subst (λ (ls : List Level). Fixes n ls fix
 
     next : take i levels ++ take (i + 1 - i) (drop i levels) ≡ take (i + 1) levels
     next = ap (λ (ls : List Level). take i levels ++ ls) one ∙ sym (take-more levels i d lt)
+
+-- one level of those that are of n players
+pub within_one : (n : ℕ) (levels : List Level) (i : ℕ) (d : Level) → i < length levels → AllByRecursion (IsOf n) levels → AllByRecursion (IsOf n) (take (i + 1 - i) (drop i levels))
+within_one n levels i d lt all =
+    let e : i + 1 - i ≡ 1 = omega arith in
+    subst (AllByRecursion (IsOf n)) (sym (ap (λ (k : ℕ). take k (drop i levels)) e ∙ ap (take 1) (drop-more levels i d lt))) (all_at (IsOf n) levels i d lt all, tt)
+
+-- its form
+pub form_here : (n : ℕ) (levels : List Level) (i : ℕ) (l : Level) → i < length levels → l ≡ get_or levels i l → LevelsForm n (take i levels) (drop i levels) → LevelForm n (take i levels) l
+form_here n levels i l lt is f = subst (LevelForm n (take i levels)) (sym is) (subst (LevelsForm n (take i levels)) (drop-more levels i l lt) f).0
+
+-- ---- behind the last level
+
+module _ (mode : Mode) (family : Family) (measure : Measure) (g : Game) (x : Allocation) (levels : List Level) (i : ℕ) (end : length levels ≤ i) (same : SameLevels mode family measure g x levels i) where
+  pub last_holds : IsAllFixed mode g.players (take i levels) → LevelsHold mode family measure g x [] levels
+  last_holds all = same.holds (subst (LevelsHold mode family measure g x (take i levels)) (sym (drop_all i levels end)) all)
+
+  pub last_fails : (r : Reason) → NotAllFixed mode g (take i levels) r → LevelsFail mode family measure g x 1 [] levels r
+  last_fails r left = same.fails r (subst (λ (ls : List Level). LevelsFail mode family measure g x (i + 1) (take i levels) ls r) (sym (drop_all i levels end)) left)

@@ -1,9 +1,9 @@
 use Rattle.std.proofs.Common.{◌∙◌, ◌+◌, MatchOption, sym, subst, take}
 use Rattle.definitions.specs.declared.Mode.{Mode}
-use Rattle.definitions.specs.Certificates.{Level, LevelHolds}
-use Rattle.definitions.specs.Failures.{LevelFails}
+use Rattle.definitions.specs.Certificates.{Level, LevelHolds, IsAllFixed}
+use Rattle.definitions.specs.Failures.{not_all, LevelFails, NotAllFixed}
 use Rattle.checker.specs.Meaning.{Means}
-use Rattle.checker.proofs.Chain.{SameLevels-start, SameLevels-more, Fixes-next, fails_here}
+use Rattle.checker.proofs.Chain.{SameLevels-start, SameLevels-more, Fixes-next, fails_here, within_one, form_here, last_holds, last_fails}
 use Rattle.checker.proofs.Judged.{level_failed, no_failure}
 use Rattle.checker.proofs.failures.levels_failure.Goals as goal
 
@@ -41,3 +41,31 @@ loop-i-preserved g c =
     let held = subst (λ (l : Level). LevelHolds mode family measure game x (take i levels) l) here.is (subst (λ (m : Mode). LevelHolds m family measure game x (take i levels) here.result) inv.1 holds) in
     let fixes = rw c.players-players.ensures.count at (c.with-fixed.ensures.fixes (take i levels)) in
     (SameLevels-more mode family measure game x levels i here.result lt held inv.0, c.with-fixed.ensures.mode ∙ inv.1, Fixes-next game.players levels i here.result c.with-fixed.result lt (fixes inv.2))
+
+pub level_failure-failure-requires-clause-form : goal.level_failure-failure-requires-clause-form
+level_failure-failure-requires-clause-form g c =
+    form_here (g.W.Worth.game c.args.game.now).players c.args.levels.now c.loop-i.i c.index-levels-i.result c.loop-i-test.true c.index-levels-i.is c.loop-i.invariant.0.form
+
+pub level_failure-failure-requires-clause-fixes : goal.level_failure-failure-requires-clause-fixes
+level_failure-failure-requires-clause-fixes g c = c.loop-i.invariant.2
+
+pub with-fixed-requires-clause-within : goal.with-fixed-requires-clause-within
+with-fixed-requires-clause-within g c =
+    rw c.players-players.ensures.count (within_one (g.W.Worth.game c.args.game.now).players c.args.levels.now c.loop-i.i c.index-levels-i.result c.loop-i-test.true c.loop-i.invariant.0.within)
+
+pub returns-in_err-player : goal.returns-in_err-player
+returns-in_err-player g c =
+    let game = g.W.Worth.game c.args.game.now in
+    let front = take c.loop-i.i c.args.levels.now in
+    let ask = rw c.players-players.ensures.count at (c.in_err-player.ensures front) in
+    let all = subst (λ (m : Mode). IsAllFixed m game.players front) c.loop-i.invariant.1 (ask c.loop-i.invariant.2) in
+    rw c.from_residual.ensures (last_holds c.args.mode c.args.family c.args.measure game c.args.shares.now c.args.levels.now c.loop-i.i c.loop-i-test.false c.loop-i.invariant.0 all)
+
+pub returns : goal.returns
+returns g c =
+    let game = g.W.Worth.game c.args.game.now in
+    let front = take c.loop-i.i c.args.levels.now in
+    let r = not_all c.in_ok-player.player in
+    let ask = rw c.players-players.ensures.count at (c.in_ok-player.ensures front) in
+    let left = subst (λ (m : Mode). NotAllFixed m game front r) c.loop-i.invariant.1 (ask c.loop-i.invariant.2) in
+    last_fails c.args.mode c.args.family c.args.measure game c.args.shares.now c.args.levels.now c.loop-i.i c.loop-i-test.false c.loop-i.invariant.0 r left
