@@ -4,6 +4,7 @@ use crate::tables::table;
 use airport::AirportGame;
 use balanced::{Collection, CoreAnswer, CoreFault, core_of};
 use coalitions::Coalition;
+use std::alloc::Global;
 use std::test::Fail;
 use worth_core::{Shares, Worth};
 use worth_tables::CostGame;
@@ -24,42 +25,61 @@ fn shown_by<W: Worth>(rt: &HostRuntime, game: &W) -> Result<Collection, Fail> {
     }
 }
 
+/// The collection that shows that the core of the game of these worths is empty.
+fn shown_by_table(rt: &HostRuntime, players: u32, worths: &[i64]) -> Result<Collection, Fail> {
+    shown_by(rt, &table(rt, players, worths)?)
+}
+
 #[test]
 fn three_pairs_of_a_majority_leave_no_core(rt: HostRuntime) -> Result<(), Fail> {
-    let game = table(&rt, 3, &[0, 0, 1, 0, 1, 1, 1])?;
-    let collection = shown_by(&rt, &game)?;
+    let collection = shown_by_table(&rt, 3, &[0, 0, 1, 0, 1, 1, 1])?;
     let pairs = [(Coalition(3), 1), (Coalition(5), 1), (Coalition(6), 1)];
-    assert_eq!(&rt; collection.k, 2);
-    assert_eq!(&rt; collection.weights.as_slice(), pairs.as_slice());
+    assert_eq!(&rt;
+        (collection.k, collection.weights.as_slice()),
+        (2, pairs.as_slice())
+    );
     Ok(())
 }
 
 #[test]
 fn two_who_are_worth_more_alone_have_none(rt: HostRuntime) -> Result<(), Fail> {
-    let game = table(&rt, 2, &[3, 3, 5])?;
-    let collection = shown_by(&rt, &game)?;
+    let collection = shown_by_table(&rt, 2, &[3, 3, 5])?;
     let alone = [(Coalition(1), 1), (Coalition(2), 1)];
-    assert_eq!(&rt; collection.k, 1);
-    assert_eq!(&rt; collection.weights.as_slice(), alone.as_slice());
+    assert_eq!(&rt;
+        (collection.k, collection.weights.as_slice()),
+        (1, alone.as_slice())
+    );
     Ok(())
+}
+
+/// The collection that shows that the core of the game of these costs is empty.
+fn shown_by_costs(rt: &HostRuntime, players: u32, costs: &[i64]) -> Result<Collection, Fail> {
+    shown_by(rt, &CostGame::new(table(rt, players, costs)?))
 }
 
 #[test]
 fn costs_are_answered_as_worths(rt: HostRuntime) -> Result<(), Fail> {
-    let costs = table(&rt, 3, &[6, 6, 6, 6, 6, 6, 12])?;
-    let collection = shown_by(&rt, &CostGame::new(costs))?;
+    let collection = shown_by_costs(&rt, 3, &[6, 6, 6, 6, 6, 6, 12])?;
     let pairs = [(Coalition(3), 1), (Coalition(5), 1), (Coalition(6), 1)];
-    assert_eq!(&rt; collection.k, 2);
-    assert_eq!(&rt; collection.weights.as_slice(), pairs.as_slice());
+    assert_eq!(&rt;
+        (collection.k, collection.weights.as_slice()),
+        (2, pairs.as_slice())
+    );
     Ok(())
+}
+
+/// The point of the core of the game of these worths.
+fn point_of_table(rt: &HostRuntime, players: u32, worths: &[i64]) -> Result<Shares, Fail> {
+    point_of(rt, &table(rt, players, worths)?)
 }
 
 #[test]
 fn one_gets_its_worth(rt: HostRuntime) -> Result<(), Fail> {
-    let shares = point_of(&rt, &table(&rt, 1, &[-5])?)?;
-    assert_eq!(&rt; shares.players(), 1);
-    assert_eq!(&rt; shares.sum_of(Coalition(1)), -5);
-    assert_eq!(&rt; shares.den(), 1);
+    let shares = point_of_table(&rt, 1, &[-5])?;
+    assert_eq!(&rt;
+        (shares.players(), shares.sum_of(Coalition(1)), shares.den()),
+        (1, -5, 1)
+    );
     Ok(())
 }
 
@@ -67,18 +87,20 @@ fn one_gets_its_worth(rt: HostRuntime) -> Result<(), Fail> {
 fn sixteen_who_win_together_have_a_core(rt: HostRuntime) -> Result<(), Fail> {
     let mut worths = vec![in rt.alloc(); 0; 65535]?;
     worths[65534] = 16;
-    let shares = point_of(&rt, &table(&rt, 16, worths.as_slice())?)?;
+    let shares = point_of_table(&rt, 16, &worths)?;
     assert_eq!(&rt; shares.players(), 16);
     Ok(())
 }
 
+/// Why so many players have no answer; none where they have one.
+fn fault_of(alloc: Global, players: usize) -> Result<Option<CoreFault>, Fail> {
+    let costs = vec![in alloc; 1; players]?;
+    let game = AirportGame::new(alloc, costs).ok().ok_or("no game")?;
+    Ok(core_of(alloc, &game).err())
+}
+
 #[test]
 fn seventeen_are_too_many(rt: HostRuntime) -> Result<(), Fail> {
-    let costs = vec![in rt.alloc(); 1; 17]?;
-    let game = AirportGame::new(rt.alloc(), costs).map_err(|_| "no game")?;
-    match core_of(rt.alloc(), &game) {
-        Err(fault) => assert_eq!(&rt; fault, CoreFault::TooMany),
-        Ok(_) => Err("an answer")?,
-    }
+    assert_eq!(&rt; fault_of(rt.alloc(), 17)?, Some(CoreFault::TooMany));
     Ok(())
 }

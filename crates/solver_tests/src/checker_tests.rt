@@ -1,201 +1,231 @@
 //! Verdicts on worked certificates.
 
+use crate::levels::{Row, certificate_of};
 use crate::tables::{ASSIGNMENT, table};
 use checker::{Place, Reason, Verdict, check};
 use coalitions::Coalition;
 use fractions::Frac;
-use kohlberg::{Certificate, Family, Level, Mode};
+use kohlberg::{Family, Mode};
+use std::alloc::Global;
+use std::process::Abort;
 use std::test::Fail;
 use worth_core::{Measure, Shares, Worth};
 use worth_tables::TableGame;
 
-/// The coalition of these players, who count from 1.
+/// The mask of these players, who count from 1.
 macro_rules! of {
     ($($player:literal),+) => {
-        Coalition($(1 << ($player - 1))|+)
+        $(1 << ($player - 1))|+
     };
 }
 
-/// A level of this excess.
-fn level(
-    rt: &HostRuntime,
-    excess: (i128, i128),
-    coalitions: &[(Coalition, i128)],
-    earlier: &[(Coalition, i128)],
-    bounds: &[(u32, i128)],
-    total: i128,
-) -> Result<Level, Fail> {
-    Ok(Level {
-        excess: Frac::new(excess.0, excess.1).ok_or("not a fraction")?,
-        coalitions: coalitions.to_vec(rt.alloc())?,
-        earlier: earlier.to_vec(rt.alloc())?,
-        bounds: bounds.to_vec(rt.alloc())?,
-        total,
-    })
-}
+/// A family, a measure, shares over a denominator, and the levels of their certificate.
+type Case<'a> = (Family, Measure, (&'a [i128], i128), &'a [Row<'a>]);
 
-/// The verdict on shares over a denominator, and on the certificate of these levels.
-fn verdict(
-    rt: &HostRuntime,
-    game: &TableGame,
-    family: Family,
-    measure: Measure,
-    shares: (&[i128], i128),
-    mode: Mode,
-    levels: Vec<Level>,
-) -> Result<Verdict, Fail> {
-    let x = Shares::new(shares.0.to_vec(rt.alloc())?, shares.1).ok_or("not shares")?;
+/// The verdict on a case.
+fn verdict(alloc: Global, game: &TableGame, mode: Mode, case: &Case<'_>) -> Result<Verdict, Fail> {
+    let &(family, measure, (num, den), levels) = case;
+    let x = Shares::new(num.to_vec(alloc)?, den).ok_or("not shares")?;
     let players = game.players();
-    let certificate = Certificate::new(players, mode, levels).map_err(|_| "malformed")?;
-    if x.players() != players {
-        Err("another number of shares")?;
-    }
-    if players > 16 {
-        Err("more players than excess per head takes")?;
+    let certificate = certificate_of(alloc, players, mode, levels)?.ok_or("malformed")?;
+    if players > 16 || x.players() != players || certificate.players() != players {
+        Err("another number of players")?;
     }
     Ok(check(game, family, measure, &x, &certificate))
 }
 
-#[test]
-fn spans_certify_an_assignment_game(rt: HostRuntime) -> Result<(), Fail> {
-    let game = table(&rt, 4, &ASSIGNMENT)?;
-    let pairs = [(of![2, 3], 1), (of![1, 4], 1)];
-    let others = [(of![1, 3], 1), (of![2, 4], 1)];
-    let singles = [(of![1], 1), (of![3], 1)];
-    for &(shares, den, first, last, wanted) in &[
-        ([7, 7, 7, 9], 2, 0, 3, Verdict::Yes),
-        (
-            [2, 2, 5, 6],
-            1,
-            0,
-            2,
-            Verdict::No(Reason::NotAll { player: 0 }),
-        ),
-        (
-            [7, 7, 7, 9],
-            2,
-            1,
-            2,
-            Verdict::No(Reason::OutsideAbove {
-                level: 1,
-                excess: Frac::from_int(0),
-            }),
-        ),
-    ] {
-        let mut levels = Vec::new(rt.alloc());
-        if first < 1 {
-            levels.push(level(&rt, (0, 1), &pairs, &[], &[], 1)?)?;
-        }
-        levels.push(level(&rt, (-2, 1), &others, &[], &[], 1)?)?;
-        if last > 2 {
-            levels.push(level(&rt, (-7, 2), &singles, &[(of![1, 3], -1)], &[], 0)?)?;
-        }
-        let shares = (shares.as_slice(), den);
-        let found = verdict(
-            &rt,
-            &game,
-            Family::Imputations,
-            Measure::Plain,
-            shares,
-            Mode::Span,
-            levels,
-        )?;
-        assert_eq!(rt; found, wanted);
+/// Compares the verdicts on cases with those that are wanted.
+fn compare(
+    rt: &impl Abort,
+    alloc: Global,
+    game: &TableGame,
+    mode: Mode,
+    cases: &[Case<'_>],
+    wanted: &[Verdict],
+) -> Result<(), Fail> {
+    assert_eq!(rt; cases.len(), wanted.len());
+    for i in 0..cases.len() {
+        let found = verdict(alloc, game, mode, &cases[i])?;
+        assert_eq!(rt; found, wanted[i]);
     }
     Ok(())
 }
+
+/// What each buyer and its seller are worth together.
+const MATCHED: Row<'static> = ((0, 1), &[(of![2, 3], 1), (of![1, 4], 1)], &[], &[], 1);
+
+const UNMATCHED: Row<'static> = ((-2, 1), &[(of![1, 3], 1), (of![2, 4], 1)], &[], &[], 1);
+
+const ALONE: Row<'static> = (
+    (-7, 2),
+    &[(of![1], 1), (of![3], 1)],
+    &[(of![1, 3], -1)],
+    &[],
+    0,
+);
+
+const ON_ASSIGNMENT: [Case<'static>; 3] = [
+    (
+        Family::Imputations,
+        Measure::Plain,
+        (&[7, 7, 7, 9], 2),
+        &[MATCHED, UNMATCHED, ALONE],
+    ),
+    (
+        Family::Imputations,
+        Measure::Plain,
+        (&[2, 2, 5, 6], 1),
+        &[MATCHED, UNMATCHED],
+    ),
+    (
+        Family::Imputations,
+        Measure::Plain,
+        (&[7, 7, 7, 9], 2),
+        &[UNMATCHED],
+    ),
+];
+
+#[test]
+fn spans_certify_an_assignment_game(rt: HostRuntime) -> Result<(), Fail> {
+    let game = table(&rt, 4, &ASSIGNMENT)?;
+    let wanted = [
+        Verdict::Yes,
+        Verdict::No(Reason::NotAll { player: 0 }),
+        Verdict::No(Reason::OutsideAbove {
+            level: 1,
+            excess: Frac::from_int(0),
+        }),
+    ];
+    compare(&rt, rt.alloc(), &game, Mode::Span, &ON_ASSIGNMENT, &wanted)
+}
+
+/// The levels of the prenucleolus 1, 1, -2 where only the first two are worth something, 4 together.
+const BELOW: [Row<'static>; 2] = [
+    ((2, 1), &[(of![1, 2], 1), (of![3], 1)], &[], &[], 1),
+    (
+        (1, 1),
+        &[(of![1, 3], 1), (of![2, 3], 1)],
+        &[(of![3], -1)],
+        &[],
+        1,
+    ),
+];
+
+const BELOW_ALONE: [Case<'static>; 2] = [
+    (
+        Family::Preimputations,
+        Measure::Plain,
+        (&[1, 1, -2], 1),
+        &BELOW,
+    ),
+    (
+        Family::Imputations,
+        Measure::Plain,
+        (&[1, 1, -2], 1),
+        &BELOW,
+    ),
+];
 
 #[test]
 fn a_prenucleolus_may_be_below_a_worth_alone(rt: HostRuntime) -> Result<(), Fail> {
     let game = table(&rt, 3, &[0, 0, 4, 0, 0, 0, 0])?;
-    for &(family, wanted) in &[
-        (Family::Preimputations, Verdict::Yes),
-        (
-            Family::Imputations,
-            Verdict::No(Reason::NotIndividual { player: 2 }),
-        ),
-    ] {
-        let first = level(&rt, (2, 1), &[(of![1, 2], 1), (of![3], 1)], &[], &[], 1)?;
-        let pairs = [(of![1, 3], 1), (of![2, 3], 1)];
-        let second = level(&rt, (1, 1), &pairs, &[(of![3], -1)], &[], 1)?;
-        let levels = vec![in rt.alloc(); first, second]?;
-        let shares = ([1, 1, -2].as_slice(), 1);
-        let found = verdict(
-            &rt,
-            &game,
-            family,
-            Measure::Plain,
-            shares,
-            Mode::Span,
-            levels,
-        )?;
-        assert_eq!(rt; found, wanted);
+    let wanted = [
+        Verdict::Yes,
+        Verdict::No(Reason::NotIndividual { player: 2 }),
+    ];
+    compare(&rt, rt.alloc(), &game, Mode::Span, &BELOW_ALONE, &wanted)
+}
+
+/// The levels of the nucleolus of the same game, with the bound of the third player.
+const BOUNDED: [Row<'static>; 2] = [
+    ((4, 1), &[(of![1, 2], 1)], &[], &[(2, 1)], 1),
+    ((0, 1), &[(of![1], 1), (of![2], 1)], &[], &[(2, 1)], 1),
+];
+
+const WITH_BOUNDS: [Case<'static>; 2] = [
+    (
+        Family::Imputations,
+        Measure::Plain,
+        (&[0, 0, 0], 1),
+        &BOUNDED,
+    ),
+    (
+        Family::Preimputations,
+        Measure::Plain,
+        (&[0, 0, 0], 1),
+        &BOUNDED,
+    ),
+];
+
+#[test]
+fn bounds_stand_for_imputations_alone(rt: HostRuntime) -> Result<(), Fail> {
+    const WANTED: [Verdict; 2] = [
+        Verdict::Yes,
+        Verdict::No(Reason::BoundNotTight {
+            level: 1,
+            player: 2,
+        }),
+    ];
+    let game = table(&rt, 3, &[0, 0, 4, 0, 0, 0, 0])?;
+    for &mode in &[Mode::Players, Mode::Span] {
+        compare(&rt, rt.alloc(), &game, mode, &WITH_BOUNDS, &WANTED)?;
     }
     Ok(())
 }
 
-#[test]
-fn bounds_stand_for_imputations_alone(rt: HostRuntime) -> Result<(), Fail> {
-    let game = table(&rt, 3, &[0, 0, 4, 0, 0, 0, 0])?;
-    for &(family, wanted) in &[
-        (Family::Imputations, Verdict::Yes),
-        (
-            Family::Preimputations,
-            Verdict::No(Reason::BoundNotTight {
-                level: 1,
-                player: 2,
-            }),
-        ),
-    ] {
-        for &mode in &[Mode::Players, Mode::Span] {
-            let first = level(&rt, (4, 1), &[(of![1, 2], 1)], &[], &[(2, 1)], 1)?;
-            let singles = [(of![1], 1), (of![2], 1)];
-            let second = level(&rt, (0, 1), &singles, &[], &[(2, 1)], 1)?;
-            let levels = vec![in rt.alloc(); first, second]?;
-            let shares = ([0, 0, 0].as_slice(), 1);
-            assert_eq!(rt;
-                verdict(&rt, &game, family, Measure::Plain, shares, mode, levels)?,
-                wanted
-            );
-        }
-    }
-    Ok(())
-}
+const FIRST_TO_LAND: Row<'static> = ((-1, 1), &[(of![1], 1), (of![2, 3], 1)], &[], &[], 1);
+
+const SECOND_TO_LAND: Row<'static> = (
+    (-3, 2),
+    &[(of![1, 2], 1), (of![1, 3], 1)],
+    &[(of![1], -1)],
+    &[],
+    1,
+);
+
+const UNBALANCED: Row<'static> = (
+    (-3, 2),
+    &[(of![1, 2], 2), (of![1, 3], 1)],
+    &[(of![1], -1)],
+    &[],
+    1,
+);
+
+const ON_AIRPORT: [Case<'static>; 3] = [
+    (
+        Family::Imputations,
+        Measure::Plain,
+        (&[-2, -3, -7], 2),
+        &[FIRST_TO_LAND, SECOND_TO_LAND],
+    ),
+    (
+        Family::Imputations,
+        Measure::Plain,
+        (&[-2, -3, -7], 2),
+        &[FIRST_TO_LAND, UNBALANCED],
+    ),
+    (
+        Family::Imputations,
+        Measure::Plain,
+        (&[-2, -3, -9], 2),
+        &[FIRST_TO_LAND, SECOND_TO_LAND],
+    ),
+];
 
 // The costs of an airport are 2, 4 and 6: a worth is what a coalition pays by itself, and a share what a player pays.
 #[test]
 fn players_certify_an_airport_game(rt: HostRuntime) -> Result<(), Fail> {
-    let game = table(&rt, 3, &[-2, -4, -4, -6, -6, -6, -6])?;
-    for &(last, weight, wanted) in &[
-        (-7, 1, Verdict::Yes),
-        (
-            -7,
-            2,
-            Verdict::No(Reason::Unbalanced {
-                level: 2,
-                player: 0,
-            }),
-        ),
-        (-9, 1, Verdict::No(Reason::NotEfficient)),
-    ] {
-        let first = level(&rt, (-1, 1), &[(of![1], 1), (of![2, 3], 1)], &[], &[], 1)?;
-        let pairs = [(of![1, 2], weight), (of![1, 3], 1)];
-        let second = level(&rt, (-3, 2), &pairs, &[(of![1], -1)], &[], 1)?;
-        let levels = vec![in rt.alloc(); first, second]?;
-        let shares = ([-2, -3, last], 2);
-        let shares = (shares.0.as_slice(), shares.1);
-        let found = verdict(
-            &rt,
-            &game,
-            Family::Imputations,
-            Measure::Plain,
-            shares,
-            Mode::Players,
-            levels,
-        )?;
-        assert_eq!(rt; found, wanted);
-    }
-    Ok(())
+    let worths = [-2, -4, -4, -6, -6, -6, -6];
+    let game = table(&rt, 3, &worths)?;
+    let wanted = [
+        Verdict::Yes,
+        Verdict::No(Reason::Unbalanced {
+            level: 2,
+            player: 0,
+        }),
+        Verdict::No(Reason::NotEfficient),
+    ];
+    compare(&rt, rt.alloc(), &game, Mode::Players, &ON_AIRPORT, &wanted)
 }
 
 /// The verdict where two share 2 and are worth nothing alone, on a level of both alone.
@@ -208,144 +238,175 @@ fn on_two(
     bounds: &[(u32, i128)],
     total: i128,
 ) -> Result<Verdict, Fail> {
-    let game = table(rt, 2, &[0, 0, 2])?;
     let pairs = [(of![1], weights[0]), (of![2], weights[1])];
-    let only = level(rt, (excess, 1), &pairs, &[], bounds, total)?;
-    let levels = vec![in rt.alloc(); only]?;
-    let shares = (shares.as_slice(), 1);
-    verdict(
-        rt,
-        &game,
-        Family::Imputations,
-        Measure::Plain,
-        shares,
-        mode,
-        levels,
-    )
+    let levels: [Row<'_>; 1] = [((excess, 1), &pairs, &[], bounds, total)];
+    let case: Case<'_> = (Family::Imputations, Measure::Plain, (&shares, 1), &levels);
+    let game = table(rt, 2, &[0, 0, 2])?;
+    verdict(rt.alloc(), &game, mode, &case)
 }
+
+const NOT_INDIVIDUAL: Verdict = Verdict::No(Reason::NotIndividual { player: 0 });
+
+const WRONG_EXCESS: Verdict = Verdict::No(Reason::WrongExcess {
+    level: 1,
+    coalition: Coalition(of![1]),
+});
+
+const NO_WEIGHT: Verdict = Verdict::No(Reason::WeightSign {
+    level: 1,
+    place: Place::Coalition(Coalition(of![1])),
+});
+
+const NO_BOUND_WEIGHT: Verdict = Verdict::No(Reason::WeightSign {
+    level: 1,
+    place: Place::Player(0),
+});
+
+const NOT_BALANCED: Verdict = Verdict::No(Reason::Unbalanced {
+    level: 1,
+    player: 0,
+});
+
+const NOT_TIGHT: Verdict = Verdict::No(Reason::BoundNotTight {
+    level: 1,
+    player: 0,
+});
+
+/// The shares of two, the excess, weights, bounds and total of a level of both alone, and the verdict.
+const CONDITIONS: [([i128; 2], i128, [i128; 2], &[(u32, i128)], i128, Verdict); 8] = [
+    ([1, 1], -1, [1, 1], &[], 1, Verdict::Yes),
+    (
+        [1, 2],
+        -1,
+        [1, 1],
+        &[],
+        1,
+        Verdict::No(Reason::NotEfficient),
+    ),
+    ([-1, 3], -1, [1, 1], &[], 1, NOT_INDIVIDUAL),
+    ([1, 1], -2, [1, 1], &[], 1, WRONG_EXCESS),
+    ([1, 1], -1, [0, 1], &[], 1, NO_WEIGHT),
+    ([1, 1], -1, [1, 1], &[(0, 0)], 1, NO_BOUND_WEIGHT),
+    ([1, 1], -1, [2, 1], &[], 1, NOT_BALANCED),
+    ([1, 1], -1, [1, 2], &[(0, 1)], 2, NOT_TIGHT),
+];
 
 #[test]
 fn each_condition_of_a_level_fails_in_both_modes(rt: HostRuntime) -> Result<(), Fail> {
-    let (level, player) = (1, 0);
-    let coalition = of![1];
     for &mode in &[Mode::Players, Mode::Span] {
-        let found = on_two(&rt, mode, [1, 1], -1, [1, 1], &[], 1)?;
-        assert_eq!(rt; found, Verdict::Yes);
-        let found = on_two(&rt, mode, [1, 2], -1, [1, 1], &[], 1)?;
-        assert_eq!(rt; found, Verdict::No(Reason::NotEfficient));
-        let found = on_two(&rt, mode, [-1, 3], -1, [1, 1], &[], 1)?;
-        assert_eq!(rt; found, Verdict::No(Reason::NotIndividual { player }));
-        let found = on_two(&rt, mode, [1, 1], -2, [1, 1], &[], 1)?;
-        assert_eq!(rt;
-            found,
-            Verdict::No(Reason::WrongExcess { level, coalition })
-        );
-        let found = on_two(&rt, mode, [1, 1], -1, [0, 1], &[], 1)?;
-        let place = Place::Coalition(coalition);
-        assert_eq!(rt; found, Verdict::No(Reason::WeightSign { level, place }));
-        let found = on_two(&rt, mode, [1, 1], -1, [1, 1], &[(0, 0)], 1)?;
-        let place = Place::Player(player);
-        assert_eq!(rt; found, Verdict::No(Reason::WeightSign { level, place }));
-        let found = on_two(&rt, mode, [1, 1], -1, [2, 1], &[], 1)?;
-        assert_eq!(rt; found, Verdict::No(Reason::Unbalanced { level, player }));
-        let found = on_two(&rt, mode, [1, 1], -1, [1, 2], &[(0, 1)], 2)?;
-        assert_eq!(rt; found, Verdict::No(Reason::BoundNotTight { level, player }));
-    }
-    Ok(())
-}
-
-#[test]
-fn what_is_outside_or_left_is_found_in_both_modes(rt: HostRuntime) -> Result<(), Fail> {
-    let game = table(&rt, 3, &[0, 0, 0, 0, 0, 0, 3])?;
-    let shares = [1, 1, 1];
-    for &mode in &[Mode::Players, Mode::Span] {
-        let pairs = [(of![1, 2], 1), (of![1, 3], 1), (of![2, 3], 1)];
-        let only = level(&rt, (-2, 1), &pairs, &[], &[], 2)?;
-        let levels = vec![in rt.alloc(); only]?;
-        let family = Family::Imputations;
-        let found = verdict(
-            &rt,
-            &game,
-            family,
-            Measure::Plain,
-            (shares.as_slice(), 1),
-            mode,
-            levels,
-        )?;
-        let wanted = Reason::OutsideAbove {
-            level: 1,
-            excess: Frac::from_int(-1),
-        };
-        assert_eq!(rt; found, Verdict::No(wanted));
-        let none = Vec::new(rt.alloc());
-        let found = verdict(
-            &rt,
-            &game,
-            family,
-            Measure::Plain,
-            (shares.as_slice(), 1),
-            mode,
-            none,
-        )?;
-        assert_eq!(rt; found, Verdict::No(Reason::NotAll { player: 0 }));
-    }
-    Ok(())
-}
-
-// The first two are worth 6 together, and all three 12.
-#[test]
-fn excess_per_head_is_certified_in_both_modes(rt: HostRuntime) -> Result<(), Fail> {
-    let game = table(&rt, 3, &[0, 0, 6, 0, 0, 0, 12])?;
-    for &(shares, den, measure, wanted) in &[
-        ([5, 5, 2], 1, Measure::PerHead, Verdict::Yes),
-        (
-            [9, 9, 6],
-            2,
-            Measure::PerHead,
-            Verdict::No(Reason::WrongExcess {
-                level: 1,
-                coalition: of![1, 2],
-            }),
-        ),
-        (
-            [5, 5, 2],
-            1,
-            Measure::Plain,
-            Verdict::No(Reason::WrongExcess {
-                level: 1,
-                coalition: of![1, 2],
-            }),
-        ),
-    ] {
-        for &mode in &[Mode::Players, Mode::Span] {
-            let first = level(&rt, (-2, 1), &[(of![1, 2], 1), (of![3], 1)], &[], &[], 1)?;
-            let pairs = [(of![1, 3], 1), (of![2, 3], 1)];
-            let second = level(&rt, (-7, 2), &pairs, &[(of![3], -1)], &[], 1)?;
-            let levels = vec![in rt.alloc(); first, second]?;
-            let family = Family::Imputations;
-            let shares = (shares.as_slice(), den);
-            let found = verdict(&rt, &game, family, measure, shares, mode, levels)?;
+        for &(shares, excess, weights, bounds, total, wanted) in &CONDITIONS {
+            let found = on_two(&rt, mode, shares, excess, weights, bounds, total)?;
             assert_eq!(rt; found, wanted);
         }
     }
     Ok(())
 }
 
+const PAIRS: Row<'static> = (
+    (-2, 1),
+    &[(of![1, 2], 1), (of![1, 3], 1), (of![2, 3], 1)],
+    &[],
+    &[],
+    2,
+);
+
+const SOME_AND_NONE: [Case<'static>; 2] = [
+    (
+        Family::Imputations,
+        Measure::Plain,
+        (&[1, 1, 1], 1),
+        &[PAIRS],
+    ),
+    (Family::Imputations, Measure::Plain, (&[1, 1, 1], 1), &[]),
+];
+
+#[test]
+fn what_is_outside_or_left_is_found_in_both_modes(rt: HostRuntime) -> Result<(), Fail> {
+    let wanted = [
+        Verdict::No(Reason::OutsideAbove {
+            level: 1,
+            excess: Frac::from_int(-1),
+        }),
+        Verdict::No(Reason::NotAll { player: 0 }),
+    ];
+    let game = table(&rt, 3, &[0, 0, 0, 0, 0, 0, 3])?;
+    for &mode in &[Mode::Players, Mode::Span] {
+        compare(&rt, rt.alloc(), &game, mode, &SOME_AND_NONE, &wanted)?;
+    }
+    Ok(())
+}
+
+/// The levels of the nucleolus per head where the first two are worth 6 together, and all three 12.
+const BY_HEAD: [Row<'static>; 2] = [
+    ((-2, 1), &[(of![1, 2], 1), (of![3], 1)], &[], &[], 1),
+    (
+        (-7, 2),
+        &[(of![1, 3], 1), (of![2, 3], 1)],
+        &[(of![3], -1)],
+        &[],
+        1,
+    ),
+];
+
+const PER_HEAD: [Case<'static>; 3] = [
+    (
+        Family::Imputations,
+        Measure::PerHead,
+        (&[5, 5, 2], 1),
+        &BY_HEAD,
+    ),
+    (
+        Family::Imputations,
+        Measure::PerHead,
+        (&[9, 9, 6], 2),
+        &BY_HEAD,
+    ),
+    (
+        Family::Imputations,
+        Measure::Plain,
+        (&[5, 5, 2], 1),
+        &BY_HEAD,
+    ),
+];
+
+#[test]
+fn excess_per_head_is_certified_in_both_modes(rt: HostRuntime) -> Result<(), Fail> {
+    const WRONG: Verdict = Verdict::No(Reason::WrongExcess {
+        level: 1,
+        coalition: Coalition(of![1, 2]),
+    });
+    const WANTED: [Verdict; 3] = [Verdict::Yes, WRONG, WRONG];
+    let game = table(&rt, 3, &[0, 0, 6, 0, 0, 0, 12])?;
+    for &mode in &[Mode::Players, Mode::Span] {
+        compare(&rt, rt.alloc(), &game, mode, &PER_HEAD, &WANTED)?;
+    }
+    Ok(())
+}
+
+const SINGLES: Row<'static> = (
+    (-1, 1),
+    &[(of![1], 1), (of![2], 1), (of![3], 1)],
+    &[],
+    &[],
+    1,
+);
+
+const BY_SINGLES: [Case<'static>; 1] = [(
+    Family::Preimputations,
+    Measure::PerHead,
+    (&[1, 1, 1], 1),
+    &[SINGLES],
+)];
+
 #[test]
 fn the_greatest_excess_outside_is_per_head(rt: HostRuntime) -> Result<(), Fail> {
-    let game = table(&rt, 3, &[0, 0, 1, 0, 1, 1, 3])?;
-    let wanted = Reason::OutsideAbove {
+    let wanted = Verdict::No(Reason::OutsideAbove {
         level: 1,
         excess: Frac::new(-1, 2).ok_or("not a fraction")?,
-    };
+    });
+    let game = table(&rt, 3, &[0, 0, 1, 0, 1, 1, 3])?;
     for &mode in &[Mode::Players, Mode::Span] {
-        let singles = [(of![1], 1), (of![2], 1), (of![3], 1)];
-        let only = level(&rt, (-1, 1), &singles, &[], &[], 1)?;
-        let levels = vec![in rt.alloc(); only]?;
-        let shares = ([1, 1, 1].as_slice(), 1);
-        let family = Family::Preimputations;
-        let found = verdict(&rt, &game, family, Measure::PerHead, shares, mode, levels)?;
-        assert_eq!(rt; found, Verdict::No(wanted));
+        compare(&rt, rt.alloc(), &game, mode, &BY_SINGLES, &[wanted])?;
     }
     Ok(())
 }

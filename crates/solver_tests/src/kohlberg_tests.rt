@@ -1,26 +1,23 @@
 //! The form of certificates, case by case.
 
-use coalitions::Coalition;
-use fractions::Frac;
-use kohlberg::{Certificate, Level, Mode};
+use crate::levels::{Row, certificate_of};
+use kohlberg::Mode;
 use std::alloc::Global;
 use std::test::Fail;
 
-/// A level of excess 1 with these coalitions, earlier ones, bounds and total.
-fn level(
+/// Whether a certificate of one level is formed.
+fn is_formed(
     alloc: Global,
-    coalitions: &[(Coalition, i128)],
-    earlier: &[(Coalition, i128)],
-    bounds: &[(u32, i128)],
+    players: u32,
+    mode: Mode,
+    coalitions: (u64, u64),
+    bound: u32,
+    weight: i128,
     total: i128,
-) -> Result<Level, Fail> {
-    Ok(Level {
-        excess: Frac::from_int(1),
-        coalitions: coalitions.to_vec(alloc)?,
-        earlier: earlier.to_vec(alloc)?,
-        bounds: bounds.to_vec(alloc)?,
-        total,
-    })
+) -> Result<bool, Fail> {
+    let pairs = [(coalitions.0, weight), (coalitions.1, 1)];
+    let rows: [Row<'_>; 1] = [((1, 1), &pairs, &[], &[(bound, weight)], total)];
+    Ok(certificate_of(alloc, players, mode, &rows)?.is_some())
 }
 
 #[test]
@@ -50,28 +47,31 @@ fn certificates_of_one_level(rt: HostRuntime) -> Result<(), Fail> {
         (3, Mode::Players, 1, 6, 0, LIMIT, 1, false),
         (3, Mode::Players, 1, 6, 0, 1, -LIMIT, false),
     ] {
-        let pairs = [(Coalition(first), weight), (Coalition(second), 1)];
-        let only = level(rt.alloc(), &pairs, &[], &[(bound, weight)], total)?;
-        assert!(rt; 1 <= players && players <= 64);
-        let made = Certificate::new(players, mode, vec![in rt.alloc(); only]?);
-        assert_eq!(rt; made.is_ok(), formed, "{first} and {second} of {players}");
+        let coalitions = (first, second);
+        let found = is_formed(rt.alloc(), players, mode, coalitions, bound, weight, total)?;
+        assert_eq!(rt; found, formed, "{first} and {second} of {players}");
     }
     Ok(())
 }
 
+/// The players, the mode and the number of levels of a certificate with this earlier coalition, if it is formed.
+fn with_earlier(alloc: Global, earlier: u64) -> Result<Option<(u32, Mode, usize)>, Fail> {
+    let earlier = [(earlier, -1)];
+    let rows: [Row<'_>; 2] = [
+        ((1, 1), &[(1, 1), (6, 1)], &[], &[], 1),
+        ((1, 1), &[(3, 1)], &earlier, &[], 0),
+    ];
+    match certificate_of(alloc, 3, Mode::Players, &rows)? {
+        Some(made) => Ok(Some((made.players(), made.mode(), made.levels().len()))),
+        None => Ok(None),
+    }
+}
+
 #[test]
 fn earlier_coalitions_stand_in_front(rt: HostRuntime) -> Result<(), Fail> {
-    let pair = [(Coalition(1), 1), (Coalition(6), 1)];
-    for &(earlier, formed) in &[(Coalition(6), true), (Coalition(3), false)] {
-        let first = level(rt.alloc(), &pair, &[], &[], 1)?;
-        let second = level(rt.alloc(), &[(Coalition(3), 1)], &[(earlier, -1)], &[], 0)?;
-        let made = Certificate::new(3, Mode::Players, vec![in rt.alloc(); first, second]?);
-        assert_eq!(rt; made.is_ok(), formed, "with {earlier:?}");
-        if let Ok(certificate) = made {
-            assert_eq!(rt; certificate.players(), 3);
-            assert_eq!(rt; certificate.mode(), Mode::Players);
-            assert_eq!(rt; certificate.levels().len(), 2);
-        }
+    for &(earlier, wanted) in &[(6, Some((3, Mode::Players, 2))), (3, None)] {
+        let found = with_earlier(rt.alloc(), earlier)?;
+        assert_eq!(rt; found, wanted, "with {earlier}");
     }
     Ok(())
 }

@@ -16,6 +16,8 @@ mod kernel_test_tests;
 #[cfg(test)]
 mod kohlberg_tests;
 #[cfg(test)]
+mod levels;
+#[cfg(test)]
 mod nested_programs_tests;
 #[cfg(test)]
 mod separation_columns_tests;

@@ -5,7 +5,7 @@ ghost use Rattle.std.specs.Prelude.{◌≡◌, ◌<◌, ◌≤◌, ◌^◌, IsTr
 use arrayvec::ArrayVec;
 use kohlberg::{Family, Span};
 use separation::{Lazy, Listed};
-use simplex::{Columns, Multipliers, Workspace, solve};
+use simplex::{Columns, Multipliers, Optimal, Workspace, solve};
 use std::alloc::Global;
 use std::test::Fail;
 use worth_core::{Measure, Worth};
@@ -30,7 +30,11 @@ fn drawn(alloc: Global, players: u32, seed: u64) -> Result<TableGame, Fail>
             worths.push((state / 2048) as i64)?;
         }
     }
-    Ok(TableGame::new(alloc, players, worths).map_err(|_| "no game")?)
+    Ok(
+        TableGame::new(alloc, players, worths)
+            .ok()
+            .ok_or("no game")?,
+    )
 }
 
 /// Whether a column has the same cost and entries in both programs.
@@ -93,6 +97,21 @@ fn for_players(multiplier: i128, players: u32, rows: u32) -> Multipliers
     Multipliers { num, den: 1 }
 }
 
+/// The optimum of a program.
+fn optimum<A: Columns>(alloc: Global, listed: &mut A) -> Result<Optimal, Fail> {
+    let rows = listed.rows();
+    if rows == 0 || rows > 31 {
+        Err("no rows")?;
+    }
+    let mut work = Workspace::new(alloc, rows).ok().ok_or("no memory")?;
+    Ok(solve(&mut work, listed).ok().ok_or("no optimum")?)
+}
+
+/// Whether the same column enters with the costs and without them.
+fn enter_alike<A: Columns, B: Columns>(a: &mut A, b: &mut B, m: &Multipliers) -> bool {
+    same_entering(a, b, m, true) && same_entering(a, b, m, false)
+}
+
 /// Compares two programs of so many players.
 fn compare<A: Columns, B: Columns>(
     alloc: Global,
@@ -103,24 +122,16 @@ fn compare<A: Columns, B: Columns>(
     if !same_columns(listed, found, 200) {
         Err("other columns")?;
     }
-    let rows = listed.rows();
-    if rows == 0 || rows > 31 {
-        Err("no rows")?;
+    let best = optimum(alloc, listed)?;
+    // With more rows there is no optimum.
+    let rows = listed.rows().min(31);
+    let none = for_players(0, players, rows);
+    let some = for_players(262144, players, rows);
+    if !enter_alike(listed, found, &none) || !enter_alike(listed, found, &some) {
+        Err("another column enters")?;
     }
-    let mut work = Workspace::new(alloc, rows).map_err(|_| "no memory")?;
-    let best = solve(&mut work, listed).map_err(|_| "no optimum")?;
-    for &multiplier in &[0, 262144] {
-        let m = for_players(multiplier, players, rows);
-        for &with_costs in &[true, false] {
-            if !same_entering(listed, found, &m, with_costs) {
-                Err("another column enters")?;
-            }
-        }
-    }
-    for &with_costs in &[true, false] {
-        if !same_entering(listed, found, &best.multipliers, with_costs) {
-            Err("another column enters at the optimum")?;
-        }
+    if !enter_alike(listed, found, &best.multipliers) {
+        Err("another column enters at the optimum")?;
     }
     Ok(())
 }
@@ -129,8 +140,8 @@ fn compare<A: Columns, B: Columns>(
 fn compare_balanced<W: Worth>(alloc: Global, game: &W) -> Result<(), Fail>
     requires { (W.game game.now).players ≤ 16 }
 {
-    let mut listed = Listed::balanced(alloc, game).map_err(|_| "no memory")?;
-    let mut found = Lazy::balanced(alloc, game).map_err(|_| "no memory")?;
+    let mut listed = Listed::balanced(alloc, game).ok().ok_or("no memory")?;
+    let mut found = Lazy::balanced(alloc, game).ok().ok_or("no memory")?;
     compare(alloc, &mut listed, &mut found, game.players())
 }
 
@@ -146,10 +157,12 @@ fn compare_first<W: Worth>(
 {
     let players = game.players();
     let span = Span::new(players);
-    let mut listed = Listed::stage(alloc, game, family, measure, &[], &span).map_err(
-        |_| "no memory",
-    )?;
-    let mut found = Lazy::stage(alloc, game, family, measure, &[], &span).map_err(|_| "no memory")?;
+    let mut listed = Listed::stage(alloc, game, family, measure, &[], &span)
+        .ok()
+        .ok_or("no memory")?;
+    let mut found = Lazy::stage(alloc, game, family, measure, &[], &span)
+        .ok()
+        .ok_or("no memory")?;
     compare(alloc, &mut listed, &mut found, players)
 }
 

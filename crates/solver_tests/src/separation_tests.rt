@@ -1,36 +1,41 @@
 //! The balanced programs of small games, and what the simplex makes of them.
 
+use crate::tables::table;
 use separation::Listed;
 use simplex::{Optimal, Workspace, solve};
 use std::test::Fail;
 use worth_core::Worth;
-use worth_tables::TableGame;
 
 /// The best weights of the balanced program of a table.
-fn balanced(rt: &HostRuntime, players: u32, worths: Vec<i64>) -> Result<Optimal, Fail> {
-    let game = TableGame::new(rt.alloc(), players, worths).map_err(|_| "no game")?;
+fn balanced(rt: &HostRuntime, players: u32, worths: &[i64]) -> Result<Optimal, Fail> {
+    let game = table(rt, players, worths)?;
     let rows = game.players();
     if rows > 16 {
         Err("too many players")?;
     }
-    let mut program = Listed::balanced(rt.alloc(), &game).map_err(|_| "no memory")?;
-    let mut work = Workspace::new(rt.alloc(), rows).map_err(|_| "no memory")?;
-    Ok(solve(&mut work, &mut program).map_err(|_| "no optimum")?)
+    let mut program = Listed::balanced(rt.alloc(), &game).ok().ok_or("no memory")?;
+    let mut work = Workspace::new(rt.alloc(), rows).ok().ok_or("no memory")?;
+    Ok(solve(&mut work, &mut program).ok().ok_or("no optimum")?)
+}
+
+/// The denominator and number of the weights, whether each is 1 and of a pair, and whether each multiplier is a
+/// half.
+fn parts(best: &Optimal) -> (i128, usize, bool, bool) {
+    let mut are_pairs = true;
+    for &(id, weight) in best.weights.as_slice() {
+        are_pairs = are_pairs && [3, 5, 6].contains(&id) && weight == 1;
+    }
+    let mut are_halves = true;
+    for num in best.multipliers.num.as_slice() {
+        are_halves = are_halves && num.wrapping_mul(2) == best.multipliers.den;
+    }
+    (best.weight_den, best.weights.len(), are_pairs, are_halves)
 }
 
 #[test]
 fn pairs_balance_a_majority_of_three(rt: HostRuntime) -> Result<(), Fail> {
-    let worths = [0, 0, 1, 0, 1, 1, 1].to_vec(rt.alloc())?;
-    let best = balanced(&rt, 3, worths)?;
-    assert_eq!(&rt; best.weight_den, 2);
-    assert_eq!(&rt; best.weights.len(), 3);
-    for (id, weight) in best.weights.as_slice() {
-        assert!(&rt; [3, 5, 6].contains(id));
-        assert_eq!(&rt; *weight, 1);
-    }
-    for num in best.multipliers.num.as_slice() {
-        assert_eq!(&rt; num.wrapping_mul(2), best.multipliers.den);
-    }
+    let best = balanced(&rt, 3, &[0, 0, 1, 0, 1, 1, 1])?;
+    assert_eq!(&rt; parts(&best), (2, 3, true, true));
     Ok(())
 }
 
@@ -38,8 +43,10 @@ fn pairs_balance_a_majority_of_three(rt: HostRuntime) -> Result<(), Fail> {
 fn sixteen_who_win_together_share_16(rt: HostRuntime) -> Result<(), Fail> {
     let mut worths = vec![in rt.alloc(); 0; 65535]?;
     worths[65534] = 16;
-    let best = balanced(&rt, 16, worths)?;
-    assert_eq!(&rt; best.weight_den, 1);
-    assert_eq!(&rt; best.weights.as_slice(), [(65535, 1)].as_slice());
+    let best = balanced(&rt, 16, &worths)?;
+    assert_eq!(&rt;
+        (best.weight_den, best.weights.as_slice()),
+        (1, [(65535, 1)].as_slice())
+    );
     Ok(())
 }

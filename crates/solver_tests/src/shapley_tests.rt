@@ -1,50 +1,98 @@
 //! Shares worked by hand, in both forms.
 
 use crate::shares::are;
+use crate::tables::table;
 use airport::AirportGame;
 use shapley::{ShapleyFault, airport_shapley, shapley};
 use std::alloc::Global;
 use std::test::Fail;
-use worth_core::{Shares, Worth};
+use worth_core::Worth;
 use worth_tables::{CostGame, TableGame};
 
-fn shapley_of<W: Worth>(alloc: Global, game: &W) -> Result<Shares, Fail> {
-    let shares = shapley(alloc, game).map_err(|_| "no shares")?;
-    Ok(shares)
+/// Whether the Shapley shares are these.
+fn is_shapley<W: Worth>(alloc: Global, game: &W, wanted: &[(i128, i128)]) -> Result<bool, Fail> {
+    let shares = shapley(alloc, game).ok().ok_or("no shares")?;
+    Ok(are(&shares, wanted))
+}
+
+/// The game of these costs.
+fn airport(alloc: Global, costs: &[i64]) -> Result<AirportGame, Fail> {
+    Ok(
+        AirportGame::new(alloc, costs.to_vec(alloc)?)
+            .ok()
+            .ok_or("no game")?,
+    )
+}
+
+/// The same, in the form for airports.
+fn is_airport_shapley(
+    alloc: Global,
+    game: &AirportGame,
+    wanted: &[(i128, i128)],
+) -> Result<bool, Fail> {
+    let shares = airport_shapley(alloc, game).ok().ok_or("no shares")?;
+    Ok(are(&shares, wanted))
+}
+
+/// Whether the shares of the game of these costs are these in the form for airports.
+fn is_shapley_by_steps(
+    alloc: Global,
+    costs: &[i64],
+    wanted: &[(i128, i128)],
+) -> Result<bool, Fail> {
+    let game = airport(alloc, costs)?;
+    is_airport_shapley(alloc, &game, wanted)
 }
 
 #[test]
 fn a_majority_of_three_shares_equally(rt: HostRuntime) -> Result<(), Fail> {
-    let worths = [0, 0, 1, 0, 1, 1, 1].to_vec(rt.alloc())?;
-    let game = TableGame::new(rt.alloc(), 3, worths).map_err(|_| "no game")?;
-    let shares = shapley_of(rt.alloc(), &game)?;
-    assert!(rt; are(&shares, &[(1, 3), (1, 3), (1, 3)]));
+    let game = table(&rt, 3, &[0, 0, 1, 0, 1, 1, 1])?;
+    assert!(rt; is_shapley(rt.alloc(), &game, &[(1, 3), (1, 3), (1, 3)])?);
     Ok(())
 }
 
-#[test]
-fn departments_of_equal_cost_pay_equally(rt: HostRuntime) -> Result<(), Fail> {
-    let mut costs = vec![in rt.alloc(); 18i64; 31]?;
+/// The game of five departments: one costs 6 alone, more than one cost 18, and all cost 20.
+fn departments(alloc: Global) -> Result<CostGame<TableGame>, Fail> {
+    let mut costs = vec![in alloc; 18i64; 31]?;
     for &single in &[0usize, 1, 3, 7, 15] {
         costs[single] = 6;
     }
     costs[30] = 20;
-    let table = TableGame::new(rt.alloc(), 5, costs).map_err(|_| "no game")?;
-    let shares = shapley_of(rt.alloc(), &CostGame::new(table))?;
-    assert!(rt; are(&shares, &[(-4, 1); 5]));
+    let table = TableGame::new(alloc, 5, costs).ok().ok_or("no game")?;
+    Ok(CostGame::new(table))
+}
+
+#[test]
+fn departments_of_equal_cost_pay_equally(rt: HostRuntime) -> Result<(), Fail> {
+    let game = departments(rt.alloc())?;
+    assert!(rt; is_shapley(rt.alloc(), &game, &[(-4, 1); 5])?);
     Ok(())
+}
+
+/// Whether the shares of the game of these costs are these in both forms.
+fn is_shapley_of_both(alloc: Global, costs: &[i64], wanted: &[(i128, i128)]) -> Result<bool, Fail> {
+    let game = airport(alloc, costs)?;
+    Ok(is_shapley(alloc, &game, wanted)? && is_airport_shapley(alloc, &game, wanted)?)
 }
 
 #[test]
 fn three_airlines_share_the_steps_of_their_costs(rt: HostRuntime) -> Result<(), Fail> {
-    let costs = [2, 4, 6].to_vec(rt.alloc())?;
-    let game = AirportGame::new(rt.alloc(), costs).map_err(|_| "no game")?;
     let wanted = [(-2, 3), (-5, 3), (-11, 3)];
-    let by_orders = shapley_of(rt.alloc(), &game)?;
-    let by_steps = airport_shapley(rt.alloc(), &game).map_err(|_| "no shares")?;
-    assert!(rt; are(&by_orders, &wanted));
-    assert!(rt; are(&by_steps, &wanted));
+    assert!(rt; is_shapley_of_both(rt.alloc(), &[2, 4, 6], &wanted)?);
     Ok(())
+}
+
+/// Why the Shapley value of so many players of cost 32 isn't found, by orders and by steps.
+fn faults(
+    alloc: Global,
+    count: usize,
+) -> Result<(Option<ShapleyFault>, Option<ShapleyFault>), Fail> {
+    let costs = vec![in alloc; 32i64; count]?;
+    let game = AirportGame::new(alloc, costs).ok().ok_or("no game")?;
+    Ok((
+        shapley(alloc, &game).err(),
+        airport_shapley(alloc, &game).err(),
+    ))
 }
 
 #[test]
@@ -54,14 +102,8 @@ fn airports_of_17_players_have_steps_alone(rt: HostRuntime) -> Result<(), Fail> 
         (17, Some(ShapleyFault::TooMany), None),
         (33, Some(ShapleyFault::TooMany), Some(ShapleyFault::TooMany)),
     ] {
-        let costs = vec![in rt.alloc(); 32i64; count]?;
-        let game = AirportGame::new(rt.alloc(), costs).map_err(|_| "no game")?;
-        assert_eq!(rt; shapley(rt.alloc(), &game).err(), by_orders);
-        assert_eq!(rt; airport_shapley(rt.alloc(), &game).err(), by_steps);
+        assert_eq!(rt; faults(rt.alloc(), count)?, (by_orders, by_steps));
     }
-    let costs = vec![in rt.alloc(); 32i64; 32]?;
-    let game = AirportGame::new(rt.alloc(), costs).map_err(|_| "no game")?;
-    let shares = airport_shapley(rt.alloc(), &game).map_err(|_| "no shares")?;
-    assert!(rt; are(&shares, &[(-1, 1); 32]));
+    assert!(rt; is_shapley_by_steps(rt.alloc(), &[32; 32], &[(-1, 1); 32])?);
     Ok(())
 }

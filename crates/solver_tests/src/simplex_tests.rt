@@ -2,7 +2,7 @@
 
 ghost use Rattle.solver_tests.specs.OneRow.{one_column, one_column_lawful, two_ways, two_ways_lawful};
 
-use simplex::{Columns, LpFault, Multipliers, Workspace, solve};
+use simplex::{Columns, LpFault, Multipliers, Optimal, Workspace, solve};
 
 /// A row with right side 1, and one column: with entry -1 and cost 0 where `opposite`, or else with entry 1 and cost
 /// -3.
@@ -88,6 +88,22 @@ impl Columns for TwoWays {
     }
 }
 
+/// The weight, its denominator, the multiplier and its denominator; none where there is not one weight and one
+/// multiplier.
+fn numbers(best: &Optimal) -> Option<(i128, i128, i128, i128)> {
+    let weights = best.weights.as_slice();
+    let multipliers = best.multipliers.num.as_slice();
+    if weights.len() != 1 || multipliers.len() != 1 {
+        return None;
+    }
+    Some((
+        weights[0].1,
+        best.weight_den,
+        multipliers[0],
+        best.multipliers.den,
+    ))
+}
+
 #[test]
 fn one_weight(rt: HostRuntime) {
     let mut program = OneColumn { opposite: false };
@@ -97,12 +113,7 @@ fn one_weight(rt: HostRuntime) {
     let Ok(best) = solve(&mut work, &mut program) else {
         panic!(&rt; "no answer");
     };
-    assert_eq!(&rt; best.weight_den, 1);
-    assert_eq!(&rt; best.weights.len(), 1);
-    assert_eq!(&rt; best.weights[0].1, 1);
-    assert_eq!(&rt; best.multipliers.num.len(), 1);
-    assert_eq!(&rt; best.multipliers.num[0], -3);
-    assert_eq!(&rt; best.multipliers.den, 1);
+    assert_eq!(&rt; numbers(&best), Some((1, 1, -3, 1)));
 }
 
 #[test]

@@ -124,10 +124,16 @@ fn first_unlike_of(a: Coalition, b: Coalition, c: Coalition) -> Option<Coalition
 
 #[test]
 fn marks_agree_with_the_span(rt: HostRuntime) {
-    let found = first_unlike_of(Coalition(3), Coalition(700), Coalition(0x8001));
-    assert_eq!(rt; found, None);
-    let found = first_unlike_of(Coalition(4), Coalition(0x8000), Coalition(0x5555));
-    assert_eq!(rt; found, None);
-    assert_eq!(rt; Outside::all(16).contains(Coalition(0)), false);
-    assert_eq!(rt; Outside::all(16).contains(Coalition(65535)), false);
+    assert_eq!(rt;
+        (
+            first_unlike_of(Coalition(3), Coalition(700), Coalition(0x8001)),
+            first_unlike_of(Coalition(4), Coalition(0x8000), Coalition(0x5555))
+        ),
+        (None, None)
+    );
+    let all = Outside::all(16);
+    assert_eq!(rt;
+        (all.contains(Coalition(0)), all.contains(Coalition(65535))),
+        (false, false)
+    );
 }

@@ -8,5 +8,9 @@ pub(crate) const ASSIGNMENT: [i64; 15] = [0, 0, 0, 0, 5, 7, 7, 0, 8, 6, 8, 0, 8,
 
 /// The game of these worths.
 pub(crate) fn table(rt: &HostRuntime, players: u32, worths: &[i64]) -> Result<TableGame, Fail> {
-    Ok(TableGame::new(rt.alloc(), players, worths.to_vec(rt.alloc())?).map_err(|_| "no game")?)
+    Ok(
+        TableGame::new(rt.alloc(), players, worths.to_vec(rt.alloc())?)
+            .ok()
+            .ok_or("no game")?,
+    )
 }

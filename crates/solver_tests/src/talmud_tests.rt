@@ -1,6 +1,6 @@
 //! Shares and levels from the sources, and shares at all estates of a few claims.
 
-use crate::shares::gets;
+use crate::shares::{are, gets};
 use bankruptcy::BankruptcyGame;
 use coalitions::Coalition;
 use fractions::Frac;
@@ -12,20 +12,19 @@ use worth_core::Shares;
 
 /// The shares and the certificate of the game of an estate and claims.
 fn solved(alloc: Global, estate: i64, claims: &[i64]) -> Result<(Shares, Certificate), Fail> {
-    let game = BankruptcyGame::new(alloc, estate, claims.to_vec(alloc)?).map_err(|_| "no game")?;
-    solve(alloc, &game).map_err(|_| Fail::from("no memory"))
+    let game = BankruptcyGame::new(alloc, estate, claims.to_vec(alloc)?)
+        .ok()
+        .ok_or("no game")?;
+    Ok(solve(alloc, &game).ok().ok_or("no memory")?)
 }
 
-/// Whether a level has this excess over a denominator, these coalitions and earlier ones, all of weight 1, no bounds,
-/// and this total.
-fn is_level(
-    level: &Level,
-    excess: (i128, i128),
-    coalitions: &[u64],
-    earlier: &[u64],
-    total: i128,
-) -> bool {
-    Some(level.excess) == Frac::new(excess.0, excess.1)
+/// A level's excess over a denominator, its coalitions and earlier ones, all of weight 1, and its total.
+type Masks<'a> = ((i128, i128), &'a [u64], &'a [u64], i128);
+
+/// Whether a level has these numbers, and no bounds.
+fn is_level(level: &Level, wanted: &Masks<'_>) -> bool {
+    let &((num, den), coalitions, earlier, total) = wanted;
+    Some(level.excess) == Frac::new(num, den)
         && are_masks(&level.coalitions, coalitions)
         && are_masks(&level.earlier, earlier)
         && level.bounds.is_empty()
@@ -45,6 +44,53 @@ fn are_masks(pairs: &[(Coalition, i128)], masks: &[u64]) -> bool {
     true
 }
 
+/// Whether levels have these numbers, one after the other, and no bounds.
+fn are_levels(levels: &[Level], wanted: &[Masks<'_>]) -> bool {
+    if levels.len() != wanted.len() {
+        return false;
+    }
+    for i in 0..levels.len() {
+        if !is_level(&levels[i], &wanted[i]) {
+            return false;
+        }
+    }
+    true
+}
+
+/// Whether an estate is shared so, and the certificate has these levels.
+fn is_solution(
+    alloc: Global,
+    estate: i64,
+    claims: &[i64],
+    shares: &[(i128, i128)],
+    levels: &[Masks<'_>],
+) -> Result<(bool, bool), Fail> {
+    let (x, certificate) = solved(alloc, estate, claims)?;
+    Ok((are(&x, shares), are_levels(certificate.levels(), levels)))
+}
+
+/// Whether an estate is shared so.
+fn is_shared(
+    alloc: Global,
+    estate: i64,
+    claims: &[i64],
+    shares: &[(i128, i128)],
+) -> Result<bool, Fail> {
+    let (x, _) = solved(alloc, estate, claims)?;
+    Ok(are(&x, shares))
+}
+
+/// Whether the certificate of an estate has these levels.
+fn has_levels(
+    alloc: Global,
+    estate: i64,
+    claims: &[i64],
+    levels: &[Masks<'_>],
+) -> Result<bool, Fail> {
+    let (_, certificate) = solved(alloc, estate, claims)?;
+    Ok(are_levels(certificate.levels(), levels))
+}
+
 #[test]
 fn claims_of_100_and_200_and_300_are_shared_as_in_the_talmud(rt: HostRuntime) -> Result<(), Fail> {
     for &(estate, shares) in &[
@@ -55,77 +101,53 @@ fn claims_of_100_and_200_and_300_are_shared_as_in_the_talmud(rt: HostRuntime) ->
         (400, [(50, 1), (125, 1), (225, 1)]),
         (600, [(100, 1), (200, 1), (300, 1)]),
     ] {
-        let (x, _) = solved(rt.alloc(), estate, &[100, 200, 300])?;
-        for i in 0..3u32 {
-            assert!(rt;
-                gets(&x, i, shares[i as usize]),
-                "player {i} of estate {estate}"
-            );
-        }
+        let is_shared = is_shared(rt.alloc(), estate, &[100, 200, 300], &shares)?;
+        assert!(rt; is_shared, "estate {estate}");
     }
     Ok(())
 }
 
 #[test]
 fn levels_of_an_estate_above_half_of_the_claims(rt: HostRuntime) -> Result<(), Fail> {
-    let (_, certificate) = solved(rt.alloc(), 400, &[100, 200, 300])?;
-    let levels = certificate.levels();
-    assert_eq!(rt; levels.len(), 2);
-    assert!(rt; is_level(&levels[0], (-50, 1), &[0b001, 0b110], &[], 1));
-    assert!(rt; is_level(&levels[1], (-75, 1), &[0b011, 0b101], &[0b110], 2));
+    const LEVELS: [Masks<'static>; 2] = [
+        ((-50, 1), &[0b001, 0b110], &[], 1),
+        ((-75, 1), &[0b011, 0b101], &[0b110], 2),
+    ];
+    assert!(rt; has_levels(rt.alloc(), 400, &[100, 200, 300], &LEVELS)?);
     Ok(())
 }
 
 #[test]
 fn levels_of_an_estate_below_half_of_the_claims(rt: HostRuntime) -> Result<(), Fail> {
-    let (_, certificate) = solved(rt.alloc(), 200, &[200, 100, 300])?;
-    let levels = certificate.levels();
-    assert_eq!(rt; levels.len(), 2);
-    assert!(rt; is_level(&levels[0], (-50, 1), &[0b010, 0b101], &[], 1));
-    assert!(rt; is_level(&levels[1], (-75, 1), &[0b001, 0b100], &[0b010], 1));
+    const LEVELS: [Masks<'static>; 2] = [
+        ((-50, 1), &[0b010, 0b101], &[], 1),
+        ((-75, 1), &[0b001, 0b100], &[0b010], 1),
+    ];
+    assert!(rt; has_levels(rt.alloc(), 200, &[200, 100, 300], &LEVELS)?);
     Ok(())
 }
 
 #[test]
 fn estate_of_half_the_claims_has_a_level_for_each_claim(rt: HostRuntime) -> Result<(), Fail> {
-    let (_, certificate) = solved(rt.alloc(), 300, &[200, 100, 200, 100])?;
-    let levels = certificate.levels();
-    assert_eq!(rt; levels.len(), 2);
-    assert!(rt;
-        is_level(
-            &levels[0],
-            (-50, 1),
-            &[0b0010, 0b0111, 0b1000, 0b1101],
-            &[],
-            2
-        )
-    );
-    assert!(rt;
-        is_level(
-            &levels[1],
-            (-100, 1),
-            &[0b0001, 0b0100, 0b1011, 0b1110],
-            &[],
-            2
-        )
-    );
+    const LEVELS: [Masks<'static>; 2] = [
+        ((-50, 1), &[0b0010, 0b0111, 0b1000, 0b1101], &[], 2),
+        ((-100, 1), &[0b0001, 0b0100, 0b1011, 0b1110], &[], 2),
+    ];
+    assert!(rt; has_levels(rt.alloc(), 300, &[200, 100, 200, 100], &LEVELS)?);
     Ok(())
 }
 
 #[test]
 fn estate_of_0_has_one_level_of_all_coalitions(rt: HostRuntime) -> Result<(), Fail> {
-    let (_, certificate) = solved(rt.alloc(), 0, &[100, 200, 300])?;
-    let levels = certificate.levels();
-    assert_eq!(rt; levels.len(), 1);
-    assert!(rt; is_level(&levels[0], (0, 1), &[1, 2, 3, 4, 5, 6], &[], 3));
+    const LEVELS: [Masks<'static>; 1] = [((0, 1), &[1, 2, 3, 4, 5, 6], &[], 3)];
+    assert!(rt; has_levels(rt.alloc(), 0, &[100, 200, 300], &LEVELS)?);
     Ok(())
 }
 
 #[test]
 fn one_player_gets_the_estate_without_a_level(rt: HostRuntime) -> Result<(), Fail> {
-    let (x, certificate) = solved(rt.alloc(), 5, &[7])?;
-    assert!(rt; gets(&x, 0, (5, 1)));
-    assert_eq!(rt; certificate.levels().len(), 0);
+    let found = is_solution(rt.alloc(), 5, &[7], &[(5, 1)], &[])?;
+    assert_eq!(rt; found, (true, true));
     Ok(())
 }
 
@@ -137,15 +159,9 @@ fn two_players_have_one_level_with_each_alone(rt: HostRuntime) -> Result<(), Fai
         (6, [6, 2], [(5, 1), (1, 1)], (-1, 1)),
         (5, [4, 4], [(5, 2), (5, 2)], (-3, 2)),
     ] {
-        let (x, certificate) = solved(rt.alloc(), estate, &claims)?;
-        assert!(rt; gets(&x, 0, shares[0]), "estate {estate}");
-        assert!(rt; gets(&x, 1, shares[1]), "estate {estate}");
-        let levels = certificate.levels();
-        assert_eq!(rt; levels.len(), 1);
-        assert!(rt;
-            is_level(&levels[0], excess, &[0b01, 0b10], &[], 1),
-            "estate {estate}"
-        );
+        let levels: [Masks<'_>; 1] = [(excess, &[0b01, 0b10], &[], 1)];
+        let found = is_solution(rt.alloc(), estate, &claims, &shares, &levels)?;
+        assert_eq!(rt; found, (true, true), "estate {estate}");
     }
     Ok(())
 }
@@ -153,13 +169,9 @@ fn two_players_have_one_level_with_each_alone(rt: HostRuntime) -> Result<(), Fai
 #[test]
 fn equal_claims_of_64_players_are_shared_equally(rt: HostRuntime) -> Result<(), Fail> {
     for &estate in &[1, 1600, 6399] {
-        let (x, _) = solved(rt.alloc(), estate, &[100; 64])?;
-        for i in 0..64 {
-            assert!(rt;
-                gets(&x, i, (estate as i128, 64)),
-                "player {i} of estate {estate}"
-            );
-        }
+        let shares = [(estate as i128, 64); 64];
+        let is_shared = is_shared(rt.alloc(), estate, &[100; 64], &shares)?;
+        assert!(rt; is_shared, "estate {estate}");
     }
     Ok(())
 }
