@@ -6,7 +6,7 @@ use coalitions::Coalition;
 use std::alloc::{AllocError, Global};
 use std::process::Abort;
 use std::test::Fail;
-use worth_core::{Shares, Worth};
+use worth_core::Worth;
 
 /// Why these rows make no game; none where they make one.
 fn fault_of(alloc: Global, rows: &[&[i64]]) -> Result<Option<AssignmentFault>, AllocError> {
@@ -43,7 +43,7 @@ const FAULTS: [(&[&[i64]], Option<AssignmentFault>); 15] = [
 
 #[test]
 fn matrices_are_refused_by_the_first_cause(rt: HostRuntime) -> Result<(), Fail> {
-    for (rows, fault) in FAULTS {
+    for &(rows, fault) in &FAULTS {
         assert_eq!(rt; fault_of(rt.alloc(), rows)?, fault, "{rows:?}");
     }
     Ok(())
@@ -58,15 +58,20 @@ fn game_of(alloc: Global, rows: &[&[i64]]) -> Result<AssignmentGame, Fail> {
     )
 }
 
+/// The worth of a coalition of two buyers and two sellers, and the next coalition.
+fn worth_and_next(rt: &impl Abort, game: &AssignmentGame, s: Coalition) -> (i64, Coalition) {
+    assert!(rt; game.buyers() == 2 && game.sellers() == 2 && game.players() == 4 && s.0 < 16);
+    (game.worth(s), s.next_mask(4).unwrap_or(s))
+}
+
 #[test]
 fn each_coalition_of_two_buyers_and_two_sellers(rt: HostRuntime) -> Result<(), Fail> {
     let game = game_of(rt.alloc(), &[&[5, 8], &[7, 6]])?;
-    assert!(rt; game.buyers() == 2 && game.sellers() == 2 && game.players() == 4);
     let mut s = Coalition::empty();
-    for worth in [0, 0, 0, 0, 0, 5, 7, 7, 0, 8, 6, 8, 0, 8, 7, 15] {
-        assert!(rt; game.players() == 4 && s.0 < 16);
-        assert_eq!(rt; game.worth(s), worth);
-        s = s.next_mask(4).unwrap_or(s);
+    for &wanted in &[0, 0, 0, 0, 0, 5, 7, 7, 0, 8, 6, 8, 0, 8, 7, 15] {
+        let (worth, next) = worth_and_next(&rt, &game, s);
+        assert_eq!(rt; worth, wanted);
+        s = next;
     }
     Ok(())
 }
@@ -82,19 +87,28 @@ fn worths_of(rt: &impl Abort, game: &AssignmentGame) -> (i64, i64, i64) {
 }
 
 /// The blocker at the shares of six players.
-fn blocker_at(rt: &impl Abort, game: &AssignmentGame, x: Shares) -> Option<Coalition> {
+fn blocker_at(
+    rt: &impl Abort,
+    alloc: Global,
+    game: &AssignmentGame,
+    num: &[i128],
+    den: i128,
+) -> Result<Option<Coalition>, Fail> {
+    let x = shares_of(alloc, num, den)?;
     assert!(rt; game.players() == 6 && x.players() == 6);
-    game.blocker(&x)
+    Ok(game.blocker(&x))
 }
 
 /// The three houses of Shapley and Shubik 1971. Whoever takes the best pair first, 9, is left with 5 and 0.
 #[test]
 fn three_houses_change_hands(rt: HostRuntime) -> Result<(), Fail> {
     let game = game_of(rt.alloc(), &[&[5, 8, 2], &[7, 9, 6], &[2, 3, 0]])?;
-    assert_eq!(rt; worths_of(&rt, &game), (16, 15, 0));
-    let x = shares_of(rt.alloc(), &[17, 23, 1, 7, 15, 1], 4)?;
-    assert_eq!(rt; blocker_at(&rt, &game, x), None);
-    let y = shares_of(rt.alloc(), &[3, 5, 0, 1, 6, 1], 1)?;
-    assert_eq!(rt; blocker_at(&rt, &game, y), Some(Coalition(9)));
+    let worths = worths_of(&rt, &game);
+    let in_core = blocker_at(&rt, rt.alloc(), &game, &[17, 23, 1, 7, 15, 1], 4)?;
+    let outside = blocker_at(&rt, rt.alloc(), &game, &[3, 5, 0, 1, 6, 1], 1)?;
+    assert_eq!(rt;
+        (worths, in_core, outside),
+        ((16, 15, 0), None, Some(Coalition(9)))
+    );
     Ok(())
 }

@@ -1,13 +1,11 @@
 //! Markets that are refused and markets that are solved, with prices and worths worked by hand, and a market of
 //! scattered numbers.
-ghost use Rattle.std.specs.Prelude.{◌+◌, ◌^◌, ◌<◌, ◌≤◌, length, unsigned_abs, MatchOption};
-ghost use Rattle.assignment_games.specs.Assignments.{seller_count};
+ghost use Rattle.std.specs.Prelude.{◌+◌, ◌^◌, ◌<◌, length, unsigned_abs, MatchOption};
 
 use crate::rows::matrix_of;
 use big_assignment::{MarketFault, MarketGame, Solution};
 use coalitions::Coalition;
 use std::alloc::{AllocError, Global};
-use std::process::Abort;
 use std::test::Fail;
 use worth_core::{Shares, Worth};
 
@@ -33,26 +31,30 @@ fn diagonal(
     Ok(matrix)
 }
 
-/// The share of each player, over 1.
-fn numbers(alloc: Global, x: &Shares) -> Result<Vec<i128>, AllocError> {
-    let mut found = Vec::new(alloc);
-    for i in 0..x.players() {
-        found.push(x.num(i))?;
+/// Whether the numerators of the shares are these.
+fn are_numbers(x: &Shares, wanted: &[i128]) -> bool {
+    if x.players() as usize != wanted.len() {
+        return false;
     }
-    Ok(found)
+    for i in 0..x.players() {
+        if x.num(i) != wanted[i as usize] {
+            return false;
+        }
+    }
+    true
 }
 
 #[test]
 fn rows_are_refused_by_the_first_cause(rt: HostRuntime) -> Result<(), Fail> {
-    let limit: i64 = 1 << 40;
-    for (rows, columns, entry, fault) in [
+    const LIMIT: i64 = 1 << 40;
+    for &(rows, columns, entry, fault) in &[
         (0, 1, 0, Some(MarketFault::Players)),
         (1, 0, 0, Some(MarketFault::Players)),
         (33, 1, 0, Some(MarketFault::Players)),
         (1, 33, -1, Some(MarketFault::Players)),
         (32, 32, 0, None),
-        (1, 1, limit - 1, None),
-        (1, 1, limit, Some(MarketFault::Number)),
+        (1, 1, LIMIT - 1, None),
+        (1, 1, LIMIT, Some(MarketFault::Number)),
         (2, 2, -1, Some(MarketFault::Number)),
     ] {
         let matrix = diagonal(rt.alloc(), rows, columns, entry, entry)?;
@@ -64,7 +66,7 @@ fn rows_are_refused_by_the_first_cause(rt: HostRuntime) -> Result<(), Fail> {
 
 #[test]
 fn rows_of_different_lengths_are_refused_last(rt: HostRuntime) -> Result<(), Fail> {
-    for (entry, fault) in [(0, MarketFault::Matrix), (-1, MarketFault::Number)] {
+    for &(entry, fault) in &[(0, MarketFault::Matrix), (-1, MarketFault::Number)] {
         let matrix = matrix_of(rt.alloc(), &[&[0, 0], &[entry]])?;
         assert_eq!(rt; MarketGame::new(rt.alloc(), matrix).err(), Some(fault));
     }
@@ -82,70 +84,80 @@ fn solution_of(alloc: Global, matrix: Vec<Vec<i64>>) -> Result<Solution, Fail> {
     Ok(game.solve(alloc)?)
 }
 
-/// Compares both ends of the core.
-fn ends_are(
-    rt: &impl Abort,
-    alloc: Global,
-    solution: &Solution,
-    buyers_best: &[i128],
-    sellers_best: &[i128],
-) -> Result<(), Fail> {
-    let buyers = numbers(alloc, &solution.buyers_best)?;
-    let sellers = numbers(alloc, &solution.sellers_best)?;
-    assert_eq!(rt; buyers.as_slice(), buyers_best);
-    assert_eq!(rt; sellers.as_slice(), sellers_best);
-    Ok(())
+/// The solution of the market of these rows.
+fn solution_of_rows(alloc: Global, rows: &[&[i64]]) -> Result<Solution, Fail> {
+    solution_of(alloc, matrix_of(alloc, rows)?)
 }
 
 #[test]
 fn two_buyers_of_one_good_leave_the_lesser_with_nothing(rt: HostRuntime) -> Result<(), Fail> {
-    let solution = solution_of(rt.alloc(), matrix_of(rt.alloc(), &[&[5], &[3]])?)?;
-    assert_eq!(rt; solution.pairs.as_slice(), [(0, 2)].as_slice());
-    assert_eq!(rt; solution.value, 5);
-    ends_are(&rt, rt.alloc(), &solution, &[2, 0, 3], &[0, 0, 5])
+    let solution = solution_of_rows(rt.alloc(), &[&[5], &[3]])?;
+    assert_eq!(rt;
+        (
+            solution.pairs.as_slice(),
+            solution.value,
+            are_numbers(&solution.buyers_best, &[2, 0, 3]),
+            are_numbers(&solution.sellers_best, &[0, 0, 5])
+        ),
+        ([(0, 2)].as_slice(), 5, true, true)
+    );
+    Ok(())
 }
 
 // The greatest entry, 8, stands in the one optimal matching beside 7, and not beside 6.
 #[test]
 fn two_buyers_of_two_goods(rt: HostRuntime) -> Result<(), Fail> {
-    let solution = solution_of(rt.alloc(), matrix_of(rt.alloc(), &[&[5, 8], &[7, 6]])?)?;
-    assert_eq!(rt; solution.pairs.as_slice(), [(0, 3), (1, 2)].as_slice());
-    assert_eq!(rt; solution.value, 15);
-    ends_are(&rt, rt.alloc(), &solution, &[8, 7, 0, 0], &[0, 0, 7, 8])
+    let solution = solution_of_rows(rt.alloc(), &[&[5, 8], &[7, 6]])?;
+    assert_eq!(rt;
+        (
+            solution.pairs.as_slice(),
+            solution.value,
+            are_numbers(&solution.buyers_best, &[8, 7, 0, 0]),
+            are_numbers(&solution.sellers_best, &[0, 0, 7, 8])
+        ),
+        ([(0, 3), (1, 2)].as_slice(), 15, true, true)
+    );
+    Ok(())
+}
+
+/// Whether each of 32 buyers has the one numerator, and each of `players` behind them the other.
+fn is_alike(x: &Shares, players: u32, of_buyers: i128, of_sellers: i128) -> bool {
+    if x.players() < players {
+        return false;
+    }
+    for k in 0..players {
+        let wanted = if k < 32 { of_buyers } else { of_sellers };
+        if x.num(k) != wanted {
+            return false;
+        }
+    }
+    true
 }
 
 #[test]
 fn the_greatest_market_is_solved(rt: HostRuntime) -> Result<(), Fail> {
     let solution = solution_of(rt.alloc(), diagonal(rt.alloc(), 32, 32, 1, 0)?)?;
-    assert_eq!(rt; solution.value, 32);
-    for k in 0..64 {
-        assert!(rt; k < solution.buyers_best.players());
-        assert_eq!(rt; solution.buyers_best.num(k), if k < 32 { 1 } else { 0 });
-    }
+    let is_alike = is_alike(&solution.buyers_best, 64, 1, 0);
+    assert_eq!(rt; (solution.value, is_alike), (32, true));
     Ok(())
 }
 
 // 32 buyers who all want each of 31 goods bid the whole of it.
 #[test]
 fn too_many_buyers_pay_all(rt: HostRuntime) -> Result<(), Fail> {
-    let all: i64 = (1 << 40) - 1;
-    let solution = solution_of(rt.alloc(), diagonal(rt.alloc(), 32, 31, all, all)?)?;
-    assert_eq!(rt; solution.value, 31 * all);
-    for k in 0..63 {
-        assert!(rt; k < solution.buyers_best.players());
-        assert_eq!(rt;
-            solution.buyers_best.num(k),
-            if k < 32 { 0 } else { i128::from(all) }
-        );
-    }
+    const ALL: i64 = (1 << 40) - 1;
+    let solution = solution_of(rt.alloc(), diagonal(rt.alloc(), 32, 31, ALL, ALL)?)?;
+    let is_alike = is_alike(&solution.buyers_best, 63, 0, i128::from(ALL));
+    assert_eq!(rt; (solution.value, is_alike), (31 * ALL, true));
     Ok(())
 }
 
-/// The worth of each coalition, in mask order.
-fn worths(alloc: Global, game: &MarketGame) -> Result<Vec<i64>, AllocError>
-    requires { length game.now + seller_count game.now ≤ 5 }
-{
+/// The worth of each coalition of at most five players, in mask order.
+fn worths(alloc: Global, game: &MarketGame) -> Result<Vec<i64>, Fail> {
     let n = game.players();
+    if n > 5 {
+        Err("too many players")?;
+    }
     let mut found = Vec::new(alloc);
     for mask in 0..1u64 << n {
         found.push(game.worth(Coalition(mask)))?;
@@ -153,11 +165,14 @@ fn worths(alloc: Global, game: &MarketGame) -> Result<Vec<i64>, AllocError>
     Ok(found)
 }
 
+/// The worths of the market of these rows.
+fn worths_of_rows(alloc: Global, rows: &[&[i64]]) -> Result<Vec<i64>, Fail> {
+    worths(alloc, &market_of(alloc, matrix_of(alloc, rows)?)?)
+}
+
 #[test]
 fn worths_are_the_greatest_values(rt: HostRuntime) -> Result<(), Fail> {
-    let game = market_of(rt.alloc(), matrix_of(rt.alloc(), &[&[5, 8], &[7, 6]])?)?;
-    assert!(rt; game.players() <= 5);
-    let worths = worths(rt.alloc(), &game)?;
+    let worths = worths_of_rows(rt.alloc(), &[&[5, 8], &[7, 6]])?;
     let wanted = [0, 0, 0, 0, 0, 5, 7, 7, 0, 8, 6, 8, 0, 8, 7, 15];
     assert_eq!(rt; worths.as_slice(), wanted.as_slice());
     Ok(())
@@ -230,31 +245,45 @@ fn total_of(x: &Shares) -> i128 {
     sum
 }
 
-/// Compares an end of the core of a market of 32 buyers and 32 sellers with the value of all, and tries its pairs.
-fn end_is_stable(rt: &impl Abort, x: &Shares, value: i64, matrix: &[Vec<i64>]) {
-    assert_eq!(rt;
-        (x.den(), x.players(), total_of(x)),
-        (1, 64, i128::from(value))
-    );
-    assert!(rt; matrix.len() == 32 && is_stable(x, matrix));
+/// Whether an end of the core of a market of 32 buyers and 32 sellers adds to the value of all, and no pair blocks.
+fn end_is_stable(x: &Shares, value: i64, matrix: &[Vec<i64>]) -> bool {
+    x.den() == 1
+        && x.players() == 64
+        && total_of(x) == i128::from(value)
+        && matrix.len() == 32
+        && is_stable(x, matrix)
 }
 
-/// Whether the ends of the core differ.
-fn ends_differ(alloc: Global, solution: &Solution) -> Result<bool, AllocError> {
-    let buyers = numbers(alloc, &solution.buyers_best)?;
-    let sellers = numbers(alloc, &solution.sellers_best)?;
-    Ok(buyers.as_slice() != sellers.as_slice())
+/// Whether the shares are the same.
+fn are_same(x: &Shares, y: &Shares) -> bool {
+    if x.players() != y.players() {
+        return false;
+    }
+    for k in 0..x.players() {
+        if x.num(k) != y.num(k) {
+            return false;
+        }
+    }
+    true
+}
+
+/// The number of pairs of a market of scattered numbers, whether both ends of the core are stable, and whether they are
+/// the same.
+fn ends_of(alloc: Global, seed: u64) -> Result<(usize, bool, bool, bool), Fail> {
+    let matrix = scattered(alloc, seed)?;
+    let solution = solution_of(alloc, scattered(alloc, seed)?)?;
+    Ok((
+        solution.pairs.len(),
+        end_is_stable(&solution.buyers_best, solution.value, &matrix),
+        end_is_stable(&solution.sellers_best, solution.value, &matrix),
+        are_same(&solution.buyers_best, &solution.sellers_best),
+    ))
 }
 
 #[test]
 fn no_pair_blocks_the_ends_of_a_market_of_scattered_numbers(rt: HostRuntime) -> Result<(), Fail> {
-    for seed in [1, 1971] {
-        let matrix = scattered(rt.alloc(), seed)?;
-        let solution = solution_of(rt.alloc(), scattered(rt.alloc(), seed)?)?;
-        assert_eq!(rt; solution.pairs.len(), 32);
-        end_is_stable(&rt, &solution.buyers_best, solution.value, &matrix);
-        end_is_stable(&rt, &solution.sellers_best, solution.value, &matrix);
-        assert!(rt; ends_differ(rt.alloc(), &solution)?);
+    for &seed in &[1, 1971] {
+        assert_eq!(rt; ends_of(rt.alloc(), seed)?, (32, true, true, false));
     }
     Ok(())
 }

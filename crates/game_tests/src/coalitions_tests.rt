@@ -13,28 +13,43 @@ fn compare(
     complement: Coalition,
     next: Option<Coalition>,
 ) {
-    assert_eq!(rt; set.len(), len, "members of {set:?}");
     assert!(rt; n <= 64 && set <= Coalition::all(n));
-    assert_eq!(rt; set.complement(n), complement, "others than {set:?} of {n}");
-    assert_eq!(rt; set.next_mask(n), next, "after {set:?} of {n}");
+    assert_eq!(rt;
+        (set.len(), set.complement(n), set.next_mask(n)),
+        (len, complement, next),
+        "{set:?} of {n}"
+    );
+}
+
+/// Compares what the first and the last of 64 players tell as a pair.
+fn compare_pair(rt: &impl Abort, pair: Coalition) {
+    assert_eq!(rt;
+        (
+            pair,
+            pair.without(0),
+            pair.without(5),
+            pair.contains(63),
+            pair.contains(62)
+        ),
+        (
+            Coalition(0x8000_0000_0000_0001),
+            Coalition::single(63),
+            pair,
+            true,
+            false
+        )
+    );
+    assert_eq!(rt;
+        (pair.complement(64), pair.members().as_slice()),
+        (Coalition(0x7fff_ffff_ffff_fffe), [0u32, 63].as_slice())
+    );
 }
 
 #[test]
 fn calls_answer_as_worked_by_hand(rt: HostRuntime) {
-    let pair = Coalition::single(0).with(63);
-    assert_eq!(rt;
-        (pair, pair.without(0), pair.without(5)),
-        (
-            Coalition(0x8000_0000_0000_0001),
-            Coalition::single(63),
-            pair
-        )
-    );
-    assert_eq!(rt; (pair.contains(63), pair.contains(62)), (true, false));
-    assert_eq!(rt; pair.members().as_slice(), [0u32, 63].as_slice());
-    assert_eq!(rt; pair.complement(64), Coalition(0x7fff_ffff_ffff_fffe));
+    compare_pair(&rt, Coalition::single(0).with(63));
     assert_eq!(rt; Coalition::empty().next_mask(64), Some(Coalition(1)));
-    for (set, n, len, complement, next) in [
+    for &(set, n, len, complement, next) in &[
         (Coalition(0), 3, 0, Coalition(7), Some(Coalition(1))),
         (Coalition(5), 3, 2, Coalition(2), Some(Coalition(6))),
         (Coalition(7), 3, 3, Coalition(0), None),
@@ -44,7 +59,7 @@ fn calls_answer_as_worked_by_hand(rt: HostRuntime) {
             64,
             63,
             Coalition(1),
-            Some(Coalition::all(64)),
+            Some(Coalition(u64::MAX)),
         ),
     ] {
         compare(&rt, (set, n), len, complement, next);
@@ -69,27 +84,30 @@ fn subsets_come_in_ascending_order(rt: HostRuntime) {
     for mask in 0..4u64 {
         assert_eq!(rt; subsets.next(), Some(Coalition(mask)));
     }
-    assert_eq!(rt; subsets.next(), None);
     assert_eq!(rt;
         (
+            subsets.next(),
             Coalition::subsets(0).count(),
-            Coalition::subsets(10).count()
+            Coalition::subsets(10).count(),
+            last_of(7)
         ),
-        (1, 1024)
+        (None, 1, 1024, Coalition(127))
     );
-    assert_eq!(rt; last_of(7), Coalition(127));
 }
 
 #[test]
 fn gray_order_of_two_players(rt: HostRuntime) {
     let mut steps = Coalition::gray(2);
-    for (mask, flipped) in [(0u64, None), (1, Some(0)), (3, Some(1)), (2, Some(0))] {
+    for &(mask, flipped) in &[(0u64, None), (1, Some(0)), (3, Some(1)), (2, Some(0))] {
         let mask = Coalition(mask);
         assert_eq!(rt; steps.next(), Some(GrayStep { mask, flipped }));
     }
-    assert_eq!(rt; steps.next(), None);
     assert_eq!(rt;
-        (Coalition::gray(0).count(), Coalition::gray(16).count()),
-        (1, 65536)
+        (
+            steps.next(),
+            Coalition::gray(0).count(),
+            Coalition::gray(16).count()
+        ),
+        (None, 1, 65536)
     );
 }

@@ -20,7 +20,7 @@ fn parts(answer: Result<Frac, OutOfRange>) -> Option<(i128, i128)> {
 
 #[test]
 fn sums_and_differences_at_the_limits(rt: HostRuntime) -> Result<(), Fail> {
-    for (a, b, c, d, sum, difference) in [
+    for &(a, b, c, d, sum, difference) in &[
         (1, 3, 1, 6, Some((1, 2)), Some((1, 6))),
         (-7, 4, 7, 4, Some((0, 1)), Some((-7, 2))),
         (LEAST, 1, LEAST, 1, None, Some((0, 1))),
@@ -70,15 +70,25 @@ fn sums_and_differences_at_the_limits(rt: HostRuntime) -> Result<(), Fail> {
         ),
     ] {
         let (x, y) = fracs_of(a, b, c, d)?;
-        assert_eq!(rt; parts(x.add(&y)), sum, "{a}/{b} + {c}/{d}");
-        assert_eq!(rt; parts(x.sub(&y)), difference, "{a}/{b} - {c}/{d}");
+        let found = (parts(x.add(&y)), parts(x.sub(&y)));
+        assert_eq!(rt; found, (sum, difference), "{a}/{b} and {c}/{d}");
     }
     Ok(())
 }
 
+/// The parts of the product and of the quotient.
+fn product_and_quotient(
+    rt: &impl Abort,
+    x: Frac,
+    y: Frac,
+) -> (Option<(i128, i128)>, Option<(i128, i128)>) {
+    assert_ne!(rt; y.num(), 0);
+    (parts(x.mul(&y)), parts(x.div(&y)))
+}
+
 #[test]
 fn products_and_quotients_at_the_limits(rt: HostRuntime) -> Result<(), Fail> {
-    for (a, b, c, d, product, quotient) in [
+    for &(a, b, c, d, product, quotient) in &[
         (1, 3, 1, 6, Some((1, 18)), Some((2, 1))),
         (LEAST, 1, -1, 1, None, None),
         (LEAST, 1, 1, 1, Some((LEAST, 1)), Some((LEAST, 1))),
@@ -110,16 +120,28 @@ fn products_and_quotients_at_the_limits(rt: HostRuntime) -> Result<(), Fail> {
         ),
     ] {
         let (x, y) = fracs_of(a, b, c, d)?;
-        assert_ne!(rt; y.num(), 0);
-        assert_eq!(rt; parts(x.mul(&y)), product, "{a}/{b} * {c}/{d}");
-        assert_eq!(rt; parts(x.div(&y)), quotient, "{a}/{b} over {c}/{d}");
+        let found = product_and_quotient(&rt, x, y);
+        assert_eq!(rt; found, (product, quotient), "{a}/{b} and {c}/{d}");
     }
     Ok(())
 }
 
+/// Compares the fractions of parts at the limits.
+fn compare_reduced(rt: &impl Abort) {
+    assert_eq!(rt;
+        (
+            Frac::new(1, 0),
+            Frac::new(LEAST, -1),
+            Frac::new(1, LEAST),
+            Frac::new(LEAST, LEAST)
+        ),
+        (None, None, None, Some(Frac::from_int(1)))
+    );
+}
+
 #[test]
 fn values_are_ordered_and_reduced_at_the_limits(rt: HostRuntime) -> Result<(), Fail> {
-    for (a, b, c, d, order) in [
+    for &(a, b, c, d, order) in &[
         (LARGE, HALF, 1, 3, Ordering::Greater),
         (1, HALF, 1, HALF - 1, Ordering::Less),
         (LEAST, MOST, -1, 1, Ordering::Less),
@@ -129,24 +151,21 @@ fn values_are_ordered_and_reduced_at_the_limits(rt: HostRuntime) -> Result<(), F
         let (x, y) = fracs_of(a, b, c, d)?;
         assert_eq!(rt; x.compare(&y), order, "{a}/{b} and {c}/{d}");
     }
-    assert_eq!(rt;
-        (Frac::new(1, 0), Frac::new(LEAST, -1), Frac::new(1, LEAST)),
-        (None, None, None)
-    );
-    assert_eq!(rt; Frac::new(LEAST, LEAST), Some(Frac::from_int(1)));
+    compare_reduced(&rt);
     Ok(())
 }
 
-/// A fraction's text.
-fn written(alloc: Global, f: Frac) -> Result<Vec<u8>, Fail> {
+/// The numerator and the denominator that a text gives, and whether the fraction is written as that text.
+fn read_and_written(alloc: Global, text: &str) -> Result<(i128, i128, bool), Fail> {
+    let f = Frac::parse(text.as_bytes()).ok_or("no fraction")?;
     let mut out = Vec::new(alloc);
     f.write_to(&mut out).ok().ok_or("memory")?;
-    Ok(out)
+    Ok((f.num(), f.den(), out.as_slice() == text.as_bytes()))
 }
 
 /// Tries texts that are no fractions.
 fn none_are_fractions(rt: &impl Abort) {
-    for text in [
+    for &text in &[
         "",
         "-",
         "+1",
@@ -173,7 +192,7 @@ fn none_are_fractions(rt: &impl Abort) {
 
 #[test]
 fn texts_are_read_and_written(rt: HostRuntime) -> Result<(), Fail> {
-    for (text, num, den) in [
+    for &(text, num, den) in &[
         ("0", 0, 1),
         ("-7/4", -7, 4),
         ("1/9223372036854775809", 1, HALF + 1),
@@ -184,10 +203,8 @@ fn texts_are_read_and_written(rt: HostRuntime) -> Result<(), Fail> {
             MOST,
         ),
     ] {
-        let f = Frac::parse(text.as_bytes()).ok_or("no fraction")?;
-        assert_eq!(rt; (f.num(), f.den()), (num, den), "{text}");
-        let out = written(rt.alloc(), f)?;
-        assert_eq!(rt; out.as_slice(), text.as_bytes());
+        let found = read_and_written(rt.alloc(), text)?;
+        assert_eq!(rt; found, (num, den, true), "{text}");
     }
     none_are_fractions(&rt);
     Ok(())

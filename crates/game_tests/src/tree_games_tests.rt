@@ -44,7 +44,7 @@ const FAULTS: [(&[&[i64]], Option<TreeFault>); 10] = [
 
 #[test]
 fn matrices_are_refused_by_the_first_cause(rt: HostRuntime) -> Result<(), Fail> {
-    for (rows, fault) in FAULTS {
+    for &(rows, fault) in &FAULTS {
         assert_eq!(rt; fault_of(rt.alloc(), rows)?, fault, "{rows:?}");
     }
     Ok(())
@@ -52,7 +52,7 @@ fn matrices_are_refused_by_the_first_cause(rt: HostRuntime) -> Result<(), Fail> 
 
 #[test]
 fn there_are_1_to_16_players_and_a_source(rt: HostRuntime) -> Result<(), Fail> {
-    for (points, fault) in [
+    for &(points, fault) in &[
         (1, Some(TreeFault::Players)),
         (2, None),
         (17, None),
@@ -95,14 +95,22 @@ fn parts_of(rt: &impl Abort, game: &TreeGame, x: &Shares) -> (i128, i128, i128, 
     (x.num(0), x.num(1), x.den(), game.blocker(x))
 }
 
+/// Compares the shares of the plan of a game of two players, and its links.
+fn compare_plan(rt: &impl Abort, alloc: Global, game: &TreeGame) -> Result<(), Fail> {
+    let (shares, tree) = game.bird(alloc)?;
+    let found = parts_of(rt, game, &shares);
+    assert_eq!(rt;
+        (tree.edges.as_slice(), found),
+        ([(0, 1, 10), (1, 2, 1)].as_slice(), (-10, -1, 1, None))
+    );
+    Ok(())
+}
+
 #[test]
 fn the_farther_of_two_neighbours_pays_for_the_short_link(rt: HostRuntime) -> Result<(), Fail> {
     let game = game_of(rt.alloc(), &[&[0, 10, 10], &[10, 0, 1], &[10, 1, 0]])?;
     assert_eq!(rt; numbers_of(&rt, &game), (10, 1, -10, -10, -11));
-    let (shares, tree) = game.bird(rt.alloc())?;
-    assert_eq!(rt; tree.edges.as_slice(), [(0, 1, 10), (1, 2, 1)].as_slice());
-    assert_eq!(rt; parts_of(&rt, &game, &shares), (-10, -1, 1, None));
-    Ok(())
+    compare_plan(&rt, rt.alloc(), &game)
 }
 
 // Player 3 stands between the source and the others: without it each of these costs 9, and with it the shortcut.

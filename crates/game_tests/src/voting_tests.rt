@@ -14,8 +14,8 @@ use worth_core::{Shares, Worth};
 
 #[test]
 fn games_are_refused_by_the_first_cause(rt: HostRuntime) -> Result<(), Fail> {
-    let limit: i64 = 1 << 40;
-    for (count, weight, quota, fault) in [
+    const LIMIT: i64 = 1 << 40;
+    for &(count, weight, quota, fault) in &[
         (0, 0, 0, Some(VotingFault::Players)),
         (1, 1, 1, None),
         (1, 1, 0, Some(VotingFault::Quota)),
@@ -30,10 +30,10 @@ fn games_are_refused_by_the_first_cause(rt: HostRuntime) -> Result<(), Fail> {
         (33, -1, 33, Some(VotingFault::Players)),
         (2, -1, 1, Some(VotingFault::Number)),
         (2, 1, -1, Some(VotingFault::Number)),
-        (2, limit, 1, Some(VotingFault::Number)),
-        (2, limit - 1, 1, Some(VotingFault::Quota)),
-        (2, 1, limit, Some(VotingFault::Number)),
-        (2, 1, limit - 1, Some(VotingFault::Quota)),
+        (2, LIMIT, 1, Some(VotingFault::Number)),
+        (2, LIMIT - 1, 1, Some(VotingFault::Quota)),
+        (2, 1, LIMIT, Some(VotingFault::Number)),
+        (2, 1, LIMIT - 1, Some(VotingFault::Quota)),
         (2, 1001, -1, Some(VotingFault::Number)),
     ] {
         let weights = vec![in rt.alloc(); weight; count]?;
@@ -69,21 +69,37 @@ fn blocker_of_three(rt: &impl Abort, game: &VotingGame, x: &Shares) -> Option<Co
     game.blocker(x)
 }
 
-#[test]
-fn the_great_player_and_the_middle_one_block(rt: HostRuntime) -> Result<(), Fail> {
-    let game = game_of(rt.alloc(), 5, &[4, 2, 1])?;
-    assert_eq!(rt; numbers_of(&rt, &game), (5, 2, 1, 0));
-    for (num, den, blocker) in [
+/// The blocker in a game of three players, at these shares.
+fn blocker_at(
+    rt: &impl Abort,
+    alloc: Global,
+    game: &VotingGame,
+    num: &[i128],
+    den: i128,
+) -> Result<Option<Coalition>, Fail> {
+    let x = shares_of(alloc, num, den)?;
+    Ok(blocker_of_three(rt, game, &x))
+}
+
+/// Compares the blockers at some shares.
+fn compare_blockers(rt: &impl Abort, alloc: Global, game: &VotingGame) -> Result<(), Fail> {
+    for &(num, den, blocker) in &[
         ([0, 1, 1], 2, Some(Coalition(3))),
         ([1, 0, 0], 1, None),
         ([2, -1, -1], 1, Some(Coalition(6))),
         ([0, 0, 0], 1, Some(Coalition(3))),
     ] {
-        let x = shares_of(rt.alloc(), &num, den)?;
-        let found = blocker_of_three(&rt, &game, &x);
+        let found = blocker_at(rt, alloc, game, &num, den)?;
         assert_eq!(rt; found, blocker, "{num:?} over {den}");
     }
     Ok(())
+}
+
+#[test]
+fn the_great_player_and_the_middle_one_block(rt: HostRuntime) -> Result<(), Fail> {
+    let game = game_of(rt.alloc(), 5, &[4, 2, 1])?;
+    assert_eq!(rt; numbers_of(&rt, &game), (5, 2, 1, 0));
+    compare_blockers(&rt, rt.alloc(), &game)
 }
 
 /// The game of 32 players of this weight.
@@ -113,11 +129,13 @@ fn blocker_and_bound(rt: &impl Abort, game: &VotingGame, x: &Shares) -> (Option<
 
 #[test]
 fn thirty_two_players_need_no_list_of_coalitions(rt: HostRuntime) -> Result<(), Fail> {
+    const SEVENTEEN: Coalition = Coalition((1 << 17) - 1);
+    const EIGHTEEN_BUT_THE_SIXTH: Coalition = Coalition((1 << 18) - 1 - 32);
     let game = game_of_32(rt.alloc(), 17 * 31, 31)?;
-    for (numerator, blocker, bound) in [
-        (1, Some(Coalition::all(17)), 15),
-        (3, Some(Coalition(Coalition::all(18).0 - 32)), 15),
-        (-1, Some(Coalition::all(17)), 17),
+    for &(numerator, blocker, bound) in &[
+        (1, Some(SEVENTEEN), 15),
+        (3, Some(EIGHTEEN_BUT_THE_SIXTH), 15),
+        (-1, Some(SEVENTEEN), 17),
     ] {
         let x = shares_but_one(rt.alloc(), numerator)?;
         assert_eq!(rt; blocker_and_bound(&rt, &game, &x), (blocker, bound));
@@ -207,22 +225,22 @@ fn has_two(game: &VotingGame, s: Coalition) -> bool
     false
 }
 
-/// Compares the blocker and each split bound at some shares.
-fn compare(rt: &impl Abort, game: &VotingGame, x: &Shares) {
+/// Whether the blocker and each split bound at some shares are those of the bodies that list every coalition.
+fn agrees(game: &VotingGame, x: &Shares) -> bool {
     let listed = Listed(game);
     let players = game.players();
-    assert!(rt; x.players() == players);
-    assert_eq!(rt; game.blocker(x), listed.blocker(x), "{game:?} at {x:?}");
+    if x.players() != players || game.blocker(x) != listed.blocker(x) {
+        return false;
+    }
     for free in Coalition::subsets(players) {
-        assert!(rt; free <= Coalition::all(players));
-        if has_two(game, free) {
-            assert_eq!(rt;
-                game.split_bound(x, free),
-                listed.split_bound(x, free),
-                "{game:?} at {x:?}"
-            );
+        if free > Coalition::all(players) {
+            return false;
+        }
+        if has_two(game, free) && game.split_bound(x, free) != listed.split_bound(x, free) {
+            return false;
         }
     }
+    true
 }
 
 /// Shares that the digits of a number choose.
@@ -231,22 +249,44 @@ fn point_of(alloc: Global, point: usize, n: usize) -> Result<Shares, Fail> {
     Ok(Shares::new(num, 2).ok_or("not shares")?)
 }
 
+/// Compares a game of `n` players at some shares.
+fn compare(
+    rt: &impl Abort,
+    alloc: Global,
+    game: &VotingGame,
+    point: usize,
+    n: usize,
+) -> Result<(), Fail> {
+    let x = point_of(alloc, point, n)?;
+    assert!(rt; agrees(game, &x), "{game:?} at {x:?}");
+    Ok(())
+}
+
+/// The game of a quota and the weights that the digits of a number choose, where they make one.
+fn chosen_game(
+    alloc: Global,
+    quota: i64,
+    list: usize,
+    n: usize,
+) -> Result<Option<VotingGame>, Fail> {
+    let weights = chosen(alloc, &[0, 1, 2], list, n)?;
+    Ok(VotingGame::new(alloc, quota, weights).ok())
+}
+
 // One to three players with every list of weights from 0 to 2; of the points of three players every fifth.
 #[test]
 fn own_bodies_answer_as_those_that_list_coalitions(rt: HostRuntime) -> Result<(), Fail> {
-    for (n, lists, points) in [(1, 3, 3), (2, 9, 9), (3, 27, 27)] {
+    for &(n, lists, points) in &[(1, 3, 3), (2, 9, 9), (3, 27, 27)] {
         for list in 0..lists {
             for quota in 1..7 {
-                let weights = chosen(rt.alloc(), &[0, 1, 2], list, n)?;
-                let Ok(game) = VotingGame::new(rt.alloc(), quota, weights) else {
+                let Some(game) = chosen_game(rt.alloc(), quota, list, n)? else {
                     continue;
                 };
                 for point in 0..points {
                     if n == 3 && point % 5 != 0 {
                         continue;
                     }
-                    let x = point_of(rt.alloc(), point, n)?;
-                    compare(&rt, &game, &x);
+                    compare(&rt, rt.alloc(), &game, point, n)?;
                 }
             }
         }

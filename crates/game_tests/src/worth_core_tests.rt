@@ -1,6 +1,6 @@
 //! The limits of shares, shares from fractions at their limits, sums over the sets that split others, and the blockers
 //! of small games. The wanted values of fractions are those of Python's `fractions`.
-ghost use Rattle.std.specs.Prelude.{◌≡◌, ℕ, ◌^◌, ◌<◌, length, pos, false, MatchOption, slice_index_or, if◌then◌else◌};
+ghost use Rattle.std.specs.Prelude.{◌≡◌, ℕ, ◌^◌, ◌<◌, length, pos, false, IfOk, MatchOption, slice_index_or, if◌then◌else◌};
 ghost use Rattle.definitions.specs.Games.{Blocks, IsChosenBlocker, IsSplitMaximum, HasTwo};
 
 use crate::fracs::fracs_of;
@@ -57,17 +57,25 @@ fn blocker_of<W: Worth>(game: &W, x: &Shares) -> Option<Coalition>
     game.blocker(x)
 }
 
+/// Shares of three players.
+fn three_shares(rt: &impl Abort, alloc: Global, num: &[i128; 3], den: i128) -> Result<Shares, Fail>
+    ensures { IfOk result (λ x. length x.shares ≡ 3) }
+{
+    let x = shares_of(alloc, num, den)?;
+    assert_eq!(rt; x.players(), 3);
+    Ok(x)
+}
+
 #[test]
 fn blockers_have_the_greatest_excess_and_the_least_mask(rt: HostRuntime) -> Result<(), Fail> {
     let (majority, unanimity) = (majority(), unanimity());
-    for (num, den, in_majority, in_unanimity) in [
+    for &(num, den, in_majority, in_unanimity) in &[
         ([1, 0, 0], 1, Some(Coalition(6)), None),
         ([1, 1, 1], 3, Some(Coalition(3)), None),
         ([2, 1, 1], 4, Some(Coalition(6)), None),
         ([0, 1, 0], 2, Some(Coalition(5)), Some(Coalition(7))),
     ] {
-        let x = shares_of(rt.alloc(), &num, den)?;
-        assert_eq!(rt; x.players(), 3);
+        let x = three_shares(&rt, rt.alloc(), &num, den)?;
         assert_eq!(rt;
             (blocker_of(&majority, &x), blocker_of(&unanimity, &x)),
             (in_majority, in_unanimity)
@@ -97,18 +105,24 @@ fn bounds_of(game: &SimpleGame, x: &Shares) -> (i128, i128, i128)
     )
 }
 
+/// The greatest excess over the coalitions that split all three players.
+fn bound_of_all(game: &SimpleGame, x: &Shares) -> i128
+    requires { length x.now.shares ≡ 3 }
+{
+    split_bound_of(game, x, Coalition(7))
+}
+
 #[test]
 fn split_bounds_pass_over_sets_that_hold_all_or_none(rt: HostRuntime) -> Result<(), Fail> {
     let (majority, unanimity) = (majority(), unanimity());
-    for (num, den, of_all, of_two, in_unanimity, of_pair) in [
+    for &(num, den, of_all, of_two, in_unanimity, of_pair) in &[
         ([1, 0, 0], 1, 1, 1, 0, 0),
         ([1, 1, 1], 3, 1, 1, -1, 1),
         ([0, 0, -5], 2, 7, 7, 5, 2),
     ] {
-        let x = shares_of(rt.alloc(), &num, den)?;
-        assert_eq!(rt; x.players(), 3);
-        assert_eq!(rt; bounds_of(&majority, &x), (of_all, of_two, of_pair));
-        assert_eq!(rt; split_bound_of(&unanimity, &x, Coalition(7)), in_unanimity);
+        let x = three_shares(&rt, rt.alloc(), &num, den)?;
+        let found = (bounds_of(&majority, &x), bound_of_all(&unanimity, &x));
+        assert_eq!(rt; found, ((of_all, of_two, of_pair), in_unanimity));
     }
     Ok(())
 }
@@ -127,20 +141,16 @@ fn measured_bounds(game: &SimpleGame, x: &Shares) -> (Option<Frac>, Option<Frac>
 #[test]
 fn bounds_per_head_divide_by_the_members(rt: HostRuntime) -> Result<(), Fail> {
     let majority = majority();
-    for (num, den, plain, by_head) in [
+    for &(num, den, plain, by_head) in &[
         ([1, 1, 1], 3, (1, 3), (1, 6)),
         ([0, 0, -5], 2, (7, 2), (5, 2)),
     ] {
-        let x = shares_of(rt.alloc(), &num, den)?;
-        assert_eq!(rt; x.players(), 3);
+        let x = three_shares(&rt, rt.alloc(), &num, den)?;
         let wanted = (Frac::new(plain.0, plain.1), Frac::new(by_head.0, by_head.1));
         assert_eq!(rt; measured_bounds(&majority, &x), wanted);
     }
     let pair = Coalition(6);
-    assert_eq!(rt;
-        (Measure::Plain.divisor(pair), Measure::PerHead.divisor(pair)),
-        (1, 2)
-    );
+    assert!(rt; Measure::Plain.divisor(pair) == 1 && Measure::PerHead.divisor(pair) == 2);
     Ok(())
 }
 
@@ -169,8 +179,8 @@ fn two_shares_are_kept(rt: &impl Abort, alloc: Global) -> Result<(), Fail> {
 
 #[test]
 fn shares_keep_their_limits(rt: HostRuntime) -> Result<(), Fail> {
-    let limit: i128 = 1 << 110;
-    for (count, numerator, den, accepted) in [
+    const LIMIT: i128 = 1 << 110;
+    for &(count, numerator, den, accepted) in &[
         (0, 0, 1, false),
         (1, 0, 1, true),
         (64, 7, 12, true),
@@ -179,10 +189,10 @@ fn shares_keep_their_limits(rt: HostRuntime) -> Result<(), Fail> {
         (2, 1, -1, false),
         (2, 1, 1 << 63, true),
         (2, 1, (1 << 63) + 1, false),
-        (2, limit - 1, 1, true),
-        (2, limit, 1, false),
-        (2, 1 - limit, 1, true),
-        (2, -limit, 1, false),
+        (2, LIMIT - 1, 1, true),
+        (2, LIMIT, 1, false),
+        (2, 1 - LIMIT, 1, true),
+        (2, -LIMIT, 1, false),
     ] {
         let made = are_shares(rt.alloc(), count, numerator, den)?;
         assert_eq!(rt; made, accepted, "{count} of {numerator} over {den}");
@@ -205,18 +215,18 @@ fn parts_of(
 
 #[test]
 fn fractions_stand_over_their_least_common_denominator(rt: HostRuntime) -> Result<(), Fail> {
-    let half: i128 = 1 << 63;
-    let large: i128 = (1 << 110) - 1;
-    for (a, b, c, d, wanted) in [
+    const HALF: i128 = 1 << 63;
+    const LARGE: i128 = (1 << 110) - 1;
+    for &(a, b, c, d, wanted) in &[
         (1, 2, -1, 3, Ok((3, -2, 6))),
         (1, 4, 1, 6, Ok((3, 2, 12))),
         (0, 1, 5, 1, Ok((0, 5, 1))),
-        (1, half, 1, 2, Ok((1, half / 2, half))),
-        (1, half + 1, 1, 1, Err(SharesFault::TooFine)),
-        (1, half / 2, 1, 3, Err(SharesFault::TooFine)),
-        (large, 1, -large, 1, Ok((large, -large, 1))),
-        (large, 1, 1, 2, Err(SharesFault::TooFine)),
-        (-large - 1, 1, 0, 1, Err(SharesFault::TooFine)),
+        (1, HALF, 1, 2, Ok((1, HALF / 2, HALF))),
+        (1, HALF + 1, 1, 1, Err(SharesFault::TooFine)),
+        (1, HALF / 2, 1, 3, Err(SharesFault::TooFine)),
+        (LARGE, 1, -LARGE, 1, Ok((LARGE, -LARGE, 1))),
+        (LARGE, 1, 1, 2, Err(SharesFault::TooFine)),
+        (-LARGE - 1, 1, 0, 1, Err(SharesFault::TooFine)),
         (1, i128::MAX, 1, i128::MAX - 1, Err(SharesFault::TooFine)),
     ] {
         let (left, right) = fracs_of(a, b, c, d)?;
@@ -226,16 +236,26 @@ fn fractions_stand_over_their_least_common_denominator(rt: HostRuntime) -> Resul
     Ok(())
 }
 
+/// The second of three shares, their sum, and their least denominator.
+fn reduced(
+    rt: &impl Abort,
+    alloc: Global,
+    num: &[i128; 3],
+) -> Result<(Option<Frac>, Option<Frac>, i128), Fail> {
+    let x = three_shares(rt, alloc, num, 12)?;
+    Ok((Some(x.share(1)), Some(x.sum()), x.least_den()))
+}
+
 #[test]
 fn shares_are_reduced(rt: HostRuntime) -> Result<(), Fail> {
-    let x = shares_of(rt.alloc(), &[2, 4, -9], 12)?;
-    assert_eq!(rt; x.players(), 3);
     assert_eq!(rt;
-        (Some(x.share(1)), Some(x.sum()), x.least_den()),
+        reduced(&rt, rt.alloc(), &[2, 4, -9])?,
         (Frac::new(1, 3), Frac::new(-1, 4), 12)
     );
-    let y = shares_of(rt.alloc(), &[2, 4, -6], 12)?;
-    assert_eq!(rt; (y.least_den(), y.sum()), (6, Frac::from_int(0)));
+    assert_eq!(rt;
+        reduced(&rt, rt.alloc(), &[2, 4, -6])?,
+        (Frac::new(1, 3), Frac::new(0, 1), 6)
+    );
     Ok(())
 }
 

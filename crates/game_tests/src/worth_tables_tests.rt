@@ -13,15 +13,15 @@ use worth_tables::{CostGame, KeptWorths, TableFault, TableGame};
 
 #[test]
 fn tables_are_refused_by_the_first_cause(rt: HostRuntime) -> Result<(), Fail> {
-    let limit: i64 = 1 << 40;
-    for (n, count, worth, fault) in [
+    const LIMIT: i64 = 1 << 40;
+    for &(n, count, worth, fault) in &[
         (0, 0, 0, Some(TableFault::Players)),
-        (1, 1, limit - 1, None),
-        (1, 1, 1 - limit, None),
-        (1, 1, limit, Some(TableFault::Number)),
-        (1, 1, -limit, Some(TableFault::Number)),
+        (1, 1, LIMIT - 1, None),
+        (1, 1, 1 - LIMIT, None),
+        (1, 1, LIMIT, Some(TableFault::Number)),
+        (1, 1, -LIMIT, Some(TableFault::Number)),
         (2, 2, 0, Some(TableFault::Players)),
-        (2, 4, limit, Some(TableFault::Players)),
+        (2, 4, LIMIT, Some(TableFault::Players)),
         (16, 65535, 3, None),
         (17, 131071, 3, Some(TableFault::Players)),
     ] {
@@ -41,15 +41,25 @@ fn game_of(alloc: Global, n: u32, worths: &[i64]) -> Result<TableGame, Fail> {
     )
 }
 
+/// The worth of a coalition of `n` players, and the blocker.
+fn worth_and_blocker<W: Worth>(
+    rt: &impl Abort,
+    game: &W,
+    n: u32,
+    x: &Shares,
+    s: Coalition,
+) -> (i64, Option<Coalition>) {
+    assert!(rt; n <= 64 && s <= Coalition::all(n));
+    assert!(rt; game.players() == n && x.players() == n);
+    (game.worth(s), game.blocker(x))
+}
+
 #[test]
 fn the_pair_of_greatest_excess_blocks(rt: HostRuntime) -> Result<(), Fail> {
     let game = game_of(rt.alloc(), 3, &[0, 0, 6, 0, 6, 6, 8])?;
     let x = shares_of(rt.alloc(), &[4, 3, 1], 1)?;
-    assert!(rt; game.players() == 3 && x.players() == 3);
-    assert_eq!(rt;
-        (game.worth(Coalition(6)), game.blocker(&x)),
-        (6, Some(Coalition(6)))
-    );
+    let found = worth_and_blocker(&rt, &game, 3, &x, Coalition(6));
+    assert_eq!(rt; found, (6, Some(Coalition(6))));
     Ok(())
 }
 
@@ -57,11 +67,8 @@ fn the_pair_of_greatest_excess_blocks(rt: HostRuntime) -> Result<(), Fail> {
 fn who_pays_more_than_its_cost_blocks(rt: HostRuntime) -> Result<(), Fail> {
     let game = CostGame::new(game_of(rt.alloc(), 2, &[4, 5, 7])?);
     let x = shares_of(rt.alloc(), &[-1, -6], 1)?;
-    assert!(rt; game.players() == 2 && x.players() == 2);
-    assert_eq!(rt;
-        (game.worth(Coalition(2)), game.blocker(&x)),
-        (-5, Some(Coalition(2)))
-    );
+    let found = worth_and_blocker(&rt, &game, 2, &x, Coalition(2));
+    assert_eq!(rt; found, (-5, Some(Coalition(2))));
     Ok(())
 }
 
@@ -94,15 +101,23 @@ fn worths_are_kept(rt: &impl Abort, alloc: Global, game: &CostGame<TableGame>) -
     Ok(())
 }
 
+/// Compares the blocker that is found with the worths kept with that of the game of three players.
+fn blocker_is_kept(
+    rt: &impl Abort,
+    alloc: Global,
+    game: &CostGame<TableGame>,
+    x: &Shares,
+) -> Result<(), Fail> {
+    assert!(rt; game.players() == 3 && x.players() == 3);
+    let found = blocker_of_kept(alloc, game, x).ok().ok_or("no memory")?;
+    assert_eq!(rt; found, game.blocker(x));
+    Ok(())
+}
+
 #[test]
 fn kept_worths_are_those_of_the_game(rt: HostRuntime) -> Result<(), Fail> {
     let game = CostGame::new(game_of(rt.alloc(), 3, &[4, 5, 7, 6, 9, 9, 10])?);
     worths_are_kept(&rt, rt.alloc(), &game)?;
     let x = shares_of(rt.alloc(), &[-2, -5, -3], 1)?;
-    assert!(rt; game.players() == 3 && x.players() == 3);
-    let found = blocker_of_kept(rt.alloc(), &game, &x)
-        .ok()
-        .ok_or("no memory")?;
-    assert_eq!(rt; found, game.blocker(&x));
-    Ok(())
+    blocker_is_kept(&rt, rt.alloc(), &game, &x)
 }
