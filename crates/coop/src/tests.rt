@@ -23,6 +23,7 @@ use crate::run::run;
 use crate::status::Status;
 use ports::{MemorySink, MemorySource};
 use std::alloc::Global;
+use std::process::Abort;
 use std::test::Fail;
 
 const BLOCKED: &str =
@@ -64,4 +65,99 @@ fn run_on(
     let mut sink = MemorySink::new(alloc, capacity).ok().ok_or("memory")?;
     let status = run(alloc, &words, &mut source, &mut sink);
     Ok((status, sink.taken() == line.as_bytes()))
+}
+
+// A run of this command on this input ends with that status and prints exactly that line.
+fn expect_run(
+    rt: &impl Abort,
+    alloc: Global,
+    command: &str,
+    input: &str,
+    line: &str,
+    status: Status,
+) -> Result<(), Fail> {
+    let found = run_on(alloc, &[command], input.as_bytes(), ROOM, line)?;
+    assert_eq!(rt; found, (status, true), "{command} on {input}");
+    Ok(())
+}
+
+// Runs of one command, each on its input with its line and its status.
+fn expect_runs(
+    rt: &impl Abort,
+    alloc: Global,
+    command: &str,
+    rows: &[(&str, &str, Status)],
+) -> Result<(), Fail> {
+    for &(input, line, status) in rows {
+        expect_run(rt, alloc, command, input, line, status)?;
+    }
+    Ok(())
+}
+
+// Runs of one command that end with one status, each on its input with its line.
+fn expect_lines(
+    rt: &impl Abort,
+    alloc: Global,
+    command: &str,
+    status: Status,
+    rows: &[(&str, &str)],
+) -> Result<(), Fail> {
+    for &(input, line) in rows {
+        expect_run(rt, alloc, command, input, line, status)?;
+    }
+    Ok(())
+}
+
+// Runs of one command that end with one status and one line, on each of these inputs.
+fn expect_line(
+    rt: &impl Abort,
+    alloc: Global,
+    command: &str,
+    status: Status,
+    line: &str,
+    inputs: &[&str],
+) -> Result<(), Fail> {
+    for input in inputs {
+        expect_run(rt, alloc, command, *input, line, status)?;
+    }
+    Ok(())
+}
+
+// Runs of these commands on one input that end with one status and one line.
+fn expect_commands(
+    rt: &impl Abort,
+    alloc: Global,
+    commands: &[&str],
+    input: &str,
+    line: &str,
+    status: Status,
+) -> Result<(), Fail> {
+    for command in commands {
+        expect_run(rt, alloc, *command, input, line, status)?;
+    }
+    Ok(())
+}
+
+// Runs, each of its command on its input with its line and its status.
+fn expect_answers(
+    rt: &impl Abort,
+    alloc: Global,
+    rows: &[(&str, &str, &str, Status)],
+) -> Result<(), Fail> {
+    for &(command, input, line, status) in rows {
+        expect_run(rt, alloc, command, input, line, status)?;
+    }
+    Ok(())
+}
+
+// The status of a run of this command on this input, and whether its line ends so.
+fn ended(alloc: Global, command: &str, input: &str, end: &str) -> Result<(Status, bool), Fail> {
+    let (status, line) = printed(alloc, command, input.as_bytes())?;
+    Ok((status, line.ends_with(end.as_bytes())))
+}
+
+// The status of a run of this command on this input, and whether its line starts so.
+fn started(alloc: Global, command: &str, input: &str, start: &str) -> Result<(Status, bool), Fail> {
+    let (status, line) = printed(alloc, command, input.as_bytes())?;
+    Ok((status, line.starts_with(start.as_bytes())))
 }

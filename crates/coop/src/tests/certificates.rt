@@ -1,11 +1,11 @@
 //! Certificates that are checked.
-use super::run_on;
+use super::{expect_run, expect_runs, run_on};
 use crate::status::Status;
 use std::test::Fail;
 
 #[test]
 fn checks_the_worked_certificates(rt: HostRuntime) -> Result<(), Fail> {
-    for &(input, line, status) in &[
+    let rows = &[
         (
             "{\"answer\":\"nucleolus\",\"certificate\":{\"levels\":[{\"bounds\":[],\"coalitions\":[[[1],1],[[2,3],1]],\"earlier\":[],\
              \"excess\":\"-1\",\"total\":1},{\"bounds\":[],\"coalitions\":[[[1,2],1],[[1,3],1]],\"earlier\":[[[1],-1]],\"excess\":\"-3/2\",\
@@ -64,11 +64,8 @@ fn checks_the_worked_certificates(rt: HostRuntime) -> Result<(), Fail> {
             "{\"answer\":\"no\",\"excess\":\"0\",\"level\":1,\"reason\":7}\n",
             Status::Negative,
         ),
-    ] {
-        let found = run_on(rt.alloc(), &["check"], input.as_bytes(), 100, line)?;
-        assert_eq!(rt; found, (status, true), "on {input}");
-    }
-    Ok(())
+    ];
+    expect_runs(&rt, rt.alloc(), "check", rows)
 }
 
 #[test]
@@ -78,9 +75,7 @@ fn refuses_spans_of_17_players(rt: HostRuntime) -> Result<(), Fail> {
          \"total\":1}],\"mode\":\"span\"},\"game\":{\"class\":\"airport\",\"costs\":[1,1,1,1,1,1,1,1,1,1,1,1,1,1,1,1,1]},\
          \"shares\":[\"1\",\"0\",\"0\",\"0\",\"0\",\"0\",\"0\",\"0\",\"0\",\"0\",\"0\",\"0\",\"0\",\"0\",\"0\",\"0\",\"0\"]}";
     let line = "{\"number\":12,\"refused\":\"Certificate\"}\n";
-    let found = run_on(rt.alloc(), &["check"], input.as_bytes(), 100, line)?;
-    assert_eq!(rt; found, (Status::Refused, true));
-    Ok(())
+    expect_run(&rt, rt.alloc(), "check", &input, line, Status::Refused)
 }
 
 #[test]
@@ -88,19 +83,18 @@ fn needs_the_answer_and_the_certificate(rt: HostRuntime) -> Result<(), Fail> {
     let line = "{\"number\":3,\"refused\":\"Shape\"}\n";
     let input =
         "{\"game\":{\"class\":\"airport\",\"costs\":[2,4,6]},\"shares\":[\"1\",\"3/2\",\"7/2\"]}";
-    let found = run_on(rt.alloc(), &["check"], input.as_bytes(), 100, line)?;
-    assert_eq!(rt; found, (Status::Refused, true));
-    Ok(())
+    expect_run(&rt, rt.alloc(), "check", &input, line, Status::Refused)
 }
 
 #[test]
 fn reads_four_times_as_much_as_the_other_commands(rt: HostRuntime) -> Result<(), Fail> {
     let blanks = vec![in rt.alloc(); b' '; 8_388_609]?;
     let too_long = "{\"number\":1,\"refused\":\"TooLong\"}\n";
-    let found = run_on(rt.alloc(), &["check"], &blanks, 100, too_long)?;
-    assert_eq!(rt; found, (Status::Refused, true));
     let not_json = "{\"number\":2,\"refused\":\"NotJson\"}\n";
-    let found = run_on(rt.alloc(), &["check"], &blanks[1..], 100, not_json)?;
-    assert_eq!(rt; found, (Status::Refused, true));
+    let found = (
+        run_on(rt.alloc(), &["check"], &blanks, 100, too_long)?,
+        run_on(rt.alloc(), &["check"], &blanks[1..], 100, not_json)?,
+    );
+    assert_eq!(rt; found, ((Status::Refused, true), (Status::Refused, true)));
     Ok(())
 }

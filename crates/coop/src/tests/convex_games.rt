@@ -1,11 +1,11 @@
 //! Games that are convex and games that aren't, and games that have too many players to be tested.
-use super::run_on;
+use super::{expect_line, expect_lines};
 use crate::status::Status;
 use std::test::Fail;
 
 #[test]
 fn convex_games_are_printed_with_their_shares(rt: HostRuntime) -> Result<(), Fail> {
-    for &(input, line) in &[
+    let rows = &[
         (
             "{\"game\":{\"class\":\"airport\",\"costs\":[2,4,6]}}",
             "{\"answer\":\"convex\",\"marginal\":[\"2\",\"2\",\"2\"],\"shapley\":[\"2/3\",\"5/3\",\"11/3\"]}\n",
@@ -22,16 +22,13 @@ fn convex_games_are_printed_with_their_shares(rt: HostRuntime) -> Result<(), Fai
             "{\"game\":{\"class\":\"table\",\"players\":1,\"worths\":[5]}}",
             "{\"answer\":\"convex\",\"marginal\":[\"5\"],\"shapley\":[\"5\"]}\n",
         ),
-    ] {
-        let found = run_on(rt.alloc(), &["convex"], input.as_bytes(), 100, line)?;
-        assert_eq!(rt; found, (Status::Done, true), "on {input}");
-    }
-    Ok(())
+    ];
+    expect_lines(&rt, rt.alloc(), "convex", Status::Done, rows)
 }
 
 #[test]
 fn other_games_are_printed_with_their_first_failure(rt: HostRuntime) -> Result<(), Fail> {
-    for &(input, line) in &[
+    let rows = &[
         (
             "{\"game\":{\"class\":\"table\",\"players\":3,\"worths\":[0,0,1,0,1,1,1]}}",
             "{\"answer\":\"not convex\",\"deficit\":\"1\",\"i\":2,\"j\":3,\"set\":[1]}\n",
@@ -44,22 +41,16 @@ fn other_games_are_printed_with_their_first_failure(rt: HostRuntime) -> Result<(
             "{\"game\":{\"class\":\"assignment\",\"matrix\":[[5,8],[7,6]]}}",
             "{\"answer\":\"not convex\",\"deficit\":\"5\",\"i\":3,\"j\":4,\"set\":[1]}\n",
         ),
-    ] {
-        let found = run_on(rt.alloc(), &["convex"], input.as_bytes(), 100, line)?;
-        assert_eq!(rt; found, (Status::Negative, true), "on {input}");
-    }
-    Ok(())
+    ];
+    expect_lines(&rt, rt.alloc(), "convex", Status::Negative, rows)
 }
 
 #[test]
 fn games_of_17_have_too_many_players_to_be_tested(rt: HostRuntime) -> Result<(), Fail> {
     let line = "{\"usage\":\"players\"}\n";
-    for &input in &[
+    let inputs = &[
         "{\"game\":{\"class\":\"airport\",\"costs\":[1,1,1,1,1,1,1,1,1,1,1,1,1,1,1,1,1]}}",
         "{\"game\":{\"claims\":[1,1,1,1,1,1,1,1,1,1,1,1,1,1,1,1,1],\"class\":\"bankruptcy\",\"estate\":17}}",
-    ] {
-        let found = run_on(rt.alloc(), &["convex"], input.as_bytes(), 100, line)?;
-        assert_eq!(rt; found, (Status::Usage, true), "on {input}");
-    }
-    Ok(())
+    ];
+    expect_line(&rt, rt.alloc(), "convex", Status::Usage, line, inputs)
 }

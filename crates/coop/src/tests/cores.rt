@@ -1,11 +1,11 @@
 //! Points of the core, and the evidence that there is none.
-use super::{printed, run_on};
+use super::{expect_lines, started};
 use crate::status::Status;
 use std::test::Fail;
 
 #[test]
 fn prints_the_point_of_the_scheme(rt: HostRuntime) -> Result<(), Fail> {
-    for &(input, line) in &[
+    let rows = &[
         (
             "{\"game\":{\"class\":\"airport\",\"costs\":[2,4,6]}}",
             "{\"answer\":\"core point\",\"shares\":[\"1\",\"3/2\",\"7/2\"]}\n",
@@ -22,16 +22,13 @@ fn prints_the_point_of_the_scheme(rt: HostRuntime) -> Result<(), Fail> {
             "{\"game\":{\"class\":\"cost-table\",\"players\":2,\"worths\":[1,2,3]}}",
             "{\"answer\":\"core point\",\"shares\":[\"1\",\"2\"]}\n",
         ),
-    ] {
-        let answer = run_on(rt.alloc(), &["core"], input.as_bytes(), 100, line)?;
-        assert_eq!(rt; answer, (Status::Done, true));
-    }
-    Ok(())
+    ];
+    expect_lines(&rt, rt.alloc(), "core", Status::Done, rows)
 }
 
 #[test]
 fn prints_a_collection_where_the_core_is_empty(rt: HostRuntime) -> Result<(), Fail> {
-    for &(input, line) in &[
+    let rows = &[
         (
             "{\"game\":{\"class\":\"table\",\"players\":3,\"worths\":[0,0,1,0,1,1,1]}}",
             "{\"against\":\"2\",\"answer\":\"empty core\",\"collection\":[[[1,2],1],[[1,3],1],[[2,3],1]],\"k\":2,\"value\":\"3\"}\n",
@@ -40,11 +37,8 @@ fn prints_a_collection_where_the_core_is_empty(rt: HostRuntime) -> Result<(), Fa
             "{\"game\":{\"class\":\"cost-table\",\"players\":3,\"worths\":[6,6,6,6,6,6,12]}}",
             "{\"against\":\"24\",\"answer\":\"empty core\",\"collection\":[[[1,2],1],[[1,3],1],[[2,3],1]],\"k\":2,\"value\":\"18\"}\n",
         ),
-    ] {
-        let answer = run_on(rt.alloc(), &["core"], input.as_bytes(), 200, line)?;
-        assert_eq!(rt; answer, (Status::Negative, true));
-    }
-    Ok(())
+    ];
+    expect_lines(&rt, rt.alloc(), "core", Status::Negative, rows)
 }
 
 #[test]
@@ -60,9 +54,8 @@ fn departments_and_tables_that_are_large_have_points(rt: HostRuntime) -> Result<
             "{\"answer\":\"core point\",\"shares\":[",
         ),
     ] {
-        let (status, line) = printed(rt.alloc(), "core", input.as_bytes())?;
-        assert_eq!(rt; status, Status::Done);
-        assert!(rt; line.starts_with(front.as_bytes()));
+        let found = started(rt.alloc(), "core", input, front)?;
+        assert_eq!(rt; found, (Status::Done, true), "on {input}");
     }
     Ok(())
 }

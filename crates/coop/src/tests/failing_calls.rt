@@ -54,8 +54,8 @@ fn every_read_may_fail(rt: HostRuntime) -> Result<(), Fail> {
 fn reads_of_any_size_say_the_same(rt: HostRuntime) -> Result<(), Fail> {
     let by_ones = with_failing_read(rt.alloc(), 1, BLOCKED.len() as u64 + 1)?;
     let by_sevens = with_failing_read(rt.alloc(), 7, BLOCKED.len() as u64 + 1)?;
-    assert_eq!(rt; by_ones, (Status::Negative, LINE.len()));
-    assert_eq!(rt; by_sevens, (Status::Negative, LINE.len()));
+    let wanted = (Status::Negative, LINE.len());
+    assert_eq!(rt; (by_ones, by_sevens), (wanted, wanted));
     Ok(())
 }
 

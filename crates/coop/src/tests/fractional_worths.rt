@@ -1,12 +1,22 @@
 //! Games of version 2, whose numbers may be fraction texts.
 use super::nucleolus::is_checked;
-use super::{printed, run_on};
+use super::{ended, expect_answers, started};
 use crate::status::Status;
+use std::alloc::Global;
 use std::test::Fail;
 
 // The two together have more than alone, by 1/3.
 const TWO: &str =
     "{\"class\":\"table\",\"players\":2,\"version\":2,\"worths\":[\"1/2\",\"1/3\",\"7/6\"]}";
+
+// The status of a run of `nucleolus` on this game, whether its line ends so, and whether `check` says yes to it.
+fn solved(alloc: Global, game: &str, end: &str) -> Result<((Status, bool), bool), Fail> {
+    let mut input = String::from_str(alloc, "{\"game\":")?;
+    input.push_str(game)?;
+    input.push_str("}")?;
+    let found = ended(alloc, "nucleolus", input.as_str(), end)?;
+    Ok((found, is_checked(alloc, input.as_str())?))
+}
 
 #[test]
 fn nucleoli_are_printed_over_the_scale(rt: HostRuntime) -> Result<(), Fail> {
@@ -21,13 +31,8 @@ fn nucleoli_are_printed_over_the_scale(rt: HostRuntime) -> Result<(), Fail> {
             "\"shares\":[\"50/3\",\"25\",\"25\"]}\n",
         ),
     ] {
-        let mut input = String::from_str(rt.alloc(), "{\"game\":")?;
-        input.push_str(game)?;
-        input.push_str("}")?;
-        let (status, line) = printed(rt.alloc(), "nucleolus", input.as_bytes())?;
-        assert_eq!(rt; status, Status::Done);
-        assert!(rt; line.ends_with(part.as_bytes()), "on {game}");
-        assert!(rt; is_checked(rt.alloc(), input.as_str())?, "on {game}");
+        let found = solved(rt.alloc(), game, part)?;
+        assert_eq!(rt; found, ((Status::Done, true), true), "on {game}");
     }
     Ok(())
 }
@@ -39,15 +44,14 @@ fn the_level_of_two_players_has_its_excess_over_the_scale(rt: HostRuntime) -> Re
     let front =
         "{\"answer\":\"nucleolus\",\"certificate\":{\"levels\":[{\"bounds\":[],\"coalitions\":[[[1],1],[[2],1]],\"earlier\":[],\"excess\":\"-1/6\",\
          \"total\":1}],";
-    let (status, line) = printed(rt.alloc(), "nucleolus", input.as_bytes())?;
-    assert_eq!(rt; status, Status::Done);
-    assert!(rt; line.starts_with(front.as_bytes()));
+    let found = started(rt.alloc(), "nucleolus", input, front)?;
+    assert_eq!(rt; found, (Status::Done, true));
     Ok(())
 }
 
 #[test]
 fn other_answers_are_over_the_scale(rt: HostRuntime) -> Result<(), Fail> {
-    for &(command, input, line, status) in &[
+    let rows = &[
         (
             "nucleolus",
             "{\"game\":{\"class\":\"table\",\"players\":2,\"version\":2,\"worths\":[\"1/65537\",0,1]}}",
@@ -112,16 +116,13 @@ fn other_answers_are_over_the_scale(rt: HostRuntime) -> Result<(), Fail> {
             "{\"answer\":\"no\",\"coalition\":[1],\"level\":1,\"reason\":3}\n",
             Status::Negative,
         ),
-    ] {
-        let found = run_on(rt.alloc(), &[command], input.as_bytes(), 300, line)?;
-        assert_eq!(rt; found, (status, true), "on {input}");
-    }
-    Ok(())
+    ];
+    expect_answers(&rt, rt.alloc(), rows)
 }
 
 #[test]
 fn matchings_deficits_and_surpluses_are_over_the_scale(rt: HostRuntime) -> Result<(), Fail> {
-    for &(command, input, line, status) in &[
+    let rows = &[
         (
             "matching",
             "{\"game\":{\"class\":\"market\",\"matrix\":[[\"5/2\"],[\"3/2\"]],\"version\":2}}",
@@ -152,9 +153,6 @@ fn matchings_deficits_and_surpluses_are_over_the_scale(rt: HostRuntime) -> Resul
             "{\"number\":3,\"refused\":\"Shape\"}\n",
             Status::Refused,
         ),
-    ] {
-        let found = run_on(rt.alloc(), &[command], input.as_bytes(), 300, line)?;
-        assert_eq!(rt; found, (status, true), "on {input}");
-    }
-    Ok(())
+    ];
+    expect_answers(&rt, rt.alloc(), rows)
 }

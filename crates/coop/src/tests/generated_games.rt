@@ -4,6 +4,7 @@ use crate::run::run;
 use crate::status::Status;
 use ports::{FailingSource, MemorySink};
 use std::alloc::Global;
+use std::process::Abort;
 use std::test::Fail;
 
 // The status of a run of `gen` on these words, and the line that it printed. Each read of its source fails.
@@ -16,6 +17,28 @@ fn made(alloc: Global, words: &[&str]) -> Result<(Status, Vec<u8>), Fail> {
     let mut sink = MemorySink::new(alloc, 2000).ok().ok_or("memory")?;
     let status = run(alloc, &all, &mut source, &mut sink);
     Ok((status, sink.taken().to_vec(alloc)?))
+}
+
+// The status of a run of `gen` on these words, and whether it printed that line.
+fn makes(alloc: Global, words: &[&str], line: &str) -> Result<(Status, bool), Fail> {
+    let (status, found) = made(alloc, words)?;
+    Ok((status, found.as_slice() == line.as_bytes()))
+}
+
+// A run of `gen` on these words succeeds and prints exactly that line.
+fn expect_made(rt: &impl Abort, alloc: Global, words: &[&str], line: &str) -> Result<(), Fail> {
+    let found = makes(alloc, words, line)?;
+    assert_eq!(rt; found, (Status::Done, true), "on {words:?}");
+    Ok(())
+}
+
+// The status of a run of `gen` on these words, whether its line ends with the verdict yes, and whether a second run
+// prints the same.
+fn made_twice(alloc: Global, words: &[&str]) -> Result<(Status, bool, bool), Fail> {
+    let (status, line) = made(alloc, words)?;
+    let (_, again) = made(alloc, words)?;
+    let is_yes = line.ends_with(b"\"verdict\":\"yes\"}\n");
+    Ok((status, is_yes, line == again))
 }
 
 #[test]
@@ -46,9 +69,7 @@ fn prints_what_it_found_of_a_generated_game(rt: HostRuntime) -> Result<(), Fail>
              \"verdict\":\"yes\"}\n",
         ),
     ] {
-        let (status, found) = made(rt.alloc(), &words)?;
-        assert_eq!(rt; status, Status::Done, "on {words:?}");
-        assert!(rt; found.as_slice() == line.as_bytes(), "on {words:?}");
+        expect_made(&rt, rt.alloc(), &words, line)?;
     }
     Ok(())
 }
@@ -62,19 +83,16 @@ fn the_greatest_games_of_each_kind_are_answered_alike_twice(rt: HostRuntime) -> 
         ["assignment", "16", "0"],
         ["tree", "12", "1"],
     ] {
-        let (status, line) = made(rt.alloc(), &words)?;
-        assert_eq!(rt; status, Status::Done, "on {words:?}");
-        assert!(rt; line.ends_with(b"\"verdict\":\"yes\"}\n"), "on {words:?}");
-        let (_, again) = made(rt.alloc(), &words)?;
-        assert!(rt; line == again, "on {words:?}");
+        let found = made_twice(rt.alloc(), &words)?;
+        assert_eq!(rt; found, (Status::Done, true, true), "on {words:?}");
     }
     Ok(())
 }
 
 // Whether the words behind `gen` are those of no command.
 fn are_no_command(alloc: Global, words: &[&str]) -> Result<bool, Fail> {
-    let (status, line) = made(alloc, words)?;
-    Ok(status == Status::Usage && line.as_slice() == b"{\"usage\":\"words\"}\n".as_slice())
+    let found = makes(alloc, words, "{\"usage\":\"words\"}\n")?;
+    Ok(found == (Status::Usage, true))
 }
 
 #[test]
@@ -157,6 +175,31 @@ fn table_document(alloc: Global, players: u32, masks: u32) -> Result<Vec<u8>, Fa
     Ok(text.into_bytes())
 }
 
+// The line that `gen` prints on these words.
+fn made_line(alloc: Global, words: &[&str]) -> Result<String, Fail> {
+    let (_, line) = made(alloc, words)?;
+    Ok(String::from_utf8(line).ok().ok_or("no text")?)
+}
+
+// The line that `nucleolus` prints on the document of that table.
+fn nucleolus_line(alloc: Global, players: u32, masks: u32) -> Result<String, Fail> {
+    let document = table_document(alloc, players, masks)?;
+    let (_, found) = printed(alloc, "nucleolus", &document)?;
+    Ok(String::from_utf8(found).ok().ok_or("no text")?)
+}
+
+// The first and the last share and the greatest excess in the line of a nucleolus, as `gen` prints them.
+fn summary_in(alloc: Global, line: &str) -> Result<String, Fail> {
+    // The first level has the greatest excess of all.
+    let (_, levels) = line.split_once("\"excess\":").ok_or("no level")?;
+    let (greatest, _) = levels.split_once(",").ok_or("no excess")?;
+    let (_, shares) = line.split_once("\"shares\":[").ok_or("no shares")?;
+    let (first, _) = shares.split_once(",").ok_or("one share")?;
+    let (_, last) = shares.rsplit_once(",").ok_or("one share")?;
+    let last = last.strip_suffix("]}\n").ok_or("no end")?;
+    Ok(format!(in alloc; "\"first\":{first},\"greatest\":{greatest},\"last\":{last},")?)
+}
+
 #[test]
 fn a_generated_table_has_the_nucleolus_of_its_document(rt: HostRuntime) -> Result<(), Fail> {
     let alloc = rt.alloc();
@@ -164,21 +207,9 @@ fn a_generated_table_has_the_nucleolus_of_its_document(rt: HostRuntime) -> Resul
         (3, 8, ["table", "3", "1"]),
         (12, 4096, ["table", "12", "1"]),
     ] {
-        let (_, line) = made(alloc, &words)?;
-        let line = String::from_utf8(line).ok().ok_or("no text")?;
-        let document = table_document(alloc, players, masks)?;
-        let (_, found) = printed(alloc, "nucleolus", &document)?;
-        let found = String::from_utf8(found).ok().ok_or("no text")?;
-        // The first level has the greatest excess of all.
-        let (_, levels) = found.split_once("\"excess\":").ok_or("no level")?;
-        let (greatest, _) = levels.split_once(",").ok_or("no excess")?;
-        let (_, shares) = found.split_once("\"shares\":[").ok_or("no shares")?;
-        let (first, _) = shares.split_once(",").ok_or("one share")?;
-        let (_, last) = shares.rsplit_once(",").ok_or("one share")?;
-        let last = last.strip_suffix("]}\n").ok_or("no end")?;
-        let middle = format!(in alloc;
-            "\"first\":{first},\"greatest\":{greatest},\"last\":{last},"
-        )?;
+        let line = made_line(alloc, &words)?;
+        let found = nucleolus_line(alloc, players, masks)?;
+        let middle = summary_in(alloc, found.as_str())?;
         assert!(rt; line.contains(middle.as_str()), "{line}");
     }
     Ok(())

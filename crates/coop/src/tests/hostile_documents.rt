@@ -1,7 +1,8 @@
 //! Documents made to mislead the reader or the checker, all of them changes of one line that `nucleolus` prints.
-use super::run_on;
+use super::{expect_run, run_on};
 use crate::status::Status;
 use std::alloc::Global;
+use std::process::Abort;
 use std::test::Fail;
 
 const FRONT: &str = "{\"answer\":\"nucleolus\",\"certificate\":{\"levels\":[";
@@ -9,6 +10,10 @@ const FRONT: &str = "{\"answer\":\"nucleolus\",\"certificate\":{\"levels\":[";
 const LEVELS: &str =
     "{\"bounds\":[],\"coalitions\":[[[1],1],[[2,3],1]],\"earlier\":[],\"excess\":\"-1\",\"total\":1},\
      {\"bounds\":[],\"coalitions\":[[[1,2],1],[[1,3],1]],\"earlier\":[[[1],-1]],\"excess\":\"-3/2\",\"total\":1}";
+
+const GAME: &str = "{\"class\":\"airport\",\"costs\":[2,4,6]}";
+
+const SHARES: &str = "\"1\",\"3/2\",\"7/2\"";
 
 const REFUSED: &str = "{\"number\":12,\"refused\":\"Certificate\"}\n";
 
@@ -32,17 +37,21 @@ fn document(alloc: Global, levels: &str, game: &str, shares: &str) -> Result<Str
 
 // The line of these levels beside the airport game of costs 2, 4 and 6 and its nucleolus.
 fn with_levels(alloc: Global, levels: &str) -> Result<String, Fail> {
-    document(
-        alloc,
-        levels,
-        "{\"class\":\"airport\",\"costs\":[2,4,6]}",
-        "\"1\",\"3/2\",\"7/2\"",
-    )
+    document(alloc, levels, GAME, SHARES)
 }
 
-// What `check` ends with, and whether it prints that line.
-fn checked(alloc: Global, text: &str, line: &str) -> Result<(Status, bool), Fail> {
-    run_on(alloc, &["check"], text.as_bytes(), 100, line)
+// A run of `check` on this document ends with that status and prints exactly that line.
+fn expect_check(
+    rt: &impl Abort,
+    alloc: Global,
+    levels: &str,
+    game: &str,
+    shares: &str,
+    line: &str,
+    status: Status,
+) -> Result<(), Fail> {
+    let text = document(alloc, levels, game, shares)?;
+    expect_run(rt, alloc, "check", &text, line, status)
 }
 
 #[test]
@@ -127,12 +136,7 @@ fn each_change_of_a_certificate_has_its_answer(rt: HostRuntime) -> Result<(), Fa
             Status::Negative,
         ),
     ] {
-        let text = with_levels(rt.alloc(), levels)?;
-        assert_eq!(rt;
-            checked(rt.alloc(), &text, line)?,
-            (status, true),
-            "{levels}"
-        );
+        expect_check(&rt, rt.alloc(), levels, GAME, SHARES, line, status)?;
     }
     Ok(())
 }
@@ -148,29 +152,36 @@ fn no_front_of_a_line_is_a_document(rt: HostRuntime) -> Result<(), Fail> {
     Ok(())
 }
 
-#[test]
-fn a_game_of_brackets_alone_is_no_json_that_is_read(rt: HostRuntime) -> Result<(), Fail> {
-    let mut game = String::new(rt.alloc());
+// 200 brackets that open, and as many that close.
+fn brackets(alloc: Global) -> Result<String, Fail> {
+    let mut game = String::new(alloc);
     for &bracket in &["[", "]"] {
         for _ in 0..200 {
             game.push_str(bracket)?;
         }
     }
-    let text = document(rt.alloc(), LEVELS, &game, "\"1\",\"3/2\",\"7/2\"")?;
-    assert_eq!(rt;
-        checked(rt.alloc(), &text, NOT_JSON)?,
-        (Status::Refused, true)
-    );
-    Ok(())
+    Ok(game)
+}
+
+#[test]
+fn a_game_of_brackets_alone_is_no_json_that_is_read(rt: HostRuntime) -> Result<(), Fail> {
+    let game = brackets(rt.alloc())?;
+    expect_check(
+        &rt,
+        rt.alloc(),
+        LEVELS,
+        &game,
+        SHARES,
+        NOT_JSON,
+        Status::Refused,
+    )
 }
 
 #[test]
 fn a_cost_is_a_whole_number(rt: HostRuntime) -> Result<(), Fail> {
     let game = "{\"class\":\"airport\",\"costs\":[2.0,4,6]}";
-    let text = document(rt.alloc(), LEVELS, game, "\"1\",\"3/2\",\"7/2\"")?;
     let line = "{\"number\":5,\"refused\":\"Number\"}\n";
-    assert_eq!(rt; checked(rt.alloc(), &text, line)?, (Status::Refused, true));
-    Ok(())
+    expect_check(&rt, rt.alloc(), LEVELS, game, SHARES, line, Status::Refused)
 }
 
 // The members of a mask as they are written in a document, with the weight 1.
@@ -193,21 +204,30 @@ const PLAYERS: [&str; 17] = [
     "1", "2", "3", "4", "5", "6", "7", "8", "9", "10", "11", "12", "13", "14", "15", "16", "17",
 ];
 
-#[test]
-fn a_level_of_65537_coalitions_is_no_level(rt: HostRuntime) -> Result<(), Fail> {
-    let mut level = String::from_str(rt.alloc(), "{\"bounds\":[],\"coalitions\":[")?;
+// A level of all coalitions of 17 players up to the mask 65,537.
+fn long_level(alloc: Global) -> Result<String, Fail> {
+    let mut level = String::from_str(alloc, "{\"bounds\":[],\"coalitions\":[")?;
     for mask in 1..65_537 {
         push_coalition(&mut level, mask)?;
         level.push_str(",")?;
     }
     push_coalition(&mut level, 65_537)?;
     level.push_str("],\"earlier\":[],\"excess\":\"0\",\"total\":1}")?;
+    Ok(level)
+}
+
+#[test]
+fn a_level_of_65537_coalitions_is_no_level(rt: HostRuntime) -> Result<(), Fail> {
+    let level = long_level(rt.alloc())?;
     let game = "{\"class\":\"airport\",\"costs\":[0,0,0,0,0,0,0,0,0,0,0,0,0,0,0,0,0]}";
     let zeros = "0,0,0,0,0,0,0,0,0,0,0,0,0,0,0,0,0";
-    let text = document(rt.alloc(), &level, game, zeros)?;
-    assert_eq!(rt;
-        checked(rt.alloc(), &text, REFUSED)?,
-        (Status::Refused, true)
-    );
-    Ok(())
+    expect_check(
+        &rt,
+        rt.alloc(),
+        &level,
+        game,
+        zeros,
+        REFUSED,
+        Status::Refused,
+    )
 }

@@ -1,12 +1,12 @@
 //! Markets and their matchings, and what other commands say of a market.
-use super::run_on;
+use super::{expect_commands, expect_line, expect_lines, expect_run};
 use crate::status::Status;
 use std::alloc::Global;
 use std::test::Fail;
 
 #[test]
 fn markets_are_printed_with_their_pairs(rt: HostRuntime) -> Result<(), Fail> {
-    for &(input, line) in &[
+    let rows = &[
         (
             "{\"game\":{\"class\":\"market\",\"matrix\":[[5],[3]]}}",
             "{\"answer\":\"matching\",\"buyers best\":[\"2\",\"0\",\"3\"],\"pairs\":[[1,3]],\"sellers best\":[\"0\",\"0\",\"5\"],\"value\":\"5\"}\n",
@@ -16,11 +16,8 @@ fn markets_are_printed_with_their_pairs(rt: HostRuntime) -> Result<(), Fail> {
             "{\"answer\":\"matching\",\"buyers best\":[\"8\",\"7\",\"0\",\"0\"],\"pairs\":[[1,4],[2,3]],\"sellers best\":[\"0\",\"0\",\"7\",\"8\"],\
              \"value\":\"15\"}\n",
         ),
-    ] {
-        let found = run_on(rt.alloc(), &["matching"], input.as_bytes(), 200, line)?;
-        assert_eq!(rt; found, (Status::Done, true), "on {input}");
-    }
-    Ok(())
+    ];
+    expect_lines(&rt, rt.alloc(), "matching", Status::Done, rows)
 }
 
 const DIAGONAL_PAIRS: &str =
@@ -53,26 +50,30 @@ fn push_shares(text: &mut String, first: &str, last: &str) -> Result<(), Fail> {
     Ok(())
 }
 
-#[test]
-fn each_of_32_buyers_is_matched_with_its_own_seller(rt: HostRuntime) -> Result<(), Fail> {
-    let input = diagonal(rt.alloc(), 32, 32)?;
-    let mut line = String::from_str(rt.alloc(), "{\"answer\":\"matching\",\"buyers best\":[")?;
+// The line of the market of 32 buyers and sellers.
+fn diagonal_line(alloc: Global) -> Result<String, Fail> {
+    let mut line = String::from_str(alloc, "{\"answer\":\"matching\",\"buyers best\":[")?;
     push_shares(&mut line, "1", "0")?;
     line.push_str("],\"pairs\":")?;
     line.push_str(DIAGONAL_PAIRS)?;
     line.push_str(",\"sellers best\":[")?;
     push_shares(&mut line, "0", "1")?;
     line.push_str("],\"value\":\"32\"}\n")?;
-    let found = run_on(rt.alloc(), &["matching"], input.as_bytes(), 2000, &line)?;
-    assert_eq!(rt; found, (Status::Done, true));
-    Ok(())
+    Ok(line)
+}
+
+#[test]
+fn each_of_32_buyers_is_matched_with_its_own_seller(rt: HostRuntime) -> Result<(), Fail> {
+    let input = diagonal(rt.alloc(), 32, 32)?;
+    let line = diagonal_line(rt.alloc())?;
+    expect_run(&rt, rt.alloc(), "matching", &input, &line, Status::Done)
 }
 
 #[test]
 fn markets_are_refused_by_the_first_cause(rt: HostRuntime) -> Result<(), Fail> {
     let tall = diagonal(rt.alloc(), 33, 1)?;
     let wide = diagonal(rt.alloc(), 1, 33)?;
-    for &(input, line) in &[
+    let rows = &[
         (tall.as_str(), "{\"number\":4,\"refused\":\"Players\"}\n"),
         (wide.as_str(), "{\"number\":4,\"refused\":\"Players\"}\n"),
         (
@@ -87,16 +88,14 @@ fn markets_are_refused_by_the_first_cause(rt: HostRuntime) -> Result<(), Fail> {
             "{\"game\":{\"class\":\"market\",\"matrix\":[[1,2],[3]]}}",
             "{\"number\":9,\"refused\":\"Matrix\"}\n",
         ),
-    ] {
-        let found = run_on(rt.alloc(), &["matching"], input.as_bytes(), 100, line)?;
-        assert_eq!(rt; found, (Status::Refused, true), "on {input}");
-    }
-    Ok(())
+    ];
+    expect_lines(&rt, rt.alloc(), "matching", Status::Refused, rows)
 }
 
 #[test]
 fn matching_is_for_markets_alone(rt: HostRuntime) -> Result<(), Fail> {
-    for &input in &[
+    let line = "{\"usage\":\"class\"}\n";
+    let inputs = &[
         "{\"game\":{\"class\":\"table\",\"players\":1,\"worths\":[5]}}",
         "{\"game\":{\"class\":\"cost-table\",\"players\":1,\"worths\":[5]}}",
         "{\"game\":{\"class\":\"airport\",\"costs\":[2,4,6]}}",
@@ -104,19 +103,16 @@ fn matching_is_for_markets_alone(rt: HostRuntime) -> Result<(), Fail> {
         "{\"game\":{\"class\":\"tree\",\"matrix\":[[0,3],[3,0]]}}",
         "{\"game\":{\"class\":\"assignment\",\"matrix\":[[9]]}}",
         "{\"game\":{\"class\":\"voting\",\"quota\":5,\"weights\":[4,2,1]}}",
-    ] {
-        let line = "{\"usage\":\"class\"}\n";
-        let found = run_on(rt.alloc(), &["matching"], input.as_bytes(), 100, line)?;
-        assert_eq!(rt; found, (Status::Usage, true), "on {input}");
-    }
-    Ok(())
+    ];
+    expect_line(&rt, rt.alloc(), "matching", Status::Usage, line, inputs)
 }
 
 #[test]
 fn markets_are_for_matching_alone(rt: HostRuntime) -> Result<(), Fail> {
     let input =
         "{\"answer\":\"nucleolus\",\"certificate\":{\"levels\":[],\"mode\":\"players\"},\"game\":{\"class\":\"market\",\"matrix\":[[9]]},\"shares\":[4,5]}";
-    for &command in &[
+    let line = "{\"usage\":\"class\"}\n";
+    let commands = &[
         "nucleolus",
         "prenucleolus",
         "propose",
@@ -126,10 +122,6 @@ fn markets_are_for_matching_alone(rt: HostRuntime) -> Result<(), Fail> {
         "bird",
         "convex",
         "kernel",
-    ] {
-        let line = "{\"usage\":\"class\"}\n";
-        let found = run_on(rt.alloc(), &[command], input.as_bytes(), 100, line)?;
-        assert_eq!(rt; found, (Status::Usage, true), "to {command}");
-    }
-    Ok(())
+    ];
+    expect_commands(&rt, rt.alloc(), commands, input, line, Status::Usage)
 }

@@ -1,7 +1,8 @@
 //! Games of trees and assignments.
 use super::nucleolus::is_checked;
-use super::{printed, run_on};
+use super::{ended, expect_answers, expect_line, expect_runs, printed};
 use crate::status::Status;
+use std::alloc::Global;
 use std::test::Fail;
 
 const NETWORK: &str = "{\"game\":{\"class\":\"tree\",\"matrix\":[[0,10,10],[10,0,1],[10,1,0]]}}";
@@ -10,24 +11,34 @@ const MARKET: &str = "{\"game\":{\"class\":\"assignment\",\"matrix\":[[5,8],[7,6
 
 #[test]
 fn the_later_player_of_a_network_links_to_the_nearer(rt: HostRuntime) -> Result<(), Fail> {
-    for &(command, line) in &[
+    let rows = &[
         (
             "bird",
+            NETWORK,
             "{\"answer\":\"bird\",\"shares\":[\"10\",\"1\"],\"tree\":[[0,1,10],[1,2,1]]}\n",
+            Status::Done,
         ),
         (
             "core",
+            NETWORK,
             "{\"answer\":\"core point\",\"shares\":[\"10\",\"1\"]}\n",
+            Status::Done,
         ),
         (
             "shapley",
+            NETWORK,
             "{\"answer\":\"shapley\",\"shares\":[\"11/2\",\"11/2\"]}\n",
+            Status::Done,
         ),
-    ] {
-        let answer = run_on(rt.alloc(), &[command], NETWORK.as_bytes(), 100, line)?;
-        assert_eq!(rt; answer, (Status::Done, true), "to {command}");
-    }
-    Ok(())
+    ];
+    expect_answers(&rt, rt.alloc(), rows)
+}
+
+// Whether two runs of `nucleolus` on this input print the same line.
+fn is_alike_twice(alloc: Global, input: &str) -> Result<bool, Fail> {
+    let (_, line) = printed(alloc, "nucleolus", input.as_bytes())?;
+    let (_, again) = printed(alloc, "nucleolus", input.as_bytes())?;
+    Ok(line == again)
 }
 
 #[test]
@@ -44,19 +55,19 @@ fn nucleoli_of_networks_and_markets_are_checked(rt: HostRuntime) -> Result<(), F
             "\"shares\":[\"9/2\",\"9/2\"]}\n",
         ),
     ] {
-        let (status, line) = printed(rt.alloc(), "nucleolus", input.as_bytes())?;
-        assert_eq!(rt; status, Status::Done);
-        assert!(rt; line.ends_with(end.as_bytes()), "on {input}");
-        let (_, again) = printed(rt.alloc(), "nucleolus", input.as_bytes())?;
-        assert!(rt; line == again, "on {input}");
-        assert!(rt; is_checked(rt.alloc(), input)?, "on {input}");
+        let found = (
+            ended(rt.alloc(), "nucleolus", input, end)?,
+            is_alike_twice(rt.alloc(), input)?,
+            is_checked(rt.alloc(), input)?,
+        );
+        assert_eq!(rt; found, ((Status::Done, true), true, true), "on {input}");
     }
     Ok(())
 }
 
 #[test]
 fn certificates_of_a_market_are_judged(rt: HostRuntime) -> Result<(), Fail> {
-    for &(input, line, status) in &[
+    let rows = &[
         (
             "{\"answer\":\"nucleolus\",\"certificate\":{\"levels\":[{\"bounds\":[],\"coalitions\":[[[2,3],1],[[1,4],1]],\"earlier\":[],\
              \"excess\":\"0\",\"total\":1},{\"bounds\":[],\"coalitions\":[[[1,3],1],[[2,4],1]],\"earlier\":[],\"excess\":\"-2\",\"total\":1},\
@@ -72,16 +83,13 @@ fn certificates_of_a_market_are_judged(rt: HostRuntime) -> Result<(), Fail> {
             "{\"answer\":\"no\",\"player\":1,\"reason\":8}\n",
             Status::Negative,
         ),
-    ] {
-        let found = run_on(rt.alloc(), &["check"], input.as_bytes(), 100, line)?;
-        assert_eq!(rt; found, (status, true), "on {input}");
-    }
-    Ok(())
+    ];
+    expect_runs(&rt, rt.alloc(), "check", rows)
 }
 
 #[test]
 fn proposals_for_networks_and_markets_are_judged(rt: HostRuntime) -> Result<(), Fail> {
-    for &(input, line, status) in &[
+    let rows = &[
         (
             "{\"game\":{\"class\":\"tree\",\"matrix\":[[0,10,10],[10,0,1],[10,1,0]]},\"shares\":[10,1]}",
             "{\"answer\":\"core\"}\n",
@@ -102,36 +110,27 @@ fn proposals_for_networks_and_markets_are_judged(rt: HostRuntime) -> Result<(), 
             "{\"answer\":\"core\"}\n",
             Status::Done,
         ),
-    ] {
-        let found = run_on(rt.alloc(), &["propose"], input.as_bytes(), 100, line)?;
-        assert_eq!(rt; found, (status, true), "on {input}");
-    }
-    Ok(())
+    ];
+    expect_runs(&rt, rt.alloc(), "propose", rows)
 }
 
 #[test]
 fn matrices_that_fit_no_class_are_refused(rt: HostRuntime) -> Result<(), Fail> {
-    for &input in &[
+    let line = "{\"number\":9,\"refused\":\"Matrix\"}\n";
+    let inputs = &[
         "{\"game\":{\"class\":\"tree\",\"matrix\":[[0,1],[2,0]]}}",
         "{\"game\":{\"class\":\"assignment\",\"matrix\":[[5,8],[7]]}}",
-    ] {
-        let line = "{\"number\":9,\"refused\":\"Matrix\"}\n";
-        let found = run_on(rt.alloc(), &["nucleolus"], input.as_bytes(), 100, line)?;
-        assert_eq!(rt; found, (Status::Refused, true), "on {input}");
-    }
-    Ok(())
+    ];
+    expect_line(&rt, rt.alloc(), "nucleolus", Status::Refused, line, inputs)
 }
 
 #[test]
 fn bird_is_for_trees_alone(rt: HostRuntime) -> Result<(), Fail> {
-    for &input in &[
+    let line = "{\"usage\":\"class\"}\n";
+    let inputs = &[
         "{\"game\":{\"class\":\"airport\",\"costs\":[2,4,6]}}",
         "{\"game\":{\"class\":\"table\",\"players\":1,\"worths\":[5]}}",
         MARKET,
-    ] {
-        let line = "{\"usage\":\"class\"}\n";
-        let found = run_on(rt.alloc(), &["bird"], input.as_bytes(), 100, line)?;
-        assert_eq!(rt; found, (Status::Usage, true), "on {input}");
-    }
-    Ok(())
+    ];
+    expect_line(&rt, rt.alloc(), "bird", Status::Usage, line, inputs)
 }

@@ -1,5 +1,5 @@
 //! The nucleolus of airport and bankruptcy games, and its certificate read back.
-use super::{printed, run_on};
+use super::{ended, expect_run, printed, run_on};
 use crate::status::Status;
 use std::alloc::Global;
 use std::test::Fail;
@@ -50,9 +50,11 @@ fn prints_shares_and_certificate(rt: HostRuntime) -> Result<(), Fail> {
              \"shares\":[\"5\"]}\n",
         ),
     ] {
-        let found = run_on(rt.alloc(), &["nucleolus"], input.as_bytes(), 2000, line)?;
-        assert_eq!(rt; found, (Status::Done, true), "on {input}");
-        assert!(rt; is_checked(rt.alloc(), input)?, "on {input}");
+        let found = (
+            run_on(rt.alloc(), &["nucleolus"], input.as_bytes(), 2000, line)?,
+            is_checked(rt.alloc(), input)?,
+        );
+        assert_eq!(rt; found, ((Status::Done, true), true), "on {input}");
     }
     Ok(())
 }
@@ -90,10 +92,11 @@ fn prints_shares_that_are_checked(rt: HostRuntime) -> Result<(), Fail> {
             ",\"2305843009213693952003/9223372036854775808\"]}\n",
         ),
     ] {
-        let (status, line) = printed(rt.alloc(), "nucleolus", input.as_bytes())?;
-        assert_eq!(rt; status, Status::Done);
-        assert!(rt; line.ends_with(end.as_bytes()), "on {input}");
-        assert!(rt; is_checked(rt.alloc(), input)?, "on {input}");
+        let found = (
+            ended(rt.alloc(), "nucleolus", input, end)?,
+            is_checked(rt.alloc(), input)?,
+        );
+        assert_eq!(rt; found, ((Status::Done, true), true), "on {input}");
     }
     Ok(())
 }
@@ -107,16 +110,12 @@ fn the_scheme_names_both_families_and_keeps_the_document_of_the_game(
     let line =
         "{\"answer\":\"prenucleolus\",\"certificate\":{\"levels\":[{\"bounds\":[],\"coalitions\":[[[1],1],[[2],1]],\"earlier\":[],\"excess\":\"0\",\
          \"total\":1}],\"mode\":\"players\"},\"game\":{\"class\":\"airport\",\"costs\":[0,3],\"names\":[\"a\",\"b\"]},\"shares\":[\"0\",\"3\"]}\n";
-    let found = run_on(rt.alloc(), &["prenucleolus"], input.as_bytes(), 2000, line)?;
-    assert_eq!(rt; found, (Status::Done, true));
-    Ok(())
+    expect_run(&rt, rt.alloc(), "prenucleolus", &input, line, Status::Done)
 }
 
 #[test]
 fn refuses_an_estate_above_the_claims(rt: HostRuntime) -> Result<(), Fail> {
     let input = "{\"game\":{\"claims\":[100,200,300],\"class\":\"bankruptcy\",\"estate\":601}}";
     let line = "{\"number\":8,\"refused\":\"Estate\"}\n";
-    let found = run_on(rt.alloc(), &["nucleolus"], input.as_bytes(), 100, line)?;
-    assert_eq!(rt; found, (Status::Refused, true));
-    Ok(())
+    expect_run(&rt, rt.alloc(), "nucleolus", &input, line, Status::Refused)
 }

@@ -1,6 +1,6 @@
 //! Excess per head.
 use super::nucleolus::is_checked;
-use super::{printed, run_on};
+use super::{ended, expect_answers, expect_commands, expect_runs, started};
 use crate::status::Status;
 use std::test::Fail;
 
@@ -16,17 +16,18 @@ fn the_pair_that_is_worth_half_gets_more_per_head(rt: HostRuntime) -> Result<(),
         "{\"answer\":\"nucleolus\",\"certificate\":{\"levels\":[{\"bounds\":[],\"coalitions\":[[[1,2],1],[[3],1]],\"earlier\":[],\"excess\":\"-2\",\
          \"total\":1},";
     let end = "\"shares\":[\"5\",\"5\",\"2\"]}\n";
-    let (status, line) = printed(rt.alloc(), "nucleolus", input.as_bytes())?;
-    assert_eq!(rt; status, Status::Done);
-    assert!(rt; line.starts_with(front.as_bytes()));
-    assert!(rt; line.ends_with(end.as_bytes()));
-    assert!(rt; is_checked(rt.alloc(), input)?);
+    let found = (
+        started(rt.alloc(), "nucleolus", input, front)?,
+        ended(rt.alloc(), "nucleolus", input, end)?,
+        is_checked(rt.alloc(), input)?,
+    );
+    assert_eq!(rt; found, ((Status::Done, true), (Status::Done, true), true));
     Ok(())
 }
 
 #[test]
 fn certificates_are_checked_per_head(rt: HostRuntime) -> Result<(), Fail> {
-    for &(input, line, status) in &[
+    let rows = &[
         (
             "{\"answer\":\"nucleolus\",\"certificate\":{\"levels\":[{\"bounds\":[],\"coalitions\":[[[1,2],1],[[3],1]],\"earlier\":[],\
              \"excess\":\"-2\",\"total\":1},{\"bounds\":[],\"coalitions\":[[[1,3],1],[[2,3],1]],\"earlier\":[[[3],-1]],\"excess\":\"-7/2\",\
@@ -58,26 +59,15 @@ fn certificates_are_checked_per_head(rt: HostRuntime) -> Result<(), Fail> {
             "{\"usage\":\"players\"}\n",
             Status::Usage,
         ),
-    ] {
-        let found = run_on(rt.alloc(), &["check"], input.as_bytes(), 100, line)?;
-        assert_eq!(rt; found, (status, true), "on {input}");
-    }
-    Ok(())
+    ];
+    expect_runs(&rt, rt.alloc(), "check", rows)
 }
 
 #[test]
 fn nine_players_are_too_many_per_head(rt: HostRuntime) -> Result<(), Fail> {
-    for &command in &["nucleolus", "prenucleolus"] {
-        let found = run_on(
-            rt.alloc(),
-            &[command],
-            NINE.as_bytes(),
-            100,
-            "{\"usage\":\"players\"}\n",
-        )?;
-        assert_eq!(rt; found, (Status::Usage, true));
-    }
-    Ok(())
+    let line = "{\"usage\":\"players\"}\n";
+    let commands = &["nucleolus", "prenucleolus"];
+    expect_commands(&rt, rt.alloc(), commands, NINE, line, Status::Usage)
 }
 
 #[test]
@@ -97,7 +87,7 @@ fn each_class_is_solved_per_head(rt: HostRuntime) -> Result<(), Fail> {
 
 #[test]
 fn the_other_commands_go_by_plain_excess(rt: HostRuntime) -> Result<(), Fail> {
-    for &(command, input, line, status) in &[
+    let rows = &[
         (
             "core",
             "{\"game\":{\"class\":\"airport\",\"costs\":[2,4,6],\"excess\":\"per-head\"}}",
@@ -116,9 +106,6 @@ fn the_other_commands_go_by_plain_excess(rt: HostRuntime) -> Result<(), Fail> {
             "{\"number\":3,\"refused\":\"Shape\"}\n",
             Status::Refused,
         ),
-    ] {
-        let found = run_on(rt.alloc(), &[command], input.as_bytes(), 200, line)?;
-        assert_eq!(rt; found, (status, true), "on {input}");
-    }
-    Ok(())
+    ];
+    expect_answers(&rt, rt.alloc(), rows)
 }

@@ -1,27 +1,24 @@
 //! Shares in and outside of the prekernel.
-use super::run_on;
+use super::{expect_line, expect_lines, expect_run};
 use crate::status::Status;
 use std::test::Fail;
 
 #[test]
 fn balanced_shares_are_in_the_prekernel(rt: HostRuntime) -> Result<(), Fail> {
     let line = "{\"answer\":\"prekernel\"}\n";
-    for &input in &[
+    let inputs = &[
         "{\"game\":{\"class\":\"table\",\"players\":3,\"worths\":[0,0,1,0,1,1,1]},\"shares\":[\"1/3\",\"1/3\",\"1/3\"]}",
         "{\"game\":{\"class\":\"table\",\"players\":3,\"worths\":[0,0,4,0,0,0,0]},\"shares\":[1,1,-2]}",
         "{\"game\":{\"class\":\"assignment\",\"matrix\":[[5,8],[7,6]]},\"shares\":[\"7/2\",\"7/2\",\"7/2\",\"9/2\"]}",
         "{\"game\":{\"class\":\"airport\",\"costs\":[2,4,6]},\"shares\":[1,\"3/2\",\"7/2\"]}",
         "{\"game\":{\"class\":\"table\",\"players\":1,\"worths\":[5]},\"shares\":[5]}",
-    ] {
-        let found = run_on(rt.alloc(), &["kernel"], input.as_bytes(), 100, line)?;
-        assert_eq!(rt; found, (Status::Done, true), "on {input}");
-    }
-    Ok(())
+    ];
+    expect_line(&rt, rt.alloc(), "kernel", Status::Done, line, inputs)
 }
 
 #[test]
 fn of_other_shares_the_first_two_players_are_printed(rt: HostRuntime) -> Result<(), Fail> {
-    for &(input, line) in &[
+    let rows = &[
         (
             "{\"game\":{\"class\":\"table\",\"players\":3,\"worths\":[0,0,1,0,1,1,1]},\"shares\":[1,0,0]}",
             "{\"answer\":\"not prekernel\",\"i\":1,\"ij\":\"0\",\"j\":2,\"ji\":\"1\"}\n",
@@ -38,11 +35,8 @@ fn of_other_shares_the_first_two_players_are_printed(rt: HostRuntime) -> Result<
             "{\"game\":{\"class\":\"airport\",\"costs\":[2,4,6]},\"shares\":[3,1,1]}",
             "{\"answer\":\"not efficient\",\"sum\":\"5\",\"total\":\"6\"}\n",
         ),
-    ] {
-        let found = run_on(rt.alloc(), &["kernel"], input.as_bytes(), 100, line)?;
-        assert_eq!(rt; found, (Status::Negative, true), "on {input}");
-    }
-    Ok(())
+    ];
+    expect_lines(&rt, rt.alloc(), "kernel", Status::Negative, rows)
 }
 
 #[test]
@@ -50,7 +44,5 @@ fn prekernels_of_17_players_are_too_large(rt: HostRuntime) -> Result<(), Fail> {
     let line = "{\"usage\":\"players\"}\n";
     let input =
         "{\"game\":{\"class\":\"airport\",\"costs\":[1,1,1,1,1,1,1,1,1,1,1,1,1,1,1,1,1]},\"shares\":[1,0,0,0,0,0,0,0,0,0,0,0,0,0,0,0,0]}";
-    let found = run_on(rt.alloc(), &["kernel"], input.as_bytes(), 100, line)?;
-    assert_eq!(rt; found, (Status::Usage, true));
-    Ok(())
+    expect_run(&rt, rt.alloc(), "kernel", &input, line, Status::Usage)
 }

@@ -1,11 +1,11 @@
 //! Proposals that are judged.
-use super::{BLOCKED, CORE, run_on};
+use super::{BLOCKED, CORE, expect_runs};
 use crate::status::Status;
 use std::test::Fail;
 
 #[test]
 fn judges_the_worked_documents(rt: HostRuntime) -> Result<(), Fail> {
-    for &(input, line, status) in &[
+    let rows = &[
         (
             BLOCKED,
             "{\"answer\":\"blocked\",\"coalition\":[2,3],\"excess\":\"1\"}\n",
@@ -22,16 +22,13 @@ fn judges_the_worked_documents(rt: HostRuntime) -> Result<(), Fail> {
             "{\"answer\":\"core\"}\n",
             Status::Done,
         ),
-    ] {
-        let found = run_on(rt.alloc(), &["propose"], input.as_bytes(), 200, line)?;
-        assert_eq!(rt; found, (status, true), "on {input}");
-    }
-    Ok(())
+    ];
+    expect_runs(&rt, rt.alloc(), "propose", rows)
 }
 
 #[test]
 fn judges_fractions_costs_and_named_players(rt: HostRuntime) -> Result<(), Fail> {
-    for &(input, line, status) in &[
+    let rows = &[
         (
             "{\"game\":{\"class\":\"table\",\"players\":3,\"worths\":[0,0,1,0,1,1,1]},\"shares\":[\"1/3\",\"1/3\",\"1/3\"]}",
             "{\"answer\":\"blocked\",\"coalition\":[1,2],\"excess\":\"1/3\"}\n",
@@ -86,9 +83,6 @@ fn judges_fractions_costs_and_named_players(rt: HostRuntime) -> Result<(), Fail>
             "{\"answer\":\"core\"}\n",
             Status::Done,
         ),
-    ] {
-        let found = run_on(rt.alloc(), &["propose"], input.as_bytes(), 200, line)?;
-        assert_eq!(rt; found, (status, true), "on {input}");
-    }
-    Ok(())
+    ];
+    expect_runs(&rt, rt.alloc(), "propose", rows)
 }

@@ -34,14 +34,23 @@ fn nested(alloc: Global, depth: usize) -> Result<Vec<u8>, Fail> {
     Ok(text)
 }
 
+// Whether arrays that many deep are refused by that line.
+fn is_nested_refused(alloc: Global, depth: usize, line: &str) -> Result<bool, Fail> {
+    let input = nested(alloc, depth)?;
+    is_refused(alloc, &input, line)
+}
+
 #[test]
 fn refuses_what_is_nested_deeper_than_is_read(rt: HostRuntime) -> Result<(), Fail> {
     let alloc = rt.alloc();
     let shape = "{\"number\":3,\"refused\":\"Shape\"}\n";
-    assert!(rt; is_refused(alloc, &nested(alloc, 127)?, shape)?);
     let not_json = "{\"number\":2,\"refused\":\"NotJson\"}\n";
-    assert!(rt; is_refused(alloc, &nested(alloc, 128)?, not_json)?);
-    assert!(rt; is_refused(alloc, &nested(alloc, 200)?, not_json)?);
+    let found = (
+        is_nested_refused(alloc, 127, shape)?,
+        is_nested_refused(alloc, 128, not_json)?,
+        is_nested_refused(alloc, 200, not_json)?,
+    );
+    assert_eq!(rt; found, (true, true, true));
     Ok(())
 }
 
@@ -144,9 +153,12 @@ fn refuses_one_byte_past_the_limit_and_not_the_limit_itself(rt: HostRuntime) -> 
     let alloc = rt.alloc();
     let blanks = vec![in alloc; b' '; 2_097_153]?;
     let too_long = "{\"number\":1,\"refused\":\"TooLong\"}\n";
-    assert!(rt; is_refused(alloc, &blanks, too_long)?);
     let not_json = "{\"number\":2,\"refused\":\"NotJson\"}\n";
-    assert!(rt; is_refused(alloc, &blanks[1..], not_json)?);
+    let found = (
+        is_refused(alloc, &blanks, too_long)?,
+        is_refused(alloc, &blanks[1..], not_json)?,
+    );
+    assert_eq!(rt; found, (true, true));
     Ok(())
 }
 
@@ -162,10 +174,13 @@ fn is_usage(alloc: Global, words: &[&str]) -> Result<bool, Fail> {
 
 #[test]
 fn other_words_read_nothing(rt: HostRuntime) -> Result<(), Fail> {
-    assert!(rt; is_usage(rt.alloc(), &[])?);
-    assert!(rt; is_usage(rt.alloc(), &["cores"])?);
-    assert!(rt; is_usage(rt.alloc(), &["Nucleolus"])?);
-    assert!(rt; is_usage(rt.alloc(), &["check", "check"])?);
-    assert!(rt; is_usage(rt.alloc(), &["propose", "x"])?);
+    let found = (
+        is_usage(rt.alloc(), &[])?,
+        is_usage(rt.alloc(), &["cores"])?,
+        is_usage(rt.alloc(), &["Nucleolus"])?,
+        is_usage(rt.alloc(), &["check", "check"])?,
+        is_usage(rt.alloc(), &["propose", "x"])?,
+    );
+    assert_eq!(rt; found, (true, true, true, true, true));
     Ok(())
 }

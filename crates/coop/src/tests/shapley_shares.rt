@@ -1,11 +1,11 @@
 //! Shapley shares, and games that have too many players for them.
-use super::run_on;
+use super::{expect_line, expect_lines};
 use crate::status::Status;
 use std::test::Fail;
 
 #[test]
 fn prints_shapley_shares(rt: HostRuntime) -> Result<(), Fail> {
-    for &(input, line) in &[
+    let rows = &[
         (
             "{\"game\":{\"class\":\"table\",\"players\":3,\"worths\":[0,0,1,0,1,1,1]}}",
             "{\"answer\":\"shapley\",\"shares\":[\"1/3\",\"1/3\",\"1/3\"]}\n",
@@ -24,22 +24,16 @@ fn prints_shapley_shares(rt: HostRuntime) -> Result<(), Fail> {
             "{\"answer\":\"shapley\",\"shares\":[\"1\",\"1\",\"1\",\"1\",\"1\",\"1\",\"1\",\"1\",\"1\",\"1\",\"1\",\"1\",\"1\",\"1\",\"1\",\"1\",\
              \"1\",\"1\",\"1\",\"1\",\"1\",\"1\",\"1\",\"1\",\"1\",\"1\",\"1\",\"1\",\"1\",\"1\",\"1\",\"1\"]}\n",
         ),
-    ] {
-        let found = run_on(rt.alloc(), &["shapley"], input.as_bytes(), 300, line)?;
-        assert_eq!(rt; found, (Status::Done, true), "on {input}");
-    }
-    Ok(())
+    ];
+    expect_lines(&rt, rt.alloc(), "shapley", Status::Done, rows)
 }
 
 #[test]
 fn airports_of_33_and_estates_of_17_have_too_many_players(rt: HostRuntime) -> Result<(), Fail> {
     let line = "{\"usage\":\"players\"}\n";
-    for &input in &[
+    let inputs = &[
         "{\"game\":{\"class\":\"airport\",\"costs\":[32,32,32,32,32,32,32,32,32,32,32,32,32,32,32,32,32,32,32,32,32,32,32,32,32,32,32,32,32,32,32,32,32]}}",
         "{\"game\":{\"claims\":[1,1,1,1,1,1,1,1,1,1,1,1,1,1,1,1,1],\"class\":\"bankruptcy\",\"estate\":17}}",
-    ] {
-        let found = run_on(rt.alloc(), &["shapley"], input.as_bytes(), 100, line)?;
-        assert_eq!(rt; found, (Status::Usage, true), "on {input}");
-    }
-    Ok(())
+    ];
+    expect_line(&rt, rt.alloc(), "shapley", Status::Usage, line, inputs)
 }

@@ -1,5 +1,5 @@
 //! The nucleolus of tables and of cost tables, its certificate read back, and tables without an imputation.
-use super::{printed, run_on};
+use super::{expect_lines, expect_run, printed, run_on};
 use crate::status::Status;
 use std::alloc::Global;
 use std::test::Fail;
@@ -7,6 +7,19 @@ use std::test::Fail;
 const DEPARTMENTS: &str =
     "{\"game\":{\"class\":\"cost-table\",\"default\":18,\"names\":[\"Sales\",\"Ops\",\"Legal\",\"IT\",\"HR\"],\"players\":5,\
      \"sparse\":[[[\"Sales\"],6],[[\"Ops\"],6],[[\"Legal\"],6],[[\"IT\"],6],[[\"HR\"],6],[[\"Sales\",\"Ops\",\"Legal\",\"IT\",\"HR\"],20]]}}";
+
+// The status of a run of this command on this input, whether its line ends so, and the same of `check` on that line,
+// whose answer is yes.
+fn printed_and_checked(
+    alloc: Global,
+    command: &str,
+    input: &str,
+    end: &str,
+) -> Result<((Status, bool), (Status, bool)), Fail> {
+    let (status, line) = printed(alloc, command, input.as_bytes())?;
+    let checked = run_on(alloc, &["check"], &line, 100, "{\"answer\":\"yes\"}\n")?;
+    Ok(((status, line.ends_with(end.as_bytes())), checked))
+}
 
 #[test]
 fn prints_shares_of_tables_that_are_checked(rt: HostRuntime) -> Result<(), Fail> {
@@ -78,11 +91,12 @@ fn prints_shares_of_tables_that_are_checked(rt: HostRuntime) -> Result<(), Fail>
             "\"shares\":[\"5/2\",\"5/2\"]}\n",
         ),
     ] {
-        let (status, line) = printed(rt.alloc(), command, input.as_bytes())?;
-        assert_eq!(rt; status, Status::Done);
-        assert!(rt; line.ends_with(end.as_bytes()), "{command} of {input}");
-        let checked = run_on(rt.alloc(), &["check"], &line, 100, "{\"answer\":\"yes\"}\n")?;
-        assert_eq!(rt; checked, (Status::Done, true), "{command} of {input}");
+        let found = printed_and_checked(rt.alloc(), command, input, end)?;
+        assert_eq!(rt;
+            found,
+            ((Status::Done, true), (Status::Done, true)),
+            "{command} of {input}"
+        );
     }
     Ok(())
 }
@@ -93,14 +107,12 @@ fn one_player_gets_all_without_a_level(rt: HostRuntime) -> Result<(), Fail> {
     let line =
         "{\"answer\":\"nucleolus\",\"certificate\":{\"levels\":[],\"mode\":\"span\"},\"game\":{\"class\":\"table\",\"players\":1,\"worths\":[5]},\
          \"shares\":[\"5\"]}\n";
-    let found = run_on(rt.alloc(), &["nucleolus"], input.as_bytes(), 200, line)?;
-    assert_eq!(rt; found, (Status::Done, true));
-    Ok(())
+    expect_run(&rt, rt.alloc(), "nucleolus", &input, line, Status::Done)
 }
 
 #[test]
 fn players_who_have_more_alone_have_no_imputation(rt: HostRuntime) -> Result<(), Fail> {
-    for &(input, line) in &[
+    let rows = &[
         (
             "{\"game\":{\"class\":\"table\",\"players\":2,\"worths\":[3,3,5]}}",
             "{\"answer\":\"no imputation\",\"singles\":\"6\",\"total\":\"5\"}\n",
@@ -109,11 +121,8 @@ fn players_who_have_more_alone_have_no_imputation(rt: HostRuntime) -> Result<(),
             "{\"game\":{\"class\":\"cost-table\",\"players\":2,\"worths\":[1,1,5]}}",
             "{\"answer\":\"no imputation\",\"singles\":\"2\",\"total\":\"5\"}\n",
         ),
-    ] {
-        let found = run_on(rt.alloc(), &["nucleolus"], input.as_bytes(), 100, line)?;
-        assert_eq!(rt; found, (Status::Negative, true), "on {input}");
-    }
-    Ok(())
+    ];
+    expect_lines(&rt, rt.alloc(), "nucleolus", Status::Negative, rows)
 }
 
 // Whether `nucleolus` and `prenucleolus` refuse this input by that line.
@@ -153,8 +162,11 @@ fn reads_to_the_limit_and_one_byte_more_is_too_long(rt: HostRuntime) -> Result<(
     let alloc = rt.alloc();
     let blanks = vec![in alloc; b' '; 2_097_153]?;
     let too_long = "{\"number\":1,\"refused\":\"TooLong\"}\n";
-    assert!(rt; is_refused(alloc, &blanks, too_long)?);
     let not_json = "{\"number\":2,\"refused\":\"NotJson\"}\n";
-    assert!(rt; is_refused(alloc, &blanks[1..], not_json)?);
+    let found = (
+        is_refused(alloc, &blanks, too_long)?,
+        is_refused(alloc, &blanks[1..], not_json)?,
+    );
+    assert_eq!(rt; found, (true, true));
     Ok(())
 }

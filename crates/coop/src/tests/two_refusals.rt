@@ -1,11 +1,11 @@
 //! Documents that two refusals apply to.
-use super::run_on;
+use super::expect_lines;
 use crate::status::Status;
 use std::test::Fail;
 
 #[test]
 fn of_two_refusals_the_first_is_answered(rt: HostRuntime) -> Result<(), Fail> {
-    for &(input, line) in &[
+    let rows = &[
         (
             "{\"game\":{\"clas\":",
             "{\"number\":2,\"refused\":\"NotJson\"}\n",
@@ -213,9 +213,6 @@ fn of_two_refusals_the_first_is_answered(rt: HostRuntime) -> Result<(), Fail> {
             "{\"game\":{\"class\":\"airport\",\"costs\":[1,2,3]},\"shares\":[1,\"1/9223372036854775809\",1,1]}",
             "{\"number\":10,\"refused\":\"Proposal\"}\n",
         ),
-    ] {
-        let found = run_on(rt.alloc(), &["propose"], input.as_bytes(), 100, line)?;
-        assert_eq!(rt; found, (Status::Refused, true), "on {input}");
-    }
-    Ok(())
+    ];
+    expect_lines(&rt, rt.alloc(), "propose", Status::Refused, rows)
 }

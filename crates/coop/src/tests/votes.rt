@@ -1,6 +1,6 @@
 //! Weighted voting games.
 use super::nucleolus::is_checked;
-use super::{printed, run_on};
+use super::{ended, expect_commands, expect_lines, expect_run, expect_runs};
 use crate::status::Status;
 use std::test::Fail;
 
@@ -29,7 +29,7 @@ const UNANIMOUS: &str = "{\"answer\":\"nucleolus\",\"certificate\":{\"levels\":[
 
 #[test]
 fn shapley_shares_of_votes(rt: HostRuntime) -> Result<(), Fail> {
-    for &(input, line) in &[
+    let rows = &[
         (
             THREE,
             "{\"answer\":\"shapley\",\"shares\":[\"2/3\",\"1/6\",\"1/6\"]}\n",
@@ -45,28 +45,25 @@ fn shapley_shares_of_votes(rt: HostRuntime) -> Result<(), Fail> {
              \"1/32\",\"1/32\",\"1/32\",\"1/32\",\"1/32\",\"1/32\",\"1/32\",\"1/32\",\"1/32\",\"1/32\",\"1/32\",\"1/32\",\"1/32\",\"1/32\",\"1/32\",\
              \"1/32\",\"1/32\",\"1/32\",\"1/32\",\"1/32\",\"1/32\"]}\n",
         ),
-    ] {
-        let found = run_on(rt.alloc(), &["shapley"], input.as_bytes(), 400, line)?;
-        assert_eq!(rt; found, (Status::Done, true), "on {input}");
-    }
-    Ok(())
+    ];
+    expect_lines(&rt, rt.alloc(), "shapley", Status::Done, rows)
 }
 
 #[test]
 fn who_can_block_gets_all_of_the_nucleolus(rt: HostRuntime) -> Result<(), Fail> {
-    let (status, line) = printed(rt.alloc(), "nucleolus", THREE.as_bytes())?;
-    assert_eq!(rt; status, Status::Done);
-    assert!(rt; line.ends_with(b"\"shares\":[\"1\",\"0\",\"0\"]}\n"));
-    assert!(rt; is_checked(rt.alloc(), THREE)?);
+    let end = "\"shares\":[\"1\",\"0\",\"0\"]}\n";
+    let found = (
+        ended(rt.alloc(), "nucleolus", THREE, end)?,
+        is_checked(rt.alloc(), THREE)?,
+    );
+    assert_eq!(rt; found, ((Status::Done, true), true));
     let line = "{\"answer\":\"core point\",\"shares\":[\"1\",\"0\",\"0\"]}\n";
-    let found = run_on(rt.alloc(), &["core"], THREE.as_bytes(), 100, line)?;
-    assert_eq!(rt; found, (Status::Done, true));
-    Ok(())
+    expect_run(&rt, rt.alloc(), "core", &THREE, line, Status::Done)
 }
 
 #[test]
 fn proposals_to_voters_are_judged(rt: HostRuntime) -> Result<(), Fail> {
-    for &(input, line, status) in &[
+    let rows = &[
         (
             "{\"game\":{\"class\":\"voting\",\"quota\":5,\"weights\":[4,2,1]},\"shares\":[0,\"1/2\",\"1/2\"]}",
             "{\"answer\":\"blocked\",\"coalition\":[1,2],\"excess\":\"1/2\"}\n",
@@ -82,16 +79,13 @@ fn proposals_to_voters_are_judged(rt: HostRuntime) -> Result<(), Fail> {
             "{\"answer\":\"blocked\",\"coalition\":[2,3,4,5,6,7,8,9,10],\"excess\":\"1\"}\n",
             Status::Negative,
         ),
-    ] {
-        let found = run_on(rt.alloc(), &["propose"], input.as_bytes(), 100, line)?;
-        assert_eq!(rt; found, (status, true), "on {input}");
-    }
-    Ok(())
+    ];
+    expect_runs(&rt, rt.alloc(), "propose", rows)
 }
 
 #[test]
 fn the_quota_is_refused_behind_the_estate(rt: HostRuntime) -> Result<(), Fail> {
-    for &(input, line) in &[
+    let rows = &[
         (
             "{\"game\":{\"class\":\"voting\",\"quota\":0,\"weights\":[1]},\"shares\":[]}",
             "{\"number\":13,\"refused\":\"Quota\"}\n",
@@ -104,30 +98,21 @@ fn the_quota_is_refused_behind_the_estate(rt: HostRuntime) -> Result<(), Fail> {
             "{\"game\":{\"class\":\"voting\",\"quota\":1,\"weights\":[1]},\"shares\":[]}",
             "{\"number\":10,\"refused\":\"Proposal\"}\n",
         ),
-    ] {
-        let found = run_on(rt.alloc(), &["propose"], input.as_bytes(), 100, line)?;
-        assert_eq!(rt; found, (Status::Refused, true), "on {input}");
-    }
-    Ok(())
+    ];
+    expect_lines(&rt, rt.alloc(), "propose", Status::Refused, rows)
 }
 
 #[test]
 fn certificates_of_32_voters_are_checked(rt: HostRuntime) -> Result<(), Fail> {
     let line = "{\"answer\":\"yes\"}\n";
-    let found = run_on(rt.alloc(), &["check"], UNANIMOUS.as_bytes(), 100, line)?;
-    assert_eq!(rt; found, (Status::Done, true));
-    Ok(())
+    expect_run(&rt, rt.alloc(), "check", &UNANIMOUS, line, Status::Done)
 }
 
 #[test]
 fn seventeen_voters_are_too_many_for_coalitions(rt: HostRuntime) -> Result<(), Fail> {
-    for &command in &["nucleolus", "prenucleolus", "core", "convex", "kernel"] {
-        let line = "{\"usage\":\"players\"}\n";
-        let found = run_on(rt.alloc(), &[command], SEVENTEEN.as_bytes(), 100, line)?;
-        assert_eq!(rt; found, (Status::Usage, true), "to {command}");
-    }
+    let line = "{\"usage\":\"players\"}\n";
+    let commands = &["nucleolus", "prenucleolus", "core", "convex", "kernel"];
+    expect_commands(&rt, rt.alloc(), commands, SEVENTEEN, line, Status::Usage)?;
     let line = "{\"usage\":\"class\"}\n";
-    let found = run_on(rt.alloc(), &["bird"], SEVENTEEN.as_bytes(), 100, line)?;
-    assert_eq!(rt; found, (Status::Usage, true));
-    Ok(())
+    expect_run(&rt, rt.alloc(), "bird", &SEVENTEEN, line, Status::Usage)
 }
