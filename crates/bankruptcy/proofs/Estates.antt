@@ -1,24 +1,16 @@
 -- What an estate and claims are tested for.
-use Rattle.std.proofs.Common.{◌≡◌, ℕ, zero, suc, ◌+◌, ◌<◌, ◌≤◌, ◌^◌, eqb, Bool, false, List, [], ◌∷◌, length, map, sum, fold, All, ℤ, pos, nat_abs, unsigned_abs, refl, sym, ap, ◌∙◌, arith}
+use Rattle.std.proofs.Common.{◌≡◌, ℕ, ◌<◌, ◌≤◌, ◌^◌, eqb, Bool, false, List, length, map, sum, All, ℤ, pos, nat_abs, unsigned_abs, sym, ap, ◌∙◌, arith}
 use Rattle.std.specs.List.{sum_by}
 use Rattle.std.proofs.lemmas.List.{length-map}
 use Rattle.std.proofs.lemmas.Int.{ints}
-use Rattle.std.proofs.lemmas.Bool.{false≢true}
 use Rattle.orders.specs.Numbers.{IsNumber}
+use Rattle.orders.proofs.Tested.{not_zero, same_sum}
 use Rattle.bankruptcy.specs.Bankruptcy.{HavePlayers, IsAboveClaims, IsBankruptcy, bankruptcy}
-
-not_zero : (l : ℕ) (b : Bool) → b ≡ eqb l 0 → b ≡ false → 1 ≤ l
-not_zero zero b e f = absurd (false≢true (sym f ∙ e))
-not_zero (suc l) b e f = omega arith
 
 pub have_players : (claims : List ℤ) (l k : ℕ) (b : Bool) → l ≡ length claims → b ≡ eqb l 0 → b ≡ false → k ≡ l → k ≤ 64 → HavePlayers claims
 have_players claims l k b all e f same few =
     let some = not_zero l b e f in
     (omega (arith, all, some), omega (arith, all, same, few))
-
-same_sum : (a : ℕ) (cs : List ℕ) → fold (λ s z. s + unsigned_abs z) a (map pos cs) ≡ fold ◌+◌ a cs
-same_sum a [] = refl
-same_sum a (c ∷ cs) = same_sum (a + c) cs
 
 -- an estate z
 module _ (estate z : ℤ) (claims : List ℤ) (total : ℕ) (kept : z ≡ estate) (number : IsNumber estate) (sums : total ≡ sum_by unsigned_abs claims) where

@@ -1,3 +1,4 @@
 pub mod Fronts
 pub mod Sorting
 pub mod ListSums
+pub mod Tested

@@ -1,15 +1,11 @@
 -- What a quota and weights are tested for.
-use Rattle.std.proofs.Common.{◌≡◌, ℕ, zero, suc, ◌<◌, ◌≤◌, eqb, Bool, true, false, List, [], ◌∷◌, length, map, sum, fold, All, ◌+◌, ◌^◌, refl, ap, ℤ, pos, nat_abs, unsigned_abs, sym, ◌∙◌, arith}
+use Rattle.std.proofs.Common.{◌≡◌, ℕ, ◌<◌, ◌≤◌, eqb, Bool, true, false, List, length, map, sum, All, ◌^◌, ap, ℤ, pos, nat_abs, unsigned_abs, sym, ◌∙◌, arith}
 use Rattle.std.specs.List.{sum_by}
 use Rattle.std.proofs.lemmas.List.{length-map}
 use Rattle.std.proofs.lemmas.Int.{ints}
-use Rattle.std.proofs.lemmas.Bool.{false≢true}
 use lib.Signed.{lt_z}
+use Rattle.orders.proofs.Tested.{not_zero, same_sum}
 use Rattle.voting.specs.Voting.{HavePlayers, IsQuota, IsVoting, voting}
-
-not_zero : (l : ℕ) (b : Bool) → b ≡ eqb l 0 → b ≡ false → 1 ≤ l
-not_zero zero b e f = absurd (false≢true (sym f ∙ e))
-not_zero (suc l) b e f = omega arith
 
 pub have_players : (weights : List ℤ) (l k : ℕ) (b : Bool) → l ≡ length weights → b ≡ eqb l 0 → b ≡ false → k ≡ l → k ≤ 32 → HavePlayers weights
 have_players weights l k b all e f same few =
@@ -36,10 +32,6 @@ module _ (quota z : ℤ) (weights : List ℤ) (total : ℕ) (kept : z ≡ quota)
 
   pub too_high : total < nat_abs z → ¬ IsQuota quota weights
   too_high high = λ q. omega (arith, ints, kept, high, sums, q.positive, q.reached)
-
-same_sum : (a : ℕ) (ws : List ℕ) → fold (λ s z. s + unsigned_abs z) a (map pos ws) ≡ fold ◌+◌ a ws
-same_sum a [] = refl
-same_sum a (w ∷ ws) = same_sum (a + w) ws
 
 -- the numbers that are kept
 pub is_voting : (quota z : ℤ) (weights : List ℤ) (ws : List ℕ) → z ≡ quota → map pos ws ≡ weights → All (λ w. w < 2 ^ 40) ws → HavePlayers weights → IsQuota quota weights → IsVoting (voting (nat_abs z) ws)
