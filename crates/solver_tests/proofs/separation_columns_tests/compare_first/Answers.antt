@@ -1,4 +1,4 @@
-use Rattle.std.proofs.Common.{ℕ, List, [], ◌∷◌, sym, subst}
+use Rattle.std.proofs.Common.{ℕ, [], ◌∷◌, sym, subst}
 use Rattle.definitions.specs.Coalitions.{grand_coalition}
 use Rattle.spans.specs.Span.{SpanData}
 use Rattle.kohlberg.proofs.SpanScan.{SpansFixed-start}
