@@ -1,11 +1,11 @@
 -- The Shapley shares of a convex game lie in its core, since those of each order do (Shapley 1971).
-use Rattle.std.proofs.Common.{◌≡◌, ℕ, zero, suc, ◌+◌, ◌*◌, ◌^◌, ◌<◌, List, [], ◌∷◌, ◌++◌, length, length-append, ℤ, pos, ◌+ℤ◌, ◌*ℤ◌, ◌<ℤ◌, ◌≤ℤ◌, Bool, true, false, cond, refl, sym, ap, ◌∙◌, arith}
+use Rattle.std.proofs.Common.{◌≡◌, ℕ, zero, suc, ◌+◌, ◌*◌, ◌^◌, ◌<◌, List, [], ◌∷◌, ◌++◌, length, length-append, ℤ, pos, ◌+ℤ◌, ◌*ℤ◌, ◌<ℤ◌, ◌≤ℤ◌, refl, sym, ap, ◌∙◌, arith}
 use Rattle.std.specs.List.{AllByRecursion, flat_map}
 use lib.IntN.{*ℤ_comm}
 use Rattle.definitions.proofs.Ring.{linear, add-mulℤ, zero-mulℤ, one-mulℤ, mul-leℤ, mul-cancelℤ, mul-le_cancelℤ, mul_left_commℤ}
 use Rattle.definitions.proofs.Alls.{all_weaken}
 use Rattle.definitions.proofs.SumsOver.{sum_over-same, sum_over-times, sum_over-add, sum_over-zero}
-use Rattle.definitions.specs.Coalitions.{has_player, grand_coalition, sum_over}
+use Rattle.definitions.specs.Coalitions.{grand_coalition, sum_over}
 use Rattle.definitions.specs.Games.{Game, Allocation, share, amount, IsEfficient, Blocks, InCore}
 use Rattle.definitions.specs.Shapley.{IsOrder, insertions, orders, marginal_worth, total_over, shapley_total, factorial, IsShapley}
 use Rattle.definitions.specs.Convexity.{IsConvex}

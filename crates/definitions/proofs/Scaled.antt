@@ -1,9 +1,8 @@
 -- A game over a scale and the game of its whole numbers: shares, excesses, families, the nucleolus and the core.
-use Rattle.std.proofs.Common.{◌≡◌, ◌⊎◌, ◌↔◌, ℕ, ◌<◌, ◌≤◌, ◌^◌, Bool, true, false, cond, List, [], ◌∷◌, length, map, ℤ, pos, ◌-ℤ◌, ◌*ℤ◌, ◌<ℤ◌, ◌≤ℤ◌, refl, sym, ap, ap₂, subst, ◌∙◌, inl, inr, arith}
+use Rattle.std.proofs.Common.{◌≡◌, ℕ, Bool, true, false, cond, List, [], ◌∷◌, length, map, ℤ, pos, ◌-ℤ◌, ◌*ℤ◌, ◌<ℤ◌, ◌≤ℤ◌, refl, sym, ap, ap₂, subst, ◌∙◌, inl, inr, arith}
 use Rattle.std.proofs.lemmas.List.{get_or_past, get_or-map, length-map}
 use Rattle.definitions.proofs.Ring.{linear, ring_laws, mul-subℤ, mul_assocℤ, mul_left_commℤ, mul-leℤ, mul-cancelℤ, mul-zeroℤ, one-mulℤ, mul-positiveℤ}
 use Rattle.definitions.proofs.Members.{sum_below-same, sum_below-times}
-use Rattle.definitions.proofs.Families.{allocation_of}
 use Rattle.definitions.proofs.ScaledLists.{order_kept, values_times}
 use Rattle.definitions.specs.Coalitions.{has_player, singleton, grand_coalition, proper_coalitions, sum_over}
 use Rattle.definitions.specs.Games.{Game, Allocation, share, amount, excess, measured_excess, excess_list, IsAllocation, IsEfficient, IsIndividuallyRational, InFamily, Beats, IsSame, IsNucleolus, Blocks, InCore, IsChosenBlocker}

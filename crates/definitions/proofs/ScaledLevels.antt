@@ -1,12 +1,12 @@
 -- A certificate over a scale, and the certificate with its excesses times the scale.
-use Rattle.std.proofs.Common.{◌≡◌, ◌≢◌, ◌⊎◌, ◌↔◌, ℕ, zero, suc, ◌-◌, ◌<◌, ◌^◌, Bool, true, false, IsTrue, not, ◌&&◌, ◌||◌, nat_eq, List, [], ◌∷◌, ◌++◌, ℤ, pos, ◌*ℤ◌, ◌≤ℤ◌, refl, sym, ap, ap₂, subst, ◌∙◌, inl, inr, arith}
+use Rattle.std.proofs.Common.{◌≡◌, ℕ, zero, suc, ◌-◌, Bool, IsTrue, not, ◌&&◌, ◌||◌, nat_eq, List, [], ◌∷◌, ◌++◌, ℤ, pos, ◌*ℤ◌, ◌≤ℤ◌, refl, sym, ap, ap₂, subst, ◌∙◌, inl, inr, arith}
 use Rattle.std.specs.List.{list_any, AllByRecursion}
 use Rattle.std.specs.Prelude.{int_le}
-use Rattle.definitions.proofs.Ring.{linear, ring_laws, mul_assocℤ, mul-leℤ, mul-le_cancelℤ, mul-cancelℤ}
+use Rattle.definitions.proofs.Ring.{linear, ring_laws, mul-leℤ, mul-le_cancelℤ, mul-cancelℤ}
 use Rattle.definitions.proofs.Scaled.{above_zero, share_times, measured_times, family_to, family_from}
-use Rattle.definitions.specs.Coalitions.{has_player, singleton, grand_coalition, some_below, splits, weight_at}
-use Rattle.definitions.specs.Games.{Game, Allocation, share, measured_excess}
-use Rattle.definitions.specs.Certificates.{Level, is_listed, has_bound, is_fixed, is_free, IsFixedVector, InSpan, IsOutside, IsAllFixed, HasExcess, HasAtMostExcess, IsTight, BoundWeighs, BoundWeights, IsBalanced, Weights, LevelHolds, LevelsHold, Certifies}
+use Rattle.definitions.specs.Coalitions.{has_player, singleton, grand_coalition, some_below, splits}
+use Rattle.definitions.specs.Games.{Game, Allocation, measured_excess}
+use Rattle.definitions.specs.Certificates.{Level, is_listed, has_bound, is_free, IsFixedVector, InSpan, IsOutside, IsAllFixed, HasExcess, HasAtMostExcess, IsTight, BoundWeighs, IsBalanced, LevelHolds, LevelsHold, Certifies}
 use Rattle.definitions.specs.Scales.{times, measured_excess_over, IsLevelOver, AreLevelsOver, HasExcessOver, HasAtMostExcessOver, IsTightOver, LevelHoldsOver, LevelsHoldOver, CertifiesOver}
 use Rattle.definitions.specs.Measures.{measured_den}
 use Rattle.definitions.specs.declared.Family.{Family}

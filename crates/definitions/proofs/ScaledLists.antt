@@ -1,6 +1,6 @@
 -- Lists of numbers times a number above 0: their order, and which comes first.
-use Rattle.std.proofs.Common.{◌≡◌, ℕ, Bool, true, false, cond, List, [], ◌∷◌, length, map, ℤ, pos, ◌*ℤ◌, ◌<ℤ◌, ◌≤ℤ◌, int_lt, refl, sym, ap, ap₂, subst, ◌∙◌, inl, inr, arith}
-use Rattle.std.proofs.lemmas.Int.{ints, by_lt_z}
+use Rattle.std.proofs.Common.{◌≡◌, ℕ, Bool, true, false, cond, List, [], ◌∷◌, length, map, ℤ, pos, ◌*ℤ◌, ◌<ℤ◌, int_lt, refl, sym, ap, ap₂, subst, ◌∙◌, inl, inr, arith}
+use Rattle.std.proofs.lemmas.Int.{by_lt_z}
 use Rattle.std.proofs.lemmas.List.{length-map}
 use Rattle.definitions.proofs.Ring.{linear, mul-leℤ, mul-ltℤ, mul-cancelℤ}
 use Rattle.definitions.specs.Order.{with_number, sorted, IsLesser, ComesBefore}

@@ -1,5 +1,5 @@
 -- What a scan over the numbers in ascending order knows, one number further on.
-use Rattle.std.proofs.Common.{◌≡◌, ◌⊎◌, ℕ, zero, suc, ◌+◌, ◌-◌, ◌^◌, ◌<◌, ◌≤◌, ◌↔◌, IsTrue, Bool, true, false, cond, List, [], ◌∷◌, ◌++◌, map, ℤ, pos, ◌<ℤ◌, ◌≤ℤ◌, int_lt, arith, refl, sym, ap, subst, ◌∙◌, inl, inr, add-one, append-nil}
+use Rattle.std.proofs.Common.{◌≡◌, ℕ, zero, suc, ◌+◌, ◌-◌, ◌^◌, ◌<◌, ◌≤◌, ◌↔◌, IsTrue, Bool, true, false, cond, List, [], ◌∷◌, ◌++◌, map, ℤ, pos, ◌<ℤ◌, ◌≤ℤ◌, int_lt, arith, refl, sym, ap, subst, ◌∙◌, inl, inr, add-one, append-nil}
 use Rattle.std.proofs.lemmas.Bool.{false≢true}
 use Rattle.std.proofs.lemmas.Int.{ints, by_lt_z}
 use Rattle.std.proofs.lemmas.List.Elements.{filter-append}

@@ -1,5 +1,5 @@
 -- What the levels of a certificate settle of a difference d between two members of a family: d i is a number per player, and a coalition's number is the sum over its members.
-use Rattle.std.proofs.Common.{◌≡◌, ◌≢◌, ◌⊎◌, ℕ, zero, suc, ◌-◌, ◌^◌, ◌<◌, ◌≤◌, Bool, true, false, not, cond, ◌&&◌, ◌||◌, List, [], ◌∷◌, ◌++◌, ℤ, pos, ◌+ℤ◌, ◌-ℤ◌, ◌*ℤ◌, ◌≤ℤ◌, ◌<ℤ◌, refl, sym, ap, ◌∙◌, inl, inr, arith, nat_eq, int_le, if◌then◌else◌, IsTrue}
+use Rattle.std.proofs.Common.{◌≡◌, ◌≢◌, ◌⊎◌, ℕ, zero, suc, ◌-◌, ◌<◌, ◌≤◌, Bool, true, false, not, cond, ◌&&◌, ◌||◌, List, [], ◌∷◌, ◌++◌, ℤ, pos, ◌+ℤ◌, ◌-ℤ◌, ◌*ℤ◌, ◌≤ℤ◌, ◌<ℤ◌, refl, sym, ap, ◌∙◌, inl, inr, arith, nat_eq, int_le, if◌then◌else◌, IsTrue}
 use Rattle.std.specs.List.{list_any, AllByRecursion}
 use Rattle.std.proofs.lemmas.Int.{by_lt_z}
 use Rattle.std.proofs.lemmas.Bool.{false≢true}
@@ -11,7 +11,6 @@ use Rattle.definitions.specs.Coalitions.{has_player, singleton, grand_coalition,
 use Rattle.definitions.specs.Certificates.{Level, is_listed, has_bound, is_fixed, is_free, number_at, IsFixedVector, InSpan, IsOutside, IsAllFixed}
 use Rattle.definitions.specs.declared.Mode.{Mode}
 use Rattle.definitions.specs.declared.Mode.TheVariants.{Players, Span}
-use Rattle.std.proofs.Math.Pow.{pow-lt}
 use Rattle.definitions.proofs.Cases.{less_or_last, nat_eq-same, or_cases, not_true, nat_eq-less}
 use Rattle.definitions.proofs.Splits.{some_below-false}
 use Rattle.definitions.proofs.Masks.{singleton-within}

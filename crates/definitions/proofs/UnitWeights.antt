@@ -1,5 +1,5 @@
 -- The weight 1 is positive, and small.
-use Rattle.std.proofs.Common.{ℤ, pos, ◌≤ℤ◌, arith}
+use Rattle.std.proofs.Common.{pos, ◌≤ℤ◌, arith}
 use Rattle.std.proofs.lemmas.Int.{ints}
 use Rattle.definitions.specs.Certificates.{IsSmall}
 

@@ -15,7 +15,6 @@ use Rattle.nested_programs.specs.Answer.{IsShort, IsPoint}
 use Rattle.nested_programs.specs.Stages.{AreDone}
 use Rattle.nested_programs.proofs.LastStage.{certified}
 use Rattle.nested_programs.proofs.OnePlayer.{one_certified}
-use Rattle.definitions.specs.declared.Measure.TheVariants.{Plain}
 use Rattle.kohlberg.specs.Solved.{HasFew, IsLowest}
 use Rattle.definitions.proofs.Alls.{all_weaken}
 use Rattle.separation.specs.Shares.{IsReadFrom}

@@ -20,7 +20,6 @@ use Rattle.nested_programs.specs.Chain.{Stage, StageHolds, levels_of, IsChain, l
 use Rattle.nested_programs.proofs.Advance.{Reads, Settled_pairs, restrict, advance, append_assoc, earlier_of-more, BoundComes}
 use Rattle.nested_programs.proofs.Form.{level_balanced, level_proper}
 use Rattle.nested_programs.proofs.Chain.{Past, past_none, past_more, outside_low, weighted_family, append_none, length_more}
-use Rattle.definitions.specs.declared.Measure.TheVariants.{Plain}
 use Rattle.definitions.proofs.Alls.{all_left, all_right, all_weaken}
 
 -- the multipliers of the last stage settle all levels

@@ -12,7 +12,6 @@ use Rattle.nested_programs.specs.Chain.{Stage, levels_of, IsChain, last_of}
 use Rattle.nested_programs.specs.Stages.{OwnExcesses, AreLast, AreDone}
 use Rattle.nested_programs.proofs.Certify.{last_reads, chain_certified}
 use Rattle.nested_programs.proofs.OwnExcesses.{have_excesses}
-use Rattle.definitions.specs.declared.Measure.TheVariants.{Plain}
 
 chain_end : (family : Family) (measure : Measure) (g : Game) (ts : List Stage) (m : Multipliers) (x : Allocation) → IsMeasurable measure g.players → IsChain family measure g [] ts → OwnExcesses g 0 ts → AreLast ts (Some m) → IsAllFixed Span g.players (levels_of ts) → IsReadFrom g.players m.num.items m.den x → Certifies Span family measure g x (levels_of ts)
 chain_end family measure g [] m x has chain own last fixed read = absurd last

@@ -11,7 +11,6 @@ use Rattle.definitions.specs.declared.Family.{Family}
 use Rattle.definitions.specs.declared.Measure.{Measure}
 use Rattle.definitions.specs.declared.Family.TheVariants.{Imputations, Preimputations}
 use Rattle.definitions.specs.declared.Mode.TheVariants.{Span}
-use Rattle.definitions.specs.declared.Measure.TheVariants.{Plain}
 
 fixed_everyone : (n s : ℕ) → IsFixedVector n [] s → s ≡ grand_coalition n
 fixed_everyone n s (inl e) = e

@@ -3,7 +3,7 @@ use Rattle.std.proofs.Common.{◌≡◌, ℕ, zero, suc, ◌+◌, ◌-◌, ◌<�
 use Rattle.std.proofs.lemmas.Bool.{false≢true}
 use Rattle.std.proofs.lemmas.Bool.Decides.{nat_tests}
 use Rattle.std.specs.List.{AllByRecursion}
-use Rattle.definitions.proofs.Ring.{linear, mul-zeroℤ, mul-oneℤ, mul-subℤ}
+use Rattle.definitions.proofs.Ring.{linear, mul-zeroℤ, mul-subℤ}
 use Rattle.definitions.proofs.Members.{sum_below-same, sum_over-grand_coalition, sum_over-singleton, sum_below-split, times_bit}
 use Rattle.definitions.specs.Sums.{sum_below}
 use Rattle.definitions.specs.Coalitions.{has_player, singleton, grand_coalition, sum_over}

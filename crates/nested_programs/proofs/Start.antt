@@ -12,7 +12,6 @@ use Rattle.definitions.specs.Coalitions.{has_player, singleton, grand_coalition,
 use Rattle.definitions.specs.Measures.{divisor}
 use Rattle.definitions.specs.Games.{Game, Allocation, share, amount, IsAllocation, IsEfficient, InFamily}
 use Rattle.definitions.specs.Certificates.{Level, IsFixedVector, InSpan, IsOutside}
-use lib.IntN.{*ℤ_comm}
 use Rattle.definitions.specs.Programs.{Bounds, HasRay, HasNoSolution, Solves}
 use Rattle.definitions.specs.declared.Family.{Family}
 use Rattle.definitions.specs.declared.Measure.{Measure}

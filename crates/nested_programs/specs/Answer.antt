@@ -23,7 +23,6 @@ use Rattle.nested_programs.specs.declared.found.Found.{Found}
 use Rattle.nested_programs.specs.declared.found.Found.TheVariants.{Point, NoImputation}
 use Rattle.nested_programs.specs.declared.found.NestedFault.{NestedFault}
 use Rattle.nested_programs.specs.declared.found.NestedFault.TheVariants.{TooMany, Memory}
-use Rattle.definitions.specs.declared.Measure.TheVariants.{Plain}
 
 -- the worths of the players alone, added
 abbrev pub singles : Game → ℤ
