@@ -15,9 +15,9 @@ use Rattle.definitions.specs.Failures.{Reason as Failure, not_efficient, not_ind
 use Rattle.definitions.specs.declared.Family.{Family}
 use Rattle.definitions.specs.declared.Measure.{Measure}
 use Rattle.definitions.specs.declared.Mode.{Mode}
-use Rattle.checker.specs.declared.verdicts.Place.TheVariants.{Coalition, Player}
-use Rattle.checker.specs.declared.verdicts.Reason.{Reason}
-use Rattle.checker.specs.declared.verdicts.Reason.TheVariants.{NotEfficient, NotIndividual, WrongExcess, WeightSign, Unbalanced, BoundNotTight, OutsideAbove, NotAll}
+use Rattle.kohlberg.specs.declared.verdicts.Place.TheVariants.{Coalition, Player}
+use Rattle.kohlberg.specs.declared.verdicts.Reason.{Reason}
+use Rattle.kohlberg.specs.declared.verdicts.Reason.TheVariants.{NotEfficient, NotIndividual, WrongExcess, WeightSign, Unbalanced, BoundNotTight, OutsideAbove, NotAll}
 use Rattle.checker.specs.Meaning.{Means, IsGreatestOutside}
 
 -- ---- values

@@ -8,7 +8,7 @@ use Rattle.definitions.specs.Failures.{IsFirstFailure}
 use Rattle.definitions.specs.declared.Family.{Family}
 use Rattle.definitions.specs.declared.Measure.{Measure}
 use Rattle.definitions.specs.declared.Mode.{Mode}
-use Rattle.checker.specs.declared.verdicts.Reason.{Reason}
+use Rattle.kohlberg.specs.declared.verdicts.Reason.{Reason}
 use Rattle.checker.specs.Meaning.{Means}
 use Rattle.checker.proofs.Judged.{not_certified}
 

@@ -14,12 +14,12 @@ use Rattle.definitions.specs.declared.Family.{Family}
 use Rattle.definitions.specs.declared.Measure.{Measure}
 use Rattle.definitions.specs.declared.Mode.{Mode}
 use Rattle.worth_core.specs.Measured.{IsValueOf}
-use Rattle.checker.specs.declared.verdicts.Verdict.{Verdict}
-use Rattle.checker.specs.declared.verdicts.Verdict.TheVariants.{Yes, No}
-use Rattle.checker.specs.declared.verdicts.Place.{Place}
-use Rattle.checker.specs.declared.verdicts.Place.TheVariants.{Coalition, Player}
-use Rattle.checker.specs.declared.verdicts.Reason.{Reason}
-use Rattle.checker.specs.declared.verdicts.Reason.TheVariants.{NotEfficient, NotIndividual, WrongExcess, WeightSign, Unbalanced, BoundNotTight, OutsideAbove, NotAll}
+use Rattle.kohlberg.specs.declared.verdicts.Verdict.{Verdict}
+use Rattle.kohlberg.specs.declared.verdicts.Verdict.TheVariants.{Yes, No}
+use Rattle.kohlberg.specs.declared.verdicts.Place.{Place}
+use Rattle.kohlberg.specs.declared.verdicts.Place.TheVariants.{Coalition, Player}
+use Rattle.kohlberg.specs.declared.verdicts.Reason.{Reason}
+use Rattle.kohlberg.specs.declared.verdicts.Reason.TheVariants.{NotEfficient, NotIndividual, WrongExcess, WeightSign, Unbalanced, BoundNotTight, OutsideAbove, NotAll}
 
 -- no coalition is outside of what the levels fix, or the fraction is the greatest measured excess of those that are
 abbrev pub IsGreatestOutside : Mode → Measure → Game → Allocation → List Level → Option Fraction → Type 0

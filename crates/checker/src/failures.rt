@@ -18,9 +18,8 @@ use crate::conditions::{
 };
 use crate::fixed::Fixed;
 use crate::outside::{first_unfixed, greatest_outside};
-use crate::verdicts::{Place, Reason};
 use fractions::Frac;
-use kohlberg::{Family, Level, Mode};
+use kohlberg::{Family, Level, Mode, Place, Reason};
 use std::cmp::Ordering;
 use worth_core::{Measure, Shares, Worth};
 

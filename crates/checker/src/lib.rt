@@ -6,7 +6,6 @@ mod conditions;
 mod failures;
 mod fixed;
 mod outside;
-mod verdicts;
 
 ghost use Rattle.std.specs.Prelude.{◌≡◌, ◌↔◌, length};
 ghost use Rattle.definitions.specs.Measures.{IsMeasurable};
@@ -16,7 +15,7 @@ ghost use Rattle.checker.specs.Meaning.{IsVerdict};
 
 use crate::failures::first_failure;
 use kohlberg::{Certificate, Family};
-pub use verdicts::{Place, Reason, Verdict};
+pub use kohlberg::{Place, Reason, Verdict};
 use worth_core::{Measure, Shares, Worth};
 
 /// Yes exactly where the certificate meets all conditions for these shares by the measure, and they are then the

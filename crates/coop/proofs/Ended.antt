@@ -1,7 +1,7 @@
 -- What stands when the line of a right answer was printed.
 use Rattle.std.proofs.Common.{ℕ, ℤ, List, Option, refl}
 use Rattle.std.specs.Io.KnownBytes.{Appends}
-use Rattle.checker.specs.declared.verdicts.Verdict.TheVariants.{Yes, No}
+use Rattle.kohlberg.specs.declared.verdicts.Verdict.TheVariants.{Yes, No}
 use Rattle.report.specs.Lines.{line}
 use Rattle.report.specs.declared.answer.Answer.{Answer}
 use Rattle.convexity.specs.declared.answers.ConvexAnswer.TheVariants.{Convex as ConvexShares, Not as NotConvex}

@@ -9,8 +9,8 @@ use Rattle.definitions.specs.Failures.{IsFirstFailure}
 use Rattle.definitions.specs.declared.Family.{Family}
 use Rattle.kohlberg.specs.Certificate.{CertificateData}
 use Rattle.checker.specs.Meaning.{Means}
-use Rattle.checker.specs.declared.verdicts.Reason.{Reason}
-use Rattle.checker.specs.declared.verdicts.Verdict.TheVariants.{Yes, No}
+use Rattle.kohlberg.specs.declared.verdicts.Reason.{Reason}
+use Rattle.kohlberg.specs.declared.verdicts.Verdict.TheVariants.{Yes, No}
 use Rattle.checker.proofs.Judged.{not_certified}
 use Rattle.game_text.specs.Descriptions.{game_of}
 use Rattle.game_text.specs.Documents.{Contents}

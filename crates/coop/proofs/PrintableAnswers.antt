@@ -3,9 +3,9 @@
 use Rattle.std.specs.Prelude.{⊤}
 use Rattle.std.proofs.Common.{◌≡◌, ◌^◌, ℕ, List, ℤ, pos, ◌≤ℤ◌, sym, subst}
 use Rattle.checker.specs.Meaning.{IsVerdict}
-use Rattle.checker.specs.declared.verdicts.Verdict.{Verdict}
-use Rattle.checker.specs.declared.verdicts.Verdict.TheVariants.{No}
-use Rattle.checker.specs.declared.verdicts.Reason.TheVariants.{OutsideAbove}
+use Rattle.kohlberg.specs.declared.verdicts.Verdict.{Verdict}
+use Rattle.kohlberg.specs.declared.verdicts.Verdict.TheVariants.{No}
+use Rattle.kohlberg.specs.declared.verdicts.Reason.TheVariants.{OutsideAbove}
 use Rattle.definitions.specs.Games.{Game, Allocation, IsShares}
 use Rattle.definitions.specs.Certificates.{Level}
 use Rattle.definitions.specs.declared.Family.{Family}

@@ -11,9 +11,9 @@ use Rattle.definitions.specs.declared.Family.{Family}
 use Rattle.kohlberg.specs.Certificate.{CertificateData}
 use Rattle.checker.specs.Meaning.{IsVerdict}
 use Rattle.fractions.specs.Fraction.{IsReduced}
-use Rattle.checker.specs.declared.verdicts.Verdict.{Verdict as CheckVerdict}
-use Rattle.checker.specs.declared.verdicts.Verdict.TheVariants.{No}
-use Rattle.checker.specs.declared.verdicts.Reason.TheVariants.{OutsideAbove}
+use Rattle.kohlberg.specs.declared.verdicts.Verdict.{Verdict as CheckVerdict}
+use Rattle.kohlberg.specs.declared.verdicts.Verdict.TheVariants.{No}
+use Rattle.kohlberg.specs.declared.verdicts.Reason.TheVariants.{OutsideAbove}
 use Rattle.game_text.specs.Descriptions.{game_of}
 use Rattle.game_text.specs.Documents.{Contents}
 use Rattle.report.specs.declared.answer.Answer.{Answer}

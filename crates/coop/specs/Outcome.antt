@@ -23,8 +23,8 @@ use Rattle.report.specs.Lines.{line}
 use Rattle.report.specs.declared.answer.Answer.{Answer}
 use Rattle.report.specs.declared.answer.Answer.TheVariants.{Nucleolus, NoImputation, InCore, NotEfficient, Blocked, CorePoint, EmptyCore, Shapley, Bird, Convex, Prekernel, NotPrekernel, Matching, Verdict, Usage, Refused, Summary}
 use Rattle.report.specs.declared.answer.UsageKind.TheVariants.{Words}
-use Rattle.checker.specs.declared.verdicts.Verdict.{Verdict as CheckVerdict}
-use Rattle.checker.specs.declared.verdicts.Verdict.TheVariants.{Yes, No}
+use Rattle.kohlberg.specs.declared.verdicts.Verdict.{Verdict as CheckVerdict}
+use Rattle.kohlberg.specs.declared.verdicts.Verdict.TheVariants.{Yes, No}
 use Rattle.convexity.specs.declared.answers.ConvexAnswer.{ConvexAnswer}
 use Rattle.convexity.specs.declared.answers.ConvexAnswer.TheVariants.{Convex as ConvexShares, Not as NotConvex}
 use Rattle.coop.specs.Words.{IsCommand}

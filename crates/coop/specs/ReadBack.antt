@@ -24,7 +24,7 @@ use Rattle.game_text.specs.declared.command.Command.TheVariants.{Check}
 use Rattle.report.specs.Lines.{answer_tree, line}
 use Rattle.report.specs.declared.answer.Answer.{Answer}
 use Rattle.report.specs.declared.answer.Answer.TheVariants.{Nucleolus, Verdict}
-use Rattle.checker.specs.declared.verdicts.Verdict.TheVariants.{Yes}
+use Rattle.kohlberg.specs.declared.verdicts.Verdict.TheVariants.{Yes}
 use Rattle.coop.specs.Words.{word_of}
 use Rattle.coop.specs.Classes.{serves_class}
 use Rattle.coop.specs.Limits.{check_limit}

@@ -1,4 +1,4 @@
-//! Certificates of the nucleolus, level by level (Kohlberg 1971), and spans of coalitions.
+//! Certificates of the nucleolus, level by level (Kohlberg 1971), verdicts on them, and spans of coalitions.
 #![tactic(auto)]
 
 mod certificates;
@@ -6,11 +6,13 @@ mod halving;
 mod levels;
 mod mask_order;
 mod spanned;
+mod verdicts;
 
 pub use certificates::{Certificate, Malformed};
 pub use definitions::{Family, Mode};
 pub use levels::Level;
 pub use spans::Span;
+pub use verdicts::{Place, Reason, Verdict};
 
 // For the crates above.
 pub use levels::{bounds_at, weights_at};

@@ -2,10 +2,10 @@
 use Rattle.std.proofs.Common.{◌≡◌, ℕ, true, false, refl}
 use Rattle.serde_json.specs.View.{view}
 use Rattle.serde_json.specs.Written.{has_float}
-use Rattle.checker.specs.declared.verdicts.Verdict.{Verdict}
-use Rattle.checker.specs.declared.verdicts.Verdict.TheVariants.{Yes, No}
-use Rattle.checker.specs.declared.verdicts.Place.TheVariants.{Coalition, Player}
-use Rattle.checker.specs.declared.verdicts.Reason.TheVariants.{NotEfficient as not_efficient, NotIndividual, WrongExcess, WeightSign, Unbalanced, BoundNotTight, OutsideAbove, NotAll}
+use Rattle.kohlberg.specs.declared.verdicts.Verdict.{Verdict}
+use Rattle.kohlberg.specs.declared.verdicts.Verdict.TheVariants.{Yes, No}
+use Rattle.kohlberg.specs.declared.verdicts.Place.TheVariants.{Coalition, Player}
+use Rattle.kohlberg.specs.declared.verdicts.Reason.TheVariants.{NotEfficient as not_efficient, NotIndividual, WrongExcess, WeightSign, Unbalanced, BoundNotTight, OutsideAbove, NotAll}
 use Rattle.report.specs.Verdicts.{verdict_tree}
 use Rattle.report.specs.Limits.{HasPrintableForm}
 use Rattle.report.specs.Lines.{answer_tree}

@@ -19,9 +19,9 @@ use Rattle.definitions.specs.Certificates.{Level, IsSmall}
 use Rattle.balanced_collections.specs.Collections.{CollectionData}
 use Rattle.report.specs.declared.answer.Answer.{Answer}
 use Rattle.report.specs.declared.answer.Answer.TheVariants.{Nucleolus, NotEfficient, Blocked, EmptyCore, NotPrekernel, Verdict, Summary}
-use Rattle.checker.specs.declared.verdicts.Verdict.{Verdict as CheckVerdict}
-use Rattle.checker.specs.declared.verdicts.Verdict.TheVariants.{No}
-use Rattle.checker.specs.declared.verdicts.Reason.TheVariants.{OutsideAbove}
+use Rattle.kohlberg.specs.declared.verdicts.Verdict.{Verdict as CheckVerdict}
+use Rattle.kohlberg.specs.declared.verdicts.Verdict.TheVariants.{No}
+use Rattle.kohlberg.specs.declared.verdicts.Reason.TheVariants.{OutsideAbove}
 use Rattle.fractions.specs.Fraction.{Fraction}
 
 -- a scale

@@ -11,11 +11,11 @@
 use Rattle.std.specs.Prelude.{ℕ, codes}
 use Rattle.serde_json.specs.Data.{Data, string, object, member, no_members}
 use Rattle.fractions.specs.Fraction.{Fraction}
-use Rattle.checker.specs.declared.verdicts.Verdict.{Verdict}
-use Rattle.checker.specs.declared.verdicts.Verdict.TheVariants.{Yes, No}
-use Rattle.checker.specs.declared.verdicts.Place.TheVariants.{Coalition, Player}
-use Rattle.checker.specs.declared.verdicts.Reason.{Reason}
-use Rattle.checker.specs.declared.verdicts.Reason.TheVariants.{NotEfficient, NotIndividual, WrongExcess, WeightSign, Unbalanced, BoundNotTight, OutsideAbove, NotAll}
+use Rattle.kohlberg.specs.declared.verdicts.Verdict.{Verdict}
+use Rattle.kohlberg.specs.declared.verdicts.Verdict.TheVariants.{Yes, No}
+use Rattle.kohlberg.specs.declared.verdicts.Place.TheVariants.{Coalition, Player}
+use Rattle.kohlberg.specs.declared.verdicts.Reason.{Reason}
+use Rattle.kohlberg.specs.declared.verdicts.Reason.TheVariants.{NotEfficient, NotIndividual, WrongExcess, WeightSign, Unbalanced, BoundNotTight, OutsideAbove, NotAll}
 use Rattle.report.specs.Values.{scaled_data, count_data, player_data, player_numbers}
 
 -- a reason without a place

@@ -2,12 +2,11 @@
 use crate::summary::Summary;
 use balanced_collections::Collection;
 use big_assignment::Solution;
-use checker::Verdict;
 use coalitions::Coalition;
 use convexity::ConvexAnswer;
 use fractions::Frac;
 use kinds::Refusal;
-use kohlberg::Certificate;
+use kohlberg::{Certificate, Verdict};
 use serde_json::Value;
 use tree_games::Tree;
 use worth_core::{Family, Shares};

@@ -6,9 +6,9 @@ ghost use Rattle.report.specs.Verdicts.{no_alone, no_at_player, no_at_coalition,
 
 use crate::objects::{with, with_answer, with_coalition, with_value};
 use crate::players::player_value;
-use checker::{Place, Reason, Verdict};
 use coalitions::Coalition;
 use fractions::{Frac, OutOfMemory};
+use kohlberg::{Place, Reason, Verdict};
 use serde_json::{Value, json};
 use std::alloc::Global;
 

@@ -5,10 +5,10 @@ mod nucleolus;
 mod summaries;
 
 use balanced_collections::Collection;
-use checker::{Place, Reason, Verdict};
 use coalitions::Coalition;
 use fractions::Frac;
 use kinds::Refusal;
+use kohlberg::{Place, Reason, Verdict};
 use report::{Answer, UsageKind, write_report};
 use std::alloc::Global;
 use std::process::Abort;
