@@ -1,11 +1,11 @@
 //! The names of the players.
-ghost use Rattle.std.specs.Prelude.{◌≡◌, ◌<◌, ◌≤◌, not, Some, None, IfOk, IfSome, if◌then◌else◌};
+ghost use Rattle.std.specs.Prelude.{◌≡◌, ◌<◌, ◌≤◌, true, not, ◌&&◌, Some, None, IfOk, IfSome, if◌then◌else◌};
 ghost use Rattle.std.specs.Prelude.{[], ◌∷◌, ◌++◌, codes, length, map, position};
 ghost use Rattle.std.specs.Str.{bytes_eq};
 ghost use Rattle.serde_json.specs.View.{view};
 ghost use Rattle.std.specs.List.{list_all};
 ghost use Rattle.serde_json.specs.Find.{get, as_str};
-ghost use Rattle.json_trees.specs.Trees.{parts_at, pair_members};
+ghost use Rattle.json_trees.specs.Trees.{parts_at, pair_members, text_of};
 ghost use Rattle.document_parts.specs.Names.{texts, is_name, good_names, are_names, names_of, is_known, are_known};
 ghost use Rattle.json_trees.specs.Keys.{is_among};
 
@@ -72,21 +72,42 @@ fn is_name(name: &str) -> bool
     !name.is_empty() && name.len() <= 64
 }
 
+/// Adds the text of the value where it is a name and a new one, and says whether it is.
+fn add_name<'a>(names: &mut Names<'a>, value: &'a Value) -> Result<bool, OutOfMemory>
+    ensures added { IfOk result (λ b. b ≡ (is_name (text_of (view value.now)) && not (is_among names.old (text_of (view value.now))))) }
+    ensures names { IfOk result (λ b. names.new ≡ (if b then names.old ++ text_of (view value.now) ∷ [] else names.old)) }
+{
+    let name = text(value);
+    if !is_name(name) {
+        return Ok(false);
+    }
+    names.insert(name)
+}
+
+/// Adds the texts up to the first that is no name or no new one, and says whether all are added.
+fn add_names<'a>(names: &mut Names<'a>, values: &'a [Value]) -> Result<bool, OutOfMemory>
+    requires { names.old ≡ [] }
+    ensures good { IfOk result (λ b. b ≡ good_names (texts values.now)) }
+    ensures names { IfOk result (λ b. b ≡ true → names.new ≡ texts values.now) }
+{
+    for value in values {
+        if !add_name(names, value)? {
+            return Ok(false);
+        }
+    }
+    Ok(true)
+}
+
 /// The texts as names, where each is a name and no two are alike.
 fn read_names<'a>(alloc: Global, values: &'a [Value]) -> Result<Option<Names<'a>>, OutOfMemory>
     ensures { IfOk result (λ o. o ≡ (if good_names (texts values.now) then Some (texts values.now) else None)) }
 {
     let mut names = Names::new(alloc);
-    for value in values {
-        let name = text(value);
-        if !is_name(name) {
-            return Ok(None);
-        }
-        if !names.insert(name)? {
-            return Ok(None);
-        }
+    match add_names(&mut names, values) {
+        Ok(true) => Ok(Some(names)),
+        Ok(false) => Ok(None),
+        Err(e) => Err(e),
     }
-    Ok(Some(names))
 }
 
 /// The names of a game of `players` players; no names where the game gives none. None where there isn't one name for
