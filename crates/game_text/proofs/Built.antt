@@ -17,7 +17,7 @@ use Rattle.game_text.specs.declared.fault.TextFault.TheVariants.{Memory}
 use Rattle.game_text.specs.declared.game.Game.{Game}
 use Rattle.kinds.specs.declared.refusal.Refusal.{Refusal}
 use Rattle.kinds.specs.declared.refusal.Refusal.TheVariants.{Coalition, Estate, Matrix, Quota}
-use Rattle.game_text.proofs.Choices.{passed_if}
+use Rattle.game_text.proofs.Choices.{passed_if, failed_if}
 
 -- the tests of the coalitions, the estate, the quota and the matrix at a class and a scale, and then the rest
 abbrev pub refusal_as : Option Class → ℕ → Data → Option Refusal → Option Refusal
@@ -52,11 +52,7 @@ module _ (c : Option Class) (k : ℕ) (game : Data) (is : class_of game ≡ c) (
   -- it failed
   pub refused_if : {A : Type 0} (r : Refusal) (b : Bool) (x : A) → None ≡ (if b then Some x else None) → ((rest : Option Refusal) → refusal_as c k game rest ≡ unless b r rest)
       → (rest : Option Refusal) → coalition_refusal game rest ≡ Some r
-  refused_if r b x e one = refused r (λ rest. one rest ∙ ap (λ t. unless t r rest) (failed b x e))
-    where
-      failed : {A : Type 0} (b : Bool) (x : A) → None ≡ (if b then Some x else None) → b ≡ false
-      failed true x e = absurd (cc e)
-      failed false x e = refl
+  refused_if r b x e one = refused r (λ rest. one rest ∙ ap (λ t. unless t r rest) (failed_if b x e))
 
 -- memory was not found
 pub wanting : (game : Data) (r : Result Game TextFault) → IsErr r × IsErrAnd r (λ e. e ≡ Memory) → MatchResult r (IsBuilt game) (IsBuildFault game)

@@ -94,3 +94,6 @@ fault_behind game h Memory e = tt
 pub behind_names : (game : Data) → has_names game ≡ true → (r : Result Game TextFault) → MatchResult r (IsBuilt game) (IsBuildFault game) → MatchResult r (IsGameReading game) (IsGameFault game)
 behind_names game h (Ok g) m = record { passed = λ rest. ap (λ b. unless b Names (coalition_refusal game rest)) h ∙ m.passed rest; same = m.same }
 behind_names game h (Err e) m = fault_behind game h e m
+
+pub refused_by_names : (game : Data) → has_names game ≡ false → IsGameFault game (Refused Names)
+refused_by_names game h = λ rest. ap (λ b. unless b Names (coalition_refusal game rest)) h

@@ -1,5 +1,5 @@
--- Where a choice by a test gave something, the test passed.
-use Rattle.std.proofs.Common.{◌≡◌, Bool, true, false, Option, Some, None, if◌then◌else◌, refl, ap, subst}
+-- What a choice by a test gave says of the test: where it is something, the test passed.
+use Rattle.std.proofs.Common.{◌≡◌, Bool, true, false, Option, Some, None, if◌then◌else◌, refl, sym, ap, subst}
 use Rattle.std.specs.Prelude.{⊤}
 
 abbrev or_else : {A : Type 0} → A → Option A → A
@@ -13,3 +13,7 @@ IsSomething (Some a) = ⊤
 pub passed_if : {A : Type 0} (b : Bool) (x y : A) → Some y ≡ (if b then Some x else None) → (b ≡ true) × (y ≡ x)
 passed_if true x y e = (refl, ap (or_else x) e)
 passed_if false x y e = absurd (subst IsSomething e tt)
+
+pub failed_if : {A : Type 0} (b : Bool) (x : A) → None ≡ (if b then Some x else None) → b ≡ false
+failed_if true x e = absurd (subst IsSomething (sym e) tt)
+failed_if false x e = refl

@@ -123,30 +123,72 @@ fn document_of_numbers(
     requires scale { scale ≡ scale_of (view game.now) }
     ensures { MatchResult result (IsLateReading command (view game.now) (view tree.now)) (IsLateFault command (view game.now) (view tree.now)) }
 {
-    let described = match right_game(alloc, game, scale) {
-        Ok(described) => described,
-        Err(e) => return Err(e),
-    };
+    match right_game(alloc, game, scale) {
+        Ok(described) => document_of_game(alloc, command, game, tree, scale, described),
+        Err(e) => Err(e),
+    }
+}
+
+/// The document of a game that is right, where what the command needs beside it is right too.
+fn document_of_game(
+    alloc: Global,
+    command: Command,
+    game: &Value,
+    tree: &Value,
+    scale: u32,
+    described: Game,
+) -> Result<Document, TextFault>
+    requires sizes { HasSizes (view game.now) }
+    requires scale { scale ≡ scale_of (view game.now) }
+    requires described { IsGameReading (view game.now) described }
+    ensures { MatchResult result (IsLateReading command (view game.now) (view tree.now)) (IsLateFault command (view game.now) (view tree.now)) }
+{
     let shares = match needed_shares(alloc, command, game, tree, scale, described.is_cost()) {
         Ok(shares) => shares,
         Err(e) => return Err(e),
     };
-    let certificate = match needed_certificate(alloc, command, game, tree, scale) {
-        Ok(certificate) => certificate,
-        Err(e) => return Err(e),
-    };
-    let Ok(copy) = game.clone() else {
-        return Err(TextFault::Memory);
-    };
-    Ok(Document {
-        game: described,
-        tree: copy,
-        measure: measure_of(game),
-        scale: i64::from(scale),
-        family: needed_family(command, tree),
-        shares,
-        certificate,
-    })
+    match needed_certificate(alloc, command, game, tree, scale) {
+        Ok(certificate) => whole_document(
+            command,
+            game,
+            tree,
+            scale,
+            described,
+            shares,
+            certificate,
+        ),
+        Err(e) => Err(e),
+    }
+}
+
+/// The document of its parts, with a copy of the tree of the game.
+fn whole_document(
+    command: Command,
+    game: &Value,
+    tree: &Value,
+    scale: u32,
+    described: Game,
+    shares: Option<Shares>,
+    certificate: Option<Certificate>,
+) -> Result<Document, TextFault>
+    requires scale { scale ≡ scale_of (view game.now) }
+    requires described { IsGameReading (view game.now) described }
+    requires shares { IsShareReading command (view game.now) (view tree.now) shares }
+    requires certificate { IsCertificateReading command (view game.now) (view tree.now) certificate }
+    ensures { MatchResult result (IsLateReading command (view game.now) (view tree.now)) (IsLateFault command (view game.now) (view tree.now)) }
+{
+    match game.clone() {
+        Ok(copy) => Ok(Document {
+            game: described,
+            tree: copy,
+            measure: measure_of(game),
+            scale: i64::from(scale),
+            family: needed_family(command, tree),
+            shares,
+            certificate,
+        }),
+        Err(_) => Err(TextFault::Memory),
+    }
 }
 
 /// The game, where its names, its coalitions and its estate are right.
@@ -155,10 +197,11 @@ fn right_game(alloc: Global, game: &Value, scale: u32) -> Result<Game, TextFault
     requires scale { scale ≡ scale_of (view game.now) }
     ensures { MatchResult result (IsGameReading (view game.now)) (IsGameFault (view game.now)) }
 {
-    let Some(names) = right_names(alloc, game)? else {
-        return Err(TextFault::Refused(Refusal::Names));
-    };
-    game_of(alloc, game, &names, scale)
+    match right_names(alloc, game) {
+        Ok(Some(names)) => game_of(alloc, game, &names, scale),
+        Ok(None) => Err(TextFault::Refused(Refusal::Names)),
+        Err(OutOfMemory) => Err(TextFault::Memory),
+    }
 }
 
 /// The names of the players, where they are right and a sparse table uses no other.
@@ -167,13 +210,11 @@ fn right_names<'a>(alloc: Global, game: &'a Value) -> Result<Option<Names<'a>>, 
     ensures names { IfOk result (λ o. o ≡ (if has_names (view game.now) then Some (names_of (view game.now)) else None)) }
 {
     let players = players(game);
-    let Some(names) = names_of(alloc, game, players)? else {
-        return Ok(None);
-    };
-    if !know_sparse(&names, game) {
-        return Ok(None);
+    match names_of(alloc, game, players) {
+        Ok(Some(names)) if know_sparse(&names, game) => Ok(Some(names)),
+        Ok(_) => Ok(None),
+        Err(e) => Err(e),
     }
-    Ok(Some(names))
 }
 
 fn needed_family(command: Command, tree: &Value) -> Option<Family>

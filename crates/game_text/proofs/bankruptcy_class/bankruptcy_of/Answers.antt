@@ -4,6 +4,12 @@ use Rattle.airport.specs.Costs.{IsCost}
 use Rattle.game_text.proofs.Sizes.{AreCosts, bankruptcy_sizes, claims_made}
 use Rattle.game_text.proofs.bankruptcy_class.bankruptcy_of.Goals as goal
 
+pub unreachable-requires : goal.unreachable-requires
+unreachable-requires c =
+    let sizes = bankruptcy_sizes c.args.scale (view c.args.game.now) c.requires.scale c.requires.class c.requires.sizes in
+    let claims : AreCosts c.in_ok-claims.claims.items = subst AreCosts (sym c.in_ok-claims.ensures) sizes.claims_small in
+    (rw c.in-Err-Players.field-0-is at c.in-Err-Players.ensures) (claims.some, claims.few)
+
 pub unreachable-requires-in-Err-Number : goal.unreachable-requires-in-Err-Number
 unreachable-requires-in-Err-Number c =
     let sizes = bankruptcy_sizes c.args.scale (view c.args.game.now) c.requires.scale c.requires.class c.requires.sizes in

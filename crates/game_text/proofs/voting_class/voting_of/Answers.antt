@@ -4,6 +4,12 @@ use Rattle.airport.specs.Costs.{IsCost}
 use Rattle.game_text.proofs.Votes.{AreVotes, voting_sizes, voting_made, voting_not_made}
 use Rattle.game_text.proofs.voting_class.voting_of.Goals as goal
 
+pub unreachable-requires : goal.unreachable-requires
+unreachable-requires c =
+    let sizes = voting_sizes (view c.args.game.now) c.requires.class c.requires.sizes in
+    let votes : AreVotes _ c.in_ok-weights.weights.items = subst (AreVotes _) (sym c.in_ok-weights.ensures) sizes in
+    (rw c.in-Err-Players.field-0-is at c.in-Err-Players.ensures) votes.players
+
 pub unreachable-requires-in-Err-Number : goal.unreachable-requires-in-Err-Number
 unreachable-requires-in-Err-Number c =
     let sizes = voting_sizes (view c.args.game.now) c.requires.class c.requires.sizes in
