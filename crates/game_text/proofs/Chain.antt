@@ -1,6 +1,7 @@
 -- What reading the tree says of the bytes.
 use Rattle.std.proofs.Common.{◌≡◌, ◌≤◌, ◌&&◌, ℕ, List, length, Bool, true, false, Option, Some, None, Result, Ok, Err, MatchResult, ap, ◌∙◌, subst}
 use Rattle.std.specs.Prelude.{⊤}
+use Rattle.std.proofs.lemmas.Bool.{and_from}
 use Rattle.serde_json.specs.Data.{Data}
 use Rattle.game_text.specs.Text.{document_limit, IsTextOf}
 use Rattle.game_text.specs.Shape.{is_shaped}
@@ -10,9 +11,9 @@ use Rattle.game_text.specs.Coalitions.{has_coalitions}
 use Rattle.game_text.specs.Descriptions.{description_of}
 use Rattle.game_text.specs.Documents.{game_tree}
 use Rattle.game_text.specs.Refusals.{unless, is_covered, has_quota, has_matrix, has_needed_numbers, has_needed_shares, has_needed_form, IsRefused}
-use Rattle.game_text.specs.Denominators.{needed_keep_limits, tree_refusal}
+use Rattle.game_text.specs.Denominators.{needed_keep_limits, contents_of, tree_refusal}
 use Rattle.game_text.specs.Steps.{coalition_refusal, game_refusal, share_refusal, certificate_refusal, needed_refusal, late_refusal}
-use Rattle.game_text.specs.Readings.{IsBuilt, IsBuildFault, IsGameReading, IsGameFault, IsTreeReading, IsTreeFault, IsReading, IsFault}
+use Rattle.game_text.specs.Readings.{IsBuilt, IsBuildFault, IsGameReading, IsGameFault, IsTreeReading, IsTreeFault, IsLateReading, IsLateFault, IsReading, IsFault, contents_in}
 use Rattle.game_text.specs.declared.command.Command.{Command}
 use Rattle.game_text.specs.declared.document.Document.{Document}
 use Rattle.game_text.specs.declared.fault.TextFault.{TextFault}
@@ -97,3 +98,50 @@ behind_names game h (Err e) m = fault_behind game h e m
 
 pub refused_by_names : (game : Data) → has_names game ≡ false → IsGameFault game (Refused Names)
 refused_by_names game h = λ rest. ap (λ b. unless b Names (coalition_refusal game rest)) h
+
+-- ---- behind the tests of the shape, the players and the numbers
+
+reached : (command : Command) (tree : Data) → is_shaped command tree ≡ true → has_players (game_tree tree) ≡ true → (has_numbers (game_tree tree) && has_needed_numbers command tree) ≡ true
+    → tree_refusal command tree ≡ late_refusal command (game_tree tree) tree
+reached command tree shaped players numbers =
+    let late = late_refusal command (game_tree tree) tree in
+    let number = unless (has_numbers (game_tree tree) && has_needed_numbers command tree) Number late in
+    ap (λ b. unless b Shape (unless (has_players (game_tree tree)) Players number)) shaped ∙ ap (λ b. unless b Players number) players ∙ ap (λ b. unless b Number late) numbers
+
+late_fault : (command : Command) (tree : Data) → tree_refusal command tree ≡ late_refusal command (game_tree tree) tree → (e : TextFault) → IsLateFault command (game_tree tree) tree e → IsTreeFault command tree e
+late_fault command tree h (Refused r) e = h ∙ e
+late_fault command tree h Memory e = tt
+
+late_says : (command : Command) (tree : Data) (d : Document) → IsLateReading command (game_tree tree) tree d → contents_in d ≡ contents_of command tree
+late_says command tree d m =
+    let described = m.described in
+    let same = m.same in
+    let measure = m.measure in
+    let scale = m.scale in
+    let family = m.family in
+    let shares = m.shares in
+    let certificate = m.certificate in
+    cc
+
+at_game : (command : Command) (tree : Data) → is_shaped command tree ≡ true → has_players (game_tree tree) ≡ true → (has_numbers (game_tree tree) && has_needed_numbers command tree) ≡ true
+    → (r : Result Document TextFault) → MatchResult r (IsLateReading command (game_tree tree) tree) (IsLateFault command (game_tree tree) tree) → MatchResult r (IsTreeReading command tree) (IsTreeFault command tree)
+at_game command tree a b c (Ok d) m = record { passed = reached command tree a b c ∙ m.passed; says = late_says command tree d m }
+at_game command tree a b c (Err e) m = late_fault command tree (reached command tree a b c) e m
+
+pub behind_numbers : (command : Command) (game tree : Data) → game ≡ game_tree tree → is_shaped command tree ≡ true → has_players game ≡ true → has_numbers game ≡ true → has_needed_numbers command tree ≡ true
+    → (r : Result Document TextFault) → MatchResult r (IsLateReading command game tree) (IsLateFault command game tree) → MatchResult r (IsTreeReading command tree) (IsTreeFault command tree)
+behind_numbers command game tree e shaped players numbers needed r m =
+    at_game command tree shaped (subst (λ g. has_players g ≡ true) e players) (and_from (has_numbers (game_tree tree)) (has_needed_numbers command tree) (subst (λ g. has_numbers g ≡ true) e numbers) needed) r
+    (subst (λ g. MatchResult r (IsLateReading command g tree) (IsLateFault command g tree)) e m)
+
+pub few_players : (command : Command) (game tree : Data) → game ≡ game_tree tree → is_shaped command tree ≡ true → has_players game ≡ false → tree_refusal command tree ≡ Some Players
+few_players command game tree e shaped players =
+    let number = unless (has_numbers (game_tree tree) && has_needed_numbers command tree) Number (late_refusal command (game_tree tree) tree) in
+    ap (λ b. unless b Shape (unless (has_players (game_tree tree)) Players number)) shaped ∙ ap (λ b. unless b Players number) (subst (λ g. has_players g ≡ false) e players)
+
+pub bad_number : (command : Command) (game tree : Data) → game ≡ game_tree tree → is_shaped command tree ≡ true → has_players game ≡ true → (has_numbers game && has_needed_numbers command tree) ≡ false → tree_refusal command tree ≡ Some Number
+bad_number command game tree e shaped players numbers =
+    let late = late_refusal command (game_tree tree) tree in
+    let number = unless (has_numbers (game_tree tree) && has_needed_numbers command tree) Number late in
+    ap (λ b. unless b Shape (unless (has_players (game_tree tree)) Players number)) shaped ∙ ap (λ b. unless b Players number) (subst (λ g. has_players g ≡ true) e players)
+    ∙ ap (λ b. unless b Number late) (subst (λ g. (has_numbers g && has_needed_numbers command tree) ≡ false) e numbers)
