@@ -87,17 +87,30 @@ pub fn shares_as_worth(
     ensures { IfOk result (λ o. o ≡ (if keep_limits (scaled_shares scale (view tree.now))
         then Some (as_worth are_payments (over_least (scaled_shares scale (view tree.now)))) else None)) }
 {
-    let Some(written) = scaled_shares(alloc, tree, scale)? else {
-        return Ok(None);
-    };
-    let Some(shares) = over_least(alloc, &written)? else {
-        return Ok(None);
-    };
-    if are_payments {
-        let turned = negated(alloc, &shares)?;
-        Ok(Some(turned))
-    } else {
-        Ok(Some(shares))
+    match scaled_shares(alloc, tree, scale) {
+        Ok(Some(written)) => signed_shares(alloc, &written, are_payments),
+        Ok(None) => Ok(None),
+        Err(e) => Err(e),
+    }
+}
+
+/// The fractions over their least common denominator, as worth, and none where they break a limit of `Shares` there.
+fn signed_shares(
+    alloc: Global,
+    written: &[Frac],
+    are_payments: bool,
+) -> Result<Option<Shares>, OutOfMemory>
+    requires some { 1 ≤ length written.now }
+    requires few { length written.now ≤ 64 }
+    requires reduced { All IsReduced written.now }
+    ensures { IfOk result (λ o. o ≡ (if keep_limits written.now then Some (as_worth are_payments (over_least written.now)) else None)) }
+{
+    match over_least(alloc, written) {
+        Ok(Some(shares)) if are_payments => match negated(alloc, &shares) {
+            Ok(turned) => Ok(Some(turned)),
+            Err(e) => Err(e),
+        },
+        found => found,
     }
 }
 
