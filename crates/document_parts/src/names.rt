@@ -45,7 +45,7 @@ impl<'a> Names<'a> {
         ensures added { IfOk result (λ b. b ≡ not (is_among self.old name.now)) }
         ensures names { IfOk result (λ b. self.new ≡ (if b then self.old ++ name.now ∷ [] else self.old)) }
     {
-        let (_, added) = self.set.insert_full(name)?;
+        let added = self.set.insert(name)?;
         Ok(added)
     }
 
