@@ -1,19 +1,15 @@
 -- The game that is built of a class, and its refusal.
-use Rattle.std.proofs.Common.{◌≡◌, ℕ, Bool, Option, Some, None, Result, Ok, Err, MatchResult, if◌then◌else◌, sym, ap, ◌∙◌, subst}
-use Rattle.std.specs.Result.{IsErr, IsErrAnd}
-use Rattle.std.proofs.lemmas.Bool.{false≢true}
+use Rattle.std.proofs.Common.{◌≡◌, ℕ, Bool, Option, Some, None, if◌then◌else◌, sym, ap, ◌∙◌, subst}
 use Rattle.serde_json.specs.Data.{Data}
 use Rattle.document_parts.specs.Scales.{scale_of}
 use Rattle.game_text.specs.Shape.{class_of}
 use Rattle.game_text.specs.Coalitions.{has_coalitions_as}
 use Rattle.game_text.specs.Descriptions.{description_as}
 use Rattle.game_text.specs.Games.{description_in}
-use Rattle.game_text.specs.Readings.{IsBuilt, IsBuildFault}
+use Rattle.game_text.specs.Readings.{IsBuilt}
 use Rattle.game_text.specs.Refusals.{unless, is_covered, has_quota, has_matrix}
 use Rattle.game_text.specs.Steps.{coalition_refusal}
 use Rattle.game_text.specs.declared.class.Class.{Class}
-use Rattle.game_text.specs.declared.fault.TextFault.{TextFault}
-use Rattle.game_text.specs.declared.fault.TextFault.TheVariants.{Memory}
 use Rattle.game_text.specs.declared.game.Game.{Game}
 use Rattle.kinds.specs.declared.refusal.Refusal.{Refusal}
 use Rattle.kinds.specs.declared.refusal.Refusal.TheVariants.{Coalition, Estate, Matrix, Quota}
@@ -53,8 +49,3 @@ module _ (c : Option Class) (k : ℕ) (game : Data) (is : class_of game ≡ c) (
   pub refused_if : {A : Type 0} (r : Refusal) (b : Bool) (x : A) → None ≡ (if b then Some x else None) → ((rest : Option Refusal) → refusal_as c k game rest ≡ unless b r rest)
       → (rest : Option Refusal) → coalition_refusal game rest ≡ Some r
   refused_if r b x e one = refused r (λ rest. one rest ∙ ap (λ t. unless t r rest) (failed_if b x e))
-
--- memory was not found
-pub wanting : (game : Data) (r : Result Game TextFault) → IsErr r × IsErrAnd r (λ e. e ≡ Memory) → MatchResult r (IsBuilt game) (IsBuildFault game)
-wanting game (Ok g) h = absurd (false≢true h.0)
-wanting game (Err e) h = subst (IsBuildFault game) (sym h.1) tt

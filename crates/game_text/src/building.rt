@@ -22,6 +22,7 @@ use crate::table_class::table_of;
 use crate::tree_class::tree_of;
 use crate::voting_class::voting_of;
 use document_parts::Names;
+use fractions::OutOfMemory;
 use kinds::Refusal;
 use serde_json::Value;
 use std::alloc::Global;
@@ -42,37 +43,44 @@ pub(crate) fn game_of(
     ensures { MatchResult result (IsBuilt (view game.now)) (IsBuildFault (view game.now)) }
 {
     match class_of(game) {
-        Some(Class::Table) => match table_of(alloc, game, names, scale)? {
-            Some(table) => Ok(Game::Table(table)),
-            None => Err(TextFault::Refused(Refusal::Coalition)),
+        Some(Class::Table) => match table_of(alloc, game, names, scale) {
+            Ok(Some(table)) => Ok(Game::Table(table)),
+            Ok(None) => Err(TextFault::Refused(Refusal::Coalition)),
+            Err(OutOfMemory) => Err(TextFault::Memory),
         },
-        Some(Class::CostTable) => match table_of(alloc, game, names, scale)? {
-            Some(costs) => Ok(Game::Cost(CostGame::new(costs))),
-            None => Err(TextFault::Refused(Refusal::Coalition)),
+        Some(Class::CostTable) => match table_of(alloc, game, names, scale) {
+            Ok(Some(costs)) => Ok(Game::Cost(CostGame::new(costs))),
+            Ok(None) => Err(TextFault::Refused(Refusal::Coalition)),
+            Err(OutOfMemory) => Err(TextFault::Memory),
         },
-        Some(Class::Airport) => {
-            let costs = airport_of(alloc, game, scale)?;
-            Ok(Game::Airport(costs))
-        }
-        Some(Class::Bankruptcy) => match bankruptcy_of(alloc, game, scale)? {
-            Some(claims) => Ok(Game::Bankruptcy(claims)),
-            None => Err(TextFault::Refused(Refusal::Estate)),
+        Some(Class::Airport) => match airport_of(alloc, game, scale) {
+            Ok(costs) => Ok(Game::Airport(costs)),
+            Err(OutOfMemory) => Err(TextFault::Memory),
         },
-        Some(Class::Tree) => match tree_of(alloc, game, scale)? {
-            Some(links) => Ok(Game::Tree(links)),
-            None => Err(TextFault::Refused(Refusal::Matrix)),
+        Some(Class::Bankruptcy) => match bankruptcy_of(alloc, game, scale) {
+            Ok(Some(claims)) => Ok(Game::Bankruptcy(claims)),
+            Ok(None) => Err(TextFault::Refused(Refusal::Estate)),
+            Err(OutOfMemory) => Err(TextFault::Memory),
         },
-        Some(Class::Assignment) => match assignment_of(alloc, game, scale)? {
-            Some(values) => Ok(Game::Assignment(values)),
-            None => Err(TextFault::Refused(Refusal::Matrix)),
+        Some(Class::Tree) => match tree_of(alloc, game, scale) {
+            Ok(Some(links)) => Ok(Game::Tree(links)),
+            Ok(None) => Err(TextFault::Refused(Refusal::Matrix)),
+            Err(OutOfMemory) => Err(TextFault::Memory),
         },
-        Some(Class::Market) => match market_of(alloc, game, scale)? {
-            Some(market) => Ok(Game::Market(market)),
-            None => Err(TextFault::Refused(Refusal::Matrix)),
+        Some(Class::Assignment) => match assignment_of(alloc, game, scale) {
+            Ok(Some(values)) => Ok(Game::Assignment(values)),
+            Ok(None) => Err(TextFault::Refused(Refusal::Matrix)),
+            Err(OutOfMemory) => Err(TextFault::Memory),
         },
-        Some(Class::Voting) => match voting_of(alloc, game)? {
-            Some(votes) => Ok(Game::Voting(votes)),
-            None => Err(TextFault::Refused(Refusal::Quota)),
+        Some(Class::Market) => match market_of(alloc, game, scale) {
+            Ok(Some(market)) => Ok(Game::Market(market)),
+            Ok(None) => Err(TextFault::Refused(Refusal::Matrix)),
+            Err(OutOfMemory) => Err(TextFault::Memory),
+        },
+        Some(Class::Voting) => match voting_of(alloc, game) {
+            Ok(Some(votes)) => Ok(Game::Voting(votes)),
+            Ok(None) => Err(TextFault::Refused(Refusal::Quota)),
+            Err(OutOfMemory) => Err(TextFault::Memory),
         },
         None => unreachable!(),
     }
