@@ -7,7 +7,7 @@ ghost use Rattle.report.specs.BirdTrees.{edge_cost, edge_tree, bird_tree};
 use crate::fraction::integer_value;
 use crate::objects::{with, with_answer, with_shares};
 use fractions::OutOfMemory;
-use serde_json::{Value, json};
+use serde_json::Value;
 use std::alloc::Global;
 use tree_games::Tree;
 use worth_core::Shares;
@@ -66,6 +66,6 @@ fn edge_tree(
     ensures { IfOk result (λ v. view v ≡ edge_tree scale (end, player, cost)) }
 {
     let cost = cost_value(alloc, cost, scale)?;
-    let edge = json!(in alloc; [end, player, cost])?;
-    Ok(edge)
+    let items = vec![in alloc; Value::from(end), Value::from(player), cost]?;
+    Ok(Value::Array(items))
 }

@@ -7,15 +7,14 @@ ghost use Rattle.report.specs.KernelTrees.{prekernel_tree, not_prekernel_tree};
 use crate::objects::{with, with_answer, with_value};
 use crate::players::player_value;
 use fractions::{Frac, OutOfMemory};
-use serde_json::{Value, json};
+use serde_json::Value;
 use std::alloc::Global;
 
 /// The JSON tree of shares in the prekernel.
 pub(crate) fn prekernel_tree(alloc: Global) -> Result<Value, OutOfMemory>
     ensures { IfOk result (λ v. view v ≡ prekernel_tree) }
 {
-    let tree = json!(in alloc; {"answer": "prekernel"})?;
-    Ok(tree)
+    Ok(Value::Object(with_answer(alloc, "prekernel")?))
 }
 
 /// The JSON tree of two players whose surpluses differ.

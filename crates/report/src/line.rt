@@ -13,7 +13,7 @@ use crate::core_answers::{core_point_tree, empty_core_tree};
 use crate::kernel_answers::{not_prekernel_tree, prekernel_tree};
 use crate::matching_answer::matching_tree;
 use crate::nucleolus::nucleolus_tree;
-use crate::objects::{with_answer, with_coalition, with_integer, with_value};
+use crate::objects::{with, with_answer, with_coalition, with_integer, with_text, with_value};
 use crate::shapley_answers::shapley_tree;
 use crate::summary::summary_tree;
 use crate::verdict::verdict_tree;
@@ -21,7 +21,7 @@ use crate::words::{refusal_name, usage_word};
 use coalitions::Coalition;
 use fractions::{Frac, OutOfMemory};
 use kinds::Refusal;
-use serde_json::{Value, json};
+use serde_json::{Map, Value};
 use std::alloc::Global;
 
 /// The line of an answer: compact JSON with ascending keys, and a newline. Its fractions and shares are printed over
@@ -104,8 +104,7 @@ fn no_imputation_tree(
 fn core_tree(alloc: Global) -> Result<Value, OutOfMemory>
     ensures { IfOk result (λ v. view v ≡ answer_tree 1 Answer.InCore) }
 {
-    let tree = json!(in alloc; {"answer": "core"})?;
-    Ok(tree)
+    Ok(Value::Object(with_answer(alloc, "core")?))
 }
 
 fn not_efficient_tree(
@@ -143,16 +142,19 @@ fn blocked_tree(
 fn usage_tree(alloc: Global, kind: UsageKind) -> Result<Value, OutOfMemory>
     ensures { IfOk result (λ v. view v ≡ answer_tree 1 (Answer.Usage kind)) }
 {
-    let word = usage_word(kind);
-    let tree = json!(in alloc; {"usage": word})?;
-    Ok(tree)
+    let members = with_text(alloc, Map::new(alloc), "usage", usage_word(kind))?;
+    Ok(Value::Object(members))
 }
 
 fn refused_tree(alloc: Global, refusal: Refusal) -> Result<Value, OutOfMemory>
     ensures { IfOk result (λ v. view v ≡ answer_tree 1 (Answer.Refused refusal)) }
 {
-    let number = refusal.number();
-    let name = refusal_name(refusal);
-    let tree = json!(in alloc; {"number": number, "refused": name})?;
-    Ok(tree)
+    let members = with(
+        alloc,
+        Map::new(alloc),
+        "number",
+        Value::from(refusal.number()),
+    )?;
+    let members = with_text(alloc, members, "refused", refusal_name(refusal))?;
+    Ok(Value::Object(members))
 }

@@ -11,7 +11,7 @@ use crate::players::player_numbers;
 use crate::shares::share_texts;
 use coalitions::Coalition;
 use fractions::{Frac, OutOfMemory};
-use serde_json::{Map, Value, json, put};
+use serde_json::{Map, Value, put};
 use std::alloc::Global;
 use worth_core::Shares;
 
@@ -113,6 +113,6 @@ pub(crate) fn with_coalition(
 pub(crate) fn pair(alloc: Global, first: Value, second: Value) -> Result<Value, OutOfMemory>
     ensures { IfOk result (λ v. view v ≡ array (item (view first) (item (view second) no_items))) }
 {
-    let pair = json!(in alloc; [first, second])?;
-    Ok(pair)
+    let items = vec![in alloc; first, second]?;
+    Ok(Value::Array(items))
 }

@@ -9,7 +9,7 @@ use crate::players::player_value;
 use coalitions::Coalition;
 use fractions::{Frac, OutOfMemory};
 use kohlberg::{Place, Reason, Verdict};
-use serde_json::{Value, json};
+use serde_json::Value;
 use std::alloc::Global;
 
 /// The JSON tree of a verdict.
@@ -31,8 +31,7 @@ pub(crate) fn verdict_tree(
 fn yes_tree(alloc: Global) -> Result<Value, OutOfMemory>
     ensures { IfOk result (λ v. view v ≡ verdict_tree 1 Verdict.Yes) }
 {
-    let tree = json!(in alloc; {"answer": "yes"})?;
-    Ok(tree)
+    Ok(Value::Object(with_answer(alloc, "yes")?))
 }
 
 fn reason_tree(alloc: Global, reason: Reason, scale: u32) -> Result<Value, OutOfMemory>
