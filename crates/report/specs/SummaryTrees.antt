@@ -3,10 +3,11 @@
 --   common_divisor      the greatest common divisor of a number and of the sizes of integers
 --   least_denominator   the least common denominator of shares
 --   player_share        the share of a player, as it is printed
+--   share_members       what is said of the shares
 --   greatest_data       the greatest excess, or the word that there is none
 --   summary_tree        the summary of a generated game
 use Rattle.std.specs.Prelude.{ℕ, ◌-◌, ◌/◌, ℤ, pos, List, [], ◌∷◌, length, Option, Some, None, unsigned_abs, codes}
-use Rattle.serde_json.specs.Data.{Data, string, object, member, no_members}
+use Rattle.serde_json.specs.Data.{Data, string, object, Members, member, no_members}
 use Rattle.definitions.specs.Games.{Allocation, share}
 use Rattle.fractions.specs.Divisors.{gcd}
 use Rattle.fractions.specs.Fraction.{Fraction}
@@ -27,6 +28,13 @@ least_denominator x = pos (unsigned_abs x.den / common_divisor (unsigned_abs x.d
 -- the share of a player, or where the numbers are costs what it pays
 abbrev pub player_share : ℕ → Summary → ℕ → Data
 player_share k s i = share_data k s.is_cost s.shares.den (share s.shares i)
+
+-- of the shares the least common denominator, the first and the last
+abbrev pub share_members : ℕ → Summary → Members
+share_members k s =
+    member (codes "common") (integer_data k (least_denominator s.shares))
+    (member (codes "first") (player_share k s 0)
+    (member (codes "last") (player_share k s (length s.shares.shares - 1)) no_members))
 
 -- the greatest excess, and none for one player
 abbrev pub greatest_data : ℕ → Option Fraction → Data

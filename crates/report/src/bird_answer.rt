@@ -1,32 +1,32 @@
 //! Bird's shares and plan, as JSON.
 ghost use Rattle.std.specs.Prelude.{◌≡◌, pos, map, IfOk};
-ghost use Rattle.serde_json.specs.View.{view};
+ghost use Rattle.serde_json.specs.Data.{object};
+ghost use Rattle.serde_json.specs.View.{view, members_view};
 ghost use Rattle.report.specs.Limits.{IsScale};
 ghost use Rattle.report.specs.BirdTrees.{edge_cost, edge_tree, bird_tree};
 
 use crate::fraction::integer_value;
 use crate::objects::{with, with_answer, with_shares};
 use fractions::OutOfMemory;
-use serde_json::Value;
+use serde_json::{Map, Value};
 use std::alloc::Global;
 use tree_games::Tree;
 use worth_core::Shares;
 
-/// The JSON tree of what each player pays in Bird's plan, beside the edges of the plan.
-pub(crate) fn bird_tree(
+/// The members of the tree of what each player pays in Bird's plan, beside the edges of the plan.
+pub(crate) fn bird_members(
     alloc: Global,
     shares: &Shares,
     tree: &Tree,
     scale: u32,
-) -> Result<Value, OutOfMemory>
+) -> Result<Map<String, Value>, OutOfMemory>
     requires { IsScale (pos scale) }
-    ensures { IfOk result (λ v. view v ≡ bird_tree scale shares.now tree.now) }
+    ensures { IfOk result (λ m. object (members_view m.entries) ≡ bird_tree scale shares.now tree.now) }
 {
     let members = with_answer(alloc, "bird")?;
     let members = with_shares(alloc, members, "shares", shares, true, scale)?;
     let edges = edge_trees(alloc, &tree.edges, scale)?;
-    let members = with(alloc, members, "tree", Value::Array(edges))?;
-    Ok(Value::Object(members))
+    with(alloc, members, "tree", Value::Array(edges))
 }
 
 fn edge_trees(

@@ -1,6 +1,7 @@
 //! What is said of a game's convexity, as JSON.
 ghost use Rattle.std.specs.Prelude.{◌≡◌, pos, false, IfOk};
-ghost use Rattle.serde_json.specs.View.{view};
+ghost use Rattle.serde_json.specs.Data.{object};
+ghost use Rattle.serde_json.specs.View.{members_view};
 ghost use Rattle.report.specs.Limits.{IsScale};
 ghost use Rattle.report.specs.ConvexTrees.{convex_tree};
 
@@ -9,61 +10,61 @@ use crate::players::player_value;
 use coalitions::Coalition;
 use convexity::ConvexAnswer;
 use fractions::OutOfMemory;
-use serde_json::Value;
+use serde_json::{Map, Value};
 use std::alloc::Global;
 use worth_core::Shares;
 
-/// The JSON tree of what is said of a game's convexity.
-pub(crate) fn convex_tree(
+/// The members of the tree of what is said of a game's convexity.
+pub(crate) fn convex_members(
     alloc: Global,
     is_cost: bool,
     answer: &ConvexAnswer,
     scale: u32,
-) -> Result<Value, OutOfMemory>
+) -> Result<Map<String, Value>, OutOfMemory>
     requires { IsScale (pos scale) }
-    ensures { IfOk result (λ v. view v ≡ convex_tree scale is_cost answer.now) }
+    ensures { IfOk result (λ m. object (members_view m.entries) ≡ convex_tree scale is_cost answer.now) }
 {
     match answer {
         ConvexAnswer::Convex { shapley, marginal } => {
-            both_shares_tree(alloc, is_cost, shapley, marginal, scale)
+            both_shares_members(alloc, is_cost, shapley, marginal, scale)
         }
-        ConvexAnswer::Not { s, i, j, deficit } => failure_tree(alloc, *s, *i, *j, *deficit, scale),
+        ConvexAnswer::Not { s, i, j, deficit } => failure_members(
+            alloc, *s, *i, *j, *deficit, scale,
+        ),
     }
 }
 
 // Both lists of shares of a convex game.
-fn both_shares_tree(
+fn both_shares_members(
     alloc: Global,
     is_cost: bool,
     shapley: &Shares,
     marginal: &Shares,
     scale: u32,
-) -> Result<Value, OutOfMemory>
+) -> Result<Map<String, Value>, OutOfMemory>
     requires { IsScale (pos scale) }
-    ensures { IfOk result (λ v. view v ≡ convex_tree scale is_cost (ConvexAnswer.Convex shapley.now marginal.now)) }
+    ensures { IfOk result (λ m. object (members_view m.entries) ≡ convex_tree scale is_cost (ConvexAnswer.Convex shapley.now marginal.now)) }
 {
     let members = with_answer(alloc, "convex")?;
     let members = with_shares(alloc, members, "marginal", marginal, is_cost, scale)?;
-    let members = with_shares(alloc, members, "shapley", shapley, is_cost, scale)?;
-    Ok(Value::Object(members))
+    with_shares(alloc, members, "shapley", shapley, is_cost, scale)
 }
 
 // The coalition and the players at which a game isn't convex, and by how much.
-fn failure_tree(
+fn failure_members(
     alloc: Global,
     s: Coalition,
     i: u32,
     j: u32,
     deficit: i64,
     scale: u32,
-) -> Result<Value, OutOfMemory>
+) -> Result<Map<String, Value>, OutOfMemory>
     requires { IsScale (pos scale) }
-    ensures { IfOk result (λ v. view v ≡ convex_tree scale false (ConvexAnswer.Not s i j deficit)) }
+    ensures { IfOk result (λ m. object (members_view m.entries) ≡ convex_tree scale false (ConvexAnswer.Not s i j deficit)) }
 {
     let members = with_answer(alloc, "not convex")?;
     let members = with_integer(alloc, members, "deficit", i128::from(deficit), scale)?;
     let members = with(alloc, members, "i", player_value(i))?;
     let members = with(alloc, members, "j", player_value(j))?;
-    let members = with_coalition(alloc, members, "set", s)?;
-    Ok(Value::Object(members))
+    with_coalition(alloc, members, "set", s)
 }

@@ -1,7 +1,8 @@
 //! What is said of the core, as JSON.
 ghost use Rattle.std.specs.Prelude.{◌≡◌, pos, IfOk};
 ghost use Rattle.std.specs.List.{AllByRecursion};
-ghost use Rattle.serde_json.specs.View.{view};
+ghost use Rattle.serde_json.specs.Data.{object};
+ghost use Rattle.serde_json.specs.View.{members_view};
 ghost use Rattle.definitions.specs.Certificates.{IsSmall};
 ghost use Rattle.report.specs.Limits.{IsScale};
 ghost use Rattle.report.specs.CoreTrees.{core_point_tree, empty_core_tree};
@@ -14,39 +15,37 @@ use serde_json::{Map, Value};
 use std::alloc::Global;
 use worth_core::Shares;
 
-/// The JSON tree of a point of the core.
-pub(crate) fn core_point_tree(
+/// The members of the tree of a point of the core.
+pub(crate) fn core_point_members(
     alloc: Global,
     is_cost: bool,
     shares: &Shares,
     scale: u32,
-) -> Result<Value, OutOfMemory>
+) -> Result<Map<String, Value>, OutOfMemory>
     requires { IsScale (pos scale) }
-    ensures { IfOk result (λ v. view v ≡ core_point_tree scale is_cost shares.now) }
+    ensures { IfOk result (λ m. object (members_view m.entries) ≡ core_point_tree scale is_cost shares.now) }
 {
     let members = with_answer(alloc, "core point")?;
-    let members = with_shares(alloc, members, "shares", shares, is_cost, scale)?;
-    Ok(Value::Object(members))
+    with_shares(alloc, members, "shares", shares, is_cost, scale)
 }
 
-/// The JSON tree of a collection that shows that the core is empty, beside the two numbers that it sets against each
-/// other.
-pub(crate) fn empty_core_tree(
+/// The members of the tree of a collection that shows that the core is empty, beside the two numbers that it sets
+/// against each other.
+pub(crate) fn empty_core_members(
     alloc: Global,
     collection: &Collection,
     value: i128,
     against: i128,
     scale: u32,
-) -> Result<Value, OutOfMemory>
+) -> Result<Map<String, Value>, OutOfMemory>
     requires scale { IsScale (pos scale) }
     requires weights { AllByRecursion (λ p. IsSmall p.1) collection.now.weights }
     requires k { IsSmall collection.now.k }
-    ensures { IfOk result (λ v. view v ≡ empty_core_tree scale collection.now value against) }
+    ensures { IfOk result (λ m. object (members_view m.entries) ≡ empty_core_tree scale collection.now value against) }
 {
     let members = with_integer(alloc, Map::new(alloc), "against", against, scale)?;
     let members = with_text(alloc, members, "answer", "empty core")?;
     let members = with_weights(alloc, members, "collection", &collection.weights)?;
     let members = with(alloc, members, "k", weight_value(collection.k))?;
-    let members = with_integer(alloc, members, "value", value, scale)?;
-    Ok(Value::Object(members))
+    with_integer(alloc, members, "value", value, scale)
 }

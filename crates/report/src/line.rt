@@ -1,22 +1,23 @@
 //! The line of an answer.
 ghost use Rattle.std.specs.Prelude.{◌≡◌, pos, unsigned_abs, IfOk, IsUtf8, Some};
 ghost use Rattle.serde_json.specs.Read.{read};
-ghost use Rattle.serde_json.specs.View.{view};
+ghost use Rattle.serde_json.specs.Data.{object};
+ghost use Rattle.serde_json.specs.View.{members_view};
 ghost use Rattle.json_texts.specs.Newlines.{without_newline};
 ghost use Rattle.report.specs.Limits.{IsScale, IsFine, IsPrintable};
 ghost use Rattle.report.specs.Lines.{answer_tree, line};
 
 use crate::answer::{Answer, UsageKind};
-use crate::bird_answer::bird_tree;
-use crate::convex_answers::convex_tree;
-use crate::core_answers::{core_point_tree, empty_core_tree};
-use crate::kernel_answers::{not_prekernel_tree, prekernel_tree};
-use crate::matching_answer::matching_tree;
-use crate::nucleolus::nucleolus_tree;
+use crate::bird_answer::bird_members;
+use crate::convex_answers::convex_members;
+use crate::core_answers::{core_point_members, empty_core_members};
+use crate::kernel_answers::not_prekernel_members;
+use crate::matching_answer::matching_members;
+use crate::nucleolus::nucleolus_members;
 use crate::objects::{with, with_answer, with_coalition, with_integer, with_text, with_value};
-use crate::shapley_answers::shapley_tree;
-use crate::summary::summary_tree;
-use crate::verdict::verdict_tree;
+use crate::shapley_answers::shapley_members;
+use crate::summary::summary_members;
+use crate::verdict::verdict_members;
 use crate::words::{refusal_name, usage_word};
 use coalitions::Coalition;
 use fractions::{Frac, OutOfMemory};
@@ -34,8 +35,8 @@ pub fn write_report(alloc: Global, answer: Answer, scale: i64) -> Result<Vec<u8>
     ensures utf8 { IfOk result (λ v. IsUtf8 (without_newline v.items)) }
     ensures reads_back { IfOk result (λ v. read (without_newline v.items) ≡ Some (answer_tree (unsigned_abs scale) answer)) }
 {
-    let tree = tree_of(alloc, answer, narrow(scale))?;
-    let mut text = tree.to_vec(alloc)?;
+    let members = members_of(alloc, answer, narrow(scale))?;
+    let mut text = Value::Object(members).to_vec(alloc)?;
     text.push(b'\n')?;
     Ok(text)
 }
@@ -49,11 +50,11 @@ fn narrow(scale: i64) -> u32
     scale as u32
 }
 
-/// The JSON tree of an answer over the scale.
-fn tree_of(alloc: Global, answer: Answer, scale: u32) -> Result<Value, OutOfMemory>
+/// The members of the tree of an answer over the scale.
+fn members_of(alloc: Global, answer: Answer, scale: u32) -> Result<Map<String, Value>, OutOfMemory>
     requires scale { IsScale (pos scale) }
     requires printable { IsPrintable answer }
-    ensures { IfOk result (λ v. view v ≡ answer_tree scale answer) }
+    ensures { IfOk result (λ m. object (members_view m.entries) ≡ answer_tree scale answer) }
 {
     match answer {
         Answer::Nucleolus {
@@ -62,92 +63,86 @@ fn tree_of(alloc: Global, answer: Answer, scale: u32) -> Result<Value, OutOfMemo
             is_cost,
             shares,
             certificate,
-        } => nucleolus_tree(alloc, family, tree, is_cost, &shares, &certificate, scale),
-        Answer::NoImputation { singles, total } => no_imputation_tree(alloc, singles, total, scale),
-        Answer::InCore => core_tree(alloc),
-        Answer::NotEfficient { sum, total } => not_efficient_tree(alloc, &sum, total, scale),
-        Answer::Blocked { coalition, excess } => blocked_tree(alloc, coalition, &excess, scale),
-        Answer::CorePoint { is_cost, shares } => core_point_tree(alloc, is_cost, &shares, scale),
+        } => nucleolus_members(alloc, family, tree, is_cost, &shares, &certificate, scale),
+        Answer::NoImputation { singles, total } => no_imputation_members(
+            alloc, singles, total, scale,
+        ),
+        Answer::InCore => with_answer(alloc, "core"),
+        Answer::NotEfficient { sum, total } => not_efficient_members(alloc, &sum, total, scale),
+        Answer::Blocked { coalition, excess } => blocked_members(alloc, coalition, &excess, scale),
+        Answer::CorePoint { is_cost, shares } => core_point_members(alloc, is_cost, &shares, scale),
         Answer::EmptyCore {
             collection,
             value,
             against,
-        } => empty_core_tree(alloc, &collection, value, against, scale),
-        Answer::Shapley { is_cost, shares } => shapley_tree(alloc, is_cost, &shares, scale),
-        Answer::Bird { shares, tree } => bird_tree(alloc, &shares, &tree, scale),
-        Answer::Convex { is_cost, answer } => convex_tree(alloc, is_cost, &answer, scale),
-        Answer::Prekernel => prekernel_tree(alloc),
-        Answer::NotPrekernel { i, j, ij, ji } => not_prekernel_tree(alloc, i, j, &ij, &ji, scale),
-        Answer::Matching(solution) => matching_tree(alloc, &solution, scale),
-        Answer::Verdict(verdict) => verdict_tree(alloc, verdict, scale),
-        Answer::Usage(kind) => usage_tree(alloc, kind),
-        Answer::Refused(refusal) => refused_tree(alloc, refusal),
-        Answer::Summary(summary) => summary_tree(alloc, &summary, scale),
+        } => empty_core_members(alloc, &collection, value, against, scale),
+        Answer::Shapley { is_cost, shares } => shapley_members(alloc, is_cost, &shares, scale),
+        Answer::Bird { shares, tree } => bird_members(alloc, &shares, &tree, scale),
+        Answer::Convex { is_cost, answer } => convex_members(alloc, is_cost, &answer, scale),
+        Answer::Prekernel => with_answer(alloc, "prekernel"),
+        Answer::NotPrekernel { i, j, ij, ji } => not_prekernel_members(
+            alloc, i, j, &ij, &ji, scale,
+        ),
+        Answer::Matching(solution) => matching_members(alloc, &solution, scale),
+        Answer::Verdict(verdict) => verdict_members(alloc, verdict, scale),
+        Answer::Usage(kind) => usage_members(alloc, kind),
+        Answer::Refused(refusal) => refused_members(alloc, refusal),
+        Answer::Summary(summary) => summary_members(alloc, &summary, scale),
     }
 }
 
-fn no_imputation_tree(
+fn no_imputation_members(
     alloc: Global,
     singles: i64,
     total: i64,
     scale: u32,
-) -> Result<Value, OutOfMemory>
+) -> Result<Map<String, Value>, OutOfMemory>
     requires { IsScale (pos scale) }
-    ensures { IfOk result (λ v. view v ≡ answer_tree scale (Answer.NoImputation singles total)) }
+    ensures { IfOk result (λ m. object (members_view m.entries) ≡ answer_tree scale (Answer.NoImputation singles total)) }
 {
     let members = with_answer(alloc, "no imputation")?;
     let members = with_integer(alloc, members, "singles", i128::from(singles), scale)?;
-    let members = with_integer(alloc, members, "total", i128::from(total), scale)?;
-    Ok(Value::Object(members))
+    with_integer(alloc, members, "total", i128::from(total), scale)
 }
 
-fn core_tree(alloc: Global) -> Result<Value, OutOfMemory>
-    ensures { IfOk result (λ v. view v ≡ answer_tree 1 Answer.InCore) }
-{
-    Ok(Value::Object(with_answer(alloc, "core")?))
-}
-
-fn not_efficient_tree(
+fn not_efficient_members(
     alloc: Global,
     sum: &Frac,
     total: i64,
     scale: u32,
-) -> Result<Value, OutOfMemory>
+) -> Result<Map<String, Value>, OutOfMemory>
     requires scale { IsScale (pos scale) }
     requires fine { IsFine sum.now.den }
-    ensures { IfOk result (λ v. view v ≡ answer_tree scale (Answer.NotEfficient sum.now total)) }
+    ensures { IfOk result (λ m. object (members_view m.entries) ≡ answer_tree scale (Answer.NotEfficient sum.now total)) }
 {
     let members = with_answer(alloc, "not efficient")?;
     let members = with_value(alloc, members, "sum", sum, scale)?;
-    let members = with_integer(alloc, members, "total", i128::from(total), scale)?;
-    Ok(Value::Object(members))
+    with_integer(alloc, members, "total", i128::from(total), scale)
 }
 
-fn blocked_tree(
+fn blocked_members(
     alloc: Global,
     coalition: Coalition,
     excess: &Frac,
     scale: u32,
-) -> Result<Value, OutOfMemory>
+) -> Result<Map<String, Value>, OutOfMemory>
     requires scale { IsScale (pos scale) }
     requires fine { IsFine excess.now.den }
-    ensures { IfOk result (λ v. view v ≡ answer_tree scale (Answer.Blocked coalition excess.now)) }
+    ensures { IfOk result (λ m. object (members_view m.entries) ≡ answer_tree scale (Answer.Blocked coalition excess.now)) }
 {
     let members = with_answer(alloc, "blocked")?;
     let members = with_coalition(alloc, members, "coalition", coalition)?;
-    let members = with_value(alloc, members, "excess", excess, scale)?;
-    Ok(Value::Object(members))
+    with_value(alloc, members, "excess", excess, scale)
 }
 
-fn usage_tree(alloc: Global, kind: UsageKind) -> Result<Value, OutOfMemory>
-    ensures { IfOk result (λ v. view v ≡ answer_tree 1 (Answer.Usage kind)) }
+fn usage_members(alloc: Global, kind: UsageKind) -> Result<Map<String, Value>, OutOfMemory>
+    ensures { IfOk result (λ m. object (members_view m.entries) ≡ answer_tree 1 (Answer.Usage kind)) }
 {
-    let members = with_text(alloc, Map::new(alloc), "usage", usage_word(kind))?;
-    Ok(Value::Object(members))
+    with_text(alloc, Map::new(alloc), "usage", usage_word(kind))
 }
 
-fn refused_tree(alloc: Global, refusal: Refusal) -> Result<Value, OutOfMemory>
-    ensures { IfOk result (λ v. view v ≡ answer_tree 1 (Answer.Refused refusal)) }
+fn refused_members(alloc: Global, refusal: Refusal) -> Result<Map<String, Value>, OutOfMemory>
+    ensures { IfOk result (λ m. object (members_view m.entries) ≡ answer_tree 1 (Answer.Refused refusal)) }
 {
     let members = with(
         alloc,
@@ -155,6 +150,5 @@ fn refused_tree(alloc: Global, refusal: Refusal) -> Result<Value, OutOfMemory>
         "number",
         Value::from(refusal.number()),
     )?;
-    let members = with_text(alloc, members, "refused", refusal_name(refusal))?;
-    Ok(Value::Object(members))
+    with_text(alloc, members, "refused", refusal_name(refusal))
 }

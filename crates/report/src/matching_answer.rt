@@ -1,6 +1,7 @@
 //! The solution of a market, as JSON.
 ghost use Rattle.std.specs.Prelude.{◌≡◌, pos, map, IfOk};
-ghost use Rattle.serde_json.specs.View.{view};
+ghost use Rattle.serde_json.specs.Data.{object};
+ghost use Rattle.serde_json.specs.View.{view, members_view};
 ghost use Rattle.report.specs.Limits.{IsScale};
 ghost use Rattle.report.specs.MatchingTrees.{pair_tree, matching_tree};
 
@@ -8,17 +9,17 @@ use crate::objects::{pair, with, with_answer, with_integer, with_shares};
 use crate::players::player_value;
 use big_assignment::Solution;
 use fractions::OutOfMemory;
-use serde_json::Value;
+use serde_json::{Map, Value};
 use std::alloc::Global;
 
-/// The JSON tree of the pairs of a market with their value, beside the core points that are best for either side.
-pub(crate) fn matching_tree(
+/// The members of the tree of the pairs of a market with their value, beside the core points that are best for either side.
+pub(crate) fn matching_members(
     alloc: Global,
     solution: &Solution,
     scale: u32,
-) -> Result<Value, OutOfMemory>
+) -> Result<Map<String, Value>, OutOfMemory>
     requires { IsScale (pos scale) }
-    ensures { IfOk result (λ v. view v ≡ matching_tree scale solution.now) }
+    ensures { IfOk result (λ m. object (members_view m.entries) ≡ matching_tree scale solution.now) }
 {
     let buyers_best = &solution.buyers_best;
     let sellers_best = &solution.sellers_best;
@@ -27,8 +28,7 @@ pub(crate) fn matching_tree(
     let pairs = pair_trees(alloc, &solution.pairs)?;
     let members = with(alloc, members, "pairs", Value::Array(pairs))?;
     let members = with_shares(alloc, members, "sellers best", sellers_best, false, scale)?;
-    let members = with_integer(alloc, members, "value", i128::from(solution.value), scale)?;
-    Ok(Value::Object(members))
+    with_integer(alloc, members, "value", i128::from(solution.value), scale)
 }
 
 fn pair_trees(alloc: Global, pairs: &[(u32, u32)]) -> Result<Vec<Value>, OutOfMemory>

@@ -1,7 +1,8 @@
 //! The nucleolus or the prenucleolus of a game, with its certificate, as JSON.
 ghost use Rattle.std.specs.Prelude.{◌≡◌, pos, IfOk};
 ghost use Rattle.std.specs.List.{AllByRecursion};
-ghost use Rattle.serde_json.specs.View.{view};
+ghost use Rattle.serde_json.specs.Data.{object};
+ghost use Rattle.serde_json.specs.View.{view, members_view};
 ghost use Rattle.report.specs.Limits.{IsScale, IsFine};
 ghost use Rattle.report.specs.Lines.{nucleolus_tree};
 
@@ -14,8 +15,8 @@ use serde_json::{Map, Value};
 use std::alloc::Global;
 use worth_core::{Family, Shares};
 
-/// The JSON tree of the nucleolus or the prenucleolus, beside the tree of the game.
-pub(crate) fn nucleolus_tree(
+/// The members of the tree of the nucleolus or the prenucleolus, beside the tree of the game.
+pub(crate) fn nucleolus_members(
     alloc: Global,
     family: Family,
     game: Value,
@@ -23,16 +24,15 @@ pub(crate) fn nucleolus_tree(
     shares: &Shares,
     certificate: &Certificate,
     scale: u32,
-) -> Result<Value, OutOfMemory>
+) -> Result<Map<String, Value>, OutOfMemory>
     requires scale { IsScale (pos scale) }
     requires fine { AllByRecursion (λ l. IsFine l.excess_den) certificate.now.levels }
-    ensures { IfOk result (λ v. view v ≡ nucleolus_tree scale family (view game) is_cost shares.now certificate.now) }
+    ensures { IfOk result (λ m. object (members_view m.entries) ≡ nucleolus_tree scale family (view game) is_cost shares.now certificate.now) }
 {
     // The game first, since it is there already; keys ascend in the object in any case.
     let members = with(alloc, Map::new(alloc), "game", game)?;
     let members = with_text(alloc, members, "answer", family_word(family))?;
     let certificate = certificate_tree(alloc, certificate, scale)?;
     let members = with(alloc, members, "certificate", certificate)?;
-    let members = with_shares(alloc, members, "shares", shares, is_cost, scale)?;
-    Ok(Value::Object(members))
+    with_shares(alloc, members, "shares", shares, is_cost, scale)
 }

@@ -1,26 +1,26 @@
 //! The Shapley shares, as JSON.
 ghost use Rattle.std.specs.Prelude.{◌≡◌, pos, IfOk};
-ghost use Rattle.serde_json.specs.View.{view};
+ghost use Rattle.serde_json.specs.Data.{object};
+ghost use Rattle.serde_json.specs.View.{members_view};
 ghost use Rattle.report.specs.Limits.{IsScale};
 ghost use Rattle.report.specs.ShapleyTrees.{shapley_tree};
 
 use crate::objects::{with_answer, with_shares};
 use fractions::OutOfMemory;
-use serde_json::Value;
+use serde_json::{Map, Value};
 use std::alloc::Global;
 use worth_core::Shares;
 
-/// The JSON tree of the Shapley shares.
-pub(crate) fn shapley_tree(
+/// The members of the tree of the Shapley shares.
+pub(crate) fn shapley_members(
     alloc: Global,
     is_cost: bool,
     shares: &Shares,
     scale: u32,
-) -> Result<Value, OutOfMemory>
+) -> Result<Map<String, Value>, OutOfMemory>
     requires { IsScale (pos scale) }
-    ensures { IfOk result (λ v. view v ≡ shapley_tree scale is_cost shares.now) }
+    ensures { IfOk result (λ m. object (members_view m.entries) ≡ shapley_tree scale is_cost shares.now) }
 {
     let members = with_answer(alloc, "shapley")?;
-    let members = with_shares(alloc, members, "shares", shares, is_cost, scale)?;
-    Ok(Value::Object(members))
+    with_shares(alloc, members, "shares", shares, is_cost, scale)
 }

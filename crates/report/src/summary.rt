@@ -1,8 +1,9 @@
 //! What is said of a generated game, as JSON.
 ghost use Rattle.std.specs.Prelude.{◌≡◌, ◌<◌, ◌-◌, pos, length, IfOk};
-ghost use Rattle.serde_json.specs.View.{view};
+ghost use Rattle.serde_json.specs.Data.{object};
+ghost use Rattle.serde_json.specs.View.{view, members_view};
 ghost use Rattle.report.specs.Limits.{IsScale, IsFineIfThere};
-ghost use Rattle.report.specs.SummaryTrees.{least_denominator, player_share, greatest_data, summary_tree};
+ghost use Rattle.report.specs.SummaryTrees.{least_denominator, player_share, share_members, greatest_data, summary_tree};
 ghost use Rattle.report.specs.Values.{integer_data};
 
 use crate::fraction::{integer_value, value_over};
@@ -32,30 +33,41 @@ pub struct Summary {
     pub greatest: Option<Frac>,
 }
 
-/// The JSON tree of a summary.
-pub(crate) fn summary_tree(
+/// The members of the tree of a summary.
+pub(crate) fn summary_members(
     alloc: Global,
     summary: &Summary,
     scale: u32,
-) -> Result<Value, OutOfMemory>
+) -> Result<Map<String, Value>, OutOfMemory>
     requires scale { IsScale (pos scale) }
     requires fine { IsFineIfThere summary.now.greatest }
-    ensures { IfOk result (λ v. view v ≡ summary_tree scale summary.now) }
+    ensures { IfOk result (λ m. object (members_view m.entries) ≡ summary_tree scale summary.now) }
 {
-    let players = summary.shares.players();
-    let members = with_text(alloc, Map::new(alloc), "class", kind_word(summary.kind))?;
-    let common = common_value(alloc, &summary.shares, scale)?;
-    let members = with(alloc, members, "common", common)?;
-    let first = player_value(alloc, summary, 0, scale)?;
-    let members = with(alloc, members, "first", first)?;
+    let members = share_members(alloc, summary, scale)?;
     let greatest = greatest_value(alloc, &summary.greatest, scale)?;
     let members = with(alloc, members, "greatest", greatest)?;
-    let last = player_value(alloc, summary, players - 1, scale)?;
-    let members = with(alloc, members, "last", last)?;
+    let members = with_text(alloc, members, "class", kind_word(summary.kind))?;
     let members = with(alloc, members, "players", Value::from(summary.players))?;
     let members = with(alloc, members, "seed", Value::from(summary.seed))?;
-    let members = with_text(alloc, members, "verdict", "yes")?;
-    Ok(Value::Object(members))
+    with_text(alloc, members, "verdict", "yes")
+}
+
+/// What a summary says of its shares.
+fn share_members(
+    alloc: Global,
+    summary: &Summary,
+    scale: u32,
+) -> Result<Map<String, Value>, OutOfMemory>
+    requires { IsScale (pos scale) }
+    ensures { IfOk result (λ m. members_view m.entries ≡ share_members scale summary.now) }
+{
+    let players = summary.shares.players();
+    let common = common_value(alloc, &summary.shares, scale)?;
+    let members = with(alloc, Map::new(alloc), "common", common)?;
+    let first = player_value(alloc, summary, 0, scale)?;
+    let members = with(alloc, members, "first", first)?;
+    let last = player_value(alloc, summary, players - 1, scale)?;
+    with(alloc, members, "last", last)
 }
 
 /// The least common denominator of shares.

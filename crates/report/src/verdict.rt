@@ -1,6 +1,7 @@
 //! Verdicts as JSON.
 ghost use Rattle.std.specs.Prelude.{◌≡◌, pos, IfOk};
-ghost use Rattle.serde_json.specs.View.{view};
+ghost use Rattle.serde_json.specs.Data.{object};
+ghost use Rattle.serde_json.specs.View.{members_view};
 ghost use Rattle.report.specs.Limits.{IsScale, IsFine, IsFineVerdict};
 ghost use Rattle.report.specs.Verdicts.{no_alone, no_at_player, no_at_coalition, no_at_level, no_above, reason_tree, verdict_tree};
 
@@ -9,41 +10,39 @@ use crate::players::player_value;
 use coalitions::Coalition;
 use fractions::{Frac, OutOfMemory};
 use kohlberg::{Place, Reason, Verdict};
-use serde_json::Value;
+use serde_json::{Map, Value};
 use std::alloc::Global;
 
-/// The JSON tree of a verdict.
-pub(crate) fn verdict_tree(
+/// The members of the tree of a verdict.
+pub(crate) fn verdict_members(
     alloc: Global,
     verdict: Verdict,
     scale: u32,
-) -> Result<Value, OutOfMemory>
+) -> Result<Map<String, Value>, OutOfMemory>
     requires scale { IsScale (pos scale) }
     requires fine { IsFineVerdict verdict }
-    ensures { IfOk result (λ v. view v ≡ verdict_tree scale verdict) }
+    ensures { IfOk result (λ m. object (members_view m.entries) ≡ verdict_tree scale verdict) }
 {
     match verdict {
-        Verdict::Yes => yes_tree(alloc),
-        Verdict::No(reason) => reason_tree(alloc, reason, scale),
+        Verdict::Yes => with_answer(alloc, "yes"),
+        Verdict::No(reason) => reason_members(alloc, reason, scale),
     }
 }
 
-fn yes_tree(alloc: Global) -> Result<Value, OutOfMemory>
-    ensures { IfOk result (λ v. view v ≡ verdict_tree 1 Verdict.Yes) }
-{
-    Ok(Value::Object(with_answer(alloc, "yes")?))
-}
-
-fn reason_tree(alloc: Global, reason: Reason, scale: u32) -> Result<Value, OutOfMemory>
+fn reason_members(
+    alloc: Global,
+    reason: Reason,
+    scale: u32,
+) -> Result<Map<String, Value>, OutOfMemory>
     requires scale { IsScale (pos scale) }
     requires fine { IsFineVerdict (Verdict.No reason) }
-    ensures { IfOk result (λ v. view v ≡ reason_tree scale reason) }
+    ensures { IfOk result (λ m. object (members_view m.entries) ≡ reason_tree scale reason) }
 {
     match reason {
         Reason::NotEfficient => no_alone(alloc, 1),
         Reason::NotIndividual { player } => no_at_player(alloc, 2, player),
         Reason::WrongExcess { level, coalition } => no_at_coalition(alloc, 3, level, coalition),
-        Reason::WeightSign { level, place } => weight_tree(alloc, level, place),
+        Reason::WeightSign { level, place } => weight_members(alloc, level, place),
         Reason::Unbalanced { level, player } => no_at_level(alloc, 5, level, player),
         Reason::BoundNotTight { level, player } => no_at_level(alloc, 6, level, player),
         Reason::OutsideAbove { level, excess } => no_above(alloc, 7, level, &excess, scale),
@@ -51,8 +50,12 @@ fn reason_tree(alloc: Global, reason: Reason, scale: u32) -> Result<Value, OutOf
     }
 }
 
-fn weight_tree(alloc: Global, level: u32, place: Place) -> Result<Value, OutOfMemory>
-    ensures { IfOk result (λ v. view v ≡ reason_tree 1 (Reason.WeightSign level place)) }
+fn weight_members(
+    alloc: Global,
+    level: u32,
+    place: Place,
+) -> Result<Map<String, Value>, OutOfMemory>
+    ensures { IfOk result (λ m. object (members_view m.entries) ≡ reason_tree 1 (Reason.WeightSign level place)) }
 {
     match place {
         Place::Coalition(coalition) => no_at_coalition(alloc, 4, level, coalition),
@@ -60,21 +63,19 @@ fn weight_tree(alloc: Global, level: u32, place: Place) -> Result<Value, OutOfMe
     }
 }
 
-fn no_alone(alloc: Global, reason: u32) -> Result<Value, OutOfMemory>
-    ensures { IfOk result (λ v. view v ≡ no_alone reason) }
+fn no_alone(alloc: Global, reason: u32) -> Result<Map<String, Value>, OutOfMemory>
+    ensures { IfOk result (λ m. object (members_view m.entries) ≡ no_alone reason) }
 {
     let members = with_answer(alloc, "no")?;
-    let members = with(alloc, members, "reason", Value::from(reason))?;
-    Ok(Value::Object(members))
+    with(alloc, members, "reason", Value::from(reason))
 }
 
-fn no_at_player(alloc: Global, reason: u32, player: u32) -> Result<Value, OutOfMemory>
-    ensures { IfOk result (λ v. view v ≡ no_at_player reason player) }
+fn no_at_player(alloc: Global, reason: u32, player: u32) -> Result<Map<String, Value>, OutOfMemory>
+    ensures { IfOk result (λ m. object (members_view m.entries) ≡ no_at_player reason player) }
 {
     let members = with_answer(alloc, "no")?;
     let members = with(alloc, members, "player", player_value(player))?;
-    let members = with(alloc, members, "reason", Value::from(reason))?;
-    Ok(Value::Object(members))
+    with(alloc, members, "reason", Value::from(reason))
 }
 
 fn no_at_coalition(
@@ -82,24 +83,27 @@ fn no_at_coalition(
     reason: u32,
     level: u32,
     coalition: Coalition,
-) -> Result<Value, OutOfMemory>
-    ensures { IfOk result (λ v. view v ≡ no_at_coalition reason level coalition) }
+) -> Result<Map<String, Value>, OutOfMemory>
+    ensures { IfOk result (λ m. object (members_view m.entries) ≡ no_at_coalition reason level coalition) }
 {
     let members = with_answer(alloc, "no")?;
     let members = with_coalition(alloc, members, "coalition", coalition)?;
     let members = with(alloc, members, "level", Value::from(level))?;
-    let members = with(alloc, members, "reason", Value::from(reason))?;
-    Ok(Value::Object(members))
+    with(alloc, members, "reason", Value::from(reason))
 }
 
-fn no_at_level(alloc: Global, reason: u32, level: u32, player: u32) -> Result<Value, OutOfMemory>
-    ensures { IfOk result (λ v. view v ≡ no_at_level reason level player) }
+fn no_at_level(
+    alloc: Global,
+    reason: u32,
+    level: u32,
+    player: u32,
+) -> Result<Map<String, Value>, OutOfMemory>
+    ensures { IfOk result (λ m. object (members_view m.entries) ≡ no_at_level reason level player) }
 {
     let members = with_answer(alloc, "no")?;
     let members = with(alloc, members, "level", Value::from(level))?;
     let members = with(alloc, members, "player", player_value(player))?;
-    let members = with(alloc, members, "reason", Value::from(reason))?;
-    Ok(Value::Object(members))
+    with(alloc, members, "reason", Value::from(reason))
 }
 
 fn no_above(
@@ -108,14 +112,13 @@ fn no_above(
     level: u32,
     excess: &Frac,
     scale: u32,
-) -> Result<Value, OutOfMemory>
+) -> Result<Map<String, Value>, OutOfMemory>
     requires scale { IsScale (pos scale) }
     requires fine { IsFine excess.now.den }
-    ensures { IfOk result (λ v. view v ≡ no_above scale reason level excess.now) }
+    ensures { IfOk result (λ m. object (members_view m.entries) ≡ no_above scale reason level excess.now) }
 {
     let members = with_answer(alloc, "no")?;
     let members = with_value(alloc, members, "excess", excess, scale)?;
     let members = with(alloc, members, "level", Value::from(level))?;
-    let members = with(alloc, members, "reason", Value::from(reason))?;
-    Ok(Value::Object(members))
+    with(alloc, members, "reason", Value::from(reason))
 }

@@ -1,13 +1,12 @@
 use Rattle.std.proofs.Common.{◌≡◌, codes, ap, ◌∙◌, refl, rules}
-use Rattle.serde_json.specs.Data.{string, object, member, no_members}
+use Rattle.serde_json.specs.Data.{string, member, no_members}
 use Rattle.serde_json.specs.View.{members_view}
-use Rattle.serde_json.proofs.Views.{view-Object}
 use Rattle.balanced_collections.specs.Collections.{CollectionData}
 use Rattle.kohlberg.proofs.Kept.{kept}
 use Rattle.report.specs.Values.{integer_data}
 use Rattle.report.specs.Certificates.{weight_data, coalition_pairs}
-use Rattle.report.proofs.MemberLists.{put_on}
-use Rattle.report.proofs.core_answers.empty_core_tree.Goals as goal
+use Rattle.report.proofs.MemberLists.{put_on, last_on}
+use Rattle.report.proofs.core_answers.empty_core_members.Goals as goal
 
 pub returns : goal.returns
 returns c =
@@ -17,4 +16,4 @@ returns c =
     let answer = put_on (codes "answer") (string (codes "empty core")) c.in_ok-members-2.ensures refl against in
     let pairs = put_on (codes "collection") (coalition_pairs collection.weights) c.in_ok-members-3.ensures (ap coalition_pairs (c.deref.ensures.value ∙ ap (λ (d : CollectionData). d.weights) c.collection.view_is)) answer in
     let total = put_on (codes "k") (weight_data collection.k) c.in_ok-members-4.ensures (c.weight_value.ensures ∙ search rules) pairs in
-    view-Object c.in_ok-members-5.members ∙ ap object (put_on (codes "value") (integer_data k c.args.value) c.in_ok-members-5.ensures (ap (integer_data k) (kept c.args.value c.ranges.value.sfits)) total)
+    last_on _ (codes "value") (integer_data k c.args.value) c.with_integer-2.result c.with_integer-2.ensures (ap (integer_data k) (kept c.args.value c.ranges.value.sfits)) total
