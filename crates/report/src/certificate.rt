@@ -1,7 +1,7 @@
 //! Certificates as JSON.
 ghost use Rattle.std.specs.Prelude.{◌≡◌, pos, map, IfOk};
 ghost use Rattle.std.specs.List.{AllByRecursion};
-ghost use Rattle.serde_json.specs.Data.{Data, array, put as with_member};
+ghost use Rattle.serde_json.specs.Data.{Data, object, array, put as with_member};
 ghost use Rattle.serde_json.specs.View.{view, items_of, members_view};
 ghost use Rattle.definitions.specs.Certificates.{IsSmall};
 ghost use Rattle.report.specs.Certificates.{weight_data, weight_pair, level_tree, certificate_tree};
@@ -16,20 +16,19 @@ use kohlberg::{Certificate, Level};
 use serde_json::{Map, Value};
 use std::alloc::Global;
 
-/// The JSON tree of a certificate, its excesses over the scale.
-pub(crate) fn certificate_tree(
+/// The members of the tree of a certificate, its excesses over the scale.
+pub(crate) fn certificate_members(
     alloc: Global,
     certificate: &Certificate,
     scale: u32,
-) -> Result<Value, OutOfMemory>
+) -> Result<Map<String, Value>, OutOfMemory>
     requires scale { IsScale (pos scale) }
     requires fine { AllByRecursion (λ l. IsFine l.excess_den) certificate.now.levels }
-    ensures { IfOk result (λ v. view v ≡ certificate_tree scale certificate.now) }
+    ensures { IfOk result (λ m. object (members_view m.entries) ≡ certificate_tree scale certificate.now) }
 {
     let levels = level_trees(alloc, certificate.levels(), scale)?;
     let members = with(alloc, Map::new(alloc), "levels", Value::Array(levels))?;
-    let members = with_text(alloc, members, "mode", mode_word(certificate.mode()))?;
-    Ok(Value::Object(members))
+    with_text(alloc, members, "mode", mode_word(certificate.mode()))
 }
 
 fn level_trees(alloc: Global, levels: &[Level], scale: u32) -> Result<Vec<Value>, OutOfMemory>
@@ -40,23 +39,27 @@ fn level_trees(alloc: Global, levels: &[Level], scale: u32) -> Result<Vec<Value>
 {
     let mut trees = Vec::new(alloc);
     for level in levels {
-        trees.push(level_tree(alloc, level, scale)?)?;
+        let members = level_members(alloc, level, scale)?;
+        trees.push(Value::Object(members))?;
     }
     Ok(trees)
 }
 
-fn level_tree(alloc: Global, level: &Level, scale: u32) -> Result<Value, OutOfMemory>
+fn level_members(
+    alloc: Global,
+    level: &Level,
+    scale: u32,
+) -> Result<Map<String, Value>, OutOfMemory>
     requires scale { IsScale (pos scale) }
     requires small { HasSmallWeights level.now }
     requires fine { IsFine level.now.excess_den }
-    ensures { IfOk result (λ v. view v ≡ level_tree scale level.now) }
+    ensures { IfOk result (λ m. object (members_view m.entries) ≡ level_tree scale level.now) }
 {
     let members = with_weights(alloc, Map::new(alloc), "bounds", &level.bounds)?;
     let members = with_weights(alloc, members, "coalitions", &level.coalitions)?;
     let members = with_weights(alloc, members, "earlier", &level.earlier)?;
     let members = with_value(alloc, members, "excess", &level.excess, scale)?;
-    let members = with(alloc, members, "total", weight_value(level.total))?;
-    Ok(Value::Object(members))
+    with(alloc, members, "total", weight_value(level.total))
 }
 
 /// What has a weight: a coalition, or a player for its bound.

@@ -6,7 +6,7 @@ ghost use Rattle.serde_json.specs.View.{view, members_view};
 ghost use Rattle.report.specs.Limits.{IsScale, IsFine};
 ghost use Rattle.report.specs.Lines.{nucleolus_tree};
 
-use crate::certificate::certificate_tree;
+use crate::certificate::certificate_members;
 use crate::objects::{with, with_shares, with_text};
 use crate::words::family_word;
 use fractions::OutOfMemory;
@@ -32,7 +32,7 @@ pub(crate) fn nucleolus_members(
     // The game first, since it is there already; keys ascend in the object in any case.
     let members = with(alloc, Map::new(alloc), "game", game)?;
     let members = with_text(alloc, members, "answer", family_word(family))?;
-    let certificate = certificate_tree(alloc, certificate, scale)?;
+    let certificate = Value::Object(certificate_members(alloc, certificate, scale)?);
     let members = with(alloc, members, "certificate", certificate)?;
     with_shares(alloc, members, "shares", shares, is_cost, scale)
 }

@@ -8,6 +8,14 @@ use Rattle.report.specs.Limits.{IsScale, IsFine}
 use Rattle.report.proofs.LowestTexts.{scaled_low, scaled_fits}
 use Rattle.report.proofs.fraction.over.Goals as goal
 
+pub overflow_mul-den : goal.overflow_mul-den
+overflow_mul-den c =
+    let fd : FitsSigned w128 c.den.result = search rules in
+    let fk : FitsSigned w128 c.from.result = search rules in
+    let fine : IsFine c.den.result = subst IsFine (sym c.den.ensures.value) c.requires.fine in
+    let scale : IsScale c.from.result = subst IsScale (sym c.from.ensures) c.requires.scale in
+    rw (to_z-of_z w128 c.den.result fd, to_z-of_z w128 c.from.result fk) (scaled_fits c.den.result c.from.result fine scale)
+
 pub ratio-requires : goal.ratio-requires
 ratio-requires c =
     let fd : FitsSigned w128 c.den.result = search rules in

@@ -13,6 +13,16 @@ use Rattle.definitions.proofs.Casts.{cast_kept}
 use Rattle.report.proofs.TextViews.{view_text}
 use Rattle.report.proofs.shares.share_text.Goals as goal
 
+pub as_printed-requires : goal.as_printed-requires
+as_printed-requires c = rw (kept c.args.num c.ranges.num.sfits) c.requires.small
+
+pub overflow_mul-den : goal.overflow_mul-den
+overflow_mul-den c =
+    let fk : FitsSigned w128 c.from.result = search rules in
+    let fine = fine_of_shares c.args.den c.requires.positive c.requires.common in
+    let scale : IsScale c.from.result = subst IsScale (sym c.from.ensures) c.requires.scale in
+    rw (kept c.args.den c.ranges.den.sfits, to_z-of_z w128 c.from.result fk) (scaled_fits c.args.den c.from.result fine scale)
+
 pub ratio-share-requires : goal.ratio-share-requires
 ratio-share-requires c =
     let fk : FitsSigned w128 c.from.result = search rules in
