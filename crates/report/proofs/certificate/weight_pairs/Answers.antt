@@ -1,4 +1,4 @@
-use Rattle.std.proofs.Common.{map, ap, sym, subst, ◌∙◌, arith}
+use Rattle.std.proofs.Common.{[], ◌∷◌, ◌++◌, map, ap, sym, subst, ◌∙◌, arith}
 use mir.Syntax.{w128}
 use Rattle.serde_json.specs.View.{view}
 use Rattle.definitions.specs.Certificates.{IsSmall}
@@ -19,4 +19,4 @@ loop-key-preserved g c =
     let small : IsSmall item.1 = subst (λ p. IsSmall p.1) (sym c.loop-key-item.is) (all_at (λ p. IsSmall p.1) item c.args.pairs.now c.loop-key.key-index (omega arith) c.requires) in
     let kept = rw (cast_kept w128 item.1 (omega (arith, small))) at c.in_ok-weight_pair.ensures in
     let tree = kept ∙ ap (weight_pair g.K.Weighted.tree) c.loop-key-item.is in
-    ap (map view) c.in_ok-push.ensures.items ∙ mapped_more view (weight_pair g.K.Weighted.tree) c.args.pairs.now c.loop-key.trees.items c.loop-key.key-index item c.in_ok-weight_pair.field-0 (omega arith) c.loop-key.invariant tree
+    ap (map view) {y = c.loop-key.trees.items ++ c.in_ok-weight_pair.field-0 ∷ []} c.in_ok-push.ensures.items ∙ mapped_more view (weight_pair g.K.Weighted.tree) c.args.pairs.now c.loop-key.trees.items c.loop-key.key-index item c.in_ok-weight_pair.field-0 (omega arith) c.loop-key.invariant tree
