@@ -9,7 +9,7 @@ use Rattle.kinds.specs.declared.kind.Kind.{Kind}
 use Rattle.kinds.specs.declared.kind.Kind.TheVariants.{Table, Airport, Bankruptcy, Tree, Assignment}
 use Rattle.nested_programs.specs.Answer.{LacksImputation}
 use Rattle.coop_gen.specs.Generated.{HasKindSize, generated}
-use Rattle.coop_gen.specs.Imputations.{HasImputations}
+use Rattle.drawn_games.specs.Imputations.{HasImputations}
 use Rattle.coop_gen.proofs.Classes.{generated_players}
 use Rattle.coop.specs.Finding.{HasFewPlayers}
 use Rattle.coop.proofs.NoImputation.{is_above}

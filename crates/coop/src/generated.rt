@@ -5,7 +5,7 @@ ghost use Rattle.definitions.specs.Certificates.{Certifies};
 ghost use Rattle.definitions.specs.declared.Family.TheVariants.{Imputations};
 ghost use Rattle.definitions.specs.declared.Measure.TheVariants.{Plain};
 ghost use Rattle.coop_gen.specs.Generated.{HasKindSize};
-ghost use Rattle.coop_gen.specs.Imputations.{HasImputations};
+ghost use Rattle.drawn_games.specs.Imputations.{HasImputations};
 ghost use Rattle.game_text.specs.Descriptions.{game_of};
 ghost use Rattle.game_text.specs.Games.{description_in};
 ghost use Rattle.report.specs.Limits.{IsFineIfThere};

@@ -7,10 +7,10 @@ use Rattle.game_text.specs.Descriptions.{game_of}
 use Rattle.game_text.specs.OfClass.{IsOfClass}
 use Rattle.kinds.specs.declared.kind.Kind.{Kind}
 use Rattle.kinds.specs.declared.kind.Kind.TheVariants.{Table, Airport, Bankruptcy, Tree, Assignment}
-use Rattle.coop_gen.proofs.Sizes.{rows_count, tree_sizes, pair_sellers}
-use Rattle.coop_gen.specs.Draws.{long_draw, short_draw}
+use Rattle.drawn_games.proofs.Sizes.{rows_count, tree_sizes, pair_sellers}
+use Rattle.drawn_games.specs.Draws.{long_draw, short_draw}
 use Rattle.coop_gen.specs.Generated.{HasKindSize, generated}
-use Rattle.coop_gen.specs.Numbers.{rows_of, link, pair_value}
+use Rattle.drawn_games.specs.Numbers.{rows_of, link, pair_value}
 
 pub generated_players : (kind : Kind) (n seed : ℕ) → HasKindSize kind n → (game_of (generated kind n seed)).players ≡ n
 generated_players Table n seed h = refl

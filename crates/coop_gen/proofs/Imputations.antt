@@ -3,13 +3,13 @@ use Rattle.std.proofs.Common.{ℕ, ◌+◌, ◌-◌, ◌/◌, ◌≤◌, sum, re
 use Rattle.game_text.specs.Descriptions.{game_of}
 use Rattle.kinds.specs.declared.kind.Kind.{Kind}
 use Rattle.kinds.specs.declared.kind.Kind.TheVariants.{Table, Airport, Bankruptcy, Tree, Assignment}
-use Rattle.coop_gen.proofs.Alone.{table_imputations, airport_imputations, bankruptcy_imputations, assignment_imputations}
-use Rattle.coop_gen.proofs.Plans.{tree_imputations}
-use Rattle.coop_gen.proofs.Sizes.{tree_sizes}
-use Rattle.coop_gen.specs.Draws.{short_draw}
+use Rattle.drawn_games.proofs.Alone.{table_imputations, airport_imputations, bankruptcy_imputations, assignment_imputations}
+use Rattle.drawn_games.proofs.Plans.{tree_imputations}
+use Rattle.drawn_games.proofs.Sizes.{tree_sizes}
+use Rattle.drawn_games.specs.Draws.{short_draw}
 use Rattle.coop_gen.specs.Generated.{HasKindSize, generated}
-use Rattle.coop_gen.specs.Numbers.{long_draws, rows_of, link, pair_value}
-use Rattle.coop_gen.specs.Imputations.{HasImputations}
+use Rattle.drawn_games.specs.Numbers.{long_draws, rows_of, link, pair_value}
+use Rattle.drawn_games.specs.Imputations.{HasImputations}
 
 pub generated_imputations : (kind : Kind) (n seed : ℕ) → HasKindSize kind n → HasImputations (game_of (generated kind n seed))
 generated_imputations Table n seed h = table_imputations seed n h.0 h.1

@@ -6,8 +6,8 @@ use Rattle.std.specs.Prelude.{ℕ, ◌+◌, ◌-◌, ◌/◌, ◌≤◌, sum}
 use Rattle.game_text.specs.Descriptions.{Description, table, airport, bankruptcy, network, assignment}
 use Rattle.kinds.specs.declared.kind.Kind.{Kind}
 use Rattle.kinds.specs.declared.kind.Kind.TheVariants.{Table, Airport, Bankruptcy, Tree, Assignment}
-use Rattle.coop_gen.specs.Draws.{short_draw}
-use Rattle.coop_gen.specs.Numbers.{table_numbers, long_draws, rows_of, link, pair_value}
+use Rattle.drawn_games.specs.Draws.{short_draw}
+use Rattle.drawn_games.specs.Numbers.{table_numbers, long_draws, rows_of, link, pair_value}
 
 -- a kind has games of 1 to 16 or 64 players, and of 2 to 16 where there are two sides
 abbrev pub HasKindSize : Kind → ℕ → Type 0

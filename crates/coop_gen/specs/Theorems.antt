@@ -4,7 +4,7 @@ use Rattle.game_text.specs.Descriptions.{game_of}
 use Rattle.game_text.specs.OfClass.{IsOfClass}
 use Rattle.kinds.specs.declared.kind.Kind.{Kind}
 use Rattle.coop_gen.specs.Generated.{HasKindSize, generated}
-use Rattle.coop_gen.specs.Imputations.{HasImputations}
+use Rattle.drawn_games.specs.Imputations.{HasImputations}
 
 -- every generated game has imputations, so a nucleolus of it is found
 abbrev pub GeneratedHaveImputations : Type 0

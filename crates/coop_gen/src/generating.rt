@@ -3,7 +3,7 @@ ghost use Rattle.std.specs.Prelude.{◌≡◌, ◌↔◌, ◌^◌, ◌<◌, IfOk
 ghost use Rattle.game_text.specs.Games.{description_in};
 ghost use Rattle.coop_gen.specs.Generated.{HasKindSize, generated};
 
-use crate::games::{airport, assignment, bankruptcy, table, tree};
+use drawn_games::{airport, assignment, bankruptcy, table, tree};
 use fractions::OutOfMemory;
 use game_text::{Game, Kind};
 use std::alloc::Global;

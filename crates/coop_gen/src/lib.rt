@@ -1,12 +1,8 @@
 //! Games made from a number, of every kind and size: the same number makes the same game.
 #![tactic(auto)]
 
-mod draws;
-mod games;
 mod generating;
 mod laws;
-mod matrices_of_draws;
-mod table_of_draws;
 
 pub use fractions::OutOfMemory;
 pub use game_text::{Game, Kind};

@@ -3,7 +3,7 @@ use Rattle.definitions.specs.Games.{IsNucleolus}
 use Rattle.definitions.specs.declared.Family.TheVariants.{Imputations}
 use Rattle.definitions.specs.declared.Measure.TheVariants.{Plain}
 use Rattle.game_text.specs.Descriptions.{game_of, is_cost}
-use Rattle.coop_gen.specs.Imputations.{HasImputations}
+use Rattle.drawn_games.specs.Imputations.{HasImputations}
 use Rattle.coop_gen.proofs.Imputations.{generated_imputations}
 use Rattle.coop_gen.proofs.Classes.{generated_of_class}
 use Rattle.coop.specs.GeneratorClaims.{IsGreatestExcess}

@@ -1,7 +1,0 @@
-use Rattle.std.proofs.Common.{◌≡◌, map, slice_index}
-use Rattle.coop_gen.specs.Numbers.{rows_of, pair_value}
-use Rattle.coop_gen.proofs.matrices_of_draws.pair_matrix.Given as goal
-
-abbrev pub invariant-loop-i : goal.invariant-loop-i
-invariant-loop-i l =
-    map (λ row. row.items) l.matrix.items ≡ rows_of l.i l.columns (pair_value (slice_index l.draws.items) l.columns)
