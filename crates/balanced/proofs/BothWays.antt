@@ -1,7 +1,7 @@
 -- A point of the core, or a balanced collection of excess worth, and never both.
 use Rattle.std.proofs.Common.{inl, inr}
 use Rattle.definitions.specs.Games.{Game}
-use Rattle.definitions.proofs.Bondareva.{collection_blocks}
+use Rattle.theorems.proofs.Bondareva.{collection_blocks}
 use Rattle.balanced.specs.Answer.{IsFound, BondarevaShapley}
 use Rattle.balanced.specs.declared.CoreAnswer.{CoreAnswer}
 use Rattle.balanced.specs.declared.CoreAnswer.TheVariants.{Point, Empty}

@@ -7,7 +7,7 @@ use Rattle.std.proofs.Math.Nat.{dvd-mul_right}
 use Rattle.std.specs.List.{AllByRecursion, IsDistinct}
 use Rattle.definitions.proofs.Ring.{linear, mul-oneℤ, mul-leℤ, mul-ltℤ, mul_left_commℤ}
 use Rattle.definitions.proofs.Members.{sum_over-grand_coalition}
-use Rattle.definitions.proofs.Bondareva.{collection_blocks}
+use Rattle.theorems.proofs.Bondareva.{collection_blocks}
 use Rattle.definitions.specs.Sums.{weighted_sum}
 use Rattle.definitions.specs.Coalitions.{has_player, grand_coalition, weight_at}
 use Rattle.definitions.specs.Certificates.{Ascends}

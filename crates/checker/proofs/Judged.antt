@@ -8,7 +8,7 @@ use Rattle.definitions.proofs.Measured.{measured_den-above}
 use Rattle.fractions.specs.Fraction.{Fraction}
 use Rattle.definitions.specs.Measures.{measured_den}
 use lib.IntN.{*ℤ_comm}
-use Rattle.definitions.proofs.OneVerdict.{fails_not}
+use Rattle.theorems.proofs.OneVerdict.{fails_not}
 use Rattle.definitions.specs.Games.{Game, Allocation, measured_excess, InFamily}
 use Rattle.definitions.specs.Certificates.{Level, LevelHolds, LevelsHold, OutsideIsLow, Ascends, Certifies}
 use Rattle.definitions.specs.Failures.{Reason as Failure, not_efficient, not_individual, wrong_excess, coalition_sign, player_sign, unbalanced, bound_not_tight, outside_above, not_all, LevelFails, LevelsFail, IsFirstFailure}

@@ -1,6 +1,6 @@
 -- A verdict under other names for the mode, the number of players and the levels.
 use Rattle.std.proofs.Common.{◌≡◌, ℕ, List, sym, subst}
-use Rattle.definitions.proofs.Soundness.{IsNucleolus-from_certificate}
+use Rattle.theorems.proofs.Soundness.{IsNucleolus-from_certificate}
 use Rattle.definitions.specs.Measures.{IsMeasurable}
 use Rattle.definitions.specs.Games.{Game, Allocation, IsNucleolus}
 use Rattle.definitions.specs.Certificates.{Level, HasForm, Certifies}

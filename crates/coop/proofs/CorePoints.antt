@@ -9,7 +9,7 @@ use Rattle.definitions.specs.declared.Family.TheVariants.{Imputations}
 use Rattle.definitions.specs.declared.Measure.TheVariants.{Plain}
 use Rattle.definitions.specs.declared.Mode.{Mode}
 use Rattle.definitions.specs.declared.Mode.TheVariants.{Players}
-use Rattle.definitions.proofs.Soundness.{IsNucleolus-from_certificate}
+use Rattle.theorems.proofs.Soundness.{IsNucleolus-from_certificate}
 use Rattle.kohlberg.specs.Certificate.{CertificateData, IsCertificate}
 use Rattle.kohlberg.specs.Solved.{IsSolved}
 use Rattle.balanced_collections.specs.Collections.{CollectionData, IsSmall as HasSmallParts}

@@ -6,7 +6,7 @@ use Rattle.definitions.specs.declared.Family.{Family}
 use Rattle.definitions.specs.declared.Measure.{Measure}
 use Rattle.definitions.specs.declared.Measure.TheVariants.{Plain, PerHead}
 use Rattle.definitions.specs.Measures.{IsMeasurable}
-use Rattle.definitions.proofs.Soundness.{IsNucleolus-from_certificate}
+use Rattle.theorems.proofs.Soundness.{IsNucleolus-from_certificate}
 use Rattle.kohlberg.specs.Certificate.{CertificateData}
 use Rattle.kohlberg.specs.Solved.{IsSolved}
 use Rattle.game_text.specs.Descriptions.{Description, game_of, is_cost}

@@ -14,6 +14,3 @@ pub mod Scales
 pub mod Failures
 pub mod Programs
 pub mod Prekernel
-pub mod Theorems
-pub mod Plain
-pub mod Verdicts

@@ -1,5 +1,6 @@
 //! The names of the players.
-ghost use Rattle.std.specs.Prelude.{◌≡◌, ◌<◌, ◌≤◌, true, not, ◌&&◌, Some, None, IfOk, IfSome, if◌then◌else◌};
+ghost use Rattle.std.specs.Prelude.{◌≡◌, ◌<◌, ◌≤◌, Some, None, IfOk, IfSome};
+ghost use Rattle.std.specs.Prelude.{true, not, ◌&&◌, if◌then◌else◌};
 ghost use Rattle.std.specs.Prelude.{[], ◌∷◌, ◌++◌, codes, length, map, position};
 ghost use Rattle.std.specs.Str.{bytes_eq};
 ghost use Rattle.serde_json.specs.View.{view};

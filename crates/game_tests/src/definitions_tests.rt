@@ -1,11 +1,11 @@
 //! The plain slow programs at small games worked by hand.
-ghost use Rattle.definitions.specs.Plain.{Fits};
+ghost use Rattle.plain_programs.specs.Plain.{Fits};
 
 use definitions::Measure;
-use definitions::blockers::{blockers, chosen_blocker};
-use definitions::excesses::{beats, excess_list};
-use definitions::order::{comes_before, sorted};
-use definitions::table::{Point, Table, excess};
+use plain_programs::blockers::{blockers, chosen_blocker};
+use plain_programs::excesses::{beats, excess_list};
+use plain_programs::order::{comes_before, sorted};
+use plain_programs::table::{Point, Table, excess};
 use std::alloc::{AllocError, Global};
 use std::test::Fail;
 

@@ -8,7 +8,7 @@ use Rattle.definitions.specs.Coalitions.{singleton}
 use Rattle.definitions.specs.Games.{Game, Allocation, excess}
 use Rattle.definitions.specs.Prekernel.{holds_without, IsSurplus}
 use Rattle.definitions.proofs.Cases.{less_or_last_of}
-use Rattle.definitions.proofs.Transfers.{holds_without-singleton}
+use Rattle.theorems.proofs.Transfers.{holds_without-singleton}
 use Rattle.worth_core.specs.Greatest.{max_so_far}
 use Rattle.kernel_test.specs.Tables.{raised_where}
 

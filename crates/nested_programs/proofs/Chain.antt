@@ -7,7 +7,7 @@ use Rattle.definitions.proofs.Ring.{linear, mul-addℤ, mul-leℤ, mul_assocℤ,
 use lib.IntN.{*ℤ_comm}
 use Rattle.definitions.proofs.SumsOver.{sum_over-same}
 use Rattle.definitions.proofs.Members.{sum_below-same, sum_below-zero, sum_over-combined, sum_over-grand_coalition, zero_either}
-use Rattle.definitions.proofs.Settled.{Settled, inside_zero, all_fixed_zero}
+use Rattle.theorems.proofs.Settled.{Settled, inside_zero, all_fixed_zero}
 use Rattle.determinants.proofs.Duality.{weak_duality}
 use Rattle.definitions.specs.Sums.{weighted_sum}
 use Rattle.definitions.specs.Coalitions.{has_player, singleton, grand_coalition, sum_over}

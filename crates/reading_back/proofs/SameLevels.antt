@@ -11,7 +11,7 @@ use Rattle.definitions.specs.declared.Measure.TheVariants.{Plain, PerHead}
 use Rattle.definitions.specs.declared.Mode.{Mode}
 use Rattle.reading_back.proofs.SameShares.{AreSame, at_each, measured_excesses, as_multiple, are_same, stays_in_family}
 use Rattle.definitions.proofs.Alls.{all_weaken}
-use Rattle.definitions.proofs.Scaled.{above_zero}
+use Rattle.theorems.proofs.Scaled.{above_zero}
 
 -- times the denominator of y, the excess over that of x is the excess over that of y, times the denominator of x
 scaled : (d e a b m : ℤ) → e *ℤ a ≡ d *ℤ b → e *ℤ (a *ℤ m) ≡ d *ℤ (b *ℤ m)

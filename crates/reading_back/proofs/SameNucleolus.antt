@@ -6,8 +6,8 @@ use Rattle.definitions.specs.Games.{Game, Allocation, share, measured_excess, ex
 use Rattle.definitions.specs.declared.Family.{Family}
 use Rattle.definitions.specs.declared.Measure.{Measure}
 use Rattle.reading_back.proofs.SameShares.{AreSame, at_each, measured_excesses, are_same, stays_in_family}
-use Rattle.definitions.proofs.Scaled.{above_zero}
-use Rattle.definitions.proofs.ScaledLists.{order_kept, values_times}
+use Rattle.theorems.proofs.Scaled.{above_zero}
+use Rattle.theorems.proofs.ScaledLists.{order_kept, values_times}
 
 beats : (measure : Measure) (g : Game) (x y z : Allocation) → AreSame g x y → Beats measure g x z → Beats measure g y z
 beats measure g x y z h b =

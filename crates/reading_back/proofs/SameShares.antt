@@ -11,7 +11,7 @@ use Rattle.definitions.specs.declared.Family.TheVariants.{Imputations, Preimputa
 use Rattle.definitions.specs.declared.Measure.{Measure}
 use Rattle.definitions.specs.declared.Measure.TheVariants.{Plain, PerHead}
 use lib.IntN.{*ℤ_comm}
-use Rattle.definitions.proofs.Scaled.{above_zero}
+use Rattle.theorems.proofs.Scaled.{above_zero}
 use Rattle.definitions.proofs.Cases.{below_or_above}
 
 -- x and y are allocations of the same shares

@@ -1,6 +1,6 @@
 use Rattle.std.proofs.Common.{◌≡◌, arith, rules, refl, to_z, of_z}
 use mir.Syntax.{w128}
-use Rattle.definitions.proofs.Transfers.{prenucleolus_in_prekernel}
+use Rattle.theorems.proofs.Transfers.{prenucleolus_in_prekernel}
 use Rattle.kernel_test.proofs.Pairs.{found_in, surplus_in, prekernel_from_table, first_in, not_in_prekernel}
 use Rattle.kernel_test.proofs.prekernel.Goals as goal
 

@@ -1,5 +1,0 @@
-use Rattle.definitions.proofs.Measured.{measures_divide}
-use Rattle.definitions.proofs.measures_divide.Goals as goal
-
-pub returns : goal.returns
-returns c = measures_divide

@@ -1,5 +1,0 @@
-use Rattle.definitions.proofs.Transfers.{prenucleolus_in_prekernel}
-use Rattle.definitions.proofs.prenucleolus_balances.Goals as goal
-
-pub returns : goal.returns
-returns c = prenucleolus_in_prekernel

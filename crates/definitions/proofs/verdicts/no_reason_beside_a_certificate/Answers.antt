@@ -1,5 +1,0 @@
-use Rattle.definitions.proofs.OneVerdict.{fails_not}
-use Rattle.definitions.proofs.verdicts.no_reason_beside_a_certificate.Goals as goal
-
-pub returns : goal.returns
-returns c = fails_not

@@ -1,0 +1,7 @@
+//! Plain slow programs that compute what the definitions say, for the tests of the others.
+#![tactic(auto)]
+
+pub mod blockers;
+pub mod excesses;
+pub mod order;
+pub mod table;
