@@ -1,6 +1,7 @@
 //! The limits of shares, shares from fractions at their limits, sums over the sets that split others, and the blockers
 //! of small games. The wanted values of fractions are those of Python's `fractions`.
-ghost use Rattle.std.specs.Prelude.{◌≡◌, ℕ, ◌^◌, ◌<◌, length, pos, false, IfOk, MatchOption, slice_index_or, if◌then◌else◌};
+ghost use Rattle.std.specs.Prelude.{◌≡◌, ℕ, ◌^◌, ◌<◌, pos, false, if◌then◌else◌};
+ghost use Rattle.std.specs.Prelude.{length, slice_index_or, IfOk, MatchOption};
 ghost use Rattle.definitions.specs.Games.{Blocks, IsChosenBlocker, IsSplitMaximum, HasTwo};
 
 use crate::fracs::fracs_of;

@@ -1,7 +1,7 @@
 //! Generated games against numbers that were worked out elsewhere, and the greatest sizes.
 ghost use Rattle.std.specs.Prelude.{◌<◌, ◌^◌};
 
-use crate::game_text_tests::worths_of;
+use crate::game_text_tests::proposals::worths_of;
 use coop_gen::{Game, Kind, generate, has_size};
 use std::alloc::Global;
 use std::process::Abort;

@@ -1,5 +1,6 @@
 //! Games of version 2, whose numbers may be fraction texts.
-use super::{expect_fault, said};
+use super::expect_fault;
+use super::proposals::said;
 use game_text::Refusal;
 use std::test::Fail;
 

@@ -1,5 +1,6 @@
 //! Voting games: limits, refusals, and the worths that they have.
-use super::{expect_fault, said};
+use super::expect_fault;
+use super::proposals::said;
 use game_text::Refusal;
 use std::alloc::Global;
 use std::process::Abort;
