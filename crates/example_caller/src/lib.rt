@@ -14,12 +14,12 @@ use coalitions::Coalition;
 use kohlberg::{Certificate, Family};
 use worth_core::{Measure, Shares, Worth};
 
-/// The coalition that blocks the shares most. None where no coalition blocks, and where the shares are for another
+/// The coalition that blocks the shares most. None exactly where no coalition blocks, or the shares are for another
 /// number of players.
 pub fn judged(game: &AirportGame, shares: &Shares) -> Option<Coalition>
     ensures { let g = airport_game game.now in MatchOption result
         (length shares.now.shares ≡ g.players → (s : ℕ) → s < 2 ^ g.players → ¬ Blocks g shares.now s)
-        (IsChosenBlocker g shares.now) }
+        (λ s. (length shares.now.shares ≡ g.players) × IsChosenBlocker g shares.now s) }
 {
     if shares.players() != game.players() {
         return None;
