@@ -1,5 +1,6 @@
 -- A factor that isn't 0 cancels, and so does a division that leaves no rest.
-use Rattle.std.proofs.Common.{◌≡◌, ◌≢◌, ℕ, zero, suc, ◌*◌, ◌<◌, arith, refl, sym, ap, subst, ◌∙◌, ℤ, pos, ◌+ℤ◌, ◌-ℤ◌, ◌*ℤ◌, unsigned_abs, int_div, int_rem}
+use Rattle.std.proofs.Common.{◌≡◌, ◌≢◌, ℕ, zero, suc, ◌*◌, ◌<◌, arith, refl, sym, ap, subst, ◌∙◌, ℤ}
+use Rattle.std.proofs.Common.{pos, ◌+ℤ◌, ◌-ℤ◌, ◌*ℤ◌, unsigned_abs, int_div, int_rem}
 use Rattle.std.proofs.lemmas.Int.{ints, unsigned_abs-mul, quot-rem, rem_below}
 use Rattle.definitions.proofs.Ring.{ring_laws, linear}
 
@@ -14,7 +15,10 @@ no_zero zero n e h = absurd (h refl)
 no_zero (suc m) n e h = omega arith
 
 product_zero : (d z : ℤ) → d ≢ pos 0 → d *ℤ z ≡ pos 0 → z ≡ pos 0
-product_zero d z h e = abs_zero z (no_zero (unsigned_abs d) (unsigned_abs z) (sym (unsigned_abs-mul d z) ∙ ap unsigned_abs e) (λ k. h (abs_zero d k)))
+product_zero d z h e =
+    abs_zero z
+    (no_zero (unsigned_abs d) (unsigned_abs z) (sym (unsigned_abs-mul d z) ∙ ap unsigned_abs e)
+    (λ k. h (abs_zero d k)))
 
 gap_zero : (x y : ℤ) → x -ℤ y ≡ pos 0 → x ≡ y
 gap_zero x y e = omega (arith, linear)
@@ -35,8 +39,12 @@ quot_exact z d q e h =
     let t = int_div z d in
     let r = int_rem z d in
     let same : r ≡ d *ℤ (q -ℤ t) = rest t r (quot-rem z d) in
-    let size : unsigned_abs r ≡ unsigned_abs d * unsigned_abs (q -ℤ t) = ap unsigned_abs same ∙ unsigned_abs-mul d (q -ℤ t) in
-    sym (gap q t (none_below (unsigned_abs d) (unsigned_abs (q -ℤ t)) (subst (λ (n : ℕ). n < unsigned_abs d) size (rem_below z d (size_positive d h)))))
+    let size : unsigned_abs r ≡ unsigned_abs d * unsigned_abs (q -ℤ t) =
+    ap unsigned_abs same ∙ unsigned_abs-mul d (q -ℤ t) in
+    sym
+    (gap q t
+    (none_below (unsigned_abs d) (unsigned_abs (q -ℤ t))
+    (subst (λ (n : ℕ). n < unsigned_abs d) size (rem_below z d (size_positive d h)))))
   where
     rest : (t r : ℤ) → t *ℤ d +ℤ r ≡ z → r ≡ d *ℤ (q -ℤ t)
     rest t r k = moved (t *ℤ d) r z k ∙ ap (λ (u : ℤ). u -ℤ t *ℤ d) e ∙ simp ring_laws

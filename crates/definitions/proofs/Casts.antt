@@ -1,5 +1,6 @@
 -- Casts that lose nothing.
-use Rattle.std.proofs.Common.{◌≡◌, ◌^◌, ◌<◌, ◌≤◌, ℤ, ◌-◌, ◌-ℤ◌, ◌*ℤ◌, unsigned_abs, to_z, of_z, to_z-of_z, arith, mul-le-mul}
+use Rattle.std.proofs.Common.{◌≡◌, ◌^◌, ◌<◌, ◌≤◌, ℤ, ◌-◌, ◌-ℤ◌, ◌*ℤ◌, unsigned_abs}
+use Rattle.std.proofs.Common.{to_z, of_z, to_z-of_z, arith, mul-le-mul}
 use Rattle.std.proofs.lemmas.Int.{ints, fits_signed_from_abs, unsigned_abs-mul}
 use mir.Syntax.{w128, Width}
 use mir.Val.{hbits}
@@ -8,9 +9,11 @@ pub cast_kept : (w : Width) (z : ℤ) → unsigned_abs z < 2 ^ hbits w → to_z 
 cast_kept w z h = to_z-of_z (fits_signed_from_abs w z h)
 
 -- a difference of two numbers far from the bounds of 128 bits
-pub difference_kept : (a b : ℤ) → unsigned_abs a < 2 ^ 100 → unsigned_abs b < 2 ^ 100 → to_z w128 (of_z w128 (to_z w128 (of_z w128 a) -ℤ to_z w128 (of_z w128 b))) ≡ a -ℤ b
+pub difference_kept : (a b : ℤ) → unsigned_abs a < 2 ^ 100 → unsigned_abs b < 2 ^ 100
+    → to_z w128 (of_z w128 (to_z w128 (of_z w128 a) -ℤ to_z w128 (of_z w128 b))) ≡ a -ℤ b
 difference_kept a b h k =
-    rw (cast_kept w128 a (omega arith), cast_kept w128 b (omega arith)) (cast_kept w128 (a -ℤ b) (omega (arith, ints)))
+    rw (cast_kept w128 a (omega arith), cast_kept w128 b (omega arith))
+    (cast_kept w128 (a -ℤ b) (omega (arith, ints)))
 
 -- a product that 128 bits hold
 pub product_small : (a b : ℤ) → unsigned_abs a ≤ 2 ^ 38 → unsigned_abs b < 2 ^ 89 → unsigned_abs (a *ℤ b) < 2 ^ 127
@@ -18,6 +21,8 @@ product_small a b h k =
     let below : unsigned_abs b ≤ 2 ^ 89 - 1 = omega arith in
     omega (arith, unsigned_abs-mul a b, mul-le-mul h below)
 
-pub product_kept : (a b : ℤ) → unsigned_abs a ≤ 2 ^ 38 → unsigned_abs b < 2 ^ 89 → to_z w128 (of_z w128 (to_z w128 (of_z w128 a) *ℤ to_z w128 (of_z w128 b))) ≡ a *ℤ b
+pub product_kept : (a b : ℤ) → unsigned_abs a ≤ 2 ^ 38 → unsigned_abs b < 2 ^ 89
+    → to_z w128 (of_z w128 (to_z w128 (of_z w128 a) *ℤ to_z w128 (of_z w128 b))) ≡ a *ℤ b
 product_kept a b h k =
-    rw (cast_kept w128 a (omega arith), cast_kept w128 b (omega arith)) (cast_kept w128 (a *ℤ b) (product_small a b h k))
+    rw (cast_kept w128 a (omega arith), cast_kept w128 b (omega arith))
+    (cast_kept w128 (a *ℤ b) (product_small a b h k))

@@ -12,6 +12,7 @@ pub efficient_of : (family : Family) (g : Game) (x : Allocation) → InFamily fa
 efficient_of Imputations g x h = h.1
 efficient_of Preimputations g x h = h.1
 
-pub individual_of : (family : Family) (g : Game) (x : Allocation) → InFamily family g x → family ≡ Imputations → IsIndividuallyRational g x
+pub individual_of : (family : Family) (g : Game) (x : Allocation) → InFamily family g x → family ≡ Imputations
+    → IsIndividuallyRational g x
 individual_of Imputations g x h e = h.2
 individual_of Preimputations g x h e = absurd (cc)

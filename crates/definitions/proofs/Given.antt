@@ -5,6 +5,7 @@ pub is_some : {X : Type 0} (A : Type 0) (P : X → Type 0) (o : Option X) → Ma
 is_some A P None h a = absurd (h a)
 is_some A P (Some y) h a = refl
 
-pub is_ok : {X E : Type 0} (A : Type 0) (P : X → Type 0) (r : Result X E) → MatchResult r P (λ e. A → ⊥) → A → IsOk r
+pub is_ok : {X E : Type 0} (A : Type 0) (P : X → Type 0) (r : Result X E) → MatchResult r P (λ e. A → ⊥) → A
+    → IsOk r
 is_ok A P (Ok y) h a = refl
 is_ok A P (Err e) h a = absurd (h a)

@@ -13,8 +13,10 @@ grand_coalition-within n = let one : 0 < 1 = omega arith in pow-sub-lt n one
 pub singleton-within : (n i : ℕ) → i < n → singleton i < 2 ^ n
 singleton-within n i h = pow-lt h
 
-pub proper-within : (n : ℕ) (ps : List (ℕ × ℤ)) → AllByRecursion (λ c. (0 < c.0) × (c.0 < grand_coalition n)) ps → AllByRecursion (λ c. c.0 < 2 ^ n) ps
-proper-within n ps h = all_weaken (λ c. (0 < c.0) × (c.0 < grand_coalition n)) (λ c. c.0 < 2 ^ n) ps (λ c e. below (2 ^ n) c.0 e.1) h
+pub proper-within : (n : ℕ) (ps : List (ℕ × ℤ)) → AllByRecursion (λ c. (0 < c.0) × (c.0 < grand_coalition n)) ps
+    → AllByRecursion (λ c. c.0 < 2 ^ n) ps
+proper-within n ps h =
+    all_weaken (λ c. (0 < c.0) × (c.0 < grand_coalition n)) (λ c. c.0 < 2 ^ n) ps (λ c e. below (2 ^ n) c.0 e.1) h
   where
     below : (m s : ℕ) → s < m - 1 → s < m
     below m s h = omega arith

@@ -1,7 +1,10 @@
--- A measured excess is the excess times a positive weight, and over its denominator the excess over the denominator times the divisor.
-use Rattle.std.proofs.Common.{◌≡◌, ℕ, zero, suc, ◌*◌, ◌/◌, ◌^◌, ◌<◌, ◌≤◌, Bool, true, ◌&&◌, ◌||◌, nat_eq, ℤ, pos, ◌*ℤ◌, ◌≤ℤ◌, ◌<ℤ◌, refl, sym, ap, ◌∙◌, inl, inr, arith}
+-- A measured excess is the excess times a positive weight, and over its denominator the excess over the denominator
+-- times the divisor.
+use Rattle.std.proofs.Common.{◌≡◌, ℕ, zero, suc, ◌*◌, ◌/◌, ◌^◌, ◌<◌, ◌≤◌, Bool, true, ◌&&◌, ◌||◌, nat_eq, ℤ}
+use Rattle.std.proofs.Common.{pos, ◌*ℤ◌, ◌≤ℤ◌, ◌<ℤ◌, refl, sym, ap, ◌∙◌, inl, inr, arith}
 use Rattle.std.proofs.lemmas.Bool.Decides.{nat_tests}
-use Rattle.definitions.proofs.Ring.{linear, one-mulℤ, mul-oneℤ, mul-zeroℤ, mul_assocℤ, mul_left_commℤ, mul-leℤ, mul-positiveℤ, mul-cancelℤ, mul-le_cancelℤ}
+use Rattle.definitions.proofs.Ring.{linear, one-mulℤ, mul-oneℤ, mul-zeroℤ, mul_assocℤ, mul_left_commℤ}
+use Rattle.definitions.proofs.Ring.{mul-leℤ, mul-positiveℤ, mul-cancelℤ, mul-le_cancelℤ}
 use lib.IntN.{*ℤ_comm}
 use Rattle.definitions.proofs.Sizes.{size-few, size-some}
 use Rattle.definitions.specs.Coalitions.{size}
@@ -47,7 +50,8 @@ weight-size : (n s : ℕ) → n ≤ 16 → 0 < s → s < 2 ^ n → 720720 / size
 weight-size n s few some within =
     divides (size s) (size-some n s (omega arith) some within) (omega (arith, size-few n s (omega arith) within))
 
-pub weight-positive : (measure : Measure) (n s : ℕ) → IsMeasurable measure n → 0 < s → s < 2 ^ n → pos 0 <ℤ weight measure s
+pub weight-positive : (measure : Measure) (n s : ℕ) → IsMeasurable measure n → 0 < s → s < 2 ^ n
+    → pos 0 <ℤ weight measure s
 weight-positive Plain n s m some within = omega (arith, linear)
 weight-positive PerHead n s (inl e) some within = absurd (cc)
 weight-positive PerHead n s (inr few) some within =
@@ -55,7 +59,8 @@ weight-positive PerHead n s (inr few) some within =
     omega (arith, linear, k)
 
 -- the denominator is the weight times the divided denominator
-pub measured_den-weight : (measure : Measure) (n s : ℕ) (q : ℤ) → IsMeasurable measure n → 0 < s → s < 2 ^ n → measured_den measure q ≡ weight measure s *ℤ (q *ℤ pos (divisor measure s))
+pub measured_den-weight : (measure : Measure) (n s : ℕ) (q : ℤ) → IsMeasurable measure n → 0 < s → s < 2 ^ n
+    → measured_den measure q ≡ weight measure s *ℤ (q *ℤ pos (divisor measure s))
 measured_den-weight Plain n s q m some within = sym (one-mulℤ (q *ℤ pos 1) ∙ mul-oneℤ q)
 measured_den-weight PerHead n s q (inl e) some within = absurd (cc)
 measured_den-weight PerHead n s q (inr few) some within =
@@ -63,7 +68,8 @@ measured_den-weight PerHead n s q (inr few) some within =
     let whole : w *ℤ pos (size s) ≡ pos 720720 = ap pos (weight-size n s few some within) in
     sym (mul_left_commℤ w q (pos (size s)) ∙ ap (λ z. q *ℤ z) whole ∙ *ℤ_comm q (pos 720720))
 
-pub measures_divide : (measure : Measure) (n s : ℕ) (e q : ℤ) → IsMeasurable measure n → 0 < s → s < 2 ^ n → measured measure s e *ℤ (q *ℤ pos (divisor measure s)) ≡ e *ℤ measured_den measure q
+pub measures_divide : (measure : Measure) (n s : ℕ) (e q : ℤ) → IsMeasurable measure n → 0 < s → s < 2 ^ n
+    → measured measure s e *ℤ (q *ℤ pos (divisor measure s)) ≡ e *ℤ measured_den measure q
 measures_divide measure n s e q m some within =
     let w = weight measure s in
     let d = q *ℤ pos (divisor measure s) in
@@ -78,48 +84,64 @@ pub measured-zero : (measure : Measure) (s : ℕ) (e : ℤ) → e ≡ pos 0 → 
 measured-zero measure s e h =
     measured-weight measure s e ∙ ap (λ z. weight measure s *ℤ z) h ∙ mul-zeroℤ (weight measure s)
 
-pub measured-positive : (measure : Measure) (n s : ℕ) (e : ℤ) → IsMeasurable measure n → 0 < s → s < 2 ^ n → pos 0 <ℤ e → pos 0 <ℤ measured measure s e
+pub measured-positive : (measure : Measure) (n s : ℕ) (e : ℤ) → IsMeasurable measure n → 0 < s → s < 2 ^ n
+    → pos 0 <ℤ e → pos 0 <ℤ measured measure s e
 measured-positive measure n s e m some within up =
-    rw (measured-weight measure s e) (mul-positiveℤ (weight measure s) e (weight-positive measure n s m some within) up)
+    rw (measured-weight measure s e)
+    (mul-positiveℤ (weight measure s) e (weight-positive measure n s m some within) up)
 
 -- ---- the order of a measured excess and a fraction over the denominator
 
 -- both sides times the weight
-scaled_sides : (measure : Measure) (n s : ℕ) (e q a b : ℤ) → IsMeasurable measure n → 0 < s → s < 2 ^ n → (measured measure s e *ℤ b ≡ weight measure s *ℤ (e *ℤ b)) × (a *ℤ measured_den measure q ≡ weight measure s *ℤ (a *ℤ (q *ℤ pos (divisor measure s))))
+scaled_sides : (measure : Measure) (n s : ℕ) (e q a b : ℤ) → IsMeasurable measure n → 0 < s → s < 2 ^ n
+    → (measured measure s e *ℤ b ≡ weight measure s *ℤ (e *ℤ b))
+    × (a *ℤ measured_den measure q ≡ weight measure s *ℤ (a *ℤ (q *ℤ pos (divisor measure s))))
 scaled_sides measure n s e q a b m some within =
     let w = weight measure s in (
       ap (λ z. z *ℤ b) (measured-weight measure s e) ∙ mul_assocℤ w e b,
-      ap (λ z. a *ℤ z) (measured_den-weight measure n s q m some within) ∙ mul_left_commℤ a w (q *ℤ pos (divisor measure s)),
+      ap (λ z. a *ℤ z) (measured_den-weight measure n s q m some within)
+          ∙ mul_left_commℤ a w (q *ℤ pos (divisor measure s)),
     )
 
 -- e over q times the divisor is a/b, or above or below it, as the measured excess over its denominator is
-pub measured-same : (measure : Measure) (n s : ℕ) (e q a b : ℤ) → IsMeasurable measure n → 0 < s → s < 2 ^ n → e *ℤ b ≡ a *ℤ (q *ℤ pos (divisor measure s)) → measured measure s e *ℤ b ≡ a *ℤ measured_den measure q
+pub measured-same : (measure : Measure) (n s : ℕ) (e q a b : ℤ) → IsMeasurable measure n → 0 < s → s < 2 ^ n
+    → e *ℤ b ≡ a *ℤ (q *ℤ pos (divisor measure s)) → measured measure s e *ℤ b ≡ a *ℤ measured_den measure q
 measured-same measure n s e q a b m some within h =
     let k = scaled_sides measure n s e q a b m some within in
     k.0 ∙ ap (λ z. weight measure s *ℤ z) h ∙ sym k.1
 
-pub divided-same : (measure : Measure) (n s : ℕ) (e q a b : ℤ) → IsMeasurable measure n → 0 < s → s < 2 ^ n → measured measure s e *ℤ b ≡ a *ℤ measured_den measure q → e *ℤ b ≡ a *ℤ (q *ℤ pos (divisor measure s))
+pub divided-same : (measure : Measure) (n s : ℕ) (e q a b : ℤ) → IsMeasurable measure n → 0 < s → s < 2 ^ n
+    → measured measure s e *ℤ b ≡ a *ℤ measured_den measure q → e *ℤ b ≡ a *ℤ (q *ℤ pos (divisor measure s))
 divided-same measure n s e q a b m some within h =
     let k = scaled_sides measure n s e q a b m some within in
-    mul-cancelℤ (weight measure s) (e *ℤ b) (a *ℤ (q *ℤ pos (divisor measure s))) (weight-positive measure n s m some within) (sym k.0 ∙ h ∙ k.1)
+    mul-cancelℤ (weight measure s) (e *ℤ b) (a *ℤ (q *ℤ pos (divisor measure s)))
+    (weight-positive measure n s m some within) (sym k.0 ∙ h ∙ k.1)
 
-pub measured-le : (measure : Measure) (n s : ℕ) (e q a b : ℤ) → IsMeasurable measure n → 0 < s → s < 2 ^ n → (e *ℤ b) ≤ℤ (a *ℤ (q *ℤ pos (divisor measure s))) → (measured measure s e *ℤ b) ≤ℤ (a *ℤ measured_den measure q)
+pub measured-le : (measure : Measure) (n s : ℕ) (e q a b : ℤ) → IsMeasurable measure n → 0 < s → s < 2 ^ n
+    → (e *ℤ b) ≤ℤ (a *ℤ (q *ℤ pos (divisor measure s)))
+    → (measured measure s e *ℤ b) ≤ℤ (a *ℤ measured_den measure q)
 measured-le measure n s e q a b m some within h =
     let k = scaled_sides measure n s e q a b m some within in
     let w = weight-positive measure n s m some within in
-    rw (k.0, k.1) (mul-leℤ (weight measure s) (e *ℤ b) (a *ℤ (q *ℤ pos (divisor measure s))) (omega (arith, linear, w)) h)
+    rw (k.0, k.1)
+    (mul-leℤ (weight measure s) (e *ℤ b) (a *ℤ (q *ℤ pos (divisor measure s))) (omega (arith, linear, w)) h)
 
-pub divided-le : (measure : Measure) (n s : ℕ) (e q a b : ℤ) → IsMeasurable measure n → 0 < s → s < 2 ^ n → (measured measure s e *ℤ b) ≤ℤ (a *ℤ measured_den measure q) → (e *ℤ b) ≤ℤ (a *ℤ (q *ℤ pos (divisor measure s)))
+pub divided-le : (measure : Measure) (n s : ℕ) (e q a b : ℤ) → IsMeasurable measure n → 0 < s → s < 2 ^ n
+    → (measured measure s e *ℤ b) ≤ℤ (a *ℤ measured_den measure q)
+    → (e *ℤ b) ≤ℤ (a *ℤ (q *ℤ pos (divisor measure s)))
 divided-le measure n s e q a b m some within h =
     let k = scaled_sides measure n s e q a b m some within in
-    mul-le_cancelℤ (weight measure s) (e *ℤ b) (a *ℤ (q *ℤ pos (divisor measure s))) (weight-positive measure n s m some within) (rw (k.0, k.1) at h)
+    mul-le_cancelℤ (weight measure s) (e *ℤ b) (a *ℤ (q *ℤ pos (divisor measure s)))
+    (weight-positive measure n s m some within) (rw (k.0, k.1) at h)
 
 -- ---- the order of two measured excesses
 
 -- the weight times the divisor is the same for each coalition
-weight-divisor : (measure : Measure) (n s : ℕ) → IsMeasurable measure n → 0 < s → s < 2 ^ n → weight measure s *ℤ pos (divisor measure s) ≡ measured_den measure (pos 1)
+weight-divisor : (measure : Measure) (n s : ℕ) → IsMeasurable measure n → 0 < s → s < 2 ^ n
+    → weight measure s *ℤ pos (divisor measure s) ≡ measured_den measure (pos 1)
 weight-divisor measure n s m some within =
-    ap (λ z. weight measure s *ℤ z) (sym (one-mulℤ (pos (divisor measure s)))) ∙ sym (measured_den-weight measure n s (pos 1) m some within)
+    ap (λ z. weight measure s *ℤ z) (sym (one-mulℤ (pos (divisor measure s))))
+    ∙ sym (measured_den-weight measure n s (pos 1) m some within)
 
 measured_den-positive : (measure : Measure) → pos 0 <ℤ measured_den measure (pos 1)
 measured_den-positive Plain = omega (arith, linear)
@@ -131,18 +153,26 @@ exchanged w e v d =
     mul_assocℤ w e (v *ℤ d) ∙ ap (λ z. w *ℤ z) (mul_left_commℤ e v d) ∙ sym (mul_assocℤ w v (e *ℤ d))
 
 -- an excess over its divisor is at most another over its divisor: so are the measured ones
-pub measured-order : (measure : Measure) (n s t : ℕ) (e f : ℤ) → IsMeasurable measure n → 0 < s → s < 2 ^ n → 0 < t → t < 2 ^ n → (e *ℤ pos (divisor measure t)) ≤ℤ (f *ℤ pos (divisor measure s)) → measured measure s e ≤ℤ measured measure t f
+pub measured-order : (measure : Measure) (n s t : ℕ) (e f : ℤ) → IsMeasurable measure n → 0 < s → s < 2 ^ n → 0 < t
+    → t < 2 ^ n → (e *ℤ pos (divisor measure t)) ≤ℤ (f *ℤ pos (divisor measure s))
+    → measured measure s e ≤ℤ measured measure t f
 measured-order measure n s t e f m some_s within_s some_t within_t le =
     let w = weight measure s in
     let v = weight measure t in
     let whole = measured_den measure (pos 1) in
     let positive = measured_den-positive measure in
-    let wv = mul-positiveℤ w v (weight-positive measure n s m some_s within_s) (weight-positive measure n t m some_t within_t) in
-    let scaled = mul-leℤ (w *ℤ v) (e *ℤ pos (divisor measure t)) (f *ℤ pos (divisor measure s)) (omega (arith, linear, wv)) le in
+    let wv =
+    mul-positiveℤ w v (weight-positive measure n s m some_s within_s)
+    (weight-positive measure n t m some_t within_t) in
+    let scaled =
+    mul-leℤ (w *ℤ v) (e *ℤ pos (divisor measure t)) (f *ℤ pos (divisor measure s)) (omega (arith, linear, wv))
+    le in
     let left : whole *ℤ (w *ℤ e) ≡ (w *ℤ v) *ℤ (e *ℤ pos (divisor measure t)) =
-    *ℤ_comm whole (w *ℤ e) ∙ ap (λ z. (w *ℤ e) *ℤ z) (sym (weight-divisor measure n t m some_t within_t)) ∙ exchanged w e v (pos (divisor measure t)) in
+    *ℤ_comm whole (w *ℤ e) ∙ ap (λ z. (w *ℤ e) *ℤ z) (sym (weight-divisor measure n t m some_t within_t))
+    ∙ exchanged w e v (pos (divisor measure t)) in
     let right : whole *ℤ (v *ℤ f) ≡ (w *ℤ v) *ℤ (f *ℤ pos (divisor measure s)) =
-    *ℤ_comm whole (v *ℤ f) ∙ ap (λ z. (v *ℤ f) *ℤ z) (sym (weight-divisor measure n s m some_s within_s)) ∙ exchanged v f w (pos (divisor measure s)) ∙ ap (λ z. z *ℤ (f *ℤ pos (divisor measure s))) (*ℤ_comm v w) in
+    *ℤ_comm whole (v *ℤ f) ∙ ap (λ z. (v *ℤ f) *ℤ z) (sym (weight-divisor measure n s m some_s within_s))
+    ∙ exchanged v f w (pos (divisor measure s)) ∙ ap (λ z. z *ℤ (f *ℤ pos (divisor measure s))) (*ℤ_comm v w) in
     let both : (whole *ℤ (w *ℤ e)) ≤ℤ (whole *ℤ (v *ℤ f)) = omega (arith, linear, scaled, left, right) in
     let less = mul-le_cancelℤ whole (w *ℤ e) (v *ℤ f) positive both in
     rw (measured-weight measure s e, measured-weight measure t f) less

@@ -1,7 +1,10 @@
 -- Members of coalitions, and sums over them.
-use Rattle.std.proofs.Common.{◌≡◌, ◌≢◌, ℕ, zero, suc, ◌+◌, ◌-◌, ◌*◌, ◌/◌, ◌^◌, ◌<◌, ◌≤◌, Bool, true, false, not, cond, List, [], ◌∷◌, ◌++◌, add-one, ℤ, pos, ◌+ℤ◌, ◌-ℤ◌, ◌*ℤ◌, ◌≤ℤ◌, refl, sym, ap, ◌∙◌, inl, inr, arith, nat_eq, if◌then◌else◌}
+use Rattle.std.proofs.Common.{◌≡◌, ◌≢◌, ℕ, zero, suc, ◌+◌, ◌-◌, ◌*◌, ◌/◌, ◌^◌, ◌<◌, ◌≤◌, Bool, true, false}
+use Rattle.std.proofs.Common.{not, cond, List, [], ◌∷◌, ◌++◌, add-one, ℤ, pos, ◌+ℤ◌, ◌-ℤ◌, ◌*ℤ◌, ◌≤ℤ◌, refl}
+use Rattle.std.proofs.Common.{sym, ap, ◌∙◌, inl, inr, arith, nat_eq, if◌then◌else◌}
 use Rattle.std.proofs.lemmas.Bool.Decides.{nat_tests}
-use Rattle.std.proofs.lemmas.Nat.Bits.{bit_at-suc, bit_at-zero, bit_at-pow_same, bit_at-pow_other, bit_at_ones, bit_at_lowest}
+use Rattle.std.proofs.lemmas.Nat.Bits.{bit_at-suc, bit_at-zero, bit_at-pow_same}
+use Rattle.std.proofs.lemmas.Nat.Bits.{bit_at-pow_other, bit_at_ones, bit_at_lowest}
 use Rattle.std.proofs.Math.Nat.{pow-suc, mul_comm, le_refl}
 use Rattle.std.specs.Int.{bit_at}
 use Rattle.definitions.proofs.Ring.{linear, add-mulℤ, mul-addℤ, mul-zeroℤ, zero-mulℤ, mul-oneℤ}
@@ -39,7 +42,8 @@ bit_at-complement (suc n) s (suc i) h k =
     let c : bit_at ((2 ^ suc n - 1 - s) / 2) i ≡ bit_at (2 ^ n - 1 - s / 2) i = ap (λ (m : ℕ). bit_at m i) half in
     omega (arith, a, b, c, ih)
 
-pub has_player-complement : (n s i : ℕ) → s < 2 ^ n → i < n → has_player (grand_coalition n - s) i ≡ not (has_player s i)
+pub has_player-complement : (n s i : ℕ) → s < 2 ^ n → i < n
+    → has_player (grand_coalition n - s) i ≡ not (has_player s i)
 has_player-complement n s i h k = opposite (bit_at (2 ^ n - 1 - s) i) (bit_at s i) (bit_at-complement n s i h k)
   where
     opposite : (a b : ℕ) → a + b ≡ 1 → nat_eq a 1 ≡ not (nat_eq b 1)
@@ -92,30 +96,44 @@ sum_over-nonnegative zero s f low = omega (arith, linear)
 sum_over-nonnegative (suc n) s f low =
     let ih = sum_over-nonnegative n s f (λ i h. low i (omega arith)) in
     let here = low n (omega arith) in
-    let step : (b : Bool) → pos 0 ≤ℤ (sum_over n f s +ℤ cond b (f n) (pos 0)) = elim [ true ↦ omega (arith, linear) | false ↦ omega (arith, linear) ] in
+    let step : (b : Bool) → pos 0 ≤ℤ (sum_over n f s +ℤ cond b (f n) (pos 0)) =
+    elim [ true ↦ omega (arith, linear) | false ↦ omega (arith, linear) ] in
     step (has_player s n)
 
 pub weight_at-append : (ps qs : List (ℕ × ℤ)) (i : ℕ) → weight_at (ps ++ qs) i ≡ weight_at ps i +ℤ weight_at qs i
 weight_at-append [] qs i = omega (arith, linear)
 weight_at-append (p ∷ ps) qs i = omega (arith, linear, weight_at-append ps qs i)
 
-pub sum_over-combined : (n : ℕ) (a b : ℕ → ℤ) (p q : ℤ) (s : ℕ) → sum_over n (λ i. p *ℤ a i -ℤ q *ℤ b i) s ≡ p *ℤ sum_over n a s -ℤ q *ℤ sum_over n b s
+pub sum_over-combined : (n : ℕ) (a b : ℕ → ℤ) (p q : ℤ) (s : ℕ)
+    → sum_over n (λ i. p *ℤ a i -ℤ q *ℤ b i) s ≡ p *ℤ sum_over n a s -ℤ q *ℤ sum_over n b s
 sum_over-combined zero a b p q s = omega (arith, linear, mul-zeroℤ p, mul-zeroℤ q)
 sum_over-combined (suc n) a b p q s =
     let ih = sum_over-combined n a b p q s in
-    let step : (t : Bool) → sum_over n (λ i. p *ℤ a i -ℤ q *ℤ b i) s +ℤ cond t (p *ℤ a n -ℤ q *ℤ b n) (pos 0) ≡ p *ℤ (sum_over n a s +ℤ cond t (a n) (pos 0)) -ℤ q *ℤ (sum_over n b s +ℤ cond t (b n) (pos 0)) = elim [
+    let step : (t : Bool)
+    → sum_over n (λ i. p *ℤ a i -ℤ q *ℤ b i) s +ℤ cond t (p *ℤ a n -ℤ q *ℤ b n) (pos 0)
+    ≡ p *ℤ (sum_over n a s +ℤ cond t (a n) (pos 0)) -ℤ q *ℤ (sum_over n b s +ℤ cond t (b n) (pos 0)) = elim [
       | true ↦ omega (arith, linear, ih, mul-addℤ p (sum_over n a s) (a n), mul-addℤ q (sum_over n b s) (b n))
-      | false ↦ omega (arith, linear, ih, mul-addℤ p (sum_over n a s) (pos 0), mul-addℤ q (sum_over n b s) (pos 0), mul-zeroℤ p, mul-zeroℤ q)
+      | false ↦ omega (
+        arith,
+        linear,
+        ih,
+        mul-addℤ p (sum_over n a s) (pos 0),
+        mul-addℤ q (sum_over n b s) (pos 0),
+        mul-zeroℤ p,
+        mul-zeroℤ q,
+      )
     ] in
     step (has_player s n)
 
 pub sum_over-grand_coalition : (n : ℕ) (a : ℕ → ℤ) → sum_over n a (grand_coalition n) ≡ sum_below n a
 sum_over-grand_coalition n a =
-    sum_below-same n (λ i. if has_player (grand_coalition n) i then a i else pos 0) a (λ i h. rw (has_player-grand_coalition n i h) refl)
+    sum_below-same n (λ i. if has_player (grand_coalition n) i then a i else pos 0) a
+    (λ i h. rw (has_player-grand_coalition n i h) refl)
 
 sum_over-apart : (n k : ℕ) (a : ℕ → ℤ) → n ≤ k → sum_over n a (singleton k) ≡ pos 0
 sum_over-apart n k a h =
-    sum_below-zero n (λ i. if has_player (singleton k) i then a i else pos 0) (λ i lt. rw (has_player-singleton_other k i (ne i lt)) refl)
+    sum_below-zero n (λ i. if has_player (singleton k) i then a i else pos 0)
+    (λ i lt. rw (has_player-singleton_other k i (ne i lt)) refl)
   where
     ne : (i : ℕ) → i < n → i ≢ k
     ne i lt e = omega arith
@@ -123,33 +141,45 @@ sum_over-apart n k a h =
 pub sum_over-singleton : (n k : ℕ) (a : ℕ → ℤ) → k < n → sum_over n a (singleton k) ≡ a k
 sum_over-singleton zero k a h = absurd (omega arith)
 sum_over-singleton (suc n) k a h = elim (less_or_last k n h) [
-  | inl less ↦ rw (has_player-singleton_other k n (λ e. omega arith)) (omega (arith, linear, sum_over-singleton n k a less))
+  | inl less ↦ rw (has_player-singleton_other k n (λ e. omega arith))
+      (omega (arith, linear, sum_over-singleton n k a less))
   | inr same ↦ rw (sym same) (rw (has_player-singleton k) (omega (arith, linear, sum_over-apart k k a (le_refl k))))
 ]
 
-pub sum_over-complement : (n s : ℕ) (a : ℕ → ℤ) → s < 2 ^ n → sum_over n a (grand_coalition n - s) +ℤ sum_over n a s ≡ sum_below n a
+pub sum_over-complement : (n s : ℕ) (a : ℕ → ℤ) → s < 2 ^ n
+    → sum_over n a (grand_coalition n - s) +ℤ sum_over n a s ≡ sum_below n a
 sum_over-complement n s a h =
-    sym (sum_below-add n (λ i. if has_player (grand_coalition n - s) i then a i else pos 0) (λ i. if has_player s i then a i else pos 0))
-    ∙ sum_below-same n (λ i. (if has_player (grand_coalition n - s) i then a i else pos 0) +ℤ (if has_player s i then a i else pos 0)) a here
+    sym
+    (sum_below-add n (λ i. if has_player (grand_coalition n - s) i then a i else pos 0)
+    (λ i. if has_player s i then a i else pos 0))
+    ∙ sum_below-same n
+    (λ i. (if has_player (grand_coalition n - s) i then a i else pos 0)
+    +ℤ (if has_player s i then a i else pos 0)) a here
   where
     one_of : (b : Bool) (z : ℤ) → cond (not b) z (pos 0) +ℤ cond b z (pos 0) ≡ z
     one_of true z = omega (arith, linear)
     one_of false z = omega (arith, linear)
 
-    here : (i : ℕ) → i < n → (if has_player (grand_coalition n - s) i then a i else pos 0) +ℤ (if has_player s i then a i else pos 0) ≡ a i
+    here : (i : ℕ) → i < n
+        → (if has_player (grand_coalition n - s) i then a i else pos 0) +ℤ (if has_player s i then a i else pos 0)
+        ≡ a i
     here i k = rw (has_player-complement n s i h k) (one_of (has_player s i) (a i))
 
 -- ---- the exchange of the two sums
 
-pub weighted_sum-add : (f g : ℕ → ℤ) (ps : List (ℕ × ℤ)) → weighted_sum (λ s. f s +ℤ g s) ps ≡ weighted_sum f ps +ℤ weighted_sum g ps
+pub weighted_sum-add : (f g : ℕ → ℤ) (ps : List (ℕ × ℤ))
+    → weighted_sum (λ s. f s +ℤ g s) ps ≡ weighted_sum f ps +ℤ weighted_sum g ps
 weighted_sum-add f g [] = refl
 weighted_sum-add f g (p ∷ ps) = omega (arith, linear, weighted_sum-add f g ps, mul-addℤ p.1 (f p.0) (g p.0))
 
-weighted_sum-one : (n : ℕ) (a : ℤ) (ps : List (ℕ × ℤ)) → weighted_sum (λ s. if has_player s n then a else pos 0) ps ≡ weight_at ps n *ℤ a
+weighted_sum-one : (n : ℕ) (a : ℤ) (ps : List (ℕ × ℤ))
+    → weighted_sum (λ s. if has_player s n then a else pos 0) ps ≡ weight_at ps n *ℤ a
 weighted_sum-one n a [] = sym (zero-mulℤ a)
 weighted_sum-one n a (p ∷ ps) =
     let ih = weighted_sum-one n a ps in
-    let step : (b : Bool) → p.1 *ℤ cond b a (pos 0) +ℤ weighted_sum (λ s. if has_player s n then a else pos 0) ps ≡ (cond b p.1 (pos 0) +ℤ weight_at ps n) *ℤ a = elim [
+    let step : (b : Bool)
+    → p.1 *ℤ cond b a (pos 0) +ℤ weighted_sum (λ s. if has_player s n then a else pos 0) ps
+    ≡ (cond b p.1 (pos 0) +ℤ weight_at ps n) *ℤ a = elim [
       | true ↦ omega (arith, linear, ih, add-mulℤ p.1 (weight_at ps n) a)
       | false ↦ omega (arith, linear, ih, mul-zeroℤ p.1, add-mulℤ (pos 0) (weight_at ps n) a, zero-mulℤ a)
     ] in
@@ -160,10 +190,17 @@ weighted_sum-zero [] = refl
 weighted_sum-zero (p ∷ ps) = omega (arith, linear, weighted_sum-zero ps, mul-zeroℤ p.1)
 
 -- the weighted sum of what coalitions have is the sum of what players have, times the weights at each player
-pub weighted_sum-sum_over : (n : ℕ) (a : ℕ → ℤ) (ps : List (ℕ × ℤ)) → weighted_sum (λ s. sum_over n a s) ps ≡ sum_below n (λ i. weight_at ps i *ℤ a i)
+pub weighted_sum-sum_over : (n : ℕ) (a : ℕ → ℤ) (ps : List (ℕ × ℤ))
+    → weighted_sum (λ s. sum_over n a s) ps ≡ sum_below n (λ i. weight_at ps i *ℤ a i)
 weighted_sum-sum_over zero a ps = weighted_sum-zero ps
 weighted_sum-sum_over (suc n) a ps =
-    omega (arith, linear, weighted_sum-add (λ s. sum_over n a s) (λ s. if has_player s n then a n else pos 0) ps, weighted_sum-sum_over n a ps, weighted_sum-one n (a n) ps)
+    omega (
+      arith,
+      linear,
+      weighted_sum-add (λ s. sum_over n a s) (λ s. if has_player s n then a n else pos 0) ps,
+      weighted_sum-sum_over n a ps,
+      weighted_sum-one n (a n) ps,
+    )
 
 -- ---- lists of members
 

@@ -1,12 +1,15 @@
 -- A coalition with one more player, and sums over parts of a coalition.
-use Rattle.std.proofs.Common.{◌≡◌, ◌≢◌, ℕ, zero, suc, ◌+◌, ◌-◌, ◌*◌, ◌/◌, ◌^◌, ◌<◌, ◌≤◌, Bool, true, false, not, ◌||◌, cond, ℤ, pos, ◌+ℤ◌, ◌≤ℤ◌, refl, sym, ap, ◌∙◌, inl, inr, arith, nat_eq, if◌then◌else◌}
+use Rattle.std.proofs.Common.{◌≡◌, ◌≢◌, ℕ, zero, suc, ◌+◌, ◌-◌, ◌*◌, ◌/◌, ◌^◌, ◌<◌, ◌≤◌, Bool}
+use Rattle.std.proofs.Common.{true, false, not, ◌||◌, cond, ℤ, pos, ◌+ℤ◌, ◌≤ℤ◌, refl, sym, ap}
+use Rattle.std.proofs.Common.{◌∙◌, inl, inr, arith, nat_eq, if◌then◌else◌}
 use Rattle.std.proofs.lemmas.Bool.{false≢true}
 use Rattle.std.proofs.lemmas.Bool.Decides.{nat_tests}
 use Rattle.std.proofs.lemmas.Nat.Bits.{bit_at-suc, bit_at_lowest, bit_at-lt, bit_at_above, same_from_bits}
 use Rattle.std.proofs.Math.Nat.{pow-suc, mul_comm}
 use Rattle.std.specs.Int.{bit_at}
 use Rattle.definitions.proofs.Ring.{linear}
-use Rattle.definitions.proofs.Members.{has_player-singleton, has_player-singleton_other, has_player-complement, sum_below-same, sum_below-add, sum_over-singleton}
+use Rattle.definitions.proofs.Members.{has_player-singleton, has_player-singleton_other}
+use Rattle.definitions.proofs.Members.{has_player-complement, sum_below-same, sum_below-add, sum_over-singleton}
 use Rattle.definitions.specs.Sums.{sum_below}
 use Rattle.definitions.specs.Coalitions.{has_player, singleton, grand_coalition, sum_over}
 use Rattle.definitions.proofs.Cases.{same_or_other, zero_bit, same_bit, nat_eq-equal, nat_eq-other}
@@ -68,9 +71,11 @@ same_coalition s t h =
     same_from_bits s t (λ i. same_bit (bit_at s i) (bit_at t i) (bit_at-lt s i) (bit_at-lt t i) (h i))
 
 -- the coalition with one player more, by its players
-pub more-is : (s i r : ℕ) → has_player s i ≡ false → ((j : ℕ) → has_player r j ≡ (nat_eq j i || has_player s j)) → r ≡ s + 2 ^ i
+pub more-is : (s i r : ℕ) → has_player s i ≡ false → ((j : ℕ) → has_player r j ≡ (nat_eq j i || has_player s j))
+    → r ≡ s + 2 ^ i
 more-is s i r lacks h = same_coalition r (s + 2 ^ i) (λ j. elim (same_or_other j i) [
-  | inl same ↦ h j ∙ rw (nat_eq-equal j i same) (sym (ap (has_player (s + 2 ^ i)) same ∙ has_player-more_same s i lacks))
+  | inl same ↦ h j
+      ∙ rw (nat_eq-equal j i same) (sym (ap (has_player (s + 2 ^ i)) same ∙ has_player-more_same s i lacks))
   | inr other ↦ h j ∙ rw (nat_eq-other j i other) (sym (has_player-more_other s i j lacks other))
 ])
 
@@ -82,7 +87,8 @@ has_player-past n s i h k = is_zero (bit_at s i) (bit_at_above s n i h k)
     is_zero b e = grind (arith, nat_tests)
 
 -- all but one
-pub others_has : (n k i : ℕ) → singleton k < 2 ^ n → i < n → i ≢ k → has_player (grand_coalition n - singleton k) i ≡ true
+pub others_has : (n k i : ℕ) → singleton k < 2 ^ n → i < n → i ≢ k
+    → has_player (grand_coalition n - singleton k) i ≡ true
 others_has n k i lt h ne = has_player-complement n (singleton k) i lt h ∙ ap not (has_player-singleton_other k i ne)
 
 pub others_lacks : (n k : ℕ) → singleton k < 2 ^ n → k < n → has_player (grand_coalition n - singleton k) k ≡ false
@@ -99,7 +105,8 @@ sum_below-le (suc n) f g h =
 abbrev pub part : (ℕ → ℤ) → ℕ → ℕ → ℤ
 part a s i = if has_player s i then a i else pos 0
 
-pub sum_over-more : (n s j : ℕ) (a : ℕ → ℤ) → j < n → has_player s j ≡ false → sum_over n a (s + 2 ^ j) ≡ sum_over n a s +ℤ a j
+pub sum_over-more : (n s j : ℕ) (a : ℕ → ℤ) → j < n → has_player s j ≡ false
+    → sum_over n a (s + 2 ^ j) ≡ sum_over n a s +ℤ a j
 sum_over-more n s j a k h =
     sum_below-same n (part a (s + 2 ^ j)) (λ i. part a s i +ℤ part a (singleton j) i) here
     ∙ sum_below-add n (part a s) (part a (singleton j))
@@ -121,12 +128,15 @@ part_le true false z low h = absurd (false≢true (h refl))
 part_le false true z low h = low
 part_le false false z low h = omega (arith, linear)
 
-pub sum_over-within : (n s t : ℕ) (a : ℕ → ℤ) → ((i : ℕ) → i < n → a i ≤ℤ pos 0) → ((i : ℕ) → i < n → has_player s i ≡ true → has_player t i ≡ true) → sum_over n a t ≤ℤ sum_over n a s
+pub sum_over-within : (n s t : ℕ) (a : ℕ → ℤ) → ((i : ℕ) → i < n → a i ≤ℤ pos 0)
+    → ((i : ℕ) → i < n → has_player s i ≡ true → has_player t i ≡ true) → sum_over n a t ≤ℤ sum_over n a s
 sum_over-within n s t a low h =
     sum_below-le n (part a t) (part a s) (λ i k. part_le (has_player s i) (has_player t i) (a i) (low i k) (h i k))
 
 -- the same beside a player of t that s lacks
-pub sum_over-within_but : (n s t j : ℕ) (a : ℕ → ℤ) → ((i : ℕ) → i < n → a i ≤ℤ pos 0) → ((i : ℕ) → i < n → has_player s i ≡ true → has_player t i ≡ true) → j < n → has_player s j ≡ false → has_player t j ≡ true → sum_over n a t ≤ℤ (sum_over n a s +ℤ a j)
+pub sum_over-within_but : (n s t j : ℕ) (a : ℕ → ℤ) → ((i : ℕ) → i < n → a i ≤ℤ pos 0)
+    → ((i : ℕ) → i < n → has_player s i ≡ true → has_player t i ≡ true) → j < n → has_player s j ≡ false
+    → has_player t j ≡ true → sum_over n a t ≤ℤ (sum_over n a s +ℤ a j)
 sum_over-within_but n s t j a low h k lacks has =
     let le = sum_below-le n (part a t) (λ i. part a s i +ℤ part a (singleton j) i) here in
     let both = sum_below-add n (part a s) (part a (singleton j)) in

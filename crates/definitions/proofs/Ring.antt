@@ -3,21 +3,36 @@
 -- An identity of sums and products: simp ring_laws (omega (arith, linear)).
 -- A step where some summand is 0 or some factor is 1: simp unit_laws, or both sets.
 -- An order or an equation by linear arithmetic over products as they stand: omega (arith, linear, facts).
-use Rattle.std.proofs.Common.{◌≡◌, ℕ, zero, suc, ◌*◌, ℤ, pos, negsuc, ◌+ℤ◌, ◌-ℤ◌, ◌*ℤ◌, neg_ℤ, ◌<ℤ◌, ◌≤ℤ◌, refl, sym, ap, ◌∙◌, arith}
+use Rattle.std.proofs.Common.{◌≡◌, ℕ, zero, suc, ◌*◌, ℤ, pos, negsuc, ◌+ℤ◌, ◌-ℤ◌, ◌*ℤ◌}
+use Rattle.std.proofs.Common.{neg_ℤ, ◌<ℤ◌, ◌≤ℤ◌, refl, sym, ap, ◌∙◌, arith}
 use Rattle.std.proofs.lemmas.Int.{ints, by_lt_z}
-use borrow.Author.Differences.{up, down, fits_out, same_out, Apart-out, lt_out, le_out, lt_T, le_T, lt_not, le_not, lt-true, lt-false, le-true, le-false, true-lt, false-lt, true-le, false-le, not_negative_out, fits_in, same_in, lt_in, le_in, below_in, at_most_in, not_negative_in, true_is_lt, false_is_lt, true_is_le, false_is_le, sum_is_lem, neg_is, product_is}
+use borrow.Author.Differences.{up, down, fits_out, same_out, Apart-out, lt_out, le_out, lt_T, le_T, lt_not, le_not}
+use borrow.Author.Differences.{lt-true, lt-false, le-true, le-false, true-lt, false-lt, true-le, false-le}
+use borrow.Author.Differences.{not_negative_out, fits_in, same_in, lt_in, le_in, below_in, at_most_in}
+use borrow.Author.Differences.{not_negative_in, true_is_lt, false_is_lt, true_is_le, false_is_le, sum_is_lem}
+use borrow.Author.Differences.{neg_is, product_is}
 use lib.IntN.{*ℤ_comm, neg_ℤ-+ℤ, neg_ℤ-neg_ℤ, +ℤ_idl, +ℤ_idr, zero-*ℤ, *ℤ-zero}
 
 -- ---- the laws
 
 pub mul-addℤ : (a b c : ℤ) → a *ℤ (b +ℤ c) ≡ a *ℤ b +ℤ a *ℤ c
-mul-addℤ a b c = omega (arith, ints, ap (λ (k : ℕ). up a * k) (sum_is_lem b c), ap (λ (k : ℕ). down a * k) (sum_is_lem b c))
+mul-addℤ a b c =
+    omega (arith, ints, ap (λ (k : ℕ). up a * k) (sum_is_lem b c), ap (λ (k : ℕ). down a * k) (sum_is_lem b c))
 
 pub add-mulℤ : (a b c : ℤ) → (a +ℤ b) *ℤ c ≡ a *ℤ c +ℤ b *ℤ c
-add-mulℤ a b c = omega (arith, ints, ap (λ (k : ℕ). k * up c) (sum_is_lem a b), ap (λ (k : ℕ). k * down c) (sum_is_lem a b))
+add-mulℤ a b c =
+    omega (arith, ints, ap (λ (k : ℕ). k * up c) (sum_is_lem a b), ap (λ (k : ℕ). k * down c) (sum_is_lem a b))
 
 pub mul-negℤ : (a b : ℤ) → a *ℤ neg_ℤ b ≡ neg_ℤ (a *ℤ b)
-mul-negℤ a b = omega (arith, ints, ap (λ (k : ℕ). up a * k) (neg_is b).0, ap (λ (k : ℕ). up a * k) (neg_is b).1, ap (λ (k : ℕ). down a * k) (neg_is b).0, ap (λ (k : ℕ). down a * k) (neg_is b).1)
+mul-negℤ a b =
+    omega (
+      arith,
+      ints,
+      ap (λ (k : ℕ). up a * k) (neg_is b).0,
+      ap (λ (k : ℕ). up a * k) (neg_is b).1,
+      ap (λ (k : ℕ). down a * k) (neg_is b).0,
+      ap (λ (k : ℕ). down a * k) (neg_is b).1,
+    )
 
 pub neg-mulℤ : (a b : ℤ) → neg_ℤ a *ℤ b ≡ neg_ℤ (a *ℤ b)
 neg-mulℤ a b = *ℤ_comm (neg_ℤ a) b ∙ mul-negℤ b a ∙ ap neg_ℤ (*ℤ_comm b a)
@@ -63,13 +78,46 @@ neg_zero = refl
 -- ---- the sets of laws
 
 -- bring a sum of products to one sorted form
-pub ruleset ring_laws = (mul-addℤ, add-mulℤ, mul-negℤ, neg-mulℤ, neg_ℤ-+ℤ, neg_ℤ-neg_ℤ, mul_assocℤ, mul_left_commℤ, *ℤ_comm)
+pub ruleset ring_laws =
+    (mul-addℤ, add-mulℤ, mul-negℤ, neg-mulℤ, neg_ℤ-+ℤ, neg_ℤ-neg_ℤ, mul_assocℤ, mul_left_commℤ, *ℤ_comm)
 
 -- drop what 0 and 1 add or multiply
 pub ruleset unit_laws = (mul-oneℤ, one-mulℤ, zero-*ℤ, *ℤ-zero, neg_zero, +ℤ_idl, +ℤ_idr)
 
 -- std's `ints` without the product: with it omega takes a product as it stands
-pub ruleset linear = (fits_out, same_out, Apart-out, lt_out, le_out, lt_T, le_T, lt_not, le_not, lt-true, lt-false, le-true, le-false, true-lt, false-lt, true-le, false-le, not_negative_out, fits_in, same_in, lt_in, le_in, below_in, at_most_in, not_negative_in, true_is_lt, false_is_lt, true_is_le, false_is_le, sum_is_lem, neg_is)
+pub ruleset linear = (
+  fits_out,
+  same_out,
+  Apart-out,
+  lt_out,
+  le_out,
+  lt_T,
+  le_T,
+  lt_not,
+  le_not,
+  lt-true,
+  lt-false,
+  le-true,
+  le-false,
+  true-lt,
+  false-lt,
+  true-le,
+  false-le,
+  not_negative_out,
+  fits_in,
+  same_in,
+  lt_in,
+  le_in,
+  below_in,
+  at_most_in,
+  not_negative_in,
+  true_is_lt,
+  false_is_lt,
+  true_is_le,
+  false_is_le,
+  sum_is_lem,
+  neg_is,
+)
 
 -- ---- differences
 

@@ -1,5 +1,6 @@
 -- How many members a coalition has.
-use Rattle.std.proofs.Common.{◌≡◌, ℕ, zero, suc, ◌+◌, ◌-◌, ◌^◌, ◌<◌, ◌≤◌, Bool, true, false, [], ◌∷◌, length, length-append, refl, sym, ap, subst, ◌∙◌, inl, inr, arith}
+use Rattle.std.proofs.Common.{◌≡◌, ℕ, zero, suc, ◌+◌, ◌-◌, ◌^◌, ◌<◌, ◌≤◌, Bool, true, false, [], ◌∷◌}
+use Rattle.std.proofs.Common.{length, length-append, refl, sym, ap, subst, ◌∙◌, inl, inr, arith}
 use Rattle.std.proofs.lemmas.Bool.Decides.{nat_tests}
 use Rattle.std.proofs.lemmas.Nat.Bits.{bit_at-zero, bit_at-lt, bit_at_above, same_from_bits}
 use Rattle.std.specs.Int.{bit_at}
@@ -44,7 +45,8 @@ none-at (suc n) s e i lt = step (has_player s n) refl (none-at n s)
     next : suc n ≡ n + 1
     next = omega arith
 
-    step : (b : Bool) → has_player s n ≡ b → (length (members n s) ≡ 0 → (i : ℕ) → i < n → has_player s i ≡ false) → has_player s i ≡ false
+    step : (b : Bool) → has_player s n ≡ b → (length (members n s) ≡ 0 → (i : ℕ) → i < n → has_player s i ≡ false)
+        → has_player s i ≡ false
     step true h less = absurd (omega (arith, length-more_yes n s h, rw next at e))
     step false h less =
         let rest : length (members n s) ≡ 0 = sym (length-more_no n s h) ∙ (rw next at e) in

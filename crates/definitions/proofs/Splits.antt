@@ -1,5 +1,6 @@
 -- Whether some number below a bound passes a test, and the coalitions that split a set of players.
-use Rattle.std.proofs.Common.{◌≡◌, ℕ, zero, suc, ◌<◌, Bool, true, false, ◌&&◌, ◌||◌, not, refl, sym, inl, inr, arith}
+use Rattle.std.proofs.Common.{◌≡◌, ℕ, zero, suc, ◌<◌, Bool, true, false, ◌&&◌}
+use Rattle.std.proofs.Common.{◌||◌, not, refl, sym, inl, inr, arith}
 use Rattle.std.proofs.lemmas.Bool.{false≢true}
 use Rattle.definitions.proofs.Cases.{less_or_last, or_cases, or_true}
 use Rattle.definitions.proofs.Members.{has_player-singleton, has_player-singleton_other}
@@ -45,8 +46,13 @@ some_below-false (suc n) test e i h = elim (less_or_last i n h) [
     neither false b h = (refl, h)
 
 -- of two players of f, the first alone is a coalition that splits f
-pub splits-singleton : (n f i j : ℕ) → i < j → j < n → has_player f i ≡ true → has_player f j ≡ true → splits n (has_player f) (singleton i) ≡ true
+pub splits-singleton : (n f i j : ℕ) → i < j → j < n → has_player f i ≡ true → has_player f j ≡ true
+    → splits n (has_player f) (singleton i) ≡ true
 splits-singleton n f i j lt within hi hj =
-    let holds = some_below-at n i (λ k. has_player f k && has_player (singleton i) k) (omega arith) (rw (hi, has_player-singleton i) refl) in
-    let lacks = some_below-at n j (λ k. has_player f k && not (has_player (singleton i) k)) within (rw (hj, has_player-singleton_other i j (λ e. omega arith)) refl) in
+    let holds =
+    some_below-at n i (λ k. has_player f k && has_player (singleton i) k) (omega arith)
+    (rw (hi, has_player-singleton i) refl) in
+    let lacks =
+    some_below-at n j (λ k. has_player f k && not (has_player (singleton i) k)) within
+    (rw (hj, has_player-singleton_other i j (λ e. omega arith)) refl) in
     rw (holds, lacks) refl

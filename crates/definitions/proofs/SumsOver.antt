@@ -10,7 +10,8 @@ sum_over-same n a b s h = sum_below-same n (part a s) (part b s) (λ i lt. rw (h
 
 pub sum_over-times : (n : ℕ) (a : ℕ → ℤ) (c : ℤ) (s : ℕ) → sum_over n (λ i. c *ℤ a i) s ≡ c *ℤ sum_over n a s
 sum_over-times n a c s =
-    sum_below-same n (part (λ i. c *ℤ a i) s) (λ i. c *ℤ part a s i) (λ i lt. step (has_player s i) (a i)) ∙ sum_below-times n (part a s) c
+    sum_below-same n (part (λ i. c *ℤ a i) s) (λ i. c *ℤ part a s i) (λ i lt. step (has_player s i) (a i))
+    ∙ sum_below-times n (part a s) c
   where
     step : (b : Bool) (z : ℤ) → cond b (c *ℤ z) (pos 0) ≡ c *ℤ cond b z (pos 0)
     step true z = refl
@@ -18,7 +19,8 @@ sum_over-times n a c s =
 
 pub sum_over-add : (n : ℕ) (a b : ℕ → ℤ) (s : ℕ) → sum_over n (λ i. a i +ℤ b i) s ≡ sum_over n a s +ℤ sum_over n b s
 sum_over-add n a b s =
-    sum_below-same n (part (λ i. a i +ℤ b i) s) (λ i. part a s i +ℤ part b s i) (λ i lt. step (has_player s i) (a i) (b i)) ∙ sum_below-add n (part a s) (part b s)
+    sum_below-same n (part (λ i. a i +ℤ b i) s) (λ i. part a s i +ℤ part b s i)
+    (λ i lt. step (has_player s i) (a i) (b i)) ∙ sum_below-add n (part a s) (part b s)
   where
     step : (c : Bool) (y z : ℤ) → cond c (y +ℤ z) (pos 0) ≡ cond c y (pos 0) +ℤ cond c z (pos 0)
     step true y z = refl

@@ -2,7 +2,8 @@
 --
 --   AscendsFrom low ps           the masks ascend strictly, from above low
 --   Divides d z                  d divides the integer z
---   IsBalancedOfExcessWorth      weights that add to k at each player, and are worth more than k times the grand coalition
+--   IsBalancedOfExcessWorth      weights that add to k at each player, and are worth more than k times the grand
+--                                coalition
 use Rattle.std.specs.Prelude.{◌≡◌, ℕ, ◌^◌, ◌<◌, ◌≤◌, List, [], ◌∷◌, ℤ, pos, ◌*ℤ◌, ◌<ℤ◌, ◌≤ℤ◌}
 use Rattle.std.specs.List.{AllByRecursion}
 use Rattle.definitions.specs.Sums.{weighted_sum}

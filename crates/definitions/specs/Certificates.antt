@@ -1,7 +1,9 @@
 -- Certificates of the nucleolus: their form and their conditions (Kohlberg 1971, as a chain of levels).
 --
---   Level                        an excess, and weights on coalitions, on coalitions of earlier levels and on players at their bound
---   is_listed, has_bound         a coalition stands in some level; a player has a weight of at least 1 in the bounds of some level
+--   Level                        an excess, and weights on coalitions, on coalitions of earlier levels and on players
+--                                at their bound
+--   is_listed, has_bound         a coalition stands in some level; a player has a weight of at least 1 in the bounds of
+--                                some level
 --   is_fixed, is_free            mode players: what some levels have fixed of a player
 --   IsFixedVector                mode span: the vectors that the levels fix
 --   InSpan                       mode span: a coalition's vector is in the rational span of the fixed vectors
@@ -14,14 +16,17 @@
 --   HasExcess, HasAtMostExcess   a coalition has the excess of a level, or at most that
 --   Excesses                     each coalition of the level has its excess
 --   Weights                      each weight on a coalition is at least 1
---   BoundWeighs, BoundWeights    a weight on a bound is at least 1, but where a level in front gave its player such a weight; each is so
+--   BoundWeighs, BoundWeights    a weight on a bound is at least 1, but where a level in front gave its player such a
+--                                weight; each is so
 --   Balances, IsBalanced         the weights of the level add to its total at a player; at each player
 --   IsTight, AreTight            a bound stands on a player at its worth alone, and only for imputations; each does
 --   OutsideIsLow                 no coalition outside has more than the excess of the level
 --   LevelHolds                   the conditions of one level behind the levels in front of it
 --   LevelsHold                   each level meets its conditions, and all together fix everything
 --   Certifies                    all conditions of a certificate of these levels for these shares
-use Rattle.std.specs.Prelude.{◌≡◌, ◌≢◌, ◌⊎◌, ℕ, ◌+◌, ◌-◌, ◌^◌, ◌<◌, ◌≤◌, Bool, ◌&&◌, ◌||◌, not, IsTrue, nat_eq, List, [], ◌∷◌, ◌++◌, ℤ, pos, ◌+ℤ◌, ◌*ℤ◌, ◌≤ℤ◌, int_le, if◌then◌else◌, length, unsigned_abs}
+use Rattle.std.specs.Prelude.{◌≡◌, ◌≢◌, ◌⊎◌, ℕ, ◌+◌, ◌-◌, ◌^◌, ◌<◌, ◌≤◌, Bool, ◌&&◌, ◌||◌, not}
+use Rattle.std.specs.Prelude.{IsTrue, nat_eq, List, [], ◌∷◌, ◌++◌, ℤ, pos, ◌+ℤ◌, ◌*ℤ◌, ◌≤ℤ◌}
+use Rattle.std.specs.Prelude.{int_le, if◌then◌else◌, length, unsigned_abs}
 use Rattle.std.specs.List.{list_any, AllByRecursion}
 use Rattle.definitions.specs.Coalitions.{has_player, singleton, grand_coalition, weight_at, splits}
 use Rattle.definitions.specs.Measures.{measured_den}
@@ -63,12 +68,14 @@ is_free n levels i = not (is_fixed n levels i)
 -- mode span: the vector of s is among the fixed ones
 abbrev pub IsFixedVector : ℕ → List Level → ℕ → Type 0
 IsFixedVector n levels s =
-    (s ≡ grand_coalition n) ⊎ (IsTrue (is_listed levels s) ⊎ ((i : ℕ) × (i < n) × (s ≡ singleton i) × IsTrue (has_bound levels i)))
+    (s ≡ grand_coalition n)
+    ⊎ (IsTrue (is_listed levels s) ⊎ ((i : ℕ) × (i < n) × (s ≡ singleton i) × IsTrue (has_bound levels i)))
 
 -- the vector of s, times an integer that isn't 0, is a sum of integer multiples of vectors that the fact holds of
 abbrev pub InSpan : ℕ → (ℕ → Type 0) → ℕ → Type 0
 InSpan n Fixed s =
-    (m : ℤ) × (m ≢ pos 0) × (ps : List (ℕ × ℤ)) × AllByRecursion (λ p. Fixed p.0) ps × ((i : ℕ) → i < n → weight_at ps i ≡ (if has_player s i then m else pos 0))
+    (m : ℤ) × (m ≢ pos 0) × (ps : List (ℕ × ℤ)) × AllByRecursion (λ p. Fixed p.0) ps
+    × ((i : ℕ) → i < n → weight_at ps i ≡ (if has_player s i then m else pos 0))
 
 -- s is outside what the levels fix
 abbrev pub IsOutside : Mode → ℕ → List Level → ℕ → Type 0
@@ -127,7 +134,8 @@ number_at (p ∷ ps) i = (if nat_eq p.0 i then p.1 else pos 0) +ℤ number_at ps
 
 -- s has the excess of the level, by the measure
 abbrev pub HasExcess : Measure → Game → Allocation → Level → ℕ → Type 0
-HasExcess measure g x l s = measured_excess measure g x s *ℤ l.excess_den ≡ l.excess_num *ℤ measured_den measure x.den
+HasExcess measure g x l s =
+    measured_excess measure g x s *ℤ l.excess_den ≡ l.excess_num *ℤ measured_den measure x.den
 
 -- s has at most the excess of the level
 abbrev pub HasAtMostExcess : Measure → Game → Allocation → Level → ℕ → Type 0
@@ -169,7 +177,8 @@ OutsideIsLow mode measure g x front l =
     (s : ℕ) → s < 2 ^ g.players → IsOutside mode g.players front s → HasAtMostExcess measure g x l s
 
 -- what a level meets behind the levels in front of it
-pub record LevelHolds (mode : Mode) (family : Family) (measure : Measure) (g : Game) (x : Allocation) (front : List Level) (l : Level) : Type 0 where
+pub record LevelHolds (mode : Mode) (family : Family) (measure : Measure) (g : Game) (x : Allocation)
+    (front : List Level) (l : Level) : Type 0 where
   pub excesses : Excesses measure g x l
   pub weights : Weights l
   pub bound_weights : BoundWeights front l

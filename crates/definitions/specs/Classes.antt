@@ -1,6 +1,6 @@
 -- The worth of a coalition in each class of games, from what the class keeps.
--- Sources: Littlechild 1974 (airport games); O'Neill 1982 (bankruptcy games); Bird 1976 (tree games); Shapley and Shubik 1971
--- (assignment games), 1954 (voting games).
+-- Sources: Littlechild 1974 (airport games); O'Neill 1982 (bankruptcy games); Bird 1976 (tree games); Shapley and
+-- Shubik 1971 (assignment games), 1954 (voting games).
 --
 --   table_worth worths s               the listed worth
 --   negated_worth v s                  minus the worth in another game: a game of costs
@@ -11,17 +11,21 @@
 --   Matrix, entry                      an entry for each row and column
 --   joined, removed                    what passes a test, with one more point; without one
 --   is_point_of, is_source             the points of the members; the source alone
---   IsAttachment, IsPlan               pairs of a connected end and a new point, until no point waits; those that connect a coalition to the source
+--   IsAttachment, IsPlan               pairs of a connected end and a new point, until no point waits; those that
+--                                      connect a coalition to the source
 --   plan_cost, IsLeastCost             the entries of the pairs, added; the least cost of a plan
 --   IsNoLater                          triples compare by entry, then end, then player
---   IsBirdFrom                         each pair is the least of those that lead from a connected point to a waiting one
+--   IsBirdFrom                         each pair is the least of those that lead from a connected point to a waiting
+--                                      one
 --   IsBirdPlan, IsBirdShares           the plan of least pairs, and what each player pays in it
 --   IsSymmetric                        a matrix that is the same in both directions
 --   IsTreeGame matrix g                each worth is minus the least cost of an attachment plan
 --   IsMatching                         pairs of a row and a column whose players are members, no member twice
 --   matching_value, IsGreatestValue    the entries of the pairs, added; the greatest value of a matching
 --   IsAssignmentGame matrix rows g     each worth is the greatest value of a matching
-use Rattle.std.specs.Prelude.{◌≡◌, ◌⊎◌, ℕ, zero, suc, ◌+◌, ◌-◌, ◌^◌, ◌<◌, ◌≤◌, IsTrue, Bool, false, not, ◌&&◌, ◌||◌, nat_eq, List, [], ◌∷◌, length, ℤ, pos, ◌-ℤ◌, neg_ℤ, slice_index, slice_index_or, if◌then◌else◌, max, int_le}
+use Rattle.std.specs.Prelude.{◌≡◌, ◌⊎◌, ℕ, zero, suc, ◌+◌, ◌-◌, ◌^◌, ◌<◌, ◌≤◌, IsTrue, Bool, false, not}
+use Rattle.std.specs.Prelude.{◌&&◌, ◌||◌, nat_eq, List, [], ◌∷◌, length, ℤ, pos, ◌-ℤ◌, neg_ℤ}
+use Rattle.std.specs.Prelude.{slice_index, slice_index_or, if◌then◌else◌, max, int_le}
 use Rattle.std.specs.List.{AllByRecursion}
 use Rattle.std.specs.Int.{int_max}
 use Rattle.definitions.specs.Coalitions.{has_player, grand_coalition, sum_over}
@@ -47,7 +51,9 @@ airport_worth costs s = neg_ℤ (pos (greatest_cost (length costs) (slice_index 
 -- O'Neill 1982: what the claims of the others leave of the estate
 abbrev pub bankruptcy_worth : ℕ → List ℕ → ℕ → ℤ
 bankruptcy_worth estate claims s =
-    int_max (pos 0) (pos estate -ℤ sum_over (length claims) (λ i. pos (slice_index claims i)) (grand_coalition (length claims) - s))
+    int_max (pos 0)
+    (pos estate
+    -ℤ sum_over (length claims) (λ i. pos (slice_index claims i)) (grand_coalition (length claims) - s))
 
 -- Shapley and Shubik 1954: 1 where the members' weights sum to at least the quota
 abbrev pub voting_worth : ℕ → List ℕ → ℕ → ℤ
@@ -83,7 +89,8 @@ is_point_of s (suc i) = has_player s i
 abbrev pub is_source : ℕ → Bool
 is_source j = nat_eq j 0
 
--- pairs of an end and a new point, from the connected points to all that wait: each end is connected before, and each waiting point comes once
+-- pairs of an end and a new point, from the connected points to all that wait: each end is connected before, and
+-- each waiting point comes once
 abbrev pub IsAttachment : (ℕ → Bool) → (ℕ → Bool) → List (ℕ × ℕ) → Type 0
 IsAttachment connected waiting [] = (j : ℕ) → waiting j ≡ false
 IsAttachment connected waiting (p ∷ plan) =
@@ -106,7 +113,8 @@ pub record IsLeastCost (matrix : Matrix) (s : ℕ) (cost : ℕ) : Type 0 where
 -- the triples compare by entry, then end, then player
 abbrev pub IsNoLater : Matrix → ℕ × ℕ → ℕ × ℕ → Type 0
 IsNoLater matrix p r =
-    (entry matrix p.0 p.1 < entry matrix r.0 r.1) ⊎ ((entry matrix p.0 p.1 ≡ entry matrix r.0 r.1) × ((p.0 < r.0) ⊎ ((p.0 ≡ r.0) × (p.1 ≤ r.1))))
+    (entry matrix p.0 p.1 < entry matrix r.0 r.1)
+    ⊎ ((entry matrix p.0 p.1 ≡ entry matrix r.0 r.1) × ((p.0 < r.0) ⊎ ((p.0 ≡ r.0) × (p.1 ≤ r.1))))
 
 -- each pair is the least of those that lead from a connected point to a waiting one
 abbrev pub IsBirdFrom : Matrix → (ℕ → Bool) → (ℕ → Bool) → List (ℕ × ℕ) → Type 0
@@ -141,7 +149,8 @@ IsTreeGame matrix g =
 abbrev pub IsMatching : ℕ → (ℕ → Bool) → List (ℕ × ℕ) → Type 0
 IsMatching rows member [] = Unit {0}
 IsMatching rows member (p ∷ ps) =
-    (p.0 < rows) × IsTrue (member p.0) × IsTrue (member (rows + p.1)) × IsMatching rows (removed (removed member p.0) (rows + p.1)) ps
+    (p.0 < rows) × IsTrue (member p.0) × IsTrue (member (rows + p.1))
+    × IsMatching rows (removed (removed member p.0) (rows + p.1)) ps
 
 -- the entries of the pairs, added
 abbrev pub matching_value : Matrix → List (ℕ × ℕ) → ℕ

@@ -1,4 +1,5 @@
--- Coalitions as masks: player i, from 0, is a member of s where s has the bit of value 2 ^ i. So the coalitions of n players are the numbers below 2 ^ n.
+-- Coalitions as masks: player i, from 0, is a member of s where s has the bit of value 2 ^ i. So the coalitions of
+-- n players are the numbers below 2 ^ n.
 -- Source: Peleg and Sudhölter, Introduction to the Theory of Cooperative Games.
 --
 --   has_player s i        player i is a member of s
@@ -11,7 +12,8 @@
 --   splits n test s       s holds some but not all of the players that pass the test
 --   members n s           the members below n, in ascending order
 --   size s                the number of members
-use Rattle.std.specs.Prelude.{ℕ, zero, suc, ◌-◌, ◌^◌, Bool, false, ◌&&◌, ◌||◌, not, nat_eq, List, [], ◌∷◌, length, ℤ, pos, ◌+ℤ◌, if◌then◌else◌, ◌++◌}
+use Rattle.std.specs.Prelude.{ℕ, zero, suc, ◌-◌, ◌^◌, Bool, false, ◌&&◌, ◌||◌, not, nat_eq, List}
+use Rattle.std.specs.Prelude.{[], ◌∷◌, length, ℤ, pos, ◌+ℤ◌, if◌then◌else◌, ◌++◌}
 use Rattle.std.specs.Int.{bit_at}
 use Rattle.std.specs.List.{range_with_len}
 use Rattle.definitions.specs.Sums.{sum_below}

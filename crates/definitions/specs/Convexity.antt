@@ -38,7 +38,8 @@ pub record IsFirstNonconvexity (g : Game) (s i j : ℕ) (d : ℤ) : Type 0 where
   pub ascends : i < j
   pub fails : together g s i j <ℤ apart g s i j
   pub deficit : d ≡ apart g s i j -ℤ together g s i j
-  pub first : (t k l : ℕ) → AreOutside g.players t k l → k < l → ComesEarlier t k l s i j → apart g t k l ≤ℤ together g t k l
+  pub first : (t k l : ℕ) → AreOutside g.players t k l → k < l → ComesEarlier t k l s i j
+      → apart g t k l ≤ℤ together g t k l
 
 -- the marginal shares of an order: each player gets what it adds to the worth of those in front of it
 abbrev pub IsMarginal : Game → List ℕ → Allocation → Type 0

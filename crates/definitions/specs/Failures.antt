@@ -1,4 +1,5 @@
--- The first condition that a certificate fails, in the order in which conditions are tested. Levels count from 1, players from 0.
+-- The first condition that a certificate fails, in the order in which conditions are tested. Levels count from 1,
+-- players from 0.
 --
 --   Reason           a failed condition, with its level and its place
 --   IsLeastFailing   the least player that a fact fails of
@@ -12,8 +13,10 @@ use Rattle.std.specs.Prelude.{◌≡◌, ◌⊎◌, ℕ, ◌+◌, ◌^◌, ◌<�
 use Rattle.definitions.specs.Sums.{IsGreatest}
 use Rattle.definitions.specs.Coalitions.{singleton}
 use Rattle.definitions.specs.Games.{Game, Allocation, share, measured_excess, IsEfficient, InFamily}
-pub use Rattle.definitions.specs.Certificates.{Excesses, Weights, BoundWeighs, BoundWeights, Balances, IsBalanced, IsTight, AreTight, OutsideIsLow}
-use Rattle.definitions.specs.Certificates.{Level, is_free, IsOutside, IsAllFixed, InSpan, IsFixedVector, HasExcess, LevelHolds}
+pub use Rattle.definitions.specs.Certificates.{Excesses, Weights, BoundWeighs, BoundWeights, Balances}
+pub use Rattle.definitions.specs.Certificates.{IsBalanced, IsTight, AreTight, OutsideIsLow}
+use Rattle.definitions.specs.Certificates.{Level, is_free, IsOutside, IsAllFixed, InSpan}
+use Rattle.definitions.specs.Certificates.{IsFixedVector, HasExcess, LevelHolds}
 use Rattle.definitions.specs.declared.Family.{Family}
 use Rattle.definitions.specs.declared.Family.TheVariants.{Imputations}
 use Rattle.definitions.specs.declared.Measure.{Measure}
@@ -54,7 +57,8 @@ LevelFails mode family measure g x k front l (player_sign j i) =
 LevelFails mode family measure g x k front l (unbalanced j i) =
     (j ≡ k) × Excesses measure g x l × Weights l × BoundWeights front l × IsLeastFailing g.players (Balances l) i
 LevelFails mode family measure g x k front l (bound_not_tight j i) =
-    (j ≡ k) × Excesses measure g x l × Weights l × BoundWeights front l × IsBalanced g l × IsFirstFailing (IsTight family g x) l.bounds i
+    (j ≡ k) × Excesses measure g x l × Weights l × BoundWeights front l × IsBalanced g l
+    × IsFirstFailing (IsTight family g x) l.bounds i
 LevelFails mode family measure g x k front l (outside_above j e) =
     (j ≡ k)
     × Excesses measure g x l
@@ -81,11 +85,15 @@ NotAllFixed mode g levels _ = ⊥
 abbrev pub LevelsFail : Mode → Family → Measure → Game → Allocation → ℕ → List Level → List Level → Reason → Type 0
 LevelsFail mode family measure g x k front [] r = NotAllFixed mode g front r
 LevelsFail mode family measure g x k front (l ∷ levels) r =
-    LevelFails mode family measure g x k front l r ⊎ (LevelHolds mode family measure g x front l × LevelsFail mode family measure g x (k + 1) (front ++ l ∷ []) levels r)
+    LevelFails mode family measure g x k front l r
+    ⊎ (LevelHolds mode family measure g x front l
+    × LevelsFail mode family measure g x (k + 1) (front ++ l ∷ []) levels r)
 
 -- the first condition that fails: of the shares, of a level, or of what all levels fix
 abbrev pub IsFirstFailure : Mode → Family → Measure → Game → Allocation → List Level → Reason → Type 0
 IsFirstFailure mode family measure g x levels not_efficient = ¬ IsEfficient g x
 IsFirstFailure mode family measure g x levels (not_individual i) =
-    IsEfficient g x × (family ≡ Imputations) × IsLeastFailing g.players (λ i. (x.den *ℤ g.worth (singleton i)) ≤ℤ share x i) i
-IsFirstFailure mode family measure g x levels r = InFamily family g x × LevelsFail mode family measure g x 1 [] levels r
+    IsEfficient g x × (family ≡ Imputations)
+    × IsLeastFailing g.players (λ i. (x.den *ℤ g.worth (singleton i)) ≤ℤ share x i) i
+IsFirstFailure mode family measure g x levels r =
+    InFamily family g x × LevelsFail mode family measure g x 1 [] levels r

@@ -21,9 +21,11 @@
 --   IsMeasuredMaximum        the greatest measured excess over these coalitions
 --   HasTwo                   a coalition has at least two players
 --   IsGame, IsShares         the limits of the toolbox
-use Rattle.std.specs.Prelude.{◌≡◌, ℕ, ◌^◌, ◌<◌, ◌≤◌, List, length, map, IsTrue, ℤ, pos, ◌-ℤ◌, ◌*ℤ◌, ◌<ℤ◌, ◌≤ℤ◌, slice_index_or, unsigned_abs}
+use Rattle.std.specs.Prelude.{◌≡◌, ℕ, ◌^◌, ◌<◌, ◌≤◌, List, length, map, IsTrue, ℤ, pos, ◌-ℤ◌}
+use Rattle.std.specs.Prelude.{◌*ℤ◌, ◌<ℤ◌, ◌≤ℤ◌, slice_index_or, unsigned_abs}
 use Rattle.definitions.specs.Sums.{IsGreatest}
-use Rattle.definitions.specs.Coalitions.{has_player, singleton, grand_coalition, proper_coalitions, sum_over, splits}
+use Rattle.definitions.specs.Coalitions.{has_player, singleton, grand_coalition}
+use Rattle.definitions.specs.Coalitions.{proper_coalitions, sum_over, splits}
 use Rattle.definitions.specs.Measures.{measured}
 use Rattle.definitions.specs.Order.{sorted, ComesBefore}
 use Rattle.definitions.specs.declared.Family.{Family}
@@ -75,8 +77,8 @@ InFamily Preimputations g x = IsAllocation g x × IsEfficient g x
 abbrev pub measured_excess : Measure → Game → Allocation → ℕ → ℤ
 measured_excess measure g x s = measured measure s (excess g x s)
 
--- the measured excesses over all coalitions but the empty one and that of all, at a scale. Textbooks list these two as well,
--- which have the excess 0 at every efficient allocation
+-- the measured excesses over all coalitions but the empty one and that of all, at a scale. Textbooks list these two as
+-- well, which have the excess 0 at every efficient allocation
 abbrev pub excess_list : Measure → Game → Allocation → ℤ → List ℤ
 excess_list measure g x scale = map (λ s. scale *ℤ measured_excess measure g x s) (proper_coalitions g.players)
 
@@ -89,7 +91,8 @@ Beats measure g x y =
 abbrev pub IsSame : Game → Allocation → Allocation → Type 0
 IsSame g x y = (i : ℕ) → i < g.players → share x i *ℤ y.den ≡ share y i *ℤ x.den
 
--- a member of the family that beats every member with other shares: the minimum of textbooks, and that it is the only one
+-- a member of the family that beats every member with other shares: the minimum of textbooks, and that it is the
+-- only one
 abbrev pub IsNucleolus : Family → Measure → Game → Allocation → Type 0
 IsNucleolus family measure g x =
     InFamily family g x × ((y : Allocation) → InFamily family g y → ¬ IsSame g x y → Beats measure g x y)
@@ -119,7 +122,8 @@ IsSplitMaximum g x f m =
 -- the greatest measured excess over these coalitions
 abbrev pub IsMeasuredMaximum : Measure → Game → Allocation → ℕ → ℤ → Type 0
 IsMeasuredMaximum measure g x f m =
-    IsGreatest (λ s. (s < 2 ^ g.players) × IsTrue (splits g.players (has_player f) s)) (measured_excess measure g x) m
+    IsGreatest (λ s. (s < 2 ^ g.players) × IsTrue (splits g.players (has_player f) s)) (measured_excess measure g x)
+    m
 
 -- f has at least two players
 abbrev pub HasTwo : ℕ → ℕ → Type 0

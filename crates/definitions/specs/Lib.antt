@@ -4,6 +4,7 @@ pub mod Order
 pub mod Coalitions
 pub mod Measures
 pub mod Games
+pub mod Players
 pub mod Balanced
 pub mod Classes
 pub mod Shapley

@@ -1,5 +1,6 @@
 -- The surplus of one player against another, and the prekernel.
--- Source: Davis and Maschler 1965; Maschler, Peleg and Shapley 1972; Peleg and Sudhölter, Introduction to the Theory of Cooperative Games.
+-- Source: Davis and Maschler 1965; Maschler, Peleg and Shapley 1972; Peleg and Sudhölter, Introduction to the
+-- Theory of Cooperative Games.
 --
 --   holds_without i j s     s holds i and lacks j
 --   IsSurplus g x i j m     m is the greatest excess over the coalitions that hold i and lack j, over the denominator

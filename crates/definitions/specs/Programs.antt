@@ -29,11 +29,13 @@ row_value p weights r = weighted_sum (λ id. p.entry id r) weights
 -- weights on columns, each once and at least 0
 abbrev pub AreWeights : Program → List (ℕ × ℤ) → Type 0
 AreWeights p weights =
-    AllByRecursion (λ w. IsTrue (p.is_column w.0) × (pos 0 ≤ℤ w.1)) weights × IsDistinct nat_eq (map (λ w. w.0) weights)
+    AllByRecursion (λ w. IsTrue (p.is_column w.0) × (pos 0 ≤ℤ w.1)) weights
+    × IsDistinct nat_eq (map (λ w. w.0) weights)
 
 -- in each row the weighted entries sum to the right side
 abbrev pub Solves : Program → List (ℕ × ℤ) → ℤ → Type 0
-Solves p weights den = AreWeights p weights × (pos 1 ≤ℤ den) × ((r : ℕ) → r < p.rows → row_value p weights r ≡ den *ℤ p.right r)
+Solves p weights den =
+    AreWeights p weights × (pos 1 ≤ℤ den) × ((r : ℕ) → r < p.rows → row_value p weights r ≡ den *ℤ p.right r)
 
 -- what the multipliers make of a number per row
 abbrev pub value_of : Program → List ℤ → (ℕ → ℤ) → ℤ
@@ -42,7 +44,8 @@ value_of p multipliers f = sum_below p.rows (λ r. slice_index_or multipliers r 
 -- no column's cost is above its multipliers' value
 abbrev pub Bounds : Program → List ℤ → ℤ → Type 0
 Bounds p multipliers den =
-    (pos 1 ≤ℤ den) × ((id : ℕ) → IsTrue (p.is_column id) → (den *ℤ p.cost id) ≤ℤ value_of p multipliers (p.entry id))
+    (pos 1 ≤ℤ den)
+    × ((id : ℕ) → IsTrue (p.is_column id) → (den *ℤ p.cost id) ≤ℤ value_of p multipliers (p.entry id))
 
 -- weights that solve it and multipliers that bound it, of one value
 abbrev pub IsOptimal : Program → List (ℕ × ℤ) → ℤ → List ℤ → ℤ → Type 0
@@ -58,4 +61,5 @@ HasNoSolution p = (weights : List (ℕ × ℤ)) (den : ℤ) → ¬ Solves p weig
 -- weights whose entries sum to 0 in every row, and whose cost is positive
 abbrev pub HasRay : Program → Type 0
 HasRay p =
-    (weights : List (ℕ × ℤ)) × AreWeights p weights × ((r : ℕ) → r < p.rows → row_value p weights r ≡ pos 0) × (pos 1 ≤ℤ weighted_sum p.cost weights)
+    (weights : List (ℕ × ℤ)) × AreWeights p weights × ((r : ℕ) → r < p.rows → row_value p weights r ≡ pos 0)
+    × (pos 1 ≤ℤ weighted_sum p.cost weights)

@@ -1,5 +1,5 @@
--- Games whose worths are fractions. They stand over a scale k, a whole number from 1 on: the coalition s of the game g is worth
--- g.worth s / k. So the whole numbers of g are k times the worths.
+-- Games whose worths are fractions. They stand over a scale k, a whole number from 1 on: the coalition s of the game g
+-- is worth g.worth s / k. So the whole numbers of g are k times the worths.
 --
 -- Each definition is the one for a game of whole worths, with both sides of each comparison times k.
 --
@@ -10,24 +10,30 @@
 --   InFamilyOver                                  an imputation, or a preimputation
 --   measured_excess_over                          the excess of s by a measure
 --   excess_list_over                              the measured excesses of all proper coalitions
---   BeatsOver                                     the excesses from the greatest come before those of another allocation
+--   BeatsOver                                     the excesses from the greatest come before those of another
+--                                                 allocation
 --   IsNucleolusOver                               a member of the family that beats every other member
 --   BlocksOver, InCoreOver, IsChosenBlockerOver   the core, and the chosen blocker
 --   IsLevelOver                                   a level with the same lists, and k times the excess
 --   AreLevelsOver                                 levels whose excesses are k times those of others
 --   HasExcessOver, HasAtMostExcessOver            a coalition has the excess of a level, or at most that
---   IsTightOver                                   a bound stands on a player at its worth alone, and only for imputations
+--   IsTightOver                                   a bound stands on a player at its worth alone, and only for
+--                                                 imputations
 --   LevelHoldsOver, LevelsHoldOver                the conditions of a level, and of each of some levels
 --   CertifiesOver                                 the conditions of a certificate
---   AreAlike                                      the shares in the game of fractions, and the shares times k in the game of whole worths
---   ScalesChangeNothing                           in the game of whole worths the shares times k are what the shares are in the game of fractions
+--   AreAlike                                      the shares in the game of fractions, and the shares times k in the
+--                                                 game of whole worths
+--   ScalesChangeNothing                           in the game of whole worths the shares times k are what the shares
+--                                                 are in the game of fractions
 use Rattle.std.specs.Prelude.{◌≡◌, ◌↔◌, ℕ, ◌^◌, ◌<◌, List, [], ◌∷◌, ◌++◌, map, ℤ, pos, ◌-ℤ◌, ◌*ℤ◌, ◌<ℤ◌, ◌≤ℤ◌}
 use Rattle.std.specs.List.{AllByRecursion}
 use Rattle.definitions.specs.Coalitions.{singleton, grand_coalition, proper_coalitions}
 use Rattle.definitions.specs.Measures.{measured, measured_den}
-use Rattle.definitions.specs.Games.{Game, Allocation, share, amount, excess, IsAllocation, InFamily, Beats, IsSame, IsNucleolus, Blocks, InCore, IsChosenBlocker}
+use Rattle.definitions.specs.Games.{Game, Allocation, share, amount, excess, IsAllocation, InFamily, Beats}
+use Rattle.definitions.specs.Games.{IsSame, IsNucleolus, Blocks, InCore, IsChosenBlocker}
 use Rattle.definitions.specs.Order.{sorted, ComesBefore}
-use Rattle.definitions.specs.Certificates.{Level, IsOutside, Weights, BoundWeights, IsBalanced, IsAllFixed, Certifies}
+use Rattle.definitions.specs.Certificates.{Level, IsOutside, Weights, BoundWeights}
+use Rattle.definitions.specs.Certificates.{IsBalanced, IsAllFixed, Certifies}
 use Rattle.definitions.specs.declared.Family.{Family}
 use Rattle.definitions.specs.declared.Family.TheVariants.{Imputations, Preimputations}
 use Rattle.definitions.specs.declared.Measure.{Measure}
@@ -62,7 +68,8 @@ measured_excess_over k measure g x s = measured measure s (excess_over k g x s)
 
 -- the measured excesses over all coalitions but the empty one and that of all, times a number
 abbrev pub excess_list_over : ℤ → Measure → Game → Allocation → ℤ → List ℤ
-excess_list_over k measure g x c = map (λ s. c *ℤ measured_excess_over k measure g x s) (proper_coalitions g.players)
+excess_list_over k measure g x c =
+    map (λ s. c *ℤ measured_excess_over k measure g x s) (proper_coalitions g.players)
 
 -- over one denominator, the measured excesses of x from the greatest come before those of y
 abbrev pub BeatsOver : ℤ → Measure → Game → Allocation → Allocation → Type 0
@@ -72,7 +79,8 @@ BeatsOver k measure g x y =
 -- a member of the family that beats every member with other shares
 abbrev pub IsNucleolusOver : ℤ → Family → Measure → Game → Allocation → Type 0
 IsNucleolusOver k family measure g x =
-    InFamilyOver k family g x × ((y : Allocation) → InFamilyOver k family g y → ¬ IsSame g x y → BeatsOver k measure g x y)
+    InFamilyOver k family g x
+    × ((y : Allocation) → InFamilyOver k family g y → ¬ IsSame g x y → BeatsOver k measure g x y)
 
 -- ---- the core
 
@@ -125,19 +133,22 @@ abbrev pub IsTightOver : ℤ → Family → Game → Allocation → ℕ × ℤ �
 IsTightOver k family g x b = (k *ℤ share x b.0 ≡ x.den *ℤ g.worth (singleton b.0)) × (family ≡ Imputations)
 
 -- what a level meets behind the levels in front of it
-pub record LevelHoldsOver (k : ℤ) (mode : Mode) (family : Family) (measure : Measure) (g : Game) (x : Allocation) (front : List Level) (l : Level) : Type 0 where
+pub record LevelHoldsOver (k : ℤ) (mode : Mode) (family : Family) (measure : Measure) (g : Game) (x : Allocation)
+    (front : List Level) (l : Level) : Type 0 where
   pub excesses : AllByRecursion (λ c. HasExcessOver k measure g x l c.0) l.coalitions
   pub weights : Weights l
   pub bound_weights : BoundWeights front l
   pub balanced : IsBalanced g l
   pub tight : AllByRecursion (IsTightOver k family g x) l.bounds
-  pub outside : (s : ℕ) → s < 2 ^ g.players → IsOutside mode g.players front s → HasAtMostExcessOver k measure g x l s
+  pub outside : (s : ℕ) → s < 2 ^ g.players → IsOutside mode g.players front s
+      → HasAtMostExcessOver k measure g x l s
 
 -- each level meets its conditions, and all together fix everything
 abbrev pub LevelsHoldOver : ℤ → Mode → Family → Measure → Game → Allocation → List Level → List Level → Type 0
 LevelsHoldOver k mode family measure g x front [] = IsAllFixed mode g.players front
 LevelsHoldOver k mode family measure g x front (l ∷ levels) =
-    LevelHoldsOver k mode family measure g x front l × LevelsHoldOver k mode family measure g x (front ++ l ∷ []) levels
+    LevelHoldsOver k mode family measure g x front l
+    × LevelsHoldOver k mode family measure g x (front ++ l ∷ []) levels
 
 -- a certificate of these levels certifies the shares
 abbrev pub CertifiesOver : ℤ → Mode → Family → Measure → Game → Allocation → List Level → Type 0
@@ -151,12 +162,15 @@ pub record AreAlike (k : ℤ) (g : Game) (x : Allocation) : Type 0 where
   pub excess : (s : ℕ) → excess g (times k x) s ≡ excess_over k g x s
   pub family : (f : Family) → InFamilyOver k f g x ↔ InFamily f g (times k x)
   pub same : (y : Allocation) → IsSame g x y ↔ IsSame g (times k x) (times k y)
-  pub beats : (measure : Measure) (y : Allocation) → BeatsOver k measure g x y ↔ Beats measure g (times k x) (times k y)
-  pub nucleolus : (f : Family) (measure : Measure) → IsNucleolusOver k f measure g x ↔ IsNucleolus f measure g (times k x)
+  pub beats : (measure : Measure) (y : Allocation)
+      → BeatsOver k measure g x y ↔ Beats measure g (times k x) (times k y)
+  pub nucleolus : (f : Family) (measure : Measure)
+      → IsNucleolusOver k f measure g x ↔ IsNucleolus f measure g (times k x)
   pub blocks : (s : ℕ) → BlocksOver k g x s ↔ Blocks g (times k x) s
   pub core : InCoreOver k g x ↔ InCore g (times k x)
   pub blocker : (s : ℕ) → IsChosenBlockerOver k g x s ↔ IsChosenBlocker g (times k x) s
-  pub certifies : (mode : Mode) (f : Family) (measure : Measure) (ls ms : List Level) → AreLevelsOver k ls ms → CertifiesOver k mode f measure g x ls ↔ Certifies mode f measure g (times k x) ms
+  pub certifies : (mode : Mode) (f : Family) (measure : Measure) (ls ms : List Level) → AreLevelsOver k ls ms
+      → CertifiesOver k mode f measure g x ls ↔ Certifies mode f measure g (times k x) ms
 
 -- a game over a scale and the game of its whole numbers agree, for every allocation
 abbrev pub ScalesChangeNothing : Type 0

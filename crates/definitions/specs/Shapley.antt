@@ -9,7 +9,8 @@
 --   shapley_total g i   the sum of what player i adds, over all orders
 --   factorial n         1 * 2 * .. * n
 --   IsShapley g x       each share is the player's total over n!
-use Rattle.std.specs.Prelude.{ℕ, zero, suc, ◌≡◌, ◌+◌, ◌*◌, ◌^◌, ◌<◌, List, [], ◌∷◌, map, nat_eq, ℤ, pos, ◌+ℤ◌, ◌-ℤ◌, ◌*ℤ◌, if◌then◌else◌, length, false}
+use Rattle.std.specs.Prelude.{ℕ, zero, suc, ◌≡◌, ◌+◌, ◌*◌, ◌^◌, ◌<◌, List, [], ◌∷◌, map, nat_eq, ℤ}
+use Rattle.std.specs.Prelude.{pos, ◌+ℤ◌, ◌-ℤ◌, ◌*ℤ◌, if◌then◌else◌, length, false}
 use Rattle.std.specs.List.{flat_map, AllByRecursion}
 use Rattle.definitions.specs.Games.{Game, Allocation, share, IsAllocation}
 
@@ -56,4 +57,5 @@ factorial (suc n) = suc n * factorial n
 
 -- each player's share is its total over n!
 abbrev pub IsShapley : Game → Allocation → Type 0
-IsShapley g x = IsAllocation g x × ((i : ℕ) → i < g.players → share x i *ℤ pos (factorial g.players) ≡ x.den *ℤ shapley_total g i)
+IsShapley g x =
+    IsAllocation g x × ((i : ℕ) → i < g.players → share x i *ℤ pos (factorial g.players) ≡ x.den *ℤ shapley_total g i)

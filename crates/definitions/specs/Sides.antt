@@ -9,7 +9,8 @@ use Rattle.definitions.specs.Games.{Game, Allocation, InCore, share}
 abbrev pub IsBestFor : Game → (ℕ → Type 0) → Allocation → Type 0
 IsBestFor g side x =
     InCore g x
-    × ((y : Allocation) → InCore g y → (i : ℕ) → i < g.players → side i → (share y i *ℤ x.den) ≤ℤ (share x i *ℤ y.den))
+    × ((y : Allocation) → InCore g y → (i : ℕ) → i < g.players → side i
+    → (share y i *ℤ x.den) ≤ℤ (share x i *ℤ y.den))
 
 -- the first players of a market are its buyers
 abbrev pub IsBuyer : ℕ → ℕ → Type 0
