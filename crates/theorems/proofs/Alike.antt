@@ -1,6 +1,8 @@
 -- A game over a scale and the game of its whole numbers agree.
 use Rattle.std.proofs.Common.{ℤ, pos, ◌≤ℤ◌}
-use Rattle.theorems.proofs.Scaled.{excess_times, family_to, family_from, same_to, same_from, beats_to, beats_from, nucleolus_to, nucleolus_from, blocks_to, blocks_from, core_to, core_from, blocker_to, blocker_from}
+use Rattle.theorems.proofs.Scaled.{excess_times, family_to, family_from, same_to, same_from, beats_to}
+use Rattle.theorems.proofs.Scaled.{beats_from, nucleolus_to, nucleolus_from, blocks_to, blocks_from}
+use Rattle.theorems.proofs.Scaled.{core_to, core_from, blocker_to, blocker_from}
 use Rattle.theorems.proofs.ScaledLevels.{certifies_to, certifies_from}
 use Rattle.definitions.specs.Games.{Game, Allocation}
 use Rattle.definitions.specs.Scales.{AreAlike}
@@ -15,5 +17,6 @@ alike k g x p = record {
   blocks = λ s. (blocks_to k g x s, blocks_from k g x s);
   core = (core_to k g x, core_from k g x);
   blocker = λ s. (blocker_to k g x s, blocker_from k g x s);
-  certifies = λ mode f measure ls ms o. (certifies_to k mode f measure g x ls ms o, certifies_from k mode f measure g x ls ms o);
+  certifies = λ mode f measure ls ms o.
+      (certifies_to k mode f measure g x ls ms o, certifies_from k mode f measure g x ls ms o);
 }

@@ -1,10 +1,13 @@
 -- The definitions, computed on small games.
-use Rattle.std.proofs.Common.{◌≤◌, ◌≡◌, ℕ, zero, suc, ◌<◌, Bool, true, false, List, [], ◌∷◌, ℤ, pos, negsuc, ◌+ℤ◌, ◌≤ℤ◌, refl, arith, inl, inr, rules, ◌&&◌, sym, ap, ◌∙◌, slice_index, slice_index_or, int_le, int_lt, not, ◌||◌, ◌*ℤ◌}
+use Rattle.std.proofs.Common.{◌≤◌, ◌≡◌, ℕ, zero, suc, ◌<◌, Bool, true, false, List, [], ◌∷◌, ℤ, pos}
+use Rattle.std.proofs.Common.{negsuc, ◌+ℤ◌, ◌≤ℤ◌, refl, arith, inl, inr, rules, ◌&&◌, sym, ap, ◌∙◌}
+use Rattle.std.proofs.Common.{slice_index, slice_index_or, int_le, int_lt, not, ◌||◌, ◌*ℤ◌}
 use Rattle.std.proofs.lemmas.Bool.{false≢true}
 use Rattle.std.proofs.lemmas.Int.{ints}
 use Rattle.definitions.specs.Order.{sorted}
 use Rattle.definitions.specs.Coalitions.{has_player, singleton, weight_at, splits, members}
-use Rattle.definitions.specs.Games.{Game, Allocation, share, excess, excess_list, Beats, IsChosenBlocker, InFamily, IsNucleolus}
+use Rattle.definitions.specs.Games.{Game, Allocation, share, excess, excess_list, Beats}
+use Rattle.definitions.specs.Games.{IsChosenBlocker, InFamily, IsNucleolus}
 use Rattle.definitions.specs.Certificates.{Level, HasForm, LevelHolds, Certifies, is_free, number_at}
 use Rattle.theorems.proofs.Soundness.{IsNucleolus-from_certificate}
 use Rattle.definitions.specs.declared.Family.TheVariants.{Imputations}
@@ -12,14 +15,16 @@ use Rattle.definitions.specs.declared.Measure.TheVariants.{Plain, PerHead}
 use Rattle.definitions.specs.declared.Mode.TheVariants.{Players}
 use Rattle.std.specs.Ordering.{int_eq}
 use Rattle.definitions.specs.Balanced.{IsBalancedOfExcessWorth}
-use Rattle.definitions.specs.Classes.{table_worth, airport_worth, bankruptcy_worth, plan_cost, Matrix, IsMatching, matching_value}
+use Rattle.definitions.specs.Classes.{table_worth, airport_worth, bankruptcy_worth}
+use Rattle.definitions.specs.Classes.{plan_cost, Matrix, IsMatching, matching_value}
 use Rattle.definitions.specs.Shapley.{shapley_total}
 use Rattle.definitions.proofs.Cases.{less_or_last, from_not}
 
 -- ---- three players, of whom any two are worth 1
 
-abbrev majority : Game
-majority = record { players = 3; worth = table_worth (pos 0 ∷ (pos 0 ∷ (pos 1 ∷ (pos 0 ∷ (pos 1 ∷ (pos 1 ∷ (pos 1 ∷ []))))))) }
+abbrev pub majority : Game
+majority = record
+    { players = 3; worth = table_worth (pos 0 ∷ (pos 0 ∷ (pos 1 ∷ (pos 0 ∷ (pos 1 ∷ (pos 1 ∷ (pos 1 ∷ []))))))) }
 
 -- player 1 has all
 abbrev first_takes_all : Allocation
@@ -30,24 +35,27 @@ blocker_excess = refl
 
 -- ---- an airport with the costs 2, 4, 6
 
-abbrev airport : Game
+abbrev pub airport : Game
 airport = record { players = 3; worth = airport_worth (2 ∷ (4 ∷ (6 ∷ []))) }
 
 -- payments 1, 3/2, 7/2
-abbrev fair : Allocation
+abbrev pub fair : Allocation
 fair = record { shares = negsuc 1 ∷ (negsuc 2 ∷ (negsuc 6 ∷ [])); den = pos 2 }
 
 -- payments 1, 2, 3
 abbrev other : Allocation
 other = record { shares = negsuc 0 ∷ (negsuc 1 ∷ (negsuc 2 ∷ [])); den = pos 1 }
 
-fair_list : excess_list Plain airport fair (pos 1) ≡ negsuc 1 ∷ (negsuc 4 ∷ (negsuc 2 ∷ (negsuc 4 ∷ (negsuc 2 ∷ (negsuc 1 ∷ [])))))
+fair_list : excess_list Plain airport fair (pos 1)
+    ≡ negsuc 1 ∷ (negsuc 4 ∷ (negsuc 2 ∷ (negsuc 4 ∷ (negsuc 2 ∷ (negsuc 1 ∷ [])))))
 fair_list = refl
 
-fair_sorted : sorted (excess_list Plain airport fair (pos 1)) ≡ negsuc 1 ∷ (negsuc 1 ∷ (negsuc 2 ∷ (negsuc 2 ∷ (negsuc 4 ∷ (negsuc 4 ∷ [])))))
+fair_sorted : sorted (excess_list Plain airport fair (pos 1))
+    ≡ negsuc 1 ∷ (negsuc 1 ∷ (negsuc 2 ∷ (negsuc 2 ∷ (negsuc 4 ∷ (negsuc 4 ∷ [])))))
 fair_sorted = refl
 
-other_sorted : sorted (excess_list Plain airport other (pos 2)) ≡ negsuc 1 ∷ (negsuc 1 ∷ (negsuc 1 ∷ (negsuc 3 ∷ (negsuc 3 ∷ (negsuc 5 ∷ [])))))
+other_sorted : sorted (excess_list Plain airport other (pos 2))
+    ≡ negsuc 1 ∷ (negsuc 1 ∷ (negsuc 1 ∷ (negsuc 3 ∷ (negsuc 3 ∷ (negsuc 5 ∷ [])))))
 other_sorted = refl
 
 fair_beats : Beats Plain airport fair other
@@ -56,7 +64,8 @@ fair_beats = search rules
 -- ---- excess per head: the first two are worth 6 together, and all three 12
 
 abbrev savings : Game
-savings = record { players = 3; worth = table_worth (pos 0 ∷ (pos 0 ∷ (pos 6 ∷ (pos 0 ∷ (pos 0 ∷ (pos 0 ∷ (pos 12 ∷ []))))))) }
+savings = record
+    { players = 3; worth = table_worth (pos 0 ∷ (pos 0 ∷ (pos 6 ∷ (pos 0 ∷ (pos 0 ∷ (pos 0 ∷ (pos 12 ∷ []))))))) }
 
 -- shares 5, 5, 2
 abbrev by_head : Allocation
@@ -67,11 +76,15 @@ abbrev plain : Allocation
 plain = record { shares = pos 9 ∷ (pos 9 ∷ (pos 6 ∷ [])); den = pos 2 }
 
 -- -5, -5, -2, -2, -7/2 and -7/2, times 720720
-by_head_list : excess_list PerHead savings by_head (pos 1) ≡ negsuc 3603599 ∷ (negsuc 3603599 ∷ (negsuc 1441439 ∷ (negsuc 1441439 ∷ (negsuc 2522519 ∷ (negsuc 2522519 ∷ [])))))
+by_head_list : excess_list PerHead savings by_head (pos 1)
+    ≡ negsuc 3603599
+    ∷ (negsuc 3603599 ∷ (negsuc 1441439 ∷ (negsuc 1441439 ∷ (negsuc 2522519 ∷ (negsuc 2522519 ∷ [])))))
 unfolding members
 by_head_list = refl
 
-plain_list : excess_list PerHead savings plain (pos 1) ≡ negsuc 6486479 ∷ (negsuc 6486479 ∷ (negsuc 2162159 ∷ (negsuc 4324319 ∷ (negsuc 5405399 ∷ (negsuc 5405399 ∷ [])))))
+plain_list : excess_list PerHead savings plain (pos 1)
+    ≡ negsuc 6486479
+    ∷ (negsuc 6486479 ∷ (negsuc 2162159 ∷ (negsuc 4324319 ∷ (negsuc 5405399 ∷ (negsuc 5405399 ∷ [])))))
 unfolding members
 plain_list = refl
 
@@ -93,16 +106,18 @@ bankrupt = refl
 -- ---- the chosen blocker of majority, by a test of each coalition
 
 -- a test passes at each number below n
-abbrev passes_below : ℕ → (ℕ → Bool) → Bool
+abbrev pub passes_below : ℕ → (ℕ → Bool) → Bool
 passes_below zero test = true
 passes_below (suc n) test = passes_below n test && test n
 
-passes_below-at : (n : ℕ) (test : ℕ → Bool) → passes_below n test ≡ true → (t : ℕ) → t < n → test t ≡ true
+pub passes_below-at : (n : ℕ) (test : ℕ → Bool) → passes_below n test ≡ true → (t : ℕ) → t < n → test t ≡ true
 passes_below-at zero test h t lt = absurd (omega arith)
 passes_below-at (suc n) test h t lt =
     let step : (b c : Bool) → b ≡ passes_below n test → c ≡ test n → (b && c) ≡ true → test t ≡ true = elim [
       | true ↦ elim [
-        | true ↦ λ p q e. elim (less_or_last t n lt) [ inl less ↦ passes_below-at n test (sym p) t less | inr same ↦ ap test same ∙ sym q ]
+        | true ↦
+            λ p q e. elim (less_or_last t n lt)
+            [ inl less ↦ passes_below-at n test (sym p) t less | inr same ↦ ap test same ∙ sym q ]
         | false ↦ λ p q e. absurd (false≢true e)
       ]
       | false ↦ λ c p q e. absurd (false≢true e)
@@ -113,30 +128,48 @@ chosen : IsChosenBlocker majority first_takes_all 6
 chosen = record {
   within = omega arith;
   blocks = search rules;
-  greatest = λ t h. let e = passes_below-at 8 (λ t. int_le (excess majority first_takes_all t) (pos 1)) refl t h in omega (arith, ints, e);
-  least = λ t h. let e = passes_below-at 6 (λ t. int_lt (excess majority first_takes_all t) (pos 1)) refl t h in omega (arith, ints, e);
+  greatest = λ t h.
+      let e = passes_below-at 8 (λ t. int_le (excess majority first_takes_all t) (pos 1)) refl t h in
+      omega (arith, ints, e);
+  least = λ t h.
+      let e = passes_below-at 6 (λ t. int_lt (excess majority first_takes_all t) (pos 1)) refl t h in
+      omega (arith, ints, e);
 }
 
 -- ---- the certificate of the airport game
 
 abbrev first_level : Level
-first_level = record { excess_num = negsuc 0; excess_den = pos 1; coalitions = (1, pos 1) ∷ ((6, pos 1) ∷ []); earlier = []; bounds = []; total = pos 1 }
+first_level = record {
+  excess_num = negsuc 0;
+  excess_den = pos 1;
+  coalitions = (1, pos 1) ∷ ((6, pos 1) ∷ []);
+  earlier = [];
+  bounds = [];
+  total = pos 1;
+}
 
 abbrev second_level : Level
-second_level = record { excess_num = negsuc 2; excess_den = pos 2; coalitions = (3, pos 1) ∷ ((5, pos 1) ∷ []); earlier = (1, negsuc 0) ∷ []; bounds = []; total = pos 1 }
+second_level = record {
+  excess_num = negsuc 2;
+  excess_den = pos 2;
+  coalitions = (3, pos 1) ∷ ((5, pos 1) ∷ []);
+  earlier = (1, negsuc 0) ∷ [];
+  bounds = [];
+  total = pos 1;
+}
 
 -- both conditions on all players and all coalitions, as one test
-abbrev balances : Level → ℕ → Bool
+abbrev pub balances : Level → ℕ → Bool
 balances l i = int_eq (weight_at l.coalitions i +ℤ weight_at l.earlier i +ℤ number_at l.bounds i) l.total
 
 abbrev bounds_outside : List Level → Level → ℕ → Bool
 bounds_outside front l s =
     not (splits 3 (is_free 3 front) s) || int_le (excess airport fair s *ℤ l.excess_den) (l.excess_num *ℤ fair.den)
 
-from_int_eq : (a b : ℤ) → int_eq a b ≡ true → a ≡ b
+pub from_int_eq : (a b : ℤ) → int_eq a b ≡ true → a ≡ b
 from_int_eq a b e = grind (arith, ints)
 
-from_either : (b : Bool) (u v : ℤ) → (not b || int_le u v) ≡ true → b ≡ true → u ≤ℤ v
+pub from_either : (b : Bool) (u v : ℤ) → (not b || int_le u v) ≡ true → b ≡ true → u ≤ℤ v
 from_either true u v e h = omega (arith, ints)
 from_either false u v e h = absurd (false≢true h)
 
@@ -157,7 +190,9 @@ second_holds = record {
   bound_weights = tt;
   balanced = λ i h. from_int_eq _ _ (passes_below-at 3 (balances second_level) refl i h);
   tight = tt;
-  outside = λ s h out. from_either _ _ _ (passes_below-at 8 (bounds_outside (first_level ∷ []) second_level) refl s h) out;
+  outside =
+      λ s h out. from_either _ _ _ (passes_below-at 8 (bounds_outside (first_level ∷ []) second_level) refl s h)
+      out;
 }
 
 -- after both levels no player is free
@@ -165,18 +200,65 @@ none_free : (i : ℕ) → i < 3 → is_free 3 (first_level ∷ (second_level ∷
 none_free i h = from_not _ (passes_below-at 3 (λ i. not (is_free 3 (first_level ∷ (second_level ∷ [])) i)) refl i h)
 
 fair_imputation : InFamily Imputations airport fair
-fair_imputation = ((refl, search rules), refl, λ i h. let e = passes_below-at 3 (λ i. int_le (fair.den *ℤ airport.worth (singleton i)) (share fair i)) refl i h in omega (arith, ints, e))
+fair_imputation = (
+  (refl, search rules),
+  refl,
+  λ i h.
+      let e = passes_below-at 3 (λ i. int_le (fair.den *ℤ airport.worth (singleton i)) (share fair i)) refl i h in
+      omega (arith, ints, e),
+)
 
 fair_certified : Certifies Players Imputations Plain airport fair (first_level ∷ (second_level ∷ []))
-fair_certified =
-    (fair_imputation, (first_holds, (second_holds, λ i j hi hj fi fj. absurd (false≢true (sym (none_free i hi) ∙ fi)))))
+fair_certified = (
+  fair_imputation,
+  (first_holds, (second_holds, λ i j hi hj fi fj. absurd (false≢true (sym (none_free i hi) ∙ fi)))),
+)
 
 fair_form : HasForm Players 3 (first_level ∷ (second_level ∷ []))
-fair_form = record { players = inl refl; few = omega arith; each = (record { fraction = search rules; some = search rules; few = search rules; few_earlier = search rules; proper = search rules; listed = tt; players = tt; ascend = search rules; earlier_ascend = tt; bounds_ascend = tt; small = search rules; total_small = search rules }, (record { fraction = search rules; some = search rules; few = search rules; few_earlier = search rules; proper = search rules; listed = (refl, tt); players = tt; ascend = search rules; earlier_ascend = search rules; bounds_ascend = tt; small = search rules; total_small = search rules }, tt)) }
+fair_form = record {
+  players = inl refl;
+  few = omega arith;
+  each = (
+    record {
+      fraction = search rules;
+      some = search rules;
+      few = search rules;
+      few_earlier = search rules;
+      proper = search rules;
+      listed = tt;
+      players = tt;
+      ascend = search rules;
+      earlier_ascend = tt;
+      bounds_ascend = tt;
+      small = search rules;
+      total_small = search rules;
+    },
+    (
+      record {
+        fraction = search rules;
+        some = search rules;
+        few = search rules;
+        few_earlier = search rules;
+        proper = search rules;
+        listed = (refl, tt);
+        players = tt;
+        ascend = search rules;
+        earlier_ascend = search rules;
+        bounds_ascend = tt;
+        small = search rules;
+        total_small = search rules;
+      },
+      tt,
+    ),
+  );
+}
 
 -- so the payments 1, 3/2, 7/2 are the nucleolus
-fair_nucleolus : IsNucleolus Imputations Plain airport fair
-fair_nucleolus = IsNucleolus-from_certificate Players Imputations Plain airport fair (first_level ∷ (second_level ∷ [])) (inl refl) fair_form fair_certified
+pub fair_nucleolus : IsNucleolus Imputations Plain airport fair
+fair_nucleolus =
+    IsNucleolus-from_certificate Players Imputations Plain airport fair (first_level ∷ (second_level ∷ []))
+    (inl refl)
+    fair_form fair_certified
 
 -- ---- plans, matchings, collections
 
@@ -206,7 +288,9 @@ pairs_collection = record {
   ascends = search rules;
   within = search rules;
   weights = search rules;
-  balanced = λ i h. from_int_eq _ _ (passes_below-at 3 (λ i. int_eq (weight_at ((3, pos 1) ∷ ((5, pos 1) ∷ ((6, pos 1) ∷ []))) i) (pos 2)) refl i h);
+  balanced = λ i h. from_int_eq _ _
+      (passes_below-at 3 (λ i. int_eq (weight_at ((3, pos 1) ∷ ((5, pos 1) ∷ ((6, pos 1) ∷ []))) i) (pos 2)) refl i
+      h);
   excess_worth = search rules;
   lowest_terms = λ d h k. divides_one d k.0.0 k.0.1;
 }

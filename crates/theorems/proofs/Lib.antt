@@ -1,6 +1,9 @@
 pub mod SortedLemmas
 pub mod Settled
 pub mod Soundness
+pub mod SomeMembers
+pub mod OneWay
+pub mod Moves
 pub mod Transfers
 pub mod Bondareva
 pub mod OneVerdict
@@ -9,4 +12,4 @@ pub mod Scaled
 mod ScaledLevels
 mod Alike
 mod OneReason
-mod Examples
+pub mod Examples

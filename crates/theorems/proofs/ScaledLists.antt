@@ -1,5 +1,6 @@
 -- Lists of numbers times a number above 0: their order, and which comes first.
-use Rattle.std.proofs.Common.{◌≡◌, ℕ, Bool, true, false, cond, List, [], ◌∷◌, length, map, ℤ, pos, ◌*ℤ◌, ◌<ℤ◌, int_lt, refl, sym, ap, ap₂, subst, ◌∙◌, inl, inr, arith}
+use Rattle.std.proofs.Common.{◌≡◌, ℕ, Bool, true, false, cond, List, [], ◌∷◌, length, map, ℤ, pos, ◌*ℤ◌}
+use Rattle.std.proofs.Common.{◌<ℤ◌, int_lt, refl, sym, ap, ap₂, subst, ◌∙◌, inl, inr, arith}
 use Rattle.std.proofs.lemmas.Int.{by_lt_z}
 use Rattle.std.proofs.lemmas.List.{length-map}
 use Rattle.definitions.proofs.Ring.{linear, mul-leℤ, mul-ltℤ, mul-cancelℤ}
@@ -14,19 +15,24 @@ pub below_times : (c x y : ℤ) → pos 0 <ℤ c → int_lt (c *ℤ x) (c *ℤ y
 below_times c x y p =
     let step : (b : Bool) → int_lt x y ≡ b → int_lt (c *ℤ x) (c *ℤ y) ≡ b = elim [
       | true ↦ λ e. int_lt-true (c *ℤ x) (c *ℤ y) (mul-ltℤ c x y p (omega (arith, linear, e)))
-      | false ↦ λ e. int_lt-false (c *ℤ x) (c *ℤ y) (mul-leℤ c y x (omega (arith, linear, p)) (omega (arith, linear, e)))
+      | false ↦
+          λ e. int_lt-false (c *ℤ x) (c *ℤ y) (mul-leℤ c y x (omega (arith, linear, p)) (omega (arith, linear, e)))
     ] in
     step (int_lt x y) refl
 
-pub with_number-times : (c f : ℤ) (xs : List ℤ) → pos 0 <ℤ c → with_number (c *ℤ f) (times c xs) ≡ times c (with_number f xs)
+pub with_number-times : (c f : ℤ) (xs : List ℤ) → pos 0 <ℤ c
+    → with_number (c *ℤ f) (times c xs) ≡ times c (with_number f xs)
 with_number-times c f [] p = refl
 with_number-times c f (x ∷ xs) p =
     let ih = with_number-times c f xs p in
-    let step : (b : Bool) → cond b ((c *ℤ f) ∷ ((c *ℤ x) ∷ times c xs)) ((c *ℤ x) ∷ with_number (c *ℤ f) (times c xs)) ≡ times c (cond b (f ∷ (x ∷ xs)) (x ∷ with_number f xs)) = elim [
+    let step : (b : Bool)
+    → cond b ((c *ℤ f) ∷ ((c *ℤ x) ∷ times c xs)) ((c *ℤ x) ∷ with_number (c *ℤ f) (times c xs))
+    ≡ times c (cond b (f ∷ (x ∷ xs)) (x ∷ with_number f xs)) = elim [
       | true ↦ refl
       | false ↦ ap (λ (zs : List ℤ). (c *ℤ x) ∷ zs) ih
     ] in
-    ap (λ (b : Bool). cond b ((c *ℤ f) ∷ ((c *ℤ x) ∷ times c xs)) ((c *ℤ x) ∷ with_number (c *ℤ f) (times c xs))) (below_times c x f p) ∙ step (int_lt x f)
+    ap (λ (b : Bool). cond b ((c *ℤ f) ∷ ((c *ℤ x) ∷ times c xs)) ((c *ℤ x) ∷ with_number (c *ℤ f) (times c xs)))
+    (below_times c x f p) ∙ step (int_lt x f)
 
 pub sorted-times : (c : ℤ) (xs : List ℤ) → pos 0 <ℤ c → sorted (times c xs) ≡ times c (sorted xs)
 sorted-times c [] p = refl
@@ -49,20 +55,30 @@ lesser_cancel c (x ∷ xs) (y ∷ ys) p h = elim h [
 ]
   where
     lt_cancel : (c x y : ℤ) → pos 0 <ℤ c → (c *ℤ x) <ℤ (c *ℤ y) → x <ℤ y
-    lt_cancel c x y p h = by_lt_z x y (λ lt. lt) (λ le. absurd (omega (arith, linear, h, mul-leℤ c y x (omega (arith, linear, p)) le)))
+    lt_cancel c x y p h =
+        by_lt_z x y (λ lt. lt) (λ le. absurd (omega (arith, linear, h, mul-leℤ c y x (omega (arith, linear, p)) le)))
 
 -- where c times two lists are d times two others, the order of the sorted lists is that of the others
-pub order_kept : (c d : ℤ) (xs ys us vs : List ℤ) → pos 0 <ℤ c → pos 0 <ℤ d → times c xs ≡ times d us → times c ys ≡ times d vs → ComesBefore (sorted xs) (sorted ys) → ComesBefore (sorted us) (sorted vs)
+pub order_kept : (c d : ℤ) (xs ys us vs : List ℤ) → pos 0 <ℤ c → pos 0 <ℤ d → times c xs ≡ times d us
+    → times c ys ≡ times d vs → ComesBefore (sorted xs) (sorted ys) → ComesBefore (sorted us) (sorted vs)
 order_kept c d xs ys us vs p q e f h =
-    let left : times c (sorted xs) ≡ times d (sorted us) = sym (sorted-times c xs p) ∙ ap sorted e ∙ sorted-times d us q in
-    let right : times c (sorted ys) ≡ times d (sorted vs) = sym (sorted-times c ys p) ∙ ap sorted f ∙ sorted-times d vs q in
+    let left : times c (sorted xs) ≡ times d (sorted us) =
+    sym (sorted-times c xs p) ∙ ap sorted e ∙ sorted-times d us q in
+    let right : times c (sorted ys) ≡ times d (sorted vs) =
+    sym (sorted-times c ys p) ∙ ap sorted f ∙ sorted-times d vs q in
     let long : length (sorted us) ≡ length (sorted vs) =
     sym (length-map (sorted us) (λ z. d *ℤ z)) ∙ ap length (sym left) ∙ length-map (sorted xs) (λ z. c *ℤ z) ∙ h.0
-    ∙ sym (length-map (sorted ys) (λ z. c *ℤ z)) ∙ ap length right ∙ length-map (sorted vs) (λ z. d *ℤ z) in
-    (long, lesser_cancel d (sorted us) (sorted vs) q (subst (λ (zs : List ℤ). IsLesser zs (times d (sorted vs))) left (subst (λ (zs : List ℤ). IsLesser (times c (sorted xs)) zs) right (lesser_times c (sorted xs) (sorted ys) p h.1))))
+    ∙ sym (length-map (sorted ys) (λ z. c *ℤ z)) ∙ ap length right ∙ length-map (sorted vs) (λ z. d *ℤ z) in (
+      long,
+      lesser_cancel d (sorted us) (sorted vs) q
+          (subst (λ (zs : List ℤ). IsLesser zs (times d (sorted vs))) left
+          (subst (λ (zs : List ℤ). IsLesser (times c (sorted xs)) zs) right
+          (lesser_times c (sorted xs) (sorted ys) p h.1))),
+    )
 
 -- ---- lists of values
 
-pub values_times : (c d : ℤ) (f g : ℕ → ℤ) (ss : List ℕ) → ((s : ℕ) → c *ℤ f s ≡ d *ℤ g s) → times c (map f ss) ≡ times d (map g ss)
+pub values_times : (c d : ℤ) (f g : ℕ → ℤ) (ss : List ℕ) → ((s : ℕ) → c *ℤ f s ≡ d *ℤ g s)
+    → times c (map f ss) ≡ times d (map g ss)
 values_times c d f g [] h = refl
 values_times c d f g (s ∷ ss) h = ap₂ (λ (z : ℤ) (zs : List ℤ). z ∷ zs) (h s) (values_times c d f g ss h)

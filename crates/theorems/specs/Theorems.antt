@@ -2,7 +2,8 @@
 --
 --   MeasuresDivide         a measured excess over its denominator is the excess over the denominator times the divisor
 --   CertificatesAreSound   a certificate that meets its conditions certifies the nucleolus (Kohlberg 1971)
---   CollectionsBlock       no core point stands beside a balanced collection of excess worth (Bondareva 1963, Shapley 1967)
+--   CollectionsBlock       no core point stands beside a balanced collection of excess worth (Bondareva 1963, Shapley
+--                          1967)
 --   PrenucleolusBalances   the prenucleolus lies in the prekernel (Schmeidler 1969; Maschler, Peleg and Shapley 1979)
 use Rattle.std.specs.Prelude.{◌≡◌, ℕ, ◌^◌, ◌<◌, ℤ, pos, ◌*ℤ◌, List}
 use Rattle.definitions.specs.Measures.{divisor, measured, measured_den, IsMeasurable}
@@ -19,12 +20,15 @@ use Rattle.definitions.specs.declared.Mode.{Mode}
 -- a measured excess of a coalition over its denominator is the excess over the denominator times the divisor
 abbrev pub MeasuresDivide : Type 0
 MeasuresDivide =
-    (measure : Measure) (n s : ℕ) (e q : ℤ) → IsMeasurable measure n → 0 < s → s < 2 ^ n → measured measure s e *ℤ (q *ℤ pos (divisor measure s)) ≡ e *ℤ measured_den measure q
+    (measure : Measure) (n s : ℕ) (e q : ℤ) → IsMeasurable measure n → 0 < s → s < 2 ^ n
+    → measured measure s e *ℤ (q *ℤ pos (divisor measure s)) ≡ e *ℤ measured_den measure q
 
 -- a certificate that meets its conditions certifies the nucleolus
 abbrev pub CertificatesAreSound : Type 0
 CertificatesAreSound =
-    (mode : Mode) (family : Family) (measure : Measure) (g : Game) (x : Allocation) (levels : List Level) → IsMeasurable measure g.players → HasForm mode g.players levels → Certifies mode family measure g x levels → IsNucleolus family measure g x
+    (mode : Mode) (family : Family) (measure : Measure) (g : Game) (x : Allocation) (levels : List Level)
+    → IsMeasurable measure g.players → HasForm mode g.players levels → Certifies mode family measure g x levels
+    → IsNucleolus family measure g x
 
 -- where a balanced collection has excess worth, the core is empty
 abbrev pub CollectionsBlock : Type 0

@@ -1,0 +1,17 @@
+pub mod Orders
+pub mod Sorted
+pub mod Cones
+pub mod Settled
+pub mod Multiples
+pub mod Combined
+pub mod Differences
+pub mod RealNumbers
+pub mod RealsThere
+pub mod Soundness
+pub mod FractionShares
+pub mod Pairs
+pub mod Among
+pub mod Quotients
+pub mod ForReals
+pub mod CoreOver
+pub mod OneNucleolus

@@ -1,0 +1,180 @@
+-- The real numbers are a linearly ordered abelian group: what is additive but for a bounded error, and once above
+-- the bound, is never far below zero.
+use Rattle.std.proofs.Common.{◌≡◌, ◌⊎◌, ℕ, zero, suc, ◌+◌, ◌*◌, ℤ, pos, ◌+ℤ◌, ◌-ℤ◌, ◌*ℤ◌, ◌≤ℤ◌}
+use Rattle.std.proofs.Common.{◌<ℤ◌, refl, sym, ap, subst, ◌∙◌, inl, inr, arith}
+use Rattle.std.proofs.lemmas.Int.{by_lt_z}
+use Rattle.std.proofs.Math.Nat.{mul_comm}
+use Rattle.definitions.proofs.Ring.{linear, add-mulℤ, mul-addℤ, mul-oneℤ, mul-zeroℤ}
+use Rattle.definitions.proofs.Ring.{one-mulℤ, mul-leℤ, mul-le_cancelℤ}
+use Rattle.real_shares.specs.Numbers.{Numbers, IsOrderedGroup, Equal}
+use Rattle.real_shares.specs.Reals.{Real, IsAtMost, AreReals}
+use Rattle.real_shares.proofs.Orders.{decided}
+
+-- d is additive but for c
+record Steady (c : ℕ) (d : ℕ → ℤ) : Type 0 where
+  above : (m n : ℕ) → d (m + n) ≤ℤ (d m +ℤ d n +ℤ pos c)
+  below : (m n : ℕ) → (d m +ℤ d n) ≤ℤ (d (m + n) +ℤ pos c)
+
+one_more : (m : ℕ) (z : ℤ) → pos (suc m) *ℤ z ≡ pos m *ℤ z +ℤ z
+one_more m z = ap (λ a. a *ℤ z) (is m) ∙ add-mulℤ (pos m) (pos 1) z ∙ ap (λ a. pos m *ℤ z +ℤ a) (one-mulℤ z)
+  where
+    is : (m : ℕ) → pos (suc m) ≡ pos m +ℤ pos 1
+    is m = omega (arith, linear)
+
+-- m times d n is d (m n), but for m times c
+multiples : (c : ℕ) (d : ℕ → ℤ) → Steady c d → (m n : ℕ) → (d (m * n) ≤ℤ (pos m *ℤ d n +ℤ pos m *ℤ pos c)) ⊎ (m ≡ 0)
+multiples c d s zero n = inr refl
+multiples c d s (suc zero) n =
+    inl
+    (subst (λ k. d k ≤ℤ (pos 1 *ℤ d n +ℤ pos 1 *ℤ pos c)) (once n)
+    (omega (arith, linear, one-mulℤ (d n), one-mulℤ (pos c))))
+  where
+    once : (n : ℕ) → n ≡ suc zero * n
+    once n = omega arith
+multiples c d s (suc (suc m)) n = elim (multiples c d s (suc m) n) [
+  | inl ih ↦
+      inl (subst (λ k. d k ≤ℤ (pos (suc (suc m)) *ℤ d n +ℤ pos (suc (suc m)) *ℤ pos c)) (again m n)
+      (omega (arith, linear, ih, s.above (suc m * n) n, one_more (suc m) (d n), one_more (suc m) (pos c))))
+  | inr e ↦ absurd (omega arith)
+]
+  where
+    again : (m n : ℕ) → suc m * n + n ≡ suc (suc m) * n
+    again m n = omega arith
+
+multiples_below : (c : ℕ) (d : ℕ → ℤ) → Steady c d → (m n : ℕ)
+    → ((pos m *ℤ d n) ≤ℤ (d (m * n) +ℤ pos m *ℤ pos c)) ⊎ (m ≡ 0)
+multiples_below c d s zero n = inr refl
+multiples_below c d s (suc zero) n =
+    inl
+    (subst (λ k. (pos 1 *ℤ d n) ≤ℤ (d k +ℤ pos 1 *ℤ pos c)) (once n)
+    (omega (arith, linear, one-mulℤ (d n), one-mulℤ (pos c))))
+  where
+    once : (n : ℕ) → n ≡ suc zero * n
+    once n = omega arith
+multiples_below c d s (suc (suc m)) n = elim (multiples_below c d s (suc m) n) [
+  | inl ih ↦
+      inl (subst (λ k. (pos (suc (suc m)) *ℤ d n) ≤ℤ (d k +ℤ pos (suc (suc m)) *ℤ pos c)) (again m n)
+      (omega (arith, linear, ih, s.below (suc m * n) n, one_more (suc m) (d n), one_more (suc m) (pos c))))
+  | inr e ↦ absurd (omega arith)
+]
+  where
+    again : (m n : ℕ) → suc m * n + n ≡ suc (suc m) * n
+    again m n = omega arith
+
+-- once above c, never below -c
+never_low : (c : ℕ) (d : ℕ → ℤ) → Steady c d → (m n : ℕ) → pos c <ℤ d m → pos 0 ≤ℤ (d n +ℤ pos c)
+never_low c d s zero n up =
+    absurd (omega (arith, linear, up, subst (λ k. (d 0 +ℤ d 0) ≤ℤ (d k +ℤ pos c)) both (s.below 0 0)))
+  where
+    both : 0 + 0 ≡ 0
+    both = omega arith
+never_low c d s (suc m) zero up =
+    let h = subst (λ k. d k ≤ℤ (d 0 +ℤ d 0 +ℤ pos c)) both (s.above 0 0) in omega (arith, linear, h)
+  where
+    both : 0 + 0 ≡ 0
+    both = omega arith
+never_low c d s (suc m) (suc n) up =
+    elim (multiples c d s (suc m) (suc n)) [
+      | inr e ↦ absurd (omega arith)
+      | inl first ↦ elim (multiples_below c d s (suc n) (suc m)) [
+        | inr e ↦ absurd (omega arith)
+        | inl second ↦
+            let p = pos (suc m) in
+            let q = pos (suc n) in
+            let turned : d (suc m * suc n) ≡ d (suc n * suc m) = ap d (mul_comm (suc m) (suc n)) in
+            -- q times d m is at least q times c and q more
+            let most = mul-leℤ q (pos c +ℤ pos 1) (d (suc m)) (omega (arith, linear)) (omega (arith, linear)) in
+            let parts = mul-addℤ q (pos c) (pos 1) in
+            mul-le_cancelℤ p (pos 0) (d (suc n) +ℤ pos c) (omega (arith, linear))
+            (omega (
+              arith,
+              linear,
+              first,
+              second,
+              turned,
+              most,
+              parts,
+              mul-oneℤ q,
+              mul-addℤ p (d (suc n)) (pos c),
+              mul-zeroℤ p,
+            ))
+      ]
+    ]
+
+difference_steady : (a b : Real) → Steady (a.error + b.error) (λ n. b.near n -ℤ a.near n)
+difference_steady a b = record {
+  above = λ m n. let u = b.above m n in let v = a.below m n in omega (arith, linear, u, v);
+  below = λ m n. let u = b.below m n in let v = a.above m n in omega (arith, linear, u, v);
+}
+
+-- of two real numbers that aren't in the one order, the sequences are in the other, but for the two errors
+other_order : (a b : Real) → (¬ IsAtMost b a) → IsAtMost a b
+other_order a b h = (
+  a.error + b.error,
+  λ n. by_lt_z (b.near n +ℤ pos (a.error + b.error)) (a.near n)
+      (λ up. absurd
+      (h (
+        b.error + a.error,
+        λ k.
+            let low =
+            never_low (b.error + a.error) (λ n. a.near n -ℤ b.near n) (difference_steady b a) n k
+            (omega (arith, linear, up)) in
+            omega (arith, linear, low),
+      )))
+      (λ le. le),
+)
+
+-- once d is above c, its multiples pass each bound
+unbounded : (c : ℕ) (d : ℕ → ℤ) → Steady c d → (n k : ℕ) → pos c <ℤ d n → ((m : ℕ) → d m ≤ℤ pos k) → ⊥
+unbounded c d s n k up bound = elim (multiples_below c d s (suc k) n) [
+  | inr e ↦ absurd (omega arith)
+  | inl h ↦
+      let q = pos (suc k) in
+      let most = mul-leℤ q (pos c +ℤ pos 1) (d n) (omega (arith, linear)) (omega (arith, linear)) in
+      omega (arith, linear, h, bound (suc k * n), most, mul-addℤ q (pos c) (pos 1), mul-oneℤ q)
+]
+
+-- the order holds where it can't fail
+pub stable : (a b : Real) → (¬ (¬ IsAtMost a b)) → IsAtMost a b
+stable a b h = (
+  b.error + a.error,
+  λ n. by_lt_z (b.near n +ℤ pos (b.error + a.error)) (a.near n)
+      (λ up. absurd
+      (h
+      (λ (k, i). unbounded (b.error + a.error) (λ n. a.near n -ℤ b.near n) (difference_steady b a) n k
+      (omega (arith, linear, up)) (λ m. let u = i m in omega (arith, linear, u)))))
+      (λ le. le),
+)
+
+at_most-trans : (a b c : Real) → IsAtMost a b → IsAtMost b c → IsAtMost a c
+at_most-trans a b c (k, h) (j, i) = (k + j, λ n. let u = h n in let v = i n in omega (arith, linear, u, v))
+
+at_most-from : (a b : Real) → ((n : ℕ) → a.near n ≡ b.near n) → IsAtMost a b
+at_most-from a b e = (0, λ n. let u = e n in omega (arith, linear, u))
+
+pub are_ordered : (N : Numbers Real) → AreReals N → IsOrderedGroup N
+are_ordered N R = record {
+  linear = λ a b. elim (decided (N.at_most a b)) [
+    | inl h ↦ inl h
+    | inr h ↦ inr (R.decides b a (other_order b a (λ k. h (R.decides a b k))))
+  ];
+  transitive = λ a b c h k. R.decides a c (at_most-trans a b c (R.at_most a b h) (R.at_most b c k));
+  shifts = λ a b c h.
+      let (k, i) = R.at_most a b h in
+      R.decides (N.plus a c) (N.plus b c)
+      (k, λ n. let u = i n in omega (arith, linear, u, R.plus a c n, R.plus b c n));
+  commutes = λ a b. equal (N.plus a b) (N.plus b a) (λ n. omega (arith, linear, R.plus a b n, R.plus b a n));
+  associates = λ a b c.
+      equal (N.plus (N.plus a b) c) (N.plus a (N.plus b c))
+      (λ n. omega (arith, linear, R.plus (N.plus a b) c n, R.plus a b n, R.plus a (N.plus b c) n, R.plus b c n));
+  neutral = λ a. equal (N.plus a N.zero) a (λ n. omega (arith, linear, R.plus a N.zero n, R.zero n));
+  inverse = λ a. equal (N.plus a (N.minus a)) N.zero
+      (λ n. omega (arith, linear, R.plus a (N.minus a) n, R.minus a n, R.zero n));
+  positive = λ h.
+      let (k, i) = R.at_most N.unit N.zero h in
+      let u = i (suc k) in
+      omega (arith, linear, u, R.unit (suc k), R.zero (suc k));
+}
+  where
+    equal : (a b : Real) → ((n : ℕ) → a.near n ≡ b.near n) → Equal N a b
+    equal a b e = (R.decides a b (at_most-from a b e), R.decides b a (at_most-from b a (λ n. sym (e n))))
