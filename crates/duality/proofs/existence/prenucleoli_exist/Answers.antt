@@ -1,0 +1,5 @@
+use Rattle.duality.proofs.Nucleoli.{prenucleoli_exist}
+use Rattle.duality.proofs.existence.prenucleoli_exist.Goals as goal
+
+pub returns : goal.returns
+returns c = prenucleoli_exist
