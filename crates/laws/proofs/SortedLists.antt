@@ -1,0 +1,105 @@
+-- The sorted list falls and holds the same numbers, and two such lists are one.
+use Rattle.std.proofs.Common.{◌≡◌, ℕ, suc, ◌+◌, ◌≤◌, Bool, true, false, cond, List, [], ◌∷◌, length, ℤ, ◌≤ℤ◌}
+use Rattle.std.proofs.Common.{int_lt, refl, sym, ap, ap₂, subst, ◌∙◌, arith}
+use Rattle.std.proofs.lemmas.Int.{ints}
+use Rattle.std.specs.List.{AllByRecursion}
+use Rattle.std.specs.Ordering.{int_eq}
+use Rattle.definitions.proofs.Alls.{all_weaken}
+use Rattle.definitions.proofs.Ring.{linear}
+use Rattle.theorems.proofs.Examples.{from_int_eq}
+use Rattle.definitions.specs.Order.{with_number, sorted}
+use Rattle.laws.specs.SortedLists.{times_in, Falls, IsSortingOf, SortedIsTheSorting}
+
+-- 1 for a number that is z
+abbrev pub one_if : ℤ → ℤ → ℕ
+one_if z x = cond (int_eq x z) 1 0
+
+-- ---- one number more
+
+all_with_number : (m f : ℤ) (xs : List ℤ) → f ≤ℤ m → AllByRecursion (λ y. y ≤ℤ m) xs
+    → AllByRecursion (λ y. y ≤ℤ m) (with_number f xs)
+all_with_number m f [] le h = (le, tt)
+all_with_number m f (x ∷ xs) le h = step (all_with_number m f xs le h.1) (int_lt x f)
+  where
+    step : AllByRecursion (λ y. y ≤ℤ m) (with_number f xs) → (b : Bool)
+        → AllByRecursion (λ y. y ≤ℤ m) (cond b (f ∷ (x ∷ xs)) (x ∷ with_number f xs))
+    step ih true = (le, h)
+    step ih false = (h.0, ih)
+
+pub Falls-with_number : (f : ℤ) (xs : List ℤ) → Falls xs → Falls (with_number f xs)
+Falls-with_number f [] h = (tt, tt)
+Falls-with_number f (x ∷ xs) h = step (Falls-with_number f xs h.1) (int_lt x f) refl
+  where
+    step : Falls (with_number f xs) → (b : Bool) → int_lt x f ≡ b
+        → Falls (cond b (f ∷ (x ∷ xs)) (x ∷ with_number f xs))
+    step ih true e =
+        let le : x ≤ℤ f = omega (arith, ints, e) in
+        ((le, all_weaken (λ y. y ≤ℤ x) (λ y. y ≤ℤ f) xs (λ y k. omega (arith, linear, k, le)) h.0), h)
+    step ih false e = (all_with_number x f xs (omega (arith, ints, e)) h.0, ih)
+
+pub times_in-with_number : (z f : ℤ) (xs : List ℤ) → times_in z (with_number f xs) ≡ one_if z f + times_in z xs
+times_in-with_number z f [] = refl
+times_in-with_number z f (x ∷ xs) = step (times_in-with_number z f xs) (int_lt x f)
+  where
+    step : times_in z (with_number f xs) ≡ one_if z f + times_in z xs → (b : Bool)
+        → times_in z (cond b (f ∷ (x ∷ xs)) (x ∷ with_number f xs)) ≡ one_if z f + (one_if z x + times_in z xs)
+    step ih true = refl
+    step ih false = omega (arith, ih)
+
+pub length-with_number : (f : ℤ) (xs : List ℤ) → length (with_number f xs) ≡ suc (length xs)
+length-with_number f [] = refl
+length-with_number f (x ∷ xs) = step (length-with_number f xs) (int_lt x f)
+  where
+    step : length (with_number f xs) ≡ suc (length xs) → (b : Bool)
+        → length (cond b (f ∷ (x ∷ xs)) (x ∷ with_number f xs)) ≡ suc (suc (length xs))
+    step ih true = refl
+    step ih false = ap suc ih
+
+-- ---- the sorted list
+
+pub Falls-sorted : (xs : List ℤ) → Falls (sorted xs)
+Falls-sorted [] = tt
+Falls-sorted (x ∷ xs) = Falls-with_number x (sorted xs) (Falls-sorted xs)
+
+pub times_in-sorted : (z : ℤ) (xs : List ℤ) → times_in z (sorted xs) ≡ times_in z xs
+times_in-sorted z [] = refl
+times_in-sorted z (x ∷ xs) = omega (arith, times_in-with_number z x (sorted xs), times_in-sorted z xs)
+
+-- ---- no other
+
+one_if-same : (x : ℤ) → one_if x x ≡ 1
+one_if-same x = grind (arith, ints)
+
+-- what stands in a list that nothing is greater than m in isn't either
+standing : (m z : ℤ) (xs : List ℤ) → AllByRecursion (λ y. y ≤ℤ m) xs → 1 ≤ times_in z xs → z ≤ℤ m
+standing m z [] h some = absurd (omega arith)
+standing m z (x ∷ xs) h some = step (standing m z xs h.1) (int_eq x z) refl
+  where
+    step : (1 ≤ times_in z xs → z ≤ℤ m) → (b : Bool) → int_eq x z ≡ b → z ≤ℤ m
+    step ih true e = (let le = h.0 in let same = from_int_eq x z e in omega (arith, linear, same, le))
+    step ih false e = ih (let none : one_if z x ≡ 0 = ap (λ (b : Bool). cond b 1 0) e in omega (arith, none, some))
+
+-- the first of a list that falls is no less than what stands in it
+first_greatest : (x z : ℤ) (xs : List ℤ) → Falls (x ∷ xs) → 1 ≤ times_in z (x ∷ xs) → z ≤ℤ x
+first_greatest x z xs h some =
+    standing x z (x ∷ xs) (omega (arith, linear), h.0) some
+
+-- two lists that fall and hold the same numbers, each as often, are one
+pub falling_same : (xs ys : List ℤ) → Falls xs → Falls ys → ((z : ℤ) → times_in z xs ≡ times_in z ys) → xs ≡ ys
+falling_same [] [] f g h = refl
+falling_same [] (y ∷ ys) f g h = absurd (let e = h y in let one = one_if-same y in omega (arith, e, one))
+falling_same (x ∷ xs) [] f g h = absurd (let e = h x in let one = one_if-same x in omega (arith, e, one))
+falling_same (x ∷ xs) (y ∷ ys) f g h =
+    let e = h x in
+    let d = h y in
+    let low = first_greatest y x ys g (let one = one_if-same x in omega (arith, e, one)) in
+    let high = first_greatest x y xs f (let one = one_if-same y in omega (arith, d, one)) in
+    let same : x ≡ y = omega (arith, linear, low, high) in
+    ap₂ (λ (z : ℤ) (zs : List ℤ). z ∷ zs) same
+    (falling_same xs ys f.1 g.1 (λ z. let k = h z in let o = ap (one_if z) same in omega (arith, k, o)))
+
+pub sorted_is_the_sorting : SortedIsTheSorting
+sorted_is_the_sorting xs ys = (
+  λ h. falling_same ys (sorted xs) h.falls (Falls-sorted xs) (λ z. h.same z ∙ sym (times_in-sorted z xs)),
+  λ e. subst (IsSortingOf xs) (sym e) (record { falls = Falls-sorted xs; same = λ z. times_in-sorted z xs }),
+)
