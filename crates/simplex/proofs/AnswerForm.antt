@@ -1,5 +1,7 @@
 -- The weights of the last basis in lowest terms: they and its multipliers are an answer.
-use Rattle.std.proofs.Common.{◌≡◌, ℕ, zero, suc, ◌*◌, ◌^◌, ◌<◌, ◌≤◌, true, IsTrue, List, length, map, nat_eq, Option, arith, sym, ap, subst, ◌∙◌, ℤ, pos, negsuc, ◌+ℤ◌, ◌*ℤ◌, ◌<ℤ◌, ◌≤ℤ◌, unsigned_abs, mul_comm}
+use Rattle.std.proofs.Common.{◌≡◌, ℕ, zero, suc, ◌*◌, ◌^◌, ◌<◌, ◌≤◌, true, IsTrue, List, length}
+use Rattle.std.proofs.Common.{map, nat_eq, Option, arith, sym, ap, subst, ◌∙◌, ℤ, pos, negsuc}
+use Rattle.std.proofs.Common.{◌+ℤ◌, ◌*ℤ◌, ◌<ℤ◌, ◌≤ℤ◌, unsigned_abs, mul_comm}
 use Prim.Native.Nat.{◌∣◌}
 use native.Mathlib.Nat.{pos_of_dvd_of_pos, le_of_dvd}
 use lib.IntN.{*ℤ_comm}
@@ -17,8 +19,10 @@ use Rattle.simplex.specs.Improving.{AreMultipliers, IsImproving}
 use Rattle.simplex.specs.Reduced.{listed, AreReduced}
 use Rattle.simplex.specs.Tableau.{IsTame, id_at}
 use Rattle.simplex.proofs.Ends.{no_ray}
-use Rattle.simplex.proofs.ListedWeights.{listed_all, listed_sum, listed_count, listed_distinct, listed_divisible, on_id}
-use Rattle.simplex.proofs.Solutions.{right_rows, right_nonneg, right_clear, value_right, ids_apart, is_column_at, suc_nonneg}
+use Rattle.simplex.proofs.ListedWeights.{listed_all, listed_sum, listed_count}
+use Rattle.simplex.proofs.ListedWeights.{listed_distinct, listed_divisible, on_id}
+use Rattle.simplex.proofs.Solutions.{right_rows, right_nonneg, right_clear, value_right}
+use Rattle.simplex.proofs.Solutions.{ids_apart, is_column_at, suc_nonneg}
 use Rattle.simplex.proofs.Tableaus.{right_small, den_small}
 use Rattle.simplex.proofs.Signs.{positive_apart, at_least_one}
 use Rattle.determinants.proofs.Measures.{size_positive}
@@ -39,7 +43,10 @@ quotient_positive (negsuc c) (negsuc w) z p e h = absurd (omega (arith, ints))
 
 times_dot : (n : ℕ) (c : ℤ) (w v s : ℕ → ℤ) → ((k : ℕ) → k < n → c *ℤ w k ≡ v k) → c *ℤ dot n w s ≡ dot n v s
 times_dot zero c w v s h = simp unit_laws
-times_dot (suc n) c w v s h = split c (dot n w s) (w n) (s n) ∙ ap (λ (z : ℤ). z +ℤ (c *ℤ w n) *ℤ s n) (times_dot n c w v s (λ k lt. h k (omega arith))) ∙ ap (λ (z : ℤ). dot n v s +ℤ z *ℤ s n) (h n (omega arith))
+times_dot (suc n) c w v s h =
+    split c (dot n w s) (w n) (s n)
+    ∙ ap (λ (z : ℤ). z +ℤ (c *ℤ w n) *ℤ s n) (times_dot n c w v s (λ k lt. h k (omega arith)))
+    ∙ ap (λ (z : ℤ). dot n v s +ℤ z *ℤ s n) (h n (omega arith))
   where
     split : (c a w s : ℤ) → c *ℤ (a +ℤ w *ℤ s) ≡ c *ℤ a +ℤ (c *ℤ w) *ℤ s
     split c a w s = simp ring_laws
@@ -47,39 +54,56 @@ times_dot (suc n) c w v s h = split c (dot n w s) (w n) (s n) ∙ ap (λ (z : �
 turned : (c d v : ℤ) → (c *ℤ d) *ℤ v ≡ d *ℤ (c *ℤ v)
 turned c d v = simp ring_laws
 
-module _ (P : Program) (n : ℕ) (ids : List (Option ℕ)) (xs ts : List ℤ) (d : ℤ) (costs num : List ℤ) (mden : ℤ) (ws : List (ℕ × ℤ)) (den : ℤ)
-    (st : IsImproving P true n ids xs ts d costs) (m : AreMultipliers xs costs n d num mden) (b : Bounds P num mden) (r : AreReduced n ids ts d ws den) where
+module _ (P : Program) (n : ℕ) (ids : List (Option ℕ)) (xs ts : List ℤ) (d : ℤ) (costs num : List ℤ) (mden : ℤ)
+    (ws : List (ℕ × ℤ)) (den : ℤ)
+    (st : IsImproving P true n ids xs ts d costs) (m : AreMultipliers xs costs n d num mden) (b : Bounds P num mden)
+    (r : AreReduced n ids ts d ws den) where
   pub shares_of : (k : ℕ) → k < P.rows → r.common *ℤ r.shares k ≡ entry_at 32 ts k 0
   shares_of k lt = r.shares_are k (subst (λ (t : ℕ). k < t) (sym st.rows_is) lt)
 
   pub shares_nonneg : (k : ℕ) → k < P.rows → pos 0 ≤ℤ r.shares k
-  shares_nonneg k lt = quotient_nonneg r.common (r.shares k) (entry_at 32 ts k 0) r.is_common.positive (shares_of k lt) (right_nonneg P n ids xs ts d costs st k lt)
+  shares_nonneg k lt =
+      quotient_nonneg r.common (r.shares k) (entry_at 32 ts k 0) r.is_common.positive (shares_of k lt)
+      (right_nonneg P n ids xs ts d costs st k lt)
 
   pub list_is : ws ≡ listed ids r.shares P.rows
   list_is = r.weights_are ∙ ap (listed ids r.shares) st.rows_is
 
-  sums : (f : ℕ → ℤ) → r.common *ℤ weighted_sum f ws ≡ dot P.rows (λ k. entry_at 32 ts k 0) (λ k. on_id f (id_at ids k))
-  sums f = ap (λ (l : List (ℕ × ℤ)). r.common *ℤ weighted_sum f l) list_is ∙ ap (λ (z : ℤ). r.common *ℤ z) (listed_sum f ids r.shares P.rows shares_nonneg) ∙ times_dot P.rows r.common r.shares (λ k. entry_at 32 ts k 0) (λ k. on_id f (id_at ids k)) shares_of
+  sums : (f : ℕ → ℤ)
+      → r.common *ℤ weighted_sum f ws ≡ dot P.rows (λ k. entry_at 32 ts k 0) (λ k. on_id f (id_at ids k))
+  sums f =
+      ap (λ (l : List (ℕ × ℤ)). r.common *ℤ weighted_sum f l) list_is
+      ∙ ap (λ (z : ℤ). r.common *ℤ z) (listed_sum f ids r.shares P.rows shares_nonneg)
+      ∙ times_dot P.rows r.common r.shares (λ k. entry_at 32 ts k 0) (λ k. on_id f (id_at ids k)) shares_of
 
   pub is_optimal : IsOptimal P ws den num mden
   is_optimal = (
     (
       (
-        subst (AllByRecursion (λ w. IsTrue (P.is_column w.0) × (pos 0 ≤ℤ w.1))) (sym list_is) (listed_all (λ w. IsTrue (P.is_column w.0) × (pos 0 ≤ℤ w.1)) ids r.shares P.rows (λ j id u lt e f. (is_column_at P ids xs d st.table.inverse j id lt e, suc_nonneg u))),
-        subst (λ (l : List (ℕ × ℤ)). IsDistinct nat_eq (map (λ (w : ℕ × ℤ). w.0) l)) (sym list_is) (listed_distinct ids r.shares P.rows (ids_apart P ids xs d st.table.inverse)),
+        subst (AllByRecursion (λ w. IsTrue (P.is_column w.0) × (pos 0 ≤ℤ w.1))) (sym list_is)
+            (listed_all (λ w. IsTrue (P.is_column w.0) × (pos 0 ≤ℤ w.1)) ids r.shares P.rows
+            (λ j id u lt e f. (is_column_at P ids xs d st.table.inverse j id lt e, suc_nonneg u))),
+        subst (λ (l : List (ℕ × ℤ)). IsDistinct nat_eq (map (λ (w : ℕ × ℤ). w.0) l)) (sym list_is)
+            (listed_distinct ids r.shares P.rows (ids_apart P ids xs d st.table.inverse)),
       ),
       at_least_one den (quotient_positive r.common den d r.is_common.positive r.den_is st.table.positive),
-      λ i lt. cancel r.common (weighted_sum (λ id. P.entry id i) ws) (den *ℤ P.right i) (positive_apart r.common r.is_common.positive)
-          (sums (λ id. P.entry id i) ∙ right_rows P n ids xs ts d costs st i lt ∙ ap (λ (z : ℤ). z *ℤ P.right i) (sym r.den_is) ∙ mul_assocℤ r.common den (P.right i)),
+      λ i lt. cancel r.common (weighted_sum (λ id. P.entry id i) ws) (den *ℤ P.right i)
+          (positive_apart r.common r.is_common.positive)
+          (sums (λ id. P.entry id i) ∙ right_rows P n ids xs ts d costs st i lt
+          ∙ ap (λ (z : ℤ). z *ℤ P.right i) (sym r.den_is) ∙ mul_assocℤ r.common den (P.right i)),
     ),
     b,
-    *ℤ_comm (weighted_sum P.cost ws) mden ∙ ap (λ (z : ℤ). z *ℤ weighted_sum P.cost ws) (m.den_is ∙ sym r.den_is) ∙ turned r.common den (weighted_sum P.cost ws)
-        ∙ ap (λ (z : ℤ). den *ℤ z) (sums P.cost ∙ sym (value_right P n ids xs ts d costs st num mden m)) ∙ *ℤ_comm den (value_of P num P.right),
+    *ℤ_comm (weighted_sum P.cost ws) mden ∙ ap (λ (z : ℤ). z *ℤ weighted_sum P.cost ws) (m.den_is ∙ sym r.den_is)
+        ∙ turned r.common den (weighted_sum P.cost ws)
+        ∙ ap (λ (z : ℤ). den *ℤ z) (sums P.cost ∙ sym (value_right P n ids xs ts d costs st num mden m))
+        ∙ *ℤ_comm den (value_of P num P.right),
   )
 
 -- ---- its form
 factor_le : (c w z : ℤ) → pos 0 <ℤ c → c *ℤ w ≡ z → unsigned_abs w ≤ unsigned_abs z
-factor_le c w z p e = subst (λ (t : ℕ). unsigned_abs w ≤ t) (sym (unsigned_abs-mul c w) ∙ ap unsigned_abs e) (grows (unsigned_abs c) (unsigned_abs w) (size_positive c p))
+factor_le c w z p e =
+    subst (λ (t : ℕ). unsigned_abs w ≤ t) (sym (unsigned_abs-mul c w) ∙ ap unsigned_abs e)
+    (grows (unsigned_abs c) (unsigned_abs w) (size_positive c p))
   where
     grows : (a b : ℕ) → 0 < a → b ≤ a * b
     grows zero b h = absurd (omega arith)
@@ -88,8 +112,12 @@ factor_le c w z p e = subst (λ (t : ℕ). unsigned_abs w ≤ t) (sym (unsigned_
 below_62 : (a b : ℕ) → a ≤ b → b ≤ 2 ^ 58 → a < 2 ^ 62
 below_62 a b h k = omega arith
 
-times_both : (g c w z : ℤ) → c *ℤ w ≡ z → unsigned_abs g ∣ unsigned_abs w → (unsigned_abs g * unsigned_abs c) ∣ unsigned_abs z
-times_both g c w z e h = subst (λ (t : ℕ). (unsigned_abs g * unsigned_abs c) ∣ t) (mul_comm (unsigned_abs w) (unsigned_abs c) ∙ sym (unsigned_abs-mul c w) ∙ ap unsigned_abs e) (mul-dvd-mul_right (unsigned_abs g) h (unsigned_abs c))
+times_both : (g c w z : ℤ) → c *ℤ w ≡ z → unsigned_abs g ∣ unsigned_abs w
+    → (unsigned_abs g * unsigned_abs c) ∣ unsigned_abs z
+times_both g c w z e h =
+    subst (λ (t : ℕ). (unsigned_abs g * unsigned_abs c) ∣ t)
+    (mul_comm (unsigned_abs w) (unsigned_abs c) ∙ sym (unsigned_abs-mul c w) ∙ ap unsigned_abs e)
+    (mul-dvd-mul_right (unsigned_abs g) h (unsigned_abs c))
 
 one_of : (g c : ℕ) → 0 < c → 0 < g → g * c ≤ c → g ≡ 1
 one_of zero c p q h = absurd (omega arith)
@@ -102,38 +130,62 @@ zero_share c w z p e h = cancel c w (pos 0) (positive_apart c p) (e ∙ h ∙ sy
 suc_positive : (u : ℕ) → pos 1 ≤ℤ pos (suc u)
 suc_positive u = omega (arith, ints)
 
-module _ (P : Program) (n : ℕ) (ids : List (Option ℕ)) (xs ts : List ℤ) (d : ℤ) (costs num : List ℤ) (mden : ℤ) (ws : List (ℕ × ℤ)) (den : ℤ)
-    (st : IsImproving P true n ids xs ts d costs) (m : AreMultipliers xs costs n d num mden) (b : Bounds P num mden) (r : AreReduced n ids ts d ws den) (tame : IsTame P) where
+module _ (P : Program) (n : ℕ) (ids : List (Option ℕ)) (xs ts : List ℤ) (d : ℤ) (costs num : List ℤ) (mden : ℤ)
+    (ws : List (ℕ × ℤ)) (den : ℤ)
+    (st : IsImproving P true n ids xs ts d costs) (m : AreMultipliers xs costs n d num mden) (b : Bounds P num mden)
+    (r : AreReduced n ids ts d ws den) (tame : IsTame P) where
   share_at : (k : ℕ) → k < P.rows → r.common *ℤ r.shares k ≡ entry_at 32 ts k 0
   share_at k lt = shares_of P n ids xs ts d costs num mden ws den st m b r k lt
 
   weight_small : (k : ℕ) → k < P.rows → unsigned_abs (entry_at 32 ts k 0) ≤ 2 ^ 58
-  weight_small k lt = subst (λ (z : ℤ). unsigned_abs z ≤ 2 ^ 58) (sym (st.table.tracked.tracked k 0 lt (omega arith))) (right_small P ids xs d tame st.table.inverse k lt)
+  weight_small k lt =
+      subst (λ (z : ℤ). unsigned_abs z ≤ 2 ^ 58) (sym (st.table.tracked.tracked k 0 lt (omega arith)))
+      (right_small P ids xs d tame st.table.inverse k lt)
 
   share_small : (k : ℕ) → k < P.rows → unsigned_abs (r.shares k) < 2 ^ 62
-  share_small k lt = below_62 (unsigned_abs (r.shares k)) (unsigned_abs (entry_at 32 ts k 0)) (factor_le r.common (r.shares k) (entry_at 32 ts k 0) r.is_common.positive (share_at k lt)) (weight_small k lt)
+  share_small k lt =
+      below_62 (unsigned_abs (r.shares k)) (unsigned_abs (entry_at 32 ts k 0))
+      (factor_le r.common (r.shares k) (entry_at 32 ts k 0) r.is_common.positive (share_at k lt))
+      (weight_small k lt)
 
   listed_is : ws ≡ listed ids r.shares P.rows
   listed_is = list_is P n ids xs ts d costs num mden ws den st m b r
 
   -- what divides the denominator and all weights divides the numbers that they come from
-  shares_divisible : (g : ℕ) → AllByRecursion (λ w. g ∣ unsigned_abs w.1) ws → (k : ℕ) → k < P.rows → g ∣ unsigned_abs (r.shares k)
-  shares_divisible g h = listed_divisible g ids r.shares P.rows (shares_nonneg P n ids xs ts d costs num mden ws den st m b r)
-      (λ k lt none. zero_share r.common (r.shares k) (entry_at 32 ts k 0) r.is_common.positive (share_at k lt) (right_clear P n ids xs ts d costs st k lt none)) (subst (AllByRecursion (λ w. g ∣ unsigned_abs w.1)) listed_is h)
+  shares_divisible : (g : ℕ) → AllByRecursion (λ w. g ∣ unsigned_abs w.1) ws → (k : ℕ) → k < P.rows
+      → g ∣ unsigned_abs (r.shares k)
+  shares_divisible g h =
+      listed_divisible g ids r.shares P.rows (shares_nonneg P n ids xs ts d costs num mden ws den st m b r)
+      (λ k lt none. zero_share r.common (r.shares k) (entry_at 32 ts k 0) r.is_common.positive (share_at k lt)
+      (right_clear P n ids xs ts d costs st k lt none))
+      (subst (AllByRecursion (λ w. g ∣ unsigned_abs w.1)) listed_is h)
 
   lowest_terms : (g : ℕ) → g ∣ unsigned_abs den → AllByRecursion (λ w. g ∣ unsigned_abs w.1) ws → g ≡ 1
   lowest_terms g h k =
       let whole = r.is_common.greatest (g * unsigned_abs r.common) (times_both (pos g) r.common den d r.den_is h)
-      (λ j jl. let lt' = subst (λ (t : ℕ). j < t) st.rows_is jl in times_both (pos g) r.common (r.shares j) (entry_at 32 ts j 0) (share_at j lt') (shares_divisible g k j lt')) in
+      (λ j jl.
+      let lt' = subst (λ (t : ℕ). j < t) st.rows_is jl in
+      times_both (pos g) r.common (r.shares j) (entry_at 32 ts j 0) (share_at j lt')
+      (shares_divisible g k j lt')) in
       let cp = size_positive r.common r.is_common.positive in
-      one_of g (unsigned_abs r.common) cp (pos_of_dvd_of_pos h (size_positive den (quotient_positive r.common den d r.is_common.positive r.den_is st.table.positive))) (le_of_dvd cp whole)
+      one_of g (unsigned_abs r.common) cp
+      (pos_of_dvd_of_pos h
+      (size_positive den (quotient_positive r.common den d r.is_common.positive r.den_is st.table.positive)))
+      (le_of_dvd cp whole)
 
   form : AreInForm P.rows ws den
   form = record {
     count = subst (λ (l : List (ℕ × ℤ)). length l ≤ P.rows) (sym listed_is) (listed_count ids r.shares P.rows);
-    positive = subst (AllByRecursion (λ w. pos 1 ≤ℤ w.1)) (sym listed_is) (listed_all (λ w. pos 1 ≤ℤ w.1) ids r.shares P.rows (λ j id u lt e f. suc_positive u));
-    small = subst (AllByRecursion (λ w. unsigned_abs w.1 < 2 ^ 62)) (sym listed_is) (listed_all (λ w. unsigned_abs w.1 < 2 ^ 62) ids r.shares P.rows (λ j id u lt e f. subst (λ (z : ℤ). unsigned_abs z < 2 ^ 62) f (share_small j lt)));
-    den_small = below_62 (unsigned_abs den) (unsigned_abs d) (factor_le r.common den d r.is_common.positive r.den_is) (den_small P ids xs d tame st.table.inverse);
+    positive =
+        subst (AllByRecursion (λ w. pos 1 ≤ℤ w.1)) (sym listed_is)
+        (listed_all (λ w. pos 1 ≤ℤ w.1) ids r.shares P.rows (λ j id u lt e f. suc_positive u));
+    small =
+        subst (AllByRecursion (λ w. unsigned_abs w.1 < 2 ^ 62)) (sym listed_is)
+        (listed_all (λ w. unsigned_abs w.1 < 2 ^ 62) ids r.shares P.rows
+        (λ j id u lt e f. subst (λ (z : ℤ). unsigned_abs z < 2 ^ 62) f (share_small j lt)));
+    den_small =
+        below_62 (unsigned_abs den) (unsigned_abs d) (factor_le r.common den d r.is_common.positive r.den_is)
+        (den_small P ids xs d tame st.table.inverse);
     lowest = lowest_terms;
   }
 

@@ -1,5 +1,7 @@
 -- The common divisor of the denominator and the weights.
-use Rattle.std.proofs.Common.{length, set, get_or-set_same, get_or-set_other, ◌≡◌, ◌≢◌, inl, inr, ℕ, suc, ◌+◌, ◌*◌, ◌/◌, ◌^◌, ◌<◌, ◌≤◌, List, slice_index_or, arith, sym, ap, subst, ◌∙◌, ℤ, pos, negsuc, ◌*ℤ◌, neg_ℤ, ◌<ℤ◌, unsigned_abs, int_div, le_trans}
+use Rattle.std.proofs.Common.{length, set, get_or-set_same, get_or-set_other, ◌≡◌, ◌≢◌, inl, inr, ℕ, suc, ◌+◌}
+use Rattle.std.proofs.Common.{◌*◌, ◌/◌, ◌^◌, ◌<◌, ◌≤◌, List, slice_index_or, arith, sym, ap, subst, ◌∙◌, ℤ, pos}
+use Rattle.std.proofs.Common.{negsuc, ◌*ℤ◌, neg_ℤ, ◌<ℤ◌, unsigned_abs, int_div, le_trans}
 use Prim.Native.Nat.{◌∣◌}
 use Rattle.std.specs.Int.{IsGcd}
 use Rattle.std.proofs.lemmas.Int.{ints}
@@ -28,24 +30,29 @@ common_start d ts c e p s = subst (CommonSoFar d ts 0) (sym e) (record {
   greatest = λ g h k. h;
 })
 
-pub common_next : (d : ℕ) (ts : List ℤ) (k c z g : ℕ) → z ≡ unsigned_abs (slice_index_or ts (32 * k) (pos 0)) → IsGcd c z g → CommonSoFar d ts k c → CommonSoFar d ts (k + 1) g
+pub common_next : (d : ℕ) (ts : List ℤ) (k c z g : ℕ) → z ≡ unsigned_abs (slice_index_or ts (32 * k) (pos 0))
+    → IsGcd c z g → CommonSoFar d ts k c → CommonSoFar d ts (k + 1) g
 common_next d ts k c z g e h s =
-    let here : z ≡ unsigned_abs (entry_at 32 ts k 0) = e ∙ ap (λ (t : ℕ). unsigned_abs (slice_index_or ts t (pos 0))) (omega arith) in
+    let here : z ≡ unsigned_abs (entry_at 32 ts k 0) =
+    e ∙ ap (λ (t : ℕ). unsigned_abs (slice_index_or ts t (pos 0))) (omega arith) in
     record {
       positive = pos_of_dvd_of_pos h.0 s.positive;
       small = le_trans (le_of_dvd s.positive h.0) s.small;
       den = dvd_trans g h.0 s.den;
       weights = λ j lt. elim (last_or_less_of j k lt) [
-        | inl same ↦ subst (λ (t : ℕ). g ∣ unsigned_abs (entry_at 32 ts t 0)) (sym same) (subst (λ (t : ℕ). g ∣ t) here h.1)
+        | inl same ↦ subst (λ (t : ℕ). g ∣ unsigned_abs (entry_at 32 ts t 0)) (sym same)
+            (subst (λ (t : ℕ). g ∣ t) here h.1)
         | inr less ↦ dvd_trans g h.0 (s.weights j less)
       ];
-      greatest = λ t a b. h.2 t (s.greatest t a (λ j lt. b j (omega arith))) (subst (λ (u : ℕ). t ∣ u) (sym here) (b k (omega arith)));
+      greatest = λ t a b. h.2 t (s.greatest t a (λ j lt. b j (omega arith)))
+          (subst (λ (u : ℕ). t ∣ u) (sym here) (b k (omega arith)));
     }
 
 positive_pos : (c : ℕ) → 0 < c → pos 0 <ℤ pos c
 positive_pos c h = omega (arith, ints)
 
-pub common_end : (d : ℤ) (ts : List ℤ) (n k c : ℕ) (z : ℤ) → z ≡ pos c → k ≤ n → n ≤ k → CommonSoFar (unsigned_abs d) ts k c → IsCommon ts n d z
+pub common_end : (d : ℤ) (ts : List ℤ) (n k c : ℕ) (z : ℤ) → z ≡ pos c → k ≤ n → n ≤ k
+    → CommonSoFar (unsigned_abs d) ts k c → IsCommon ts n d z
 common_end d ts n k c z e le ge s = subst (IsCommon ts n d) (sym e) (record {
   positive = positive_pos c s.positive;
   den = s.den;
@@ -59,7 +66,8 @@ of_size c h = omega (arith, ints)
 
 product_of : (k : ℕ) (z : ℤ) → k ∣ unsigned_abs z → (q : ℤ) × (z ≡ pos k *ℤ q)
 product_of k (pos m) h = (pos (m / k), ap pos (sym (mul-div_cancel' k h)))
-product_of k (negsuc m) h = (neg_ℤ (pos (suc m / k)), ap neg_ℤ (ap pos (sym (mul-div_cancel' k h))) ∙ step (pos k) (pos (suc m / k)))
+product_of k (negsuc m) h =
+    (neg_ℤ (pos (suc m / k)), ap neg_ℤ (ap pos (sym (mul-div_cancel' k h))) ∙ step (pos k) (pos (suc m / k)))
   where
     step : (a b : ℤ) → neg_ℤ (a *ℤ b) ≡ a *ℤ neg_ℤ b
     step a b = simp ring_laws
@@ -71,13 +79,21 @@ share_is c z p h =
     ap (λ (t : ℤ). c *ℤ t) (quot_exact z c q.0 e (positive_apart c p)) ∙ sym e
 
 -- ---- the shares, one by one
-pub is_multiple : (ts : List ℤ) (n : ℕ) (d c : ℤ) (k : ℕ) → IsCommon ts n d c → k < n → IsMultiple c (slice_index_or ts (32 * k) (pos 0))
-is_multiple ts n d c k h lt = record { divides = subst (λ (t : ℕ). unsigned_abs c ∣ unsigned_abs (slice_index_or ts t (pos 0))) (omega arith) (h.weights k lt) }
+pub is_multiple : (ts : List ℤ) (n : ℕ) (d c : ℤ) (k : ℕ) → IsCommon ts n d c → k < n
+    → IsMultiple c (slice_index_or ts (32 * k) (pos 0))
+is_multiple ts n d c k h lt = record {
+  divides =
+      subst (λ (t : ℕ). unsigned_abs c ∣ unsigned_abs (slice_index_or ts t (pos 0))) (omega arith) (h.weights k lt);
+}
 
-pub next_share : (ts shares : List ℤ) (c : ℤ) (k : ℕ) (v : ℤ) → k < length shares → c *ℤ v ≡ slice_index_or ts (32 * k) (pos 0) → ((j : ℕ) → j < k → c *ℤ weight_at shares j ≡ entry_at 32 ts j 0)
+pub next_share : (ts shares : List ℤ) (c : ℤ) (k : ℕ) (v : ℤ) → k < length shares
+    → c *ℤ v ≡ slice_index_or ts (32 * k) (pos 0) → ((j : ℕ) → j < k → c *ℤ weight_at shares j ≡ entry_at 32 ts j 0)
     → (j : ℕ) → j < k + 1 → c *ℤ weight_at (set shares k v) j ≡ entry_at 32 ts j 0
 next_share ts shares c k v len e done j lt = elim (last_or_less_of j k lt) [
-  | inl same ↦ ap (λ (t : ℕ). c *ℤ weight_at (set shares k v) t) same ∙ ap (λ (z : ℤ). c *ℤ z) (get_or-set_same shares k v (pos 0) len) ∙ e
+  | inl same ↦ ap (λ (t : ℕ). c *ℤ weight_at (set shares k v) t) same
+      ∙ ap (λ (z : ℤ). c *ℤ z) (get_or-set_same shares k v (pos 0) len) ∙ e
       ∙ ap (λ (t : ℕ). slice_index_or ts t (pos 0)) (omega arith) ∙ ap (λ (t : ℕ). entry_at 32 ts t 0) (sym same)
-  | inr less ↦ let ne : j ≢ k = omega arith in ap (λ (z : ℤ). c *ℤ z) (get_or-set_other shares k j v (pos 0) ne) ∙ done j less
+  | inr less ↦
+      let ne : j ≢ k = omega arith in
+      ap (λ (z : ℤ). c *ℤ z) (get_or-set_other shares k j v (pos 0) ne) ∙ done j less
 ]

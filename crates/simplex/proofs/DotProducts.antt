@@ -1,5 +1,6 @@
 -- Laws of sums of products, of cuts, and of columns read from the last row.
-use Rattle.std.proofs.Common.{◌≡◌, ◌⊎◌, inl, inr, ℕ, zero, suc, ◌+◌, ◌-◌, ◌*◌, ◌<◌, ◌≤◌, cond, nat_lt, arith, refl, sym, ap, subst, ◌∙◌, ℤ, pos, ◌+ℤ◌, ◌-ℤ◌, ◌*ℤ◌, unsigned_abs}
+use Rattle.std.proofs.Common.{◌≡◌, ◌⊎◌, inl, inr, ℕ, zero, suc, ◌+◌, ◌-◌, ◌*◌, ◌<◌, ◌≤◌, cond, nat_lt, arith}
+use Rattle.std.proofs.Common.{refl, sym, ap, subst, ◌∙◌, ℤ, pos, ◌+ℤ◌, ◌-ℤ◌, ◌*ℤ◌, unsigned_abs}
 use Rattle.std.proofs.lemmas.Bool.Decides.{nat_tests}
 use Rattle.definitions.proofs.Ring.{ring_laws, unit_laws, linear}
 use Rattle.determinants.proofs.DotProducts.{backwards, dot_backwards, dot_cong, zero_row}
@@ -13,7 +14,8 @@ use lib.IntN.{*ℤ_comm}
 
 pub dot_comm : (n : ℕ) (a b : ℕ → ℤ) → dot n a b ≡ dot n b a
 dot_comm zero a b = refl
-dot_comm (suc n) a b = ap (λ (z : ℤ). z +ℤ a n *ℤ b n) (dot_comm n a b) ∙ ap (λ (z : ℤ). dot n b a +ℤ z) (*ℤ_comm (a n) (b n))
+dot_comm (suc n) a b =
+    ap (λ (z : ℤ). z +ℤ a n *ℤ b n) (dot_comm n a b) ∙ ap (λ (z : ℤ). dot n b a +ℤ z) (*ℤ_comm (a n) (b n))
 
 -- the sum of products, as the definitions write it
 pub sum_dot : (n : ℕ) (a f : ℕ → ℤ) → sum_below n (λ r. a r *ℤ f r) ≡ dot n a f
@@ -22,15 +24,20 @@ sum_dot (suc n) a f = ap (λ (z : ℤ). z +ℤ a n *ℤ f n) (sum_dot n a f)
 
 dot_add : (n : ℕ) (c a b : ℕ → ℤ) (t : ℤ) → dot n c (λ k. a k +ℤ b k *ℤ t) ≡ dot n c a +ℤ dot n c b *ℤ t
 dot_add zero c a b t = simp unit_laws
-dot_add (suc n) c a b t = ap (λ (z : ℤ). z +ℤ c n *ℤ (a n +ℤ b n *ℤ t)) (dot_add n c a b t) ∙ step (dot n c a) (dot n c b) (c n) (a n) (b n) t
+dot_add (suc n) c a b t =
+    ap (λ (z : ℤ). z +ℤ c n *ℤ (a n +ℤ b n *ℤ t)) (dot_add n c a b t)
+    ∙ step (dot n c a) (dot n c b) (c n) (a n) (b n) t
   where
     step : (p q c a b t : ℤ) → (p +ℤ q *ℤ t) +ℤ c *ℤ (a +ℤ b *ℤ t) ≡ (p +ℤ c *ℤ a) +ℤ (q +ℤ c *ℤ b) *ℤ t
     step p q c a b t = simp ring_laws (omega (arith, linear))
 
 -- the two orders of a double sum
-pub dot_swap : (n m : ℕ) (c : ℕ → ℤ) (x : ℕ → ℕ → ℤ) (s : Column) → dot n c (λ k. dot m (x k) s) ≡ dot m (λ i. dot n c (λ k. x k i)) s
+pub dot_swap : (n m : ℕ) (c : ℕ → ℤ) (x : ℕ → ℕ → ℤ) (s : Column)
+    → dot n c (λ k. dot m (x k) s) ≡ dot m (λ i. dot n c (λ k. x k i)) s
 dot_swap n zero c x s = zero_row n c
-dot_swap n (suc m) c x s = dot_add n c (λ k. dot m (x k) s) (λ k. x k m) (s m) ∙ ap (λ (z : ℤ). z +ℤ dot n c (λ k. x k m) *ℤ s m) (dot_swap n m c x s)
+dot_swap n (suc m) c x s =
+    dot_add n c (λ k. dot m (x k) s) (λ k. x k m) (s m)
+    ∙ ap (λ (z : ℤ). z +ℤ dot n c (λ k. x k m) *ℤ s m) (dot_swap n m c x s)
 
 -- ---- columns read from the last row
 cond_in : (j n : ℕ) (u v : ℤ) → j < n → cond (nat_lt j n) u v ≡ u
@@ -48,8 +55,11 @@ unfolding flipped
 flipped_at n a i lt = cond_in i n (a (n - 1 - i)) (pos 0) lt
 
 -- a sum over the program's rows
-pub dot_flipped : (n : ℕ) (num m a : ℕ → ℤ) → ((i : ℕ) → i < n → num (n - 1 - i) ≡ m i) → dot n num a ≡ dot n m (flipped n a)
-dot_flipped n num m a h = sym (dot_backwards n num a) ∙ dot_cong n (backwards n num) m (backwards n a) (flipped n a) h (λ i lt. sym (flipped_at n a i lt))
+pub dot_flipped : (n : ℕ) (num m a : ℕ → ℤ) → ((i : ℕ) → i < n → num (n - 1 - i) ≡ m i)
+    → dot n num a ≡ dot n m (flipped n a)
+dot_flipped n num m a h =
+    sym (dot_backwards n num a)
+    ∙ dot_cong n (backwards n num) m (backwards n a) (flipped n a) h (λ i lt. sym (flipped_at n a i lt))
 
 -- ---- cuts
 pub cut_in : (m : ℕ) (a : ℕ → ℤ) (j : ℕ) → j < m → cut m a j ≡ a j
@@ -59,12 +69,23 @@ pub cut_out : (m : ℕ) (a : ℕ → ℤ) (j : ℕ) → m ≤ j → cut m a j �
 cut_out m a j le = cond_out j m (a j) (pos 0) le
 
 -- ---- lexicographic signs depend on the numbers alone
-pub nonneg_same : (m : ℕ) (a b : ℕ → ℤ) → ((j : ℕ) → j < m → a j ≡ b j) → IsLexNonnegative m a → IsLexNonnegative m b
+pub nonneg_same : (m : ℕ) (a b : ℕ → ℤ) → ((j : ℕ) → j < m → a j ≡ b j) → IsLexNonnegative m a
+    → IsLexNonnegative m b
 nonneg_same zero a b h p = tt
-nonneg_same (suc m) a b h (inl p) = inl (subst (λ (z : ℤ). Rattle.std.proofs.Common.◌<ℤ◌ (pos 0) z) (h 0 (omega arith)) p)
-nonneg_same (suc m) a b h (inr p) = inr (sym (h 0 (omega arith)) ∙ p.0, nonneg_same m (λ j. a (suc j)) (λ j. b (suc j)) (λ j lt. h (suc j) (omega arith)) p.1)
+nonneg_same (suc m) a b h (inl p) =
+    inl (subst (λ (z : ℤ). Rattle.std.proofs.Common.◌<ℤ◌ (pos 0) z) (h 0 (omega arith)) p)
+nonneg_same (suc m) a b h (inr p) =
+    inr (
+      sym (h 0 (omega arith)) ∙ p.0,
+      nonneg_same m (λ j. a (suc j)) (λ j. b (suc j)) (λ j lt. h (suc j) (omega arith)) p.1,
+    )
 
 pub positive_same : (m : ℕ) (a b : ℕ → ℤ) → ((j : ℕ) → j < m → a j ≡ b j) → IsLexPositive m a → IsLexPositive m b
 positive_same zero a b h p = p
-positive_same (suc m) a b h (inl p) = inl (subst (λ (z : ℤ). Rattle.std.proofs.Common.◌<ℤ◌ (pos 0) z) (h 0 (omega arith)) p)
-positive_same (suc m) a b h (inr p) = inr (sym (h 0 (omega arith)) ∙ p.0, positive_same m (λ j. a (suc j)) (λ j. b (suc j)) (λ j lt. h (suc j) (omega arith)) p.1)
+positive_same (suc m) a b h (inl p) =
+    inl (subst (λ (z : ℤ). Rattle.std.proofs.Common.◌<ℤ◌ (pos 0) z) (h 0 (omega arith)) p)
+positive_same (suc m) a b h (inr p) =
+    inr (
+      sym (h 0 (omega arith)) ∙ p.0,
+      positive_same m (λ j. a (suc j)) (λ j. b (suc j)) (λ j lt. h (suc j) (omega arith)) p.1,
+    )

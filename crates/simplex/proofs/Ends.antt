@@ -1,5 +1,7 @@
 -- What the end of the first part means, and that no ray stands beside bounds.
-use Rattle.std.proofs.Common.{◌≡◌, ◌⊎◌, inl, inr, ℕ, zero, suc, ◌<◌, Bool, false, List, [], ◌∷◌, Option, Some, None, slice_index_or, arith, refl, sym, ap, subst, ◌∙◌, ℤ, pos, negsuc, ◌+ℤ◌, ◌*ℤ◌, neg_ℤ, ◌<ℤ◌, ◌≤ℤ◌}
+use Rattle.std.proofs.Common.{◌≡◌, ◌⊎◌, inl, inr, ℕ, zero, suc, ◌<◌, Bool, false, List, [], ◌∷◌}
+use Rattle.std.proofs.Common.{Option, Some, None, slice_index_or, arith, refl, sym, ap, subst, ◌∙◌}
+use Rattle.std.proofs.Common.{ℤ, pos, negsuc, ◌+ℤ◌, ◌*ℤ◌, neg_ℤ, ◌<ℤ◌, ◌≤ℤ◌}
 use Rattle.std.proofs.lemmas.Int.{ints}
 use Rattle.definitions.proofs.Members.{sum_below-zero}
 use Rattle.definitions.proofs.Ring.{ring_laws, unit_laws, linear, mul-leℤ, mul-zeroℤ, one-mulℤ}
@@ -28,21 +30,24 @@ both_neg : (a b : ℤ) → neg_ℤ a *ℤ neg_ℤ b ≡ a *ℤ b
 both_neg a b = simp ring_laws
 
 times_neg : (a b : ℤ) → a ≤ℤ pos 0 → b ≤ℤ pos 0 → pos 0 ≤ℤ (a *ℤ b)
-times_neg a b h k = subst (λ (z : ℤ). pos 0 ≤ℤ z) (both_neg a b) (times_nonneg (neg_ℤ a) (neg_ℤ b) (neg_le a h) (neg_le b k))
+times_neg a b h k =
+    subst (λ (z : ℤ). pos 0 ≤ℤ z) (both_neg a b) (times_nonneg (neg_ℤ a) (neg_ℤ b) (neg_le a h) (neg_le b k))
 
 sum_nonneg : (a b : ℤ) → pos 0 ≤ℤ a → pos 0 ≤ℤ b → pos 0 ≤ℤ (a +ℤ b)
 sum_nonneg a b h k = omega (arith, linear)
 
 dot_nonneg : (n : ℕ) (a b : ℕ → ℤ) → ((k : ℕ) → k < n → pos 0 ≤ℤ (a k *ℤ b k)) → pos 0 ≤ℤ dot n a b
 dot_nonneg zero a b h = omega (arith, linear)
-dot_nonneg (suc n) a b h = sum_nonneg (dot n a b) (a n *ℤ b n) (dot_nonneg n a b (λ k lt. h k (omega arith))) (h n (omega arith))
+dot_nonneg (suc n) a b h =
+    sum_nonneg (dot n a b) (a n *ℤ b n) (dot_nonneg n a b (λ k lt. h k (omega arith))) (h n (omega arith))
 
 sum_nonpos : (a b : ℤ) → a ≤ℤ pos 0 → b ≤ℤ pos 0 → (a +ℤ b) ≤ℤ pos 0
 sum_nonpos a b h k = omega (arith, linear)
 
 dot_nonpos : (n : ℕ) (a b : ℕ → ℤ) → ((k : ℕ) → k < n → (a k *ℤ b k) ≤ℤ pos 0) → dot n a b ≤ℤ pos 0
 dot_nonpos zero a b h = omega (arith, linear)
-dot_nonpos (suc n) a b h = sum_nonpos (dot n a b) (a n *ℤ b n) (dot_nonpos n a b (λ k lt. h k (omega arith))) (h n (omega arith))
+dot_nonpos (suc n) a b h =
+    sum_nonpos (dot n a b) (a n *ℤ b n) (dot_nonpos n a b (λ k lt. h k (omega arith))) (h n (omega arith))
 
 sum_first : (a b : ℤ) → a ≤ℤ pos 0 → b <ℤ pos 0 → (a +ℤ b) <ℤ pos 0
 sum_first a b h k = omega (arith, linear)
@@ -51,11 +56,14 @@ sum_second : (a b : ℤ) → a <ℤ pos 0 → b ≤ℤ pos 0 → (a +ℤ b) <ℤ
 sum_second a b h k = omega (arith, linear)
 
 -- a sum without a positive part and with a negative one
-dot_negative : (n : ℕ) (a b : ℕ → ℤ) (j : ℕ) → j < n → ((k : ℕ) → k < n → (a k *ℤ b k) ≤ℤ pos 0) → (a j *ℤ b j) <ℤ pos 0 → dot n a b <ℤ pos 0
+dot_negative : (n : ℕ) (a b : ℕ → ℤ) (j : ℕ) → j < n → ((k : ℕ) → k < n → (a k *ℤ b k) ≤ℤ pos 0)
+    → (a j *ℤ b j) <ℤ pos 0 → dot n a b <ℤ pos 0
 dot_negative zero a b j lt h p = absurd (omega arith)
 dot_negative (suc n) a b j lt h p = elim (last_or_less j n lt) [
-  | inl e ↦ sum_first (dot n a b) (a n *ℤ b n) (dot_nonpos n a b (λ k l. h k (omega arith))) (subst (λ (t : ℕ). (a t *ℤ b t) <ℤ pos 0) e p)
-  | inr l ↦ sum_second (dot n a b) (a n *ℤ b n) (dot_negative n a b j l (λ k q. h k (omega arith)) p) (h n (omega arith))
+  | inl e ↦ sum_first (dot n a b) (a n *ℤ b n) (dot_nonpos n a b (λ k l. h k (omega arith)))
+      (subst (λ (t : ℕ). (a t *ℤ b t) <ℤ pos 0) e p)
+  | inr l ↦ sum_second (dot n a b) (a n *ℤ b n) (dot_negative n a b j l (λ k q. h k (omega arith)) p)
+      (h n (omega arith))
 ]
 
 -- ---- the first part is never without an end
@@ -69,10 +77,13 @@ not_both z d h k = below z h (subst (λ (t : ℤ). z <ℤ t) (mul-zeroℤ d) k)
     below : (z : ℤ) → pos 0 ≤ℤ z → z <ℤ pos 0 → ⊥
     below z h k = omega (arith, linear)
 
-pub no_first_direction : (P : Program) (n : ℕ) (ids : List (Option ℕ)) (xs ts : List ℤ) (d : ℤ) (costs : List ℤ) → IsImproving P false n ids xs ts d costs → HasDirection P false xs d costs → ⊥
+pub no_first_direction : (P : Program) (n : ℕ) (ids : List (Option ℕ)) (xs ts : List ℤ) (d : ℤ) (costs : List ℤ)
+    → IsImproving P false n ids xs ts d costs → HasDirection P false xs d costs → ⊥
 no_first_direction P n ids xs ts d costs st r =
     not_both _ d (dot_nonneg P.rows (weight_at costs) (λ k. dot P.rows (entry_at 32 xs k) (column P r.id))
-    (λ k lt. times_neg (weight_at costs k) (dot P.rows (entry_at 32 xs k) (column P r.id)) (subst (λ (z : ℤ). z ≤ℤ pos 0) (sym (st.costs_are k lt)) (part_nonpos P (id_at ids k))) (r.lowers k lt))) r.above
+    (λ k lt. times_neg (weight_at costs k) (dot P.rows (entry_at 32 xs k) (column P r.id))
+    (subst (λ (z : ℤ). z ≤ℤ pos 0) (sym (st.costs_are k lt)) (part_nonpos P (id_at ids k))) (r.lowers k lt)))
+    r.above
 
 -- ---- no solution
 weighted_free : (P : Program) (ws : List (ℕ × ℤ)) → weighted_sum (price P false) ws ≡ pos 0
@@ -86,9 +97,13 @@ negative_times (pos (suc d)) (negsuc z) p h k = absurd (omega (arith, ints))
 negative_times (negsuc d) (negsuc z) p h k = absurd (omega (arith, ints))
 
 -- multipliers that bound the program without costs, of a negative value at the right sides
-pub contradicts : (P : Program) (num : List ℤ) (den : ℤ) → Bounds (priced P false) num den → value_of P num P.right <ℤ pos 0 → HasNoSolution P
+pub contradicts : (P : Program) (num : List ℤ) (den : ℤ) → Bounds (priced P false) num den
+    → value_of P num P.right <ℤ pos 0 → HasNoSolution P
 contradicts P num den b neg ws wden s =
-    negative_times wden (value_of P num P.right) s.1 (subst (λ (z : ℤ). z ≤ℤ (wden *ℤ value_of P num P.right)) (ap (λ (z : ℤ). den *ℤ z) (weighted_free P ws) ∙ mul-zeroℤ den) (weak_duality (priced P false) num den ws wden b s)) neg
+    negative_times wden (value_of P num P.right) s.1
+    (subst (λ (z : ℤ). z ≤ℤ (wden *ℤ value_of P num P.right))
+    (ap (λ (z : ℤ). den *ℤ z) (weighted_free P ws) ∙ mul-zeroℤ den)
+    (weak_duality (priced P false) num den ws wden b s)) neg
 
 -- ---- no ray beside multipliers that bound the program
 positive_product : (a b : ℤ) → pos 1 ≤ℤ a → pos 1 ≤ℤ b → (a *ℤ b) ≤ℤ pos 0 → ⊥
@@ -100,16 +115,21 @@ positive_product (negsuc a) b h k l = absurd (omega (arith, ints))
 
 -- the program with right sides 0, which a ray solves
 abbrev homogeneous : Program → Program
-homogeneous P = record { rows = P.rows; right = λ i. pos 0; is_column = P.is_column; entry = P.entry; cost = P.cost }
+homogeneous P =
+    record { rows = P.rows; right = λ i. pos 0; is_column = P.is_column; entry = P.entry; cost = P.cost }
 
 pub no_ray : (P : Program) (num : List ℤ) (den : ℤ) → Bounds P num den → HasRay P → ⊥
 no_ray P num den b r =
     positive_product den (weighted_sum P.cost r.0) b.0 r.3
     (subst (λ (z : ℤ). (den *ℤ weighted_sum P.cost r.0) ≤ℤ z) none
-    (weak_duality (homogeneous P) num den r.0 (pos 1) b (r.1, omega (arith, ints), λ i lt. r.2 i lt ∙ sym (mul-zeroℤ (pos 1)))))
+    (weak_duality (homogeneous P) num den r.0 (pos 1) b
+    (r.1, omega (arith, ints), λ i lt. r.2 i lt ∙ sym (mul-zeroℤ (pos 1)))))
   where
     none : pos 1 *ℤ value_of (homogeneous P) num (λ i. pos 0) ≡ pos 0
-    none = one-mulℤ (value_of (homogeneous P) num (λ i. pos 0)) ∙ sum_below-zero P.rows (λ i. slice_index_or num i (pos 0) *ℤ pos 0) (λ i lt. mul-zeroℤ (slice_index_or num i (pos 0)))
+    none =
+        one-mulℤ (value_of (homogeneous P) num (λ i. pos 0))
+        ∙ sum_below-zero P.rows (λ i. slice_index_or num i (pos 0) *ℤ pos 0)
+        (λ i lt. mul-zeroℤ (slice_index_or num i (pos 0)))
 
 pub lex_first : {A : Type 0} (z : ℤ) → (pos 0 <ℤ z) ⊎ ((z ≡ pos 0) × A) → pos 0 ≤ℤ z
 lex_first z (inl h) = omega (arith, linear)
@@ -126,13 +146,26 @@ part_below P o w e h = subst (λ (t : Option ℕ). (part_cost P false t *ℤ w) 
     below w h = omega (arith, ints)
 
 -- the objective of the right sides is what the tracked weights give
-pub objective_right : (P : Program) (w : Bool) (n : ℕ) (ids : List (Option ℕ)) (xs ts : List ℤ) (d : ℤ) (costs : List ℤ) → IsImproving P w n ids xs ts d costs → objective P.rows (weight_at costs) (entry_at 32 xs) (right_side P) ≡ dot P.rows (weight_at costs) (λ k. entry_at 32 ts k 0)
-objective_right P w n ids xs ts d costs st = dot_cong P.rows (weight_at costs) (weight_at costs) (λ k. dot P.rows (entry_at 32 xs k) (right_side P)) (λ k. entry_at 32 ts k 0) (λ k lt. refl) (λ k lt. sym (st.table.tracked.tracked k 0 lt (omega arith)))
+pub objective_right : (P : Program) (w : Bool) (n : ℕ) (ids : List (Option ℕ)) (xs ts : List ℤ) (d : ℤ)
+    (costs : List ℤ) → IsImproving P w n ids xs ts d costs
+    → objective P.rows (weight_at costs) (entry_at 32 xs) (right_side P)
+    ≡ dot P.rows (weight_at costs) (λ k. entry_at 32 ts k 0)
+objective_right P w n ids xs ts d costs st =
+    dot_cong P.rows (weight_at costs) (weight_at costs) (λ k. dot P.rows (entry_at 32 xs k) (right_side P))
+    (λ k. entry_at 32 ts k 0) (λ k lt. refl) (λ k lt. sym (st.table.tracked.tracked k 0 lt (omega arith)))
 
-pub no_solution : (P : Program) (n : ℕ) (ids : List (Option ℕ)) (xs ts : List ℤ) (d : ℤ) (costs num : List ℤ) (den : ℤ) → IsImproving P false n ids xs ts d costs → AreMultipliers xs costs n d num den → Bounds (priced P false) num den → HasAddedWeight n ids ts → HasNoSolution P
+pub no_solution : (P : Program) (n : ℕ) (ids : List (Option ℕ)) (xs ts : List ℤ) (d : ℤ) (costs num : List ℤ)
+    (den : ℤ) → IsImproving P false n ids xs ts d costs → AreMultipliers xs costs n d num den
+    → Bounds (priced P false) num den → HasAddedWeight n ids ts → HasNoSolution P
 no_solution P n ids xs ts d costs num den st m b a =
-    contradicts P num den b (subst (λ (z : ℤ). z <ℤ pos 0) (sym (value_is P xs costs num n d den P.right st.rows_is m ∙ objective_right P false n ids xs ts d costs st))
-    (dot_negative P.rows (weight_at costs) (λ k. entry_at 32 ts k 0) a.position (subst (λ (t : ℕ). a.position < t) st.rows_is a.place)
-    (λ k lt. subst (λ (z : ℤ). (z *ℤ entry_at 32 ts k 0) ≤ℤ pos 0) (sym (st.costs_are k lt)) (part_times P (id_at ids k) (entry_at 32 ts k 0) (lex_first (entry_at 32 ts k 0) (st.nonneg.rows k lt))))
+    contradicts P num den b
+    (subst (λ (z : ℤ). z <ℤ pos 0)
+    (sym
+    (value_is P xs costs num n d den P.right st.rows_is m ∙ objective_right P false n ids xs ts d costs st))
+    (dot_negative P.rows (weight_at costs) (λ k. entry_at 32 ts k 0) a.position
+    (subst (λ (t : ℕ). a.position < t) st.rows_is a.place)
+    (λ k lt. subst (λ (z : ℤ). (z *ℤ entry_at 32 ts k 0) ≤ℤ pos 0) (sym (st.costs_are k lt))
+    (part_times P (id_at ids k) (entry_at 32 ts k 0) (lex_first (entry_at 32 ts k 0) (st.nonneg.rows k lt))))
     (let lt = subst (λ (t : ℕ). a.position < t) st.rows_is a.place in
-    subst (λ (z : ℤ). (z *ℤ entry_at 32 ts a.position 0) <ℤ pos 0) (sym (st.costs_are a.position lt)) (part_below P (id_at ids a.position) (entry_at 32 ts a.position 0) a.added a.positive))))
+    subst (λ (z : ℤ). (z *ℤ entry_at 32 ts a.position 0) <ℤ pos 0) (sym (st.costs_are a.position lt))
+    (part_below P (id_at ids a.position) (entry_at 32 ts a.position 0) a.added a.positive))))

@@ -1,5 +1,6 @@
 -- One step of the simplex: the rows stay, and what the objective can still go up is less.
-use Rattle.std.proofs.Common.{◌≡◌, ◌≢◌, inl, inr, ℕ, zero, suc, ◌*◌, ◌^◌, ◌<◌, ◌≤◌, List, arith, refl, sym, ap, subst, ◌∙◌, ℤ, pos, ◌+ℤ◌, ◌-ℤ◌, ◌*ℤ◌, ◌<ℤ◌, unsigned_abs, mul-le-mul}
+use Rattle.std.proofs.Common.{◌≡◌, ◌≢◌, inl, inr, ℕ, zero, suc, ◌*◌, ◌^◌, ◌<◌, ◌≤◌, List, arith, refl, sym, ap}
+use Rattle.std.proofs.Common.{subst, ◌∙◌, ℤ, pos, ◌+ℤ◌, ◌-ℤ◌, ◌*ℤ◌, ◌<ℤ◌, unsigned_abs, mul-le-mul}
 use Rattle.std.proofs.lemmas.Int.{ints, unsigned_abs-mul}
 use Rattle.definitions.proofs.Ring.{unit_laws}
 use Rattle.determinants.proofs.LexicographicSigns.{positive_or_zero}
@@ -23,15 +24,20 @@ use Rattle.definitions.proofs.Cases.{below_or_above}
 use Rattle.determinants.proofs.DotProducts.{dot_cong}
 use Rattle.determinants.proofs.BasisPivots.{pivoted_same}
 
-all_zero : (n : ℕ) (a : ℕ → ℤ) (m : ℕ) (f : ℕ → Column) → ((j : ℕ) → j < m → dot n a (f j) ≡ pos 0) → AllByRecursion (λ c. dot n a c ≡ pos 0) (first_columns m f)
+all_zero : (n : ℕ) (a : ℕ → ℤ) (m : ℕ) (f : ℕ → Column) → ((j : ℕ) → j < m → dot n a (f j) ≡ pos 0)
+    → AllByRecursion (λ c. dot n a c ≡ pos 0) (first_columns m f)
 all_zero n a zero f h = tt
 all_zero n a (suc m) f h = (h 0 (omega arith), all_zero n a m (λ k. f (suc k)) (λ j lt. h (suc j) (omega arith)))
 
 -- ---- the rows
 module _ (P : Program) (xs ts ys : List ℤ) (d : ℤ) (t : IsTracked P xs ts) (s : Column) (within : IsWithin P.rows s)
-    (ys_is : (k : ℕ) → k < P.rows → weight_at ys k ≡ dot P.rows (entry_at 32 xs k) s) (rows : AreNonneg P ts) (p : ℕ) (least : IsLeast ts ys P.rows P.rows p) where
-  tracked_row : (k : ℕ) → k < P.rows → IsLexNonnegative (suc P.rows) (λ j. dot P.rows (entry_at 32 xs k) (target P t.refs j))
-  tracked_row k kn = nonneg_same (suc P.rows) (entry_at 32 ts k) (λ j. dot P.rows (entry_at 32 xs k) (target P t.refs j)) (λ j lt. t.tracked k j kn lt) (rows.rows k kn)
+    (ys_is : (k : ℕ) → k < P.rows → weight_at ys k ≡ dot P.rows (entry_at 32 xs k) s) (rows : AreNonneg P ts)
+    (p : ℕ) (least : IsLeast ts ys P.rows P.rows p) where
+  tracked_row : (k : ℕ) → k < P.rows
+      → IsLexNonnegative (suc P.rows) (λ j. dot P.rows (entry_at 32 xs k) (target P t.refs j))
+  tracked_row k kn =
+      nonneg_same (suc P.rows) (entry_at 32 ts k) (λ j. dot P.rows (entry_at 32 xs k) (target P t.refs j))
+      (λ j lt. t.tracked k j kn lt) (rows.rows k kn)
 
   y_positive : pos 0 <ℤ dot P.rows (entry_at 32 xs p) s
   y_positive = subst (λ (z : ℤ). pos 0 <ℤ z) (ys_is p least.place) least.positive
@@ -41,41 +47,65 @@ module _ (P : Program) (xs ts ys : List ℤ) (d : ℤ) (t : IsTracked P xs ts) (
   row_positive = elim (positive_or_zero (suc P.rows) (entry_at 32 ts p) (rows.rows p least.place)) [
     | inl h ↦ h
     | inr z ↦ absurd (positive_apart (dot P.rows (entry_at 32 xs p) s) y_positive
-        (none_at_basis P.rows t.refs_sign (first_columns P.rows t.refs) t.refs_den t.refs_inverse (entry_at 32 xs p) s t.refs_basis within
-        (all_zero P.rows (entry_at 32 xs p) P.rows t.refs (λ j lt. sym (t.tracked p (suc j) least.place (omega arith)) ∙ z (suc j) (omega arith)))))
+        (none_at_basis P.rows t.refs_sign (first_columns P.rows t.refs) t.refs_den t.refs_inverse (entry_at 32 xs p)
+        s t.refs_basis within
+        (all_zero P.rows (entry_at 32 xs p) P.rows t.refs
+        (λ j lt. sym (t.tracked p (suc j) least.place (omega arith)) ∙ z (suc j) (omega arith)))))
   ]
 
-  gap_same : (k j : ℕ) → k < P.rows → j < suc P.rows → ratio_gap ts ys k p j ≡ dot P.rows (entry_at 32 xs p) s *ℤ dot P.rows (entry_at 32 xs k) (target P t.refs j) -ℤ dot P.rows (entry_at 32 xs k) s *ℤ dot P.rows (entry_at 32 xs p) (target P t.refs j)
-  gap_same k j kn jn = step _ _ _ _ _ _ _ _ (ys_is p least.place) (ys_is k kn) (t.tracked k j kn jn) (t.tracked p j least.place jn)
+  gap_same : (k j : ℕ) → k < P.rows → j < suc P.rows
+      → ratio_gap ts ys k p j
+      ≡ dot P.rows (entry_at 32 xs p) s *ℤ dot P.rows (entry_at 32 xs k) (target P t.refs j)
+      -ℤ dot P.rows (entry_at 32 xs k) s *ℤ dot P.rows (entry_at 32 xs p) (target P t.refs j)
+  gap_same k j kn jn =
+      step _ _ _ _ _ _ _ _ (ys_is p least.place) (ys_is k kn) (t.tracked k j kn jn) (t.tracked p j least.place jn)
     where
-      step : (yp yk tk tp yp' yk' tk' tp' : ℤ) → yp ≡ yp' → yk ≡ yk' → tk ≡ tk' → tp ≡ tp' → yp *ℤ tk -ℤ yk *ℤ tp ≡ yp' *ℤ tk' -ℤ yk' *ℤ tp'
+      step : (yp yk tk tp yp' yk' tk' tp' : ℤ) → yp ≡ yp' → yk ≡ yk' → tk ≡ tk' → tp ≡ tp'
+          → yp *ℤ tk -ℤ yk *ℤ tp ≡ yp' *ℤ tk' -ℤ yk' *ℤ tp'
       step yp yk tk tp yp' yk' tk' tp' e f g h = simp (e, f, g, h)
 
-  pub next_rows : (xs' ts' : List ℤ) → pos 0 <ℤ d → IsPivoted 32 xs ys d P.rows P.rows p xs' → ((k j : ℕ) → k < P.rows → j < suc P.rows → entry_at 32 ts' k j ≡ dot P.rows (entry_at 32 xs' k) (target P t.refs j)) → AreNonneg P ts'
+  pub next_rows : (xs' ts' : List ℤ) → pos 0 <ℤ d → IsPivoted 32 xs ys d P.rows P.rows p xs'
+      → ((k j : ℕ) → k < P.rows → j < suc P.rows
+      → entry_at 32 ts' k j ≡ dot P.rows (entry_at 32 xs' k) (target P t.refs j)) → AreNonneg P ts'
   next_rows xs' ts' dp q tracked' =
       let du = positive_is d dp in
       let yu = positive_is (dot P.rows (entry_at 32 xs p) s) y_positive in
       record {
-        rows = λ k kn. nonneg_same (suc P.rows) (λ j. dot P.rows (entry_at 32 xs' k) (target P t.refs j)) (entry_at 32 ts' k) (λ j lt. sym (tracked' k j kn lt))
-            (rows_stay P.rows (suc P.rows) p du.0 yu.0 (entry_at 32 xs) (entry_at 32 xs') s (target P t.refs) du.2 yu.2 yu.1
-            (λ k i kn jn. ap (λ (z : ℤ). z *ℤ entry_at 32 xs' k i) (sym du.1) ∙ q.entries k i kn jn ∙ pivoted_same d (entry_at 32 xs) p (weight_at ys) (λ k. dot P.rows (entry_at 32 xs k) s) k i (ys_is p least.place) (ys_is k kn) ∙ ap (λ (z : ℤ). pivoted z (entry_at 32 xs) p (λ k. dot P.rows (entry_at 32 xs k) s) k i) du.1)
+        rows = λ k kn. nonneg_same (suc P.rows) (λ j. dot P.rows (entry_at 32 xs' k) (target P t.refs j))
+            (entry_at 32 ts' k) (λ j lt. sym (tracked' k j kn lt))
+            (rows_stay P.rows (suc P.rows) p du.0 yu.0 (entry_at 32 xs) (entry_at 32 xs') s (target P t.refs) du.2
+            yu.2 yu.1
+            (λ k i kn jn. ap (λ (z : ℤ). z *ℤ entry_at 32 xs' k i) (sym du.1) ∙ q.entries k i kn jn
+            ∙ pivoted_same d (entry_at 32 xs) p (weight_at ys) (λ k. dot P.rows (entry_at 32 xs k) s) k i
+            (ys_is p least.place) (ys_is k kn)
+            ∙ ap (λ (z : ℤ). pivoted z (entry_at 32 xs) p (λ k. dot P.rows (entry_at 32 xs k) s) k i) du.1)
             least.place tracked_row
-            (λ k kn pk. nonneg_same (suc P.rows) (ratio_gap ts ys k p) _ (λ j lt. gap_same k j kn lt) (least.least k kn (subst (λ (z : ℤ). pos 0 <ℤ z) (sym (ys_is k kn)) pk)))
+            (λ k kn pk. nonneg_same (suc P.rows) (ratio_gap ts ys k p) _ (λ j lt. gap_same k j kn lt)
+            (least.least k kn (subst (λ (z : ℤ). pos 0 <ℤ z) (sym (ys_is k kn)) pk)))
             k kn);
       }
 
 -- ---- the measure
-sum_small : (n : ℕ) (a b : ℕ → ℤ) → ((k : ℕ) → k < n → unsigned_abs (a k) ≤ 2 ^ 46) → ((k : ℕ) → k < n → unsigned_abs (b k) ≤ limit) → unsigned_abs (dot n a b) ≤ n * 2 ^ 104
+sum_small : (n : ℕ) (a b : ℕ → ℤ) → ((k : ℕ) → k < n → unsigned_abs (a k) ≤ 2 ^ 46)
+    → ((k : ℕ) → k < n → unsigned_abs (b k) ≤ limit) → unsigned_abs (dot n a b) ≤ n * 2 ^ 104
 sum_small zero a b h k = omega arith
-sum_small (suc n) a b h k = step n (dot n a b) (a n *ℤ b n) (sum_small n a b (λ i lt. h i (omega arith)) (λ i lt. k i (omega arith))) (subst (λ (t : ℕ). t ≤ 2 ^ 46 * limit) (sym (unsigned_abs-mul (a n) (b n))) (mul-le-mul (h n (omega arith)) (k n (omega arith))))
+sum_small (suc n) a b h k =
+    step n (dot n a b) (a n *ℤ b n) (sum_small n a b (λ i lt. h i (omega arith)) (λ i lt. k i (omega arith)))
+    (subst (λ (t : ℕ). t ≤ 2 ^ 46 * limit) (sym (unsigned_abs-mul (a n) (b n)))
+    (mul-le-mul (h n (omega arith)) (k n (omega arith))))
   where
-    step : (n : ℕ) (s z : ℤ) → unsigned_abs s ≤ n * 2 ^ 104 → unsigned_abs z ≤ 2 ^ 46 * 2 ^ 58 → unsigned_abs (s +ℤ z) ≤ suc n * 2 ^ 104
+    step : (n : ℕ) (s z : ℤ) → unsigned_abs s ≤ n * 2 ^ 104 → unsigned_abs z ≤ 2 ^ 46 * 2 ^ 58
+        → unsigned_abs (s +ℤ z) ≤ suc n * 2 ^ 104
     step n s z h k = omega (arith, ints)
 
-pub objective_small : (n : ℕ) (costs ts : List ℤ) (j : ℕ) → n ≤ 31 → IsSmall costs n (2 ^ 46) → AreSmall ts n (suc n) → unsigned_abs (cut (suc n) (objective_at n costs ts) j) ≤ 2 ^ 110
+pub objective_small : (n : ℕ) (costs ts : List ℤ) (j : ℕ) → n ≤ 31 → IsSmall costs n (2 ^ 46)
+    → AreSmall ts n (suc n) → unsigned_abs (cut (suc n) (objective_at n costs ts) j) ≤ 2 ^ 110
 objective_small n costs ts j le h k = elim (below_or_above j (suc n)) [
-  | inl lt ↦ subst (λ (z : ℤ). unsigned_abs z ≤ 2 ^ 110) (sym (cut_in (suc n) (objective_at n costs ts) j lt)) (large n _ le (sum_small n (weight_at costs) (λ k. entry_at 32 ts k j) h.entries (λ i il. k.entries i j il lt)))
-  | inr ge ↦ subst (λ (z : ℤ). unsigned_abs z ≤ 2 ^ 110) (sym (cut_out (suc n) (objective_at n costs ts) j ge)) (omega arith)
+  | inl lt ↦ subst (λ (z : ℤ). unsigned_abs z ≤ 2 ^ 110) (sym (cut_in (suc n) (objective_at n costs ts) j lt))
+      (large n _ le
+      (sum_small n (weight_at costs) (λ k. entry_at 32 ts k j) h.entries (λ i il. k.entries i j il lt)))
+  | inr ge ↦ subst (λ (z : ℤ). unsigned_abs z ≤ 2 ^ 110) (sym (cut_out (suc n) (objective_at n costs ts) j ge))
+      (omega arith)
 ]
   where
     large : (n z : ℕ) → n ≤ 31 → z ≤ n * 2 ^ 104 → z ≤ 2 ^ 110
@@ -84,42 +114,66 @@ objective_small n costs ts j le h k = elim (below_or_above j (suc n)) [
 zeros : (d e r : ℤ) → d *ℤ pos 0 ≡ e *ℤ pos 0 +ℤ r *ℤ pos 0
 zeros d e r = simp unit_laws
 
-step_at : (n : ℕ) (d e r : ℤ) (z z' a : ℕ → ℤ) → ((j : ℕ) → j < n → d *ℤ z' j ≡ e *ℤ z j +ℤ r *ℤ a j) → (j : ℕ) → d *ℤ cut n z' j ≡ e *ℤ cut n z j +ℤ r *ℤ cut n a j
+step_at : (n : ℕ) (d e r : ℤ) (z z' a : ℕ → ℤ) → ((j : ℕ) → j < n → d *ℤ z' j ≡ e *ℤ z j +ℤ r *ℤ a j) → (j : ℕ)
+    → d *ℤ cut n z' j ≡ e *ℤ cut n z j +ℤ r *ℤ cut n a j
 step_at n d e r z z' a h j = elim (below_or_above j n) [
-  | inl lt ↦ ap (λ (t : ℤ). d *ℤ t) (cut_in n z' j lt) ∙ h j lt ∙ sym (ap (λ (t : ℤ). e *ℤ t +ℤ r *ℤ cut n a j) (cut_in n z j lt) ∙ ap (λ (t : ℤ). e *ℤ z j +ℤ r *ℤ t) (cut_in n a j lt))
-  | inr ge ↦ ap (λ (t : ℤ). d *ℤ t) (cut_out n z' j ge) ∙ zeros d e r ∙ sym (ap (λ (t : ℤ). e *ℤ t +ℤ r *ℤ cut n a j) (cut_out n z j ge) ∙ ap (λ (t : ℤ). e *ℤ pos 0 +ℤ r *ℤ t) (cut_out n a j ge))
+  | inl lt ↦ ap (λ (t : ℤ). d *ℤ t) (cut_in n z' j lt) ∙ h j lt
+      ∙ sym
+      (ap (λ (t : ℤ). e *ℤ t +ℤ r *ℤ cut n a j) (cut_in n z j lt)
+      ∙ ap (λ (t : ℤ). e *ℤ z j +ℤ r *ℤ t) (cut_in n a j lt))
+  | inr ge ↦ ap (λ (t : ℤ). d *ℤ t) (cut_out n z' j ge) ∙ zeros d e r
+      ∙ sym
+      (ap (λ (t : ℤ). e *ℤ t +ℤ r *ℤ cut n a j) (cut_out n z j ge)
+      ∙ ap (λ (t : ℤ). e *ℤ pos 0 +ℤ r *ℤ t) (cut_out n a j ge))
 ]
 
 of_size : (r : ℤ) → pos 0 <ℤ r → r ≡ pos (unsigned_abs r)
 of_size r h = omega (arith, ints)
 
 -- what a step of the objective needs to be a fall of the measure
-pub falls : (n : ℕ) (costs costs' ts ts' : List ℤ) (d d' r : ℤ) (a : ℕ → ℤ) → n ≤ 31 → IsSmall costs n (2 ^ 46) → IsSmall costs' n (2 ^ 46) → AreSmall ts n (suc n) → AreSmall ts' n (suc n)
+pub falls : (n : ℕ) (costs costs' ts ts' : List ℤ) (d d' r : ℤ) (a : ℕ → ℤ) → n ≤ 31 → IsSmall costs n (2 ^ 46)
+    → IsSmall costs' n (2 ^ 46) → AreSmall ts n (suc n) → AreSmall ts' n (suc n)
     → pos 0 <ℤ d → pos 0 <ℤ d' → pos 0 <ℤ r → unsigned_abs d ≤ 2 ^ 58 → unsigned_abs d' ≤ 2 ^ 58
-    → ((j : ℕ) → j < suc n → d *ℤ objective_at n costs' ts' j ≡ d' *ℤ objective_at n costs ts j +ℤ r *ℤ a j) → IsLexPositive (suc n) a
+    → ((j : ℕ) → j < suc n → d *ℤ objective_at n costs' ts' j ≡ d' *ℤ objective_at n costs ts j +ℤ r *ℤ a j)
+    → IsLexPositive (suc n) a
     → objective_room n costs' ts' d' < objective_room n costs ts d
 unfolding objective_room
 falls n costs costs' ts ts' d d' r a le hc hc' ht ht' dp d'p rp sd sd' h lex =
-    room_left_falls (suc n) (unsigned_abs r) d d' (cut (suc n) (objective_at n costs ts)) (cut (suc n) (objective_at n costs' ts')) (cut (suc n) a) dp d'p sd sd'
-    (λ j. objective_small n costs ts j le hc ht) (λ j. objective_small n costs' ts' j le hc' ht') (size_positive r rp)
-    (λ j. step_at (suc n) d d' r (objective_at n costs ts) (objective_at n costs' ts') a h j ∙ ap (λ (z : ℤ). d' *ℤ cut (suc n) (objective_at n costs ts) j +ℤ z *ℤ cut (suc n) a j) (of_size r rp))
+    room_left_falls (suc n) (unsigned_abs r) d d' (cut (suc n) (objective_at n costs ts))
+    (cut (suc n) (objective_at n costs' ts')) (cut (suc n) a) dp d'p sd sd'
+    (λ j. objective_small n costs ts j le hc ht) (λ j. objective_small n costs' ts' j le hc' ht')
+    (size_positive r rp)
+    (λ j. step_at (suc n) d d' r (objective_at n costs ts) (objective_at n costs' ts') a h j
+    ∙ ap (λ (z : ℤ). d' *ℤ cut (suc n) (objective_at n costs ts) j +ℤ z *ℤ cut (suc n) a j) (of_size r rp))
     (positive_same (suc n) a (cut (suc n) a) (λ j lt. sym (cut_in (suc n) a j lt)) lex)
 
 -- the objective after a pivot
-pub objective_step : (P : Program) (costs costs' xs xs' ts ts' ys : List ℤ) (d : ℤ) (s : Column) (refs : ℕ → Column) (p j : ℕ) → p < P.rows
-    → ((k : ℕ) → k < P.rows → weight_at ys k ≡ dot P.rows (entry_at 32 xs k) s) → IsPivoted 32 xs ys d P.rows P.rows p xs'
+pub objective_step : (P : Program) (costs costs' xs xs' ts ts' ys : List ℤ) (d : ℤ) (s : Column) (refs : ℕ → Column)
+    (p j : ℕ) → p < P.rows
+    → ((k : ℕ) → k < P.rows → weight_at ys k ≡ dot P.rows (entry_at 32 xs k) s)
+    → IsPivoted 32 xs ys d P.rows P.rows p xs'
     → ((k : ℕ) → k ≢ p → weight_at costs' k ≡ weight_at costs k)
-    → ((k : ℕ) → k < P.rows → entry_at 32 ts k j ≡ dot P.rows (entry_at 32 xs k) (target P refs j)) → ((k : ℕ) → k < P.rows → entry_at 32 ts' k j ≡ dot P.rows (entry_at 32 xs' k) (target P refs j))
-    → d *ℤ objective_at P.rows costs' ts' j ≡ weight_at ys p *ℤ objective_at P.rows costs ts j +ℤ (d *ℤ weight_at costs' p -ℤ objective P.rows (weight_at costs) (entry_at 32 xs) s) *ℤ entry_at 32 ts p j
+    → ((k : ℕ) → k < P.rows → entry_at 32 ts k j ≡ dot P.rows (entry_at 32 xs k) (target P refs j))
+    → ((k : ℕ) → k < P.rows → entry_at 32 ts' k j ≡ dot P.rows (entry_at 32 xs' k) (target P refs j))
+    → d *ℤ objective_at P.rows costs' ts' j
+    ≡ weight_at ys p *ℤ objective_at P.rows costs ts j
+    +ℤ (d *ℤ weight_at costs' p -ℤ objective P.rows (weight_at costs) (entry_at 32 xs) s) *ℤ entry_at 32 ts p j
 objective_step P costs costs' xs xs' ts ts' ys d s refs p j pn ys_is q same tk tk' =
     let n = P.rows in
     let r = d *ℤ weight_at costs' p -ℤ objective n (weight_at costs) (entry_at 32 xs) s in
-    ap (λ (z : ℤ). d *ℤ z) (dot_cong n (weight_at costs') (weight_at costs') (λ k. entry_at 32 ts' k j) (λ k. dot n (entry_at 32 xs' k) (target P refs j)) (λ i lt. refl) tk')
-    ∙ objective_pivoted n p d (entry_at 32 xs) (entry_at 32 xs') (weight_at costs) (weight_at costs') s (target P refs j) pn
+    ap (λ (z : ℤ). d *ℤ z)
+    (dot_cong n (weight_at costs') (weight_at costs') (λ k. entry_at 32 ts' k j)
+    (λ k. dot n (entry_at 32 xs' k) (target P refs j)) (λ i lt. refl) tk')
+    ∙ objective_pivoted n p d (entry_at 32 xs) (entry_at 32 xs') (weight_at costs) (weight_at costs') s
+    (target P refs j) pn
     (λ k i kn jn. q.entries k i kn jn ∙ step _ _ _ _ _ _ _ (ys_is p pn) (ys_is k kn)) (λ k kn ne. same k ne)
     ∙ sym (ap (λ (z : ℤ). z *ℤ objective_at n costs ts j +ℤ r *ℤ entry_at 32 ts p j) (ys_is p pn)
-    ∙ ap (λ (z : ℤ). dot n (entry_at 32 xs p) s *ℤ z +ℤ r *ℤ entry_at 32 ts p j) (dot_cong n (weight_at costs) (weight_at costs) (λ k. entry_at 32 ts k j) (λ k. dot n (entry_at 32 xs k) (target P refs j)) (λ i lt. refl) tk)
-    ∙ ap (λ (z : ℤ). dot n (entry_at 32 xs p) s *ℤ objective n (weight_at costs) (entry_at 32 xs) (target P refs j) +ℤ r *ℤ z) (tk p pn))
+    ∙ ap (λ (z : ℤ). dot n (entry_at 32 xs p) s *ℤ z +ℤ r *ℤ entry_at 32 ts p j)
+    (dot_cong n (weight_at costs) (weight_at costs) (λ k. entry_at 32 ts k j)
+    (λ k. dot n (entry_at 32 xs k) (target P refs j)) (λ i lt. refl) tk)
+    ∙ ap
+    (λ (z : ℤ). dot n (entry_at 32 xs p) s *ℤ objective n (weight_at costs) (entry_at 32 xs) (target P refs j)
+    +ℤ r *ℤ z) (tk p pn))
   where
     step : (yp yk yp' yk' a b c : ℤ) → yp ≡ yp' → yk ≡ yk' → (yp *ℤ a -ℤ yk *ℤ b) +ℤ c ≡ (yp' *ℤ a -ℤ yk' *ℤ b) +ℤ c
     step yp yk yp' yk' a b c e f = simp (e, f)

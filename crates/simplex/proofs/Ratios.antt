@@ -1,5 +1,6 @@
 -- The lexicographic comparison of ratios, and the least of them.
-use Rattle.std.proofs.Common.{◌≡◌, inl, inr, ℕ, zero, suc, ◌+◌, ◌<◌, List, arith, refl, sym, ap, subst, ◌∙◌, ℤ, pos, ◌+ℤ◌, ◌-ℤ◌, ◌*ℤ◌, ◌<ℤ◌, ◌≤ℤ◌, Option, Some, None}
+use Rattle.std.proofs.Common.{◌≡◌, inl, inr, ℕ, zero, suc, ◌+◌, ◌<◌, List, arith, refl, sym, ap, subst}
+use Rattle.std.proofs.Common.{◌∙◌, ℤ, pos, ◌+ℤ◌, ◌-ℤ◌, ◌*ℤ◌, ◌<ℤ◌, ◌≤ℤ◌, Option, Some, None}
 use Rattle.std.proofs.lemmas.Int.{ints}
 use Rattle.definitions.proofs.Ring.{ring_laws, linear}
 use Rattle.determinants.proofs.LexicographicSigns.{joined_nonnegative}
@@ -14,7 +15,8 @@ use Rattle.definitions.proofs.Cancel.{gap_of}
 pub positive_at : (m j : ℕ) (a : ℕ → ℤ) → j < m → ((i : ℕ) → i < j → a i ≡ pos 0) → pos 0 <ℤ a j → IsLexPositive m a
 positive_at zero j a lt h p = absurd (omega arith)
 positive_at (suc m) zero a lt h p = inl p
-positive_at (suc m) (suc j) a lt h p = inr (h 0 (omega arith), positive_at m j (λ i. a (suc i)) (omega arith) (λ i l. h (suc i) (omega arith)) p)
+positive_at (suc m) (suc j) a lt h p =
+    inr (h 0 (omega arith), positive_at m j (λ i. a (suc i)) (omega arith) (λ i l. h (suc i) (omega arith)) p)
 
 pub nonneg_of : (m : ℕ) (a : ℕ → ℤ) → IsLexPositive m a → IsLexNonnegative m a
 nonneg_of zero a p = tt
@@ -31,40 +33,66 @@ gap_less a b h = omega (arith, linear)
 gap_turned : (a b : ℤ) → a -ℤ b ≡ pos 0 → b -ℤ a ≡ pos 0
 gap_turned a b e = omega (arith, linear)
 
-pub before : (ts ys : List ℤ) (n k p j : ℕ) → j < suc n → ((i : ℕ) → i < j → ratio_gap ts ys k p i ≡ pos 0) → (weight_at ys p *ℤ entry_at 32 ts k j) <ℤ (weight_at ys k *ℤ entry_at 32 ts p j) → IsLexPositive (suc n) (ratio_gap ts ys p k)
-before ts ys n k p j lt h l = positive_at (suc n) j (ratio_gap ts ys p k) lt (λ i il. gap_turned (weight_at ys p *ℤ entry_at 32 ts k i) (weight_at ys k *ℤ entry_at 32 ts p i) (h i il)) (gap_less (weight_at ys p *ℤ entry_at 32 ts k j) (weight_at ys k *ℤ entry_at 32 ts p j) l)
+pub before : (ts ys : List ℤ) (n k p j : ℕ) → j < suc n → ((i : ℕ) → i < j → ratio_gap ts ys k p i ≡ pos 0)
+    → (weight_at ys p *ℤ entry_at 32 ts k j) <ℤ (weight_at ys k *ℤ entry_at 32 ts p j)
+    → IsLexPositive (suc n) (ratio_gap ts ys p k)
+before ts ys n k p j lt h l =
+    positive_at (suc n) j (ratio_gap ts ys p k) lt
+    (λ i il. gap_turned (weight_at ys p *ℤ entry_at 32 ts k i) (weight_at ys k *ℤ entry_at 32 ts p i) (h i il))
+    (gap_less (weight_at ys p *ℤ entry_at 32 ts k j) (weight_at ys k *ℤ entry_at 32 ts p j) l)
 
-pub not_before : (ts ys : List ℤ) (n k p j : ℕ) → j < suc n → ((i : ℕ) → i < j → ratio_gap ts ys k p i ≡ pos 0) → (weight_at ys k *ℤ entry_at 32 ts p j) <ℤ (weight_at ys p *ℤ entry_at 32 ts k j) → IsLexNonnegative (suc n) (ratio_gap ts ys k p)
-not_before ts ys n k p j lt h l = nonneg_of (suc n) (ratio_gap ts ys k p) (positive_at (suc n) j (ratio_gap ts ys k p) lt h (gap_less (weight_at ys k *ℤ entry_at 32 ts p j) (weight_at ys p *ℤ entry_at 32 ts k j) l))
+pub not_before : (ts ys : List ℤ) (n k p j : ℕ) → j < suc n → ((i : ℕ) → i < j → ratio_gap ts ys k p i ≡ pos 0)
+    → (weight_at ys k *ℤ entry_at 32 ts p j) <ℤ (weight_at ys p *ℤ entry_at 32 ts k j)
+    → IsLexNonnegative (suc n) (ratio_gap ts ys k p)
+not_before ts ys n k p j lt h l =
+    nonneg_of (suc n) (ratio_gap ts ys k p)
+    (positive_at (suc n) j (ratio_gap ts ys k p) lt h
+    (gap_less (weight_at ys k *ℤ entry_at 32 ts p j) (weight_at ys p *ℤ entry_at 32 ts k j) l))
 
 between : (a b : ℤ) → b ≤ℤ a → a ≤ℤ b → a ≡ b
 between a b h k = omega (arith, ints)
 
-pub same_so_far : (ts ys : List ℤ) (k p j : ℕ) → ((i : ℕ) → i < j → ratio_gap ts ys k p i ≡ pos 0) → (weight_at ys k *ℤ entry_at 32 ts p j) ≤ℤ (weight_at ys p *ℤ entry_at 32 ts k j) → (weight_at ys p *ℤ entry_at 32 ts k j) ≤ℤ (weight_at ys k *ℤ entry_at 32 ts p j) → (i : ℕ) → i < j + 1 → ratio_gap ts ys k p i ≡ pos 0
+pub same_so_far : (ts ys : List ℤ) (k p j : ℕ) → ((i : ℕ) → i < j → ratio_gap ts ys k p i ≡ pos 0)
+    → (weight_at ys k *ℤ entry_at 32 ts p j) ≤ℤ (weight_at ys p *ℤ entry_at 32 ts k j)
+    → (weight_at ys p *ℤ entry_at 32 ts k j) ≤ℤ (weight_at ys k *ℤ entry_at 32 ts p j) → (i : ℕ) → i < j + 1
+    → ratio_gap ts ys k p i ≡ pos 0
 same_so_far ts ys k p j h e f i lt = elim (last_or_less_of i j lt) [
-  | inl same ↦ ap (ratio_gap ts ys k p) same ∙ gap_of (weight_at ys p *ℤ entry_at 32 ts k j) (weight_at ys k *ℤ entry_at 32 ts p j) (between _ _ e f)
+  | inl same ↦ ap (ratio_gap ts ys k p) same
+      ∙ gap_of (weight_at ys p *ℤ entry_at 32 ts k j) (weight_at ys k *ℤ entry_at 32 ts p j) (between _ _ e f)
   | inr less ↦ h i less
 ]
 
 -- ---- the least ratio
-ring_step : (yj yk yp tj tk tp : ℤ) → yp *ℤ (yk *ℤ tj -ℤ yj *ℤ tk) ≡ yk *ℤ (yp *ℤ tj -ℤ yj *ℤ tp) +ℤ yj *ℤ (yk *ℤ tp -ℤ yp *ℤ tk)
+ring_step : (yj yk yp tj tk tp : ℤ)
+    → yp *ℤ (yk *ℤ tj -ℤ yj *ℤ tk) ≡ yk *ℤ (yp *ℤ tj -ℤ yj *ℤ tp) +ℤ yj *ℤ (yk *ℤ tp -ℤ yp *ℤ tk)
 ring_step yj yk yp tj tk tp = simp ring_laws (omega (arith, linear))
 
-through : (ts ys : List ℤ) (n j k p : ℕ) → pos 0 <ℤ weight_at ys j → pos 0 <ℤ weight_at ys k → pos 0 <ℤ weight_at ys p → IsLexNonnegative (suc n) (ratio_gap ts ys j p) → IsLexNonnegative (suc n) (ratio_gap ts ys p k) → IsLexNonnegative (suc n) (ratio_gap ts ys j k)
+through : (ts ys : List ℤ) (n j k p : ℕ) → pos 0 <ℤ weight_at ys j → pos 0 <ℤ weight_at ys k
+    → pos 0 <ℤ weight_at ys p → IsLexNonnegative (suc n) (ratio_gap ts ys j p)
+    → IsLexNonnegative (suc n) (ratio_gap ts ys p k) → IsLexNonnegative (suc n) (ratio_gap ts ys j k)
 through ts ys n j k p hj hk hp a b =
     let uj = positive_is (weight_at ys j) hj in
     let uk = positive_is (weight_at ys k) hk in
     let up = positive_is (weight_at ys p) hp in
-    joined_nonnegative (suc n) up.0 uk.0 uj.0 (ratio_gap ts ys j k) (ratio_gap ts ys j p) (ratio_gap ts ys p k) up.2 uk.2 uj.2
-    (λ i. step (weight_at ys j) (weight_at ys k) (weight_at ys p) (entry_at 32 ts j i) (entry_at 32 ts k i) (entry_at 32 ts p i) (pos uj.0) (pos uk.0) (pos up.0) uj.1 uk.1 up.1) a b
+    joined_nonnegative (suc n) up.0 uk.0 uj.0 (ratio_gap ts ys j k) (ratio_gap ts ys j p) (ratio_gap ts ys p k) up.2
+    uk.2 uj.2
+    (λ i. step (weight_at ys j) (weight_at ys k) (weight_at ys p) (entry_at 32 ts j i) (entry_at 32 ts k i)
+    (entry_at 32 ts p i) (pos uj.0) (pos uk.0) (pos up.0) uj.1 uk.1 up.1) a b
   where
-    step : (yj yk yp tj tk tp uj uk up : ℤ) → yj ≡ uj → yk ≡ uk → yp ≡ up → up *ℤ (yk *ℤ tj -ℤ yj *ℤ tk) ≡ uk *ℤ (yp *ℤ tj -ℤ yj *ℤ tp) +ℤ uj *ℤ (yk *ℤ tp -ℤ yp *ℤ tk)
-    step yj yk yp tj tk tp uj uk up e f g = subst (λ (z : ℤ). z *ℤ (yk *ℤ tj -ℤ yj *ℤ tk) ≡ uk *ℤ (yp *ℤ tj -ℤ yj *ℤ tp) +ℤ uj *ℤ (yk *ℤ tp -ℤ yp *ℤ tk)) g
-        (subst (λ (z : ℤ). yp *ℤ (yk *ℤ tj -ℤ yj *ℤ tk) ≡ z *ℤ (yp *ℤ tj -ℤ yj *ℤ tp) +ℤ uj *ℤ (yk *ℤ tp -ℤ yp *ℤ tk)) f
-        (subst (λ (z : ℤ). yp *ℤ (yk *ℤ tj -ℤ yj *ℤ tk) ≡ yk *ℤ (yp *ℤ tj -ℤ yj *ℤ tp) +ℤ z *ℤ (yk *ℤ tp -ℤ yp *ℤ tk)) e (ring_step yj yk yp tj tk tp)))
+    step : (yj yk yp tj tk tp uj uk up : ℤ) → yj ≡ uj → yk ≡ uk → yp ≡ up
+        → up *ℤ (yk *ℤ tj -ℤ yj *ℤ tk) ≡ uk *ℤ (yp *ℤ tj -ℤ yj *ℤ tp) +ℤ uj *ℤ (yk *ℤ tp -ℤ yp *ℤ tk)
+    step yj yk yp tj tk tp uj uk up e f g =
+        subst (λ (z : ℤ). z *ℤ (yk *ℤ tj -ℤ yj *ℤ tk) ≡ uk *ℤ (yp *ℤ tj -ℤ yj *ℤ tp) +ℤ uj *ℤ (yk *ℤ tp -ℤ yp *ℤ tk))
+        g
+        (subst
+        (λ (z : ℤ). yp *ℤ (yk *ℤ tj -ℤ yj *ℤ tk) ≡ z *ℤ (yp *ℤ tj -ℤ yj *ℤ tp) +ℤ uj *ℤ (yk *ℤ tp -ℤ yp *ℤ tk)) f
+        (subst
+        (λ (z : ℤ). yp *ℤ (yk *ℤ tj -ℤ yj *ℤ tk) ≡ yk *ℤ (yp *ℤ tj -ℤ yj *ℤ tp) +ℤ z *ℤ (yk *ℤ tp -ℤ yp *ℤ tk)) e
+        (ring_step yj yk yp tj tk tp)))
 
 itself : (ts ys : List ℤ) (n k : ℕ) → IsLexNonnegative (suc n) (ratio_gap ts ys k k)
-itself ts ys n k = nonneg_zero (suc n) (ratio_gap ts ys k k) (λ i lt. gap_of _ (weight_at ys k *ℤ entry_at 32 ts k i) refl)
+itself ts ys n k =
+    nonneg_zero (suc n) (ratio_gap ts ys k k) (λ i lt. gap_of _ (weight_at ys k *ℤ entry_at 32 ts k i) refl)
 
 -- a position without a positive weight changes nothing
 pub none_more : (ys : List ℤ) (k : ℕ) → weight_at ys k ≤ℤ pos 0 → NonePositive ys k → NonePositive ys (k + 1)
@@ -75,17 +103,21 @@ none_more ys k z h = record {
   ];
 }
 
-pub least_more : (ts ys : List ℤ) (n k p : ℕ) → (pos 0 <ℤ weight_at ys k → IsLexNonnegative (suc n) (ratio_gap ts ys k p)) → IsLeast ts ys n k p → IsLeast ts ys n (k + 1) p
+pub least_more : (ts ys : List ℤ) (n k p : ℕ)
+    → (pos 0 <ℤ weight_at ys k → IsLexNonnegative (suc n) (ratio_gap ts ys k p)) → IsLeast ts ys n k p
+    → IsLeast ts ys n (k + 1) p
 least_more ts ys n k p z h = record {
   place = h.place;
   positive = h.positive;
   least = λ j lt pj. elim (last_or_less_of j k lt) [
-    | inl e ↦ subst (λ (t : ℕ). IsLexNonnegative (suc n) (ratio_gap ts ys t p)) (sym e) (z (subst (λ (t : ℕ). pos 0 <ℤ weight_at ys t) e pj))
+    | inl e ↦ subst (λ (t : ℕ). IsLexNonnegative (suc n) (ratio_gap ts ys t p)) (sym e)
+        (z (subst (λ (t : ℕ). pos 0 <ℤ weight_at ys t) e pj))
     | inr l ↦ h.least j l pj
   ];
 }
 
-pub least_first : (ts ys : List ℤ) (n k : ℕ) → k < n → pos 0 <ℤ weight_at ys k → NonePositive ys k → IsLeast ts ys n (k + 1) k
+pub least_first : (ts ys : List ℤ) (n k : ℕ) → k < n → pos 0 <ℤ weight_at ys k → NonePositive ys k
+    → IsLeast ts ys n (k + 1) k
 least_first ts ys n k lt pk h = record {
   place = lt;
   positive = pk;
@@ -95,7 +127,8 @@ least_first ts ys n k lt pk h = record {
   ];
 }
 
-pub least_next : (ts ys : List ℤ) (n k p : ℕ) → k < n → pos 0 <ℤ weight_at ys k → IsLexPositive (suc n) (ratio_gap ts ys p k) → IsLeast ts ys n k p → IsLeast ts ys n (k + 1) k
+pub least_next : (ts ys : List ℤ) (n k p : ℕ) → k < n → pos 0 <ℤ weight_at ys k
+    → IsLexPositive (suc n) (ratio_gap ts ys p k) → IsLeast ts ys n k p → IsLeast ts ys n (k + 1) k
 least_next ts ys n k p lt pk less h = record {
   place = lt;
   positive = pk;
@@ -105,6 +138,7 @@ least_next ts ys n k p lt pk less h = record {
   ];
 }
 
-pub choice_more : (ts ys : List ℤ) (n k : ℕ) (best : Option ℕ) → weight_at ys k ≤ℤ pos 0 → IsChoice ts ys n k best → IsChoice ts ys n (k + 1) best
+pub choice_more : (ts ys : List ℤ) (n k : ℕ) (best : Option ℕ) → weight_at ys k ≤ℤ pos 0 → IsChoice ts ys n k best
+    → IsChoice ts ys n (k + 1) best
 choice_more ts ys n k None z h = none_more ys k z h
 choice_more ts ys n k (Some p) z h = least_more ts ys n k p (λ pk. absurd (not_both (weight_at ys k) z pk)) h

@@ -1,5 +1,7 @@
 -- The weights of a basis solve the program, and a direction of its second part is a ray.
-use Rattle.std.proofs.Common.{◌≡◌, ◌≢◌, ℕ, zero, suc, ◌-◌, ◌<◌, true, false, IsTrue, List, ◌∷◌, nat_eq, Option, Some, None, arith, refl, sym, ap, subst, ◌∙◌, ℤ, pos, ◌+ℤ◌, ◌-ℤ◌, ◌*ℤ◌, neg_ℤ, ◌<ℤ◌, ◌≤ℤ◌}
+use Rattle.std.proofs.Common.{◌≡◌, ◌≢◌, ℕ, zero, suc, ◌-◌, ◌<◌, true, false, IsTrue, List, ◌∷◌}
+use Rattle.std.proofs.Common.{nat_eq, Option, Some, None, arith, refl, sym, ap, subst, ◌∙◌, ℤ}
+use Rattle.std.proofs.Common.{pos, ◌+ℤ◌, ◌-ℤ◌, ◌*ℤ◌, neg_ℤ, ◌<ℤ◌, ◌≤ℤ◌}
 use Rattle.std.specs.List.{AllByRecursion, IsDistinct}
 use Rattle.std.proofs.lemmas.Int.{ints}
 use Rattle.definitions.proofs.Ring.{ring_laws, unit_laws, linear, mul-oneℤ, mul-zeroℤ}
@@ -30,11 +32,16 @@ use Rattle.definitions.proofs.Cancel.{gap_of}
 
 dot_products : (n : ℕ) (a b s t : ℕ → ℤ) → ((k : ℕ) → k < n → a k *ℤ s k ≡ b k *ℤ t k) → dot n a s ≡ dot n b t
 dot_products zero a b s t h = refl
-dot_products (suc n) a b s t h = ap (λ (z : ℤ). z +ℤ a n *ℤ s n) (dot_products n a b s t (λ k lt. h k (omega arith))) ∙ ap (λ (z : ℤ). dot n b t +ℤ z) (h n (omega arith))
+dot_products (suc n) a b s t h =
+    ap (λ (z : ℤ). z +ℤ a n *ℤ s n) (dot_products n a b s t (λ k lt. h k (omega arith)))
+    ∙ ap (λ (z : ℤ). dot n b t +ℤ z) (h n (omega arith))
 
-weigh_cols : (n : ℕ) (f : ℕ → Column) (w : ℕ → ℤ) (i : ℕ) → weigh (λ c. c i) w (first_columns n f) ≡ dot n w (λ k. f k i)
+weigh_cols : (n : ℕ) (f : ℕ → Column) (w : ℕ → ℤ) (i : ℕ)
+    → weigh (λ c. c i) w (first_columns n f) ≡ dot n w (λ k. f k i)
 weigh_cols zero f w i = refl
-weigh_cols (suc n) f w i = ap (λ (z : ℤ). w 0 *ℤ f 0 i +ℤ z) (weigh_cols n (λ k. f (suc k)) (λ k. w (suc k)) i) ∙ sym (dot_front n w (λ k. f k i))
+weigh_cols (suc n) f w i =
+    ap (λ (z : ℤ). w 0 *ℤ f 0 i +ℤ z) (weigh_cols n (λ k. f (suc k)) (λ k. w (suc k)) i)
+    ∙ sym (dot_front n w (λ k. f k i))
 
 turn : (n i : ℕ) → i < n → n - 1 - (n - 1 - i) ≡ i
 turn n i lt = omega arith
@@ -42,60 +49,90 @@ turn n i lt = omega arith
 both_zero : (a b c : ℤ) → a ≡ pos 0 → a *ℤ b ≡ a *ℤ c
 both_zero a b c e = simp (e, unit_laws)
 
-on_place : (P : Program) (k : ℕ) (o : Option ℕ) (w : ℤ) (i : ℕ) → i < P.rows → (o ≡ None → w ≡ pos 0) → w *ℤ place P k o (P.rows - 1 - i) ≡ w *ℤ on_id (λ id. P.entry id i) o
+on_place : (P : Program) (k : ℕ) (o : Option ℕ) (w : ℤ) (i : ℕ) → i < P.rows → (o ≡ None → w ≡ pos 0)
+    → w *ℤ place P k o (P.rows - 1 - i) ≡ w *ℤ on_id (λ id. P.entry id i) o
 on_place P k None w i lt h = both_zero w _ _ (h refl)
-on_place P k (Some id) w i lt h = ap (λ (z : ℤ). w *ℤ z) (flipped_at P.rows (P.entry id) (P.rows - 1 - i) (turned_below P.rows i lt) ∙ ap (P.entry id) (turn P.rows i lt))
+on_place P k (Some id) w i lt h =
+    ap (λ (z : ℤ). w *ℤ z)
+    (flipped_at P.rows (P.entry id) (P.rows - 1 - i) (turned_below P.rows i lt)
+    ∙ ap (P.entry id) (turn P.rows i lt))
 
--- d times an entry of a column is the sum of the basis's entries with the column's weights, if the added units have weight 0
-pub spread : (P : Program) (ids : List (Option ℕ)) (xs : List ℤ) (d : ℤ) (s : Column) (w : ℕ → ℤ) → IsInverse P ids xs d → IsWithin P.rows s → ((k : ℕ) → k < P.rows → w k ≡ dot P.rows (entry_at 32 xs k) s) → ((k : ℕ) → k < P.rows → id_at ids k ≡ None → w k ≡ pos 0)
+-- d times an entry of a column is the sum of the basis's entries with the column's weights, if the added units have
+-- weight 0
+pub spread : (P : Program) (ids : List (Option ℕ)) (xs : List ℤ) (d : ℤ) (s : Column) (w : ℕ → ℤ)
+    → IsInverse P ids xs d → IsWithin P.rows s → ((k : ℕ) → k < P.rows → w k ≡ dot P.rows (entry_at 32 xs k) s)
+    → ((k : ℕ) → k < P.rows → id_at ids k ≡ None → w k ≡ pos 0)
     → (i : ℕ) → i < P.rows → dot P.rows w (λ k. on_id (λ id. P.entry id i) (id_at ids k)) ≡ d *ℤ s (P.rows - 1 - i)
 spread P ids xs d s w h within w_is none i lt =
-    sym (weights P.rows h.sign (first_columns P.rows (placed P ids)) d (entry_at 32 xs) s h.basis within (P.rows - 1 - i)
+    sym
+    (weights P.rows h.sign (first_columns P.rows (placed P ids)) d (entry_at 32 xs) s h.basis within
+    (P.rows - 1 - i)
     ∙ weigh_cols P.rows (placed P ids) (λ k. dot P.rows (entry_at 32 xs k) s) (P.rows - 1 - i)
-    ∙ dot_cong P.rows (λ k. dot P.rows (entry_at 32 xs k) s) w (λ k. placed P ids k (P.rows - 1 - i)) (λ k. placed P ids k (P.rows - 1 - i)) (λ k l. sym (w_is k l)) (λ k l. refl)
-    ∙ dot_products P.rows w w (λ k. placed P ids k (P.rows - 1 - i)) (λ k. on_id (λ id. P.entry id i) (id_at ids k)) (λ k l. on_place P k (id_at ids k) (w k) i lt (none k l)))
+    ∙ dot_cong P.rows (λ k. dot P.rows (entry_at 32 xs k) s) w (λ k. placed P ids k (P.rows - 1 - i))
+    (λ k. placed P ids k (P.rows - 1 - i)) (λ k l. sym (w_is k l)) (λ k l. refl)
+    ∙ dot_products P.rows w w (λ k. placed P ids k (P.rows - 1 - i)) (λ k. on_id (λ id. P.entry id i) (id_at ids k))
+    (λ k l. on_place P k (id_at ids k) (w k) i lt (none k l)))
 
 -- ---- no column stands at two positions of a basis
 -- d times u and d times v, where u is 1 and v is 0
 both_ways : (d a u v : ℤ) → a ≡ d *ℤ u → a ≡ d *ℤ v → u ≡ pos 1 → v ≡ pos 0 → d ≡ pos 0
-both_ways d a u v e f p q = sym (mul-oneℤ d) ∙ ap (λ (z : ℤ). d *ℤ z) (sym p) ∙ sym e ∙ f ∙ ap (λ (z : ℤ). d *ℤ z) q ∙ mul-zeroℤ d
+both_ways d a u v e f p q =
+    sym (mul-oneℤ d) ∙ ap (λ (z : ℤ). d *ℤ z) (sym p) ∙ sym e ∙ f ∙ ap (λ (z : ℤ). d *ℤ z) q ∙ mul-zeroℤ d
 
 -- the weight at position k of the column at position j
-own_weight : (P : Program) (ids : List (Option ℕ)) (xs : List ℤ) (d : ℤ) (id j k : ℕ) → IsInverse P ids xs d → j < P.rows → k < P.rows → id_at ids j ≡ Some id → dot P.rows (entry_at 32 xs k) (column P id) ≡ d *ℤ unit j k
+own_weight : (P : Program) (ids : List (Option ℕ)) (xs : List ℤ) (d : ℤ) (id j k : ℕ) → IsInverse P ids xs d
+    → j < P.rows → k < P.rows → id_at ids j ≡ Some id → dot P.rows (entry_at 32 xs k) (column P id) ≡ d *ℤ unit j k
 own_weight P ids xs d id j k h jn kn e =
-    sym (ap (λ (o : Option ℕ). dot P.rows (entry_at 32 xs k) (place P j o)) e) ∙ own_at P.rows h.sign (placed P ids) d (entry_at 32 xs) k j h.basis (of_within P (placed P ids j) (place_of P j (id_at ids j) (h.ids_of j jn) jn)) kn jn
+    sym (ap (λ (o : Option ℕ). dot P.rows (entry_at 32 xs k) (place P j o)) e)
+    ∙ own_at P.rows h.sign (placed P ids) d (entry_at 32 xs) k j h.basis
+    (of_within P (placed P ids j) (place_of P j (id_at ids j) (h.ids_of j jn) jn)) kn jn
 
-pub ids_apart : (P : Program) (ids : List (Option ℕ)) (xs : List ℤ) (d : ℤ) → IsInverse P ids xs d → (j k id : ℕ) → j < P.rows → k < P.rows → j ≢ k → id_at ids j ≡ Some id → id_at ids k ≡ Some id → ⊥
+pub ids_apart : (P : Program) (ids : List (Option ℕ)) (xs : List ℤ) (d : ℤ) → IsInverse P ids xs d → (j k id : ℕ)
+    → j < P.rows → k < P.rows → j ≢ k → id_at ids j ≡ Some id → id_at ids k ≡ Some id → ⊥
 ids_apart P ids xs d h j k id jn kn ne e f =
-    h.basis.apart (both_ways d (dot P.rows (entry_at 32 xs k) (column P id)) (unit k k) (unit j k) (own_weight P ids xs d id k k h kn kn f) (own_weight P ids xs d id j k h jn kn e) (unit_same k) (unit_other j k ne))
+    h.basis.apart
+    (both_ways d (dot P.rows (entry_at 32 xs k) (column P id)) (unit k k) (unit j k)
+    (own_weight P ids xs d id k k h kn kn f) (own_weight P ids xs d id j k h jn kn e) (unit_same k)
+    (unit_other j k ne))
 
-pub is_column_at : (P : Program) (ids : List (Option ℕ)) (xs : List ℤ) (d : ℤ) → IsInverse P ids xs d → (j id : ℕ) → j < P.rows → id_at ids j ≡ Some id → IsTrue (P.is_column id)
+pub is_column_at : (P : Program) (ids : List (Option ℕ)) (xs : List ℤ) (d : ℤ) → IsInverse P ids xs d → (j id : ℕ)
+    → j < P.rows → id_at ids j ≡ Some id → IsTrue (P.is_column id)
 is_column_at P ids xs d h j id lt e = subst (IsId P) e (h.ids_of j lt)
 
 pub suc_nonneg : (u : ℕ) → pos 0 ≤ℤ pos (suc u)
 suc_nonneg u = omega (arith, ints)
 
-module _ (P : Program) (n : ℕ) (ids : List (Option ℕ)) (xs ts : List ℤ) (d : ℤ) (costs : List ℤ) (st : IsImproving P true n ids xs ts d costs) where
+module _ (P : Program) (n : ℕ) (ids : List (Option ℕ)) (xs ts : List ℤ) (d : ℤ) (costs : List ℤ)
+    (st : IsImproving P true n ids xs ts d costs) where
   pub right_clear : (k : ℕ) → k < P.rows → id_at ids k ≡ None → entry_at 32 ts k 0 ≡ pos 0
   right_clear k lt h = (st.silent refl k lt h).right
 
-  pub right_rows : (i : ℕ) → i < P.rows → dot P.rows (λ k. entry_at 32 ts k 0) (λ k. on_id (λ id. P.entry id i) (id_at ids k)) ≡ d *ℤ P.right i
+  pub right_rows : (i : ℕ) → i < P.rows
+      → dot P.rows (λ k. entry_at 32 ts k 0) (λ k. on_id (λ id. P.entry id i) (id_at ids k)) ≡ d *ℤ P.right i
   right_rows i lt =
-      spread P ids xs d (right_side P) (λ k. entry_at 32 ts k 0) st.table.inverse (flipped_within P.rows P.right) (λ k l. st.table.tracked.tracked k 0 l (omega arith)) right_clear i lt
-      ∙ ap (λ (z : ℤ). d *ℤ z) (flipped_at P.rows P.right (P.rows - 1 - i) (turned_below P.rows i lt) ∙ ap P.right (turn P.rows i lt))
+      spread P ids xs d (right_side P) (λ k. entry_at 32 ts k 0) st.table.inverse (flipped_within P.rows P.right)
+      (λ k l. st.table.tracked.tracked k 0 l (omega arith)) right_clear i lt
+      ∙ ap (λ (z : ℤ). d *ℤ z)
+      (flipped_at P.rows P.right (P.rows - 1 - i) (turned_below P.rows i lt) ∙ ap P.right (turn P.rows i lt))
 
   pub right_nonneg : (k : ℕ) → k < P.rows → pos 0 ≤ℤ entry_at 32 ts k 0
   right_nonneg k lt = lex_first (entry_at 32 ts k 0) (st.nonneg.rows k lt)
 
-  listed_weights : (w : ℕ → ℤ) → AllByRecursion (λ v. IsTrue (P.is_column v.0) × (pos 0 ≤ℤ v.1)) (listed ids w P.rows)
-  listed_weights w = listed_all (λ v. IsTrue (P.is_column v.0) × (pos 0 ≤ℤ v.1)) ids w P.rows (λ j id u lt e f. (is_column_at P ids xs d st.table.inverse j id lt e, suc_nonneg u))
+  listed_weights : (w : ℕ → ℤ)
+      → AllByRecursion (λ v. IsTrue (P.is_column v.0) × (pos 0 ≤ℤ v.1)) (listed ids w P.rows)
+  listed_weights w =
+      listed_all (λ v. IsTrue (P.is_column v.0) × (pos 0 ≤ℤ v.1)) ids w P.rows
+      (λ j id u lt e f. (is_column_at P ids xs d st.table.inverse j id lt e, suc_nonneg u))
 
   pub has_solution : HasSolution P
   has_solution = record {
     weights = listed ids (λ k. entry_at 32 ts k 0) P.rows;
     den = d;
     solves = (
-      (listed_weights (λ k. entry_at 32 ts k 0), listed_distinct ids (λ k. entry_at 32 ts k 0) P.rows (ids_apart P ids xs d st.table.inverse)),
+      (
+        listed_weights (λ k. entry_at 32 ts k 0),
+        listed_distinct ids (λ k. entry_at 32 ts k 0) P.rows (ids_apart P ids xs d st.table.inverse),
+      ),
       at_least_one d st.table.positive,
       λ i lt. listed_sum (λ id. P.entry id i) ids (λ k. entry_at 32 ts k 0) P.rows right_nonneg ∙ right_rows i lt,
     );
@@ -109,7 +146,9 @@ module _ (P : Program) (n : ℕ) (ids : List (Option ℕ)) (xs ts : List ℤ) (d
       same (Some id) = refl
 
   pub cost_sum : (w : ℕ → ℤ) → dot P.rows w (λ k. on_id P.cost (id_at ids k)) ≡ dot P.rows (weight_at costs) w
-  cost_sum w = dot_cong P.rows w w (λ k. on_id P.cost (id_at ids k)) (weight_at costs) (λ k lt. refl) cost_on ∙ dot_comm P.rows w (weight_at costs)
+  cost_sum w =
+      dot_cong P.rows w w (λ k. on_id P.cost (id_at ids k)) (weight_at costs) (λ k lt. refl) cost_on
+      ∙ dot_comm P.rows w (weight_at costs)
 
   neg_dot : (n : ℕ) (a s : ℕ → ℤ) → dot n (λ k. neg_ℤ (a k)) s ≡ neg_ℤ (dot n a s)
   neg_dot zero a s = refl
@@ -127,10 +166,13 @@ module _ (P : Program) (n : ℕ) (ids : List (Option ℕ)) (xs ts : List ℤ) (d
   -- the column of a direction isn't in the basis
   direction_new : (r : HasDirection P true xs d costs) (j id : ℕ) → j < P.rows → id_at ids j ≡ Some id → r.id ≢ id
   direction_new r j id lt e same =
-      never d (dot P.rows (entry_at 32 xs j) (column P r.id)) (unit j j) (ap (λ (t : ℕ). dot P.rows (entry_at 32 xs j) (column P t)) same ∙ own_weight P ids xs d id j j st.table.inverse lt lt e) (unit_same j) st.table.positive (r.lowers j lt)
+      never d (dot P.rows (entry_at 32 xs j) (column P r.id)) (unit j j)
+      (ap (λ (t : ℕ). dot P.rows (entry_at 32 xs j) (column P t)) same
+      ∙ own_weight P ids xs d id j j st.table.inverse lt lt e) (unit_same j) st.table.positive (r.lowers j lt)
     where
       never : (d a u : ℤ) → a ≡ d *ℤ u → u ≡ pos 1 → pos 0 <ℤ d → a ≤ℤ pos 0 → ⊥
-      never d a u e f p h = not_both d (subst (λ (z : ℤ). z ≤ℤ pos 0) (e ∙ ap (λ (z : ℤ). d *ℤ z) f ∙ mul-oneℤ d) h) p
+      never d a u e f p h =
+          not_both d (subst (λ (z : ℤ). z ≤ℤ pos 0) (e ∙ ap (λ (z : ℤ). d *ℤ z) f ∙ mul-oneℤ d) h) p
 
   pub has_ray : HasDirection P true xs d costs → HasRay P
   unfolding IsDistinct
@@ -142,16 +184,33 @@ module _ (P : Program) (n : ℕ) (ids : List (Option ℕ)) (xs ts : List ℤ) (d
         (r.id, d) ∷ listed ids m P.rows,
         (
           ((r.is_column, less_le d st.table.positive), listed_weights m),
-          (all_new r.id (listed ids m P.rows) (listed_all (λ v. nat_eq r.id v.0 ≡ false) ids m P.rows (λ j id u lt e f. nat_eq-other r.id id (direction_new r j id lt e))), listed_distinct ids m P.rows (ids_apart P ids xs d st.table.inverse)),
+          (
+            all_new r.id (listed ids m P.rows)
+                (listed_all (λ v. nat_eq r.id v.0 ≡ false) ids m P.rows
+                (λ j id u lt e f. nat_eq-other r.id id (direction_new r j id lt e))),
+            listed_distinct ids m P.rows (ids_apart P ids xs d st.table.inverse),
+          ),
         ),
-        λ i lt. ap (λ (z : ℤ). d *ℤ P.entry r.id i +ℤ z) (listed_sum (λ id. P.entry id i) ids m P.rows lowered ∙ neg_dot P.rows y (λ k. on_id (λ id. P.entry id i) (id_at ids k)))
+        λ i lt. ap (λ (z : ℤ). d *ℤ P.entry r.id i +ℤ z)
+            (listed_sum (λ id. P.entry id i) ids m P.rows lowered
+            ∙ neg_dot P.rows y (λ k. on_id (λ id. P.entry id i) (id_at ids k)))
             ∙ gap_of (d *ℤ P.entry r.id i) (dot P.rows y (λ k. on_id (λ id. P.entry id i) (id_at ids k)))
-            (sym (spread P ids xs d s y st.table.inverse (flipped_within P.rows (P.entry r.id)) (λ k l. refl) (λ k l h. (st.silent refl k l h).columns r.id r.is_column) i lt
-            ∙ ap (λ (z : ℤ). d *ℤ z) (flipped_at P.rows (P.entry r.id) (P.rows - 1 - i) (turned_below P.rows i lt) ∙ ap (P.entry r.id) (turn P.rows i lt)))),
+            (sym
+            (spread P ids xs d s y st.table.inverse (flipped_within P.rows (P.entry r.id)) (λ k l. refl)
+            (λ k l h. (st.silent refl k l h).columns r.id r.is_column) i lt
+            ∙ ap (λ (z : ℤ). d *ℤ z)
+            (flipped_at P.rows (P.entry r.id) (P.rows - 1 - i) (turned_below P.rows i lt)
+            ∙ ap (P.entry r.id) (turn P.rows i lt)))),
         subst (λ (z : ℤ). pos 1 ≤ℤ z)
-            (sym (ap (λ (z : ℤ). d *ℤ P.cost r.id +ℤ z) (listed_sum P.cost ids m P.rows lowered ∙ neg_dot P.rows y (λ k. on_id P.cost (id_at ids k)) ∙ ap neg_ℤ (cost_sum y))))
+            (sym
+            (ap (λ (z : ℤ). d *ℤ P.cost r.id +ℤ z)
+            (listed_sum P.cost ids m P.rows lowered ∙ neg_dot P.rows y (λ k. on_id P.cost (id_at ids k))
+            ∙ ap neg_ℤ (cost_sum y))))
             (some_left (d *ℤ P.cost r.id) (dot P.rows (weight_at costs) y) r.above),
       )
 
-  pub value_right : (num : List ℤ) (den : ℤ) → AreMultipliers xs costs n d num den → value_of P num P.right ≡ dot P.rows (λ k. entry_at 32 ts k 0) (λ k. on_id P.cost (id_at ids k))
-  value_right num den m = value_is P xs costs num n d den P.right st.rows_is m ∙ objective_right P true n ids xs ts d costs st ∙ sym (cost_sum (λ k. entry_at 32 ts k 0))
+  pub value_right : (num : List ℤ) (den : ℤ) → AreMultipliers xs costs n d num den
+      → value_of P num P.right ≡ dot P.rows (λ k. entry_at 32 ts k 0) (λ k. on_id P.cost (id_at ids k))
+  value_right num den m =
+      value_is P xs costs num n d den P.right st.rows_is m ∙ objective_right P true n ids xs ts d costs st
+      ∙ sym (cost_sum (λ k. entry_at 32 ts k 0))

@@ -11,7 +11,8 @@ use Rattle.definitions.specs.Programs.{Program, Solves, IsOptimal, HasNoSolution
 use Rattle.simplex.specs.declared.solving.LpFault.{LpFault}
 use Rattle.simplex.specs.declared.solving.LpFault.TheVariants.{NoSolution, Unbounded}
 
--- at most one weight per row, each positive and below 2^62, as the denominator is, and no number above 1 divides all of them
+-- at most one weight per row, each positive and below 2^62, as the denominator is, and no number above 1 divides
+-- all of them
 pub record AreInForm (rows : ℕ) (weights : List (ℕ × ℤ)) (den : ℤ) : Type 0 where
   pub count : length weights ≤ rows
   pub positive : AllByRecursion (λ w. pos 1 ≤ℤ w.1) weights
@@ -20,7 +21,8 @@ pub record AreInForm (rows : ℕ) (weights : List (ℕ × ℤ)) (den : ℤ) : Ty
   pub lowest : (g : ℕ) → g ∣ unsigned_abs den → AllByRecursion (λ w. g ∣ unsigned_abs w.1) weights → g ≡ 1
 
 -- optimal weights in form, beside an optimal multiplier for each row
-pub record IsAnswer (p : Program) (weights : List (ℕ × ℤ)) (weight_den : ℤ) (multipliers : List ℤ) (den : ℤ) : Type 0 where
+pub record IsAnswer (p : Program) (weights : List (ℕ × ℤ)) (weight_den : ℤ) (multipliers : List ℤ) (den : ℤ) : Type
+    0 where
   pub optimal : IsOptimal p weights weight_den multipliers den
   pub form : AreInForm p.rows weights weight_den
   pub count : length multipliers ≡ p.rows

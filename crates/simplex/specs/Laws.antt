@@ -8,7 +8,8 @@
 --   first_columns    the first columns of a sequence
 --   put              the columns with another one at a place
 --   AreMinorsSmall   each determinant of columns, units and at most one right side is below 2^58
-use Rattle.std.specs.Prelude.{ℕ, zero, suc, ◌+◌, ◌^◌, ◌≤◌, ◌<◌, ◌≡◌, ◌⊎◌, IsTrue, cond, nat_eq, List, [], ◌∷◌, ℤ, pos, negsuc, unsigned_abs}
+use Rattle.std.specs.Prelude.{ℕ, zero, suc, ◌+◌, ◌^◌, ◌≤◌, ◌<◌, ◌≡◌, ◌⊎◌, IsTrue, cond}
+use Rattle.std.specs.Prelude.{nat_eq, List, [], ◌∷◌, ℤ, pos, negsuc, unsigned_abs}
 use Rattle.definitions.specs.Programs.{Program}
 use Rattle.determinants.specs.Determinant.{Column, det}
 use Rattle.simplex.specs.Program.{right_side, IsOf}
@@ -56,5 +57,7 @@ put f k s i = cond (nat_eq i k) s (f i)
 
 -- each determinant of columns, units and at most one right side is below 2^58
 pub record AreMinorsSmall (p : Program) : Type 0 where
-  pub plain : (f : ℕ → Column) → ((k : ℕ) → k < p.rows → IsOf p (f k)) → unsigned_abs (det p.rows (first_columns p.rows f)) < 2 ^ 58
-  pub with_right : (f : ℕ → Column) (k : ℕ) → k < p.rows → ((k : ℕ) → k < p.rows → IsOf p (f k)) → unsigned_abs (det p.rows (first_columns p.rows (put f k (right_side p)))) < 2 ^ 58
+  pub plain : (f : ℕ → Column) → ((k : ℕ) → k < p.rows → IsOf p (f k))
+      → unsigned_abs (det p.rows (first_columns p.rows f)) < 2 ^ 58
+  pub with_right : (f : ℕ → Column) (k : ℕ) → k < p.rows → ((k : ℕ) → k < p.rows → IsOf p (f k))
+      → unsigned_abs (det p.rows (first_columns p.rows (put f k (right_side p)))) < 2 ^ 58

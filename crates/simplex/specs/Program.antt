@@ -18,7 +18,8 @@ price p false id = pos 0
 
 -- the program, or the program whose costs are all 0
 abbrev pub priced : Program → Bool → Program
-priced p with_costs = record { rows = p.rows; right = p.right; is_column = p.is_column; entry = p.entry; cost = price p with_costs }
+priced p with_costs =
+    record { rows = p.rows; right = p.right; is_column = p.is_column; entry = p.entry; cost = price p with_costs }
 
 -- the first n numbers from the last, as a column
 unfoldable pub flipped : ℕ → (ℕ → ℤ) → Column

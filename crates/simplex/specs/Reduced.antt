@@ -7,7 +7,8 @@
 --   IsMultiple    a number divides another
 --   IsCommon      the greatest common divisor of the denominator and the weights
 --   AreReduced    the listed weights and the denominator over their greatest common divisor
-use Rattle.std.specs.Prelude.{ℕ, zero, suc, ◌<◌, ◌≡◌, Bool, true, false, cond, ℤ, pos, negsuc, ◌*ℤ◌, ◌<ℤ◌, List, [], ◌∷◌, ◌++◌, Option, Some, None, unsigned_abs}
+use Rattle.std.specs.Prelude.{ℕ, zero, suc, ◌<◌, ◌≡◌, Bool, true, false, cond, ℤ, pos, negsuc, ◌*ℤ◌}
+use Rattle.std.specs.Prelude.{◌<ℤ◌, List, [], ◌∷◌, ◌++◌, Option, Some, None, unsigned_abs}
 use Prim.Native.Nat.{◌∣◌}
 use Rattle.determinants.specs.Matrix.{entry_at}
 use Rattle.simplex.specs.Tableau.{id_at}
@@ -37,13 +38,15 @@ pub record IsCommon (ts : List ℤ) (n : ℕ) (d c : ℤ) : Type 0 where
   pub positive : pos 0 <ℤ c
   pub den : unsigned_abs c ∣ unsigned_abs d
   pub weights : (k : ℕ) → k < n → unsigned_abs c ∣ unsigned_abs (entry_at 32 ts k 0)
-  pub greatest : (g : ℕ) → g ∣ unsigned_abs d → ((k : ℕ) → k < n → g ∣ unsigned_abs (entry_at 32 ts k 0)) → g ∣ unsigned_abs c
+  pub greatest : (g : ℕ) → g ∣ unsigned_abs d → ((k : ℕ) → k < n → g ∣ unsigned_abs (entry_at 32 ts k 0))
+      → g ∣ unsigned_abs c
 
 -- the weights of a basis over their common divisor with the denominator
-pub record AreReduced (n : ℕ) (ids : List (Option ℕ)) (ts : List ℤ) (d : ℤ) (ws : List (ℕ × ℤ)) (den : ℤ) : Type 0 where
-  pub common : ℤ
-  pub shares : ℕ → ℤ
-  pub is_common : IsCommon ts n d common
-  pub den_is : common *ℤ den ≡ d
-  pub shares_are : (k : ℕ) → k < n → common *ℤ shares k ≡ entry_at 32 ts k 0
-  pub weights_are : ws ≡ listed ids shares n
+pub record AreReduced (n : ℕ) (ids : List (Option ℕ)) (ts : List ℤ) (d : ℤ) (ws : List (ℕ × ℤ)) (den : ℤ) : Type 0
+  where
+    pub common : ℤ
+    pub shares : ℕ → ℤ
+    pub is_common : IsCommon ts n d common
+    pub den_is : common *ℤ den ≡ d
+    pub shares_are : (k : ℕ) → k < n → common *ℤ shares k ≡ entry_at 32 ts k 0
+    pub weights_are : ws ≡ listed ids shares n

@@ -87,7 +87,8 @@ pub(crate) fn answer_of(work: &State, multipliers: Multipliers) -> Optimal
     requires rows { work.now.rows ≤ 31 }
     requires positive { pos 0 <ℤ work.now.den }
     requires small { unsigned_abs work.now.den ≤ limit }
-    ensures weights { AreReduced work.now.rows work.now.ids work.now.tracked work.now.den result.weights.items result.weight_den }
+    ensures weights { AreReduced work.now.rows work.now.ids work.now.tracked work.now.den result.weights.items
+        result.weight_den }
     ensures multipliers { result.multipliers ≡ multipliers }
 {
     let common = common_of(&work.tracked, work.rows, work.den);

@@ -4,7 +4,7 @@ ghost use Rattle.std.specs.Prelude.{◌≡◌, ◌<◌, ℕ, IsTrue, MatchOption
 ghost use Rattle.arrayvec.specs.ArrayVec.{array_vec_len};
 ghost use Rattle.definitions.specs.Programs.{Program, Bounds};
 ghost use Rattle.determinants.specs.Matrix.{weight_at};
-ghost use Rattle.simplex.specs.Entering.{IsEntering};
+ghost use Rattle.simplex.specs.Entering.{IsEntering, IsRising};
 ghost use Rattle.simplex.specs.Improving.{part_cost};
 ghost use Rattle.simplex.specs.Laws.{IsLawful};
 ghost use Rattle.simplex.specs.Program.{column, price, priced, right_side};
@@ -61,6 +61,19 @@ pub trait Columns {
         ensures answer { MatchOption result
             (Bounds (priced (program self.old) with_costs) m.now.num.items m.now.den)
             (λ id. IsEntering (priced (program self.old) with_costs) m.now.num.items m.now.den id) };
+
+    /// A column that costs more than its value under the multipliers; none exactly where no column does. Without costs
+    /// each column counts as costing 0. Any such column serves: the choice makes `solve` take fewer steps or more.
+    fn rising(&mut self, m: &Multipliers, with_costs: bool) -> Option<u64>
+        requires { array_vec_len m.now.num ≡ (program self.old).rows }
+        ensures same { program self.new ≡ program self.old }
+        ensures same_players { players self.new ≡ players self.old }
+        ensures answer { MatchOption result
+            (Bounds (priced (program self.old) with_costs) m.now.num.items m.now.den)
+            (λ id. IsRising (priced (program self.old) with_costs) m.now.num.items m.now.den id) }
+    {
+        self.entering(m, with_costs)
+    }
 
     ghost lawful: { (s : Self) → IsLawful (players s) (program s) };
 }

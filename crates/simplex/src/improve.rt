@@ -4,9 +4,10 @@
 //!
 //!     d·z'(t) = d'·z(t) + (d·c_s - z(s))·T_p(t)
 //!
-//! for the right sides and each reference column t. The factor is positive, since s enters, and the row T_p is
-//! lexicographically positive, so the vector z/d grows lexicographically. Its numbers are bounded and their
-//! denominators are at most 2^58: so a natural number, `objective_room`, goes down at each step, and the steps end.
+//! for the right sides and each reference column t. The factor is positive, since s costs more than its value: any such
+//! column may enter. The row T_p is lexicographically positive, so the vector z/d grows lexicographically. Its numbers
+//! are bounded and their denominators are at most 2^58: so a natural number, `objective_room`, goes down at each step,
+//! and the steps end.
 
 ghost use Rattle.std.specs.Prelude.{◌≡◌, MatchOption};
 ghost use Rattle.definitions.specs.Programs.{Bounds};
@@ -26,10 +27,12 @@ pub(crate) fn improve<C: Columns>(
     columns: &mut C,
     with_costs: bool,
 ) -> Option<Multipliers>
-    requires { IsImproving (C.program columns.old) with_costs work.old.rows work.old.ids work.old.inverse work.old.tracked work.old.den work.old.costs }
+    requires { IsImproving (C.program columns.old) with_costs
+        work.old.rows work.old.ids work.old.inverse work.old.tracked work.old.den work.old.costs }
     ensures same { C.program columns.new ≡ C.program columns.old }
     ensures same_players { C.players columns.new ≡ C.players columns.old }
-    ensures state { IsImproving (C.program columns.new) with_costs work.new.rows work.new.ids work.new.inverse work.new.tracked work.new.den work.new.costs }
+    ensures state { IsImproving (C.program columns.new) with_costs
+        work.new.rows work.new.ids work.new.inverse work.new.tracked work.new.den work.new.costs }
     ensures answer { MatchOption result
         (HasDirection (C.program columns.new) with_costs work.new.inverse work.new.den work.new.costs)
         (λ m. AreMultipliers work.new.inverse work.new.costs work.new.rows work.new.den m.num.items m.den
@@ -37,7 +40,7 @@ pub(crate) fn improve<C: Columns>(
 {
     loop {
         let m = multipliers_of(&work.inverse, &work.costs, work.rows, work.den);
-        let Some(id) = columns.entering(&m, with_costs) else {
+        let Some(id) = columns.rising(&m, with_costs) else {
             return Some(m);
         };
         let column = load_column(columns, id, work.rows);

@@ -10,7 +10,7 @@ ghost use Rattle.determinants.specs.Matrix.{limit};
 ghost use Rattle.simplex.specs.Matrix.{AreSmall, IsSmall};
 ghost use Rattle.simplex.specs.Ratio.{IsChoice, ratio_gap};
 
-use crate::weights::product;
+use determinants::product;
 
 /// Whether the ratio of row `k` is less than that of row `p`.
 fn goes_before(tracked: &[i128; 1024], weights: &[i128; 32], n: usize, k: usize, p: usize) -> bool

@@ -6,7 +6,7 @@ ghost use Rattle.simplex.specs.Between.{IsBetween};
 ghost use Rattle.simplex.specs.Improving.{IsImproving};
 
 use crate::columns::{Columns, cost_at};
-use crate::start::tracked_of;
+use crate::start::write_tracked;
 use crate::state::State;
 
 /// The weights of the right sides.
@@ -23,12 +23,14 @@ fn right_weights(tracked: &[i128; 1024], n: usize) -> [i128; 32]
 
 /// Takes the basis as the reference columns, and the columns' own costs.
 pub(crate) fn restart<C: Columns>(work: &mut State, columns: &C)
-    requires { IsBetween (C.program columns.now) work.old.rows work.old.ids work.old.inverse work.old.tracked work.old.den work.old.rows }
-    ensures { IsImproving (C.program columns.now) true work.new.rows work.new.ids work.new.inverse work.new.tracked work.new.den work.new.costs }
+    requires { IsBetween (C.program columns.now)
+        work.old.rows work.old.ids work.old.inverse work.old.tracked work.old.den work.old.rows }
+    ensures { IsImproving (C.program columns.now) true
+        work.new.rows work.new.ids work.new.inverse work.new.tracked work.new.den work.new.costs }
 {
     let n = work.rows;
     let right = right_weights(&work.tracked, n);
-    work.tracked = tracked_of(&right, n, work.den);
+    write_tracked(&mut work.tracked, &right, n, work.den);
     for k in 0..n {
         work.costs[k] = cost_at(columns, work.ids[k]);
     }

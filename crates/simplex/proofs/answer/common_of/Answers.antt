@@ -10,7 +10,8 @@ loop-k-init c =
     let e = simp to_z-of_z at c.unsigned_abs-common.ensures.value in
     let h = c.requires.positive in
     let p : 0 < unsigned_abs c.args.den = omega (arith, ints) in
-    simp to_z-of_z (common_start (unsigned_abs c.args.den) c.args.tracked.now c.unsigned_abs-common.result e p c.requires.small)
+    simp to_z-of_z
+    (common_start (unsigned_abs c.args.den) c.args.tracked.now c.unsigned_abs-common.result e p c.requires.small)
 
 pub loop-k-preserved : goal.loop-k-preserved
 loop-k-preserved c =
@@ -18,7 +19,9 @@ loop-k-preserved c =
     let f : FitsSigned w128 (slice_index_or c.args.tracked.now (32 * c.loop-k.k) (pos 0)) = search rules in
     let e = simp to_z-of_z at c.unsigned_abs.ensures.value in
     let i = simp to_z-of_z at c.loop-k.invariant in
-    simp to_z-of_z (common_next (unsigned_abs c.args.den) c.args.tracked.now c.loop-k.k c.loop-k.common c.unsigned_abs.result c.gcd-common.result e c.gcd-common.ensures.greatest i)
+    simp to_z-of_z
+    (common_next (unsigned_abs c.args.den) c.args.tracked.now c.loop-k.k c.loop-k.common c.unsigned_abs.result
+    c.gcd-common.result e c.gcd-common.ensures.greatest i)
 
 pub returns : goal.returns
 returns c =
@@ -26,4 +29,5 @@ returns c =
     let i = simp to_z-of_z at c.loop-k.invariant in
     let s = i.small in
     let small : c.loop-k.common < 2 ^ 127 = omega arith in
-    common_end c.args.den c.args.tracked.now c.args.n c.loop-k.k c.loop-k.common (to_z w128 c.loop-k.common) (to_z_pos w128 c.loop-k.common small) (omega arith) (omega arith) i
+    common_end c.args.den c.args.tracked.now c.args.n c.loop-k.k c.loop-k.common (to_z w128 c.loop-k.common)
+    (to_z_pos w128 c.loop-k.common small) (omega arith) (omega arith) i

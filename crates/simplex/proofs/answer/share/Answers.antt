@@ -9,5 +9,6 @@ returns c =
     let fw = c.ranges.weight in
     let fc = c.ranges.common in
     let h = c.requires.positive in
-    let q : FitsSigned w128 (int_div c.args.weight c.args.common) = quot_fits w128 c.args.weight c.args.common c.ranges.weight (omega (arith, ints)) in
+    let q : FitsSigned w128 (int_div c.args.weight c.args.common) =
+    quot_fits w128 c.args.weight c.args.common c.ranges.weight (omega (arith, ints)) in
     simp to_z-of_z (share_is c.args.common c.args.weight c.requires.positive c.requires.divides.divides)

@@ -1,4 +1,5 @@
-use Rattle.std.proofs.Common.{rules, arith, ◌*◌, ◌<◌, ℕ, pos, length, length-set, sym, subst, ◌∙◌, FitsSigned, slice_index_or}
+use Rattle.std.proofs.Common.{rules, arith, ◌*◌, ◌<◌, ℕ, pos, length, length-set, sym}
+use Rattle.std.proofs.Common.{subst, ◌∙◌, FitsSigned, slice_index_or}
 use mir.Syntax.{w128}
 use Rattle.std.proofs.lemmas.Int.{to_z-of_z}
 use Rattle.simplex.proofs.CommonDivisors.{next_share, is_multiple}
@@ -8,7 +9,9 @@ pub share-requires-clause-divides : goal.share-requires-clause-divides
 share-requires-clause-divides c =
     let fc = c.ranges.common in
     let f : FitsSigned w128 (slice_index_or c.args.tracked.now (32 * c.loop-k.k) (pos 0)) = search rules in
-    simp to_z-of_z (is_multiple c.args.tracked.now c.args.n c.args.den c.args.common c.loop-k.k c.requires.common c.loop-k-test.true)
+    simp to_z-of_z
+    (is_multiple c.args.tracked.now c.args.n c.args.den c.args.common c.loop-k.k c.requires.common
+    c.loop-k-test.true)
 
 pub loop-k-preserved : goal.loop-k-preserved
 loop-k-preserved c =

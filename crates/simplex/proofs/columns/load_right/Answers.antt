@@ -12,11 +12,15 @@ loop-i-preserved g c =
     let ff : FitsSigned w128 c.from.result = search rules in
     let e = simp to_z-of_z at c.from.ensures in
     let P = g.C.Columns.program c.args.columns.now in
-    let small : c.args.n ≤ 31 = subst (λ (t : ℕ). t ≤ 31) (sym c.requires) (tame_of (g.C.Columns.program c.args.columns.now) (g.met.C.Columns.lawful c.args.columns.now)).few in
+    let small : c.args.n ≤ 31 =
+    subst (λ (t : ℕ). t ≤ 31) (sym c.requires)
+    (tame_of (g.C.Columns.program c.args.columns.now) (g.met.C.Columns.lawful c.args.columns.now)).few in
     let lt : c.loop-i.i < P.rows = subst (λ (t : ℕ). c.loop-i.i < t) c.requires c.loop-i-test.true in
-    let len : c.loop-i.i < length c.loop-i.entries = subst (λ (t : ℕ). c.loop-i.i < t) (sym c.loop-i.invariant.len) (omega arith) in
+    let len : c.loop-i.i < length c.loop-i.entries =
+    subst (λ (t : ℕ). c.loop-i.i < t) (sym c.loop-i.invariant.len) (omega arith) in
     simp to_z-of_z (record {
       len = length-set c.loop-i.entries c.loop-i.i c.from.result ∙ c.loop-i.invariant.len;
       done = filled c.loop-i.entries c.loop-i.i c.from.result (Rattle.simplex.specs.Program.right_side P) len
-          (e ∙ c.right.ensures ∙ ap (λ (t : ℕ). P.right (t - 1 - c.loop-i.i)) c.requires ∙ sym (flipped_at P.rows (P.right) c.loop-i.i lt)) c.loop-i.invariant.done;
+          (e ∙ c.right.ensures ∙ ap (λ (t : ℕ). P.right (t - 1 - c.loop-i.i)) c.requires
+          ∙ sym (flipped_at P.rows (P.right) c.loop-i.i lt)) c.loop-i.invariant.done;
     })

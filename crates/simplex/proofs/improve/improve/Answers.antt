@@ -14,7 +14,9 @@ pub loop-id-init : goal.loop-id-init
 loop-id-init g c = record { same = refl; same_players = refl; state = c.requires }
 
 pub multipliers_of-m-requires-clause-rows : goal.multipliers_of-m-requires-clause-rows
-multipliers_of-m-requires-clause-rows g c = few_rows (g.C.Columns.program c.loop-id.columns) c.loop-id.work.rows (g.met.C.Columns.lawful c.loop-id.columns) c.loop-id.invariant.state.rows_is
+multipliers_of-m-requires-clause-rows g c =
+    few_rows (g.C.Columns.program c.loop-id.columns) c.loop-id.work.rows (g.met.C.Columns.lawful c.loop-id.columns)
+    c.loop-id.invariant.state.rows_is
 
 pub multipliers_of-m-requires-clause-positive : goal.multipliers_of-m-requires-clause-positive
 multipliers_of-m-requires-clause-positive g c =
@@ -27,105 +29,160 @@ invariant_of-work g c = record { ids_count = c.loop-id.work.ids_count; costs_cou
 pub multipliers_of-m-requires-clause-small : goal.multipliers_of-m-requires-clause-small
 multipliers_of-m-requires-clause-small g c =
     let w = c.loop-id.work in
-    Steps.inverse_small (g.C.Columns.program c.loop-id.columns) c.args.with_costs w.rows w.ids w.inverse w.tracked w.den w.costs (tame_of (g.C.Columns.program c.loop-id.columns) (g.met.C.Columns.lawful c.loop-id.columns)) c.loop-id.invariant.state
+    Steps.inverse_small (g.C.Columns.program c.loop-id.columns) c.args.with_costs w.rows w.ids w.inverse w.tracked
+    w.den w.costs (tame_of (g.C.Columns.program c.loop-id.columns) (g.met.C.Columns.lawful c.loop-id.columns))
+    c.loop-id.invariant.state
 
 pub multipliers_of-m-requires-clause-costs_small : goal.multipliers_of-m-requires-clause-costs_small
 multipliers_of-m-requires-clause-costs_small g c =
     let w = c.loop-id.work in
-    Steps.costs_small (g.C.Columns.program c.loop-id.columns) c.args.with_costs w.rows w.ids w.inverse w.tracked w.den w.costs (tame_of (g.C.Columns.program c.loop-id.columns) (g.met.C.Columns.lawful c.loop-id.columns)) c.loop-id.invariant.state
+    Steps.costs_small (g.C.Columns.program c.loop-id.columns) c.args.with_costs w.rows w.ids w.inverse w.tracked
+    w.den w.costs (tame_of (g.C.Columns.program c.loop-id.columns) (g.met.C.Columns.lawful c.loop-id.columns))
+    c.loop-id.invariant.state
 
 pub multipliers_of-m-requires-clause-den_small : goal.multipliers_of-m-requires-clause-den_small
 multipliers_of-m-requires-clause-den_small g c =
     let w = c.loop-id.work in
     let fd : FitsSigned w128 w.den = search rules in
-    simp to_z-of_z (Steps.den_small (g.C.Columns.program c.loop-id.columns) c.args.with_costs w.rows w.ids w.inverse w.tracked w.den w.costs (tame_of (g.C.Columns.program c.loop-id.columns) (g.met.C.Columns.lawful c.loop-id.columns)) c.loop-id.invariant.state)
+    simp to_z-of_z
+    (Steps.den_small (g.C.Columns.program c.loop-id.columns) c.args.with_costs w.rows w.ids w.inverse w.tracked
+    w.den w.costs (tame_of (g.C.Columns.program c.loop-id.columns) (g.met.C.Columns.lawful c.loop-id.columns))
+    c.loop-id.invariant.state)
 
-pub entering-requires : goal.entering-requires
-entering-requires g c = c.multipliers_of-m.ensures.count ∙ c.loop-id.invariant.state.rows_is
+pub rising-requires : goal.rising-requires
+rising-requires g c = c.multipliers_of-m.ensures.count ∙ c.loop-id.invariant.state.rows_is
 
 pub returns-in_default-clause-same : goal.returns-in_default-clause-same
-returns-in_default-clause-same g c = c.entering.ensures.same ∙ c.loop-id.invariant.same
+returns-in_default-clause-same g c = c.rising.ensures.same ∙ c.loop-id.invariant.same
 
 pub returns-in_default-clause-same_players : goal.returns-in_default-clause-same_players
-returns-in_default-clause-same_players g c = c.entering.ensures.same_players ∙ c.loop-id.invariant.same_players
+returns-in_default-clause-same_players g c = c.rising.ensures.same_players ∙ c.loop-id.invariant.same_players
 
 pub returns-in_default-clause-state : goal.returns-in_default-clause-state
 returns-in_default-clause-state g c =
     let w = c.loop-id.work in
-    Entered.state_of (g.C.Columns.program c.loop-id.columns) (g.C.Columns.program c.entering.new.self) c.args.with_costs c.entering.ensures.same w.rows w.ids w.inverse w.tracked w.den w.costs c.loop-id.invariant.state
+    Entered.state_of (g.C.Columns.program c.loop-id.columns) (g.C.Columns.program c.rising.new.self)
+    c.args.with_costs c.rising.ensures.same w.rows w.ids w.inverse w.tracked w.den w.costs
+    c.loop-id.invariant.state
 
 pub load_column-column-requires-clause-column : goal.load_column-column-requires-clause-column
-load_column-column-requires-clause-column g c = Entered.column_of (g.C.Columns.program c.loop-id.columns) (g.C.Columns.program c.entering.new.self) c.args.with_costs (c.in-Some.ensures {u = tt}).same c.multipliers_of-m.result.num.items c.multipliers_of-m.result.den c.in-Some.id (c.in-Some.ensures {u = tt}).answer
+load_column-column-requires-clause-column g c =
+    Entered.column_of (g.C.Columns.program c.loop-id.columns) (g.C.Columns.program c.rising.new.self)
+    c.args.with_costs (c.in-Some.ensures {u = tt}).same c.multipliers_of-m.result.num.items
+    c.multipliers_of-m.result.den c.in-Some.id (c.in-Some.ensures {u = tt}).answer
 
 pub load_column-column-requires-clause-rows : goal.load_column-column-requires-clause-rows
-load_column-column-requires-clause-rows g c = Entered.rows_of (g.C.Columns.program c.loop-id.columns) (g.C.Columns.program c.entering.new.self) c.args.with_costs c.entering.ensures.same c.loop-id.work.rows c.loop-id.invariant.state.rows_is
+load_column-column-requires-clause-rows g c =
+    Entered.rows_of (g.C.Columns.program c.loop-id.columns) (g.C.Columns.program c.rising.new.self)
+    c.args.with_costs
+    c.rising.ensures.same c.loop-id.work.rows c.loop-id.invariant.state.rows_is
 
 pub weights_of-weights-requires-clause-rows : goal.weights_of-weights-requires-clause-rows
-weights_of-weights-requires-clause-rows g c = within_32 c.loop-id.work.rows (few_rows (g.C.Columns.program c.loop-id.columns) c.loop-id.work.rows (g.met.C.Columns.lawful c.loop-id.columns) c.loop-id.invariant.state.rows_is)
+weights_of-weights-requires-clause-rows g c =
+    within_32 c.loop-id.work.rows
+    (few_rows (g.C.Columns.program c.loop-id.columns) c.loop-id.work.rows (g.met.C.Columns.lawful c.loop-id.columns)
+    c.loop-id.invariant.state.rows_is)
 
 pub invariant_of-work-in-loop-id : goal.invariant_of-work-in-loop-id
-invariant_of-work-in-loop-id g c = record { ids_count = c.loop-id.work.ids_count; costs_count = c.loop-id.work.costs_count }
+invariant_of-work-in-loop-id g c =
+    record { ids_count = c.loop-id.work.ids_count; costs_count = c.loop-id.work.costs_count }
 
 pub weights_of-weights-requires-clause-small : goal.weights_of-weights-requires-clause-small
 weights_of-weights-requires-clause-small g c =
     let w = c.loop-id.work in
-    Steps.inverse_small (g.C.Columns.program c.loop-id.columns) c.args.with_costs w.rows w.ids w.inverse w.tracked w.den w.costs (tame_of (g.C.Columns.program c.loop-id.columns) (g.met.C.Columns.lawful c.loop-id.columns)) c.loop-id.invariant.state
+    Steps.inverse_small (g.C.Columns.program c.loop-id.columns) c.args.with_costs w.rows w.ids w.inverse w.tracked
+    w.den w.costs (tame_of (g.C.Columns.program c.loop-id.columns) (g.met.C.Columns.lawful c.loop-id.columns))
+    c.loop-id.invariant.state
 
 pub least_ratio-requires-clause-rows : goal.least_ratio-requires-clause-rows
-least_ratio-requires-clause-rows g c = few_rows (g.C.Columns.program c.loop-id.columns) c.loop-id.work.rows (g.met.C.Columns.lawful c.loop-id.columns) c.loop-id.invariant.state.rows_is
+least_ratio-requires-clause-rows g c =
+    few_rows (g.C.Columns.program c.loop-id.columns) c.loop-id.work.rows (g.met.C.Columns.lawful c.loop-id.columns)
+    c.loop-id.invariant.state.rows_is
 
 pub invariant_of-work-in-loop-id-2 : goal.invariant_of-work-in-loop-id-2
-invariant_of-work-in-loop-id-2 g c = record { ids_count = c.loop-id.work.ids_count; costs_count = c.loop-id.work.costs_count }
+invariant_of-work-in-loop-id-2 g c =
+    record { ids_count = c.loop-id.work.ids_count; costs_count = c.loop-id.work.costs_count }
 
 pub least_ratio-requires-clause-small : goal.least_ratio-requires-clause-small
 least_ratio-requires-clause-small g c =
     let w = c.loop-id.work in
-    Steps.tracked_small (g.C.Columns.program c.loop-id.columns) c.args.with_costs w.rows w.ids w.inverse w.tracked w.den w.costs (tame_of (g.C.Columns.program c.loop-id.columns) (g.met.C.Columns.lawful c.loop-id.columns)) c.loop-id.invariant.state
+    Steps.tracked_small (g.C.Columns.program c.loop-id.columns) c.args.with_costs w.rows w.ids w.inverse w.tracked
+    w.den w.costs (tame_of (g.C.Columns.program c.loop-id.columns) (g.met.C.Columns.lawful c.loop-id.columns))
+    c.loop-id.invariant.state
 
-multipliers : (g : Over) (c : After-multipliers_of-m g) → AreMultipliers c.loop-id.work.inverse c.loop-id.work.costs c.loop-id.work.rows c.loop-id.work.den c.multipliers_of-m.result.num.items c.multipliers_of-m.result.den
+multipliers : (g : Over) (c : After-multipliers_of-m g)
+    → AreMultipliers c.loop-id.work.inverse c.loop-id.work.costs c.loop-id.work.rows c.loop-id.work.den
+    c.multipliers_of-m.result.num.items c.multipliers_of-m.result.den
 multipliers g c =
     let fd : FitsSigned w128 c.loop-id.work.den = search rules in
     simp to_z-of_z at c.multipliers_of-m.ensures
 
 pub returns-in_default-clause-answer : goal.returns-in_default-clause-answer
 returns-in_default-clause-answer g c =
-    let m = c.multipliers_of-m.result in
-    (multipliers g (goal.at.returns-in_default-clause-answer g c).After-multipliers_of-m, Entered.bounds_of (g.C.Columns.program c.loop-id.columns) (g.C.Columns.program c.entering.new.self) c.args.with_costs c.entering.ensures.same m.num.items m.den (c.in_default.ensures {u = tt}).answer)
+    let m = c.multipliers_of-m.result in (
+      multipliers g (goal.at.returns-in_default-clause-answer g c).After-multipliers_of-m,
+      Entered.bounds_of (g.C.Columns.program c.loop-id.columns) (g.C.Columns.program c.rising.new.self)
+          c.args.with_costs c.rising.ensures.same m.num.items m.den (c.in_default.ensures {u = tt}).answer,
+    )
 
 pub weights_of-weights-requires-clause-column_small : goal.weights_of-weights-requires-clause-column_small
 weights_of-weights-requires-clause-column_small g c =
     let w = c.loop-id.work in
     let m = c.multipliers_of-m.result in
     let enter = c.in-Some.ensures {u = tt} in
-    Steps.loaded_small (g.C.Columns.program c.loop-id.columns) (g.C.Columns.program c.entering.new.self) c.args.with_costs w.rows w.ids w.inverse w.tracked w.den w.costs c.load_column-column.result [] m.num.items m.den c.in-Some.id enter.same (tame_of (g.C.Columns.program c.entering.new.self) (g.met.C.Columns.lawful c.entering.new.self)) c.loop-id.invariant.state (multipliers g (goal.at.weights_of-weights-requires-clause-column_small g c).After-multipliers_of-m) enter.answer c.load_column-column.ensures
+    Steps.loaded_small (g.C.Columns.program c.loop-id.columns) (g.C.Columns.program c.rising.new.self)
+    c.args.with_costs w.rows w.ids w.inverse w.tracked w.den w.costs c.load_column-column.result [] m.num.items
+    m.den c.in-Some.id enter.same
+    (tame_of (g.C.Columns.program c.rising.new.self) (g.met.C.Columns.lawful c.rising.new.self))
+    c.loop-id.invariant.state
+    (multipliers g (goal.at.weights_of-weights-requires-clause-column_small g c).After-multipliers_of-m)
+    enter.answer c.load_column-column.ensures
 
 pub least_ratio-requires-clause-weights_small : goal.least_ratio-requires-clause-weights_small
 least_ratio-requires-clause-weights_small g c =
     let w = c.loop-id.work in
     let m = c.multipliers_of-m.result in
     let enter = c.in-Some.ensures {u = tt} in
-    Steps.ratio_small (g.C.Columns.program c.loop-id.columns) (g.C.Columns.program c.entering.new.self) c.args.with_costs w.rows w.ids w.inverse w.tracked w.den w.costs c.load_column-column.result c.weights_of-weights.result m.num.items m.den c.in-Some.id enter.same (tame_of (g.C.Columns.program c.entering.new.self) (g.met.C.Columns.lawful c.entering.new.self)) c.loop-id.invariant.state (multipliers g (goal.at.least_ratio-requires-clause-weights_small g c).After-multipliers_of-m) enter.answer c.load_column-column.ensures c.weights_of-weights.ensures
+    Steps.ratio_small (g.C.Columns.program c.loop-id.columns) (g.C.Columns.program c.rising.new.self)
+    c.args.with_costs w.rows w.ids w.inverse w.tracked w.den w.costs c.load_column-column.result
+    c.weights_of-weights.result m.num.items m.den c.in-Some.id enter.same
+    (tame_of (g.C.Columns.program c.rising.new.self) (g.met.C.Columns.lawful c.rising.new.self))
+    c.loop-id.invariant.state
+    (multipliers g (goal.at.least_ratio-requires-clause-weights_small g c).After-multipliers_of-m) enter.answer
+    c.load_column-column.ensures c.weights_of-weights.ensures
 
 pub returns-in_default-least_ratio-clause-same : goal.returns-in_default-least_ratio-clause-same
-returns-in_default-least_ratio-clause-same g c = c.entering.ensures.same ∙ c.loop-id.invariant.same
+returns-in_default-least_ratio-clause-same g c = c.rising.ensures.same ∙ c.loop-id.invariant.same
 
 pub returns-in_default-least_ratio-clause-same_players : goal.returns-in_default-least_ratio-clause-same_players
-returns-in_default-least_ratio-clause-same_players g c = c.entering.ensures.same_players ∙ c.loop-id.invariant.same_players
+returns-in_default-least_ratio-clause-same_players g c =
+    c.rising.ensures.same_players ∙ c.loop-id.invariant.same_players
 
 pub returns-in_default-least_ratio-clause-state : goal.returns-in_default-least_ratio-clause-state
 returns-in_default-least_ratio-clause-state g c =
     let w = c.loop-id.work in
-    Entered.state_of (g.C.Columns.program c.loop-id.columns) (g.C.Columns.program c.entering.new.self) c.args.with_costs c.entering.ensures.same w.rows w.ids w.inverse w.tracked w.den w.costs c.loop-id.invariant.state
+    Entered.state_of (g.C.Columns.program c.loop-id.columns) (g.C.Columns.program c.rising.new.self)
+    c.args.with_costs c.rising.ensures.same w.rows w.ids w.inverse w.tracked w.den w.costs
+    c.loop-id.invariant.state
 
 pub returns-in_default-least_ratio-clause-answer : goal.returns-in_default-least_ratio-clause-answer
 returns-in_default-least_ratio-clause-answer g c =
     let w = c.loop-id.work in
     let m = c.multipliers_of-m.result in
     let enter = c.in-Some.ensures {u = tt} in
-    Steps.endless (g.C.Columns.program c.loop-id.columns) (g.C.Columns.program c.entering.new.self) c.args.with_costs w.rows w.ids w.inverse w.tracked w.den w.costs c.load_column-column.result c.weights_of-weights.result m.num.items m.den c.in-Some.id enter.same (tame_of (g.C.Columns.program c.entering.new.self) (g.met.C.Columns.lawful c.entering.new.self)) c.loop-id.invariant.state (multipliers g (goal.at.returns-in_default-least_ratio-clause-answer g c).After-multipliers_of-m) enter.answer c.load_column-column.ensures c.weights_of-weights.ensures (c.in_default-least_ratio.ensures {u = tt})
+    Steps.endless (g.C.Columns.program c.loop-id.columns) (g.C.Columns.program c.rising.new.self) c.args.with_costs
+    w.rows w.ids w.inverse w.tracked w.den w.costs c.load_column-column.result c.weights_of-weights.result
+    m.num.items m.den c.in-Some.id enter.same
+    (tame_of (g.C.Columns.program c.rising.new.self) (g.met.C.Columns.lawful c.rising.new.self))
+    c.loop-id.invariant.state
+    (multipliers g (goal.at.returns-in_default-least_ratio-clause-answer g c).After-multipliers_of-m) enter.answer
+    c.load_column-column.ensures c.weights_of-weights.ensures (c.in_default-least_ratio.ensures {u = tt})
 
 -- the facts of a step
-step : (g : Over) (c : In-Some-least_ratio g) → let w = c.loop-id.work in Steps.Step (g.C.Columns.program c.entering.new.self) c.args.with_costs w.rows w.ids w.inverse w.tracked w.den w.costs c.weights_of-weights.result c.in-Some.id c.in-Some-least_ratio.p
+step : (g : Over) (c : In-Some-least_ratio g)
+    → let w = c.loop-id.work in
+    Steps.Step (g.C.Columns.program c.rising.new.self) c.args.with_costs w.rows w.ids w.inverse w.tracked w.den
+    w.costs c.weights_of-weights.result c.in-Some.id c.in-Some-least_ratio.p
 step g c =
     let w = c.loop-id.work in
     let fd : FitsSigned w128 w.den = search rules in
@@ -135,13 +192,23 @@ step g c =
     let len_ids : length w.ids ≡ 32 = w.ids_count in
     let len_costs : length w.costs ≡ 32 = w.costs_count in
     let p = c.in-Some-least_ratio.p in
-    Steps.step_of (g.C.Columns.program c.loop-id.columns) (g.C.Columns.program c.entering.new.self) c.args.with_costs w.rows w.ids w.inverse w.tracked w.den w.costs c.load_column-column.result c.weights_of-weights.result m.num.items m.den c.in-Some.id enter.same (tame_of (g.C.Columns.program c.entering.new.self) (g.met.C.Columns.lawful c.entering.new.self)) c.loop-id.invariant.state are enter.answer c.load_column-column.ensures c.weights_of-weights.ensures p (c.in-Some-least_ratio.ensures {u = tt}) len_ids len_costs
+    Steps.step_of (g.C.Columns.program c.loop-id.columns) (g.C.Columns.program c.rising.new.self) c.args.with_costs
+    w.rows w.ids w.inverse w.tracked w.den w.costs c.load_column-column.result c.weights_of-weights.result
+    m.num.items m.den c.in-Some.id enter.same
+    (tame_of (g.C.Columns.program c.rising.new.self) (g.met.C.Columns.lawful c.rising.new.self))
+    c.loop-id.invariant.state are enter.answer c.load_column-column.ensures c.weights_of-weights.ensures p
+    (c.in-Some-least_ratio.ensures {u = tt}) len_ids len_costs
 
 pub price_of-cost-requires : goal.price_of-cost-requires
-price_of-cost-requires g c = Entered.column_of (g.C.Columns.program c.loop-id.columns) (g.C.Columns.program c.entering.new.self) c.args.with_costs (c.in-Some.ensures {u = tt}).same c.multipliers_of-m.result.num.items c.multipliers_of-m.result.den c.in-Some.id (c.in-Some.ensures {u = tt}).answer
+price_of-cost-requires g c =
+    Entered.column_of (g.C.Columns.program c.loop-id.columns) (g.C.Columns.program c.rising.new.self)
+    c.args.with_costs (c.in-Some.ensures {u = tt}).same c.multipliers_of-m.result.num.items
+    c.multipliers_of-m.result.den c.in-Some.id (c.in-Some.ensures {u = tt}).answer
 
 pub replace-requires-clause-few : goal.replace-requires-clause-few
-replace-requires-clause-few g c = few_rows (g.C.Columns.program c.loop-id.columns) c.loop-id.work.rows (g.met.C.Columns.lawful c.loop-id.columns) c.loop-id.invariant.state.rows_is
+replace-requires-clause-few g c =
+    few_rows (g.C.Columns.program c.loop-id.columns) c.loop-id.work.rows (g.met.C.Columns.lawful c.loop-id.columns)
+    c.loop-id.invariant.state.rows_is
 
 pub replace-requires-clause-place : goal.replace-requires-clause-place
 replace-requires-clause-place g c = (c.in-Some-least_ratio.ensures {u = tt}).place
@@ -155,7 +222,8 @@ replace-requires-clause-can g c =
 
 pub replace-requires-clause-can_track : goal.replace-requires-clause-can_track
 replace-requires-clause-can_track g c =
-    Steps.can_track _ _ _ _ _ _ _ _ _ _ _ (step g (goal.at.replace-requires-clause-can_track g c).In-Some-least_ratio)
+    Steps.can_track _ _ _ _ _ _ _ _ _ _ _
+    (step g (goal.at.replace-requires-clause-can_track g c).In-Some-least_ratio)
 
 pub loop-id-smaller : goal.loop-id-smaller
 loop-id-smaller g c =
@@ -163,8 +231,10 @@ loop-id-smaller g c =
     let v = c.replace.new.self in
     let fc : FitsSigned w128 c.price_of-cost.result = search rules in
     let r = simp to_z-of_z at c.replace.ensures in
-    Steps.replaced_room w.rows v.rows v.tracked v.den w.costs v.costs c.weights_of-weights.result _ c.price_of-cost.result _ r.rows r.den r.costs
-    (Steps.smaller _ _ _ _ _ _ _ _ _ _ _ (step g (goal.at.loop-id-smaller g c).In-Some-least_ratio) v.inverse v.tracked c.price_of-cost.result c.price_of-cost.ensures r.inverse r.tracked)
+    Steps.replaced_room w.rows v.rows v.tracked v.den w.costs v.costs c.weights_of-weights.result _
+    c.price_of-cost.result _ r.rows r.den r.costs
+    (Steps.smaller _ _ _ _ _ _ _ _ _ _ _ (step g (goal.at.loop-id-smaller g c).In-Some-least_ratio) v.inverse
+    v.tracked c.price_of-cost.result c.price_of-cost.ensures r.inverse r.tracked)
 
 pub loop-id-preserved : goal.loop-id-preserved
 loop-id-preserved g c =
@@ -177,6 +247,11 @@ loop-id-preserved g c =
     record {
       same = (c.in-Some.ensures {u = tt}).same ∙ c.loop-id.invariant.same;
       same_players = (c.in-Some.ensures {u = tt}).same_players ∙ c.loop-id.invariant.same_players;
-      state = Steps.replaced_state (g.C.Columns.program c.entering.new.self) c.args.with_costs w.rows v.rows w.ids v.ids v.inverse v.tracked v.den w.costs v.costs c.weights_of-weights.result c.in-Some.id p c.price_of-cost.result r.rows r.ids r.den r.costs
-          (Steps.next_state (g.C.Columns.program c.entering.new.self) c.args.with_costs w.rows w.ids w.inverse w.tracked w.den w.costs c.weights_of-weights.result c.in-Some.id p s v.inverse v.tracked c.price_of-cost.result c.price_of-cost.ensures r.inverse r.tracked);
+      state =
+          Steps.replaced_state (g.C.Columns.program c.rising.new.self) c.args.with_costs w.rows v.rows w.ids v.ids
+          v.inverse v.tracked v.den w.costs v.costs c.weights_of-weights.result c.in-Some.id p
+          c.price_of-cost.result r.rows r.ids r.den r.costs
+          (Steps.next_state (g.C.Columns.program c.rising.new.self) c.args.with_costs w.rows w.ids w.inverse
+          w.tracked w.den w.costs c.weights_of-weights.result c.in-Some.id p s v.inverse v.tracked
+          c.price_of-cost.result c.price_of-cost.ensures r.inverse r.tracked);
     }

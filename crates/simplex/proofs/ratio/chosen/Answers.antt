@@ -11,22 +11,39 @@ use Rattle.simplex.proofs.ratio.chosen.Goals as goal
 pub returns-then-weights-k-le0 : goal.returns-then-weights-k-le0
 returns-then-weights-k-le0 c =
     let f : FitsSigned w128 (slice_index_or c.args.weights.now c.args.k (pos 0)) = search rules in
-    choice_more c.args.tracked.now c.args.weights.now c.args.n c.args.k c.args.best (at_most_is (weight_at c.args.weights.now c.args.k) (pos 0) (simp to_z-of_z at c.if-weights-k-le0.true)) c.requires.best
+    choice_more c.args.tracked.now c.args.weights.now c.args.n c.args.k c.args.best
+    (at_most_is (weight_at c.args.weights.now c.args.k) (pos 0) (simp to_z-of_z at c.if-weights-k-le0.true))
+    c.requires.best
 
 pub returns-in_default : goal.returns-in_default
 returns-in_default c =
     let f : FitsSigned w128 (slice_index_or c.args.weights.now c.args.k (pos 0)) = search rules in
-    let positive = more_is (weight_at c.args.weights.now c.args.k) (pos 0) (simp to_z-of_z at c.if-weights-k-le0.false) in
-    least_first c.args.tracked.now c.args.weights.now c.args.n c.args.k c.requires.place positive (subst (IsChoice c.args.tracked.now c.args.weights.now c.args.n c.args.k) c.in_default.is c.requires.best)
+    let positive =
+    more_is (weight_at c.args.weights.now c.args.k) (pos 0) (simp to_z-of_z at c.if-weights-k-le0.false) in
+    least_first c.args.tracked.now c.args.weights.now c.args.n c.args.k c.requires.place positive
+    (subst (IsChoice c.args.tracked.now c.args.weights.now c.args.n c.args.k) c.in_default.is c.requires.best)
 
 pub returns-then-goes_before : goal.returns-then-goes_before
 returns-then-goes_before c =
     let f : FitsSigned w128 (slice_index_or c.args.weights.now c.args.k (pos 0)) = search rules in
-    let positive = more_is (weight_at c.args.weights.now c.args.k) (pos 0) (simp to_z-of_z at c.if-weights-k-le0.false) in
-    let least : IsLeast c.args.tracked.now c.args.weights.now c.args.n c.args.k c.in-Some.p = subst (IsChoice c.args.tracked.now c.args.weights.now c.args.n c.args.k) c.in-Some.is c.requires.best in
-    least_next c.args.tracked.now c.args.weights.now c.args.n c.args.k c.in-Some.p c.requires.place positive (subst (λ b. MatchBool b (IsLexPositive (suc c.args.n) (ratio_gap c.args.tracked.now c.args.weights.now c.in-Some.p c.args.k)) (IsLexNonnegative (suc c.args.n) (ratio_gap c.args.tracked.now c.args.weights.now c.args.k c.in-Some.p))) c.if-goes_before.true c.goes_before.ensures) least
+    let positive =
+    more_is (weight_at c.args.weights.now c.args.k) (pos 0) (simp to_z-of_z at c.if-weights-k-le0.false) in
+    let least : IsLeast c.args.tracked.now c.args.weights.now c.args.n c.args.k c.in-Some.p =
+    subst (IsChoice c.args.tracked.now c.args.weights.now c.args.n c.args.k) c.in-Some.is c.requires.best in
+    least_next c.args.tracked.now c.args.weights.now c.args.n c.args.k c.in-Some.p c.requires.place positive
+    (subst
+    (λ b. MatchBool b
+    (IsLexPositive (suc c.args.n) (ratio_gap c.args.tracked.now c.args.weights.now c.in-Some.p c.args.k))
+    (IsLexNonnegative (suc c.args.n) (ratio_gap c.args.tracked.now c.args.weights.now c.args.k c.in-Some.p)))
+    c.if-goes_before.true c.goes_before.ensures) least
 
 pub returns-else-goes_before : goal.returns-else-goes_before
 returns-else-goes_before c =
-    let least : IsLeast c.args.tracked.now c.args.weights.now c.args.n c.args.k c.in-Some.p = subst (IsChoice c.args.tracked.now c.args.weights.now c.args.n c.args.k) c.in-Some.is c.requires.best in
-    least_more c.args.tracked.now c.args.weights.now c.args.n c.args.k c.in-Some.p (λ q. subst (λ b. MatchBool b (IsLexPositive (suc c.args.n) (ratio_gap c.args.tracked.now c.args.weights.now c.in-Some.p c.args.k)) (IsLexNonnegative (suc c.args.n) (ratio_gap c.args.tracked.now c.args.weights.now c.args.k c.in-Some.p))) c.if-goes_before.false c.goes_before.ensures) least
+    let least : IsLeast c.args.tracked.now c.args.weights.now c.args.n c.args.k c.in-Some.p =
+    subst (IsChoice c.args.tracked.now c.args.weights.now c.args.n c.args.k) c.in-Some.is c.requires.best in
+    least_more c.args.tracked.now c.args.weights.now c.args.n c.args.k c.in-Some.p
+    (λ q. subst
+    (λ b. MatchBool b
+    (IsLexPositive (suc c.args.n) (ratio_gap c.args.tracked.now c.args.weights.now c.in-Some.p c.args.k))
+    (IsLexNonnegative (suc c.args.n) (ratio_gap c.args.tracked.now c.args.weights.now c.args.k c.in-Some.p)))
+    c.if-goes_before.false c.goes_before.ensures) least

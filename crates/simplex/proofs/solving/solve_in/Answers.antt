@@ -13,14 +13,17 @@ pub unreachable-requires : goal.unreachable-requires
 unreachable-requires g c =
     let w = c.improve.new.work in
     let e = c.in_default.ensures {u = tt} in
-    Ends.no_first_direction (g.C.Columns.program c.improve.new.columns) w.rows w.ids w.inverse w.tracked w.den w.costs e.state e.answer
+    Ends.no_first_direction (g.C.Columns.program c.improve.new.columns) w.rows w.ids w.inverse w.tracked w.den
+    w.costs e.state e.answer
 
 pub returns-then-has_added_weight-clause-answer : goal.returns-then-has_added_weight-clause-answer
 returns-then-has_added_weight-clause-answer g c =
     let w = c.improve.new.work in
     let m = c.in-Some._bounds in
     let e = c.in-Some.ensures {u = tt} in
-    subst HasNoSolution e.same (Ends.no_solution (g.C.Columns.program c.improve.new.columns) w.rows w.ids w.inverse w.tracked w.den w.costs m.num.items m.den e.state e.answer.0 e.answer.1 (c.if-has_added_weight.ensures {u = tt}))
+    subst HasNoSolution e.same
+    (Ends.no_solution (g.C.Columns.program c.improve.new.columns) w.rows w.ids w.inverse w.tracked w.den w.costs
+    m.num.items m.den e.state e.answer.0 e.answer.1 (c.if-has_added_weight.ensures {u = tt}))
 
 pub returns-in_default-improve-clause-answer : goal.returns-in_default-improve-clause-answer
 returns-in_default-improve-clause-answer g c =
@@ -36,7 +39,9 @@ pub answer_of-requires-clause-small : goal.answer_of-requires-clause-small
 answer_of-requires-clause-small g c =
     let w = c.improve-2.new.work in
     let e = c.in-Some-improve.ensures {u = tt} in
-    Tableaus.den_small (g.C.Columns.program c.improve-2.new.columns) w.ids w.inverse w.den (tame_of (g.C.Columns.program c.improve-2.new.columns) (g.met.C.Columns.lawful c.improve-2.new.columns)) e.state.table.inverse
+    Tableaus.den_small (g.C.Columns.program c.improve-2.new.columns) w.ids w.inverse w.den
+    (tame_of (g.C.Columns.program c.improve-2.new.columns) (g.met.C.Columns.lawful c.improve-2.new.columns))
+    e.state.table.inverse
 
 pub returns-clause-answer : goal.returns-clause-answer
 returns-clause-answer g c =
@@ -46,6 +51,10 @@ returns-clause-answer g c =
     let m = c.in-Some-improve.multipliers in
     let o = c.answer_of.result in
     let same = e.same ∙ c.loop-k.invariant.same in
-    subst (λ (m : Multipliers). IsAnswer (g.C.Columns.program c.args.columns.now) o.weights.items o.weight_den m.num.items m.den) (sym c.answer_of.ensures.multipliers)
+    subst
+    (λ (m : Multipliers). IsAnswer (g.C.Columns.program c.args.columns.now) o.weights.items o.weight_den
+    m.num.items m.den) (sym c.answer_of.ensures.multipliers)
     (subst (λ (Q : Program). IsAnswer Q o.weights.items o.weight_den m.num.items m.den) same
-    (is_answer P w.rows w.ids w.inverse w.tracked w.den w.costs m.num.items m.den o.weights.items o.weight_den e.state e.answer.0 e.answer.1 c.answer_of.ensures.weights (tame_of P (g.met.C.Columns.lawful c.improve-2.new.columns))))
+    (is_answer P w.rows w.ids w.inverse w.tracked w.den w.costs m.num.items m.den o.weights.items o.weight_den
+    e.state e.answer.0 e.answer.1 c.answer_of.ensures.weights
+    (tame_of P (g.met.C.Columns.lawful c.improve-2.new.columns))))
