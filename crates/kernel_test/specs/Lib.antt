@@ -1,2 +1,3 @@
-pub mod Tables
+-- To be read in this order. The last one is for the private functions.
 pub mod Answers
+pub mod Tables

@@ -1,4 +1,6 @@
--- The greatest excesses over the coalitions that hold one player and lack another, in a table of 16 rows and columns.
+-- For the private functions of this crate.
+-- The greatest excesses over the coalitions that hold one player and lack another, in a table of 16 rows and
+-- columns.
 --
 --   number_at table i j      the number in row i and column j
 --   raised_where             the greater of a number and the greatest so far, where a test passes
@@ -11,7 +13,8 @@
 --   AreFloors table least    no number of a row is below the row's floor, where that is there
 --   AreThere n table         there is a number for each two of n players
 --   AreSurpluses g x table   each number is the surplus of the row's player against the column's
-use Rattle.std.specs.Prelude.{◌≡◌, ◌≢◌, ℕ, ◌+◌, ◌*◌, ◌<◌, Bool, true, List, ℤ, ◌≤ℤ◌, int_lt, Option, Some, None, IsSome, slice_index_or, if◌then◌else◌}
+use Rattle.std.specs.Prelude.{◌≡◌, ◌≢◌, ℕ, ◌+◌, ◌*◌, ◌<◌, Bool, true, List, ℤ, ◌≤ℤ◌, int_lt}
+use Rattle.std.specs.Prelude.{Option, Some, None, IsSome, slice_index_or, if◌then◌else◌}
 use Rattle.definitions.specs.Games.{Game, Allocation}
 use Rattle.definitions.specs.Prekernel.{IsSurplus}
 use Rattle.worth_core.specs.Greatest.{max_so_far}
@@ -63,4 +66,5 @@ AreThere n table = (i j : ℕ) → i < n → j < n → i ≢ j → IsSome (numbe
 -- each number is the surplus of the row's player against the column's
 abbrev pub AreSurpluses : Game → Allocation → List (Option ℤ) → Type 0
 AreSurpluses g x table =
-    (i j : ℕ) → i < g.players → j < g.players → i ≢ j → (m : ℤ) × (number_at table i j ≡ Some m) × IsSurplus g x i j m
+    (i j : ℕ) → i < g.players → j < g.players → i ≢ j
+    → (m : ℤ) × (number_at table i j ≡ Some m) × IsSurplus g x i j m

@@ -52,7 +52,8 @@ pub fn prekernel<W: Worth>(game: &W, x: &Shares) -> KernelAnswer
     ensures answer { IsKernelAnswer (W.game game.now) x.now result }
     ensures balanced { (result ≡ KernelAnswer.Balanced) ↔ InPrekernel (W.game game.now) x.now }
     ensures not_efficient { (result ≡ KernelAnswer.NotEfficient) ↔ (¬ IsEfficient (W.game game.now) x.now) }
-    ensures prenucleolus_is_balanced { IsNucleolus Family.Preimputations Measure.Plain (W.game game.now) x.now → result ≡ KernelAnswer.Balanced }
+    ensures prenucleolus_is_balanced { IsNucleolus Family.Preimputations Measure.Plain (W.game game.now) x.now
+        → result ≡ KernelAnswer.Balanced }
 {
     if !is_efficient(game, x) {
         return KernelAnswer::NotEfficient;
@@ -88,9 +89,11 @@ fn scaled_surplus<W: Worth>(game: &W, x: &Shares, i: u32, j: u32) -> i128
     ensures { IsSurplus (W.game game.now) x.now i j result }
 {
     let mut most = None;
+    let mut paid = 0;
     for s in Coalition::subsets(game.players()) {
+        paid = x.sum_after(paid, s);
         if holds_without(s, i, j) {
-            most = raised(most, x.excess_over(game.worth(s), s));
+            most = raised(most, x.excess_from(game.worth(s), paid));
         }
     }
     most.unwrap()

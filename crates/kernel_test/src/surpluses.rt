@@ -3,7 +3,8 @@ ghost use Rattle.std.specs.Prelude.{◌≡◌, ◌≢◌, not, ◌&&◌, true, N
 ghost use Rattle.std.specs.Prelude.{ℕ, ◌<◌, ◌≤◌, nat_eq};
 ghost use Rattle.definitions.specs.Coalitions.{has_player};
 ghost use Rattle.definitions.specs.Prekernel.{IsEarlierPair, holds_without};
-ghost use Rattle.kernel_test.specs.Tables.{number_at, floor_of, raised_where, is_less_so_far, lesser_where, AreFloors, AreThere, AreSurpluses};
+ghost use Rattle.kernel_test.specs.Tables.{number_at, floor_of, raised_where, is_less_so_far};
+ghost use Rattle.kernel_test.specs.Tables.{lesser_where, AreFloors, AreThere, AreSurpluses};
 
 use coalitions::Coalition;
 use worth_core::{Shares, Worth, raised};
@@ -27,8 +28,10 @@ impl Surpluses {
         ensures there { AreThere (W.game game.now).players result.greatest }
     {
         let mut surpluses = Surpluses::none();
+        let mut paid = 0;
         for s in Coalition::subsets(game.players()) {
-            surpluses.raise(s, x.excess_over(game.worth(s), s));
+            paid = x.sum_after(paid, s);
+            surpluses.raise(s, x.excess_from(game.worth(s), paid));
         }
         surpluses
     }
@@ -48,7 +51,8 @@ impl Surpluses {
     fn raise(&mut self, s: Coalition, excess: i128)
         requires { AreFloors self.old.greatest self.old.least }
         ensures raised { (i j : ℕ) → i < 16 → j < 16
-            → number_at self.new.greatest i j ≡ raised_where (holds_without i j s) (number_at self.old.greatest i j) excess }
+            → number_at self.new.greatest i j
+            ≡ raised_where (holds_without i j s) (number_at self.old.greatest i j) excess }
         ensures floors { AreFloors self.new.greatest self.new.least }
     {
         for i in 0..16 {
@@ -64,7 +68,8 @@ impl Surpluses {
         requires member { has_player s i ≡ true }
         requires floors { AreFloors self.old.greatest self.old.least }
         ensures raised { (a j : ℕ) → a < 16 → j < 16
-            → number_at self.new.greatest a j ≡ raised_where (nat_eq a i && not (has_player s j)) (number_at self.old.greatest a j) excess }
+            → number_at self.new.greatest a j
+            ≡ raised_where (nat_eq a i && not (has_player s j)) (number_at self.old.greatest a j) excess }
         ensures floors { AreFloors self.new.greatest self.new.least }
     {
         if self.can_rise(i, excess) {
@@ -88,7 +93,8 @@ impl Surpluses {
         requires player { i < 16 }
         requires floors { AreFloors self.old.greatest self.old.least }
         ensures raised { (a j : ℕ) → a < 16 → j < 16
-            → number_at self.new.greatest a j ≡ raised_where (nat_eq a i && not (has_player s j)) (number_at self.old.greatest a j) excess }
+            → number_at self.new.greatest a j
+            ≡ raised_where (nat_eq a i && not (has_player s j)) (number_at self.old.greatest a j) excess }
         ensures floors { AreFloors self.new.greatest self.new.least }
     {
         let mut least = Some(i128::MAX);
@@ -117,7 +123,8 @@ impl Surpluses {
         ensures { MatchOption result
             ((i j : ℕ) → i < j → j < n → number_at self.now.greatest i j ≡ number_at self.now.greatest j i)
             (λ p. (p.0 < p.1) × (p.1 < n) × (number_at self.now.greatest p.0 p.1 ≢ number_at self.now.greatest p.1 p.0)
-            × ((i j : ℕ) → i < j → j < n → IsEarlierPair i j p.0 p.1 → number_at self.now.greatest i j ≡ number_at self.now.greatest j i)) }
+            × ((i j : ℕ) → i < j → j < n → IsEarlierPair i j p.0 p.1
+            → number_at self.now.greatest i j ≡ number_at self.now.greatest j i)) }
     {
         for i in 0..n {
             if let Some(j) = self.first_against(i, n) {

@@ -7,5 +7,6 @@ pub record SameForm (n : ℕ) (levels : List Level) (i : ℕ) : Type 0 where
   pub whole : LevelsForm n (take i levels) (drop i levels) → LevelsForm n [] levels
   pub rest : LevelsForm n [] levels → LevelsForm n (take i levels) (drop i levels)
 
-pub take-more : {X : Type 0} (xs : List X) (j : ℕ) (d : X) → j < length xs → take (j + 1) xs ≡ take j xs ++ get_or xs j d ∷ []
+pub take-more : {X : Type 0} (xs : List X) (j : ℕ) (d : X) → j < length xs
+    → take (j + 1) xs ≡ take j xs ++ get_or xs j d ∷ []
 take-more xs j d lt = rw add-one (take-suc xs j d lt)

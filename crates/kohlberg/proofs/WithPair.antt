@@ -1,5 +1,6 @@
 -- A pair put among pairs in mask order.
-use Rattle.std.proofs.Common.{◌≡◌, ◌≢◌, ◌⊎◌, ℕ, suc, ◌+◌, ◌≤◌, Bool, true, false, cond, nat_lt, List, [], ◌∷◌, length, ℤ, pos, ◌+ℤ◌, if◌then◌else◌, refl, ap, inl, inr, arith, ◌||◌}
+use Rattle.std.proofs.Common.{◌≡◌, ◌≢◌, ◌⊎◌, ℕ, suc, ◌+◌, ◌≤◌, Bool, true, false, cond, nat_lt, List, [], ◌∷◌}
+use Rattle.std.proofs.Common.{length, ℤ, pos, ◌+ℤ◌, if◌then◌else◌, refl, ap, inl, inr, arith, ◌||◌}
 use Rattle.std.specs.List.{list_any, AllByRecursion}
 use Rattle.std.proofs.lemmas.Bool.{false≢true}
 use Rattle.std.proofs.lemmas.Bool.Decides.{nat_tests}
@@ -9,17 +10,22 @@ use Rattle.definitions.specs.Certificates.{Ascends}
 use Rattle.kohlberg.specs.Pairs.{with_pair}
 use Rattle.definitions.proofs.Cases.{from_not_nat_lt}
 
-pub weight_at-with_pair : (s : ℕ) (w : ℤ) (ps : List (ℕ × ℤ)) (i : ℕ) → weight_at (with_pair s w ps) i ≡ (if has_player s i then w else pos 0) +ℤ weight_at ps i
+pub weight_at-with_pair : (s : ℕ) (w : ℤ) (ps : List (ℕ × ℤ)) (i : ℕ)
+    → weight_at (with_pair s w ps) i ≡ (if has_player s i then w else pos 0) +ℤ weight_at ps i
 weight_at-with_pair s w [] i = refl
 weight_at-with_pair s w (p ∷ ps) i =
     let ih = weight_at-with_pair s w ps i in
-    let step : (b : Bool) → weight_at (cond b ((s, w) ∷ (p ∷ ps)) (p ∷ with_pair s w ps)) i ≡ (if has_player s i then w else pos 0) +ℤ ((if has_player p.0 i then p.1 else pos 0) +ℤ weight_at ps i) = elim [
+    let step : (b : Bool)
+    → weight_at (cond b ((s, w) ∷ (p ∷ ps)) (p ∷ with_pair s w ps)) i
+    ≡ (if has_player s i then w else pos 0) +ℤ ((if has_player p.0 i then p.1 else pos 0) +ℤ weight_at ps i) =
+    elim [
       | true ↦ refl
       | false ↦ omega (arith, linear, ih)
     ] in
     step (nat_lt s p.0)
 
-pub all-with_pair : (P : ℕ × ℤ → Type 0) (s : ℕ) (w : ℤ) (ps : List (ℕ × ℤ)) → P (s, w) → AllByRecursion P ps → AllByRecursion P (with_pair s w ps)
+pub all-with_pair : (P : ℕ × ℤ → Type 0) (s : ℕ) (w : ℤ) (ps : List (ℕ × ℤ)) → P (s, w) → AllByRecursion P ps
+    → AllByRecursion P (with_pair s w ps)
 all-with_pair P s w [] here h = (here, tt)
 all-with_pair P s w (p ∷ ps) here h =
     let step : (b : Bool) → AllByRecursion P (cond b ((s, w) ∷ (p ∷ ps)) (p ∷ with_pair s w ps)) = elim [
@@ -28,7 +34,8 @@ all-with_pair P s w (p ∷ ps) here h =
     ] in
     step (nat_lt s p.0)
 
-pub any-with_pair : (test : ℕ × ℤ → Bool) (s : ℕ) (w : ℤ) (ps : List (ℕ × ℤ)) → (test (s, w) ≡ true) ⊎ (list_any test ps ≡ true) → list_any test (with_pair s w ps) ≡ true
+pub any-with_pair : (test : ℕ × ℤ → Bool) (s : ℕ) (w : ℤ) (ps : List (ℕ × ℤ))
+    → (test (s, w) ≡ true) ⊎ (list_any test ps ≡ true) → list_any test (with_pair s w ps) ≡ true
 any-with_pair test s w [] (inl h) = rw h refl
 any-with_pair test s w [] (inr h) = absurd (false≢true h)
 any-with_pair test s w (p ∷ ps) h =
@@ -43,7 +50,9 @@ any-with_pair test s w (p ∷ ps) h =
     either false b (inl h) = absurd (false≢true h)
     either false b (inr h) = h
 
-    later : (t : Bool) → (test (s, w) ≡ true) ⊎ ((t || list_any test ps) ≡ true) → ((test (s, w) ≡ true) ⊎ (list_any test ps ≡ true) → list_any test (with_pair s w ps) ≡ true) → (t || list_any test (with_pair s w ps)) ≡ true
+    later : (t : Bool) → (test (s, w) ≡ true) ⊎ ((t || list_any test ps) ≡ true)
+        → ((test (s, w) ≡ true) ⊎ (list_any test ps ≡ true) → list_any test (with_pair s w ps) ≡ true)
+        → (t || list_any test (with_pair s w ps)) ≡ true
     later true h ih = refl
     later false h ih = ih h
 
@@ -51,18 +60,21 @@ pub length-with_pair : (s : ℕ) (w : ℤ) (ps : List (ℕ × ℤ)) → length (
 length-with_pair s w [] = refl
 length-with_pair s w (p ∷ ps) =
     let ih = length-with_pair s w ps in
-    let step : (b : Bool) → length (cond b ((s, w) ∷ (p ∷ ps)) (p ∷ with_pair s w ps)) ≡ suc (suc (length ps)) = elim [
+    let step : (b : Bool) → length (cond b ((s, w) ∷ (p ∷ ps)) (p ∷ with_pair s w ps)) ≡ suc (suc (length ps)) =
+    elim [
       | true ↦ refl
       | false ↦ ap suc ih
     ] in
     step (nat_lt s p.0)
 
 -- a new key keeps the keys apart
-pub ascends-with_pair : (low s : ℕ) (w : ℤ) (ps : List (ℕ × ℤ)) → low ≤ s → AllByRecursion (λ p. p.0 ≢ s) ps → Ascends low ps → Ascends low (with_pair s w ps)
+pub ascends-with_pair : (low s : ℕ) (w : ℤ) (ps : List (ℕ × ℤ)) → low ≤ s → AllByRecursion (λ p. p.0 ≢ s) ps
+    → Ascends low ps → Ascends low (with_pair s w ps)
 ascends-with_pair low s w [] le new h = (le, tt)
 ascends-with_pair low s w (p ∷ ps) le new h =
     let ne = new.0 in
-    let step : (b : Bool) → nat_lt s p.0 ≡ b → Ascends low (cond b ((s, w) ∷ (p ∷ ps)) (p ∷ with_pair s w ps)) = elim [
+    let step : (b : Bool) → nat_lt s p.0 ≡ b → Ascends low (cond b ((s, w) ∷ (p ∷ ps)) (p ∷ with_pair s w ps)) =
+    elim [
       | true ↦ λ e. (le, (less s p.0 e, h.1))
       | false ↦ λ e. (h.0, ascends-with_pair (p.0 + 1) s w ps (more s p.0 e ne) new.1 h.1)
     ] in

@@ -1,3 +1,4 @@
+-- For the private functions of this crate.
 -- The form of a certificate as tests.
 use Rattle.std.specs.Prelude.{ℕ, ◌+◌, ◌^◌, Bool, true, ◌&&◌, nat_lt, nat_le, List, [], ◌∷◌, ℤ, unsigned_abs}
 

@@ -1,3 +1,4 @@
+-- For the private functions of this crate.
 -- The form of a level as tests.
 --
 --   has_sizes     how many coalitions it may have
@@ -13,12 +14,14 @@ use Rattle.kohlberg.specs.Form.{is_small, ascends}
 
 -- 1 to 65536 coalitions, and at most 65536 earlier ones
 abbrev pub has_sizes : Level → Bool
-has_sizes l = nat_le 1 (length l.coalitions) && nat_le (length l.coalitions) 65536 && nat_le (length l.earlier) 65536
+has_sizes l =
+    nat_le 1 (length l.coalitions) && nat_le (length l.coalitions) 65536 && nat_le (length l.earlier) 65536
 
 -- coalitions are neither empty nor all, earlier ones are listed in front, and players are of the game
 abbrev pub has_keys : ℕ → List Level → Level → Bool
 has_keys n front l =
-    list_all (λ c. nat_lt 0 c.0 && nat_lt c.0 (grand_coalition n)) l.coalitions && list_all (λ c. is_listed front c.0) l.earlier && list_all (λ b. nat_lt b.0 n) l.bounds
+    list_all (λ c. nat_lt 0 c.0 && nat_lt c.0 (grand_coalition n)) l.coalitions
+    && list_all (λ c. is_listed front c.0) l.earlier && list_all (λ b. nat_lt b.0 n) l.bounds
 
 -- coalitions and players ascend
 abbrev pub has_order : Level → Bool
@@ -27,7 +30,8 @@ has_order l = ascends 0 l.coalitions && ascends 0 l.earlier && ascends 0 l.bound
 -- weights and the total are small
 abbrev pub has_weights : Level → Bool
 has_weights l =
-    list_all (λ p. is_small p.1) l.coalitions && list_all (λ p. is_small p.1) l.earlier && list_all (λ p. is_small p.1) l.bounds && is_small l.total
+    list_all (λ p. is_small p.1) l.coalitions && list_all (λ p. is_small p.1) l.earlier
+    && list_all (λ p. is_small p.1) l.bounds && is_small l.total
 
 -- all tests of a level behind those in front
 abbrev pub level_form : ℕ → List Level → Level → Bool

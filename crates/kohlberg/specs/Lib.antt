@@ -1,7 +1,8 @@
+-- The last two are for the private functions.
 pub mod Certificate
 pub mod Extends
-pub mod Form
-pub mod LevelTests
 pub mod Marking
 pub mod Pairs
 pub mod Solved
+pub mod Form
+pub mod LevelTests

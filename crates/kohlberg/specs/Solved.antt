@@ -15,14 +15,17 @@ use Rattle.kohlberg.specs.Certificate.{CertificateData}
 
 -- the excess of the level is in lowest terms, and its parts are of 128 bits
 abbrev pub IsLowest : Level → Type 0
-IsLowest l = IsReduced (record { num = l.excess_num; den = l.excess_den }) × HasForm (record { num = l.excess_num; den = l.excess_den })
+IsLowest l =
+    IsReduced (record { num = l.excess_num; den = l.excess_den })
+    × HasForm (record { num = l.excess_num; den = l.excess_den })
 
 -- a level has at most twice as many entries over its three lists as there are players
 abbrev pub HasFew : ℕ → Level → Type 0
 HasFew n l = length l.coalitions + length l.earlier + length l.bounds ≤ 2 * n
 
 -- shares, and a certificate in the mode that certifies them for the family by the measure
-pub record IsSolved (mode : Mode) (family : Family) (measure : Measure) (g : Game) (x : Allocation) (c : CertificateData) : Type 0 where
+pub record IsSolved (mode : Mode) (family : Family) (measure : Measure) (g : Game) (x : Allocation)
+    (c : CertificateData) : Type 0 where
   pub players : c.players ≡ g.players
   pub in_mode : c.mode ≡ mode
   pub certifies : Certifies mode family measure g x c.levels

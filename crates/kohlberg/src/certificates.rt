@@ -43,7 +43,8 @@ impl Certificate {
         requires some { 1 ≤ players }
         requires few { players ≤ 64 }
         ensures { MatchResult result
-            (λ c. (c ≡ record { players = players; mode = mode; levels = levels.items }) × HasForm mode players levels.items)
+            (λ c. (c ≡ record { players = players; mode = mode; levels = levels.items })
+            × HasForm mode players levels.items)
             (λ _. ¬ HasForm mode players levels.items) }
     {
         if has_form(players, mode, &levels) {

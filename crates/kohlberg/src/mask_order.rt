@@ -1,5 +1,5 @@
 //! Pairs of a coalition and its weight, in mask order.
-ghost use Rattle.std.specs.Prelude.{◌≡◌, OnOk};
+ghost use Rattle.std.specs.Prelude.{◌≡◌, is_ok, if◌then◌else◌};
 ghost use Rattle.kohlberg.specs.Pairs.{with_pair};
 
 use coalitions::Coalition;
@@ -7,13 +7,13 @@ use std::alloc::AllocError;
 
 /// Puts a coalition and its weight in front of the first with a greater mask.
 ///
-/// Its one error is want of memory.
+/// Its one error is want of memory, which leaves the pairs as they were.
 pub fn put_pair(
     pairs: &mut Vec<(Coalition, i128)>,
     s: Coalition,
     weight: i128,
 ) -> Result<(), AllocError>
-    ensures { OnOk result (pairs.new.items ≡ with_pair s weight pairs.old.items) }
+    ensures { pairs.new.items ≡ (if is_ok result then with_pair s weight pairs.old.items else pairs.old.items) }
 {
     let mut at = 0;
     while at < pairs.len() && pairs[at].0 <= s {

@@ -1,10 +1,13 @@
--- Some coalitions of at most 16 players, a bit for each, in words of 64 bits; and sums of a place's numbers by two tables.
+-- Some coalitions of at most 16 players, a bit for each, in words of 64 bits; and sums of a place's numbers by two
+-- tables.
 --
 --   is_marked words s      the bit of s is set: bit s % 64 of word s / 64
---   two_sums low high s    the sum from the first table at the first eight players of s, and from the second at the rest
+--   two_sums low high s    the sum from the first table at the first eight players of s, and from the second at the
+--                          rest
 --   IsTable                the weights of the coalitions that are multiples of a number
 --   HasNoWeight            no weight at the first places that aren't fixed
-use Rattle.std.specs.Prelude.{◌≡◌, ℕ, ◌*◌, ◌/◌, ◌%◌, ◌^◌, ◌<◌, ◌≤◌, Bool, false, List, ℤ, pos, ◌+ℤ◌, slice_index_or, unsigned_abs}
+use Rattle.std.specs.Prelude.{◌≡◌, ℕ, ◌*◌, ◌/◌, ◌%◌, ◌^◌, ◌<◌, ◌≤◌, Bool, false, List, ℤ}
+use Rattle.std.specs.Prelude.{pos, ◌+ℤ◌, slice_index_or, unsigned_abs}
 use Rattle.definitions.specs.Coalitions.{has_player}
 use Rattle.determinants.specs.Basis.{dot}
 use Rattle.determinants.specs.Matrix.{entry_at}
@@ -25,4 +28,5 @@ pub record IsTable (n : ℕ) (entries : List ℤ) (k step : ℕ) (sums : List �
 
 -- s has no weight at the places below k that aren't fixed
 abbrev pub HasNoWeight : ℕ → List Bool → List ℤ → ℕ → ℕ → Type 0
-HasNoWeight n fixed entries k s = (j : ℕ) → j < k → flag fixed j ≡ false → dot n (entry_at 16 entries j) (vector s) ≡ pos 0
+HasNoWeight n fixed entries k s =
+    (j : ℕ) → j < k → flag fixed j ≡ false → dot n (entry_at 16 entries j) (vector s) ≡ pos 0

@@ -69,7 +69,9 @@ fn silent(word: u64, place: usize, low: &[i128; 256], high: &[i128; 256]) -> u64
     requires place { place < 1024 }
     requires small_low { (a : ℕ) → a < 256 → unsigned_abs (slice_index_or low.now a (pos 0)) ≤ 2 ^ 49 }
     requires small_high { (a : ℕ) → a < 256 → unsigned_abs (slice_index_or high.now a (pos 0)) ≤ 2 ^ 49 }
-    ensures { (j : ℕ) → j < 64 → Decides (has_player result j) (IsTrue (has_player word j) × (two_sums low.now high.now (64 * place + j) ≡ pos 0)) }
+    ensures { (j : ℕ) → j < 64
+        → Decides (has_player result j)
+        (IsTrue (has_player word j) × (two_sums low.now high.now (64 * place + j) ≡ pos 0)) }
 {
     let mut left = word;
     for j in 0..64u32 {
@@ -92,7 +94,8 @@ fn are_silent(low: &[i128; 256], high: &[i128; 256], s: usize) -> bool
 fn keep_silent(words: &mut [u64; 1024], low: &[i128; 256], high: &[i128; 256])
     requires small_low { (a : ℕ) → a < 256 → unsigned_abs (slice_index_or low.now a (pos 0)) ≤ 2 ^ 49 }
     requires small_high { (a : ℕ) → a < 256 → unsigned_abs (slice_index_or high.now a (pos 0)) ≤ 2 ^ 49 }
-    ensures { (s : ℕ) → s < 2 ^ 16 → Decides (is_marked words.new s) (IsTrue (is_marked words.old s) × (two_sums low.now high.now s ≡ pos 0)) }
+    ensures { (s : ℕ) → s < 2 ^ 16
+        → Decides (is_marked words.new s) (IsTrue (is_marked words.old s) × (two_sums low.now high.now s ≡ pos 0)) }
 {
     for place in 0..1024 {
         if words[place] != 0 {
@@ -141,7 +144,9 @@ impl Outside {
     /// Takes out the coalitions that a span holds.
     pub fn clear(&mut self, span: &Span)
         requires { (s : ℕ) → IsTrue (is_marked self.old s) → s < 2 ^ span.now.players }
-        ensures { (s : ℕ) → Decides (is_marked self.new s) (IsTrue (is_marked self.old s) × ¬ InSpan span.now.players (IsKept span.now.kept) s) }
+        ensures { (s : ℕ)
+            → Decides (is_marked self.new s)
+            (IsTrue (is_marked self.old s) × ¬ InSpan span.now.players (IsKept span.now.kept) s) }
     {
         let held = span.held_among(self.words);
         take_out(&mut self.words, &held);
@@ -157,7 +162,8 @@ fn without_weights(
 ) -> [u64; 1024]
     requires few { n ≤ 16 }
     requires small { (k i : ℕ) → k < n → i < n → unsigned_abs (entry_at 16 entries.now k i) ≤ 2 ^ 45 }
-    ensures { (s : ℕ) → s < 2 ^ 16 → Decides (is_marked result s) (IsTrue (is_marked words s) × HasNoWeight n fixed.now entries.now n s) }
+    ensures { (s : ℕ) → s < 2 ^ 16
+        → Decides (is_marked result s) (IsTrue (is_marked words s) × HasNoWeight n fixed.now entries.now n s) }
 {
     let mut held = words;
     for k in 0..n as usize {
@@ -174,7 +180,8 @@ impl Span {
     /// Of some coalitions, those that the span holds.
     fn held_among(&self, words: [u64; 1024]) -> [u64; 1024]
         ensures { (s : ℕ) → s < 2 ^ self.now.players
-            → Decides (is_marked result s) (IsTrue (is_marked words s) × InSpan self.now.players (IsKept self.now.kept) s) }
+            → Decides (is_marked result s)
+            (IsTrue (is_marked words s) × InSpan self.now.players (IsKept self.now.kept) s) }
     {
         without_weights(words, &self.entries, &self.fixed, self.players)
     }

@@ -4,13 +4,15 @@ use Rattle.std.proofs.lemmas.Int.{ints, unsigned_abs-mul}
 use mir.Syntax.{w64, w128}
 use Rattle.definitions.proofs.Casts.{cast_kept}
 
-pub product_small : (d v : ℤ) → pos 1 ≤ℤ d → d ≤ℤ pos (2 ^ 63) → unsigned_abs v < 2 ^ 46 → unsigned_abs (d *ℤ v) < 2 ^ 110
+pub product_small : (d v : ℤ) → pos 1 ≤ℤ d → d ≤ℤ pos (2 ^ 63) → unsigned_abs v < 2 ^ 46
+    → unsigned_abs (d *ℤ v) < 2 ^ 110
 product_small d v low high h =
     let m : unsigned_abs d ≤ 2 ^ 63 = omega (arith, ints) in
     let n : unsigned_abs v ≤ 2 ^ 46 = omega arith in
     omega (arith, unsigned_abs-mul d v, mul-le-mul m n)
 
-pub scaled_value : (d v : ℤ) → pos 1 ≤ℤ d → d ≤ℤ pos (2 ^ 63) → unsigned_abs v < 2 ^ 46 → to_z w128 (of_z w128 d) *ℤ to_z w128 (of_z w128 (to_z w64 (of_z w64 v))) ≡ d *ℤ v
+pub scaled_value : (d v : ℤ) → pos 1 ≤ℤ d → d ≤ℤ pos (2 ^ 63) → unsigned_abs v < 2 ^ 46
+    → to_z w128 (of_z w128 d) *ℤ to_z w128 (of_z w128 (to_z w64 (of_z w64 v))) ≡ d *ℤ v
 scaled_value d v low high h =
     let a : to_z w128 (of_z w128 d) ≡ d = cast_kept w128 d (omega (arith, ints)) in
     let b : to_z w64 (of_z w64 v) ≡ v = cast_kept w64 v (omega arith) in

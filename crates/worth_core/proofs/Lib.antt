@@ -10,3 +10,4 @@ pub mod LeastMultiples
 pub mod SharedDivisors
 pub mod FineShares
 mod MemberSums
+pub mod Amounts

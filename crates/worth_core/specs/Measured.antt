@@ -31,7 +31,8 @@ IsDivided measure g x s d = (d.excess ≡ excess g x s) × (d.divisor ≡ diviso
 -- those of a coalition t that isn't empty and that P holds of, whose measured excess is the greatest of these
 abbrev pub IsGreatestDivided : Measure → Game → Allocation → (ℕ → Type 0) → Divided → Type 0
 IsGreatestDivided measure g x P d =
-    (t : ℕ) × (t < 2 ^ g.players) × (0 < t) × P t × IsDivided measure g x t d × ((u : ℕ) → u < 2 ^ g.players → P u → measured_excess measure g x u ≤ℤ measured_excess measure g x t)
+    (t : ℕ) × (t < 2 ^ g.players) × (0 < t) × P t × IsDivided measure g x t d
+    × ((u : ℕ) → u < 2 ^ g.players → P u → measured_excess measure g x u ≤ℤ measured_excess measure g x t)
 
 -- the first over its divisor is less than the second over its own
 abbrev pub is_below : Divided → Divided → Bool

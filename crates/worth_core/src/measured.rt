@@ -4,7 +4,7 @@ ghost use Rattle.std.specs.Prelude.{◌^◌, ◌<◌, ◌≤◌, unsigned_abs, p
 ghost use Rattle.fractions.specs.Fraction.{IsRatio};
 ghost use Rattle.definitions.specs.Coalitions.{has_player, splits};
 ghost use Rattle.definitions.specs.Measures.{divisor, IsMeasurable};
-ghost use Rattle.definitions.specs.Games.{HasTwo};
+ghost use Rattle.definitions.specs.Games.{amount, HasTwo};
 ghost use Rattle.worth_core.specs.Measured.{IsDivided, IsGreatestDivided, is_below, IsMeasuredBound};
 
 use crate::ratios::ratio;
@@ -71,9 +71,27 @@ impl Divided {
         requires within { s < 2 ^ (W.game game.now).players }
         ensures { IsDivided measure (W.game game.now) x.now s result }
     {
-        game.players(); // Brings the laws of the game.
+        Divided::of_paid(game, x, measure, s, x.sum_of(s))
+    }
+
+    /// The same, where it is known what the members get together, over the denominator.
+    pub fn of_paid<W: Worth>(
+        game: &W,
+        x: &Shares,
+        measure: Measure,
+        s: Coalition,
+        paid: i128,
+    ) -> Divided
+        requires shares { length x.now.shares ≡ (W.game game.now).players }
+        requires some { 0 < s }
+        requires within { s < 2 ^ (W.game game.now).players }
+        requires paid { paid ≡ amount x.now s }
+        ensures { IsDivided measure (W.game game.now) x.now s result }
+    {
+        game.players(); // Brings the laws of the game,
+        x.players(); // and of the shares.
         Divided {
-            excess: x.excess_over(game.worth(s), s),
+            excess: x.excess_from(game.worth(s), paid),
             divisor: measure.divisor(s),
         }
     }
@@ -134,14 +152,17 @@ fn greatest_split<W: Worth>(game: &W, x: &Shares, free: Coalition, measure: Meas
     requires within { free < 2 ^ (W.game game.now).players }
     requires two { HasTwo (W.game game.now).players free }
     requires measurable { IsMeasurable measure (W.game game.now).players }
-    ensures { IsGreatestDivided measure (W.game game.now) x.now (λ t. IsTrue (splits (W.game game.now).players (has_player free) t)) result }
+    ensures { IsGreatestDivided measure (W.game game.now) x.now
+        (λ t. IsTrue (splits (W.game game.now).players (has_player free) t)) result }
 {
     let players = game.players();
     let mut most: Option<Divided> = None;
     let mut s = Coalition::empty();
+    let mut paid = 0;
     while let Some(next) = s.next_mask(players) {
         s = next;
-        let here = Divided::of(game, x, measure, s);
+        paid = x.sum_after(paid, s);
+        let here = Divided::of_paid(game, x, measure, s, paid);
         let is_greatest = is_more(&most, &here) && splits(s, free, players);
         most = kept_or_new(most, here, is_greatest);
     }

@@ -1,6 +1,6 @@
 //! Shares of a worth over a common denominator.
 ghost use Rattle.std.specs.Prelude.{◌≡◌, ◌↔◌, IsTrue, MatchOption, length, All};
-ghost use Rattle.std.specs.Prelude.{◌^◌, ◌<◌, unsigned_abs, pos, ◌-ℤ◌, ◌*ℤ◌, ◌≤ℤ◌};
+ghost use Rattle.std.specs.Prelude.{◌-◌, ◌^◌, ◌<◌, unsigned_abs, pos, ◌-ℤ◌, ◌*ℤ◌, ◌≤ℤ◌};
 ghost use Rattle.definitions.specs.Games.{IsShares, share, amount};
 ghost use Rattle.worth_core.specs.Allocations.{allocation};
 
@@ -87,13 +87,47 @@ impl Shares {
         sum
     }
 
+    /// What the members of a coalition get together, from what those of the coalition with the mask before get: its
+    /// first member comes, and the players in front of that member go. Nothing changes at the empty coalition.
+    ///
+    /// Over all masks in ascending order that is two players a coalition at most, on average.
+    pub fn sum_after(&self, before: i128, s: Coalition) -> i128
+        requires within { s < 2 ^ length self.now.shares }
+        requires before { before ≡ amount self.now (s - 1) }
+        ensures value { result ≡ amount self.now s }
+        ensures small { unsigned_abs result < 2 ^ 117 }
+    {
+        self.players(); // Brings the laws of shares.
+        if s == Coalition::empty() {
+            return before;
+        }
+        let mut sum = before;
+        let mut i: u32 = 0;
+        'front: while !s.contains(i) {
+            sum -= self.num(i);
+            i += 1;
+        }
+        sum + self.num(i)
+    }
+
+    /// What a coalition of that worth, whose members get `paid` together over the denominator, could do better by
+    /// itself, over the denominator.
+    pub fn excess_from(&self, worth: i64, paid: i128) -> i128
+        requires worth { unsigned_abs worth < 2 ^ 46 }
+        requires paid { unsigned_abs paid < 2 ^ 117 }
+        ensures value { result ≡ self.now.den *ℤ worth -ℤ paid }
+        ensures small { unsigned_abs result < 2 ^ 118 }
+    {
+        scaled(self.den(), worth) - paid
+    }
+
     /// What a coalition of that worth could do better by itself, over the denominator.
     pub fn excess_over(&self, worth: i64, s: Coalition) -> i128
         requires { unsigned_abs worth < 2 ^ 46 }
         ensures value { result ≡ self.now.den *ℤ worth -ℤ amount self.now s }
         ensures small { unsigned_abs result < 2 ^ 118 }
     {
-        scaled(self.den(), worth) - self.sum_of(s)
+        self.excess_from(worth, self.sum_of(s))
     }
 }
 

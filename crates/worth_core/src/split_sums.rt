@@ -1,7 +1,8 @@
 //! The greatest sums over the sets of some players that split others, found player by player.
 ghost use Rattle.std.specs.Prelude.{◌≡◌, ◌&&◌, ◌||◌, None, IfSome};
 ghost use Rattle.std.specs.Prelude.{ℕ, ℤ, ◌+◌, ◌^◌, ◌<◌, ◌≤◌, unsigned_abs};
-ghost use Rattle.worth_core.specs.SplitKinds.{AreSplitSums, IsGreatestSum, IsOneMore, IsSmallSum, greater_sum, longer_sum};
+ghost use Rattle.worth_core.specs.SplitKinds.{AreSplitSums, IsGreatestSum, IsOneMore};
+ghost use Rattle.worth_core.specs.SplitKinds.{IsSmallSum, greater_sum, longer_sum};
 
 use std::marker::Model;
 
@@ -23,11 +24,14 @@ impl Model for SplitSums {
 
     ghost Value = { Sums };
 
-    ghost view = { λ s. record { neither = s.neither; holding = s.holding; lacking = s.lacking; both = s.both; count = s.count } };
+    ghost view = { λ s. record
+        { neither = s.neither; holding = s.holding; lacking = s.lacking; both = s.both; count = s.count } };
 
-    ghost invariant = { λ s. AreSmallSums (record { neither = s.neither; holding = s.holding; lacking = s.lacking; both = s.both; count = s.count }) };
+    ghost invariant = { λ s. AreSmallSums
+        (record { neither = s.neither; holding = s.holding; lacking = s.lacking; both = s.both; count = s.count }) };
 
-    ghost inverse = { λ s. record { neither = s.neither; holding = s.holding; lacking = s.lacking; both = s.both; count = s.count } };
+    ghost inverse = { λ s. record
+        { neither = s.neither; holding = s.holding; lacking = s.lacking; both = s.both; count = s.count } };
 }
 
 impl SplitSums {
@@ -81,7 +85,9 @@ impl SplitSums {
         ensures neither { result.neither ≡ None }
         ensures holding { result.holding ≡ longer_sum (greater_sum self.now.neither self.now.holding) weight }
         ensures lacking { result.lacking ≡ greater_sum self.now.neither self.now.lacking }
-        ensures both { result.both ≡ greater_sum (greater_sum self.now.holding self.now.both) (longer_sum (greater_sum self.now.lacking self.now.both) weight) }
+        ensures both { result.both
+            ≡ greater_sum (greater_sum self.now.holding self.now.both)
+            (longer_sum (greater_sum self.now.lacking self.now.both) weight) }
     {
         SplitSums {
             neither: None,

@@ -32,8 +32,10 @@ pub trait Worth {
             (IsChosenBlocker (game self.now) x.now) }
     {
         let mut best = Best::none();
+        let mut paid = 0;
         for s in Coalition::subsets(self.players()) {
-            best = best.or(s, x.excess_over(self.worth(s), s));
+            paid = x.sum_after(paid, s);
+            best = best.or(s, x.excess_from(self.worth(s), paid));
         }
         best.coalition
     }
@@ -48,9 +50,11 @@ pub trait Worth {
     {
         let players = self.players();
         let mut most = None;
+        let mut paid = 0;
         for s in Coalition::subsets(players) {
+            paid = x.sum_after(paid, s);
             if splits(s, free, players) {
-                most = raised(most, x.excess_over(self.worth(s), s));
+                most = raised(most, x.excess_from(self.worth(s), paid));
             }
         }
         most.unwrap()

@@ -2,21 +2,48 @@ use Rattle.std.proofs.Common.{◌≡◌, ◌∙◌, ◌<◌, ◌^◌, length, ar
 use Rattle.std.proofs.lemmas.List.{length_push}
 use Rattle.coalitions.proofs.Masks.{all_masks-turn, all_masks-end}
 use Rattle.definitions.proofs.Casts.{cast_kept}
-use Rattle.worth_core.proofs.Scan.{excess_is}
+use Rattle.worth_core.proofs.Scan.{excess_is, paid_first, paid_here, paid_next}
 use Rattle.definitions.specs.Games.{excess}
 use Rattle.definitions.specs.Prekernel.{holds_without}
-use Rattle.kernel_test.proofs.Greatest.{IsGreatestBelow-kept, IsGreatestBelow-more, some_from_scan, IsSurplus-from_scan}
+use Rattle.kernel_test.proofs.Greatest.{IsGreatestBelow-start, IsGreatestBelow-kept}
+use Rattle.kernel_test.proofs.Greatest.{IsGreatestBelow-more, some_from_scan, IsSurplus-from_scan}
 use mir.Syntax.{w64, w128}
 use Rattle.kernel_test.proofs.scaled_surplus.Goals as goal
 
+pub loop-s-init : goal.loop-s-init
+loop-s-init g c = record {
+  greatest =
+      IsGreatestBelow-start (holds_without c.args.i c.args.j)
+      (excess (g.W.Worth.game c.args.game.now) c.args.x.now);
+  paid = paid_first c.args.x.now;
+}
+
 pub worth-requires : goal.worth-requires
 worth-requires g c =
-    let turn = all_masks-turn c.players.result _ c.loop-s.yielded _ (cc) c.loop-s.yielded_by _ _ c.in-Some.s c.in-Some.is c.next.ensures.steps in
+    let turn =
+    all_masks-turn c.players.result _ c.loop-s.yielded _ (cc) c.loop-s.yielded_by _ _ c.in-Some.s c.in-Some.is
+    c.next.ensures.steps in
     rw c.players.ensures.count at turn.1
 
-pub excess_over-requires : goal.excess_over-requires
-excess_over-requires g c =
-    let turn = all_masks-turn c.players.result _ c.loop-s.yielded _ (cc) c.loop-s.yielded_by _ _ c.in-Some.s c.in-Some.is c.next.ensures.steps in
+pub sum_after-paid-requires-clause-within : goal.sum_after-paid-requires-clause-within
+sum_after-paid-requires-clause-within g c =
+    let turn =
+    all_masks-turn c.players.result _ c.loop-s.yielded _ (cc) c.loop-s.yielded_by _ _ c.in-Some.s c.in-Some.is
+    c.next.ensures.steps in
+    rw c.requires.shares (rw c.players.ensures.count at turn.1)
+
+pub sum_after-paid-requires-clause-before : goal.sum_after-paid-requires-clause-before
+sum_after-paid-requires-clause-before g c =
+    let turn =
+    all_masks-turn c.players.result _ c.loop-s.yielded _ (cc) c.loop-s.yielded_by _ _ c.in-Some.s c.in-Some.is
+    c.next.ensures.steps in
+    paid_here c.args.x.now (length c.loop-s.yielded) c.in-Some.s _ turn.0 c.loop-s.invariant.paid
+
+pub excess_from-requires-clause-worth : goal.excess_from-requires-clause-worth
+excess_from-requires-clause-worth g c =
+    let turn =
+    all_masks-turn c.players.result _ c.loop-s.yielded _ (cc) c.loop-s.yielded_by _ _ c.in-Some.s c.in-Some.is
+    c.next.ensures.steps in
     let small = c.players.ensures.laws.small c.in-Some.s (rw c.players.ensures.count at turn.1) in
     let kept = cast_kept w64 c.worth.result (rw c.worth.ensures (omega arith)) in
     rw (kept, c.worth.ensures) small
@@ -26,34 +53,63 @@ loop-s-preserved-then-holds_without g c =
     let game = g.W.Worth.game c.args.game.now in
     let x = c.args.x.now in
     let s = c.in-Some.s in
-    let turn = all_masks-turn c.players.result _ c.loop-s.yielded _ (cc) c.loop-s.yielded_by _ _ s c.in-Some.is c.next.ensures.steps in
+    let turn =
+    all_masks-turn c.players.result _ c.loop-s.yielded _ (cc) c.loop-s.yielded_by _ _ s c.in-Some.is
+    c.next.ensures.steps in
     let within : s < 2 ^ game.players = rw c.players.ensures.count at turn.1 in
-    let here = excess_is game x s c.worth.result c.excess_over.result c.players.ensures.laws within c.worth.ensures c.excess_over.ensures.value in
-    let kept = cast_kept w128 c.excess_over.result (omega (arith, c.excess_over.ensures.small)) in
-    rw (length_push c.loop-s.yielded s, c.raised-most.ensures) (
-    IsGreatestBelow-more (holds_without c.args.i c.args.j) (excess game x) (length c.loop-s.yielded) s c.loop-s.most _ c.loop-s.invariant turn.0 (sym c.holds_without.ensures ∙ c.if-holds_without.true) (kept ∙ here)
-    )
+    let sum = c.sum_after-paid.ensures in
+    let here = excess_is game x s c.worth.result c.sum_after-paid.result c.excess_from.result
+    c.players.ensures.laws within c.worth.ensures sum.value sum.small c.excess_from.ensures.value in
+    let kept = cast_kept w128 c.excess_from.result (omega (arith, c.excess_from.ensures.small)) in
+    let paid =
+    paid_next x (length c.loop-s.yielded) s _ turn.0
+    (cast_kept w128 c.sum_after-paid.result (omega arith) ∙ sum.value) in
+    rw (length_push c.loop-s.yielded s, c.raised-most.ensures) (record {
+      greatest =
+          IsGreatestBelow-more (holds_without c.args.i c.args.j) (excess game x) (length c.loop-s.yielded) s
+          c.loop-s.most _ c.loop-s.invariant.greatest turn.0 (sym c.holds_without.ensures ∙ c.if-holds_without.true)
+          (kept ∙ here);
+      paid = paid;
+    })
 
 pub loop-s-preserved : goal.loop-s-preserved
 loop-s-preserved g c =
     let game = g.W.Worth.game c.args.game.now in
     let s = c.in-Some.s in
-    let turn = all_masks-turn c.players.result _ c.loop-s.yielded _ (cc) c.loop-s.yielded_by _ _ s c.in-Some.is c.next.ensures.steps in
-    rw (length_push c.loop-s.yielded s) (
-    IsGreatestBelow-kept (holds_without c.args.i c.args.j) (excess game c.args.x.now) (length c.loop-s.yielded) s c.loop-s.most c.loop-s.invariant turn.0 (sym c.holds_without.ensures ∙ c.if-holds_without.false)
-    )
+    let turn =
+    all_masks-turn c.players.result _ c.loop-s.yielded _ (cc) c.loop-s.yielded_by _ _ s c.in-Some.is
+    c.next.ensures.steps in
+    let sum = c.sum_after-paid.ensures in
+    let paid =
+    paid_next c.args.x.now (length c.loop-s.yielded) s _ turn.0
+    (cast_kept w128 c.sum_after-paid.result (omega arith) ∙ sum.value) in
+    rw (length_push c.loop-s.yielded s) (record {
+      greatest =
+          IsGreatestBelow-kept (holds_without c.args.i c.args.j) (excess game c.args.x.now)
+          (length c.loop-s.yielded)
+          s c.loop-s.most c.loop-s.invariant.greatest turn.0
+          (sym c.holds_without.ensures ∙ c.if-holds_without.false);
+      paid = paid;
+    })
 
 pub unwrap-requires : goal.unwrap-requires
 unwrap-requires g c =
     let game = g.W.Worth.game c.args.game.now in
-    let end = all_masks-end c.players.result _ c.loop-s.yielded _ (cc) c.loop-s.yielded_by _ _ c.in-None.is c.next.ensures.steps in
+    let end =
+    all_masks-end c.players.result _ c.loop-s.yielded _ (cc) c.loop-s.yielded_by _ _ c.in-None.is
+    c.next.ensures.steps in
     let all : length c.loop-s.yielded ≡ 2 ^ game.players = rw c.players.ensures.count at end in
-    some_from_scan game c.args.x.now c.args.i c.args.j c.loop-s.most (rw all at c.loop-s.invariant) c.requires.player c.requires.different
+    some_from_scan game c.args.x.now c.args.i c.args.j c.loop-s.most (rw all at c.loop-s.invariant.greatest)
+    c.requires.player c.requires.different
 
 pub returns : goal.returns
 returns g c =
     let game = g.W.Worth.game c.args.game.now in
-    let end = all_masks-end c.players.result _ c.loop-s.yielded _ (cc) c.loop-s.yielded_by _ _ c.in-None.is c.next.ensures.steps in
+    let end =
+    all_masks-end c.players.result _ c.loop-s.yielded _ (cc) c.loop-s.yielded_by _ _ c.in-None.is
+    c.next.ensures.steps in
     let all : length c.loop-s.yielded ≡ 2 ^ game.players = rw c.players.ensures.count at end in
     let kept : to_z w128 (of_z w128 c.unwrap.result) ≡ c.unwrap.result = search rules in
-    rw kept (IsSurplus-from_scan game c.args.x.now c.args.i c.args.j c.loop-s.most c.unwrap.result (rw all at c.loop-s.invariant) c.unwrap.ensures)
+    rw kept
+    (IsSurplus-from_scan game c.args.x.now c.args.i c.args.j c.loop-s.most c.unwrap.result
+    (rw all at c.loop-s.invariant.greatest) c.unwrap.ensures)

@@ -5,7 +5,8 @@ ghost use Rattle.std.specs.Option.{SomeIff};
 ghost use Rattle.definitions.specs.Coalitions.{grand_coalition};
 ghost use Rattle.definitions.specs.Games.{IsShares, share, amount};
 ghost use Rattle.fractions.specs.Fraction.{IsRatio};
-ghost use Rattle.worth_core.specs.LeastDenominators.{IsLeastDenominator, as_fractions, numerator_over, over, AreTooFine};
+ghost use Rattle.worth_core.specs.LeastDenominators.{IsLeastDenominator, as_fractions};
+ghost use Rattle.worth_core.specs.LeastDenominators.{numerator_over, over, AreTooFine};
 ghost use Rattle.worth_core.specs.Multiples.{IsLeastMultiple};
 
 use super::Shares;
@@ -28,7 +29,8 @@ impl Shares {
     pub fn from_fracs(alloc: Global, shares: &[Frac]) -> Result<Shares, SharesFault>
         requires some { 1 ≤ length shares.now }
         requires few { length shares.now ≤ 64 }
-        ensures value { IfOk result (λ x. IsLeastDenominator shares.now x.den × (x ≡ over x.den shares.now) × IsShares x) }
+        ensures value { IfOk result
+            (λ x. IsLeastDenominator shares.now x.den × (x ≡ over x.den shares.now) × IsShares x) }
         ensures too_fine { result ≡ Err SharesFault.TooFine → AreTooFine shares.now }
     {
         let den = least_common_denominator(shares).ok_or(SharesFault::TooFine)?;

@@ -4,4 +4,5 @@ use Rattle.kohlberg.proofs.levels.weights_at.Given as goal
 
 abbrev pub invariant-loop-s : goal.invariant-loop-s
 invariant-loop-s l =
-    (l.sum +ℤ weight_at (drop l.s-index l.pairs) l.i ≡ weight_at l.pairs l.i) × (unsigned_abs l.sum ≤ l.s-index * 2 ^ 63)
+    (l.sum +ℤ weight_at (drop l.s-index l.pairs) l.i ≡ weight_at l.pairs l.i)
+    × (unsigned_abs l.sum ≤ l.s-index * 2 ^ 63)

@@ -13,5 +13,9 @@ without_weights-requires-clause-small c = entries_small _ _ _ _ _ c.self.invaria
 pub returns : goal.returns
 returns c =
     let a = c.self.inside in
-    subst (λ (v : SpanData). (s : ℕ) → s < 2 ^ v.players → Decides (is_marked c.without_weights.result s) (IsTrue (is_marked c.args.words s) × InSpan v.players (IsKept v.kept) s)) c.self.view_is
-    (λ s lt. silent_inside a.players a.kept.items a.fixed a.entries a.den a.players s _ _ c.self.invariant lt refl (c.without_weights.ensures s (below_all a.players s c.self.invariant.few lt)))
+    subst
+    (λ (v : SpanData). (s : ℕ) → s < 2 ^ v.players
+    → Decides (is_marked c.without_weights.result s)
+    (IsTrue (is_marked c.args.words s) × InSpan v.players (IsKept v.kept) s)) c.self.view_is
+    (λ s lt. silent_inside a.players a.kept.items a.fixed a.entries a.den a.players s _ _ c.self.invariant lt refl
+    (c.without_weights.ensures s (below_all a.players s c.self.invariant.few lt)))

@@ -16,10 +16,16 @@ loop-place-preserved c =
     let inv = c.loop-place.invariant in
     let before : AreSilent low high olds news p = record { len = inv.len; done = inv.done; rest = inv.rest } in
     elim c.if-words-place-ne0.branch [
-      | then-words-place-ne0 w ↦ (let after = AreSilent-set low high olds news p w.silent.result c.loop-place-test.true before w.silent.ensures in rw w.words-is (record { len = after.len; done = after.done; rest = after.rest }))
-      | else-words-place-ne0 w ↦ (let after = AreSilent-none low high olds news p w.if-words-place-ne0.false before in rw w.words-is (record { len = after.len; done = after.done; rest = after.rest }))
+      | then-words-place-ne0 w ↦
+          (let after =
+          AreSilent-set low high olds news p w.silent.result c.loop-place-test.true before w.silent.ensures in
+          rw w.words-is (record { len = after.len; done = after.done; rest = after.rest }))
+      | else-words-place-ne0 w ↦
+          (let after = AreSilent-none low high olds news p w.if-words-place-ne0.false before in
+          rw w.words-is (record { len = after.len; done = after.done; rest = after.rest }))
     ]
 
 pub returns : goal.returns
 returns c =
-    marks_silent c.args.low.now c.args.high.now c.args.words.now c.loop-place.words (λ q lt. c.loop-place.invariant.done q (omega arith))
+    marks_silent c.args.low.now c.args.high.now c.args.words.now c.loop-place.words
+    (λ q lt. c.loop-place.invariant.done q (omega arith))

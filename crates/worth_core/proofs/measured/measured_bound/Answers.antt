@@ -15,4 +15,6 @@ pub returns-in-PerHead : goal.returns-in-PerHead
 returns-in-PerHead g c =
     let game = g.W.Worth.game c.args.game.now in
     let den : to_z w128 (of_z w128 c.den-in-PerHead.result) ≡ c.den-in-PerHead.result = search rules in
-    greatest_value c.args.measure game c.args.x.now (λ (t : ℕ). IsTrue (is_split game c.args.free t)) c.greatest_split.result c.over.result c.requires.measurable c.greatest_split.ensures (rw (den, c.den-in-PerHead.ensures.value) at c.over.ensures)
+    greatest_value c.args.measure game c.args.x.now (λ (t : ℕ). IsTrue (is_split game c.args.free t))
+    c.greatest_split.result c.over.result c.requires.measurable c.greatest_split.ensures
+    (rw (den, c.den-in-PerHead.ensures.value) at c.over.ensures)

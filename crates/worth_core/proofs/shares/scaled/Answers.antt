@@ -8,12 +8,14 @@ use Rattle.definitions.proofs.Casts.{cast_kept}
 pub overflow_mul-result : goal.overflow_mul-result
 overflow_mul-result c =
     let small = product_small c.args.den c.args.worth c.requires.positive c.requires.common c.requires.small in
-    rw (scaled_value c.args.den c.args.worth c.requires.positive c.requires.common c.requires.small) (fits_signed_from_abs w128 _ (omega arith))
+    rw (scaled_value c.args.den c.args.worth c.requires.positive c.requires.common c.requires.small)
+    (fits_signed_from_abs w128 _ (omega arith))
 
 pub returns-clause-value : goal.returns-clause-value
 returns-clause-value c =
     let small = product_small c.args.den c.args.worth c.requires.positive c.requires.common c.requires.small in
-    rw (scaled_value c.args.den c.args.worth c.requires.positive c.requires.common c.requires.small) (cast_kept w128 _ (omega arith))
+    rw (scaled_value c.args.den c.args.worth c.requires.positive c.requires.common c.requires.small)
+    (cast_kept w128 _ (omega arith))
 
 pub returns-clause-small : goal.returns-clause-small
 returns-clause-small c =

@@ -13,10 +13,16 @@ loop-j-preserved c =
     let v = c.raised_where.result in
     let e = to_z w128 (of_z w128 c.args.excess) in
     let full : length table ≡ 256 = search rules in
-    let raised = c.raised_where.ensures ∙ ap (λ b. raised_where (not b) (number_at table i j) e) c.contains.ensures in
+    let raised =
+    c.raised_where.ensures ∙ ap (λ b. raised_where (not b) (number_at table i j) e) c.contains.ensures in
     record {
-      row = λ a k ha hk. raised-column table c.args.s i j a k (number_at c.args.self.now.greatest a k) v e c.requires.player c.loop-j-test.true hk full (c.loop-j.invariant.row a k ha hk) raised;
-      floor = floor_more table (slice_set table (16 * i + j) v) i j c.loop-j.least c.lesser_where-least.result c.loop-j.invariant.floor (λ k lt. written-elsewhere table i j i k v c.loop-j-test.true (omega (arith, c.loop-j-test.true)) (λ _ same. omega arith)) c.lesser_where-least.ensures;
+      row = λ a k ha hk. raised-column table c.args.s i j a k (number_at c.args.self.now.greatest a k) v e
+          c.requires.player c.loop-j-test.true hk full (c.loop-j.invariant.row a k ha hk) raised;
+      floor =
+          floor_more table (slice_set table (16 * i + j) v) i j c.loop-j.least c.lesser_where-least.result
+          c.loop-j.invariant.floor
+          (λ k lt. written-elsewhere table i j i k v c.loop-j-test.true (omega (arith, c.loop-j-test.true))
+          (λ _ same. omega arith)) c.lesser_where-least.ensures;
       kept = c.loop-j.invariant.kept;
     }
 

@@ -5,5 +5,6 @@ use Rattle.kohlberg.proofs.levels.Level.order_of.Goals as goal
 
 pub returns : goal.returns
 returns c =
-    let order = λ (v : Level). int_cmp (c.args.excess.now.num *ℤ v.excess_den) (v.excess_num *ℤ c.args.excess.now.den) in
+    let order =
+    λ (v : Level). int_cmp (c.args.excess.now.num *ℤ v.excess_den) (v.excess_num *ℤ c.args.excess.now.den) in
     c.compare.ensures ∙ ap order c.self.view_is

@@ -10,6 +10,10 @@ pub returns : goal.returns
 returns c =
     let n = c.args.span.now.players in
     let A = λ (s : ℕ). InSpan n (IsKept c.args.span.now.kept) s in
-    let within = subst (λ (ws : List ℕ). (s : ℕ) → IsTrue (is_marked ws s) → s < 2 ^ n) (sym c.self.view_is) c.requires in
-    subst (λ (ws : List ℕ). (s : ℕ) → Decides (is_marked c.take_out.new.words s) (IsTrue (is_marked ws s) × (A s → ⊥))) c.self.view_is
-    (cleared_marks c.self.inside.words c.held_among-held.result c.take_out.new.words n A c.self.told c.take_out.array_long within c.take_out.ensures c.held_among-held.ensures)
+    let within =
+    subst (λ (ws : List ℕ). (s : ℕ) → IsTrue (is_marked ws s) → s < 2 ^ n) (sym c.self.view_is) c.requires in
+    subst
+    (λ (ws : List ℕ). (s : ℕ) → Decides (is_marked c.take_out.new.words s) (IsTrue (is_marked ws s) × (A s → ⊥)))
+    c.self.view_is
+    (cleared_marks c.self.inside.words c.held_among-held.result c.take_out.new.words n A c.self.told
+    c.take_out.array_long within c.take_out.ensures c.held_among-held.ensures)

@@ -8,7 +8,8 @@ pub overflow_add-sum : goal.overflow_add-sum
 overflow_add-sum c =
     let players = c.players-i-end.ensures in
     let few : c.loop-i.i < 64 = omega (arith, c.loop-i-test.true, players.count, players.shares.few) in
-    fits (share c.args.self.now) c.args.s c.loop-i.i _ c.loop-i.invariant c.num-sum.result few c.num-sum.ensures.small
+    fits (share c.args.self.now) c.args.s c.loop-i.i _ c.loop-i.invariant c.num-sum.result few
+    c.num-sum.ensures.small
 
 pub loop-i-preserved : goal.loop-i-preserved
 loop-i-preserved c =
@@ -18,6 +19,8 @@ loop-i-preserved c =
     let players = c.players-i-end.ensures in
     let few : i < 64 = omega (arith, c.loop-i-test.true, players.count, players.shares.few) in
     elim c.if-contains.branch [
-      | then-contains w ↦ added a s i _ c.loop-i.invariant w.num-sum.result few w.num-sum.ensures.small (sym c.contains.ensures ∙ w.if-contains.true) w.num-sum.ensures.value _ w.sum-is
-      | else-contains w ↦ left_out a s i _ c.loop-i.invariant (sym c.contains.ensures ∙ w.if-contains.false) _ w.sum-is
+      | then-contains w ↦ added a s i _ c.loop-i.invariant w.num-sum.result few w.num-sum.ensures.small
+          (sym c.contains.ensures ∙ w.if-contains.true) w.num-sum.ensures.value _ w.sum-is
+      | else-contains w ↦ left_out a s i _ c.loop-i.invariant (sym c.contains.ensures ∙ w.if-contains.false) _
+          w.sum-is
     ]

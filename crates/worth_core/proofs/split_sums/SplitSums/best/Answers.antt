@@ -7,4 +7,5 @@ pub returns-then-others_free-clause-sum : goal.returns-then-others_free-clause-s
 returns-then-others_free-clause-sum c = λ n a f seen h.
     let holding = ap (λ (s : Sums). s.holding) c.self.view_is in
     let both = ap (λ (s : Sums). s.both) c.self.view_is in
-    rw (c.if-others_free.true, c.greater.ensures, holding, both) (IsGreatestSum-others_free n a f seen c.args.self.now h)
+    rw (c.if-others_free.true, c.greater.ensures, holding, both)
+    (IsGreatestSum-others_free n a f seen c.args.self.now h)

@@ -11,7 +11,8 @@ longer-requires-2-clause-room c =
     let inside = c.self.inside in
     let i = c.self.invariant in
     IsSmallSum-up inside.count 63 c.greater-4.result (omega (arith, count, c.requires.room))
-    (IsSmallSum-either inside.count inside.lacking inside.both c.greater-4.result i.lacking i.both c.greater-4.ensures)
+    (IsSmallSum-either inside.count inside.lacking inside.both c.greater-4.result i.lacking i.both
+    c.greater-4.ensures)
 
 pub invariant_of-result : goal.invariant_of-result
 invariant_of-result c =
@@ -25,10 +26,19 @@ invariant_of-result c =
     record {
       few = omega (arith, count, c.requires.room);
       neither = tt;
-      holding = rw c.longer.ensures (IsSmallSum-longer n c.greater.result _ (either inside.neither inside.holding c.greater.result i.neither i.holding c.greater.ensures) (rw kept c.requires.small));
-      lacking = IsSmallSum-up n (n + 1) c.greater-2.result up (either inside.neither inside.lacking c.greater-2.result i.neither i.lacking c.greater-2.ensures);
+      holding = rw c.longer.ensures
+          (IsSmallSum-longer n c.greater.result _
+          (either inside.neither inside.holding c.greater.result i.neither i.holding c.greater.ensures)
+          (rw kept c.requires.small));
+      lacking =
+          IsSmallSum-up n (n + 1) c.greater-2.result up
+          (either inside.neither inside.lacking c.greater-2.result i.neither i.lacking c.greater-2.ensures);
       both = IsSmallSum-either (n + 1) c.greater-3.result c.longer-2.result c.greater-5.result
-          (IsSmallSum-up n (n + 1) c.greater-3.result up (either inside.holding inside.both c.greater-3.result i.holding i.both c.greater-3.ensures))
-          (rw c.longer-2.ensures (IsSmallSum-longer n c.greater-4.result _ (either inside.lacking inside.both c.greater-4.result i.lacking i.both c.greater-4.ensures) (rw kept c.requires.small)))
+          (IsSmallSum-up n (n + 1) c.greater-3.result up
+          (either inside.holding inside.both c.greater-3.result i.holding i.both c.greater-3.ensures))
+          (rw c.longer-2.ensures
+          (IsSmallSum-longer n c.greater-4.result _
+          (either inside.lacking inside.both c.greater-4.result i.lacking i.both c.greater-4.ensures)
+          (rw kept c.requires.small)))
           c.greater-5.ensures;
     }

@@ -13,8 +13,16 @@ invariant_of-result c =
     let i = c.self.invariant in
     record {
       few = omega (arith, count, c.requires.room);
-      neither = IsSmallSum-next inside.count inside.neither c.longer.result c.greater.result _ i.neither (rw kept c.requires.small) c.longer.ensures c.greater.ensures;
-      holding = IsSmallSum-next inside.count inside.holding c.longer-2.result c.greater-2.result _ i.holding (rw kept c.requires.small) c.longer-2.ensures c.greater-2.ensures;
-      lacking = IsSmallSum-next inside.count inside.lacking c.longer-3.result c.greater-3.result _ i.lacking (rw kept c.requires.small) c.longer-3.ensures c.greater-3.ensures;
-      both = IsSmallSum-next inside.count inside.both c.longer-4.result c.greater-4.result _ i.both (rw kept c.requires.small) c.longer-4.ensures c.greater-4.ensures;
+      neither =
+          IsSmallSum-next inside.count inside.neither c.longer.result c.greater.result _ i.neither
+          (rw kept c.requires.small) c.longer.ensures c.greater.ensures;
+      holding =
+          IsSmallSum-next inside.count inside.holding c.longer-2.result c.greater-2.result _ i.holding
+          (rw kept c.requires.small) c.longer-2.ensures c.greater-2.ensures;
+      lacking =
+          IsSmallSum-next inside.count inside.lacking c.longer-3.result c.greater-3.result _ i.lacking
+          (rw kept c.requires.small) c.longer-3.ensures c.greater-3.ensures;
+      both =
+          IsSmallSum-next inside.count inside.both c.longer-4.result c.greater-4.result _ i.both
+          (rw kept c.requires.small) c.longer-4.ensures c.greater-4.ensures;
     }
