@@ -3,4 +3,3 @@ mod Values
 mod Solvable
 mod Points
 mod Collected
-mod BothWays

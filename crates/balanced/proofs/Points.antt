@@ -1,5 +1,6 @@
 -- Optimal multipliers of the balanced program are shares that no coalition blocks.
-use Rattle.std.proofs.Common.{◌≡◌, ℕ, zero, suc, ◌^◌, ◌<◌, List, ℤ, pos, ◌*ℤ◌, ◌<ℤ◌, ◌≤ℤ◌, sym, ap, subst, ◌∙◌, arith, if◌then◌else◌}
+use Rattle.std.proofs.Common.{◌≡◌, ℕ, zero, suc, ◌^◌, ◌<◌, List, ℤ, pos, ◌*ℤ◌, ◌<ℤ◌, ◌≤ℤ◌}
+use Rattle.std.proofs.Common.{sym, ap, subst, ◌∙◌, arith, if◌then◌else◌}
 use Rattle.std.proofs.lemmas.Int.{by_lt_z}
 use Rattle.std.proofs.Math.Pow.{pow_pos}
 use Rattle.definitions.proofs.Ring.{linear, mul-zeroℤ}
@@ -12,22 +13,29 @@ use Rattle.separation.specs.Shares.{IsReadFrom}
 use Rattle.separation.specs.Values.{multiplier_at}
 use Rattle.balanced.proofs.Values.{column_of, value_members}
 
-module _ (g : Game) (laws : IsGame g) (m : List ℤ) (den : ℤ) (bounds : Bounds (balanced_program g) m den) (x : Allocation) (read : IsReadFrom g.players m den x) where
+module _ (g : Game) (laws : IsGame g) (m : List ℤ) (den : ℤ) (bounds : Bounds (balanced_program g) m den)
+    (x : Allocation) (read : IsReadFrom g.players m den x) where
   -- what a coalition gets is what its members' multipliers add to
   pub amount_read : (s : ℕ) → amount x s ≡ sum_over g.players (multiplier_at m) s
   amount_read s =
       ap (λ (n : ℕ). sum_over n (share x) s) read.players
-      ∙ sum_below-same g.players (λ i. if has_player s i then share x i else pos 0) (λ i. if has_player s i then multiplier_at m i else pos 0) (λ i lt. ap (λ (z : ℤ). if has_player s i then z else pos 0) (read.shares i lt))
+      ∙ sum_below-same g.players (λ i. if has_player s i then share x i else pos 0)
+      (λ i. if has_player s i then multiplier_at m i else pos 0)
+      (λ i lt. ap (λ (z : ℤ). if has_player s i then z else pos 0) (read.shares i lt))
 
   -- a coalition is worth no more than it gets
   pub covered : (s : ℕ) → s < 2 ^ g.players → (x.den *ℤ g.worth s) ≤ℤ amount x s
   covered zero high =
-      let nothing : amount x 0 ≡ pos 0 = amount_read 0 ∙ sum_below-zero g.players (λ i. if has_player 0 i then multiplier_at m i else pos 0) (λ i lt. ap (λ b. if b then multiplier_at m i else pos 0) (has_player-empty i)) in
+      let nothing : amount x 0 ≡ pos 0 =
+      amount_read 0
+      ∙ sum_below-zero g.players (λ i. if has_player 0 i then multiplier_at m i else pos 0)
+      (λ i lt. ap (λ b. if b then multiplier_at m i else pos 0) (has_player-empty i)) in
       let free : x.den *ℤ g.worth 0 ≡ pos 0 = ap (λ (z : ℤ). x.den *ℤ z) laws.nobody ∙ mul-zeroℤ x.den in
       omega (arith, linear, nothing, free)
   covered (suc s) high =
       let low = bounds.1 (suc s) (column_of g (suc s) (omega arith) high) in
-      let den_is : x.den *ℤ g.worth (suc s) ≡ den *ℤ g.worth (suc s) = ap (λ (d : ℤ). d *ℤ g.worth (suc s)) read.common in
+      let den_is : x.den *ℤ g.worth (suc s) ≡ den *ℤ g.worth (suc s) =
+      ap (λ (d : ℤ). d *ℤ g.worth (suc s)) read.common in
       omega (arith, linear, low, den_is, value_members g m (suc s), amount_read (suc s))
 
   -- where they add to the worth of all they are a point of the core
@@ -39,9 +47,13 @@ module _ (g : Game) (laws : IsGame g) (m : List ℤ) (den : ℤ) (bounds : Bound
   )
 
   -- otherwise they add to more
-  pub above_worth : (¬ IsEfficient g x) → (x.den *ℤ g.worth (grand_coalition g.players)) <ℤ amount x (grand_coalition g.players)
+  pub above_worth : (¬ IsEfficient g x)
+      → (x.den *ℤ g.worth (grand_coalition g.players)) <ℤ amount x (grand_coalition g.players)
   above_worth not =
-      by_lt_z (x.den *ℤ g.worth (grand_coalition g.players)) (amount x (grand_coalition g.players)) (λ lt. lt) (λ le. let low = covered (grand_coalition g.players) (all_high g.players) in absurd (not (omega (arith, linear, low, le))))
+      by_lt_z (x.den *ℤ g.worth (grand_coalition g.players)) (amount x (grand_coalition g.players)) (λ lt. lt)
+      (λ le.
+      let low = covered (grand_coalition g.players) (all_high g.players) in
+      absurd (not (omega (arith, linear, low, le))))
     where
       all_high : (n : ℕ) → grand_coalition n < 2 ^ n
       all_high n = let p = pow_pos n in omega (arith, p)

@@ -1,5 +1,7 @@
--- The balanced program has an optimum: the grand coalition alone solves it, and no weights that sum to 0 in every row have a positive cost.
-use Rattle.std.proofs.Common.{◌≡◌, ℕ, zero, suc, ◌^◌, ◌<◌, ◌≤◌, List, [], ◌∷◌, ℤ, pos, ◌*ℤ◌, ◌≤ℤ◌, refl, sym, ap, subst, arith, unsigned_abs, if◌then◌else◌}
+-- The balanced program has an optimum: the grand coalition alone solves it, and no weights that sum to 0 in every
+-- row have a positive cost.
+use Rattle.std.proofs.Common.{◌≡◌, ℕ, zero, suc, ◌^◌, ◌<◌, ◌≤◌, List, [], ◌∷◌, ℤ, pos, ◌*ℤ◌, ◌≤ℤ◌}
+use Rattle.std.proofs.Common.{refl, sym, ap, subst, arith, unsigned_abs, if◌then◌else◌}
 use Rattle.std.proofs.lemmas.Int.{ints}
 use Rattle.std.proofs.Math.Pow.{pow-lt}
 use Rattle.std.specs.List.{IsDistinct}
@@ -23,10 +25,21 @@ use Rattle.balanced.proofs.Values.{column_of, above_none, below_all, value_membe
 two_masks : (n : ℕ) → 1 ≤ n → 2 ≤ 2 ^ n
 two_masks n some = let lt : 2 ^ 0 < 2 ^ n = pow-lt {i = 0} {j = n} (omega arith) in omega (arith, lt)
 
-pub whole_solves : (g : Game) → 1 ≤ g.players → Solves (balanced_program g) ((grand_coalition g.players, pos 1) ∷ []) (pos 1)
+pub whole_solves : (g : Game) → 1 ≤ g.players
+    → Solves (balanced_program g) ((grand_coalition g.players, pos 1) ∷ []) (pos 1)
 unfolding IsDistinct
 whole_solves g some = (
-  (((column_of g (grand_coalition g.players) (let two = two_masks g.players some in omega (arith, two)) (let two = two_masks g.players some in omega (arith, two)), omega (arith, linear)), tt), (tt, tt)),
+  (
+    (
+      (
+        column_of g (grand_coalition g.players) (let two = two_masks g.players some in omega (arith, two))
+            (let two = two_masks g.players some in omega (arith, two)),
+        omega (arith, linear),
+      ),
+      tt,
+    ),
+    (tt, tt),
+  ),
   omega (arith, linear),
   λ r lt. rw (has_player-grand_coalition g.players r lt) refl,
 )
@@ -48,7 +61,11 @@ cost_most z small = let e = one-mulℤ z in omega (arith, ints, small, e)
 
 -- a number past every worth, for each player, bounds the program
 pub even_bounds : (g : Game) → IsGame g → Bounds (balanced_program g) (even g.players (pos (2 ^ 46))) (pos 1)
-even_bounds g laws = (omega (arith, linear), λ s is. subst (λ (z : ℤ). (pos 1 *ℤ g.worth s) ≤ℤ z) (sym (value_members g m s)) (covers s (above_none g s is) (below_all g s is)))
+even_bounds g laws = (
+  omega (arith, linear),
+  λ s is. subst (λ (z : ℤ). (pos 1 *ℤ g.worth s) ≤ℤ z) (sym (value_members g m s))
+      (covers s (above_none g s is) (below_all g s is)),
+)
   where
     m : List ℤ
     m = even g.players (pos (2 ^ 46))
@@ -58,18 +75,24 @@ even_bounds g laws = (omega (arith, linear), λ s is. subst (λ (z : ℤ). (pos 
 
     alike : (s : ℕ) → sum_over g.players (multiplier_at m) s ≡ sum_over g.players at s
     alike s =
-        sum_below-same g.players (λ r. if has_player s r then multiplier_at m r else pos 0) (λ r. if has_player s r then at r else pos 0) (λ r lt. ap (λ (z : ℤ). if has_player s r then z else pos 0) (even_at g.players r (pos (2 ^ 46)) lt))
+        sum_below-same g.players (λ r. if has_player s r then multiplier_at m r else pos 0)
+        (λ r. if has_player s r then at r else pos 0)
+        (λ r lt. ap (λ (z : ℤ). if has_player s r then z else pos 0) (even_at g.players r (pos (2 ^ 46)) lt))
 
     covers : (s : ℕ) → 0 < s → s < 2 ^ g.players → (pos 1 *ℤ g.worth s) ≤ℤ sum_over g.players (multiplier_at m) s
     covers s low high =
         let member = some_member g.players s low high in
-        let less : pos (2 ^ 46) ≤ℤ sum_over g.players at s = member_less g.players s member.0 at (λ k. omega (arith, ints)) member.1 member.2 in
+        let less : pos (2 ^ 46) ≤ℤ sum_over g.players at s =
+        member_less g.players s member.0 at (λ k. omega (arith, ints)) member.1 member.2 in
         omega (arith, linear, cost_most (g.worth s) (laws.small s high), less, alike s)
 
 -- ---- neither fault comes
 
-pub no_fault : (g : Game) (p : Program) (fault : LpFault) → IsGame g → IsSame p (balanced_program g) → IsFault p fault → ⊥
+pub no_fault : (g : Game) (p : Program) (fault : LpFault) → IsGame g → IsSame p (balanced_program g)
+    → IsFault p fault → ⊥
 no_fault g p NoSolution laws same none =
-    no_solution_same p (balanced_program g) same none ((grand_coalition g.players, pos 1) ∷ []) (pos 1) (whole_solves g laws.some)
+    no_solution_same p (balanced_program g) same none ((grand_coalition g.players, pos 1) ∷ []) (pos 1)
+    (whole_solves g laws.some)
 no_fault g p Unbounded laws same (solution, ray) =
-    no_ray (balanced_program g) (even g.players (pos (2 ^ 46))) (pos 1) (even_bounds g laws) (ray_same p (balanced_program g) same ray)
+    no_ray (balanced_program g) (even g.players (pos (2 ^ 46))) (pos 1) (even_bounds g laws)
+    (ray_same p (balanced_program g) same ray)

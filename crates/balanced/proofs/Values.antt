@@ -1,5 +1,7 @@
 -- What multipliers make of the balanced program: of a coalition what its members' multipliers add to.
-use Rattle.std.proofs.Common.{◌≡◌, ◌⊎◌, ℕ, zero, suc, ◌*◌, ◌/◌, ◌%◌, ◌^◌, ◌<◌, Bool, true, false, cond, ◌&&◌, IsTrue, List, ℤ, pos, ◌+ℤ◌, ◌*ℤ◌, ◌≤ℤ◌, refl, sym, ap, ◌∙◌, inl, inr, arith, nat_lt, nat_eq, if◌then◌else◌}
+use Rattle.std.proofs.Common.{◌≡◌, ◌⊎◌, ℕ, zero, suc, ◌*◌, ◌/◌, ◌%◌, ◌^◌, ◌<◌, Bool, true, false}
+use Rattle.std.proofs.Common.{cond, ◌&&◌, IsTrue, List, ℤ, pos, ◌+ℤ◌, ◌*ℤ◌, ◌≤ℤ◌, refl, sym, ap, ◌∙◌}
+use Rattle.std.proofs.Common.{inl, inr, arith, nat_lt, nat_eq, if◌then◌else◌}
 use Rattle.std.proofs.lemmas.Bool.{false≢true}
 use Rattle.std.proofs.lemmas.Bool.Decides.{nat_tests}
 use Rattle.std.proofs.lemmas.Nat.Bits.{bit_at-suc, bit_at_lowest}
@@ -42,13 +44,17 @@ pub unit : (b : Bool) (z : ℤ) → z *ℤ (if b then pos 1 else pos 0) ≡ (if 
 unit true z = mul-oneℤ z
 unit false z = mul-zeroℤ z
 
-pub value_members : (g : Game) (m : List ℤ) (s : ℕ) → value_of (balanced_program g) m ((balanced_program g).entry s) ≡ sum_over g.players (multiplier_at m) s
+pub value_members : (g : Game) (m : List ℤ) (s : ℕ)
+    → value_of (balanced_program g) m ((balanced_program g).entry s) ≡ sum_over g.players (multiplier_at m) s
 value_members g m s =
-    sum_below-same g.players (λ r. multiplier_at m r *ℤ (if has_player s r then pos 1 else pos 0)) (λ r. if has_player s r then multiplier_at m r else pos 0) (λ r lt. unit (has_player s r) (multiplier_at m r))
+    sum_below-same g.players (λ r. multiplier_at m r *ℤ (if has_player s r then pos 1 else pos 0))
+    (λ r. if has_player s r then multiplier_at m r else pos 0) (λ r lt. unit (has_player s r) (multiplier_at m r))
 
-pub value_right : (g : Game) (m : List ℤ) → value_of (balanced_program g) m (balanced_program g).right ≡ sum_below g.players (multiplier_at m)
+pub value_right : (g : Game) (m : List ℤ)
+    → value_of (balanced_program g) m (balanced_program g).right ≡ sum_below g.players (multiplier_at m)
 value_right g m =
-    sum_below-same g.players (λ r. multiplier_at m r *ℤ pos 1) (multiplier_at m) (λ r lt. mul-oneℤ (multiplier_at m r))
+    sum_below-same g.players (λ r. multiplier_at m r *ℤ pos 1) (multiplier_at m)
+    (λ r lt. mul-oneℤ (multiplier_at m r))
 
 -- ---- members
 
@@ -56,7 +62,10 @@ value_right g m =
 pub some_member : (n s : ℕ) → 0 < s → s < 2 ^ n → (i : ℕ) × (i < n) × (has_player s i ≡ true)
 some_member zero s low high = absurd (omega arith)
 some_member (suc n) s low high =
-    by_lowest (odd_or (s % 2) (omega arith)) (λ even. let p : 2 ^ suc n ≡ 2 * 2 ^ n = pow-suc 2 n ∙ mul_comm (2 ^ n) 2 in some_member n (s / 2) (omega (arith, even)) (omega (arith, p)))
+    by_lowest (odd_or (s % 2) (omega arith))
+    (λ even.
+    let p : 2 ^ suc n ≡ 2 * 2 ^ n = pow-suc 2 n ∙ mul_comm (2 ^ n) 2 in
+    some_member n (s / 2) (omega (arith, even)) (omega (arith, p)))
   where
     odd_or : (b : ℕ) → b < 2 → (b ≡ 1) ⊎ (b ≡ 0)
     odd_or b h = grind arith
@@ -69,7 +78,8 @@ some_member (suc n) s low high =
     next : (i : ℕ) → has_player (s / 2) i ≡ true → has_player s (suc i) ≡ true
     next i h = ap (λ (b : ℕ). nat_eq b 1) (bit_at-suc s i) ∙ h
 
-    by_lowest : (s % 2 ≡ 1) ⊎ (s % 2 ≡ 0) → (s % 2 ≡ 0 → (i : ℕ) × (i < n) × (has_player (s / 2) i ≡ true)) → (i : ℕ) × (i < suc n) × (has_player s i ≡ true)
+    by_lowest : (s % 2 ≡ 1) ⊎ (s % 2 ≡ 0) → (s % 2 ≡ 0 → (i : ℕ) × (i < n) × (has_player (s / 2) i ≡ true))
+        → (i : ℕ) × (i < suc n) × (has_player s i ≡ true)
     by_lowest (inl odd) half = (0, omega arith, first odd)
     by_lowest (inr even) half =
         let rest = half even in
@@ -84,7 +94,8 @@ nothing_less (suc n) s a h = step (has_player s n) (nothing_less n s a h)
     step true ih = omega (arith, linear, ih, h n)
     step false ih = omega (arith, linear, ih)
 
-pub member_less : (n s i : ℕ) (a : ℕ → ℤ) → ((k : ℕ) → pos 0 ≤ℤ a k) → i < n → has_player s i ≡ true → a i ≤ℤ sum_over n a s
+pub member_less : (n s i : ℕ) (a : ℕ → ℤ) → ((k : ℕ) → pos 0 ≤ℤ a k) → i < n → has_player s i ≡ true
+    → a i ≤ℤ sum_over n a s
 member_less zero s i a h lt has = absurd (omega arith)
 member_less (suc n) s i a h lt has = elim (last_or i lt) [
   | inl less ↦ before (has_player s n) (member_less n s i a h less has)

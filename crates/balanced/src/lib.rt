@@ -13,7 +13,7 @@ mod optimum;
 ghost use Rattle.std.specs.Prelude.{◌≡◌, ◌≤◌, IfOk, MatchResult};
 ghost use Rattle.std.specs.Bool.{Decides};
 ghost use Rattle.definitions.specs.Games.{IsEfficient};
-ghost use Rattle.balanced.specs.Answer.{IsFound, IsFault, BondarevaShapley};
+ghost use Rattle.balanced.specs.Answer.{IsFound, IsFault};
 
 use crate::collection::collection_of;
 use crate::optimum::best_of;
@@ -48,14 +48,9 @@ pub enum CoreFault {
 /// The collection has at most as many coalitions as there are players; its weights and its `k` are at least 1 and below
 /// 2^62, and no number above 1 divides them all. `TooMany` comes exactly where there are more than 16 players, and
 /// `Memory` for want of memory.
-///
-/// The clause `bondareva_shapley` is the theorem of Bondareva (1963) and Shapley (1967): there is a point in the core
-/// and no balanced collection of excess worth, or there is such a collection and no point. It is proved of each game of
-/// at most 16 players, by the run that finds the one or the other.
 pub fn core_of<W: Worth>(alloc: Global, game: &W) -> Result<CoreAnswer, CoreFault>
     ensures answer { MatchResult result (IsFound (W.game game.now)) (IsFault (W.game game.now)) }
     ensures few { IfOk result (λ _. (W.game game.now).players ≤ 16) }
-    ensures bondareva_shapley { IfOk result (λ _. BondarevaShapley (W.game game.now)) }
 {
     if game.players() > 16 {
         return Err(CoreFault::TooMany);

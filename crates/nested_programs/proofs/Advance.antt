@@ -1,5 +1,7 @@
 -- From an optimal stage to the reading behind its level, and the value of later multipliers at an earlier stage.
-use Rattle.std.proofs.Common.{◌≡◌, ◌⊎◌, ℕ, suc, ◌+◌, ◌-◌, ◌<◌, Bool, true, false, ◌&&◌, IsTrue, List, [], ◌∷◌, ◌++◌, length, map, ℤ, pos, ◌-ℤ◌, ◌*ℤ◌, ◌≤ℤ◌, refl, sym, ap, subst, ◌∙◌, inl, inr, arith, nat_eq, nat_lt, int_le, if◌then◌else◌, slice_index_or}
+use Rattle.std.proofs.Common.{◌≡◌, ◌⊎◌, ℕ, suc, ◌+◌, ◌-◌, ◌<◌, Bool, true, false, ◌&&◌, IsTrue, List, [], ◌∷◌}
+use Rattle.std.proofs.Common.{◌++◌, length, map, ℤ, pos, ◌-ℤ◌, ◌*ℤ◌, ◌≤ℤ◌, refl, sym, ap, subst, ◌∙◌, inl, inr}
+use Rattle.std.proofs.Common.{arith, nat_eq, nat_lt, int_le, if◌then◌else◌, slice_index_or}
 use Rattle.std.proofs.lemmas.Bool.{false≢true}
 use Rattle.std.proofs.lemmas.Bool.Decides.{nat_tests}
 use Rattle.std.specs.List.{list_any, AllByRecursion}
@@ -14,10 +16,12 @@ use Rattle.definitions.specs.Programs.{value_of}
 use Rattle.definitions.specs.declared.Family.{Family}
 use Rattle.definitions.specs.declared.Measure.{Measure}
 use Rattle.definitions.specs.declared.Family.TheVariants.{Imputations}
-use Rattle.separation.specs.Stage.{Column, signed, earlier_of, doubled, settled_columns, further_column, no_column, column, is_imputations, is_further, stage_program}
+use Rattle.separation.specs.Stage.{Column, signed, earlier_of, doubled, settled_columns, further_column}
+use Rattle.separation.specs.Stage.{no_column, column, is_imputations, is_further, stage_program}
 use Rattle.nested_programs.specs.Reading.{reached, IsReading, share_of, excess_of, nowhere}
 use Rattle.nested_programs.specs.Chain.{single_id, outer_id, HasWeight, Stage, StageHolds}
-use Rattle.nested_programs.proofs.Reading.{plus_value, column_value, column_value-is, Fixes, each_of, within_row, imputations_of, single_value, whole_value, of_settled, reading_of}
+use Rattle.nested_programs.proofs.Reading.{plus_value, column_value, column_value-is, Fixes, each_of, within_row}
+use Rattle.nested_programs.proofs.Reading.{imputations_of, single_value, whole_value, of_settled, reading_of}
 use Rattle.nested_programs.proofs.Slack.{rise, tight_optimal, tight_value}
 use Rattle.definitions.proofs.Cases.{or_cases, or_left, or_right, true_or_false, and_left, and_right}
 use Rattle.definitions.proofs.Alls.{all_left, all_right, all_join}
@@ -28,24 +32,31 @@ use Rattle.definitions.proofs.Cancel.{gap_of}
 last_value : (q : ℕ) (y : ℕ → ℤ) → sum_below (suc q) (λ r. y r *ℤ (if nat_eq r q then pos 1 else pos 0)) ≡ y q
 last_value q y =
     let t : nat_eq q q ≡ true = grind (arith, nat_tests) in
-    let rest = sum_below-zero q (λ r. y r *ℤ (if nat_eq r q then pos 1 else pos 0)) (λ r h. let u : nat_eq r q ≡ false = grind (arith, nat_tests) in rw u (mul-zeroℤ (y r))) in
+    let rest =
+    sum_below-zero q (λ r. y r *ℤ (if nat_eq r q then pos 1 else pos 0))
+    (λ r h. let u : nat_eq r q ≡ false = grind (arith, nat_tests) in rw u (mul-zeroℤ (y r))) in
     rw t (omega (arith, linear, rest, mul-oneℤ (y q)))
 
-pub right_value : (family : Family) (measure : Measure) (g : Game) (front : List Level) (outside : ℕ → Bool) (m : List ℤ) → value_of (stage_program family measure g front outside) m (stage_program family measure g front outside).right ≡ excess_of g.players m (length front)
+pub right_value : (family : Family) (measure : Measure) (g : Game) (front : List Level) (outside : ℕ → Bool)
+    (m : List ℤ)
+    → value_of (stage_program family measure g front outside) m (stage_program family measure g front outside).right
+    ≡ excess_of g.players m (length front)
 right_value family measure g front outside m =
     let e : g.players + (length front + 1) ≡ suc (g.players + length front) = omega arith in
     rw e (last_value (g.players + length front) (λ r. slice_index_or m r (pos 0)))
 
 -- ---- the columns past the settled ones
 
-pub column_further : (n : ℕ) (front : List Level) (i : ℕ) → column n front (length (settled_columns n front) + i) ≡ further_column n (length front) i
+pub column_further : (n : ℕ) (front : List Level) (i : ℕ)
+    → column n front (length (settled_columns n front) + i) ≡ further_column n (length front) i
 column_further n front i =
     let len : ℕ = length (settled_columns n front) in
     let t : nat_lt (len + i) len ≡ false = grind (arith, nat_tests) in
     let v : len + i - len ≡ i = omega arith in
     rw t (rw v refl)
 
-pub column_outer : (n : ℕ) (front : List Level) (s : ℕ) → column n front (outer_id n front s) ≡ record { mask = s; row = length front; minus = false }
+pub column_outer : (n : ℕ) (front : List Level) (s : ℕ)
+    → column n front (outer_id n front s) ≡ record { mask = s; row = length front; minus = false }
 column_outer n front s = column_further n front (n + n + s) ∙ kind
   where
     kind : further_column n (length front) (n + n + s) ≡ record { mask = s; row = length front; minus = false }
@@ -55,7 +66,8 @@ column_outer n front s = column_further n front (n + n + s) ∙ kind
         let v : n + n + s - (n + n) ≡ s = omega arith in
         rw t (rw u (rw v refl))
 
-pub column_single : (n : ℕ) (front : List Level) (i : ℕ) → i < n → column n front (single_id n front i) ≡ record { mask = singleton i; row = length front + 1; minus = false }
+pub column_single : (n : ℕ) (front : List Level) (i : ℕ) → i < n
+    → column n front (single_id n front i) ≡ record { mask = singleton i; row = length front + 1; minus = false }
 column_single n front i h = column_further n front i ∙ kind
   where
     kind : further_column n (length front) i ≡ record { mask = singleton i; row = length front + 1; minus = false }
@@ -65,19 +77,45 @@ column_single n front i h = column_further n front i ∙ kind
 abbrev pub column_rise : Measure → Game → ℕ → (ℕ → ℤ) → (ℕ → ℤ) → ℤ → Column → ℤ
 column_rise measure g j x e den c = den *ℤ signed c.minus (g.worth c.mask) -ℤ column_value measure g.players j x e c
 
-pub rise_at : (family : Family) (measure : Measure) (g : Game) (front : List Level) (outside : ℕ → Bool) (m : List ℤ) (den : ℤ) (id : ℕ) → rise (stage_program family measure g front outside) m den id ≡ column_rise measure g (length front + 1) (share_of m) (excess_of g.players m) den (column g.players front id)
+pub rise_at : (family : Family) (measure : Measure) (g : Game) (front : List Level) (outside : ℕ → Bool)
+    (m : List ℤ) (den : ℤ) (id : ℕ)
+    → rise (stage_program family measure g front outside) m den id
+    ≡ column_rise measure g (length front + 1) (share_of m) (excess_of g.players m) den
+    (column g.players front id)
 rise_at family measure g front outside m den id =
-    ap (λ z. den *ℤ (stage_program family measure g front outside).cost id -ℤ z) (column_value-is family measure g front outside m id)
+    ap (λ z. den *ℤ (stage_program family measure g front outside).cost id -ℤ z)
+    (column_value-is family measure g front outside m id)
 
-pub outer_tight : (family : Family) (measure : Measure) (g : Game) (front : List Level) (outside : ℕ → Bool) (m : List ℤ) (den : ℤ) (s : ℕ) → rise (stage_program family measure g front outside) m den (outer_id g.players front s) ≡ pos 0 → den *ℤ g.worth s ≡ reached measure g.players (share_of m) (excess_of g.players m) s (length front)
+pub outer_tight : (family : Family) (measure : Measure) (g : Game) (front : List Level) (outside : ℕ → Bool)
+    (m : List ℤ) (den : ℤ) (s : ℕ)
+    → rise (stage_program family measure g front outside) m den (outer_id g.players front s) ≡ pos 0
+    → den *ℤ g.worth s ≡ reached measure g.players (share_of m) (excess_of g.players m) s (length front)
 outer_tight family measure g front outside m den s h =
-    let at = sym (ap (column_rise measure g (length front + 1) (share_of m) (excess_of g.players m) den) (column_outer g.players front s)) ∙ sym (rise_at family measure g front outside m den (outer_id g.players front s)) ∙ h in
-    omega (arith, linear, at, within_row (length front + 1) (length front) (excess_of g.players m) (pos (divisor measure s)) (omega arith))
+    let at =
+    sym
+    (ap (column_rise measure g (length front + 1) (share_of m) (excess_of g.players m) den)
+    (column_outer g.players front s))
+    ∙ sym (rise_at family measure g front outside m den (outer_id g.players front s)) ∙ h in
+    omega (
+      arith,
+      linear,
+      at,
+      within_row (length front + 1) (length front) (excess_of g.players m) (pos (divisor measure s))
+          (omega arith),
+    )
 
-pub single_tight : (family : Family) (measure : Measure) (g : Game) (front : List Level) (outside : ℕ → Bool) (m : List ℤ) (den : ℤ) (i : ℕ) → i < g.players → rise (stage_program family measure g front outside) m den (single_id g.players front i) ≡ pos 0 → share_of m i ≡ den *ℤ g.worth (singleton i)
+pub single_tight : (family : Family) (measure : Measure) (g : Game) (front : List Level) (outside : ℕ → Bool)
+    (m : List ℤ) (den : ℤ) (i : ℕ) → i < g.players
+    → rise (stage_program family measure g front outside) m den (single_id g.players front i) ≡ pos 0
+    → share_of m i ≡ den *ℤ g.worth (singleton i)
 single_tight family measure g front outside m den i lt h =
-    let at = sym (ap (column_rise measure g (length front + 1) (share_of m) (excess_of g.players m) den) (column_single g.players front i lt)) ∙ sym (rise_at family measure g front outside m den (single_id g.players front i)) ∙ h in
-    omega (arith, linear, at, single_value measure g.players (length front) i (share_of m) (excess_of g.players m) lt)
+    let at =
+    sym
+    (ap (column_rise measure g (length front + 1) (share_of m) (excess_of g.players m) den)
+    (column_single g.players front i lt))
+    ∙ sym (rise_at family measure g front outside m den (single_id g.players front i)) ∙ h in
+    omega
+    (arith, linear, at, single_value measure g.players (length front) i (share_of m) (excess_of g.players m) lt)
 
 -- ---- lists
 
@@ -88,7 +126,8 @@ any_left p (x ∷ xs) ys h = elim (or_cases (p x) (list_any p xs) h) [
   | inr more ↦ or_right (p x) (list_any p (xs ++ ys)) (any_left p xs ys more)
 ]
 
-pub any_cases : {X : Type 0} (p : X → Bool) (xs ys : List X) → list_any p (xs ++ ys) ≡ true → (list_any p xs ≡ true) ⊎ (list_any p ys ≡ true)
+pub any_cases : {X : Type 0} (p : X → Bool) (xs ys : List X) → list_any p (xs ++ ys) ≡ true
+    → (list_any p xs ≡ true) ⊎ (list_any p ys ≡ true)
 any_cases p [] ys h = inr h
 any_cases p (x ∷ xs) ys h = elim (or_cases (p x) (list_any p (xs ++ ys)) h) [
   | inl here ↦ inl (or_left (p x) (list_any p xs) here)
@@ -99,19 +138,25 @@ pub append_assoc : {X : Type 0} (xs ys zs : List X) → (xs ++ ys) ++ zs ≡ xs 
 append_assoc [] ys zs = refl
 append_assoc (x ∷ xs) ys zs = ap (λ k. x ∷ k) (append_assoc xs ys zs)
 
-pub earlier_of-append : (k : ℕ) (xs ys : List Level) → earlier_of k (xs ++ ys) ≡ earlier_of k xs ++ earlier_of (k + length xs) ys
+pub earlier_of-append : (k : ℕ) (xs ys : List Level)
+    → earlier_of k (xs ++ ys) ≡ earlier_of k xs ++ earlier_of (k + length xs) ys
 earlier_of-append k [] ys = let e : k + 0 ≡ k = omega arith in rw e refl
 earlier_of-append k (l ∷ xs) ys =
     let e : k + length (l ∷ xs) ≡ k + 1 + length xs = omega arith in
-    ap (λ z. map (λ c. (c.0, k)) l.coalitions ++ z) (earlier_of-append (k + 1) xs ys) ∙ sym (append_assoc (map (λ c. (c.0, k)) l.coalitions) (earlier_of (k + 1) xs) (earlier_of (k + 1 + length xs) ys)) ∙ ap (λ z. earlier_of k (l ∷ xs) ++ earlier_of z ys) (sym e)
+    ap (λ z. map (λ c. (c.0, k)) l.coalitions ++ z) (earlier_of-append (k + 1) xs ys)
+    ∙ sym
+    (append_assoc (map (λ c. (c.0, k)) l.coalitions) (earlier_of (k + 1) xs)
+    (earlier_of (k + 1 + length xs) ys)) ∙ ap (λ z. earlier_of k (l ∷ xs) ++ earlier_of z ys) (sym e)
 
-pub earlier_of-more : (front : List Level) (l : Level) → earlier_of 0 (front ++ l ∷ []) ≡ earlier_of 0 front ++ (map (λ c. (c.0, length front)) l.coalitions ++ [])
+pub earlier_of-more : (front : List Level) (l : Level)
+    → earlier_of 0 (front ++ l ∷ []) ≡ earlier_of 0 front ++ (map (λ c. (c.0, length front)) l.coalitions ++ [])
 earlier_of-more front l =
     let e : 0 + length front ≡ length front = omega arith in
     earlier_of-append 0 front (l ∷ []) ∙ ap (λ z. earlier_of 0 front ++ earlier_of z (l ∷ [])) e
 
 -- a listed coalition stands among the pairs of its level
-pub pair_at : (P : ℕ × ℕ → Type 0) (k : ℕ) (cs : List (ℕ × ℤ)) (s : ℕ) → AllByRecursion P (map (λ c. (c.0, k)) cs) → list_any (λ c. nat_eq c.0 s) cs ≡ true → P (s, k)
+pub pair_at : (P : ℕ × ℕ → Type 0) (k : ℕ) (cs : List (ℕ × ℤ)) (s : ℕ) → AllByRecursion P (map (λ c. (c.0, k)) cs)
+    → list_any (λ c. nat_eq c.0 s) cs ≡ true → P (s, k)
 pair_at P k [] s h any = absurd (false≢true any)
 pair_at P k (c ∷ cs) s h any = elim (or_cases (nat_eq c.0 s) (list_any (λ c. nat_eq c.0 s) cs) any) [
   | inl here ↦
@@ -124,33 +169,51 @@ pair_at P k (c ∷ cs) s h any = elim (or_cases (nat_eq c.0 s) (list_any (λ c. 
 
 abbrev pub Settled_pairs : Measure → Game → List ℤ → ℤ → List (ℕ × ℕ) → Type 0
 Settled_pairs measure g m den cs =
-    AllByRecursion (λ c. den *ℤ g.worth c.0 ≡ reached measure g.players (share_of m) (excess_of g.players m) c.0 c.1) cs
+    AllByRecursion
+    (λ c. den *ℤ g.worth c.0 ≡ reached measure g.players (share_of m) (excess_of g.players m) c.0 c.1) cs
 
 -- multipliers that settle the levels
 abbrev pub Reads : Family → Measure → Game → List Level → List ℤ → ℤ → Type 0
-Reads family measure g levels m den = IsReading family measure g levels nowhere (share_of m) (excess_of g.players m) den
+Reads family measure g levels m den =
+    IsReading family measure g levels nowhere (share_of m) (excess_of g.players m) den
 
-pub restrict : (family : Family) (measure : Measure) (g : Game) (xs ys : List Level) (m : List ℤ) (den : ℤ) → Reads family measure g (xs ++ ys) m den → Reads family measure g xs m den
+pub restrict : (family : Family) (measure : Measure) (g : Game) (xs ys : List Level) (m : List ℤ) (den : ℤ)
+    → Reads family measure g (xs ++ ys) m den → Reads family measure g xs m den
 restrict family measure g xs ys m den r =
     record {
       positive = r.positive;
       whole = r.whole;
-      settled = all_left (λ c. den *ℤ g.worth c.0 ≡ reached measure g.players (share_of m) (excess_of g.players m) c.0 c.1) (earlier_of 0 xs) (earlier_of (0 + length xs) ys) (subst (Settled_pairs measure g m den) (earlier_of-append 0 xs ys) r.settled);
+      settled =
+          all_left (λ c. den *ℤ g.worth c.0 ≡ reached measure g.players (share_of m) (excess_of g.players m) c.0 c.1)
+          (earlier_of 0 xs) (earlier_of (0 + length xs) ys)
+          (subst (Settled_pairs measure g m den) (earlier_of-append 0 xs ys) r.settled);
       single = r.single;
-      bound = λ f i h b. r.bound f i h (any_left (λ l. list_any (λ b. nat_eq b.0 i && int_le (pos 1) b.1) l.bounds) xs ys b);
+      bound = λ f i h b. r.bound f i h
+          (any_left (λ l. list_any (λ b. nat_eq b.0 i && int_le (pos 1) b.1) l.bounds) xs ys b);
       outer = λ s o. absurd (false≢true o);
     }
 
 -- ---- what an optimal stage settles
 
 -- the coalitions of the new level
-new_pairs : (family : Family) (measure : Measure) (g : Game) (front : List Level) (outside : ℕ → Bool) (m : List ℤ) (den : ℤ) (ws cs : List (ℕ × ℤ)) → ((id : ℕ) → HasWeight ws id → IsTrue ((stage_program family measure g front outside).is_column id) × (rise (stage_program family measure g front outside) m den id ≡ pos 0)) → AllByRecursion (λ c. (pos 1 ≤ℤ c.1) × HasWeight ws (outer_id g.players front c.0)) cs → Settled_pairs measure g m den (map (λ c. (c.0, length front)) cs ++ [])
+new_pairs : (family : Family) (measure : Measure) (g : Game) (front : List Level) (outside : ℕ → Bool) (m : List ℤ)
+    (den : ℤ) (ws cs : List (ℕ × ℤ))
+    → ((id : ℕ) → HasWeight ws id
+    → IsTrue ((stage_program family measure g front outside).is_column id)
+    × (rise (stage_program family measure g front outside) m den id ≡ pos 0))
+    → AllByRecursion (λ c. (pos 1 ≤ℤ c.1) × HasWeight ws (outer_id g.players front c.0)) cs
+    → Settled_pairs measure g m den (map (λ c. (c.0, length front)) cs ++ [])
 new_pairs family measure g front outside m den ws [] tight h = tt
-new_pairs family measure g front outside m den ws (c ∷ cs) tight h =
-    (outer_tight family measure g front outside m den c.0 (tight (outer_id g.players front c.0) h.0.1).1, new_pairs family measure g front outside m den ws cs tight h.1)
+new_pairs family measure g front outside m den ws (c ∷ cs) tight h = (
+  outer_tight family measure g front outside m den c.0 (tight (outer_id g.players front c.0) h.0.1).1,
+  new_pairs family measure g front outside m den ws cs tight h.1,
+)
 
 -- the column of a player alone stands there only for imputations
-pub single_family : (family : Family) (measure : Measure) (g : Game) (front : List Level) (outside : ℕ → Bool) (i : ℕ) → i < g.players → IsTrue ((stage_program family measure g front outside).is_column (single_id g.players front i)) → family ≡ Imputations
+pub single_family : (family : Family) (measure : Measure) (g : Game) (front : List Level) (outside : ℕ → Bool)
+    (i : ℕ) → i < g.players
+    → IsTrue ((stage_program family measure g front outside).is_column (single_id g.players front i))
+    → family ≡ Imputations
 single_family family measure g front outside i h is_so =
     let len : ℕ = length (settled_columns g.players front) in
     let t : nat_lt (len + i) len ≡ false = grind (arith, nat_tests) in
@@ -160,29 +223,45 @@ single_family family measure g front outside i h is_so =
 
 abbrev pub BoundComes : Family → Game → List Level → List (ℕ × ℤ) → ℕ × ℤ → Type 0
 BoundComes family g front ws b =
-    (b.0 < g.players) × (((pos 1 ≤ℤ b.1) × HasWeight ws (single_id g.players front b.0)) ⊎ ((family ≡ Imputations) × IsTrue (has_bound front b.0)))
+    (b.0 < g.players)
+    × (((pos 1 ≤ℤ b.1) × HasWeight ws (single_id g.players front b.0))
+    ⊎ ((family ≡ Imputations) × IsTrue (has_bound front b.0)))
 
 -- a player at a bound of the new level gets its worth alone
-new_bound : (family : Family) (g : Game) (front : List Level) (ws bs : List (ℕ × ℤ)) (Tight : ℕ → Type 0) → ((i : ℕ) → i < g.players → HasWeight ws (single_id g.players front i) → Tight i) → ((i : ℕ) → i < g.players → IsTrue (has_bound front i) → Tight i) → AllByRecursion (BoundComes family g front ws) bs → (i : ℕ) → list_any (λ b. nat_eq b.0 i && int_le (pos 1) b.1) bs ≡ true → Tight i
+new_bound : (family : Family) (g : Game) (front : List Level) (ws bs : List (ℕ × ℤ)) (Tight : ℕ → Type 0)
+    → ((i : ℕ) → i < g.players → HasWeight ws (single_id g.players front i) → Tight i)
+    → ((i : ℕ) → i < g.players → IsTrue (has_bound front i) → Tight i)
+    → AllByRecursion (BoundComes family g front ws) bs → (i : ℕ)
+    → list_any (λ b. nat_eq b.0 i && int_le (pos 1) b.1) bs ≡ true → Tight i
 new_bound family g front ws [] Tight new old h i any = absurd (false≢true any)
-new_bound family g front ws (b ∷ bs) Tight new old h i any = elim (or_cases (nat_eq b.0 i && int_le (pos 1) b.1) (list_any (λ b. nat_eq b.0 i && int_le (pos 1) b.1) bs) any) [
-  | inl here ↦
-      let same = and_left (nat_eq b.0 i) (int_le (pos 1) b.1) here in
-      let e : b.0 ≡ i = grind (arith, nat_tests) in
-      subst Tight e (elim h.0.1 [ inl fresh ↦ new b.0 h.0.0 fresh.1 | inr known ↦ old b.0 h.0.0 known.1 ])
-  | inr more ↦ new_bound family g front ws bs Tight new old h.1 i more
-]
+new_bound family g front ws (b ∷ bs) Tight new old h i any =
+    elim (or_cases (nat_eq b.0 i && int_le (pos 1) b.1) (list_any (λ b. nat_eq b.0 i && int_le (pos 1) b.1) bs) any) [
+      | inl here ↦
+          let same = and_left (nat_eq b.0 i) (int_le (pos 1) b.1) here in
+          let e : b.0 ≡ i = grind (arith, nat_tests) in
+          subst Tight e (elim h.0.1 [ inl fresh ↦ new b.0 h.0.0 fresh.1 | inr known ↦ old b.0 h.0.0 known.1 ])
+      | inr more ↦ new_bound family g front ws bs Tight new old h.1 i more
+    ]
 
-pub advance : (family : Family) (measure : Measure) (g : Game) (front : List Level) (t : Stage) → StageHolds family measure g front t → Reads family measure g (front ++ t.level ∷ []) t.multipliers t.den
+pub advance : (family : Family) (measure : Measure) (g : Game) (front : List Level) (t : Stage)
+    → StageHolds family measure g front t → Reads family measure g (front ++ t.level ∷ []) t.multipliers t.den
 advance family measure g front t holds =
     let outside : ℕ → Bool = t.outside in
     let m : List ℤ = t.multipliers in
     let den : ℤ = t.den in
-    let tight = tight_optimal (stage_program family measure g front outside) t.weights t.weight_den m den holds.optimal in
+    let tight =
+    tight_optimal (stage_program family measure g front outside) t.weights t.weight_den m den holds.optimal in
     let r = reading_of family measure g front outside m den holds.optimal.1 in
     let test : ℕ → Level → Bool = λ i l. list_any (λ b. nat_eq b.0 i && int_le (pos 1) b.1) l.bounds in
-    let pairs : Settled_pairs measure g m den (earlier_of 0 front ++ (map (λ c. (c.0, length front)) t.level.coalitions ++ [])) = all_join (λ c. den *ℤ g.worth c.0 ≡ reached measure g.players (share_of m) (excess_of g.players m) c.0 c.1) (earlier_of 0 front) (map (λ c. (c.0, length front)) t.level.coalitions ++ []) r.settled (new_pairs family measure g front outside m den t.weights t.level.coalitions tight holds.follows.coalitions) in
-    let fresh : (i : ℕ) → i < g.players → HasWeight t.weights (single_id g.players front i) → share_of m i ≡ den *ℤ g.worth (singleton i) = λ i h k. single_tight family measure g front outside m den i h (tight (single_id g.players front i) k).1 in
+    let pairs : Settled_pairs measure g m den
+    (earlier_of 0 front ++ (map (λ c. (c.0, length front)) t.level.coalitions ++ [])) =
+    all_join (λ c. den *ℤ g.worth c.0 ≡ reached measure g.players (share_of m) (excess_of g.players m) c.0 c.1)
+    (earlier_of 0 front) (map (λ c. (c.0, length front)) t.level.coalitions ++ []) r.settled
+    (new_pairs family measure g front outside m den t.weights t.level.coalitions tight
+    holds.follows.coalitions) in
+    let fresh : (i : ℕ) → i < g.players → HasWeight t.weights (single_id g.players front i)
+    → share_of m i ≡ den *ℤ g.worth (singleton i) =
+    λ i h k. single_tight family measure g front outside m den i h (tight (single_id g.players front i) k).1 in
     record {
       positive = r.positive;
       whole = r.whole;
@@ -191,7 +270,8 @@ advance family measure g front t holds =
       bound = λ f i h b. elim (any_cases (test i) front (t.level ∷ []) b) [
         | inl old ↦ r.bound f i h old
         | inr new ↦ elim (or_cases (test i t.level) false new) [
-          | inl here ↦ new_bound family g front t.weights t.level.bounds (λ i. share_of m i ≡ den *ℤ g.worth (singleton i)) fresh (r.bound f) holds.follows.bounds i here
+          | inl here ↦ new_bound family g front t.weights t.level.bounds
+              (λ i. share_of m i ≡ den *ℤ g.worth (singleton i)) fresh (r.bound f) holds.follows.bounds i here
           | inr none ↦ absurd (false≢true none)
         ]
       ];
@@ -206,12 +286,23 @@ Tight measure g j x e den c = column_rise measure g j x e den c ≡ pos 0
 minus_tight : (den w z : ℤ) → den *ℤ w ≡ z → den *ℤ (pos 0 -ℤ w) -ℤ (pos 0 -ℤ z) ≡ pos 0
 minus_tight den w z h = omega (arith, linear, mul-subℤ den (pos 0) w, mul-zeroℤ den)
 
-tight_fixes : (measure : Measure) (g : Game) (j : ℕ) (x e : ℕ → ℤ) (den : ℤ) (cs : List (ℕ × ℕ)) → AllByRecursion (Fixes measure g j x e den) cs → AllByRecursion (Tight measure g j x e den) (doubled cs)
+tight_fixes : (measure : Measure) (g : Game) (j : ℕ) (x e : ℕ → ℤ) (den : ℤ) (cs : List (ℕ × ℕ))
+    → AllByRecursion (Fixes measure g j x e den) cs → AllByRecursion (Tight measure g j x e den) (doubled cs)
 tight_fixes measure g j x e den [] h = tt
-tight_fixes measure g j x e den (c ∷ cs) h =
-    (gap_of (den *ℤ g.worth c.0) (plus_value measure g.players j x e c.0 c.1) h.0, (minus_tight den (g.worth c.0) (plus_value measure g.players j x e c.0 c.1) h.0, tight_fixes measure g j x e den cs h.1))
+tight_fixes measure g j x e den (c ∷ cs) h = (
+  gap_of (den *ℤ g.worth c.0) (plus_value measure g.players j x e c.0 c.1) h.0,
+  (
+    minus_tight den (g.worth c.0) (plus_value measure g.players j x e c.0 c.1) h.0,
+    tight_fixes measure g j x e den cs h.1,
+  ),
+)
 
-further_tight : (family : Family) (measure : Measure) (g : Game) (front : List Level) (t : Stage) (m : List ℤ) (den : ℤ) → StageHolds family measure g front t → Reads family measure g (front ++ t.level ∷ []) m den → (i : ℕ) → is_further family g.players front t.outside i ≡ true → HasWeight t.weights (length (settled_columns g.players front) + i) → Tight measure g (length front + 1) (share_of m) (excess_of g.players m) den (further_column g.players (length front) i)
+further_tight : (family : Family) (measure : Measure) (g : Game) (front : List Level) (t : Stage) (m : List ℤ)
+    (den : ℤ) → StageHolds family measure g front t → Reads family measure g (front ++ t.level ∷ []) m den
+    → (i : ℕ) → is_further family g.players front t.outside i ≡ true
+    → HasWeight t.weights (length (settled_columns g.players front) + i)
+    → Tight measure g (length front + 1) (share_of m) (excess_of g.players m) den
+    (further_column g.players (length front) i)
 further_tight family measure g front t m den holds r i is_so weighs =
     let n : ℕ = g.players in
     let x : ℕ → ℤ = share_of m in
@@ -227,38 +318,83 @@ further_tight family measure g front t m den holds r i is_so weighs =
             let h : i - n < n = grind (arith, nat_tests) in
             let y = rw below at (rw past at is_so) in
             let f = imputations_of family (and_left (is_imputations family) (has_bound front (i - n)) y) in
-            let b = any_left (λ l. list_any (λ b. nat_eq b.0 (i - n) && int_le (pos 1) b.1) l.bounds) front (t.level ∷ []) (and_right (is_imputations family) (has_bound front (i - n)) y) in
-            rw past (rw below (omega (arith, linear, r.bound f (i - n) h b, single_value measure n (length front) (i - n) x e h, mul-subℤ den (pos 0) (g.worth (singleton (i - n))), mul-zeroℤ den)))
+            let b =
+            any_left (λ l. list_any (λ b. nat_eq b.0 (i - n) && int_le (pos 1) b.1) l.bounds) front
+            (t.level ∷ []) (and_right (is_imputations family) (has_bound front (i - n)) y) in
+            rw past
+            (rw below
+            (omega (
+              arith,
+              linear,
+              r.bound f (i - n) h b,
+              single_value measure n (length front) (i - n) x e h,
+              mul-subℤ den (pos 0) (g.worth (singleton (i - n))),
+              mul-zeroℤ den,
+            )))
         | inr beyond ↦
             let s : ℕ = i - (n + n) in
             let eq : n + n + s ≡ i = grind (arith, nat_tests) in
-            let listed = holds.follows.all_coalitions s (subst (λ (z : ℕ). HasWeight t.weights (length (settled_columns n front) + z)) (sym eq) weighs) in
-            let pairs = all_right (λ c. den *ℤ g.worth c.0 ≡ reached measure n x e c.0 c.1) (earlier_of 0 front) (map (λ c. (c.0, length front)) t.level.coalitions ++ []) (subst (Settled_pairs measure g m den) (earlier_of-more front t.level) r.settled) in
-            let mine = all_left (λ c. den *ℤ g.worth c.0 ≡ reached measure n x e c.0 c.1) (map (λ c. (c.0, length front)) t.level.coalitions) [] pairs in
-            let any : list_any (λ c. nat_eq c.0 s) t.level.coalitions ≡ true = elim (or_cases (list_any (λ c. nat_eq c.0 s) t.level.coalitions) false listed) [ inl a ↦ a | inr b ↦ absurd (false≢true b) ] in
-            let fact = pair_at (λ c. den *ℤ g.worth c.0 ≡ reached measure n x e c.0 c.1) (length front) t.level.coalitions s mine any in
-            rw past (rw beyond (omega (arith, linear, fact, within_row (length front + 1) (length front) e (pos (divisor measure s)) (omega arith))))
+            let listed =
+            holds.follows.all_coalitions s
+            (subst (λ (z : ℕ). HasWeight t.weights (length (settled_columns n front) + z)) (sym eq) weighs) in
+            let pairs =
+            all_right (λ c. den *ℤ g.worth c.0 ≡ reached measure n x e c.0 c.1) (earlier_of 0 front)
+            (map (λ c. (c.0, length front)) t.level.coalitions ++ [])
+            (subst (Settled_pairs measure g m den) (earlier_of-more front t.level) r.settled) in
+            let mine =
+            all_left (λ c. den *ℤ g.worth c.0 ≡ reached measure n x e c.0 c.1)
+            (map (λ c. (c.0, length front)) t.level.coalitions) [] pairs in
+            let any : list_any (λ c. nat_eq c.0 s) t.level.coalitions ≡ true =
+            elim (or_cases (list_any (λ c. nat_eq c.0 s) t.level.coalitions) false listed)
+            [ inl a ↦ a | inr b ↦ absurd (false≢true b) ] in
+            let fact =
+            pair_at (λ c. den *ℤ g.worth c.0 ≡ reached measure n x e c.0 c.1) (length front) t.level.coalitions
+            s mine any in
+            rw past
+            (rw beyond
+            (omega (
+              arith,
+              linear,
+              fact,
+              within_row (length front + 1) (length front) e (pos (divisor measure s)) (omega arith),
+            )))
       ]
     ]
 
-pub tight_later : (family : Family) (measure : Measure) (g : Game) (front : List Level) (t : Stage) (m : List ℤ) (den : ℤ) → StageHolds family measure g front t → Reads family measure g (front ++ t.level ∷ []) m den → (id : ℕ) → IsTrue ((stage_program family measure g front t.outside).is_column id) → HasWeight t.weights id → rise (stage_program family measure g front t.outside) m den id ≡ pos 0
+pub tight_later : (family : Family) (measure : Measure) (g : Game) (front : List Level) (t : Stage) (m : List ℤ)
+    (den : ℤ) → StageHolds family measure g front t → Reads family measure g (front ++ t.level ∷ []) m den
+    → (id : ℕ) → IsTrue ((stage_program family measure g front t.outside).is_column id) → HasWeight t.weights id
+    → rise (stage_program family measure g front t.outside) m den id ≡ pos 0
 tight_later family measure g front t m den holds r id is_so weighs =
     let n : ℕ = g.players in
     let x : ℕ → ℤ = share_of m in
     let e : ℕ → ℤ = excess_of n m in
     let len : ℕ = length (settled_columns n front) in
     let near = restrict family measure g front (t.level ∷ []) m den r in
-    let first : AllByRecursion (Tight measure g (length front + 1) x e den) (settled_columns n front) = tight_fixes measure g (length front + 1) x e den ((grand_coalition n, length front + 1) ∷ earlier_of 0 front) (sym (whole_value measure n (length front) x e ∙ near.whole), of_settled measure g front x e den near.settled) in
+    let first : AllByRecursion (Tight measure g (length front + 1) x e den) (settled_columns n front) =
+    tight_fixes measure g (length front + 1) x e den
+    ((grand_coalition n, length front + 1) ∷ earlier_of 0 front) (
+      sym (whole_value measure n (length front) x e ∙ near.whole),
+      of_settled measure g front x e den near.settled,
+    ) in
     rise_at family measure g front t.outside m den id ∙ elim (true_or_false (nat_lt id len)) [
       | inl below ↦
           let lt : id < len = grind (arith, nat_tests) in
-          rw below (each_of (Tight measure g (length front + 1) x e den) no_column (settled_columns n front) first id lt)
+          rw below
+          (each_of (Tight measure g (length front + 1) x e den) no_column (settled_columns n front) first id lt)
       | inr past ↦
           let eq : len + (id - len) ≡ id = grind (arith, nat_tests) in
-          rw past (further_tight family measure g front t m den holds r (id - len) (rw past at is_so) (subst (HasWeight t.weights) (sym eq) weighs))
+          rw past
+          (further_tight family measure g front t m den holds r (id - len) (rw past at is_so)
+          (subst (HasWeight t.weights) (sym eq) weighs))
     ]
 
 -- the cost of a stage's weights, by any multipliers that settle its level too
-pub stage_value : (family : Family) (measure : Measure) (g : Game) (front : List Level) (t : Stage) (m : List ℤ) (den : ℤ) → StageHolds family measure g front t → Reads family measure g (front ++ t.level ∷ []) m den → den *ℤ weighted_sum (stage_program family measure g front t.outside).cost t.weights ≡ t.weight_den *ℤ excess_of g.players m (length front)
+pub stage_value : (family : Family) (measure : Measure) (g : Game) (front : List Level) (t : Stage) (m : List ℤ)
+    (den : ℤ) → StageHolds family measure g front t → Reads family measure g (front ++ t.level ∷ []) m den
+    → den *ℤ weighted_sum (stage_program family measure g front t.outside).cost t.weights
+    ≡ t.weight_den *ℤ excess_of g.players m (length front)
 stage_value family measure g front t m den holds r =
-    tight_value (stage_program family measure g front t.outside) m den t.weights t.weight_den holds.optimal.0 (tight_later family measure g front t m den holds r) ∙ ap (λ z. t.weight_den *ℤ z) (right_value family measure g front t.outside m)
+    tight_value (stage_program family measure g front t.outside) m den t.weights t.weight_den holds.optimal.0
+    (tight_later family measure g front t m den holds r)
+    ∙ ap (λ z. t.weight_den *ℤ z) (right_value family measure g front t.outside m)

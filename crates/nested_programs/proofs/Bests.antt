@@ -1,5 +1,7 @@
--- The stage program behind levels that leave a player has an optimum: some weights solve it, and no ray raises its cost.
-use Rattle.std.proofs.Common.{◌≤◌, ◌≡◌, ◌≢◌, ◌⊎◌, ℕ, ◌^◌, ◌<◌, Bool, true, false, cond, List, [], ◌∷◌, ℤ, pos, ◌+ℤ◌, refl, inl, inr, arith}
+-- The stage program behind levels that leave a player has an optimum: some weights solve it, and no ray raises its
+-- cost.
+use Rattle.std.proofs.Common.{◌≤◌, ◌≡◌, ◌≢◌, ◌⊎◌, ℕ, ◌^◌, ◌<◌, Bool, true, false, cond, List}
+use Rattle.std.proofs.Common.{[], ◌∷◌, ℤ, pos, ◌+ℤ◌, refl, inl, inr, arith}
 use Rattle.std.proofs.Math.Pow.{pow_pos, pow-lt}
 use Rattle.definitions.proofs.Ring.{linear}
 use Rattle.definitions.specs.Coalitions.{has_player, singleton, grand_coalition}
@@ -29,26 +31,37 @@ all_spanned n levels s e = (pos 1, one_apart, (s, pos 1) ∷ [], (inl e, tt), λ
     alone false = refl
 
 -- a player alone that isn't spanned is outside
-pub left_outside : (n : ℕ) (levels : List Level) (left : IsLeft n levels) → IsOutside Span n levels (singleton left.player)
-left_outside n levels left = (pow_pos left.player, less (or_all (singleton left.player) (pow-lt left.below)), left.apart)
+pub left_outside : (n : ℕ) (levels : List Level) (left : IsLeft n levels)
+    → IsOutside Span n levels (singleton left.player)
+left_outside n levels left =
+    (pow_pos left.player, less (or_all (singleton left.player) (pow-lt left.below)), left.apart)
   where
     or_all : (s : ℕ) → s < 2 ^ n → (s < grand_coalition n) ⊎ (s ≡ grand_coalition n)
     or_all s lt = grind arith
 
-    less : (singleton left.player < grand_coalition n) ⊎ (singleton left.player ≡ grand_coalition n) → singleton left.player < grand_coalition n
+    less : (singleton left.player < grand_coalition n) ⊎ (singleton left.player ≡ grand_coalition n)
+        → singleton left.player < grand_coalition n
     less (inl lt) = lt
     less (inr e) = absurd (left.apart (all_spanned n levels (singleton left.player) e))
 
 -- neither fault comes
-pub no_fault : (family : Family) (measure : Measure) (g : Game) (levels : List Level) (p : Program) (fault : LpFault) → g.players ≤ 16 → IsStage family measure g levels p → IsLeft g.players levels → IsBounded family measure g levels → IsFault p fault → ⊥
+pub no_fault : (family : Family) (measure : Measure) (g : Game) (levels : List Level) (p : Program)
+    (fault : LpFault) → g.players ≤ 16 → IsStage family measure g levels p → IsLeft g.players levels
+    → IsBounded family measure g levels → IsFault p fault → ⊥
 no_fault family measure g levels p NoSolution few stage left bounded none =
-    some_solution family measure g levels stage.outside (singleton left.player) few (λ s o. (stage.decides s).1 o) (left_outside g.players levels left) (no_solution_same p (stage_program family measure g levels stage.outside) stage.same none)
+    some_solution family measure g levels stage.outside (singleton left.player) few (λ s o. (stage.decides s).1 o)
+    (left_outside g.players levels left)
+    (no_solution_same p (stage_program family measure g levels stage.outside) stage.same none)
 no_fault family measure g levels p Unbounded few stage left bounded (solution, ray) =
-    bounded stage.outside (λ s o. (stage.decides s).0 o) (ray_same p (stage_program family measure g levels stage.outside) stage.same ray)
+    bounded stage.outside (λ s o. (stage.decides s).0 o)
+    (ray_same p (stage_program family measure g levels stage.outside) stage.same ray)
 
-pub best_of_answer : (family : Family) (measure : Measure) (g : Game) (levels : List Level) (p : Program) (ws : List (ℕ × ℤ)) (weight_den : ℤ) (m : List ℤ) (den : ℤ) → IsStage family measure g levels p → IsAnswer p ws weight_den m den → IsBest family measure g levels ws weight_den m den
+pub best_of_answer : (family : Family) (measure : Measure) (g : Game) (levels : List Level) (p : Program)
+    (ws : List (ℕ × ℤ)) (weight_den : ℤ) (m : List ℤ) (den : ℤ) → IsStage family measure g levels p
+    → IsAnswer p ws weight_den m den → IsBest family measure g levels ws weight_den m den
 best_of_answer family measure g levels p ws weight_den m den stage answer = record {
   outside = stage.outside;
   decides = stage.decides;
-  answer = answer_same p (stage_program family measure g levels stage.outside) stage.same ws weight_den m den answer;
+  answer =
+      answer_same p (stage_program family measure g levels stage.outside) stage.same ws weight_den m den answer;
 }

@@ -1,5 +1,6 @@
 -- A chain of optimal stages that fix everything certifies the shares of the last.
-use Rattle.std.proofs.Common.{◌≡◌, ◌⊎◌, ℕ, ◌^◌, ◌<◌, IsTrue, List, [], ◌∷◌, ◌++◌, length, map, ℤ, pos, ◌-ℤ◌, ◌*ℤ◌, ◌≤ℤ◌, refl, sym, ap, subst, ◌∙◌, inl, inr, arith, if◌then◌else◌}
+use Rattle.std.proofs.Common.{◌≡◌, ◌⊎◌, ℕ, ◌^◌, ◌<◌, IsTrue, List, [], ◌∷◌, ◌++◌, length, map, ℤ, pos, ◌-ℤ◌}
+use Rattle.std.proofs.Common.{◌*ℤ◌, ◌≤ℤ◌, refl, sym, ap, subst, ◌∙◌, inl, inr, arith, if◌then◌else◌}
 use Rattle.std.specs.List.{AllByRecursion}
 use Rattle.definitions.proofs.Ring.{linear, mul-leℤ, mul_assocℤ}
 use Rattle.definitions.proofs.Measured.{measured-same, measured-le}
@@ -8,7 +9,8 @@ use Rattle.definitions.proofs.Members.{sum_below-same, sum_over-grand_coalition}
 use Rattle.definitions.specs.Coalitions.{has_player, singleton, grand_coalition, sum_over}
 use Rattle.definitions.specs.Measures.{divisor, IsMeasurable}
 use Rattle.definitions.specs.Games.{Game, Allocation, share, amount, excess, IsAllocation, IsEfficient, InFamily}
-use Rattle.definitions.specs.Certificates.{Level, has_bound, IsAllFixed, HasExcess, LevelHolds, LevelsHold, Certifies}
+use Rattle.definitions.specs.Certificates.{Level, has_bound, IsAllFixed, HasExcess}
+use Rattle.definitions.specs.Certificates.{LevelHolds, LevelsHold, Certifies}
 use Rattle.definitions.specs.declared.Family.{Family}
 use Rattle.definitions.specs.declared.Measure.{Measure}
 use Rattle.definitions.specs.declared.Family.TheVariants.{Imputations, Preimputations}
@@ -17,81 +19,143 @@ use Rattle.separation.specs.Stage.{earlier_of}
 use Rattle.separation.specs.Shares.{IsReadFrom}
 use Rattle.nested_programs.specs.Reading.{reached, share_of, excess_of}
 use Rattle.nested_programs.specs.Chain.{Stage, StageHolds, levels_of, IsChain, last_of, HaveExcesses}
-use Rattle.nested_programs.proofs.Advance.{Reads, Settled_pairs, restrict, advance, append_assoc, earlier_of-more, BoundComes}
+use Rattle.nested_programs.proofs.Advance.{Reads, Settled_pairs, restrict, advance}
+use Rattle.nested_programs.proofs.Advance.{append_assoc, earlier_of-more, BoundComes}
 use Rattle.nested_programs.proofs.Form.{level_balanced, level_proper}
-use Rattle.nested_programs.proofs.Chain.{Past, past_none, past_more, outside_low, weighted_family, append_none, length_more}
+use Rattle.nested_programs.proofs.Chain.{Past, past_none, past_more, outside_low}
+use Rattle.nested_programs.proofs.Chain.{weighted_family, append_none, length_more}
 use Rattle.definitions.proofs.Alls.{all_left, all_right, all_weaken}
 
 -- the multipliers of the last stage settle all levels
-pub last_reads : (family : Family) (measure : Measure) (g : Game) (front : List Level) (t : Stage) (ts : List Stage) → StageHolds family measure g front t → IsChain family measure g (front ++ t.level ∷ []) ts → Reads family measure g ((front ++ t.level ∷ []) ++ levels_of ts) (last_of t ts).multipliers (last_of t ts).den
+pub last_reads : (family : Family) (measure : Measure) (g : Game) (front : List Level) (t : Stage) (ts : List Stage)
+    → StageHolds family measure g front t → IsChain family measure g (front ++ t.level ∷ []) ts
+    → Reads family measure g ((front ++ t.level ∷ []) ++ levels_of ts) (last_of t ts).multipliers (last_of t ts).den
 last_reads family measure g front t [] holds chain =
-    subst (λ z. Reads family measure g z t.multipliers t.den) (sym (append_none (front ++ t.level ∷ []))) (advance family measure g front t holds)
+    subst (λ z. Reads family measure g z t.multipliers t.den) (sym (append_none (front ++ t.level ∷ [])))
+    (advance family measure g front t holds)
 last_reads family measure g front t (t' ∷ ts) holds chain =
-    subst (λ z. Reads family measure g z (last_of t' ts).multipliers (last_of t' ts).den) (append_assoc (front ++ t.level ∷ []) (t'.level ∷ []) (levels_of ts)) (last_reads family measure g (front ++ t.level ∷ []) t' ts chain.0 chain.1)
+    subst (λ z. Reads family measure g z (last_of t' ts).multipliers (last_of t' ts).den)
+    (append_assoc (front ++ t.level ∷ []) (t'.level ∷ []) (levels_of ts))
+    (last_reads family measure g (front ++ t.level ∷ []) t' ts chain.0 chain.1)
 
 -- ---- shares
 
-pub amount_read : (g : Game) (m : List ℤ) (den : ℤ) (x : Allocation) (s : ℕ) → IsReadFrom g.players m den x → amount x s ≡ sum_over g.players (share_of m) s
+pub amount_read : (g : Game) (m : List ℤ) (den : ℤ) (x : Allocation) (s : ℕ) → IsReadFrom g.players m den x
+    → amount x s ≡ sum_over g.players (share_of m) s
 amount_read g m den x s read =
-    ap (λ (z : ℕ). sum_over z (share x) s) read.players ∙ sum_below-same g.players (λ i. if has_player s i then share x i else pos 0) (λ i. if has_player s i then share_of m i else pos 0) (λ i h. ap (λ z. if has_player s i then z else pos 0) (read.shares i h))
+    ap (λ (z : ℕ). sum_over z (share x) s) read.players
+    ∙ sum_below-same g.players (λ i. if has_player s i then share x i else pos 0)
+    (λ i. if has_player s i then share_of m i else pos 0)
+    (λ i h. ap (λ z. if has_player s i then z else pos 0) (read.shares i h))
 
-pub excess_read : (g : Game) (m : List ℤ) (den : ℤ) (x : Allocation) (s : ℕ) → IsReadFrom g.players m den x → excess g x s ≡ den *ℤ g.worth s -ℤ sum_over g.players (share_of m) s
+pub excess_read : (g : Game) (m : List ℤ) (den : ℤ) (x : Allocation) (s : ℕ) → IsReadFrom g.players m den x
+    → excess g x s ≡ den *ℤ g.worth s -ℤ sum_over g.players (share_of m) s
 excess_read g m den x s read =
     omega (arith, linear, amount_read g m den x s read, ap (λ z. z *ℤ g.worth s) read.common)
 
-read_alone : (g : Game) (m : List ℤ) (den : ℤ) (x : Allocation) (s : ℕ) → IsReadFrom g.players m den x → x.den *ℤ g.worth s ≡ den *ℤ g.worth s
+read_alone : (g : Game) (m : List ℤ) (den : ℤ) (x : Allocation) (s : ℕ) → IsReadFrom g.players m den x
+    → x.den *ℤ g.worth s ≡ den *ℤ g.worth s
 read_alone g m den x s read = ap (λ z. z *ℤ g.worth s) read.common
 
-in_family : (family : Family) (measure : Measure) (g : Game) (levels : List Level) (m : List ℤ) (den : ℤ) (x : Allocation) → IsReadFrom g.players m den x → Reads family measure g levels m den → InFamily family g x
+in_family : (family : Family) (measure : Measure) (g : Game) (levels : List Level) (m : List ℤ) (den : ℤ)
+    (x : Allocation) → IsReadFrom g.players m den x → Reads family measure g levels m den → InFamily family g x
 in_family family measure g levels m den x read r = by_family family r.single
   where
     allocation : IsAllocation g x
     allocation = (read.players, omega (arith, linear, r.positive, read.common))
 
     efficient : IsEfficient g x
-    efficient = amount_read g m den x (grand_coalition g.players) read ∙ sum_over-grand_coalition g.players (share_of m) ∙ r.whole ∙ sym (read_alone g m den x (grand_coalition g.players) read)
+    efficient =
+        amount_read g m den x (grand_coalition g.players) read ∙ sum_over-grand_coalition g.players (share_of m)
+        ∙ r.whole ∙ sym (read_alone g m den x (grand_coalition g.players) read)
 
-    by_family : (family : Family) → (family ≡ Imputations → (i : ℕ) → i < g.players → (den *ℤ g.worth (singleton i)) ≤ℤ share_of m i) → InFamily family g x
-    by_family Imputations single = (allocation, efficient, λ i h. omega (arith, linear, single refl i h, read.shares i h, read_alone g m den x (singleton i) read))
+    by_family : (family : Family)
+        → (family ≡ Imputations → (i : ℕ) → i < g.players → (den *ℤ g.worth (singleton i)) ≤ℤ share_of m i)
+        → InFamily family g x
+    by_family Imputations single = (
+      allocation,
+      efficient,
+      λ i h. omega (arith, linear, single refl i h, read.shares i h, read_alone g m den x (singleton i) read),
+    )
     by_family Preimputations single = (allocation, efficient)
 
 -- ---- a level
 
-has_excess : (a b num lden e den xden h : ℤ) → a ≡ b → b ≡ e *ℤ h → num *ℤ den ≡ e *ℤ lden → xden ≡ den → a *ℤ lden ≡ num *ℤ (xden *ℤ h)
+has_excess : (a b num lden e den xden h : ℤ) → a ≡ b → b ≡ e *ℤ h → num *ℤ den ≡ e *ℤ lden → xden ≡ den
+    → a *ℤ lden ≡ num *ℤ (xden *ℤ h)
 has_excess a b num lden e den xden h h1 h2 h3 h5 =
     ap (λ z. z *ℤ lden) (h1 ∙ h2) ∙ scaled e h lden num den h3 ∙ ap (λ z. num *ℤ (z *ℤ h)) (sym h5)
   where
     scaled : (e h lden num den : ℤ) → num *ℤ den ≡ e *ℤ lden → (e *ℤ h) *ℤ lden ≡ num *ℤ (den *ℤ h)
     scaled e h lden num den k =
-        mul_assocℤ e h lden ∙ ap (λ z. e *ℤ z) (*ℤ_comm h lden) ∙ sym (mul_assocℤ e lden h) ∙ ap (λ z. z *ℤ h) (sym k) ∙ mul_assocℤ num den h
+        mul_assocℤ e h lden ∙ ap (λ z. e *ℤ z) (*ℤ_comm h lden) ∙ sym (mul_assocℤ e lden h)
+        ∙ ap (λ z. z *ℤ h) (sym k) ∙ mul_assocℤ num den h
 
-has_at_most : (a num lden e den xden h : ℤ) → a ≤ℤ (e *ℤ h) → pos 1 ≤ℤ lden → num *ℤ den ≡ e *ℤ lden → xden ≡ den → (a *ℤ lden) ≤ℤ (num *ℤ (xden *ℤ h))
+has_at_most : (a num lden e den xden h : ℤ) → a ≤ℤ (e *ℤ h) → pos 1 ≤ℤ lden → num *ℤ den ≡ e *ℤ lden → xden ≡ den
+    → (a *ℤ lden) ≤ℤ (num *ℤ (xden *ℤ h))
 has_at_most a num lden e den xden h low one h3 h5 =
-    omega (arith, linear, mul-leℤ lden a (e *ℤ h) (omega (arith, linear, one)) low, *ℤ_comm lden a, *ℤ_comm lden (e *ℤ h), has_excess (e *ℤ h) (e *ℤ h) num lden e den xden h refl refl h3 h5)
+    omega (
+      arith,
+      linear,
+      mul-leℤ lden a (e *ℤ h) (omega (arith, linear, one)) low,
+      *ℤ_comm lden a,
+      *ℤ_comm lden (e *ℤ h),
+      has_excess (e *ℤ h) (e *ℤ h) num lden e den xden h refl refl h3 h5,
+    )
 
 -- the coalitions of a level have its excess by the measure
-excesses_of : (measure : Measure) (g : Game) (m : List ℤ) (den : ℤ) (x : Allocation) (l : Level) (k : ℕ) (cs : List (ℕ × ℤ)) → IsMeasurable measure g.players → IsReadFrom g.players m den x → l.excess_num *ℤ den ≡ excess_of g.players m k *ℤ l.excess_den → AllByRecursion (λ c. (0 < c.0) × (c.0 < grand_coalition g.players)) cs → Settled_pairs measure g m den (map (λ c. (c.0, k)) cs) → AllByRecursion (λ c. HasExcess measure g x l c.0) cs
+excesses_of : (measure : Measure) (g : Game) (m : List ℤ) (den : ℤ) (x : Allocation) (l : Level) (k : ℕ)
+    (cs : List (ℕ × ℤ)) → IsMeasurable measure g.players → IsReadFrom g.players m den x
+    → l.excess_num *ℤ den ≡ excess_of g.players m k *ℤ l.excess_den
+    → AllByRecursion (λ c. (0 < c.0) × (c.0 < grand_coalition g.players)) cs
+    → Settled_pairs measure g m den (map (λ c. (c.0, k)) cs) → AllByRecursion (λ c. HasExcess measure g x l c.0) cs
 excesses_of measure g m den x l k [] has read num proper h = tt
 excesses_of measure g m den x l k (c ∷ cs) has read num proper h =
     let d : ℤ = pos (divisor measure c.0) in
     let below : c.0 < 2 ^ g.players = (let p = proper.0.1 in omega (arith, p)) in
-    let plain = has_excess (excess g x c.0) (den *ℤ g.worth c.0 -ℤ sum_over g.players (share_of m) c.0) l.excess_num l.excess_den (excess_of g.players m k) den x.den d (excess_read g m den x c.0 read) (omega (arith, linear, h.0)) num read.common in
-    (measured-same measure g.players c.0 (excess g x c.0) x.den l.excess_num l.excess_den has proper.0.0 below plain, excesses_of measure g m den x l k cs has read num proper.1 h.1)
+    let plain =
+    has_excess (excess g x c.0) (den *ℤ g.worth c.0 -ℤ sum_over g.players (share_of m) c.0) l.excess_num
+    l.excess_den (excess_of g.players m k) den x.den d (excess_read g m den x c.0 read)
+    (omega (arith, linear, h.0)) num read.common in (
+      measured-same measure g.players c.0 (excess g x c.0) x.den l.excess_num l.excess_den has proper.0.0 below
+          plain,
+      excesses_of measure g m den x l k cs has read num proper.1 h.1,
+    )
 
-level_holds : (family : Family) (measure : Measure) (g : Game) (front : List Level) (t : Stage) (ts : List Stage) (m : List ℤ) (den : ℤ) (x : Allocation) → IsMeasurable measure g.players → Past family measure g front → StageHolds family measure g front t → IsChain family measure g (front ++ t.level ∷ []) ts → Reads family measure g ((front ++ t.level ∷ []) ++ levels_of ts) m den → IsAllFixed Span g.players ((front ++ t.level ∷ []) ++ levels_of ts) → IsReadFrom g.players m den x → t.level.excess_num *ℤ den ≡ excess_of g.players m (length front) *ℤ t.level.excess_den → pos 1 ≤ℤ t.level.excess_den → LevelHolds Span family measure g x front t.level
+level_holds : (family : Family) (measure : Measure) (g : Game) (front : List Level) (t : Stage) (ts : List Stage)
+    (m : List ℤ) (den : ℤ) (x : Allocation) → IsMeasurable measure g.players → Past family measure g front
+    → StageHolds family measure g front t → IsChain family measure g (front ++ t.level ∷ []) ts
+    → Reads family measure g ((front ++ t.level ∷ []) ++ levels_of ts) m den
+    → IsAllFixed Span g.players ((front ++ t.level ∷ []) ++ levels_of ts) → IsReadFrom g.players m den x
+    → t.level.excess_num *ℤ den ≡ excess_of g.players m (length front) *ℤ t.level.excess_den
+    → pos 1 ≤ℤ t.level.excess_den → LevelHolds Span family measure g x front t.level
 level_holds family measure g front t ts m den x has past holds chain r fixed read num lden =
     let n : ℕ = g.players in
     let near = restrict family measure g (front ++ t.level ∷ []) (levels_of ts) m den r in
     let far = restrict family measure g front (t.level ∷ []) m den near in
-    let pairs = all_right (λ c. den *ℤ g.worth c.0 ≡ reached measure n (share_of m) (excess_of n m) c.0 c.1) (earlier_of 0 front) (map (λ c. (c.0, length front)) t.level.coalitions ++ []) (subst (Settled_pairs measure g m den) (earlier_of-more front t.level) near.settled) in
-    let mine = all_left (λ c. den *ℤ g.worth c.0 ≡ reached measure n (share_of m) (excess_of n m) c.0 c.1) (map (λ c. (c.0, length front)) t.level.coalitions) [] pairs in
-    let at : (i : ℕ) → i < n → share_of m i ≡ den *ℤ g.worth (singleton i) → share x i ≡ x.den *ℤ g.worth (singleton i) = λ i h e. read.shares i h ∙ e ∙ sym (read_alone g m den x (singleton i) read) in
+    let pairs =
+    all_right (λ c. den *ℤ g.worth c.0 ≡ reached measure n (share_of m) (excess_of n m) c.0 c.1)
+    (earlier_of 0 front) (map (λ c. (c.0, length front)) t.level.coalitions ++ [])
+    (subst (Settled_pairs measure g m den) (earlier_of-more front t.level) near.settled) in
+    let mine =
+    all_left (λ c. den *ℤ g.worth c.0 ≡ reached measure n (share_of m) (excess_of n m) c.0 c.1)
+    (map (λ c. (c.0, length front)) t.level.coalitions) [] pairs in
+    let at : (i : ℕ) → i < n → share_of m i ≡ den *ℤ g.worth (singleton i)
+    → share x i ≡ x.den *ℤ g.worth (singleton i) =
+    λ i h e. read.shares i h ∙ e ∙ sym (read_alone g m den x (singleton i) read) in
     record {
-      excesses = excesses_of measure g m den x t.level (length front) t.level.coalitions has read num (level_proper family measure g front t holds) mine;
+      excesses =
+          excesses_of measure g m den x t.level (length front) t.level.coalitions has read num
+          (level_proper family measure g front t holds) mine;
       weights = all_weaken _ (λ c. pos 1 ≤ℤ c.1) t.level.coalitions (λ c h. h.0) holds.follows.coalitions;
-      bound_weights = all_weaken (BoundComes family g front t.weights) (λ b. (pos 1 ≤ℤ b.1) ⊎ IsTrue (has_bound front b.0)) t.level.bounds (λ b h. elim h.1 [ inl fresh ↦ inl fresh.0 | inr known ↦ inr known.1 ]) holds.follows.bounds;
+      bound_weights =
+          all_weaken (BoundComes family g front t.weights) (λ b. (pos 1 ≤ℤ b.1) ⊎ IsTrue (has_bound front b.0))
+          t.level.bounds (λ b h. elim h.1 [ inl fresh ↦ inl fresh.0 | inr known ↦ inr known.1 ])
+          holds.follows.bounds;
       balanced = level_balanced family measure g front t holds;
-      tight = all_weaken (BoundComes family g front t.weights) (λ b. (share x b.0 ≡ x.den *ℤ g.worth (singleton b.0)) × (family ≡ Imputations)) t.level.bounds
+      tight =
+          all_weaken (BoundComes family g front t.weights)
+          (λ b. (share x b.0 ≡ x.den *ℤ g.worth (singleton b.0)) × (family ≡ Imputations)) t.level.bounds
           (λ b h. elim h.1 [
             | inl fresh ↦
                 let f = weighted_family family measure g front t holds b.0 h.0 fresh.1 in
@@ -100,25 +164,45 @@ level_holds family measure g front t ts m den x has past holds chain r fixed rea
           ])
           holds.follows.bounds;
       outside = λ s h o.
-          (let low = outside_low family measure g front t ts m den past holds chain r fixed s ((holds.decides s).1 o) in
+          (let low =
+          outside_low family measure g front t ts m den past holds chain r fixed s ((holds.decides s).1 o) in
           let e = excess_read g m den x s read in
-          let plain = has_at_most (excess g x s) t.level.excess_num t.level.excess_den (excess_of n m (length front)) den x.den (pos (divisor measure s)) (omega (arith, linear, low, e)) lden num read.common in
-          measured-le measure n s (excess g x s) x.den t.level.excess_num t.level.excess_den has o.0 (omega (arith, o.1)) plain);
+          let plain =
+          has_at_most (excess g x s) t.level.excess_num t.level.excess_den (excess_of n m (length front)) den
+          x.den (pos (divisor measure s)) (omega (arith, linear, low, e)) lden num read.common in
+          measured-le measure n s (excess g x s) x.den t.level.excess_num t.level.excess_den has o.0
+          (omega (arith, o.1)) plain);
     }
 
-levels_hold : (family : Family) (measure : Measure) (g : Game) (front : List Level) (ts : List Stage) (m : List ℤ) (den : ℤ) (x : Allocation) → IsMeasurable measure g.players → Past family measure g front → IsChain family measure g front ts → Reads family measure g (front ++ levels_of ts) m den → IsAllFixed Span g.players (front ++ levels_of ts) → IsReadFrom g.players m den x → HaveExcesses g m den (length front) (levels_of ts) → LevelsHold Span family measure g x front (levels_of ts)
-levels_hold family measure g front [] m den x has past chain r fixed read excesses = subst (IsAllFixed Span g.players) (append_none front) fixed
+levels_hold : (family : Family) (measure : Measure) (g : Game) (front : List Level) (ts : List Stage) (m : List ℤ)
+    (den : ℤ) (x : Allocation) → IsMeasurable measure g.players → Past family measure g front
+    → IsChain family measure g front ts → Reads family measure g (front ++ levels_of ts) m den
+    → IsAllFixed Span g.players (front ++ levels_of ts) → IsReadFrom g.players m den x
+    → HaveExcesses g m den (length front) (levels_of ts) → LevelsHold Span family measure g x front (levels_of ts)
+levels_hold family measure g front [] m den x has past chain r fixed read excesses =
+    subst (IsAllFixed Span g.players) (append_none front) fixed
 levels_hold family measure g front (t ∷ ts) m den x has past chain r fixed read excesses =
-    let shift : (front ++ t.level ∷ []) ++ levels_of ts ≡ front ++ t.level ∷ levels_of ts = append_assoc front (t.level ∷ []) (levels_of ts) in
+    let shift : (front ++ t.level ∷ []) ++ levels_of ts ≡ front ++ t.level ∷ levels_of ts =
+    append_assoc front (t.level ∷ []) (levels_of ts) in
     let r' = subst (λ z. Reads family measure g z m den) (sym shift) r in
     let fixed' = subst (IsAllFixed Span g.players) (sym shift) fixed in (
       level_holds family measure g front t ts m den x has past chain.0 chain.1 r' fixed' read excesses.0 excesses.1,
-      levels_hold family measure g (front ++ t.level ∷ []) ts m den x has (past_more family measure g front t past chain.0) chain.1 r' fixed' read (subst (λ (z : ℕ). HaveExcesses g m den z (levels_of ts)) (sym (length_more front t.level)) excesses.2),
+      levels_hold family measure g (front ++ t.level ∷ []) ts m den x has
+          (past_more family measure g front t past chain.0) chain.1 r' fixed' read
+          (subst (λ (z : ℕ). HaveExcesses g m den z (levels_of ts)) (sym (length_more front t.level)) excesses.2),
     )
 
-pub chain_certified : (family : Family) (measure : Measure) (g : Game) (t : Stage) (ts : List Stage) (x : Allocation) → IsMeasurable measure g.players → IsChain family measure g [] (t ∷ ts) → IsAllFixed Span g.players (levels_of (t ∷ ts)) → IsReadFrom g.players (last_of t ts).multipliers (last_of t ts).den x → HaveExcesses g (last_of t ts).multipliers (last_of t ts).den 0 (levels_of (t ∷ ts)) → Certifies Span family measure g x (levels_of (t ∷ ts))
+pub chain_certified : (family : Family) (measure : Measure) (g : Game) (t : Stage) (ts : List Stage)
+    (x : Allocation) → IsMeasurable measure g.players → IsChain family measure g [] (t ∷ ts)
+    → IsAllFixed Span g.players (levels_of (t ∷ ts))
+    → IsReadFrom g.players (last_of t ts).multipliers (last_of t ts).den x
+    → HaveExcesses g (last_of t ts).multipliers (last_of t ts).den 0 (levels_of (t ∷ ts))
+    → Certifies Span family measure g x (levels_of (t ∷ ts))
 chain_certified family measure g t ts x has chain fixed read excesses =
     let m : List ℤ = (last_of t ts).multipliers in
     let den : ℤ = (last_of t ts).den in
-    let r : Reads family measure g (levels_of (t ∷ ts)) m den = last_reads family measure g [] t ts chain.0 chain.1 in
-    (in_family family measure g (levels_of (t ∷ ts)) m den x read r, levels_hold family measure g [] (t ∷ ts) m den x has (past_none family measure g) chain r fixed read excesses)
+    let r : Reads family measure g (levels_of (t ∷ ts)) m den =
+    last_reads family measure g [] t ts chain.0 chain.1 in (
+      in_family family measure g (levels_of (t ∷ ts)) m den x read r,
+      levels_hold family measure g [] (t ∷ ts) m den x has (past_none family measure g) chain r fixed read excesses,
+    )

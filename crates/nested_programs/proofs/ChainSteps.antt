@@ -1,5 +1,6 @@
 -- A chain of stages with one stage more behind it.
-use Rattle.std.proofs.Common.{◌≡◌, ℕ, ◌+◌, List, [], ◌∷◌, ◌++◌, length, pos, ◌*ℤ◌, ◌≤ℤ◌, Some, refl, sym, ap, subst, ◌∙◌, arith}
+use Rattle.std.proofs.Common.{◌≡◌, ℕ, ◌+◌, List, [], ◌∷◌, ◌++◌, length, pos, ◌*ℤ◌, ◌≤ℤ◌}
+use Rattle.std.proofs.Common.{Some, refl, sym, ap, subst, ◌∙◌, arith}
 use Rattle.definitions.specs.Games.{Game}
 use Rattle.definitions.specs.Certificates.{Level}
 use Rattle.definitions.specs.declared.Family.{Family}
@@ -12,10 +13,16 @@ use Rattle.nested_programs.proofs.Advance.{append_assoc}
 use Rattle.nested_programs.proofs.Chain.{append_none}
 
 -- a stage that holds behind the levels of a chain
-pub chain_more : (family : Family) (measure : Measure) (g : Game) (front : List Level) (ts : List Stage) (t : Stage) → IsChain family measure g front ts → StageHolds family measure g (front ++ levels_of ts) t → IsChain family measure g front (ts ++ t ∷ [])
-chain_more family measure g front [] t h k = (subst (λ z. StageHolds family measure g z t) (append_none front) k, tt)
-chain_more family measure g front (u ∷ ts) t h k =
-    (h.0, chain_more family measure g (front ++ u.level ∷ []) ts t h.1 (subst (λ z. StageHolds family measure g z t) (sym (append_assoc front (u.level ∷ []) (levels_of ts))) k))
+pub chain_more : (family : Family) (measure : Measure) (g : Game) (front : List Level) (ts : List Stage) (t : Stage)
+    → IsChain family measure g front ts → StageHolds family measure g (front ++ levels_of ts) t
+    → IsChain family measure g front (ts ++ t ∷ [])
+chain_more family measure g front [] t h k =
+    (subst (λ z. StageHolds family measure g z t) (append_none front) k, tt)
+chain_more family measure g front (u ∷ ts) t h k = (
+  h.0,
+  chain_more family measure g (front ++ u.level ∷ []) ts t h.1
+      (subst (λ z. StageHolds family measure g z t) (sym (append_assoc front (u.level ∷ []) (levels_of ts))) k),
+)
 
 pub levels_more : (ts : List Stage) (t : Stage) → levels_of (ts ++ t ∷ []) ≡ levels_of ts ++ t.level ∷ []
 levels_more [] t = refl
@@ -27,9 +34,11 @@ levels_count (t ∷ ts) = let ih = levels_count ts in omega (arith, ih)
 
 abbrev OwnExcess : Game → ℕ → Stage → Type 0
 OwnExcess g k t =
-    (t.level.excess_num *ℤ t.den ≡ excess_of g.players t.multipliers k *ℤ t.level.excess_den) × (pos 1 ≤ℤ t.level.excess_den)
+    (t.level.excess_num *ℤ t.den ≡ excess_of g.players t.multipliers k *ℤ t.level.excess_den)
+    × (pos 1 ≤ℤ t.level.excess_den)
 
-pub own_more : (g : Game) (k : ℕ) (ts : List Stage) (t : Stage) → OwnExcesses g k ts → OwnExcess g (k + length ts) t → OwnExcesses g k (ts ++ t ∷ [])
+pub own_more : (g : Game) (k : ℕ) (ts : List Stage) (t : Stage) → OwnExcesses g k ts → OwnExcess g (k + length ts) t
+    → OwnExcesses g k (ts ++ t ∷ [])
 own_more g k [] t h own =
     let e : k + 0 ≡ k = omega arith in
     let here : OwnExcess g k t = subst (λ (j : ℕ). OwnExcess g j t) e own in
@@ -43,7 +52,8 @@ last_behind u [] t = refl
 last_behind u (v ∷ ts) t = last_behind v ts t
 
 -- the last stage is the new one
-pub last_more : (ts : List Stage) (t : Stage) (m : Multipliers) → t.multipliers ≡ m.num.items → t.den ≡ m.den → AreLast (ts ++ t ∷ []) (Some m)
+pub last_more : (ts : List Stage) (t : Stage) (m : Multipliers) → t.multipliers ≡ m.num.items → t.den ≡ m.den
+    → AreLast (ts ++ t ∷ []) (Some m)
 last_more [] t m e h = (e, h)
 last_more (u ∷ ts) t m e h =
     (ap (λ (s : Stage). s.multipliers) (last_behind u ts t) ∙ e, ap (λ (s : Stage). s.den) (last_behind u ts t) ∙ h)

@@ -1,13 +1,16 @@
 -- The part of a column's number in the sums of a level at a player is the entry of the column in the player's row.
 --
---   parts    the part of a number in the coalitions outside, in the earlier ones, all players first, and in the bounds
-use Rattle.std.proofs.Common.{◌≡◌, ◌≢◌, ℕ, zero, suc, ◌+◌, ◌-◌, ◌*◌, ◌<◌, ◌≤◌, Bool, true, false, cond, List, [], ◌∷◌, length, ℤ, pos, ◌+ℤ◌, ◌-ℤ◌, refl, sym, ap, ◌∙◌, inl, inr, arith, nat_eq, nat_lt, nat_le, if◌then◌else◌, slice_index_or}
+-- parts the part of a number in the coalitions outside, in the earlier ones, all players first, and in the bounds
+use Rattle.std.proofs.Common.{◌≡◌, ◌≢◌, ℕ, zero, suc, ◌+◌, ◌-◌, ◌*◌, ◌<◌, ◌≤◌, Bool, true, false, cond}
+use Rattle.std.proofs.Common.{List, [], ◌∷◌, length, ℤ, pos, ◌+ℤ◌, ◌-ℤ◌, refl, sym, ap, ◌∙◌, inl, inr}
+use Rattle.std.proofs.Common.{arith, nat_eq, nat_lt, nat_le, if◌then◌else◌, slice_index_or}
 use Rattle.std.proofs.lemmas.Bool.Decides.{nat_tests}
 use Rattle.definitions.proofs.Ring.{linear}
 use Rattle.definitions.specs.Coalitions.{has_player, singleton, grand_coalition}
 use Rattle.definitions.specs.declared.Measure.{Measure}
 use Rattle.definitions.specs.Certificates.{Level}
-use Rattle.separation.specs.Stage.{plus_entry, entry_of, earlier_of, doubled, settled_columns, no_column, further_column, column}
+use Rattle.separation.specs.Stage.{plus_entry, entry_of, earlier_of, doubled}
+use Rattle.separation.specs.Stage.{settled_columns, no_column, further_column, column}
 use Rattle.nested_programs.specs.Numbers.{first_single}
 use Rattle.nested_programs.proofs.Advance.{column_further, column_single}
 use Rattle.nested_programs.proofs.Form.{entry_outer, entry_single}
@@ -25,10 +28,13 @@ settled_length n front =
     let long = doubled_length ((grand_coalition n, length front + 1) ∷ earlier_of 0 front) in
     omega (arith, long)
 
-pub bound_column : (n : ℕ) (front : List Level) (p : ℕ) → p < n → column n front (length (settled_columns n front) + (n + p)) ≡ record { mask = singleton p; row = length front + 1; minus = true }
+pub bound_column : (n : ℕ) (front : List Level) (p : ℕ) → p < n
+    → column n front (length (settled_columns n front) + (n + p))
+    ≡ record { mask = singleton p; row = length front + 1; minus = true }
 bound_column n front p h = column_further n front (n + p) ∙ kind
   where
-    kind : further_column n (length front) (n + p) ≡ record { mask = singleton p; row = length front + 1; minus = true }
+    kind : further_column n (length front) (n + p)
+        ≡ record { mask = singleton p; row = length front + 1; minus = true }
     kind =
         let t : nat_lt (n + p) n ≡ false = grind (arith, nat_tests) in
         let u : nat_lt (n + p) (n + n) ≡ true = grind (arith, nat_tests) in
@@ -83,7 +89,8 @@ same_shift a b c d false t up down = elim (true_or_false (nat_eq c d)) [
 
 is_at-shift : (first i p : ℕ) → is_at (first + i) (first + p) ≡ (if nat_eq p i then pos 1 else pos 0)
 is_at-shift first i p =
-    ap (λ (b : Bool). cond b (pos 1) (pos 0)) (same_shift p i (first + p) (first + i) (nat_eq p i) refl (λ e. omega arith) (λ e. omega arith))
+    ap (λ (b : Bool). cond b (pos 1) (pos 0))
+    (same_shift p i (first + p) (first + i) (nat_eq p i) refl (λ e. omega arith) (λ e. omega arith))
 
 outer_part-before : (first i id : ℕ) → id < first → outer_part first i id ≡ pos 0
 outer_part-before first i id h = let t : nat_le first id ≡ false = grind (arith, nat_tests) in rw t refl
@@ -109,24 +116,48 @@ pair_part-minus false id k h = refl
 earlier_part-before : (i id : ℕ) (cs : List (ℕ × ℕ)) (k : ℕ) → k < id → earlier_part i id cs k ≡ pos 0
 earlier_part-before i id [] k h = refl
 earlier_part-before i id (c ∷ cs) k h =
-    omega (arith, linear, pair_part-other (has_player c.0 i) id k (λ e. omega arith) (λ e. omega arith), earlier_part-before i (id + 2) cs k (omega arith))
+    omega (
+      arith,
+      linear,
+      pair_part-other (has_player c.0 i) id k (λ e. omega arith) (λ e. omega arith),
+      earlier_part-before i (id + 2) cs k (omega arith),
+    )
 
 earlier_part-past : (i id : ℕ) (cs : List (ℕ × ℕ)) (k : ℕ) → id + 2 * length cs ≤ k → earlier_part i id cs k ≡ pos 0
 earlier_part-past i id [] k h = refl
 earlier_part-past i id (c ∷ cs) k h =
-    omega (arith, linear, pair_part-other (has_player c.0 i) id k (λ e. omega arith) (λ e. omega arith), earlier_part-past i (id + 2) cs k (omega arith))
+    omega (
+      arith,
+      linear,
+      pair_part-other (has_player c.0 i) id k (λ e. omega arith) (λ e. omega arith),
+      earlier_part-past i (id + 2) cs k (omega arith),
+    )
 
 -- ---- the settled columns
 
-row_entry : (measure : Measure) (n mask row i : ℕ) → i < n → plus_entry measure n mask row i ≡ (if has_player mask i then pos 1 else pos 0)
+row_entry : (measure : Measure) (n mask row i : ℕ) → i < n
+    → plus_entry measure n mask row i ≡ (if has_player mask i then pos 1 else pos 0)
 row_entry measure n mask row i h = let t : nat_lt i n ≡ true = grind (arith, nat_tests) in rw t refl
 
-earlier_entry : (measure : Measure) (n i : ℕ) → i < n → (id : ℕ) (cs : List (ℕ × ℕ)) (j : ℕ) → j < 2 * length cs → earlier_part i id cs (id + j) ≡ entry_of measure n (slice_index_or (doubled cs) j no_column) i
+earlier_entry : (measure : Measure) (n i : ℕ) → i < n → (id : ℕ) (cs : List (ℕ × ℕ)) (j : ℕ) → j < 2 * length cs
+    → earlier_part i id cs (id + j) ≡ entry_of measure n (slice_index_or (doubled cs) j no_column) i
 earlier_entry measure n i h id [] j lt = absurd (omega arith)
 earlier_entry measure n i h id (c ∷ cs) zero lt =
-    omega (arith, linear, pair_part-plus (has_player c.0 i) id (id + zero) (omega arith), earlier_part-before i (id + 2) cs (id + zero) (omega arith), row_entry measure n c.0 c.1 i h)
+    omega (
+      arith,
+      linear,
+      pair_part-plus (has_player c.0 i) id (id + zero) (omega arith),
+      earlier_part-before i (id + 2) cs (id + zero) (omega arith),
+      row_entry measure n c.0 c.1 i h,
+    )
 earlier_entry measure n i h id (c ∷ cs) (suc zero) lt =
-    omega (arith, linear, pair_part-minus (has_player c.0 i) id (id + suc zero) (omega arith), earlier_part-before i (id + 2) cs (id + suc zero) (omega arith), row_entry measure n c.0 c.1 i h)
+    omega (
+      arith,
+      linear,
+      pair_part-minus (has_player c.0 i) id (id + suc zero) (omega arith),
+      earlier_part-before i (id + 2) cs (id + suc zero) (omega arith),
+      row_entry measure n c.0 c.1 i h,
+    )
 earlier_entry measure n i h id (c ∷ cs) (suc (suc j)) lt =
     let e : id + suc (suc j) ≡ id + 2 + j = omega arith in
     let none = pair_part-other (has_player c.0 i) id (id + suc (suc j)) (λ e. omega arith) (λ e. omega arith) in
@@ -137,49 +168,96 @@ earlier_entry measure n i h id (c ∷ cs) (suc (suc j)) lt =
 
 abbrev pub parts : ℕ → ℕ → List (ℕ × ℕ) → ℕ → ℕ → ℤ
 parts n first cs i id =
-    outer_part (first + (n + n)) i id +ℤ earlier_part i 0 cs id +ℤ (is_at (first + i) id -ℤ is_at (first + i + n) id)
+    outer_part (first + (n + n)) i id +ℤ earlier_part i 0 cs id
+    +ℤ (is_at (first + i) id -ℤ is_at (first + i + n) id)
 
-parts-settled : (measure : Measure) (n first : ℕ) (cs : List (ℕ × ℕ)) (i id : ℕ) → first ≡ 2 * length cs → i < n → id < first → parts n first cs i id ≡ entry_of measure n (slice_index_or (doubled cs) id no_column) i
+parts-settled : (measure : Measure) (n first : ℕ) (cs : List (ℕ × ℕ)) (i id : ℕ) → first ≡ 2 * length cs → i < n
+    → id < first → parts n first cs i id ≡ entry_of measure n (slice_index_or (doubled cs) id no_column) i
 parts-settled measure n first cs i id long h lt =
     let e : 0 + id ≡ id = omega arith in
     let within = earlier_entry measure n i h 0 cs id (omega arith) in
-    omega (arith, linear, outer_part-before (first + (n + n)) i id (omega arith), ap (λ (k : ℕ). earlier_part i 0 cs k) e, within, is_at-other (first + i) id (λ e. omega arith), is_at-other (first + i + n) id (λ e. omega arith))
+    omega (
+      arith,
+      linear,
+      outer_part-before (first + (n + n)) i id (omega arith),
+      ap (λ (k : ℕ). earlier_part i 0 cs k) e,
+      within,
+      is_at-other (first + i) id (λ e. omega arith),
+      is_at-other (first + i + n) id (λ e. omega arith),
+    )
 
-parts-alone : (n first : ℕ) (cs : List (ℕ × ℕ)) (i p : ℕ) → first ≡ 2 * length cs → p < n → parts n first cs i (first + p) ≡ (if nat_eq p i then pos 1 else pos 0)
+parts-alone : (n first : ℕ) (cs : List (ℕ × ℕ)) (i p : ℕ) → first ≡ 2 * length cs → p < n
+    → parts n first cs i (first + p) ≡ (if nat_eq p i then pos 1 else pos 0)
 parts-alone n first cs i p long h =
-    omega (arith, linear, outer_part-before (first + (n + n)) i (first + p) (omega arith), earlier_part-past i 0 cs (first + p) (omega arith), is_at-shift first i p, is_at-other (first + i + n) (first + p) (λ e. omega arith))
+    omega (
+      arith,
+      linear,
+      outer_part-before (first + (n + n)) i (first + p) (omega arith),
+      earlier_part-past i 0 cs (first + p) (omega arith),
+      is_at-shift first i p,
+      is_at-other (first + i + n) (first + p) (λ e. omega arith),
+    )
 
-parts-negated : (n first : ℕ) (cs : List (ℕ × ℕ)) (i p : ℕ) → first ≡ 2 * length cs → i < n → p < n → parts n first cs i (first + (n + p)) ≡ pos 0 -ℤ (if nat_eq p i then pos 1 else pos 0)
+parts-negated : (n first : ℕ) (cs : List (ℕ × ℕ)) (i p : ℕ) → first ≡ 2 * length cs → i < n → p < n
+    → parts n first cs i (first + (n + p)) ≡ pos 0 -ℤ (if nat_eq p i then pos 1 else pos 0)
 parts-negated n first cs i p long h h' =
     let e : first + (n + p) ≡ first + n + p = omega arith in
     let e' : first + i + n ≡ first + n + i = omega arith in
     let moved = ap (λ (k : ℕ). is_at k (first + (n + p))) e' ∙ ap (λ (k : ℕ). is_at (first + n + i) k) e in
-    omega (arith, linear, outer_part-before (first + (n + n)) i (first + (n + p)) (omega arith), earlier_part-past i 0 cs (first + (n + p)) (omega arith), is_at-other (first + i) (first + (n + p)) (λ e. omega arith), moved, is_at-shift (first + n) i p)
+    omega (
+      arith,
+      linear,
+      outer_part-before (first + (n + n)) i (first + (n + p)) (omega arith),
+      earlier_part-past i 0 cs (first + (n + p)) (omega arith),
+      is_at-other (first + i) (first + (n + p)) (λ e. omega arith),
+      moved,
+      is_at-shift (first + n) i p,
+    )
 
-parts-outer : (n first : ℕ) (cs : List (ℕ × ℕ)) (i s : ℕ) → first ≡ 2 * length cs → i < n → parts n first cs i (first + (n + n + s)) ≡ (if has_player s i then pos 1 else pos 0)
+parts-outer : (n first : ℕ) (cs : List (ℕ × ℕ)) (i s : ℕ) → first ≡ 2 * length cs → i < n
+    → parts n first cs i (first + (n + n + s)) ≡ (if has_player s i then pos 1 else pos 0)
 parts-outer n first cs i s long h =
     let e : first + (n + n + s) ≡ first + (n + n) + s = omega arith in
-    omega (arith, linear, ap (λ (k : ℕ). outer_part (first + (n + n)) i k) e, outer_part-at (first + (n + n)) i s, earlier_part-past i 0 cs (first + (n + n + s)) (omega arith), is_at-other (first + i) (first + (n + n + s)) (λ e. omega arith), is_at-other (first + i + n) (first + (n + n + s)) (λ e. omega arith))
+    omega (
+      arith,
+      linear,
+      ap (λ (k : ℕ). outer_part (first + (n + n)) i k) e,
+      outer_part-at (first + (n + n)) i s,
+      earlier_part-past i 0 cs (first + (n + n + s)) (omega arith),
+      is_at-other (first + i) (first + (n + n + s)) (λ e. omega arith),
+      is_at-other (first + i + n) (first + (n + n + s)) (λ e. omega arith),
+    )
 
 -- ---- the entries
 
-entry_settled : (measure : Measure) (n : ℕ) (front : List Level) (id i : ℕ) → id < length (settled_columns n front) → entry_of measure n (column n front id) i ≡ entry_of measure n (slice_index_or (settled_columns n front) id no_column) i
-entry_settled measure n front id i h = let t : nat_lt id (length (settled_columns n front)) ≡ true = grind (arith, nat_tests) in rw t refl
+entry_settled : (measure : Measure) (n : ℕ) (front : List Level) (id i : ℕ) → id < length (settled_columns n front)
+    → entry_of measure n (column n front id) i
+    ≡ entry_of measure n (slice_index_or (settled_columns n front) id no_column) i
+entry_settled measure n front id i h =
+    let t : nat_lt id (length (settled_columns n front)) ≡ true = grind (arith, nat_tests) in rw t refl
 
-entry_negated : (measure : Measure) (n : ℕ) (front : List Level) (p i : ℕ) → p < n → i < n → entry_of measure n (column n front (length (settled_columns n front) + (n + p))) i ≡ pos 0 -ℤ (if nat_eq p i then pos 1 else pos 0)
+entry_negated : (measure : Measure) (n : ℕ) (front : List Level) (p i : ℕ) → p < n → i < n
+    → entry_of measure n (column n front (length (settled_columns n front) + (n + p))) i
+    ≡ pos 0 -ℤ (if nat_eq p i then pos 1 else pos 0)
 entry_negated measure n front p i k h =
-    let plus = sym (ap (λ c. entry_of measure n c i) (column_single n front p k)) ∙ entry_single measure n front p i k h in
+    let plus =
+    sym (ap (λ c. entry_of measure n c i) (column_single n front p k)) ∙ entry_single measure n front p i k h in
     ap (λ c. entry_of measure n c i) (bound_column n front p k) ∙ ap (λ z. pos 0 -ℤ z) plus
 
 -- the coalition of all players, then those of the levels in front
 abbrev pub settled_pairs : ℕ → List Level → List (ℕ × ℕ)
 settled_pairs n front = (grand_coalition n, length front + 1) ∷ earlier_of 0 front
 
-entry_parts : (measure : Measure) (n : ℕ) (front : List Level) (i id : ℕ) → i < n → Kind (length (settled_columns n front)) n id → parts n (length (settled_columns n front)) (settled_pairs n front) i id ≡ entry_of measure n (column n front id) i
+entry_parts : (measure : Measure) (n : ℕ) (front : List Level) (i id : ℕ) → i < n
+    → Kind (length (settled_columns n front)) n id
+    → parts n (length (settled_columns n front)) (settled_pairs n front) i id
+    ≡ entry_of measure n (column n front id) i
 entry_parts measure n front i id h kind = elim kind [
   | settled lt ↦ parts-settled measure n len cs i id long h lt ∙ sym (entry_settled measure n front id i lt)
-  | alone p lt e ↦ ap part e ∙ parts-alone n len cs i p long lt ∙ sym (ap entry e ∙ entry_single measure n front p i lt h)
-  | negated p lt e ↦ ap part e ∙ parts-negated n len cs i p long h lt ∙ sym (ap entry e ∙ entry_negated measure n front p i lt h)
+  | alone p lt e ↦ ap part e ∙ parts-alone n len cs i p long lt
+      ∙ sym (ap entry e ∙ entry_single measure n front p i lt h)
+  | negated p lt e ↦ ap part e ∙ parts-negated n len cs i p long h lt
+      ∙ sym (ap entry e ∙ entry_negated measure n front p i lt h)
   | outer s e ↦ ap part e ∙ parts-outer n len cs i s long h ∙ sym (ap entry e ∙ entry_outer measure n front s i h)
 ]
   where
@@ -199,6 +277,8 @@ entry_parts measure n front i id h kind = elim kind [
     entry k = entry_of measure n (column n front k) i
 
 -- each number's part is the entry of its column
-pub column_parts : (measure : Measure) (n : ℕ) (front : List Level) (i id : ℕ) → i < n → parts n (first_single front) (settled_pairs n front) i id ≡ entry_of measure n (column n front id) i
+pub column_parts : (measure : Measure) (n : ℕ) (front : List Level) (i id : ℕ) → i < n
+    → parts n (first_single front) (settled_pairs n front) i id ≡ entry_of measure n (column n front id) i
 column_parts measure n front i id h =
-    ap (λ (k : ℕ). parts n k (settled_pairs n front) i id) (sym (settled_length n front)) ∙ entry_parts measure n front i id h (kind_of (length (settled_columns n front)) n id)
+    ap (λ (k : ℕ). parts n k (settled_pairs n front) i id) (sym (settled_length n front))
+    ∙ entry_parts measure n front i id h (kind_of (length (settled_columns n front)) n id)

@@ -1,5 +1,7 @@
 -- A level has no more entries than its stage has weights: each entry has a column of its own.
-use Rattle.std.proofs.Common.{◌≡◌, ◌≢◌, ◌⊎◌, ℕ, zero, suc, ◌+◌, ◌-◌, ◌*◌, ◌≤◌, Bool, true, false, cond, nat_eq, nat_le, List, [], ◌∷◌, length, ℤ, pos, ◌+ℤ◌, refl, sym, ap, ◌∙◌, inl, inr, arith, if◌then◌else◌}
+use Rattle.std.proofs.Common.{◌≡◌, ◌≢◌, ◌⊎◌, ℕ, zero, suc, ◌+◌, ◌-◌, ◌*◌, ◌≤◌, Bool, true, false}
+use Rattle.std.proofs.Common.{cond, nat_eq, nat_le, List, [], ◌∷◌, length, ℤ, pos, ◌+ℤ◌, refl}
+use Rattle.std.proofs.Common.{sym, ap, ◌∙◌, inl, inr, arith, if◌then◌else◌}
 use Rattle.std.proofs.lemmas.Bool.{false≢true}
 use Rattle.std.proofs.lemmas.Bool.Decides.{nat_tests, Decides-int_eq}
 use Rattle.std.proofs.lemmas.List.{length-append}
@@ -10,7 +12,8 @@ use Rattle.kohlberg.specs.Pairs.{with_pair, placed_behind}
 use Rattle.kohlberg.proofs.WithPair.{length-with_pair}
 use Rattle.separation.specs.Stage.{earlier_of}
 use Rattle.nested_programs.specs.Answer.{IsShort}
-use Rattle.nested_programs.specs.Numbers.{first_single, outer_pairs, net, kept, earlier_pairs, bound_pairs, IsLevelOf}
+use Rattle.nested_programs.specs.Numbers.{first_single, outer_pairs, net, kept}
+use Rattle.nested_programs.specs.Numbers.{earlier_pairs, bound_pairs, IsLevelOf}
 use Rattle.definitions.proofs.Cases.{true_or_false}
 
 -- ---- weights from a column on
@@ -39,7 +42,9 @@ next_test k i h = grind (arith, nat_tests)
 
 count_next : (k : ℕ) (ws : List (ℕ × ℤ)) → count_from (k + 1) ws + 0 ≤ count_from k ws
 count_next k [] = omega arith
-count_next k (w ∷ ws) = bit_next (nat_le k w.0) (nat_le (k + 1) w.0) 0 (count_from k ws) (count_from (k + 1) ws) (next_test k w.0) (count_next k ws)
+count_next k (w ∷ ws) =
+    bit_next (nat_le k w.0) (nat_le (k + 1) w.0) 0 (count_from k ws) (count_from (k + 1) ws) (next_test k w.0)
+    (count_next k ws)
 
 -- a column with a number has a weight
 count_weighs : (k : ℕ) (ws : List (ℕ × ℤ)) → number_at ws k ≢ pos 0 → count_from (k + 1) ws + 1 ≤ count_from k ws
@@ -50,7 +55,8 @@ count_weighs k (w ∷ ws) ne = elim (true_or_false (nat_eq w.0 k)) [
       let u : nat_le (k + 1) w.0 ≡ false = grind (arith, nat_tests) in
       let low = count_next k ws in
       rw t (rw u (omega (arith, low)))
-  | inr other ↦ bit_next (nat_le k w.0) (nat_le (k + 1) w.0) 1 (count_from k ws) (count_from (k + 1) ws) (next_test k w.0) (count_weighs k ws (λ e. ne (rest (nat_eq w.0 k) w.1 (number_at ws k) other e)))
+  | inr other ↦ bit_next (nat_le k w.0) (nat_le (k + 1) w.0) 1 (count_from k ws) (count_from (k + 1) ws)
+      (next_test k w.0) (count_weighs k ws (λ e. ne (rest (nat_eq w.0 k) w.1 (number_at ws k) other e)))
 ]
   where
     rest : (b : Bool) (x y : ℤ) → b ≡ false → y ≡ pos 0 → cond b x (pos 0) +ℤ y ≡ pos 0
@@ -72,7 +78,9 @@ zero_cases z = elim (true_or_false (int_eq z (pos 0))) [
 ]
 
 -- a net number that isn't 0 has a weight on one of its two columns
-kept_few : (ws : List (ℕ × ℤ)) (key a b : ℕ) → length (kept key (net ws a b)) + (count_from (a + 1) ws + count_from (b + 1) ws) ≤ count_from a ws + count_from b ws
+kept_few : (ws : List (ℕ × ℤ)) (key a b : ℕ)
+    → length (kept key (net ws a b)) + (count_from (a + 1) ws + count_from (b + 1) ws)
+    ≤ count_from a ws + count_from b ws
 kept_few ws key a b =
     let na = count_next a ws in
     let nb = count_next b ws in
@@ -88,7 +96,8 @@ kept_few ws key a b =
       ]
     ]
 
-earlier_few : (ws : List (ℕ × ℤ)) (id : ℕ) (cs : List (ℕ × ℕ)) → length (earlier_pairs ws id cs) + count_from (id + 2 * length cs) ws ≤ count_from id ws
+earlier_few : (ws : List (ℕ × ℤ)) (id : ℕ) (cs : List (ℕ × ℕ))
+    → length (earlier_pairs ws id cs) + count_from (id + 2 * length cs) ws ≤ count_from id ws
 earlier_few ws id [] = let e : id + 2 * 0 ≡ id = omega arith in rw e (omega arith)
 earlier_few ws id (c ∷ cs) =
     let here = kept_few ws c.0 id (id + 1) in
@@ -100,7 +109,9 @@ earlier_few ws id (c ∷ cs) =
     let long = length-append (kept c.0 (net ws id (id + 1))) (earlier_pairs ws (id + 2) cs) in
     omega (arith, here, there, end, ih, long)
 
-bound_few : (ws : List (ℕ × ℤ)) (first n i : ℕ) → length (bound_pairs ws first n i) + (count_from (first + i) ws + count_from (first + i + n) ws) ≤ count_from first ws + count_from (first + n) ws
+bound_few : (ws : List (ℕ × ℤ)) (first n i : ℕ)
+    → length (bound_pairs ws first n i) + (count_from (first + i) ws + count_from (first + i + n) ws)
+    ≤ count_from first ws + count_from (first + n) ws
 bound_few ws first n zero = let e : first + 0 ≡ first = omega arith in rw e (omega arith)
 bound_few ws first n (suc i) =
     let here = kept_few ws i (first + i) (first + i + n) in
@@ -112,13 +123,16 @@ bound_few ws first n (suc i) =
     let long = length-append (bound_pairs ws first n i) (kept i (net ws (first + i) (first + i + n))) in
     omega (arith, here, plus, minus, ih, long)
 
-either_more : (b : Bool) (q : ℕ × ℤ) (qs : List (ℕ × ℤ)) (k : ℕ) → length qs ≡ k → length (cond b (q ∷ qs) qs) ≡ cond b (suc k) k
+either_more : (b : Bool) (q : ℕ × ℤ) (qs : List (ℕ × ℤ)) (k : ℕ) → length qs ≡ k
+    → length (cond b (q ∷ qs) qs) ≡ cond b (suc k) k
 either_more true q qs k h = ap suc h
 either_more false q qs k h = h
 
 outer_few : (first : ℕ) (ws : List (ℕ × ℤ)) → length (outer_pairs first ws) ≡ count_from first ws
 outer_few first [] = refl
-outer_few first (w ∷ ws) = either_more (nat_le first w.0) (w.0 - first, w.1) (outer_pairs first ws) (count_from first ws) (outer_few first ws)
+outer_few first (w ∷ ws) =
+    either_more (nat_le first w.0) (w.0 - first, w.1) (outer_pairs first ws) (count_from first ws)
+    (outer_few first ws)
 
 placed_length : (ps qs : List (ℕ × ℤ)) → length (placed_behind ps qs) ≡ length ps + length qs
 placed_length ps [] = omega arith
@@ -129,7 +143,8 @@ placed_length ps (q ∷ qs) =
 
 -- ---- the level
 
-pub level_entries : (n : ℕ) (front : List Level) (ws : List (ℕ × ℤ)) (m : List ℤ) (den : ℤ) (l : Level) → IsLevelOf n front ws m den l → length l.coalitions + length l.earlier + length l.bounds ≤ length ws
+pub level_entries : (n : ℕ) (front : List Level) (ws : List (ℕ × ℤ)) (m : List ℤ) (den : ℤ) (l : Level)
+    → IsLevelOf n front ws m den l → length l.coalitions + length l.earlier + length l.bounds ≤ length ws
 level_entries n front ws m den l is =
     let first : ℕ = first_single front in
     let a = ap length is.coalitions ∙ placed_length [] (outer_pairs (first + (n + n)) ws) in
@@ -144,7 +159,8 @@ level_entries n front ws m den l is =
     omega (arith, a, a', b, b', c, c', ends, most)
 
 -- the level of a stage is short: each entry has a column of its own among the weights
-pub level_short : (n : ℕ) (front : List Level) (ws : List (ℕ × ℤ)) (m : List ℤ) (den : ℤ) (l : Level) → IsLevelOf n front ws m den l → length ws ≤ n + (length front + 1) → length front + 2 ≤ n → IsShort n l
+pub level_short : (n : ℕ) (front : List Level) (ws : List (ℕ × ℤ)) (m : List ℤ) (den : ℤ) (l : Level)
+    → IsLevelOf n front ws m den l → length ws ≤ n + (length front + 1) → length front + 2 ≤ n → IsShort n l
 level_short n front ws m den l is few low =
     let most = level_entries n front ws m den l is in
     omega (arith, most, few, low)

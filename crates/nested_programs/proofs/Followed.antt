@@ -1,5 +1,7 @@
 -- The level that weights of a stage are follows from them.
-use Rattle.std.proofs.Common.{◌≡◌, ◌≢◌, ◌⊎◌, ℕ, ◌+◌, ◌-◌, ◌<◌, ◌≤◌, Bool, true, false, ◌&&◌, IsTrue, List, [], ◌∷◌, ◌++◌, length, ℤ, pos, ◌+ℤ◌, ◌-ℤ◌, ◌≤ℤ◌, refl, sym, ap, subst, ◌∙◌, inl, inr, arith, nat_eq, nat_lt, int_le}
+use Rattle.std.proofs.Common.{◌≡◌, ◌≢◌, ◌⊎◌, ℕ, ◌+◌, ◌-◌, ◌<◌, ◌≤◌, Bool, true, false, ◌&&◌, IsTrue}
+use Rattle.std.proofs.Common.{List, [], ◌∷◌, ◌++◌, length, ℤ, pos, ◌+ℤ◌, ◌-ℤ◌, ◌≤ℤ◌, refl, sym, ap}
+use Rattle.std.proofs.Common.{subst, ◌∙◌, inl, inr, arith, nat_eq, nat_lt, int_le}
 use Rattle.std.proofs.lemmas.Int.{by_lt_z}
 use Rattle.std.proofs.lemmas.Bool.Decides.{nat_tests}
 use Rattle.std.specs.List.{list_any, AllByRecursion}
@@ -15,13 +17,16 @@ use Rattle.definitions.specs.declared.Measure.{Measure}
 use Rattle.definitions.specs.declared.Family.TheVariants.{Imputations}
 use Rattle.separation.specs.Stage.{entry_of, earlier_of, settled_columns, column, is_imputations, stage_program}
 use Rattle.nested_programs.specs.Chain.{single_id, outer_id, HasWeight, Follows}
-use Rattle.nested_programs.specs.Numbers.{AreNumbers, first_single, outer_pairs, net, earlier_pairs, bound_pairs, IsLevelOf}
+use Rattle.nested_programs.specs.Numbers.{AreNumbers, first_single, outer_pairs, net}
+use Rattle.nested_programs.specs.Numbers.{earlier_pairs, bound_pairs, IsLevelOf}
 use Rattle.nested_programs.proofs.Reading.{imputations_of}
 use Rattle.nested_programs.proofs.Advance.{BoundComes, any_left}
-use Rattle.nested_programs.proofs.LevelSums.{is_at, outer_part, pair_part, earlier_part, weighted-same, net_weighted, outer_weighted, earlier_weighted, number_within}
+use Rattle.nested_programs.proofs.LevelSums.{is_at, outer_part, pair_part, earlier_part, weighted-same}
+use Rattle.nested_programs.proofs.LevelSums.{net_weighted, outer_weighted, earlier_weighted, number_within}
 use Rattle.nested_programs.proofs.ColumnParts.{parts, settled_pairs, settled_length, column_parts}
 use Rattle.nested_programs.proofs.PositiveWeights.{number_low, number_some, weight_of, each_weighs, on_column}
-use Rattle.nested_programs.proofs.LevelPairs.{all_placed_behind, any_placed_behind, all_outer, any_outer, all_bound, any_right, any_bound}
+use Rattle.nested_programs.proofs.LevelPairs.{all_placed_behind, any_placed_behind, all_outer}
+use Rattle.nested_programs.proofs.LevelPairs.{any_outer, all_bound, any_right, any_bound}
 use Rattle.definitions.proofs.Cases.{or_left, true_or_false, and_left, and_right}
 use Rattle.definitions.proofs.Alls.{all_weaken}
 use Rattle.kohlberg.specs.Pairs.{placed}
@@ -30,29 +35,50 @@ use Rattle.kohlberg.proofs.Placed.{weight_at-placed}
 -- ---- the sums at a player
 
 -- all players stand in front of the earlier coalitions
-whole_first : (n k i : ℕ) (cs : List (ℕ × ℕ)) (ws : List (ℕ × ℤ)) → i < n → weighted_sum (earlier_part i 0 ((grand_coalition n, k) ∷ cs)) ws ≡ weight_at (earlier_pairs ws 2 cs) i -ℤ net ws 1 0
+whole_first : (n k i : ℕ) (cs : List (ℕ × ℕ)) (ws : List (ℕ × ℤ)) → i < n
+    → weighted_sum (earlier_part i 0 ((grand_coalition n, k) ∷ cs)) ws
+    ≡ weight_at (earlier_pairs ws 2 cs) i -ℤ net ws 1 0
 whole_first n k i cs ws h =
     let all : has_player (grand_coalition n) i ≡ true = has_player-grand_coalition n i h in
     let pair : ℕ → ℤ = pair_part (has_player (grand_coalition n) i) 0 in
-    let first : weighted_sum pair ws ≡ net ws 0 1 = ap (λ (b : Bool). weighted_sum (pair_part b 0) ws) all ∙ sym (net_weighted 0 1 ws) in
+    let first : weighted_sum pair ws ≡ net ws 0 1 =
+    ap (λ (b : Bool). weighted_sum (pair_part b 0) ws) all ∙ sym (net_weighted 0 1 ws) in
     omega (arith, linear, weighted_sum-add pair (earlier_part i 2 cs) ws, first, earlier_weighted i ws 2 cs)
 
-parts_sum : (n first i k : ℕ) (cs : List (ℕ × ℕ)) (ws : List (ℕ × ℤ)) → i < n → weighted_sum (parts n first ((grand_coalition n, k) ∷ cs) i) ws ≡ weight_at (outer_pairs (first + (n + n)) ws) i +ℤ weight_at (earlier_pairs ws 2 cs) i +ℤ number_at (bound_pairs ws first n n) i -ℤ net ws 1 0
+parts_sum : (n first i k : ℕ) (cs : List (ℕ × ℕ)) (ws : List (ℕ × ℤ)) → i < n
+    → weighted_sum (parts n first ((grand_coalition n, k) ∷ cs) i) ws
+    ≡ weight_at (outer_pairs (first + (n + n)) ws) i +ℤ weight_at (earlier_pairs ws 2 cs) i
+    +ℤ number_at (bound_pairs ws first n n) i -ℤ net ws 1 0
 parts_sum n first i k cs ws h =
     let outer : ℕ → ℤ = outer_part (first + (n + n)) i in
     let earlier : ℕ → ℤ = earlier_part i 0 ((grand_coalition n, k) ∷ cs) in
     let bound : ℕ → ℤ = λ id. is_at (first + i) id -ℤ is_at (first + i + n) id in
-    omega (arith, linear, weighted_sum-add (λ id. outer id +ℤ earlier id) bound ws, weighted_sum-add outer earlier ws, outer_weighted (first + (n + n)) i ws, whole_first n k i cs ws h, net_weighted (first + i) (first + i + n) ws, number_within ws first n n i h)
+    omega (
+      arith,
+      linear,
+      weighted_sum-add (λ id. outer id +ℤ earlier id) bound ws,
+      weighted_sum-add outer earlier ws,
+      outer_weighted (first + (n + n)) i ws,
+      whole_first n k i cs ws h,
+      net_weighted (first + i) (first + i + n) ws,
+      number_within ws first n n i h,
+    )
 
 -- what the level holds of a player, less its total, is the weighted entries of the player's row
-level_sums : (measure : Measure) (n : ℕ) (front : List Level) (ws : List (ℕ × ℤ)) (m : List ℤ) (den : ℤ) (l : Level) → IsLevelOf n front ws m den l → (i : ℕ) → i < n → weight_at l.coalitions i +ℤ weight_at l.earlier i +ℤ number_at l.bounds i -ℤ l.total ≡ weighted_sum (λ id. entry_of measure n (column n front id) i) ws
+level_sums : (measure : Measure) (n : ℕ) (front : List Level) (ws : List (ℕ × ℤ)) (m : List ℤ) (den : ℤ) (l : Level)
+    → IsLevelOf n front ws m den l → (i : ℕ) → i < n
+    → weight_at l.coalitions i +ℤ weight_at l.earlier i +ℤ number_at l.bounds i -ℤ l.total
+    ≡ weighted_sum (λ id. entry_of measure n (column n front id) i) ws
 level_sums measure n front ws m den l is i h =
     let first : ℕ = first_single front in
     let outer = ap (λ ps. weight_at ps i) is.coalitions ∙ weight_at-placed (outer_pairs (first + (n + n)) ws) i in
-    let earlier = ap (λ ps. weight_at ps i) is.earlier ∙ weight_at-placed (earlier_pairs ws 2 (earlier_of 0 front)) i in
+    let earlier =
+    ap (λ ps. weight_at ps i) is.earlier ∙ weight_at-placed (earlier_pairs ws 2 (earlier_of 0 front)) i in
     let bound = ap (λ ps. number_at ps i) is.bounds in
     let sum = parts_sum n first i (length front + 1) (earlier_of 0 front) ws h in
-    let same = weighted-same (parts n first (settled_pairs n front) i) (λ id. entry_of measure n (column n front id) i) ws (λ id. column_parts measure n front i id h) in
+    let same =
+    weighted-same (parts n first (settled_pairs n front) i) (λ id. entry_of measure n (column n front id) i) ws
+    (λ id. column_parts measure n front i id h) in
     omega (arith, linear, outer, earlier, bound, is.total, sum, same)
 
 -- ---- the coalitions
@@ -60,22 +86,33 @@ level_sums measure n front ws m den l is i h =
 outer_id-is : (n : ℕ) (front : List Level) (s : ℕ) → outer_id n front s ≡ first_single front + (n + n) + s
 outer_id-is n front s = let e = settled_length n front in omega (arith, e)
 
-outer_weigh : (n : ℕ) (front : List Level) (ws : List (ℕ × ℤ)) → AllByRecursion (λ w. pos 1 ≤ℤ w.1) ws → AllByRecursion (λ c. (pos 1 ≤ℤ c.1) × HasWeight ws (outer_id n front c.0)) (placed (outer_pairs (first_single front + (n + n)) ws))
+outer_weigh : (n : ℕ) (front : List Level) (ws : List (ℕ × ℤ)) → AllByRecursion (λ w. pos 1 ≤ℤ w.1) ws
+    → AllByRecursion (λ c. (pos 1 ≤ℤ c.1) × HasWeight ws (outer_id n front c.0))
+    (placed (outer_pairs (first_single front + (n + n)) ws))
 outer_weigh n front ws h =
     let first : ℕ = first_single front + (n + n) in
     let P : ℕ × ℤ → Type 0 = λ c. (pos 1 ≤ℤ c.1) × HasWeight ws (outer_id n front c.0) in
-    let back : (id : ℕ) → first ≤ id → id ≡ outer_id n front (id - first) = λ id le. (let e = outer_id-is n front (id - first) in omega (arith, e)) in
-    all_placed_behind P [] (outer_pairs first ws) tt (all_outer P first ws (all_weaken (λ w. (pos 1 ≤ℤ w.1) × HasWeight ws w.0) (λ w. first ≤ w.0 → P (w.0 - first, w.1)) ws (λ w k le. (k.0, subst (HasWeight ws) (back w.0 le) k.1)) (each_weighs ws h)))
+    let back : (id : ℕ) → first ≤ id → id ≡ outer_id n front (id - first) =
+    λ id le. (let e = outer_id-is n front (id - first) in omega (arith, e)) in
+    all_placed_behind P [] (outer_pairs first ws) tt
+    (all_outer P first ws
+    (all_weaken (λ w. (pos 1 ≤ℤ w.1) × HasWeight ws w.0) (λ w. first ≤ w.0 → P (w.0 - first, w.1)) ws
+    (λ w k le. (k.0, subst (HasWeight ws) (back w.0 le) k.1)) (each_weighs ws h)))
 
-outer_listed : (n : ℕ) (front : List Level) (ws : List (ℕ × ℤ)) (s : ℕ) → HasWeight ws (outer_id n front s) → list_any (λ c. nat_eq c.0 s) (placed (outer_pairs (first_single front + (n + n)) ws)) ≡ true
+outer_listed : (n : ℕ) (front : List Level) (ws : List (ℕ × ℤ)) (s : ℕ) → HasWeight ws (outer_id n front s)
+    → list_any (λ c. nat_eq c.0 s) (placed (outer_pairs (first_single front + (n + n)) ws)) ≡ true
 outer_listed n front ws s has =
     let first : ℕ = first_single front + (n + n) in
-    any_placed_behind (λ c. nat_eq c.0 s) [] (outer_pairs first ws) (inr (any_outer first ws s (subst (HasWeight ws) (outer_id-is n front s) has)))
+    any_placed_behind (λ c. nat_eq c.0 s) [] (outer_pairs first ws)
+    (inr (any_outer first ws s (subst (HasWeight ws) (outer_id-is n front s) has)))
 
 -- ---- the bounds
 
 -- the column of a player's bound negated stands there only for imputations, where a level in front has the bound
-bound_in_front : (family : Family) (measure : Measure) (g : Game) (front : List Level) (outside : ℕ → Bool) (i : ℕ) → i < g.players → IsTrue ((stage_program family measure g front outside).is_column (first_single front + i + g.players)) → (family ≡ Imputations) × IsTrue (has_bound front i)
+bound_in_front : (family : Family) (measure : Measure) (g : Game) (front : List Level) (outside : ℕ → Bool) (i : ℕ)
+    → i < g.players
+    → IsTrue ((stage_program family measure g front outside).is_column (first_single front + i + g.players))
+    → (family ≡ Imputations) × IsTrue (has_bound front i)
 bound_in_front family measure g front outside i h is_so =
     let n : ℕ = g.players in
     let len : ℕ = length (settled_columns n front) in
@@ -87,25 +124,43 @@ bound_in_front family measure g front outside i h is_so =
     let t' : nat_lt (n + i) n ≡ false = grind (arith, nat_tests) in
     let u : nat_lt (n + i) (n + n) ≡ true = grind (arith, nat_tests) in
     let w : n + i - n ≡ i = omega arith in
-    let both = rw w at (rw u at (rw t' at (rw v at (rw t at there)))) in
-    (imputations_of family (and_left (is_imputations family) (has_bound front i) both), and_right (is_imputations family) (has_bound front i) both)
+    let both = rw w at (rw u at (rw t' at (rw v at (rw t at there)))) in (
+      imputations_of family (and_left (is_imputations family) (has_bound front i) both),
+      and_right (is_imputations family) (has_bound front i) both,
+    )
 
 -- a weight on the negated column of a player's bound
-front_bound : (family : Family) (measure : Measure) (g : Game) (front : List Level) (outside : ℕ → Bool) (ws : List (ℕ × ℤ)) (i : ℕ) → AreWeights (stage_program family measure g front outside) ws → AllByRecursion (λ w. pos 1 ≤ℤ w.1) ws → i < g.players → pos 1 ≤ℤ number_at ws (first_single front + i + g.players) → (family ≡ Imputations) × IsTrue (has_bound front i)
+front_bound : (family : Family) (measure : Measure) (g : Game) (front : List Level) (outside : ℕ → Bool)
+    (ws : List (ℕ × ℤ)) (i : ℕ) → AreWeights (stage_program family measure g front outside) ws
+    → AllByRecursion (λ w. pos 1 ≤ℤ w.1) ws → i < g.players
+    → pos 1 ≤ℤ number_at ws (first_single front + i + g.players)
+    → (family ≡ Imputations) × IsTrue (has_bound front i)
 front_bound family measure g front outside ws i are positive h some =
-    bound_in_front family measure g front outside i h (on_column (stage_program family measure g front outside).is_column ws (first_single front + i + g.players) are.0 (weight_of ws (first_single front + i + g.players) positive some))
+    bound_in_front family measure g front outside i h
+    (on_column (stage_program family measure g front outside).is_column ws (first_single front + i + g.players)
+    are.0 (weight_of ws (first_single front + i + g.players) positive some))
 
 single_id-is : (n : ℕ) (front : List Level) (i : ℕ) → first_single front + i ≡ single_id n front i
 single_id-is n front i = let e = settled_length n front in omega (arith, e)
 
-bound_comes : (family : Family) (measure : Measure) (g : Game) (front : List Level) (outside : ℕ → Bool) (ws : List (ℕ × ℤ)) (i : ℕ) → AreWeights (stage_program family measure g front outside) ws → AllByRecursion (λ w. pos 1 ≤ℤ w.1) ws → i < g.players → net ws (first_single front + i) (first_single front + i + g.players) ≢ pos 0 → BoundComes family g front ws (i, net ws (first_single front + i) (first_single front + i + g.players))
+bound_comes : (family : Family) (measure : Measure) (g : Game) (front : List Level) (outside : ℕ → Bool)
+    (ws : List (ℕ × ℤ)) (i : ℕ) → AreWeights (stage_program family measure g front outside) ws
+    → AllByRecursion (λ w. pos 1 ≤ℤ w.1) ws → i < g.players
+    → net ws (first_single front + i) (first_single front + i + g.players) ≢ pos 0
+    → BoundComes family g front ws (i, net ws (first_single front + i) (first_single front + i + g.players))
 bound_comes family measure g front outside ws i are positive h some =
     by_lt_z (pos 0) z
     (λ up.
-    let one : pos 1 ≤ℤ number_at ws (first + i) = omega (arith, linear, up, low) in
-    (h, inl (omega (arith, linear, up), subst (HasWeight ws) (single_id-is n front i) (weight_of ws (first + i) positive one))))
+    let one : pos 1 ≤ℤ number_at ws (first + i) = omega (arith, linear, up, low) in (
+      h,
+      inl (
+        omega (arith, linear, up),
+        subst (HasWeight ws) (single_id-is n front i) (weight_of ws (first + i) positive one),
+      ),
+    ))
     (λ down.
-    let one : pos 1 ≤ℤ number_at ws (first + i + n) = below z (number_at ws (first + i)) (number_at ws (first + i + n)) refl some down low' in
+    let one : pos 1 ≤ℤ number_at ws (first + i + n) =
+    below z (number_at ws (first + i)) (number_at ws (first + i + n)) refl some down low' in
     (h, inr (front_bound family measure g front outside ws i are positive h one)))
   where
     n : ℕ
@@ -125,13 +180,20 @@ bound_comes family measure g front outside ws i are positive h some =
 
     below : (z a b : ℤ) → z ≡ a -ℤ b → z ≢ pos 0 → z ≤ℤ pos 0 → pos 0 ≤ℤ a → pos 1 ≤ℤ b
     below z a b e ne le a_low =
-        by_lt_z z (pos 0) (λ lt. omega (arith, linear, lt, e, a_low)) (λ ge. absurd (ne (omega (arith, linear, ge, le))))
+        by_lt_z z (pos 0) (λ lt. omega (arith, linear, lt, e, a_low))
+        (λ ge. absurd (ne (omega (arith, linear, ge, le))))
 
 at_least : (z : ℤ) → pos 1 ≤ℤ z → int_le (pos 1) z ≡ true
-at_least z h = elim (true_or_false (int_le (pos 1) z)) [ inl up ↦ up | inr down ↦ absurd (omega (arith, linear, h, down)) ]
+at_least z h =
+    elim (true_or_false (int_le (pos 1) z)) [ inl up ↦ up | inr down ↦ absurd (omega (arith, linear, h, down)) ]
 
 -- a weight on a player's column gives a bound in front or a bound of the level
-bound_known : (family : Family) (measure : Measure) (g : Game) (front : List Level) (outside : ℕ → Bool) (ws : List (ℕ × ℤ)) (i : ℕ) → AreWeights (stage_program family measure g front outside) ws → AllByRecursion (λ w. pos 1 ≤ℤ w.1) ws → i < g.players → HasWeight ws (single_id g.players front i) → IsTrue (has_bound front i) ⊎ (list_any (λ b. nat_eq b.0 i && int_le (pos 1) b.1) (bound_pairs ws (first_single front) g.players g.players) ≡ true)
+bound_known : (family : Family) (measure : Measure) (g : Game) (front : List Level) (outside : ℕ → Bool)
+    (ws : List (ℕ × ℤ)) (i : ℕ) → AreWeights (stage_program family measure g front outside) ws
+    → AllByRecursion (λ w. pos 1 ≤ℤ w.1) ws → i < g.players → HasWeight ws (single_id g.players front i)
+    → IsTrue (has_bound front i)
+    ⊎ (list_any (λ b. nat_eq b.0 i && int_le (pos 1) b.1)
+    (bound_pairs ws (first_single front) g.players g.players) ≡ true)
 bound_known family measure g front outside ws i are positive h has =
     by_lt_z (pos 0) (number_at ws (first + i + n))
     (λ more. inl (front_bound family measure g front outside ws i are positive h (omega (arith, linear, more))).1)
@@ -158,19 +220,36 @@ bound_known family measure g front outside ws i are positive h has =
 
 -- ---- all together
 
-pub followed : (family : Family) (measure : Measure) (g : Game) (front : List Level) (outside : ℕ → Bool) (ws : List (ℕ × ℤ)) (m : List ℤ) (den : ℤ) (l : Level) → AreWeights (stage_program family measure g front outside) ws → AreNumbers ws → IsLevelOf g.players front ws m den l → Follows family measure g front ws l
+pub followed : (family : Family) (measure : Measure) (g : Game) (front : List Level) (outside : ℕ → Bool)
+    (ws : List (ℕ × ℤ)) (m : List ℤ) (den : ℤ) (l : Level)
+    → AreWeights (stage_program family measure g front outside) ws → AreNumbers ws
+    → IsLevelOf g.players front ws m den l → Follows family measure g front ws l
 followed family measure g front outside ws m den l are numbers is =
     let n : ℕ = g.players in
     let positive = numbers.positive in
     record {
-      coalitions = subst (AllByRecursion (λ c. (pos 1 ≤ℤ c.1) × HasWeight ws (outer_id n front c.0))) (sym is.coalitions) (outer_weigh n front ws positive);
-      bounds = subst (AllByRecursion (BoundComes family g front ws)) (sym is.bounds) (all_bound (BoundComes family g front ws) ws (first_single front) n n (λ i lt some. bound_comes family measure g front outside ws i are positive lt some));
-      all_coalitions = λ s has. or_left (list_any (λ c. nat_eq c.0 s) l.coalitions) false (ap (list_any (λ c. nat_eq c.0 s)) is.coalitions ∙ outer_listed n front ws s has);
-      all_bounds = λ i lt has. joined i (elim (bound_known family measure g front outside ws i are positive lt has) [ inl old ↦ inl old | inr new ↦ inr (ap (list_any (λ b. nat_eq b.0 i && int_le (pos 1) b.1)) is.bounds ∙ new) ]);
+      coalitions =
+          subst (AllByRecursion (λ c. (pos 1 ≤ℤ c.1) × HasWeight ws (outer_id n front c.0))) (sym is.coalitions)
+          (outer_weigh n front ws positive);
+      bounds =
+          subst (AllByRecursion (BoundComes family g front ws)) (sym is.bounds)
+          (all_bound (BoundComes family g front ws) ws (first_single front) n n
+          (λ i lt some. bound_comes family measure g front outside ws i are positive lt some));
+      all_coalitions = λ s has. or_left (list_any (λ c. nat_eq c.0 s) l.coalitions) false
+          (ap (list_any (λ c. nat_eq c.0 s)) is.coalitions ∙ outer_listed n front ws s has);
+      all_bounds = λ i lt has. joined i
+          (elim (bound_known family measure g front outside ws i are positive lt has) [
+            | inl old ↦ inl old
+            | inr new ↦ inr (ap (list_any (λ b. nat_eq b.0 i && int_le (pos 1) b.1)) is.bounds ∙ new)
+          ]);
       sums = level_sums measure n front ws m den l is;
     }
   where
-    joined : (i : ℕ) → IsTrue (has_bound front i) ⊎ (list_any (λ b. nat_eq b.0 i && int_le (pos 1) b.1) l.bounds ≡ true) → IsTrue (has_bound (front ++ l ∷ []) i)
-    joined i (inl old) = any_left (λ l. list_any (λ b. nat_eq b.0 i && int_le (pos 1) b.1) l.bounds) front (l ∷ []) old
+    joined : (i : ℕ)
+        → IsTrue (has_bound front i) ⊎ (list_any (λ b. nat_eq b.0 i && int_le (pos 1) b.1) l.bounds ≡ true)
+        → IsTrue (has_bound (front ++ l ∷ []) i)
+    joined i (inl old) =
+        any_left (λ l. list_any (λ b. nat_eq b.0 i && int_le (pos 1) b.1) l.bounds) front (l ∷ []) old
     joined i (inr new) =
-        any_right (λ l. list_any (λ b. nat_eq b.0 i && int_le (pos 1) b.1) l.bounds) front (l ∷ []) (or_left (list_any (λ b. nat_eq b.0 i && int_le (pos 1) b.1) l.bounds) false new)
+        any_right (λ l. list_any (λ b. nat_eq b.0 i && int_le (pos 1) b.1) l.bounds) front (l ∷ [])
+        (or_left (list_any (λ b. nat_eq b.0 i && int_le (pos 1) b.1) l.bounds) false new)

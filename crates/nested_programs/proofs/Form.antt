@@ -1,5 +1,7 @@
 -- What the rows of a stage say of its level: it is balanced, and it has a coalition.
-use Rattle.std.proofs.Common.{◌≡◌, ◌≢◌, ◌⊎◌, ℕ, ◌+◌, ◌-◌, ◌<◌, ◌≤◌, Bool, true, false, cond, ◌||◌, IsTrue, List, [], ◌∷◌, length, ℤ, pos, ◌+ℤ◌, ◌*ℤ◌, ◌≤ℤ◌, refl, sym, ap, ◌∙◌, inl, inr, arith, nat_eq, nat_lt, if◌then◌else◌}
+use Rattle.std.proofs.Common.{◌≡◌, ◌≢◌, ◌⊎◌, ℕ, ◌+◌, ◌-◌, ◌<◌, ◌≤◌, Bool, true, false, cond, ◌||◌}
+use Rattle.std.proofs.Common.{IsTrue, List, [], ◌∷◌, length, ℤ, pos, ◌+ℤ◌, ◌*ℤ◌, ◌≤ℤ◌, refl, sym, ap}
+use Rattle.std.proofs.Common.{◌∙◌, inl, inr, arith, nat_eq, nat_lt, if◌then◌else◌}
 use Rattle.std.proofs.lemmas.Int.{by_lt_z}
 use Rattle.std.proofs.lemmas.Bool.{false≢true}
 use Rattle.std.proofs.lemmas.Bool.Decides.{nat_tests}
@@ -13,7 +15,8 @@ use Rattle.definitions.specs.Certificates.{Level, number_at, IsOutside}
 use Rattle.definitions.specs.Programs.{Program}
 use Rattle.definitions.specs.declared.Family.{Family}
 use Rattle.definitions.specs.declared.Measure.{Measure}
-use Rattle.separation.specs.Stage.{signed, plus_entry, entry_of, earlier_of, doubled, settled_columns, no_column, column, stage_program}
+use Rattle.separation.specs.Stage.{signed, plus_entry, entry_of, earlier_of, doubled}
+use Rattle.separation.specs.Stage.{settled_columns, no_column, column, stage_program}
 use Rattle.definitions.proofs.Members.{has_player-singleton, has_player-singleton_other}
 use Rattle.definitions.specs.declared.Mode.TheVariants.{Span}
 use Rattle.nested_programs.specs.Chain.{outer_id, single_id, HasWeight, Stage, StageHolds}
@@ -23,11 +26,14 @@ use Rattle.nested_programs.proofs.Advance.{BoundComes, column_outer, column_sing
 use Rattle.definitions.proofs.Cases.{same_or_other, true_or_false}
 use Rattle.definitions.proofs.Alls.{all_weaken}
 
-pub level_balanced : (family : Family) (measure : Measure) (g : Game) (front : List Level) (t : Stage) → StageHolds family measure g front t → (i : ℕ) → i < g.players → weight_at t.level.coalitions i +ℤ weight_at t.level.earlier i +ℤ number_at t.level.bounds i ≡ t.level.total
+pub level_balanced : (family : Family) (measure : Measure) (g : Game) (front : List Level) (t : Stage)
+    → StageHolds family measure g front t → (i : ℕ) → i < g.players
+    → weight_at t.level.coalitions i +ℤ weight_at t.level.earlier i +ℤ number_at t.level.bounds i ≡ t.level.total
 level_balanced family measure g front t holds i h =
     let row = holds.optimal.0.2 i (omega arith) in
     let u : nat_eq i (g.players + length front) ≡ false = grind (arith, nat_tests) in
-    let zero_right : t.weight_den *ℤ (if nat_eq i (g.players + length front) then pos 1 else pos 0) ≡ pos 0 = rw u (mul-zeroℤ t.weight_den) in
+    let zero_right : t.weight_den *ℤ (if nat_eq i (g.players + length front) then pos 1 else pos 0) ≡ pos 0 =
+    rw u (mul-zeroℤ t.weight_den) in
     omega (arith, linear, holds.follows.sums i h, row, zero_right)
 
 -- ---- the last row
@@ -42,21 +48,35 @@ other_row measure n k mask row ne =
     let u : nat_eq (n + k) (n + row) ≡ false = grind (arith, nat_tests) in
     rw t (rw u refl)
 
-settled_zero : (measure : Measure) (n k : ℕ) (cs : List (ℕ × ℕ)) → AllByRecursion (λ c. c.1 ≢ k) cs → AllByRecursion (λ c. entry_of measure n c (n + k) ≡ pos 0) (doubled cs)
+settled_zero : (measure : Measure) (n k : ℕ) (cs : List (ℕ × ℕ)) → AllByRecursion (λ c. c.1 ≢ k) cs
+    → AllByRecursion (λ c. entry_of measure n c (n + k) ≡ pos 0) (doubled cs)
 settled_zero measure n k [] h = tt
-settled_zero measure n k (c ∷ cs) h =
-    (signed_zero false (plus_entry measure n c.0 c.1 (n + k)) (other_row measure n k c.0 c.1 h.0), (signed_zero true (plus_entry measure n c.0 c.1 (n + k)) (other_row measure n k c.0 c.1 h.0), settled_zero measure n k cs h.1))
+settled_zero measure n k (c ∷ cs) h = (
+  signed_zero false (plus_entry measure n c.0 c.1 (n + k)) (other_row measure n k c.0 c.1 h.0),
+  (
+    signed_zero true (plus_entry measure n c.0 c.1 (n + k)) (other_row measure n k c.0 c.1 h.0),
+    settled_zero measure n k cs h.1,
+  ),
+)
 
 -- a column is that of an outside coalition, or has nothing in the last row
-kind_of : (measure : Measure) (n : ℕ) (front : List Level) (id : ℕ) → ((s : ℕ) × (id ≡ outer_id n front s)) ⊎ (entry_of measure n (column n front id) (n + length front) ≡ pos 0)
+kind_of : (measure : Measure) (n : ℕ) (front : List Level) (id : ℕ)
+    → ((s : ℕ) × (id ≡ outer_id n front s)) ⊎ (entry_of measure n (column n front id) (n + length front) ≡ pos 0)
 kind_of measure n front id = elim (true_or_false (nat_lt id len)) [
   | inl below ↦
       let lt : id < len = grind (arith, nat_tests) in
-      inr (rw below (each_of (λ c. entry_of measure n c (n + k) ≡ pos 0) no_column (settled_columns n front) all id lt))
+      inr
+      (rw below
+      (each_of (λ c. entry_of measure n c (n + k) ≡ pos 0) no_column (settled_columns n front) all id lt))
   | inr past ↦ elim (true_or_false (nat_lt (id - len) n)) [
     | inl below ↦ inr (rw past (rw below (other_row measure n k (singleton (id - len)) (k + 1) (λ e. omega arith))))
     | inr more ↦ elim (true_or_false (nat_lt (id - len) (n + n))) [
-      | inl below ↦ inr (rw past (rw more (rw below (signed_zero true (plus_entry measure n (singleton (id - len - n)) (k + 1) (n + k)) (other_row measure n k (singleton (id - len - n)) (k + 1) (λ e. omega arith))))))
+      | inl below ↦ inr
+          (rw past
+          (rw more
+          (rw below
+          (signed_zero true (plus_entry measure n (singleton (id - len - n)) (k + 1) (n + k))
+          (other_row measure n k (singleton (id - len - n)) (k + 1) (λ e. omega arith))))))
       | inr beyond ↦
           let eq : id ≡ len + (n + n + (id - len - (n + n))) = grind (arith, nat_tests) in
           inl (id - len - (n + n), eq)
@@ -74,9 +94,16 @@ kind_of measure n front id = elim (true_or_false (nat_lt id len)) [
     apart a h e = omega arith
 
     all : AllByRecursion (λ c. entry_of measure n c (n + k) ≡ pos 0) (settled_columns n front)
-    all = settled_zero measure n k ((grand_coalition n, k + 1) ∷ earlier_of 0 front) ((λ e. omega arith), all_weaken (λ c. c.1 < 0 + k) (λ c. c.1 ≢ k) (earlier_of 0 front) (λ c h. apart c.1 h) (earlier_rows 0 front))
+    all =
+        settled_zero measure n k ((grand_coalition n, k + 1) ∷ earlier_of 0 front) (
+          (λ e. omega arith),
+          all_weaken (λ c. c.1 < 0 + k) (λ c. c.1 ≢ k) (earlier_of 0 front) (λ c h. apart c.1 h)
+              (earlier_rows 0 front),
+        )
 
-some_outer : (measure : Measure) (p : Program) (n : ℕ) (front : List Level) (ws : List (ℕ × ℤ)) → Columns p ws → ((s : ℕ) × HasWeight ws (outer_id n front s)) ⊎ (weighted_sum (λ id. entry_of measure n (column n front id) (n + length front)) ws ≡ pos 0)
+some_outer : (measure : Measure) (p : Program) (n : ℕ) (front : List Level) (ws : List (ℕ × ℤ)) → Columns p ws
+    → ((s : ℕ) × HasWeight ws (outer_id n front s))
+    ⊎ (weighted_sum (λ id. entry_of measure n (column n front id) (n + length front)) ws ≡ pos 0)
 some_outer measure p n front [] h = inr refl
 some_outer measure p n front (w ∷ ws) h = elim (some_outer measure p n front ws h.1) [
   | inl found ↦ inl (found.0, inr found.1)
@@ -85,7 +112,14 @@ some_outer measure p n front (w ∷ ws) h = elim (some_outer measure p n front w
         (λ up. inl (outer.0, inl (outer.1, omega (arith, linear, up))))
         (λ low.
         let e : w.1 ≡ pos 0 = omega (arith, linear, low, h.0.1) in
-        inr (omega (arith, linear, none, ap (λ z. z *ℤ entry_of measure n (column n front w.0) (n + length front)) e, zero-mulℤ (entry_of measure n (column n front w.0) (n + length front)))))
+        inr
+        (omega (
+          arith,
+          linear,
+          none,
+          ap (λ z. z *ℤ entry_of measure n (column n front w.0) (n + length front)) e,
+          zero-mulℤ (entry_of measure n (column n front w.0) (n + length front)),
+        )))
     | inr nothing ↦ inr (omega (arith, linear, none, ap (λ z. w.1 *ℤ z) nothing, mul-zeroℤ w.1))
   ]
 ]
@@ -95,19 +129,27 @@ some_in [] s h = absurd (false≢true h)
 some_in (c ∷ cs) s h = omega arith
 
 -- the level of an optimal stage has a coalition
-pub level_some : (family : Family) (measure : Measure) (g : Game) (front : List Level) (t : Stage) → StageHolds family measure g front t → 1 ≤ length t.level.coalitions
-level_some family measure g front t holds = elim (some_outer measure (stage_program family measure g front t.outside) g.players front t.weights holds.optimal.0.0.0) [
-  | inl found ↦ some_in t.level.coalitions found.0 (holds.follows.all_coalitions found.0 found.1)
-  | inr none ↦
-      let row = holds.optimal.0.2 (g.players + length front) (omega arith) in
-      let u : nat_eq (g.players + length front) (g.players + length front) ≡ true = grind (arith, nat_tests) in
-      let right : t.weight_den *ℤ (if nat_eq (g.players + length front) (g.players + length front) then pos 1 else pos 0) ≡ t.weight_den = rw u (mul-oneℤ t.weight_den) in
-      absurd (omega (arith, linear, row, right, none, holds.optimal.0.1))
-]
+pub level_some : (family : Family) (measure : Measure) (g : Game) (front : List Level) (t : Stage)
+    → StageHolds family measure g front t → 1 ≤ length t.level.coalitions
+level_some family measure g front t holds =
+    elim
+    (some_outer measure (stage_program family measure g front t.outside) g.players front t.weights
+    holds.optimal.0.0.0) [
+      | inl found ↦ some_in t.level.coalitions found.0 (holds.follows.all_coalitions found.0 found.1)
+      | inr none ↦
+          let row = holds.optimal.0.2 (g.players + length front) (omega arith) in
+          let u : nat_eq (g.players + length front) (g.players + length front) ≡ true = grind (arith, nat_tests) in
+          let right : t.weight_den
+          *ℤ (if nat_eq (g.players + length front) (g.players + length front) then pos 1 else pos 0)
+          ≡ t.weight_den = rw u (mul-oneℤ t.weight_den) in
+          absurd (omega (arith, linear, row, right, none, holds.optimal.0.1))
+    ]
 
 -- ---- the coalitions of a level were outside
 
-outer_test : (family : Family) (measure : Measure) (g : Game) (front : List Level) (outside : ℕ → Bool) (s : ℕ) → IsTrue ((stage_program family measure g front outside).is_column (outer_id g.players front s)) → IsTrue (outside s)
+outer_test : (family : Family) (measure : Measure) (g : Game) (front : List Level) (outside : ℕ → Bool) (s : ℕ)
+    → IsTrue ((stage_program family measure g front outside).is_column (outer_id g.players front s))
+    → IsTrue (outside s)
 outer_test family measure g front outside s is_so =
     let n : ℕ = g.players in
     let len : ℕ = length (settled_columns n front) in
@@ -119,26 +161,41 @@ outer_test family measure g front outside s is_so =
     rw w at (rw u at (rw t' at (rw v at (rw t at is_so))))
 
 -- so each stage settles more than those in front
-pub level_outside : (family : Family) (measure : Measure) (g : Game) (front : List Level) (t : Stage) → StageHolds family measure g front t → AllByRecursion (λ c. IsOutside Span g.players front c.0) t.level.coalitions
+pub level_outside : (family : Family) (measure : Measure) (g : Game) (front : List Level) (t : Stage)
+    → StageHolds family measure g front t
+    → AllByRecursion (λ c. IsOutside Span g.players front c.0) t.level.coalitions
 level_outside family measure g front t holds =
-    all_weaken (λ c. (pos 1 ≤ℤ c.1) × HasWeight t.weights (outer_id g.players front c.0)) (λ c. IsOutside Span g.players front c.0) t.level.coalitions
-    (λ c h. (holds.decides c.0).0 (outer_test family measure g front t.outside c.0 (tight_optimal (stage_program family measure g front t.outside) t.weights t.weight_den t.multipliers t.den holds.optimal (outer_id g.players front c.0) h.1).0))
+    all_weaken (λ c. (pos 1 ≤ℤ c.1) × HasWeight t.weights (outer_id g.players front c.0))
+    (λ c. IsOutside Span g.players front c.0) t.level.coalitions
+    (λ c h. (holds.decides c.0).0
+    (outer_test family measure g front t.outside c.0
+    (tight_optimal (stage_program family measure g front t.outside) t.weights t.weight_den t.multipliers t.den
+    holds.optimal (outer_id g.players front c.0) h.1).0))
     holds.follows.coalitions
 
-pub level_proper : (family : Family) (measure : Measure) (g : Game) (front : List Level) (t : Stage) → StageHolds family measure g front t → AllByRecursion (λ c. (0 < c.0) × (c.0 < grand_coalition g.players)) t.level.coalitions
+pub level_proper : (family : Family) (measure : Measure) (g : Game) (front : List Level) (t : Stage)
+    → StageHolds family measure g front t
+    → AllByRecursion (λ c. (0 < c.0) × (c.0 < grand_coalition g.players)) t.level.coalitions
 level_proper family measure g front t holds =
-    all_weaken (λ c. IsOutside Span g.players front c.0) (λ c. (0 < c.0) × (c.0 < grand_coalition g.players)) t.level.coalitions (λ c h. (h.0, h.1)) (level_outside family measure g front t holds)
+    all_weaken (λ c. IsOutside Span g.players front c.0) (λ c. (0 < c.0) × (c.0 < grand_coalition g.players))
+    t.level.coalitions (λ c h. (h.0, h.1)) (level_outside family measure g front t holds)
 
-pub level_players : (family : Family) (measure : Measure) (g : Game) (front : List Level) (t : Stage) → StageHolds family measure g front t → AllByRecursion (λ b. b.0 < g.players) t.level.bounds
+pub level_players : (family : Family) (measure : Measure) (g : Game) (front : List Level) (t : Stage)
+    → StageHolds family measure g front t → AllByRecursion (λ b. b.0 < g.players) t.level.bounds
 level_players family measure g front t holds =
-    all_weaken (BoundComes family g front t.weights) (λ b. b.0 < g.players) t.level.bounds (λ b h. h.0) holds.follows.bounds
+    all_weaken (BoundComes family g front t.weights) (λ b. b.0 < g.players) t.level.bounds (λ b h. h.0)
+    holds.follows.bounds
 
 -- ---- the entries of a column in a player's row, for the pass that adds up a level
 
-pub entry_outer : (measure : Measure) (n : ℕ) (front : List Level) (s i : ℕ) → i < n → entry_of measure n (column n front (outer_id n front s)) i ≡ (if has_player s i then pos 1 else pos 0)
+pub entry_outer : (measure : Measure) (n : ℕ) (front : List Level) (s i : ℕ) → i < n
+    → entry_of measure n (column n front (outer_id n front s)) i ≡ (if has_player s i then pos 1 else pos 0)
 entry_outer measure n front s i h =
     let t : nat_lt i n ≡ true = grind (arith, nat_tests) in
-    ap (λ c. entry_of measure n c i) (column_outer n front s) ∙ ap (λ (b : Bool). cond b (if has_player s i then pos 1 else pos 0) (if nat_eq i (n + length front) then pos (divisor measure s) else pos 0)) t
+    ap (λ c. entry_of measure n c i) (column_outer n front s)
+    ∙ ap
+    (λ (b : Bool). cond b (if has_player s i then pos 1 else pos 0)
+    (if nat_eq i (n + length front) then pos (divisor measure s) else pos 0)) t
 
 alone_test : (p i : ℕ) → has_player (singleton p) i ≡ nat_eq p i
 alone_test p i = elim (same_or_other p i) [
@@ -150,7 +207,12 @@ alone_test p i = elim (same_or_other p i) [
       has_player-singleton_other p i (λ e. ne (sym e)) ∙ sym t
 ]
 
-pub entry_single : (measure : Measure) (n : ℕ) (front : List Level) (p i : ℕ) → p < n → i < n → entry_of measure n (column n front (single_id n front p)) i ≡ (if nat_eq p i then pos 1 else pos 0)
+pub entry_single : (measure : Measure) (n : ℕ) (front : List Level) (p i : ℕ) → p < n → i < n
+    → entry_of measure n (column n front (single_id n front p)) i ≡ (if nat_eq p i then pos 1 else pos 0)
 entry_single measure n front p i k h =
     let t : nat_lt i n ≡ true = grind (arith, nat_tests) in
-    ap (λ c. entry_of measure n c i) (column_single n front p k) ∙ ap (λ (b : Bool). cond b (if has_player (singleton p) i then pos 1 else pos 0) (if nat_eq i (n + (length front + 1)) then pos (divisor measure (singleton p)) else pos 0)) t ∙ ap (λ (b : Bool). cond b (pos 1) (pos 0)) (alone_test p i)
+    ap (λ c. entry_of measure n c i) (column_single n front p k)
+    ∙ ap
+    (λ (b : Bool). cond b (if has_player (singleton p) i then pos 1 else pos 0)
+    (if nat_eq i (n + (length front + 1)) then pos (divisor measure (singleton p)) else pos 0)) t
+    ∙ ap (λ (b : Bool). cond b (pos 1) (pos 0)) (alone_test p i)

@@ -1,5 +1,6 @@
 -- The level of a stage has the form of a certificate's level, and so has a chain with one level more.
-use Rattle.std.proofs.Common.{◌≡◌, ℕ, ◌+◌, ◌*◌, ◌^◌, ◌<◌, ◌≤◌, true, IsTrue, nat_eq, List, [], ◌∷◌, ◌++◌, length, map, ℤ, unsigned_abs, sym, subst, arith}
+use Rattle.std.proofs.Common.{◌≡◌, ℕ, ◌+◌, ◌*◌, ◌^◌, ◌<◌, ◌≤◌, true, IsTrue, nat_eq, List, [], ◌∷◌}
+use Rattle.std.proofs.Common.{◌++◌, length, map, ℤ, unsigned_abs, sym, subst, arith}
 use Rattle.std.specs.List.{list_any, AllByRecursion, IsDistinct}
 use Rattle.definitions.specs.Games.{Game}
 use Rattle.definitions.specs.Certificates.{Level, is_listed, Ascends, IsSmall, LevelForm, LevelsForm}
@@ -12,7 +13,8 @@ use Rattle.nested_programs.proofs.Advance.{append_assoc}
 use Rattle.nested_programs.proofs.Chain.{append_none}
 use Rattle.nested_programs.proofs.Form.{level_some, level_proper, level_players}
 use Rattle.nested_programs.proofs.FewEntries.{level_short}
-use Rattle.nested_programs.proofs.PairKeys.{all_rows, outer_apart, outer_all, earlier_apart, earlier_all, bound_ascends, bound_all}
+use Rattle.nested_programs.proofs.PairKeys.{all_rows, outer_apart, outer_all, earlier_apart}
+use Rattle.nested_programs.proofs.PairKeys.{earlier_all, bound_ascends, bound_all}
 use Rattle.nested_programs.proofs.SmallNumbers.{net_small}
 use Rattle.definitions.proofs.Cases.{nat_eq-same, or_left, or_right}
 use Rattle.definitions.proofs.Alls.{all_any, all_join, all_weaken}
@@ -22,45 +24,64 @@ use Rattle.kohlberg.proofs.Placed.{placed_all, placed_ascends}
 
 own_pairs : (cs : List (ℕ × ℤ)) → AllByRecursion (λ c. list_any (λ b. nat_eq b.0 c.0) cs ≡ true) cs
 own_pairs [] = tt
-own_pairs (c ∷ cs) =
-    (or_left (nat_eq c.0 c.0) (list_any (λ b. nat_eq b.0 c.0) cs) (nat_eq-same c.0), all_weaken (λ d. list_any (λ b. nat_eq b.0 d.0) cs ≡ true) (λ d. list_any (λ b. nat_eq b.0 d.0) (c ∷ cs) ≡ true) cs (λ d h. or_right (nat_eq c.0 d.0) (list_any (λ b. nat_eq b.0 d.0) cs) h) (own_pairs cs))
+own_pairs (c ∷ cs) = (
+  or_left (nat_eq c.0 c.0) (list_any (λ b. nat_eq b.0 c.0) cs) (nat_eq-same c.0),
+  all_weaken (λ d. list_any (λ b. nat_eq b.0 d.0) cs ≡ true)
+      (λ d. list_any (λ b. nat_eq b.0 d.0) (c ∷ cs) ≡ true) cs
+      (λ d h. or_right (nat_eq c.0 d.0) (list_any (λ b. nat_eq b.0 d.0) cs) h) (own_pairs cs),
+)
 
-pub earlier_listed : (k : ℕ) (levels : List Level) → AllByRecursion (λ c. is_listed levels c.0 ≡ true) (earlier_of k levels)
+pub earlier_listed : (k : ℕ) (levels : List Level)
+    → AllByRecursion (λ c. is_listed levels c.0 ≡ true) (earlier_of k levels)
 earlier_listed k [] = tt
 earlier_listed k (l ∷ levels) =
     all_join (λ c. is_listed (l ∷ levels) c.0 ≡ true) (map (λ c. (c.0, k)) l.coalitions) (earlier_of (k + 1) levels)
-    (all_rows (λ s. is_listed (l ∷ levels) s ≡ true) k l.coalitions (all_weaken (λ c. list_any (λ b. nat_eq b.0 c.0) l.coalitions ≡ true) (λ c. is_listed (l ∷ levels) c.0 ≡ true) l.coalitions (λ c h. or_left (list_any (λ b. nat_eq b.0 c.0) l.coalitions) (is_listed levels c.0) h) (own_pairs l.coalitions)))
-    (all_weaken (λ c. is_listed levels c.0 ≡ true) (λ c. is_listed (l ∷ levels) c.0 ≡ true) (earlier_of (k + 1) levels) (λ c h. or_right (list_any (λ b. nat_eq b.0 c.0) l.coalitions) (is_listed levels c.0) h) (earlier_listed (k + 1) levels))
+    (all_rows (λ s. is_listed (l ∷ levels) s ≡ true) k l.coalitions
+    (all_weaken (λ c. list_any (λ b. nat_eq b.0 c.0) l.coalitions ≡ true) (λ c. is_listed (l ∷ levels) c.0 ≡ true)
+    l.coalitions (λ c h. or_left (list_any (λ b. nat_eq b.0 c.0) l.coalitions) (is_listed levels c.0) h)
+    (own_pairs l.coalitions)))
+    (all_weaken (λ c. is_listed levels c.0 ≡ true) (λ c. is_listed (l ∷ levels) c.0 ≡ true)
+    (earlier_of (k + 1) levels)
+    (λ c h. or_right (list_any (λ b. nat_eq b.0 c.0) l.coalitions) (is_listed levels c.0) h)
+    (earlier_listed (k + 1) levels))
 
 -- ---- the excess, the keys and the numbers of a stage's level
 
-level_listed : (n : ℕ) (front : List Level) (ws : List (ℕ × ℤ)) (m : List ℤ) (den : ℤ) (l : Level) → IsLevelOf n front ws m den l → AllByRecursion (λ c. IsTrue (is_listed front c.0)) l.earlier
+level_listed : (n : ℕ) (front : List Level) (ws : List (ℕ × ℤ)) (m : List ℤ) (den : ℤ) (l : Level)
+    → IsLevelOf n front ws m den l → AllByRecursion (λ c. IsTrue (is_listed front c.0)) l.earlier
 level_listed n front ws m den l is =
     subst (AllByRecursion (λ c. is_listed front c.0 ≡ true)) (sym is.earlier)
     (placed_all (λ c. is_listed front c.0 ≡ true) (earlier_pairs ws 2 (earlier_of 0 front))
     (earlier_all (λ c. is_listed front c.0 ≡ true) ws 2 (earlier_of 0 front)
-    (all_weaken (λ c. is_listed front c.0 ≡ true) (λ c. (a b : ℕ) → is_listed front c.0 ≡ true) (earlier_of 0 front) (λ c h a b. h) (earlier_listed 0 front))))
+    (all_weaken (λ c. is_listed front c.0 ≡ true) (λ c. (a b : ℕ) → is_listed front c.0 ≡ true) (earlier_of 0 front)
+    (λ c h a b. h) (earlier_listed 0 front))))
 
 below_63 : (a : ℕ) → a < 2 ^ 62 → a < 2 ^ 63
 below_63 a h = omega arith
 
-coalitions_small : (n : ℕ) (front : List Level) (ws : List (ℕ × ℤ)) (m : List ℤ) (den : ℤ) (l : Level) → IsLevelOf n front ws m den l → AreNumbers ws → AllByRecursion (λ p. IsSmall p.1) l.coalitions
+coalitions_small : (n : ℕ) (front : List Level) (ws : List (ℕ × ℤ)) (m : List ℤ) (den : ℤ) (l : Level)
+    → IsLevelOf n front ws m den l → AreNumbers ws → AllByRecursion (λ p. IsSmall p.1) l.coalitions
 coalitions_small n front ws m den l is numbers =
     let first : ℕ = first_single front + (n + n) in
     subst (AllByRecursion (λ p. IsSmall p.1)) (sym is.coalitions)
     (placed_all (λ p. IsSmall p.1) (outer_pairs first ws)
     (outer_all (λ p. IsSmall p.1) first ws
-    (all_weaken (λ w. unsigned_abs w.1 < 2 ^ 62) (λ w. (s : ℕ) → IsSmall w.1) ws (λ w h s. below_63 (unsigned_abs w.1) h) numbers.small)))
+    (all_weaken (λ w. unsigned_abs w.1 < 2 ^ 62) (λ w. (s : ℕ) → IsSmall w.1) ws
+    (λ w h s. below_63 (unsigned_abs w.1) h) numbers.small)))
 
-earlier_small : (n : ℕ) (front : List Level) (ws : List (ℕ × ℤ)) (m : List ℤ) (den : ℤ) (l : Level) → IsLevelOf n front ws m den l → AreNumbers ws → AllByRecursion (λ p. IsSmall p.1) l.earlier
+earlier_small : (n : ℕ) (front : List Level) (ws : List (ℕ × ℤ)) (m : List ℤ) (den : ℤ) (l : Level)
+    → IsLevelOf n front ws m den l → AreNumbers ws → AllByRecursion (λ p. IsSmall p.1) l.earlier
 earlier_small n front ws m den l is numbers =
     subst (AllByRecursion (λ p. IsSmall p.1)) (sym is.earlier)
     (placed_all (λ p. IsSmall p.1) (earlier_pairs ws 2 (earlier_of 0 front))
-    (earlier_all (λ p. IsSmall p.1) ws 2 (earlier_of 0 front) (all_any (λ c. (a b : ℕ) → IsSmall (net ws a b)) (earlier_of 0 front) (λ c a b. net_small ws a b numbers))))
+    (earlier_all (λ p. IsSmall p.1) ws 2 (earlier_of 0 front)
+    (all_any (λ c. (a b : ℕ) → IsSmall (net ws a b)) (earlier_of 0 front) (λ c a b. net_small ws a b numbers))))
 
-bounds_small : (n : ℕ) (front : List Level) (ws : List (ℕ × ℤ)) (m : List ℤ) (den : ℤ) (l : Level) → IsLevelOf n front ws m den l → AreNumbers ws → AllByRecursion (λ p. IsSmall p.1) l.bounds
+bounds_small : (n : ℕ) (front : List Level) (ws : List (ℕ × ℤ)) (m : List ℤ) (den : ℤ) (l : Level)
+    → IsLevelOf n front ws m den l → AreNumbers ws → AllByRecursion (λ p. IsSmall p.1) l.bounds
 bounds_small n front ws m den l is numbers =
-    subst (AllByRecursion (λ p. IsSmall p.1)) (sym is.bounds) (bound_all (λ p. IsSmall p.1) ws (first_single front) n n (λ k a b lt. net_small ws a b numbers))
+    subst (AllByRecursion (λ p. IsSmall p.1)) (sym is.bounds)
+    (bound_all (λ p. IsSmall p.1) ws (first_single front) n n (λ k a b lt. net_small ws a b numbers))
 
 -- ---- the form
 
@@ -68,12 +89,18 @@ fewer : (n a b c : ℕ) → a + b + c < 2 * n → n ≤ 16 → (a ≤ 65536) × 
 fewer n a b c h k = (omega arith, omega arith)
 
 -- the level of a stage has its form
-pub level_formed : (family : Family) (measure : Measure) (g : Game) (front : List Level) (t : Stage) → StageHolds family measure g front t → AreNumbers t.weights → IsLevelOf g.players front t.weights t.multipliers t.den t.level → IsDistinct nat_eq (map (λ c. c.0) (earlier_of 0 front)) → length t.weights ≤ g.players + (length front + 1) → length front + 2 ≤ g.players → g.players ≤ 16 → LevelForm g.players front t.level
+pub level_formed : (family : Family) (measure : Measure) (g : Game) (front : List Level) (t : Stage)
+    → StageHolds family measure g front t → AreNumbers t.weights
+    → IsLevelOf g.players front t.weights t.multipliers t.den t.level
+    → IsDistinct nat_eq (map (λ c. c.0) (earlier_of 0 front)) → length t.weights ≤ g.players + (length front + 1)
+    → length front + 2 ≤ g.players → g.players ≤ 16 → LevelForm g.players front t.level
 level_formed family measure g front t holds numbers is apart few low most =
     let n : ℕ = g.players in
     let l : Level = t.level in
     let ws : List (ℕ × ℤ) = t.weights in
-    let entries = fewer n (length l.coalitions) (length l.earlier) (length l.bounds) (level_short n front ws t.multipliers t.den l is few low) most in
+    let entries =
+    fewer n (length l.coalitions) (length l.earlier) (length l.bounds)
+    (level_short n front ws t.multipliers t.den l is few low) most in
     record {
       fraction = is.excess.reduced.positive;
       some = level_some family measure g front t holds;
@@ -82,20 +109,33 @@ level_formed family measure g front t holds numbers is apart few low most =
       proper = level_proper family measure g front t holds;
       listed = level_listed n front ws t.multipliers t.den l is;
       players = level_players family measure g front t holds;
-      ascend = subst (Ascends 0) (sym is.coalitions) (placed_ascends (outer_pairs (first_single front + (n + n)) ws) (outer_apart (first_single front + (n + n)) ws numbers.distinct));
-      earlier_ascend = subst (Ascends 0) (sym is.earlier) (placed_ascends (earlier_pairs ws 2 (earlier_of 0 front)) (earlier_apart ws 2 (earlier_of 0 front) apart));
+      ascend =
+          subst (Ascends 0) (sym is.coalitions)
+          (placed_ascends (outer_pairs (first_single front + (n + n)) ws)
+          (outer_apart (first_single front + (n + n)) ws numbers.distinct));
+      earlier_ascend =
+          subst (Ascends 0) (sym is.earlier)
+          (placed_ascends (earlier_pairs ws 2 (earlier_of 0 front))
+          (earlier_apart ws 2 (earlier_of 0 front) apart));
       bounds_ascend = subst (Ascends 0) (sym is.bounds) (bound_ascends ws (first_single front) n n);
       small = all_join (λ p. IsSmall p.1) (l.coalitions ++ l.earlier) l.bounds
-          (all_join (λ p. IsSmall p.1) l.coalitions l.earlier (coalitions_small n front ws t.multipliers t.den l is numbers) (earlier_small n front ws t.multipliers t.den l is numbers))
+          (all_join (λ p. IsSmall p.1) l.coalitions l.earlier
+          (coalitions_small n front ws t.multipliers t.den l is numbers)
+          (earlier_small n front ws t.multipliers t.den l is numbers))
           (bounds_small n front ws t.multipliers t.den l is numbers);
       total_small = subst IsSmall (sym is.total) (net_small ws 1 0 numbers);
     }
 
-form_behind : (n : ℕ) (before rest : List Level) (l : Level) → LevelsForm n before rest → LevelForm n (before ++ rest) l → LevelsForm n before (rest ++ l ∷ [])
+form_behind : (n : ℕ) (before rest : List Level) (l : Level) → LevelsForm n before rest
+    → LevelForm n (before ++ rest) l → LevelsForm n before (rest ++ l ∷ [])
 form_behind n before [] l h form = (subst (λ (ls : List Level). LevelForm n ls l) (append_none before) form, tt)
-form_behind n before (r ∷ rest) l h form =
-    (h.0, form_behind n (before ++ r ∷ []) rest l h.1 (subst (λ (ls : List Level). LevelForm n ls l) (sym (append_assoc before (r ∷ []) rest)) form))
+form_behind n before (r ∷ rest) l h form = (
+  h.0,
+  form_behind n (before ++ r ∷ []) rest l h.1
+      (subst (λ (ls : List Level). LevelForm n ls l) (sym (append_assoc before (r ∷ []) rest)) form),
+)
 
 -- one level more has the form too
-pub form_more : (n : ℕ) (front : List Level) (l : Level) → LevelsForm n [] front → LevelForm n front l → LevelsForm n [] (front ++ l ∷ [])
+pub form_more : (n : ℕ) (front : List Level) (l : Level) → LevelsForm n [] front → LevelForm n front l
+    → LevelsForm n [] (front ++ l ∷ [])
 form_more n front l h form = form_behind n [] front l h form

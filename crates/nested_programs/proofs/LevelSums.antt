@@ -3,7 +3,9 @@
 --   is_at           1 at one number and 0 elsewhere
 --   outer_part      1 at the coalitions outside that hold the player
 --   earlier_part    1 at a coalition of the levels in front that holds the player, and -1 at the same negated
-use Rattle.std.proofs.Common.{◌≡◌, ℕ, zero, suc, ◌+◌, ◌-◌, ◌<◌, ◌≤◌, Bool, true, false, cond, List, [], ◌∷◌, ◌++◌, ℤ, pos, ◌+ℤ◌, ◌-ℤ◌, ◌*ℤ◌, refl, sym, ap, ◌∙◌, inl, inr, arith, nat_eq, nat_le, if◌then◌else◌}
+use Rattle.std.proofs.Common.{◌≡◌, ℕ, zero, suc, ◌+◌, ◌-◌, ◌<◌, ◌≤◌, Bool, true, false, cond}
+use Rattle.std.proofs.Common.{List, [], ◌∷◌, ◌++◌, ℤ, pos, ◌+ℤ◌, ◌-ℤ◌, ◌*ℤ◌, refl, sym, ap, ◌∙◌}
+use Rattle.std.proofs.Common.{inl, inr, arith, nat_eq, nat_le, if◌then◌else◌}
 use Rattle.std.proofs.lemmas.Bool.Decides.{nat_tests, Decides-int_eq}
 use Rattle.std.specs.Ordering.{int_eq}
 use Rattle.definitions.proofs.Ring.{linear, mul-zeroℤ, mul-oneℤ, mul-subℤ}
@@ -16,11 +18,13 @@ use Rattle.definitions.proofs.Cases.{true_or_false}
 
 -- ---- weighted sums
 
-pub weighted-sub : (f g : ℕ → ℤ) (ws : List (ℕ × ℤ)) → weighted_sum (λ id. f id -ℤ g id) ws ≡ weighted_sum f ws -ℤ weighted_sum g ws
+pub weighted-sub : (f g : ℕ → ℤ) (ws : List (ℕ × ℤ))
+    → weighted_sum (λ id. f id -ℤ g id) ws ≡ weighted_sum f ws -ℤ weighted_sum g ws
 weighted-sub f g [] = refl
 weighted-sub f g (w ∷ ws) = omega (arith, linear, weighted-sub f g ws, mul-subℤ w.1 (f w.0) (g w.0))
 
-pub weighted-same : (f g : ℕ → ℤ) (ws : List (ℕ × ℤ)) → ((id : ℕ) → f id ≡ g id) → weighted_sum f ws ≡ weighted_sum g ws
+pub weighted-same : (f g : ℕ → ℤ) (ws : List (ℕ × ℤ)) → ((id : ℕ) → f id ≡ g id)
+    → weighted_sum f ws ≡ weighted_sum g ws
 weighted-same f g [] h = refl
 weighted-same f g (w ∷ ws) h = omega (arith, linear, weighted-same f g ws h, ap (λ z. w.1 *ℤ z) (h w.0))
 
@@ -59,7 +63,8 @@ pub number_weighted : (id : ℕ) (ws : List (ℕ × ℤ)) → number_at ws id �
 number_weighted id [] = refl
 number_weighted id (w ∷ ws) = omega (arith, linear, number_weighted id ws, unit (nat_eq w.0 id) w.1)
 
-pub net_weighted : (id other : ℕ) (ws : List (ℕ × ℤ)) → net ws id other ≡ weighted_sum (λ k. is_at id k -ℤ is_at other k) ws
+pub net_weighted : (id other : ℕ) (ws : List (ℕ × ℤ))
+    → net ws id other ≡ weighted_sum (λ k. is_at id k -ℤ is_at other k) ws
 net_weighted id other ws =
     omega (arith, linear, number_weighted id ws, number_weighted other ws, weighted-sub (is_at id) (is_at other) ws)
 
@@ -68,11 +73,16 @@ net_weighted id other ws =
 abbrev pub outer_part : ℕ → ℕ → ℕ → ℤ
 outer_part first i id = if nat_le first id then (if has_player (id - first) i then pos 1 else pos 0) else pos 0
 
-outer_step : (first i : ℕ) (w : ℕ × ℤ) (ws : List (ℕ × ℤ)) (b : Bool) → weight_at (outer_pairs first ws) i ≡ weighted_sum (outer_part first i) ws → weight_at (cond b ((w.0 - first, w.1) ∷ outer_pairs first ws) (outer_pairs first ws)) i ≡ w.1 *ℤ cond b (if has_player (w.0 - first) i then pos 1 else pos 0) (pos 0) +ℤ weighted_sum (outer_part first i) ws
+outer_step : (first i : ℕ) (w : ℕ × ℤ) (ws : List (ℕ × ℤ)) (b : Bool)
+    → weight_at (outer_pairs first ws) i ≡ weighted_sum (outer_part first i) ws
+    → weight_at (cond b ((w.0 - first, w.1) ∷ outer_pairs first ws) (outer_pairs first ws)) i
+    ≡ w.1 *ℤ cond b (if has_player (w.0 - first) i then pos 1 else pos 0) (pos 0)
+    +ℤ weighted_sum (outer_part first i) ws
 outer_step first i w ws true ih = omega (arith, linear, ih, unit (has_player (w.0 - first) i) w.1)
 outer_step first i w ws false ih = omega (arith, linear, ih, mul-zeroℤ w.1)
 
-pub outer_weighted : (first i : ℕ) (ws : List (ℕ × ℤ)) → weight_at (outer_pairs first ws) i ≡ weighted_sum (outer_part first i) ws
+pub outer_weighted : (first i : ℕ) (ws : List (ℕ × ℤ))
+    → weight_at (outer_pairs first ws) i ≡ weighted_sum (outer_part first i) ws
 outer_weighted first i [] = refl
 outer_weighted first i (w ∷ ws) = outer_step first i w ws (nat_le first w.0) (outer_weighted first i ws)
 
@@ -85,41 +95,74 @@ abbrev pub earlier_part : ℕ → ℕ → List (ℕ × ℕ) → ℕ → ℤ
 earlier_part i id [] k = pos 0
 earlier_part i id (c ∷ cs) k = pair_part (has_player c.0 i) id k +ℤ earlier_part i (id + 2) cs k
 
-pair_weighted : (b : Bool) (id : ℕ) (ws : List (ℕ × ℤ)) → (if b then net ws id (id + 1) else pos 0) ≡ weighted_sum (pair_part b id) ws
+pair_weighted : (b : Bool) (id : ℕ) (ws : List (ℕ × ℤ))
+    → (if b then net ws id (id + 1) else pos 0) ≡ weighted_sum (pair_part b id) ws
 pair_weighted true id ws = net_weighted id (id + 1) ws
 pair_weighted false id ws = sym (weighted_sum-zero ws)
 
-pub earlier_weighted : (i : ℕ) (ws : List (ℕ × ℤ)) (id : ℕ) (cs : List (ℕ × ℕ)) → weight_at (earlier_pairs ws id cs) i ≡ weighted_sum (earlier_part i id cs) ws
+pub earlier_weighted : (i : ℕ) (ws : List (ℕ × ℤ)) (id : ℕ) (cs : List (ℕ × ℕ))
+    → weight_at (earlier_pairs ws id cs) i ≡ weighted_sum (earlier_part i id cs) ws
 earlier_weighted i ws id [] = sym (weighted_sum-zero ws)
 earlier_weighted i ws id (c ∷ cs) =
     let z : ℤ = net ws id (id + 1) in
     let more = weighted_sum-add (pair_part (has_player c.0 i) id) (earlier_part i (id + 2) cs) ws in
     let front = weight_at-append (kept c.0 z) (earlier_pairs ws (id + 2) cs) i in
-    omega (arith, linear, front, weight_at-kept c.0 z i, pair_weighted (has_player c.0 i) id ws, earlier_weighted i ws (id + 2) cs, more)
+    omega (
+      arith,
+      linear,
+      front,
+      weight_at-kept c.0 z i,
+      pair_weighted (has_player c.0 i) id ws,
+      earlier_weighted i ws (id + 2) cs,
+      more,
+    )
 
 -- ---- the bounds
 
-number_past : (ws : List (ℕ × ℤ)) (first n count i : ℕ) → count ≤ i → number_at (bound_pairs ws first n count) i ≡ pos 0
+number_past : (ws : List (ℕ × ℤ)) (first n count i : ℕ) → count ≤ i
+    → number_at (bound_pairs ws first n count) i ≡ pos 0
 number_past ws first n zero i h = refl
 number_past ws first n (suc j) i h =
     let z : ℤ = net ws (first + j) (first + j + n) in
     let t : nat_eq j i ≡ false = grind (arith, nat_tests) in
     let last : number_at (kept j z) i ≡ pos 0 = number_at-kept j z i ∙ ap (λ (b : Bool). cond b z (pos 0)) t in
-    omega (arith, linear, number_at-append (bound_pairs ws first n j) (kept j z) i, last, number_past ws first n j i (omega arith))
+    omega (
+      arith,
+      linear,
+      number_at-append (bound_pairs ws first n j) (kept j z) i,
+      last,
+      number_past ws first n j i (omega arith),
+    )
 
 -- the number of a player's bound is the net number of its column
-pub number_within : (ws : List (ℕ × ℤ)) (first n count i : ℕ) → i < count → number_at (bound_pairs ws first n count) i ≡ net ws (first + i) (first + i + n)
+pub number_within : (ws : List (ℕ × ℤ)) (first n count i : ℕ) → i < count
+    → number_at (bound_pairs ws first n count) i ≡ net ws (first + i) (first + i + n)
 number_within ws first n zero i h = absurd (omega arith)
 number_within ws first n (suc j) i h = elim (true_or_false (nat_eq j i)) [
   | inl same ↦
       let e : j ≡ i = grind (arith, nat_tests) in
       let here = ap (λ (b : Bool). cond b z (pos 0)) same in
       let net_is = ap (λ (k : ℕ). net ws (first + k) (first + k + n)) e in
-      omega (arith, linear, number_at-append (bound_pairs ws first n j) (kept j z) i, number_at-kept j z i, here, number_past ws first n j i (omega arith), net_is)
+      omega (
+        arith,
+        linear,
+        number_at-append (bound_pairs ws first n j) (kept j z) i,
+        number_at-kept j z i,
+        here,
+        number_past ws first n j i (omega arith),
+        net_is,
+      )
   | inr apart ↦
       let none = ap (λ (b : Bool). cond b z (pos 0)) apart in
       let lt : i < j = grind (arith, nat_tests) in
-      omega (arith, linear, number_at-append (bound_pairs ws first n j) (kept j z) i, number_at-kept j z i, none, number_within ws first n j i lt)
+      omega (
+        arith,
+        linear,
+        number_at-append (bound_pairs ws first n j) (kept j z) i,
+        number_at-kept j z i,
+        none,
+        number_within ws first n j i lt,
+      )
 ]
   where
     z : ℤ

@@ -9,6 +9,7 @@ mod Certify
 mod OwnExcesses
 mod LastStage
 mod OnePlayer
+mod SettledMore
 mod CertifiedPoint
 mod NumberedColumns
 mod LevelPasses

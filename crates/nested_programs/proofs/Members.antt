@@ -1,5 +1,7 @@
--- The family of a game has a member: each player gets its worth alone, and the first player also what is left of the worth of all.
-use Rattle.std.proofs.Common.{◌≡◌, ℕ, zero, suc, ◌+◌, ◌<◌, ◌≤◌, Bool, true, false, cond, length, ℤ, pos, ◌+ℤ◌, ◌-ℤ◌, ◌*ℤ◌, ◌≤ℤ◌, refl, ap, ◌∙◌, arith, if◌then◌else◌}
+-- The family of a game has a member: each player gets its worth alone, and the first player also what is left of
+-- the worth of all.
+use Rattle.std.proofs.Common.{◌≡◌, ℕ, zero, suc, ◌+◌, ◌<◌, ◌≤◌, Bool, true, false, cond, length, ℤ, pos}
+use Rattle.std.proofs.Common.{◌+ℤ◌, ◌-ℤ◌, ◌*ℤ◌, ◌≤ℤ◌, refl, ap, ◌∙◌, arith, if◌then◌else◌}
 use Rattle.definitions.proofs.Ring.{linear, one-mulℤ}
 use Rattle.definitions.proofs.Members.{sum_below-same, sum_below-add, sum_over-singleton, sum_over-grand_coalition}
 use Rattle.definitions.specs.Sums.{sum_below}
@@ -17,9 +19,11 @@ length-tabulate from (suc n) f = ap suc (length-tabulate (suc from) n f)
 abbrev first_gets : ℤ → ℕ → ℤ
 first_gets rest i = if has_player (singleton 0) i then rest else pos 0
 
-sum_below-first : (n : ℕ) (a : ℕ → ℤ) (rest : ℤ) → 0 < n → sum_below n (λ i. a i +ℤ first_gets rest i) ≡ sum_below n a +ℤ rest
+sum_below-first : (n : ℕ) (a : ℕ → ℤ) (rest : ℤ) → 0 < n
+    → sum_below n (λ i. a i +ℤ first_gets rest i) ≡ sum_below n a +ℤ rest
 sum_below-first n a rest some =
-    sum_below-add n a (first_gets rest) ∙ ap (λ (z : ℤ). sum_below n a +ℤ z) (sum_over-singleton n 0 (λ i. rest) some)
+    sum_below-add n a (first_gets rest)
+    ∙ ap (λ (z : ℤ). sum_below n a +ℤ z) (sum_over-singleton n 0 (λ i. rest) some)
 
 module _ (g : Game) (some : 1 ≤ g.players) where
   abbrev rest : ℤ
@@ -50,7 +54,9 @@ module _ (g : Game) (some : 1 ≤ g.players) where
 
   rational : singles g ≤ℤ g.worth (grand_coalition g.players) → IsIndividuallyRational g member
   rational low i lt =
-      rw (share_is i lt) (enough (has_player (singleton 0) i) (g.worth (singleton i)) (singles g) (g.worth (grand_coalition g.players)) low)
+      rw (share_is i lt)
+      (enough (has_player (singleton 0) i) (g.worth (singleton i)) (singles g)
+      (g.worth (grand_coalition g.players)) low)
     where
       enough : (b : Bool) (a s w : ℤ) → s ≤ℤ w → (pos 1 *ℤ a) ≤ℤ (a +ℤ cond b (w -ℤ s) (pos 0))
       enough true a s w h = omega (arith, linear, h, one-mulℤ a)

@@ -1,5 +1,6 @@
 -- The number of a column among weights on distinct columns: that of its weight, or 0.
-use Rattle.std.proofs.Common.{◌≡◌, ◌≢◌, ℕ, zero, suc, ◌<◌, true, false, nat_eq, List, [], ◌∷◌, length, map, get_or, ℤ, pos, refl, sym, ap, ◌∙◌, arith}
+use Rattle.std.proofs.Common.{◌≡◌, ◌≢◌, ℕ, zero, suc, ◌<◌, true, false, nat_eq, List, [], ◌∷◌}
+use Rattle.std.proofs.Common.{length, map, get_or, ℤ, pos, refl, sym, ap, ◌∙◌, arith}
 use Rattle.std.specs.List.{AllByRecursion, IsDistinct}
 use Rattle.std.proofs.lemmas.Bool.Decides.{nat_tests}
 use Rattle.definitions.proofs.Ring.{linear}
@@ -11,12 +12,14 @@ skipped p ps id ne =
     rw t (omega (arith, linear))
 
 -- a column without a weight has the number 0
-pub number_none : (ws : List (ℕ × ℤ)) (d : ℕ × ℤ) (id : ℕ) → ((j : ℕ) → j < length ws → (get_or ws j d).0 ≢ id) → number_at ws id ≡ pos 0
+pub number_none : (ws : List (ℕ × ℤ)) (d : ℕ × ℤ) (id : ℕ) → ((j : ℕ) → j < length ws → (get_or ws j d).0 ≢ id)
+    → number_at ws id ≡ pos 0
 number_none [] d id h = refl
 number_none (w ∷ ws) d id h =
     skipped w ws id (h 0 (omega arith)) ∙ number_none ws d id (λ j lt. h (suc j) (omega arith))
 
-none_same : (w : ℕ × ℤ) (ws : List (ℕ × ℤ)) → AllByRecursion (λ k. nat_eq w.0 k ≡ false) (map (λ p. p.0) ws) → number_at ws w.0 ≡ pos 0
+none_same : (w : ℕ × ℤ) (ws : List (ℕ × ℤ)) → AllByRecursion (λ k. nat_eq w.0 k ≡ false) (map (λ p. p.0) ws)
+    → number_at ws w.0 ≡ pos 0
 none_same w [] h = refl
 none_same w (v ∷ ws) h =
     let ne : v.0 ≢ w.0 = λ e. absurd_same w.0 v.0 e h.0 in
@@ -26,7 +29,8 @@ none_same w (v ∷ ws) h =
     absurd_same a b e h = grind (arith, nat_tests)
 
 -- a column's number is that of its one weight
-pub number_found : (ws : List (ℕ × ℤ)) (d : ℕ × ℤ) (k id : ℕ) → IsDistinct nat_eq (map (λ p. p.0) ws) → k < length ws → (get_or ws k d).0 ≡ id → number_at ws id ≡ (get_or ws k d).1
+pub number_found : (ws : List (ℕ × ℤ)) (d : ℕ × ℤ) (k id : ℕ) → IsDistinct nat_eq (map (λ p. p.0) ws)
+    → k < length ws → (get_or ws k d).0 ≡ id → number_at ws id ≡ (get_or ws k d).1
 unfolding IsDistinct
 number_found [] d k id h lt e = absurd (omega arith)
 number_found (w ∷ ws) d zero id h lt e =
@@ -36,7 +40,8 @@ number_found (w ∷ ws) d zero id h lt e =
 number_found (w ∷ ws) d (suc k) id h lt e =
     skipped w ws id (λ s. apart w ws d k h.0 (omega arith) (e ∙ sym s)) ∙ number_found ws d k id h.1 (omega arith) e
   where
-    apart : (w : ℕ × ℤ) (ws : List (ℕ × ℤ)) (d : ℕ × ℤ) (k : ℕ) → AllByRecursion (λ j. nat_eq w.0 j ≡ false) (map (λ p. p.0) ws) → k < length ws → (get_or ws k d).0 ≢ w.0
+    apart : (w : ℕ × ℤ) (ws : List (ℕ × ℤ)) (d : ℕ × ℤ) (k : ℕ)
+        → AllByRecursion (λ j. nat_eq w.0 j ≡ false) (map (λ p. p.0) ws) → k < length ws → (get_or ws k d).0 ≢ w.0
     apart w [] d k h lt e = absurd (omega arith)
     apart w (v ∷ vs) d zero h lt e = absurd_same w.0 v.0 e h.0
       where

@@ -1,11 +1,15 @@
--- Without a level only the vector of all players is fixed, so everything is fixed only where there is one player, who gets the worth of all.
-use Rattle.std.proofs.Common.{◌≡◌, ℕ, ◌<◌, ◌≤◌, Bool, cond, List, [], ◌∷◌, ℤ, pos, ◌+ℤ◌, ◌*ℤ◌, ◌≤ℤ◌, refl, sym, ap, ◌∙◌, inl, inr, arith}
+-- Without a level only the vector of all players is fixed, so everything is fixed only where there is one player,
+-- who gets the worth of all.
+use Rattle.std.proofs.Common.{◌≡◌, ℕ, ◌<◌, ◌≤◌, Bool, cond, List, [], ◌∷◌, ℤ, pos, ◌+ℤ◌}
+use Rattle.std.proofs.Common.{◌*ℤ◌, ◌≤ℤ◌, refl, sym, ap, ◌∙◌, inl, inr, arith}
 use Rattle.std.specs.List.{AllByRecursion}
 use Rattle.std.proofs.lemmas.Bool.{false≢true}
 use Rattle.definitions.proofs.Ring.{linear, one-mulℤ}
-use Rattle.definitions.proofs.Members.{has_player-singleton, has_player-singleton_other, has_player-grand_coalition, sum_over-grand_coalition}
+use Rattle.definitions.proofs.Members.{has_player-singleton, has_player-singleton_other}
+use Rattle.definitions.proofs.Members.{has_player-grand_coalition, sum_over-grand_coalition}
 use Rattle.definitions.specs.Coalitions.{has_player, singleton, grand_coalition, sum_over, weight_at}
-use Rattle.definitions.specs.Games.{Game, Allocation, share, IsAllocation, IsEfficient, IsIndividuallyRational, InFamily}
+use Rattle.definitions.specs.Games.{Game, Allocation, share, IsAllocation, IsEfficient}
+use Rattle.definitions.specs.Games.{IsIndividuallyRational, InFamily}
 use Rattle.definitions.specs.Certificates.{IsFixedVector, InSpan, IsAllFixed, Certifies}
 use Rattle.definitions.specs.declared.Family.{Family}
 use Rattle.definitions.specs.declared.Measure.{Measure}
@@ -19,17 +23,28 @@ fixed_everyone n s (inr (inr (i, lt, e, b))) = absurd (false≢true b)
 
 holds_both : (n s : ℕ) → 2 ≤ n → IsFixedVector n [] s → has_player s 0 ≡ has_player s 1
 holds_both n s two fixed =
-    rw (fixed_everyone n s fixed) (has_player-grand_coalition n 0 (omega (arith, two)) ∙ sym (has_player-grand_coalition n 1 (omega (arith, two))))
+    rw (fixed_everyone n s fixed)
+    (has_player-grand_coalition n 0 (omega (arith, two))
+    ∙ sym (has_player-grand_coalition n 1 (omega (arith, two))))
 
-same_weight : (n : ℕ) (ps : List (ℕ × ℤ)) → 2 ≤ n → AllByRecursion (λ p. IsFixedVector n [] p.0) ps → weight_at ps 0 ≡ weight_at ps 1
+same_weight : (n : ℕ) (ps : List (ℕ × ℤ)) → 2 ≤ n → AllByRecursion (λ p. IsFixedVector n [] p.0) ps
+    → weight_at ps 0 ≡ weight_at ps 1
 same_weight n [] two fixed = refl
 same_weight n (p ∷ ps) two fixed =
-    omega (arith, linear, ap (λ (b : Bool). cond b p.1 (pos 0)) (holds_both n p.0 two fixed.0), same_weight n ps two fixed.1)
+    omega (
+      arith,
+      linear,
+      ap (λ (b : Bool). cond b p.1 (pos 0)) (holds_both n p.0 two fixed.0),
+      same_weight n ps two fixed.1,
+    )
 
 first_apart : (n : ℕ) → 2 ≤ n → InSpan n (IsFixedVector n []) (singleton 0) → ⊥
 first_apart n two (m, ne, ps, fixed, sums) =
-    let first : weight_at ps 0 ≡ m = sums 0 (omega (arith, two)) ∙ ap (λ (b : Bool). cond b m (pos 0)) (has_player-singleton 0) in
-    let second : weight_at ps 1 ≡ pos 0 = sums 1 (omega (arith, two)) ∙ ap (λ (b : Bool). cond b m (pos 0)) (has_player-singleton_other 0 1 (omega arith)) in
+    let first : weight_at ps 0 ≡ m =
+    sums 0 (omega (arith, two)) ∙ ap (λ (b : Bool). cond b m (pos 0)) (has_player-singleton 0) in
+    let second : weight_at ps 1 ≡ pos 0 =
+    sums 1 (omega (arith, two))
+    ∙ ap (λ (b : Bool). cond b m (pos 0)) (has_player-singleton_other 0 1 (omega arith)) in
     ne (sym first ∙ same_weight n ps two fixed ∙ second)
 
 pub one_player : (n : ℕ) → 1 ≤ n → IsAllFixed Span n [] → n ≡ 1
@@ -49,7 +64,8 @@ module _ (g : Game) (one : g.players ≡ 1) where
 
   efficient : IsEfficient g (whole_share g)
   efficient =
-      ap (λ (n : ℕ). sum_over 1 (share (whole_share g)) (grand_coalition n)) one ∙ sum_over-grand_coalition 1 (share (whole_share g)) ∙ whole (g.worth (grand_coalition g.players))
+      ap (λ (n : ℕ). sum_over 1 (share (whole_share g)) (grand_coalition n)) one
+      ∙ sum_over-grand_coalition 1 (share (whole_share g)) ∙ whole (g.worth (grand_coalition g.players))
     where
       whole : (w : ℤ) → pos 0 +ℤ w ≡ pos 1 *ℤ w
       whole w = omega (arith, linear, one-mulℤ w)
@@ -59,7 +75,9 @@ module _ (g : Game) (one : g.players ≡ 1) where
 
   rational : IsIndividuallyRational g (whole_share g)
   rational i lt =
-      rw (alone i lt) (enough (g.worth (singleton 0)) (g.worth (grand_coalition g.players)) (sym (ap (λ (n : ℕ). g.worth (grand_coalition n)) one)))
+      rw (alone i lt)
+      (enough (g.worth (singleton 0)) (g.worth (grand_coalition g.players))
+      (sym (ap (λ (n : ℕ). g.worth (grand_coalition n)) one)))
     where
       enough : (a w : ℤ) → a ≡ w → (pos 1 *ℤ a) ≤ℤ w
       enough a w e = omega (arith, linear, e, one-mulℤ a)
@@ -68,5 +86,6 @@ module _ (g : Game) (one : g.players ≡ 1) where
   in_family Imputations = (allocates, efficient, rational)
   in_family Preimputations = (allocates, efficient)
 
-pub one_certified : (family : Family) (measure : Measure) (g : Game) → 1 ≤ g.players → IsAllFixed Span g.players [] → Certifies Span family measure g (whole_share g) []
+pub one_certified : (family : Family) (measure : Measure) (g : Game) → 1 ≤ g.players → IsAllFixed Span g.players []
+    → Certifies Span family measure g (whole_share g) []
 one_certified family measure g some all = (in_family g (one_player g.players some all) family, all)

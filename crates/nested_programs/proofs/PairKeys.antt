@@ -1,5 +1,6 @@
 -- The keys of the pairs of a level: distinct columns give distinct coalitions, and the players ascend.
-use Rattle.std.proofs.Common.{◌≡◌, ◌≢◌, ℕ, zero, suc, ◌+◌, ◌-◌, ◌<◌, ◌≤◌, false, nat_eq, nat_le, List, [], ◌∷◌, map, ℤ, inl, inr, arith}
+use Rattle.std.proofs.Common.{◌≡◌, ◌≢◌, ℕ, zero, suc, ◌+◌, ◌-◌, ◌<◌, ◌≤◌, false, nat_eq}
+use Rattle.std.proofs.Common.{nat_le, List, [], ◌∷◌, map, ℤ, inl, inr, arith}
 use Rattle.std.proofs.lemmas.Bool.Decides.{nat_tests}
 use Rattle.std.specs.List.{AllByRecursion, IsDistinct}
 use Rattle.definitions.specs.Certificates.{Ascends}
@@ -14,7 +15,9 @@ use Rattle.kohlberg.proofs.Placed.{Apart}
 other_mask : (first a b : ℕ) → first ≤ a → first ≤ b → nat_eq a b ≡ false → b - first ≢ a - first
 other_mask first a b ha hb ne e = let same : a ≡ b = omega (arith, ha, hb, e) in grind (arith, nat_tests)
 
-outer_new : (first id : ℕ) (ws : List (ℕ × ℤ)) → first ≤ id → AllByRecursion (λ y. nat_eq id y ≡ false) (map (λ (w : ℕ × ℤ). w.0) ws) → AllByRecursion (λ p. p.0 ≢ id - first) (outer_pairs first ws)
+outer_new : (first id : ℕ) (ws : List (ℕ × ℤ)) → first ≤ id
+    → AllByRecursion (λ y. nat_eq id y ≡ false) (map (λ (w : ℕ × ℤ). w.0) ws)
+    → AllByRecursion (λ p. p.0 ≢ id - first) (outer_pairs first ws)
 outer_new first id [] le h = tt
 outer_new first id (w ∷ ws) le h = elim (true_or_false (nat_le first w.0)) [
   | inl t ↦
@@ -23,7 +26,8 @@ outer_new first id (w ∷ ws) le h = elim (true_or_false (nat_le first w.0)) [
   | inr t ↦ rw t (outer_new first id ws le h.1)
 ]
 
-pub outer_apart : (first : ℕ) (ws : List (ℕ × ℤ)) → IsDistinct nat_eq (map (λ (w : ℕ × ℤ). w.0) ws) → Apart (outer_pairs first ws)
+pub outer_apart : (first : ℕ) (ws : List (ℕ × ℤ)) → IsDistinct nat_eq (map (λ (w : ℕ × ℤ). w.0) ws)
+    → Apart (outer_pairs first ws)
 unfolding IsDistinct
 outer_apart first [] h = tt
 outer_apart first (w ∷ ws) h = elim (true_or_false (nat_le first w.0)) [
@@ -33,7 +37,8 @@ outer_apart first (w ∷ ws) h = elim (true_or_false (nat_le first w.0)) [
   | inr t ↦ rw t (outer_apart first ws h.1)
 ]
 
-pub outer_all : (P : ℕ × ℤ → Type 0) (first : ℕ) (ws : List (ℕ × ℤ)) → AllByRecursion (λ w. (s : ℕ) → P (s, w.1)) ws → AllByRecursion P (outer_pairs first ws)
+pub outer_all : (P : ℕ × ℤ → Type 0) (first : ℕ) (ws : List (ℕ × ℤ)) → AllByRecursion (λ w. (s : ℕ) → P (s, w.1)) ws
+    → AllByRecursion P (outer_pairs first ws)
 outer_all P first [] h = tt
 outer_all P first (w ∷ ws) h = elim (true_or_false (nat_le first w.0)) [
   | inl t ↦ rw t (h.0 (w.0 - first), outer_all P first ws h.1)
@@ -42,40 +47,54 @@ outer_all P first (w ∷ ws) h = elim (true_or_false (nat_le first w.0)) [
 
 -- ---- the coalitions of the levels in front
 
-pub earlier_all : (P : ℕ × ℤ → Type 0) (ws : List (ℕ × ℤ)) (id : ℕ) (cs : List (ℕ × ℕ)) → AllByRecursion (λ c. (a b : ℕ) → P (c.0, net ws a b)) cs → AllByRecursion P (earlier_pairs ws id cs)
+pub earlier_all : (P : ℕ × ℤ → Type 0) (ws : List (ℕ × ℤ)) (id : ℕ) (cs : List (ℕ × ℕ))
+    → AllByRecursion (λ c. (a b : ℕ) → P (c.0, net ws a b)) cs → AllByRecursion P (earlier_pairs ws id cs)
 earlier_all P ws id [] h = tt
 earlier_all P ws id (c ∷ cs) h =
-    all_join P (kept c.0 (net ws id (id + 1))) (earlier_pairs ws (id + 2) cs) (kept_all P c.0 (net ws id (id + 1)) (h.0 id (id + 1))) (earlier_all P ws (id + 2) cs h.1)
+    all_join P (kept c.0 (net ws id (id + 1))) (earlier_pairs ws (id + 2) cs)
+    (kept_all P c.0 (net ws id (id + 1)) (h.0 id (id + 1))) (earlier_all P ws (id + 2) cs h.1)
 
 other_key : (a b : ℕ) → nat_eq a b ≡ false → b ≢ a
 other_key a b h e = grind (arith, nat_tests)
 
-pub all_rows : (P : ℕ → Type 0) (k : ℕ) (cs : List (ℕ × ℤ)) → AllByRecursion (λ c. P c.0) cs → AllByRecursion (λ (c : ℕ × ℕ). P c.0) (map (λ (c : ℕ × ℤ). (c.0, k)) cs)
+pub all_rows : (P : ℕ → Type 0) (k : ℕ) (cs : List (ℕ × ℤ)) → AllByRecursion (λ c. P c.0) cs
+    → AllByRecursion (λ (c : ℕ × ℕ). P c.0) (map (λ (c : ℕ × ℤ). (c.0, k)) cs)
 all_rows P k [] h = tt
 all_rows P k (c ∷ cs) h = (h.0, all_rows P k cs h.1)
 
-all_keys : (P : ℕ → Type 0) (cs : List (ℕ × ℕ)) → AllByRecursion P (map (λ (c : ℕ × ℕ). c.0) cs) → AllByRecursion (λ c. P c.0) cs
+all_keys : (P : ℕ → Type 0) (cs : List (ℕ × ℕ)) → AllByRecursion P (map (λ (c : ℕ × ℕ). c.0) cs)
+    → AllByRecursion (λ c. P c.0) cs
 all_keys P [] h = tt
 all_keys P (c ∷ cs) h = (h.0, all_keys P cs h.1)
 
-earlier_new : (ws : List (ℕ × ℤ)) (key id : ℕ) (cs : List (ℕ × ℕ)) → AllByRecursion (λ y. nat_eq key y ≡ false) (map (λ (c : ℕ × ℕ). c.0) cs) → AllByRecursion (λ p. p.0 ≢ key) (earlier_pairs ws id cs)
+earlier_new : (ws : List (ℕ × ℤ)) (key id : ℕ) (cs : List (ℕ × ℕ))
+    → AllByRecursion (λ y. nat_eq key y ≡ false) (map (λ (c : ℕ × ℕ). c.0) cs)
+    → AllByRecursion (λ p. p.0 ≢ key) (earlier_pairs ws id cs)
 earlier_new ws key id cs h =
-    earlier_all (λ p. p.0 ≢ key) ws id cs (all_weaken (λ c. nat_eq key c.0 ≡ false) (λ c. (a b : ℕ) → c.0 ≢ key) cs (λ c ne a b. other_key key c.0 ne) (all_keys (λ y. nat_eq key y ≡ false) cs h))
+    earlier_all (λ p. p.0 ≢ key) ws id cs
+    (all_weaken (λ c. nat_eq key c.0 ≡ false) (λ c. (a b : ℕ) → c.0 ≢ key) cs (λ c ne a b. other_key key c.0 ne)
+    (all_keys (λ y. nat_eq key y ≡ false) cs h))
 
-pub earlier_apart : (ws : List (ℕ × ℤ)) (id : ℕ) (cs : List (ℕ × ℕ)) → IsDistinct nat_eq (map (λ (c : ℕ × ℕ). c.0) cs) → Apart (earlier_pairs ws id cs)
+pub earlier_apart : (ws : List (ℕ × ℤ)) (id : ℕ) (cs : List (ℕ × ℕ))
+    → IsDistinct nat_eq (map (λ (c : ℕ × ℕ). c.0) cs) → Apart (earlier_pairs ws id cs)
 unfolding IsDistinct
 earlier_apart ws id [] h = tt
 earlier_apart ws id (c ∷ cs) h =
-    kept_apart c.0 (net ws id (id + 1)) (earlier_pairs ws (id + 2) cs) (earlier_new ws c.0 (id + 2) cs h.0) (earlier_apart ws (id + 2) cs h.1)
+    kept_apart c.0 (net ws id (id + 1)) (earlier_pairs ws (id + 2) cs) (earlier_new ws c.0 (id + 2) cs h.0)
+    (earlier_apart ws (id + 2) cs h.1)
 
 -- ---- the players at their bound
 
-pub bound_all : (P : ℕ × ℤ → Type 0) (ws : List (ℕ × ℤ)) (first n i : ℕ) → ((k a b : ℕ) → k < i → P (k, net ws a b)) → AllByRecursion P (bound_pairs ws first n i)
+pub bound_all : (P : ℕ × ℤ → Type 0) (ws : List (ℕ × ℤ)) (first n i : ℕ) → ((k a b : ℕ) → k < i → P (k, net ws a b))
+    → AllByRecursion P (bound_pairs ws first n i)
 bound_all P ws first n zero h = tt
 bound_all P ws first n (suc i) h =
-    all_join P (bound_pairs ws first n i) (kept i (net ws (first + i) (first + i + n))) (bound_all P ws first n i (λ k a b lt. h k a b (omega (arith, lt)))) (kept_all P i (net ws (first + i) (first + i + n)) (h i (first + i) (first + i + n) (omega arith)))
+    all_join P (bound_pairs ws first n i) (kept i (net ws (first + i) (first + i + n)))
+    (bound_all P ws first n i (λ k a b lt. h k a b (omega (arith, lt))))
+    (kept_all P i (net ws (first + i) (first + i + n)) (h i (first + i) (first + i + n) (omega arith)))
 
 pub bound_ascends : (ws : List (ℕ × ℤ)) (first n i : ℕ) → Ascends 0 (bound_pairs ws first n i)
 bound_ascends ws first n zero = tt
 bound_ascends ws first n (suc i) =
-    kept_ascends i (net ws (first + i) (first + i + n)) (bound_pairs ws first n i) (bound_ascends ws first n i) (bound_all (λ p. p.0 < i) ws first n i (λ k a b lt. lt))
+    kept_ascends i (net ws (first + i) (first + i + n)) (bound_pairs ws first n i) (bound_ascends ws first n i)
+    (bound_all (λ p. p.0 < i) ws first n i (λ k a b lt. lt))

@@ -13,18 +13,24 @@ kept_all P key z h = elim (kept_cases key z) [
   | inr some ↦ subst (AllByRecursion P) (sym some.0) (h, tt)
 ]
 
-pub kept_apart : (key : ℕ) (z : ℤ) (qs : List (ℕ × ℤ)) → AllByRecursion (λ p. p.0 ≢ key) qs → Apart qs → Apart (kept key z ++ qs)
+pub kept_apart : (key : ℕ) (z : ℤ) (qs : List (ℕ × ℤ)) → AllByRecursion (λ p. p.0 ≢ key) qs → Apart qs
+    → Apart (kept key z ++ qs)
 kept_apart key z qs new apart = elim (kept_cases key z) [
   | inl none ↦ subst (λ (ps : List (ℕ × ℤ)). Apart (ps ++ qs)) (sym none) apart
   | inr some ↦ subst (λ (ps : List (ℕ × ℤ)). Apart (ps ++ qs)) (sym some.0) (new, apart)
 ]
 
-ascends_last : (low key : ℕ) (z : ℤ) (ps : List (ℕ × ℤ)) → low ≤ key → Ascends low ps → AllByRecursion (λ p. p.0 < key) ps → Ascends low (ps ++ (key, z) ∷ [])
+ascends_last : (low key : ℕ) (z : ℤ) (ps : List (ℕ × ℤ)) → low ≤ key → Ascends low ps
+    → AllByRecursion (λ p. p.0 < key) ps → Ascends low (ps ++ (key, z) ∷ [])
 ascends_last low key z [] le h below = (le, tt)
-ascends_last low key z (p ∷ ps) le h below = let lt = below.0 in (h.0, ascends_last (p.0 + 1) key z ps (omega (arith, lt)) h.1 below.1)
+ascends_last low key z (p ∷ ps) le h below =
+    let lt = below.0 in (h.0, ascends_last (p.0 + 1) key z ps (omega (arith, lt)) h.1 below.1)
 
-pub kept_ascends : (key : ℕ) (z : ℤ) (ps : List (ℕ × ℤ)) → Ascends 0 ps → AllByRecursion (λ p. p.0 < key) ps → Ascends 0 (ps ++ kept key z)
+pub kept_ascends : (key : ℕ) (z : ℤ) (ps : List (ℕ × ℤ)) → Ascends 0 ps → AllByRecursion (λ p. p.0 < key) ps
+    → Ascends 0 (ps ++ kept key z)
 kept_ascends key z ps h below = elim (kept_cases key z) [
-  | inl none ↦ subst (λ (qs : List (ℕ × ℤ)). Ascends 0 (ps ++ qs)) (sym none) (subst (Ascends 0) (sym (append_none ps)) h)
-  | inr some ↦ subst (λ (qs : List (ℕ × ℤ)). Ascends 0 (ps ++ qs)) (sym some.0) (ascends_last 0 key z ps (omega arith) h below)
+  | inl none ↦ subst (λ (qs : List (ℕ × ℤ)). Ascends 0 (ps ++ qs)) (sym none)
+      (subst (Ascends 0) (sym (append_none ps)) h)
+  | inr some ↦ subst (λ (qs : List (ℕ × ℤ)). Ascends 0 (ps ++ qs)) (sym some.0)
+      (ascends_last 0 key z ps (omega arith) h below)
 ]

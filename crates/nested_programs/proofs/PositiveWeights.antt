@@ -1,5 +1,6 @@
 -- Weights of at least 1: the number of a column is at least 1 exactly where the column has a weight.
-use Rattle.std.proofs.Common.{◌≡◌, ℕ, Bool, true, IsTrue, List, [], ◌∷◌, ℤ, pos, ◌+ℤ◌, ◌≤ℤ◌, refl, subst, inl, inr, arith, nat_eq}
+use Rattle.std.proofs.Common.{◌≡◌, ℕ, Bool, true, IsTrue, List, [], ◌∷◌, ℤ, pos, ◌+ℤ◌}
+use Rattle.std.proofs.Common.{◌≤ℤ◌, refl, subst, inl, inr, arith, nat_eq}
 use Rattle.std.proofs.lemmas.Bool.Decides.{nat_tests}
 use Rattle.std.specs.List.{AllByRecursion}
 use Rattle.definitions.proofs.Ring.{linear}
@@ -15,7 +16,8 @@ number_low (w ∷ ws) id h = elim (true_or_false (nat_eq w.0 id)) [
   | inr other ↦ rw other (omega (arith, linear, number_low ws id h.1))
 ]
 
-pub number_some : (ws : List (ℕ × ℤ)) (id : ℕ) → AllByRecursion (λ w. pos 1 ≤ℤ w.1) ws → HasWeight ws id → pos 1 ≤ℤ number_at ws id
+pub number_some : (ws : List (ℕ × ℤ)) (id : ℕ) → AllByRecursion (λ w. pos 1 ≤ℤ w.1) ws → HasWeight ws id
+    → pos 1 ≤ℤ number_at ws id
 number_some [] id h has = absurd has
 number_some (w ∷ ws) id h (inl here) =
     let e = here.0 in
@@ -28,7 +30,8 @@ number_some (w ∷ ws) id h (inr more) =
       | inr other ↦ rw other (omega (arith, linear, ih))
     ]
 
-pub weight_of : (ws : List (ℕ × ℤ)) (id : ℕ) → AllByRecursion (λ w. pos 1 ≤ℤ w.1) ws → pos 1 ≤ℤ number_at ws id → HasWeight ws id
+pub weight_of : (ws : List (ℕ × ℤ)) (id : ℕ) → AllByRecursion (λ w. pos 1 ≤ℤ w.1) ws → pos 1 ≤ℤ number_at ws id
+    → HasWeight ws id
 weight_of [] id h some = absurd (omega (arith, linear, some))
 weight_of (w ∷ ws) id h some = elim (true_or_false (nat_eq w.0 id)) [
   | inl same ↦
@@ -39,13 +42,18 @@ weight_of (w ∷ ws) id h some = elim (true_or_false (nat_eq w.0 id)) [
       inr (weight_of ws id h.1 (omega (arith, linear, some, rest)))
 ]
 
-pub each_weighs : (ws : List (ℕ × ℤ)) → AllByRecursion (λ w. pos 1 ≤ℤ w.1) ws → AllByRecursion (λ w. (pos 1 ≤ℤ w.1) × HasWeight ws w.0) ws
+pub each_weighs : (ws : List (ℕ × ℤ)) → AllByRecursion (λ w. pos 1 ≤ℤ w.1) ws
+    → AllByRecursion (λ w. (pos 1 ≤ℤ w.1) × HasWeight ws w.0) ws
 each_weighs [] h = tt
-each_weighs (w ∷ ws) h =
-    ((h.0, inl (refl, h.0)), all_weaken (λ v. (pos 1 ≤ℤ v.1) × HasWeight ws v.0) (λ v. (pos 1 ≤ℤ v.1) × HasWeight (w ∷ ws) v.0) ws (λ v k. (k.0, inr k.1)) (each_weighs ws h.1))
+each_weighs (w ∷ ws) h = (
+  (h.0, inl (refl, h.0)),
+  all_weaken (λ v. (pos 1 ≤ℤ v.1) × HasWeight ws v.0) (λ v. (pos 1 ≤ℤ v.1) × HasWeight (w ∷ ws) v.0) ws
+      (λ v k. (k.0, inr k.1)) (each_weighs ws h.1),
+)
 
 -- a weight stands on a column
-pub on_column : (is_column : ℕ → Bool) (ws : List (ℕ × ℤ)) (id : ℕ) → AllByRecursion (λ w. IsTrue (is_column w.0) × (pos 0 ≤ℤ w.1)) ws → HasWeight ws id → IsTrue (is_column id)
+pub on_column : (is_column : ℕ → Bool) (ws : List (ℕ × ℤ)) (id : ℕ)
+    → AllByRecursion (λ w. IsTrue (is_column w.0) × (pos 0 ≤ℤ w.1)) ws → HasWeight ws id → IsTrue (is_column id)
 on_column is_column [] id h has = absurd has
 on_column is_column (w ∷ ws) id h (inl here) = subst (λ (k : ℕ). IsTrue (is_column k)) here.0 h.0.0
 on_column is_column (w ∷ ws) id h (inr more) = on_column is_column ws id h.1 more

@@ -1,10 +1,13 @@
 -- The dual reading of a stage program.
-use Rattle.std.proofs.Common.{◌≡◌, ℕ, zero, suc, ◌+◌, ◌-◌, ◌<◌, ◌≤◌, Bool, true, false, cond, IsTrue, List, [], ◌∷◌, length, map, ℤ, pos, ◌+ℤ◌, ◌-ℤ◌, ◌*ℤ◌, ◌≤ℤ◌, refl, sym, ap, subst, ◌∙◌, inl, inr, arith, nat_eq, nat_lt, if◌then◌else◌, slice_index_or}
+use Rattle.std.proofs.Common.{◌≡◌, ℕ, zero, suc, ◌+◌, ◌-◌, ◌<◌, ◌≤◌, Bool, true, false, cond, IsTrue, List, []}
+use Rattle.std.proofs.Common.{◌∷◌, length, map, ℤ, pos, ◌+ℤ◌, ◌-ℤ◌, ◌*ℤ◌, ◌≤ℤ◌, refl, sym, ap, subst, ◌∙◌, inl}
+use Rattle.std.proofs.Common.{inr, arith, nat_eq, nat_lt, if◌then◌else◌, slice_index_or}
 use Rattle.std.proofs.lemmas.Bool.{false≢true}
 use Rattle.std.proofs.lemmas.Bool.Decides.{nat_tests}
 use Rattle.std.specs.List.{AllByRecursion}
 use Rattle.definitions.proofs.Ring.{linear, mul-zeroℤ, mul-subℤ}
-use Rattle.definitions.proofs.Members.{sum_below-same, sum_over-grand_coalition, sum_over-singleton, sum_below-split, times_bit}
+use Rattle.definitions.proofs.Members.{sum_below-same, sum_over-grand_coalition}
+use Rattle.definitions.proofs.Members.{sum_over-singleton, sum_below-split, times_bit}
 use Rattle.definitions.specs.Sums.{sum_below}
 use Rattle.definitions.specs.Coalitions.{has_player, singleton, grand_coalition, sum_over}
 use Rattle.definitions.specs.Measures.{divisor}
@@ -14,7 +17,8 @@ use Rattle.definitions.specs.Programs.{Bounds, value_of}
 use Rattle.definitions.specs.declared.Family.{Family}
 use Rattle.definitions.specs.declared.Measure.{Measure}
 use Rattle.definitions.specs.declared.Family.TheVariants.{Imputations, Preimputations}
-use Rattle.separation.specs.Stage.{Column, signed, plus_entry, earlier_of, doubled, settled_columns, further_column, no_column, column, is_imputations, is_further, stage_program}
+use Rattle.separation.specs.Stage.{Column, signed, plus_entry, earlier_of, doubled, settled_columns}
+use Rattle.separation.specs.Stage.{further_column, no_column, column, is_imputations, is_further, stage_program}
 use Rattle.nested_programs.specs.Reading.{reached, IsReading, share_of, excess_of}
 use Rattle.definitions.proofs.Cases.{less_same_or_greater, true_or_false, and_left, and_right, and_both}
 use Rattle.separation.proofs.Valued.{signed_sum}
@@ -26,7 +30,8 @@ use Rattle.definitions.proofs.Alls.{all_join, all_weaken, all_with}
 abbrev pub level_value : ℕ → (ℕ → ℤ) → ℕ → ℤ → ℤ
 level_value j e row d = if nat_lt row j then e row *ℤ d else pos 0
 
-level_sum : (n j row : ℕ) (e : ℕ → ℤ) (d : ℤ) → sum_below j (λ k. e k *ℤ (if nat_eq (n + k) (n + row) then d else pos 0)) ≡ level_value j e row d
+level_sum : (n j row : ℕ) (e : ℕ → ℤ) (d : ℤ)
+    → sum_below j (λ k. e k *ℤ (if nat_eq (n + k) (n + row) then d else pos 0)) ≡ level_value j e row d
 level_sum n zero row e d = let t : nat_lt row 0 ≡ false = grind (arith, nat_tests) in rw t refl
 level_sum n (suc j) row e d = elim (less_same_or_greater row j) [
   | inl less ↦
@@ -40,7 +45,10 @@ level_sum n (suc j) row e d = elim (less_same_or_greater row j) [
       let u : nat_lt row j ≡ false = grind (arith, nat_tests) in
       let v : nat_eq (n + j) (n + row) ≡ true = grind (arith, nat_tests) in
       let ih = level_sum n j row e d in
-      rw t (rw v (omega (arith, linear, ap (λ (k : ℕ). e k *ℤ d) same, ih ∙ ap (λ (b : Bool). cond b (e row *ℤ d) (pos 0)) u)))
+      rw t
+      (rw v
+      (omega
+      (arith, linear, ap (λ (k : ℕ). e k *ℤ d) same, ih ∙ ap (λ (b : Bool). cond b (e row *ℤ d) (pos 0)) u)))
   | inr (inr more) ↦
       let t : nat_lt row (suc j) ≡ false = grind (arith, nat_tests) in
       let u : nat_lt row j ≡ false = grind (arith, nat_tests) in
@@ -53,19 +61,30 @@ level_sum n (suc j) row e d = elim (less_same_or_greater row j) [
 abbrev pub plus_value : Measure → ℕ → ℕ → (ℕ → ℤ) → (ℕ → ℤ) → ℕ → ℕ → ℤ
 plus_value measure n j x e mask row = sum_over n x mask +ℤ level_value j e row (pos (divisor measure mask))
 
-pub plus_value-is : (measure : Measure) (n j : ℕ) (m : List ℤ) (mask row : ℕ) → sum_below (n + j) (λ r. slice_index_or m r (pos 0) *ℤ plus_entry measure n mask row r) ≡ plus_value measure n j (share_of m) (excess_of n m) mask row
+pub plus_value-is : (measure : Measure) (n j : ℕ) (m : List ℤ) (mask row : ℕ)
+    → sum_below (n + j) (λ r. slice_index_or m r (pos 0) *ℤ plus_entry measure n mask row r)
+    ≡ plus_value measure n j (share_of m) (excess_of n m) mask row
 plus_value-is measure n j m mask row =
     let f : ℕ → ℤ = λ r. slice_index_or m r (pos 0) *ℤ plus_entry measure n mask row r in
     let split = sum_below-split n j f in
     let first = sum_below-same n f (λ i. if has_player mask i then share_of m i else pos 0) members in
-    let second = sum_below-same j (λ k. f (n + k)) (λ k. excess_of n m k *ℤ (if nat_eq (n + k) (n + row) then pos (divisor measure mask) else pos 0)) levels in
+    let second =
+    sum_below-same j (λ k. f (n + k))
+    (λ k. excess_of n m k *ℤ (if nat_eq (n + k) (n + row) then pos (divisor measure mask) else pos 0))
+    levels in
     let third = level_sum n j row (excess_of n m) (pos (divisor measure mask)) in
     omega (arith, linear, split, first, second, third)
   where
-    members : (i : ℕ) → i < n → slice_index_or m i (pos 0) *ℤ plus_entry measure n mask row i ≡ (if has_player mask i then share_of m i else pos 0)
-    members i h = let t : nat_lt i n ≡ true = grind (arith, nat_tests) in rw t (times_bit (has_player mask i) (slice_index_or m i (pos 0)))
+    members : (i : ℕ) → i < n
+        → slice_index_or m i (pos 0) *ℤ plus_entry measure n mask row i
+        ≡ (if has_player mask i then share_of m i else pos 0)
+    members i h =
+        let t : nat_lt i n ≡ true = grind (arith, nat_tests) in
+        rw t (times_bit (has_player mask i) (slice_index_or m i (pos 0)))
 
-    levels : (k : ℕ) → k < j → slice_index_or m (n + k) (pos 0) *ℤ plus_entry measure n mask row (n + k) ≡ excess_of n m k *ℤ (if nat_eq (n + k) (n + row) then pos (divisor measure mask) else pos 0)
+    levels : (k : ℕ) → k < j
+        → slice_index_or m (n + k) (pos 0) *ℤ plus_entry measure n mask row (n + k)
+        ≡ excess_of n m k *ℤ (if nat_eq (n + k) (n + row) then pos (divisor measure mask) else pos 0)
     levels k h = let t : nat_lt (n + k) n ≡ false = grind (arith, nat_tests) in rw t refl
 
 abbrev pub column_value : Measure → ℕ → ℕ → (ℕ → ℤ) → (ℕ → ℤ) → Column → ℤ
@@ -75,19 +94,27 @@ column_value measure n j x e c = signed c.minus (plus_value measure n j x e c.ma
 abbrev pub Meets : Measure → Game → ℕ → (ℕ → ℤ) → (ℕ → ℤ) → ℤ → Column → Type 0
 Meets measure g j x e den c = (den *ℤ signed c.minus (g.worth c.mask)) ≤ℤ column_value measure g.players j x e c
 
-pub column_value-is : (family : Family) (measure : Measure) (g : Game) (front : List Level) (outside : ℕ → Bool) (m : List ℤ) (id : ℕ) → value_of (stage_program family measure g front outside) m ((stage_program family measure g front outside).entry id) ≡ column_value measure g.players (length front + 1) (share_of m) (excess_of g.players m) (column g.players front id)
+pub column_value-is : (family : Family) (measure : Measure) (g : Game) (front : List Level) (outside : ℕ → Bool)
+    (m : List ℤ) (id : ℕ)
+    → value_of (stage_program family measure g front outside) m
+    ((stage_program family measure g front outside).entry id)
+    ≡ column_value measure g.players (length front + 1) (share_of m) (excess_of g.players m)
+    (column g.players front id)
 column_value-is family measure g front outside m id =
     let c : Column = column g.players front id in
-    signed_sum (g.players + (length front + 1)) (λ r. slice_index_or m r (pos 0)) (plus_entry measure g.players c.mask c.row) c.minus
+    signed_sum (g.players + (length front + 1)) (λ r. slice_index_or m r (pos 0))
+    (plus_entry measure g.players c.mask c.row) c.minus
     ∙ ap (signed c.minus) (plus_value-is measure g.players (length front + 1) m c.mask c.row)
 
 -- ---- the columns by kind
 
-pub all_of : {X : Type 0} (P : X → Type 0) (d : X) (xs : List X) → ((k : ℕ) → k < length xs → P (slice_index_or xs k d)) → AllByRecursion P xs
+pub all_of : {X : Type 0} (P : X → Type 0) (d : X) (xs : List X)
+    → ((k : ℕ) → k < length xs → P (slice_index_or xs k d)) → AllByRecursion P xs
 all_of P d [] h = tt
 all_of P d (x ∷ xs) h = (h 0 (omega arith), all_of P d xs (λ k lt. h (suc k) (omega arith)))
 
-pub each_of : {X : Type 0} (P : X → Type 0) (d : X) (xs : List X) → AllByRecursion P xs → (k : ℕ) → k < length xs → P (slice_index_or xs k d)
+pub each_of : {X : Type 0} (P : X → Type 0) (d : X) (xs : List X) → AllByRecursion P xs → (k : ℕ) → k < length xs
+    → P (slice_index_or xs k d)
 each_of P d [] h k lt = absurd (omega arith)
 each_of P d (x ∷ xs) h zero lt = h.0
 each_of P d (x ∷ xs) h (suc k) lt = each_of P d xs h.1 k (omega arith)
@@ -104,15 +131,24 @@ plus_sign u z h = omega (arith, linear)
 minus_sign : (den w z : ℤ) → den *ℤ w ≡ z → (den *ℤ (pos 0 -ℤ w)) ≤ℤ (pos 0 -ℤ z)
 minus_sign den w z h = omega (arith, linear, mul-subℤ den (pos 0) w, mul-zeroℤ den)
 
-pub fixes_of : (measure : Measure) (g : Game) (j : ℕ) (x e : ℕ → ℤ) (den : ℤ) (cs : List (ℕ × ℕ)) → AllByRecursion (Meets measure g j x e den) (doubled cs) → AllByRecursion (Fixes measure g j x e den) cs
+pub fixes_of : (measure : Measure) (g : Game) (j : ℕ) (x e : ℕ → ℤ) (den : ℤ) (cs : List (ℕ × ℕ))
+    → AllByRecursion (Meets measure g j x e den) (doubled cs) → AllByRecursion (Fixes measure g j x e den) cs
 fixes_of measure g j x e den [] h = tt
-fixes_of measure g j x e den (c ∷ cs) h =
-    (both_signs den (g.worth c.0) (plus_value measure g.players j x e c.0 c.1) h.0 h.1.0, fixes_of measure g j x e den cs h.1.1)
+fixes_of measure g j x e den (c ∷ cs) h = (
+  both_signs den (g.worth c.0) (plus_value measure g.players j x e c.0 c.1) h.0 h.1.0,
+  fixes_of measure g j x e den cs h.1.1,
+)
 
-of_fixes : (measure : Measure) (g : Game) (j : ℕ) (x e : ℕ → ℤ) (den : ℤ) (cs : List (ℕ × ℕ)) → AllByRecursion (Fixes measure g j x e den) cs → AllByRecursion (Meets measure g j x e den) (doubled cs)
+of_fixes : (measure : Measure) (g : Game) (j : ℕ) (x e : ℕ → ℤ) (den : ℤ) (cs : List (ℕ × ℕ))
+    → AllByRecursion (Fixes measure g j x e den) cs → AllByRecursion (Meets measure g j x e den) (doubled cs)
 of_fixes measure g j x e den [] h = tt
-of_fixes measure g j x e den (c ∷ cs) h =
-    (plus_sign (den *ℤ g.worth c.0) (plus_value measure g.players j x e c.0 c.1) h.0, (minus_sign den (g.worth c.0) (plus_value measure g.players j x e c.0 c.1) h.0, of_fixes measure g j x e den cs h.1))
+of_fixes measure g j x e den (c ∷ cs) h = (
+  plus_sign (den *ℤ g.worth c.0) (plus_value measure g.players j x e c.0 c.1) h.0,
+  (
+    minus_sign den (g.worth c.0) (plus_value measure g.players j x e c.0 c.1) h.0,
+    of_fixes measure g j x e den cs h.1,
+  ),
+)
 
 -- ---- level rows
 
@@ -122,16 +158,19 @@ within_row j row e d h = let t : nat_lt row j ≡ true = grind (arith, nat_tests
 pub past_row : (j row : ℕ) (e : ℕ → ℤ) (d : ℤ) → j ≤ row → level_value j e row d ≡ pos 0
 past_row j row e d h = let t : nat_lt row j ≡ false = grind (arith, nat_tests) in rw t refl
 
-all_map : {X Y : Type 0} (P : Y → Type 0) (f : X → Y) (xs : List X) → ((x : X) → P (f x)) → AllByRecursion P (map f xs)
+all_map : {X Y : Type 0} (P : Y → Type 0) (f : X → Y) (xs : List X) → ((x : X) → P (f x))
+    → AllByRecursion P (map f xs)
 all_map P f [] h = tt
 all_map P f (x ∷ xs) h = (h x, all_map P f xs h)
 
-pub earlier_rows : (k : ℕ) (levels : List Level) → AllByRecursion (λ c. c.1 < k + length levels) (earlier_of k levels)
+pub earlier_rows : (k : ℕ) (levels : List Level)
+    → AllByRecursion (λ c. c.1 < k + length levels) (earlier_of k levels)
 earlier_rows k [] = tt
 earlier_rows k (l ∷ levels) =
     all_join (λ c. c.1 < k + length (l ∷ levels)) (map (λ c. (c.0, k)) l.coalitions) (earlier_of (k + 1) levels)
     (all_map (λ c. c.1 < k + length (l ∷ levels)) (λ c. (c.0, k)) l.coalitions (λ c. omega arith))
-    (all_weaken (λ c. c.1 < (k + 1) + length levels) (λ c. c.1 < k + length (l ∷ levels)) (earlier_of (k + 1) levels) (λ c h. omega arith) (earlier_rows (k + 1) levels))
+    (all_weaken (λ c. c.1 < (k + 1) + length levels) (λ c. c.1 < k + length (l ∷ levels))
+    (earlier_of (k + 1) levels) (λ c h. omega arith) (earlier_rows (k + 1) levels))
 
 -- ---- all kinds
 
@@ -142,38 +181,57 @@ imputations_of Preimputations h = absurd (false≢true h)
 -- the columns past the settled ones meet their costs
 abbrev FurtherMeet : Family → Measure → Game → List Level → (ℕ → Bool) → (ℕ → ℤ) → (ℕ → ℤ) → ℤ → Type 0
 FurtherMeet family measure g front outside x e den =
-    (i : ℕ) → is_further family g.players front outside i ≡ true → Meets measure g (length front + 1) x e den (further_column g.players (length front) i)
+    (i : ℕ) → is_further family g.players front outside i ≡ true
+    → Meets measure g (length front + 1) x e den (further_column g.players (length front) i)
 
-pub single_value : (measure : Measure) (n k i : ℕ) (x e : ℕ → ℤ) → i < n → plus_value measure n (k + 1) x e (singleton i) (k + 1) ≡ x i
-single_value measure n k i x e h = omega (arith, linear, sum_over-singleton n i x h, past_row (k + 1) (k + 1) e (pos (divisor measure (singleton i))) (omega arith))
+pub single_value : (measure : Measure) (n k i : ℕ) (x e : ℕ → ℤ) → i < n
+    → plus_value measure n (k + 1) x e (singleton i) (k + 1) ≡ x i
+single_value measure n k i x e h =
+    omega (
+      arith,
+      linear,
+      sum_over-singleton n i x h,
+      past_row (k + 1) (k + 1) e (pos (divisor measure (singleton i))) (omega arith),
+    )
 
-single_of : (family : Family) (measure : Measure) (g : Game) (front : List Level) (outside : ℕ → Bool) (x e : ℕ → ℤ) (den : ℤ) → FurtherMeet family measure g front outside x e den → family ≡ Imputations → (i : ℕ) → i < g.players → (den *ℤ g.worth (singleton i)) ≤ℤ x i
+single_of : (family : Family) (measure : Measure) (g : Game) (front : List Level) (outside : ℕ → Bool) (x e : ℕ → ℤ)
+    (den : ℤ) → FurtherMeet family measure g front outside x e den → family ≡ Imputations → (i : ℕ)
+    → i < g.players → (den *ℤ g.worth (singleton i)) ≤ℤ x i
 single_of family measure g front outside x e den meet f i h =
     let t : nat_lt i g.players ≡ true = grind (arith, nat_tests) in
     let met = rw t at (meet i (rw t (ap is_imputations f))) in
     omega (arith, linear, met, single_value measure g.players (length front) i x e h)
 
-bound_of : (family : Family) (measure : Measure) (g : Game) (front : List Level) (outside : ℕ → Bool) (x e : ℕ → ℤ) (den : ℤ) → FurtherMeet family measure g front outside x e den → family ≡ Imputations → (i : ℕ) → i < g.players → IsTrue (has_bound front i) → x i ≡ den *ℤ g.worth (singleton i)
+bound_of : (family : Family) (measure : Measure) (g : Game) (front : List Level) (outside : ℕ → Bool) (x e : ℕ → ℤ)
+    (den : ℤ) → FurtherMeet family measure g front outside x e den → family ≡ Imputations → (i : ℕ)
+    → i < g.players → IsTrue (has_bound front i) → x i ≡ den *ℤ g.worth (singleton i)
 bound_of family measure g front outside x e den meet f i h b =
     let t : nat_lt (g.players + i) g.players ≡ false = grind (arith, nat_tests) in
     let u : nat_lt (g.players + i) (g.players + g.players) ≡ true = grind (arith, nat_tests) in
     let v : g.players + i - g.players ≡ i = omega arith in
-    let is_so : is_further family g.players front outside (g.players + i) ≡ true = rw t (rw u (rw v (and_both (is_imputations family) (has_bound front i) (ap is_imputations f) b))) in
+    let is_so : is_further family g.players front outside (g.players + i) ≡ true =
+    rw t (rw u (rw v (and_both (is_imputations family) (has_bound front i) (ap is_imputations f) b))) in
     let met = rw v at (rw u at (rw t at (meet (g.players + i) is_so))) in
     let low = single_of family measure g front outside x e den meet f i h in
     let value = single_value measure g.players (length front) i x e h in
     omega (arith, linear, met, low, value, mul-subℤ den (pos 0) (g.worth (singleton i)), mul-zeroℤ den)
 
-outer_of : (family : Family) (measure : Measure) (g : Game) (front : List Level) (outside : ℕ → Bool) (x e : ℕ → ℤ) (den : ℤ) → FurtherMeet family measure g front outside x e den → (s : ℕ) → IsTrue (outside s) → (den *ℤ g.worth s) ≤ℤ reached measure g.players x e s (length front)
+outer_of : (family : Family) (measure : Measure) (g : Game) (front : List Level) (outside : ℕ → Bool) (x e : ℕ → ℤ)
+    (den : ℤ) → FurtherMeet family measure g front outside x e den → (s : ℕ) → IsTrue (outside s)
+    → (den *ℤ g.worth s) ≤ℤ reached measure g.players x e s (length front)
 outer_of family measure g front outside x e den meet s o =
     let t : nat_lt (g.players + g.players + s) g.players ≡ false = grind (arith, nat_tests) in
     let u : nat_lt (g.players + g.players + s) (g.players + g.players) ≡ false = grind (arith, nat_tests) in
     let v : g.players + g.players + s - (g.players + g.players) ≡ s = omega arith in
-    let is_so : is_further family g.players front outside (g.players + g.players + s) ≡ true = rw t (rw u (rw v o)) in
+    let is_so : is_further family g.players front outside (g.players + g.players + s) ≡ true =
+    rw t (rw u (rw v o)) in
     let met = rw v at (rw u at (rw t at (meet (g.players + g.players + s) is_so))) in
-    omega (arith, linear, met, within_row (length front + 1) (length front) e (pos (divisor measure s)) (omega arith))
+    omega
+    (arith, linear, met, within_row (length front + 1) (length front) e (pos (divisor measure s)) (omega arith))
 
-further_meet : (family : Family) (measure : Measure) (g : Game) (front : List Level) (outside : ℕ → Bool) (x e : ℕ → ℤ) (den : ℤ) → IsReading family measure g front outside x e den → FurtherMeet family measure g front outside x e den
+further_meet : (family : Family) (measure : Measure) (g : Game) (front : List Level) (outside : ℕ → Bool)
+    (x e : ℕ → ℤ) (den : ℤ) → IsReading family measure g front outside x e den
+    → FurtherMeet family measure g front outside x e den
 further_meet family measure g front outside x e den r i is_so = elim (true_or_false (nat_lt i g.players)) [
   | inl t ↦
       let h : i < g.players = grind (arith, nat_tests) in
@@ -185,45 +243,85 @@ further_meet family measure g front outside x e den r i is_so = elim (true_or_fa
         let y = rw u at (rw t at is_so) in
         let f = imputations_of family (and_left (is_imputations family) (has_bound front (i - g.players)) y) in
         let b = and_right (is_imputations family) (has_bound front (i - g.players)) y in
-        rw t (rw u (omega (arith, linear, r.bound f (i - g.players) h b, single_value measure g.players (length front) (i - g.players) x e h, mul-subℤ den (pos 0) (g.worth (singleton (i - g.players))), mul-zeroℤ den)))
+        rw t
+        (rw u
+        (omega (
+          arith,
+          linear,
+          r.bound f (i - g.players) h b,
+          single_value measure g.players (length front) (i - g.players) x e h,
+          mul-subℤ den (pos 0) (g.worth (singleton (i - g.players))),
+          mul-zeroℤ den,
+        )))
     | inr u ↦
         let y = rw u at (rw t at is_so) in
-        rw t (rw u (omega (arith, linear, r.outer (i - (g.players + g.players)) y, within_row (length front + 1) (length front) e (pos (divisor measure (i - (g.players + g.players)))) (omega arith))))
+        rw t
+        (rw u
+        (omega (
+          arith,
+          linear,
+          r.outer (i - (g.players + g.players)) y,
+          within_row (length front + 1) (length front) e (pos (divisor measure (i - (g.players + g.players))))
+              (omega arith),
+        )))
   ]
 ]
 
 -- the settled columns
-settled_of : (measure : Measure) (g : Game) (front : List Level) (x e : ℕ → ℤ) (den : ℤ) → AllByRecursion (Fixes measure g (length front + 1) x e den) (earlier_of 0 front) → AllByRecursion (λ c. den *ℤ g.worth c.0 ≡ reached measure g.players x e c.0 c.1) (earlier_of 0 front)
+settled_of : (measure : Measure) (g : Game) (front : List Level) (x e : ℕ → ℤ) (den : ℤ)
+    → AllByRecursion (Fixes measure g (length front + 1) x e den) (earlier_of 0 front)
+    → AllByRecursion (λ c. den *ℤ g.worth c.0 ≡ reached measure g.players x e c.0 c.1) (earlier_of 0 front)
 settled_of measure g front x e den h =
-    all_with (λ c. c.1 < 0 + length front) (Fixes measure g (length front + 1) x e den) (λ c. den *ℤ g.worth c.0 ≡ reached measure g.players x e c.0 c.1) (earlier_of 0 front)
-    (λ c lt eq. omega (arith, linear, eq, within_row (length front + 1) c.1 e (pos (divisor measure c.0)) (omega arith)))
+    all_with (λ c. c.1 < 0 + length front) (Fixes measure g (length front + 1) x e den)
+    (λ c. den *ℤ g.worth c.0 ≡ reached measure g.players x e c.0 c.1) (earlier_of 0 front)
+    (λ c lt eq. omega
+    (arith, linear, eq, within_row (length front + 1) c.1 e (pos (divisor measure c.0)) (omega arith)))
     (earlier_rows 0 front) h
 
-pub of_settled : (measure : Measure) (g : Game) (front : List Level) (x e : ℕ → ℤ) (den : ℤ) → AllByRecursion (λ c. den *ℤ g.worth c.0 ≡ reached measure g.players x e c.0 c.1) (earlier_of 0 front) → AllByRecursion (Fixes measure g (length front + 1) x e den) (earlier_of 0 front)
+pub of_settled : (measure : Measure) (g : Game) (front : List Level) (x e : ℕ → ℤ) (den : ℤ)
+    → AllByRecursion (λ c. den *ℤ g.worth c.0 ≡ reached measure g.players x e c.0 c.1) (earlier_of 0 front)
+    → AllByRecursion (Fixes measure g (length front + 1) x e den) (earlier_of 0 front)
 of_settled measure g front x e den h =
-    all_with (λ c. c.1 < 0 + length front) (λ c. den *ℤ g.worth c.0 ≡ reached measure g.players x e c.0 c.1) (Fixes measure g (length front + 1) x e den) (earlier_of 0 front)
-    (λ c lt eq. omega (arith, linear, eq, within_row (length front + 1) c.1 e (pos (divisor measure c.0)) (omega arith)))
+    all_with (λ c. c.1 < 0 + length front) (λ c. den *ℤ g.worth c.0 ≡ reached measure g.players x e c.0 c.1)
+    (Fixes measure g (length front + 1) x e den) (earlier_of 0 front)
+    (λ c lt eq. omega
+    (arith, linear, eq, within_row (length front + 1) c.1 e (pos (divisor measure c.0)) (omega arith)))
     (earlier_rows 0 front) h
 
-pub whole_value : (measure : Measure) (n k : ℕ) (x e : ℕ → ℤ) → plus_value measure n (k + 1) x e (grand_coalition n) (k + 1) ≡ sum_below n x
-whole_value measure n k x e = omega (arith, linear, sum_over-grand_coalition n x, past_row (k + 1) (k + 1) e (pos (divisor measure (grand_coalition n))) (omega arith))
+pub whole_value : (measure : Measure) (n k : ℕ) (x e : ℕ → ℤ)
+    → plus_value measure n (k + 1) x e (grand_coalition n) (k + 1) ≡ sum_below n x
+whole_value measure n k x e =
+    omega (
+      arith,
+      linear,
+      sum_over-grand_coalition n x,
+      past_row (k + 1) (k + 1) e (pos (divisor measure (grand_coalition n))) (omega arith),
+    )
 
 -- ---- both directions
 
-pub reading_of : (family : Family) (measure : Measure) (g : Game) (front : List Level) (outside : ℕ → Bool) (m : List ℤ) (den : ℤ) → Bounds (stage_program family measure g front outside) m den → IsReading family measure g front outside (share_of m) (excess_of g.players m) den
+pub reading_of : (family : Family) (measure : Measure) (g : Game) (front : List Level) (outside : ℕ → Bool)
+    (m : List ℤ) (den : ℤ) → Bounds (stage_program family measure g front outside) m den
+    → IsReading family measure g front outside (share_of m) (excess_of g.players m) den
 reading_of family measure g front outside m den b =
     let n : ℕ = g.players in
     let x : ℕ → ℤ = share_of m in
     let e : ℕ → ℤ = excess_of n m in
     let len : ℕ = length (settled_columns n front) in
-    let meets : (id : ℕ) → IsTrue ((stage_program family measure g front outside).is_column id) → Meets measure g (length front + 1) x e den (column n front id) = λ id is_so.
-    subst (λ (z : ℤ). (den *ℤ (stage_program family measure g front outside).cost id) ≤ℤ z) (column_value-is family measure g front outside m id) (b.1 id is_so) in
-    let first : AllByRecursion (Meets measure g (length front + 1) x e den) (settled_columns n front) = all_of (Meets measure g (length front + 1) x e den) no_column (settled_columns n front) (λ k lt. let t : nat_lt k len ≡ true = grind (arith, nat_tests) in rw t at (meets k (rw t refl))) in
+    let meets : (id : ℕ) → IsTrue ((stage_program family measure g front outside).is_column id)
+    → Meets measure g (length front + 1) x e den (column n front id) = λ id is_so.
+    subst (λ (z : ℤ). (den *ℤ (stage_program family measure g front outside).cost id) ≤ℤ z)
+    (column_value-is family measure g front outside m id) (b.1 id is_so) in
+    let first : AllByRecursion (Meets measure g (length front + 1) x e den) (settled_columns n front) =
+    all_of (Meets measure g (length front + 1) x e den) no_column (settled_columns n front)
+    (λ k lt. let t : nat_lt k len ≡ true = grind (arith, nat_tests) in rw t at (meets k (rw t refl))) in
     let further : FurtherMeet family measure g front outside x e den = λ i is_so.
     (let t : nat_lt (len + i) len ≡ false = grind (arith, nat_tests) in
     let v : len + i - len ≡ i = omega arith in
     rw v at (rw t at (meets (len + i) (rw t (rw v is_so))))) in
-    let fixes = fixes_of measure g (length front + 1) x e den ((grand_coalition n, length front + 1) ∷ earlier_of 0 front) first in
+    let fixes =
+    fixes_of measure g (length front + 1) x e den ((grand_coalition n, length front + 1) ∷ earlier_of 0 front)
+    first in
     record {
       positive = b.0;
       whole = sym (fixes.0 ∙ whole_value measure n (length front) x e);
@@ -233,18 +331,30 @@ reading_of family measure g front outside m den b =
       outer = outer_of family measure g front outside x e den further;
     }
 
-pub of_reading : (family : Family) (measure : Measure) (g : Game) (front : List Level) (outside : ℕ → Bool) (m : List ℤ) (den : ℤ) → IsReading family measure g front outside (share_of m) (excess_of g.players m) den → Bounds (stage_program family measure g front outside) m den
+pub of_reading : (family : Family) (measure : Measure) (g : Game) (front : List Level) (outside : ℕ → Bool)
+    (m : List ℤ) (den : ℤ) → IsReading family measure g front outside (share_of m) (excess_of g.players m) den
+    → Bounds (stage_program family measure g front outside) m den
 of_reading family measure g front outside m den r =
     let n : ℕ = g.players in
     let x : ℕ → ℤ = share_of m in
     let e : ℕ → ℤ = excess_of n m in
     let len : ℕ = length (settled_columns n front) in
-    let first : AllByRecursion (Meets measure g (length front + 1) x e den) (settled_columns n front) = of_fixes measure g (length front + 1) x e den ((grand_coalition n, length front + 1) ∷ earlier_of 0 front) (sym (whole_value measure n (length front) x e ∙ r.whole), of_settled measure g front x e den r.settled) in
+    let first : AllByRecursion (Meets measure g (length front + 1) x e den) (settled_columns n front) =
+    of_fixes measure g (length front + 1) x e den ((grand_coalition n, length front + 1) ∷ earlier_of 0 front) (
+      sym (whole_value measure n (length front) x e ∙ r.whole),
+      of_settled measure g front x e den r.settled,
+    ) in
     let further = further_meet family measure g front outside x e den r in
-    let meets : (id : ℕ) → IsTrue ((stage_program family measure g front outside).is_column id) → Meets measure g (length front + 1) x e den (column n front id) = λ id is_so. elim (true_or_false (nat_lt id len)) [
+    let meets : (id : ℕ) → IsTrue ((stage_program family measure g front outside).is_column id)
+    → Meets measure g (length front + 1) x e den (column n front id) =
+    λ id is_so. elim (true_or_false (nat_lt id len)) [
       | inl t ↦
           let lt : id < len = grind (arith, nat_tests) in
-          rw t (each_of (Meets measure g (length front + 1) x e den) no_column (settled_columns n front) first id lt)
+          rw t
+          (each_of (Meets measure g (length front + 1) x e den) no_column (settled_columns n front) first id lt)
       | inr t ↦ rw t (further (id - len) (rw t at is_so))
-    ] in
-    (r.positive, λ id is_so. subst (λ (z : ℤ). (den *ℤ (stage_program family measure g front outside).cost id) ≤ℤ z) (sym (column_value-is family measure g front outside m id)) (meets id is_so))
+    ] in (
+      r.positive,
+      λ id is_so. subst (λ (z : ℤ). (den *ℤ (stage_program family measure g front outside).cost id) ≤ℤ z)
+          (sym (column_value-is family measure g front outside m id)) (meets id is_so),
+    )

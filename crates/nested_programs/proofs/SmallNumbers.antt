@@ -1,5 +1,6 @@
 -- Numbers of columns are 0 or one weight each, so net numbers are small.
-use Rattle.std.proofs.Common.{◌≡◌, ℕ, ◌^◌, ◌<◌, Bool, true, false, cond, nat_eq, List, [], ◌∷◌, map, ℤ, pos, ◌+ℤ◌, ◌-ℤ◌, ◌≤ℤ◌, unsigned_abs, refl, sym, subst, ◌∙◌, inl, inr, arith}
+use Rattle.std.proofs.Common.{◌≡◌, ℕ, ◌^◌, ◌<◌, Bool, true, false, cond, nat_eq, List, [], ◌∷◌, map, ℤ, pos, ◌+ℤ◌}
+use Rattle.std.proofs.Common.{◌-ℤ◌, ◌≤ℤ◌, unsigned_abs, refl, sym, subst, ◌∙◌, inl, inr, arith}
 use Rattle.std.proofs.lemmas.Bool.{false≢true}
 use Rattle.std.proofs.lemmas.Bool.Decides.{nat_tests}
 use Rattle.std.proofs.lemmas.Int.{ints}
@@ -25,7 +26,8 @@ with_one false x y h e = absurd (false≢true h)
 turned : (a b : ℕ) → nat_eq a b ≡ false → nat_eq b a ≡ false
 turned a b h = grind (arith, nat_tests)
 
-number_none : (k : ℕ) (ws : List (ℕ × ℤ)) → AllByRecursion (λ y. nat_eq k y ≡ false) (map (λ (w : ℕ × ℤ). w.0) ws) → number_at ws k ≡ pos 0
+number_none : (k : ℕ) (ws : List (ℕ × ℤ)) → AllByRecursion (λ y. nat_eq k y ≡ false) (map (λ (w : ℕ × ℤ). w.0) ws)
+    → number_at ws k ≡ pos 0
 number_none k [] h = refl
 number_none k (w ∷ ws) h = without (nat_eq w.0 k) w.1 (number_at ws k) (turned k w.0 h.0) ∙ number_none k ws h.1
 
@@ -35,22 +37,27 @@ one_number w one small = (omega (arith, linear, one), small)
 no_number : IsNumber (pos 0)
 no_number = (omega (arith, linear), omega arith)
 
-number_is : (k : ℕ) (ws : List (ℕ × ℤ)) → AllByRecursion (λ w. IsNumber w.1) ws → IsDistinct nat_eq (map (λ (w : ℕ × ℤ). w.0) ws) → IsNumber (number_at ws k)
+number_is : (k : ℕ) (ws : List (ℕ × ℤ)) → AllByRecursion (λ w. IsNumber w.1) ws
+    → IsDistinct nat_eq (map (λ (w : ℕ × ℤ). w.0) ws) → IsNumber (number_at ws k)
 unfolding IsDistinct
 number_is k [] h apart = no_number
 number_is k (w ∷ ws) h apart = elim (true_or_false (nat_eq w.0 k)) [
   | inl t ↦
       let e : w.0 ≡ k = grind (arith, nat_tests) in
-      let none = number_none k ws (subst (λ (z : ℕ). AllByRecursion (λ y. nat_eq z y ≡ false) (map (λ (v : ℕ × ℤ). v.0) ws)) e apart.0) in
+      let none =
+      number_none k ws
+      (subst (λ (z : ℕ). AllByRecursion (λ y. nat_eq z y ≡ false) (map (λ (v : ℕ × ℤ). v.0) ws)) e apart.0) in
       subst IsNumber (sym (with_one (nat_eq w.0 k) w.1 (number_at ws k) t none)) h.0
   | inr t ↦ subst IsNumber (sym (without (nat_eq w.0 k) w.1 (number_at ws k) t)) (number_is k ws h.1 apart.1)
 ]
 
 are_numbers : (ws : List (ℕ × ℤ)) → AreNumbers ws → AllByRecursion (λ w. IsNumber w.1) ws
 are_numbers ws h =
-    all_with (λ w. pos 1 ≤ℤ w.1) (λ w. unsigned_abs w.1 < 2 ^ 62) (λ w. IsNumber w.1) ws (λ w one small. one_number w.1 one small) h.positive h.small
+    all_with (λ w. pos 1 ≤ℤ w.1) (λ w. unsigned_abs w.1 < 2 ^ 62) (λ w. IsNumber w.1) ws
+    (λ w one small. one_number w.1 one small) h.positive h.small
 
-difference_small : (a b : ℤ) → pos 0 ≤ℤ a → pos 0 ≤ℤ b → unsigned_abs a < 2 ^ 62 → unsigned_abs b < 2 ^ 62 → unsigned_abs (a -ℤ b) < 2 ^ 63
+difference_small : (a b : ℤ) → pos 0 ≤ℤ a → pos 0 ≤ℤ b → unsigned_abs a < 2 ^ 62 → unsigned_abs b < 2 ^ 62
+    → unsigned_abs (a -ℤ b) < 2 ^ 63
 difference_small a b ha hb sa sb = omega (arith, ints)
 
 pub net_small : (ws : List (ℕ × ℤ)) (a b : ℕ) → AreNumbers ws → IsSmall (net ws a b)

@@ -1,5 +1,6 @@
 -- What the loop over the stages knows where it begins, in a turn, and where it ends.
-use Rattle.std.proofs.Common.{◌≡◌, ℕ, suc, ◌-◌, ◌<◌, ◌≤◌, Bool, true, false, List, [], ◌∷◌, ◌++◌, length, take, drop, ℤ, Option, Some, None, MatchOption, is_some, refl, sym, ap, subst, ◌∙◌, arith}
+use Rattle.std.proofs.Common.{◌≡◌, ℕ, suc, ◌-◌, ◌<◌, ◌≤◌, Bool, true, false, List, [], ◌∷◌, ◌++◌, length, take}
+use Rattle.std.proofs.Common.{drop, ℤ, Option, Some, None, MatchOption, is_some, refl, sym, ap, subst, ◌∙◌, arith}
 use Rattle.std.specs.Prelude.{⊤}
 use Rattle.std.specs.List.{AllByRecursion}
 use Rattle.std.proofs.lemmas.Bool.{false≢true}
@@ -17,56 +18,76 @@ use Rattle.nested_programs.specs.Numbers.{IsLevelOf}
 use Rattle.nested_programs.specs.Stages.{IsLeft, IsBest, AreUnderway, AreDone}
 use Rattle.nested_programs.proofs.StageSteps.{start}
 
-pub started : (family : Family) (measure : Measure) (g : Game) (levels : List Level) (kept : List ℕ) → levels ≡ [] → kept ≡ grand_coalition g.players ∷ [] → 1 ≤ g.players → g.players ≤ 16 → HasMember family g → AreUnderway family measure g levels kept None
+pub started : (family : Family) (measure : Measure) (g : Game) (levels : List Level) (kept : List ℕ) → levels ≡ []
+    → kept ≡ grand_coalition g.players ∷ [] → 1 ≤ g.players → g.players ≤ 16 → HasMember family g
+    → AreUnderway family measure g levels kept None
 started family measure g levels kept e f some few member =
-    subst (λ ls. AreUnderway family measure g ls kept None) (sym e) (subst (λ ks. AreUnderway family measure g [] ks None) (sym f) (start family measure g some few member))
+    subst (λ ls. AreUnderway family measure g ls kept None) (sym e)
+    (subst (λ ks. AreUnderway family measure g [] ks None) (sym f) (start family measure g some few member))
 
 abbrev Unspanned : ℕ → List Level → Option ℕ → Type 0
 Unspanned n levels o =
     MatchOption o (IsAllFixed Span n levels) (λ i. (¬ IsAllFixed Span n levels) × IsLeastUnfixed Span n levels i)
 
-pub left_of : (n : ℕ) (levels : List Level) (o : Option ℕ) (b : Bool) → b ≡ is_some o → b ≡ true → Unspanned n levels o → IsLeft n levels
+pub left_of : (n : ℕ) (levels : List Level) (o : Option ℕ) (b : Bool) → b ≡ is_some o → b ≡ true
+    → Unspanned n levels o → IsLeft n levels
 left_of n levels None b e t h = absurd (false≢true (sym e ∙ t))
 left_of n levels (Some i) b e t h = record { player = i; below = h.1.0; apart = h.1.1 }
 
-pub room_of : (n : ℕ) (kept : List ℕ) (o : Option ℕ) (b : Bool) → b ≡ is_some o → b ≡ true → MatchOption o ⊤ (λ i. length kept < n) → length kept < n
+pub room_of : (n : ℕ) (kept : List ℕ) (o : Option ℕ) (b : Bool) → b ≡ is_some o → b ≡ true
+    → MatchOption o ⊤ (λ i. length kept < n) → length kept < n
 room_of n kept None b e t h = absurd (false≢true (sym e ∙ t))
 room_of n kept (Some i) b e t h = h
 
-pub all_of : (n : ℕ) (levels : List Level) (o : Option ℕ) (b : Bool) → b ≡ is_some o → b ≡ false → Unspanned n levels o → IsAllFixed Span n levels
+pub all_of : (n : ℕ) (levels : List Level) (o : Option ℕ) (b : Bool) → b ≡ is_some o → b ≡ false
+    → Unspanned n levels o → IsAllFixed Span n levels
 all_of n levels None b e t h = h
 all_of n levels (Some i) b e t h = absurd (false≢true (sym t ∙ e))
 
-pub forms_few : (n : ℕ) (front levels : List Level) → LevelsForm n front levels → AllByRecursion (λ l. length l.coalitions ≤ 65536) levels
+pub forms_few : (n : ℕ) (front levels : List Level) → LevelsForm n front levels
+    → AllByRecursion (λ l. length l.coalitions ≤ 65536) levels
 forms_few n front [] h = tt
 forms_few n front (l ∷ levels) h = (h.0.few, forms_few n (front ++ l ∷ []) levels h.1)
 
 -- the part of a list behind its old elements is the new one
-pub new_only : (xs ys : List Level) (x : Level) (k : ℕ) → ys ≡ xs ++ x ∷ [] → k ≡ length xs → take (length ys - k) (drop k ys) ≡ x ∷ []
-new_only xs ys x k e f = ap (λ us. take (length us - k) (drop k us)) e ∙ ap (λ (j : ℕ). take (length (xs ++ x ∷ []) - j) (drop j (xs ++ x ∷ []))) f ∙ behind xs
+pub new_only : (xs ys : List Level) (x : Level) (k : ℕ) → ys ≡ xs ++ x ∷ [] → k ≡ length xs
+    → take (length ys - k) (drop k ys) ≡ x ∷ []
+new_only xs ys x k e f =
+    ap (λ us. take (length us - k) (drop k us)) e
+    ∙ ap (λ (j : ℕ). take (length (xs ++ x ∷ []) - j) (drop j (xs ++ x ∷ []))) f ∙ behind xs
   where
     behind : (us : List Level) → take (length (us ++ x ∷ []) - length us) (drop (length us) (us ++ x ∷ [])) ≡ x ∷ []
     behind [] = refl
-    behind (u ∷ us) = let e : suc (length (us ++ x ∷ [])) - suc (length us) ≡ length (us ++ x ∷ []) - length us = omega arith in rw e (behind us)
+    behind (u ∷ us) =
+        let e : suc (length (us ++ x ∷ [])) - suc (length us) ≡ length (us ++ x ∷ []) - length us = omega arith in
+        rw e (behind us)
 
 -- ---- facts of a turn, at the players of the game and the levels so far
 
-pub best_at : (family : Family) (measure : Measure) (g : Game) (shown levels : List Level) (ws : List (ℕ × ℤ)) (wden : ℤ) (m : List ℤ) (den : ℤ) → shown ≡ levels → IsBest family measure g shown ws wden m den → IsBest family measure g levels ws wden m den
+pub best_at : (family : Family) (measure : Measure) (g : Game) (shown levels : List Level) (ws : List (ℕ × ℤ))
+    (wden : ℤ) (m : List ℤ) (den : ℤ) → shown ≡ levels → IsBest family measure g shown ws wden m den
+    → IsBest family measure g levels ws wden m den
 best_at family measure g shown levels ws wden m den e h = subst (λ ls. IsBest family measure g ls ws wden m den) e h
 
-pub level_at : (k n : ℕ) (shown levels : List Level) (ws : List (ℕ × ℤ)) (m : List ℤ) (den : ℤ) (l : Level) → k ≡ n → shown ≡ levels → IsLevelOf k shown ws m den l → IsLevelOf n levels ws m den l
+pub level_at : (k n : ℕ) (shown levels : List Level) (ws : List (ℕ × ℤ)) (m : List ℤ) (den : ℤ) (l : Level) → k ≡ n
+    → shown ≡ levels → IsLevelOf k shown ws m den l → IsLevelOf n levels ws m den l
 level_at k n shown levels ws m den l e f h =
     subst (λ (j : ℕ). IsLevelOf j levels ws m den l) e (subst (λ ls. IsLevelOf k ls ws m den l) f h)
 
-pub extends_at : (k n : ℕ) (old new : List ℕ) (shown added : List Level) → k ≡ n → shown ≡ added → Extends k old new (IsLevelVector k shown) → Extends n old new (IsLevelVector n added)
+pub extends_at : (k n : ℕ) (old new : List ℕ) (shown added : List Level) → k ≡ n → shown ≡ added
+    → Extends k old new (IsLevelVector k shown) → Extends n old new (IsLevelVector n added)
 extends_at k n old new shown added e f h =
-    subst (λ (j : ℕ). Extends j old new (IsLevelVector j added)) e (subst (λ ls. Extends k old new (IsLevelVector k ls)) f h)
+    subst (λ (j : ℕ). Extends j old new (IsLevelVector j added)) e
+    (subst (λ ls. Extends k old new (IsLevelVector k ls)) f h)
 
-pub within_at : (k n : ℕ) (shown : List Level) (l : Level) → k ≡ n → shown ≡ l ∷ [] → IsOf n l → AllByRecursion (IsOf k) shown
+pub within_at : (k n : ℕ) (shown : List Level) (l : Level) → k ≡ n → shown ≡ l ∷ [] → IsOf n l
+    → AllByRecursion (IsOf k) shown
 within_at k n shown l e f h =
     subst (AllByRecursion (IsOf k)) (sym f) (subst (λ (j : ℕ). IsOf j l) (sym e) h, tt)
 
-pub ended : (family : Family) (measure : Measure) (g : Game) (levels : List Level) (kept : List ℕ) (last : Option Multipliers) → AreUnderway family measure g levels kept last → IsAllFixed Span g.players levels → AreDone family measure g levels last
+pub ended : (family : Family) (measure : Measure) (g : Game) (levels : List Level) (kept : List ℕ)
+    (last : Option Multipliers) → AreUnderway family measure g levels kept last → IsAllFixed Span g.players levels
+    → AreDone family measure g levels last
 ended family measure g levels kept last h all = record {
   stages = h.stages;
   form = h.form;

@@ -1,5 +1,8 @@
--- A stage program has a solution where a coalition is outside, and the first has no endless ray where the family has a member.
-use Rattle.std.proofs.Common.{◌≡◌, ◌≢◌, ℕ, zero, suc, ◌+◌, ◌-◌, ◌^◌, ◌<◌, ◌≤◌, Bool, true, false, not, cond, IsTrue, List, [], ◌∷◌, length, ℤ, pos, ◌+ℤ◌, ◌-ℤ◌, ◌*ℤ◌, ◌≤ℤ◌, refl, sym, ap, ◌∙◌, inl, inr, arith, nat_eq, nat_lt, if◌then◌else◌}
+-- A stage program has a solution where a coalition is outside, and the first has no endless ray where the family
+-- has a member.
+use Rattle.std.proofs.Common.{◌≡◌, ◌≢◌, ℕ, zero, suc, ◌+◌, ◌-◌, ◌^◌, ◌<◌, ◌≤◌, Bool, true, false, not, cond}
+use Rattle.std.proofs.Common.{IsTrue, List, [], ◌∷◌, length, ℤ, pos, ◌+ℤ◌, ◌-ℤ◌, ◌*ℤ◌, ◌≤ℤ◌, refl, sym, ap}
+use Rattle.std.proofs.Common.{◌∙◌, inl, inr, arith, nat_eq, nat_lt, if◌then◌else◌}
 use Rattle.std.proofs.lemmas.Int.{by_lt_z}
 use Rattle.std.proofs.lemmas.Bool.{false≢true}
 use Rattle.std.proofs.lemmas.Bool.Decides.{nat_tests}
@@ -7,7 +10,8 @@ use Rattle.std.specs.List.{AllByRecursion, IsDistinct}
 use Rattle.definitions.proofs.Ring.{linear, mul-zeroℤ, mul-oneℤ, one-mulℤ, mul-leℤ}
 use Rattle.worth_core.proofs.DividedNumbers.{divisor-some}
 use Rattle.definitions.proofs.SumsOver.{sum_over-same}
-use Rattle.definitions.proofs.Members.{has_player-grand_coalition, has_player-complement, sum_below-same, sum_over-grand_coalition}
+use Rattle.definitions.proofs.Members.{has_player-grand_coalition, has_player-complement}
+use Rattle.definitions.proofs.Members.{sum_below-same, sum_over-grand_coalition}
 use Rattle.definitions.specs.Coalitions.{has_player, singleton, grand_coalition, sum_over, weight_at}
 use Rattle.definitions.specs.Measures.{divisor}
 use Rattle.definitions.specs.Games.{Game, Allocation, share, amount, IsAllocation, IsEfficient, InFamily}
@@ -36,23 +40,35 @@ weight_at-negated : (ps : List (ℕ × ℤ)) (i : ℕ) → weight_at (negated ps
 weight_at-negated [] i = refl
 weight_at-negated (p ∷ ps) i = step (has_player p.0 i) (weight_at-negated ps i)
   where
-    step : (b : Bool) → weight_at (negated ps) i ≡ pos 0 -ℤ weight_at ps i → cond b (pos 0 -ℤ p.1) (pos 0) +ℤ weight_at (negated ps) i ≡ pos 0 -ℤ (cond b p.1 (pos 0) +ℤ weight_at ps i)
+    step : (b : Bool) → weight_at (negated ps) i ≡ pos 0 -ℤ weight_at ps i
+        → cond b (pos 0 -ℤ p.1) (pos 0) +ℤ weight_at (negated ps) i
+        ≡ pos 0 -ℤ (cond b p.1 (pos 0) +ℤ weight_at ps i)
     step true h = omega (arith, linear, h)
     step false h = omega (arith, linear, h)
 
-all_negated : (P : ℕ → Type 0) (ps : List (ℕ × ℤ)) → AllByRecursion (λ p. P p.0) ps → AllByRecursion (λ p. P p.0) (negated ps)
+all_negated : (P : ℕ → Type 0) (ps : List (ℕ × ℤ)) → AllByRecursion (λ p. P p.0) ps
+    → AllByRecursion (λ p. P p.0) (negated ps)
 all_negated P [] h = tt
 all_negated P (p ∷ ps) h = (h.0, all_negated P ps h.1)
 
-others_spanned : (n : ℕ) (front : List Level) (s : ℕ) → s < 2 ^ n → InSpan n (IsFixedVector n front) (grand_coalition n - s) → InSpan n (IsFixedVector n front) s
-others_spanned n front s small (k, ne, ps, fixed, sums) =
-    (k, ne, (grand_coalition n, k) ∷ negated ps, (inl refl, all_negated (IsFixedVector n front) ps fixed), λ i h. rw (has_player-grand_coalition n i h) (step (has_player s i) (weight_at (negated ps) i) (weight_at ps i) (weight_at-negated ps i) (sums i h ∙ ap (λ (b : Bool). cond b k (pos 0)) (has_player-complement n s i small h))))
+others_spanned : (n : ℕ) (front : List Level) (s : ℕ) → s < 2 ^ n
+    → InSpan n (IsFixedVector n front) (grand_coalition n - s) → InSpan n (IsFixedVector n front) s
+others_spanned n front s small (k, ne, ps, fixed, sums) = (
+  k,
+  ne,
+  (grand_coalition n, k) ∷ negated ps,
+  (inl refl, all_negated (IsFixedVector n front) ps fixed),
+  λ i h. rw (has_player-grand_coalition n i h)
+      (step (has_player s i) (weight_at (negated ps) i) (weight_at ps i) (weight_at-negated ps i)
+      (sums i h ∙ ap (λ (b : Bool). cond b k (pos 0)) (has_player-complement n s i small h))),
+)
   where
     step : (b : Bool) (u w : ℤ) → u ≡ pos 0 -ℤ w → w ≡ cond (not b) k (pos 0) → k +ℤ u ≡ cond b k (pos 0)
     step true u w h e = omega (arith, linear, h, e)
     step false u w h e = omega (arith, linear, h, e)
 
-pub others_outside : (n : ℕ) (front : List Level) (s : ℕ) → IsOutside Span n front s → IsOutside Span n front (grand_coalition n - s)
+pub others_outside : (n : ℕ) (front : List Level) (s : ℕ) → IsOutside Span n front s
+    → IsOutside Span n front (grand_coalition n - s)
 others_outside n front s (low, high, apart) =
     (omega arith, omega arith, λ spanned. apart (others_spanned n front s (omega arith) spanned))
 
@@ -60,32 +76,44 @@ others_outside n front s (low, high, apart) =
 
 -- one weight each on minus all players, the coalition and its others
 abbrev pair_weights : ℕ → List Level → ℕ → List (ℕ × ℤ)
-pair_weights n front s = (1, pos 1) ∷ ((outer_id n front s, pos 1) ∷ ((outer_id n front (grand_coalition n - s), pos 1) ∷ []))
+pair_weights n front s =
+    (1, pos 1) ∷ ((outer_id n front s, pos 1) ∷ ((outer_id n front (grand_coalition n - s), pos 1) ∷ []))
 
 -- what the level row has of a coalition and its others
 abbrev pub both_divisors : Measure → ℕ → ℕ → ℤ
 both_divisors measure n s = pos (divisor measure s) +ℤ pos (divisor measure (grand_coalition n - s))
 
-pair_row : (measure : Measure) (n k s r : ℕ) → s < 2 ^ n → r < n + (k + 1) → (pos 0 -ℤ plus_entry measure n (grand_coalition n) (k + 1) r) +ℤ (plus_entry measure n s k r +ℤ plus_entry measure n (grand_coalition n - s) k r) ≡ both_divisors measure n s *ℤ (if nat_eq r (n + k) then pos 1 else pos 0)
+pair_row : (measure : Measure) (n k s r : ℕ) → s < 2 ^ n → r < n + (k + 1)
+    → (pos 0 -ℤ plus_entry measure n (grand_coalition n) (k + 1) r)
+    +ℤ (plus_entry measure n s k r +ℤ plus_entry measure n (grand_coalition n - s) k r)
+    ≡ both_divisors measure n s *ℤ (if nat_eq r (n + k) then pos 1 else pos 0)
 pair_row measure n k s r small h = elim (true_or_false (nat_lt r n)) [
   | inl below ↦
       let lt : r < n = grind (arith, nat_tests) in
       let u : nat_eq r (n + k) ≡ false = grind (arith, nat_tests) in
-      rw below (rw u (rw (has_player-grand_coalition n r lt) (rw (has_player-complement n s r small lt) (member (has_player s r) (both_divisors measure n s)))))
+      rw below
+      (rw u
+      (rw (has_player-grand_coalition n r lt)
+      (rw (has_player-complement n s r small lt) (member (has_player s r) (both_divisors measure n s)))))
   | inr past ↦
       let u : nat_eq r (n + (k + 1)) ≡ false = grind (arith, nat_tests) in
-      rw past (rw u (last (nat_eq r (n + k)) (pos (divisor measure s)) (pos (divisor measure (grand_coalition n - s)))))
+      rw past
+      (rw u (last (nat_eq r (n + k)) (pos (divisor measure s)) (pos (divisor measure (grand_coalition n - s)))))
 ]
   where
-    member : (b : Bool) (d : ℤ) → (pos 0 -ℤ pos 1) +ℤ (cond b (pos 1) (pos 0) +ℤ cond (not b) (pos 1) (pos 0)) ≡ d *ℤ pos 0
+    member : (b : Bool) (d : ℤ)
+        → (pos 0 -ℤ pos 1) +ℤ (cond b (pos 1) (pos 0) +ℤ cond (not b) (pos 1) (pos 0)) ≡ d *ℤ pos 0
     member true d = sym (mul-zeroℤ d)
     member false d = sym (mul-zeroℤ d)
 
-    last : (b : Bool) (d e : ℤ) → (pos 0 -ℤ pos 0) +ℤ (cond b d (pos 0) +ℤ cond b e (pos 0)) ≡ (d +ℤ e) *ℤ cond b (pos 1) (pos 0)
+    last : (b : Bool) (d e : ℤ)
+        → (pos 0 -ℤ pos 0) +ℤ (cond b d (pos 0) +ℤ cond b e (pos 0)) ≡ (d +ℤ e) *ℤ cond b (pos 1) (pos 0)
     last true d e = omega (arith, linear, mul-oneℤ (d +ℤ e))
     last false d e = omega (arith, linear, mul-zeroℤ (d +ℤ e))
 
-outer_column : (family : Family) (measure : Measure) (g : Game) (front : List Level) (outside : ℕ → Bool) (s : ℕ) → IsTrue (outside s) → IsTrue ((stage_program family measure g front outside).is_column (outer_id g.players front s))
+outer_column : (family : Family) (measure : Measure) (g : Game) (front : List Level) (outside : ℕ → Bool) (s : ℕ)
+    → IsTrue (outside s)
+    → IsTrue ((stage_program family measure g front outside).is_column (outer_id g.players front s))
 outer_column family measure g front outside s o =
     let n : ℕ = g.players in
     let len : ℕ = length (settled_columns n front) in
@@ -99,7 +127,8 @@ outer_column family measure g front outside s o =
 -- ---- divisors
 
 -- each divisor is at least 1, so their sum is
-both_some : (measure : Measure) (n s : ℕ) → n ≤ 16 → 0 < s → s < grand_coalition n → pos 1 ≤ℤ both_divisors measure n s
+both_some : (measure : Measure) (n s : ℕ) → n ≤ 16 → 0 < s → s < grand_coalition n
+    → pos 1 ≤ℤ both_divisors measure n s
 both_some measure n s few some less =
     let one = divisor-some measure n s (omega (arith, few)) some (omega (arith, less)) in
     omega (arith, linear, one)
@@ -111,15 +140,27 @@ some_bound zero f = (pos 0, λ s h. absurd (omega arith))
 some_bound (suc N) f =
     let ih = some_bound N f in
     by_lt_z ih.0 (f N)
-    (λ up. (f N, λ s h. elim (less_or_last s N h) [ inl less ↦ omega (arith, linear, up, ih.1 s less) | inr same ↦ omega (arith, linear, ap f same) ]))
-    (λ low. (ih.0, λ s h. elim (less_or_last s N h) [ inl less ↦ ih.1 s less | inr same ↦ omega (arith, linear, low, ap f same) ]))
+    (λ up. (
+      f N,
+      λ s h. elim (less_or_last s N h)
+          [ inl less ↦ omega (arith, linear, up, ih.1 s less) | inr same ↦ omega (arith, linear, ap f same) ],
+    ))
+    (λ low. (
+      ih.0,
+      λ s h. elim (less_or_last s N h)
+          [ inl less ↦ ih.1 s less | inr same ↦ omega (arith, linear, low, ap f same) ],
+    ))
 
-pub first_bounds : (family : Family) (measure : Measure) (g : Game) (outside : ℕ → Bool) (y : Allocation) → g.players ≤ 16 → ((s : ℕ) → IsTrue (outside s) → (0 < s) × (s < 2 ^ g.players)) → InFamily family g y → (m : List ℤ) × Bounds (stage_program family measure g [] outside) m y.den
+pub first_bounds : (family : Family) (measure : Measure) (g : Game) (outside : ℕ → Bool) (y : Allocation)
+    → g.players ≤ 16 → ((s : ℕ) → IsTrue (outside s) → (0 < s) × (s < 2 ^ g.players)) → InFamily family g y
+    → (m : List ℤ) × Bounds (stage_program family measure g [] outside) m y.den
 first_bounds family measure g outside y few within member = (
   m,
   of_reading family measure g [] outside m y.den (record {
     positive = (allocation family member).1;
-    whole = sum_below-same n (share_of m) (share y) shares ∙ sym (sum_over-grand_coalition n (share y)) ∙ sym (at (grand_coalition n)) ∙ efficient family member;
+    whole =
+        sum_below-same n (share_of m) (share y) shares ∙ sym (sum_over-grand_coalition n (share y))
+        ∙ sym (at (grand_coalition n)) ∙ efficient family member;
     settled = tt;
     single = λ f i h. omega (arith, linear, individual family member f i h, shares i h);
     bound = λ f i h b. absurd (false≢true b);
@@ -127,7 +168,15 @@ first_bounds family measure g outside y few within member = (
         (let in_row = ap (λ z. z *ℤ pos (divisor measure s)) last in
         let some = divisor-some measure n s (omega (arith, few)) (within s o).0 (within s o).1 in
         let enough = mul-leℤ top (pos 1) (pos (divisor measure s)) high.0 (omega (arith, linear, some)) in
-        omega (arith, linear, high.1 s (within s o).1, in_row, enough, mul-oneℤ top, sum_over-same n (share_of m) (share y) s shares));
+        omega (
+          arith,
+          linear,
+          high.1 s (within s o).1,
+          in_row,
+          enough,
+          mul-oneℤ top,
+          sum_over-same n (share_of m) (share y) s shares,
+        ));
   }),
 )
   where
@@ -139,7 +188,9 @@ first_bounds family measure g outside y few within member = (
 
     -- a bound that isn't negative
     raised : (b : ℤ) × ((pos 0 ≤ℤ b) × ((s : ℕ) → s < 2 ^ n → (y.den *ℤ g.worth s -ℤ sum_over n (share y) s) ≤ℤ b))
-    raised = by_lt_z big.0 (pos 0) (λ low. (pos 0, (omega (arith, linear), λ s h. omega (arith, linear, low, big.1 s h)))) (λ up. (big.0, (omega (arith, linear, up), big.1)))
+    raised =
+        by_lt_z big.0 (pos 0) (λ low. (pos 0, (omega (arith, linear), λ s h. omega (arith, linear, low, big.1 s h))))
+        (λ up. (big.0, (omega (arith, linear, up), big.1)))
 
     top : ℤ
     top = raised.0
@@ -173,7 +224,8 @@ first_bounds family measure g outside y few within member = (
     efficient Imputations h = h.1
     efficient Preimputations h = h.1
 
-    individual : (family : Family) → InFamily family g y → family ≡ Imputations → (i : ℕ) → i < g.players → (y.den *ℤ g.worth (singleton i)) ≤ℤ share y i
+    individual : (family : Family) → InFamily family g y → family ≡ Imputations → (i : ℕ) → i < g.players
+        → (y.den *ℤ g.worth (singleton i)) ≤ℤ share y i
     individual Imputations h e = h.2
     individual Preimputations h e = absurd (no e)
       where
@@ -184,54 +236,89 @@ first_bounds family measure g outside y few within member = (
     at s = ap (λ (z : ℕ). sum_over z (share y) s) (allocation family member).0
 
 -- where the family has a member, the first stage has no endless ray
-pub first_no_ray : (family : Family) (measure : Measure) (g : Game) (outside : ℕ → Bool) (y : Allocation) → g.players ≤ 16 → ((s : ℕ) → IsTrue (outside s) → (0 < s) × (s < 2 ^ g.players)) → InFamily family g y → HasRay (stage_program family measure g [] outside) → ⊥
+pub first_no_ray : (family : Family) (measure : Measure) (g : Game) (outside : ℕ → Bool) (y : Allocation)
+    → g.players ≤ 16 → ((s : ℕ) → IsTrue (outside s) → (0 < s) × (s < 2 ^ g.players)) → InFamily family g y
+    → HasRay (stage_program family measure g [] outside) → ⊥
 first_no_ray family measure g outside y few within member ray =
     let found = first_bounds family measure g outside y few within member in
     no_ray (stage_program family measure g [] outside) found.0 y.den found.1 ray
 
 -- ---- the solution
 
-column_whole : (n : ℕ) (front : List Level) → column n front 1 ≡ record { mask = grand_coalition n; row = length front + 1; minus = true }
-column_whole n front = let t : nat_lt 1 (length (settled_columns n front)) ≡ true = grind (arith, nat_tests) in rw t refl
+column_whole : (n : ℕ) (front : List Level)
+    → column n front 1 ≡ record { mask = grand_coalition n; row = length front + 1; minus = true }
+column_whole n front =
+    let t : nat_lt 1 (length (settled_columns n front)) ≡ true = grind (arith, nat_tests) in rw t refl
 
-whole_column : (family : Family) (measure : Measure) (g : Game) (front : List Level) (outside : ℕ → Bool) → IsTrue ((stage_program family measure g front outside).is_column 1)
-whole_column family measure g front outside = let t : nat_lt 1 (length (settled_columns g.players front)) ≡ true = grind (arith, nat_tests) in rw t refl
+whole_column : (family : Family) (measure : Measure) (g : Game) (front : List Level) (outside : ℕ → Bool)
+    → IsTrue ((stage_program family measure g front outside).is_column 1)
+whole_column family measure g front outside =
+    let t : nat_lt 1 (length (settled_columns g.players front)) ≡ true = grind (arith, nat_tests) in rw t refl
 
 not_own_other : (n s : ℕ) → 0 < n → s < 2 ^ n → s ≢ grand_coalition n - s
-not_own_other n s some small e = opposite (has_player s 0) (ap (λ (z : ℕ). has_player z 0) e ∙ has_player-complement n s 0 small some)
+not_own_other n s some small e =
+    opposite (has_player s 0) (ap (λ (z : ℕ). has_player z 0) e ∙ has_player-complement n s 0 small some)
   where
     opposite : (b : Bool) → b ≡ not b → ⊥
     opposite true h = false≢true (sym h)
     opposite false h = false≢true h
 
-pair_distinct : (n : ℕ) (front : List Level) (s : ℕ) → 0 < n → s < 2 ^ n → IsDistinct nat_eq (1 ∷ (outer_id n front s ∷ (outer_id n front (grand_coalition n - s) ∷ [])))
+pair_distinct : (n : ℕ) (front : List Level) (s : ℕ) → 0 < n → s < 2 ^ n
+    → IsDistinct nat_eq (1 ∷ (outer_id n front s ∷ (outer_id n front (grand_coalition n - s) ∷ [])))
 unfolding IsDistinct
 pair_distinct n front s some small =
     let ne = not_own_other n s some small in
     let long : 2 ≤ length (settled_columns n front) = omega arith in
     let a : nat_eq 1 (outer_id n front s) ≡ false = grind (arith, nat_tests) in
     let b : nat_eq 1 (outer_id n front (grand_coalition n - s)) ≡ false = grind (arith, nat_tests) in
-    let c : nat_eq (outer_id n front s) (outer_id n front (grand_coalition n - s)) ≡ false = grind (arith, nat_tests) in
+    let c : nat_eq (outer_id n front s) (outer_id n front (grand_coalition n - s)) ≡ false =
+    grind (arith, nat_tests) in
     ((a, (b, tt)), ((c, tt), (tt, tt)))
 
-row_sum : (a b c u v w : ℤ) → a ≡ u → b ≡ v → c ≡ w → pos 1 *ℤ a +ℤ (pos 1 *ℤ b +ℤ (pos 1 *ℤ c +ℤ pos 0)) ≡ u +ℤ (v +ℤ w)
+row_sum : (a b c u v w : ℤ) → a ≡ u → b ≡ v → c ≡ w
+    → pos 1 *ℤ a +ℤ (pos 1 *ℤ b +ℤ (pos 1 *ℤ c +ℤ pos 0)) ≡ u +ℤ (v +ℤ w)
 row_sum a b c u v w h k l = omega (arith, linear, h, k, l, one-mulℤ a, one-mulℤ b, one-mulℤ c)
 
 -- the coalition and its others at one weight, and all players at minus that
-pub solution : (family : Family) (measure : Measure) (g : Game) (front : List Level) (outside : ℕ → Bool) (s : ℕ) → g.players ≤ 16 → IsOutside Span g.players front s → IsTrue (outside s) → IsTrue (outside (grand_coalition g.players - s)) → Solves (stage_program family measure g front outside) (pair_weights g.players front s) (both_divisors measure g.players s)
+pub solution : (family : Family) (measure : Measure) (g : Game) (front : List Level) (outside : ℕ → Bool) (s : ℕ)
+    → g.players ≤ 16 → IsOutside Span g.players front s → IsTrue (outside s)
+    → IsTrue (outside (grand_coalition g.players - s))
+    → Solves (stage_program family measure g front outside) (pair_weights g.players front s)
+    (both_divisors measure g.players s)
 solution family measure g front outside s few o here others =
     let n : ℕ = g.players in
     let small : s < 2 ^ n = omega (arith, o.0, o.1) in
     let some : 0 < n = positive n (omega (arith, o.0, o.1)) in (
-      (((whole_column family measure g front outside, omega (arith, linear)), ((outer_column family measure g front outside s here, omega (arith, linear)), ((outer_column family measure g front outside (grand_coalition n - s) others, omega (arith, linear)), tt))), pair_distinct n front s some small),
+      (
+        (
+          (whole_column family measure g front outside, omega (arith, linear)),
+          (
+            (outer_column family measure g front outside s here, omega (arith, linear)),
+            (
+              (outer_column family measure g front outside (grand_coalition n - s) others, omega (arith, linear)),
+              tt,
+            ),
+          ),
+        ),
+        pair_distinct n front s some small,
+      ),
       both_some measure n s few o.0 o.1,
-      λ r h. row_sum _ _ _ (pos 0 -ℤ plus_entry measure n (grand_coalition n) (length front + 1) r) (plus_entry measure n s (length front) r) (plus_entry measure n (grand_coalition n - s) (length front) r) (ap (λ c. entry_of measure n c r) (column_whole n front)) (ap (λ c. entry_of measure n c r) (column_outer n front s)) (ap (λ c. entry_of measure n c r) (column_outer n front (grand_coalition n - s))) ∙ pair_row measure n (length front) s r small h,
+      λ r h. row_sum _ _ _ (pos 0 -ℤ plus_entry measure n (grand_coalition n) (length front + 1) r)
+          (plus_entry measure n s (length front) r) (plus_entry measure n (grand_coalition n - s) (length front) r)
+          (ap (λ c. entry_of measure n c r) (column_whole n front))
+          (ap (λ c. entry_of measure n c r) (column_outer n front s))
+          (ap (λ c. entry_of measure n c r) (column_outer n front (grand_coalition n - s)))
+          ∙ pair_row measure n (length front) s r small h,
     )
   where
     positive : (n : ℕ) → 0 < grand_coalition n → 0 < n
     positive zero h = absurd (omega arith)
     positive (suc n) h = omega arith
 
-pub some_solution : (family : Family) (measure : Measure) (g : Game) (front : List Level) (outside : ℕ → Bool) (s : ℕ) → g.players ≤ 16 → ((u : ℕ) → IsOutside Span g.players front u → IsTrue (outside u)) → IsOutside Span g.players front s → HasNoSolution (stage_program family measure g front outside) → ⊥
+pub some_solution : (family : Family) (measure : Measure) (g : Game) (front : List Level) (outside : ℕ → Bool)
+    (s : ℕ) → g.players ≤ 16 → ((u : ℕ) → IsOutside Span g.players front u → IsTrue (outside u))
+    → IsOutside Span g.players front s → HasNoSolution (stage_program family measure g front outside) → ⊥
 some_solution family measure g front outside s few all o none =
-    none (pair_weights g.players front s) (both_divisors measure g.players s) (solution family measure g front outside s few o (all s o) (all (grand_coalition g.players - s) (others_outside g.players front s o)))
+    none (pair_weights g.players front s) (both_divisors measure g.players s)
+    (solution family measure g front outside s few o (all s o)
+    (all (grand_coalition g.players - s) (others_outside g.players front s o)))

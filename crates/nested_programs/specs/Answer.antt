@@ -4,15 +4,17 @@
 --   HasMember         the family of the game has a member
 --   LacksImputation   the players alone are worth more than all, so there is no imputation
 --   IsShort           a level has fewer entries than there are players twice
+--   SettlesMore       a level has a coalition, and none of its coalitions is fixed by the levels in front of it
+--   SettleMore        each level settles more than those in front of it
 --   IsPoint           shares, and a short certificate in mode span that they are the nucleolus or the prenucleolus
 --   IsFound           what an answer says
 --   IsFault           what a refusal says
-use Rattle.std.specs.Prelude.{◌≡◌, ⊤, ℕ, ◌+◌, ◌*◌, ◌<◌, ℤ, ◌<ℤ◌, length}
+use Rattle.std.specs.Prelude.{◌≡◌, ⊤, ℕ, ◌+◌, ◌*◌, ◌<◌, ◌≤◌, List, [], ◌∷◌, ◌++◌, length, ℤ, ◌<ℤ◌}
 use Rattle.std.specs.List.{AllByRecursion}
 use Rattle.definitions.specs.Sums.{sum_below}
 use Rattle.definitions.specs.Coalitions.{singleton, grand_coalition}
 use Rattle.definitions.specs.Games.{Game, Allocation, InFamily}
-use Rattle.definitions.specs.Certificates.{Level}
+use Rattle.definitions.specs.Certificates.{Level, IsOutside}
 use Rattle.definitions.specs.declared.Family.{Family}
 use Rattle.definitions.specs.declared.Measure.{Measure}
 use Rattle.definitions.specs.declared.Family.TheVariants.{Imputations}
@@ -43,10 +45,23 @@ pub record LacksImputation (family : Family) (g : Game) (alone total : ℤ) : Ty
 abbrev pub IsShort : ℕ → Level → Type 0
 IsShort n l = length l.coalitions + length l.earlier + length l.bounds < 2 * n
 
--- shares, and a certificate in mode span that certifies them, in which each level is short
-pub record IsPoint (family : Family) (measure : Measure) (g : Game) (x : Allocation) (c : CertificateData) : Type 0 where
-  pub solved : IsSolved Span family measure g x c
-  pub short : AllByRecursion (IsShort g.players) c.levels
+-- a level settles more than the levels in front of it: it has at least one coalition, and they fix none of its
+-- coalitions
+pub record SettlesMore (n : ℕ) (front : List Level) (l : Level) : Type 0 where
+  pub some : 1 ≤ length l.coalitions
+  pub outside : AllByRecursion (λ c. IsOutside Span n front c.0) l.coalitions
+
+-- each level settles more than the levels in front of it
+abbrev pub SettleMore : ℕ → List Level → List Level → Type 0
+SettleMore n front [] = Unit {0}
+SettleMore n front (l ∷ levels) = SettlesMore n front l × SettleMore n (front ++ l ∷ []) levels
+
+-- shares, and a certificate in mode span that certifies them, in which each level is short and settles more
+pub record IsPoint (family : Family) (measure : Measure) (g : Game) (x : Allocation) (c : CertificateData) : Type 0
+  where
+    pub solved : IsSolved Span family measure g x c
+    pub short : AllByRecursion (IsShort g.players) c.levels
+    pub more : SettleMore g.players [] c.levels
 
 -- what an answer says
 abbrev pub IsFound : Family → Measure → Game → Found → Type 0

@@ -11,7 +11,8 @@
 --   IsChain        each stage holds behind the levels of those in front
 --   last_of        the last stage
 --   HaveExcesses   the levels' excesses are multipliers of the level rows
-use Rattle.std.specs.Prelude.{◌≡◌, ◌⊎◌, ℕ, ◌+◌, ◌<◌, Bool, IsTrue, List, [], ◌∷◌, ◌++◌, length, ℤ, pos, ◌+ℤ◌, ◌-ℤ◌, ◌*ℤ◌, ◌≤ℤ◌, Decides}
+use Rattle.std.specs.Prelude.{◌≡◌, ◌⊎◌, ℕ, ◌+◌, ◌<◌, Bool, IsTrue, List, [], ◌∷◌, ◌++◌}
+use Rattle.std.specs.Prelude.{length, ℤ, pos, ◌+ℤ◌, ◌-ℤ◌, ◌*ℤ◌, ◌≤ℤ◌, Decides}
 use Rattle.std.specs.List.{AllByRecursion}
 use Rattle.definitions.specs.Sums.{weighted_sum}
 use Rattle.definitions.specs.Coalitions.{weight_at}
@@ -37,13 +38,22 @@ abbrev pub HasWeight : List (ℕ × ℤ) → ℕ → Type 0
 HasWeight [] id = ⊥
 HasWeight (w ∷ ws) id = ((w.0 ≡ id) × (pos 1 ≤ℤ w.1)) ⊎ HasWeight ws id
 
--- A level takes its coalitions and bounds from weights of a stage. What it holds of each player, less its total, is what the weights sum to in the player's row.
-pub record Follows (family : Family) (measure : Measure) (g : Game) (front : List Level) (weights : List (ℕ × ℤ)) (l : Level) : Type 0 where
-  pub coalitions : AllByRecursion (λ c. (pos 1 ≤ℤ c.1) × HasWeight weights (outer_id g.players front c.0)) l.coalitions
-  pub bounds : AllByRecursion (λ b. (b.0 < g.players) × (((pos 1 ≤ℤ b.1) × HasWeight weights (single_id g.players front b.0)) ⊎ ((family ≡ Imputations) × IsTrue (has_bound front b.0)))) l.bounds
+-- A level takes its coalitions and bounds from weights of a stage. What it holds of each player, less its total, is
+-- what the weights sum to in the player's row.
+pub record Follows (family : Family) (measure : Measure) (g : Game) (front : List Level) (weights : List (ℕ × ℤ))
+    (l : Level) : Type 0 where
+  pub coalitions : AllByRecursion (λ c. (pos 1 ≤ℤ c.1) × HasWeight weights (outer_id g.players front c.0))
+      l.coalitions
+  pub bounds : AllByRecursion
+      (λ b. (b.0 < g.players)
+      × (((pos 1 ≤ℤ b.1) × HasWeight weights (single_id g.players front b.0))
+      ⊎ ((family ≡ Imputations) × IsTrue (has_bound front b.0)))) l.bounds
   pub all_coalitions : (s : ℕ) → HasWeight weights (outer_id g.players front s) → IsTrue (is_listed (l ∷ []) s)
-  pub all_bounds : (i : ℕ) → i < g.players → HasWeight weights (single_id g.players front i) → IsTrue (has_bound (front ++ l ∷ []) i)
-  pub sums : (i : ℕ) → i < g.players → weight_at l.coalitions i +ℤ weight_at l.earlier i +ℤ number_at l.bounds i -ℤ l.total ≡ weighted_sum (λ id. entry_of measure g.players (column g.players front id) i) weights
+  pub all_bounds : (i : ℕ) → i < g.players → HasWeight weights (single_id g.players front i)
+      → IsTrue (has_bound (front ++ l ∷ []) i)
+  pub sums : (i : ℕ) → i < g.players
+      → weight_at l.coalitions i +ℤ weight_at l.earlier i +ℤ number_at l.bounds i -ℤ l.total
+      ≡ weighted_sum (λ id. entry_of measure g.players (column g.players front id) i) weights
 
 pub record Stage : Type 0 where
   pub level : Level
@@ -53,10 +63,12 @@ pub record Stage : Type 0 where
   pub multipliers : List ℤ
   pub den : ℤ
 
-pub record StageHolds (family : Family) (measure : Measure) (g : Game) (front : List Level) (t : Stage) : Type 0 where
-  pub decides : (s : ℕ) → Decides (t.outside s) (IsOutside Span g.players front s)
-  pub optimal : IsOptimal (stage_program family measure g front t.outside) t.weights t.weight_den t.multipliers t.den
-  pub follows : Follows family measure g front t.weights t.level
+pub record StageHolds (family : Family) (measure : Measure) (g : Game) (front : List Level) (t : Stage) : Type 0
+  where
+    pub decides : (s : ℕ) → Decides (t.outside s) (IsOutside Span g.players front s)
+    pub optimal : IsOptimal (stage_program family measure g front t.outside) t.weights t.weight_den t.multipliers
+        t.den
+    pub follows : Follows family measure g front t.weights t.level
 
 abbrev pub levels_of : List Stage → List Level
 levels_of [] = []
@@ -65,7 +77,8 @@ levels_of (t ∷ ts) = t.level ∷ levels_of ts
 -- each stage is optimal behind the levels of those in front
 abbrev pub IsChain : Family → Measure → Game → List Level → List Stage → Type 0
 IsChain family measure g front [] = Unit {0}
-IsChain family measure g front (t ∷ ts) = StageHolds family measure g front t × IsChain family measure g (front ++ t.level ∷ []) ts
+IsChain family measure g front (t ∷ ts) =
+    StageHolds family measure g front t × IsChain family measure g (front ++ t.level ∷ []) ts
 
 -- the last of the stages t and ts
 abbrev pub last_of : Stage → List Stage → Stage
@@ -76,4 +89,5 @@ last_of t (t' ∷ ts) = last_of t' ts
 abbrev pub HaveExcesses : Game → List ℤ → ℤ → ℕ → List Level → Type 0
 HaveExcesses g m den k [] = Unit {0}
 HaveExcesses g m den k (l ∷ levels) =
-    (l.excess_num *ℤ den ≡ excess_of g.players m k *ℤ l.excess_den) × (pos 1 ≤ℤ l.excess_den) × HaveExcesses g m den (k + 1) levels
+    (l.excess_num *ℤ den ≡ excess_of g.players m k *ℤ l.excess_den) × (pos 1 ≤ℤ l.excess_den)
+    × HaveExcesses g m den (k + 1) levels

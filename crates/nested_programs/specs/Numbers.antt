@@ -9,7 +9,8 @@
 --   level_pairs     those of one level
 --   bound_pairs     the players at their bound and their net numbers
 --   IsLevelOf       the level
-use Rattle.std.specs.Prelude.{◌≡◌, ℕ, zero, suc, ◌+◌, ◌-◌, ◌*◌, ◌^◌, ◌<◌, nat_eq, nat_le, List, [], ◌∷◌, ◌++◌, length, map, ℤ, pos, ◌-ℤ◌, ◌≤ℤ◌, if◌then◌else◌, unsigned_abs, slice_index_or}
+use Rattle.std.specs.Prelude.{◌≡◌, ℕ, zero, suc, ◌+◌, ◌-◌, ◌*◌, ◌^◌, ◌<◌, nat_eq, nat_le, List, [], ◌∷◌, ◌++◌}
+use Rattle.std.specs.Prelude.{length, map, ℤ, pos, ◌-ℤ◌, ◌≤ℤ◌, if◌then◌else◌, unsigned_abs, slice_index_or}
 use Rattle.std.specs.List.{AllByRecursion, IsDistinct}
 use Rattle.std.specs.Ordering.{int_eq}
 use Rattle.definitions.specs.Certificates.{Level, number_at}
@@ -23,14 +24,16 @@ pub record AreNumbers (weights : List (ℕ × ℤ)) : Type 0 where
   pub small : AllByRecursion (λ w. unsigned_abs w.1 < 2 ^ 62) weights
   pub distinct : IsDistinct nat_eq (map (λ w. w.0) weights)
 
--- the number of the column of the first player alone, behind two for all players and two for each coalition of the levels
+-- the number of the column of the first player alone, behind two for all players and two for each coalition of the
+-- levels
 abbrev pub first_single : List Level → ℕ
 first_single front = 2 + 2 * length (earlier_of 0 front)
 
 -- the coalitions outside that have a number, where `first` is the number of the column of the empty one
 abbrev pub outer_pairs : ℕ → List (ℕ × ℤ) → List (ℕ × ℤ)
 outer_pairs first [] = []
-outer_pairs first (w ∷ ws) = if nat_le first w.0 then (w.0 - first, w.1) ∷ outer_pairs first ws else outer_pairs first ws
+outer_pairs first (w ∷ ws) =
+    if nat_le first w.0 then (w.0 - first, w.1) ∷ outer_pairs first ws else outer_pairs first ws
 
 -- the number of a column less that of the same column negated
 abbrev pub net : List (ℕ × ℤ) → ℕ → ℕ → ℤ
@@ -52,11 +55,14 @@ level_pairs weights id pairs = earlier_pairs weights id (map (λ c. (c.0, 0)) pa
 -- the first `count` of n players and their net numbers, where `first` is the number of the column of the first alone
 abbrev pub bound_pairs : List (ℕ × ℤ) → ℕ → ℕ → ℕ → List (ℕ × ℤ)
 bound_pairs weights first n zero = []
-bound_pairs weights first n (suc i) = bound_pairs weights first n i ++ kept i (net weights (first + i) (first + i + n))
+bound_pairs weights first n (suc i) =
+    bound_pairs weights first n i ++ kept i (net weights (first + i) (first + i + n))
 
 -- the level that weights are behind the levels in front, with the last multiplier as excess
-pub record IsLevelOf (n : ℕ) (front : List Level) (weights : List (ℕ × ℤ)) (m : List ℤ) (den : ℤ) (l : Level) : Type 0 where
-  pub excess : IsRatio (record { num = l.excess_num; den = l.excess_den }) (slice_index_or m (n + length front) (pos 0)) den
+pub record IsLevelOf (n : ℕ) (front : List Level) (weights : List (ℕ × ℤ)) (m : List ℤ) (den : ℤ) (l : Level) : Type
+    0 where
+  pub excess : IsRatio (record { num = l.excess_num; den = l.excess_den })
+      (slice_index_or m (n + length front) (pos 0)) den
   pub coalitions : l.coalitions ≡ placed (outer_pairs (first_single front + (n + n)) weights)
   pub earlier : l.earlier ≡ placed (earlier_pairs weights 2 (earlier_of 0 front))
   pub bounds : l.bounds ≡ bound_pairs weights (first_single front) n n

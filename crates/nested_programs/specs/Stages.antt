@@ -10,7 +10,8 @@
 --   IsBounded     the stage behind the levels has no endless ray
 --   AreUnderway   the levels so far, with what they fix
 --   AreDone       the levels of all stages
-use Rattle.std.specs.Prelude.{◌≡◌, ℕ, ◌+◌, ◌<◌, ◌≤◌, Bool, List, [], ◌∷◌, length, ℤ, pos, ◌*ℤ◌, ◌≤ℤ◌, IsTrue, Option, Some, None}
+use Rattle.std.specs.Prelude.{◌≡◌, ℕ, ◌+◌, ◌<◌, ◌≤◌, Bool, List, [], ◌∷◌, length, ℤ}
+use Rattle.std.specs.Prelude.{pos, ◌*ℤ◌, ◌≤ℤ◌, IsTrue, Option, Some, None}
 use Rattle.std.specs.Bool.{Decides}
 use Rattle.std.specs.List.{AllByRecursion}
 use Rattle.definitions.specs.Coalitions.{singleton}
@@ -36,7 +37,8 @@ pub record IsLeft (n : ℕ) (levels : List Level) : Type 0 where
   pub apart : ¬ InSpan n (IsFixedVector n levels) (singleton player)
 
 -- an optimum of the stage behind the levels, by a test that passes exactly at the coalitions outside
-pub record IsBest (family : Family) (measure : Measure) (g : Game) (front : List Level) (weights : List (ℕ × ℤ)) (weight_den : ℤ) (m : List ℤ) (den : ℤ) : Type 0 where
+pub record IsBest (family : Family) (measure : Measure) (g : Game) (front : List Level) (weights : List (ℕ × ℤ))
+    (weight_den : ℤ) (m : List ℤ) (den : ℤ) : Type 0 where
   pub outside : ℕ → Bool
   pub decides : (s : ℕ) → Decides (outside s) (IsOutside Span g.players front s)
   pub answer : IsAnswer (stage_program family measure g front outside) weights weight_den m den
@@ -45,7 +47,8 @@ pub record IsBest (family : Family) (measure : Measure) (g : Game) (front : List
 abbrev pub OwnExcesses : Game → ℕ → List Stage → Type 0
 OwnExcesses g k [] = Unit {0}
 OwnExcesses g k (t ∷ ts) =
-    (t.level.excess_num *ℤ t.den ≡ excess_of g.players t.multipliers k *ℤ t.level.excess_den) × (pos 1 ≤ℤ t.level.excess_den) × OwnExcesses g (k + 1) ts
+    (t.level.excess_num *ℤ t.den ≡ excess_of g.players t.multipliers k *ℤ t.level.excess_den)
+    × (pos 1 ≤ℤ t.level.excess_den) × OwnExcesses g (k + 1) ts
 
 -- the last of the stages has these multipliers; without stages there are none
 abbrev pub AreLast : List Stage → Option Multipliers → Type 0
@@ -60,7 +63,8 @@ AreWide n levels None = levels ≡ []
 AreWide n levels (Some m) = n ≤ length m.num.items
 
 -- levels that optimal stages gave, each behind those in front, and the multipliers of the last stage
-pub record AreStages (family : Family) (measure : Measure) (g : Game) (levels : List Level) (last : Option Multipliers) : Type 0 where
+pub record AreStages (family : Family) (measure : Measure) (g : Game) (levels : List Level)
+    (last : Option Multipliers) : Type 0 where
   pub stages : List Stage
   pub levels_are : levels ≡ levels_of stages
   pub chain : IsChain family measure g [] stages
@@ -71,10 +75,13 @@ pub record AreStages (family : Family) (measure : Measure) (g : Game) (levels : 
 -- the stage behind the levels has no endless ray
 abbrev pub IsBounded : Family → Measure → Game → List Level → Type 0
 IsBounded family measure g levels =
-    (outside : ℕ → Bool) → ((s : ℕ) → IsTrue (outside s) → IsOutside Span g.players levels s) → HasRay (stage_program family measure g levels outside) → ⊥
+    (outside : ℕ → Bool) → ((s : ℕ) → IsTrue (outside s) → IsOutside Span g.players levels s)
+    → HasRay (stage_program family measure g levels outside) → ⊥
 
--- the levels so far: in their form, each with few entries and its excess in lowest terms; the next stage has no endless ray; and the coalitions that are kept span what the levels fix, more of them than levels
-pub record AreUnderway (family : Family) (measure : Measure) (g : Game) (levels : List Level) (kept : List ℕ) (last : Option Multipliers) : Type 0 where
+-- the levels so far: in their form, each with few entries and its excess in lowest terms; the next stage has no
+-- endless ray; and the coalitions that are kept span what the levels fix, more of them than levels
+pub record AreUnderway (family : Family) (measure : Measure) (g : Game) (levels : List Level) (kept : List ℕ)
+    (last : Option Multipliers) : Type 0 where
   pub stages : AreStages family measure g levels last
   pub form : LevelsForm g.players [] levels
   pub short : AllByRecursion (IsShort g.players) levels
@@ -85,7 +92,8 @@ pub record AreUnderway (family : Family) (measure : Measure) (g : Game) (levels 
   pub count : length levels < g.players
 
 -- the levels of all stages, which fix everything
-pub record AreDone (family : Family) (measure : Measure) (g : Game) (levels : List Level) (last : Option Multipliers) : Type 0 where
+pub record AreDone (family : Family) (measure : Measure) (g : Game) (levels : List Level)
+    (last : Option Multipliers) : Type 0 where
   pub stages : AreStages family measure g levels last
   pub form : LevelsForm g.players [] levels
   pub short : AllByRecursion (IsShort g.players) levels

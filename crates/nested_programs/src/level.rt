@@ -4,7 +4,8 @@ ghost use Rattle.std.specs.List.{AllByRecursion};
 ghost use Rattle.arrayvec.specs.ArrayVec.{array_vec_len};
 ghost use Rattle.separation.specs.Stage.{earlier_of};
 ghost use Rattle.kohlberg.specs.Solved.{IsLowest};
-ghost use Rattle.nested_programs.specs.Numbers.{AreNumbers, outer_pairs, earlier_pairs, level_pairs, bound_pairs, IsLevelOf};
+ghost use Rattle.nested_programs.specs.Numbers.{AreNumbers, outer_pairs, earlier_pairs};
+ghost use Rattle.nested_programs.specs.Numbers.{level_pairs, bound_pairs, IsLevelOf};
 ghost use Rattle.kohlberg.specs.Pairs.{placed, placed_behind};
 
 use crate::numbers::net_of;
@@ -43,7 +44,8 @@ fn put_level(
     requires weights { AreNumbers weights.now }
     requires small { first ≤ 2 ^ 32 }
     requires few { length pairs.now ≤ 65536 }
-    ensures { OnOk result (earlier.new.items ≡ placed_behind earlier.old.items (level_pairs weights.now first pairs.now)) }
+    ensures { OnOk result
+        (earlier.new.items ≡ placed_behind earlier.old.items (level_pairs weights.now first pairs.now)) }
 {
     for k in 0..pairs.len() {
         let id = first + 2 * k as u64;
@@ -112,7 +114,9 @@ pub(crate) fn level_of(
     requires weights { AreNumbers best.now.weights.items }
     requires multipliers { array_vec_len best.now.multipliers.num ≡ n + (length front.now + 1) }
     ensures lowest { IfOk result IsLowest }
-    ensures level { IfOk result (λ l. IsLevelOf n front.now best.now.weights.items best.now.multipliers.num.items best.now.multipliers.den l) }
+    ensures level { IfOk result
+        (λ l. IsLevelOf n front.now best.now.weights.items best.now.multipliers.num.items best.now.multipliers.den
+        l) }
 {
     let weights = best.weights.as_slice();
     let first = 2 + 2 * coalition_count(front);

@@ -22,7 +22,8 @@ fn singles<W: Worth>(game: &W) -> i64
 /// imputations.
 pub(crate) fn lacks_imputation<W: Worth>(game: &W, family: Family) -> Option<(i64, i64)>
     requires { (W.game game.now).players ≤ 16 }
-    ensures { MatchOption result (HasMember family (W.game game.now)) (λ found. LacksImputation family (W.game game.now) found.0 found.1) }
+    ensures { MatchOption result (HasMember family (W.game game.now))
+        (λ found. LacksImputation family (W.game game.now) found.0 found.1) }
 {
     let sum = singles(game);
     let total = game.worth(Coalition::all(game.players()));

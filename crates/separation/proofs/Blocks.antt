@@ -1,5 +1,6 @@
 -- The values of the columns of coalitions with plain excess, 256 at a time.
-use Rattle.std.proofs.Common.{◌≡◌, ℕ, ◌+◌, ◌*◌, ◌/◌, ◌%◌, ◌<◌, ◌≤◌, List, length, ℤ, pos, ◌+ℤ◌, sym, ap, ◌∙◌, arith, slice_index_or, Option, Some, None, false}
+use Rattle.std.proofs.Common.{◌≡◌, ℕ, ◌+◌, ◌*◌, ◌/◌, ◌%◌, ◌<◌, ◌≤◌, List, length, ℤ, pos, ◌+ℤ◌, sym}
+use Rattle.std.proofs.Common.{ap, ◌∙◌, arith, slice_index_or, Option, Some, None, false}
 use Rattle.std.specs.Option.{ForSome}
 use Rattle.definitions.proofs.Ring.{linear, one-mulℤ}
 use Rattle.definitions.specs.declared.Measure.TheVariants.{Plain}
@@ -9,21 +10,30 @@ use Rattle.separation.specs.declared.front.Front.{Front}
 use Rattle.separation.proofs.Valued.{sums_at, value_is}
 
 -- the level row of the coalitions' columns has a multiplier
-pub front_within : (front : Option Front) (n rows len : ℕ) → rows ≡ front_rows front → len ≡ n + rows → ForSome (front_level front) (λ l. n + l < len)
+pub front_within : (front : Option Front) (n rows len : ℕ) → rows ≡ front_rows front → len ≡ n + rows
+    → ForSome (front_level front) (λ l. n + l < len)
 front_within None n rows len e h l is = absurd (clash l is)
   where
     clash : (y : ℕ) → None ≡ Some y → ⊥
     clash y e = cc
-front_within (Some f) n rows len e h l is = let same : length f.levels.now ≡ l = inside (length f.levels.now) l is in omega (arith, e, h, same)
+front_within (Some f) n rows len e h l is =
+    let same : length f.levels.now ≡ l = inside (length f.levels.now) l is in omega (arith, e, h, same)
   where
     inside : (x y : ℕ) → Some x ≡ Some y → x ≡ y
     inside x y e = cc
 
-pub block_value : (num : List ℤ) (n s block : ℕ) (level : Option ℕ) (low high : List ℤ) (cost base value : ℤ) → n ≤ length num → ForSome level (λ l. n + l < length num) → AreSums num n low high → 256 * block ≤ s → s < 256 * block + 256 → block < 256 → base ≡ slice_index_or high block (pos 0) +ℤ level_multiplier num n level → value ≡ base +ℤ slice_index_or low (s % 256) (pos 0) → value ≡ column_value Plain num n (record { coalition = s; level = level; negated = false; cost = cost })
+pub block_value : (num : List ℤ) (n s block : ℕ) (level : Option ℕ) (low high : List ℤ) (cost base value : ℤ)
+    → n ≤ length num → ForSome level (λ l. n + l < length num) → AreSums num n low high → 256 * block ≤ s
+    → s < 256 * block + 256 → block < 256 → base ≡ slice_index_or high block (pos 0) +ℤ level_multiplier num n level
+    → value ≡ base +ℤ slice_index_or low (s % 256) (pos 0)
+    → value ≡ column_value Plain num n (record { coalition = s; level = level; negated = false; cost = cost })
 block_value num n s block level low high cost base value le within sums lower upper few based valued =
     let here : s / 256 % 256 ≡ block = omega (arith, lower, upper, few) in
-    let sum = ap (λ (t : ℕ). slice_index_or low (s % 256) (pos 0) +ℤ slice_index_or high t (pos 0)) (sym here) ∙ sums_at num n s low high sums in
-    let is = value_is Plain num n (record { coalition = s; level = level; negated = false; cost = cost }) le within in
+    let sum =
+    ap (λ (t : ℕ). slice_index_or low (s % 256) (pos 0) +ℤ slice_index_or high t (pos 0)) (sym here)
+    ∙ sums_at num n s low high sums in
+    let is =
+    value_is Plain num n (record { coalition = s; level = level; negated = false; cost = cost }) le within in
     added _ _ _ _ _ _ _ valued based sum (one-mulℤ (level_multiplier num n level)) ∙ sym is
   where
     added : (v b h k l x m : ℤ) → v ≡ b +ℤ l → b ≡ h +ℤ k → l +ℤ h ≡ x → m ≡ k → v ≡ x +ℤ m

@@ -1,12 +1,13 @@
 -- The first column above its value is the one that enters.
-use Rattle.std.proofs.Common.{◌≡◌, ℕ, ◌+◌, Bool, true, false, IsTrue, List, length, ℤ, pos, ◌*ℤ◌, ◌≤ℤ◌, ◌<ℤ◌, refl, subst, arith, Option, Some, None, MatchOption}
+use Rattle.std.proofs.Common.{◌≡◌, ℕ, ◌+◌, Bool, true, false, IsTrue, List, length, ℤ, pos, ◌*ℤ◌, ◌≤ℤ◌}
+use Rattle.std.proofs.Common.{◌<ℤ◌, refl, subst, arith, Option, Some, None, MatchOption}
 use Rattle.std.proofs.lemmas.Bool.{false≢true}
 use Rattle.std.specs.Option.{is_some}
 use Rattle.definitions.proofs.Ring.{linear}
 use Rattle.definitions.specs.Sums.{sum_below}
 use Rattle.definitions.specs.Programs.{Bounds, value_of}
 use Rattle.definitions.specs.declared.Measure.{Measure}
-use Rattle.simplex.specs.Entering.{IsEntering}
+use Rattle.simplex.specs.Entering.{IsEntering, IsRising}
 use Rattle.simplex.specs.Program.{price, priced}
 use Rattle.separation.specs.Kept.{column_at, entry_at, cost_at, kept_program}
 use Rattle.separation.specs.Values.{multiplier_at, column_value, counted, Rises, IsFirst}
@@ -19,38 +20,70 @@ value_at measure num n o = sum_below (length num) (λ r. multiplier_at num r *�
 not_above : (a b : ℤ) → ¬ (b <ℤ a) → a ≤ℤ b
 not_above a b h = grind (arith, linear)
 
-low : (measure : Measure) (num : List ℤ) (den : ℤ) (n : ℕ) (w : Bool) (o : Option Column) → ¬ Rises measure num den n w o → IsTrue (is_some o) → (den *ℤ counted w (cost_at o)) ≤ℤ value_at measure num n o
+low : (measure : Measure) (num : List ℤ) (den : ℤ) (n : ℕ) (w : Bool) (o : Option Column)
+    → ¬ Rises measure num den n w o → IsTrue (is_some o)
+    → (den *ℤ counted w (cost_at o)) ≤ℤ value_at measure num n o
 low measure num den n w None h is = absurd (false≢true is)
 low measure num den n w (Some c) h is = not_above (den *ℤ counted w c.cost) (column_value measure num n c) h
 
-high : (measure : Measure) (num : List ℤ) (den : ℤ) (n : ℕ) (w : Bool) (o : Option Column) → Rises measure num den n w o → value_at measure num n o <ℤ (den *ℤ counted w (cost_at o))
+high : (measure : Measure) (num : List ℤ) (den : ℤ) (n : ℕ) (w : Bool) (o : Option Column)
+    → Rises measure num den n w o → value_at measure num n o <ℤ (den *ℤ counted w (cost_at o))
 high measure num den n w None h = absurd h
 high measure num den n w (Some c) h = h
 
-there : (measure : Measure) (num : List ℤ) (den : ℤ) (n : ℕ) (w : Bool) (o : Option Column) → Rises measure num den n w o → IsTrue (is_some o)
+there : (measure : Measure) (num : List ℤ) (den : ℤ) (n : ℕ) (w : Bool) (o : Option Column)
+    → Rises measure num den n w o → IsTrue (is_some o)
 there measure num den n w None h = absurd h
 there measure num den n w (Some c) h = refl
 
-price_is : (measure : Measure) (n levels : ℕ) (columns : List (Option Column)) (w : Bool) (id : ℕ) → counted w (cost_at (column_at columns id)) ≡ price (kept_program measure n levels columns) w id
+price_is : (measure : Measure) (n levels : ℕ) (columns : List (Option Column)) (w : Bool) (id : ℕ)
+    → counted w (cost_at (column_at columns id)) ≡ price (kept_program measure n levels columns) w id
 price_is measure n levels columns true id = refl
 price_is measure n levels columns false id = refl
 
-module _ (measure : Measure) (n levels : ℕ) (columns : List (Option Column)) (num : List ℤ) (den : ℤ) (w : Bool) (len : length num ≡ n + levels) where
-  below : (id : ℕ) → ¬ Rises measure num den n w (column_at columns id) → IsTrue (is_some (column_at columns id)) → (den *ℤ price (kept_program measure n levels columns) w id) ≤ℤ value_of (priced (kept_program measure n levels columns) w) num (λ r. entry_at measure n (column_at columns id) r)
+module _ (measure : Measure) (n levels : ℕ) (columns : List (Option Column)) (num : List ℤ) (den : ℤ) (w : Bool)
+    (len : length num ≡ n + levels) where
+  below : (id : ℕ) → ¬ Rises measure num den n w (column_at columns id) → IsTrue (is_some (column_at columns id))
+      → (den *ℤ price (kept_program measure n levels columns) w id)
+      ≤ℤ value_of (priced (kept_program measure n levels columns) w) num
+      (λ r. entry_at measure n (column_at columns id) r)
   below id h is =
-      subst (λ (t : ℕ). (den *ℤ price (kept_program measure n levels columns) w id) ≤ℤ sum_below t (λ r. multiplier_at num r *ℤ entry_at measure n (column_at columns id) r)) len
-      (subst (λ (z : ℤ). (den *ℤ z) ≤ℤ value_at measure num n (column_at columns id)) (price_is measure n levels columns w id) (low measure num den n w (column_at columns id) h is))
+      subst
+      (λ (t : ℕ). (den *ℤ price (kept_program measure n levels columns) w id)
+      ≤ℤ sum_below t (λ r. multiplier_at num r *ℤ entry_at measure n (column_at columns id) r)) len
+      (subst (λ (z : ℤ). (den *ℤ z) ≤ℤ value_at measure num n (column_at columns id))
+      (price_is measure n levels columns w id) (low measure num den n w (column_at columns id) h is))
 
-  above : (id : ℕ) → Rises measure num den n w (column_at columns id) → value_of (priced (kept_program measure n levels columns) w) num (λ r. entry_at measure n (column_at columns id) r) <ℤ (den *ℤ price (kept_program measure n levels columns) w id)
+  above : (id : ℕ) → Rises measure num den n w (column_at columns id)
+      → value_of (priced (kept_program measure n levels columns) w) num
+      (λ r. entry_at measure n (column_at columns id) r)
+      <ℤ (den *ℤ price (kept_program measure n levels columns) w id)
   above id h =
-      subst (λ (t : ℕ). sum_below t (λ r. multiplier_at num r *ℤ entry_at measure n (column_at columns id) r) <ℤ (den *ℤ price (kept_program measure n levels columns) w id)) len
-      (subst (λ (z : ℤ). value_at measure num n (column_at columns id) <ℤ (den *ℤ z)) (price_is measure n levels columns w id) (high measure num den n w (column_at columns id) h))
+      subst
+      (λ (t : ℕ). sum_below t (λ r. multiplier_at num r *ℤ entry_at measure n (column_at columns id) r)
+      <ℤ (den *ℤ price (kept_program measure n levels columns) w id)) len
+      (subst (λ (z : ℤ). value_at measure num n (column_at columns id) <ℤ (den *ℤ z))
+      (price_is measure n levels columns w id) (high measure num den n w (column_at columns id) h))
 
-  pub entered : (found : Option ℕ) → pos 1 ≤ℤ den → MatchOption found ((id : ℕ) → ¬ Rises measure num den n w (column_at columns id)) (IsFirst measure num den n w columns)
-      → MatchOption found (Bounds (priced (kept_program measure n levels columns) w) num den) (λ id. IsEntering (priced (kept_program measure n levels columns) w) num den id)
+  pub entered : (found : Option ℕ) → pos 1 ≤ℤ den
+      → MatchOption found ((id : ℕ) → ¬ Rises measure num den n w (column_at columns id))
+      (IsFirst measure num den n w columns)
+      → MatchOption found (Bounds (priced (kept_program measure n levels columns) w) num den)
+      (λ id. IsEntering (priced (kept_program measure n levels columns) w) num den id)
   entered None positive h = (positive, λ id is. below id (h id) is)
   entered (Some id) positive h = record {
     is_column = there measure num den n w (column_at columns id) h.rises;
     above = above id h.rises;
     least = λ j lt is. below j (h.least j lt) is;
+  }
+
+  pub risen : (found : Option ℕ) → pos 1 ≤ℤ den
+      → MatchOption found ((id : ℕ) → ¬ Rises measure num den n w (column_at columns id))
+      (λ id. Rises measure num den n w (column_at columns id))
+      → MatchOption found (Bounds (priced (kept_program measure n levels columns) w) num den)
+      (λ id. IsRising (priced (kept_program measure n levels columns) w) num den id)
+  risen None positive h = (positive, λ id is. below id (h id) is)
+  risen (Some id) positive h = record {
+    is_column = there measure num den n w (column_at columns id) h;
+    above = above id h;
   }

@@ -1,5 +1,6 @@
 -- The sizes of the entries of a column per head sum to at most 14 for 8 players.
-use Rattle.std.specs.Prelude.{◌≡◌, ◌⊎◌, ℕ, zero, suc, ◌+◌, ◌-◌, ◌^◌, ◌<◌, ◌≤◌, Bool, true, false, IsTrue, cond, nat_eq, nat_lt, length, ℤ, pos, Option, Some, None, refl, unsigned_abs}
+use Rattle.std.specs.Prelude.{◌≡◌, ◌⊎◌, ℕ, zero, suc, ◌+◌, ◌-◌, ◌^◌, ◌<◌, ◌≤◌, Bool, true, false, IsTrue, cond}
+use Rattle.std.specs.Prelude.{nat_eq, nat_lt, length, ℤ, pos, Option, Some, None, refl, unsigned_abs}
 use Rattle.std.proofs.Common.{inl, inr, arith, sym, ap, ◌∙◌}
 use Rattle.std.proofs.lemmas.Bool.{false≢true}
 use Rattle.std.proofs.lemmas.Bool.Decides.{nat_tests}
@@ -28,14 +29,17 @@ all_or_out (suc n) s = elim (all_or_out n s) [
   | inr (i, lt, out) ↦ inr (i, omega (arith, lt), out)
 ]
   where
-    last : (b : Bool) → has_player s n ≡ b → ((i : ℕ) → i < n → has_player s i ≡ true) → ((i : ℕ) → i < suc n → has_player s i ≡ true) ⊎ ((i : ℕ) × (i < suc n) × (has_player s i ≡ false))
-    last true e all = inl (λ i lt. elim (less_or_last i n lt) [ inl less ↦ all i less | inr same ↦ ap (has_player s) same ∙ e ])
+    last : (b : Bool) → has_player s n ≡ b → ((i : ℕ) → i < n → has_player s i ≡ true)
+        → ((i : ℕ) → i < suc n → has_player s i ≡ true) ⊎ ((i : ℕ) × (i < suc n) × (has_player s i ≡ false))
+    last true e all =
+        inl (λ i lt. elim (less_or_last i n lt) [ inl less ↦ all i less | inr same ↦ ap (has_player s) same ∙ e ])
     last false e all = inr (n, omega arith, e)
 
 all_members : (n s : ℕ) → s < 2 ^ n → ((i : ℕ) → i < n → has_player s i ≡ true) → s ≡ grand_coalition n
 all_members n s h all =
     same_from_bits s (grand_coalition n) (λ j. elim (below_or_above j n) [
-      | inl lt ↦ one (bit_at s j) (all j lt) ∙ sym (one (bit_at (grand_coalition n) j) (has_player-grand_coalition n j lt))
+      | inl lt ↦ one (bit_at s j) (all j lt)
+          ∙ sym (one (bit_at (grand_coalition n) j) (has_player-grand_coalition n j lt))
       | inr le ↦ bit_at_above s n j h le ∙ sym (bit_at_above (grand_coalition n) n j (grand_coalition-within n) le)
     ])
   where
@@ -44,7 +48,9 @@ all_members n s h all =
 
 some_out : (n s : ℕ) → s < grand_coalition n → (i : ℕ) × (i < n) × (has_player s i ≡ false)
 some_out n s lt = elim (all_or_out n s) [
-  | inl all ↦ absurd (let e = all_members n s (let b = grand_coalition-within n in omega (arith, lt, b)) all in omega (arith, lt, e))
+  | inl all ↦ absurd
+      (let e = all_members n s (let b = grand_coalition-within n in omega (arith, lt, b)) all in
+      omega (arith, lt, e))
   | inr out ↦ out
 ]
 
@@ -52,9 +58,12 @@ some_out n s lt = elim (all_or_out n s) [
 
 fewer_members : (n s i : ℕ) → i < n → has_player s i ≡ false → length (members n s) + 1 ≤ n
 fewer_members zero s i lt out = absurd (omega arith)
-fewer_members (suc n) s i lt out = let next : suc n ≡ n + 1 = omega arith in rw next (step (has_player s n) refl (less_or_last i n lt) (λ less. fewer_members n s i less out))
+fewer_members (suc n) s i lt out =
+    let next : suc n ≡ n + 1 = omega arith in
+    rw next (step (has_player s n) refl (less_or_last i n lt) (λ less. fewer_members n s i less out))
   where
-    step : (b : Bool) → has_player s n ≡ b → (i < n) ⊎ (i ≡ n) → (i < n → length (members n s) + 1 ≤ n) → length (members (n + 1) s) + 1 ≤ n + 1
+    step : (b : Bool) → has_player s n ≡ b → (i < n) ⊎ (i ≡ n) → (i < n → length (members n s) + 1 ≤ n)
+        → length (members (n + 1) s) + 1 ≤ n + 1
     step false h w fewer = omega (arith, length-more_no n s h, length-few n s)
     step true h (inl less) fewer = omega (arith, length-more_yes n s h, fewer less)
     step true h (inr same) fewer = absurd (false≢true (sym out ∙ ap (has_player s) same ∙ h))
@@ -78,7 +87,8 @@ sizes_split n (suc j) a =
     let e : n + suc j ≡ suc (n + j) = omega arith in
     rw e (omega (arith, sizes_split n j a))
 
-sizes_same : (n : ℕ) (a b : ℕ → ℤ) → ((i : ℕ) → i < n → unsigned_abs (a i) ≡ unsigned_abs (b i)) → sizes n a ≡ sizes n b
+sizes_same : (n : ℕ) (a b : ℕ → ℤ) → ((i : ℕ) → i < n → unsigned_abs (a i) ≡ unsigned_abs (b i))
+    → sizes n a ≡ sizes n b
 sizes_same zero a b h = refl
 sizes_same (suc n) a b h =
     let ih = sizes_same n a b (λ i lt. h i (omega (arith, lt))) in
@@ -91,18 +101,35 @@ size_signed false z = refl
 
 member_sizes : (n s : ℕ) → sizes n (λ i. cond (has_player s i) (pos 1) (pos 0)) ≡ length (members n s)
 member_sizes zero s = rw (members-zero s) refl
-member_sizes (suc n) s = let next : suc n ≡ n + 1 = omega arith in sym (ap (λ (k : ℕ). length (members k s)) next ∙ sym (step (has_player s n) refl (member_sizes n s)))
+member_sizes (suc n) s =
+    let next : suc n ≡ n + 1 = omega arith in
+    sym (ap (λ (k : ℕ). length (members k s)) next ∙ sym (step (has_player s n) refl (member_sizes n s)))
   where
-    step : (b : Bool) → has_player s n ≡ b → sizes n (λ i. cond (has_player s i) (pos 1) (pos 0)) ≡ length (members n s) → sizes n (λ i. cond (has_player s i) (pos 1) (pos 0)) + unsigned_abs (cond (has_player s n) (pos 1) (pos 0)) ≡ length (members (n + 1) s)
-    step true h same = ap (λ (b : Bool). sizes n (λ i. cond (has_player s i) (pos 1) (pos 0)) + unsigned_abs (cond b (pos 1) (pos 0))) h ∙ omega (arith, length-more_yes n s h, same)
-    step false h same = ap (λ (b : Bool). sizes n (λ i. cond (has_player s i) (pos 1) (pos 0)) + unsigned_abs (cond b (pos 1) (pos 0))) h ∙ omega (arith, length-more_no n s h, same)
+    step : (b : Bool) → has_player s n ≡ b
+        → sizes n (λ i. cond (has_player s i) (pos 1) (pos 0)) ≡ length (members n s)
+        → sizes n (λ i. cond (has_player s i) (pos 1) (pos 0))
+        + unsigned_abs (cond (has_player s n) (pos 1) (pos 0)) ≡ length (members (n + 1) s)
+    step true h same =
+        ap
+        (λ (b : Bool). sizes n (λ i. cond (has_player s i) (pos 1) (pos 0))
+        + unsigned_abs (cond b (pos 1) (pos 0))) h ∙ omega (arith, length-more_yes n s h, same)
+    step false h same =
+        ap
+        (λ (b : Bool). sizes n (λ i. cond (has_player s i) (pos 1) (pos 0))
+        + unsigned_abs (cond b (pos 1) (pos 0))) h ∙ omega (arith, length-more_no n s h, same)
 
 -- at most one level row has an entry
-level_sizes : (j l d : ℕ) → (sizes j (λ k. cond (nat_eq l k) (pos d) (pos 0)) ≤ d) × (j ≤ l → sizes j (λ k. cond (nat_eq l k) (pos d) (pos 0)) ≡ 0)
+level_sizes : (j l d : ℕ)
+    → (sizes j (λ k. cond (nat_eq l k) (pos d) (pos 0)) ≤ d)
+    × (j ≤ l → sizes j (λ k. cond (nat_eq l k) (pos d) (pos 0)) ≡ 0)
 level_sizes zero l d = (omega arith, λ le. refl)
 level_sizes (suc j) l d = step (nat_eq l j) refl (level_sizes j l d)
   where
-    step : (b : Bool) → nat_eq l j ≡ b → (sizes j (λ k. cond (nat_eq l k) (pos d) (pos 0)) ≤ d) × (j ≤ l → sizes j (λ k. cond (nat_eq l k) (pos d) (pos 0)) ≡ 0) → (sizes (suc j) (λ k. cond (nat_eq l k) (pos d) (pos 0)) ≤ d) × (suc j ≤ l → sizes (suc j) (λ k. cond (nat_eq l k) (pos d) (pos 0)) ≡ 0)
+    step : (b : Bool) → nat_eq l j ≡ b
+        → (sizes j (λ k. cond (nat_eq l k) (pos d) (pos 0)) ≤ d)
+        × (j ≤ l → sizes j (λ k. cond (nat_eq l k) (pos d) (pos 0)) ≡ 0)
+        → (sizes (suc j) (λ k. cond (nat_eq l k) (pos d) (pos 0)) ≤ d)
+        × (suc j ≤ l → sizes (suc j) (λ k. cond (nat_eq l k) (pos d) (pos 0)) ≡ 0)
     step true e (low, none) =
         let same : l ≡ j = grind (arith, nat_tests) in
         (rw e (omega (arith, none (omega (arith, same)))), λ le. absurd (omega (arith, le, same)))
@@ -121,24 +148,41 @@ player_part n c =
     ∙ member_sizes n c.coalition
 
 -- those in the rows of the levels
-level_part : (n j : ℕ) (c : Column) → sizes j (λ k. column_entry PerHead n c (n + k)) ≡ sizes j (λ k. cond (is_level c.level k) (pos (size c.coalition)) (pos 0))
+level_part : (n j : ℕ) (c : Column)
+    → sizes j (λ k. column_entry PerHead n c (n + k))
+    ≡ sizes j (λ k. cond (is_level c.level k) (pos (size c.coalition)) (pos 0))
 level_part n j c =
-    sizes_same j (λ k. column_entry PerHead n c (n + k)) (λ k. cond (is_level c.level k) (pos (size c.coalition)) (pos 0)) (λ k lt.
+    sizes_same j (λ k. column_entry PerHead n c (n + k))
+    (λ k. cond (is_level c.level k) (pos (size c.coalition)) (pos 0)) (λ k lt.
     let t : nat_lt (n + k) n ≡ false = grind (arith, nat_tests) in
     let e : n + k - n ≡ k = omega arith in
     rw t (rw e (size_signed c.negated (cond (is_level c.level k) (pos (size c.coalition)) (pos 0)))))
 
-level_few : (n j s : ℕ) (level : Option ℕ) → n ≤ 8 → ForSome level (λ l. s < grand_coalition n) → length (members n s) + sizes j (λ k. cond (is_level level k) (pos (size s)) (pos 0)) ≤ 14
+level_few : (n j s : ℕ) (level : Option ℕ) → n ≤ 8 → ForSome level (λ l. s < grand_coalition n)
+    → length (members n s) + sizes j (λ k. cond (is_level level k) (pos (size s)) (pos 0)) ≤ 14
 level_few n j s None few proper = omega (arith, few, no_sizes j, length-few n s)
 level_few n j s (Some l) few proper =
     let lt = proper l refl in
     let out = some_out n s lt in
-    omega (arith, few, (level_sizes j l (size s)).0, size_proper n s (omega (arith, few)) lt, fewer_members n s out.0 out.1 out.2)
+    omega (
+      arith,
+      few,
+      (level_sizes j l (size s)).0,
+      size_proper n s (omega (arith, few)) lt,
+      fewer_members n s out.0 out.1 out.2,
+    )
 
 column_short : (n j : ℕ) (c : Column) → n ≤ 8 → IsProper n c → sizes (n + j) (column_entry PerHead n c) ≤ 14
 column_short n j c few proper =
-    omega (arith, sizes_split n j (column_entry PerHead n c), player_part n c, level_part n j c, level_few n j c.coalition c.level few proper.1)
+    omega (
+      arith,
+      sizes_split n j (column_entry PerHead n c),
+      player_part n c,
+      level_part n j c,
+      level_few n j c.coalition c.level few proper.1,
+    )
 
-pub kept_short : (n j : ℕ) (o : Option Column) → n ≤ 8 → ForSome o (IsProper n) → IsTrue (is_some o) → sizes (n + j) (entry_at PerHead n o) ≤ 14
+pub kept_short : (n j : ℕ) (o : Option Column) → n ≤ 8 → ForSome o (IsProper n) → IsTrue (is_some o)
+    → sizes (n + j) (entry_at PerHead n o) ≤ 14
 kept_short n j None few proper is = absurd (false≢true is)
 kept_short n j (Some c) few proper is = column_short n j c few (proper c refl)

@@ -1,5 +1,6 @@
 -- What stands under a number among the columns in front of those of the coalitions outside.
-use Rattle.std.proofs.Common.{◌≡◌, ℕ, ◌+◌, ◌-◌, ◌*◌, ◌<◌, ◌≤◌, List, ◌++◌, length, length-append, Option, None, ap, ◌∙◌, refl, arith}
+use Rattle.std.proofs.Common.{◌≡◌, ℕ, ◌+◌, ◌-◌, ◌*◌, ◌<◌, ◌≤◌, List, ◌++◌, length}
+use Rattle.std.proofs.Common.{length-append, Option, None, ap, ◌∙◌, refl, arith}
 use Rattle.std.proofs.lemmas.List.{get_or-append_right, get_or_append_left}
 use Rattle.definitions.specs.Coalitions.{grand_coalition}
 use Rattle.definitions.specs.Games.{Game}
@@ -36,10 +37,14 @@ module _ (family : Family) (g : Game) (front : List Level) where
   length-one = let h = columns_length g (earlier_of 0 front) in omega (arith, h)
 
   length-two : length ((whole ++ earlier) ++ singles) ≡ b + n
-  length-two = length-append (whole ++ earlier) singles ∙ (let x = length-one in let y = length-listed g.players (single family g) in omega (arith, x, y))
+  length-two =
+      length-append (whole ++ earlier) singles
+      ∙ (let x = length-one in let y = length-listed g.players (single family g) in omega (arith, x, y))
 
   pub length-inner : length (inner_columns family g front) ≡ b + n + n
-  length-inner = length-append ((whole ++ earlier) ++ singles) bounds ∙ (let x = length-two in let y = length-listed g.players (bound family g front) in omega (arith, x, y))
+  length-inner =
+      length-append ((whole ++ earlier) ++ singles) bounds
+      ∙ (let x = length-two in let y = length-listed g.players (bound family g front) in omega (arith, x, y))
 
   settled_at : (id : ℕ) → id < b → column_at (inner_columns family g front) id ≡ column_at (whole ++ earlier) id
   settled_at id lt =
@@ -49,16 +54,19 @@ module _ (family : Family) (g : Game) (front : List Level) where
   pub whole_at : (id : ℕ) → id < 2 → column_at (inner_columns family g front) id ≡ column_at whole id
   whole_at id lt = settled_at id (omega (arith, lt)) ∙ get_or_append_left whole earlier None id lt
 
-  pub earlier_at : (id : ℕ) → 2 ≤ id → id < b → column_at (inner_columns family g front) id ≡ column_at earlier (id - 2)
+  pub earlier_at : (id : ℕ) → 2 ≤ id → id < b
+      → column_at (inner_columns family g front) id ≡ column_at earlier (id - 2)
   earlier_at id le lt = settled_at id lt ∙ get_or-append_right whole earlier 2 id None refl le
 
-  pub single_at : (id : ℕ) → b ≤ id → id < b + n → column_at (inner_columns family g front) id ≡ single family g (id - b)
+  pub single_at : (id : ℕ) → b ≤ id → id < b + n
+      → column_at (inner_columns family g front) id ≡ single family g (id - b)
   single_at id le lt =
       get_or_append_left ((whole ++ earlier) ++ singles) bounds None id (let x = length-two in omega (arith, x, lt))
       ∙ get_or-append_right (whole ++ earlier) singles b id None length-one le
       ∙ listed_at g.players (id - b) (single family g) (omega (arith, le, lt))
 
-  pub bound_at : (id : ℕ) → b + n ≤ id → id < b + n + n → column_at (inner_columns family g front) id ≡ bound family g front (id - b - n)
+  pub bound_at : (id : ℕ) → b + n ≤ id → id < b + n + n
+      → column_at (inner_columns family g front) id ≡ bound family g front (id - b - n)
   bound_at id le lt =
       let d : id - (b + n) ≡ id - b - n = omega (arith, le) in
       get_or-append_right ((whole ++ earlier) ++ singles) bounds (b + n) id None length-two le

@@ -1,5 +1,6 @@
 -- The columns that are found by their numbers: what stands under each, and that they are the programs'.
-use Rattle.std.proofs.Common.{◌≡◌, ℕ, ◌+◌, ◌-◌, ◌<◌, ◌≤◌, ◌^◌, Bool, true, false, List, [], ◌∷◌, ◌++◌, length, length-append, refl, sym, ap, ◌∙◌, subst, arith, if◌then◌else◌, Option, Some, None}
+use Rattle.std.proofs.Common.{◌≡◌, ℕ, ◌+◌, ◌-◌, ◌<◌, ◌≤◌, ◌^◌, Bool, true, false, List, [], ◌∷◌, ◌++◌, length}
+use Rattle.std.proofs.Common.{length-append, refl, sym, ap, ◌∙◌, subst, arith, if◌then◌else◌, Option, Some, None}
 use Rattle.std.proofs.lemmas.List.{get_or-append_right, get_or_append_left}
 use Rattle.std.specs.Bool.{Decides}
 use Rattle.std.specs.List.{AllByRecursion}
@@ -29,63 +30,98 @@ module _ (g : Game) (front : Option Front) (marks : Option (List ℕ)) where
   marked = listed (2 ^ g.players) (marked_column g (front_level front) marks)
 
   pub length-lazy : length (lazy_columns g front marks) ≡ length (front_columns g front) + 2 ^ g.players
-  length-lazy = length-append (front_columns g front) marked ∙ ap (λ (t : ℕ). length (front_columns g front) + t) (length-listed (2 ^ g.players) (marked_column g (front_level front) marks))
+  length-lazy =
+      length-append (front_columns g front) marked
+      ∙ ap (λ (t : ℕ). length (front_columns g front) + t)
+      (length-listed (2 ^ g.players) (marked_column g (front_level front) marks))
 
-  pub lazy-front : (id : ℕ) → id < length (front_columns g front) → column_at (lazy_columns g front marks) id ≡ column_at (front_columns g front) id
+  pub lazy-front : (id : ℕ) → id < length (front_columns g front)
+      → column_at (lazy_columns g front marks) id ≡ column_at (front_columns g front) id
   lazy-front id lt = get_or_append_left (front_columns g front) marked None id lt
 
-  pub lazy-marked : (id : ℕ) → length (front_columns g front) ≤ id → id < length (front_columns g front) + 2 ^ g.players → column_at (lazy_columns g front marks) id ≡ marked_column g (front_level front) marks (id - length (front_columns g front))
+  pub lazy-marked : (id : ℕ) → length (front_columns g front) ≤ id
+      → id < length (front_columns g front) + 2 ^ g.players
+      → column_at (lazy_columns g front marks) id
+      ≡ marked_column g (front_level front) marks (id - length (front_columns g front))
   lazy-marked id le lt =
       get_or-append_right (front_columns g front) marked (length (front_columns g front)) id None refl le
-      ∙ listed_at (2 ^ g.players) (id - length (front_columns g front)) (marked_column g (front_level front) marks) (omega (arith, le, lt))
+      ∙ listed_at (2 ^ g.players) (id - length (front_columns g front)) (marked_column g (front_level front) marks)
+      (omega (arith, le, lt))
 
-  pub lazy-past : (id : ℕ) → length (front_columns g front) + 2 ^ g.players ≤ id → column_at (lazy_columns g front marks) id ≡ None
+  pub lazy-past : (id : ℕ) → length (front_columns g front) + 2 ^ g.players ≤ id
+      → column_at (lazy_columns g front marks) id ≡ None
   lazy-past id le = past_at (lazy_columns g front marks) id (let h = length-lazy in omega (arith, h, le))
 
 -- ---- that they are small, and the programs
 
-marked_plain : (g : Game) (k : ℕ) (marks : Option (List ℕ)) → ArePlain g k (2 ^ g.players) (listed (2 ^ g.players) (marked_column g (Some k) marks))
+marked_plain : (g : Game) (k : ℕ) (marks : Option (List ℕ))
+    → ArePlain g k (2 ^ g.players) (listed (2 ^ g.players) (marked_column g (Some k) marks))
 marked_plain g k marks = record {
   count = length-listed (2 ^ g.players) (marked_column g (Some k) marks);
-  plain_or = λ s lt. subst (IsPlainOr g k s) (sym (listed_at (2 ^ g.players) s (marked_column g (Some k) marks) lt)) (by_test s (has_mark marks s));
+  plain_or = λ s lt. subst (IsPlainOr g k s) (sym (listed_at (2 ^ g.players) s (marked_column g (Some k) marks) lt))
+      (by_test s (has_mark marks s));
 }
   where
     by_test : (s : ℕ) (b : Bool) → IsPlainOr g k s (if b then Some (plain g s (Some k)) else None)
     by_test s true = refl
     by_test s false = tt
 
-pub small_within : (n : ℕ) (levels : List Level) → AllByRecursion (IsSmallLevel n) levels → AllByRecursion (AreWithin n) levels
+pub small_within : (n : ℕ) (levels : List Level) → AllByRecursion (IsSmallLevel n) levels
+    → AllByRecursion (AreWithin n) levels
 small_within n [] h = tt
 small_within n (l ∷ levels) h = (record { coalitions = h.0.1 }, small_within n levels h.1)
 
-pub small_form : (n : ℕ) (front levels : List Level) → LevelsForm n front levels → AllByRecursion (IsSmallLevel n) levels
+pub small_form : (n : ℕ) (front levels : List Level) → LevelsForm n front levels
+    → AllByRecursion (IsSmallLevel n) levels
 small_form n front [] h = tt
-small_form n front (l ∷ levels) h = ((h.0.few, proper-within n l.coalitions h.0.proper), small_form n (front ++ l ∷ []) levels h.1)
+small_form n front (l ∷ levels) h =
+    ((h.0.few, proper-within n l.coalitions h.0.proper), small_form n (front ++ l ∷ []) levels h.1)
 
-pub stage_columns_small : (measure : Measure) (g : Game) (f : Front) (marks : Option (List ℕ)) → IsGame g → AllByRecursion (IsSmallLevel g.players) f.levels.now → AreSmall (length f.levels.now + 1) (lazy_columns g (Some f) marks)
+pub stage_columns_small : (measure : Measure) (g : Game) (f : Front) (marks : Option (List ℕ)) → IsGame g
+    → AllByRecursion (IsSmallLevel g.players) f.levels.now
+    → AreSmall (length f.levels.now + 1) (lazy_columns g (Some f) marks)
 stage_columns_small measure g f marks game small =
-    plain_small f.family measure g f.levels.now game (small_within g.players f.levels.now small) (listed (2 ^ g.players) (marked_column g (Some (length f.levels.now)) marks)) (marked_plain g (length f.levels.now) marks)
+    plain_small f.family measure g f.levels.now game (small_within g.players f.levels.now small)
+    (listed (2 ^ g.players) (marked_column g (Some (length f.levels.now)) marks))
+    (marked_plain g (length f.levels.now) marks)
 
-pub balanced_kept : (g : Game) (n : ℕ) → n ≡ g.players → IsGame g → (n ≡ g.players) × IsSame (kept_program Plain n 0 (lazy_columns g None None)) (balanced_program g)
+pub balanced_kept : (g : Game) (n : ℕ) → n ≡ g.players → IsGame g
+    → (n ≡ g.players) × IsSame (kept_program Plain n 0 (lazy_columns g None None)) (balanced_program g)
 balanced_kept g n e game = (e, rw e (balanced_of g game))
 
-marked_outer : (g : Game) (levels : List Level) (words : List ℕ) → IsMarking g.players levels words → AreOuter g levels (2 ^ g.players) (listed (2 ^ g.players) (marked_column g (Some (length levels)) (Some words)))
+marked_outer : (g : Game) (levels : List Level) (words : List ℕ) → IsMarking g.players levels words
+    → AreOuter g levels (2 ^ g.players)
+    (listed (2 ^ g.players) (marked_column g (Some (length levels)) (Some words)))
 marked_outer g levels words h = record {
   count = length-listed (2 ^ g.players) (marked_column g (Some (length levels)) (Some words));
-  outer = λ s lt. subst (IsOuter g levels s) (sym (listed_at (2 ^ g.players) s (marked_column g (Some (length levels)) (Some words)) lt)) (by_test s (is_marked words s) (h s));
+  outer = λ s lt. subst (IsOuter g levels s)
+      (sym (listed_at (2 ^ g.players) s (marked_column g (Some (length levels)) (Some words)) lt))
+      (by_test s (is_marked words s) (h s));
 }
   where
-    by_test : (s : ℕ) (b : Bool) → Decides b (IsOutside Span g.players levels s) → IsOuter g levels s (if b then Some (plain g s (Some (length levels))) else None)
+    by_test : (s : ℕ) (b : Bool) → Decides b (IsOutside Span g.players levels s)
+        → IsOuter g levels s (if b then Some (plain g s (Some (length levels))) else None)
     by_test s true d = (d.0 refl, refl)
     by_test s false d = λ out. clash (d.1 out)
       where
         clash : false ≡ true → ⊥
         clash e = cc
 
-pub marking_of : (n m : ℕ) (levels : List Level) (kept words : List ℕ) → n ≡ m → IsSpanOf m kept levels → (IsSpanOf n kept levels → IsMarking n levels words) → IsMarking m levels words
+pub marking_of : (n m : ℕ) (levels : List Level) (kept words : List ℕ) → n ≡ m → IsSpanOf m kept levels
+    → (IsSpanOf n kept levels → IsMarking n levels words) → IsMarking m levels words
 marking_of n m levels kept words e span marking =
     subst (λ (k : ℕ). IsMarking k levels words) e (marking (subst (λ (k : ℕ). IsSpanOf k kept levels) (sym e) span))
 
-pub stage_kept : (f : Front) (measure : Measure) (g : Game) (n : ℕ) (kept words : List ℕ) → n ≡ g.players → IsGame g → AllByRecursion (IsSmallLevel g.players) f.levels.now → IsSpanOf g.players kept f.levels.now → (IsSpanOf n kept f.levels.now → IsMarking n f.levels.now words) → (n ≡ g.players) × IsStage f.family measure g f.levels.now (kept_program measure n (length f.levels.now + 1) (lazy_columns g (Some f) (Some words)))
-stage_kept f measure g n kept words e game small span marking =
-    (e, rw e (stage_of f.family measure g f.levels.now game (small_within g.players f.levels.now small) (listed (2 ^ g.players) (marked_column g (Some (length f.levels.now)) (Some words))) (marked_outer g f.levels.now words (marking_of n g.players f.levels.now kept words e span marking))))
+pub stage_kept : (f : Front) (measure : Measure) (g : Game) (n : ℕ) (kept words : List ℕ) → n ≡ g.players → IsGame g
+    → AllByRecursion (IsSmallLevel g.players) f.levels.now → IsSpanOf g.players kept f.levels.now
+    → (IsSpanOf n kept f.levels.now → IsMarking n f.levels.now words)
+    → (n ≡ g.players)
+    × IsStage f.family measure g f.levels.now
+    (kept_program measure n (length f.levels.now + 1) (lazy_columns g (Some f) (Some words)))
+stage_kept f measure g n kept words e game small span marking = (
+  e,
+  rw e
+      (stage_of f.family measure g f.levels.now game (small_within g.players f.levels.now small)
+      (listed (2 ^ g.players) (marked_column g (Some (length f.levels.now)) (Some words)))
+      (marked_outer g f.levels.now words (marking_of n g.players f.levels.now kept words e span marking))),
+)

@@ -19,3 +19,4 @@ pub mod Blocks
 pub mod FirstFound
 pub mod Products
 pub mod Searches
+mod Picked

@@ -1,5 +1,9 @@
 -- Products and sums of small numbers, as the machine computes them.
-use Rattle.std.proofs.Common.{◌≡◌, ℕ, ◌+◌, ◌*◌, ◌^◌, ◌<◌, ◌≤◌, ℤ, pos, ◌+ℤ◌, ◌-ℤ◌, ◌*ℤ◌, unsigned_abs, arith, FitsSigned, to_z, of_z, sym, subst, ◌∙◌, le_trans, lt_of_le_of_lt, le_of_lt, mul-le-mul}
+use Rattle.std.proofs.Common.{◌≡◌, ℕ, ◌+◌, ◌*◌, ◌^◌, ◌<◌, ◌≤◌, ℤ, pos, ◌+ℤ◌, ◌-ℤ◌, ◌*ℤ◌, unsigned_abs, arith}
+use Rattle.std.proofs.Common.{◌↔◌, ◌<ℤ◌}
+use Rattle.definitions.proofs.Ring.{linear}
+use Rattle.std.proofs.Common.{FitsSigned, to_z, of_z, sym, subst, ◌∙◌, le_trans, lt_of_le_of_lt, le_of_lt}
+use Rattle.std.proofs.Common.{mul-le-mul}
 use mir.Syntax.{w64, w128}
 use lib.Dec.{lit≤}
 use Rattle.std.proofs.lemmas.Int.{ints, to_z-of_z, unsigned_abs-mul, fits_signed_mul, fits_signed_from_abs}
@@ -16,29 +20,37 @@ abs_mul : (a b : ℤ) (m n : ℕ) → unsigned_abs a ≤ m → unsigned_abs b �
 abs_mul a b m n h k = rw (unsigned_abs-mul a b) (mul-le-mul h k)
 
 -- a denominator times a cost
-pub bar_product : (d e c : ℤ) → unsigned_abs d ≤ 2 ^ 63 → unsigned_abs c < 2 ^ 46 → FitsSigned w64 c → e ≡ to_z w64 (of_z w64 c) → FitsSigned w128 (held d *ℤ held e) × (held (held d *ℤ held e) ≡ d *ℤ c)
+pub bar_product : (d e c : ℤ) → unsigned_abs d ≤ 2 ^ 63 → unsigned_abs c < 2 ^ 46 → FitsSigned w64 c
+    → e ≡ to_z w64 (of_z w64 c) → FitsSigned w128 (held d *ℤ held e) × (held (held d *ℤ held e) ≡ d *ℤ c)
 bar_product d e c hd hc fc same =
     let is : e ≡ c = same ∙ to_z-of_z w64 c fc in
     let fd : FitsSigned w128 d = small_fits d (le_trans hd (lit≤ tt)) in
     let fe : FitsSigned w128 c = small_fits c (le_trans (le_of_lt hc) (lit≤ tt)) in
     let f : FitsSigned w128 (d *ℤ c) = fits_signed_mul w128 d c (2 ^ 63) (2 ^ 46) hd (le_of_lt hc) (lit≤ tt) in
-    subst (λ (t : ℤ). FitsSigned w128 (held d *ℤ held t) × (held (held d *ℤ held t) ≡ d *ℤ c)) (sym is) (simp to_z-of_z f, simp to_z-of_z)
+    subst (λ (t : ℤ). FitsSigned w128 (held d *ℤ held t) × (held (held d *ℤ held t) ≡ d *ℤ c)) (sym is)
+    (simp to_z-of_z f, simp to_z-of_z)
 
 -- an entry times a multiplier
 pub level_product : (e l : ℤ) (n : ℕ) → e ≡ pos n → n ≤ 64 → unsigned_abs l < 2 ^ 110
-    → FitsSigned w128 (held e *ℤ held l) × ((held (held e *ℤ held l) ≡ pos n *ℤ l) × (unsigned_abs (held (held e *ℤ held l)) ≤ 2 ^ 116))
+    → FitsSigned w128 (held e *ℤ held l)
+    × ((held (held e *ℤ held l) ≡ pos n *ℤ l) × (unsigned_abs (held (held e *ℤ held l)) ≤ 2 ^ 116))
 level_product e l n is hn hl =
     let fe : FitsSigned w128 (pos n) = small_fits (pos n) (le_trans hn (lit≤ tt)) in
     let fl : FitsSigned w128 l = small_fits l (le_of_lt hl) in
     let f : FitsSigned w128 (pos n *ℤ l) = fits_signed_mul w128 (pos n) l 64 (2 ^ 110) hn (le_of_lt hl) (lit≤ tt) in
-    let size : unsigned_abs (pos n *ℤ l) ≤ 2 ^ 116 = le_trans (abs_mul (pos n) l 64 (2 ^ 110) hn (le_of_lt hl)) (lit≤ tt) in
-    subst (λ (t : ℤ). FitsSigned w128 (held t *ℤ held l) × ((held (held t *ℤ held l) ≡ pos n *ℤ l) × (unsigned_abs (held (held t *ℤ held l)) ≤ 2 ^ 116))) (sym is) (simp to_z-of_z f, (simp to_z-of_z, simp to_z-of_z size))
+    let size : unsigned_abs (pos n *ℤ l) ≤ 2 ^ 116 =
+    le_trans (abs_mul (pos n) l 64 (2 ^ 110) hn (le_of_lt hl)) (lit≤ tt) in
+    subst
+    (λ (t : ℤ). FitsSigned w128 (held t *ℤ held l)
+    × ((held (held t *ℤ held l) ≡ pos n *ℤ l) × (unsigned_abs (held (held t *ℤ held l)) ≤ 2 ^ 116))) (sym is)
+    (simp to_z-of_z f, (simp to_z-of_z, simp to_z-of_z size))
 
 -- ---- sums
 
 -- a sum of two small numbers
 pub sum_held : (a b : ℤ) (m n : ℕ) → unsigned_abs a ≤ m → unsigned_abs b ≤ n → m + n ≤ 2 ^ 118
-    → FitsSigned w128 (held a +ℤ held b) × ((held (held a +ℤ held b) ≡ a +ℤ b) × (unsigned_abs (held (held a +ℤ held b)) ≤ m + n))
+    → FitsSigned w128 (held a +ℤ held b)
+    × ((held (held a +ℤ held b) ≡ a +ℤ b) × (unsigned_abs (held (held a +ℤ held b)) ≤ m + n))
 sum_held a b m n ha hb few =
     let ka : held a ≡ a = cast_kept w128 a (omega (arith, ha, few)) in
     let kb : held b ≡ b = cast_kept w128 b (omega (arith, hb, few)) in
@@ -48,9 +60,48 @@ sum_held a b m n ha hb few =
 
 -- minus such a sum
 pub minus_sum_held : (a b : ℤ) (m n : ℕ) → unsigned_abs a ≤ m → unsigned_abs b ≤ n → m + n ≤ 2 ^ 118
-    → FitsSigned w128 (pos 0 -ℤ held (held a +ℤ held b)) × (unsigned_abs (held (pos 0 -ℤ held (held a +ℤ held b))) ≤ m + n)
+    → FitsSigned w128 (pos 0 -ℤ held (held a +ℤ held b))
+    × (unsigned_abs (held (pos 0 -ℤ held (held a +ℤ held b))) ≤ m + n)
 minus_sum_held a b m n ha hb few =
     let z : ℤ = held (held a +ℤ held b) in
     let h : unsigned_abs z ≤ m + n = (sum_held a b m n ha hb few).1.1 in
-    let small : unsigned_abs (pos 0 -ℤ z) ≤ m + n = omega (arith, ints, h) in
-    (fits_signed_from_abs w128 (pos 0 -ℤ z) (omega (arith, small, few)), rw (cast_kept w128 (pos 0 -ℤ z) (omega (arith, small, few))) small)
+    let small : unsigned_abs (pos 0 -ℤ z) ≤ m + n = omega (arith, ints, h) in (
+      fits_signed_from_abs w128 (pos 0 -ℤ z) (omega (arith, small, few)),
+      rw (cast_kept w128 (pos 0 -ℤ z) (omega (arith, small, few))) small,
+    )
+
+-- ---- in 64 bits
+
+abbrev held_in_64 : ℤ → ℤ
+held_in_64 z = to_z w64 (of_z w64 z)
+
+-- a denominator times a worth less a sum of two numbers
+pub gap_held : (d w b l : ℤ) → unsigned_abs d < 2 ^ 16 → unsigned_abs w < 2 ^ 46 → unsigned_abs b ≤ 2 ^ 61
+    → unsigned_abs l ≤ 2 ^ 60
+    → FitsSigned w64 (held_in_64 (held d) *ℤ held_in_64 w)
+    × (FitsSigned w64
+    (held_in_64 (held_in_64 (held d) *ℤ held_in_64 w) -ℤ held_in_64 (held_in_64 b +ℤ held_in_64 l))
+    × (held_in_64 (held_in_64 (held_in_64 (held d) *ℤ held_in_64 w) -ℤ held_in_64 (held_in_64 b +ℤ held_in_64 l))
+    ≡ d *ℤ w -ℤ (b +ℤ l)))
+gap_held d w b l hd hw hb hl =
+    let kd : held d ≡ d = cast_kept w128 d (omega (arith, hd)) in
+    let kd' : held_in_64 d ≡ d = cast_kept w64 d (omega (arith, hd)) in
+    let kw : held_in_64 w ≡ w = cast_kept w64 w (omega (arith, hw)) in
+    let kb : held_in_64 b ≡ b = cast_kept w64 b (omega (arith, hb)) in
+    let kl : held_in_64 l ≡ l = cast_kept w64 l (omega (arith, hl)) in
+    let product : unsigned_abs (d *ℤ w) ≤ 2 ^ 62 =
+    le_trans (abs_mul d w (2 ^ 16) (2 ^ 46) (le_of_lt hd) (le_of_lt hw)) (lit≤ tt) in
+    let kp : held_in_64 (d *ℤ w) ≡ d *ℤ w = cast_kept w64 (d *ℤ w) (omega (arith, product)) in
+    let sum : unsigned_abs (b +ℤ l) ≤ 2 ^ 61 + 2 ^ 60 = omega (arith, ints, hb, hl) in
+    let ks : held_in_64 (b +ℤ l) ≡ b +ℤ l = cast_kept w64 (b +ℤ l) (omega (arith, sum)) in
+    let gap : unsigned_abs (d *ℤ w -ℤ (b +ℤ l)) ≤ 2 ^ 62 + (2 ^ 61 + 2 ^ 60) = omega (arith, ints, product, sum) in
+    rw (kd, kd', kw, kb, kl, kp, ks) (
+      fits_signed_from_abs w64 (d *ℤ w) (omega (arith, product)),
+      (
+        fits_signed_from_abs w64 (d *ℤ w -ℤ (b +ℤ l)) (omega (arith, gap)),
+        cast_kept w64 (d *ℤ w -ℤ (b +ℤ l)) (omega (arith, gap)),
+      ),
+    )
+
+pub above_zero : (z a v : ℤ) → z ≡ a -ℤ v → (pos 0 <ℤ z) ↔ (v <ℤ a)
+above_zero z a v e = (λ h. omega (arith, linear, e, h), λ h. omega (arith, linear, e, h))

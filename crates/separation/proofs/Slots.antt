@@ -1,5 +1,7 @@
 -- What stands under a number of a list of columns, against a program.
-use Rattle.std.proofs.Common.{◌≡◌, ℕ, zero, suc, ◌+◌, ◌-◌, ◌<◌, ◌≤◌, ◌^◌, Bool, true, false, IsTrue, List, [], ◌∷◌, length, length-append, refl, sym, ap, ◌∙◌, subst, inl, inr, arith, nat_eq, nat_lt, if◌then◌else◌, pos, Option, Some, None, unsigned_abs}
+use Rattle.std.proofs.Common.{◌≡◌, ℕ, zero, suc, ◌+◌, ◌-◌, ◌<◌, ◌≤◌, ◌^◌, Bool, true, false, IsTrue, List, []}
+use Rattle.std.proofs.Common.{◌∷◌, length, length-append, refl, sym, ap, ◌∙◌, subst, inl, inr, arith, nat_eq}
+use Rattle.std.proofs.Common.{nat_lt, if◌then◌else◌, pos, Option, Some, None, unsigned_abs}
 use Rattle.std.proofs.lemmas.Bool.{false≢true}
 use Rattle.std.proofs.lemmas.Bool.Decides.{nat_tests}
 use Rattle.std.proofs.lemmas.List.{get_or-append_right, get_or_append_left}
@@ -9,7 +11,8 @@ use Rattle.definitions.specs.Coalitions.{has_player}
 use Rattle.definitions.specs.declared.Measure.{Measure}
 use Rattle.definitions.specs.Programs.{Program}
 use Rattle.separation.specs.Stage.{plus_entry}
-use Rattle.separation.specs.Kept.{plain_entry, column_entry, column_at, entry_at, cost_at, right_at, kept_program, AreSmall}
+use Rattle.separation.specs.Kept.{plain_entry, column_entry, column_at, entry_at}
+use Rattle.separation.specs.Kept.{cost_at, right_at, kept_program, AreSmall}
 use Rattle.separation.specs.Same.{IsSame}
 use Rattle.separation.specs.Making.{listed}
 use Rattle.separation.specs.declared.column.Column.{Column}
@@ -28,25 +31,33 @@ abbrev pub SameAt : Measure → ℕ → ℕ → Program → ℕ → Option Colum
 SameAt measure n levels q id None = q.is_column id ≡ false
 SameAt measure n levels q id (Some c) = Fits measure n levels q id c
 
-column_same : (measure : Measure) (n levels : ℕ) (q : Program) (id : ℕ) (o : Option Column) → SameAt measure n levels q id o → is_some o ≡ q.is_column id
+column_same : (measure : Measure) (n levels : ℕ) (q : Program) (id : ℕ) (o : Option Column)
+    → SameAt measure n levels q id o → is_some o ≡ q.is_column id
 column_same measure n levels q id None h = sym h
 column_same measure n levels q id (Some c) h = sym h.is_column
 
-entry_same : (measure : Measure) (n levels : ℕ) (q : Program) (id r : ℕ) (o : Option Column) → SameAt measure n levels q id o → IsTrue (q.is_column id) → r < q.rows → entry_at measure n o r ≡ q.entry id r
+entry_same : (measure : Measure) (n levels : ℕ) (q : Program) (id r : ℕ) (o : Option Column)
+    → SameAt measure n levels q id o → IsTrue (q.is_column id) → r < q.rows → entry_at measure n o r ≡ q.entry id r
 entry_same measure n levels q id r None h is lt = absurd (false≢true (sym h ∙ is))
 entry_same measure n levels q id r (Some c) h is lt = h.entry r lt
 
-cost_same : (measure : Measure) (n levels : ℕ) (q : Program) (id : ℕ) (o : Option Column) → SameAt measure n levels q id o → IsTrue (q.is_column id) → cost_at o ≡ q.cost id
+cost_same : (measure : Measure) (n levels : ℕ) (q : Program) (id : ℕ) (o : Option Column)
+    → SameAt measure n levels q id o → IsTrue (q.is_column id) → cost_at o ≡ q.cost id
 cost_same measure n levels q id None h is = absurd (false≢true (sym h ∙ is))
 cost_same measure n levels q id (Some c) h is = h.cost
 
-cost_small : (measure : Measure) (n levels : ℕ) (q : Program) (id : ℕ) (o : Option Column) → SameAt measure n levels q id o → ForSome o (λ c. unsigned_abs c.cost < 2 ^ 46)
+cost_small : (measure : Measure) (n levels : ℕ) (q : Program) (id : ℕ) (o : Option Column)
+    → SameAt measure n levels q id o → ForSome o (λ c. unsigned_abs c.cost < 2 ^ 46)
 cost_small measure n levels q id o h c e = let fits = subst (SameAt measure n levels q id) e h in fits.small
 
-level_there : (measure : Measure) (n levels : ℕ) (q : Program) (id : ℕ) (o : Option Column) → SameAt measure n levels q id o → ForSome o (λ c. ForSome c.level (λ l. l < levels))
+level_there : (measure : Measure) (n levels : ℕ) (q : Program) (id : ℕ) (o : Option Column)
+    → SameAt measure n levels q id o → ForSome o (λ c. ForSome c.level (λ l. l < levels))
 level_there measure n levels q id o h c e = let fits = subst (SameAt measure n levels q id) e h in fits.level
 
-pub same_program : (measure : Measure) (n levels : ℕ) (columns : List (Option Column)) (q : Program) → n + levels ≡ q.rows → ((r : ℕ) → r < q.rows → right_at n levels r ≡ q.right r) → ((id : ℕ) → SameAt measure n levels q id (column_at columns id)) → IsSame (kept_program measure n levels columns) q
+pub same_program : (measure : Measure) (n levels : ℕ) (columns : List (Option Column)) (q : Program)
+    → n + levels ≡ q.rows → ((r : ℕ) → r < q.rows → right_at n levels r ≡ q.right r)
+    → ((id : ℕ) → SameAt measure n levels q id (column_at columns id))
+    → IsSame (kept_program measure n levels columns) q
 same_program measure n levels columns q rows right at = record {
   rows = rows;
   right = right;
@@ -55,7 +66,8 @@ same_program measure n levels columns q rows right at = record {
   cost = λ id is. cost_same measure n levels q id (column_at columns id) (at id) is;
 }
 
-pub small_columns : (measure : Measure) (n levels : ℕ) (columns : List (Option Column)) (q : Program) → ((id : ℕ) → SameAt measure n levels q id (column_at columns id)) → AreSmall levels columns
+pub small_columns : (measure : Measure) (n levels : ℕ) (columns : List (Option Column)) (q : Program)
+    → ((id : ℕ) → SameAt measure n levels q id (column_at columns id)) → AreSmall levels columns
 small_columns measure n levels columns q at = record {
   costs = λ id. cost_small measure n levels q id (column_at columns id) (at id);
   rows = λ id. level_there measure n levels q id (column_at columns id) (at id);
@@ -75,7 +87,8 @@ listed_at (suc n) i f lt = elim (less_or_last i n lt) [
       get_or_append_left (listed n f) (f n ∷ []) None i (omega (arith, long)) ∙ listed_at n i f less
   | inr same ↦
       let e : i - n ≡ 0 = omega (arith, same) in
-      get_or-append_right (listed n f) (f n ∷ []) n i None (length-listed n f) (omega (arith, same)) ∙ ap (column_at (f n ∷ [])) e ∙ ap f (sym same)
+      get_or-append_right (listed n f) (f n ∷ []) n i None (length-listed n f) (omega (arith, same))
+      ∙ ap (column_at (f n ∷ [])) e ∙ ap f (sym same)
 ]
 
 pub past_at : (columns : List (Option Column)) (i : ℕ) → length columns ≤ i → column_at columns i ≡ None
@@ -83,7 +96,8 @@ past_at columns i le = get_or-eq_default columns None le
 
 -- ---- entries
 
-pub level_entry : (measure : Measure) (n s l r : ℕ) → plain_entry measure n s (Some l) r ≡ plus_entry measure n s l r
+pub level_entry : (measure : Measure) (n s l r : ℕ)
+    → plain_entry measure n s (Some l) r ≡ plus_entry measure n s l r
 level_entry measure n s l r = by_row (nat_lt r n) refl
   where
     by_row : (b : Bool) → nat_lt r n ≡ b → plain_entry measure n s (Some l) r ≡ plus_entry measure n s l r
@@ -100,7 +114,8 @@ level_entry measure n s l r = by_row (nat_lt r n) refl
         same : (n l r : ℕ) → nat_lt r n ≡ false → nat_eq l (r - n) ≡ nat_eq r (n + l)
         same n l r e = let le : n ≤ r = grind (arith, nat_tests) in both n l r le
 
-pub no_level_entry : (measure : Measure) (n s row r : ℕ) → r < n + row → plain_entry measure n s None r ≡ plus_entry measure n s row r
+pub no_level_entry : (measure : Measure) (n s row r : ℕ) → r < n + row
+    → plain_entry measure n s None r ≡ plus_entry measure n s row r
 no_level_entry measure n s row r lt = by_row (nat_lt r n) refl
   where
     by_row : (b : Bool) → nat_lt r n ≡ b → plain_entry measure n s None r ≡ plus_entry measure n s row r
@@ -108,7 +123,8 @@ no_level_entry measure n s row r lt = by_row (nat_lt r n) refl
     by_row false e = let t : nat_eq r (n + row) ≡ false = grind (arith, nat_tests) in rw e (rw t refl)
 
 -- the entry of a player row
-pub member_entry : (measure : Measure) (n s r : ℕ) → r < n → plain_entry measure n s None r ≡ (if has_player s r then pos 1 else pos 0)
+pub member_entry : (measure : Measure) (n s r : ℕ) → r < n
+    → plain_entry measure n s None r ≡ (if has_player s r then pos 1 else pos 0)
 member_entry measure n s r lt = let t : nat_lt r n ≡ true = grind (arith, nat_tests) in rw t refl
 
 pub no_level : (j : ℕ) → ForSome None (λ l. l < j)

@@ -1,5 +1,7 @@
 -- The columns of a stage, each under its number, are its program.
-use Rattle.std.proofs.Common.{◌≡◌, ◌⊎◌, ℕ, zero, suc, ◌+◌, ◌-◌, ◌<◌, ◌≤◌, ◌^◌, Bool, true, false, ◌&&◌, List, [], ◌∷◌, ◌++◌, length, length-append, map, get_or, refl, sym, ap, ◌∙◌, subst, inl, inr, arith, nat_eq, nat_lt, ℤ, pos, ◌-ℤ◌, Option, Some, None, unsigned_abs}
+use Rattle.std.proofs.Common.{◌≡◌, ◌⊎◌, ℕ, zero, suc, ◌+◌, ◌-◌, ◌<◌, ◌≤◌, ◌^◌, Bool, true, false, ◌&&◌, List, []}
+use Rattle.std.proofs.Common.{◌∷◌, ◌++◌, length, length-append, map, get_or, refl, sym, ap, ◌∙◌, subst, inl, inr}
+use Rattle.std.proofs.Common.{arith, nat_eq, nat_lt, ℤ, pos, ◌-ℤ◌, Option, Some, None, unsigned_abs}
 use Rattle.std.proofs.lemmas.Bool.Decides.{nat_tests}
 use Rattle.std.proofs.lemmas.Int.{ints}
 use Rattle.std.proofs.lemmas.List.{get_or-append_right, get_or_append_left}
@@ -14,12 +16,15 @@ use Rattle.definitions.specs.Programs.{Program}
 use Rattle.definitions.specs.declared.Family.{Family}
 use Rattle.definitions.specs.declared.Measure.{Measure}
 use Rattle.definitions.specs.declared.Mode.TheVariants.{Span}
-use Rattle.separation.specs.Stage.{Column as StageColumn, signed, entry_of, earlier_of, doubled, settled_columns, further_column, no_column, is_imputations, is_further, stage_program}
+use Rattle.separation.specs.Stage.{Column as StageColumn, signed, entry_of, earlier_of, doubled, settled_columns}
+use Rattle.separation.specs.Stage.{further_column, no_column, is_imputations, is_further, stage_program}
 use Rattle.separation.specs.Kept.{column_entry, column_at, right_at, kept_program, AreSmall}
 use Rattle.separation.specs.Same.{IsStage}
-use Rattle.separation.specs.Making.{listed, plain, minus, earlier_columns, whole_columns, single, bound, IsOuter, AreOuter, inner_columns, AreWithin}
+use Rattle.separation.specs.Making.{listed, plain, minus, earlier_columns, whole_columns, single}
+use Rattle.separation.specs.Making.{bound, IsOuter, AreOuter, inner_columns, AreWithin}
 use Rattle.separation.specs.declared.column.Column.{Column}
-use Rattle.separation.proofs.Slots.{SameAt, same_program, small_columns, length-listed, listed_at, past_at, level_entry, no_level_entry, no_level}
+use Rattle.separation.proofs.Slots.{SameAt, same_program, small_columns, length-listed, listed_at}
+use Rattle.separation.proofs.Slots.{past_at, level_entry, no_level_entry, no_level}
 use Rattle.separation.proofs.Outside.{has_column, decides}
 use Rattle.definitions.proofs.Alls.{all_join, all_weaken}
 use Rattle.definitions.proofs.Masks.{proper-within, grand_coalition-within}
@@ -27,7 +32,8 @@ use Rattle.definitions.proofs.Cases.{below_or_above}
 
 -- ---- the levels' coalitions
 
-all_pairs : {X Y : Type 0} (P : Y → Type 0) (f : X → Y) (Q : X → Type 0) (xs : List X) → ((x : X) → Q x → P (f x)) → AllByRecursion Q xs → AllByRecursion P (map f xs)
+all_pairs : {X Y : Type 0} (P : Y → Type 0) (f : X → Y) (Q : X → Type 0) (xs : List X) → ((x : X) → Q x → P (f x))
+    → AllByRecursion Q xs → AllByRecursion P (map f xs)
 all_pairs P f Q [] step h = tt
 all_pairs P f Q (x ∷ xs) step h = (step x h.0, all_pairs P f Q xs step h.1)
 
@@ -35,19 +41,24 @@ all_pairs P f Q (x ∷ xs) step h = (step x h.0, all_pairs P f Q xs step h.1)
 abbrev IsEarlier : ℕ → ℕ → ℕ × ℕ → Type 0
 IsEarlier n j c = (c.0 < 2 ^ n) × (c.1 < j)
 
-earlier_all : (n k : ℕ) (levels : List Level) → AllByRecursion (AreWithin n) levels → AllByRecursion (IsEarlier n (k + length levels)) (earlier_of k levels)
+earlier_all : (n k : ℕ) (levels : List Level) → AllByRecursion (AreWithin n) levels
+    → AllByRecursion (IsEarlier n (k + length levels)) (earlier_of k levels)
 earlier_all n k [] h = tt
 earlier_all n k (l ∷ levels) h =
     all_join (IsEarlier n (k + length (l ∷ levels))) (map (λ c. (c.0, k)) l.coalitions) (earlier_of (k + 1) levels)
-    (all_pairs (IsEarlier n (k + length (l ∷ levels))) (λ c. (c.0, k)) (λ c. c.0 < 2 ^ n) l.coalitions (λ c lt. (lt, omega arith)) h.0.coalitions)
-    (all_weaken (IsEarlier n ((k + 1) + length levels)) (IsEarlier n (k + length (l ∷ levels))) (earlier_of (k + 1) levels) (λ c e. (e.0, more k c.1 (length levels) e.1)) (earlier_all n (k + 1) levels h.1))
+    (all_pairs (IsEarlier n (k + length (l ∷ levels))) (λ c. (c.0, k)) (λ c. c.0 < 2 ^ n) l.coalitions
+    (λ c lt. (lt, omega arith)) h.0.coalitions)
+    (all_weaken (IsEarlier n ((k + 1) + length levels)) (IsEarlier n (k + length (l ∷ levels)))
+    (earlier_of (k + 1) levels) (λ c e. (e.0, more k c.1 (length levels) e.1)) (earlier_all n (k + 1) levels h.1))
   where
     more : (k c j : ℕ) → c < (k + 1) + j → c < k + suc j
     more k c j h = omega arith
 
-pub levels_within : (n : ℕ) (front levels : List Level) → LevelsForm n front levels → AllByRecursion (AreWithin n) levels
+pub levels_within : (n : ℕ) (front levels : List Level) → LevelsForm n front levels
+    → AllByRecursion (AreWithin n) levels
 levels_within n front [] h = tt
-levels_within n front (l ∷ levels) h = (record { coalitions = proper-within n l.coalitions h.0.proper }, levels_within n (front ++ l ∷ []) levels h.1)
+levels_within n front (l ∷ levels) h =
+    (record { coalitions = proper-within n l.coalitions h.0.proper }, levels_within n (front ++ l ∷ []) levels h.1)
 
 -- ---- columns, and those of the program
 
@@ -75,7 +86,8 @@ some_level l j h m e = subst (λ (t : ℕ). t < j) (inside l m e) h
     inside : (l m : ℕ) → Some l ≡ Some m → l ≡ m
     inside l m e = ap or_zero e
 
-plain_level : (measure : Measure) (g : Game) (k s l : ℕ) → IsGame g → s < 2 ^ g.players → l < k + 1 → Like measure g k (plain g s (Some l)) (record { mask = s; row = l; minus = false })
+plain_level : (measure : Measure) (g : Game) (k s l : ℕ) → IsGame g → s < 2 ^ g.players → l < k + 1
+    → Like measure g k (plain g s (Some l)) (record { mask = s; row = l; minus = false })
 plain_level measure g k s l game lt within = record {
   entry = λ r h. level_entry measure g.players s l r;
   cost = refl;
@@ -83,7 +95,8 @@ plain_level measure g k s l game lt within = record {
   level = some_level l (k + 1) within;
 }
 
-minus_level : (measure : Measure) (g : Game) (k s l : ℕ) → IsGame g → s < 2 ^ g.players → l < k + 1 → Like measure g k (minus g s (Some l)) (record { mask = s; row = l; minus = true })
+minus_level : (measure : Measure) (g : Game) (k s l : ℕ) → IsGame g → s < 2 ^ g.players → l < k + 1
+    → Like measure g k (minus g s (Some l)) (record { mask = s; row = l; minus = true })
 minus_level measure g k s l game lt within = record {
   entry = λ r h. ap (signed true) (level_entry measure g.players s l r);
   cost = refl;
@@ -91,7 +104,8 @@ minus_level measure g k s l game lt within = record {
   level = some_level l (k + 1) within;
 }
 
-plain_none : (measure : Measure) (g : Game) (k s : ℕ) → IsGame g → s < 2 ^ g.players → Like measure g k (plain g s None) (record { mask = s; row = k + 1; minus = false })
+plain_none : (measure : Measure) (g : Game) (k s : ℕ) → IsGame g → s < 2 ^ g.players
+    → Like measure g k (plain g s None) (record { mask = s; row = k + 1; minus = false })
 plain_none measure g k s game lt = record {
   entry = λ r h. no_level_entry measure g.players s (k + 1) r h;
   cost = refl;
@@ -99,7 +113,8 @@ plain_none measure g k s game lt = record {
   level = no_level (k + 1);
 }
 
-minus_none : (measure : Measure) (g : Game) (k s : ℕ) → IsGame g → s < 2 ^ g.players → Like measure g k (minus g s None) (record { mask = s; row = k + 1; minus = true })
+minus_none : (measure : Measure) (g : Game) (k s : ℕ) → IsGame g → s < 2 ^ g.players
+    → Like measure g k (minus g s None) (record { mask = s; row = k + 1; minus = true })
 minus_none measure g k s game lt = record {
   entry = λ r h. ap (signed true) (no_level_entry measure g.players s (k + 1) r h);
   cost = refl;
@@ -107,10 +122,14 @@ minus_none measure g k s game lt = record {
   level = no_level (k + 1);
 }
 
-earlier_found : (measure : Measure) (g : Game) (k : ℕ) (cs : List (ℕ × ℕ)) (j : ℕ) → IsGame g → AllByRecursion (IsEarlier g.players k) cs → j < length (doubled cs) → Found measure g k (column_at (earlier_columns g cs) j) (get_or (doubled cs) j no_column)
+earlier_found : (measure : Measure) (g : Game) (k : ℕ) (cs : List (ℕ × ℕ)) (j : ℕ) → IsGame g
+    → AllByRecursion (IsEarlier g.players k) cs → j < length (doubled cs)
+    → Found measure g k (column_at (earlier_columns g cs) j) (get_or (doubled cs) j no_column)
 earlier_found measure g k [] j game h lt = absurd (omega arith)
-earlier_found measure g k (c ∷ cs) zero game h lt = plain_level measure g k c.0 c.1 game h.0.0 (let e = h.0.1 in omega (arith, e))
-earlier_found measure g k (c ∷ cs) (suc zero) game h lt = minus_level measure g k c.0 c.1 game h.0.0 (let e = h.0.1 in omega (arith, e))
+earlier_found measure g k (c ∷ cs) zero game h lt =
+    plain_level measure g k c.0 c.1 game h.0.0 (let e = h.0.1 in omega (arith, e))
+earlier_found measure g k (c ∷ cs) (suc zero) game h lt =
+    minus_level measure g k c.0 c.1 game h.0.0 (let e = h.0.1 in omega (arith, e))
 earlier_found measure g k (c ∷ cs) (suc (suc j)) game h lt = earlier_found measure g k cs j game h.1 (omega arith)
 
 length-earlier : (g : Game) (cs : List (ℕ × ℕ)) → length (earlier_columns g cs) ≡ length (doubled cs)
@@ -127,7 +146,9 @@ pub record ArePlain (g : Game) (k n : ℕ) (outers : List (Option Column)) : Typ
   pub count : length outers ≡ n
   pub plain_or : (s : ℕ) → s < n → IsPlainOr g k s (column_at outers s)
 
-module _ (family : Family) (measure : Measure) (g : Game) (front : List Level) (game : IsGame g) (within : AllByRecursion (AreWithin g.players) front) (outers : List (Option Column)) (are : ArePlain g (length front) (2 ^ g.players) outers) where
+module _ (family : Family) (measure : Measure) (g : Game) (front : List Level) (game : IsGame g)
+    (within : AllByRecursion (AreWithin g.players) front) (outers : List (Option Column))
+    (are : ArePlain g (length front) (2 ^ g.players) outers) where
   abbrev n : ℕ
   n = g.players
 
@@ -146,14 +167,20 @@ module _ (family : Family) (measure : Measure) (g : Game) (front : List Level) (
   length-settled : length settled ≡ b
   length-settled = ap (λ (t : ℕ). suc (suc t)) (length-earlier g (earlier_of 0 front))
 
-  settled_found : (id : ℕ) → id < b → Found measure g k (column_at settled id) (get_or (settled_columns g.players front) id no_column)
+  settled_found : (id : ℕ) → id < b
+      → Found measure g k (column_at settled id) (get_or (settled_columns g.players front) id no_column)
   settled_found zero lt = plain_none measure g k (grand_coalition g.players) game (grand_coalition-within g.players)
-  settled_found (suc zero) lt = minus_none measure g k (grand_coalition g.players) game (grand_coalition-within g.players)
+  settled_found (suc zero) lt =
+      minus_none measure g k (grand_coalition g.players) game (grand_coalition-within g.players)
   settled_found (suc (suc j)) lt =
       let e : 0 + length front ≡ length front = omega arith in
-      earlier_found measure g k (earlier_of 0 front) j game (subst (λ (t : ℕ). AllByRecursion (IsEarlier g.players t) (earlier_of 0 front)) e (earlier_all g.players 0 front within)) (omega arith)
+      earlier_found measure g k (earlier_of 0 front) j game
+      (subst (λ (t : ℕ). AllByRecursion (IsEarlier g.players t) (earlier_of 0 front)) e
+      (earlier_all g.players 0 front within)) (omega arith)
 
-  from_settled : (id : ℕ) (o : Option Column) → id < b → Found measure g k o (get_or (settled_columns g.players front) id no_column) → SameAt measure n (k + 1) q id o
+  from_settled : (id : ℕ) (o : Option Column) → id < b
+      → Found measure g k o (get_or (settled_columns g.players front) id no_column)
+      → SameAt measure n (k + 1) q id o
   from_settled id None lt h = absurd h
   from_settled id (Some c) lt h =
       let t : nat_lt id b ≡ true = grind (arith, nat_tests) in
@@ -161,13 +188,16 @@ module _ (family : Family) (measure : Measure) (g : Game) (front : List Level) (
 
   abbrev FurtherAt : ℕ → Option Column → Type 0
   FurtherAt i None = is_further family g.players front (has_column outers) i ≡ false
-  FurtherAt i (Some c) = (is_further family g.players front (has_column outers) i ≡ true) × Like measure g k c (further_column g.players k i)
+  FurtherAt i (Some c) =
+      (is_further family g.players front (has_column outers) i ≡ true)
+      × Like measure g k c (further_column g.players k i)
 
   from_further : (id : ℕ) (o : Option Column) → b ≤ id → FurtherAt (id - b) o → SameAt measure n (k + 1) q id o
   from_further id None le h = let t : nat_lt id b ≡ false = grind (arith, nat_tests) in rw t h
   from_further id (Some c) le h =
       let t : nat_lt id b ≡ false = grind (arith, nat_tests) in
-      record { is_column = rw t h.0; entry = rw t h.1.entry; cost = rw t h.1.cost; small = h.1.small; level = h.1.level }
+      record
+      { is_column = rw t h.0; entry = rw t h.1.entry; cost = rw t h.1.cost; small = h.1.small; level = h.1.level }
 
   single_at : (i : ℕ) → i < n → FurtherAt i (single family g i)
   single_at i lt = by_family (is_imputations family) refl
@@ -188,11 +218,14 @@ module _ (family : Family) (measure : Measure) (g : Game) (front : List Level) (
       u : nat_lt i (g.players + g.players) ≡ true
       u = grind (arith, nat_tests)
 
-      by_test : (x : Bool) → (is_imputations family && has_bound front (i - g.players)) ≡ x → FurtherAt i (bound family g front (i - n))
-      by_test true e = rw e (rw t (rw u (e, minus_none measure g k (singleton (i - g.players)) game (pow-lt (omega arith)))))
+      by_test : (x : Bool) → (is_imputations family && has_bound front (i - g.players)) ≡ x
+          → FurtherAt i (bound family g front (i - n))
+      by_test true e =
+          rw e (rw t (rw u (e, minus_none measure g k (singleton (i - g.players)) game (pow-lt (omega arith)))))
       by_test false e = rw e (rw t (rw u e))
 
-  outer_at : (i : ℕ) → n + n ≤ i → (o : Option Column) → column_at outers (i - (n + n)) ≡ o → (IsPlainOr g k (i - (n + n)) o × (i - (n + n) < 2 ^ n)) ⊎ (o ≡ None) → FurtherAt i o
+  outer_at : (i : ℕ) → n + n ≤ i → (o : Option Column) → column_at outers (i - (n + n)) ≡ o
+      → (IsPlainOr g k (i - (n + n)) o × (i - (n + n) < 2 ^ n)) ⊎ (o ≡ None) → FurtherAt i o
   outer_at i le None is h =
       let t : nat_lt i g.players ≡ false = grind (arith, nat_tests) in
       let u : nat_lt i (g.players + g.players) ≡ false = grind (arith, nat_tests) in
@@ -200,7 +233,12 @@ module _ (family : Family) (measure : Measure) (g : Game) (front : List Level) (
   outer_at i le (Some c) is (inl h) =
       let t : nat_lt i g.players ≡ false = grind (arith, nat_tests) in
       let u : nat_lt i (g.players + g.players) ≡ false = grind (arith, nat_tests) in
-      rw t (rw u (ap is_some is, subst (λ (x : Column). Like measure g k x (record { mask = i - (n + n); row = k; minus = false })) (sym h.0) (plain_level measure g k (i - (n + n)) k game h.1 (omega arith))))
+      rw t
+      (rw u (
+        ap is_some is,
+        subst (λ (x : Column). Like measure g k x (record { mask = i - (n + n); row = k; minus = false }))
+            (sym h.0) (plain_level measure g k (i - (n + n)) k game h.1 (omega arith)),
+      ))
   outer_at i le (Some c) is (inr e) = absurd (subst is_there e tt)
     where
       is_there : Option Column → Type 0
@@ -223,43 +261,58 @@ module _ (family : Family) (measure : Measure) (g : Game) (front : List Level) (
   all = ((settled ++ singles) ++ bounds) ++ outers
 
   length-two : length (settled ++ singles) ≡ b + n
-  length-two = length-append settled singles ∙ (let x = length-settled in let y = length-listed g.players (single family g) in omega (arith, x, y))
+  length-two =
+      length-append settled singles
+      ∙ (let x = length-settled in let y = length-listed g.players (single family g) in omega (arith, x, y))
 
   length-three : length ((settled ++ singles) ++ bounds) ≡ b + n + n
-  length-three = length-append (settled ++ singles) bounds ∙ (let x = length-two in let y = length-listed g.players (bound family g front) in omega (arith, x, y))
+  length-three =
+      length-append (settled ++ singles) bounds
+      ∙ (let x = length-two in let y = length-listed g.players (bound family g front) in omega (arith, x, y))
 
   at_number : (id : ℕ) → SameAt measure n (k + 1) q id (column_at all id)
   at_number id = elim (four id b n) [
     | inl lt ↦
         let e : column_at all id ≡ column_at settled id =
-        get_or_append_left ((settled ++ singles) ++ bounds) outers None id (let x = length-three in omega (arith, x, lt))
+        get_or_append_left ((settled ++ singles) ++ bounds) outers None id
+        (let x = length-three in omega (arith, x, lt))
         ∙ get_or_append_left (settled ++ singles) bounds None id (let x = length-two in omega (arith, x, lt))
         ∙ get_or_append_left settled singles None id (let x = length-settled in omega (arith, x, lt)) in
-        subst (SameAt measure n (k + 1) q id) (sym e) (from_settled id (column_at settled id) lt (settled_found id lt))
+        subst (SameAt measure n (k + 1) q id) (sym e)
+        (from_settled id (column_at settled id) lt (settled_found id lt))
     | inr (inl h) ↦
         let e : column_at all id ≡ single family g (id - b) =
-        get_or_append_left ((settled ++ singles) ++ bounds) outers None id (let x = length-three in omega (arith, x, h.1))
+        get_or_append_left ((settled ++ singles) ++ bounds) outers None id
+        (let x = length-three in omega (arith, x, h.1))
         ∙ get_or_append_left (settled ++ singles) bounds None id (let x = length-two in omega (arith, x, h.1))
         ∙ get_or-append_right settled singles b id None length-settled h.0
         ∙ listed_at g.players (id - b) (single family g) (omega (arith, h.0, h.1)) in
-        subst (SameAt measure n (k + 1) q id) (sym e) (from_further id (single family g (id - b)) h.0 (single_at (id - b) (omega (arith, h.0, h.1))))
+        subst (SameAt measure n (k + 1) q id) (sym e)
+        (from_further id (single family g (id - b)) h.0 (single_at (id - b) (omega (arith, h.0, h.1))))
     | inr (inr (inl h)) ↦
         let d : id - (b + n) ≡ id - b - n = omega (arith, h.0) in
         let e : column_at all id ≡ bound family g front (id - b - n) =
-        get_or_append_left ((settled ++ singles) ++ bounds) outers None id (let x = length-three in omega (arith, x, h.1))
+        get_or_append_left ((settled ++ singles) ++ bounds) outers None id
+        (let x = length-three in omega (arith, x, h.1))
         ∙ get_or-append_right (settled ++ singles) bounds (b + n) id None length-two h.0
         ∙ ap (column_at bounds) d
         ∙ listed_at g.players (id - b - n) (bound family g front) (omega (arith, h.0, h.1)) in
-        subst (SameAt measure n (k + 1) q id) (sym e) (from_further id (bound family g front (id - b - n)) (omega (arith, h.0)) (bound_at (id - b) (omega (arith, h.0)) (omega (arith, h.0, h.1))))
+        subst (SameAt measure n (k + 1) q id) (sym e)
+        (from_further id (bound family g front (id - b - n)) (omega (arith, h.0))
+        (bound_at (id - b) (omega (arith, h.0)) (omega (arith, h.0, h.1))))
     | inr (inr (inr le)) ↦
         let d : id - (b + n + n) ≡ id - b - (n + n) = omega (arith, le) in
         let e : column_at all id ≡ column_at outers (id - b - (n + n)) =
         get_or-append_right ((settled ++ singles) ++ bounds) outers (b + n + n) id None length-three le
         ∙ ap (column_at outers) d in
-        subst (SameAt measure n (k + 1) q id) (sym e) (from_further id (column_at outers (id - b - (n + n))) (omega (arith, le)) (outer_at (id - b) (omega (arith, le)) (column_at outers (id - b - (n + n))) refl (outer_or (id - b - (n + n)))))
+        subst (SameAt measure n (k + 1) q id) (sym e)
+        (from_further id (column_at outers (id - b - (n + n))) (omega (arith, le))
+        (outer_at (id - b) (omega (arith, le)) (column_at outers (id - b - (n + n))) refl
+        (outer_or (id - b - (n + n)))))
   ]
     where
-      four : (id b n : ℕ) → (id < b) ⊎ (((b ≤ id) × (id < b + n)) ⊎ (((b + n ≤ id) × (id < b + n + n)) ⊎ (b + n + n ≤ id)))
+      four : (id b n : ℕ)
+          → (id < b) ⊎ (((b ≤ id) × (id < b + n)) ⊎ (((b + n ≤ id) × (id < b + n + n)) ⊎ (b + n + n ≤ id)))
       four id b n = elim (below_or_above id b) [
         | inl lt ↦ inl lt
         | inr le ↦ elim (below_or_above id (b + n)) [
@@ -278,10 +331,16 @@ module _ (family : Family) (measure : Measure) (g : Game) (front : List Level) (
       none = grind (arith, nat_tests)
 
       by_row : (x : Bool) → nat_eq r (g.players + length front) ≡ x → right_at n (k + 1) r ≡ q.right r
-      by_row true e = let t : nat_eq (r + 1) (g.players + (length front + 1)) ≡ true = grind (arith, nat_tests) in rw none (rw t (rw e refl))
-      by_row false e = let t : nat_eq (r + 1) (g.players + (length front + 1)) ≡ false = grind (arith, nat_tests) in rw none (rw t (rw e refl))
+      by_row true e =
+          let t : nat_eq (r + 1) (g.players + (length front + 1)) ≡ true = grind (arith, nat_tests) in
+          rw none (rw t (rw e refl))
+      by_row false e =
+          let t : nat_eq (r + 1) (g.players + (length front + 1)) ≡ false = grind (arith, nat_tests) in
+          rw none (rw t (rw e refl))
 
-  stage_with : ((s : ℕ) → Decides (has_column outers s) (IsOutside Span g.players front s)) → IsStage family measure g front (kept_program measure g.players (length front + 1) (inner_columns family g front ++ outers))
+  stage_with : ((s : ℕ) → Decides (has_column outers s) (IsOutside Span g.players front s))
+      → IsStage family measure g front
+      (kept_program measure g.players (length front + 1) (inner_columns family g front ++ outers))
   stage_with decided = record {
     outside = has_column outers;
     decides = decided;
@@ -291,18 +350,27 @@ module _ (family : Family) (measure : Measure) (g : Game) (front : List Level) (
   pub plain_small : AreSmall (length front + 1) (inner_columns family g front ++ outers)
   plain_small = small_columns measure n (k + 1) all q at_number
 
-outer_plain : (g : Game) (front : List Level) (outers : List (Option Column)) → AreOuter g front (2 ^ g.players) outers → ArePlain g (length front) (2 ^ g.players) outers
-outer_plain g front outers are = record { count = are.count; plain_or = λ s lt. at s (column_at outers s) (are.outer s lt) }
+outer_plain : (g : Game) (front : List Level) (outers : List (Option Column))
+    → AreOuter g front (2 ^ g.players) outers → ArePlain g (length front) (2 ^ g.players) outers
+outer_plain g front outers are =
+    record { count = are.count; plain_or = λ s lt. at s (column_at outers s) (are.outer s lt) }
   where
     at : (s : ℕ) (o : Option Column) → IsOuter g front s o → IsPlainOr g (length front) s o
     at s None h = tt
     at s (Some c) h = h.1
 
 -- the columns in front, and those of the coalitions outside
-pub stage_of : (family : Family) (measure : Measure) (g : Game) (front : List Level) → IsGame g → AllByRecursion (AreWithin g.players) front → (outers : List (Option Column)) → AreOuter g front (2 ^ g.players) outers → IsStage family measure g front (kept_program measure g.players (length front + 1) (inner_columns family g front ++ outers))
+pub stage_of : (family : Family) (measure : Measure) (g : Game) (front : List Level) → IsGame g
+    → AllByRecursion (AreWithin g.players) front → (outers : List (Option Column))
+    → AreOuter g front (2 ^ g.players) outers
+    → IsStage family measure g front
+    (kept_program measure g.players (length front + 1) (inner_columns family g front ++ outers))
 stage_of family measure g front game within outers are =
-    stage_with family measure g front game within outers (outer_plain g front outers are) (decides g front outers are)
+    stage_with family measure g front game within outers (outer_plain g front outers are)
+    (decides g front outers are)
 
-pub stage_small : (family : Family) (measure : Measure) (g : Game) (front : List Level) → IsGame g → AllByRecursion (AreWithin g.players) front → (outers : List (Option Column)) → AreOuter g front (2 ^ g.players) outers → AreSmall (length front + 1) (inner_columns family g front ++ outers)
+pub stage_small : (family : Family) (measure : Measure) (g : Game) (front : List Level) → IsGame g
+    → AllByRecursion (AreWithin g.players) front → (outers : List (Option Column))
+    → AreOuter g front (2 ^ g.players) outers → AreSmall (length front + 1) (inner_columns family g front ++ outers)
 stage_small family measure g front game within outers are =
     plain_small family measure g front game within outers (outer_plain g front outers are)

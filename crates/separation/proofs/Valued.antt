@@ -1,5 +1,7 @@
 -- The value of a column from two tables of sums and one multiplier.
-use Rattle.std.proofs.Common.{◌≡◌, ℕ, zero, suc, ◌+◌, ◌-◌, ◌*◌, ◌/◌, ◌%◌, ◌^◌, ◌<◌, ◌≤◌, Bool, true, false, cond, List, length, ℤ, pos, ◌+ℤ◌, ◌*ℤ◌, refl, sym, ap, ◌∙◌, inl, inr, arith, nat_eq, nat_lt, if◌then◌else◌, slice_index_or, Option, Some, None}
+use Rattle.std.proofs.Common.{◌≡◌, ℕ, zero, suc, ◌+◌, ◌-◌, ◌*◌, ◌/◌, ◌%◌, ◌^◌, ◌<◌, ◌≤◌, Bool, true, false, cond}
+use Rattle.std.proofs.Common.{List, length, ℤ, pos, ◌+ℤ◌, ◌*ℤ◌, refl, sym, ap, ◌∙◌, inl, inr, arith, nat_eq}
+use Rattle.std.proofs.Common.{nat_lt, if◌then◌else◌, slice_index_or, Option, Some, None}
 use Rattle.std.proofs.lemmas.Bool.Decides.{nat_tests}
 use Rattle.std.proofs.lemmas.Nat.Bits.{bit_at_cat_low, bit_at_cat_high}
 use Rattle.std.specs.Int.{bit_at}
@@ -13,7 +15,8 @@ use Rattle.definitions.specs.declared.Measure.{Measure}
 use lib.IntN.{*ℤ_comm}
 use Rattle.separation.specs.Stage.{signed}
 use Rattle.separation.specs.Kept.{is_level, plain_entry}
-use Rattle.separation.specs.Values.{multiplier_at, player_multiplier, member_multiplier, eight, AreSums, level_multiplier, column_value}
+use Rattle.separation.specs.Values.{multiplier_at, player_multiplier, member_multiplier, eight}
+use Rattle.separation.specs.Values.{AreSums, level_multiplier, column_value}
 use Rattle.separation.specs.declared.column.Column.{Column}
 use Rattle.definitions.proofs.Cases.{less_or_last}
 
@@ -46,13 +49,17 @@ low_at num n s i h =
 high_at : (num : List ℤ) (n s i : ℕ) → i < 8 → member_multiplier num n 8 (s / 256 % 256) i ≡ at num n s (8 + i)
 high_at num n s i h = ap (λ (b : ℕ). cond (nat_eq b 1) (player_multiplier num n (8 + i)) (pos 0)) (high_bit s i h)
 
-players_at : (num : List ℤ) (n s i : ℕ) → i < n → at num n s i ≡ (if has_player s i then multiplier_at num i else pos 0)
-players_at num n s i h = let t : nat_lt i n ≡ true = grind (arith, nat_tests) in ap (λ (b : Bool). cond (has_player s i) (cond b (multiplier_at num i) (pos 0)) (pos 0)) t
+players_at : (num : List ℤ) (n s i : ℕ) → i < n
+    → at num n s i ≡ (if has_player s i then multiplier_at num i else pos 0)
+players_at num n s i h =
+    let t : nat_lt i n ≡ true = grind (arith, nat_tests) in
+    ap (λ (b : Bool). cond (has_player s i) (cond b (multiplier_at num i) (pos 0)) (pos 0)) t
 
 past_at : (num : List ℤ) (n s k : ℕ) → at num n s (n + k) ≡ pos 0
 past_at num n s k =
     let t : nat_lt (n + k) n ≡ false = grind (arith, nat_tests) in
-    ap (λ (b : Bool). cond (has_player s (n + k)) (cond b (multiplier_at num (n + k)) (pos 0)) (pos 0)) t ∙ same (has_player s (n + k))
+    ap (λ (b : Bool). cond (has_player s (n + k)) (cond b (multiplier_at num (n + k)) (pos 0)) (pos 0)) t
+    ∙ same (has_player s (n + k))
   where
     same : (b : Bool) → cond b (pos 0) (pos 0) ≡ pos 0
     same true = refl
@@ -62,7 +69,9 @@ all_at : (num : List ℤ) (n s : ℕ) → n ≤ 16 → sum_below 16 (at num n s)
 all_at num n s few =
     let e : 16 ≡ n + (16 - n) = omega arith in
     let split = sum_below-split n (16 - n) (at num n s) in
-    let first = sum_below-same n (at num n s) (λ i. if has_player s i then multiplier_at num i else pos 0) (λ i h. players_at num n s i h) in
+    let first =
+    sum_below-same n (at num n s) (λ i. if has_player s i then multiplier_at num i else pos 0)
+    (λ i h. players_at num n s i h) in
     let rest = sum_below-zero (16 - n) (λ k. at num n s (n + k)) (λ k h. past_at num n s k) in
     ap (λ (t : ℕ). sum_below t (at num n s)) e ∙ split ∙ none (sum_below n (at num n s)) _ _ first rest
   where
@@ -73,10 +82,17 @@ pub eight-is : (num : List ℤ) (n first s : ℕ) → eight num n first s ≡ su
 unfolding eight
 eight-is num n first s = refl
 
-pub sums_at : (num : List ℤ) (n s : ℕ) (low high : List ℤ) → AreSums num n low high → slice_index_or low (s % 256) (pos 0) +ℤ slice_index_or high (s / 256 % 256) (pos 0) ≡ sum_over n (multiplier_at num) s
+pub sums_at : (num : List ℤ) (n s : ℕ) (low high : List ℤ) → AreSums num n low high
+    → slice_index_or low (s % 256) (pos 0) +ℤ slice_index_or high (s / 256 % 256) (pos 0)
+    ≡ sum_over n (multiplier_at num) s
 sums_at num n s low high h =
-    let a = (h.low_is (s % 256) (omega arith)).value ∙ eight-is num n 0 (s % 256) ∙ sum_below-same 8 (member_multiplier num n 0 (s % 256)) (at num n s) (λ i lt. low_at num n s i lt) in
-    let b = (h.high_is (s / 256 % 256) (omega arith)).value ∙ eight-is num n 8 (s / 256 % 256) ∙ sum_below-same 8 (member_multiplier num n 8 (s / 256 % 256)) (λ i. at num n s (8 + i)) (λ i lt. high_at num n s i lt) in
+    let a =
+    (h.low_is (s % 256) (omega arith)).value ∙ eight-is num n 0 (s % 256)
+    ∙ sum_below-same 8 (member_multiplier num n 0 (s % 256)) (at num n s) (λ i lt. low_at num n s i lt) in
+    let b =
+    (h.high_is (s / 256 % 256) (omega arith)).value ∙ eight-is num n 8 (s / 256 % 256)
+    ∙ sum_below-same 8 (member_multiplier num n 8 (s / 256 % 256)) (λ i. at num n s (8 + i))
+    (λ i lt. high_at num n s i lt) in
     added _ _ _ _ a b ∙ sym (sum_below-split 8 8 (at num n s)) ∙ all_at num n s h.few
   where
     added : (p q u v : ℤ) → p ≡ u → q ≡ v → p +ℤ q ≡ u +ℤ v
@@ -88,7 +104,8 @@ times_entry : (b : Bool) (z d : ℤ) → z *ℤ cond b d (pos 0) ≡ cond b (d *
 times_entry true z d = *ℤ_comm z d
 times_entry false z d = mul-zeroℤ z
 
-pub signed_sum : (n : ℕ) (y f : ℕ → ℤ) (b : Bool) → sum_below n (λ r. y r *ℤ signed b (f r)) ≡ signed b (sum_below n (λ r. y r *ℤ f r))
+pub signed_sum : (n : ℕ) (y f : ℕ → ℤ) (b : Bool)
+    → sum_below n (λ r. y r *ℤ signed b (f r)) ≡ signed b (sum_below n (λ r. y r *ℤ f r))
 signed_sum n y f false = refl
 signed_sum zero y f true = refl
 signed_sum (suc n) y f true =
@@ -109,34 +126,51 @@ picked (suc j) l y h = elim (less_or_last l j h) [
     other : (l j k : ℕ) (y : ℕ → ℤ) → l ≡ j → k < j → cond (nat_eq l k) (y k) (pos 0) ≡ pos 0
     other l j k y same lt = let v : nat_eq l k ≡ false = grind (arith, nat_tests) in rw v refl
 
-level_sum : (num : List ℤ) (n j : ℕ) (level : Option ℕ) (d : ℤ) → ForSome level (λ l. l < j) → sum_below j (λ k. if is_level level k then d *ℤ multiplier_at num (n + k) else pos 0) ≡ d *ℤ level_multiplier num n level
+level_sum : (num : List ℤ) (n j : ℕ) (level : Option ℕ) (d : ℤ) → ForSome level (λ l. l < j)
+    → sum_below j (λ k. if is_level level k then d *ℤ multiplier_at num (n + k) else pos 0)
+    ≡ d *ℤ level_multiplier num n level
 level_sum num n j None d h = sum_below-zero j (λ k. pos 0) (λ k lt. refl) ∙ sym (mul-zeroℤ d)
 level_sum num n j (Some l) d h = picked j l (λ k. d *ℤ multiplier_at num (n + k)) (h l refl)
 
 -- the value of the column that isn't negated
 plain_sum : (measure : Measure) (num : List ℤ) (n j s : ℕ) (level : Option ℕ) → ForSome level (λ l. l < j)
-    → sum_below (n + j) (λ r. multiplier_at num r *ℤ plain_entry measure n s level r) ≡ sum_over n (multiplier_at num) s +ℤ pos (divisor measure s) *ℤ level_multiplier num n level
+    → sum_below (n + j) (λ r. multiplier_at num r *ℤ plain_entry measure n s level r)
+    ≡ sum_over n (multiplier_at num) s +ℤ pos (divisor measure s) *ℤ level_multiplier num n level
 plain_sum measure num n j s level h =
     let f : ℕ → ℤ = λ r. multiplier_at num r *ℤ plain_entry measure n s level r in
     let d : ℤ = pos (divisor measure s) in
     let split = sum_below-split n j f in
     let first = sum_below-same n f (λ i. if has_player s i then multiplier_at num i else pos 0) members in
-    let second = sum_below-same j (λ k. f (n + k)) (λ k. if is_level level k then d *ℤ multiplier_at num (n + k) else pos 0) levels in
+    let second =
+    sum_below-same j (λ k. f (n + k)) (λ k. if is_level level k then d *ℤ multiplier_at num (n + k) else pos 0)
+    levels in
     let third = level_sum num n j level d h in
     omega (arith, linear, split, first, second, third)
   where
-    members : (i : ℕ) → i < n → multiplier_at num i *ℤ plain_entry measure n s level i ≡ (if has_player s i then multiplier_at num i else pos 0)
-    members i lt = let t : nat_lt i n ≡ true = grind (arith, nat_tests) in rw t (times_bit (has_player s i) (multiplier_at num i))
+    members : (i : ℕ) → i < n
+        → multiplier_at num i *ℤ plain_entry measure n s level i
+        ≡ (if has_player s i then multiplier_at num i else pos 0)
+    members i lt =
+        let t : nat_lt i n ≡ true = grind (arith, nat_tests) in
+        rw t (times_bit (has_player s i) (multiplier_at num i))
 
-    levels : (k : ℕ) → k < j → multiplier_at num (n + k) *ℤ plain_entry measure n s level (n + k) ≡ (if is_level level k then pos (divisor measure s) *ℤ multiplier_at num (n + k) else pos 0)
+    levels : (k : ℕ) → k < j
+        → multiplier_at num (n + k) *ℤ plain_entry measure n s level (n + k)
+        ≡ (if is_level level k then pos (divisor measure s) *ℤ multiplier_at num (n + k) else pos 0)
     levels k lt =
         let t : nat_lt (n + k) n ≡ false = grind (arith, nat_tests) in
         let e : n + k - n ≡ k = omega arith in
         rw t (rw e (times_entry (is_level level k) (multiplier_at num (n + k)) (pos (divisor measure s))))
 
-pub value_is : (measure : Measure) (num : List ℤ) (n : ℕ) (c : Column) → n ≤ length num → ForSome c.level (λ l. n + l < length num) → column_value measure num n c ≡ signed c.negated (sum_over n (multiplier_at num) c.coalition +ℤ pos (divisor measure c.coalition) *ℤ level_multiplier num n c.level)
+pub value_is : (measure : Measure) (num : List ℤ) (n : ℕ) (c : Column) → n ≤ length num
+    → ForSome c.level (λ l. n + l < length num)
+    → column_value measure num n c
+    ≡ signed c.negated
+    (sum_over n (multiplier_at num) c.coalition +ℤ pos (divisor measure c.coalition)
+    *ℤ level_multiplier num n c.level)
 value_is measure num n c le h =
     let e : length num ≡ n + (length num - n) = omega arith in
     signed_sum (length num) (multiplier_at num) (λ r. plain_entry measure n c.coalition c.level r) c.negated
-    ∙ ap (signed c.negated) (ap (λ (t : ℕ). sum_below t (λ r. multiplier_at num r *ℤ plain_entry measure n c.coalition c.level r)) e
+    ∙ ap (signed c.negated)
+    (ap (λ (t : ℕ). sum_below t (λ r. multiplier_at num r *ℤ plain_entry measure n c.coalition c.level r)) e
     ∙ plain_sum measure num n (length num - n) c.coalition c.level (λ l is. let lt = h l is in omega arith))

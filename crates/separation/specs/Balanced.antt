@@ -1,5 +1,5 @@
--- The balanced program of a game (Bondareva 1963, Shapley 1967): the greatest worth of coalitions by weights that hold each
--- player once. Column s, from 1 to 2^n - 1, is the vector of coalition s at its worth.
+-- The balanced program of a game (Bondareva 1963, Shapley 1967): the greatest worth of coalitions by weights that hold
+-- each player once. Column s, from 1 to 2^n - 1, is the vector of coalition s at its worth.
 use Rattle.std.specs.Prelude.{◌^◌, ◌&&◌, nat_lt, pos, if◌then◌else◌}
 use Rattle.definitions.specs.Coalitions.{has_player}
 use Rattle.definitions.specs.Games.{Game}

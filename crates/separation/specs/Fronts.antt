@@ -9,7 +9,8 @@
 --   marked_column   the column of a coalition, if it has one
 --   lazy_columns    all columns in their order
 --   IsSmallLevel    a level of at most 65536 coalitions
-use Rattle.std.specs.Prelude.{ℕ, ◌+◌, ◌^◌, ◌<◌, ◌≤◌, Bool, nat_lt, List, [], ◌++◌, length, if◌then◌else◌, Option, Some, None}
+use Rattle.std.specs.Prelude.{ℕ, ◌+◌, ◌^◌, ◌<◌, ◌≤◌, Bool, nat_lt, List, [], ◌++◌}
+use Rattle.std.specs.Prelude.{length, if◌then◌else◌, Option, Some, None}
 use Rattle.std.specs.List.{AllByRecursion}
 use Rattle.definitions.specs.Games.{Game}
 use Rattle.definitions.specs.Certificates.{Level}

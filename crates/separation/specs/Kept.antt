@@ -9,7 +9,8 @@
 --   kept_program        the program of the columns in a list, each under its place
 --   AreSmall            costs below 2^46, and level rows that are there
 --   AreShort            per head, few rows and columns with a small sum of sizes
-use Rattle.std.specs.Prelude.{◌≡◌, ℕ, ◌+◌, ◌-◌, ◌^◌, ◌<◌, Bool, false, nat_eq, nat_lt, List, ℤ, pos, if◌then◌else◌, slice_index_or, Option, Some, None, unsigned_abs}
+use Rattle.std.specs.Prelude.{◌≡◌, ℕ, ◌+◌, ◌-◌, ◌^◌, ◌<◌, Bool, false, nat_eq, nat_lt, List, ℤ, pos}
+use Rattle.std.specs.Prelude.{if◌then◌else◌, slice_index_or, Option, Some, None, unsigned_abs}
 use Rattle.std.specs.Option.{ForSome, is_some}
 use Rattle.definitions.specs.Coalitions.{has_player}
 use Rattle.definitions.specs.Measures.{divisor}
@@ -25,10 +26,12 @@ abbrev pub is_level : Option ℕ → ℕ → Bool
 is_level None k = false
 is_level (Some l) k = nat_eq l k
 
--- the entry in a row, unless the column is negated: 1 for a member, and in its level's row what the measure divides by
+-- the entry in a row, unless the column is negated: 1 for a member, and in its level's row what the measure divides
+-- by
 abbrev pub plain_entry : Measure → ℕ → ℕ → Option ℕ → ℕ → ℤ
 plain_entry measure n s level r =
-    if nat_lt r n then (if has_player s r then pos 1 else pos 0) else (if is_level level (r - n) then pos (divisor measure s) else pos 0)
+    if nat_lt r n then (if has_player s r then pos 1 else pos 0)
+    else (if is_level level (r - n) then pos (divisor measure s) else pos 0)
 
 -- the entry of a column in a row
 abbrev pub column_entry : Measure → ℕ → Column → ℕ → ℤ
@@ -69,4 +72,5 @@ pub record AreSmall (levels : ℕ) (columns : List (Option Column)) : Type 0 whe
 
 -- per head, few rows and columns with a small sum of sizes
 abbrev pub AreShort : Measure → ℕ → ℕ → List (Option Column) → Type 0
-AreShort measure players levels columns = measure ≡ PerHead → IsInBandB (kept_program measure players levels columns)
+AreShort measure players levels columns =
+    measure ≡ PerHead → IsInBandB (kept_program measure players levels columns)

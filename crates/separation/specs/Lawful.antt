@@ -1,20 +1,23 @@
--- A program of kept columns lies within the laws of the simplex: the proof that the ghost items of `Listed` and `Lazy` give. It
--- stands here, without tactics, since such an item may cite only the definitions of its own crate.
+-- A program of kept columns lies within the laws of the simplex: the proof that the ghost items of `Listed` and `Lazy`
+-- give. It stands here, without tactics, since such an item may cite only the definitions of its own crate.
 --
 --   kept_lawful   such a program is lawful; all others are steps of it
-use Rattle.std.specs.Prelude.{◌≡◌, ◌⊎◌, ℕ, ◌+◌, ◌-◌, ◌≤◌, ◌<◌, Bool, true, false, IsTrue, nat_eq, nat_lt, cond, List, ℤ, pos, negsuc, Option, Some, None, refl, ◌^◌, unsigned_abs}
+use Rattle.std.specs.Prelude.{◌≡◌, ◌⊎◌, ℕ, ◌+◌, ◌-◌, ◌≤◌, ◌<◌, Bool, true, false, IsTrue, nat_eq, nat_lt, cond}
+use Rattle.std.specs.Prelude.{List, ℤ, pos, negsuc, Option, Some, None, refl, ◌^◌, unsigned_abs}
 use Rattle.std.proofs.Common.{inl, inr, sym, ap, subst, ◌∙◌}
 use Rattle.std.proofs.lemmas.Bool.{false≢true}
 use Rattle.std.proofs.Math.Nat.{le_refl, le_trans, le_of_lt, le-add_right, add-le-add, sub-lt_left_of_lt-add}
 use lib.Dec.{lit<}
-use Rattle.definitions.proofs.Cases.{same_or_other, nat_eq-other, nat_eq-less, nat_eq-some, nat_lt-past, next_below, gap_below}
+use Rattle.definitions.proofs.Cases.{same_or_other, nat_eq-other, nat_eq-less, nat_eq-some}
+use Rattle.definitions.proofs.Cases.{nat_lt-past, next_below, gap_below}
 use Rattle.definitions.specs.Coalitions.{has_player}
 use Rattle.std.specs.Option.{ForSome, is_some}
 use Rattle.definitions.specs.declared.Measure.{Measure}
 use Rattle.definitions.specs.declared.Measure.TheVariants.{Plain, PerHead}
 use Rattle.simplex.specs.Laws.{IsSparse, IsInBandA, IsInBandB, IsLawful}
 use Rattle.separation.specs.Stage.{signed}
-use Rattle.separation.specs.Kept.{is_level, column_entry, column_at, entry_at, cost_at, right_at, kept_program, AreSmall, AreShort}
+use Rattle.separation.specs.Kept.{is_level, column_entry, column_at, entry_at, cost_at}
+use Rattle.separation.specs.Kept.{right_at, kept_program, AreSmall, AreShort}
 use Rattle.separation.specs.declared.column.Column.{Column}
 
 abbrev sign_of : Bool → ℤ
@@ -25,7 +28,9 @@ sign_is : (b : Bool) → (sign_of b ≡ pos 1) ⊎ (sign_of b ≡ negsuc 0)
 sign_is true = inr refl
 sign_is false = inl refl
 
-either : (negated b : Bool) → (signed negated (cond b (pos 1) (pos 0)) ≡ pos 0) ⊎ (signed negated (cond b (pos 1) (pos 0)) ≡ sign_of negated)
+either : (negated b : Bool)
+    → (signed negated (cond b (pos 1) (pos 0)) ≡ pos 0)
+    ⊎ (signed negated (cond b (pos 1) (pos 0)) ≡ sign_of negated)
 either true true = inr refl
 either true false = inl refl
 either false true = inr refl
@@ -42,10 +47,22 @@ in_level (Some l) i j h = elim (same_or_other l i) [
   | inr ne ↦ inl (nat_eq-other l i ne)
 ]
 
-entry_either : (n s : ℕ) (level : Option ℕ) (negated : Bool) (r : ℕ) → (signed negated (cond (nat_lt r n) (cond (has_player s r) (pos 1) (pos 0)) (cond (is_level level (r - n)) (pos 1) (pos 0))) ≡ pos 0) ⊎ (signed negated (cond (nat_lt r n) (cond (has_player s r) (pos 1) (pos 0)) (cond (is_level level (r - n)) (pos 1) (pos 0))) ≡ sign_of negated)
+entry_either : (n s : ℕ) (level : Option ℕ) (negated : Bool) (r : ℕ)
+    → (signed negated
+    (cond (nat_lt r n) (cond (has_player s r) (pos 1) (pos 0))
+    (cond (is_level level (r - n)) (pos 1) (pos 0))) ≡ pos 0)
+    ⊎ (signed negated
+    (cond (nat_lt r n) (cond (has_player s r) (pos 1) (pos 0))
+    (cond (is_level level (r - n)) (pos 1) (pos 0))) ≡ sign_of negated)
 entry_either n s level negated r = by_row (nat_lt r n)
   where
-    by_row : (b : Bool) → (signed negated (cond b (cond (has_player s r) (pos 1) (pos 0)) (cond (is_level level (r - n)) (pos 1) (pos 0))) ≡ pos 0) ⊎ (signed negated (cond b (cond (has_player s r) (pos 1) (pos 0)) (cond (is_level level (r - n)) (pos 1) (pos 0))) ≡ sign_of negated)
+    by_row : (b : Bool)
+        → (signed negated
+        (cond b (cond (has_player s r) (pos 1) (pos 0)) (cond (is_level level (r - n)) (pos 1) (pos 0)))
+        ≡ pos 0)
+        ⊎ (signed negated
+        (cond b (cond (has_player s r) (pos 1) (pos 0)) (cond (is_level level (r - n)) (pos 1) (pos 0)))
+        ≡ sign_of negated)
     by_row true = either negated (has_player s r)
     by_row false = either negated (is_level level (r - n))
 
@@ -62,7 +79,10 @@ column_sparse n rows c = record {
   where
     gone : (i : ℕ) → n ≤ i → is_level c.level (i - n) ≡ false → column_entry Plain n c i ≡ pos 0
     gone i le e =
-        ap (λ (b : Bool). signed c.negated (cond b (cond (has_player c.coalition i) (pos 1) (pos 0)) (cond (is_level c.level (i - n)) (pos 1) (pos 0)))) (nat_lt-past i n le)
+        ap
+        (λ (b : Bool). signed c.negated
+        (cond b (cond (has_player c.coalition i) (pos 1) (pos 0))
+        (cond (is_level c.level (i - n)) (pos 1) (pos 0)))) (nat_lt-past i n le)
         ∙ ap (λ (b : Bool). signed c.negated (cond b (pos 1) (pos 0))) e
         ∙ nothing c.negated
 
@@ -73,7 +93,8 @@ kept_sparse n rows (Some c) h = column_sparse n rows c
 right_either : (n levels r : ℕ) → (right_at n levels r ≡ pos 0) ⊎ (right_at n levels r ≡ pos 1)
 right_either n levels r = by_tests (nat_eq levels 0) (nat_eq (r + 1) (n + levels))
   where
-    by_tests : (a b : Bool) → (cond a (pos 1) (cond b (pos 1) (pos 0)) ≡ pos 0) ⊎ (cond a (pos 1) (cond b (pos 1) (pos 0)) ≡ pos 1)
+    by_tests : (a b : Bool)
+        → (cond a (pos 1) (cond b (pos 1) (pos 0)) ≡ pos 0) ⊎ (cond a (pos 1) (cond b (pos 1) (pos 0)) ≡ pos 1)
     by_tests true b = inr refl
     by_tests false true = inr refl
     by_tests false false = inl refl
@@ -83,15 +104,21 @@ right_sparse n levels = record {
   sign = pos 1;
   is_sign = inl refl;
   entry = λ i lt. right_either n levels i;
-  one = λ i j le ij lt. inl (ap (λ (b : Bool). cond b (pos 1) (cond (nat_eq (i + 1) (n + levels)) (pos 1) (pos 0))) (nat_eq-some (j - n) levels (sub-lt_left_of_lt-add (le_trans le (le_of_lt ij)) lt))
-      ∙ ap (λ (b : Bool). cond b (pos 1) (pos 0)) (nat_eq-less (i + 1) (n + levels) (next_below i j (n + levels) ij lt)));
+  one = λ i j le ij lt. inl
+      (ap (λ (b : Bool). cond b (pos 1) (cond (nat_eq (i + 1) (n + levels)) (pos 1) (pos 0)))
+      (nat_eq-some (j - n) levels (sub-lt_left_of_lt-add (le_trans le (le_of_lt ij)) lt))
+      ∙ ap (λ (b : Bool). cond b (pos 1) (pos 0))
+      (nat_eq-less (i + 1) (n + levels) (next_below i j (n + levels) ij lt)));
 }
 
 cost_small : (o : Option Column) → ForSome o (λ c. unsigned_abs c.cost < 2 ^ 46) → unsigned_abs (cost_at o) < 2 ^ 46
 cost_small None h = lit< tt
 cost_small (Some c) h = h c refl
 
-band_of : (measure : Measure) (players levels : ℕ) (columns : List (Option Column)) → levels ≤ 15 → AreShort measure players levels columns → IsInBandA players (kept_program measure players levels columns) ⊎ IsInBandB (kept_program measure players levels columns)
+band_of : (measure : Measure) (players levels : ℕ) (columns : List (Option Column)) → levels ≤ 15
+    → AreShort measure players levels columns
+    → IsInBandA players (kept_program measure players levels columns)
+    ⊎ IsInBandB (kept_program measure players levels columns)
 band_of Plain players levels columns few_levels short = inl (record {
   levels = add-le-add (le_refl players) few_levels;
   columns = λ id is. kept_sparse players (players + levels) (column_at columns id) is;
@@ -99,7 +126,9 @@ band_of Plain players levels columns few_levels short = inl (record {
 })
 band_of PerHead players levels columns few_levels short = inr (short refl)
 
-pub kept_lawful : (measure : Measure) (players levels : ℕ) (columns : List (Option Column)) → players ≤ 16 → levels ≤ 15 → AreSmall levels columns → AreShort measure players levels columns → IsLawful players (kept_program measure players levels columns)
+pub kept_lawful : (measure : Measure) (players levels : ℕ) (columns : List (Option Column)) → players ≤ 16
+    → levels ≤ 15 → AreSmall levels columns → AreShort measure players levels columns
+    → IsLawful players (kept_program measure players levels columns)
 kept_lawful measure players levels columns few few_levels small short = record {
   players_few = few;
   players_within = le-add_right players levels;

@@ -12,7 +12,8 @@
 --   inner_columns     the columns in front of these
 --   balanced_column   a column of the balanced program
 --   AreWithin         the coalitions of a level are of n players
-use Rattle.std.specs.Prelude.{◌≡◌, ℕ, zero, suc, ◌<◌, true, false, ◌&&◌, nat_lt, ◌^◌, List, [], ◌∷◌, ◌++◌, length, pos, ◌-ℤ◌, if◌then◌else◌, Option, Some, None}
+use Rattle.std.specs.Prelude.{◌≡◌, ℕ, zero, suc, ◌<◌, true, false, ◌&&◌, nat_lt, ◌^◌, List, [], ◌∷◌}
+use Rattle.std.specs.Prelude.{◌++◌, length, pos, ◌-ℤ◌, if◌then◌else◌, Option, Some, None}
 use Rattle.std.specs.List.{AllByRecursion}
 use Rattle.definitions.specs.Coalitions.{singleton, grand_coalition}
 use Rattle.definitions.specs.Games.{Game}
@@ -72,7 +73,8 @@ pub record EndsOuter (g : Game) (front : List Level) (n : ℕ) (columns longer :
 -- the columns of all players, of the levels' coalitions and of the players alone
 abbrev pub inner_columns : Family → Game → List Level → List (Option Column)
 inner_columns family g front =
-    ((whole_columns g (grand_coalition g.players) ++ earlier_columns g (earlier_of 0 front)) ++ listed g.players (single family g)) ++ listed g.players (bound family g front)
+    ((whole_columns g (grand_coalition g.players) ++ earlier_columns g (earlier_of 0 front))
+    ++ listed g.players (single family g)) ++ listed g.players (bound family g front)
 
 -- the column of coalition s, unless that is empty
 abbrev pub balanced_column : Game → ℕ → Option Column

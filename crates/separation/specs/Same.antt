@@ -28,7 +28,8 @@ pub record IsSpanOf (n : ℕ) (kept : List ℕ) (levels : List Level) : Type 0 w
   pub outside : (s : ℕ) → s < 2 ^ n → InSpan n (IsFixedVector n levels) s → InSpan n (IsKept kept) s
 
 -- the stage program behind the levels in front, by a test that passes exactly at the coalitions outside
-pub record IsStage (family : Family) (measure : Measure) (g : Game) (front : List Level) (p : Program) : Type 0 where
-  pub outside : ℕ → Bool
-  pub decides : (s : ℕ) → Decides (outside s) (IsOutside Span g.players front s)
-  pub same : IsSame p (stage_program family measure g front outside)
+pub record IsStage (family : Family) (measure : Measure) (g : Game) (front : List Level) (p : Program) : Type 0
+  where
+    pub outside : ℕ → Bool
+    pub decides : (s : ℕ) → Decides (outside s) (IsOutside Span g.players front s)
+    pub same : IsSame p (stage_program family measure g front outside)

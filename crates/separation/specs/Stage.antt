@@ -1,5 +1,6 @@
--- The stage programs of the nucleolus: behind the levels in front, the least greatest measured excess of the coalitions outside
--- (Kopelowitz 1967, Kohlberg 1972; per head Grotte 1970). With m coalitions in the levels, t counting them in their order, and b = 2 + 2m:
+-- The stage programs of the nucleolus: behind the levels in front, the least greatest measured excess of the coalitions
+-- outside (Kopelowitz 1967, Kohlberg 1972; per head Grotte 1970). With m coalitions in the levels, t counting them in
+-- their order, and b = 2 + 2m:
 --
 --   number       entries                                                cost
 --   0            1 for each player                                      worth of all
@@ -21,7 +22,8 @@
 --   is_imputations            the family is the imputations
 --   is_further                there is a column so far past b
 --   stage_program             the program of all these
-use Rattle.std.specs.Prelude.{ℕ, ◌+◌, ◌-◌, Bool, true, false, ◌&&◌, nat_eq, nat_lt, List, [], ◌∷◌, ◌++◌, length, map, ℤ, pos, ◌-ℤ◌, if◌then◌else◌, slice_index_or}
+use Rattle.std.specs.Prelude.{ℕ, ◌+◌, ◌-◌, Bool, true, false, ◌&&◌, nat_eq, nat_lt, List, [], ◌∷◌, ◌++◌}
+use Rattle.std.specs.Prelude.{length, map, ℤ, pos, ◌-ℤ◌, if◌then◌else◌, slice_index_or}
 use Rattle.definitions.specs.Coalitions.{has_player, singleton, grand_coalition}
 use Rattle.definitions.specs.Measures.{divisor}
 use Rattle.definitions.specs.Games.{Game}
@@ -31,7 +33,8 @@ use Rattle.definitions.specs.declared.Family.{Family}
 use Rattle.definitions.specs.declared.Family.TheVariants.{Imputations, Preimputations}
 use Rattle.definitions.specs.declared.Measure.{Measure}
 
--- the vector of a coalition and its divisor in a level row, which count from 0, or in none, where the number is past them; or all this negated
+-- the vector of a coalition and its divisor in a level row, which count from 0, or in none, where the number is
+-- past them; or all this negated
 pub record Column : Type 0 where
   pub mask : ℕ
   pub row : ℕ
@@ -42,7 +45,8 @@ signed minus z = if minus then pos 0 -ℤ z else z
 
 abbrev pub plus_entry : Measure → ℕ → ℕ → ℕ → ℕ → ℤ
 plus_entry measure n mask row r =
-    if nat_lt r n then (if has_player mask r then pos 1 else pos 0) else (if nat_eq r (n + row) then pos (divisor measure mask) else pos 0)
+    if nat_lt r n then (if has_player mask r then pos 1 else pos 0)
+    else (if nat_eq r (n + row) then pos (divisor measure mask) else pos 0)
 
 abbrev pub entry_of : Measure → ℕ → Column → ℕ → ℤ
 entry_of measure n c r = signed c.minus (plus_entry measure n c.mask c.row r)
@@ -65,14 +69,17 @@ settled_columns n front = doubled ((grand_coalition n, length front + 1) ∷ ear
 -- the columns past these: a player alone, the same negated, and coalitions by their mask
 abbrev pub further_column : ℕ → ℕ → ℕ → Column
 further_column n k i =
-    if nat_lt i n then record { mask = singleton i; row = k + 1; minus = false } else (if nat_lt i (n + n) then record { mask = singleton (i - n); row = k + 1; minus = true } else record { mask = i - (n + n); row = k; minus = false })
+    if nat_lt i n then record { mask = singleton i; row = k + 1; minus = false }
+    else (if nat_lt i (n + n) then record { mask = singleton (i - n); row = k + 1; minus = true }
+    else record { mask = i - (n + n); row = k; minus = false })
 
 abbrev pub no_column : Column
 no_column = record { mask = 0; row = 0; minus = false }
 
 abbrev pub column : ℕ → List Level → ℕ → Column
 column n front id =
-    if nat_lt id (length (settled_columns n front)) then slice_index_or (settled_columns n front) id no_column else further_column n (length front) (id - length (settled_columns n front))
+    if nat_lt id (length (settled_columns n front)) then slice_index_or (settled_columns n front) id no_column
+    else further_column n (length front) (id - length (settled_columns n front))
 
 abbrev pub is_imputations : Family → Bool
 is_imputations Imputations = true
@@ -80,7 +87,8 @@ is_imputations Preimputations = false
 
 abbrev pub is_further : Family → ℕ → List Level → (ℕ → Bool) → ℕ → Bool
 is_further family n front outside i =
-    if nat_lt i n then is_imputations family else (if nat_lt i (n + n) then is_imputations family && has_bound front (i - n) else outside (i - (n + n)))
+    if nat_lt i n then is_imputations family
+    else (if nat_lt i (n + n) then is_imputations family && has_bound front (i - n) else outside (i - (n + n)))
 
 -- the stage program behind the levels in front, where the test passes at the coalitions outside
 abbrev pub stage_program : Family → Measure → Game → List Level → (ℕ → Bool) → Program
@@ -88,7 +96,8 @@ stage_program family measure g front outside =
     record {
       rows = g.players + (length front + 1);
       right = λ r. if nat_eq r (g.players + length front) then pos 1 else pos 0;
-      is_column = λ id. if nat_lt id (length (settled_columns g.players front)) then true else is_further family g.players front outside (id - length (settled_columns g.players front));
+      is_column = λ id. if nat_lt id (length (settled_columns g.players front)) then true
+          else is_further family g.players front outside (id - length (settled_columns g.players front));
       entry = λ id r. entry_of measure g.players (column g.players front id) r;
       cost = λ id. signed (column g.players front id).minus (g.worth (column g.players front id).mask);
     }

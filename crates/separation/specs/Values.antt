@@ -7,12 +7,16 @@
 --   eight               the multipliers of the members of a coalition of eight players
 --   IsEight, IsTable    a number is such a sum, and small; a table of such sums
 --   AreSums             the tables of the first and the next eight players
+--   IsNarrow            a number again, and at most 2^60 in size
+--   AreNarrow           those of a table
 --   level_multiplier    the multiplier of a column's level row
 --   column_value        the sum of multiplier times entry
 --   counted             what a cost counts for, with costs or without them
 --   Rises, IsFirst      a column's cost is above its value; the first such
 --   IsFirstBelow        the first such of so many columns
-use Rattle.std.specs.Prelude.{◌≡◌, ℕ, ◌+◌, ◌<◌, ◌≤◌, Bool, true, false, nat_lt, List, length, ℤ, pos, ◌*ℤ◌, ◌<ℤ◌, if◌then◌else◌, slice_index_or, Option, Some, None, ◌^◌, unsigned_abs}
+--   IsSomeBelow         one such of so many columns
+use Rattle.std.specs.Prelude.{◌≡◌, ℕ, ◌+◌, ◌<◌, ◌≤◌, Bool, true, false, nat_lt, List, length, ℤ, pos, ◌*ℤ◌, ◌<ℤ◌}
+use Rattle.std.specs.Prelude.{if◌then◌else◌, slice_index_or, Option, Some, None, ◌^◌, unsigned_abs}
 use Rattle.definitions.specs.Sums.{sum_below}
 use Rattle.definitions.specs.Coalitions.{has_player}
 use Rattle.definitions.specs.declared.Measure.{Measure}
@@ -49,6 +53,16 @@ pub record AreSums (num : List ℤ) (n : ℕ) (low high : List ℤ) : Type 0 whe
   pub low_is : IsTable num n 0 low
   pub high_is : IsTable num n 8 high
 
+-- a number is the other, and at most 2^60 in size
+pub record IsNarrow (wide narrow : ℤ) : Type 0 where
+  pub same : narrow ≡ wide
+  pub small : unsigned_abs narrow ≤ 2 ^ 60
+
+-- a table has the numbers of another, each at most 2^60 in size
+abbrev pub AreNarrow : List ℤ → List ℤ → Type 0
+AreNarrow wide narrow =
+    (k : ℕ) → k < 256 → IsNarrow (slice_index_or wide k (pos 0)) (slice_index_or narrow k (pos 0))
+
 -- the multiplier of a column's level row
 abbrev pub level_multiplier : List ℤ → ℕ → Option ℕ → ℤ
 level_multiplier num n None = pos 0
@@ -69,13 +83,21 @@ Rises measure num den n with_costs None = ⊥
 Rises measure num den n with_costs (Some c) = column_value measure num n c <ℤ (den *ℤ counted with_costs c.cost)
 
 -- the first column whose cost is above its value
-pub record IsFirst (measure : Measure) (num : List ℤ) (den : ℤ) (n : ℕ) (with_costs : Bool) (columns : List (Option Column)) (id : ℕ) : Type 0 where
+pub record IsFirst (measure : Measure) (num : List ℤ) (den : ℤ) (n : ℕ) (with_costs : Bool)
+    (columns : List (Option Column)) (id : ℕ) : Type 0 where
   pub place : id < length columns
   pub rises : Rises measure num den n with_costs (column_at columns id)
   pub least : (j : ℕ) → j < id → ¬ Rises measure num den n with_costs (column_at columns j)
 
 -- the first of so many columns whose cost is above its value
-pub record IsFirstBelow (measure : Measure) (num : List ℤ) (den : ℤ) (n : ℕ) (with_costs : Bool) (column : ℕ → Option Column) (count id : ℕ) : Type 0 where
+pub record IsFirstBelow (measure : Measure) (num : List ℤ) (den : ℤ) (n : ℕ) (with_costs : Bool)
+    (column : ℕ → Option Column) (count id : ℕ) : Type 0 where
   pub below : id < count
   pub rises : Rises measure num den n with_costs (column id)
   pub least : (j : ℕ) → j < id → ¬ Rises measure num den n with_costs (column j)
+
+-- one of so many columns whose cost is above its value
+pub record IsSomeBelow (measure : Measure) (num : List ℤ) (den : ℤ) (n : ℕ) (with_costs : Bool)
+    (column : ℕ → Option Column) (count id : ℕ) : Type 0 where
+  pub below : id < count
+  pub rises : Rises measure num den n with_costs (column id)

@@ -4,7 +4,8 @@ ghost use Rattle.std.specs.Prelude.{◌≡◌, ◌<◌, ◌≤◌, ◌^◌, ◌+
 ghost use Rattle.std.specs.List.{AllByRecursion};
 ghost use Rattle.definitions.specs.Coalitions.{grand_coalition};
 ghost use Rattle.separation.specs.Stage.{earlier_of};
-ghost use Rattle.separation.specs.Making.{listed, plain, minus, earlier_columns, whole_columns, single, bound, AreWithin};
+ghost use Rattle.separation.specs.Making.{listed, plain, minus, earlier_columns, whole_columns};
+ghost use Rattle.separation.specs.Making.{single, bound, AreWithin};
 
 use crate::column::Column;
 use coalitions::Coalition;
@@ -34,7 +35,8 @@ pub(crate) fn push_whole<W: Worth>(
     columns: &mut Vec<Option<Column>>,
     game: &W,
 ) -> Result<(), AllocError>
-    ensures { OnOk result (columns.new.items ≡ columns.old.items ++ whole_columns (W.game game.now) (grand_coalition (W.game game.now).players)) }
+    ensures { OnOk result (columns.new.items
+        ≡ columns.old.items ++ whole_columns (W.game game.now) (grand_coalition (W.game game.now).players)) }
 {
     let all = Coalition::all(game.players());
     columns.push(Some(plain(game, all, None)))?;
@@ -50,7 +52,8 @@ fn push_level<W: Worth>(
     pairs: &[(Coalition, i128)],
 ) -> Result<(), AllocError>
     requires { AllByRecursion (λ c. c.0 < 2 ^ (W.game game.now).players) pairs.now }
-    ensures { OnOk result (columns.new.items ≡ columns.old.items ++ earlier_columns (W.game game.now) (map (λ c. (c.0, k)) pairs.now)) }
+    ensures { OnOk result (columns.new.items
+        ≡ columns.old.items ++ earlier_columns (W.game game.now) (map (λ c. (c.0, k)) pairs.now)) }
 {
     for (s, _) in pairs {
         columns.push(Some(plain(game, *s, Some(k))))?;
@@ -67,7 +70,8 @@ pub(crate) fn push_earlier<W: Worth>(
 ) -> Result<(), AllocError>
     requires few { length levels.now ≤ 16 }
     requires within { AllByRecursion (AreWithin (W.game game.now).players) levels.now }
-    ensures { OnOk result (columns.new.items ≡ columns.old.items ++ earlier_columns (W.game game.now) (earlier_of 0 levels.now)) }
+    ensures { OnOk result (columns.new.items
+        ≡ columns.old.items ++ earlier_columns (W.game game.now) (earlier_of 0 levels.now)) }
 {
     for k in 0..levels.len() {
         let level = &levels[k];
@@ -107,7 +111,8 @@ pub(crate) fn push_singles<W: Worth>(
     game: &W,
     family: Family,
 ) -> Result<(), AllocError>
-    ensures { OnOk result (columns.new.items ≡ columns.old.items ++ listed (W.game game.now).players (single family (W.game game.now))) }
+    ensures { OnOk result (columns.new.items
+        ≡ columns.old.items ++ listed (W.game game.now).players (single family (W.game game.now))) }
 {
     for i in 0..game.players() {
         columns.push(single(game, family, i))?;
@@ -122,7 +127,8 @@ pub(crate) fn push_bounds<W: Worth>(
     family: Family,
     levels: &[Level],
 ) -> Result<(), AllocError>
-    ensures { OnOk result (columns.new.items ≡ columns.old.items ++ listed (W.game game.now).players (bound family (W.game game.now) levels.now)) }
+    ensures { OnOk result (columns.new.items
+        ≡ columns.old.items ++ listed (W.game game.now).players (bound family (W.game game.now) levels.now)) }
 {
     for i in 0..game.players() {
         columns.push(bound(game, family, levels, i))?;

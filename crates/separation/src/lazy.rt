@@ -1,6 +1,6 @@
 //! A program whose columns are found by their numbers, and not listed.
 
-ghost use Rattle.std.specs.Prelude.{◌≡◌, ◌+◌, ◌<◌, ◌≤◌, ◌^◌, length, IfOk, IfSome};
+ghost use Rattle.std.specs.Prelude.{◌≡◌, ◌+◌, ◌<◌, ◌≤◌, ◌^◌, length, IsOk, IfOk, IfSome};
 ghost use Rattle.std.specs.List.{AllByRecursion};
 ghost use Rattle.std.proofs.Props.{props};
 ghost use Rattle.definitions.specs.Games.{IsGame};
@@ -12,6 +12,7 @@ ghost use Rattle.separation.specs.Fronts.{front_columns, front_rows, lazy_column
 
 use crate::front::Front;
 use crate::marks::outside_of;
+use crate::picking::{block_of, some_found};
 use crate::rising::first_found;
 use crate::sums::Sums;
 use fractions::OutOfMemory;
@@ -34,12 +35,15 @@ pub struct Lazy<'a, W: Worth> {
     pub(crate) first: u64,
     /// The coalitions that have a column; without marks these are all but the empty one.
     pub(crate) marks: Option<Outside>,
+    /// The block of 256 coalitions in which the column that entered last was found; the next search begins there.
+    pub(crate) at: u8,
     ghost count: { players ≡ (W.game game.now).players },
     ghost few: { players ≤ 16 },
     ghost laws: { IsGame (W.game game.now) },
     ghost rows: { levels ≡ front_rows front },
     ghost few_rows: { levels ≤ 15 },
-    ghost small_levels: { IfSome front (λ f. AllByRecursion (IsSmallLevel players) f.levels.now) } by { Prim.hlevel props },
+    ghost small_levels: { IfSome front
+        (λ f. AllByRecursion (IsSmallLevel players) f.levels.now) } by { Prim.hlevel props },
     ghost first_is: { first ≡ length (front_columns (W.game game.now) front) },
     ghost first_small: { first ≤ 2 ^ 32 },
     ghost small: { AreSmall levels (lazy_columns (W.game game.now) front marks) },
@@ -55,7 +59,7 @@ impl<'a, W: Worth> Lazy<'a, W> {
     /// head there are at most 8 players. It keeps one bit for each coalition.
     ///
     /// There are at most n - 2 levels, in the form of a certificate. `span` holds exactly the coalitions that the
-    /// levels fix in span mode. The one error is want of memory, and no memory is taken.
+    /// levels fix in span mode. There is no error, since no memory is taken.
     pub fn stage(
         _alloc: Global,
         game: &'a W,
@@ -70,7 +74,8 @@ impl<'a, W: Worth> Lazy<'a, W> {
         requires count { length levels.now + 2 ≤ (W.game game.now).players }
         requires players { span.now.players ≡ (W.game game.now).players }
         requires spans { IsSpanOf (W.game game.now).players span.now.kept levels.now }
-        ensures { IfOk result (λ l. (⟦<Lazy<'a, W> as Columns>⟧.players l ≡ (W.game game.now).players)
+        ensures always { IsOk result }
+        ensures program { IfOk result (λ l. (⟦<Lazy<'a, W> as Columns>⟧.players l ≡ (W.game game.now).players)
             × IsStage family measure (W.game game.now) levels.now (⟦<Lazy<'a, W> as Columns>⟧.program l)) }
     {
         let players = game.players();
@@ -83,16 +88,18 @@ impl<'a, W: Worth> Lazy<'a, W> {
             front: Some(front),
             first: front.count(game),
             marks: Some(outside_of(span, players)),
+            at: 0,
         })
     }
 
     /// The balanced program of a game of at most 16 players (Bondareva 1963, Shapley 1967): the greatest worth that
     /// coalitions have by weights that hold each player once. Where that is the worth of all, the multipliers are a
-    /// point of the core; where it is more, the weights show that there is none. The one error is want of memory, and
-    /// no memory is taken.
+    /// point of the core; where it is more, the weights show that there is none. There is no error, since no memory is
+    /// taken.
     pub fn balanced(_alloc: Global, game: &'a W) -> Result<Lazy<'a, W>, OutOfMemory>
         requires { (W.game game.now).players ≤ 16 }
-        ensures { IfOk result (λ l. (⟦<Lazy<'a, W> as Columns>⟧.players l ≡ (W.game game.now).players)
+        ensures always { IsOk result }
+        ensures program { IfOk result (λ l. (⟦<Lazy<'a, W> as Columns>⟧.players l ≡ (W.game game.now).players)
             × IsSame (⟦<Lazy<'a, W> as Columns>⟧.program l) (balanced_program (W.game game.now))) }
     {
         let players = game.players();
@@ -104,6 +111,7 @@ impl<'a, W: Worth> Lazy<'a, W> {
             front: None,
             first: 0,
             marks: None,
+            at: 0,
         })
     }
 }
@@ -111,11 +119,13 @@ impl<'a, W: Worth> Lazy<'a, W> {
 impl<W: Worth> Columns for Lazy<'_, W> {
     ghost use Rattle.separation.specs.Lawful.{kept_lawful};
 
-    ghost program = { λ l. kept_program l.measure l.players l.levels (lazy_columns (W.game l.game.now) l.front l.marks) };
+    ghost program = { λ l. kept_program l.measure l.players l.levels
+        (lazy_columns (W.game l.game.now) l.front l.marks) };
 
     ghost players = { λ l. l.players };
 
-    ghost lawful = { λ l. kept_lawful l.measure l.players l.levels (lazy_columns (W.game l.game.now) l.front l.marks) l.few l.few_rows l.small l.short };
+    ghost lawful = { λ l. kept_lawful l.measure l.players l.levels
+        (lazy_columns (W.game l.game.now) l.front l.marks) l.few l.few_rows l.small l.short };
 
     fn rows(&self) -> u32 {
         self.players + self.levels
@@ -150,5 +160,12 @@ impl<W: Worth> Columns for Lazy<'_, W> {
     fn entering(&mut self, m: &Multipliers, with_costs: bool) -> Option<u64> {
         let sums = Sums::new(m, self.players);
         first_found(self, m, &sums, with_costs)
+    }
+
+    fn rising(&mut self, m: &Multipliers, with_costs: bool) -> Option<u64> {
+        let sums = Sums::new(m, self.players);
+        let found = some_found(self, m, &sums, with_costs);
+        self.at = block_of(found, self.first);
+        found
     }
 }

@@ -9,6 +9,8 @@ mod front;
 mod lazy;
 mod listed;
 mod marks;
+mod narrow;
+mod picking;
 mod rising;
 mod shares;
 mod stage;

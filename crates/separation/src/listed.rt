@@ -65,7 +65,8 @@ impl Columns for Listed {
 
     ghost players = { λ l. l.players };
 
-    ghost lawful = { λ l. kept_lawful l.measure l.players l.levels l.columns.items l.few_players l.few_levels l.small l.short };
+    ghost lawful = { λ l. kept_lawful l.measure l.players l.levels l.columns.items
+        l.few_players l.few_levels l.small l.short };
 
     fn rows(&self) -> u32 {
         self.players + self.levels

@@ -15,7 +15,7 @@ use simplex::Multipliers;
 use worth_core::{Measure, Worth};
 
 /// The number of the first column in front of those of the coalitions whose cost is above its value.
-fn first_in_front<W: Worth>(
+pub(crate) fn first_in_front<W: Worth>(
     program: &Lazy<'_, W>,
     m: &Multipliers,
     sums: &Sums,
@@ -23,9 +23,12 @@ fn first_in_front<W: Worth>(
 ) -> Option<u64>
     requires rows { length m.now.num.items ≡ program.now.players + program.now.levels }
     requires sums { AreSums m.now.num.items program.now.players sums.now.low sums.now.high }
-    ensures { let column = column_at (front_columns (W.game program.now.game.now) program.now.front) in MatchOption result
-        ((j : ℕ) → j < program.now.first → ¬ Rises program.now.measure m.now.num.items m.now.den program.now.players with_costs (column j))
-        (IsFirstBelow program.now.measure m.now.num.items m.now.den program.now.players with_costs column program.now.first) }
+    ensures { let column = column_at (front_columns (W.game program.now.game.now) program.now.front) in
+        MatchOption result
+        ((j : ℕ) → j < program.now.first
+        → ¬ Rises program.now.measure m.now.num.items m.now.den program.now.players with_costs (column j))
+        (IsFirstBelow program.now.measure m.now.num.items m.now.den program.now.players with_costs column
+        program.now.first) }
 {
     for id in 0..program.first {
         let column = program.front_column(id);
@@ -44,8 +47,9 @@ fn first_in_front<W: Worth>(
 }
 
 /// What a coalition's worth counts for: where costs don't count, the game isn't asked.
-fn counted_worth<W: Worth>(game: &W, s: Coalition, with_costs: bool) -> i64
+pub(crate) fn counted_worth<W: Worth>(game: &W, s: Coalition, with_costs: bool) -> i64
     requires { s < 2 ^ (W.game game.now).players }
+    ensures is { result ≡ counted with_costs ((W.game game.now).worth s) }
     ensures value { counted with_costs result ≡ counted with_costs ((W.game game.now).worth s) }
     ensures small { unsigned_abs result < 2 ^ 46 }
 {
@@ -54,7 +58,7 @@ fn counted_worth<W: Worth>(game: &W, s: Coalition, with_costs: bool) -> i64
 }
 
 /// Whether a coalition has a column and its cost is above the column's value.
-fn marked_rises<W: Worth>(
+pub(crate) fn marked_rises<W: Worth>(
     program: &Lazy<'_, W>,
     m: &Multipliers,
     value: i128,
@@ -91,10 +95,12 @@ fn first_of_block<W: Worth>(
     requires before { (j : ℕ) → j < 256 * block → j < 2 ^ program.now.players
         → ¬ Rises program.now.measure m.now.num.items m.now.den program.now.players with_costs
         (marked_column (W.game program.now.game.now) (front_level program.now.front) program.now.marks j) }
-    ensures { let column = marked_column (W.game program.now.game.now) (front_level program.now.front) program.now.marks in MatchOption result
+    ensures { let column = marked_column (W.game program.now.game.now) (front_level program.now.front)
+        program.now.marks in MatchOption result
         ((j : ℕ) → j < 256 * (block + 1) → j < 2 ^ program.now.players
         → ¬ Rises program.now.measure m.now.num.items m.now.den program.now.players with_costs (column j))
-        (IsFirstBelow program.now.measure m.now.num.items m.now.den program.now.players with_costs column (2 ^ program.now.players)) }
+        (IsFirstBelow program.now.measure m.now.num.items m.now.den program.now.players with_costs column
+        (2 ^ program.now.players)) }
 {
     let base = sums.base(m, program.players, program.level(), block);
     let end = (256 * block + 256).min(1 << program.players);
@@ -117,9 +123,12 @@ fn first_by_blocks<W: Worth>(
     requires plain { program.now.measure ≡ Measure.Plain }
     requires rows { length m.now.num.items ≡ program.now.players + program.now.levels }
     requires sums { AreSums m.now.num.items program.now.players sums.now.low sums.now.high }
-    ensures { let column = marked_column (W.game program.now.game.now) (front_level program.now.front) program.now.marks in MatchOption result
-        ((j : ℕ) → j < 2 ^ program.now.players → ¬ Rises program.now.measure m.now.num.items m.now.den program.now.players with_costs (column j))
-        (IsFirstBelow program.now.measure m.now.num.items m.now.den program.now.players with_costs column (2 ^ program.now.players)) }
+    ensures { let column = marked_column (W.game program.now.game.now) (front_level program.now.front)
+        program.now.marks in MatchOption result
+        ((j : ℕ) → j < 2 ^ program.now.players
+        → ¬ Rises program.now.measure m.now.num.items m.now.den program.now.players with_costs (column j))
+        (IsFirstBelow program.now.measure m.now.num.items m.now.den program.now.players with_costs column
+        (2 ^ program.now.players)) }
 {
     for block in 0..256 {
         if let Some(s) = first_of_block(program, m, sums, with_costs, block) {
@@ -130,7 +139,7 @@ fn first_by_blocks<W: Worth>(
 }
 
 /// The first coalition that has a column whose cost is above its value, each value found by itself.
-fn first_one_by_one<W: Worth>(
+pub(crate) fn first_one_by_one<W: Worth>(
     program: &Lazy<'_, W>,
     m: &Multipliers,
     sums: &Sums,
@@ -138,9 +147,12 @@ fn first_one_by_one<W: Worth>(
 ) -> Option<u64>
     requires rows { length m.now.num.items ≡ program.now.players + program.now.levels }
     requires sums { AreSums m.now.num.items program.now.players sums.now.low sums.now.high }
-    ensures { let column = marked_column (W.game program.now.game.now) (front_level program.now.front) program.now.marks in MatchOption result
-        ((j : ℕ) → j < 2 ^ program.now.players → ¬ Rises program.now.measure m.now.num.items m.now.den program.now.players with_costs (column j))
-        (IsFirstBelow program.now.measure m.now.num.items m.now.den program.now.players with_costs column (2 ^ program.now.players)) }
+    ensures { let column = marked_column (W.game program.now.game.now) (front_level program.now.front)
+        program.now.marks in MatchOption result
+        ((j : ℕ) → j < 2 ^ program.now.players
+        → ¬ Rises program.now.measure m.now.num.items m.now.den program.now.players with_costs (column j))
+        (IsFirstBelow program.now.measure m.now.num.items m.now.den program.now.players with_costs column
+        (2 ^ program.now.players)) }
 {
     for s in 0..1u64 << program.players {
         let column = program.marked_column(Coalition(s));
@@ -169,9 +181,12 @@ fn first_marked<W: Worth>(
 ) -> Option<u64>
     requires rows { length m.now.num.items ≡ program.now.players + program.now.levels }
     requires sums { AreSums m.now.num.items program.now.players sums.now.low sums.now.high }
-    ensures { let column = marked_column (W.game program.now.game.now) (front_level program.now.front) program.now.marks in MatchOption result
-        ((j : ℕ) → j < 2 ^ program.now.players → ¬ Rises program.now.measure m.now.num.items m.now.den program.now.players with_costs (column j))
-        (IsFirstBelow program.now.measure m.now.num.items m.now.den program.now.players with_costs column (2 ^ program.now.players)) }
+    ensures { let column = marked_column (W.game program.now.game.now) (front_level program.now.front)
+        program.now.marks in MatchOption result
+        ((j : ℕ) → j < 2 ^ program.now.players
+        → ¬ Rises program.now.measure m.now.num.items m.now.den program.now.players with_costs (column j))
+        (IsFirstBelow program.now.measure m.now.num.items m.now.den program.now.players with_costs column
+        (2 ^ program.now.players)) }
 {
     match program.measure {
         Measure::Plain => first_by_blocks(program, m, sums, with_costs),
@@ -188,8 +203,10 @@ pub(crate) fn first_found<W: Worth>(
 ) -> Option<u64>
     requires rows { length m.now.num.items ≡ program.now.players + program.now.levels }
     requires sums { AreSums m.now.num.items program.now.players sums.now.low sums.now.high }
-    ensures { let columns = lazy_columns (W.game program.now.game.now) program.now.front program.now.marks in MatchOption result
-        ((id : ℕ) → ¬ Rises program.now.measure m.now.num.items m.now.den program.now.players with_costs (column_at columns id))
+    ensures { let columns = lazy_columns (W.game program.now.game.now) program.now.front program.now.marks in
+        MatchOption result
+        ((id : ℕ) → ¬ Rises program.now.measure m.now.num.items m.now.den program.now.players with_costs
+        (column_at columns id))
         (IsFirst program.now.measure m.now.num.items m.now.den program.now.players with_costs columns) }
 {
     if let Some(id) = first_in_front(program, m, sums, with_costs) {

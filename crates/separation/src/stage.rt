@@ -45,7 +45,8 @@ fn push_outer<W: Worth>(
     requires few_players { (W.game game.now).players ≤ 16 }
     requires few { length levels.now ≤ 16 }
     requires marks { IsMarking (W.game game.now).players levels.now outside.now }
-    ensures { OnOk result (EndsOuter (W.game game.now) levels.now (2 ^ (W.game game.now).players) columns.old.items columns.new.items) }
+    ensures { OnOk result (EndsOuter (W.game game.now) levels.now (2 ^ (W.game game.now).players)
+        columns.old.items columns.new.items) }
 {
     for s in 0..1u64 << game.players() {
         columns.push(outer(game, levels, outside, Coalition(s)))?;

@@ -2,7 +2,7 @@
 //! members among the first eight players and one for those among the next eight, so that a coalition costs one
 //! addition.
 
-ghost use Rattle.std.specs.Prelude.{◌≡◌, MatchOption};
+ghost use Rattle.std.specs.Prelude.{◌≡◌, IfSome, MatchOption};
 ghost use Rattle.std.specs.Prelude.{ℕ, ◌+◌, ◌%◌, ◌^◌, ◌<◌, ◌≤◌};
 ghost use Rattle.std.specs.Prelude.{ℤ, pos, ◌+ℤ◌, ◌*ℤ◌, ◌<ℤ◌, unsigned_abs};
 ghost use Rattle.std.specs.Prelude.{length, List, slice_index_or};
@@ -11,9 +11,11 @@ ghost use Rattle.std.specs.Option.{ForSome};
 ghost use Rattle.definitions.specs.Coalitions.{sum_over};
 ghost use Rattle.definitions.specs.Measures.{divisor};
 ghost use Rattle.separation.specs.Kept.{column_at};
-ghost use Rattle.separation.specs.Values.{multiplier_at, player_multiplier, IsEight, IsTable, AreSums, level_multiplier, column_value, counted, Rises, IsFirst};
+ghost use Rattle.separation.specs.Values.{multiplier_at, player_multiplier, IsEight, IsTable, AreSums};
+ghost use Rattle.separation.specs.Values.{AreNarrow, level_multiplier, column_value, counted, Rises, IsFirst};
 
 use crate::column::{Column, level_entry};
+use crate::narrow::narrow;
 use coalitions::Coalition;
 use simplex::Multipliers;
 use worth_core::Measure;
@@ -76,9 +78,17 @@ impl Sums {
         }
     }
 
+    /// The sums of the first eight players in 64 bits, where each is at most 2^60 in size.
+    pub(crate) fn narrow(&self) -> Option<[i64; 256]>
+        ensures { IfSome result (AreNarrow self.now.low) }
+    {
+        narrow(&self.low)
+    }
+
     /// The multipliers of a coalition's members, added.
     fn of(&self, s: Coalition) -> i128
-        ensures value { (num : List ℤ) (n : ℕ) → AreSums num n self.now.low self.now.high → result ≡ sum_over n (multiplier_at num) s }
+        ensures value { (num : List ℤ) (n : ℕ) → AreSums num n self.now.low self.now.high
+            → result ≡ sum_over n (multiplier_at num) s }
         ensures small { unsigned_abs result ≤ 2 ^ 114 }
     {
         self.low[(s.0 % 256) as usize] + self.high[(s.0 / 256 % 256) as usize]
@@ -90,7 +100,8 @@ impl Sums {
         requires block { block < 256 }
         requires few { n ≤ 16 }
         requires within { ForSome level (λ l. n + l < length m.now.num.items) }
-        ensures value { result ≡ slice_index_or self.now.high block (pos 0) +ℤ level_multiplier m.now.num.items n level }
+        ensures value { result ≡ slice_index_or self.now.high block (pos 0)
+            +ℤ level_multiplier m.now.num.items n level }
         ensures small { unsigned_abs result ≤ 2 ^ 114 }
     {
         self.high[block as usize] + level_multiplier(m, n, level)
@@ -142,7 +153,7 @@ fn value(column: Column, m: &Multipliers, measure: Measure, n: u32, sums: &Sums)
 }
 
 /// A cost over the multipliers' denominator, or 0 where costs don't count.
-fn bar(m: &Multipliers, cost: i64, with_costs: bool) -> i128
+pub(crate) fn bar(m: &Multipliers, cost: i64, with_costs: bool) -> i128
     requires { unsigned_abs cost < 2 ^ 46 }
     ensures { result ≡ m.now.den *ℤ counted with_costs cost }
 {
@@ -194,7 +205,8 @@ pub(crate) fn first_rising(
     sums: &Sums,
     with_costs: bool,
 ) -> Option<u64>
-    requires within { (id : ℕ) → ForSome (column_at columns.now id) (λ c. ForSome c.level (λ l. n + l < length m.now.num.items)) }
+    requires within { (id : ℕ) → ForSome (column_at columns.now id)
+        (λ c. ForSome c.level (λ l. n + l < length m.now.num.items)) }
     requires small { (id : ℕ) → ForSome (column_at columns.now id) (λ c. unsigned_abs c.cost < 2 ^ 46) }
     requires players { n ≤ length m.now.num.items }
     requires sums { AreSums m.now.num.items n sums.now.low sums.now.high }

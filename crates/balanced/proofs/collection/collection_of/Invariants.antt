@@ -4,4 +4,5 @@ use Rattle.balanced.proofs.collection.collection_of.Given as goal
 
 abbrev pub invariant-loop-id : goal.invariant-loop-id
 invariant-loop-id l =
-    (l.id-items ≡ l.best.weights.items) × (placed_behind l.weights.items (drop l.id-index l.id-items) ≡ placed l.best.weights.items)
+    (l.id-items ≡ l.best.weights.items)
+    × (placed_behind l.weights.items (drop l.id-index l.id-items) ≡ placed l.best.weights.items)

@@ -16,8 +16,11 @@ overflow_add-id c =
     let front = c.args.front.now in
     let k = c.loop-level.level-index in
     let l = c.level-item.result in
-    let here : c.len.result ≡ length (get_or front k l).coalitions = c.len.ensures ∙ c.level.inside.coalitions.ok.0 ∙ ap (λ (v : Level). length v.coalitions) (c.level.view_is ∙ c.level-item.is) in
-    let next = earlier_next front k c.loop-level.id l (omega (arith, c.loop-level-test.true)) c.loop-level.invariant.1 in
+    let here : c.len.result ≡ length (get_or front k l).coalitions =
+    c.len.ensures ∙ c.level.inside.coalitions.ok.0
+    ∙ ap (λ (v : Level). length v.coalitions) (c.level.view_is ∙ c.level-item.is) in
+    let next =
+    earlier_next front k c.loop-level.id l (omega (arith, c.loop-level-test.true)) c.loop-level.invariant.1 in
     let few = earlier_few 0 front c.requires.small in
     omega (arith, here, next, few, c.requires.few)
 
@@ -28,7 +31,15 @@ loop-level-preserved c =
     let k = c.loop-level.level-index in
     let l = c.level-item.result in
     let lt : k < length front = omega (arith, c.loop-level-test.true) in
-    let here : c.len.result ≡ length (get_or front k l).coalitions = c.len.ensures ∙ c.level.inside.coalitions.ok.0 ∙ ap (λ (v : Level). length v.coalitions) (c.level.view_is ∙ c.level-item.is) in
+    let here : c.len.result ≡ length (get_or front k l).coalitions =
+    c.len.ensures ∙ c.level.inside.coalitions.ok.0
+    ∙ ap (λ (v : Level). length v.coalitions) (c.level.view_is ∙ c.level-item.is) in
     let pairs = c.deref.ensures.value ∙ ap (λ (v : Level). v.coalitions) (c.level.view_is ∙ c.level-item.is) in
-    let put = c.in_ok-put_level.ensures {u = tt} ∙ ap (λ us. placed_behind c.loop-level.earlier.items (level_pairs ws c.loop-level.id us)) pairs in
-    rw here (earlier_put ws c.loop-level.earlier.items c.put_level.new.earlier.items c.loop-level.id front _ k l lt c.loop-level.invariant.0 put, earlier_next front k c.loop-level.id l lt c.loop-level.invariant.1)
+    let put =
+    c.in_ok-put_level.ensures {u = tt}
+    ∙ ap (λ us. placed_behind c.loop-level.earlier.items (level_pairs ws c.loop-level.id us)) pairs in
+    rw here (
+      earlier_put ws c.loop-level.earlier.items c.put_level.new.earlier.items c.loop-level.id front _ k l lt
+          c.loop-level.invariant.0 put,
+      earlier_next front k c.loop-level.id l lt c.loop-level.invariant.1,
+    )

@@ -37,17 +37,29 @@ returns-clause-level c =
     let front = c.args.front.now in
     let ws = c.as_slice-weights.result.now in
     let same = c.as_slice-weights.ensures.value in
-    let first : 2 + 2 * c.coalition_count.result ≡ first_single front = ap (λ (k : ℕ). 2 + 2 * k) c.coalition_count.ensures.value in
-    let past : 2 + 2 * c.coalition_count.result + 2 * c.from.result ≡ first_single front + (c.args.n + c.args.n) = omega (arith, c.coalition_count.ensures.value, c.from.ensures) in
+    let first : 2 + 2 * c.coalition_count.result ≡ first_single front =
+    ap (λ (k : ℕ). 2 + 2 * k) c.coalition_count.ensures.value in
+    let past : 2 + 2 * c.coalition_count.result + 2 * c.from.result ≡ first_single front + (c.args.n + c.args.n) =
+    omega (arith, c.coalition_count.ensures.value, c.from.ensures) in
     let best = c.args.best.now.multipliers in
     let place = c.args.n + length front in
-    let optimum = cast_kept w128 (get_or best.num.items place (pos 0)) (omega (arith, ints, best.num_small place)) in
-    let read : get_or c.deref.result.now place (pos 0) ≡ get_or best.num.items place (pos 0) = ap (λ us. get_or us place (pos 0)) c.deref.ensures.0 in
+    let optimum =
+    cast_kept w128 (get_or best.num.items place (pos 0)) (omega (arith, ints, best.num_small place)) in
+    let read : get_or c.deref.result.now place (pos 0) ≡ get_or best.num.items place (pos 0) =
+    ap (λ us. get_or us place (pos 0)) c.deref.ensures.0 in
     let den = cast_kept w128 best.den (omega (arith, ints, best.den_small)) in
     record {
-      excess = same_ratio c.ratio.result _ _ _ _ (ap (λ z. to_z w128 (of_z w128 z)) read ∙ optimum) den c.ratio.ensures;
-      coalitions = c.in_ok-outer_numbers.ensures {u = tt} ∙ ap (λ (k : ℕ). placed (outer_pairs k ws)) past ∙ ap (λ us. placed (outer_pairs (first_single front + (c.args.n + c.args.n)) us)) same;
-      earlier = c.in_ok-earlier_numbers.ensures {u = tt} ∙ ap (λ us. placed (earlier_pairs us 2 (earlier_of 0 front))) same;
-      bounds = c.in_ok-bound_numbers.ensures {u = tt} ∙ ap (λ (k : ℕ). bound_pairs ws k c.args.n c.args.n) first ∙ ap (λ us. bound_pairs us (first_single front) c.args.n c.args.n) same;
-      total = cast_kept w128 c.net_of.result (omega (arith, ints, c.net_of.ensures.small)) ∙ c.net_of.ensures.value ∙ ap (λ us. net us 1 0) same;
+      excess =
+          same_ratio c.ratio.result _ _ _ _ (ap (λ z. to_z w128 (of_z w128 z)) read ∙ optimum) den c.ratio.ensures;
+      coalitions =
+          c.in_ok-outer_numbers.ensures {u = tt} ∙ ap (λ (k : ℕ). placed (outer_pairs k ws)) past
+          ∙ ap (λ us. placed (outer_pairs (first_single front + (c.args.n + c.args.n)) us)) same;
+      earlier =
+          c.in_ok-earlier_numbers.ensures {u = tt} ∙ ap (λ us. placed (earlier_pairs us 2 (earlier_of 0 front))) same;
+      bounds =
+          c.in_ok-bound_numbers.ensures {u = tt} ∙ ap (λ (k : ℕ). bound_pairs ws k c.args.n c.args.n) first
+          ∙ ap (λ us. bound_pairs us (first_single front) c.args.n c.args.n) same;
+      total =
+          cast_kept w128 c.net_of.result (omega (arith, ints, c.net_of.ensures.small)) ∙ c.net_of.ensures.value
+          ∙ ap (λ us. net us 1 0) same;
     }

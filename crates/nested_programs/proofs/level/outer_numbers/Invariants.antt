@@ -5,4 +5,5 @@ use Rattle.nested_programs.proofs.level.outer_numbers.Given as goal
 
 abbrev pub invariant-loop-id : goal.invariant-loop-id
 invariant-loop-id l =
-    placed_behind l.coalitions.items (outer_pairs l.first (drop l.id-index l.weights)) ≡ placed (outer_pairs l.first l.weights)
+    placed_behind l.coalitions.items (outer_pairs l.first (drop l.id-index l.weights))
+    ≡ placed (outer_pairs l.first l.weights)

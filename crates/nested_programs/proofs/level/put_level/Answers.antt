@@ -20,11 +20,18 @@ loop-k-preserved c =
     let pairs = c.args.pairs.now in
     let k = c.loop-k.k in
     let lt : k < length pairs = omega (arith, c.loop-k-test.true) in
-    let same : to_z w128 (of_z w128 c.net_of-number.result) ≡ c.net_of-number.result = cast_kept w128 c.net_of-number.result (omega (arith, ints, c.net_of-number.ensures.small)) in
-    let is : to_z w128 (of_z w128 c.net_of-number.result) ≡ net ws (first + 2 * k) (first + 2 * k + 1) = same ∙ c.net_of-number.ensures.value in
+    let same : to_z w128 (of_z w128 c.net_of-number.result) ≡ c.net_of-number.result =
+    cast_kept w128 c.net_of-number.result (omega (arith, ints, c.net_of-number.ensures.small)) in
+    let is : to_z w128 (of_z w128 c.net_of-number.result) ≡ net ws (first + 2 * k) (first + 2 * k + 1) =
+    same ∙ c.net_of-number.ensures.value in
     elim c.if-number-ne0.branch [
       | then-number-ne0+in_ok-put_pair w ↦
-          rw w.earlier-is (rw (w.in_ok-put_pair.ensures {u = tt}) (level_put ws c.loop-k.earlier.items first pairs _ k w.index-pairs-k.result _ lt is (apart_kept _ same w.if-number-ne0.true) c.loop-k.invariant))
+          rw w.earlier-is
+          (rw w.in_ok-put_pair.ensures
+          (level_put ws c.loop-k.earlier.items first pairs _ k w.index-pairs-k.result _ lt is
+          (apart_kept _ same w.if-number-ne0.true) c.loop-k.invariant))
       | else-number-ne0 w ↦
-          rw w.earlier-is (level_skip ws c.loop-k.earlier.items first pairs _ k (0, pos 0) _ lt is (zero_kept _ same w.if-number-ne0.false) c.loop-k.invariant)
+          rw w.earlier-is
+          (level_skip ws c.loop-k.earlier.items first pairs _ k (0, pos 0) _ lt is
+          (zero_kept _ same w.if-number-ne0.false) c.loop-k.invariant)
     ]

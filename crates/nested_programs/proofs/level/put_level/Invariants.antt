@@ -5,4 +5,5 @@ use Rattle.nested_programs.proofs.level.put_level.Given as goal
 
 abbrev pub invariant-loop-k : goal.invariant-loop-k
 invariant-loop-k l =
-    placed_behind l.earlier.items (level_pairs l.weights (l.first + 2 * l.k) (drop l.k l.pairs)) ≡ placed_behind l.initial.earlier.items (level_pairs l.weights l.first l.pairs)
+    placed_behind l.earlier.items (level_pairs l.weights (l.first + 2 * l.k) (drop l.k l.pairs))
+    ≡ placed_behind l.initial.earlier.items (level_pairs l.weights l.first l.pairs)

@@ -1,4 +1,5 @@
-use Rattle.std.proofs.Common.{◌≡◌, ◌+◌, ◌*◌, ◌^◌, ◌<◌, ◌≤◌, ℕ, suc, ℤ, ◌+ℤ◌, unsigned_abs, FitsSigned, to_z, of_z, arith, ap, ◌∙◌}
+use Rattle.std.proofs.Common.{◌≡◌, ◌+◌, ◌*◌, ◌^◌, ◌<◌, ◌≤◌, ℕ, suc, ℤ, ◌+ℤ◌}
+use Rattle.std.proofs.Common.{unsigned_abs, FitsSigned, to_z, of_z, arith, ap, ◌∙◌}
 use Rattle.std.proofs.lemmas.Int.{ints, fits_signed_from_abs}
 use Rattle.std.proofs.Math.Pow.{pow-lt}
 use mir.Syntax.{w64}
@@ -7,13 +8,17 @@ use Rattle.definitions.specs.Coalitions.{singleton}
 use Rattle.nested_programs.proofs.singles.singles.Goals as goal
 use Rattle.definitions.proofs.Casts.{cast_kept}
 
-more_small : (a b : ℤ) (i : ℕ) → unsigned_abs a ≤ i * 2 ^ 46 → unsigned_abs b < 2 ^ 46 → unsigned_abs (a +ℤ b) ≤ (i + 1) * 2 ^ 46
+more_small : (a b : ℤ) (i : ℕ) → unsigned_abs a ≤ i * 2 ^ 46 → unsigned_abs b < 2 ^ 46
+    → unsigned_abs (a +ℤ b) ≤ (i + 1) * 2 ^ 46
 more_small a b i ha hb = omega (arith, ints)
 
-more_fits : (a b : ℤ) (i : ℕ) → unsigned_abs a ≤ i * 2 ^ 46 → i < 16 → unsigned_abs b < 2 ^ 46 → FitsSigned w64 (a +ℤ to_z w64 (of_z w64 b))
-more_fits a b i ha lt hb = rw (cast_kept w64 b (omega arith)) (fits_signed_from_abs w64 (a +ℤ b) (omega (arith, ints)))
+more_fits : (a b : ℤ) (i : ℕ) → unsigned_abs a ≤ i * 2 ^ 46 → i < 16 → unsigned_abs b < 2 ^ 46
+    → FitsSigned w64 (a +ℤ to_z w64 (of_z w64 b))
+more_fits a b i ha lt hb =
+    rw (cast_kept w64 b (omega arith)) (fits_signed_from_abs w64 (a +ℤ b) (omega (arith, ints)))
 
-kept_more : (a b : ℤ) (i : ℕ) → unsigned_abs a ≤ i * 2 ^ 46 → i < 16 → unsigned_abs b < 2 ^ 46 → to_z w64 (of_z w64 (a +ℤ to_z w64 (of_z w64 b))) ≡ a +ℤ b
+kept_more : (a b : ℤ) (i : ℕ) → unsigned_abs a ≤ i * 2 ^ 46 → i < 16 → unsigned_abs b < 2 ^ 46
+    → to_z w64 (of_z w64 (a +ℤ to_z w64 (of_z w64 b))) ≡ a +ℤ b
 kept_more a b i ha lt hb = rw (cast_kept w64 b (omega arith)) (cast_kept w64 (a +ℤ b) (omega (arith, ints)))
 
 next_sum : (f : ℕ → ℤ) (i : ℕ) (a b c : ℤ) → c ≡ a +ℤ b → a ≡ sum_below i f → b ≡ f i → c ≡ sum_below (i + 1) f
@@ -35,7 +40,8 @@ overflow_add-sum g c =
     let few = c.requires in
     let below : c.loop-i.i < game.players = omega (arith, count, c.loop-i-test.true) in
     let small = c.players-i-end.ensures.laws.small (singleton c.loop-i.i) (pow-lt below) in
-    more_fits _ c.worth-sum.result c.loop-i.i c.loop-i.invariant.small (omega (arith, below, few)) (rw (c.worth-sum.ensures, c.single.ensures) small)
+    more_fits _ c.worth-sum.result c.loop-i.i c.loop-i.invariant.small (omega (arith, below, few))
+    (rw (c.worth-sum.ensures, c.single.ensures) small)
 
 pub loop-i-preserved : goal.loop-i-preserved
 loop-i-preserved g c =
@@ -44,11 +50,17 @@ loop-i-preserved g c =
     let few = c.requires in
     let below : c.loop-i.i < game.players = omega (arith, count, c.loop-i-test.true) in
     let is : c.worth-sum.result ≡ game.worth (singleton c.loop-i.i) = rw c.single.ensures at c.worth-sum.ensures in
-    let small : unsigned_abs c.worth-sum.result < 2 ^ 46 = rw is (c.players-i-end.ensures.laws.small (singleton c.loop-i.i) (pow-lt below)) in
-    let e = kept_more (to_z w64 c.loop-i.sum-bits) c.worth-sum.result c.loop-i.i c.loop-i.invariant.small (omega (arith, below, few)) small in
+    let small : unsigned_abs c.worth-sum.result < 2 ^ 46 =
+    rw is (c.players-i-end.ensures.laws.small (singleton c.loop-i.i) (pow-lt below)) in
+    let e =
+    kept_more (to_z w64 c.loop-i.sum-bits) c.worth-sum.result c.loop-i.i c.loop-i.invariant.small
+    (omega (arith, below, few)) small in
     record {
-      is = next_sum (λ i. game.worth (singleton i)) c.loop-i.i (to_z w64 c.loop-i.sum-bits) c.worth-sum.result _ e c.loop-i.invariant.is is;
-      small = rw e (more_small (to_z w64 c.loop-i.sum-bits) c.worth-sum.result c.loop-i.i c.loop-i.invariant.small small);
+      is =
+          next_sum (λ i. game.worth (singleton i)) c.loop-i.i (to_z w64 c.loop-i.sum-bits) c.worth-sum.result _ e
+          c.loop-i.invariant.is is;
+      small =
+          rw e (more_small (to_z w64 c.loop-i.sum-bits) c.worth-sum.result c.loop-i.i c.loop-i.invariant.small small);
     }
 
 pub returns : goal.returns

@@ -8,7 +8,8 @@ use Rattle.kohlberg.specs.Extends.{SpansFixed}
 use Rattle.nested_programs.specs.Numbers.{IsLevelOf}
 use Rattle.nested_programs.specs.Stages.{IsBest, IsLeft, IsBounded, AreUnderway}
 use Rattle.nested_programs.proofs.StageSteps.{next_formed, underway_more, kept_grown}
-use Rattle.nested_programs.proofs.StageLoop.{started, left_of, room_of, all_of, forms_few, new_only, best_at, level_at, extends_at, within_at, ended}
+use Rattle.nested_programs.proofs.StageLoop.{started, left_of, room_of, all_of, forms_few, new_only}
+use Rattle.nested_programs.proofs.StageLoop.{best_at, level_at, extends_at, within_at, ended}
 use Rattle.nested_programs.proofs.stages.all_stages.Goals as goal
 use Rattle.kohlberg.proofs.SpanScan.{level_within}
 
@@ -16,16 +17,25 @@ pub loop-last-init : goal.loop-last-init
 loop-last-init g c =
     let game = g.W.Worth.game c.args.game.now in
     let n = c.players-n.ensures.count in
-    let kept = ap (λ (v : SpanData). v.kept) c.new-span.ensures ∙ ap (λ (k : ℕ). grand_coalition k ∷ []) n in
-    (n, ap (λ (v : SpanData). v.players) c.new-span.ensures, started c.args.family c.args.measure game c.new-levels.result.items c.new-span.result.kept c.new-levels.ensures.items kept c.players-n.ensures.laws.some c.requires.few c.requires.member)
+    let kept = ap (λ (v : SpanData). v.kept) c.new-span.ensures ∙ ap (λ (k : ℕ). grand_coalition k ∷ []) n in (
+      n,
+      ap (λ (v : SpanData). v.players) c.new-span.ensures,
+      started c.args.family c.args.measure game c.new-levels.result.items c.new-span.result.kept
+          c.new-levels.ensures.items kept c.players-n.ensures.laws.some c.requires.few c.requires.member,
+    )
 
 pub best_of-requires-clause-left : goal.best_of-requires-clause-left
 best_of-requires-clause-left g c =
     let game = g.W.Worth.game c.args.game.now in
     let n = c.loop-last.invariant.0 in
     let levels = c.loop-last.levels.items in
-    let least = c.first_unspanned.ensures.least levels (subst (λ (k : ℕ). SpansFixed k c.loop-last.span.kept levels) (sym n) c.loop-last.invariant.2.spans) in
-    subst (λ (k : ℕ). IsLeft k c.deref.result.now) n (subst (IsLeft c.players-n.result) (sym c.deref.ensures.value) (left_of c.players-n.result levels c.first_unspanned.result c.is_some.result c.is_some.ensures c.loop-last-test.true least))
+    let least =
+    c.first_unspanned.ensures.least levels
+    (subst (λ (k : ℕ). SpansFixed k c.loop-last.span.kept levels) (sym n) c.loop-last.invariant.2.spans) in
+    subst (λ (k : ℕ). IsLeft k c.deref.result.now) n
+    (subst (IsLeft c.players-n.result) (sym c.deref.ensures.value)
+    (left_of c.players-n.result levels c.first_unspanned.result c.is_some.result c.is_some.ensures
+    c.loop-last-test.true least))
 
 pub best_of-requires-clause-bounded : goal.best_of-requires-clause-bounded
 best_of-requires-clause-bounded g c =
@@ -35,7 +45,9 @@ best_of-requires-clause-bounded g c =
 pub level_of-requires-clause-small : goal.level_of-requires-clause-small
 level_of-requires-clause-small g c =
     let game = g.W.Worth.game c.args.game.now in
-    subst (λ (ls : List Level). AllByRecursion (λ l. length l.coalitions ≤ 65536) ls) (sym c.deref-in-loop-last.ensures.value) (forms_few game.players [] c.loop-last.levels.items c.loop-last.invariant.2.form)
+    subst (λ (ls : List Level). AllByRecursion (λ l. length l.coalitions ≤ 65536) ls)
+    (sym c.deref-in-loop-last.ensures.value)
+    (forms_few game.players [] c.loop-last.levels.items c.loop-last.invariant.2.form)
 
 pub add_levels-requires-clause-within : goal.add_levels-requires-clause-within
 add_levels-requires-clause-within g c =
@@ -48,13 +60,25 @@ add_levels-requires-clause-within g c =
     let kept = c.loop-last.span.kept in
     let b = c.in_ok-best.best in
     let l = c.in_ok-level_of.field-0 in
-    let room = room_of c.players-n.result kept c.first_unspanned.result c.is_some.result c.is_some.ensures c.loop-last-test.true c.first_unspanned.ensures.room in
-    let best : IsBest family measure game levels b.weights.items b.weight_den b.multipliers.num.items b.multipliers.den = best_at family measure game _ levels b.weights.items b.weight_den b.multipliers.num.items b.multipliers.den c.deref.ensures.value (c.in_ok-best.ensures {u = tt}) in
-    let is : IsLevelOf game.players levels b.weights.items b.multipliers.num.items b.multipliers.den l = level_at c.players-n.result game.players _ levels b.weights.items b.multipliers.num.items b.multipliers.den l n c.deref-in-loop-last.ensures.value c.in_ok-level_of.ensures.level in
+    let room =
+    room_of c.players-n.result kept c.first_unspanned.result c.is_some.result c.is_some.ensures
+    c.loop-last-test.true c.first_unspanned.ensures.room in
+    let best : IsBest family measure game levels b.weights.items b.weight_den b.multipliers.num.items
+    b.multipliers.den =
+    best_at family measure game _ levels b.weights.items b.weight_den b.multipliers.num.items b.multipliers.den
+    c.deref.ensures.value (c.in_ok-best.ensures {u = tt}) in
+    let is : IsLevelOf game.players levels b.weights.items b.multipliers.num.items b.multipliers.den l =
+    level_at c.players-n.result game.players _ levels b.weights.items b.multipliers.num.items b.multipliers.den
+    l n c.deref-in-loop-last.ensures.value c.in_ok-level_of.ensures.level in
     let pushed : c.push.new.self.items ≡ levels ++ l ∷ [] = (c.in_ok-push.ensures {u = tt}).items in
-    let slice = new_only levels c.deref-in-loop-last-2.result.now l c.len-k.result (c.deref-in-loop-last-2.ensures.value ∙ pushed) (c.len-k.ensures ∙ c.loop-last.levels.ok.0) in
-    let form = next_formed family measure game levels kept c.loop-last.last b.weights.items b.weight_den b.multipliers.num.items b.multipliers.den l c.requires.few (rw n at room) under best is in
-    within_at c.loop-last.span.players game.players _ l (c.loop-last.invariant.1 ∙ n) slice (level_within game.players levels l form)
+    let slice =
+    new_only levels c.deref-in-loop-last-2.result.now l c.len-k.result
+    (c.deref-in-loop-last-2.ensures.value ∙ pushed) (c.len-k.ensures ∙ c.loop-last.levels.ok.0) in
+    let form =
+    next_formed family measure game levels kept c.loop-last.last b.weights.items b.weight_den
+    b.multipliers.num.items b.multipliers.den l c.requires.few (rw n at room) under best is in
+    within_at c.loop-last.span.players game.players _ l (c.loop-last.invariant.1 ∙ n) slice
+    (level_within game.players levels l form)
 
 pub loop-last-smaller : goal.loop-last-smaller
 loop-last-smaller g c =
@@ -67,13 +91,26 @@ loop-last-smaller g c =
     let kept = c.loop-last.span.kept in
     let b = c.in_ok-best.best in
     let l = c.in_ok-level_of.field-0 in
-    let room = room_of c.players-n.result kept c.first_unspanned.result c.is_some.result c.is_some.ensures c.loop-last-test.true c.first_unspanned.ensures.room in
-    let best : IsBest family measure game levels b.weights.items b.weight_den b.multipliers.num.items b.multipliers.den = best_at family measure game _ levels b.weights.items b.weight_den b.multipliers.num.items b.multipliers.den c.deref.ensures.value (c.in_ok-best.ensures {u = tt}) in
-    let is : IsLevelOf game.players levels b.weights.items b.multipliers.num.items b.multipliers.den l = level_at c.players-n.result game.players _ levels b.weights.items b.multipliers.num.items b.multipliers.den l n c.deref-in-loop-last.ensures.value c.in_ok-level_of.ensures.level in
+    let room =
+    room_of c.players-n.result kept c.first_unspanned.result c.is_some.result c.is_some.ensures
+    c.loop-last-test.true c.first_unspanned.ensures.room in
+    let best : IsBest family measure game levels b.weights.items b.weight_den b.multipliers.num.items
+    b.multipliers.den =
+    best_at family measure game _ levels b.weights.items b.weight_den b.multipliers.num.items b.multipliers.den
+    c.deref.ensures.value (c.in_ok-best.ensures {u = tt}) in
+    let is : IsLevelOf game.players levels b.weights.items b.multipliers.num.items b.multipliers.den l =
+    level_at c.players-n.result game.players _ levels b.weights.items b.multipliers.num.items b.multipliers.den
+    l n c.deref-in-loop-last.ensures.value c.in_ok-level_of.ensures.level in
     let pushed : c.push.new.self.items ≡ levels ++ l ∷ [] = (c.in_ok-push.ensures {u = tt}).items in
-    let slice = new_only levels c.deref-in-loop-last-2.result.now l c.len-k.result (c.deref-in-loop-last-2.ensures.value ∙ pushed) (c.len-k.ensures ∙ c.loop-last.levels.ok.0) in
-    let extends = extends_at c.loop-last.span.players game.players kept c.add_levels.new.span.kept _ (l ∷ []) (c.loop-last.invariant.1 ∙ n) slice c.add_levels.ensures.extends in
-    let grow = kept_grown family measure game levels kept c.add_levels.new.span.kept b.weights.items b.weight_den b.multipliers.num.items b.multipliers.den l best is under.spans extends in
+    let slice =
+    new_only levels c.deref-in-loop-last-2.result.now l c.len-k.result
+    (c.deref-in-loop-last-2.ensures.value ∙ pushed) (c.len-k.ensures ∙ c.loop-last.levels.ok.0) in
+    let extends =
+    extends_at c.loop-last.span.players game.players kept c.add_levels.new.span.kept _ (l ∷ [])
+    (c.loop-last.invariant.1 ∙ n) slice c.add_levels.ensures.extends in
+    let grow =
+    kept_grown family measure game levels kept c.add_levels.new.span.kept b.weights.items b.weight_den
+    b.multipliers.num.items b.multipliers.den l best is under.spans extends in
     omega (arith, room, grow)
 
 pub loop-last-preserved : goal.loop-last-preserved
@@ -87,19 +124,42 @@ loop-last-preserved g c =
     let kept = c.loop-last.span.kept in
     let b = c.in_ok-best.best in
     let l = c.in_ok-level_of.field-0 in
-    let room = room_of c.players-n.result kept c.first_unspanned.result c.is_some.result c.is_some.ensures c.loop-last-test.true c.first_unspanned.ensures.room in
-    let best : IsBest family measure game levels b.weights.items b.weight_den b.multipliers.num.items b.multipliers.den = best_at family measure game _ levels b.weights.items b.weight_den b.multipliers.num.items b.multipliers.den c.deref.ensures.value (c.in_ok-best.ensures {u = tt}) in
-    let is : IsLevelOf game.players levels b.weights.items b.multipliers.num.items b.multipliers.den l = level_at c.players-n.result game.players _ levels b.weights.items b.multipliers.num.items b.multipliers.den l n c.deref-in-loop-last.ensures.value c.in_ok-level_of.ensures.level in
+    let room =
+    room_of c.players-n.result kept c.first_unspanned.result c.is_some.result c.is_some.ensures
+    c.loop-last-test.true c.first_unspanned.ensures.room in
+    let best : IsBest family measure game levels b.weights.items b.weight_den b.multipliers.num.items
+    b.multipliers.den =
+    best_at family measure game _ levels b.weights.items b.weight_den b.multipliers.num.items b.multipliers.den
+    c.deref.ensures.value (c.in_ok-best.ensures {u = tt}) in
+    let is : IsLevelOf game.players levels b.weights.items b.multipliers.num.items b.multipliers.den l =
+    level_at c.players-n.result game.players _ levels b.weights.items b.multipliers.num.items b.multipliers.den
+    l n c.deref-in-loop-last.ensures.value c.in_ok-level_of.ensures.level in
     let pushed : c.push.new.self.items ≡ levels ++ l ∷ [] = (c.in_ok-push.ensures {u = tt}).items in
-    let slice = new_only levels c.deref-in-loop-last-2.result.now l c.len-k.result (c.deref-in-loop-last-2.ensures.value ∙ pushed) (c.len-k.ensures ∙ c.loop-last.levels.ok.0) in
-    let extends = extends_at c.loop-last.span.players game.players kept c.add_levels.new.span.kept _ (l ∷ []) (c.loop-last.invariant.1 ∙ n) slice c.add_levels.ensures.extends in
-    let more = underway_more family measure game levels kept c.add_levels.new.span.kept c.loop-last.last b.weights.items b.weight_den b.multipliers l c.requires.few (rw n at room) under best is c.in_ok-level_of.ensures.lowest extends in
-    (n, c.add_levels.ensures.players ∙ c.loop-last.invariant.1, subst (λ ls. AreUnderway family measure game ls c.add_levels.new.span.kept (Some b.multipliers)) (sym pushed) more)
+    let slice =
+    new_only levels c.deref-in-loop-last-2.result.now l c.len-k.result
+    (c.deref-in-loop-last-2.ensures.value ∙ pushed) (c.len-k.ensures ∙ c.loop-last.levels.ok.0) in
+    let extends =
+    extends_at c.loop-last.span.players game.players kept c.add_levels.new.span.kept _ (l ∷ [])
+    (c.loop-last.invariant.1 ∙ n) slice c.add_levels.ensures.extends in
+    let more =
+    underway_more family measure game levels kept c.add_levels.new.span.kept c.loop-last.last b.weights.items
+    b.weight_den b.multipliers l c.requires.few (rw n at room) under best is c.in_ok-level_of.ensures.lowest
+    extends in (
+      n,
+      c.add_levels.ensures.players ∙ c.loop-last.invariant.1,
+      subst (λ ls. AreUnderway family measure game ls c.add_levels.new.span.kept (Some b.multipliers)) (sym pushed)
+          more,
+    )
 
 pub returns : goal.returns
 returns g c =
     let game = g.W.Worth.game c.args.game.now in
     let n = c.loop-last.invariant.0 in
     let levels = c.loop-last.levels.items in
-    let least = c.first_unspanned.ensures.least levels (subst (λ (k : ℕ). SpansFixed k c.loop-last.span.kept levels) (sym n) c.loop-last.invariant.2.spans) in
-    ended c.args.family c.args.measure game levels c.loop-last.span.kept c.loop-last.last c.loop-last.invariant.2 (subst (λ (k : ℕ). IsAllFixed Span k levels) n (all_of c.players-n.result levels c.first_unspanned.result c.is_some.result c.is_some.ensures c.loop-last-test.false least))
+    let least =
+    c.first_unspanned.ensures.least levels
+    (subst (λ (k : ℕ). SpansFixed k c.loop-last.span.kept levels) (sym n) c.loop-last.invariant.2.spans) in
+    ended c.args.family c.args.measure game levels c.loop-last.span.kept c.loop-last.last c.loop-last.invariant.2
+    (subst (λ (k : ℕ). IsAllFixed Span k levels) n
+    (all_of c.players-n.result levels c.first_unspanned.result c.is_some.result c.is_some.ensures
+    c.loop-last-test.false least))

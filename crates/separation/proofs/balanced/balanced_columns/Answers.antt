@@ -7,6 +7,9 @@ pub returns : goal.returns
 returns g c =
     let count = c.players.ensures.count in
     let few = c.requires in
-    let m : 1 * 2 ^ c.players.result % 2 ^ 64 ≡ 2 ^ c.players.result = masks_of c.players.result (omega (arith, count, few)) in
+    let m : 1 * 2 ^ c.players.result % 2 ^ 64 ≡ 2 ^ c.players.result =
+    masks_of c.players.result (omega (arith, count, few)) in
     let full : c.loop-s.s ≡ 2 ^ c.players.result = omega (arith, m, c.loop-s-test.false, c.loop-s.auto.s-end) in
-    c.loop-s.invariant ∙ ap (λ (t : ℕ). listed t (balanced_column (g.W.Worth.game c.args.game.now))) (full ∙ ap (λ (t : ℕ). 2 ^ t) count)
+    c.loop-s.invariant
+    ∙ ap (λ (t : ℕ). listed t (balanced_column (g.W.Worth.game c.args.game.now)))
+    (full ∙ ap (λ (t : ℕ). 2 ^ t) count)

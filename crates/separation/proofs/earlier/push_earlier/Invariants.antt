@@ -4,4 +4,6 @@ use Rattle.separation.specs.Making.{earlier_columns}
 use Rattle.separation.proofs.earlier.push_earlier.Given as goal
 
 abbrev pub invariant-loop-k : goal.invariant-loop-k
-invariant-loop-k g l = l.columns.items ≡ l.fn.columns.items ++ earlier_columns (g.W.Worth.game l.game) (earlier_of 0 (take l.k l.levels))
+invariant-loop-k g l =
+    l.columns.items
+    ≡ l.fn.columns.items ++ earlier_columns (g.W.Worth.game l.game) (earlier_of 0 (take l.k l.levels))

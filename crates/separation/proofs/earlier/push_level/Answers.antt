@@ -6,17 +6,20 @@ use Rattle.separation.proofs.earlier.push_level.Goals as goal
 pub plain-requires : goal.plain-requires
 plain-requires g c =
     let few = λ (q : ℕ × ℤ). q.0 < 2 ^ (g.W.Worth.game c.args.game.now).players in
-    subst few (sym c.loop-s-item.is) (all_at few c.args.pairs.now c.loop-s.s-index c.loop-s-item.result c.loop-s-test.true c.requires)
+    subst few (sym c.loop-s-item.is)
+    (all_at few c.args.pairs.now c.loop-s.s-index c.loop-s-item.result c.loop-s-test.true c.requires)
 
 pub minus-requires : goal.minus-requires
 minus-requires g c =
     let few = λ (q : ℕ × ℤ). q.0 < 2 ^ (g.W.Worth.game c.args.game.now).players in
-    subst few (sym c.loop-s-item.is) (all_at few c.args.pairs.now c.loop-s.s-index c.loop-s-item.result c.loop-s-test.true c.requires)
+    subst few (sym c.loop-s-item.is)
+    (all_at few c.args.pairs.now c.loop-s.s-index c.loop-s-item.result c.loop-s-test.true c.requires)
 
 pub loop-s-preserved : goal.loop-s-preserved
 loop-s-preserved g c =
     let game = g.W.Worth.game c.args.game.now in
     let first = c.in_ok-push.ensures {u = tt} in
     let second = c.in_ok-push-2.ensures {u = tt} in
-    level-push game c.args.k c.loop-s.s-index c.args.pairs.now c.loop-s-item.result c.args.columns.now.items c.loop-s.columns.items _ c.loop-s-test.true c.loop-s-item.is c.loop-s.invariant
+    level-push game c.args.k c.loop-s.s-index c.args.pairs.now c.loop-s-item.result c.args.columns.now.items
+    c.loop-s.columns.items _ c.loop-s-test.true c.loop-s-item.is c.loop-s.invariant
     (rw c.minus.ensures at (rw c.plain.ensures at (rw first.items at second.items)))

@@ -9,7 +9,9 @@ overflow_add-count c =
     let k = c.loop-level.level-index in
     let l = c.level-item.result in
     let lt : k < length levels = omega (arith, c.loop-level-test.true) in
-    let here : c.len.result ≡ length (get_or levels k l).coalitions = c.len.ensures ∙ c.level.inside.coalitions.ok.0 ∙ ap (λ (v : Level). length v.coalitions) (c.level.view_is ∙ c.level-item.is) in
+    let here : c.len.result ≡ length (get_or levels k l).coalitions =
+    c.len.ensures ∙ c.level.inside.coalitions.ok.0
+    ∙ ap (λ (v : Level). length v.coalitions) (c.level.view_is ∙ c.level-item.is) in
     let step = counted levels k c.loop-level.count l lt c.loop-level.invariant in
     let few = earlier_few 0 levels c.requires.small in
     omega (arith, here, step, few, c.requires.few)
@@ -19,7 +21,9 @@ loop-level-preserved c =
     let levels = c.args.levels.now in
     let k = c.loop-level.level-index in
     let l = c.level-item.result in
-    let here : c.len.result ≡ length (get_or levels k l).coalitions = c.len.ensures ∙ c.level.inside.coalitions.ok.0 ∙ ap (λ (v : Level). length v.coalitions) (c.level.view_is ∙ c.level-item.is) in
+    let here : c.len.result ≡ length (get_or levels k l).coalitions =
+    c.len.ensures ∙ c.level.inside.coalitions.ok.0
+    ∙ ap (λ (v : Level). length v.coalitions) (c.level.view_is ∙ c.level-item.is) in
     rw here (counted levels k c.loop-level.count l (omega (arith, c.loop-level-test.true)) c.loop-level.invariant)
 
 pub returns-clause-small : goal.returns-clause-small

@@ -1,4 +1,5 @@
-use Rattle.std.proofs.Common.{◌≡◌, ◌+◌, ◌-◌, ◌*◌, ◌<◌, ◌≤◌, ◌^◌, ℕ, ℤ, List, length, map, drop, get_or, ap, sym, subst, ◌∙◌, arith}
+use Rattle.std.proofs.Common.{◌≡◌, ◌+◌, ◌-◌, ◌*◌, ◌<◌, ◌≤◌, ◌^◌, ℕ, ℤ, List, length, map}
+use Rattle.std.proofs.Common.{drop, get_or, ap, sym, subst, ◌∙◌, arith}
 use Rattle.std.specs.List.{AllByRecursion}
 use Rattle.definitions.proofs.Alls.{all_at}
 use Rattle.definitions.specs.Certificates.{Level}
@@ -16,9 +17,13 @@ returns-then-rest-twice g c =
     let k = c.loop-k.k in
     let l = c.index-levels-k.result in
     let lt : k < length levels = omega (arith, c.loop-k-test.true) in
-    let here : c.len.result ≡ length (get_or levels k l).coalitions = c.len.ensures ∙ c.level.inside.coalitions.ok.0 ∙ ap (λ (v : Level). length v.coalitions) (c.level.view_is ∙ c.index-levels-k.is) in
-    let less : c.loop-k.rest < 2 * length (get_or levels k l).coalitions = omega (arith, here, c.if-rest-twice.true) in
-    let pairs : c.deref.result.now ≡ (get_or levels k l).coalitions = c.deref.ensures.value ∙ ap (λ (v : Level). v.coalitions) (c.level.view_is ∙ c.index-levels-k.is) in
+    let here : c.len.result ≡ length (get_or levels k l).coalitions =
+    c.len.ensures ∙ c.level.inside.coalitions.ok.0
+    ∙ ap (λ (v : Level). length v.coalitions) (c.level.view_is ∙ c.index-levels-k.is) in
+    let less : c.loop-k.rest < 2 * length (get_or levels k l).coalitions =
+    omega (arith, here, c.if-rest-twice.true) in
+    let pairs : c.deref.result.now ≡ (get_or levels k l).coalitions =
+    c.deref.ensures.value ∙ ap (λ (v : Level). v.coalitions) (c.level.view_is ∙ c.index-levels-k.is) in
     c.of_level.ensures
     ∙ ap (λ (ps : List (ℕ × ℤ)). column_at (earlier_columns game (map (λ p. (p.0, k)) ps)) c.loop-k.rest) pairs
     ∙ sym (level_here game levels k l lt c.loop-k.rest less)
@@ -31,37 +36,51 @@ loop-k-preserved g c =
     let k = c.loop-k.k in
     let l = c.index-levels-k.result in
     let lt : k < length levels = omega (arith, c.loop-k-test.true) in
-    let here : c.len.result ≡ length (get_or levels k l).coalitions = c.len.ensures ∙ c.level.inside.coalitions.ok.0 ∙ ap (λ (v : Level). length v.coalitions) (c.level.view_is ∙ c.index-levels-k.is) in
-    let past : 2 * length (get_or levels k l).coalitions ≤ c.loop-k.rest = omega (arith, here, c.if-rest-twice.false) in
+    let here : c.len.result ≡ length (get_or levels k l).coalitions =
+    c.len.ensures ∙ c.level.inside.coalitions.ok.0
+    ∙ ap (λ (v : Level). length v.coalitions) (c.level.view_is ∙ c.index-levels-k.is) in
+    let past : 2 * length (get_or levels k l).coalitions ≤ c.loop-k.rest =
+    omega (arith, here, c.if-rest-twice.false) in
     c.loop-k.invariant
     ∙ level_past game levels k l lt c.loop-k.rest past
-    ∙ ap (λ (t : ℕ). column_at (earlier_columns game (earlier_of (k + 1) (drop (k + 1) levels))) (c.loop-k.rest - 2 * t)) (sym here)
+    ∙ ap
+    (λ (t : ℕ). column_at (earlier_columns game (earlier_of (k + 1) (drop (k + 1) levels)))
+    (c.loop-k.rest - 2 * t)) (sym here)
 
 pub overflow_mul-twice : goal.overflow_mul-twice
 overflow_mul-twice g c =
     let l = c.index-levels-k.result in
     let n = (g.W.Worth.game c.args.game.now).players in
-    let small = subst (IsSmallLevel n) (sym c.index-levels-k.is) (all_at (IsSmallLevel n) c.args.levels.now c.loop-k.k l c.loop-k-test.true c.requires.within) in
-    let here : c.len.result ≡ length l.coalitions = c.len.ensures ∙ c.level.inside.coalitions.ok.0 ∙ ap (λ (v : Level). length v.coalitions) c.level.view_is in
+    let small =
+    subst (IsSmallLevel n) (sym c.index-levels-k.is)
+    (all_at (IsSmallLevel n) c.args.levels.now c.loop-k.k l c.loop-k-test.true c.requires.within) in
+    let here : c.len.result ≡ length l.coalitions =
+    c.len.ensures ∙ c.level.inside.coalitions.ok.0 ∙ ap (λ (v : Level). length v.coalitions) c.level.view_is in
     omega (arith, here, small.0)
 
 pub of_level-requires-clause-within : goal.of_level-requires-clause-within
 of_level-requires-clause-within g c =
     let l = c.index-levels-k.result in
     let n = (g.W.Worth.game c.args.game.now).players in
-    let small = subst (IsSmallLevel n) (sym c.index-levels-k.is) (all_at (IsSmallLevel n) c.args.levels.now c.loop-k.k l c.loop-k-test.true c.requires.within) in
-    let pairs : c.deref.result.now ≡ l.coalitions = c.deref.ensures.value ∙ ap (λ (v : Level). v.coalitions) c.level.view_is in
+    let small =
+    subst (IsSmallLevel n) (sym c.index-levels-k.is)
+    (all_at (IsSmallLevel n) c.args.levels.now c.loop-k.k l c.loop-k-test.true c.requires.within) in
+    let pairs : c.deref.result.now ≡ l.coalitions =
+    c.deref.ensures.value ∙ ap (λ (v : Level). v.coalitions) c.level.view_is in
     subst (AllByRecursion (λ (p : ℕ × ℤ). p.0 < 2 ^ n)) (sym pairs) small.1
 
 pub of_level-requires-clause-place : goal.of_level-requires-clause-place
 of_level-requires-clause-place g c =
     let l = c.index-levels-k.result in
-    let here : c.len.result ≡ length l.coalitions = c.len.ensures ∙ c.level.inside.coalitions.ok.0 ∙ ap (λ (v : Level). length v.coalitions) c.level.view_is in
-    let pairs : c.deref.result.now ≡ l.coalitions = c.deref.ensures.value ∙ ap (λ (v : Level). v.coalitions) c.level.view_is in
+    let here : c.len.result ≡ length l.coalitions =
+    c.len.ensures ∙ c.level.inside.coalitions.ok.0 ∙ ap (λ (v : Level). length v.coalitions) c.level.view_is in
+    let pairs : c.deref.result.now ≡ l.coalitions =
+    c.deref.ensures.value ∙ ap (λ (v : Level). v.coalitions) c.level.view_is in
     let less : c.loop-k.rest < 2 * length l.coalitions = omega (arith, here, c.if-rest-twice.true) in
     subst (λ (ps : List (ℕ × ℤ)). c.loop-k.rest < 2 * length ps) (sym pairs) less
 
 pub returns : goal.returns
 returns g c =
     let game = g.W.Worth.game c.args.game.now in
-    none_left game c.loop-k.k c.loop-k.rest c.args.levels.now (omega (arith, c.loop-k-test.false)) ∙ sym c.loop-k.invariant
+    none_left game c.loop-k.k c.loop-k.rest c.args.levels.now (omega (arith, c.loop-k-test.false))
+    ∙ sym c.loop-k.invariant

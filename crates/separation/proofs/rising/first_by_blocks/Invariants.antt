@@ -5,4 +5,6 @@ use Rattle.separation.proofs.rising.first_by_blocks.Given as goal
 
 abbrev pub invariant-loop-block : goal.invariant-loop-block
 invariant-loop-block g l =
-    (j : ℕ) → j < 256 * l.block → j < 2 ^ l.program.players → ¬ Rises l.program.measure l.m.num.items l.m.den l.program.players l.with_costs (marked_column (g.W.Worth.game l.program.game.now) (front_level l.program.front) l.program.marks j)
+    (j : ℕ) → j < 256 * l.block → j < 2 ^ l.program.players
+    → ¬ Rises l.program.measure l.m.num.items l.m.den l.program.players l.with_costs
+    (marked_column (g.W.Worth.game l.program.game.now) (front_level l.program.front) l.program.marks j)

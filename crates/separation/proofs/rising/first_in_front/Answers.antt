@@ -15,8 +15,11 @@ rises-requires-clause-within g c =
     let lt : id < length (front_columns game p.front) = omega (arith, p.first_is, c.loop-id-test.true) in
     let e = lazy-front game p.front p.marks id lt in
     rw c.front_column-column.ensures
-    (subst (λ (t : Option Column). ForSome t (λ c'. ForSome c'.level (λ l. p.players + l < length c.args.m.now.num.items))) e
-    (level_within p.players p.levels (length c.args.m.now.num.items) (column_at (lazy_columns game p.front p.marks) id) c.requires.rows (p.small.rows id)))
+    (subst
+    (λ (t : Option Column). ForSome t
+    (λ c'. ForSome c'.level (λ l. p.players + l < length c.args.m.now.num.items))) e
+    (level_within p.players p.levels (length c.args.m.now.num.items)
+    (column_at (lazy_columns game p.front p.marks) id) c.requires.rows (p.small.rows id)))
 
 pub rises-requires-clause-small : goal.rises-requires-clause-small
 rises-requires-clause-small g c =

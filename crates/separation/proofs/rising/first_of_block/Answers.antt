@@ -1,4 +1,5 @@
-use Rattle.std.proofs.Common.{◌≡◌, ◌≤◌, ◌<◌, ◌+◌, ◌*◌, ◌%◌, ◌^◌, ℕ, ℤ, pos, ◌+ℤ◌, Option, length, slice_index_or, unsigned_abs, to_z, of_z, ap, ◌∙◌, sym, subst, arith, rules, refl}
+use Rattle.std.proofs.Common.{◌≡◌, ◌≤◌, ◌<◌, ◌+◌, ◌*◌, ◌%◌, ◌^◌, ℕ, ℤ, pos, ◌+ℤ◌, Option, length, slice_index_or}
+use Rattle.std.proofs.Common.{unsigned_abs, to_z, of_z, ap, ◌∙◌, sym, subst, arith, rules, refl}
 use mir.Syntax.{w128}
 use Rattle.std.proofs.lemmas.Bool.{false≢true}
 use Rattle.definitions.proofs.Casts.{cast_kept}
@@ -34,20 +35,25 @@ returns-then-marked_rises g c =
     let m = c.args.m.now in
     let mask = masks_of p.players c.requires.sums.few in
     let within : c.loop-s.s < 2 ^ p.players = omega (arith, mask, c.loop-s-test.true, c.min-end.ensures) in
-    Searches.first_here p.measure m.num.items m.den p.players c.args.with_costs (marked_column (g.W.Worth.game p.game.now) (front_level p.front) p.marks) (2 ^ p.players) c.loop-s.s c.loop-s.invariant
+    Searches.first_here p.measure m.num.items m.den p.players c.args.with_costs
+    (marked_column (g.W.Worth.game p.game.now) (front_level p.front) p.marks) (2 ^ p.players) c.loop-s.s
+    c.loop-s.invariant
     within (c.if-marked_rises.ensures.0 refl)
 
 pub loop-s-preserved : goal.loop-s-preserved
 loop-s-preserved g c =
     let p = c.args.program.now in
     let m = c.args.m.now in
-    Searches.none_more p.measure m.num.items m.den p.players c.args.with_costs (marked_column (g.W.Worth.game p.game.now) (front_level p.front) p.marks) (2 ^ p.players) c.loop-s.s c.loop-s.invariant
+    Searches.none_more p.measure m.num.items m.den p.players c.args.with_costs
+    (marked_column (g.W.Worth.game p.game.now) (front_level p.front) p.marks) (2 ^ p.players) c.loop-s.s
+    c.loop-s.invariant
     (λ r. false≢true (c.if-marked_rises.ensures.1 r))
 
 pub returns : goal.returns
 returns g c =
     let mask = masks_of c.args.program.now.players c.requires.sums.few in
-    λ j lt within. c.loop-s.invariant j (omega (arith, mask, lt, within, c.loop-s-test.false, c.min-end.ensures)) within
+    λ j lt within. c.loop-s.invariant j (omega (arith, mask, lt, within, c.loop-s-test.false, c.min-end.ensures))
+    within
 
 pub marked_rises-requires-clause-value : goal.marked_rises-requires-clause-value
 marked_rises-requires-clause-value g c =
@@ -60,12 +66,18 @@ marked_rises-requires-clause-value g c =
     let base = c.base-base.result in
     let small : unsigned_abs base ≤ 2 ^ 114 = c.base-base.ensures.small in
     let kept : to_z w128 (of_z w128 base) ≡ base = cast_kept w128 base (omega (arith, small)) in
-    let based = c.base-base.ensures.value ∙ ap (λ (l : Option ℕ). slice_index_or high c.args.block (pos 0) +ℤ level_multiplier num p.players l) c.level.ensures in
+    let based =
+    c.base-base.ensures.value
+    ∙ ap (λ (l : Option ℕ). slice_index_or high c.args.block (pos 0) +ℤ level_multiplier num p.players l)
+    c.level.ensures in
     let valued = c.behind-value.ensures ∙ ap (λ (z : ℤ). z +ℤ slice_index_or low (s % 256) (pos 0)) kept in
     let le : p.players ≤ length num = omega (arith, c.requires.rows) in
     let within = front_within p.front p.players p.levels (length num) p.rows c.requires.rows in
     let upper : s < 256 * c.args.block + 256 = omega (arith, c.loop-s-test.true, c.min-end.ensures) in
     let whole : to_z w128 (of_z w128 c.behind-value.result) ≡ c.behind-value.result = search rules in
-    subst (λ (x : Measure). to_z w128 (of_z w128 c.behind-value.result) ≡ column_value x num p.players (plain game s (front_level p.front))) (sym c.requires.plain)
+    subst
+    (λ (x : Measure). to_z w128 (of_z w128 c.behind-value.result)
+    ≡ column_value x num p.players (plain game s (front_level p.front))) (sym c.requires.plain)
     (whole
-    ∙ block_value num p.players s c.args.block _ low high (game.worth s) base _ le within c.requires.sums c.loop-s.auto.s upper c.requires.block based valued)
+    ∙ block_value num p.players s c.args.block _ low high (game.worth s) base _ le within c.requires.sums
+    c.loop-s.auto.s upper c.requires.block based valued)

@@ -1,4 +1,5 @@
-use Rattle.std.proofs.Common.{◌≡◌, ◌<◌, ◌^◌, Bool, true, ℤ, ◌*ℤ◌, ◌<ℤ◌, if◌then◌else◌, Some, None, unsigned_abs, to_z, of_z, sym, subst, ◌∙◌, arith, rules}
+use Rattle.std.proofs.Common.{◌≡◌, ◌<◌, ◌^◌, Bool, true, ℤ, ◌*ℤ◌, ◌<ℤ◌, if◌then◌else◌, Some, None}
+use Rattle.std.proofs.Common.{unsigned_abs, to_z, of_z, sym, subst, ◌∙◌, arith, rules}
 use mir.Syntax.{w64, w128}
 use Rattle.definitions.proofs.Casts.{cast_kept}
 use Rattle.std.specs.Bool.{Decides}
@@ -15,9 +16,15 @@ returns-then-has_mark g c =
     let r = c.is_below.result in
     let value : to_z w128 (of_z w128 c.args.value) ≡ c.args.value = search rules in
     let small : unsigned_abs c.counted_worth-worth.result < 2 ^ 46 = c.counted_worth-worth.ensures.small in
-    let cost : to_z w64 (of_z w64 c.counted_worth-worth.result) ≡ c.counted_worth-worth.result = cast_kept w64 c.counted_worth-worth.result (omega (arith, small)) in
-    let below = subst (λ (z : ℤ). Decides r (c.args.value <ℤ (m.den *ℤ z))) c.counted_worth-worth.ensures.value (rw value at (rw cost at c.is_below.ensures)) in
+    let cost : to_z w64 (of_z w64 c.counted_worth-worth.result) ≡ c.counted_worth-worth.result =
+    cast_kept w64 c.counted_worth-worth.result (omega (arith, small)) in
+    let below =
+    subst (λ (z : ℤ). Decides r (c.args.value <ℤ (m.den *ℤ z))) c.counted_worth-worth.ensures.value
+    (rw value at (rw cost at c.is_below.ensures)) in
     let rises : Decides r (Rises p.measure m.num.items m.den p.players c.args.with_costs (Some column)) =
     subst (λ (z : ℤ). Decides r (z <ℤ (m.den *ℤ counted c.args.with_costs column.cost))) c.requires.value below in
     let e : has_mark p.marks c.args.s ≡ true = sym c.has_mark.ensures ∙ c.if-has_mark.true in
-    subst (λ (b : Bool). Decides r (Rises p.measure m.num.items m.den p.players c.args.with_costs (if b then Some column else None))) (sym e) rises
+    subst
+    (λ (b : Bool). Decides r
+    (Rises p.measure m.num.items m.den p.players c.args.with_costs (if b then Some column else None))) (sym e)
+    rises

@@ -17,7 +17,8 @@ bounds-deref-i c =
 pub loop-i-preserved : goal.loop-i-preserved
 loop-i-preserved c =
     let pushed = c.in_ok-push.ensures {u = tt} in
-    taken_more c.args.multipliers.now c.deref.result.now c.loop-i.num.items c.push.new.self.items c.loop-i.i (omega (arith, c.requires.rows, c.loop-i-test.true)) c.deref.ensures.0 c.loop-i.invariant pushed.items
+    taken_more c.args.multipliers.now c.deref.result.now c.loop-i.num.items c.push.new.self.items c.loop-i.i
+    (omega (arith, c.requires.rows, c.loop-i-test.true)) c.deref.ensures.0 c.loop-i.invariant pushed.items
 
 pub returns-in_err-push : goal.returns-in_err-push
 returns-in_err-push c = IfOk-from_err c.from_residual.result _ c.from_residual.ensures.0
@@ -26,16 +27,23 @@ pub unwrap-requires : goal.unwrap-requires
 unwrap-requires c =
     let m = c.args.multipliers.now in
     let n = c.args.n in
-    let all : c.loop-i.num.items ≡ take n m.num.items = c.loop-i.invariant ∙ ap (λ (k : ℕ). take k m.num.items) (omega (arith, c.loop-i-test.false, c.loop-i.auto.i-end)) in
-    let den : to_z w128 (of_z w128 m.den) ≡ m.den = cast_kept w128 m.den (let small = m.den_small in omega (arith, small)) in
-    is_some (IsShares (allocation (take n m.num.items) m.den)) _ c.new.result (rw (all, den) at c.new.ensures) (taken_are_shares m n c.requires.rows c.requires.some c.requires.few)
+    let all : c.loop-i.num.items ≡ take n m.num.items =
+    c.loop-i.invariant
+    ∙ ap (λ (k : ℕ). take k m.num.items) (omega (arith, c.loop-i-test.false, c.loop-i.auto.i-end)) in
+    let den : to_z w128 (of_z w128 m.den) ≡ m.den =
+    cast_kept w128 m.den (let small = m.den_small in omega (arith, small)) in
+    is_some (IsShares (allocation (take n m.num.items) m.den)) _ c.new.result (rw (all, den) at c.new.ensures)
+    (taken_are_shares m n c.requires.rows c.requires.some c.requires.few)
 
 pub returns : goal.returns
 returns c =
     let m = c.args.multipliers.now in
     let n = c.args.n in
-    let all : c.loop-i.num.items ≡ take n m.num.items = c.loop-i.invariant ∙ ap (λ (k : ℕ). take k m.num.items) (omega (arith, c.loop-i-test.false, c.loop-i.auto.i-end)) in
-    let den : to_z w128 (of_z w128 m.den) ≡ m.den = cast_kept w128 m.den (let small = m.den_small in omega (arith, small)) in
+    let all : c.loop-i.num.items ≡ take n m.num.items =
+    c.loop-i.invariant
+    ∙ ap (λ (k : ℕ). take k m.num.items) (omega (arith, c.loop-i-test.false, c.loop-i.auto.i-end)) in
+    let den : to_z w128 (of_z w128 m.den) ≡ m.den =
+    cast_kept w128 m.den (let small = m.den_small in omega (arith, small)) in
     let new = rw c.unwrap.ensures at c.new.ensures in
     let is = rw (all, den) at new.0 in
     subst (IsReadFrom n m.num.items m.den) (sym is) (taken_are_read m n c.requires.rows)

@@ -5,7 +5,9 @@ use Rattle.separation.proofs.Products.{bar_product}
 use Rattle.separation.proofs.sums.bar.Goals as goal
 
 pub overflow_mul-result : goal.overflow_mul-result
-overflow_mul-result c = (bar_product c.args.m.now.den c.from.result c.args.cost c.args.m.now.den_small c.requires c.ranges.cost c.from.ensures).0
+overflow_mul-result c =
+    (bar_product c.args.m.now.den c.from.result c.args.cost c.args.m.now.den_small c.requires c.ranges.cost
+    c.from.ensures).0
 
 pub returns-then-with_costs : goal.returns-then-with_costs
 returns-then-with_costs c =

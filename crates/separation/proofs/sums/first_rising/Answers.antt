@@ -6,5 +6,6 @@ use Rattle.separation.proofs.sums.first_rising.Goals as goal
 pub rises-requires-clause-within : goal.rises-requires-clause-within
 rises-requires-clause-within c =
     let lt : c.loop-id.id < length c.args.columns.now = search rules in
-    let e : c.index-columns-id.result ≡ column_at c.args.columns.now c.loop-id.id = get_or_read c.args.columns.now c.loop-id.id c.index-columns-id.result lt c.index-columns-id.is None in
+    let e : c.index-columns-id.result ≡ column_at c.args.columns.now c.loop-id.id =
+    get_or_read c.args.columns.now c.loop-id.id c.index-columns-id.result lt c.index-columns-id.is None in
     rw e (c.requires.within c.loop-id.id)

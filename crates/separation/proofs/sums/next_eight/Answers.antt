@@ -15,5 +15,9 @@ returns c =
     let mask : 1 * 2 ^ last % 2 ^ 64 ≡ 2 ^ last = masks_of last (omega (arith, eight)) in
     let before : s - 1 * 2 ^ last % 2 ^ 64 < s = omega (arith, mask, lower, c.requires.some) in
     let is = c.requires.before (s - 1 * 2 ^ last % 2 ^ 64) before in
-    let is' = subst (λ (k : ℕ). IsEight num c.args.n c.args.first (s - k) (slice_index_or c.args.sums.now (s - 1 * 2 ^ last % 2 ^ 64) (pos 0))) mask is in
-    IsEight-next num c.args.n c.args.first s last _ _ c.args.m.now.num_small c.requires.few lower upper is' c.player_multiplier.ensures.value c.player_multiplier.ensures.small
+    let is' =
+    subst
+    (λ (k : ℕ). IsEight num c.args.n c.args.first (s - k)
+    (slice_index_or c.args.sums.now (s - 1 * 2 ^ last % 2 ^ 64) (pos 0))) mask is in
+    IsEight-next num c.args.n c.args.first s last _ _ c.args.m.now.num_small c.requires.few lower upper is'
+    c.player_multiplier.ensures.value c.player_multiplier.ensures.small

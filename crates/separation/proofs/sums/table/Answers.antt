@@ -9,16 +9,21 @@ use Rattle.definitions.proofs.Casts.{cast_kept}
 pub loop-s-init : goal.loop-s-init
 loop-s-init c = record {
   len = refl;
-  done = λ k lt. let first : k ≡ 0 = omega arith in rw first (IsEight-empty c.args.m.now.num.items c.args.n c.args.first);
+  done = λ k lt.
+      let first : k ≡ 0 = omega arith in rw first (IsEight-empty c.args.m.now.num.items c.args.n c.args.first);
 }
 
 pub loop-s-preserved : goal.loop-s-preserved
 loop-s-preserved c =
     let P = IsEight c.args.m.now.num.items c.args.n c.args.first in
     let is = c.next_eight.ensures in
-    let e : to_z w128 (of_z w128 c.next_eight.result) ≡ c.next_eight.result = cast_kept w128 c.next_eight.result (omega (arith, is.small)) in
-    let len : c.loop-s.s < length c.loop-s.sums = subst (λ (t : ℕ). c.loop-s.s < t) (sym c.loop-s.invariant.len) c.loop-s-test.true in
+    let e : to_z w128 (of_z w128 c.next_eight.result) ≡ c.next_eight.result =
+    cast_kept w128 c.next_eight.result (omega (arith, is.small)) in
+    let len : c.loop-s.s < length c.loop-s.sums =
+    subst (λ (t : ℕ). c.loop-s.s < t) (sym c.loop-s.invariant.len) c.loop-s-test.true in
     rw e (record {
       len = length-set c.loop-s.sums c.loop-s.s c.next_eight.result ∙ c.loop-s.invariant.len;
-      done = filled_below P c.loop-s.sums c.loop-s.s c.next_eight.result len (record { value = is.value; small = is.small }) c.loop-s.invariant.done;
+      done =
+          filled_below P c.loop-s.sums c.loop-s.s c.next_eight.result len
+          (record { value = is.value; small = is.small }) c.loop-s.invariant.done;
     })

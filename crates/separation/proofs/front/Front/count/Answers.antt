@@ -7,5 +7,7 @@ pub returns-clause-value : goal.returns-clause-value
 returns-clause-value g c =
     let game = g.W.Worth.game c.args.game.now in
     let levels = c.args.self.now.levels.now in
-    let e : 2 + 2 * c.coalition_count.result + 2 * c.from.result ≡ 2 + 2 * length (earlier_of 0 levels) + game.players + game.players = omega (arith, c.coalition_count.ensures.value, c.from.ensures, c.players.ensures.count) in
+    let e : 2 + 2 * c.coalition_count.result + 2 * c.from.result
+    ≡ 2 + 2 * length (earlier_of 0 levels) + game.players + game.players =
+    omega (arith, c.coalition_count.ensures.value, c.from.ensures, c.players.ensures.count) in
     e ∙ sym (length-inner c.args.self.now.family game levels)

@@ -8,7 +8,8 @@ use Rattle.separation.proofs.ProperColumns.{found_short}
 use Rattle.separation.proofs.lazy.Lazy.stage.Goals as goal
 
 pub count-requires-clause-small : goal.count-requires-clause-small
-count-requires-clause-small g c = small_form (g.W.Worth.game c.args.game.now).players [] c.args.levels.now c.requires.form.each
+count-requires-clause-small g c =
+    small_form (g.W.Worth.game c.args.game.now).players [] c.args.levels.now c.requires.form.each
 
 pub invariant_of-result-clause-small_levels : goal.invariant_of-result-clause-small_levels
 invariant_of-result-clause-small_levels g c =
@@ -18,18 +19,28 @@ invariant_of-result-clause-small_levels g c =
 pub invariant_of-result-clause-small : goal.invariant_of-result-clause-small
 invariant_of-result-clause-small g c =
     let game = g.W.Worth.game c.args.game.now in
-    stage_columns_small c.args.measure game (record { family = c.args.family; levels = c.args.levels }) (Some c.outside_of.result) c.players-players.ensures.laws (small_form game.players [] c.args.levels.now c.requires.form.each)
+    stage_columns_small c.args.measure game (record { family = c.args.family; levels = c.args.levels })
+    (Some c.outside_of.result) c.players-players.ensures.laws
+    (small_form game.players [] c.args.levels.now c.requires.form.each)
 
 pub invariant_of-result-clause-short : goal.invariant_of-result-clause-short
 invariant_of-result-clause-short g c =
     let game = g.W.Worth.game c.args.game.now in
     let count = c.players-players.ensures.count in
     let front : Front = record { family = c.args.family; levels = c.args.levels } in
-    let marking = marking_of c.players-players.result game.players c.args.levels.now c.args.span.now.kept c.outside_of.result count c.requires.spans (c.outside_of.ensures c.args.levels.now) in
-    subst (λ (n : ℕ). AreShort c.args.measure n (length c.args.levels.now + 1) (lazy_columns game (Some front) (Some c.outside_of.result))) (sym count)
-    (found_short c.args.measure game front c.outside_of.result c.requires.heads c.requires.count c.requires.form.each marking)
+    let marking =
+    marking_of c.players-players.result game.players c.args.levels.now c.args.span.now.kept c.outside_of.result
+    count c.requires.spans (c.outside_of.ensures c.args.levels.now) in
+    subst
+    (λ (n : ℕ). AreShort c.args.measure n (length c.args.levels.now + 1)
+    (lazy_columns game (Some front) (Some c.outside_of.result))) (sym count)
+    (found_short c.args.measure game front c.outside_of.result c.requires.heads c.requires.count
+    c.requires.form.each marking)
 
-pub returns : goal.returns
-returns g c =
+pub returns-clause-program : goal.returns-clause-program
+returns-clause-program g c =
     let game = g.W.Worth.game c.args.game.now in
-    stage_kept (record { family = c.args.family; levels = c.args.levels }) c.args.measure game c.players-players.result c.args.span.now.kept c.outside_of.result c.players-players.ensures.count c.players-players.ensures.laws (small_form game.players [] c.args.levels.now c.requires.form.each) c.requires.spans (c.outside_of.ensures c.args.levels.now)
+    stage_kept (record { family = c.args.family; levels = c.args.levels }) c.args.measure game
+    c.players-players.result c.args.span.now.kept c.outside_of.result c.players-players.ensures.count
+    c.players-players.ensures.laws (small_form game.players [] c.args.levels.now c.requires.form.each)
+    c.requires.spans (c.outside_of.ensures c.args.levels.now)

@@ -6,4 +6,5 @@ pub returns-clause-answer : goal.returns-clause-answer
 returns-clause-answer g c =
     let p = c.args.self.now in
     let m = c.args.m.now in
-    entered p.measure p.players p.levels (lazy_columns (g.W.Worth.game p.game.now) p.front p.marks) m.num.items m.den c.args.with_costs c.requires c.first_found.result m.den_positive c.first_found.ensures
+    entered p.measure p.players p.levels (lazy_columns (g.W.Worth.game p.game.now) p.front p.marks) m.num.items
+    m.den c.args.with_costs c.requires c.first_found.result m.den_positive c.first_found.ensures

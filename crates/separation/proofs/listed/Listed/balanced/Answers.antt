@@ -15,5 +15,8 @@ pub returns-in-Ok : goal.returns-in-Ok
 returns-in-Ok g c =
     let made = c.in-Ok.ensures {u = tt} in
     let of = c.of.ensures in
-    let players = of.players ∙ c.players-players.ensures.count in
-    (players, rw (of.measure, players, of.levels, of.columns, made) (balanced_of (g.W.Worth.game c.args.game.now) c.players-players.ensures.laws))
+    let players = of.players ∙ c.players-players.ensures.count in (
+      players,
+      rw (of.measure, players, of.levels, of.columns, made)
+          (balanced_of (g.W.Worth.game c.args.game.now) c.players-players.ensures.laws),
+    )

@@ -10,13 +10,15 @@ pub overflow_add-result : goal.overflow_add-result
 overflow_add-result c =
     let t = c.args.self.now in
     let s = c.s.inside.0 in
-    (sum_held (slice_index_or t.low (s % 256) (pos 0)) (slice_index_or t.high (s / 256 % 256) (pos 0)) (2 ^ 113) (2 ^ 113) (t.low_small (s % 256) (omega arith)) (t.high_small (s / 256 % 256) (omega arith)) (lit≤ tt)).0
+    (sum_held (slice_index_or t.low (s % 256) (pos 0)) (slice_index_or t.high (s / 256 % 256) (pos 0)) (2 ^ 113)
+    (2 ^ 113) (t.low_small (s % 256) (omega arith)) (t.high_small (s / 256 % 256) (omega arith)) (lit≤ tt)).0
 
 pub returns-clause-value : goal.returns-clause-value
 returns-clause-value c num n h =
     let t = c.args.self.now in
     let s = c.s.inside.0 in
-    (sum_held (slice_index_or t.low (s % 256) (pos 0)) (slice_index_or t.high (s / 256 % 256) (pos 0)) (2 ^ 113) (2 ^ 113) (t.low_small (s % 256) (omega arith)) (t.high_small (s / 256 % 256) (omega arith)) (lit≤ tt)).1.0
+    (sum_held (slice_index_or t.low (s % 256) (pos 0)) (slice_index_or t.high (s / 256 % 256) (pos 0)) (2 ^ 113)
+    (2 ^ 113) (t.low_small (s % 256) (omega arith)) (t.high_small (s / 256 % 256) (omega arith)) (lit≤ tt)).1.0
     ∙ sums_at num n s t.low t.high h
     ∙ ap (sum_over n (multiplier_at num)) c.s.view_is
 
@@ -24,4 +26,5 @@ pub returns-clause-small : goal.returns-clause-small
 returns-clause-small c =
     let t = c.args.self.now in
     let s = c.s.inside.0 in
-    (sum_held (slice_index_or t.low (s % 256) (pos 0)) (slice_index_or t.high (s / 256 % 256) (pos 0)) (2 ^ 113) (2 ^ 113) (t.low_small (s % 256) (omega arith)) (t.high_small (s / 256 % 256) (omega arith)) (lit≤ tt)).1.1
+    (sum_held (slice_index_or t.low (s % 256) (pos 0)) (slice_index_or t.high (s / 256 % 256) (pos 0)) (2 ^ 113)
+    (2 ^ 113) (t.low_small (s % 256) (omega arith)) (t.high_small (s / 256 % 256) (omega arith)) (lit≤ tt)).1.1
