@@ -1,22 +1,23 @@
 -- What members get together, from one step in Gray order to the next.
-use Rattle.std.proofs.Common.{◌≡◌, ◌≢◌, ℕ, zero, suc, ◌+◌, ◌-◌, ◌*◌, ◌^◌, ◌<◌, ◌≤◌, Bool, true, false, cond, not, nat_eq, length, ℤ, pos, ◌+ℤ◌, ◌-ℤ◌, ◌*ℤ◌, ◌≤ℤ◌, to_z, of_z, Option, Some, None, MatchOption, unsigned_abs, refl, sym, ap, ◌∙◌, arith, inl, inr, if◌then◌else◌}
+use Rattle.std.proofs.Common.{◌≡◌, ◌≢◌, ℕ, zero, suc, ◌+◌, ◌-◌, ◌<◌, Bool, true, false, cond, not}
+use Rattle.std.proofs.Common.{nat_eq, length, ℤ, pos, ◌+ℤ◌, ◌-ℤ◌, Option, Some, None}
+use Rattle.std.proofs.Common.{MatchOption, sym, ap, ◌∙◌, arith, inl, inr, if◌then◌else◌}
 use Rattle.std.proofs.lemmas.Bool.Decides.{nat_tests}
-use Rattle.std.proofs.lemmas.Int.{ints}
 use Rattle.definitions.proofs.Ring.{linear}
-use Rattle.definitions.proofs.Members.{sum_below-same, sum_below-zero, has_player-empty}
+use Rattle.definitions.proofs.Members.{sum_below-same}
 use Rattle.definitions.specs.Sums.{sum_below}
 use Rattle.definitions.specs.Coalitions.{has_player, sum_over}
 use Rattle.std.specs.Option.{ForSome}
 use Rattle.coalitions.specs.declared.gray.GrayStep.{GrayStep}
-use Rattle.definitions.specs.Games.{Game, Allocation, share, amount, excess, IsShares}
-use mir.Syntax.{w64, w128}
+use Rattle.definitions.specs.Games.{Allocation, share, amount}
+use Rattle.worth_core.proofs.Amounts.{amount-empty}
 use Rattle.coalitions.specs.GrayOrder.{gray_mask, gray_step, IsFlip}
 use Rattle.checker.specs.Paid.{paid_after}
 use Rattle.definitions.proofs.Cases.{less_or_last}
-use Rattle.definitions.proofs.Casts.{cast_kept}
 
 -- two sums that differ in one number
-sums_but_one : (n i : ℕ) (f g : ℕ → ℤ) → i < n → ((j : ℕ) → j ≢ i → f j ≡ g j) → sum_below n f +ℤ g i ≡ sum_below n g +ℤ f i
+sums_but_one : (n i : ℕ) (f g : ℕ → ℤ) → i < n → ((j : ℕ) → j ≢ i → f j ≡ g j)
+    → sum_below n f +ℤ g i ≡ sum_below n g +ℤ f i
 sums_but_one zero i f g lt same = absurd (omega arith)
 sums_but_one (suc n) i f g lt same = elim (less_or_last i n lt) [
   | inl less ↦
@@ -34,84 +35,75 @@ abbrev at : (ℕ → ℤ) → ℕ → ℕ → ℤ
 at a s j = if has_player s j then a j else pos 0
 
 -- one player comes or goes
-sum_flipped : (n i s t : ℕ) (a : ℕ → ℤ) → i < n → ((j : ℕ) → has_player t j ≡ cond (nat_eq j i) (not (has_player s j)) (has_player s j)) → sum_over n a t ≡ cond (has_player t i) (sum_over n a s +ℤ a i) (sum_over n a s -ℤ a i)
+sum_flipped : (n i s t : ℕ) (a : ℕ → ℤ) → i < n
+    → ((j : ℕ) → has_player t j ≡ cond (nat_eq j i) (not (has_player s j)) (has_player s j))
+    → sum_over n a t ≡ cond (has_player t i) (sum_over n a s +ℤ a i) (sum_over n a s -ℤ a i)
 sum_flipped n i s t a lt h =
     let here : nat_eq i i ≡ true = grind (arith, nat_tests) in
-    let flip : has_player t i ≡ not (has_player s i) = h i ∙ ap (λ (b : Bool). cond b (not (has_player s i)) (has_player s i)) here in
-    pick (has_player t i) (has_player s i) (sum_over n a t) (sum_over n a s) (a i) flip (sums_but_one n i (at a t) (at a s) lt other)
+    let flip : has_player t i ≡ not (has_player s i) =
+    h i ∙ ap (λ (b : Bool). cond b (not (has_player s i)) (has_player s i)) here in
+    pick (has_player t i) (has_player s i) (sum_over n a t) (sum_over n a s) (a i) flip
+    (sums_but_one n i (at a t) (at a s) lt other)
   where
     other : (j : ℕ) → j ≢ i → at a t j ≡ at a s j
     other j ne =
         let off : nat_eq j i ≡ false = grind (arith, nat_tests) in
-        ap (λ (b : Bool). cond b (a j) (pos 0)) (h j ∙ ap (λ (b : Bool). cond b (not (has_player s j)) (has_player s j)) off)
+        ap (λ (b : Bool). cond b (a j) (pos 0))
+        (h j ∙ ap (λ (b : Bool). cond b (not (has_player s j)) (has_player s j)) off)
 
-    pick : (b c : Bool) (u v w : ℤ) → b ≡ not c → u +ℤ cond c w (pos 0) ≡ v +ℤ cond b w (pos 0) → u ≡ cond b (v +ℤ w) (v -ℤ w)
+    pick : (b c : Bool) (u v w : ℤ) → b ≡ not c → u +ℤ cond c w (pos 0) ≡ v +ℤ cond b w (pos 0)
+        → u ≡ cond b (v +ℤ w) (v -ℤ w)
     pick true false u v w e h = omega (arith, linear, h)
     pick false true u v w e h = omega (arith, linear, h)
     pick true true u v w e h = absurd (Rattle.std.proofs.lemmas.Bool.false≢true (sym e))
     pick false false u v w e h = absurd (Rattle.std.proofs.lemmas.Bool.false≢true e)
 
-amount-empty : (x : Allocation) → amount x 0 ≡ pos 0
-amount-empty x =
-    sum_below-zero (length x.shares) (at (share x) 0) (λ i lt. ap (λ (b : Bool). cond b (share x i) (pos 0)) (has_player-empty i))
-
 -- the members before the first step get nothing
 pub paid-start : (x : Allocation) → pos 0 ≡ amount x (gray_mask (0 - 1))
 paid-start x = sym (amount-empty x)
 
-pub paid-step : (x : Allocation) (n k : ℕ) (paid : ℤ) → n ≡ length x.shares → IsFlip n k → paid ≡ amount x (gray_mask (k - 1)) → paid_after x paid (gray_mask k) (gray_step k).flipped ≡ amount x (gray_mask k)
+pub paid-step : (x : Allocation) (n k : ℕ) (paid : ℤ) → n ≡ length x.shares → IsFlip n k
+    → paid ≡ amount x (gray_mask (k - 1))
+    → paid_after x paid (gray_mask k) (gray_step k).flipped ≡ amount x (gray_mask k)
 paid-step x n k paid count flip is = pick (gray_step k).flipped flip
   where
-    pick : (o : Option ℕ) → MatchOption o (k ≡ 0) (λ i. (i < n) × (0 < k) × ((j : ℕ) → has_player (gray_mask k) j ≡ (if nat_eq j i then not (has_player (gray_mask (k - 1)) j) else has_player (gray_mask (k - 1)) j))) → paid_after x paid (gray_mask k) o ≡ amount x (gray_mask k)
+    pick : (o : Option ℕ)
+        → MatchOption o (k ≡ 0)
+        (λ i. (i < n) × (0 < k)
+        × ((j : ℕ)
+        → has_player (gray_mask k) j
+        ≡ (if nat_eq j i then not (has_player (gray_mask (k - 1)) j)
+        else has_player (gray_mask (k - 1)) j)))
+        → paid_after x paid (gray_mask k) o ≡ amount x (gray_mask k)
     pick None e = is ∙ ap (λ (m : ℕ). amount x (gray_mask m)) (omega (arith, e))
     pick (Some i) h =
-        ap (λ (z : ℤ). cond (has_player (gray_mask k) i) (z +ℤ share x i) (z -ℤ share x i)) is ∙ sym (sum_flipped (length x.shares) i (gray_mask (k - 1)) (gray_mask k) (share x) (omega (arith, h.0, count)) h.2)
-
--- a sum of small numbers is small
-pub sum_over-small : (n : ℕ) (a : ℕ → ℤ) (s : ℕ) → ((i : ℕ) → i < n → unsigned_abs (a i) < 2 ^ 110) → unsigned_abs (sum_over n a s) ≤ n * 2 ^ 110
-sum_over-small zero a s h = omega (arith, ints)
-sum_over-small (suc n) a s h = step (has_player s n) (sum_over n a s) (a n) (sum_over-small n a s (λ i lt. h i (omega arith))) (h n (omega arith))
-  where
-    step : (b : Bool) (u w : ℤ) → unsigned_abs u ≤ n * 2 ^ 110 → unsigned_abs w < 2 ^ 110 → unsigned_abs (u +ℤ cond b w (pos 0)) ≤ suc n * 2 ^ 110
-    step true u w hu hw = omega (arith, ints)
-    step false u w hu hw = omega (arith, ints)
-
-pub amount-small : (x : Allocation) (s : ℕ) → IsShares x → unsigned_abs (amount x s) < 2 ^ 117
-amount-small x s h =
-    let a = sum_over-small (length x.shares) (share x) s h.small in
-    let few = h.few in
-    omega (arith, a, few)
+        ap (λ (z : ℤ). cond (has_player (gray_mask k) i) (z +ℤ share x i) (z -ℤ share x i)) is
+        ∙ sym
+        (sum_flipped (length x.shares) i (gray_mask (k - 1)) (gray_mask k) (share x) (omega (arith, h.0, count))
+        h.2)
 
 -- who comes or goes is a player
-pub flip_within : (n m k : ℕ) (step : GrayStep) → step ≡ gray_step k → IsFlip n k → n ≡ m → ForSome step.flipped (λ i. i < m)
-flip_within n m k step is flip same x e = pick (gray_step k).flipped flip (sym (ap (λ (t : GrayStep). t.flipped) is) ∙ e)
+pub flip_within : (n m k : ℕ) (step : GrayStep) → step ≡ gray_step k → IsFlip n k → n ≡ m
+    → ForSome step.flipped (λ i. i < m)
+flip_within n m k step is flip same x e =
+    pick (gray_step k).flipped flip (sym (ap (λ (t : GrayStep). t.flipped) is) ∙ e)
   where
-    pick : (o : Option ℕ) → MatchOption o (k ≡ 0) (λ i. (i < n) × (0 < k) × ((j : ℕ) → has_player (gray_mask k) j ≡ (if nat_eq j i then not (has_player (gray_mask (k - 1)) j) else has_player (gray_mask (k - 1)) j))) → o ≡ Some x → x < m
+    pick : (o : Option ℕ)
+        → MatchOption o (k ≡ 0)
+        (λ i. (i < n) × (0 < k)
+        × ((j : ℕ)
+        → has_player (gray_mask k) j
+        ≡ (if nat_eq j i then not (has_player (gray_mask (k - 1)) j)
+        else has_player (gray_mask (k - 1)) j))) → o ≡ Some x → x < m
     pick None h q = cc
     pick (Some i) h q = let same_player : i ≡ x = cc in omega (arith, h.0, same, same_player)
 
 -- what the members of a step's coalition get
-pub paid-now : (x : Allocation) (n k : ℕ) (step : GrayStep) (z r : ℤ) → n ≡ length x.shares → step ≡ gray_step k → IsFlip n k → z ≡ amount x (gray_mask (k - 1)) → r ≡ paid_after x z step.mask step.flipped → r ≡ amount x (gray_mask k)
+pub paid-now : (x : Allocation) (n k : ℕ) (step : GrayStep) (z r : ℤ) → n ≡ length x.shares → step ≡ gray_step k
+    → IsFlip n k → z ≡ amount x (gray_mask (k - 1)) → r ≡ paid_after x z step.mask step.flipped
+    → r ≡ amount x (gray_mask k)
 paid-now x n k step z r count is flip before h =
     h ∙ ap (λ (t : GrayStep). paid_after x z t.mask t.flipped) is ∙ paid-step x n k z count flip before
 
 pub paid-next : (x : Allocation) (k : ℕ) (r : ℤ) → r ≡ amount x (gray_mask k) → r ≡ amount x (gray_mask (k + 1 - 1))
 paid-next x k r h = let e : k ≡ k + 1 - 1 = omega arith in h ∙ ap (λ (m : ℕ). amount x (gray_mask m)) e
-
--- a difference of a scaled worth and what members get is small, and passes through 128 bits
-pub difference_small : (z p : ℤ) → unsigned_abs z < 2 ^ 110 → unsigned_abs p < 2 ^ 117 → unsigned_abs (z -ℤ p) < 2 ^ 118
-difference_small z p hz hp = omega (arith, ints)
-
-pub difference_kept : (z p : ℤ) → unsigned_abs z < 2 ^ 110 → unsigned_abs p < 2 ^ 117 → to_z w128 (of_z w128 (to_z w128 (of_z w128 z) -ℤ to_z w128 (of_z w128 p))) ≡ z -ℤ p
-difference_kept z p hz hp =
-    let e : to_z w128 (of_z w128 z) ≡ z = cast_kept w128 z (omega (arith, hz)) in
-    let f : to_z w128 (of_z w128 p) ≡ p = cast_kept w128 p (omega (arith, hp)) in
-    rw (e, f) (cast_kept w128 (z -ℤ p) (omega (arith, ints, hz, hp)))
-
--- a scaled worth less what the members get is their excess
-pub excess-now : (g : Game) (x : Allocation) (s : ℕ) (d w z p : ℤ) → d ≡ x.den → pos 1 ≤ℤ d → d ≤ℤ pos (2 ^ 63) → w ≡ g.worth s → unsigned_abs (g.worth s) < 2 ^ 46 → z ≡ to_z w128 (of_z w128 d) *ℤ to_z w64 (of_z w64 w) → p ≡ amount x s → z -ℤ p ≡ excess g x s
-excess-now g x s d w z p ds low high ws small zs ps =
-    let a : to_z w128 (of_z w128 d) ≡ d = cast_kept w128 d (omega (arith, ints, low, high)) in
-    let b : to_z w64 (of_z w64 w) ≡ w = cast_kept w64 w (rw ws (omega (arith, small))) in
-    let scaled : z ≡ x.den *ℤ g.worth s = zs ∙ rw (a, b, ds, ws) refl in
-    rw (scaled, ps) refl

@@ -1,3 +1,4 @@
+-- For the private functions of this crate.
 -- What levels fix, as it is carried from level to level.
 --
 --   IsFreeSet      a coalition of the players that no level fixes
@@ -38,4 +39,5 @@ IsOver n (Vectors span outside) = (span.players ≡ n) × (n ≤ 16) × AreOfPla
 -- what is carried is what levels fix
 abbrev pub Fixes : ℕ → List Level → Fixed → Type 0
 Fixes n levels (FreePlayers f) = IsFreeSet n levels f
-Fixes n levels (Vectors span outside) = (span.players ≡ n) × (n ≤ 16) × SpansFixed n span.kept levels × IsMarking n levels outside
+Fixes n levels (Vectors span outside) =
+    (span.players ≡ n) × (n ≤ 16) × SpansFixed n span.kept levels × IsMarking n levels outside

@@ -40,7 +40,8 @@ pub(crate) fn first_short<W: Worth>(game: &W, shares: &Shares) -> Option<u32>
     requires { length shares.now.shares ≡ (W.game game.now).players }
     ensures { MatchOption result
         (IsIndividuallyRational (W.game game.now) shares.now)
-        (IsLeastFailing (W.game game.now).players (λ i. (shares.now.den *ℤ (W.game game.now).worth (singleton i)) ≤ℤ share shares.now i)) }
+        (IsLeastFailing (W.game game.now).players
+        (λ i. (shares.now.den *ℤ (W.game game.now).worth (singleton i)) ≤ℤ share shares.now i)) }
 {
     for i in 0..game.players() {
         if excess_alone(game, shares, i) > 0 {
@@ -198,7 +199,9 @@ pub(crate) fn first_unbalanced(n: u32, level: &Level) -> Option<u32>
 fn is_tight<W: Worth>(game: &W, shares: &Shares, family: Family, i: u32) -> bool
     requires shares { length shares.now.shares ≡ (W.game game.now).players }
     requires player { i < (W.game game.now).players }
-    ensures { Decides result ((share shares.now i ≡ shares.now.den *ℤ (W.game game.now).worth (singleton i)) × (family ≡ Family.Imputations)) }
+    ensures { Decides result
+        ((share shares.now i ≡ shares.now.den *ℤ (W.game game.now).worth (singleton i))
+        × (family ≡ Family.Imputations)) }
 {
     family == Family::Imputations && excess_alone(game, shares, i) == 0
 }

@@ -7,7 +7,8 @@ ghost use Rattle.std.specs.Bool.{Decides};
 ghost use Rattle.definitions.specs.Measures.{IsMeasurable};
 ghost use Rattle.definitions.specs.Games.{InFamily};
 ghost use Rattle.definitions.specs.Certificates.{Level as LevelData, LevelForm, LevelsForm};
-ghost use Rattle.definitions.specs.Certificates.{Weights, BoundWeights, OutsideIsLow, LevelHolds, LevelsHold, Certifies};
+ghost use Rattle.definitions.specs.Certificates.{Weights, BoundWeights, OutsideIsLow};
+ghost use Rattle.definitions.specs.Certificates.{LevelHolds, LevelsHold, Certifies};
 ghost use Rattle.definitions.specs.Failures.{LevelFails, LevelsFail, IsFirstFailure};
 ghost use Rattle.checker.specs.Fixed.{mode_of, IsOver, Fixes};
 ghost use Rattle.checker.specs.Meaning.{IsWrongSign, Means, IsGreatestOutside};
@@ -55,7 +56,8 @@ fn outside_above<W: Worth>(
 
 /// Whether a fraction is above the level's excess.
 fn is_above(level: &Level, excess: &Frac) -> bool
-    ensures above { Decides result ((level.now.excess_num *ℤ excess.now.den) <ℤ (excess.now.num *ℤ level.now.excess_den)) }
+    ensures above { Decides result
+        ((level.now.excess_num *ℤ excess.now.den) <ℤ (excess.now.num *ℤ level.now.excess_den)) }
     ensures positive { pos 1 ≤ℤ excess.now.den }
 {
     excess.den();
@@ -93,7 +95,8 @@ fn level_failure<W: Worth>(
     requires form { LevelForm (W.game game.now).players front.now tested.now }
     ensures { MatchOption result
         (LevelHolds (mode_of fixed.now) family measure (W.game game.now) shares.now front.now tested.now)
-        (Means measure shares.now (LevelFails (mode_of fixed.now) family measure (W.game game.now) shares.now level front.now tested.now)) }
+        (Means measure shares.now
+        (LevelFails (mode_of fixed.now) family measure (W.game game.now) shares.now level front.now tested.now)) }
 {
     if let Some(coalition) = first_wrong_excess(game, measure, shares, tested) {
         return Some(Reason::WrongExcess { level, coalition });
@@ -145,7 +148,7 @@ fn levels_failure<W: Worth>(
         if failure.is_some() {
             return failure;
         }
-        fixed = fixed.with(players, &levels[i..i + 1]);
+        fixed.fix(players, &levels[i..i + 1]);
     }
     let player = first_unfixed(&fixed, players)?;
     Some(Reason::NotAll { player })

@@ -23,6 +23,7 @@ pub(crate) enum Fixed {
 
 impl Fixed {
     /// What no level at all fixes.
+    #[inline(never)] // So that no caller holds a span of its own beside it.
     pub(crate) fn by_none(mode: Mode, n: u32) -> Fixed
         requires some { 1 ≤ n }
         requires small { n ≤ 64 }
@@ -42,19 +43,19 @@ impl Fixed {
     }
 
     /// What these levels fix too.
-    pub(crate) fn with(self, n: u32, levels: &[Level]) -> Fixed
+    #[inline(never)]
+    pub(crate) fn fix(&mut self, n: u32, levels: &[Level])
         requires small { n ≤ 64 }
-        requires over { IsOver n self }
+        requires over { IsOver n self.old }
         requires within { AllByRecursion (IsOf n) levels.now }
-        ensures mode { mode_of result ≡ mode_of self }
-        ensures fixes { (front : List LevelData) → Fixes n front self → Fixes n (front ++ levels.now) result }
+        ensures mode { mode_of self.new ≡ mode_of self.old }
+        ensures fixes { (front : List LevelData) → Fixes n front self.old → Fixes n (front ++ levels.now) self.new }
     {
         match self {
-            Fixed::FreePlayers(free) => Fixed::FreePlayers(still_free(free, n, levels)),
-            Fixed::Vectors(mut span, mut outside) => {
-                add_levels(&mut span, levels);
-                outside.clear(&span);
-                Fixed::Vectors(span, outside)
+            Fixed::FreePlayers(free) => *free = still_free(*free, n, levels),
+            Fixed::Vectors(span, outside) => {
+                add_levels(span, levels);
+                outside.clear(span);
             }
         }
     }

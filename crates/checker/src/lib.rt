@@ -40,9 +40,11 @@ pub fn check<W: Worth>(
     requires shares { length shares.now.shares ≡ (W.game game.now).players }
     requires measurable { IsMeasurable measure (W.game game.now).players }
     requires certificate { certificate.now.players ≡ (W.game game.now).players }
-    ensures verdict { IsVerdict certificate.now.mode family measure (W.game game.now) shares.now certificate.now.levels result }
+    ensures verdict { IsVerdict certificate.now.mode family measure (W.game game.now) shares.now
+        certificate.now.levels result }
     ensures nucleolus { result ≡ Verdict.Yes → IsNucleolus family measure (W.game game.now) shares.now }
-    ensures exact { (result ≡ Verdict.Yes) ↔ Certifies certificate.now.mode family measure (W.game game.now) shares.now certificate.now.levels }
+    ensures exact { (result ≡ Verdict.Yes)
+        ↔ Certifies certificate.now.mode family measure (W.game game.now) shares.now certificate.now.levels }
 {
     certificate.players();
     match first_failure(

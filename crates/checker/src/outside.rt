@@ -6,10 +6,9 @@ ghost use Rattle.std.specs.Option.{ForSome};
 ghost use Rattle.std.specs.Bool.{Decides};
 ghost use Rattle.definitions.specs.Coalitions.{has_player};
 ghost use Rattle.definitions.specs.Measures.{IsMeasurable};
-ghost use Rattle.definitions.specs.Games.{amount, HasTwo};
+ghost use Rattle.definitions.specs.Games.{HasTwo};
 ghost use Rattle.definitions.specs.Certificates.{Level as LevelData, IsAllFixed};
 ghost use Rattle.definitions.specs.Failures.{IsLeastUnfixed};
-ghost use Rattle.worth_core.specs.Measured.{IsDivided};
 ghost use Rattle.kohlberg.specs.Marking.{IsMarking};
 ghost use Rattle.checker.specs.Fixed.{IsFreeSet, AreOfPlayers, mode_of, IsOver, Fixes};
 ghost use Rattle.checker.specs.Meaning.{IsGreatestOutside};
@@ -19,9 +18,7 @@ use crate::fixed::Fixed;
 use coalitions::{Coalition, GrayStep};
 use fractions::Frac;
 use kohlberg::{Mode, Outside, first_unspanned};
-use worth_core::{
-    Divided, Divisor, Measure, Shares, Worth, is_more, kept_or_new, measured_bound, scaled,
-};
+use worth_core::{Divided, Measure, Shares, Worth, is_more, kept_or_new, measured_bound};
 
 /// The least member from one number on.
 fn first_member(s: Coalition, from: u32, n: u32) -> Option<u32>
@@ -103,26 +100,6 @@ fn paid_after(shares: &Shares, paid: i128, s: Coalition, flipped: Option<u32>) -
     }
 }
 
-/// The excess of a coalition that isn't empty, from what its members get, and what the measure divides it by.
-fn excess_of<W: Worth>(
-    game: &W,
-    measure: Measure,
-    shares: &Shares,
-    s: Coalition,
-    paid: i128,
-) -> Divided
-    requires shares { length shares.now.shares ≡ (W.game game.now).players }
-    requires some { 0 < s }
-    requires within { s < 2 ^ (W.game game.now).players }
-    requires paid { paid ≡ amount shares.now s }
-    ensures { IsDivided measure (W.game game.now) shares.now s result }
-{
-    game.players();
-    shares.players();
-    let excess = scaled(shares.den(), game.worth(s)) - paid;
-    Divided::new(excess, measure.divisor(s))
-}
-
 /// The greatest measured excess of some coalitions, by one pass in Gray order.
 fn greatest_unspanned<W: Worth>(
     game: &W,
@@ -143,7 +120,7 @@ fn greatest_unspanned<W: Worth>(
     for GrayStep { mask, flipped } in Coalition::gray(game.players()) {
         paid = paid_after(shares, paid, mask, flipped);
         if outside.contains(mask) {
-            let here = excess_of(game, measure, shares, mask, paid);
+            let here = Divided::of_paid(game, shares, measure, mask, paid);
             let is_greatest = is_more(&most, &here);
             most = kept_or_new(most, here, is_greatest);
         }

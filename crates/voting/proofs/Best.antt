@@ -1,5 +1,6 @@
 -- The set of greatest sum among the sets of a kind, and of those with the same the one with the least mask.
-use Rattle.std.proofs.Common.{◌≡◌, ◌⊎◌, ℕ, ◌+◌, ◌^◌, ◌<◌, ◌≤◌, Bool, true, false, ◌&&◌, ◌||◌, nat_lt, ℤ, ◌+ℤ◌, ◌≤ℤ◌, ◌<ℤ◌, int_lt, Option, None, Some, refl, sym, ap, ◌∙◌, inl, inr, arith}
+use Rattle.std.proofs.Common.{◌≡◌, ◌⊎◌, ℕ, ◌+◌, ◌^◌, ◌<◌, ◌≤◌, Bool, true, false, ◌&&◌, ◌||◌, nat_lt, ℤ, ◌+ℤ◌, ◌≤ℤ◌}
+use Rattle.std.proofs.Common.{◌<ℤ◌, int_lt, Option, None, Some, refl, sym, ap, ◌∙◌, inl, inr, arith}
 use Rattle.std.proofs.lemmas.Bool.Decides.{nat_tests, Decides-int_eq}
 use Rattle.std.proofs.lemmas.Int.{ints}
 use Rattle.std.specs.Ordering.{int_eq}
@@ -21,7 +22,8 @@ behind_cases : (m k : ℤ) (a b : ℕ) → (t : Bool) → (int_lt m k || (int_eq
     → ((t ≡ true) × ((m <ℤ k) ⊎ ((m ≡ k) × (b ≤ a)))) ⊎ ((t ≡ false) × ((k <ℤ m) ⊎ ((k ≡ m) × (a ≤ b))))
 behind_cases m k a b = decide (int_lt m k) refl
   where
-    lesser : (e : m ≡ k) → (c : Bool) → nat_lt b a ≡ c → (t : Bool) → c ≡ t → ((t ≡ true) × ((m <ℤ k) ⊎ ((m ≡ k) × (b ≤ a)))) ⊎ ((t ≡ false) × ((k <ℤ m) ⊎ ((k ≡ m) × (a ≤ b))))
+    lesser : (e : m ≡ k) → (c : Bool) → nat_lt b a ≡ c → (t : Bool) → c ≡ t
+        → ((t ≡ true) × ((m <ℤ k) ⊎ ((m ≡ k) × (b ≤ a)))) ⊎ ((t ≡ false) × ((k <ℤ m) ⊎ ((k ≡ m) × (a ≤ b))))
     lesser e true h t f = inl (sym f, inr (e, low b a h))
       where
         low : (b a : ℕ) → nat_lt b a ≡ true → b ≤ a
@@ -31,33 +33,39 @@ behind_cases m k a b = decide (int_lt m k) refl
         high : (b a : ℕ) → nat_lt b a ≡ false → a ≤ b
         high b a h = grind (arith, nat_tests)
 
-    level : (c : Bool) → int_lt m k ≡ false → int_eq m k ≡ c → (t : Bool) → (c && nat_lt b a) ≡ t → ((t ≡ true) × ((m <ℤ k) ⊎ ((m ≡ k) × (b ≤ a)))) ⊎ ((t ≡ false) × ((k <ℤ m) ⊎ ((k ≡ m) × (a ≤ b))))
+    level : (c : Bool) → int_lt m k ≡ false → int_eq m k ≡ c → (t : Bool) → (c && nat_lt b a) ≡ t
+        → ((t ≡ true) × ((m <ℤ k) ⊎ ((m ≡ k) × (b ≤ a)))) ⊎ ((t ≡ false) × ((k <ℤ m) ⊎ ((k ≡ m) × (a ≤ b))))
     level true h e t f = lesser (grind (arith, ints, Decides-int_eq m k)) (nat_lt b a) refl t f
     level false h e t f = inr (sym f, inl (grind (arith, ints, Decides-int_eq m k)))
 
-    decide : (c : Bool) → int_lt m k ≡ c → (t : Bool) → (c || (int_eq m k && nat_lt b a)) ≡ t → ((t ≡ true) × ((m <ℤ k) ⊎ ((m ≡ k) × (b ≤ a)))) ⊎ ((t ≡ false) × ((k <ℤ m) ⊎ ((k ≡ m) × (a ≤ b))))
+    decide : (c : Bool) → int_lt m k ≡ c → (t : Bool) → (c || (int_eq m k && nat_lt b a)) ≡ t
+        → ((t ≡ true) × ((m <ℤ k) ⊎ ((m ≡ k) × (b ≤ a)))) ⊎ ((t ≡ false) × ((k <ℤ m) ⊎ ((k ≡ m) × (a ≤ b))))
     decide true h t f = inl (sym f, inl (omega (arith, ints)))
     decide false h t f = level (int_eq m k) h refl t f
 
 -- ---- the better of two
 
-precedes : (P Q R : ℕ → Type 0) (v : ℕ → ℤ) (c d : Candidate) → IsBestOf P v c → IsBestOf Q v d → ((s : ℕ) → R s → P s ⊎ Q s) → ((s : ℕ) → P s → R s) → Precedes c d → IsBestOf R v c
+precedes : (P Q R : ℕ → Type 0) (v : ℕ → ℤ) (c d : Candidate) → IsBestOf P v c → IsBestOf Q v d
+    → ((s : ℕ) → R s → P s ⊎ Q s) → ((s : ℕ) → P s → R s) → Precedes c d → IsBestOf R v c
 precedes P Q R v c d hc hd cases left p = record {
   of_kind = left c.coalition hc.of_kind;
   value = hc.value;
   greatest = λ t r. elim (cases t r) [ inl q ↦ hc.greatest t q | inr q ↦ at_most t (hd.greatest t q) p ];
-  least = λ t r lt. elim (cases t r) [ inl q ↦ hc.least t q lt | inr q ↦ below t lt (hd.greatest t q) (hd.least t q) p ];
+  least =
+      λ t r lt. elim (cases t r) [ inl q ↦ hc.least t q lt | inr q ↦ below t lt (hd.greatest t q) (hd.least t q) p ];
 }
   where
     at_most : (t : ℕ) → v t ≤ℤ d.sum → Precedes c d → v t ≤ℤ c.sum
     at_most t le (inl less) = omega (arith, linear)
     at_most t le (inr same) = omega (arith, linear, same.0)
 
-    below : (t : ℕ) → t < c.coalition → v t ≤ℤ d.sum → (t < d.coalition → v t <ℤ d.sum) → Precedes c d → v t <ℤ c.sum
+    below : (t : ℕ) → t < c.coalition → v t ≤ℤ d.sum → (t < d.coalition → v t <ℤ d.sum) → Precedes c d
+        → v t <ℤ c.sum
     below t lt le less (inl far) = omega (arith, linear)
     below t lt le less (inr same) = let l = less (omega (arith, same.1)) in omega (arith, linear, same.0, l)
 
-pub IsBest-better : (P Q R : ℕ → Type 0) (v : ℕ → ℤ) (x y : Option Candidate) → IsBest P v x → IsBest Q v y → IsUnion P Q R → IsBest R v (better x y)
+pub IsBest-better : (P Q R : ℕ → Type 0) (v : ℕ → ℤ) (x y : Option Candidate) → IsBest P v x → IsBest Q v y
+    → IsUnion P Q R → IsBest R v (better x y)
 IsBest-better P Q R v None None hx hy u = λ s r. elim (u.cases s r) [ inl p ↦ hx s p | inr q ↦ hy s q ]
 IsBest-better P Q R v None (Some d) hx hy u = record {
   of_kind = u.right d.coalition hy.of_kind;
@@ -71,15 +79,18 @@ IsBest-better P Q R v (Some c) None hx hy u = record {
   greatest = λ t r. elim (u.cases t r) [ inl p ↦ hx.greatest t p | inr q ↦ absurd (hy t q) ];
   least = λ t r lt. elim (u.cases t r) [ inl p ↦ hx.least t p lt | inr q ↦ absurd (hy t q) ];
 }
-IsBest-better P Q R v (Some c) (Some d) hx hy u = elim (behind_cases c.sum d.sum c.coalition d.coalition (is_behind c d) refl) [
-  | inl (e, h) ↦ rw e (precedes Q P R v d c hy hx (λ s r. elim (u.cases s r) [ inl p ↦ inr p | inr q ↦ inl q ]) u.right h)
-  | inr (e, h) ↦ rw e (precedes P Q R v c d hx hy u.cases u.left h)
-]
+IsBest-better P Q R v (Some c) (Some d) hx hy u =
+    elim (behind_cases c.sum d.sum c.coalition d.coalition (is_behind c d) refl) [
+      | inl (e, h) ↦ rw e
+          (precedes Q P R v d c hy hx (λ s r. elim (u.cases s r) [ inl p ↦ inr p | inr q ↦ inl q ]) u.right h)
+      | inr (e, h) ↦ rw e (precedes P Q R v c d hx hy u.cases u.left h)
+    ]
 
 -- ---- one player more, and another number
 
 -- each set of the kind with player i, whose number is w
-pub IsBest-joined : (Q : ℕ → Type 0) (v : ℕ → ℤ) (i : ℕ) (w : ℤ) (y : Option Candidate) → IsBest Q v y → ((t : ℕ) → Q t → v (t + 2 ^ i) ≡ v t +ℤ w) → IsBest (λ s. (t : ℕ) × Q t × (s ≡ t + 2 ^ i)) v (joined y i w)
+pub IsBest-joined : (Q : ℕ → Type 0) (v : ℕ → ℤ) (i : ℕ) (w : ℤ) (y : Option Candidate) → IsBest Q v y
+    → ((t : ℕ) → Q t → v (t + 2 ^ i) ≡ v t +ℤ w) → IsBest (λ s. (t : ℕ) × Q t × (s ≡ t + 2 ^ i)) v (joined y i w)
 IsBest-joined Q v i w None hy more = λ s r. hy r.0 r.1
 IsBest-joined Q v i w (Some c) hy more = record {
   of_kind = (c.coalition, hy.of_kind, refl);
@@ -98,7 +109,8 @@ IsBest-joined Q v i w (Some c) hy more = record {
     below s t same e le = rw (ap v same, e) (omega (arith, linear))
 
 -- every set of the kind has so much more
-pub IsBest-raised : (P : ℕ → Type 0) (v u : ℕ → ℤ) (k : ℤ) (x : Option Candidate) → IsBest P v x → ((s : ℕ) → P s → u s ≡ v s +ℤ k) → IsBest P u (raised x k)
+pub IsBest-raised : (P : ℕ → Type 0) (v u : ℕ → ℤ) (k : ℤ) (x : Option Candidate) → IsBest P v x
+    → ((s : ℕ) → P s → u s ≡ v s +ℤ k) → IsBest P u (raised x k)
 IsBest-raised P v u k None hx more = hx
 IsBest-raised P v u k (Some c) hx more = record {
   of_kind = hx.of_kind;
@@ -108,7 +120,8 @@ IsBest-raised P v u k (Some c) hx more = record {
 }
 
 -- the same kind in other words
-pub IsBest-same : (P R : ℕ → Type 0) (v : ℕ → ℤ) (x : Option Candidate) → ((s : ℕ) → R s → P s) → ((s : ℕ) → P s → R s) → IsBest P v x → IsBest R v x
+pub IsBest-same : (P R : ℕ → Type 0) (v : ℕ → ℤ) (x : Option Candidate) → ((s : ℕ) → R s → P s)
+    → ((s : ℕ) → P s → R s) → IsBest P v x → IsBest R v x
 IsBest-same P R v None back on hx = λ s r. hx s (back s r)
 IsBest-same P R v (Some c) back on hx = record {
   of_kind = on c.coalition hx.of_kind;

@@ -1,12 +1,14 @@
 -- The coalitions without a player, counted by size and weight.
-use Rattle.std.proofs.Common.{◌≡◌, ◌≢◌, ℕ, zero, suc, ◌+◌, ◌-◌, ◌^◌, ◌<◌, ◌≤◌, Bool, true, false, cond, ◌&&◌, nat_eq, nat_le, nat_lt, ℤ, pos, ◌+ℤ◌, ◌*ℤ◌, refl, sym, ap, ◌∙◌, arith}
+use Rattle.std.proofs.Common.{◌≡◌, ◌≢◌, ℕ, zero, suc, ◌+◌, ◌-◌, ◌^◌, ◌<◌, ◌≤◌, Bool, true, false, cond, ◌&&◌}
+use Rattle.std.proofs.Common.{nat_eq, nat_le, nat_lt, ℤ, pos, ◌+ℤ◌, ◌*ℤ◌, refl, sym, ap, ◌∙◌, arith}
 use Rattle.std.proofs.lemmas.Bool.Decides.{nat_tests}
 use Rattle.definitions.proofs.Ring.{linear, mul-zeroℤ}
 use Rattle.definitions.proofs.Members.{has_player-empty, sum_below-same, sum_below-add, sum_below-times}
 use Rattle.definitions.proofs.Parts.{has_player-more_other}
 use Rattle.definitions.specs.Sums.{sum_below}
 use Rattle.definitions.specs.Coalitions.{has_player, sum_over}
-use Rattle.definitions.proofs.Halves.{has_player-last, has_player-upper, has_player-lower, size_below, size_below-zero, size_below-without, size_below-with, sum_below-halves}
+use Rattle.definitions.proofs.Halves.{has_player-last, has_player-upper, has_player-lower, size_below}
+use Rattle.definitions.proofs.Halves.{size_below-zero, size_below-without, size_below-with, sum_below-halves}
 use Rattle.voting.specs.Counts.{ways, row_total}
 
 -- ---- what is counted
@@ -29,7 +31,10 @@ pub pos-weigh : (weight : ℕ → ℕ) (n s : ℕ) → pos (weigh weight n s) �
 pos-weigh weight zero s = refl
 pos-weigh weight (suc n) s =
     let ih = pos-weigh weight n s in
-    let step : (b : Bool) → pos (weigh weight n s + cond b (weight n) 0) ≡ sum_over n (λ i. pos (weight i)) s +ℤ cond b (pos (weight n)) (pos 0) = elim [ true ↦ omega (arith, linear, ih) | false ↦ omega (arith, linear, ih) ] in
+    let step : (b : Bool)
+    → pos (weigh weight n s + cond b (weight n) 0)
+    ≡ sum_over n (λ i. pos (weight i)) s +ℤ cond b (pos (weight n)) (pos 0) =
+    elim [ true ↦ omega (arith, linear, ih) | false ↦ omega (arith, linear, ih) ] in
     step (has_player s n)
 
 weigh-upper : (weight : ℕ → ℕ) (n s m : ℕ) → m ≤ n → weigh weight m (2 ^ n + s) ≡ weigh weight m s
@@ -62,17 +67,26 @@ four = elim [
   | false ↦ λ q r s. refl
 ]
 
-moved : (k w a b c : ℕ) → mark (nat_eq k (suc a) && nat_eq w (b + c)) ≡ cond (nat_le 1 k && nat_le c w) (mark (nat_eq (k - 1) a && nat_eq (w - c) b)) (pos 0)
+moved : (k w a b c : ℕ)
+    → mark (nat_eq k (suc a) && nat_eq w (b + c))
+    ≡ cond (nat_le 1 k && nat_le c w) (mark (nat_eq (k - 1) a && nat_eq (w - c) b)) (pos 0)
 moved k w a b c =
-    rw (one_more_size k a, one_more_weight w b c) (four (nat_le 1 k) (nat_eq (k - 1) a) (nat_le c w) (nat_eq (w - c) b))
+    rw (one_more_size k a, one_more_weight w b c)
+    (four (nat_le 1 k) (nat_eq (k - 1) a) (nat_le c w) (nat_eq (w - c) b))
 
-counted-without : (weight : ℕ → ℕ) (i j k w s : ℕ) → s < 2 ^ j → counted weight i (suc j) k w s ≡ counted weight i j k w s
+counted-without : (weight : ℕ → ℕ) (i j k w s : ℕ) → s < 2 ^ j
+    → counted weight i (suc j) k w s ≡ counted weight i j k w s
 counted-without weight i j k w s lt = rw (size_below-without j s lt, weigh-without weight j s lt) refl
 
-counted-with : (weight : ℕ → ℕ) (i j k w s : ℕ) → s < 2 ^ j → i ≢ j → counted weight i (suc j) k w (2 ^ j + s) ≡ cond (nat_le 1 k && nat_le (weight j) w) (counted weight i j (k - 1) (w - weight j) s) (pos 0)
+counted-with : (weight : ℕ → ℕ) (i j k w s : ℕ) → s < 2 ^ j → i ≢ j
+    → counted weight i (suc j) k w (2 ^ j + s)
+    ≡ cond (nat_le 1 k && nat_le (weight j) w) (counted weight i j (k - 1) (w - weight j) s) (pos 0)
 counted-with weight i j k w s lt ne =
-    let same : has_player (2 ^ j + s) i ≡ has_player s i = ap (λ (m : ℕ). has_player m i) (swap (2 ^ j) s) ∙ has_player-more_other s j i (has_player-last j s lt) ne in
-    rw (same, size_below-with j s lt, weigh-with weight j s lt) (step (has_player s i) (nat_le 1 k && nat_le (weight j) w) _ _ (moved k w (size_below j s) (weigh weight j s) (weight j)))
+    let same : has_player (2 ^ j + s) i ≡ has_player s i =
+    ap (λ (m : ℕ). has_player m i) (swap (2 ^ j) s) ∙ has_player-more_other s j i (has_player-last j s lt) ne in
+    rw (same, size_below-with j s lt, weigh-with weight j s lt)
+    (step (has_player s i) (nat_le 1 k && nat_le (weight j) w) _ _
+    (moved k w (size_below j s) (weigh weight j s) (weight j)))
   where
     swap : (a b : ℕ) → a + b ≡ b + a
     swap a b = omega arith
@@ -82,7 +96,8 @@ counted-with weight i j k w s lt ne =
     step true false x y e = refl
     step false t x y e = e
 
-counted-self : (weight : ℕ → ℕ) (i j k w s : ℕ) → j ≡ i → s < 2 ^ j → counted weight i (suc j) k w (2 ^ j + s) ≡ pos 0
+counted-self : (weight : ℕ → ℕ) (i j k w s : ℕ) → j ≡ i → s < 2 ^ j
+    → counted weight i (suc j) k w (2 ^ j + s) ≡ pos 0
 counted-self weight i j k w s e lt =
     let held : has_player (2 ^ j + s) i ≡ true = ap (has_player (2 ^ j + s)) (sym e) ∙ has_player-upper j s lt in
     rw held refl
@@ -90,11 +105,13 @@ counted-self weight i j k w s e lt =
 sums : (x y a b : ℤ) → x ≡ a → y ≡ b → x +ℤ y ≡ a +ℤ b
 sums x y a b e f = cc
 
-more_ways : (t : Bool) (m n : ℕ) (y z u : ℤ) → pos m ≡ y → pos n ≡ z → u ≡ cond t z (pos 0) → pos (m + cond t n 0) ≡ y +ℤ u
+more_ways : (t : Bool) (m n : ℕ) (y z u : ℤ) → pos m ≡ y → pos n ≡ z → u ≡ cond t z (pos 0)
+    → pos (m + cond t n 0) ≡ y +ℤ u
 more_ways true m n y z u e f h = omega (arith, linear)
 more_ways false m n y z u e f h = omega (arith, linear)
 
-sum_below-cond : (n : ℕ) (t : Bool) (f : ℕ → ℤ) → sum_below n (λ s. cond t (f s) (pos 0)) ≡ cond t (sum_below n f) (pos 0)
+sum_below-cond : (n : ℕ) (t : Bool) (f : ℕ → ℤ)
+    → sum_below n (λ s. cond t (f s) (pos 0)) ≡ cond t (sum_below n f) (pos 0)
 sum_below-cond n true f = refl
 sum_below-cond n false f = zeros n
   where
@@ -103,7 +120,8 @@ sum_below-cond n false f = zeros n
     zeros (suc n) = omega (arith, linear, zeros n)
 
 -- the count is the sum of the marks
-pub ways-count : (weight : ℕ → ℕ) (i j k w : ℕ) → pos (ways weight i j k w) ≡ sum_below (2 ^ j) (counted weight i j k w)
+pub ways-count : (weight : ℕ → ℕ) (i j k w : ℕ)
+    → pos (ways weight i j k w) ≡ sum_below (2 ^ j) (counted weight i j k w)
 unfolding ways
 ways-count weight i zero k w = rw (has_player-empty i, size_below-zero 0) (step (nat_eq k 0 && nat_eq w 0))
   where
@@ -113,7 +131,8 @@ ways-count weight i zero k w = rw (has_player-empty i, size_below-zero 0) (step 
 ways-count weight i (suc j) k w =
     step (nat_eq j i) refl (ways-count weight i j k w) (ways-count weight i j (k - 1) (w - weight j))
   where
-    halves : sum_below (2 ^ suc j) (counted weight i (suc j) k w) ≡ sum_below (2 ^ j) (λ s. counted weight i (suc j) k w s +ℤ counted weight i (suc j) k w (2 ^ j + s))
+    halves : sum_below (2 ^ suc j) (counted weight i (suc j) k w)
+        ≡ sum_below (2 ^ j) (λ s. counted weight i (suc j) k w s +ℤ counted weight i (suc j) k w (2 ^ j + s))
     halves = sum_below-halves j (counted weight i (suc j) k w)
 
     same : nat_eq j i ≡ true → j ≡ i
@@ -122,20 +141,37 @@ ways-count weight i (suc j) k w =
     other : nat_eq j i ≡ false → i ≢ j
     other e = grind (arith, nat_tests)
 
-    self : (s : ℕ) → j ≡ i → s < 2 ^ j → counted weight i (suc j) k w s +ℤ counted weight i (suc j) k w (2 ^ j + s) ≡ counted weight i j k w s
+    self : (s : ℕ) → j ≡ i → s < 2 ^ j
+        → counted weight i (suc j) k w s +ℤ counted weight i (suc j) k w (2 ^ j + s) ≡ counted weight i j k w s
     self s e lt =
         let a = counted-without weight i j k w s lt in
         let b = counted-self weight i j k w s e lt in
         omega (arith, linear, a, b)
 
-    step : (b : Bool) → nat_eq j i ≡ b → pos (ways weight i j k w) ≡ sum_below (2 ^ j) (counted weight i j k w) → pos (ways weight i j (k - 1) (w - weight j)) ≡ sum_below (2 ^ j) (counted weight i j (k - 1) (w - weight j)) → pos (cond b (ways weight i j k w) (ways weight i j k w + cond (nat_le 1 k && nat_le (weight j) w) (ways weight i j (k - 1) (w - weight j)) 0)) ≡ sum_below (2 ^ suc j) (counted weight i (suc j) k w)
+    step : (b : Bool) → nat_eq j i ≡ b → pos (ways weight i j k w) ≡ sum_below (2 ^ j) (counted weight i j k w)
+        → pos (ways weight i j (k - 1) (w - weight j))
+        ≡ sum_below (2 ^ j) (counted weight i j (k - 1) (w - weight j))
+        → pos
+        (cond b (ways weight i j k w)
+        (ways weight i j k w
+        + cond (nat_le 1 k && nat_le (weight j) w) (ways weight i j (k - 1) (w - weight j)) 0))
+        ≡ sum_below (2 ^ suc j) (counted weight i (suc j) k w)
     step true e ih before =
-        ih ∙ sym (halves ∙ sum_below-same (2 ^ j) (λ s. counted weight i (suc j) k w s +ℤ counted weight i (suc j) k w (2 ^ j + s)) (counted weight i j k w) (λ s lt. self s (same e) lt))
+        ih
+        ∙ sym
+        (halves
+        ∙ sum_below-same (2 ^ j)
+        (λ s. counted weight i (suc j) k w s +ℤ counted weight i (suc j) k w (2 ^ j + s))
+        (counted weight i j k w) (λ s lt. self s (same e) lt))
     step false e ih before =
         let t = nat_le 1 k && nat_le (weight j) w in
         let old = counted weight i j k w in
         let fewer = counted weight i j (k - 1) (w - weight j) in
-        let parts = sum_below-same (2 ^ j) (λ s. counted weight i (suc j) k w s +ℤ counted weight i (suc j) k w (2 ^ j + s)) (λ s. old s +ℤ cond t (fewer s) (pos 0)) (λ s lt. sums _ _ _ _ (counted-without weight i j k w s lt) (counted-with weight i j k w s lt (other e))) in
+        let parts =
+        sum_below-same (2 ^ j) (λ s. counted weight i (suc j) k w s +ℤ counted weight i (suc j) k w (2 ^ j + s))
+        (λ s. old s +ℤ cond t (fewer s) (pos 0))
+        (λ s lt. sums _ _ _ _ (counted-without weight i j k w s lt)
+        (counted-with weight i j k w s lt (other e))) in
         let added = sum_below-add (2 ^ j) old (λ s. cond t (fewer s) (pos 0)) in
         let moved = sum_below-cond (2 ^ j) t fewer in
         more_ways t _ _ _ _ _ ih before moved ∙ sym (halves ∙ parts ∙ added)
@@ -150,15 +186,19 @@ abbrev pub in_row : (ℕ → ℕ) → ℕ → ℕ → ℕ → ℕ → ℕ → �
 in_row weight i n k low high s =
     cond (has_player s i) (pos 0) (mark (nat_eq k (size_below n s) && in_range low high (weigh weight n s)))
 
-range_more : (low h b : ℕ) (e : Bool) → mark (e && in_range low (suc h) b) ≡ mark (e && in_range low h b) +ℤ cond (nat_le low h) (mark (e && nat_eq h b)) (pos 0)
+range_more : (low h b : ℕ) (e : Bool)
+    → mark (e && in_range low (suc h) b)
+    ≡ mark (e && in_range low h b) +ℤ cond (nat_le low h) (mark (e && nat_eq h b)) (pos 0)
 range_more low h b false = step (nat_le low h)
   where
     step : (t : Bool) → pos 0 ≡ pos 0 +ℤ cond t (pos 0) (pos 0)
     step true = refl
     step false = refl
-range_more low h b true = step (nat_le low b) (nat_lt b (suc h)) (nat_lt b h) (nat_le low h) (nat_eq h b) refl refl refl refl refl
+range_more low h b true =
+    step (nat_le low b) (nat_lt b (suc h)) (nat_lt b h) (nat_le low h) (nat_eq h b) refl refl refl refl refl
   where
-    step : (p q r t u : Bool) → nat_le low b ≡ p → nat_lt b (suc h) ≡ q → nat_lt b h ≡ r → nat_le low h ≡ t → nat_eq h b ≡ u → mark (p && q) ≡ mark (p && r) +ℤ cond t (mark u) (pos 0)
+    step : (p q r t u : Bool) → nat_le low b ≡ p → nat_lt b (suc h) ≡ q → nat_lt b h ≡ r → nat_le low h ≡ t
+        → nat_eq h b ≡ u → mark (p && q) ≡ mark (p && r) +ℤ cond t (mark u) (pos 0)
     step true true true t false e f g i j = same t
       where
         same : (t : Bool) → pos 1 ≡ pos 1 +ℤ cond t (pos 0) (pos 0)
@@ -179,7 +219,8 @@ range_more low h b true = step (nat_le low b) (nat_lt b (suc h)) (nat_lt b h) (n
     step p q r t u e f g i j = absurd (grind (arith, nat_tests))
 
 -- the counts of a row are those of the coalitions
-pub row-count : (weight : ℕ → ℕ) (i n k low high : ℕ) → row_total weight i n k low high ≡ sum_below (2 ^ n) (in_row weight i n k low high)
+pub row-count : (weight : ℕ → ℕ) (i n k low high : ℕ)
+    → row_total weight i n k low high ≡ sum_below (2 ^ n) (in_row weight i n k low high)
 row-count weight i n k low zero = sym (zeros (2 ^ n))
   where
     nothing : (b e p : Bool) (c : ℕ) → cond b (pos 0) (mark (e && (p && nat_lt c 0))) ≡ pos 0
@@ -195,34 +236,54 @@ row-count weight i n k low zero = sym (zeros (2 ^ n))
     zeros : (m : ℕ) → sum_below m (in_row weight i n k low zero) ≡ pos 0
     zeros zero = refl
     zeros (suc m) =
-        omega (arith, linear, zeros m, nothing (has_player m i) (nat_eq k (size_below n m)) (nat_le low (weigh weight n m)) (weigh weight n m))
+        omega (
+          arith,
+          linear,
+          zeros m,
+          nothing (has_player m i) (nat_eq k (size_below n m)) (nat_le low (weigh weight n m)) (weigh weight n m),
+        )
 row-count weight i n k low (suc high) =
-    ap (λ (z : ℤ). z +ℤ cond (nat_le low high) (pos (ways weight i n k high)) (pos 0)) (row-count weight i n k low high)
-    ∙ ap (λ (z : ℤ). sum_below (2 ^ n) (in_row weight i n k low high) +ℤ cond (nat_le low high) z (pos 0)) (ways-count weight i n k high)
-    ∙ ap (λ (z : ℤ). sum_below (2 ^ n) (in_row weight i n k low high) +ℤ z) (sym (sum_below-cond (2 ^ n) (nat_le low high) (counted weight i n k high)))
-    ∙ sym (sum_below-add (2 ^ n) (in_row weight i n k low high) (λ s. cond (nat_le low high) (counted weight i n k high s) (pos 0)))
-    ∙ sum_below-same (2 ^ n) (λ s. in_row weight i n k low high s +ℤ cond (nat_le low high) (counted weight i n k high s) (pos 0)) (in_row weight i n k low (suc high)) (λ s lt. here s)
+    ap (λ (z : ℤ). z +ℤ cond (nat_le low high) (pos (ways weight i n k high)) (pos 0))
+    (row-count weight i n k low high)
+    ∙ ap (λ (z : ℤ). sum_below (2 ^ n) (in_row weight i n k low high) +ℤ cond (nat_le low high) z (pos 0))
+    (ways-count weight i n k high)
+    ∙ ap (λ (z : ℤ). sum_below (2 ^ n) (in_row weight i n k low high) +ℤ z)
+    (sym (sum_below-cond (2 ^ n) (nat_le low high) (counted weight i n k high)))
+    ∙ sym
+    (sum_below-add (2 ^ n) (in_row weight i n k low high)
+    (λ s. cond (nat_le low high) (counted weight i n k high s) (pos 0)))
+    ∙ sum_below-same (2 ^ n)
+    (λ s. in_row weight i n k low high s +ℤ cond (nat_le low high) (counted weight i n k high s) (pos 0))
+    (in_row weight i n k low (suc high)) (λ s lt. here s)
   where
-    step : (b t : Bool) (x y z : ℤ) → z ≡ x +ℤ cond t y (pos 0) → cond b (pos 0) x +ℤ cond t (cond b (pos 0) y) (pos 0) ≡ cond b (pos 0) z
+    step : (b t : Bool) (x y z : ℤ) → z ≡ x +ℤ cond t y (pos 0)
+        → cond b (pos 0) x +ℤ cond t (cond b (pos 0) y) (pos 0) ≡ cond b (pos 0) z
     step true true x y z e = refl
     step true false x y z e = refl
     step false t x y z e = sym e
 
-    here : (s : ℕ) → in_row weight i n k low high s +ℤ cond (nat_le low high) (counted weight i n k high s) (pos 0) ≡ in_row weight i n k low (suc high) s
+    here : (s : ℕ)
+        → in_row weight i n k low high s +ℤ cond (nat_le low high) (counted weight i n k high s) (pos 0)
+        ≡ in_row weight i n k low (suc high) s
     here s =
-        step (has_player s i) (nat_le low high) _ _ _ (range_more low high (weigh weight n s) (nat_eq k (size_below n s)))
+        step (has_player s i) (nat_le low high) _ _ _
+        (range_more low high (weigh weight n s) (nat_eq k (size_below n s)))
 
 -- ---- the sizes, each with a number
 
 -- a number for the size of s, where that is below m, s is without player i and its weight is in the range
 abbrev pub at_size : (ℕ → ℤ) → (ℕ → ℕ) → ℕ → ℕ → ℕ → ℕ → ℕ → ℕ → ℤ
 at_size c weight i n low high m s =
-    cond (has_player s i) (pos 0) (cond (nat_lt (size_below n s) m) (c (size_below n s) *ℤ mark (in_range low high (weigh weight n s))) (pos 0))
+    cond (has_player s i) (pos 0)
+    (cond (nat_lt (size_below n s) m) (c (size_below n s) *ℤ mark (in_range low high (weigh weight n s))) (pos 0))
 
-size_more : (c : ℕ → ℤ) (m a : ℕ) (r : Bool) → cond (nat_lt a (suc m)) (c a *ℤ mark r) (pos 0) ≡ cond (nat_lt a m) (c a *ℤ mark r) (pos 0) +ℤ c m *ℤ mark (nat_eq m a && r)
+size_more : (c : ℕ → ℤ) (m a : ℕ) (r : Bool)
+    → cond (nat_lt a (suc m)) (c a *ℤ mark r) (pos 0)
+    ≡ cond (nat_lt a m) (c a *ℤ mark r) (pos 0) +ℤ c m *ℤ mark (nat_eq m a && r)
 size_more c m a r = step (nat_lt a (suc m)) (nat_lt a m) (nat_eq m a) refl refl refl
   where
-    step : (p q u : Bool) → nat_lt a (suc m) ≡ p → nat_lt a m ≡ q → nat_eq m a ≡ u → cond p (c a *ℤ mark r) (pos 0) ≡ cond q (c a *ℤ mark r) (pos 0) +ℤ c m *ℤ mark (u && r)
+    step : (p q u : Bool) → nat_lt a (suc m) ≡ p → nat_lt a m ≡ q → nat_eq m a ≡ u
+        → cond p (c a *ℤ mark r) (pos 0) ≡ cond q (c a *ℤ mark r) (pos 0) +ℤ c m *ℤ mark (u && r)
     step true true false e f g = omega (arith, linear, mul-zeroℤ (c m))
     step true false true e f g =
         let same : m ≡ a = grind (arith, nat_tests) in
@@ -230,7 +291,9 @@ size_more c m a r = step (nat_lt a (suc m)) (nat_lt a m) (nat_eq m a) refl refl 
     step false false false e f g = omega (arith, linear, mul-zeroℤ (c m))
     step p q u e f g = absurd (grind (arith, nat_tests))
 
-pub sizes-count : (c : ℕ → ℤ) (weight : ℕ → ℕ) (i n low high m : ℕ) → sum_below m (λ k. c k *ℤ row_total weight i n k low high) ≡ sum_below (2 ^ n) (at_size c weight i n low high m)
+pub sizes-count : (c : ℕ → ℤ) (weight : ℕ → ℕ) (i n low high m : ℕ)
+    → sum_below m (λ k. c k *ℤ row_total weight i n k low high)
+    ≡ sum_below (2 ^ n) (at_size c weight i n low high m)
 sizes-count c weight i n low high zero = sym (zeros (2 ^ n))
   where
     nothing : (b : Bool) (a : ℕ) (z : ℤ) → cond b (pos 0) (cond (nat_lt a 0) z (pos 0)) ≡ pos 0
@@ -242,18 +305,30 @@ sizes-count c weight i n low high zero = sym (zeros (2 ^ n))
 
     zeros : (m : ℕ) → sum_below m (at_size c weight i n low high zero) ≡ pos 0
     zeros zero = refl
-    zeros (suc m) = omega (arith, linear, zeros m, nothing (has_player m i) (size_below n m) (c (size_below n m) *ℤ mark (in_range low high (weigh weight n m))))
+    zeros (suc m) =
+        omega (
+          arith,
+          linear,
+          zeros m,
+          nothing (has_player m i) (size_below n m)
+              (c (size_below n m) *ℤ mark (in_range low high (weigh weight n m))),
+        )
 sizes-count c weight i n low high (suc m) =
     ap (λ (z : ℤ). z +ℤ c m *ℤ row_total weight i n m low high) (sizes-count c weight i n low high m)
-    ∙ ap (λ (z : ℤ). sum_below (2 ^ n) (at_size c weight i n low high m) +ℤ c m *ℤ z) (row-count weight i n m low high)
-    ∙ ap (λ (z : ℤ). sum_below (2 ^ n) (at_size c weight i n low high m) +ℤ z) (sym (sum_below-times (2 ^ n) (in_row weight i n m low high) (c m)))
+    ∙ ap (λ (z : ℤ). sum_below (2 ^ n) (at_size c weight i n low high m) +ℤ c m *ℤ z)
+    (row-count weight i n m low high)
+    ∙ ap (λ (z : ℤ). sum_below (2 ^ n) (at_size c weight i n low high m) +ℤ z)
+    (sym (sum_below-times (2 ^ n) (in_row weight i n m low high) (c m)))
     ∙ sym (sum_below-add (2 ^ n) (at_size c weight i n low high m) (λ s. c m *ℤ in_row weight i n m low high s))
-    ∙ sum_below-same (2 ^ n) (λ s. at_size c weight i n low high m s +ℤ c m *ℤ in_row weight i n m low high s) (at_size c weight i n low high (suc m)) (λ s lt. here s)
+    ∙ sum_below-same (2 ^ n) (λ s. at_size c weight i n low high m s +ℤ c m *ℤ in_row weight i n m low high s)
+    (at_size c weight i n low high (suc m)) (λ s lt. here s)
   where
     step : (b : Bool) (x y z w : ℤ) → z ≡ x +ℤ w *ℤ y → cond b (pos 0) x +ℤ w *ℤ cond b (pos 0) y ≡ cond b (pos 0) z
     step true x y z w e = omega (arith, linear, mul-zeroℤ w)
     step false x y z w e = sym e
 
-    here : (s : ℕ) → at_size c weight i n low high m s +ℤ c m *ℤ in_row weight i n m low high s ≡ at_size c weight i n low high (suc m) s
+    here : (s : ℕ)
+        → at_size c weight i n low high m s +ℤ c m *ℤ in_row weight i n m low high s
+        ≡ at_size c weight i n low high (suc m) s
     here s =
         step (has_player s i) _ _ _ (c m) (size_more c m (size_below n s) (in_range low high (weigh weight n s)))

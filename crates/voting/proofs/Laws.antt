@@ -1,5 +1,6 @@
 -- A voting game is a game of the toolbox.
-use Rattle.std.proofs.Common.{◌≡◌, ℕ, zero, suc, ◌^◌, ◌<◌, ◌≤◌, Bool, true, false, cond, length, get_or, sum, ℤ, pos, ◌+ℤ◌, ◌≤ℤ◌, ◌<ℤ◌, int_le, unsigned_abs, refl, arith}
+use Rattle.std.proofs.Common.{◌≡◌, ℕ, zero, suc, ◌^◌, ◌<◌, ◌≤◌, Bool, true, false, cond, length, get_or, sum}
+use Rattle.std.proofs.Common.{ℤ, pos, ◌+ℤ◌, ◌≤ℤ◌, ◌<ℤ◌, int_le, unsigned_abs, refl, arith}
 use Rattle.std.proofs.lemmas.Int.{ints}
 use Rattle.definitions.proofs.Ring.{linear}
 use Rattle.definitions.specs.Sums.{sum_below}
@@ -15,7 +16,8 @@ sum_over-most zero s a low = omega (arith, linear)
 sum_over-most (suc n) s a low =
     let ih = sum_over-most n s a low in
     let here = low n in
-    let step : (b : Bool) → (sum_over n a s +ℤ cond b (a n) (pos 0)) ≤ℤ (sum_below n a +ℤ a n) = elim [ true ↦ omega (arith, linear) | false ↦ omega (arith, linear) ] in
+    let step : (b : Bool) → (sum_over n a s +ℤ cond b (a n) (pos 0)) ≤ℤ (sum_below n a +ℤ a n) =
+    elim [ true ↦ omega (arith, linear) | false ↦ omega (arith, linear) ] in
     step (has_player s n)
 
 natural : (k : ℕ) → pos 0 ≤ℤ pos k

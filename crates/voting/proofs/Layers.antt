@@ -1,5 +1,7 @@
 -- The best sets of each weight, with one player more, and the best of all.
-use Rattle.std.proofs.Common.{◌≡◌, ◌⊎◌, ℕ, zero, suc, ◌+◌, ◌-◌, ◌^◌, ◌<◌, ◌≤◌, Bool, true, false, cond, not, ◌&&◌, nat_le, ℤ, pos, ◌+ℤ◌, ◌<ℤ◌, ◌≤ℤ◌, None, Some, refl, sym, ap, subst, ◌∙◌, inl, inr, arith}
+use Rattle.std.proofs.Common.{◌≡◌, ◌⊎◌, ℕ, zero, suc, ◌+◌, ◌-◌, ◌^◌, ◌<◌, ◌≤◌, Bool, true, false}
+use Rattle.std.proofs.Common.{cond, not, ◌&&◌, nat_le, ℤ, pos, ◌+ℤ◌, ◌<ℤ◌, ◌≤ℤ◌, None, Some}
+use Rattle.std.proofs.Common.{refl, sym, ap, subst, ◌∙◌, inl, inr, arith}
 use Rattle.std.proofs.lemmas.Bool.{false≢true}
 use Rattle.std.proofs.lemmas.Bool.Decides.{nat_tests}
 use Rattle.definitions.proofs.Ring.{linear}
@@ -36,64 +38,91 @@ weight-more : (w k : ℕ) (u z : ℤ) → k ≤ w → u ≡ pos (w - k) → z �
 weight-more w k u z le e more = omega (arith, linear)
 
 -- where the player's weight is at most w
-union-some : (m : Numbers) (h l : Bool) (f i w : ℕ) → i < m.players → m.weight i ≤ w → IsUnion (Old m h (l && IsFree f i) f i w) (Grown m (h && IsFree f i) l f i (w - m.weight i)) (Old m h l f (i + 1) w)
+union-some : (m : Numbers) (h l : Bool) (f i w : ℕ) → i < m.players → m.weight i ≤ w
+    → IsUnion (Old m h (l && IsFree f i) f i w) (Grown m (h && IsFree f i) l f i (w - m.weight i))
+    (Old m h l f (i + 1) w)
 union-some m h l f i w lt le = record {
-  cases = λ s k. elim (IsOfKind-cases h l f i s k.0) [ inl old ↦ inl (old, k.1) | inr (t, old, e) ↦ inr (t, (old, (less s t k.1 old.0 e).1), e) ];
+  cases = λ s k. elim (IsOfKind-cases h l f i s k.0)
+      [ inl old ↦ inl (old, k.1) | inr (t, old, e) ↦ inr (t, (old, (less s t k.1 old.0 e).1), e) ];
   left = λ s k. (IsOfKind-without h l f i s k.0, k.1);
-  right = λ s (t, k, e). subst (λ (u : ℕ). Old m h l f (i + 1) w u) (sym e) (IsOfKind-with h l f i t k.0, more t k.0.0 k.1);
+  right = λ s (t, k, e). subst (λ (u : ℕ). Old m h l f (i + 1) w u) (sym e)
+      (IsOfKind-with h l f i t k.0, more t k.0.0 k.1);
 }
   where
-    less : (s t : ℕ) → sum_over m.players (weights m) s ≡ pos w → t < 2 ^ i → s ≡ t + 2 ^ i → (m.weight i ≤ w) × (sum_over m.players (weights m) t ≡ pos (w - m.weight i))
+    less : (s t : ℕ) → sum_over m.players (weights m) s ≡ pos w → t < 2 ^ i → s ≡ t + 2 ^ i
+        → (m.weight i ≤ w) × (sum_over m.players (weights m) t ≡ pos (w - m.weight i))
     less s t e low same =
-        weight-less w (m.weight i) (sum_over m.players (weights m) t) (sum_over m.players (weights m) s) e (ap (sum_over m.players (weights m)) same ∙ sum_over-last m.players i t (weights m) lt low) (weight_low m t)
+        weight-less w (m.weight i) (sum_over m.players (weights m) t) (sum_over m.players (weights m) s) e
+        (ap (sum_over m.players (weights m)) same ∙ sum_over-last m.players i t (weights m) lt low)
+        (weight_low m t)
 
-    more : (t : ℕ) → t < 2 ^ i → sum_over m.players (weights m) t ≡ pos (w - m.weight i) → sum_over m.players (weights m) (t + 2 ^ i) ≡ pos w
+    more : (t : ℕ) → t < 2 ^ i → sum_over m.players (weights m) t ≡ pos (w - m.weight i)
+        → sum_over m.players (weights m) (t + 2 ^ i) ≡ pos w
     more t low e =
-        weight-more w (m.weight i) (sum_over m.players (weights m) t) (sum_over m.players (weights m) (t + 2 ^ i)) le e (sum_over-last m.players i t (weights m) lt low)
+        weight-more w (m.weight i) (sum_over m.players (weights m) t) (sum_over m.players (weights m) (t + 2 ^ i))
+        le e (sum_over-last m.players i t (weights m) lt low)
 
 -- where it is more
-union-none : (m : Numbers) (h l : Bool) (f i w : ℕ) → i < m.players → w < m.weight i → IsUnion (Old m h (l && IsFree f i) f i w) (λ s. ⊥) (Old m h l f (i + 1) w)
+union-none : (m : Numbers) (h l : Bool) (f i w : ℕ) → i < m.players → w < m.weight i
+    → IsUnion (Old m h (l && IsFree f i) f i w) (λ s. ⊥) (Old m h l f (i + 1) w)
 union-none m h l f i w lt less = record {
-  cases = λ s k. elim (IsOfKind-cases h l f i s k.0) [ inl old ↦ inl (old, k.1) | inr (t, old, e) ↦ absurd (heavy s t k.1 old.0 e) ];
+  cases = λ s k. elim (IsOfKind-cases h l f i s k.0)
+      [ inl old ↦ inl (old, k.1) | inr (t, old, e) ↦ absurd (heavy s t k.1 old.0 e) ];
   left = λ s k. (IsOfKind-without h l f i s k.0, k.1);
   right = λ s none. absurd none;
 }
   where
     heavy : (s t : ℕ) → sum_over m.players (weights m) s ≡ pos w → t < 2 ^ i → s ≡ t + 2 ^ i → ⊥
     heavy s t e low same =
-        let k = weight-less w (m.weight i) (sum_over m.players (weights m) t) (sum_over m.players (weights m) s) e (ap (sum_over m.players (weights m)) same ∙ sum_over-last m.players i t (weights m) lt low) (weight_low m t) in
+        let k =
+        weight-less w (m.weight i) (sum_over m.players (weights m) t) (sum_over m.players (weights m) s) e
+        (ap (sum_over m.players (weights m)) same ∙ sum_over-last m.players i t (weights m) lt low)
+        (weight_low m t) in
         omega (arith, k.0)
 
 nobody : (v : ℕ → ℤ) → IsBest (λ s. ⊥) v None
 nobody v = λ s none. none
 
 -- the layer of one player more
-pub IsLayer-more : (m : Numbers) (h l : Bool) (f i : ℕ) (without others next : Layer) → i < m.players → IsLayer m h (l && not (has_player f i)) f i without → IsLayer m (h && not (has_player f i)) l f i others
-    → ((w : ℕ) → w < 1001 → at_weight next w ≡ joined_at without others i (m.weight i) (m.number i) w) → IsLayer m h l f (i + 1) next
+pub IsLayer-more : (m : Numbers) (h l : Bool) (f i : ℕ) (without others next : Layer) → i < m.players
+    → IsLayer m h (l && not (has_player f i)) f i without → IsLayer m (h && not (has_player f i)) l f i others
+    → ((w : ℕ) → w < 1001 → at_weight next w ≡ joined_at without others i (m.weight i) (m.number i) w)
+    → IsLayer m h l f (i + 1) next
 IsLayer-more m h l f i without others next lt hw ho entries = record {
   each = λ w few. rw (entries w few) (here w few (nat_le (m.weight i) w) refl);
 }
   where
-    here : (w : ℕ) → w < 1001 → (b : Bool) → nat_le (m.weight i) w ≡ b → IsBest (Old m h l f (i + 1) w) (sum_over m.players m.number) (better (at_weight without w) (cond b (joined (at_weight others (w - m.weight i)) i (m.number i)) None))
+    here : (w : ℕ) → w < 1001 → (b : Bool) → nat_le (m.weight i) w ≡ b
+        → IsBest (Old m h l f (i + 1) w) (sum_over m.players m.number)
+        (better (at_weight without w) (cond b (joined (at_weight others (w - m.weight i)) i (m.number i)) None))
     here w few true e =
         let le : m.weight i ≤ w = at_most (m.weight i) w e in
-        IsBest-better (Old m h (l && IsFree f i) f i w) (Grown m (h && IsFree f i) l f i (w - m.weight i)) (Old m h l f (i + 1) w) (sum_over m.players m.number) (at_weight without w) (joined (at_weight others (w - m.weight i)) i (m.number i)) (hw.each w few)
-        (IsBest-joined (Old m (h && IsFree f i) l f i (w - m.weight i)) (sum_over m.players m.number) i (m.number i) (at_weight others (w - m.weight i)) (ho.each (w - m.weight i) (omega arith)) (λ t k. sum_over-last m.players i t m.number lt k.0.0))
+        IsBest-better (Old m h (l && IsFree f i) f i w) (Grown m (h && IsFree f i) l f i (w - m.weight i))
+        (Old m h l f (i + 1) w) (sum_over m.players m.number) (at_weight without w)
+        (joined (at_weight others (w - m.weight i)) i (m.number i)) (hw.each w few)
+        (IsBest-joined (Old m (h && IsFree f i) l f i (w - m.weight i)) (sum_over m.players m.number) i (m.number i)
+        (at_weight others (w - m.weight i)) (ho.each (w - m.weight i) (omega arith))
+        (λ t k. sum_over-last m.players i t m.number lt k.0.0))
         (union-some m h l f i w lt le)
       where
         at_most : (k w : ℕ) → nat_le k w ≡ true → k ≤ w
         at_most k w e = grind (arith, nat_tests)
     here w few false e =
-        IsBest-better (Old m h (l && IsFree f i) f i w) (λ s. ⊥) (Old m h l f (i + 1) w) (sum_over m.players m.number) (at_weight without w) None (hw.each w few) (nobody (sum_over m.players m.number)) (union-none m h l f i w lt (above (m.weight i) w e))
+        IsBest-better (Old m h (l && IsFree f i) f i w) (λ s. ⊥) (Old m h l f (i + 1) w)
+        (sum_over m.players m.number) (at_weight without w) None (hw.each w few)
+        (nobody (sum_over m.players m.number)) (union-none m h l f i w lt (above (m.weight i) w e))
       where
         above : (k w : ℕ) → nat_le k w ≡ false → w < k
         above k w e = grind (arith, nat_tests)
 
 -- the same, where it is known whether the player is one of f, and what its weight and number are
-pub IsLayer-step : (m : Numbers) (h l b : Bool) (f i weight : ℕ) (number z : ℤ) (without others next : Layer) → i < m.players → has_player f i ≡ b → m.weight i ≡ weight → m.number i ≡ number → z ≡ number
-    → IsLayer m h (l && not b) f i without → IsLayer m (h && not b) l f i others → ((w : ℕ) → w < 1001 → at_weight next w ≡ joined_at without others i weight z w) → IsLayer m h l f (i + 1) next
+pub IsLayer-step : (m : Numbers) (h l b : Bool) (f i weight : ℕ) (number z : ℤ) (without others next : Layer)
+    → i < m.players → has_player f i ≡ b → m.weight i ≡ weight → m.number i ≡ number → z ≡ number
+    → IsLayer m h (l && not b) f i without → IsLayer m (h && not b) l f i others
+    → ((w : ℕ) → w < 1001 → at_weight next w ≡ joined_at without others i weight z w) → IsLayer m h l f (i + 1) next
 IsLayer-step m h l b f i weight number z without others next lt is heavy worth kept hw ho entries =
-    IsLayer-more m h l f i without others next lt (rw is hw) (rw is ho) (λ w few. rw (heavy, worth ∙ sym kept) (entries w few))
+    IsLayer-more m h l f i without others next lt (rw is hw) (rw is ho)
+    (λ w few. rw (heavy, worth ∙ sym kept) (entries w few))
 
 -- ---- the best of all weights
 
@@ -105,9 +134,11 @@ IsBelow m h l f k s = IsOfKind h l f m.players s × (sum_over m.players (weights
 abbrev pub bonus : ℤ → ℕ → ℕ → ℤ
 bonus more quota w = cond (nat_le quota w) more (pos 0)
 
-union-weights : (m : Numbers) (h l : Bool) (f k : ℕ) → IsUnion (IsBelow m h l f k) (Old m h l f m.players k) (IsBelow m h l f (suc k))
+union-weights : (m : Numbers) (h l : Bool) (f k : ℕ)
+    → IsUnion (IsBelow m h l f k) (Old m h l f m.players k) (IsBelow m h l f (suc k))
 union-weights m h l f k = record {
-  cases = λ s r. elim (last (sum_over m.players (weights m) s) r.1) [ inl less ↦ inl (r.0, less) | inr e ↦ inr (r.0, e) ];
+  cases =
+      λ s r. elim (last (sum_over m.players (weights m) s) r.1) [ inl less ↦ inl (r.0, less) | inr e ↦ inr (r.0, e) ];
   left = λ s r. (r.0, more (sum_over m.players (weights m) s) r.1);
   right = λ s r. (r.0, same (sum_over m.players (weights m) s) r.1);
 }
@@ -122,8 +153,10 @@ union-weights m h l f k = record {
     same z h = omega (arith, linear)
 
 -- where a set's value is its sum and the bonus of its weight
-pub IsBest-below : (m : Numbers) (h l : Bool) (f : ℕ) (layer : Layer) (more : ℤ) (quota : ℕ) (value : ℕ → ℤ) → IsLayer m h l f m.players layer
-    → ((s w : ℕ) → sum_over m.players (weights m) s ≡ pos w → value s ≡ sum_over m.players m.number s +ℤ bonus more quota w)
+pub IsBest-below : (m : Numbers) (h l : Bool) (f : ℕ) (layer : Layer) (more : ℤ) (quota : ℕ) (value : ℕ → ℤ)
+    → IsLayer m h l f m.players layer
+    → ((s w : ℕ) → sum_over m.players (weights m) s ≡ pos w
+    → value s ≡ sum_over m.players m.number s +ℤ bonus more quota w)
     → (k : ℕ) → k ≤ 1001 → IsBest (IsBelow m h l f k) value (best_below more quota layer k)
 unfolding best_below
 IsBest-below m h l f layer more quota value hl e zero le =
@@ -132,15 +165,19 @@ IsBest-below m h l f layer more quota value hl e zero le =
     below_none : (z : ℤ) → pos 0 ≤ℤ z → z <ℤ pos 0 → ⊥
     below_none z low lt = omega (arith, linear)
 IsBest-below m h l f layer more quota value hl e (suc k) le =
-    IsBest-better (IsBelow m h l f k) (Old m h l f m.players k) (IsBelow m h l f (suc k)) value (best_below more quota layer k) (raised (at_weight layer k) (bonus more quota k))
+    IsBest-better (IsBelow m h l f k) (Old m h l f m.players k) (IsBelow m h l f (suc k)) value
+    (best_below more quota layer k) (raised (at_weight layer k) (bonus more quota k))
     (IsBest-below m h l f layer more quota value hl e k (omega arith))
-    (IsBest-raised (Old m h l f m.players k) (sum_over m.players m.number) value (bonus more quota k) (at_weight layer k) (hl.each k (omega arith)) (λ s r. e s k r.1))
+    (IsBest-raised (Old m h l f m.players k) (sum_over m.players m.number) value (bonus more quota k)
+    (at_weight layer k) (hl.each k (omega arith)) (λ s r. e s k r.1))
     (union-weights m h l f k)
 
 -- ---- nobody
 
 -- the empty set alone
-pub IsLayer-nobody : (m : Numbers) (f : ℕ) (l : Layer) → at_weight l 0 ≡ Some (record { sum = pos 0; coalition = 0 }) → ((w : ℕ) → 0 < w → at_weight l w ≡ None) → IsLayer m false false f 0 l
+pub IsLayer-nobody : (m : Numbers) (f : ℕ) (l : Layer)
+    → at_weight l 0 ≡ Some (record { sum = pos 0; coalition = 0 }) → ((w : ℕ) → 0 < w → at_weight l w ≡ None)
+    → IsLayer m false false f 0 l
 IsLayer-nobody m f l first others = record { each = λ w few. here w }
   where
     only : (s : ℕ) → s < 2 ^ 0 → s ≡ 0
@@ -153,7 +190,8 @@ IsLayer-nobody m f l first others = record { each = λ w few. here w }
         omega (arith, linear, none, same, e)
 
     at_most : (t : ℕ) → t < 2 ^ 0 → sum_over m.players m.number t ≤ℤ pos 0
-    at_most t lt = rw (ap (sum_over m.players m.number) (only t lt), sum_over-empty m.players m.number) (omega (arith, linear))
+    at_most t lt =
+        rw (ap (sum_over m.players m.number) (only t lt), sum_over-empty m.players m.number) (omega (arith, linear))
 
     here : (w : ℕ) → IsBest (IsOfWeight m false false f 0 w) (sum_over m.players m.number) (at_weight l w)
     here zero = rw first (record {
@@ -165,7 +203,8 @@ IsLayer-nobody m f l first others = record { each = λ w few. here w }
     here (suc w) = rw (others (suc w) (omega arith)) (λ s k. heavy w s k.0.0 k.1)
 
 -- nobody holds some of f, or lacks some
-pub IsLayer-none : (m : Numbers) (h l : Bool) (f : ℕ) (layer : Layer) → ((h ≡ true) ⊎ (l ≡ true)) → ((w : ℕ) → at_weight layer w ≡ None) → IsLayer m h l f 0 layer
+pub IsLayer-none : (m : Numbers) (h l : Bool) (f : ℕ) (layer : Layer) → ((h ≡ true) ⊎ (l ≡ true))
+    → ((w : ℕ) → at_weight layer w ≡ None) → IsLayer m h l f 0 layer
 IsLayer-none m h l f layer some none = record { each = λ w few. rw (none w) (λ s k. refused some k.0.1 k.0.2) }
   where
     refused : ((h ≡ true) ⊎ (l ≡ true)) → passes h false ≡ true → passes l false ≡ true → ⊥

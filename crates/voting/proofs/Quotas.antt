@@ -1,5 +1,6 @@
 -- What a quota and weights are tested for.
-use Rattle.std.proofs.Common.{◌≡◌, ℕ, ◌<◌, ◌≤◌, eqb, Bool, true, false, List, length, map, sum, All, ◌^◌, ap, ℤ, pos, nat_abs, unsigned_abs, sym, ◌∙◌, arith}
+use Rattle.std.proofs.Common.{◌≡◌, ℕ, ◌<◌, ◌≤◌, eqb, Bool, true, false, List, length, map, sum, All}
+use Rattle.std.proofs.Common.{◌^◌, ap, ℤ, pos, nat_abs, unsigned_abs, sym, ◌∙◌, arith}
 use Rattle.std.specs.List.{sum_by}
 use Rattle.std.proofs.lemmas.List.{length-map}
 use Rattle.std.proofs.lemmas.Int.{ints}
@@ -7,13 +8,15 @@ use lib.Signed.{lt_z}
 use Rattle.orders.proofs.Tested.{not_zero, same_sum}
 use Rattle.voting.specs.Voting.{HavePlayers, IsQuota, IsVoting, voting}
 
-pub have_players : (weights : List ℤ) (l k : ℕ) (b : Bool) → l ≡ length weights → b ≡ eqb l 0 → b ≡ false → k ≡ l → k ≤ 32 → HavePlayers weights
+pub have_players : (weights : List ℤ) (l k : ℕ) (b : Bool) → l ≡ length weights → b ≡ eqb l 0 → b ≡ false → k ≡ l
+    → k ≤ 32 → HavePlayers weights
 have_players weights l k b all e f same few =
     let some = not_zero l b e f in
     (omega (arith, all, some), omega (arith, all, same, few))
 
 -- a quota z
-module _ (quota z : ℤ) (weights : List ℤ) (total : ℕ) (kept : z ≡ quota) (sums : total ≡ sum_by unsigned_abs weights) where
+module _ (quota z : ℤ) (weights : List ℤ) (total : ℕ) (kept : z ≡ quota)
+    (sums : total ≡ sum_by unsigned_abs weights) where
   pub is_quota : total ≤ 1000 → lt_z z (pos 1) ≡ false → nat_abs z ≤ total → IsQuota quota weights
   is_quota light low reached = record {
     light = omega (arith, sums, light);
@@ -34,7 +37,8 @@ module _ (quota z : ℤ) (weights : List ℤ) (total : ℕ) (kept : z ≡ quota)
   too_high high = λ q. omega (arith, ints, kept, high, sums, q.positive, q.reached)
 
 -- the numbers that are kept
-pub is_voting : (quota z : ℤ) (weights : List ℤ) (ws : List ℕ) → z ≡ quota → map pos ws ≡ weights → All (λ w. w < 2 ^ 40) ws → HavePlayers weights → IsQuota quota weights → IsVoting (voting (nat_abs z) ws)
+pub is_voting : (quota z : ℤ) (weights : List ℤ) (ws : List ℕ) → z ≡ quota → map pos ws ≡ weights
+    → All (λ w. w < 2 ^ 40) ws → HavePlayers weights → IsQuota quota weights → IsVoting (voting (nat_abs z) ws)
 is_voting quota z weights ws kept same small players q =
     let count = ap length same in
     let long = length-map ws pos in

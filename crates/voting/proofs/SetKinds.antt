@@ -1,5 +1,6 @@
 -- The sets of a kind with one player more.
-use Rattle.std.proofs.Common.{◌≡◌, ◌≢◌, ◌⊎◌, ℕ, ◌+◌, ◌-◌, ◌^◌, ◌<◌, ◌≤◌, Bool, true, false, cond, not, ◌&&◌, ◌||◌, ℤ, pos, ◌+ℤ◌, refl, sym, ap, subst, ◌∙◌, inl, inr, arith, add-one}
+use Rattle.std.proofs.Common.{◌≡◌, ◌≢◌, ◌⊎◌, ℕ, ◌+◌, ◌-◌, ◌^◌, ◌<◌, ◌≤◌, Bool, true, false, cond, not, ◌&&◌, ◌||◌}
+use Rattle.std.proofs.Common.{ℤ, pos, ◌+ℤ◌, refl, sym, ap, subst, ◌∙◌, inl, inr, arith, add-one}
 use Rattle.std.proofs.Math.Nat.{pow-suc}
 use Rattle.definitions.proofs.Members.{has_player-empty, sum_below-zero}
 use Rattle.definitions.proofs.Cases.{below_or_above}
@@ -7,7 +8,7 @@ use Rattle.definitions.proofs.Splits.{some_below-same}
 use Rattle.definitions.proofs.Halves.{has_player-last}
 use Rattle.definitions.proofs.Parts.{has_player-more_same, has_player-more_other, sum_over-more}
 use Rattle.definitions.specs.Coalitions.{has_player, sum_over}
-use Rattle.voting.specs.SetKinds.{passes, holds_some, lacks_some, IsOfKind}
+use Rattle.voting.specs.SetKinds.{passes, holds_one_of, lacks_one_of, IsOfKind}
 
 -- ---- masks of one player more
 
@@ -27,31 +28,44 @@ below_other : (i j : ℕ) → j < i → j ≢ i
 below_other i j lt e = omega arith
 
 -- without the new player
-holds-without : (f i s : ℕ) → s < 2 ^ i → holds_some f (i + 1) s ≡ holds_some f i s
-holds-without f i s lt = rw (add-one i, has_player-last i s lt) (law (has_player f i) (holds_some f i s))
+holds-without : (f i s : ℕ) → s < 2 ^ i → holds_one_of f (i + 1) s ≡ holds_one_of f i s
+holds-without f i s lt = rw (add-one i, has_player-last i s lt) (law (has_player f i) (holds_one_of f i s))
   where
     law : (b h : Bool) → ((b && false) || h) ≡ h
     law = elim [ true ↦ λ h. refl | false ↦ λ h. refl ]
 
-lacks-without : (f i s : ℕ) → s < 2 ^ i → lacks_some f (i + 1) s ≡ (has_player f i || lacks_some f i s)
-lacks-without f i s lt = rw (add-one i, has_player-last i s lt) (law (has_player f i) (lacks_some f i s))
+lacks-without : (f i s : ℕ) → s < 2 ^ i → lacks_one_of f (i + 1) s ≡ (has_player f i || lacks_one_of f i s)
+lacks-without f i s lt = rw (add-one i, has_player-last i s lt) (law (has_player f i) (lacks_one_of f i s))
   where
     law : (b h : Bool) → ((b && not false) || h) ≡ (b || h)
     law = elim [ true ↦ λ h. refl | false ↦ λ h. refl ]
 
 -- with the new player
-holds-with : (f i s : ℕ) → s < 2 ^ i → holds_some f (i + 1) (s + 2 ^ i) ≡ (has_player f i || holds_some f i s)
+holds-with : (f i s : ℕ) → s < 2 ^ i → holds_one_of f (i + 1) (s + 2 ^ i) ≡ (has_player f i || holds_one_of f i s)
 holds-with f i s lt =
-    rw (add-one i, has_player-more_same s i (has_player-last i s lt), some_below-same i (λ j. has_player f j && has_player (s + 2 ^ i) j) (λ j. has_player f j && has_player s j) (λ j k. ap (λ (b : Bool). has_player f j && b) (has_player-more_other s i j (has_player-last i s lt) (below_other i j k))))
-    (law (has_player f i) (holds_some f i s))
+    rw (
+      add-one i,
+      has_player-more_same s i (has_player-last i s lt),
+      some_below-same i (λ j. has_player f j && has_player (s + 2 ^ i) j) (λ j. has_player f j && has_player s j)
+          (λ j k. ap (λ (b : Bool). has_player f j && b)
+          (has_player-more_other s i j (has_player-last i s lt) (below_other i j k))),
+    )
+    (law (has_player f i) (holds_one_of f i s))
   where
     law : (b h : Bool) → ((b && true) || h) ≡ (b || h)
     law = elim [ true ↦ λ h. refl | false ↦ λ h. refl ]
 
-lacks-with : (f i s : ℕ) → s < 2 ^ i → lacks_some f (i + 1) (s + 2 ^ i) ≡ lacks_some f i s
+lacks-with : (f i s : ℕ) → s < 2 ^ i → lacks_one_of f (i + 1) (s + 2 ^ i) ≡ lacks_one_of f i s
 lacks-with f i s lt =
-    rw (add-one i, has_player-more_same s i (has_player-last i s lt), some_below-same i (λ j. has_player f j && not (has_player (s + 2 ^ i) j)) (λ j. has_player f j && not (has_player s j)) (λ j k. ap (λ (b : Bool). has_player f j && not b) (has_player-more_other s i j (has_player-last i s lt) (below_other i j k))))
-    (law (has_player f i) (lacks_some f i s))
+    rw (
+      add-one i,
+      has_player-more_same s i (has_player-last i s lt),
+      some_below-same i (λ j. has_player f j && not (has_player (s + 2 ^ i) j))
+          (λ j. has_player f j && not (has_player s j))
+          (λ j k. ap (λ (b : Bool). has_player f j && not b)
+          (has_player-more_other s i j (has_player-last i s lt) (below_other i j k))),
+    )
+    (law (has_player f i) (lacks_one_of f i s))
   where
     law : (b h : Bool) → ((b && not true) || h) ≡ h
     law = elim [ true ↦ λ h. refl | false ↦ λ h. refl ]
@@ -65,22 +79,45 @@ needed-less = elim [
 
 -- ---- kinds
 
-pub IsOfKind-without : (h l : Bool) (f i s : ℕ) → IsOfKind h (l && not (has_player f i)) f i s → IsOfKind h l f (i + 1) s
+pub IsOfKind-without : (h l : Bool) (f i s : ℕ) → IsOfKind h (l && not (has_player f i)) f i s
+    → IsOfKind h l f (i + 1) s
 IsOfKind-without h l f i s k =
-    let p = next_pow i in
-    (omega (arith, k.0), ap (passes h) (holds-without f i s k.0) ∙ k.1, ap (passes l) (lacks-without f i s k.0) ∙ needed-less l (has_player f i) (lacks_some f i s) ∙ k.2)
+    let p = next_pow i in (
+      omega (arith, k.0),
+      ap (passes h) (holds-without f i s k.0) ∙ k.1,
+      ap (passes l) (lacks-without f i s k.0) ∙ needed-less l (has_player f i) (lacks_one_of f i s) ∙ k.2,
+    )
 
-pub IsOfKind-with : (h l : Bool) (f i s : ℕ) → IsOfKind (h && not (has_player f i)) l f i s → IsOfKind h l f (i + 1) (s + 2 ^ i)
+pub IsOfKind-with : (h l : Bool) (f i s : ℕ) → IsOfKind (h && not (has_player f i)) l f i s
+    → IsOfKind h l f (i + 1) (s + 2 ^ i)
 IsOfKind-with h l f i s k =
-    let p = next_pow i in
-    (omega (arith, k.0), ap (passes h) (holds-with f i s k.0) ∙ needed-less h (has_player f i) (holds_some f i s) ∙ k.1, ap (passes l) (lacks-with f i s k.0) ∙ k.2)
+    let p = next_pow i in (
+      omega (arith, k.0),
+      ap (passes h) (holds-with f i s k.0) ∙ needed-less h (has_player f i) (holds_one_of f i s) ∙ k.1,
+      ap (passes l) (lacks-with f i s k.0) ∙ k.2,
+    )
 
-pub IsOfKind-cases : (h l : Bool) (f i s : ℕ) → IsOfKind h l f (i + 1) s → IsOfKind h (l && not (has_player f i)) f i s ⊎ ((t : ℕ) × IsOfKind (h && not (has_player f i)) l f i t × (s ≡ t + 2 ^ i))
+pub IsOfKind-cases : (h l : Bool) (f i s : ℕ) → IsOfKind h l f (i + 1) s
+    → IsOfKind h (l && not (has_player f i)) f i s
+    ⊎ ((t : ℕ) × IsOfKind (h && not (has_player f i)) l f i t × (s ≡ t + 2 ^ i))
 IsOfKind-cases h l f i s k = elim (low_or_high i s k.0) [
-  | inl low ↦ inl (low, sym (ap (passes h) (holds-without f i s low)) ∙ k.1, sym (ap (passes l) (lacks-without f i s low) ∙ needed-less l (has_player f i) (lacks_some f i s)) ∙ k.2)
+  | inl low ↦ inl (
+    low,
+    sym (ap (passes h) (holds-without f i s low)) ∙ k.1,
+    sym (ap (passes l) (lacks-without f i s low) ∙ needed-less l (has_player f i) (lacks_one_of f i s)) ∙ k.2,
+  )
   | inr (t, low, e) ↦
       let here : IsOfKind h l f (i + 1) (t + 2 ^ i) = subst (λ (m : ℕ). IsOfKind h l f (i + 1) m) e k in
-      inr (t, (low, sym (ap (passes h) (holds-with f i t low) ∙ needed-less h (has_player f i) (holds_some f i t)) ∙ here.1, sym (ap (passes l) (lacks-with f i t low)) ∙ here.2), e)
+      inr (
+        t,
+        (
+          low,
+          sym (ap (passes h) (holds-with f i t low) ∙ needed-less h (has_player f i) (holds_one_of f i t))
+              ∙ here.1,
+          sym (ap (passes l) (lacks-with f i t low)) ∙ here.2,
+        ),
+        e,
+      )
 ]
 
 -- ---- weights

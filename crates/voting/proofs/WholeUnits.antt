@@ -1,5 +1,6 @@
 -- The least common multiple of 1 to 32 as a common denominator of Shapley shares.
-use Rattle.std.proofs.Common.{◌≡◌, ℕ, zero, suc, ◌+◌, ◌-◌, ◌*◌, ◌/◌, ◌%◌, ◌<◌, ◌≤◌, Bool, true, false, ◌&&◌, ◌||◌, nat_eq, nat_le, refl, ap, ◌∙◌, inl, inr, arith}
+use Rattle.std.proofs.Common.{◌≡◌, ℕ, zero, suc, ◌+◌, ◌-◌, ◌*◌, ◌/◌, ◌%◌, ◌<◌, ◌≤◌, Bool, true, false}
+use Rattle.std.proofs.Common.{◌&&◌, ◌||◌, nat_eq, nat_le, refl, ap, ◌∙◌, inl, inr, arith}
 use Rattle.std.proofs.lemmas.Bool.Decides.{nat_tests}
 use Rattle.definitions.specs.Shapley.{factorial}
 use Rattle.shapley.specs.Subsets.{orders_with}
@@ -14,7 +15,10 @@ use Rattle.voting.specs.Counts.{share_unit}
 is_unit : ℕ → ℕ → Bool
 is_unit n k =
     nat_eq (common * orders_with n k % factorial n) 0
-    && (nat_le (share_unit n k) common && (nat_eq (common / n) (share_unit n 0) && (nat_eq (k + 1) n || nat_eq (share_unit n k * (k + 1) / (n - 1 - k)) (share_unit n (k + 1)))))
+    &&
+    (nat_le (share_unit n k) common
+    && (nat_eq (common / n) (share_unit n 0)
+    && (nat_eq (k + 1) n || nat_eq (share_unit n k * (k + 1) / (n - 1 - k)) (share_unit n (k + 1)))))
 
 abbrev units_below : ℕ → ℕ → Bool
 units_below n zero = true
@@ -63,7 +67,8 @@ unit n k few lt =
       whole = from_nat_eq (common * orders_with n k % factorial n) 0 one.0;
       small = at_most (share_unit n k) common two.0;
       first = from_nat_eq (common / n) (share_unit n 0) three.0;
-      next = λ less. from_nat_eq (share_unit n k * (k + 1) / (n - 1 - k)) (share_unit n (k + 1)) (other (nat_eq (k + 1) n) _ (nat_eq-less (k + 1) n less) three.1);
+      next = λ less. from_nat_eq (share_unit n k * (k + 1) / (n - 1 - k)) (share_unit n (k + 1))
+          (other (nat_eq (k + 1) n) _ (nat_eq-less (k + 1) n less) three.1);
     }
   where
     other : (a b : Bool) → a ≡ false → (a || b) ≡ true → b ≡ true

@@ -1,3 +1,4 @@
+-- For the private functions of this crate.
 -- Sets of greatest sum, and of those with the same the one with the least mask: one for each weight.
 --
 --   is_behind c d       d has a greater sum, or the same and a lesser mask
@@ -10,10 +11,13 @@
 --   best_below          the best one of the lesser weights
 --   chosen_of c         the coalition of a candidate whose sum is positive
 --   IsBestOf            the best set of the kind P, and the least mask of these
---   IsBest P v c        the set of the kind P with the greatest number, and of those with the same the one with the least mask
+--   IsBest P v c        the set of the kind P with the greatest number, and of those with the same the one with the
+--                       least mask
 --   IsSmallCandidate    a set of the first players, and a sum over at most so many
 --   AreSmall            each candidate of a layer is such a one
-use Rattle.std.specs.Prelude.{◌≡◌, ℕ, zero, suc, ◌+◌, ◌-◌, ◌*◌, ◌^◌, ◌<◌, ◌≤◌, Bool, ◌&&◌, ◌||◌, nat_lt, nat_le, ℤ, pos, ◌+ℤ◌, ◌≤ℤ◌, ◌<ℤ◌, int_lt, Option, None, Some, IfSome, unsigned_abs, slice_index_or, if◌then◌else◌}
+use Rattle.std.specs.Prelude.{◌≡◌, ℕ, zero, suc, ◌+◌, ◌-◌, ◌*◌, ◌^◌, ◌<◌, ◌≤◌, Bool, ◌&&◌, ◌||◌}
+use Rattle.std.specs.Prelude.{nat_lt, nat_le, ℤ, pos, ◌+ℤ◌, ◌≤ℤ◌, ◌<ℤ◌, int_lt, Option, None, Some}
+use Rattle.std.specs.Prelude.{IfSome, unsigned_abs, slice_index_or, if◌then◌else◌}
 use Rattle.std.specs.Ordering.{int_eq}
 use Rattle.voting.specs.declared.candidate.Candidate.{Candidate}
 use Rattle.voting.specs.declared.layer.Layer.{Layer}

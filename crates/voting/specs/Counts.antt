@@ -1,18 +1,23 @@
--- The coalitions without a player, counted by size and weight, and the Shapley value of a voting game by these counts.
+-- For the private functions of this crate.
+-- The coalitions without a player, counted by size and weight, and the Shapley value of a voting game by these
+-- counts.
 --
 --   way_at r w                           the count of weight w in a row
 --   row_at t size                        the row of a size
 --   ways_at t size w                     the count of that size and weight in a table
 --   lighter r weight w                   what one more player of that weight brings from a row to weight w
 --   smaller t size weight w              the same from the row of the size that is one less
+--   HasRows t                            the table has a row for each size below 32
 --   IsSmallRow, IsSmallTable             no count is above 2 ^ 32
---   ways weight i j size w               how many coalitions of the first j players without player i have that size and weight
+--   ways weight i j size w               how many coalitions of the first j players without player i have that size and
+--                                        weight
 --   IsTable weight i j t                 the table of these counts
 --   range_total r low high               the counts of the weights of a range, added
 --   row_total weight i n size low high   the same of all coalitions of a size without player i
 --   share_unit n k                       what a coalition of k players in front gives of the common denominator
 --   numerator weight i n low high        what player i gets over it, where it makes the weights of the range winning
-use Rattle.std.specs.Prelude.{◌≡◌, ℕ, zero, suc, ◌+◌, ◌-◌, ◌*◌, ◌/◌, ◌^◌, ◌<◌, ◌≤◌, ◌&&◌, nat_eq, nat_le, [], ℤ, pos, ◌*ℤ◌, slice_index, slice_index_or, if◌then◌else◌}
+use Rattle.std.specs.Prelude.{◌≡◌, ℕ, zero, suc, ◌+◌, ◌-◌, ◌*◌, ◌/◌, ◌^◌, ◌<◌, ◌≤◌, ◌&&◌, nat_eq, nat_le, []}
+use Rattle.std.specs.Prelude.{length, ℤ, pos, ◌*ℤ◌, slice_index, slice_index_or, if◌then◌else◌}
 use Rattle.definitions.specs.Sums.{sum_below}
 use Rattle.definitions.specs.Shapley.{factorial}
 use Rattle.shapley.specs.Subsets.{orders_with}
@@ -26,7 +31,7 @@ way_at r w = slice_index r.ways w
 
 -- the row of a size
 abbrev pub row_at : Table → ℕ → Row
-row_at t size = slice_index_or t.rows size (record { ways = [] })
+row_at t size = slice_index_or t.rows.items size (record { ways = [] })
 
 -- the count of that size and weight in a table
 abbrev pub ways_at : Table → ℕ → ℕ → ℕ
@@ -40,6 +45,10 @@ lighter r weight w = if nat_le weight w then way_at r (w - weight) else 0
 abbrev pub smaller : Table → ℕ → ℕ → ℕ → ℕ
 smaller t size weight w = if nat_le 1 size then lighter (row_at t (size - 1)) weight w else 0
 
+-- there is a row for each size
+abbrev pub HasRows : Table → Type 0
+HasRows t = length t.rows.items ≡ 32
+
 -- no count is above 2 ^ 32
 abbrev pub IsSmallRow : Row → Type 0
 IsSmallRow r = (w : ℕ) → w < 1001 → way_at r w ≤ 2 ^ 32
@@ -51,7 +60,9 @@ IsSmallTable t = (size : ℕ) → size < 32 → IsSmallRow (row_at t size)
 unfoldable pub ways : (ℕ → ℕ) → ℕ → ℕ → ℕ → ℕ → ℕ
 ways weight i zero size w = if nat_eq size 0 && nat_eq w 0 then 1 else 0
 ways weight i (suc j) size w =
-    if nat_eq j i then ways weight i j size w else ways weight i j size w + (if nat_le 1 size && nat_le (weight j) w then ways weight i j (size - 1) (w - weight j) else 0)
+    if nat_eq j i then ways weight i j size w
+    else ways weight i j size w
+    + (if nat_le 1 size && nat_le (weight j) w then ways weight i j (size - 1) (w - weight j) else 0)
 
 -- the table of these counts
 pub record IsTable (weight : ℕ → ℕ) (i j : ℕ) (t : Table) : Type 0 where

@@ -1,15 +1,17 @@
--- The sets of the first players by their weight, and by whether they have to hold some player of a coalition f, and to lack some.
+-- For the private functions of this crate.
+-- The sets of the first players by their weight, and by whether they have to hold some player of a coalition f, and
+-- to lack some.
 --
---   passes needed answer   the answer is yes where it is needed
---   holds_some f count s   s holds some of the first players of f
---   lacks_some f count s   s lacks some of the first players of f
---   IsOfKind               a set of the first players that passes
---   Numbers, weights       a weight and a number of each player; the weights as integers
---   IsOfWeight             one of the kind, of that weight
---   IsLayer                the best set of the kind for each weight
---   AreSplitLayers         the layers of the four kinds
---   IsOneMore              the layers with one more player seen
---   AreSmallLayers         each candidate of the four layers is one of the first players
+--   passes needed answer     the answer is yes where it is needed
+--   holds_one_of f count s   s holds some of the first players of f
+--   lacks_one_of f count s   s lacks some of the first players of f
+--   IsOfKind                 a set of the first players that passes
+--   Numbers, weights         a weight and a number of each player; the weights as integers
+--   IsOfWeight               one of the kind, of that weight
+--   IsLayer                  the best set of the kind for each weight
+--   AreSplitLayers           the layers of the four kinds
+--   AddsPlayer               the layers with one more player seen
+--   AreSmallLayers           each candidate of the four layers is one of the first players
 use Rattle.std.specs.Prelude.{◌≡◌, ℕ, ◌+◌, ◌^◌, ◌<◌, Bool, true, false, not, ◌&&◌, ℤ, pos, if◌then◌else◌}
 use Rattle.definitions.specs.Coalitions.{has_player, some_below, sum_over}
 use Rattle.voting.specs.declared.layer.Layer.{Layer}
@@ -21,17 +23,18 @@ abbrev pub passes : Bool → Bool → Bool
 passes needed answer = if needed then answer else true
 
 -- s holds some of the first players of f
-abbrev pub holds_some : ℕ → ℕ → ℕ → Bool
-holds_some f count s = some_below count (λ i. has_player f i && has_player s i)
+abbrev pub holds_one_of : ℕ → ℕ → ℕ → Bool
+holds_one_of f count s = some_below count (λ i. has_player f i && has_player s i)
 
 -- s lacks some of the first players of f
-abbrev pub lacks_some : ℕ → ℕ → ℕ → Bool
-lacks_some f count s = some_below count (λ i. has_player f i && not (has_player s i))
+abbrev pub lacks_one_of : ℕ → ℕ → ℕ → Bool
+lacks_one_of f count s = some_below count (λ i. has_player f i && not (has_player s i))
 
 -- a set of the first players that holds some of f and lacks some where that is needed
 abbrev pub IsOfKind : Bool → Bool → ℕ → ℕ → ℕ → Type 0
 IsOfKind holding lacking f count s =
-    (s < 2 ^ count) × (passes holding (holds_some f count s) ≡ true) × (passes lacking (lacks_some f count s) ≡ true)
+    (s < 2 ^ count) × (passes holding (holds_one_of f count s) ≡ true)
+    × (passes lacking (lacks_one_of f count s) ≡ true)
 
 -- players with a weight each, and a number each that sets are compared by
 pub record Numbers : Type 0 where
@@ -50,9 +53,11 @@ IsOfWeight m holding lacking f count w s =
 
 -- the best set of the kind for each weight up to 1,000
 pub record IsLayer (m : Numbers) (holding lacking : Bool) (f count : ℕ) (l : Layer) : Type 0 where
-  pub each : (w : ℕ) → w < 1001 → IsBest (IsOfWeight m holding lacking f count w) (sum_over m.players m.number) (at_weight l w)
+  pub each : (w : ℕ) → w < 1001
+      → IsBest (IsOfWeight m holding lacking f count w) (sum_over m.players m.number) (at_weight l w)
 
--- the layers of all sets of the first players, of those that hold some of f, of those that lack some, and of those that do both
+-- the layers of all sets of the first players, of those that hold some of f, of those that lack some, and of those
+-- that do both
 pub record AreSplitLayers (m : Numbers) (f count : ℕ) (ls : SplitLayers) : Type 0 where
   pub any : IsLayer m false false f count ls.any
   pub holding : IsLayer m true false f count ls.holding
@@ -60,9 +65,10 @@ pub record AreSplitLayers (m : Numbers) (f count : ℕ) (ls : SplitLayers) : Typ
   pub both : IsLayer m true true f count ls.both
 
 -- whatever was seen before, the layers with one more player seen, of this weight and number, and in f or not
-abbrev pub IsOneMore : SplitLayers → Bool → ℕ → ℕ → ℤ → SplitLayers → Type 0
-IsOneMore before is_free i weight number after =
-    (m : Numbers) (f : ℕ) → i < m.players → has_player f i ≡ is_free → m.weight i ≡ weight → m.number i ≡ number → AreSplitLayers m f i before → AreSplitLayers m f (i + 1) after
+abbrev pub AddsPlayer : SplitLayers → Bool → ℕ → ℕ → ℤ → SplitLayers → Type 0
+AddsPlayer before is_free i weight number after =
+    (m : Numbers) (f : ℕ) → i < m.players → has_player f i ≡ is_free → m.weight i ≡ weight → m.number i ≡ number
+    → AreSplitLayers m f i before → AreSplitLayers m f (i + 1) after
 
 -- each candidate of the four layers is one of the first count players
 pub record AreSmallLayers (count : ℕ) (ls : SplitLayers) : Type 0 where

@@ -1,10 +1,14 @@
 //! Coalitions counted by size and weight.
-ghost use Rattle.std.specs.Prelude.{◌≡◌, ◌&&◌, if◌then◌else◌};
+ghost use Rattle.std.specs.Prelude.{◌≡◌, ◌&&◌, if◌then◌else◌, IfOk};
 ghost use Rattle.std.specs.Prelude.{ℕ, ◌+◌, ◌*◌, ◌^◌, ◌<◌, ◌≤◌, pos, nat_eq};
-ghost use Rattle.voting.specs.Counts.{way_at, row_at, ways_at, lighter, smaller, IsSmallRow, IsSmallTable, range_total};
+ghost use Rattle.voting.specs.Counts.{way_at, row_at, ways_at, lighter, smaller, IsSmallRow};
+ghost use Rattle.voting.specs.Counts.{IsSmallTable, HasRows, range_total};
+
+use fractions::OutOfMemory;
+use std::alloc::Global;
 
 /// How many coalitions of one size there are of each weight from 0 to 1,000.
-#[derive(Clone, Copy)]
+#[derive(Clone, Copy, Debug, Drop)]
 pub(crate) struct Row {
     ways: [u64; 1001],
 }
@@ -27,30 +31,14 @@ impl Row {
         row
     }
 
-    /// The coalitions of this row, and those of a row of one size less with one more player of this weight.
-    fn with_player(&self, fewer: &Row, weight: usize) -> Row
-        requires small { IsSmallRow self.now }
+    /// Adds the coalitions of a row of one size less with one more player of this weight.
+    fn add_with_player(&mut self, fewer: &Row, weight: usize)
+        requires small { IsSmallRow self.old }
         requires fewer { IsSmallRow fewer.now }
-        ensures { (w : ℕ) → w < 1001 → way_at result w ≡ way_at self.now w + lighter fewer.now weight w }
+        ensures { (w : ℕ) → w < 1001 → way_at self.new w ≡ way_at self.old w + lighter fewer.now weight w }
     {
-        let mut row = Row::none();
-        for w in 0..1001 {
-            row.ways[w] = self.ways[w] + fewer.lighter(weight, w);
-        }
-        row
-    }
-
-    /// The count of the weight that one more player of this weight brings to `w`.
-    fn lighter(&self, weight: usize, w: usize) -> u64
-        requires few { w < 1001 }
-        requires small { IsSmallRow self.now }
-        ensures value { result ≡ lighter self.now weight w }
-        ensures small { result ≤ 2 ^ 32 }
-    {
-        if weight <= w {
-            self.ways[w - weight]
-        } else {
-            0
+        for w in weight..1001 {
+            self.ways[w] += fewer.ways[w - weight];
         }
     }
 
@@ -72,38 +60,42 @@ impl Row {
 }
 
 /// A row for each size from 0 to 31.
-#[derive(Clone, Copy)]
+#[derive(Debug, Drop)]
 pub(crate) struct Table {
-    rows: [Row; 32],
+    rows: Vec<Row>,
 }
 
 impl Table {
     /// The coalition of nobody.
-    pub(crate) fn of_nobody() -> Table
-        ensures { (size w : ℕ) → size < 32 → ways_at result size w ≡ (if nat_eq size 0 && nat_eq w 0 then 1 else 0) }
+    pub(crate) fn of_nobody(alloc: Global) -> Result<Table, OutOfMemory>
+        ensures { IfOk result
+            (λ t. HasRows t
+            × ((size w : ℕ) → size < 32 → ways_at t size w ≡ (if nat_eq size 0 && nat_eq w 0 then 1 else 0))) }
     {
-        let mut table = Table {
-            rows: [Row::none(); 32],
-        };
-        table.rows[0] = Row::of_nobody();
-        table
+        let mut rows = vec![in alloc; Row::none(); 32]?;
+        rows[0] = Row::of_nobody();
+        Ok(Table { rows })
     }
 
-    /// The coalitions of this table without and with one more player of this weight.
-    pub(crate) fn with_player(&self, weight: usize) -> Table
-        requires { IsSmallTable self.now }
-        ensures { (size w : ℕ) → size < 32 → w < 1001 → ways_at result size w ≡ ways_at self.now size w + smaller self.now size weight w }
+    /// Adds the coalitions of this table with one more player of this weight, from the greatest size down.
+    pub(crate) fn add_player(&mut self, weight: usize)
+        requires full { HasRows self.old }
+        requires small { IsSmallTable self.old }
+        ensures full { HasRows self.new }
+        ensures ways { (size w : ℕ) → size < 32 → w < 1001
+            → ways_at self.new size w ≡ ways_at self.old size w + smaller self.old size weight w }
     {
-        let mut table = *self;
-        for size in 1..32 {
-            table.rows[size] = self.rows[size].with_player(&self.rows[size - 1], weight);
+        for fewer in 0..31usize {
+            let size = 31 - fewer;
+            let smaller = self.rows[size - 1];
+            self.rows[size].add_with_player(&smaller, weight);
         }
-        table
     }
 
     /// The row of a size.
     pub(crate) fn row(&self, size: usize) -> &Row
-        requires { size < 32 }
+        requires full { HasRows self.now }
+        requires size { size < 32 }
         ensures { result.now ≡ row_at self.now size }
     {
         &self.rows[size]

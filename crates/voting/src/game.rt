@@ -11,6 +11,7 @@ use crate::layer::Layer;
 use crate::split_layers::SplitLayers;
 use crate::units::{product, share_unit};
 use coalitions::Coalition;
+use fractions::OutOfMemory;
 use std::alloc::Global;
 use std::marker::Model;
 use worth_core::{Shares, Worth};
@@ -52,7 +53,8 @@ impl VotingGame {
     /// The game of a quota and of 1 to 32 weights, which are from 0 and add to at most 1,000, where the quota is from 1
     /// to that sum; else the first cause in the order of `VotingFault`.
     pub fn new(alloc: Global, quota: i64, weights: Vec<i64>) -> Result<VotingGame, VotingFault>
-        ensures { MatchResult result (λ g. (pos g.quota ≡ quota) × (map pos g.weights ≡ weights.items)) (IsRefused quota weights.items) }
+        ensures { MatchResult result (λ g. (pos g.quota ≡ quota) × (map pos g.weights ≡ weights.items))
+            (IsRefused quota weights.items) }
     {
         if weights.is_empty() || weights.len() > 32 {
             return Err(VotingFault::Players);
@@ -100,32 +102,32 @@ impl VotingGame {
 }
 
 impl VotingGame {
-    ghost use Rattle.std.specs.Prelude.{◌-◌, ◌≤◌};
-    ghost use Rattle.voting.specs.Counts.{IsTable, numerator};
+    ghost use Rattle.std.specs.Prelude.{◌-◌, ◌≤◌, IfOk};
+    ghost use Rattle.voting.specs.Counts.{IsTable, HasRows, numerator};
 
     /// How many coalitions without player `i` there are of each size and weight.
-    fn counts_without(&self, i: u32) -> Table
+    fn counts_without(&self, alloc: Global, i: u32) -> Result<Table, OutOfMemory>
         requires { i < length self.now.weights }
-        ensures { IsTable (slice_index self.now.weights) i (length self.now.weights) result }
+        ensures { IfOk result (λ t. HasRows t × IsTable (slice_index self.now.weights) i (length self.now.weights) t) }
     {
-        let mut table = Table::of_nobody();
+        let mut table = Table::of_nobody(alloc)?;
         for j in 0..self.players() {
             if j != i {
-                table = table.with_player(self.weights[j as usize] as usize);
+                table.add_player(self.weights[j as usize] as usize);
             }
         }
-        table
+        Ok(table)
     }
 
     /// The Shapley share of player `i` over the least common multiple of 1 to 32: each coalition that the player makes
     /// winning gives what its size is worth.
-    pub(crate) fn numerator(&self, i: u32) -> i128
+    pub(crate) fn numerator(&self, alloc: Global, i: u32) -> Result<i128, OutOfMemory>
         requires { i < length self.now.weights }
-        ensures value { result ≡ numerator (slice_index self.now.weights) i (length self.now.weights)
-            (self.now.quota - slice_index self.now.weights i) self.now.quota }
-        ensures small { unsigned_abs result < 2 ^ 110 }
+        ensures value { IfOk result (λ n. n ≡ numerator (slice_index self.now.weights) i (length self.now.weights)
+            (self.now.quota - slice_index self.now.weights i) self.now.quota) }
+        ensures small { IfOk result (λ n. unsigned_abs n < 2 ^ 110) }
     {
-        let table = self.counts_without(i);
+        let table = self.counts_without(alloc, i)?;
         let players = self.players();
         let low = self.quota.saturating_sub(self.weights[i as usize]) as usize;
         let mut total: u128 = 0;
@@ -135,7 +137,7 @@ impl VotingGame {
                 table.row(k as usize).total(low, self.quota as usize),
             );
         }
-        total as i128
+        Ok(total as i128)
     }
 }
 
@@ -164,18 +166,20 @@ impl Worth for VotingGame {
         }
     }
 
+    #[inline(never)]
     fn blocker(&self, x: &Shares) -> Option<Coalition> {
         let mut layer = Layer::of_nobody();
         for i in 0..self.players() {
-            layer = layer.or_with(&layer, i, self.weights[i as usize] as usize, owed(x, i));
+            layer.add_player(i, self.weights[i as usize] as usize, owed(x, i));
         }
         chosen(layer.best(self.quota as usize, x.den()))
     }
 
+    #[inline(never)]
     fn split_bound(&self, x: &Shares, free: Coalition) -> i128 {
         let mut layers = SplitLayers::of_nobody();
         for i in 0..self.players() {
-            layers = layers.with_player(
+            layers.add_player(
                 free.contains(i),
                 i,
                 self.weights[i as usize] as usize,

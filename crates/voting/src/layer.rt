@@ -1,7 +1,7 @@
 //! The best sets of each weight.
-ghost use Rattle.std.specs.Prelude.{◌≡◌, None, Some, IfSome, if◌then◌else◌};
-ghost use Rattle.std.specs.Prelude.{ℕ, ◌^◌, ◌<◌, ◌+◌, pos, unsigned_abs, nat_le};
-ghost use Rattle.voting.specs.Candidates.{at_weight, with_at, joined_at, raised, AreSmall, IsSmallCandidate, best_below};
+ghost use Rattle.std.specs.Prelude.{◌≡◌, None, Some, IfSome, if◌then◌else◌, slice_index_or};
+ghost use Rattle.std.specs.Prelude.{ℕ, ◌^◌, ◌<◌, ◌≤◌, ◌+◌, ◌-◌, pos, unsigned_abs, nat_le};
+ghost use Rattle.voting.specs.Candidates.{at_weight, joined, joined_at, raised, AreSmall, IsSmallCandidate, best_below};
 
 use crate::candidate::{Candidate, better_of, plus, with_player};
 use coalitions::Coalition;
@@ -37,36 +37,74 @@ impl Layer {
         layer
     }
 
-    /// The candidates of these sets without player `i`, and of the other ones with player `i`, of this weight and
-    /// number.
-    pub(crate) fn or_with(&self, others: &Layer, i: u32, weight: usize, number: i128) -> Layer
+    /// Player `i` of this weight and number joins: of each set without the player and with it the better one.
+    pub(crate) fn add_player(&mut self, i: u32, weight: usize, number: i128)
         requires player { i < 32 }
         requires number { unsigned_abs number < 2 ^ 110 }
-        requires small { AreSmall i self.now }
-        requires others { AreSmall i others.now }
-        ensures entries { (w : ℕ) → w < 1001 → at_weight result w ≡ joined_at self.now others.now i weight number w }
-        ensures small { AreSmall (i + 1) result }
+        requires small { AreSmall i self.old }
+        ensures entries { (w : ℕ) → w < 1001 → at_weight self.new w ≡ joined_at self.old self.old i weight number w }
+        ensures small { AreSmall (i + 1) self.new }
     {
-        let mut layer = Layer::none();
-        for w in 0..1001 {
-            layer.entries[w] = better_of(self.entries[w], others.with(i, weight, number, w));
+        for fewer in 0..1001usize {
+            let w = 1000 - fewer;
+            let with = with_lighter(&self.entries, i, weight, number, w);
+            self.entries[w] = better_of(self.entries[w], with);
         }
-        layer
     }
 
-    /// The candidate of weight `w` that player `i` of this weight and number makes of a lighter one.
-    fn with(&self, i: u32, weight: usize, number: i128, w: usize) -> Option<Candidate>
+    /// Of each of these sets without player `i`, and of the other ones with player `i`, the better one.
+    pub(crate) fn or_with(&mut self, others: &Layer, i: u32, weight: usize, number: i128)
         requires player { i < 32 }
         requires number { unsigned_abs number < 2 ^ 110 }
-        requires small { AreSmall i self.now }
-        requires few { w < 1001 }
-        ensures value { result ≡ with_at self.now i weight number w }
-        ensures small { IfSome result (IsSmallCandidate (i + 1)) }
+        requires small { AreSmall i self.old }
+        requires others { AreSmall i others.now }
+        ensures entries { (w : ℕ) → w < 1001 → at_weight self.new w ≡ joined_at self.old others.now i weight number w }
+        ensures small { AreSmall (i + 1) self.new }
     {
-        if weight <= w {
-            with_player(self.entries[w - weight], i, number)
-        } else {
-            None
+        for fewer in 0..1001usize {
+            let w = 1000 - fewer;
+            let with = with_lighter(&others.entries, i, weight, number, w);
+            self.entries[w] = better_of(self.entries[w], with);
+        }
+    }
+
+    /// Of each of the other sets without player `i`, and of these with player `i`, the better one.
+    pub(crate) fn with_or(&mut self, others: &Layer, i: u32, weight: usize, number: i128)
+        requires player { i < 32 }
+        requires number { unsigned_abs number < 2 ^ 110 }
+        requires small { AreSmall i self.old }
+        requires others { AreSmall i others.now }
+        ensures entries { (w : ℕ) → w < 1001 → at_weight self.new w ≡ joined_at others.now self.old i weight number w }
+        ensures small { AreSmall (i + 1) self.new }
+    {
+        for fewer in 0..1001usize {
+            let w = 1000 - fewer;
+            let with = with_lighter(&self.entries, i, weight, number, w);
+            self.entries[w] = better_of(others.entries[w], with);
+        }
+    }
+
+    /// Whatever was here, of each set of the first layer without player `i`, and of the second with player `i`, the
+    /// better one.
+    pub(crate) fn take(
+        &mut self,
+        without: &Layer,
+        with: &Layer,
+        i: u32,
+        weight: usize,
+        number: i128,
+    )
+        requires player { i < 32 }
+        requires number { unsigned_abs number < 2 ^ 110 }
+        requires without { AreSmall i without.now }
+        requires with { AreSmall i with.now }
+        ensures entries { (w : ℕ) → w < 1001 → at_weight self.new w ≡ joined_at without.now with.now i weight number w }
+        ensures small { AreSmall (i + 1) self.new }
+    {
+        for fewer in 0..1001usize {
+            let w = 1000 - fewer;
+            let with = with_lighter(&with.entries, i, weight, number, w);
+            self.entries[w] = better_of(without.entries[w], with);
         }
     }
 
@@ -99,4 +137,27 @@ fn from_quota(quota: usize, weight: usize, number: i128) -> i128
     ensures { result ≡ (if nat_le quota weight then number else pos 0) }
 {
     if quota <= weight { number } else { 0 }
+}
+
+/// The candidate of weight `w` that player `i` of this weight and number makes of a lighter one.
+fn with_lighter(
+    entries: &[Option<Candidate>; 1001],
+    i: u32,
+    weight: usize,
+    number: i128,
+    w: usize,
+) -> Option<Candidate>
+    requires player { i < 32 }
+    requires number { unsigned_abs number < 2 ^ 110 }
+    requires few { w < 1001 }
+    requires small { weight ≤ w → IfSome (slice_index_or entries.now (w - weight) None) (IsSmallCandidate i) }
+    ensures value { result
+        ≡ (if nat_le weight w then joined (slice_index_or entries.now (w - weight) None) i number else None) }
+    ensures small { IfSome result (IsSmallCandidate (i + 1)) }
+{
+    if weight <= w {
+        with_player(entries[w - weight], i, number)
+    } else {
+        None
+    }
 }

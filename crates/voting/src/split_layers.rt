@@ -1,6 +1,6 @@
 //! The best sets of each weight, by whether they have to hold some player of a coalition, and to lack some.
 ghost use Rattle.std.specs.Prelude.{◌^◌, ◌<◌, ◌+◌, ℕ, true, false, unsigned_abs};
-ghost use Rattle.voting.specs.SetKinds.{Numbers, AreSplitLayers, IsOneMore, AreSmallLayers};
+ghost use Rattle.voting.specs.SetKinds.{Numbers, AreSplitLayers, AddsPlayer, AreSmallLayers};
 
 use crate::layer::Layer;
 
@@ -29,55 +29,46 @@ impl SplitLayers {
     }
 
     /// One more player is seen, of this weight and number, and in the coalition or not.
-    pub(crate) fn with_player(
-        &self,
-        is_free: bool,
-        i: u32,
-        weight: usize,
-        number: i128,
-    ) -> SplitLayers
+    pub(crate) fn add_player(&mut self, is_free: bool, i: u32, weight: usize, number: i128)
         requires player { i < 32 }
         requires number { unsigned_abs number < 2 ^ 110 }
-        requires small { AreSmallLayers i self.now }
-        ensures layers { IsOneMore self.now is_free i weight number result }
-        ensures small { AreSmallLayers (i + 1) result }
+        requires small { AreSmallLayers i self.old }
+        ensures layers { AddsPlayer self.old is_free i weight number self.new }
+        ensures small { AreSmallLayers (i + 1) self.new }
     {
         if is_free {
-            self.with_free(i, weight, number)
+            self.add_free(i, weight, number);
         } else {
-            self.with_other(i, weight, number)
+            self.add_other(i, weight, number);
         }
     }
 
     /// A player of the coalition: the sets with it hold some, and those without it lack some.
-    fn with_free(&self, i: u32, weight: usize, number: i128) -> SplitLayers
+    fn add_free(&mut self, i: u32, weight: usize, number: i128)
         requires player { i < 32 }
         requires number { unsigned_abs number < 2 ^ 110 }
-        requires small { AreSmallLayers i self.now }
-        ensures layers { IsOneMore self.now true i weight number result }
-        ensures small { AreSmallLayers (i + 1) result }
+        requires small { AreSmallLayers i self.old }
+        ensures layers { AddsPlayer self.old true i weight number self.new }
+        ensures small { AreSmallLayers (i + 1) self.new }
     {
-        SplitLayers {
-            any: self.any.or_with(&self.any, i, weight, number),
-            holding: self.holding.or_with(&self.any, i, weight, number),
-            lacking: self.any.or_with(&self.lacking, i, weight, number),
-            both: self.holding.or_with(&self.lacking, i, weight, number),
-        }
+        self.both
+            .take(&self.holding, &self.lacking, i, weight, number);
+        self.lacking.with_or(&self.any, i, weight, number);
+        self.holding.or_with(&self.any, i, weight, number);
+        self.any.add_player(i, weight, number);
     }
 
     /// A player outside the coalition.
-    fn with_other(&self, i: u32, weight: usize, number: i128) -> SplitLayers
+    fn add_other(&mut self, i: u32, weight: usize, number: i128)
         requires player { i < 32 }
         requires number { unsigned_abs number < 2 ^ 110 }
-        requires small { AreSmallLayers i self.now }
-        ensures layers { IsOneMore self.now false i weight number result }
-        ensures small { AreSmallLayers (i + 1) result }
+        requires small { AreSmallLayers i self.old }
+        ensures layers { AddsPlayer self.old false i weight number self.new }
+        ensures small { AreSmallLayers (i + 1) self.new }
     {
-        SplitLayers {
-            any: self.any.or_with(&self.any, i, weight, number),
-            holding: self.holding.or_with(&self.holding, i, weight, number),
-            lacking: self.lacking.or_with(&self.lacking, i, weight, number),
-            both: self.both.or_with(&self.both, i, weight, number),
-        }
+        self.any.add_player(i, weight, number);
+        self.holding.add_player(i, weight, number);
+        self.lacking.add_player(i, weight, number);
+        self.both.add_player(i, weight, number);
     }
 }

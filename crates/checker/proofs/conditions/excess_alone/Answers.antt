@@ -12,4 +12,5 @@ pub returns : goal.returns
 returns g c =
     let game = g.W.Worth.game c.args.game.now in
     let x = c.args.shares.now in
-    kept c.scaled_excess.result c.scaled_excess.type_inv ∙ c.scaled_excess.ensures ∙ ap (excess game x) c.single.ensures ∙ excess-singleton game x c.args.i c.requires.shares c.requires.player
+    kept c.scaled_excess.result c.scaled_excess.type_inv ∙ c.scaled_excess.ensures
+    ∙ ap (excess game x) c.single.ensures ∙ excess-singleton game x c.args.i c.requires.shares c.requires.player

@@ -6,4 +6,5 @@ pub loop-i-init : goal.loop-i-init
 loop-i-init c = leads_start (BoundWeighs c.args.front.now) c.args.bounds.now
 
 pub returns : goal.returns
-returns c = leads_end (BoundWeighs c.args.front.now) c.args.bounds.now c.loop-i.i-index c.loop-i.invariant c.loop-i-test.false
+returns c =
+    leads_end (BoundWeighs c.args.front.now) c.args.bounds.now c.loop-i.i-index c.loop-i.invariant c.loop-i-test.false

@@ -19,8 +19,13 @@ returns g c =
     let den : to_z w128 (of_z w128 c.den.result) ≡ c.den.result = search rules in
     let ratio = rw (den, c.den.ensures.value) at c.over-excess.ensures in
     let positive : pos 1 ≤ℤ x.den = rw c.den.ensures.value at c.den.ensures.positive in
-    let value = value_from_ratio c.args.measure game x c.args.s c.of.result f c.requires.measurable c.requires.some c.requires.within c.of.ensures ratio in
+    let value =
+    value_from_ratio c.args.measure game x c.args.s c.of.result f c.requires.measurable c.requires.some
+    c.requires.within c.of.ensures ratio in
     let f_positive = c.over-excess.ensures.reduced.positive in (
-      λ e. same_from_value m whole f.num f.den l.excess_num l.excess_den (omega (arith, linear, f_positive)) value (c.is_excess_of.ensures.0 e),
-      λ h. c.is_excess_of.ensures.1 (value_from_same m whole f.num f.den l.excess_num l.excess_den (measured_den-above c.args.measure x.den positive) value h),
+      λ e. same_from_value m whole f.num f.den l.excess_num l.excess_den (omega (arith, linear, f_positive)) value
+          (c.is_excess_of.ensures.0 e),
+      λ h. c.is_excess_of.ensures.1
+          (value_from_same m whole f.num f.den l.excess_num l.excess_den
+          (measured_den-above c.args.measure x.den positive) value h),
     )

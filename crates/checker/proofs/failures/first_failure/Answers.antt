@@ -4,10 +4,14 @@ use Rattle.checker.proofs.failures.first_failure.Goals as goal
 
 pub returns-then-is_some : goal.returns-then-is_some
 returns-then-is_some g c =
-    family_judged c.args.mode c.args.family c.args.measure (g.W.Worth.game c.args.game.now) c.args.shares.now c.args.levels.now c.family_failure-failure.result (sym c.if-is_some.ensures) c.family_failure-failure.ensures
+    family_judged c.args.mode c.args.family c.args.measure (g.W.Worth.game c.args.game.now) c.args.shares.now
+    c.args.levels.now c.family_failure-failure.result (sym c.if-is_some.ensures) c.family_failure-failure.ensures
 
 pub returns : goal.returns
 returns g c =
     let game = g.W.Worth.game c.args.game.now in
-    let member = member_of c.args.family game c.args.shares.now c.family_failure-failure.result _ (sym c.if-is_some.ensures) c.family_failure-failure.ensures in
-    levels_judged c.args.mode c.args.family c.args.measure game c.args.shares.now c.args.levels.now c.levels_failure.result member c.levels_failure.ensures
+    let member =
+    member_of c.args.family game c.args.shares.now c.family_failure-failure.result _ (sym c.if-is_some.ensures)
+    c.family_failure-failure.ensures in
+    levels_judged c.args.mode c.args.family c.args.measure game c.args.shares.now c.args.levels.now
+    c.levels_failure.result member c.levels_failure.ensures

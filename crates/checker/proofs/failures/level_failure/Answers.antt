@@ -15,12 +15,14 @@ first_unbalanced-requires-clause-few_bounds g c =
 pub first_unbalanced-requires-clause-small : goal.first_unbalanced-requires-clause-small
 first_unbalanced-requires-clause-small g c =
     let l = c.args.tested.now in
-    all_left (λ p. IsSmall p.1) l.coalitions l.earlier (all_left (λ p. IsSmall p.1) (l.coalitions ++ l.earlier) l.bounds c.requires.form.small)
+    all_left (λ p. IsSmall p.1) l.coalitions l.earlier
+    (all_left (λ p. IsSmall p.1) (l.coalitions ++ l.earlier) l.bounds c.requires.form.small)
 
 pub first_unbalanced-requires-clause-small_earlier : goal.first_unbalanced-requires-clause-small_earlier
 first_unbalanced-requires-clause-small_earlier g c =
     let l = c.args.tested.now in
-    all_right (λ p. IsSmall p.1) l.coalitions l.earlier (all_left (λ p. IsSmall p.1) (l.coalitions ++ l.earlier) l.bounds c.requires.form.small)
+    all_right (λ p. IsSmall p.1) l.coalitions l.earlier
+    (all_left (λ p. IsSmall p.1) (l.coalitions ++ l.earlier) l.bounds c.requires.form.small)
 
 pub first_unbalanced-requires-clause-small_bounds : goal.first_unbalanced-requires-clause-small_bounds
 first_unbalanced-requires-clause-small_bounds g c =
@@ -62,5 +64,8 @@ returns g c =
     let balanced = rw c.players.ensures.count at (c.in_default-first_unbalanced.ensures {u = tt}) in
     let bounds = c.deref.ensures.value ∙ ap (λ (l : Level). l.bounds) c.tested.view_is in
     let tight = rw bounds at (c.in_default-first_loose.ensures {u = tt}) in
-    let outside = c.in_ok-excess.ensures c.args.front.now c.requires.fixes in
-    (outside.1.0, outside.1.2, (refl, c.in_default.ensures {u = tt}, signs.0, signs.1, balanced, tight, outside.0, outside.1.1))
+    let outside = c.in_ok-excess.ensures c.args.front.now c.requires.fixes in (
+      outside.1.0,
+      outside.1.2,
+      (refl, c.in_default.ensures {u = tt}, signs.0, signs.1, balanced, tight, outside.0, outside.1.1),
+    )

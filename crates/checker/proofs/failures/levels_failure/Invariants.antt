@@ -5,4 +5,5 @@ use Rattle.checker.proofs.failures.levels_failure.Given as goal
 
 abbrev pub invariant-loop-i : goal.invariant-loop-i
 invariant-loop-i g l =
-    SameLevels l.fn.mode l.family l.measure (g.W.Worth.game l.game) l.shares l.levels l.i × (mode_of l.fixed ≡ l.fn.mode) × Fixes (g.W.Worth.game l.game).players (take l.i l.levels) l.fixed
+    SameLevels l.fn.mode l.family l.measure (g.W.Worth.game l.game) l.shares l.levels l.i
+    × (mode_of l.fixed ≡ l.fn.mode) × Fixes (g.W.Worth.game l.game).players (take l.i l.levels) l.fixed

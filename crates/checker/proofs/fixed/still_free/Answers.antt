@@ -9,6 +9,9 @@ loop-i-preserved c =
     let levels = c.args.levels.now in
     let i = c.loop-i.i in
     elim c.if-is_fixed.branch [
-      | then-is_fixed w ↦ rw w.still-is (StillFree-without n levels c.args.free i c.loop-i.still w.without-still.result c.loop-i.invariant (sym w.if-is_fixed.ensures) w.without-still.ensures)
-      | else-is_fixed w ↦ rw w.still-is (StillFree-kept n levels c.args.free i c.loop-i.still c.loop-i.invariant (sym w.if-is_fixed.ensures))
+      | then-is_fixed w ↦ rw w.still-is
+          (StillFree-without n levels c.args.free i c.loop-i.still w.without-still.result c.loop-i.invariant
+          (sym w.if-is_fixed.ensures) w.without-still.ensures)
+      | else-is_fixed w ↦ rw w.still-is
+          (StillFree-kept n levels c.args.free i c.loop-i.still c.loop-i.invariant (sym w.if-is_fixed.ensures))
     ]

@@ -5,7 +5,8 @@ use Rattle.checker.proofs.outside.first_free.Goals as goal
 
 pub returns-then-has_two : goal.returns-then-has_two
 returns-then-has_two c =
-    λ levels h. found_first c.args.n levels c.args.free c.first_member.result h (c.if-has_two.ensures.0 refl) c.first_member.ensures
+    λ levels h. found_first c.args.n levels c.args.free c.first_member.result h (c.if-has_two.ensures.0 refl)
+    c.first_member.ensures
 
 pub returns-else-has_two : goal.returns-else-has_two
 returns-else-has_two c =

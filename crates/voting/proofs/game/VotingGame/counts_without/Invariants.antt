@@ -1,6 +1,9 @@
 use Rattle.std.proofs.Common.{slice_index}
-use Rattle.voting.specs.Counts.{IsTable}
+use Rattle.voting.specs.Counts.{HasRows, IsTable}
 use Rattle.voting.proofs.game.VotingGame.counts_without.Given as goal
 
 abbrev pub invariant-loop-j : goal.invariant-loop-j
-invariant-loop-j l = IsTable (slice_index l.self.weights) l.i l.j l.table
+invariant-loop-j l = record {
+  full : HasRows l.table;
+  counts : IsTable (slice_index l.self.weights) l.i l.j l.table;
+}

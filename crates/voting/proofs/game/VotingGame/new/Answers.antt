@@ -6,7 +6,11 @@ use Rattle.orders.specs.Numbers.{IsNumber}
 use Rattle.voting.specs.Voting.{AreNumbers, IsQuota}
 use Rattle.voting.proofs.Quotas.{have_players, same_quota, is_quota, is_voting, too_heavy, too_low, too_high}
 use Rattle.voting.proofs.game.VotingGame.new.Goals as goal
-use Rattle.voting.proofs.game.VotingGame.new.Goals.{then-total-gt1000-via-then-total-gt1000, then-total-gt1000-via-else-total-gt1000+then-quota-lt1, then-total-gt1000-via-else-total-gt1000+else-quota-lt1+then-total-quota}
+use Rattle.voting.proofs.game.VotingGame.new.Goals.{
+  then-total-gt1000-via-then-total-gt1000,
+  then-total-gt1000-via-else-total-gt1000+then-quota-lt1,
+  then-total-gt1000-via-else-total-gt1000+else-quota-lt1+then-total-quota,
+}
 
 pub returns-then-total-gt1000 : goal.returns-then-total-gt1000
 returns-then-total-gt1000 c =
@@ -15,12 +19,18 @@ returns-then-total-gt1000 c =
     let z = to_z w64 (of_z w64 quota) in
     let kept : z ≡ quota = search rules in
     let sums = c.total-total.ensures ∙ ap (sum_by unsigned_abs) c.deref-2.ensures.value in
-    let players = have_players ws.items ws.len c.len.result c.is_empty.result ws.ok.0 c.is_empty.ensures c.if-is_empty.false c.len.ensures c.if-len-gt32.false in
-    let numbers : AreNumbers quota ws.items = rw (kept, c.deref.ensures.value) at (c.are_numbers.ensures.0 c.if-not-are_numbers.false) in
+    let players =
+    have_players ws.items ws.len c.len.result c.is_empty.result ws.ok.0 c.is_empty.ensures c.if-is_empty.false
+    c.len.ensures c.if-len-gt32.false in
+    let numbers : AreNumbers quota ws.items =
+    rw (kept, c.deref.ensures.value) at (c.are_numbers.ensures.0 c.if-not-are_numbers.false) in
     let none : ¬ IsQuota quota ws.items = elim c.then-total-gt1000.branch [
-      | then-total-gt1000-via-then-total-gt1000 w ↦ too_heavy quota z ws.items c.total-total.result kept sums w.if-total-gt1000.true
-      | then-total-gt1000-via-else-total-gt1000+then-quota-lt1 w ↦ too_low quota z ws.items c.total-total.result kept sums w.if-quota-lt1.true
-      | then-total-gt1000-via-else-total-gt1000+else-quota-lt1+then-total-quota w ↦ too_high quota z ws.items c.total-total.result kept sums w.if-total-quota.true
+      | then-total-gt1000-via-then-total-gt1000 w ↦ too_heavy quota z ws.items c.total-total.result kept sums
+          w.if-total-gt1000.true
+      | then-total-gt1000-via-else-total-gt1000+then-quota-lt1 w ↦ too_low quota z ws.items c.total-total.result
+          kept sums w.if-quota-lt1.true
+      | then-total-gt1000-via-else-total-gt1000+else-quota-lt1+then-total-quota w ↦ too_high quota z ws.items
+          c.total-total.result kept sums w.if-total-quota.true
     ] in
     (players, numbers, none)
 
@@ -31,9 +41,16 @@ returns-in_default c =
     let z = to_z w64 (of_z w64 quota) in
     let kept : z ≡ quota = search rules in
     let sums = c.total-total.ensures ∙ ap (sum_by unsigned_abs) c.deref-2.ensures.value in
-    let players = have_players ws.items ws.len c.len.result c.is_empty.result ws.ok.0 c.is_empty.ensures c.if-is_empty.false c.len.ensures c.if-len-gt32.false in
-    let numbers : AreNumbers quota ws.items = rw (kept, c.deref.ensures.value) at (c.are_numbers.ensures.0 c.if-not-are_numbers.false) in
-    (players, numbers, is_quota quota z ws.items c.total-total.result kept sums c.if-total-gt1000.false c.if-quota-lt1.false c.if-total-quota.false)
+    let players =
+    have_players ws.items ws.len c.len.result c.is_empty.result ws.ok.0 c.is_empty.ensures c.if-is_empty.false
+    c.len.ensures c.if-len-gt32.false in
+    let numbers : AreNumbers quota ws.items =
+    rw (kept, c.deref.ensures.value) at (c.are_numbers.ensures.0 c.if-not-are_numbers.false) in (
+      players,
+      numbers,
+      is_quota quota z ws.items c.total-total.result kept sums c.if-total-gt1000.false c.if-quota-lt1.false
+          c.if-total-quota.false,
+    )
 
 pub invariant_of-result : goal.invariant_of-result
 invariant_of-result c =
@@ -42,17 +59,25 @@ invariant_of-result c =
     let z = to_z w64 (of_z w64 quota) in
     let kept : z ≡ quota = search rules in
     let sums = c.total-total.ensures ∙ ap (sum_by unsigned_abs) c.deref-2.ensures.value in
-    let players = have_players ws.items ws.len c.len.result c.is_empty.result ws.ok.0 c.is_empty.ensures c.if-is_empty.false c.len.ensures c.if-len-gt32.false in
-    let quotas = is_quota quota z ws.items c.total-total.result kept sums c.if-total-gt1000.false c.if-quota-lt1.false c.if-total-quota.false in
-    is_voting quota z ws.items c.in-Ok.weights.items kept (c.in-Ok.ensures.0 ∙ c.deref-3.ensures.value) c.in-Ok.ensures.1 players quotas
+    let players =
+    have_players ws.items ws.len c.len.result c.is_empty.result ws.ok.0 c.is_empty.ensures c.if-is_empty.false
+    c.len.ensures c.if-len-gt32.false in
+    let quotas =
+    is_quota quota z ws.items c.total-total.result kept sums c.if-total-gt1000.false c.if-quota-lt1.false
+    c.if-total-quota.false in
+    is_voting quota z ws.items c.in-Ok.weights.items kept (c.in-Ok.ensures.0 ∙ c.deref-3.ensures.value)
+    c.in-Ok.ensures.1 players quotas
 
 pub returns-then-not-are_numbers : goal.returns-then-not-are_numbers
 returns-then-not-are_numbers c =
     let ws = c.args.weights in
     let quota = c.args.quota in
     let kept : to_z w64 (of_z w64 quota) ≡ quota = search rules in
-    let players = have_players ws.items ws.len c.len.result c.is_empty.result ws.ok.0 c.is_empty.ensures c.if-is_empty.false c.len.ensures c.if-len-gt32.false in
-    let asked : AreNumbers quota ws.items → AreNumbers (to_z w64 (of_z w64 quota)) c.deref.result.now = λ h. rw (kept, c.deref.ensures.value) h in
+    let players =
+    have_players ws.items ws.len c.len.result c.is_empty.result ws.ok.0 c.is_empty.ensures c.if-is_empty.false
+    c.len.ensures c.if-len-gt32.false in
+    let asked : AreNumbers quota ws.items → AreNumbers (to_z w64 (of_z w64 quota)) c.deref.result.now =
+    λ h. rw (kept, c.deref.ensures.value) h in
     (players, λ h. false≢true (sym c.if-not-are_numbers.true ∙ c.are_numbers.ensures.1 (asked h)))
 
 pub total-total-requires-clause-small : goal.total-total-requires-clause-small
@@ -60,7 +85,8 @@ total-total-requires-clause-small c =
     let ws = c.args.weights in
     let quota = c.args.quota in
     let kept : to_z w64 (of_z w64 quota) ≡ quota = search rules in
-    let numbers : AreNumbers quota ws.items = rw (kept, c.deref.ensures.value) at (c.are_numbers.ensures.0 c.if-not-are_numbers.false) in
+    let numbers : AreNumbers quota ws.items =
+    rw (kept, c.deref.ensures.value) at (c.are_numbers.ensures.0 c.if-not-are_numbers.false) in
     subst (All IsNumber) (sym c.deref-2.ensures.value) numbers.1
 
 pub naturals-requires : goal.naturals-requires
@@ -68,12 +94,16 @@ naturals-requires c =
     let ws = c.args.weights in
     let quota = c.args.quota in
     let kept : to_z w64 (of_z w64 quota) ≡ quota = search rules in
-    let numbers : AreNumbers quota ws.items = rw (kept, c.deref.ensures.value) at (c.are_numbers.ensures.0 c.if-not-are_numbers.false) in
+    let numbers : AreNumbers quota ws.items =
+    rw (kept, c.deref.ensures.value) at (c.are_numbers.ensures.0 c.if-not-are_numbers.false) in
     subst (All IsNumber) (sym c.deref-3.ensures.value) numbers.1
 
 pub returns : goal.returns
 returns c =
     let quota = c.args.quota in
     let kept : to_z w64 (of_z w64 quota) ≡ quota = search rules in
-    let sums = c.total-total.ensures ∙ ap (sum_by unsigned_abs) c.deref-2.ensures.value in
-    (same_quota quota (to_z w64 (of_z w64 quota)) c.args.weights.items c.total-total.result kept sums c.if-quota-lt1.false, c.in-Ok.ensures.0 ∙ c.deref-3.ensures.value)
+    let sums = c.total-total.ensures ∙ ap (sum_by unsigned_abs) c.deref-2.ensures.value in (
+      same_quota quota (to_z w64 (of_z w64 quota)) c.args.weights.items c.total-total.result kept sums
+          c.if-quota-lt1.false,
+      c.in-Ok.ensures.0 ∙ c.deref-3.ensures.value,
+    )

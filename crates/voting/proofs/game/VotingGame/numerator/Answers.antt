@@ -10,7 +10,10 @@ total-requires-clause-small c =
     let g = c.args.self.now in
     let laws = subst IsVoting c.self.view_is c.self.invariant in
     let few = laws.few in
-    let small = table_small (slice_index g.weights) c.args.i (length g.weights) c.counts_without-table.result few c.counts_without-table.ensures c.loop-k.k (omega (arith, few, c.players-players.ensures.count, c.loop-k-test.true)) in
+    let small =
+    table_small (slice_index g.weights) c.args.i (length g.weights) c.in_ok-table.table few
+    c.in_ok-table.ensures.1 c.loop-k.k
+    (omega (arith, few, c.players-players.ensures.count, c.loop-k-test.true)) in
     subst IsSmallRow (sym c.row.ensures) small
 
 pub loop-k-preserved : goal.loop-k-preserved
@@ -21,10 +24,16 @@ loop-k-preserved c =
     let laws = subst IsVoting c.self.view_is c.self.invariant in
     let lt : k < length g.weights = omega (arith, c.players-players.ensures.count, c.loop-k-test.true) in
     let quota = ap (λ (v : Voting). v.quota) c.self.view_is in
-    let weight = weight-read g c.self.inside.quota c.self.inside.weights.items i c.index.result.now c.self.view_is c.requires c.index.ensures in
-    let low : c.saturating_sub-low.result ≡ g.quota - slice_index g.weights i = omega (arith, c.saturating_sub-low.ensures, quota, weight) in
+    let weight =
+    weight-read g c.self.inside.quota c.self.inside.weights.items i c.index.result.now c.self.view_is c.requires
+    c.index.ensures in
+    let low : c.saturating_sub-low.result ≡ g.quota - slice_index g.weights i =
+    omega (arith, c.saturating_sub-low.ensures, quota, weight) in
     let unit = c.share_unit.ensures.value ∙ ap (λ (n : ℕ). share_unit n k) c.players-players.ensures.count in
     record {
-      value = numerator_more g i k c.share_unit.result c.total.result c.saturating_sub-low.result c.self.inside.quota c.product-total.result c.loop-k.total c.counts_without-table.result c.row.result.now laws lt c.counts_without-table.ensures c.row.ensures c.total.ensures.value quota low unit c.product-total.ensures.value c.loop-k.invariant.value;
+      value =
+          numerator_more g i k c.share_unit.result c.total.result c.saturating_sub-low.result c.self.inside.quota
+          c.product-total.result c.loop-k.total c.in_ok-table.table c.row.result.now laws lt c.in_ok-table.ensures.1
+          c.row.ensures c.total.ensures.value quota low unit c.product-total.ensures.value c.loop-k.invariant.value;
       small = omega (arith, c.loop-k.invariant.small, c.product-total.ensures.small);
     }

@@ -19,31 +19,48 @@ loop-i-preserved c =
     let x = c.args.x.now in
     let i = c.loop-i.i in
     let lt : i < length g.weights = omega (arith, c.players-i-end.ensures.count, c.loop-i-test.true) in
-    let weight = weight-read g c.self.inside.quota c.self.inside.weights.items i c.index.result.now c.self.view_is lt c.index.ensures in
+    let weight =
+    weight-read g c.self.inside.quota c.self.inside.weights.items i c.index.result.now c.self.view_is lt
+    c.index.ensures in
     let kept = cast_kept w128 c.owed.result (omega (arith, c.owed.ensures.small)) in
     record {
-      best = c.with_player-layers.ensures.layers (numbers g x) c.args.free lt (sym c.contains.ensures) weight (sym c.owed.ensures.value ∙ sym kept) c.loop-i.invariant.best;
-      small = c.with_player-layers.ensures.small;
+      best =
+          c.add_player.ensures.layers (numbers g x) c.args.free lt (sym c.contains.ensures) weight
+          (sym c.owed.ensures.value ∙ sym kept) c.loop-i.invariant.best;
+      small = c.add_player.ensures.small;
     }
 
 pub sum_of-requires : goal.sum_of-requires
 sum_of-requires c =
     let g = c.args.self.now in
     let x = c.args.x.now in
-    let end : c.loop-i.i ≡ length g.weights = omega (arith, c.players-i-end.ensures.count, c.loop-i-test.false, c.loop-i.auto.i-end) in
+    let end : c.loop-i.i ≡ length g.weights =
+    omega (arith, c.players-i-end.ensures.count, c.loop-i-test.false, c.loop-i.auto.i-end) in
     let laws = subst IsVoting c.self.view_is c.self.invariant in
     let quota = ap (λ (v : Voting). v.quota) c.self.view_is in
-    let den = cast_kept w128 c.den.result (omega (arith, ints, c.den.ensures.positive, c.den.ensures.common)) ∙ c.den.ensures.value in
-    some_splits (length g.weights) c.args.free (excess (voting_game g) x) c.best.result c.requires.two (read-split g x c.args.free c.loop-i.layers.both c.self.inside.quota c.loop-i.i _ c.best.result laws c.requires.shares quota den end c.loop-i.invariant.best.both c.best.ensures)
+    let den =
+    cast_kept w128 c.den.result (omega (arith, ints, c.den.ensures.positive, c.den.ensures.common))
+    ∙ c.den.ensures.value in
+    some_splits (length g.weights) c.args.free (excess (voting_game g) x) c.best.result c.requires.two
+    (read-split g x c.args.free c.loop-i.layers.both c.self.inside.quota c.loop-i.i _ c.best.result laws
+    c.requires.shares quota den end c.loop-i.invariant.best.both c.best.ensures)
 
 pub returns : goal.returns
 returns c =
     let g = c.args.self.now in
     let x = c.args.x.now in
-    let end : c.loop-i.i ≡ length g.weights = omega (arith, c.players-i-end.ensures.count, c.loop-i-test.false, c.loop-i.auto.i-end) in
+    let end : c.loop-i.i ≡ length g.weights =
+    omega (arith, c.players-i-end.ensures.count, c.loop-i-test.false, c.loop-i.auto.i-end) in
     let laws = subst IsVoting c.self.view_is c.self.invariant in
     let quota = ap (λ (v : Voting). v.quota) c.self.view_is in
-    let den = cast_kept w128 c.den.result (omega (arith, ints, c.den.ensures.positive, c.den.ensures.common)) ∙ c.den.ensures.value in
-    let best = read-split g x c.args.free c.loop-i.layers.both c.self.inside.quota c.loop-i.i _ c.best.result laws c.requires.shares quota den end c.loop-i.invariant.best.both c.best.ensures in
+    let den =
+    cast_kept w128 c.den.result (omega (arith, ints, c.den.ensures.positive, c.den.ensures.common))
+    ∙ c.den.ensures.value in
+    let best =
+    read-split g x c.args.free c.loop-i.layers.both c.self.inside.quota c.loop-i.i _ c.best.result laws
+    c.requires.shares quota den end c.loop-i.invariant.best.both c.best.ensures in
     let kept = to_z-of_z w128 c.sum_of.result (record { sfits = c.sum_of.type_inv }) in
-    subst (λ (z : ℤ). IsSplitMaximum (voting_game g) x c.args.free z) (sym kept) (split-best (voting_game g) x c.args.free c.best.result c.sum_of.result (some_splits (length g.weights) c.args.free (excess (voting_game g) x) c.best.result c.requires.two best) c.sum_of.ensures best)
+    subst (λ (z : ℤ). IsSplitMaximum (voting_game g) x c.args.free z) (sym kept)
+    (split-best (voting_game g) x c.args.free c.best.result c.sum_of.result
+    (some_splits (length g.weights) c.args.free (excess (voting_game g) x) c.best.result c.requires.two best)
+    c.sum_of.ensures best)
