@@ -13,17 +13,21 @@ abbrev pub IsWithin : ℕ → ℕ → ℕ → Type 0
 IsWithin n seen s = (s < 2 ^ n) × ((i : ℕ) → has_player s i ≡ true → has_player seen i ≡ true)
 
 -- a coalition of the players seen now was there before, or is one that was, with the new player
-pub IsWithin-cases : (n seen i s : ℕ) → i < n → has_player seen i ≡ false → IsWithin n (seen + 2 ^ i) s → IsWithin n seen s ⊎ ((t : ℕ) × IsWithin n seen t × (s ≡ t + 2 ^ i))
-IsWithin-cases n seen i s lt new h = elim (IsSeenSet-cases n 0 seen i (λ holds lacks. true) s lt new (h.0, h.1, refl)) [
-  | inl old ↦ inl (old.0, old.1)
-  | inr more ↦ inr (more.0, (more.1.0, more.1.1), more.2)
-]
+pub IsWithin-cases : (n seen i s : ℕ) → i < n → has_player seen i ≡ false → IsWithin n (seen + 2 ^ i) s
+    → IsWithin n seen s ⊎ ((t : ℕ) × IsWithin n seen t × (s ≡ t + 2 ^ i))
+IsWithin-cases n seen i s lt new h =
+    elim (IsSeenSet-cases n 0 seen i (λ holds lacks. true) s lt new (h.0, h.1, refl)) [
+      | inl old ↦ inl (old.0, old.1)
+      | inr more ↦ inr (more.0, (more.1.0, more.1.1), more.2)
+    ]
 
-pub IsWithin-with : (n seen i t : ℕ) → i < n → has_player seen i ≡ false → IsWithin n seen t → IsWithin n (seen + 2 ^ i) (t + 2 ^ i)
+pub IsWithin-with : (n seen i t : ℕ) → i < n → has_player seen i ≡ false → IsWithin n seen t
+    → IsWithin n (seen + 2 ^ i) (t + 2 ^ i)
 IsWithin-with n seen i t lt new h =
     let more = IsSeenSet-with n 0 seen i (λ holds lacks. true) t lt new (h.0, h.1, refl) in (more.0, more.1)
 
-pub IsWithin-without : (n seen i t : ℕ) → i < n → has_player seen i ≡ false → IsWithin n seen t → IsWithin n (seen + 2 ^ i) t
+pub IsWithin-without : (n seen i t : ℕ) → i < n → has_player seen i ≡ false → IsWithin n seen t
+    → IsWithin n (seen + 2 ^ i) t
 IsWithin-without n seen i t lt new h =
     let less = IsSeenSet-without n 0 seen i (λ holds lacks. true) t lt new (h.0, h.1, refl) in (less.0, less.1)
 
@@ -40,7 +44,8 @@ IsWithin-nobody n s h = same_coalition s 0 (λ i. decide i (has_player s i) refl
     decide i false e = e ∙ sym (has_player-empty i)
 
 -- where all players are seen
-pub IsWithin-everybody : (n : ℕ) (number at : ℕ → ℕ) → IsOrder n number at → (s : ℕ) → s < 2 ^ n → IsWithin n (front at n) s
+pub IsWithin-everybody : (n : ℕ) (number at : ℕ → ℕ) → IsOrder n number at → (s : ℕ) → s < 2 ^ n
+    → IsWithin n (front at n) s
 IsWithin-everybody n number at o s lt = (
   lt,
   λ i h. elim (below_or_above i n) [

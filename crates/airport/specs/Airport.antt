@@ -35,8 +35,9 @@ airport_game a = record { players = length a.costs; worth = airport_worth a.cost
 abbrev pub place : Airport → ℕ → ℕ
 place a k = slice_index a.order k
 
--- why costs make no game: there aren't 1 to 64; or there are, and one isn't a cost; or there was no memory
+-- why costs make no game: there aren't 1 to 64; or there are, and one isn't a cost; or each is, and there was no
+-- memory
 abbrev pub IsRefused : List ℤ → AirportFault → Type 0
 IsRefused costs Players = ¬ ((1 ≤ length costs) × (length costs ≤ 64))
 IsRefused costs Number = (1 ≤ length costs) × (length costs ≤ 64) × ¬ All IsCost costs
-IsRefused costs Memory = Unit {0}
+IsRefused costs Memory = (1 ≤ length costs) × (length costs ≤ 64) × All IsCost costs

@@ -15,7 +15,7 @@ pub enum AirportFault {
     Players,
     /// A cost is negative, or 2^40 or more.
     Number,
-    /// There was no memory.
+    /// There was no memory for the game of these costs.
     Memory,
 }
 

@@ -1,10 +1,12 @@
 -- The excesses at the payments.
-use Rattle.std.proofs.Common.{◌≡◌, ◌≢◌, ◌⊎◌, ℕ, zero, suc, ◌-◌, ◌^◌, ◌<◌, ◌≤◌, true, false, List, length, get_or, ℤ, pos, ◌-ℤ◌, ◌*ℤ◌, neg_ℤ, ◌≤ℤ◌, refl, sym, ap, ◌∙◌, inl, inr, arith}
+use Rattle.std.proofs.Common.{◌≡◌, ◌≢◌, ◌⊎◌, ℕ, zero, suc, ◌-◌, ◌^◌, ◌<◌, ◌≤◌, true, false, List, length, get_or}
+use Rattle.std.proofs.Common.{ℤ, pos, ◌-ℤ◌, ◌*ℤ◌, neg_ℤ, ◌≤ℤ◌, refl, sym, ap, ◌∙◌, inl, inr, arith}
 use Rattle.std.proofs.lemmas.Bool.{false≢true}
 use Rattle.std.proofs.lemmas.Int.{ints}
 use Rattle.std.proofs.Math.Pow.{pow-lt}
 use Rattle.definitions.proofs.Ring.{linear, mul-negℤ, mul-leℤ, mul-zeroℤ}
-use Rattle.definitions.proofs.Members.{has_player-empty, has_player-grand_coalition, sum_over-complement, sum_over-grand_coalition, sum_over-singleton}
+use Rattle.definitions.proofs.Members.{has_player-empty, has_player-grand_coalition}
+use Rattle.definitions.proofs.Members.{sum_over-complement, sum_over-grand_coalition, sum_over-singleton}
 use Rattle.definitions.proofs.Parts.{has_player-more_other, others_has, sum_over-within, sum_over-within_but}
 use Rattle.definitions.specs.Sums.{sum_below}
 use Rattle.definitions.specs.Coalitions.{has_player, singleton, grand_coalition, sum_over}
@@ -24,20 +26,24 @@ cost costs i = get_or costs i 0
 
 -- ---- amounts
 
-sum_below-negated : (k : ℕ) (f g : ℕ → ℤ) → ((j : ℕ) → j < k → f j ≡ neg_ℤ (g j)) → sum_below k f ≡ neg_ℤ (sum_below k g)
+sum_below-negated : (k : ℕ) (f g : ℕ → ℤ) → ((j : ℕ) → j < k → f j ≡ neg_ℤ (g j))
+    → sum_below k f ≡ neg_ℤ (sum_below k g)
 sum_below-negated zero f g h = refl
 sum_below-negated (suc k) f g h =
     omega (arith, linear, sum_below-negated k f g (λ j lt. h j (omega arith)), h k (omega arith))
 
-pub amount-at : (costs : List ℕ) (at : ℕ → ℕ) (pay : ℕ → ℤ) (x : Allocation) → IsPaid costs at pay x → (s : ℕ) → amount x s ≡ sum_over (length costs) (share x) s
+pub amount-at : (costs : List ℕ) (at : ℕ → ℕ) (pay : ℕ → ℤ) (x : Allocation) → IsPaid costs at pay x → (s : ℕ)
+    → amount x s ≡ sum_over (length costs) (share x) s
 amount-at costs at pay x p s = ap (λ (n : ℕ). sum_over n (share x) s) p.players
 
-amount-front : (costs : List ℕ) (at : ℕ → ℕ) (pay : ℕ → ℤ) (x : Allocation) → IsPaid costs at pay x → (k : ℕ) → k ≤ length costs → sum_over (length costs) (share x) (front at k) ≡ neg_ℤ (sum_below k pay)
+amount-front : (costs : List ℕ) (at : ℕ → ℕ) (pay : ℕ → ℤ) (x : Allocation) → IsPaid costs at pay x → (k : ℕ)
+    → k ≤ length costs → sum_over (length costs) (share x) (front at k) ≡ neg_ℤ (sum_below k pay)
 amount-front costs at pay x p k le =
     sum_over-front (length costs) (cost costs) at p.order (share x) k le
     ∙ sum_below-negated k (λ j. share x (at j)) pay (λ j lt. p.shares j (omega arith))
 
-share-low : (costs : List ℕ) (at : ℕ → ℕ) (pay : ℕ → ℤ) (x : Allocation) → IsPaid costs at pay x → (i : ℕ) → i < length costs → share x i ≤ℤ pos 0
+share-low : (costs : List ℕ) (at : ℕ → ℕ) (pay : ℕ → ℤ) (x : Allocation) → IsPaid costs at pay x → (i : ℕ)
+    → i < length costs → share x i ≤ℤ pos 0
 share-low costs at pay x p i h =
     let r = order-place (length costs) (cost costs) at p.order i h in
     let e = p.shares r.0 r.1 in
@@ -51,10 +57,13 @@ sum-nonnegative (suc k) n pay le h =
     omega (arith, linear, sum-nonnegative k n pay (omega arith) h, h k (omega arith))
 
 -- the first players pay no more than their cost
-room : (n : ℕ) (c : ℕ → ℕ) (pay : ℕ → ℤ) (den : ℤ) → IsScheme n c pay den → (k : ℕ) → k < n → sum_below (suc k) pay ≤ℤ (den *ℤ pos (c k))
+room : (n : ℕ) (c : ℕ → ℕ) (pay : ℕ → ℤ) (den : ℤ) → IsScheme n c pay den → (k : ℕ) → k < n
+    → sum_below (suc k) pay ≤ℤ (den *ℤ pos (c k))
 room n c pay den s k lt = elim (next_or_last k n lt) [
   | inl more ↦ omega (arith, linear, s.under k more, s.least k lt)
-  | inr last ↦ let e : sum_below (suc k) pay ≡ sum_below n pay = ap (λ (m : ℕ). sum_below m pay) last in omega (arith, linear, e, s.all k last)
+  | inr last ↦
+      let e : sum_below (suc k) pay ≡ sum_below n pay = ap (λ (m : ℕ). sum_below m pay) last in
+      omega (arith, linear, e, s.all k last)
 ]
 
 -- ---- the last place of a coalition
@@ -62,14 +71,17 @@ room n c pay den s k lt = elim (next_or_last k n lt) [
 abbrev IsWithin : ℕ → ℕ → ℕ → Type 0
 IsWithin n s t = (i : ℕ) → i < n → has_player s i ≡ true → has_player t i ≡ true
 
-pub last_place : (n : ℕ) (cost at : ℕ → ℕ) → IsOrder n cost at → (s m : ℕ) → m ≤ n → IsWithin n s (front at m) → ((k : ℕ) × (k < m) × (has_player s (at k) ≡ true) × IsWithin n s (front at (suc k))) ⊎ IsWithin n s 0
+pub last_place : (n : ℕ) (cost at : ℕ → ℕ) → IsOrder n cost at → (s m : ℕ) → m ≤ n → IsWithin n s (front at m)
+    → ((k : ℕ) × (k < m) × (has_player s (at k) ≡ true) × IsWithin n s (front at (suc k))) ⊎ IsWithin n s 0
 last_place n cost at o s zero le h = inr h
 last_place n cost at o s (suc k) le h =
     let here = front-lacks n cost at o k k (omega arith) (omega arith) in
     elim (true_or_false (has_player s (at k))) [
       | inl yes_k ↦ inl (k, omega arith, yes_k, h)
       | inr no_k ↦
-          let less : IsWithin n s (front at k) = λ i lt e. sym (has_player-more_other (front at k) (at k) i here (λ same. false≢true (sym no_k ∙ sym (ap (λ (j : ℕ). has_player s j) same) ∙ e))) ∙ h i lt e in
+          let less : IsWithin n s (front at k) = λ i lt e. sym
+          (has_player-more_other (front at k) (at k) i here
+          (λ same. false≢true (sym no_k ∙ sym (ap (λ (j : ℕ). has_player s j) same) ∙ e))) ∙ h i lt e in
           elim (last_place n cost at o s k (omega arith) less) [
             | inl r ↦ inl (r.0, omega (arith, r.1), r.2, r.3)
             | inr none ↦ inr none
@@ -80,9 +92,16 @@ last_place n cost at o s (suc k) le h =
 
 worth-at_most : (den : ℤ) (c g : ℕ) → pos 1 ≤ℤ den → c ≤ g → (den *ℤ neg_ℤ (pos g)) ≤ℤ neg_ℤ (den *ℤ pos c)
 worth-at_most den c g one le =
-    omega (arith, linear, mul-negℤ den (pos g), mul-leℤ den (pos c) (pos g) (omega (arith, linear)) (omega (arith, ints)))
+    omega (
+      arith,
+      linear,
+      mul-negℤ den (pos g),
+      mul-leℤ den (pos c) (pos g) (omega (arith, linear)) (omega (arith, ints)),
+    )
 
-excess-last : (costs : List ℕ) (at : ℕ → ℕ) (pay : ℕ → ℤ) (x : Allocation) → IsPaid costs at pay x → (s k : ℕ) → k < length costs → has_player s (at k) ≡ true → IsWithin (length costs) s (front at (suc k)) → excess (game_of costs) x s ≤ℤ (sum_below (suc k) pay -ℤ x.den *ℤ pos (cost costs (at k)))
+excess-last : (costs : List ℕ) (at : ℕ → ℕ) (pay : ℕ → ℤ) (x : Allocation) → IsPaid costs at pay x → (s k : ℕ)
+    → k < length costs → has_player s (at k) ≡ true → IsWithin (length costs) s (front at (suc k))
+    → excess (game_of costs) x s ≤ℤ (sum_below (suc k) pay -ℤ x.den *ℤ pos (cost costs (at k)))
 excess-last costs at pay x p s k lt has within =
     let n = length costs in
     let g = greatest_cost n (cost costs) s in
@@ -91,22 +110,38 @@ excess-last costs at pay x p s k lt has within =
     let more = sum_over-within n s (front at (suc k)) (share x) (share-low costs at pay x p) within in
     omega (arith, linear, worth, more, amount-front costs at pay x p (suc k) lt, amount-at costs at pay x p s)
 
-excess-last_but : (costs : List ℕ) (at : ℕ → ℕ) (pay : ℕ → ℤ) (x : Allocation) → IsPaid costs at pay x → (s k j : ℕ) → k < length costs → has_player s (at k) ≡ true → IsWithin (length costs) s (front at (suc k)) → j < suc k → has_player s (at j) ≡ false → excess (game_of costs) x s ≤ℤ (sum_below (suc k) pay -ℤ x.den *ℤ pos (cost costs (at k)) -ℤ pay j)
+excess-last_but : (costs : List ℕ) (at : ℕ → ℕ) (pay : ℕ → ℤ) (x : Allocation) → IsPaid costs at pay x → (s k j : ℕ)
+    → k < length costs → has_player s (at k) ≡ true → IsWithin (length costs) s (front at (suc k)) → j < suc k
+    → has_player s (at j) ≡ false
+    → excess (game_of costs) x s ≤ℤ (sum_below (suc k) pay -ℤ x.den *ℤ pos (cost costs (at k)) -ℤ pay j)
 excess-last_but costs at pay x p s k j lt has within low lacks =
     let n = length costs in
     let g = greatest_cost n (cost costs) s in
     let least = greatest_cost-at_least n (cost costs) s (at k) (p.order.below k lt) has in
     let worth = worth-at_most x.den (cost costs (at k)) g p.scheme.positive least in
     let front_j = front-has n (cost costs) at p.order (suc k) j low lt in
-    let more = sum_over-within_but n s (front at (suc k)) (at j) (share x) (share-low costs at pay x p) within (p.order.below j (omega arith)) lacks front_j in
-    omega (arith, linear, worth, more, amount-front costs at pay x p (suc k) lt, amount-at costs at pay x p s, p.shares j (omega arith))
+    let more =
+    sum_over-within_but n s (front at (suc k)) (at j) (share x) (share-low costs at pay x p) within
+    (p.order.below j (omega arith)) lacks front_j in
+    omega (
+      arith,
+      linear,
+      worth,
+      more,
+      amount-front costs at pay x p (suc k) lt,
+      amount-at costs at pay x p s,
+      p.shares j (omega arith),
+    )
 
 -- a coalition that holds a player from place i on and lacks one has at most minus the payment at place i
-pub excess-outside : (costs : List ℕ) (at : ℕ → ℕ) (pay : ℕ → ℤ) (x : Allocation) → IsPaid costs at pay x → (s i h q : ℕ) → i ≤ h → h < length costs → has_player s (at h) ≡ true → i ≤ q → q < length costs → has_player s (at q) ≡ false → excess (game_of costs) x s ≤ℤ neg_ℤ (pay i)
+pub excess-outside : (costs : List ℕ) (at : ℕ → ℕ) (pay : ℕ → ℤ) (x : Allocation) → IsPaid costs at pay x
+    → (s i h q : ℕ) → i ≤ h → h < length costs → has_player s (at h) ≡ true → i ≤ q → q < length costs
+    → has_player s (at q) ≡ false → excess (game_of costs) x s ≤ℤ neg_ℤ (pay i)
 excess-outside costs at pay x p s i h q ih hn has iq qn lacks =
     let n = length costs in
     let o = p.order in
-    let all : IsWithin n s (front at n) = λ j lt e. ap (λ (t : ℕ). has_player t j) o.full ∙ has_player-grand_coalition n j lt in
+    let all : IsWithin n s (front at n) =
+    λ j lt e. ap (λ (t : ℕ). has_player t j) o.full ∙ has_player-grand_coalition n j lt in
     elim (last_place n (cost costs) at o s n (omega arith) all) [
       | inl r ↦
           let k = r.0 in
@@ -128,32 +163,55 @@ excess-outside costs at pay x p s i h q ih hn has iq qn lacks =
     place_cases q k = grind arith
 
     up_to : (j : ℕ) → i ≤ j → j < length costs → pay i ≤ℤ pay j
-    up_to j le lt = elim (same_or_less i j le) [ inl e ↦ rw e (omega (arith, ints)) | inr less ↦ p.scheme.rises i j less lt ]
+    up_to j le lt =
+        elim (same_or_less i j le) [ inl e ↦ rw e (omega (arith, ints)) | inr less ↦ p.scheme.rises i j less lt ]
       where
         same_or_less : (i j : ℕ) → i ≤ j → (i ≡ j) ⊎ (i < j)
         same_or_less i j le = grind arith
 
     not_past : (k : ℕ) → has_player (front at (suc k)) (at h) ≡ true → h < suc k
-    not_past k e = elim (place_cases h k) [ inl le ↦ le | inr gt ↦ absurd (false≢true (sym (front-lacks (length costs) (cost costs) at p.order (suc k) h gt hn) ∙ e)) ]
+    not_past k e =
+        elim (place_cases h k) [
+          | inl le ↦ le
+          | inr gt ↦ absurd
+              (false≢true (sym (front-lacks (length costs) (cost costs) at p.order (suc k) h gt hn) ∙ e))
+        ]
 
 -- nobody gains alone or with others
-pub excess-core : (costs : List ℕ) (at : ℕ → ℕ) (pay : ℕ → ℤ) (x : Allocation) → IsPaid costs at pay x → (s : ℕ) → excess (game_of costs) x s ≤ℤ pos 0
+pub excess-core : (costs : List ℕ) (at : ℕ → ℕ) (pay : ℕ → ℤ) (x : Allocation) → IsPaid costs at pay x → (s : ℕ)
+    → excess (game_of costs) x s ≤ℤ pos 0
 excess-core costs at pay x p s =
     let n = length costs in
     let o = p.order in
-    let all : IsWithin n s (front at n) = λ j lt e. ap (λ (t : ℕ). has_player t j) o.full ∙ has_player-grand_coalition n j lt in
+    let all : IsWithin n s (front at n) =
+    λ j lt e. ap (λ (t : ℕ). has_player t j) o.full ∙ has_player-grand_coalition n j lt in
     elim (last_place n (cost costs) at o s n (omega arith) all) [
-      | inl r ↦ omega (arith, linear, excess-last costs at pay x p s r.0 r.1 r.2 r.3, room n (λ j. cost costs (at j)) pay x.den p.scheme r.0 r.1)
+      | inl r ↦ omega (
+        arith,
+        linear,
+        excess-last costs at pay x p s r.0 r.1 r.2 r.3,
+        room n (λ j. cost costs (at j)) pay x.den p.scheme r.0 r.1,
+      )
       | inr none ↦
           let more = sum_over-within n s 0 (share x) (share-low costs at pay x p) none in
           let worth = worth-at_most x.den 0 (greatest_cost n (cost costs) s) p.scheme.positive (omega arith) in
-          omega (arith, linear, more, worth, mul-zeroℤ x.den, amount-front costs at pay x p 0 (omega arith), amount-at costs at pay x p s)
+          omega (
+            arith,
+            linear,
+            more,
+            worth,
+            mul-zeroℤ x.den,
+            amount-front costs at pay x p 0 (omega arith),
+            amount-at costs at pay x p s,
+          )
     ]
 
 -- ---- exact values
 
-cost-up_to : (costs : List ℕ) (at : ℕ → ℕ) (pay : ℕ → ℤ) (x : Allocation) → IsPaid costs at pay x → (j k : ℕ) → j ≤ k → k < length costs → cost costs (at j) ≤ cost costs (at k)
-cost-up_to costs at pay x p j k le lt = elim (same_or_less j k le) [ inl e ↦ rw e (omega arith) | inr less ↦ p.order.rising j k less lt ]
+cost-up_to : (costs : List ℕ) (at : ℕ → ℕ) (pay : ℕ → ℤ) (x : Allocation) → IsPaid costs at pay x → (j k : ℕ)
+    → j ≤ k → k < length costs → cost costs (at j) ≤ cost costs (at k)
+cost-up_to costs at pay x p j k le lt =
+    elim (same_or_less j k le) [ inl e ↦ rw e (omega arith) | inr less ↦ p.order.rising j k less lt ]
   where
     same_or_less : (j k : ℕ) → j ≤ k → (j ≡ k) ⊎ (j < k)
     same_or_less j k le = grind arith
@@ -164,14 +222,24 @@ worth-is den c g le ge =
     mul-negℤ den (pos g) ∙ ap (λ (m : ℕ). neg_ℤ (den *ℤ pos m)) e
 
 -- the first players, of whom the last has place k
-pub excess-front : (costs : List ℕ) (at : ℕ → ℕ) (pay : ℕ → ℤ) (x : Allocation) → IsPaid costs at pay x → (k : ℕ) → k < length costs → excess (game_of costs) x (front at (suc k)) ≡ sum_below (suc k) pay -ℤ x.den *ℤ pos (cost costs (at k))
+pub excess-front : (costs : List ℕ) (at : ℕ → ℕ) (pay : ℕ → ℤ) (x : Allocation) → IsPaid costs at pay x → (k : ℕ)
+    → k < length costs
+    → excess (game_of costs) x (front at (suc k)) ≡ sum_below (suc k) pay -ℤ x.den *ℤ pos (cost costs (at k))
 excess-front costs at pay x p k lt =
     let n = length costs in
     let s = front at (suc k) in
     let g = greatest_cost n (cost costs) s in
-    let least = greatest_cost-at_least n (cost costs) s (at k) (p.order.below k lt) (front-has n (cost costs) at p.order (suc k) k (omega arith) lt) in
+    let least =
+    greatest_cost-at_least n (cost costs) s (at k) (p.order.below k lt)
+    (front-has n (cost costs) at p.order (suc k) k (omega arith) lt) in
     let most = greatest_cost-at_most n (cost costs) s (cost costs (at k)) most_at in
-    omega (arith, linear, worth-is x.den (cost costs (at k)) g least most, amount-front costs at pay x p (suc k) lt, amount-at costs at pay x p s)
+    omega (
+      arith,
+      linear,
+      worth-is x.den (cost costs (at k)) g least most,
+      amount-front costs at pay x p (suc k) lt,
+      amount-at costs at pay x p s,
+    )
   where
     most_at : (i : ℕ) → i < length costs → has_player (front at (suc k)) i ≡ true → cost costs i ≤ cost costs (at k)
     most_at i h e =
@@ -180,7 +248,10 @@ excess-front costs at pay x p k lt =
         rw (← r.2) le
 
 -- all but the one at place j, where another place m has the greatest cost
-pub excess-others : (costs : List ℕ) (at : ℕ → ℕ) (pay : ℕ → ℤ) (x : Allocation) → IsPaid costs at pay x → (j m last : ℕ) → j < length costs → m < length costs → m ≢ j → suc last ≡ length costs → cost costs (at last) ≤ cost costs (at m) → excess (game_of costs) x (grand_coalition (length costs) - singleton (at j)) ≡ neg_ℤ (pay j)
+pub excess-others : (costs : List ℕ) (at : ℕ → ℕ) (pay : ℕ → ℤ) (x : Allocation) → IsPaid costs at pay x
+    → (j m last : ℕ) → j < length costs → m < length costs → m ≢ j → suc last ≡ length costs
+    → cost costs (at last) ≤ cost costs (at m)
+    → excess (game_of costs) x (grand_coalition (length costs) - singleton (at j)) ≡ neg_ℤ (pay j)
 excess-others costs at pay x p j m last lt mn ne end top =
     let n = length costs in
     let o = p.order in
@@ -192,13 +263,28 @@ excess-others costs at pay x p j m last lt mn ne end top =
     let most = greatest_cost-at_most n (cost costs) s (cost costs (at last)) most_at in
     let parts = sum_over-complement n (singleton (at j)) (share x) small in
     let mine = sum_over-singleton n (at j) (share x) (o.below j lt) in
-    let whole : sum_below n (share x) ≡ neg_ℤ (sum_below n pay) = sym (sum_over-grand_coalition n (share x)) ∙ ap (λ (t : ℕ). sum_over n (share x) t) (sym o.full) ∙ amount-front costs at pay x p n (omega arith) in
-    omega (arith, linear, worth-is x.den (cost costs (at last)) g (omega (arith, least, top)) most, parts, mine, whole, p.shares j lt, p.scheme.all last end, amount-at costs at pay x p s)
+    let whole : sum_below n (share x) ≡ neg_ℤ (sum_below n pay) =
+    sym (sum_over-grand_coalition n (share x)) ∙ ap (λ (t : ℕ). sum_over n (share x) t) (sym o.full)
+    ∙ amount-front costs at pay x p n (omega arith) in
+    omega (
+      arith,
+      linear,
+      worth-is x.den (cost costs (at last)) g (omega (arith, least, top)) most,
+      parts,
+      mine,
+      whole,
+      p.shares j lt,
+      p.scheme.all last end,
+      amount-at costs at pay x p s,
+    )
   where
     apart : at m ≢ at j
-    apart e = elim (less_or_greater m j ne) [ inl less ↦ p.order.apart m j less lt e | inr more ↦ p.order.apart j m more mn (sym e) ]
+    apart e =
+        elim (less_or_greater m j ne)
+        [ inl less ↦ p.order.apart m j less lt e | inr more ↦ p.order.apart j m more mn (sym e) ]
 
-    most_at : (i : ℕ) → i < length costs → has_player (grand_coalition (length costs) - singleton (at j)) i ≡ true → cost costs i ≤ cost costs (at last)
+    most_at : (i : ℕ) → i < length costs → has_player (grand_coalition (length costs) - singleton (at j)) i ≡ true
+        → cost costs i ≤ cost costs (at last)
     most_at i h e =
         let r = order-place (length costs) (cost costs) at p.order i h in
         let le = cost-up_to costs at pay x p r.0 last (omega (arith, r.1, end)) (omega (arith, end)) in

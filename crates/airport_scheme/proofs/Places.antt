@@ -5,7 +5,8 @@ use Rattle.airport.specs.Airport.{Airport, IsAirport, place}
 use Rattle.airport_scheme.specs.Scheme.{cost_at}
 
 -- the order of the players lists each once, from the least cost
-pub IsOrder-airport : (a : Airport) → IsAirport a → IsOrder (length a.costs) (λ i. get_or a.costs i 0) (λ k. get_or a.order k 0)
+pub IsOrder-airport : (a : Airport) → IsAirport a
+    → IsOrder (length a.costs) (λ i. get_or a.costs i 0) (λ k. get_or a.order k 0)
 IsOrder-airport a h = h.sorted.lists
 
 pub place-below : (a : Airport) → IsAirport a → (k : ℕ) → k < length a.costs → place a k < length a.costs

@@ -1,9 +1,13 @@
 -- The run of the scheme: what holds of the payments so far.
-use Rattle.std.proofs.Common.{◌≡◌, ◌⊎◌, ℕ, zero, suc, ◌+◌, ◌-◌, ◌*◌, ◌^◌, ◌<◌, ◌≤◌, Bool, true, false, cond, nat_lt, List, [], ◌++◌, length, get_or, replicate, take, drop, ℤ, pos, ◌+ℤ◌, ◌-ℤ◌, ◌*ℤ◌, neg_ℤ, ◌≤ℤ◌, ◌<ℤ◌, unsigned_abs, refl, ap, subst, ◌∙◌, inl, inr, arith}
+use Rattle.std.proofs.Common.{◌≡◌, ◌⊎◌, ℕ, zero, suc, ◌+◌, ◌-◌, ◌*◌, ◌^◌, ◌<◌, ◌≤◌, Bool, true, false, cond, nat_lt}
+use Rattle.std.proofs.Common.{List, [], ◌++◌, length, get_or, replicate, take, drop, ℤ, pos, ◌+ℤ◌, ◌-ℤ◌, ◌*ℤ◌}
+use Rattle.std.proofs.Common.{neg_ℤ, ◌≤ℤ◌, ◌<ℤ◌, unsigned_abs, refl, ap, subst, ◌∙◌, inl, inr, arith}
 use Rattle.std.specs.List.{All}
 use Rattle.std.proofs.lemmas.Int.{ints, unsigned_abs-mul}
 use Rattle.std.proofs.lemmas.Bool.Decides.{nat_tests}
-use Rattle.std.proofs.lemmas.List.{get_or_append_left, get_or-append-add, get_or-replicate, take-append-le, take_all, length-append, length-replicate, length-set, get_or-set_same, get_or-set_other}
+use Rattle.std.proofs.lemmas.List.{get_or_append_left, get_or-append-add, get_or-replicate}
+use Rattle.std.proofs.lemmas.List.{take-append-le, take_all, length-append, length-replicate}
+use Rattle.std.proofs.lemmas.List.{length-set, get_or-set_same, get_or-set_other}
 use Rattle.std.proofs.lemmas.List.Elements.{All-from_get_or, All-set}
 use Rattle.std.proofs.Math.ListN.{set}
 use Rattle.definitions.specs.Coalitions.{singleton, grand_coalition}
@@ -17,13 +21,15 @@ use Rattle.definitions.specs.Sums.{sum_below}
 use Rattle.airport_scheme.specs.Scheme.{size_of, IsTerm, IsLeastTerm, IsGrown, pay_at, IsPayment}
 use Rattle.kohlberg.specs.Pairs.{with_pair}
 use Rattle.airport_scheme.specs.Levels.{with_others}
-use Rattle.airport_scheme.proofs.Steps.{sum-block, sum-scaled, IsPart, IsNext, IsPart-start, IsPart-next, IsScheme-whole}
+use Rattle.airport_scheme.proofs.Steps.{sum-block, sum-scaled, IsPart, IsNext}
+use Rattle.airport_scheme.proofs.Steps.{IsPart-start, IsPart-next, IsScheme-whole}
 use Rattle.definitions.proofs.Cases.{less_or_last_of, next_or_last, nat_lt-less}
 
 -- ---- the least term
 
 -- from a term that is less than another one, at most as much as all that the other is
-less_passes : (r m s k t j : ℤ) → pos 1 ≤ℤ m → pos 1 ≤ℤ k → pos 0 ≤ℤ j → (r *ℤ k) ≤ℤ (s *ℤ m) → (j *ℤ s) ≤ℤ (k *ℤ t) → (j *ℤ r) ≤ℤ (m *ℤ t)
+less_passes : (r m s k t j : ℤ) → pos 1 ≤ℤ m → pos 1 ≤ℤ k → pos 0 ≤ℤ j → (r *ℤ k) ≤ℤ (s *ℤ m) → (j *ℤ s) ≤ℤ (k *ℤ t)
+    → (j *ℤ r) ≤ℤ (m *ℤ t)
 less_passes r m s k t j one_m one_k low h e =
     let a = simp ring_laws at (mul-leℤ j (r *ℤ k) (s *ℤ m) low h) in
     let b = simp ring_laws at (mul-leℤ m (j *ℤ s) (k *ℤ t) (omega (arith, linear)) e) in
@@ -32,20 +38,24 @@ less_passes r m s k t j one_m one_k low h e =
 -- the best of the terms from place i up to place l, and of the last place
 pub record IsBest (n : ℕ) (c : ℕ → ℕ) (den paid : ℤ) (i l best : ℕ) (m r : ℤ) : Type 0 where
   pub term : IsTerm n c den paid i best m r
-  pub least : (j : ℕ) → i ≤ j → j < n → (j < l) ⊎ (j + 1 ≡ n) → (pos (size_of n i j) *ℤ r) ≤ℤ (m *ℤ (den *ℤ pos (c j) -ℤ paid))
+  pub least : (j : ℕ) → i ≤ j → j < n → (j < l) ⊎ (j + 1 ≡ n)
+      → (pos (size_of n i j) *ℤ r) ≤ℤ (m *ℤ (den *ℤ pos (c j) -ℤ paid))
 
 size-low : (n i l : ℕ) → i ≤ l → l < n → 1 ≤ size_of n i l
 size-low n i l le lt =
-    let step : (b : Bool) → 1 ≤ cond b (l + 2 - i) (l + 1 - i) = elim [ true ↦ omega arith | false ↦ omega arith ] in
+    let step : (b : Bool) → 1 ≤ cond b (l + 2 - i) (l + 1 - i) =
+    elim [ true ↦ omega arith | false ↦ omega arith ] in
     step (nat_lt (l + 1) n)
 
-own : (n : ℕ) (c : ℕ → ℕ) (den paid : ℤ) (i l : ℕ) (m r : ℤ) → IsTerm n c den paid i l m r → (pos (size_of n i l) *ℤ r) ≤ℤ (m *ℤ (den *ℤ pos (c l) -ℤ paid))
+own : (n : ℕ) (c : ℕ → ℕ) (den paid : ℤ) (i l : ℕ) (m r : ℤ) → IsTerm n c den paid i l m r
+    → (pos (size_of n i l) *ℤ r) ≤ℤ (m *ℤ (den *ℤ pos (c l) -ℤ paid))
 own n c den paid i l m r t =
     let a = ap (λ (z : ℤ). z *ℤ r) t.size in
     let b = ap (λ (z : ℤ). m *ℤ z) t.rate in
     omega (arith, linear)
 
-pub IsBest-start : (n : ℕ) (c : ℕ → ℕ) (den paid : ℤ) (i last : ℕ) (m r : ℤ) → last + 1 ≡ n → IsTerm n c den paid i last m r → IsBest n c den paid i i last m r
+pub IsBest-start : (n : ℕ) (c : ℕ → ℕ) (den paid : ℤ) (i last : ℕ) (m r : ℤ) → last + 1 ≡ n
+    → IsTerm n c den paid i last m r → IsBest n c den paid i i last m r
 IsBest-start n c den paid i last m r e t = record {
   term = t;
   least = λ j low lt here. at j low (place j low here);
@@ -62,20 +72,27 @@ last_place : (j l n : ℕ) → (j < l + 1) ⊎ (j + 1 ≡ n) → ((j < l) ⊎ (j
 last_place j l n (inr h) = inl (inr h)
 last_place j l n (inl h) = elim (less_or_last_of j l h) [ inl a ↦ inl (inl a) | inr a ↦ inr a ]
 
-pub IsBest-kept : (n : ℕ) (c : ℕ → ℕ) (den paid : ℤ) (i l best : ℕ) (m r k s : ℤ) → IsBest n c den paid i l best m r → IsTerm n c den paid i l k s → (r *ℤ k) ≤ℤ (s *ℤ m) → IsBest n c den paid i (l + 1) best m r
+pub IsBest-kept : (n : ℕ) (c : ℕ → ℕ) (den paid : ℤ) (i l best : ℕ) (m r k s : ℤ) → IsBest n c den paid i l best m r
+    → IsTerm n c den paid i l k s → (r *ℤ k) ≤ℤ (s *ℤ m) → IsBest n c den paid i (l + 1) best m r
 IsBest-kept n c den paid i l best m r k s b t le = record {
   term = b.term;
   least = λ j low lt here. elim (last_place j l n here) [
     | inl old ↦ b.least j low lt old
-    | inr same ↦ rw same (let x = ap (λ (z : ℤ). r *ℤ z) t.size in let y = ap (λ (z : ℤ). z *ℤ m) t.rate in omega (arith, linear, le, *ℤ_comm (pos (size_of n i l)) r, *ℤ_comm m (den *ℤ pos (c l) -ℤ paid)))
+    | inr same ↦ rw same
+        (let x = ap (λ (z : ℤ). r *ℤ z) t.size in
+        let y = ap (λ (z : ℤ). z *ℤ m) t.rate in
+        omega (arith, linear, le, *ℤ_comm (pos (size_of n i l)) r, *ℤ_comm m (den *ℤ pos (c l) -ℤ paid)))
   ];
 }
 
-pub IsBest-better : (n : ℕ) (c : ℕ → ℕ) (den paid : ℤ) (i l best : ℕ) (m r k s : ℤ) → IsBest n c den paid i l best m r → IsTerm n c den paid i l k s → (s *ℤ m) <ℤ (r *ℤ k) → IsBest n c den paid i (l + 1) l k s
+pub IsBest-better : (n : ℕ) (c : ℕ → ℕ) (den paid : ℤ) (i l best : ℕ) (m r k s : ℤ)
+    → IsBest n c den paid i l best m r → IsTerm n c den paid i l k s → (s *ℤ m) <ℤ (r *ℤ k)
+    → IsBest n c den paid i (l + 1) l k s
 IsBest-better n c den paid i l best m r k s b t lt_terms = record {
   term = t;
   least = λ j low lt here. elim (last_place j l n here) [
-    | inl old ↦ less_passes s k r m (den *ℤ pos (c j) -ℤ paid) (pos (size_of n i j)) one_k one_m (omega (arith, ints)) (omega (arith, linear, lt_terms)) (b.least j low lt old)
+    | inl old ↦ less_passes s k r m (den *ℤ pos (c j) -ℤ paid) (pos (size_of n i j)) one_k one_m
+        (omega (arith, ints)) (omega (arith, linear, lt_terms)) (b.least j low lt old)
     | inr same ↦ rw same (own n c den paid i l k s t)
   ];
 }
@@ -86,8 +103,10 @@ IsBest-better n c den paid i l best m r k s b t lt_terms = record {
     one_m : pos 1 ≤ℤ m
     one_m = let a = size-low n i best b.term.from b.term.within in let e = b.term.size in omega (arith, ints)
 
-pub IsLeastTerm-whole : (n : ℕ) (c : ℕ → ℕ) (den paid : ℤ) (i l best : ℕ) (m r : ℤ) → n ≤ l + 1 → IsBest n c den paid i l best m r → IsLeastTerm n c den paid i best m r
-IsLeastTerm-whole n c den paid i l best m r e b = record { term = b.term; least = λ j low lt. b.least j low lt (place j lt) }
+pub IsLeastTerm-whole : (n : ℕ) (c : ℕ → ℕ) (den paid : ℤ) (i l best : ℕ) (m r : ℤ) → n ≤ l + 1
+    → IsBest n c den paid i l best m r → IsLeastTerm n c den paid i best m r
+IsLeastTerm-whole n c den paid i l best m r e b =
+    record { term = b.term; least = λ j low lt. b.least j low lt (place j lt) }
   where
     place : (j : ℕ) → j < n → (j < l) ⊎ (j + 1 ≡ n)
     place j lt = grind arith
@@ -117,9 +136,12 @@ IsRun-start n c some = record {
 }
 
 -- each payment is small
-pub run_small : (n : ℕ) (c : ℕ → ℕ) (pay : List ℤ) (den paid : ℤ) (done : ℕ) → IsRun n c pay den paid done → All (λ z. unsigned_abs z < 2 ^ 104) pay
+pub run_small : (n : ℕ) (c : ℕ → ℕ) (pay : List ℤ) (den paid : ℤ) (done : ℕ) → IsRun n c pay den paid done
+    → All (λ z. unsigned_abs z < 2 ^ 104) pay
 run_small n c pay den paid done r =
-    All-from_get_or (λ z. unsigned_abs z < 2 ^ 104) pay (pos 0) (λ k lt. between (pay_at pay k) r.rate (r.part.least k (rw (← r.long) lt)) (r.part.up k (rw (← r.long) lt)) r.small)
+    All-from_get_or (λ z. unsigned_abs z < 2 ^ 104) pay (pos 0)
+    (λ k lt. between (pay_at pay k) r.rate (r.part.least k (rw (← r.long) lt)) (r.part.up k (rw (← r.long) lt))
+    r.small)
   where
     between : (z rate : ℤ) → pos 0 ≤ℤ z → z ≤ℤ rate → rate <ℤ pos (2 ^ 104) → unsigned_abs z < 2 ^ 104
     between z rate low high small = omega (arith, ints)
@@ -136,14 +158,17 @@ scaled_cost den c low high small =
     small_from z h = omega (arith, ints)
 
 -- what was paid is at least 0, and small
-pub paid_low : (n : ℕ) (c : ℕ → ℕ) (pay : List ℤ) (den paid : ℤ) (done : ℕ) → IsRun n c pay den paid done → pos 0 ≤ℤ paid
+pub paid_low : (n : ℕ) (c : ℕ → ℕ) (pay : List ℤ) (den paid : ℤ) (done : ℕ) → IsRun n c pay den paid done
+    → pos 0 ≤ℤ paid
 paid_low n c pay den paid done r = rw r.sum (sum_low done (omega arith))
   where
     sum_low : (k : ℕ) → k ≤ done → pos 0 ≤ℤ sum_below k (pay_at pay)
     sum_low zero le = omega (arith, ints)
-    sum_low (suc k) le = let ih = sum_low k (omega arith) in let p = r.part.least k (omega arith) in omega (arith, linear)
+    sum_low (suc k) le =
+        let ih = sum_low k (omega arith) in let p = r.part.least k (omega arith) in omega (arith, linear)
 
-pub paid_small : (n : ℕ) (c : ℕ → ℕ) (pay : List ℤ) (den paid : ℤ) (done : ℕ) → ((l : ℕ) → l < n → c l < 2 ^ 40) → done < n → IsRun n c pay den paid done → paid <ℤ pos (2 ^ 104)
+pub paid_small : (n : ℕ) (c : ℕ → ℕ) (pay : List ℤ) (den paid : ℤ) (done : ℕ) → ((l : ℕ) → l < n → c l < 2 ^ 40)
+    → done < n → IsRun n c pay den paid done → paid <ℤ pos (2 ^ 104)
 paid_small n c pay den paid done costs lt r =
     let b = n - done - 1 in
     let e : suc (done + b) ≡ n = omega arith in
@@ -167,7 +192,8 @@ size_power d i b k h e = rw (pow-add 2 i b) (mul-le-mul h e)
 natural : (z : ℤ) → pos 1 ≤ℤ z → (d : ℕ) × (z ≡ pos d)
 natural z one = (unsigned_abs z, omega (arith, ints))
 
-product_power : (den m : ℤ) (i b k : ℕ) → pos 1 ≤ℤ den → den ≤ℤ pos (2 ^ i) → m ≡ pos k → k ≤ 2 ^ b → (den *ℤ m) ≤ℤ pos (2 ^ (i + b))
+product_power : (den m : ℤ) (i b k : ℕ) → pos 1 ≤ℤ den → den ≤ℤ pos (2 ^ i) → m ≡ pos k → k ≤ 2 ^ b
+    → (den *ℤ m) ≤ℤ pos (2 ^ (i + b))
 product_power den m i b k one le e h =
     let d = natural den one in
     let du : d.0 ≤ 2 ^ i = up d.0 (2 ^ i) (rw (← d.1) le) in
@@ -179,14 +205,19 @@ product_power den m i b k one le e h =
 
 -- ---- a step of the run
 
-pub next_of : (n : ℕ) (c : ℕ → ℕ) (pay : ℕ → ℤ) (den paid : ℤ) (i b : ℕ) (m r : ℤ) → paid ≡ sum_below i pay → IsLeastTerm n c den paid i (i + b) m r → IsNext n c pay den i b m r
+pub next_of : (n : ℕ) (c : ℕ → ℕ) (pay : ℕ → ℤ) (den paid : ℤ) (i b : ℕ) (m r : ℤ) → paid ≡ sum_below i pay
+    → IsLeastTerm n c den paid i (i + b) m r → IsNext n c pay den i b m r
 next_of n c pay den paid i b m r sum least =
     let t = least.term in
     let within = t.within in
     record {
       within = omega arith;
       rate = t.rate ∙ ap (λ (z : ℤ). den *ℤ pos (c (i + b)) -ℤ z) sum;
-      size = elim (next_or_last (i + b) n within) [ inl lt ↦ inl (lt, t.size ∙ ap pos (inner_size b lt)) | inr e ↦ inr (e, t.size ∙ ap pos (outer_size b e)) ];
+      size =
+          elim (next_or_last (i + b) n within) [
+            | inl lt ↦ inl (lt, t.size ∙ ap pos (inner_size b lt))
+            | inr e ↦ inr (e, t.size ∙ ap pos (outer_size b e))
+          ];
       inner = λ d lt. let h = least.least (i + d) (omega arith) (omega arith) in rw (inner_size d lt, sum) at h;
       outer = λ d e. let h = least.least (i + d) (omega arith) (omega arith) in rw (outer_size d e, sum) at h;
     }
@@ -200,17 +231,23 @@ next_of n c pay den paid i b m r sum least =
         ge_test : (a b : ℕ) → b ≤ a → nat_lt a b ≡ false
         ge_test a b h = grind (arith, nat_tests)
 
-pub IsPayment-whole : (n : ℕ) (c : ℕ → ℕ) (pay : List ℤ) (den paid : ℤ) (done : ℕ) → n ≤ done → IsRun n c pay den paid done → IsPayment n c pay den
+pub IsPayment-whole : (n : ℕ) (c : ℕ → ℕ) (pay : List ℤ) (den paid : ℤ) (done : ℕ) → n ≤ done
+    → IsRun n c pay den paid done → IsPayment n c pay den
 IsPayment-whole n c pay den paid done le r =
     let all : done ≡ n = let w = r.within in omega arith in
     record {
       long = r.long ∙ all;
       common = r.common;
       small = run_small n c pay den paid done r;
-      scheme = IsScheme-whole n c (pay_at pay) den r.rate (subst (λ (i : ℕ). IsPart n c (pay_at pay) den i r.rate) all r.part);
+      scheme =
+          IsScheme-whole n c (pay_at pay) den r.rate
+          (subst (λ (i : ℕ). IsPart n c (pay_at pay) den i r.rate) all r.part);
     }
 
-run_next_at : (n : ℕ) (c : ℕ → ℕ) (pay more : List ℤ) (den paid : ℤ) (done b : ℕ) (m r : ℤ) → n ≤ 64 → ((l : ℕ) → l < n → c l < 2 ^ 40) → done < n → IsRun n c pay den paid done → IsLeastTerm n c den paid done (done + b) m r → IsGrown pay m r (suc b) more → IsRun n c more (den *ℤ m) (paid *ℤ m +ℤ r *ℤ pos (suc b)) (done + suc b)
+run_next_at : (n : ℕ) (c : ℕ → ℕ) (pay more : List ℤ) (den paid : ℤ) (done b : ℕ) (m r : ℤ) → n ≤ 64
+    → ((l : ℕ) → l < n → c l < 2 ^ 40) → done < n → IsRun n c pay den paid done
+    → IsLeastTerm n c den paid done (done + b) m r → IsGrown pay m r (suc b) more
+    → IsRun n c more (den *ℤ m) (paid *ℤ m +ℤ r *ℤ pos (suc b)) (done + suc b)
 run_next_at n c pay more den paid done b m r most costs lt run least grown = record {
   long = (let a = grown.long in let l = run.long in omega arith);
   within = (let w = least.term.within in omega arith);
@@ -218,7 +255,9 @@ run_next_at n c pay more den paid done b m r most costs lt run least grown = rec
   common = common_of next.size;
   power = λ h. power_of h next.size;
   rate = r;
-  small = (let cost = scaled_cost den (c (done + b)) run.part.positive run.common (costs (done + b) least.term.within) in omega (arith, linear, cost, least.term.rate, paid_low n c pay den paid done run));
+  small =
+      (let cost = scaled_cost den (c (done + b)) run.part.positive run.common (costs (done + b) least.term.within) in
+      omega (arith, linear, cost, least.term.rate, paid_low n c pay den paid done run));
   part = IsPart-next n c (pay_at pay) den done b run.rate m r (pay_at more) run.part next before block;
 }
   where
@@ -240,36 +279,62 @@ run_next_at n c pay more den paid done b m r most costs lt run least grown = rec
     widen : (z : ℤ) (i : ℕ) → i ≤ 63 → z ≤ℤ pos (2 ^ i) → z ≤ℤ pos (2 ^ 63)
     widen z i le h = let p : 2 ^ i ≤ 2 ^ 63 = pow_mono le in omega (arith, ints)
 
-    common_of : ((suc (done + b) < n) × (m ≡ pos (b + 2))) ⊎ ((suc (done + b) ≡ n) × (m ≡ pos (suc b))) → (den *ℤ m) ≤ℤ pos (2 ^ 63)
+    common_of : ((suc (done + b) < n) × (m ≡ pos (b + 2))) ⊎ ((suc (done + b) ≡ n) × (m ≡ pos (suc b)))
+        → (den *ℤ m) ≤ℤ pos (2 ^ 63)
     common_of (inl h) =
-        widen (den *ℤ m) (done + suc b) (omega (arith, h.0)) (product_power den m done (suc b) (b + 2) run.part.positive (run.power lt) h.1 (let p = power_more (suc b) in omega (arith, p)))
+        widen (den *ℤ m) (done + suc b) (omega (arith, h.0))
+        (product_power den m done (suc b) (b + 2) run.part.positive (run.power lt) h.1
+        (let p = power_more (suc b) in omega (arith, p)))
     common_of (inr h) =
-        widen (den *ℤ m) (done + b) (omega (arith, h.0)) (product_power den m done b (suc b) run.part.positive (run.power lt) h.1 (let p = power_more b in omega (arith, p)))
+        widen (den *ℤ m) (done + b) (omega (arith, h.0))
+        (product_power den m done b (suc b) run.part.positive (run.power lt) h.1
+        (let p = power_more b in omega (arith, p)))
 
-    power_of : done + suc b < n → ((suc (done + b) < n) × (m ≡ pos (b + 2))) ⊎ ((suc (done + b) ≡ n) × (m ≡ pos (suc b))) → (den *ℤ m) ≤ℤ pos (2 ^ (done + suc b))
-    power_of h (inl e) = product_power den m done (suc b) (b + 2) run.part.positive (run.power lt) e.1 (let p = power_more (suc b) in omega (arith, p))
+    power_of : done + suc b < n
+        → ((suc (done + b) < n) × (m ≡ pos (b + 2))) ⊎ ((suc (done + b) ≡ n) × (m ≡ pos (suc b)))
+        → (den *ℤ m) ≤ℤ pos (2 ^ (done + suc b))
+    power_of h (inl e) =
+        product_power den m done (suc b) (b + 2) run.part.positive (run.power lt) e.1
+        (let p = power_more (suc b) in omega (arith, p))
     power_of h (inr e) = absurd (omega (arith, e.0))
 
-pub IsRun-next : (n : ℕ) (c : ℕ → ℕ) (pay more : List ℤ) (den paid : ℤ) (done last : ℕ) (m r : ℤ) → n ≤ 64 → ((l : ℕ) → l < n → c l < 2 ^ 40) → done < n → IsRun n c pay den paid done → IsLeastTerm n c den paid done last m r → IsGrown pay m r (last + 1 - done) more → IsRun n c more (den *ℤ m) (paid *ℤ m +ℤ r *ℤ pos (last + 1 - done)) (last + 1)
-IsRun-next n c pay more den paid done last m r most costs lt run least grown = at (last - done) (let f = least.term.from in omega arith)
+pub IsRun-next : (n : ℕ) (c : ℕ → ℕ) (pay more : List ℤ) (den paid : ℤ) (done last : ℕ) (m r : ℤ) → n ≤ 64
+    → ((l : ℕ) → l < n → c l < 2 ^ 40) → done < n → IsRun n c pay den paid done
+    → IsLeastTerm n c den paid done last m r → IsGrown pay m r (last + 1 - done) more
+    → IsRun n c more (den *ℤ m) (paid *ℤ m +ℤ r *ℤ pos (last + 1 - done)) (last + 1)
+IsRun-next n c pay more den paid done last m r most costs lt run least grown =
+    at (last - done) (let f = least.term.from in omega arith)
   where
     at : (b : ℕ) → last ≡ done + b → IsRun n c more (den *ℤ m) (paid *ℤ m +ℤ r *ℤ pos (last + 1 - done)) (last + 1)
     at b e =
         let f : last + 1 - done ≡ suc b = omega arith in
         let g : last + 1 ≡ done + suc b = omega arith in
-        rw (f, g) (run_next_at n c pay more den paid done b m r most costs lt run (subst (λ (l : ℕ). IsLeastTerm n c den paid done l m r) e least) (subst (λ (k : ℕ). IsGrown pay m r k more) f grown))
+        rw (f, g)
+        (run_next_at n c pay more den paid done b m r most costs lt run
+        (subst (λ (l : ℕ). IsLeastTerm n c den paid done l m r) e least)
+        (subst (λ (k : ℕ). IsGrown pay m r k more) f grown))
 
 -- ---- the lists that the code makes
 
-pub grown_from : (old scaled new : List ℤ) (m r : ℤ) (count d : ℕ) → length scaled ≡ length old → ((k : ℕ) → k < length old → get_or scaled k (pos 0) ≡ get_or old k (pos 0) *ℤ m) → new ≡ scaled ++ replicate d r → d ≡ count → IsGrown old m r count new
+pub grown_from : (old scaled new : List ℤ) (m r : ℤ) (count d : ℕ) → length scaled ≡ length old
+    → ((k : ℕ) → k < length old → get_or scaled k (pos 0) ≡ get_or old k (pos 0) *ℤ m)
+    → new ≡ scaled ++ replicate d r → d ≡ count → IsGrown old m r count new
 grown_from old scaled new m r count d long each e same = record {
-  long = rw e (let a = length-append scaled (replicate d r) in let b = length-replicate d r in omega (arith, a, b, long));
+  long = rw e
+      (let a = length-append scaled (replicate d r) in let b = length-replicate d r in omega (arith, a, b, long));
   before = λ k lt. rw e (get_or_append_left scaled (replicate d r) (pos 0) k (rw long lt) ∙ each k lt);
-  block = λ k lt. rw e (rw (← long) (get_or-append-add scaled (replicate d r) k (pos 0) ∙ get_or-replicate d k r (pos 0) (omega arith)));
+  block = λ k lt. rw e
+      (rw (← long)
+      (get_or-append-add scaled (replicate d r) k (pos 0) ∙ get_or-replicate d k r (pos 0) (omega arith)));
 }
 
 -- the share of the player at place k is set
-pub by_player_next : (n : ℕ) (cost at : ℕ → ℕ) (pay : ℕ → ℤ) (num : List ℤ) (k : ℕ) (v : ℤ) → IsOrder n cost at → k < n → v ≡ neg_ℤ (pay k) → unsigned_abs (pay k) < 2 ^ 104 → length num ≡ n → ((j : ℕ) → j < k → get_or num (at j) (pos 0) ≡ neg_ℤ (pay j)) → All (λ z. unsigned_abs z < 2 ^ 110) num → (length (set num (at k) v) ≡ n) × ((j : ℕ) → j < k + 1 → get_or (set num (at k) v) (at j) (pos 0) ≡ neg_ℤ (pay j)) × All (λ z. unsigned_abs z < 2 ^ 110) (set num (at k) v)
+pub by_player_next : (n : ℕ) (cost at : ℕ → ℕ) (pay : ℕ → ℤ) (num : List ℤ) (k : ℕ) (v : ℤ) → IsOrder n cost at
+    → k < n → v ≡ neg_ℤ (pay k) → unsigned_abs (pay k) < 2 ^ 104 → length num ≡ n
+    → ((j : ℕ) → j < k → get_or num (at j) (pos 0) ≡ neg_ℤ (pay j)) → All (λ z. unsigned_abs z < 2 ^ 110) num
+    → (length (set num (at k) v) ≡ n)
+    × ((j : ℕ) → j < k + 1 → get_or (set num (at k) v) (at j) (pos 0) ≡ neg_ℤ (pay j))
+    × All (λ z. unsigned_abs z < 2 ^ 110) (set num (at k) v)
 by_player_next n cost at pay num k v o lt e small long each all = (
   length-set num (at k) v ∙ long,
   (λ j h. elim (less_or_last_of j k h) [
@@ -282,11 +347,14 @@ by_player_next n cost at pay num k v o lt e small long each all = (
     negated : (z : ℤ) → unsigned_abs z < 2 ^ 104 → unsigned_abs (neg_ℤ z) < 2 ^ 110
     negated z h = omega (arith, ints)
 
-pub with_others_more : (n : ℕ) (at : ℕ → ℕ) (ps : List (ℕ × ℤ)) (i j : ℕ) → i ≤ j → with_others n at ps i (j + 1 - i) ≡ with_pair (grand_coalition n - singleton (at j)) (pos 1) (with_others n at ps i (j - i))
+pub with_others_more : (n : ℕ) (at : ℕ → ℕ) (ps : List (ℕ × ℤ)) (i j : ℕ) → i ≤ j
+    → with_others n at ps i (j + 1 - i)
+    ≡ with_pair (grand_coalition n - singleton (at j)) (pos 1) (with_others n at ps i (j - i))
 with_others_more n at ps i j le =
     let e : j + 1 - i ≡ suc (j - i) = omega arith in
     let f : i + (j - i) ≡ j = omega arith in
-    ap (with_others n at ps i) e ∙ ap (λ (h : ℕ). with_pair (grand_coalition n - singleton (at h)) (pos 1) (with_others n at ps i (j - i))) f
+    ap (with_others n at ps i) e
+    ∙ ap (λ (h : ℕ). with_pair (grand_coalition n - singleton (at h)) (pos 1) (with_others n at ps i (j - i))) f
 
 -- a slice of a whole vector, written back
 pub written_back : (s items : List ℤ) (len : ℕ) → len ≡ length s → take len (s ++ drop (length s) items) ≡ s

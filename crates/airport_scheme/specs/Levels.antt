@@ -7,7 +7,8 @@
 --   IsOfBlock, IsInFront      the pairs of the level of a block
 --   IsBlockLevel, AreBlockLevels   the level of a block, and those of the blocks, by what their lists hold
 --   AreSchemeLevels           the levels of the scheme, for shares that it gives
-use Rattle.std.specs.Prelude.{◌≡◌, ◌⊎◌, ℕ, zero, suc, ◌+◌, ◌-◌, ◌<◌, ◌≤◌, Bool, nat_lt, List, [], ◌∷◌, length, ℤ, pos, negsuc, ◌-ℤ◌, ◌*ℤ◌, ◌<ℤ◌, ◌≤ℤ◌, neg_ℤ, if◌then◌else◌}
+use Rattle.std.specs.Prelude.{◌≡◌, ◌⊎◌, ℕ, zero, suc, ◌+◌, ◌-◌, ◌<◌, ◌≤◌, Bool, nat_lt, List, [], ◌∷◌, length}
+use Rattle.std.specs.Prelude.{ℤ, pos, negsuc, ◌-ℤ◌, ◌*ℤ◌, ◌<ℤ◌, ◌≤ℤ◌, neg_ℤ, if◌then◌else◌}
 use Rattle.definitions.specs.Coalitions.{singleton, grand_coalition}
 use Rattle.definitions.specs.Games.{Allocation}
 use Rattle.definitions.specs.Certificates.{Level}
@@ -18,7 +19,8 @@ use Rattle.airport_scheme.specs.Scheme.{IsPaid}
 -- all but one, for each of b players from place i, put among pairs
 abbrev pub with_others : ℕ → (ℕ → ℕ) → List (ℕ × ℤ) → ℕ → ℕ → List (ℕ × ℤ)
 with_others n at ps i zero = ps
-with_others n at ps i (suc b) = with_pair (grand_coalition n - singleton (at (i + b))) (pos 1) (with_others n at ps i b)
+with_others n at ps i (suc b) =
+    with_pair (grand_coalition n - singleton (at (i + b))) (pos 1) (with_others n at ps i b)
 
 -- the first k players with a weight, or nothing
 abbrev pub front_pair : (ℕ → ℕ) → ℕ → ℤ → Bool → List (ℕ × ℤ)
@@ -56,16 +58,20 @@ AreLevels n at pay den levels = (k : ℕ) × IsChain n at pay den 0 levels k × 
 
 -- ---- the same levels, by what their lists hold
 
--- all but one of the players of the block from place i up to place k, or the first k players where others follow, with weight 1
+-- all but one of the players of the block from place i up to place k, or the first k players where others follow,
+-- with weight 1
 abbrev pub IsOfBlock : ℕ → (ℕ → ℕ) → ℕ → ℕ → ℕ → ℤ → Type 0
 IsOfBlock n at i k s w =
-    (((j : ℕ) × (i ≤ j) × (j < k) × (s ≡ grand_coalition n - singleton (at j))) ⊎ ((k < n) × (s ≡ front at k))) × (w ≡ pos 1)
+    (((j : ℕ) × (i ≤ j) × (j < k) × (s ≡ grand_coalition n - singleton (at j))) ⊎ ((k < n) × (s ≡ front at k)))
+    × (w ≡ pos 1)
 
 -- the first i players, where there are some, with weight -1
 abbrev pub IsInFront : (ℕ → ℕ) → ℕ → ℕ → ℤ → Type 0
 IsInFront at i s w = (0 < i) × (s ≡ front at i) × (w ≡ negsuc 0)
 
--- the level of the block from place i up to place k: all of it pays the same and the next pays more; the excess is minus that payment over the denominator, and the total is the number of its players, one less where it is the last
+-- the level of the block from place i up to place k: all of it pays the same and the next pays more; the excess is
+-- minus that payment over the denominator, and the total is the number of its players, one less where it is the
+-- last
 pub record IsBlockLevel (n : ℕ) (at : ℕ → ℕ) (pay : ℕ → ℤ) (den : ℤ) (i k : ℕ) (l : Level) : Type 0 where
   pub two : i + 2 ≤ n
   pub some : i < k
@@ -82,9 +88,12 @@ pub record IsBlockLevel (n : ℕ) (at : ℕ → ℕ) (pay : ℕ → ℤ) (den : 
 -- the levels of the blocks from place i up to place k
 abbrev pub AreBlockLevels : ℕ → (ℕ → ℕ) → (ℕ → ℤ) → ℤ → ℕ → List Level → ℕ → Type 0
 AreBlockLevels n at pay den i [] k = i ≡ k
-AreBlockLevels n at pay den i (l ∷ ls) k = (m : ℕ) × IsBlockLevel n at pay den i m l × AreBlockLevels n at pay den m ls k
+AreBlockLevels n at pay den i (l ∷ ls) k =
+    (m : ℕ) × IsBlockLevel n at pay den i m l × AreBlockLevels n at pay den m ls k
 
--- the levels of the scheme's payments, for the shares that give each player minus its payment: those of all blocks that begin while two players are left
+-- the levels of the scheme's payments, for the shares that give each player minus its payment: those of all blocks
+-- that begin while two players are left
 abbrev pub AreSchemeLevels : List ℕ → (ℕ → ℕ) → Allocation → List Level → Type 0
 AreSchemeLevels costs at x levels =
-    (pay : ℕ → ℤ) × IsPaid costs at pay x × ((k : ℕ) × AreBlockLevels (length costs) at pay x.den 0 levels k × (length costs ≤ k + 1))
+    (pay : ℕ → ℤ) × IsPaid costs at pay x
+    × ((k : ℕ) × AreBlockLevels (length costs) at pay x.den 0 levels k × (length costs ≤ k + 1))

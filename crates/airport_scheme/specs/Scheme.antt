@@ -9,7 +9,8 @@
 --   IsGrown             the payments with those of the next block
 --   IsPayment           payments of the sizes of shares
 --   IsByPlayer          the shares by player
-use Rattle.std.specs.Prelude.{◌≡◌, ℕ, suc, ◌+◌, ◌-◌, ◌^◌, ◌<◌, ◌≤◌, unsigned_abs, nat_lt, List, length, ℤ, pos, ◌+ℤ◌, ◌-ℤ◌, ◌*ℤ◌, ◌<ℤ◌, ◌≤ℤ◌, neg_ℤ, slice_index, slice_index_or, if◌then◌else◌, All}
+use Rattle.std.specs.Prelude.{◌≡◌, ℕ, suc, ◌+◌, ◌-◌, ◌^◌, ◌<◌, ◌≤◌, unsigned_abs, nat_lt, List, length, ℤ, pos}
+use Rattle.std.specs.Prelude.{◌+ℤ◌, ◌-ℤ◌, ◌*ℤ◌, ◌<ℤ◌, ◌≤ℤ◌, neg_ℤ, slice_index, slice_index_or, if◌then◌else◌, All}
 use Rattle.definitions.specs.Sums.{sum_below}
 use Rattle.definitions.specs.Games.{Allocation, share}
 use Rattle.orders.specs.Orders.{IsOrder}
@@ -23,7 +24,9 @@ cost_at a k = slice_index a.costs (place a k)
 abbrev pub pay_at : List ℤ → ℕ → ℤ
 pay_at pay k = slice_index_or pay k (pos 0)
 
--- what the players at n places pay over den, where c are the costs at the places: the payments rise, the first k players leave room under their cost for one more payment of the last of them, and leave none where the next pays more
+-- what the players at n places pay over den, where c are the costs at the places: the payments rise, the first k
+-- players leave room under their cost for one more payment of the last of them, and leave none where the next pays
+-- more
 pub record IsScheme (n : ℕ) (c : ℕ → ℕ) (pay : ℕ → ℤ) (den : ℤ) : Type 0 where
   pub positive : pos 1 ≤ℤ den
   pub least : (k : ℕ) → k < n → pos 0 ≤ℤ pay k
@@ -41,7 +44,8 @@ pub record IsPaid (costs : List ℕ) (at : ℕ → ℕ) (pay : ℕ → ℤ) (x :
 
 -- ---- the search for a block
 
--- how many payments the cost at place l has to hold where a block begins at place i: those of the block and one more, but at the end
+-- how many payments the cost at place l has to hold where a block begins at place i: those of the block and one
+-- more, but at the end
 abbrev pub size_of : ℕ → ℕ → ℕ → ℕ
 size_of n i l = if nat_lt (l + 1) n then l + 2 - i else l + 1 - i
 

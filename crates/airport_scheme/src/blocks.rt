@@ -88,7 +88,8 @@ fn block_level(
     requires end { IsRunEnd (length game.now.costs) (pay_at paid.now.pay.items) i k }
     requires before { before ≡ front (place game.now) i }
     requires after { after ≡ front (place game.now) k }
-    ensures block { IfOk result (λ l. IsBlock (length game.now.costs) (place game.now) (pay_at paid.now.pay.items) paid.now.den i k l) }
+    ensures block { IfOk result
+        (λ l. IsBlock (length game.now.costs) (place game.now) (pay_at paid.now.pay.items) paid.now.den i k l) }
     ensures lowest { IfOk result IsLowest }
 {
     let coalitions = block_coalitions(alloc, game, i, k, after)?;
@@ -112,7 +113,8 @@ pub(crate) fn all_levels(
     paid: &Paid,
 ) -> Result<Vec<Level>, AllocError>
     requires payment { IsPayment (length game.now.costs) (cost_at game.now) paid.now.pay.items paid.now.den }
-    ensures levels { IfOk result (λ v. AreLevels (length game.now.costs) (place game.now) (pay_at paid.now.pay.items) paid.now.den v.items) }
+    ensures levels { IfOk result
+        (λ v. AreLevels (length game.now.costs) (place game.now) (pay_at paid.now.pay.items) paid.now.den v.items) }
     ensures lowest { IfOk result (λ v. AllByRecursion IsLowest v.items) }
 {
     let n = game.len();

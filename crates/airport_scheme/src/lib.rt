@@ -33,9 +33,12 @@ use worth_core::Shares;
 ///
 /// Its one error is want of memory.
 pub fn solve(alloc: Global, game: &AirportGame) -> Result<(Shares, Certificate), OutOfMemory>
-    ensures solved { IfOk result (λ solution. (family : Family) → IsSolved Players family Plain (airport_game game.now) solution.0 solution.1) }
+    ensures solved { IfOk result
+        (λ solution. (family : Family)
+        → IsSolved Players family Plain (airport_game game.now) solution.0 solution.1) }
     ensures core { IfOk result (λ solution. InCore (airport_game game.now) solution.0) }
-    ensures levels { IfOk result (λ solution. AreSchemeLevels game.now.costs (place game.now) solution.0 solution.1.levels) }
+    ensures levels { IfOk result
+        (λ solution. AreSchemeLevels game.now.costs (place game.now) solution.0 solution.1.levels) }
 {
     let paid = by_place(alloc, game)?;
     let levels = all_levels(alloc, game, &paid)?;

@@ -20,7 +20,8 @@ pub(crate) struct Paid {
 fn scale(pay: &mut [i128], size: i128)
     requires small { All (λ z. unsigned_abs z < 2 ^ 104) pay.old }
     requires size { unsigned_abs size < 2 ^ 7 }
-    ensures { (k : ℕ) → k < length pay.old → slice_index_or pay.new k (pos 0) ≡ slice_index_or pay.old k (pos 0) *ℤ size }
+    ensures { (k : ℕ) → k < length pay.old
+        → slice_index_or pay.new k (pos 0) ≡ slice_index_or pay.old k (pos 0) *ℤ size }
 {
     for k in 0..pay.len() {
         pay[k] = times(pay[k], size);

@@ -80,7 +80,8 @@ pub(crate) fn next(game: &AirportGame, done: u32, den: i128, paid: i128) -> Rate
     requires positive { pos 1 ≤ℤ den }
     requires common { den ≤ℤ pos (2 ^ 63) }
     requires paid { unsigned_abs paid < 2 ^ 104 }
-    ensures least { IsLeastTerm (length game.now.costs) (cost_at game.now) den paid done result.last result.size result.value }
+    ensures least { IsLeastTerm (length game.now.costs) (cost_at game.now) den paid done result.last result.size
+        result.value }
     ensures size { unsigned_abs result.size < 2 ^ 7 }
     ensures rate { unsigned_abs result.value < 2 ^ 105 }
 {

@@ -1,5 +1,5 @@
--- Assignment games by the rows of their matrix: row i is buyer i, which is player i, and column j is seller j, which is the player behind
--- the buyers and j sellers (Shapley and Shubik 1971).
+-- Assignment games by the rows of their matrix: row i is buyer i, which is player i, and column j is seller j, which is
+-- the player behind the buyers and j sellers (Shapley and Shubik 1971).
 --
 --   seller_count rows      the sellers: the length of the first row
 --   HavePlayers rows       a buyer and a seller at least, and at most 16 players
@@ -16,7 +16,8 @@ use Rattle.definitions.specs.Classes.{Matrix}
 use Rattle.matrices.specs.Rows.{entries_of, HaveEntries, HaveLength}
 use Rattle.assignment_games.specs.Values.{IsOptimalAmong, optimal_value}
 use Rattle.assignment_games.specs.declared.assignment_game.AssignmentFault.{AssignmentFault}
-use Rattle.assignment_games.specs.declared.assignment_game.AssignmentFault.TheVariants.{Players, Number, Matrix as Uneven, Memory}
+use Rattle.assignment_games.specs.declared.assignment_game.AssignmentFault.TheVariants.{Players, Number}
+use Rattle.assignment_games.specs.declared.assignment_game.AssignmentFault.TheVariants.{Matrix as Uneven, Memory}
 
 -- the sellers: the length of the first row
 abbrev pub seller_count : List (List ℤ) → ℕ
@@ -48,7 +49,8 @@ abbrev pub assignment_game : List (List ℤ) → Game
 assignment_game rows =
     record {
       players = length rows + seller_count rows;
-      worth = λ s. pos (optimal_value (entries_of rows) (length rows) (seller_count rows) (length rows) (has_player s));
+      worth =
+          λ s. pos (optimal_value (entries_of rows) (length rows) (seller_count rows) (length rows) (has_player s));
     }
 
 -- ---- the table of values
@@ -62,4 +64,5 @@ pub record HasSides (rows : List (List ℤ)) (p q : ℕ) : Type 0 where
 -- the value of an optimal matching for each mask below the bound
 abbrev pub IsFilled : Matrix → ℕ → List ℕ → ℕ → Type 0
 IsFilled matrix rows values bound =
-    (length values ≡ bound) × ((t : ℕ) → t < bound → IsOptimalAmong matrix rows (has_player t) (slice_index values t))
+    (length values ≡ bound)
+    × ((t : ℕ) → t < bound → IsOptimalAmong matrix rows (has_player t) (slice_index values t))

@@ -2,7 +2,8 @@
 --
 --   IsOptimalAmong matrix rows member value       value is that of an optimal matching of the members
 --   greatest_below n f                            the greatest of f 0 .. f (n - 1), 0 for none
---   optimal_value matrix rows columns i member    the value of an optimal matching of the members, where rows from i on stay out
+--   optimal_value matrix rows columns i member    the value of an optimal matching of the members, where rows from i on
+--                                                 stay out
 use Rattle.std.specs.Prelude.{◌≡◌, ℕ, zero, suc, ◌+◌, ◌≤◌, Bool, List, max, if◌then◌else◌}
 use Rattle.definitions.specs.Classes.{Matrix, removed, entry, IsMatching, matching_value}
 
@@ -22,4 +23,8 @@ optimal_value matrix rows columns zero member = 0
 optimal_value matrix rows columns (suc i) member =
     max
     (optimal_value matrix rows columns i (removed member i))
-    (if member i then greatest_below columns (λ j. if member (rows + j) then entry matrix i j + optimal_value matrix rows columns i (removed (removed member i) (rows + j)) else 0) else 0)
+    (if member i
+    then greatest_below columns
+    (λ j. if member (rows + j)
+    then entry matrix i j + optimal_value matrix rows columns i (removed (removed member i) (rows + j))
+    else 0) else 0)

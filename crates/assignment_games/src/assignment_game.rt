@@ -42,7 +42,8 @@ impl Model for AssignmentGame {
     ghost view = { λ a. map (λ row. row.items) a.matrix.items };
 
     ghost invariant = { λ a. let rows = map (λ row. row.items) a.matrix.items in
-        IsAssignment rows × IsFilled (entries_of rows) (length rows) a.values.items (2 ^ (length rows + seller_count rows)) };
+        IsAssignment rows
+        × IsFilled (entries_of rows) (length rows) a.values.items (2 ^ (length rows + seller_count rows)) };
 }
 
 impl AssignmentGame {
@@ -51,7 +52,8 @@ impl AssignmentGame {
     /// found here.
     pub fn new(alloc: Global, matrix: Vec<Vec<i64>>) -> Result<AssignmentGame, AssignmentFault>
         ensures { let rows = map (λ row. row.items) matrix.items in MatchResult result
-            (λ game. (game ≡ rows) × IsAssignment rows × IsAssignmentGame (entries_of rows) (length rows) (assignment_game rows))
+            (λ game. (game ≡ rows) × IsAssignment rows
+            × IsAssignmentGame (entries_of rows) (length rows) (assignment_game rows))
             (IsRefused rows) }
     {
         let buyers = matrix.len();

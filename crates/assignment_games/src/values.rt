@@ -18,7 +18,8 @@ pub(crate) fn all_values(
     sellers: u32,
 ) -> Result<Vec<u64>, AllocError>
     requires { HasSides (map (λ row. row.items) matrix.now) buyers sellers }
-    ensures { IfOk result (λ v. IsFilled (entries_of (map (λ row. row.items) matrix.now)) buyers v.items (2 ^ (buyers + sellers))) }
+    ensures { IfOk result
+        (λ v. IsFilled (entries_of (map (λ row. row.items) matrix.now)) buyers v.items (2 ^ (buyers + sellers))) }
 {
     let mut values = Vec::new(alloc);
     for s in 0..1u64 << (buyers + sellers) {

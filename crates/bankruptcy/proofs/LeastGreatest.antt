@@ -1,5 +1,7 @@
 -- A greatest sum over the coalitions of the first players, and the least mask that has it, with one player more.
-use Rattle.std.proofs.Common.{◌≡◌, ◌⊎◌, ℕ, ◌+◌, ◌-◌, ◌^◌, ◌<◌, ◌≤◌, true, false, ◌||◌, cond, nat_eq, ℤ, pos, ◌+ℤ◌, ◌<ℤ◌, ◌≤ℤ◌, Option, Some, None, MatchOption, refl, sym, ap, ◌∙◌, inl, inr, add-one, arith}
+use Rattle.std.proofs.Common.{◌≡◌, ◌⊎◌, ℕ, ◌+◌, ◌-◌, ◌^◌, ◌<◌, ◌≤◌, true, false, ◌||◌, cond}
+use Rattle.std.proofs.Common.{nat_eq, ℤ, pos, ◌+ℤ◌, ◌<ℤ◌, ◌≤ℤ◌, Option, Some, None, MatchOption}
+use Rattle.std.proofs.Common.{refl, sym, ap, ◌∙◌, inl, inr, add-one, arith}
 use Rattle.std.proofs.lemmas.Bool.Decides.{nat_tests}
 use Rattle.std.proofs.lemmas.Int.{ints, by_lt_z}
 use Rattle.std.proofs.lemmas.Nat.Bits.{bit_at-lt, same_from_bits}
@@ -16,9 +18,12 @@ use Rattle.definitions.proofs.Cases.{same_bit, below_or_above, same_or_other}
 -- ---- a coalition with one player more
 
 -- by its members it is the sum of the masks
-pub mask_with : (r c i : ℕ) → c < 2 ^ i → ((j : ℕ) → has_player r j ≡ (nat_eq j i || has_player c j)) → r ≡ c + 2 ^ i
+pub mask_with : (r c i : ℕ) → c < 2 ^ i → ((j : ℕ) → has_player r j ≡ (nat_eq j i || has_player c j))
+    → r ≡ c + 2 ^ i
 mask_with r c i below h =
-    same_from_bits r (c + 2 ^ i) (λ j. same_bit (bit_at r j) (bit_at (c + 2 ^ i) j) (bit_at-lt r j) (bit_at-lt (c + 2 ^ i) j) (h j ∙ sym (members j)))
+    same_from_bits r (c + 2 ^ i)
+    (λ j. same_bit (bit_at r j) (bit_at (c + 2 ^ i) j) (bit_at-lt r j) (bit_at-lt (c + 2 ^ i) j)
+    (h j ∙ sym (members j)))
   where
     lacks : has_player c i ≡ false
     lacks = has_player-past i c i below (omega arith)
@@ -43,10 +48,12 @@ linear_at base n a s = base +ℤ sum_over n a s
 
 pub linear-empty : (base : ℤ) (n : ℕ) (a : ℕ → ℤ) → linear_at base n a 0 ≡ base
 linear-empty base n a =
-    let none : sum_over n a 0 ≡ pos 0 = sum_below-zero n (λ i. cond (has_player 0 i) (a i) (pos 0)) (λ i lt. rw (has_player-empty i) refl) in
+    let none : sum_over n a 0 ≡ pos 0 =
+    sum_below-zero n (λ i. cond (has_player 0 i) (a i) (pos 0)) (λ i lt. rw (has_player-empty i) refl) in
     omega (arith, linear, none)
 
-linear-more : (base : ℤ) (n : ℕ) (a : ℕ → ℤ) (i t : ℕ) → i < n → t < 2 ^ i → linear_at base n a (t + 2 ^ i) ≡ linear_at base n a t +ℤ a i
+linear-more : (base : ℤ) (n : ℕ) (a : ℕ → ℤ) (i t : ℕ) → i < n → t < 2 ^ i
+    → linear_at base n a (t + 2 ^ i) ≡ linear_at base n a t +ℤ a i
 linear-more base n a i t lt below =
     let e = sum_over-more n t i a lt (has_player-past i t i below (omega arith)) in
     omega (arith, linear, e)
@@ -73,7 +80,9 @@ IsLeastGreatest-start v s m none e = record {
 }
 
 -- the player's number is positive: it joins
-pub IsLeastGreatest-joins : (base : ℤ) (n : ℕ) (a : ℕ → ℤ) (i c r : ℕ) (m k : ℤ) → i < n → IsLeastGreatest (linear_at base n a) (2 ^ i) c m → pos 0 <ℤ a i → r ≡ c + 2 ^ i → k ≡ m +ℤ a i → IsLeastGreatest (linear_at base n a) (2 ^ (i + 1)) r k
+pub IsLeastGreatest-joins : (base : ℤ) (n : ℕ) (a : ℕ → ℤ) (i c r : ℕ) (m k : ℤ) → i < n
+    → IsLeastGreatest (linear_at base n a) (2 ^ i) c m → pos 0 <ℤ a i → r ≡ c + 2 ^ i → k ≡ m +ℤ a i
+    → IsLeastGreatest (linear_at base n a) (2 ^ (i + 1)) r k
 IsLeastGreatest-joins base n a i c r m k lt h positive mask sum =
     let p = next_pow i in
     let within = h.within in
@@ -82,16 +91,21 @@ IsLeastGreatest-joins base n a i c r m k lt h positive mask sum =
       value = rw mask (omega (arith, linear, linear-more base n a i c lt within, h.value));
       greatest = λ t below. elim (low_or_high i t below) [
         | inl low ↦ let le = h.greatest t low in omega (arith, linear, le)
-        | inr (u, small, e) ↦ let le = h.greatest u small in rw e (omega (arith, linear, le, linear-more base n a i u lt small))
+        | inr (u, small, e) ↦
+            let le = h.greatest u small in rw e (omega (arith, linear, le, linear-more base n a i u lt small))
       ];
       least = λ t below. elim (low_or_high i t (omega arith)) [
         | inl low ↦ let le = h.greatest t low in omega (arith, linear, le)
-        | inr (u, small, e) ↦ let less = h.least u (omega arith) in rw e (omega (arith, linear, less, linear-more base n a i u lt small))
+        | inr (u, small, e) ↦
+            let less = h.least u (omega arith) in
+            rw e (omega (arith, linear, less, linear-more base n a i u lt small))
       ];
     }
 
 -- it isn't: nothing changes
-pub IsLeastGreatest-stays : (base : ℤ) (n : ℕ) (a : ℕ → ℤ) (i c : ℕ) (m : ℤ) → i < n → IsLeastGreatest (linear_at base n a) (2 ^ i) c m → a i ≤ℤ pos 0 → IsLeastGreatest (linear_at base n a) (2 ^ (i + 1)) c m
+pub IsLeastGreatest-stays : (base : ℤ) (n : ℕ) (a : ℕ → ℤ) (i c : ℕ) (m : ℤ) → i < n
+    → IsLeastGreatest (linear_at base n a) (2 ^ i) c m → a i ≤ℤ pos 0
+    → IsLeastGreatest (linear_at base n a) (2 ^ (i + 1)) c m
 IsLeastGreatest-stays base n a i c m lt h low =
     let p = next_pow i in
     let within = h.within in
@@ -100,14 +114,17 @@ IsLeastGreatest-stays base n a i c m lt h low =
       value = h.value;
       greatest = λ t below. elim (low_or_high i t below) [
         | inl less ↦ h.greatest t less
-        | inr (u, small, e) ↦ let le = h.greatest u small in rw e (omega (arith, linear, le, linear-more base n a i u lt small))
+        | inr (u, small, e) ↦
+            let le = h.greatest u small in rw e (omega (arith, linear, le, linear-more base n a i u lt small))
       ];
       least = h.least;
     }
 
 -- ---- the blocker
 
-chosen : (g : Game) (x : Allocation) (v : ℕ → ℤ) (s : ℕ) (m : ℤ) → ((t : ℕ) → t < 2 ^ g.players → excess g x t ≡ v t) → IsLeastGreatest v (2 ^ g.players) s m → pos 0 <ℤ m → IsChosenBlocker g x s
+chosen : (g : Game) (x : Allocation) (v : ℕ → ℤ) (s : ℕ) (m : ℤ)
+    → ((t : ℕ) → t < 2 ^ g.players → excess g x t ≡ v t) → IsLeastGreatest v (2 ^ g.players) s m → pos 0 <ℤ m
+    → IsChosenBlocker g x s
 chosen g x v s m same h up =
     let within = h.within in
     let here = same s within in
@@ -115,16 +132,22 @@ chosen g x v s m same h up =
       within = within;
       blocks = omega (arith, linear, here, h.value);
       greatest = λ t lt. let le = h.greatest t lt in omega (arith, linear, le, same t lt, here, h.value);
-      least = λ t lt. let less = h.least t lt in let there = same t (omega arith) in omega (arith, linear, less, there, here, h.value);
+      least = λ t lt.
+          let less = h.least t lt in
+          let there = same t (omega arith) in omega (arith, linear, less, there, here, h.value);
     }
 
-none_blocks : (g : Game) (x : Allocation) (v : ℕ → ℤ) (s : ℕ) (m : ℤ) → ((t : ℕ) → t < 2 ^ g.players → excess g x t ≡ v t) → IsLeastGreatest v (2 ^ g.players) s m → m ≤ℤ pos 0 → (t : ℕ) → t < 2 ^ g.players → ¬ Blocks g x t
+none_blocks : (g : Game) (x : Allocation) (v : ℕ → ℤ) (s : ℕ) (m : ℤ)
+    → ((t : ℕ) → t < 2 ^ g.players → excess g x t ≡ v t) → IsLeastGreatest v (2 ^ g.players) s m → m ≤ℤ pos 0
+    → (t : ℕ) → t < 2 ^ g.players → ¬ Blocks g x t
 none_blocks g x v s m same h low t lt = λ blocks.
     let le = h.greatest t lt in
     omega (arith, linear, le, same t lt, blocks)
 
 -- the least mask of greatest excess is the blocker where that is positive
-pub blocker-least : (g : Game) (x : Allocation) (v : ℕ → ℤ) (s : ℕ) (m : ℤ) (r : Option ℕ) → ((t : ℕ) → t < 2 ^ g.players → excess g x t ≡ v t) → IsLeastGreatest v (2 ^ g.players) s m → (pos 0 <ℤ m → r ≡ Some s) → (m ≤ℤ pos 0 → r ≡ None)
+pub blocker-least : (g : Game) (x : Allocation) (v : ℕ → ℤ) (s : ℕ) (m : ℤ) (r : Option ℕ)
+    → ((t : ℕ) → t < 2 ^ g.players → excess g x t ≡ v t) → IsLeastGreatest v (2 ^ g.players) s m
+    → (pos 0 <ℤ m → r ≡ Some s) → (m ≤ℤ pos 0 → r ≡ None)
     → MatchOption r ((t : ℕ) → t < 2 ^ g.players → ¬ Blocks g x t) (IsChosenBlocker g x)
 blocker-least g x v s m r same h some none =
     by_lt_z (pos 0) m

@@ -1,3 +1,4 @@
+-- For the private functions of this crate.
 -- The arms of a bankruptcy game: two linear functions of the coalition, of which the excess is the greater one.
 --
 --   arm_number factor b x i   what player i adds to an arm as a member

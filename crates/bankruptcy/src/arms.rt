@@ -40,7 +40,8 @@ impl Arm {
     /// The coalition at which the arm is greatest, with the least mask: the players who add a positive number.
     pub(crate) fn greatest(self, game: &BankruptcyGame, x: &Shares) -> Candidate
         requires { length x.now.shares ≡ length game.now.claims }
-        ensures { IsLeastGreatest (arm_at self.factor game.now x.now) (2 ^ length game.now.claims) result.coalition result.excess }
+        ensures { IsLeastGreatest (arm_at self.factor game.now x.now) (2 ^ length game.now.claims) result.coalition
+            result.excess }
     {
         let mut coalition = Coalition::empty();
         let mut excess = self.base(game);

@@ -51,7 +51,8 @@ impl BankruptcyGame {
         estate: i64,
         claims: Vec<i64>,
     ) -> Result<BankruptcyGame, BankruptcyFault>
-        ensures { MatchResult result (λ b. (pos b.estate ≡ estate) × (map pos b.claims ≡ claims.items)) (IsRefused estate claims.items) }
+        ensures { MatchResult result (λ b. (pos b.estate ≡ estate) × (map pos b.claims ≡ claims.items))
+            (IsRefused estate claims.items) }
     {
         if claims.is_empty() || claims.len() > 64 {
             return Err(BankruptcyFault::Players);

@@ -20,20 +20,33 @@ pub market_laws : (rows : List (List ℤ)) → IsMarket rows → IsGame (assignm
 market_laws rows m = record {
   some = (let p = m.players.0 in omega (arith, p));
   few = (let p = m.players.1 in let q = m.players.3 in omega (arith, p, q));
-  nobody = ap pos (same_optimal (entries_of rows) (length rows) (has_player 0) (optimal_value (entries_of rows) (length rows) (seller_count rows) (length rows) (has_player 0)) 0
-      (worth_optimal (entries_of rows) (length rows) (seller_count rows) 0 (pow_pos (length rows + seller_count rows)))
+  nobody =
+      ap pos
+      (same_optimal (entries_of rows) (length rows) (has_player 0)
+      (optimal_value (entries_of rows) (length rows) (seller_count rows) (length rows) (has_player 0)) 0
+      (worth_optimal (entries_of rows) (length rows) (seller_count rows) 0
+      (pow_pos (length rows + seller_count rows)))
       (no_rows (entries_of rows) (length rows) (has_player 0) (λ b lt. has_player-empty b)));
-  small = λ s lt. (let a = optimal_value-few (entries_of rows) (2 ^ 40) (length rows) (seller_count rows) (λ i j. (let k = entries-small rows i j m.entries in omega (arith, k))) (length rows) (has_player s) in let few = m.players.1 in omega (arith, a, few));
+  small = λ s lt.
+      (let a =
+      optimal_value-few (entries_of rows) (2 ^ 40) (length rows) (seller_count rows)
+      (λ i j. (let k = entries-small rows i j m.entries in omega (arith, k))) (length rows) (has_player s) in
+      let few = m.players.1 in omega (arith, a, few));
 }
 
 -- ---- the table of the offers of members
 
-pub table_of_members : (m : Offers) (rows : List (List ℤ)) (s : ℕ) → IsMarket rows → ((i j : ℕ) → i < 32 → j ≤ 32 → m i j ≡ offered (entries_of rows) (length rows) s i j) → IsTableOf m (offered (entries_of rows) (length rows) s) (length rows) (seller_count rows)
+pub table_of_members : (m : Offers) (rows : List (List ℤ)) (s : ℕ) → IsMarket rows
+    → ((i j : ℕ) → i < 32 → j ≤ 32 → m i j ≡ offered (entries_of rows) (length rows) s i j)
+    → IsTableOf m (offered (entries_of rows) (length rows) s) (length rows) (seller_count rows)
 table_of_members m rows s k h = record {
   rows_few = k.players.1;
   columns_few = k.players.3;
-  inside = λ i j il jl. (let fr = k.players.1 in let fc = k.players.3 in h i j (omega (arith, fr)) (omega (arith, fc)));
-  beside = λ i j il ge jl. (let fr = k.players.1 in h i j (omega (arith, fr)) jl ∙ offers_none i j (entries-outside rows (seller_count rows) i j k.even (inr ge)));
+  inside =
+      λ i j il jl. (let fr = k.players.1 in let fc = k.players.3 in h i j (omega (arith, fr)) (omega (arith, fc)));
+  beside = λ i j il ge jl.
+      (let fr = k.players.1 in
+      h i j (omega (arith, fr)) jl ∙ offers_none i j (entries-outside rows (seller_count rows) i j k.even (inr ge)));
 }
   where
     offers_none : (i j : ℕ) → entries_of rows i j ≡ 0 → offered (entries_of rows) (length rows) s i j ≡ 0

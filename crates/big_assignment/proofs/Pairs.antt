@@ -1,4 +1,5 @@
--- The pairs of mates, row by row: they are a matching, with their rows ascending, and what is said of all pairs is said of each row with a mate.
+-- The pairs of mates, row by row: they are a matching, with their rows ascending, and what is said of all pairs is
+-- said of each row with a mate.
 use Rattle.std.proofs.Common.{◌≡◌, ℕ, zero, suc, ◌+◌, ◌<◌, ◌≤◌, Bool, true, sym, ap, subst, inl, inr, arith}
 use Rattle.std.specs.List.{AllByRecursion}
 use Rattle.definitions.specs.Classes.{removed, IsMatching}
@@ -13,7 +14,8 @@ pub record Paired (rows columns : ℕ) (mate : ℕ → ℕ) (w : ℕ → Bool) (
   pub column : (l : ℕ) → i ≤ l → l < i + k → mate l < columns → w (rows + mate l) ≡ true
   pub apart : (l m : ℕ) → l < rows → m < rows → mate l ≡ mate m → mate l < columns → l ≡ m
 
-pub paired_alone : (rows columns : ℕ) (mate : ℕ → ℕ) (w : ℕ → Bool) (i k : ℕ) → Paired rows columns mate w i (suc k) → Paired rows columns mate w (suc i) k
+pub paired_alone : (rows columns : ℕ) (mate : ℕ → ℕ) (w : ℕ → Bool) (i k : ℕ) → Paired rows columns mate w i (suc k)
+    → Paired rows columns mate w (suc i) k
 paired_alone rows columns mate w i k h = record {
   ends = (let e = h.ends in omega (arith, e));
   row = λ l a b c. h.row l (omega arith) (omega arith) c;
@@ -21,17 +23,22 @@ paired_alone rows columns mate w i k h = record {
   apart = h.apart;
 }
 
-pub paired_more : (rows columns : ℕ) (mate : ℕ → ℕ) (w : ℕ → Bool) (i k : ℕ) → Paired rows columns mate w i (suc k) → mate i < columns → Paired rows columns mate (removed (removed w i) (rows + mate i)) (suc i) k
+pub paired_more : (rows columns : ℕ) (mate : ℕ → ℕ) (w : ℕ → Bool) (i k : ℕ) → Paired rows columns mate w i (suc k)
+    → mate i < columns → Paired rows columns mate (removed (removed w i) (rows + mate i)) (suc i) k
 paired_more rows columns mate w i k h lt = record {
   ends = (let e = h.ends in omega (arith, e));
-  row = λ l a b c. (let e = h.ends in removed-in (removed w i) (rows + mate i) l (λ s. omega (arith, s, e, a, b)) (removed-in w i l (λ s. omega (arith, s, a)) (h.row l (omega arith) (omega arith) c)));
+  row = λ l a b c.
+      (let e = h.ends in
+      removed-in (removed w i) (rows + mate i) l (λ s. omega (arith, s, e, a, b))
+      (removed-in w i l (λ s. omega (arith, s, a)) (h.row l (omega arith) (omega arith) c)));
   column = λ l a b c. (let e = h.ends in removed-in (removed w i) (rows + mate i) (rows + mate l)
       (λ s. (let same = h.apart l i (omega arith) (omega arith) (omega (arith, s)) c in omega (arith, same, a)))
       (removed-in w i (rows + mate l) (λ s. omega (arith, s, e)) (h.column l (omega arith) (omega arith) c)));
   apart = h.apart;
 }
 
-pub pairs_match : (rows columns : ℕ) (mate : ℕ → ℕ) (w : ℕ → Bool) (i k : ℕ) → Paired rows columns mate w i k → IsMatching rows w (pairs_from mate columns i k)
+pub pairs_match : (rows columns : ℕ) (mate : ℕ → ℕ) (w : ℕ → Bool) (i k : ℕ) → Paired rows columns mate w i k
+    → IsMatching rows w (pairs_from mate columns i k)
 pairs_match rows columns mate w i zero h = tt
 pairs_match rows columns mate w i (suc k) h = elim (below_or_above (mate i) columns) [
   | inl lt ↦
@@ -39,31 +46,44 @@ pairs_match rows columns mate w i (suc k) h = elim (below_or_above (mate i) colu
         (let e = h.ends in omega (arith, e)),
         h.row i (omega arith) (omega arith) lt,
         h.column i (omega arith) (omega arith) lt,
-        pairs_match rows columns mate (removed (removed w i) (rows + mate i)) (suc i) k (paired_more rows columns mate w i k h lt),
+        pairs_match rows columns mate (removed (removed w i) (rows + mate i)) (suc i) k
+            (paired_more rows columns mate w i k h lt),
       )
-  | inr ge ↦ rw (nat_lt-past (mate i) columns ge) (pairs_match rows columns mate w (suc i) k (paired_alone rows columns mate w i k h))
+  | inr ge ↦ rw (nat_lt-past (mate i) columns ge)
+      (pairs_match rows columns mate w (suc i) k (paired_alone rows columns mate w i k h))
 ]
 
 -- what is said of each row with a mate is said of all pairs
-pub pairs_from-all : (P : ℕ × ℕ → Type 0) (mate : ℕ → ℕ) (columns i k : ℕ) → ((l : ℕ) → i ≤ l → l < i + k → mate l < columns → P (l, mate l)) → AllByRecursion P (pairs_from mate columns i k)
+pub pairs_from-all : (P : ℕ × ℕ → Type 0) (mate : ℕ → ℕ) (columns i k : ℕ)
+    → ((l : ℕ) → i ≤ l → l < i + k → mate l < columns → P (l, mate l))
+    → AllByRecursion P (pairs_from mate columns i k)
 pairs_from-all P mate columns i zero h = tt
 pairs_from-all P mate columns i (suc k) h = elim (below_or_above (mate i) columns) [
-  | inl lt ↦ rw (nat_lt-less (mate i) columns lt) (h i (omega arith) (omega arith) lt, pairs_from-all P mate columns (suc i) k (λ l a b c. h l (omega arith) (omega arith) c))
-  | inr ge ↦ rw (nat_lt-past (mate i) columns ge) (pairs_from-all P mate columns (suc i) k (λ l a b c. h l (omega arith) (omega arith) c))
+  | inl lt ↦ rw (nat_lt-less (mate i) columns lt) (
+    h i (omega arith) (omega arith) lt,
+    pairs_from-all P mate columns (suc i) k (λ l a b c. h l (omega arith) (omega arith) c),
+  )
+  | inr ge ↦ rw (nat_lt-past (mate i) columns ge)
+      (pairs_from-all P mate columns (suc i) k (λ l a b c. h l (omega arith) (omega arith) c))
 ]
 
 -- and the other way
-pub pairs_from-each : (P : ℕ × ℕ → Type 0) (mate : ℕ → ℕ) (columns i k : ℕ) → AllByRecursion P (pairs_from mate columns i k) → (l : ℕ) → i ≤ l → l < i + k → mate l < columns → P (l, mate l)
+pub pairs_from-each : (P : ℕ × ℕ → Type 0) (mate : ℕ → ℕ) (columns i k : ℕ)
+    → AllByRecursion P (pairs_from mate columns i k) → (l : ℕ) → i ≤ l → l < i + k → mate l < columns
+    → P (l, mate l)
 pairs_from-each P mate columns i zero h l a b c = absurd (omega arith)
 pairs_from-each P mate columns i (suc k) h l a b c = elim (below_or_above (mate i) columns) [
-  | inl lt ↦ (let both : P (i, mate i) × AllByRecursion P (pairs_from mate columns (suc i) k) = rw (nat_lt-less (mate i) columns lt) at h in
+  | inl lt ↦
+      (let both : P (i, mate i) × AllByRecursion P (pairs_from mate columns (suc i) k) =
+      rw (nat_lt-less (mate i) columns lt) at h in
       elim (same_or_other l i) [
         | inl same ↦ subst (λ (m : ℕ). P (m, mate m)) (sym same) both.0
         | inr other ↦ pairs_from-each P mate columns (suc i) k both.1 l (omega arith) (omega arith) c
       ])
   | inr ge ↦ elim (same_or_other l i) [
     | inl same ↦ absurd (let e = ap mate same in omega (arith, e, c, ge))
-    | inr other ↦ pairs_from-each P mate columns (suc i) k (rw (nat_lt-past (mate i) columns ge) at h) l (omega arith) (omega arith) c
+    | inr other ↦ pairs_from-each P mate columns (suc i) k (rw (nat_lt-past (mate i) columns ge) at h) l
+        (omega arith) (omega arith) c
   ]
 ]
 

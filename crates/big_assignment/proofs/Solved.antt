@@ -1,5 +1,6 @@
 -- The solution of a market from its deals.
-use Rattle.std.proofs.Common.{◌≡◌, ℕ, ◌+◌, ◌-◌, ◌*◌, ◌^◌, ◌<◌, ◌≤◌, ◌&&◌, List, length, ℤ, pos, unsigned_abs, to_z, of_z, to_z-of_z, w64, sym, ap, subst, ◌∙◌, inl, inr, arith}
+use Rattle.std.proofs.Common.{◌≡◌, ℕ, ◌+◌, ◌-◌, ◌*◌, ◌^◌, ◌<◌, ◌≤◌, ◌&&◌, List, length, ℤ, pos, unsigned_abs}
+use Rattle.std.proofs.Common.{to_z, of_z, to_z-of_z, w64, sym, ap, subst, ◌∙◌, inl, inr, arith}
 use Rattle.std.proofs.lemmas.Int.{fits_signed_from_abs}
 use Rattle.definitions.specs.Coalitions.{has_player, grand_coalition}
 use Rattle.definitions.specs.Classes.{matching_value}
@@ -18,7 +19,8 @@ use Rattle.matrices.proofs.Rows.{entries-outside}
 use Rattle.big_assignment.proofs.Pairs.{pairs_ascend}
 use Rattle.big_assignment.proofs.Searches.{fair_price, fair_gain}
 use Rattle.big_assignment.proofs.Turns.{turned_fair}
-use Rattle.big_assignment.proofs.Supports.{IsTableOf, payoff-row, payoff-column, fair_supports, turned_supports, support_pairs, support_optimal}
+use Rattle.big_assignment.proofs.Supports.{IsTableOf, payoff-row, payoff-column, fair_supports}
+use Rattle.big_assignment.proofs.Supports.{turned_supports, support_pairs, support_optimal}
 use Rattle.big_assignment.proofs.Games.{market_laws, table_of_members}
 use Rattle.big_assignment.proofs.Sides.{buyers_best, sellers_best}
 use Rattle.definitions.proofs.Masks.{grand_coalition-within}
@@ -27,81 +29,124 @@ use Rattle.big_assignment.proofs.Ends.{best_for}
 
 -- the table of all players' offers
 abbrev pub IsTableOfAll : Offers → List (List ℤ) → Type 0
-IsTableOfAll m rows = (i j : ℕ) → i < 32 → j ≤ 32 → m i j ≡ offered (entries_of rows) (length rows) (everybody rows) i j
+IsTableOfAll m rows =
+    (i j : ℕ) → i < 32 → j ≤ 32 → m i j ≡ offered (entries_of rows) (length rows) (everybody rows) i j
 
-pub table_of_all : (m : Offers) (rows : List (List ℤ)) → IsMarket rows → IsTableOfAll m rows → IsTableOf m (entries_of rows) (length rows) (seller_count rows)
+pub table_of_all : (m : Offers) (rows : List (List ℤ)) → IsMarket rows → IsTableOfAll m rows
+    → IsTableOf m (entries_of rows) (length rows) (seller_count rows)
 table_of_all m rows k h =
     let n = length rows + seller_count rows in
     let t = table_of_members m rows (grand_coalition n) k h in
     record {
       rows_few = t.rows_few;
       columns_few = t.columns_few;
-      inside = λ i j il jl. t.inside i j il jl ∙ offered-members (entries_of rows) (length rows) (grand_coalition n) i j (has_player-grand_coalition n i (omega arith)) (has_player-grand_coalition n (length rows + j) (omega arith));
+      inside = λ i j il jl. t.inside i j il jl
+          ∙ offered-members (entries_of rows) (length rows) (grand_coalition n) i j
+          (has_player-grand_coalition n i (omega arith))
+          (has_player-grand_coalition n (length rows + j) (omega arith));
       beside = t.beside;
     }
 
-pub all_outside : (m : Offers) (rows : List (List ℤ)) → IsMarket rows → IsTableOfAll m rows → IsOutside m (length rows) (seller_count rows)
+pub all_outside : (m : Offers) (rows : List (List ℤ)) → IsMarket rows → IsTableOfAll m rows
+    → IsOutside m (length rows) (seller_count rows)
 all_outside m rows k h i j il jl side =
     let s = grand_coalition (length rows + seller_count rows) in
-    h i j il jl ∙ cond_zero (has_player s i && has_player s (length rows + j)) (entries_of rows i j) (entries-outside rows (seller_count rows) i j k.even side)
+    h i j il jl
+    ∙ cond_zero (has_player s i && has_player s (length rows + j)) (entries_of rows i j)
+    (entries-outside rows (seller_count rows) i j k.even side)
 
 -- ---- the deal with sides exchanged
 
-pub turned_deal : (m : Offers) (rows : List (List ℤ)) (r c : ℕ) (u p mate : ℕ → ℕ) (t : Offers) (v q hold : ℕ → ℕ) → IsMarket rows → IsTableOfAll m rows → IsFair m (length rows) u p mate → r ≡ length rows → c ≡ seller_count rows → IsTurned m r c u p mate t v q hold → IsFair t c v q hold
+pub turned_deal : (m : Offers) (rows : List (List ℤ)) (r c : ℕ) (u p mate : ℕ → ℕ) (t : Offers) (v q hold : ℕ → ℕ)
+    → IsMarket rows → IsTableOfAll m rows → IsFair m (length rows) u p mate → r ≡ length rows
+    → c ≡ seller_count rows → IsTurned m r c u p mate t v q hold → IsFair t c v q hold
 turned_deal m rows r c u p mate t v q hold k h f er ec turned =
-    let g : IsTurned m (length rows) (seller_count rows) u p mate t v q hold = subst (λ (z : ℕ). IsTurned m (length rows) z u p mate t v q hold) ec (subst (λ (z : ℕ). IsTurned m z c u p mate t v q hold) er turned) in
-    subst (λ (z : ℕ). IsFair t z v q hold) (sym ec) (turned_fair m (length rows) (seller_count rows) u p mate t v q hold k.players.1 k.players.3 (all_outside m rows k h) f g)
+    let g : IsTurned m (length rows) (seller_count rows) u p mate t v q hold =
+    subst (λ (z : ℕ). IsTurned m (length rows) z u p mate t v q hold) ec
+    (subst (λ (z : ℕ). IsTurned m z c u p mate t v q hold) er turned) in
+    subst (λ (z : ℕ). IsFair t z v q hold) (sym ec)
+    (turned_fair m (length rows) (seller_count rows) u p mate t v q hold k.players.1 k.players.3
+    (all_outside m rows k h) f g)
 
 -- sizes of the exchanged payoffs
-pub turned_small : (t : Offers) (r c n k : ℕ) (v q hold : ℕ → ℕ) → AreOffers t → r ≤ 32 → c ≤ 32 → n ≡ r + c → IsFair t c v q hold → k < n → payoff r q v k ≤ 2 ^ 40
+pub turned_small : (t : Offers) (r c n k : ℕ) (v q hold : ℕ → ℕ) → AreOffers t → r ≤ 32 → c ≤ 32 → n ≡ r + c
+    → IsFair t c v q hold → k < n → payoff r q v k ≤ 2 ^ 40
 turned_small t r c n k v q hold o few fc e f lt = elim (below_or_above k r) [
-  | inl row ↦ (let a = fair_price t c v q hold o fc f k (omega arith) in let b = payoff-row r q v k row in omega (arith, a, b))
+  | inl row ↦
+      (let a = fair_price t c v q hold o fc f k (omega arith) in
+      let b = payoff-row r q v k row in omega (arith, a, b))
   | inr ge ↦ rw (nat_lt-past k r ge) (fair_gain t c v q hold o fc f (k - r) (omega arith))
 ]
 
 -- ---- the ends
 
-pub buyers_end : (m : Offers) (rows : List (List ℤ)) (r n : ℕ) (u p mate v q : ℕ → ℕ) (x : Allocation) → IsMarket rows → IsTableOfAll m rows → IsFair m (length rows) u p mate → r ≡ length rows → n ≡ length rows + seller_count rows → IsFair m r v q mate → IsBelow m r mate q → IsWhole n x 1 (payoff r v q) → IsBestFor (assignment_game rows) (IsBuyer (length rows)) x
+pub buyers_end : (m : Offers) (rows : List (List ℤ)) (r n : ℕ) (u p mate v q : ℕ → ℕ) (x : Allocation)
+    → IsMarket rows → IsTableOfAll m rows → IsFair m (length rows) u p mate → r ≡ length rows
+    → n ≡ length rows + seller_count rows → IsFair m r v q mate → IsBelow m r mate q → IsWhole n x 1 (payoff r v q)
+    → IsBestFor (assignment_game rows) (IsBuyer (length rows)) x
 buyers_end m rows r n u p mate v q x k h f er en g below whole =
     let b = length rows in
     let c = seller_count rows in
     let t = table_of_all m rows k h in
     let fair : IsFair m b v q mate = subst (λ (z : ℕ). IsFair m z v q mate) er g in
     let under : IsBelow m b mate q = subst (λ (z : ℕ). IsBelow m z mate q) er below in
-    let w : IsWhole (b + c) x 1 (payoff b v q) = subst (λ (z : ℕ). IsWhole (b + c) x 1 (payoff z v q)) er (subst (λ (z : ℕ). IsWhole z x 1 (payoff r v q)) en whole) in
+    let w : IsWhole (b + c) x 1 (payoff b v q) =
+    subst (λ (z : ℕ). IsWhole (b + c) x 1 (payoff z v q)) er
+    (subst (λ (z : ℕ). IsWhole z x 1 (payoff r v q)) en whole) in
     best_for rows (IsBuyer b) x (payoff b v q) mate (fair_supports m (entries_of rows) b c v q mate t fair) w
-    (λ d y core i lt of_side. (let a = buyers_best m (entries_of rows) b c d u p v q mate y t f fair under core i of_side in
+    (λ d y core i lt of_side.
+    (let a = buyers_best m (entries_of rows) b c d u p v q mate y t f fair under core i of_side in
     subst (λ (z : ℕ). y i ≤ d * z) (sym (payoff-row b v q i of_side)) a))
 
-pub sellers_end : (m : Offers) (rows : List (List ℤ)) (r c n : ℕ) (u p mate : ℕ → ℕ) (t : Offers) (v q hold v' q' : ℕ → ℕ) (x : Allocation) → IsMarket rows → IsTableOfAll m rows → IsFair m (length rows) u p mate → r ≡ length rows → c ≡ seller_count rows → n ≡ length rows + seller_count rows → IsTurned m r c u p mate t v q hold → IsFair t c v' q' hold → IsBelow t c hold q' → IsWhole n x 1 (payoff r q' v') → IsBestFor (assignment_game rows) (IsSeller (length rows)) x
+pub sellers_end : (m : Offers) (rows : List (List ℤ)) (r c n : ℕ) (u p mate : ℕ → ℕ) (t : Offers)
+    (v q hold v' q' : ℕ → ℕ) (x : Allocation) → IsMarket rows → IsTableOfAll m rows
+    → IsFair m (length rows) u p mate → r ≡ length rows → c ≡ seller_count rows
+    → n ≡ length rows + seller_count rows → IsTurned m r c u p mate t v q hold → IsFair t c v' q' hold
+    → IsBelow t c hold q' → IsWhole n x 1 (payoff r q' v')
+    → IsBestFor (assignment_game rows) (IsSeller (length rows)) x
 sellers_end m rows r c n u p mate t v q hold v' q' x k h f er ec en turned g below whole =
     let b = length rows in
     let s = seller_count rows in
     let tab = table_of_all m rows k h in
-    let turn : IsTurned m b s u p mate t v q hold = subst (λ (z : ℕ). IsTurned m b z u p mate t v q hold) ec (subst (λ (z : ℕ). IsTurned m z c u p mate t v q hold) er turned) in
+    let turn : IsTurned m b s u p mate t v q hold =
+    subst (λ (z : ℕ). IsTurned m b z u p mate t v q hold) ec
+    (subst (λ (z : ℕ). IsTurned m z c u p mate t v q hold) er turned) in
     let fair : IsFair t s v' q' hold = subst (λ (z : ℕ). IsFair t z v' q' hold) ec g in
     let under : IsBelow t s hold q' = subst (λ (z : ℕ). IsBelow t z hold q') ec below in
-    let w : IsWhole (b + s) x 1 (payoff b q' v') = subst (λ (z : ℕ). IsWhole (b + s) x 1 (payoff z q' v')) er (subst (λ (z : ℕ). IsWhole z x 1 (payoff r q' v')) en whole) in
-    best_for rows (IsSeller b) x (payoff b q' v') mate (turned_supports m (entries_of rows) b s u p mate t v q hold v' q' tab f turn fair) w
+    let w : IsWhole (b + s) x 1 (payoff b q' v') =
+    subst (λ (z : ℕ). IsWhole (b + s) x 1 (payoff z q' v')) er
+    (subst (λ (z : ℕ). IsWhole z x 1 (payoff r q' v')) en whole) in
+    best_for rows (IsSeller b) x (payoff b q' v') mate
+    (turned_supports m (entries_of rows) b s u p mate t v q hold v' q' tab f turn fair) w
     (λ d y core i lt of_side.
-    (let a = sellers_best m (entries_of rows) b s d u p mate t v q hold v' q' y tab (all_outside m rows k h) turn fair under core (i - b) (omega arith) in
+    (let a =
+    sellers_best m (entries_of rows) b s d u p mate t v q hold v' q' y tab (all_outside m rows k h) turn fair
+    under core (i - b) (omega arith) in
     let e : b + (i - b) ≡ i = omega arith in
     let o = payoff-column b q' v' (i - b) in
     subst (λ (z : ℕ). y z ≤ d * payoff b q' v' z) e (subst (λ (z : ℕ). y (b + (i - b)) ≤ d * z) (sym o) a)))
 
 -- ---- the pairs
 
-pub pairs_end : (m : Offers) (rows : List (List ℤ)) (r c : ℕ) (u p mate : ℕ → ℕ) (pairs : List (ℕ × ℕ)) (value : ℤ) → IsMarket rows → IsTableOfAll m rows → IsFair m (length rows) u p mate → r ≡ length rows → c ≡ seller_count rows → pairs ≡ player_pairs r (pairs_from mate c 0 r) → value ≡ (assignment_game rows).worth (grand_coalition (length rows + seller_count rows)) → IsOptimalMatching rows pairs value
+pub pairs_end : (m : Offers) (rows : List (List ℤ)) (r c : ℕ) (u p mate : ℕ → ℕ) (pairs : List (ℕ × ℕ)) (value : ℤ)
+    → IsMarket rows → IsTableOfAll m rows → IsFair m (length rows) u p mate → r ≡ length rows
+    → c ≡ seller_count rows → pairs ≡ player_pairs r (pairs_from mate c 0 r)
+    → value ≡ (assignment_game rows).worth (grand_coalition (length rows + seller_count rows))
+    → IsOptimalMatching rows pairs value
 pairs_end m rows r c u p mate pairs value k h f er ec e worth =
     let b = length rows in
     let s = seller_count rows in
     let n = b + s in
     let sup = fair_supports m (entries_of rows) b s u p mate (table_of_all m rows k h) f in
     let both = support_pairs (entries_of rows) b s (payoff b u p) mate sup in
-    let best = grand_optimal rows (matching_value (entries_of rows) (pairs_from mate s 0 b)) (support_optimal (entries_of rows) b s (payoff b u p) mate sup) in
+    let best =
+    grand_optimal rows (matching_value (entries_of rows) (pairs_from mate s 0 b))
+    (support_optimal (entries_of rows) b s (payoff b u p) mate sup) in
     record {
       matched = pairs_from mate s 0 b;
-      same = subst (λ (z : ℕ). pairs ≡ player_pairs b (pairs_from mate z 0 b)) ec (subst (λ (z : ℕ). pairs ≡ player_pairs z (pairs_from mate c 0 z)) er e);
+      same =
+          subst (λ (z : ℕ). pairs ≡ player_pairs b (pairs_from mate z 0 b)) ec
+          (subst (λ (z : ℕ). pairs ≡ player_pairs z (pairs_from mate c 0 z)) er e);
       matching = both.0;
       ascending = pairs_ascend mate s 0 b 0 (omega arith);
       worth = worth ∙ ap pos best;
@@ -109,7 +154,9 @@ pairs_end m rows r c u p mate pairs value k h f er ec e worth =
     }
 
 -- the worth of all, as it is kept
-pub value_kept : (rows : List (List ℤ)) (s : ℕ) (z : ℤ) → IsMarket rows → s ≡ grand_coalition (length rows + seller_count rows) → z ≡ (assignment_game rows).worth s → to_z w64 (of_z w64 z) ≡ (assignment_game rows).worth (grand_coalition (length rows + seller_count rows))
+pub value_kept : (rows : List (List ℤ)) (s : ℕ) (z : ℤ) → IsMarket rows
+    → s ≡ grand_coalition (length rows + seller_count rows) → z ≡ (assignment_game rows).worth s
+    → to_z w64 (of_z w64 z) ≡ (assignment_game rows).worth (grand_coalition (length rows + seller_count rows))
 value_kept rows s z k e is =
     let n = length rows + seller_count rows in
     let at : z ≡ (assignment_game rows).worth (grand_coalition n) = is ∙ ap (assignment_game rows).worth e in

@@ -1,5 +1,6 @@
 -- What a pair of sides gets: fair prices support a matching, and so they bound every other, and are in the core.
-use Rattle.std.proofs.Common.{◌≡◌, ◌≢◌, ◌⊎◌, ℕ, ◌+◌, ◌*◌, ◌-◌, ◌<◌, ◌≤◌, Bool, refl, sym, ap, subst, ◌∙◌, inl, inr, arith}
+use Rattle.std.proofs.Common.{◌≡◌, ◌≢◌, ◌⊎◌, ℕ, ◌+◌, ◌*◌, ◌-◌, ◌<◌, ◌≤◌, Bool, refl}
+use Rattle.std.proofs.Common.{sym, ap, subst, ◌∙◌, inl, inr, arith}
 use Rattle.definitions.specs.Coalitions.{has_player, grand_coalition}
 use Rattle.definitions.specs.Classes.{Matrix, IsMatching, matching_value, entry}
 use Rattle.definitions.proofs.Masks.{grand_coalition-within}
@@ -36,11 +37,23 @@ pub record IsTableOf (m : Offers) (matrix : Matrix) (rows columns : ℕ) : Type 
   pub inside : (i j : ℕ) → i < rows → j < columns → m i j ≡ matrix i j
   pub beside : (i j : ℕ) → i < rows → columns ≤ j → j ≤ 32 → m i j ≡ 0
 
-pub fair_supports : (m : Offers) (matrix : Matrix) (rows columns : ℕ) (u p mate : ℕ → ℕ) → IsTableOf m matrix rows columns → IsFair m rows u p mate → IsSupport matrix rows columns (payoff rows u p) mate
+pub fair_supports : (m : Offers) (matrix : Matrix) (rows columns : ℕ) (u p mate : ℕ → ℕ)
+    → IsTableOf m matrix rows columns → IsFair m rows u p mate
+    → IsSupport matrix rows columns (payoff rows u p) mate
 fair_supports m matrix rows columns u p mate t f = record {
-  covers = λ i j il jl. (let few = t.columns_few in let a = f.covers i j il (omega (arith, few)) in let b = t.inside i j il jl in let c = payoff-row rows u p i il in let d = payoff-column rows u p j in omega (arith, a, b, c, d));
-  tight = λ i il jl. (let a = f.tight i il in let b = t.inside i (mate i) il jl in let c = payoff-row rows u p i il in let d = payoff-column rows u p (mate i) in omega (arith, a, b, c, d));
-  alone = λ i il ge. (let a = f.tight i il in let b = t.beside i (mate i) il ge (f.within i il) in let c = payoff-row rows u p i il in omega (arith, a, b, c));
+  covers = λ i j il jl.
+      (let few = t.columns_few in
+      let a = f.covers i j il (omega (arith, few)) in
+      let b = t.inside i j il jl in
+      let c = payoff-row rows u p i il in let d = payoff-column rows u p j in omega (arith, a, b, c, d));
+  tight = λ i il jl.
+      (let a = f.tight i il in
+      let b = t.inside i (mate i) il jl in
+      let c = payoff-row rows u p i il in let d = payoff-column rows u p (mate i) in omega (arith, a, b, c, d));
+  alone = λ i il ge.
+      (let a = f.tight i il in
+      let b = t.beside i (mate i) il ge (f.within i il) in
+      let c = payoff-row rows u p i il in omega (arith, a, b, c));
   apart = λ i l il ll e lt. (let few = t.columns_few in f.apart i l il ll e (omega (arith, few)));
   sold = λ j jl. (let few = t.columns_few in elim (f.sold j (omega (arith, few))) [
     | inl none ↦ inl (payoff-column rows u p j ∙ none)
@@ -49,17 +62,23 @@ fair_supports m matrix rows columns u p mate t f = record {
 }
 
 -- the same of a deal with rows and columns exchanged, at other prices
-pub turned_supports : (m : Offers) (matrix : Matrix) (rows columns : ℕ) (u p mate : ℕ → ℕ) (t : Offers) (v q hold v' q' : ℕ → ℕ) → IsTableOf m matrix rows columns → IsFair m rows u p mate → IsTurned m rows columns u p mate t v q hold → IsFair t columns v' q' hold → IsSupport matrix rows columns (payoff rows q' v') mate
+pub turned_supports : (m : Offers) (matrix : Matrix) (rows columns : ℕ) (u p mate : ℕ → ℕ) (t : Offers)
+    (v q hold v' q' : ℕ → ℕ) → IsTableOf m matrix rows columns → IsFair m rows u p mate
+    → IsTurned m rows columns u p mate t v q hold → IsFair t columns v' q' hold
+    → IsSupport matrix rows columns (payoff rows q' v') mate
 turned_supports m matrix rows columns u p mate t v q hold v' q' b f h g = record {
   covers = λ i j il jl. (let fr = b.rows_few in let fc = b.columns_few in
-      let a = g.covers j i jl (omega (arith, fr)) in let e = h.offers j i (omega (arith, fc)) (omega (arith, fr)) in let k = b.inside i j il jl in
+      let a = g.covers j i jl (omega (arith, fr)) in
+      let e = h.offers j i (omega (arith, fc)) (omega (arith, fr)) in let k = b.inside i j il jl in
       let c = payoff-row rows q' v' i il in let d = payoff-column rows q' v' j in omega (arith, a, e, k, c, d));
   tight = λ i il jl. (let fr = b.rows_few in let fc = b.columns_few in
       let back = hold_back m rows columns u p mate t v q hold fc f h i il jl in
       let a = subst (λ (z : ℕ). t (mate i) z ≡ v' (mate i) + q' z) back (g.tight (mate i) jl) in
       let e = h.offers (mate i) i (omega (arith, fc)) (omega (arith, fr)) in let k = b.inside i (mate i) il jl in
-      let c = payoff-row rows q' v' i il in let d = payoff-column rows q' v' (mate i) in omega (arith, a, e, k, c, d));
-  alone = λ i il ge. (let fr = b.rows_few in payoff-row rows q' v' i il ∙ unsold i ge (g.sold i (omega (arith, fr))) il);
+      let c = payoff-row rows q' v' i il in
+      let d = payoff-column rows q' v' (mate i) in omega (arith, a, e, k, c, d));
+  alone =
+      λ i il ge. (let fr = b.rows_few in payoff-row rows q' v' i il ∙ unsold i ge (g.sold i (omega (arith, fr))) il);
   apart = λ i l il ll e lt. (let few = b.columns_few in f.apart i l il ll e (omega (arith, few)));
   sold = λ j jl. elim (h.holds j jl) [
     | inl held ↦ inr (hold j, held.0, held.1)
@@ -67,11 +86,13 @@ turned_supports m matrix rows columns u p mate t v q hold v' q' b f h g = record
   ];
 }
   where
-    unsold : (i : ℕ) → columns ≤ mate i → (q' i ≡ 0) ⊎ ((j : ℕ) × (j < columns) × (hold j ≡ i)) → i < rows → q' i ≡ 0
+    unsold : (i : ℕ) → columns ≤ mate i → (q' i ≡ 0) ⊎ ((j : ℕ) × (j < columns) × (hold j ≡ i)) → i < rows
+        → q' i ≡ 0
     unsold i ge (inl e) il = e
     unsold i ge (inr held) il = absurd (other held.0 held.1 held.2 (h.holds held.0 held.1))
       where
-        other : (j : ℕ) → j < columns → hold j ≡ i → ((hold j < rows) × (mate (hold j) ≡ j)) ⊎ ((hold j ≡ 32) × ((l : ℕ) → l < rows → mate l ≢ j)) → ⊥
+        other : (j : ℕ) → j < columns → hold j ≡ i
+            → ((hold j < rows) × (mate (hold j) ≡ j)) ⊎ ((hold j ≡ 32) × ((l : ℕ) → l < rows → mate l ≢ j)) → ⊥
         other j jl e (inl a) = (let same = ap mate e in let back = a.1 in omega (arith, same, back, ge, jl))
         other j jl e (inr a) = (let none = a.0 in let fr = b.rows_few in omega (arith, none, e, fr, il))
 
@@ -89,7 +110,8 @@ all_of n = has_player (grand_coalition n)
 pub all_among : (n : ℕ) → AmongAll n (all_of n)
 all_among n k e = member_below n (grand_coalition n) k (grand_coalition-within n) e
 
-pub support_paired : (matrix : Matrix) (rows columns : ℕ) (x mate : ℕ → ℕ) → IsSupport matrix rows columns x mate → Paired rows columns mate (all_of (rows + columns)) 0 rows
+pub support_paired : (matrix : Matrix) (rows columns : ℕ) (x mate : ℕ → ℕ) → IsSupport matrix rows columns x mate
+    → Paired rows columns mate (all_of (rows + columns)) 0 rows
 support_paired matrix rows columns x mate s = record {
   ends = omega arith;
   row = λ l a b c. has_player-grand_coalition (rows + columns) l (omega arith);
@@ -97,12 +119,17 @@ support_paired matrix rows columns x mate s = record {
   apart = s.apart;
 }
 
-pub support_paid : (matrix : Matrix) (rows columns : ℕ) (x mate : ℕ → ℕ) → IsSupport matrix rows columns x mate → IsPaid matrix rows 1 x (all_of (rows + columns)) (pairs_from mate columns 0 rows)
+pub support_paid : (matrix : Matrix) (rows columns : ℕ) (x mate : ℕ → ℕ) → IsSupport matrix rows columns x mate
+    → IsPaid matrix rows 1 x (all_of (rows + columns)) (pairs_from mate columns 0 rows)
 support_paid matrix rows columns x mate s = record {
-  tight = pairs_from-all (λ p. 1 * entry matrix p.0 p.1 ≡ x p.0 + x (rows + p.1)) mate columns 0 rows (λ l a b c. (let t = s.tight l (omega arith) c in omega (arith, t)));
+  tight =
+      pairs_from-all (λ p. 1 * entry matrix p.0 p.1 ≡ x p.0 + x (rows + p.1)) mate columns 0 rows
+      (λ l a b c. (let t = s.tight l (omega arith) c in omega (arith, t)));
   rest = λ p e single. (let lt = all_among (rows + columns) p e in elim (below_or_above p rows) [
     | inl row ↦ elim (below_or_above (mate p) columns) [
-      | inl mated ↦ absurd ((pairs_from-each (λ q. (p ≢ q.0) × (p ≢ rows + q.1)) mate columns 0 rows single p (omega arith) (omega arith) mated).0 refl)
+      | inl mated ↦ absurd
+          ((pairs_from-each (λ q. (p ≢ q.0) × (p ≢ rows + q.1)) mate columns 0 rows single p (omega arith)
+          (omega arith) mated).0 refl)
       | inr alone ↦ s.alone p row alone
     ]
     | inr ge ↦ column p lt ge single
@@ -114,17 +141,30 @@ support_paid matrix rows columns x mate s = record {
         let e : p ≡ rows + (p - rows) = omega arith in
         elim (s.sold (p - rows) (omega arith)) [
           | inl none ↦ ap x e ∙ none
-          | inr held ↦ absurd ((pairs_from-each (λ q. (p ≢ q.0) × (p ≢ rows + q.1)) mate columns 0 rows single held.0 (omega arith) (let a = held.1 in omega (arith, a)) (let a = held.2 in omega (arith, a, lt, ge))).1 (e ∙ ap (λ (j : ℕ). rows + j) (sym held.2)))
+          | inr held ↦ absurd
+              ((pairs_from-each (λ q. (p ≢ q.0) × (p ≢ rows + q.1)) mate columns 0 rows single held.0 (omega arith)
+              (let a = held.1 in omega (arith, a)) (let a = held.2 in omega (arith, a, lt, ge))).1
+              (e ∙ ap (λ (j : ℕ). rows + j) (sym held.2)))
         ]
 
 -- the mates' pairs are a matching, whose value is what all get
-pub support_pairs : (matrix : Matrix) (rows columns : ℕ) (x mate : ℕ → ℕ) → IsSupport matrix rows columns x mate → IsMatching rows (all_of (rows + columns)) (pairs_from mate columns 0 rows) × (matching_value matrix (pairs_from mate columns 0 rows) ≡ sum_where (rows + columns) (all_of (rows + columns)) x)
+pub support_pairs : (matrix : Matrix) (rows columns : ℕ) (x mate : ℕ → ℕ) → IsSupport matrix rows columns x mate
+    → IsMatching rows (all_of (rows + columns)) (pairs_from mate columns 0 rows)
+    × (matching_value matrix (pairs_from mate columns 0 rows)
+    ≡ sum_where (rows + columns) (all_of (rows + columns)) x)
 support_pairs matrix rows columns x mate s =
-    let m = pairs_match rows columns mate (all_of (rows + columns)) 0 rows (support_paired matrix rows columns x mate s) in
-    let e = paid_value matrix rows columns 1 x (all_of (rows + columns)) (pairs_from mate columns 0 rows) (all_among (rows + columns)) m (support_paid matrix rows columns x mate s) in
+    let m =
+    pairs_match rows columns mate (all_of (rows + columns)) 0 rows
+    (support_paired matrix rows columns x mate s) in
+    let e =
+    paid_value matrix rows columns 1 x (all_of (rows + columns)) (pairs_from mate columns 0 rows)
+    (all_among (rows + columns)) m (support_paid matrix rows columns x mate s) in
     (m, omega (arith, e))
 
 -- so it is optimal
-pub support_optimal : (matrix : Matrix) (rows columns : ℕ) (x mate : ℕ → ℕ) → IsSupport matrix rows columns x mate → IsOptimalAmong matrix rows (all_of (rows + columns)) (matching_value matrix (pairs_from mate columns 0 rows))
+pub support_optimal : (matrix : Matrix) (rows columns : ℕ) (x mate : ℕ → ℕ) → IsSupport matrix rows columns x mate
+    → IsOptimalAmong matrix rows (all_of (rows + columns)) (matching_value matrix (pairs_from mate columns 0 rows))
 support_optimal matrix rows columns x mate s =
-    paid_optimal matrix rows columns 1 x (all_of (rows + columns)) (pairs_from mate columns 0 rows) (omega arith) s.covers (all_among (rows + columns)) (support_pairs matrix rows columns x mate s).0 (support_paid matrix rows columns x mate s)
+    paid_optimal matrix rows columns 1 x (all_of (rows + columns)) (pairs_from mate columns 0 rows) (omega arith)
+    s.covers (all_among (rows + columns)) (support_pairs matrix rows columns x mate s).0
+    (support_paid matrix rows columns x mate s)

@@ -3,7 +3,8 @@ use Rattle.std.proofs.Common.{◌≡◌, ◌≢◌, ℕ, ◌+◌, ◌<◌, ◌�
 use Rattle.big_assignment.specs.Prices.{Offers, IsFair, AreOffers, IsOutside, IsTurned}
 use Rattle.definitions.proofs.Cases.{below_or_above}
 
-pub turned_offers : (m : Offers) (rows columns : ℕ) (u p mate : ℕ → ℕ) (t : Offers) (v q hold : ℕ → ℕ) → AreOffers m → IsTurned m rows columns u p mate t v q hold → AreOffers t
+pub turned_offers : (m : Offers) (rows columns : ℕ) (u p mate : ℕ → ℕ) (t : Offers) (v q hold : ℕ → ℕ) → AreOffers m
+    → IsTurned m rows columns u p mate t v q hold → AreOffers t
 turned_offers m rows columns u p mate t v q hold o h = record {
   small = λ k i kl il. elim (below_or_above i 32) [
     | inl lt ↦ (let a = h.offers k i kl lt in let b = o.small i k lt (omega arith) in omega (arith, a, b))
@@ -12,30 +13,42 @@ turned_offers m rows columns u p mate t v q hold o h = record {
   nothing = h.none;
 }
 
-pub turned_outside : (m : Offers) (rows columns : ℕ) (u p mate : ℕ → ℕ) (t : Offers) (v q hold : ℕ → ℕ) → IsOutside m rows columns → IsTurned m rows columns u p mate t v q hold → IsOutside t columns rows
+pub turned_outside : (m : Offers) (rows columns : ℕ) (u p mate : ℕ → ℕ) (t : Offers) (v q hold : ℕ → ℕ)
+    → IsOutside m rows columns → IsTurned m rows columns u p mate t v q hold → IsOutside t columns rows
 turned_outside m rows columns u p mate t v q hold out h k i kl il side = elim (below_or_above i 32) [
   | inl lt ↦ h.offers k i kl lt ∙ out i k lt (omega arith) (elim side [ inl a ↦ inr a | inr b ↦ inl b ])
   | inr ge ↦ (let e : i ≡ 32 = omega arith in ap (λ (z : ℕ). t k z) e ∙ h.none k kl)
 ]
 
 -- the row that has a column, turned back
-pub hold_back : (m : Offers) (rows columns : ℕ) (u p mate : ℕ → ℕ) (t : Offers) (v q hold : ℕ → ℕ) → columns ≤ 32 → IsFair m rows u p mate → IsTurned m rows columns u p mate t v q hold → (i : ℕ) → i < rows → mate i < columns → hold (mate i) ≡ i
+pub hold_back : (m : Offers) (rows columns : ℕ) (u p mate : ℕ → ℕ) (t : Offers) (v q hold : ℕ → ℕ) → columns ≤ 32
+    → IsFair m rows u p mate → IsTurned m rows columns u p mate t v q hold → (i : ℕ) → i < rows → mate i < columns
+    → hold (mate i) ≡ i
 hold_back m rows columns u p mate t v q hold few f h i il lt = elim (h.holds (mate i) lt) [
   | inl held ↦ f.apart (hold (mate i)) i held.0 il held.1 (let e = held.1 in omega (arith, e, lt))
   | inr none ↦ absurd (none.1 i il refl)
 ]
 
-turned_price : (m : Offers) (rows columns : ℕ) (u p mate : ℕ → ℕ) (t : Offers) (v q hold : ℕ → ℕ) → rows ≤ 32 → columns ≤ 32 → IsOutside m rows columns → IsFair m rows u p mate → IsTurned m rows columns u p mate t v q hold → (i : ℕ) → i < rows → columns ≤ mate i → u i ≡ 0
+turned_price : (m : Offers) (rows columns : ℕ) (u p mate : ℕ → ℕ) (t : Offers) (v q hold : ℕ → ℕ) → rows ≤ 32
+    → columns ≤ 32 → IsOutside m rows columns → IsFair m rows u p mate → IsTurned m rows columns u p mate t v q hold
+    → (i : ℕ) → i < rows → columns ≤ mate i → u i ≡ 0
 turned_price m rows columns u p mate t v q hold fr few out f h i il ge =
     let a = f.tight i il in
     let b = out i (mate i) (omega arith) (f.within i il) (inr ge) in
     omega (arith, a, b)
 
-pub turned_fair : (m : Offers) (rows columns : ℕ) (u p mate : ℕ → ℕ) (t : Offers) (v q hold : ℕ → ℕ) → rows ≤ 32 → columns ≤ 32 → IsOutside m rows columns → IsFair m rows u p mate → IsTurned m rows columns u p mate t v q hold → IsFair t columns v q hold
+pub turned_fair : (m : Offers) (rows columns : ℕ) (u p mate : ℕ → ℕ) (t : Offers) (v q hold : ℕ → ℕ) → rows ≤ 32
+    → columns ≤ 32 → IsOutside m rows columns → IsFair m rows u p mate → IsTurned m rows columns u p mate t v q hold
+    → IsFair t columns v q hold
 turned_fair m rows columns u p mate t v q hold fr few out f h = record {
   covers = λ k i kl il. elim (below_or_above i rows) [
-    | inl lt ↦ (let a = h.offers k i (omega arith) (omega arith) in let b = h.gains k (omega arith) in let c = h.prices i lt in let d = f.covers i k lt (omega arith) in omega (arith, a, b, c, d))
-    | inr ge ↦ (let a = turned_outside m rows columns u p mate t v q hold out h k i (omega arith) il (inr ge) in omega (arith, a))
+    | inl lt ↦
+        (let a = h.offers k i (omega arith) (omega arith) in
+        let b = h.gains k (omega arith) in
+        let c = h.prices i lt in let d = f.covers i k lt (omega arith) in omega (arith, a, b, c, d))
+    | inr ge ↦
+        (let a = turned_outside m rows columns u p mate t v q hold out h k i (omega arith) il (inr ge) in
+        omega (arith, a))
   ];
   tight = λ k kl. elim (h.holds k kl) [
     | inl held ↦ held_tight k kl held.0 held.1
@@ -76,7 +89,8 @@ turned_fair m rows columns u p mate t v q hold fr few out f h = record {
       | inr held ↦ absurd (none held.0 held.1 held.2)
     ]
 
-    free_tight : (k : ℕ) → k < columns → hold k ≡ 32 → ((l : ℕ) → l < rows → mate l ≢ k) → t k (hold k) ≡ v k + q (hold k)
+    free_tight : (k : ℕ) → k < columns → hold k ≡ 32 → ((l : ℕ) → l < rows → mate l ≢ k)
+        → t k (hold k) ≡ v k + q (hold k)
     free_tight k kl e none =
         let a = ap (λ (z : ℕ). t k z) e ∙ h.none k (omega arith) in
         let b = h.gains k (omega arith) in

@@ -1,5 +1,6 @@
 -- The worth of a coalition is what all players of its members' market get.
-use Rattle.std.proofs.Common.{◌≡◌, ℕ, zero, suc, ◌+◌, ◌-◌, ◌^◌, ◌<◌, ◌≤◌, Bool, true, List, length, ℤ, refl, sym, ◌∙◌, inl, inr, arith}
+use Rattle.std.proofs.Common.{◌≡◌, ℕ, zero, suc, ◌+◌, ◌-◌, ◌^◌, ◌<◌, ◌≤◌, Bool, true, List}
+use Rattle.std.proofs.Common.{length, ℤ, refl, sym, ◌∙◌, inl, inr, arith}
 use Rattle.definitions.specs.Coalitions.{has_player}
 use Rattle.assignment_games.specs.Values.{optimal_value}
 use Rattle.big_assignment.specs.Mates.{payoff, total_below}
@@ -17,24 +18,38 @@ use Rattle.big_assignment.proofs.Members.{members_optimal}
 use Rattle.assignment_games.proofs.Games.{worth_optimal}
 use Rattle.big_assignment.proofs.Games.{table_of_members}
 
-pub sum_where-total : (n : ℕ) (w : ℕ → Bool) (x : ℕ → ℕ) → ((k : ℕ) → k < n → w k ≡ true) → sum_where n w x ≡ total_below n x
+pub sum_where-total : (n : ℕ) (w : ℕ → Bool) (x : ℕ → ℕ) → ((k : ℕ) → k < n → w k ≡ true)
+    → sum_where n w x ≡ total_below n x
 sum_where-total zero w x h = refl
-sum_where-total (suc n) w x h = rw (h n (omega arith)) (let ih = sum_where-total n w x (λ k lt. h k (omega arith)) in omega (arith, ih))
+sum_where-total (suc n) w x h =
+    rw (h n (omega arith)) (let ih = sum_where-total n w x (λ k lt. h k (omega arith)) in omega (arith, ih))
 
 pub sum_all : (n : ℕ) (x : ℕ → ℕ) → sum_where n (all_of n) x ≡ total_below n x
 sum_all n x = sum_where-total n (all_of n) x (has_player-grand_coalition n)
 
-pub worth_total : (m : Offers) (rows : List (List ℤ)) (s : ℕ) (u p mate : ℕ → ℕ) → IsMarket rows → s < 2 ^ (length rows + seller_count rows) → ((i j : ℕ) → i < 32 → j ≤ 32 → m i j ≡ offered (entries_of rows) (length rows) s i j) → IsFair m (length rows) u p mate → total_below (length rows + seller_count rows) (payoff (length rows) u p) ≡ optimal_value (entries_of rows) (length rows) (seller_count rows) (length rows) (has_player s)
+pub worth_total : (m : Offers) (rows : List (List ℤ)) (s : ℕ) (u p mate : ℕ → ℕ) → IsMarket rows
+    → s < 2 ^ (length rows + seller_count rows)
+    → ((i j : ℕ) → i < 32 → j ≤ 32 → m i j ≡ offered (entries_of rows) (length rows) s i j)
+    → IsFair m (length rows) u p mate
+    → total_below (length rows + seller_count rows) (payoff (length rows) u p)
+    ≡ optimal_value (entries_of rows) (length rows) (seller_count rows) (length rows) (has_player s)
 worth_total m rows s u p mate k small h f =
     let r = length rows in
     let c = seller_count rows in
     let x = payoff r u p in
     let sup = fair_supports m (offered (entries_of rows) r s) r c u p mate (table_of_members m rows s k h) f in
-    sym (sum_all (r + c) x) ∙ same_optimal (entries_of rows) r (has_player s) (sum_where (r + c) (all_of (r + c)) x) (optimal_value (entries_of rows) r c r (has_player s)) (members_optimal (entries_of rows) r c s x mate small sup) (worth_optimal (entries_of rows) r c s small)
+    sym (sum_all (r + c) x)
+    ∙ same_optimal (entries_of rows) r (has_player s) (sum_where (r + c) (all_of (r + c)) x)
+    (optimal_value (entries_of rows) r c r (has_player s))
+    (members_optimal (entries_of rows) r c s x mate small sup) (worth_optimal (entries_of rows) r c s small)
 
 -- no player gets much
-pub payoff_small : (m : Offers) (rows k : ℕ) (u p mate : ℕ → ℕ) → AreOffers m → rows ≤ 32 → IsFair m rows u p mate → k < rows + 32 → payoff rows u p k ≤ 2 ^ 40
+pub payoff_small : (m : Offers) (rows k : ℕ) (u p mate : ℕ → ℕ) → AreOffers m → rows ≤ 32 → IsFair m rows u p mate
+    → k < rows + 32 → payoff rows u p k ≤ 2 ^ 40
 payoff_small m rows k u p mate o few f lt = elim (below_or_above k rows) [
-  | inl row ↦ (let a = f.tight k row in let b = o.small k (mate k) (omega arith) (f.within k row) in let e = payoff-row rows u p k row in omega (arith, a, b, e))
+  | inl row ↦
+      (let a = f.tight k row in
+      let b = o.small k (mate k) (omega arith) (f.within k row) in
+      let e = payoff-row rows u p k row in omega (arith, a, b, e))
   | inr ge ↦ rw (nat_lt-past k rows ge) (fair_price m rows u p mate o few f (k - rows) (omega arith))
 ]

@@ -1,3 +1,4 @@
+-- For the private functions of this crate.
 -- Deals by their arrays.
 --
 --   offers          what a row of the table offers for a column
@@ -13,10 +14,12 @@
 --   AreColumns      each row has a column, or 32 for none
 --   IsImprovedIn    of a pair and the pairs of one more row, the one of least slack
 --   IsTight         an offer is the gain of its row and the price of its column
-use Rattle.std.specs.Prelude.{◌≡◌, ℕ, ◌+◌, ◌*◌, ◌<◌, ◌≤◌, List, length, ℤ, slice_index, sum_by, nat_eq, if◌then◌else◌}
+use Rattle.std.specs.Prelude.{◌≡◌, ℕ, ◌+◌, ◌*◌, ◌<◌, ◌≤◌, List, length, ℤ}
+use Rattle.std.specs.Prelude.{slice_index, sum_by, nat_eq, if◌then◌else◌}
 use Rattle.matrices.specs.Rows.{entries_of}
 use Rattle.big_assignment.specs.Markets.{everybody, offered}
-use Rattle.big_assignment.specs.Prices.{Offers, IsFair, IsReached, IsSearch, IsCovered, AreOffers, IsOpen, IsNearest, IsImproved}
+use Rattle.big_assignment.specs.Prices.{Offers, IsFair, IsReached, IsSearch, IsCovered}
+use Rattle.big_assignment.specs.Prices.{AreOffers, IsOpen, IsNearest, IsImproved}
 use Rattle.big_assignment.specs.declared.deal.Deal.{Deal}
 use Rattle.big_assignment.specs.declared.deal.Search.{Search}
 
@@ -28,11 +31,13 @@ abbrev pub AreDealOffers : Deal → Type 0
 AreDealOffers deal = AreOffers (offers deal.table)
 
 abbrev pub IsFairDeal : Deal → ℕ → Type 0
-IsFairDeal deal n = IsFair (offers deal.table) n (slice_index deal.gains) (slice_index deal.prices) (slice_index deal.columns)
+IsFairDeal deal n =
+    IsFair (offers deal.table) n (slice_index deal.gains) (slice_index deal.prices) (slice_index deal.columns)
 
 -- the table has what all players offer each other, and the buyers have their columns at fair prices
 pub record IsDealOfAll (rows : List (List ℤ)) (deal : Deal) : Type 0 where
-  pub table : (i j : ℕ) → i < 32 → j ≤ 32 → offers deal.table i j ≡ offered (entries_of rows) (length rows) (everybody rows) i j
+  pub table : (i j : ℕ) → i < 32 → j ≤ 32
+      → offers deal.table i j ≡ offered (entries_of rows) (length rows) (everybody rows) i j
   pub offers_small : AreDealOffers deal
   pub fair : IsFairDeal deal (length rows)
 
@@ -43,10 +48,14 @@ abbrev pub IsReachedIn : Deal → Search → ℕ → ℕ → Type 0
 IsReachedIn deal search n i = IsReached n (slice_index deal.columns) (slice_index search.ranks) i
 
 abbrev pub IsNearestIn : Deal → Search → ℕ → ℕ → ℕ → Type 0
-IsNearestIn deal search n r c = IsNearest (offers deal.table) n (slice_index deal.gains) (slice_index deal.prices) (slice_index deal.columns) (slice_index search.ranks) r c
+IsNearestIn deal search n r c =
+    IsNearest (offers deal.table) n (slice_index deal.gains) (slice_index deal.prices) (slice_index deal.columns)
+    (slice_index search.ranks) r c
 
 abbrev pub IsOpenIn : Deal → Search → ℕ → ℕ → Type 0
-IsOpenIn deal search n j = IsOpen (offers deal.table) n (slice_index deal.gains) (slice_index deal.prices) (slice_index deal.columns) (slice_index search.ranks) (slice_index search.parents) j
+IsOpenIn deal search n j =
+    IsOpen (offers deal.table) n (slice_index deal.gains) (slice_index deal.prices) (slice_index deal.columns)
+    (slice_index search.ranks) (slice_index search.parents) j
 
 -- how many columns are not reached
 abbrev pub unreached : List ℕ → ℕ
@@ -54,7 +63,8 @@ unreached ranks = sum_by (λ r. if nat_eq r 0 then 1 else 0) ranks
 
 abbrev pub IsSearchIn : Deal → Search → ℕ → Type 0
 IsSearchIn deal search n =
-    IsSearch (offers deal.table) n (slice_index deal.gains) (slice_index deal.prices) (slice_index deal.columns) (slice_index search.ranks) (slice_index search.parents) search.count
+    IsSearch (offers deal.table) n (slice_index deal.gains) (slice_index deal.prices) (slice_index deal.columns)
+    (slice_index search.ranks) (slice_index search.parents) search.count
     × (search.count + unreached search.ranks ≡ 33)
 
 -- each row below n has a column, or 32
@@ -63,7 +73,8 @@ AreColumns deal n = (i : ℕ) → i < n → slice_index deal.columns i ≤ 32
 
 abbrev pub IsImprovedIn : Deal → Search → ℕ → ℕ → ℕ × ℕ → ℕ × ℕ → Type 0
 IsImprovedIn deal search n i best found =
-    IsImproved (offers deal.table) n (slice_index deal.gains) (slice_index deal.prices) (slice_index search.ranks) i best.0 best.1 found.0 found.1
+    IsImproved (offers deal.table) n (slice_index deal.gains) (slice_index deal.prices) (slice_index search.ranks) i
+    best.0 best.1 found.0 found.1
 
 -- row i and column k are tight
 abbrev pub IsTight : Deal → ℕ → ℕ → Type 0

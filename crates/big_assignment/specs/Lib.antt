@@ -1,4 +1,4 @@
--- To be read in this order.
+-- To be read in this order. The last two are for the private functions.
 pub mod Markets
 pub mod Supports
 pub mod Theorems

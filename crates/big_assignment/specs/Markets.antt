@@ -1,5 +1,6 @@
--- Markets of up to 32 buyers and 32 sellers by the rows of their matrix: row i is buyer i, which is player i, and column j is seller j,
--- which is the player behind the buyers and j sellers. Their game is the assignment game of the rows (Shapley and Shubik 1971).
+-- Markets of up to 32 buyers and 32 sellers by the rows of their matrix: row i is buyer i, which is player i, and
+-- column j is seller j, which is the player behind the buyers and j sellers. Their game is the assignment game of the
+-- rows (Shapley and Shubik 1971).
 --
 --   HavePlayers rows        1 to 32 buyers, and 1 to 32 sellers
 --   IsMarket rows           1 to 32 rows of 1 to 32 entries each, each from 0 to below 2 ^ 40
@@ -12,7 +13,8 @@ use Rattle.definitions.specs.Classes.{Matrix}
 use Rattle.matrices.specs.Rows.{HaveEntries}
 use Rattle.assignment_games.specs.Assignments.{seller_count, IsEven}
 use Rattle.big_assignment.specs.declared.market_game.MarketFault.{MarketFault}
-use Rattle.big_assignment.specs.declared.market_game.MarketFault.TheVariants.{Players, Number, Matrix as Uneven, Memory}
+use Rattle.big_assignment.specs.declared.market_game.MarketFault.TheVariants.{Players, Number}
+use Rattle.big_assignment.specs.declared.market_game.MarketFault.TheVariants.{Matrix as Uneven, Memory}
 
 -- 1 to 32 buyers, and 1 to 32 sellers
 abbrev pub HavePlayers : List (List ℤ) → Type 0

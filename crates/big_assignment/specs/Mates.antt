@@ -10,7 +10,8 @@ use Rattle.std.specs.Prelude.{ℕ, zero, suc, ◌+◌, ◌-◌, ◌≤◌, List,
 abbrev pub pairs_from : (ℕ → ℕ) → ℕ → ℕ → ℕ → List (ℕ × ℕ)
 pairs_from mate columns i zero = []
 pairs_from mate columns i (suc k) =
-    if nat_lt (mate i) columns then (i, mate i) ∷ pairs_from mate columns (suc i) k else pairs_from mate columns (suc i) k
+    if nat_lt (mate i) columns then (i, mate i) ∷ pairs_from mate columns (suc i) k
+    else pairs_from mate columns (suc i) k
 
 -- the first of each pair is at least i, and each greater than the one before
 abbrev pub AreAscending : ℕ → List (ℕ × ℕ) → Type 0

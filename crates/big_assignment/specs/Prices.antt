@@ -1,5 +1,6 @@
--- Prices for a table of offers, and the search for a matching that goes with them. Column 32 stands for no column: nothing is offered
--- for it, and it is never sold.
+-- For the private functions of this crate.
+-- Prices for a table of offers, and the search for a matching that goes with them. Column 32 stands for no column:
+-- nothing is offered for it, and it is never sold.
 --
 --   Offers       what a row offers for a column
 --   IsFair       rows below n have their columns at prices at which no row would rather have another
@@ -43,7 +44,8 @@ IsReached n mate ranks i = (i ≡ n) ⊎ ((i < n) × (1 ≤ ranks (mate i)))
 -- column k is tight with its parent, a row that was reached before
 pub record IsJoined (m : Offers) (n : ℕ) (u p mate ranks parents : ℕ → ℕ) (k : ℕ) : Type 0 where
   pub tight : m (parents k) k ≡ u (parents k) + p k
-  pub earlier : (parents k ≡ n) ⊎ ((parents k < n) × (1 ≤ ranks (mate (parents k))) × (ranks (mate (parents k)) < ranks k))
+  pub earlier : (parents k ≡ n)
+      ⊎ ((parents k < n) × (1 ≤ ranks (mate (parents k))) × (ranks (mate (parents k)) < ranks k))
 
 -- the columns that were reached from row n, in their order
 pub record IsSearch (m : Offers) (n : ℕ) (u p mate ranks parents : ℕ → ℕ) (count : ℕ) : Type 0 where
@@ -92,7 +94,8 @@ pub record IsNearest (m : Offers) (n : ℕ) (u p mate ranks : ℕ → ℕ) (r c 
   pub reached : IsReached n mate ranks r
   pub column : c ≤ 32
   pub unreached : ranks c ≡ 0
-  pub least : (i k : ℕ) → i ≤ n → IsReached n mate ranks i → k ≤ 32 → ranks k ≡ 0 → u r + p c + m i k ≤ u i + p k + m r c
+  pub least : (i k : ℕ) → i ≤ n → IsReached n mate ranks i → k ≤ 32 → ranks k ≡ 0
+      → u r + p c + m i k ≤ u i + p k + m r c
 
 -- what the reached rows gain falls by d, and what the reached columns cost rises by d
 pub record IsShifted (n d : ℕ) (u p mate ranks v q : ℕ → ℕ) : Type 0 where
@@ -137,10 +140,11 @@ abbrev pub IsOutside : Offers → ℕ → ℕ → Type 0
 IsOutside m rows columns = (i k : ℕ) → i < 32 → k ≤ 32 → (rows ≤ i) ⊎ (columns ≤ k) → m i k ≡ 0
 
 -- rows and columns exchanged
-pub record IsTurned (m : Offers) (rows columns : ℕ) (u p mate : ℕ → ℕ) (t : Offers) (v q hold : ℕ → ℕ) : Type 0 where
-  pub offers : (k i : ℕ) → k < 32 → i < 32 → t k i ≡ m i k
-  pub none : (k : ℕ) → k < 32 → t k 32 ≡ 0
-  pub gains : (k : ℕ) → k ≤ 32 → v k ≡ p k
-  pub prices : (i : ℕ) → i < rows → q i ≡ u i
-  pub beside : (i : ℕ) → rows ≤ i → q i ≡ 0
-  pub holds : (k : ℕ) → k < columns → Holds rows mate k (hold k)
+pub record IsTurned (m : Offers) (rows columns : ℕ) (u p mate : ℕ → ℕ) (t : Offers) (v q hold : ℕ → ℕ) : Type 0
+  where
+    pub offers : (k i : ℕ) → k < 32 → i < 32 → t k i ≡ m i k
+    pub none : (k : ℕ) → k < 32 → t k 32 ≡ 0
+    pub gains : (k : ℕ) → k ≤ 32 → v k ≡ p k
+    pub prices : (i : ℕ) → i < rows → q i ≡ u i
+    pub beside : (i : ℕ) → rows ≤ i → q i ≡ 0
+    pub holds : (k : ℕ) → k < columns → Holds rows mate k (hold k)

@@ -12,9 +12,17 @@ use Rattle.big_assignment.specs.Supports.{Supports, IsWorstFor}
 -- shares support a matching of all players exactly where no matching has a greater value and the shares lie in the core
 abbrev pub ShapleyShubik : Type 0
 ShapleyShubik =
-    (rows : List (List ℤ)) (ps : List (ℕ × ℕ)) (x : Allocation) → IsMatching (length rows) (has_player (everybody rows)) ps → Supports rows ps x ↔ (IsGreatestValue (entries_of rows) (length rows) (everybody rows) (matching_value (entries_of rows) ps) × InCore (assignment_game rows) x)
+    (rows : List (List ℤ)) (ps : List (ℕ × ℕ)) (x : Allocation)
+    → IsMatching (length rows) (has_player (everybody rows)) ps
+    → Supports rows ps x
+    ↔ (IsGreatestValue (entries_of rows) (length rows) (everybody rows) (matching_value (entries_of rows) ps)
+    × InCore (assignment_game rows) x)
 
 -- the core point of the least prices is best for every buyer, and that of the greatest prices gives every buyer least
 abbrev pub SidesAreOpposed : Type 0
 SidesAreOpposed =
-    (rows : List (List ℤ)) (x : Allocation) → (IsBestFor (assignment_game rows) (IsBuyer (length rows)) x ↔ IsWorstFor (assignment_game rows) (IsSeller (length rows)) x) × (IsBestFor (assignment_game rows) (IsSeller (length rows)) x ↔ IsWorstFor (assignment_game rows) (IsBuyer (length rows)) x)
+    (rows : List (List ℤ)) (x : Allocation)
+    → (IsBestFor (assignment_game rows) (IsBuyer (length rows)) x
+    ↔ IsWorstFor (assignment_game rows) (IsSeller (length rows)) x)
+    × (IsBestFor (assignment_game rows) (IsSeller (length rows)) x
+    ↔ IsWorstFor (assignment_game rows) (IsBuyer (length rows)) x)

@@ -38,7 +38,8 @@ fn wanted(deal: &Deal, n: usize, from: usize, prices: &[u64; 33]) -> Option<(usi
     requires small { (k : ℕ) → k ≤ 32 → slice_index prices.now k ≤ 2 ^ 40 }
     ensures { MatchOption result
         ((i : ℕ) → i < n → NoneWanted (offers deal.now.table) (slice_index deal.now.columns) (slice_index prices.now) i)
-        (λ w. (w.0 < n) × IsWanted (offers deal.now.table) (slice_index deal.now.columns) (slice_index prices.now) w.0 w.1 w.2) }
+        (λ w. (w.0 < n)
+        × IsWanted (offers deal.now.table) (slice_index deal.now.columns) (slice_index prices.now) w.0 w.1 w.2) }
 {
     for later in from..n {
         if let Some((k, price)) = wanted_in_row(deal, n, later, prices) {
@@ -59,7 +60,8 @@ fn least_prices(deal: &Deal, n: usize) -> [u64; 33]
     requires offers { AreDealOffers deal.now }
     requires fair { IsFairDeal deal.now n }
     ensures below { IsBelow (offers deal.now.table) n (slice_index deal.now.columns) (slice_index result) }
-    ensures content { (i : ℕ) → i < n → NoneWanted (offers deal.now.table) (slice_index deal.now.columns) (slice_index result) i }
+    ensures content { (i : ℕ) → i < n
+        → NoneWanted (offers deal.now.table) (slice_index deal.now.columns) (slice_index result) i }
 {
     let mut prices = [0; 33];
     let mut from = 0;
@@ -74,8 +76,11 @@ fn least_prices(deal: &Deal, n: usize) -> [u64; 33]
 fn gains_at(deal: &Deal, n: usize, prices: &[u64; 33]) -> [u64; 33]
     requires rows { n ≤ 32 }
     requires columns { AreColumns deal.now n }
-    requires less { (i : ℕ) → i < n → slice_index prices.now (slice_index deal.now.columns i) ≤ offers deal.now.table i (slice_index deal.now.columns i) }
-    ensures { IsGain (offers deal.now.table) n (slice_index prices.now) (slice_index deal.now.columns) (slice_index result) }
+    requires less { (i : ℕ) → i < n
+        → slice_index prices.now (slice_index deal.now.columns i)
+        ≤ offers deal.now.table i (slice_index deal.now.columns i) }
+    ensures { IsGain (offers deal.now.table) n (slice_index prices.now) (slice_index deal.now.columns)
+        (slice_index result) }
 {
     let mut gains = [0; 33];
     for i in 0..n {
@@ -90,7 +95,8 @@ pub(crate) fn cheapest(deal: &Deal, n: usize) -> Deal
     requires rows { n ≤ 32 }
     requires offers { AreDealOffers deal.now }
     requires fair { IsFairDeal deal.now n }
-    ensures fair { IsFair (offers deal.now.table) n (slice_index result.gains) (slice_index result.prices) (slice_index deal.now.columns) }
+    ensures fair { IsFair (offers deal.now.table) n (slice_index result.gains) (slice_index result.prices)
+        (slice_index deal.now.columns) }
     ensures below { IsBelow (offers deal.now.table) n (slice_index deal.now.columns) (slice_index result.prices) }
 {
     let prices = least_prices(deal, n);

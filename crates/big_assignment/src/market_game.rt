@@ -51,7 +51,8 @@ impl MarketGame {
     /// of at most 32 buyers and 32 sellers; else the first cause in the order of `MarketFault`. No memory is taken.
     pub fn new(_alloc: Global, matrix: Vec<Vec<i64>>) -> Result<MarketGame, MarketFault>
         ensures { let rows = map (λ row. row.items) matrix.items in MatchResult result
-            (λ game. (game ≡ rows) × IsMarket rows × IsAssignmentGame (entries_of rows) (length rows) (assignment_game rows))
+            (λ game. (game ≡ rows) × IsMarket rows
+            × IsAssignmentGame (entries_of rows) (length rows) (assignment_game rows))
             (IsRefused rows) }
     {
         let buyers = matrix.len();
@@ -111,7 +112,8 @@ impl MarketGame {
 
     /// What the members offer each other, in a table of 32 rows of 33 numbers.
     pub(crate) fn table(&self, s: Coalition) -> [u64; 1056]
-        ensures offers { (i j : ℕ) → i < 32 → j ≤ 32 → offers result i j ≡ offered (entries_of self.now) (length self.now) s i j }
+        ensures offers { (i j : ℕ) → i < 32 → j ≤ 32
+            → offers result i j ≡ offered (entries_of self.now) (length self.now) s i j }
         ensures small { (i j : ℕ) → i < 32 → j ≤ 32 → offers result i j < 2 ^ 40 }
     {
         let mut table = [0; 1056];
@@ -123,7 +125,8 @@ impl MarketGame {
 
     /// An optimal matching of the members, with prices.
     pub(crate) fn deal(&self, s: Coalition) -> Deal
-        ensures table { (i j : ℕ) → i < 32 → j ≤ 32 → offers result.table i j ≡ offered (entries_of self.now) (length self.now) s i j }
+        ensures table { (i j : ℕ) → i < 32 → j ≤ 32
+            → offers result.table i j ≡ offered (entries_of self.now) (length self.now) s i j }
         ensures offers { AreDealOffers result }
         ensures fair { IsFairDeal result (length self.now) }
     {

@@ -1,5 +1,5 @@
 //! The two ends of the core: the points of the least and of the greatest prices.
-ghost use Rattle.std.specs.Prelude.{ℕ, ◌+◌, ◌^◌, ◌<◌, ◌≤◌, length, slice_index, IfOk};
+ghost use Rattle.std.specs.Prelude.{◌≡◌, ℕ, ◌+◌, ◌^◌, ◌<◌, ◌≤◌, pos, length, slice_index, IfOk};
 ghost use Rattle.definitions.specs.Sides.{IsBestFor, IsBuyer, IsSeller};
 ghost use Rattle.assignment_games.specs.Assignments.{assignment_game};
 ghost use Rattle.big_assignment.specs.Mates.{payoff};
@@ -40,7 +40,8 @@ impl MarketGame {
     /// The core point of the least prices.
     pub(crate) fn buyers_end(&self, alloc: Global, deal: &Deal) -> Result<Shares, OutOfMemory>
         requires { IsDealOfAll self.now deal.now }
-        ensures { IfOk result (λ x. IsBestFor (assignment_game self.now) (IsBuyer (length self.now)) x) }
+        ensures best { IfOk result (λ x. IsBestFor (assignment_game self.now) (IsBuyer (length self.now)) x) }
+        ensures den { IfOk result (λ x. x.den ≡ pos 1) }
     {
         let rows = self.buyers();
         let low = cheapest(deal, rows as usize);
@@ -50,7 +51,8 @@ impl MarketGame {
     /// The core point of the greatest prices: the least of the other side, where rows and columns are exchanged.
     pub(crate) fn sellers_end(&self, alloc: Global, deal: &Deal) -> Result<Shares, OutOfMemory>
         requires { IsDealOfAll self.now deal.now }
-        ensures { IfOk result (λ x. IsBestFor (assignment_game self.now) (IsSeller (length self.now)) x) }
+        ensures best { IfOk result (λ x. IsBestFor (assignment_game self.now) (IsSeller (length self.now)) x) }
+        ensures den { IfOk result (λ x. x.den ≡ pos 1) }
     {
         let (rows, columns) = (self.buyers(), self.sellers());
         let turned = exchanged(deal, rows as usize, columns as usize);

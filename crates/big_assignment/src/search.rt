@@ -64,8 +64,10 @@ fn lowered(deal: &Deal, search: &Search, n: usize, by: u64) -> [u64; 33]
     requires rows { n < 32 }
     requires columns { AreColumns deal.now n }
     requires enough { (i : ℕ) → i ≤ n → IsReachedIn deal.now search.now n i → by ≤ slice_index deal.now.gains i }
-    ensures reached { (i : ℕ) → i ≤ n → IsReachedIn deal.now search.now n i → slice_index result i + by ≡ slice_index deal.now.gains i }
-    ensures rest { (i : ℕ) → i < n → slice_index search.now.ranks (slice_index deal.now.columns i) ≡ 0 → slice_index result i ≡ slice_index deal.now.gains i }
+    ensures reached { (i : ℕ) → i ≤ n → IsReachedIn deal.now search.now n i
+        → slice_index result i + by ≡ slice_index deal.now.gains i }
+    ensures rest { (i : ℕ) → i < n → slice_index search.now.ranks (slice_index deal.now.columns i) ≡ 0
+        → slice_index result i ≡ slice_index deal.now.gains i }
 {
     let mut gains = deal.gains;
     for i in 0..n + 1 {
@@ -79,8 +81,10 @@ fn lowered(deal: &Deal, search: &Search, n: usize, by: u64) -> [u64; 33]
 /// The prices where those of the reached columns rise.
 fn raised(deal: &Deal, search: &Search, by: u64) -> [u64; 33]
     requires small { (k : ℕ) → k ≤ 32 → slice_index deal.now.prices k + by < 2 ^ 64 }
-    ensures reached { (k : ℕ) → k ≤ 32 → 1 ≤ slice_index search.now.ranks k → slice_index result k ≡ slice_index deal.now.prices k + by }
-    ensures rest { (k : ℕ) → k ≤ 32 → slice_index search.now.ranks k ≡ 0 → slice_index result k ≡ slice_index deal.now.prices k }
+    ensures reached { (k : ℕ) → k ≤ 32 → 1 ≤ slice_index search.now.ranks k
+        → slice_index result k ≡ slice_index deal.now.prices k + by }
+    ensures rest { (k : ℕ) → k ≤ 32 → slice_index search.now.ranks k ≡ 0
+        → slice_index result k ≡ slice_index deal.now.prices k }
 {
     let mut prices = deal.prices;
     for k in 0..33 {
@@ -134,7 +138,8 @@ fn approach(deal: &mut Deal, search: &Search, n: usize) -> (usize, usize)
 fn hand_over(deal: &Deal, search: &Search, n: usize, last: usize) -> [usize; 33]
     requires rows { n < 32 }
     requires open { IsOpenIn deal.now search.now n last }
-    ensures { IsFair (offers deal.now.table) (n + 1) (slice_index deal.now.gains) (slice_index deal.now.prices) (slice_index result) }
+    ensures { IsFair (offers deal.now.table) (n + 1) (slice_index deal.now.gains) (slice_index deal.now.prices)
+        (slice_index result) }
 {
     let mut columns = deal.columns;
     let mut k = last;

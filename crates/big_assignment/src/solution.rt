@@ -1,5 +1,5 @@
 //! A market's solution: an optimal matching, and the two ends of the core.
-ghost use Rattle.std.specs.Prelude.{◌≡◌, ◌+◌, ◌<◌, ◌≤◌, length, slice_index, IfOk};
+ghost use Rattle.std.specs.Prelude.{◌≡◌, ◌+◌, ◌<◌, ◌≤◌, pos, length, slice_index, IfOk};
 ghost use Rattle.big_assignment.specs.Mates.{pairs_from};
 ghost use Rattle.assignment_games.specs.Assignments.{assignment_game};
 ghost use Rattle.definitions.specs.Sides.{IsBestFor, IsBuyer, IsSeller};
@@ -37,7 +37,8 @@ fn pairs_of(
     requires rows { rows ≤ 32 }
     requires few { columns ≤ 32 }
     requires columns { AreColumns deal.now rows }
-    ensures { IfOk result (λ pairs. pairs.items ≡ player_pairs rows (pairs_from (slice_index deal.now.columns) columns 0 rows)) }
+    ensures { IfOk result
+        (λ pairs. pairs.items ≡ player_pairs rows (pairs_from (slice_index deal.now.columns) columns 0 rows)) }
 {
     let mut pairs = Vec::new(alloc);
     for i in 0..rows {
@@ -56,8 +57,12 @@ impl MarketGame {
     /// Its one error is want of memory.
     pub fn solve(&self, alloc: Global) -> Result<Solution, OutOfMemory>
         ensures pairs { IfOk result (λ solution. IsOptimalMatching self.now solution.pairs.items solution.value) }
-        ensures buyers { IfOk result (λ solution. IsBestFor (assignment_game self.now) (IsBuyer (length self.now)) solution.buyers_best) }
-        ensures sellers { IfOk result (λ solution. IsBestFor (assignment_game self.now) (IsSeller (length self.now)) solution.sellers_best) }
+        ensures buyers { IfOk result
+            (λ solution. IsBestFor (assignment_game self.now) (IsBuyer (length self.now)) solution.buyers_best) }
+        ensures sellers { IfOk result
+            (λ solution. IsBestFor (assignment_game self.now) (IsSeller (length self.now)) solution.sellers_best) }
+        ensures den { IfOk result
+            (λ solution. (solution.buyers_best.den ≡ pos 1) × (solution.sellers_best.den ≡ pos 1)) }
     {
         let deal = self.deal_of_all();
         let pairs = pairs_of(alloc, &deal, self.buyers(), self.sellers())?;

@@ -1,5 +1,6 @@
 -- The number of members of a coalition is the number of bits that are set in its mask.
-use Rattle.std.proofs.Common.{◌≡◌, ℕ, zero, suc, ◌+◌, ◌*◌, ◌%◌, ◌^◌, ◌<◌, Bool, true, false, [], ◌∷◌, length, length-append, add_comm, if◌then◌else◌, refl, sym, ap, ◌∙◌, arith}
+use Rattle.std.proofs.Common.{◌≡◌, ℕ, zero, suc, ◌+◌, ◌*◌, ◌%◌, ◌^◌, ◌<◌, Bool, true, false, [], ◌∷◌, length}
+use Rattle.std.proofs.Common.{length-append, add_comm, if◌then◌else◌, refl, sym, ap, ◌∙◌, arith}
 use Rattle.std.proofs.lemmas.Bool.Decides.{nat_tests}
 use Rattle.std.proofs.lemmas.Nat.{ones_cat, mod-pow-add}
 use Rattle.std.proofs.lemmas.Nat.Bits.{bit_at-lt}
@@ -35,7 +36,8 @@ length-members_mod (suc n) s =
     let next : suc n ≡ n + 1 = omega arith in
     rw next (step (has_player s n) refl (length-members_mod n s))
   where
-    step : (b : Bool) → has_player s n ≡ b → length (members n s) ≡ count_ones (s % 2 ^ n) → length (members (n + 1) s) ≡ count_ones (s % 2 ^ (n + 1))
+    step : (b : Bool) → has_player s n ≡ b → length (members n s) ≡ count_ones (s % 2 ^ n)
+        → length (members (n + 1) s) ≡ count_ones (s % 2 ^ (n + 1))
     step true h low =
         let bit : count_ones (bit_at s n) ≡ 1 = ap count_ones (bit_by_player s n true h) ∙ count_ones-one in
         rw (members-more_yes n s h, ones_mod-suc n s) (omega (arith, length-append (members n s) (n ∷ [])))

@@ -1,8 +1,11 @@
 -- Gray order: from each step to the next one player comes or goes, and each coalition comes once.
-use Rattle.std.proofs.Common.{◌≡◌, ℕ, zero, suc, ◌+◌, ◌-◌, ◌*◌, ◌/◌, ◌%◌, ◌^◌, ◌<◌, ◌≤◌, Bool, true, false, cond, not, nat_eq, List, ◌∷◌, length, map, Option, Some, None, MatchOption, refl, sym, ap, ◌∙◌, arith, inl, inr}
+use Rattle.std.proofs.Common.{◌≡◌, ℕ, zero, suc, ◌+◌, ◌-◌, ◌*◌, ◌/◌, ◌%◌, ◌^◌, ◌<◌, ◌≤◌, Bool, true}
+use Rattle.std.proofs.Common.{false, cond, not, nat_eq, List, ◌∷◌, length, map, Option, Some, None}
+use Rattle.std.proofs.Common.{MatchOption, refl, sym, ap, ◌∙◌, arith, inl, inr}
 use Rattle.std.proofs.lemmas.Bool.Decides.{nat_tests}
 use Rattle.std.proofs.lemmas.Nat.{xor_lt}
-use Rattle.std.proofs.lemmas.Nat.Bits.{bit_at_xor, bit_at-suc, bit_at_lowest, bit_at-lt, bit_at_above, bit_at-trailing_zeros, same_from_bits}
+use Rattle.std.proofs.lemmas.Nat.Bits.{bit_at_xor, bit_at-suc, bit_at_lowest, bit_at-lt}
+use Rattle.std.proofs.lemmas.Nat.Bits.{bit_at_above, bit_at-trailing_zeros, same_from_bits}
 use Rattle.std.proofs.lemmas.List.FromFn.{length-map-range_with_len, get_or-map-range_with_len}
 use Rattle.std.proofs.iter.runs.Sources.{from_front, as_is}
 use Rattle.std.proofs.lemmas.Iterator.{YieldsList}
@@ -41,18 +44,34 @@ before zero k one zeros =
     record {
       low = λ j lt. absurd (omega arith);
       here = bit_at_lowest (k - 1) ∙ (omega arith);
-      high = elim [ zero ↦ λ lt. absurd (omega arith) | suc j ↦ λ lt. bit_at-suc (k - 1) j ∙ ap (λ (m : ℕ). bit_at m j) half ∙ sym (bit_at-suc k j) ];
+      high =
+          elim [
+            | zero ↦ λ lt. absurd (omega arith)
+            | suc j ↦ λ lt. bit_at-suc (k - 1) j ∙ ap (λ (m : ℕ). bit_at m j) half ∙ sym (bit_at-suc k j)
+          ];
     }
 before (suc t) k one zeros =
     let even : k % 2 ≡ 0 = sym (bit_at_lowest k) ∙ zeros 0 (omega arith) in
     let some : k / 2 ≡ 0 → ⊥ = λ e. none (k / 2) t (sym (bit_at-suc k t) ∙ one) e in
     let half : (k - 1) / 2 ≡ k / 2 - 1 = omega (arith, some) in
     let odd : (k - 1) % 2 ≡ 1 = omega (arith, some) in
-    let ih = before t (k / 2) (sym (bit_at-suc k t) ∙ one) (λ j lt. sym (bit_at-suc k j) ∙ zeros (suc j) (omega arith)) in
+    let ih =
+    before t (k / 2) (sym (bit_at-suc k t) ∙ one)
+    (λ j lt. sym (bit_at-suc k j) ∙ zeros (suc j) (omega arith)) in
     record {
-      low = elim [ zero ↦ λ lt. bit_at_lowest (k - 1) ∙ odd | suc j ↦ λ lt. bit_at-suc (k - 1) j ∙ ap (λ (m : ℕ). bit_at m j) half ∙ ih.low j (omega arith) ];
+      low =
+          elim [
+            | zero ↦ λ lt. bit_at_lowest (k - 1) ∙ odd
+            | suc j ↦ λ lt. bit_at-suc (k - 1) j ∙ ap (λ (m : ℕ). bit_at m j) half ∙ ih.low j (omega arith)
+          ];
       here = bit_at-suc (k - 1) t ∙ ap (λ (m : ℕ). bit_at m t) half ∙ ih.here;
-      high = elim [ zero ↦ λ lt. absurd (omega arith) | suc j ↦ λ lt. bit_at-suc (k - 1) j ∙ ap (λ (m : ℕ). bit_at m j) half ∙ ih.high j (omega arith) ∙ sym (bit_at-suc k j) ];
+      high =
+          elim [
+            | zero ↦ λ lt. absurd (omega arith)
+            | suc j ↦
+                λ lt. bit_at-suc (k - 1) j ∙ ap (λ (m : ℕ). bit_at m j) half ∙ ih.high j (omega arith)
+                ∙ sym (bit_at-suc k j)
+          ];
     }
   where
     none : (m i : ℕ) → bit_at m i ≡ 1 → m ≡ 0 → ⊥
@@ -61,7 +80,8 @@ before (suc t) k one zeros =
         let z = bit_at_above m 0 i fits (omega arith) in
         omega (arith, one, z)
 
-changed_bit : (k t : ℕ) → bit_at k t ≡ 1 → ((j : ℕ) → j < t → bit_at k j ≡ 0) → (j : ℕ) → bit_at (gray_mask k) j ≡ (cond (nat_eq j t) (1 - bit_at (gray_mask (k - 1)) j) (bit_at (gray_mask (k - 1)) j))
+changed_bit : (k t : ℕ) → bit_at k t ≡ 1 → ((j : ℕ) → j < t → bit_at k j ≡ 0) → (j : ℕ)
+    → bit_at (gray_mask k) j ≡ (cond (nat_eq j t) (1 - bit_at (gray_mask (k - 1)) j) (bit_at (gray_mask (k - 1)) j))
 changed_bit k t one zeros j =
     let b = before t k one zeros in
     let g = bit_at-gray k j in
@@ -72,7 +92,9 @@ changed_bit k t one zeros j =
           let z = zeros j low in
           let o = b.low j low in
           elim (next_or_last j t low) [
-            | inl less ↦ let zz = zeros (suc j) less in let oo = b.low (suc j) less in rw apart (omega (arith, g, f, z, o, zz, oo))
+            | inl less ↦
+                let zz = zeros (suc j) less in
+                let oo = b.low (suc j) less in rw apart (omega (arith, g, f, z, o, zz, oo))
             | inr same ↦
                 let zz : bit_at k (suc j) ≡ 1 = ap (bit_at k) same ∙ one in
                 let oo : bit_at (k - 1) (suc j) ≡ 0 = ap (bit_at (k - 1)) same ∙ b.here in
@@ -94,8 +116,12 @@ changed_bit k t one zeros j =
       ]
     ]
 
-flipped_player : (k t j : ℕ) → bit_at (gray_mask k) j ≡ (cond (nat_eq j t) (1 - bit_at (gray_mask (k - 1)) j) (bit_at (gray_mask (k - 1)) j)) → has_player (gray_mask k) j ≡ (cond (nat_eq j t) (not (has_player (gray_mask (k - 1)) j)) (has_player (gray_mask (k - 1)) j))
-flipped_player k t j h = pick (nat_eq j t) (bit_at (gray_mask k) j) (bit_at (gray_mask (k - 1)) j) (bit_at-lt (gray_mask (k - 1)) j) h
+flipped_player : (k t j : ℕ)
+    → bit_at (gray_mask k) j ≡ (cond (nat_eq j t) (1 - bit_at (gray_mask (k - 1)) j) (bit_at (gray_mask (k - 1)) j))
+    → has_player (gray_mask k) j
+    ≡ (cond (nat_eq j t) (not (has_player (gray_mask (k - 1)) j)) (has_player (gray_mask (k - 1)) j))
+flipped_player k t j h =
+    pick (nat_eq j t) (bit_at (gray_mask k) j) (bit_at (gray_mask (k - 1)) j) (bit_at-lt (gray_mask (k - 1)) j) h
   where
     pick : (b : Bool) (x y : ℕ) → y < 2 → x ≡ cond b (1 - y) y → nat_eq x 1 ≡ cond b (not (nat_eq y 1)) (nat_eq y 1)
     pick true x y lt e = grind (arith, nat_tests)
@@ -108,9 +134,15 @@ flips n k few lt = pick (nat_eq k 0) refl
     fits = below n k few lt
       where
         below : (n k : ℕ) → n ≤ 16 → k < 2 ^ n → k < 2 ^ 64
-        below n k few lt = let le = pow-le-pow_right {n = 2} (omega arith) {i = n} {j = 64} (omega arith) in omega (arith, le)
+        below n k few lt =
+            let le = pow-le-pow_right {n = 2} (omega arith) {i = n} {j = 64} (omega arith) in omega (arith, le)
 
-    pick : (b : Bool) → nat_eq k 0 ≡ b → MatchOption (cond b None (Some (trailing_zeros w64 k))) (k ≡ 0) (λ i. (i < n) × (0 < k) × ((j : ℕ) → has_player (gray_mask k) j ≡ (cond (nat_eq j i) (not (has_player (gray_mask (k - 1)) j)) (has_player (gray_mask (k - 1)) j))))
+    pick : (b : Bool) → nat_eq k 0 ≡ b
+        → MatchOption (cond b None (Some (trailing_zeros w64 k))) (k ≡ 0)
+        (λ i. (i < n) × (0 < k)
+        × ((j : ℕ)
+        → has_player (gray_mask k) j
+        ≡ (cond (nat_eq j i) (not (has_player (gray_mask (k - 1)) j)) (has_player (gray_mask (k - 1)) j))))
     pick true e = grind (arith, nat_tests)
     pick false e =
         let some : 0 < k = grind (arith, nat_tests) in
@@ -119,12 +151,17 @@ flips n k few lt = pick (nat_eq k 0) refl
         (within t z.1, some, λ j. flipped_player k t j (changed_bit k t z.1 z.2 j))
       where
         within : (t : ℕ) → bit_at k t ≡ 1 → t < n
-        within t one = elim (below_or_above t n) [ inl less ↦ less | inr more ↦ let z = bit_at_above k n t lt more in absurd (omega (arith, one, z)) ]
+        within t one =
+            elim (below_or_above t n)
+            [ inl less ↦ less | inr more ↦ let z = bit_at_above k n t lt more in absurd (omega (arith, one, z)) ]
 
 -- ---- each coalition once
 
 half : (k : ℕ) → gray_mask k / 2 ≡ gray_mask (k / 2)
-half k = same_from_bits (gray_mask k / 2) (gray_mask (k / 2)) (λ i. sym (bit_at-suc (gray_mask k) i) ∙ bit_at-gray k (suc i) ∙ both (bit_at-suc k i) (bit_at-suc k (suc i)) ∙ sym (bit_at-gray (k / 2) i))
+half k =
+    same_from_bits (gray_mask k / 2) (gray_mask (k / 2))
+    (λ i. sym (bit_at-suc (gray_mask k) i) ∙ bit_at-gray k (suc i) ∙ both (bit_at-suc k i) (bit_at-suc k (suc i))
+    ∙ sym (bit_at-gray (k / 2) i))
   where
     both : {a b c d : ℕ} → a ≡ c → b ≡ d → (a + b) % 2 ≡ (c + d) % 2
     both e f = rw (e, f) refl
@@ -189,7 +226,9 @@ gives_all : (n : ℕ) (s : List GrayStep) → s ≡ gray_steps n → YieldsList 
 gives_all n s h = YieldsList-from_first (λ x. x) (λ rest. rest) (gray_steps n) h
 
 -- in a loop that has had the steps xs, the next one
-pub steps-turn : (n : ℕ) (s xs t : List GrayStep) → s ≡ gray_steps n → Yields Calls s xs t → (r : Option GrayStep) (u : List GrayStep) (x : GrayStep) → r ≡ Some x → Calls t r u → (x ≡ gray_step (length xs)) × (length xs < 2 ^ n)
+pub steps-turn : (n : ℕ) (s xs t : List GrayStep) → s ≡ gray_steps n → Yields Calls s xs t
+    → (r : Option GrayStep) (u : List GrayStep) (x : GrayStep) → r ≡ Some x → Calls t r u
+    → (x ≡ gray_step (length xs)) × (length xs < 2 ^ n)
 steps-turn n s xs t h y r u x is step =
     let turn = YieldsList-turn (gives_all n s h) xs t y r u x is step in
     let count = length-map-range_with_len gray_step 0 (2 ^ n) in
@@ -198,7 +237,8 @@ steps-turn n s xs t h y r u x is step =
     (turn.1 ∙ item, lt)
 
 -- and at its end
-pub steps-end : (n : ℕ) (s xs t : List GrayStep) → s ≡ gray_steps n → Yields Calls s xs t → (r : Option GrayStep) (u : List GrayStep) → r ≡ None → Calls t r u → length xs ≡ 2 ^ n
+pub steps-end : (n : ℕ) (s xs t : List GrayStep) → s ≡ gray_steps n → Yields Calls s xs t
+    → (r : Option GrayStep) (u : List GrayStep) → r ≡ None → Calls t r u → length xs ≡ 2 ^ n
 steps-end n s xs t h y r u is step =
     let end = YieldsList-end (gives_all n s h) xs t y r u is step in
     omega (arith, length-map-range_with_len gray_step 0 (2 ^ n))

@@ -20,7 +20,8 @@ gives_all : (n : ℕ) (s : List ℕ) → s ≡ all_masks n → YieldsList Steps 
 gives_all n s h = YieldsList-from_first (λ x. x) (λ rest. rest) (all_masks n) h
 
 -- in a loop that has had the masks xs, the next one
-pub all_masks-turn : (n : ℕ) (s xs t : List ℕ) → s ≡ all_masks n → Yields Steps s xs t → (r : Option ℕ) (u : List ℕ) (x : ℕ) → r ≡ Some x → Steps t r u → (x ≡ length xs) × (x < 2 ^ n)
+pub all_masks-turn : (n : ℕ) (s xs t : List ℕ) → s ≡ all_masks n → Yields Steps s xs t
+    → (r : Option ℕ) (u : List ℕ) (x : ℕ) → r ≡ Some x → Steps t r u → (x ≡ length xs) × (x < 2 ^ n)
 all_masks-turn n s xs t h y r u x is step =
     let turn = YieldsList-turn (gives_all n s h) xs t y r u x is step in
     let count = length-range_with_len 0 (2 ^ n) in
@@ -28,7 +29,8 @@ all_masks-turn n s xs t h y r u x is step =
     (omega arith, omega arith)
 
 -- and at its end
-pub all_masks-end : (n : ℕ) (s xs t : List ℕ) → s ≡ all_masks n → Yields Steps s xs t → (r : Option ℕ) (u : List ℕ) → r ≡ None → Steps t r u → length xs ≡ 2 ^ n
+pub all_masks-end : (n : ℕ) (s xs t : List ℕ) → s ≡ all_masks n → Yields Steps s xs t → (r : Option ℕ) (u : List ℕ)
+    → r ≡ None → Steps t r u → length xs ≡ 2 ^ n
 all_masks-end n s xs t h y r u is step =
     let end = YieldsList-end (gives_all n s h) xs t y r u is step in
     omega (arith, length-range_with_len 0 (2 ^ n))

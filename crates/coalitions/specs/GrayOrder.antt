@@ -6,7 +6,8 @@
 --   gray_steps n     all steps of n players
 --   IsFlip k         what that player is
 --   IsOnce n s       s comes at one step of n players, and at no other
-use Rattle.std.specs.Prelude.{◌≡◌, ℕ, ◌-◌, ◌/◌, ◌^◌, ◌<◌, not, nat_eq, List, map, Some, None, MatchOption, if◌then◌else◌, bit_xor}
+use Rattle.std.specs.Prelude.{◌≡◌, ℕ, ◌-◌, ◌/◌, ◌^◌, ◌<◌, not, nat_eq, List, map, Some}
+use Rattle.std.specs.Prelude.{None, MatchOption, if◌then◌else◌, bit_xor}
 use Rattle.std.specs.Int.{trailing_zeros}
 use Rattle.std.specs.List.{range_with_len}
 use mir.Syntax.{w64}
@@ -35,7 +36,10 @@ gray_steps n = map gray_step (range_with_len 0 (2 ^ n))
 -- step k differs from the step before in the one player that is named; before step 0 there is none
 abbrev pub IsFlip : ℕ → ℕ → Type 0
 IsFlip n k = MatchOption (gray_step k).flipped (k ≡ 0)
-    (λ i. (i < n) × (0 < k) × ((j : ℕ) → has_player (gray_mask k) j ≡ (if nat_eq j i then not (has_player (gray_mask (k - 1)) j) else has_player (gray_mask (k - 1)) j)))
+    (λ i. (i < n) × (0 < k)
+    × ((j : ℕ)
+    → has_player (gray_mask k) j
+    ≡ (if nat_eq j i then not (has_player (gray_mask (k - 1)) j) else has_player (gray_mask (k - 1)) j)))
 
 -- s is the coalition of one step of n players, and of no other step
 abbrev pub IsOnce : ℕ → ℕ → Type 0

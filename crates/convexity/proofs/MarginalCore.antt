@@ -22,18 +22,22 @@ none_below n = pow_pos n
 abbrev pub added : (ℕ → ℤ) → List ℕ → ℕ → ℕ → ℤ
 added v order n s = sum_over n (λ i. marginal_worth v i 0 order) s
 
-pub added-reaches : (g : Game) (order : List ℕ) (s : ℕ) → IsConvex g → IsOrder g.players order → g.worth 0 ≡ pos 0 → s < 2 ^ g.players → g.worth s ≤ℤ added g.worth order g.players s
+pub added-reaches : (g : Game) (order : List ℕ) (s : ℕ) → IsConvex g → IsOrder g.players order → g.worth 0 ≡ pos 0
+    → s < 2 ^ g.players → g.worth s ≤ℤ added g.worth order g.players s
 added-reaches g order s convex h none ls =
     let all = h.all in
     let rest = rest_of_order g.players order h in
     let e = amount-along g.players s g.worth 0 order rest in
-    let reach = along-reaches g s convex ls order 0 0 rest (omega (arith, nobody g.players, all)) (none_below g.players) (none_below g.players) (λ j. lacks j) in
+    let reach =
+    along-reaches g s convex ls order 0 0 rest (omega (arith, nobody g.players, all)) (none_below g.players)
+    (none_below g.players) (λ j. lacks j) in
     omega (arith, linear, e, reach, none)
   where
     lacks : (j : ℕ) → has_player 0 j ≡ (has_player 0 j && has_player s j)
     lacks j = rw (has_player-empty j) refl
 
-pub added-all : (g : Game) (order : List ℕ) → IsOrder g.players order → g.worth 0 ≡ pos 0 → added g.worth order g.players (grand_coalition g.players) ≡ g.worth (grand_coalition g.players)
+pub added-all : (g : Game) (order : List ℕ) → IsOrder g.players order → g.worth 0 ≡ pos 0
+    → added g.worth order g.players (grand_coalition g.players) ≡ g.worth (grand_coalition g.players)
 added-all g order h none =
     let all = h.all in
     let rest = rest_of_order g.players order h in
@@ -41,21 +45,26 @@ added-all g order h none =
     let reach = along-all g order 0 rest (omega (arith, nobody g.players, all)) (none_below g.players) in
     omega (arith, linear, e, reach, none)
 
-amount-marginal : (g : Game) (order : List ℕ) (x : Allocation) (s : ℕ) → IsMarginal g order x → amount x s ≡ x.den *ℤ added g.worth order g.players s
+amount-marginal : (g : Game) (order : List ℕ) (x : Allocation) (s : ℕ) → IsMarginal g order x
+    → amount x s ≡ x.den *ℤ added g.worth order g.players s
 amount-marginal g order x s h =
     ap (λ (k : ℕ). sum_over k (share x) s) h.0.0
     ∙ sum_over-same g.players (share x) (λ i. x.den *ℤ marginal_worth g.worth i 0 order) s h.1
     ∙ sum_over-times g.players (λ i. marginal_worth g.worth i 0 order) x.den s
 
-pub marginal_in_core : (g : Game) (order : List ℕ) (x : Allocation) → g.worth 0 ≡ pos 0 → IsOrder g.players order → IsMarginal g order x → IsConvex g → InCore g x
+pub marginal_in_core : (g : Game) (order : List ℕ) (x : Allocation) → g.worth 0 ≡ pos 0 → IsOrder g.players order
+    → IsMarginal g order x → IsConvex g → InCore g x
 marginal_in_core g order x none h m convex = (m.0, efficient, unblocked)
   where
     efficient : IsEfficient g x
-    efficient = amount-marginal g order x (grand_coalition g.players) m ∙ ap (λ z. x.den *ℤ z) (added-all g order h none)
+    efficient =
+        amount-marginal g order x (grand_coalition g.players) m ∙ ap (λ z. x.den *ℤ z) (added-all g order h none)
 
     unblocked : (s : ℕ) → s < 2 ^ g.players → ¬ Blocks g x s
     unblocked s ls blocks =
         let some = m.0.1 in
         let e = amount-marginal g order x s m in
-        let le = mul-leℤ x.den (g.worth s) (added g.worth order g.players s) (omega (arith, linear, some)) (added-reaches g order s convex h none ls) in
+        let le =
+        mul-leℤ x.den (g.worth s) (added g.worth order g.players s) (omega (arith, linear, some))
+        (added-reaches g order s convex h none ls) in
         omega (arith, linear, blocks, e, le)

@@ -1,5 +1,6 @@
 -- Steps of the search for the first coalition and players at which a game isn't convex.
-use Rattle.std.proofs.Common.{◌≡◌, ◌⊎◌, ℕ, ◌+◌, ◌^◌, ◌<◌, ◌≤◌, true, false, ◌||◌, nat_eq, ℤ, pos, ◌-ℤ◌, ◌≤ℤ◌, sym, ap, ◌∙◌, inl, inr, arith}
+use Rattle.std.proofs.Common.{◌≡◌, ◌⊎◌, ℕ, ◌+◌, ◌^◌, ◌<◌, ◌≤◌, true, false, ◌||◌, nat_eq, ℤ}
+use Rattle.std.proofs.Common.{pos, ◌-ℤ◌, ◌≤ℤ◌, sym, ap, ◌∙◌, inl, inr, arith}
 use Rattle.std.proofs.lemmas.Bool.{false≢true}
 use Rattle.definitions.proofs.Ring.{linear}
 use Rattle.definitions.proofs.Parts.{has_player-more_other, more-is, more-lt}
@@ -9,16 +10,19 @@ use Rattle.definitions.specs.Convexity.{AreOutside, apart, together, IsConvex, I
 use Rattle.convexity.specs.Search.{HoldsAt, IsFirstPair}
 
 -- a coalition with a player from outside, by its players
-pub with_one : (n s i r : ℕ) → s < 2 ^ n → i < n → has_player s i ≡ false → ((j : ℕ) → has_player r j ≡ (nat_eq j i || has_player s j)) → (r ≡ s + 2 ^ i) × (r < 2 ^ n)
+pub with_one : (n s i r : ℕ) → s < 2 ^ n → i < n → has_player s i ≡ false
+    → ((j : ℕ) → has_player r j ≡ (nat_eq j i || has_player s j)) → (r ≡ s + 2 ^ i) × (r < 2 ^ n)
 with_one n s i r ls li out h =
     let e = more-is s i r out h in
     (e, rw e (more-lt n s i ls li out))
 
 -- and with another one
-pub with_two : (n s i j r t : ℕ) → AreOutside n s i j → ((k : ℕ) → has_player r k ≡ (nat_eq k i || has_player s k)) → ((k : ℕ) → has_player t k ≡ (nat_eq k j || has_player r k)) → (t ≡ s + 2 ^ i + 2 ^ j) × (t < 2 ^ n)
+pub with_two : (n s i j r t : ℕ) → AreOutside n s i j → ((k : ℕ) → has_player r k ≡ (nat_eq k i || has_player s k))
+    → ((k : ℕ) → has_player t k ≡ (nat_eq k j || has_player r k)) → (t ≡ s + 2 ^ i + 2 ^ j) × (t < 2 ^ n)
 with_two n s i j r t out h k =
     let one = with_one n s i r out.0 out.1 out.4 h in
-    let other : has_player r j ≡ false = ap (λ (m : ℕ). has_player m j) one.0 ∙ has_player-more_other s i j out.4 (λ e. out.3 (sym e)) ∙ out.5 in
+    let other : has_player r j ≡ false =
+    ap (λ (m : ℕ). has_player m j) one.0 ∙ has_player-more_other s i j out.4 (λ e. out.3 (sym e)) ∙ out.5 in
     let two = with_one n r j t one.1 out.2 other k in
     (two.0 ∙ ap (λ (m : ℕ). m + 2 ^ j) one.0, two.1)
 
@@ -69,7 +73,8 @@ convex_from g h s i j out = elim (less_or_more i j out.3) [
   | inr more ↦ swapped g s i j (h s out.0 j i more) out
 ]
 
-pub first_failure : (g : Game) (s i j : ℕ) (d : ℤ) → ((t : ℕ) → t < s → (k l : ℕ) → k < l → HoldsAt g t k l) → IsFirstPair g s i j d → IsFirstNonconvexity g s i j d
+pub first_failure : (g : Game) (s i j : ℕ) (d : ℤ) → ((t : ℕ) → t < s → (k l : ℕ) → k < l → HoldsAt g t k l)
+    → IsFirstPair g s i j d → IsFirstNonconvexity g s i j d
 first_failure g s i j d before pair = record {
   outside = pair.0.outside;
   ascends = pair.0.ascends;
@@ -81,5 +86,6 @@ first_failure g s i j d before pair = record {
   ];
 }
   where
-    at : (t : ℕ) → t ≡ s → (k l : ℕ) → AreOutside g.players t k l → k < l → ((k < i) ⊎ ((k ≡ i) × (l < j))) → apart g t k l ≤ℤ together g t k l
+    at : (t : ℕ) → t ≡ s → (k l : ℕ) → AreOutside g.players t k l → k < l → ((k < i) ⊎ ((k ≡ i) × (l < j)))
+        → apart g t k l ≤ℤ together g t k l
     at t e k l out less earlier = rw e (pair.1 k l less earlier (rw e at out))

@@ -16,8 +16,10 @@ abbrev pub IsTested : Game → Convexity → Type 0
 IsTested g Convex = IsConvex g
 IsTested g (Not s i j d) = IsFirstNonconvexity g s i j d
 
--- convex, with the Shapley shares and the marginal shares of the players in ascending order, both in the core; or the first coalition and players that fail
+-- convex, with the Shapley shares and the marginal shares of the players in ascending order, both in the core; or
+-- the first coalition and players that fail
 abbrev pub IsAnswer : Game → ConvexAnswer → Type 0
 IsAnswer g (ConvexShares shapley marginal) =
-    IsConvex g × IsShapley g shapley × InCore g shapley × IsMarginal g (players_in_order g.players) marginal × InCore g marginal
+    IsConvex g × IsShapley g shapley × InCore g shapley × IsMarginal g (players_in_order g.players) marginal
+    × InCore g marginal
 IsAnswer g (NotConvex s i j d) = IsFirstNonconvexity g s i j d

@@ -1,3 +1,4 @@
+-- For the private functions of this crate.
 -- The search for the first coalition and players at which a game isn't convex.
 --
 --   HoldsAt g s i j            what a convex game needs at one coalition and two players

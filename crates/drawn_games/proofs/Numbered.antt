@@ -1,5 +1,6 @@
 -- The places of pairs among the draws.
-use Rattle.std.proofs.Common.{◌≡◌, ℕ, zero, suc, ◌+◌, ◌*◌, ◌<◌, ◌≤◌, Bool, true, false, cond, ◌||◌, nat_eq, nat_lt, pos, refl, sym, ap, inl, inr, arith, add-one, mul-le-mul}
+use Rattle.std.proofs.Common.{◌≡◌, ℕ, zero, suc, ◌+◌, ◌*◌, ◌<◌, ◌≤◌, Bool, true, false, cond, ◌||◌, nat_eq}
+use Rattle.std.proofs.Common.{nat_lt, pos, refl, sym, ap, inl, inr, arith, add-one, mul-le-mul}
 use Rattle.std.proofs.lemmas.Bool.{false≢true}
 use Rattle.definitions.proofs.Cases.{less_or_last, from_nat_lt, nat_eq-some}
 use Rattle.drawn_games.specs.Draws.{long_draw}
@@ -31,10 +32,13 @@ pair-inside rows columns i j il jl =
     next i h = omega arith
 
 -- the same numbers give the same links
-pub link-same : (f g : ℕ → ℕ) (n i j : ℕ) → ((k : ℕ) → k < links_before n n → f k ≡ g k) → i ≤ n → j ≤ n → link f n i j ≡ link g n i j
+pub link-same : (f g : ℕ → ℕ) (n i j : ℕ) → ((k : ℕ) → k < links_before n n → f k ≡ g k) → i ≤ n → j ≤ n
+    → link f n i j ≡ link g n i j
 link-same f g n i j h il jl = step (nat_lt i j) (nat_lt j i) refl refl
   where
-    step : (p q : Bool) → nat_lt i j ≡ p → nat_lt j i ≡ q → cond p (f (link_place n i j)) (cond q (f (link_place n j i)) 0) ≡ cond p (g (link_place n i j)) (cond q (g (link_place n j i)) 0)
+    step : (p q : Bool) → nat_lt i j ≡ p → nat_lt j i ≡ q
+        → cond p (f (link_place n i j)) (cond q (f (link_place n j i)) 0)
+        ≡ cond p (g (link_place n i j)) (cond q (g (link_place n j i)) 0)
     step true q e k = h (link_place n i j) (link-inside n i j (from_nat_lt i j e) jl)
     step false true e k = h (link_place n j i) (link-inside n j i (from_nat_lt j i k) il)
     step false false e k = refl
@@ -54,7 +58,8 @@ single-keeps s e = rw add-one (step (nat_eq s 0) (is_single s) e)
 pub other-draws : (s : ℕ) → 1 ≤ s → is_single s ≡ false → draws_before (s + 1) ≡ suc (draws_before s)
 other-draws s some e = rw add-one (step (nat_eq s 0) (is_single s) (nat_eq-some 0 s some) e)
   where
-    step : (p q : Bool) → p ≡ false → q ≡ false → cond (p || q) (draws_before s) (suc (draws_before s)) ≡ suc (draws_before s)
+    step : (p q : Bool) → p ≡ false → q ≡ false
+        → cond (p || q) (draws_before s) (suc (draws_before s)) ≡ suc (draws_before s)
     step false false h k = refl
     step false true h k = absurd (false≢true (sym k))
     step true q h k = absurd (false≢true (sym h))

@@ -1,5 +1,5 @@
--- The numbers of the generator: a linear congruential generator (Lehmer 1951) with the constants of the example of rand in the C
--- standard. Its state is below 2 ^ 31 and begins as the seed.
+-- The numbers of the generator: a linear congruential generator (Lehmer 1951) with the constants of the example of rand
+-- in the C standard. Its state is below 2 ^ 31 and begins as the seed.
 --
 --   next_state state      the state after a draw
 --   state seed k          the state after k draws

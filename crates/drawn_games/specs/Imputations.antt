@@ -1,6 +1,7 @@
 -- Games that have imputations.
 --
---   HasImputations g    the players are worth no more alone, added, than all together, which is so exactly where g has an imputation
+--   HasImputations g   the players are worth no more alone, added, than all together, which is so exactly where g has
+--                      an imputation
 use Rattle.std.specs.Prelude.{◌≤ℤ◌}
 use Rattle.definitions.specs.Sums.{sum_below}
 use Rattle.definitions.specs.Coalitions.{singleton, grand_coalition}

@@ -9,7 +9,8 @@
 --   links_before n i       the pairs of points whose lesser one is below i, of n + 1 points
 --   link_place n i j       the pairs of points in front of i and j, where i is the lesser one
 --   link, pair_value       the numbers of a matrix from a list of numbers, by pairs of points or row by row
-use Rattle.std.specs.Prelude.{ℕ, zero, suc, ◌+◌, ◌-◌, ◌*◌, ◌^◌, Bool, ◌||◌, nat_eq, nat_lt, List, map, ℤ, pos, if◌then◌else◌}
+use Rattle.std.specs.Prelude.{ℕ, zero, suc, ◌+◌, ◌-◌, ◌*◌, ◌^◌, Bool, ◌||◌, nat_eq}
+use Rattle.std.specs.Prelude.{nat_lt, List, map, ℤ, pos, if◌then◌else◌}
 use Rattle.std.specs.List.{range_with_len}
 use Rattle.definitions.specs.Coalitions.{size}
 use Rattle.drawn_games.specs.Draws.{long_draw}
@@ -43,7 +44,8 @@ long_draws seed n = map (long_draw seed) (range_with_len 0 n)
 
 -- rows and columns of numbers by their places
 abbrev pub rows_of : ℕ → ℕ → (ℕ → ℕ → ℕ) → List (List ℤ)
-rows_of rows columns number = map (λ i. map (λ j. pos (number i j)) (range_with_len 0 columns)) (range_with_len 0 rows)
+rows_of rows columns number =
+    map (λ i. map (λ j. pos (number i j)) (range_with_len 0 columns)) (range_with_len 0 rows)
 
 -- the pairs of n + 1 points whose lesser point is below i
 abbrev pub links_before : ℕ → ℕ → ℕ

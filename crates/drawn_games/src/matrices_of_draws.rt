@@ -34,7 +34,8 @@ pub(crate) fn pair_matrix(
     requires few_rows { rows ≤ 16 }
     requires few_columns { columns ≤ 16 }
     requires seed { seed < 2 ^ 31 }
-    ensures { IfOk result (λ m. map (λ row. row.items) m.items ≡ rows_of rows columns (pair_value (short_draw seed) columns)) }
+    ensures { IfOk result
+        (λ m. map (λ row. row.items) m.items ≡ rows_of rows columns (pair_value (short_draw seed) columns)) }
 {
     let draws = short_draws(alloc, rows * columns, seed)?;
     let mut matrix = Vec::new(alloc);
@@ -80,7 +81,8 @@ fn link_row(alloc: Global, draws: &[u32], n: u32, i: u32) -> Result<Vec<i64>, Al
     requires few { n ≤ 16 }
     requires enough { length draws.now ≡ links_before n n }
     requires row { i ≤ n }
-    ensures { IfOk result (λ row. row.items ≡ map (λ j. pos (link (slice_index draws.now) n i j)) (range_with_len 0 (n + 1))) }
+    ensures { IfOk result
+        (λ row. row.items ≡ map (λ j. pos (link (slice_index draws.now) n i j)) (range_with_len 0 (n + 1))) }
 {
     let mut row = Vec::new(alloc);
     for j in 0..n + 1 {
@@ -101,7 +103,9 @@ fn pair_row(
     requires few_columns { columns ≤ 16 }
     requires enough { length draws.now ≡ rows * columns }
     requires row { i < rows }
-    ensures { IfOk result (λ row. row.items ≡ map (λ j. pos (pair_value (slice_index draws.now) columns i j)) (range_with_len 0 columns)) }
+    ensures { IfOk result
+        (λ row. row.items
+        ≡ map (λ j. pos (pair_value (slice_index draws.now) columns i j)) (range_with_len 0 columns)) }
 {
     let mut row = Vec::new(alloc);
     for j in 0..columns {

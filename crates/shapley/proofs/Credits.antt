@@ -1,5 +1,6 @@
 -- The worths of all coalitions, each counted for its members and against the others, add to the Shapley total.
-use Rattle.std.proofs.Common.{◌≡◌, ℕ, suc, ◌+◌, ◌-◌, ◌^◌, ◌<◌, Bool, true, false, cond, ℤ, pos, ◌+ℤ◌, ◌-ℤ◌, ◌*ℤ◌, neg_ℤ, refl, ap, ◌∙◌, arith, if◌then◌else◌}
+use Rattle.std.proofs.Common.{◌≡◌, ℕ, suc, ◌+◌, ◌-◌, ◌^◌, ◌<◌, Bool, true, false, cond, ℤ, pos, ◌+ℤ◌}
+use Rattle.std.proofs.Common.{◌-ℤ◌, ◌*ℤ◌, neg_ℤ, refl, ap, ◌∙◌, arith, if◌then◌else◌}
 use Rattle.definitions.proofs.Ring.{linear, mul-subℤ}
 use Rattle.definitions.proofs.Members.{sum_below-same, sum_below-add}
 use Rattle.definitions.proofs.Halves.{size_below, size_below-more, gained, held, sum_below-moved}
@@ -18,16 +19,22 @@ for_member v n s = pos (orders_with n (size_below n s - 1)) *ℤ v s
 abbrev against : (ℕ → ℤ) → ℕ → ℕ → ℕ → ℤ
 against v n i s = if has_player s i then pos 0 else neg_ℤ (pos (orders_with n (size_below n s)) *ℤ v s)
 
-subset_term-parts : (v : ℕ → ℤ) (n i s : ℕ) → i < n → subset_term v n i s ≡ gained (for_member v n) i s +ℤ against v n i s
+subset_term-parts : (v : ℕ → ℤ) (n i s : ℕ) → i < n
+    → subset_term v n i s ≡ gained (for_member v n) i s +ℤ against v n i s
 subset_term-parts v n i s h = cases (has_player s i) refl
   where
     pred : (k : ℕ) → suc k - 1 ≡ k
     pred k = omega arith
 
-    cases : (b : Bool) → has_player s i ≡ b → cond b (pos 0) (pos (orders_with n (size_below n s)) *ℤ (v (s + 2 ^ i) -ℤ v s)) ≡ cond b (pos 0) (for_member v n (s + 2 ^ i)) +ℤ cond b (pos 0) (neg_ℤ (pos (orders_with n (size_below n s)) *ℤ v s))
+    cases : (b : Bool) → has_player s i ≡ b
+        → cond b (pos 0) (pos (orders_with n (size_below n s)) *ℤ (v (s + 2 ^ i) -ℤ v s))
+        ≡ cond b (pos 0) (for_member v n (s + 2 ^ i))
+        +ℤ cond b (pos 0) (neg_ℤ (pos (orders_with n (size_below n s)) *ℤ v s))
     cases true e = refl
     cases false e =
-        let more = ap (λ (k : ℕ). pos (orders_with n (k - 1)) *ℤ v (s + 2 ^ i)) (size_below-more n i s h e) ∙ ap (λ (k : ℕ). pos (orders_with n k) *ℤ v (s + 2 ^ i)) (pred (size_below n s)) in
+        let more =
+        ap (λ (k : ℕ). pos (orders_with n (k - 1)) *ℤ v (s + 2 ^ i)) (size_below-more n i s h e)
+        ∙ ap (λ (k : ℕ). pos (orders_with n k) *ℤ v (s + 2 ^ i)) (pred (size_below n s)) in
         omega (arith, linear, more, mul-subℤ (pos (orders_with n (size_below n s))) (v (s + 2 ^ i)) (v s))
 
 credit-parts : (v : ℕ → ℤ) (n i s : ℕ) → credit n s (v s) i ≡ held (for_member v n) i s +ℤ against v n i s
@@ -42,14 +49,19 @@ credit-parts v n i s =
 abbrev pub credits : (ℕ → ℤ) → ℕ → ℕ → ℕ → ℤ
 credits v n i m = sum_below m (λ s. credit n s (v s) i)
 
-pub credits-total : (g : Game) (i : ℕ) → i < g.players → credits g.worth g.players i (2 ^ g.players) ≡ shapley_total g i
+pub credits-total : (g : Game) (i : ℕ) → i < g.players
+    → credits g.worth g.players i (2 ^ g.players) ≡ shapley_total g i
 credits-total g i h =
     let v = g.worth in
     let n = g.players in
-    let a = sum_below-same (2 ^ n) (subset_term v n i) (λ s. gained (for_member v n) i s +ℤ against v n i s) (λ s k. subset_term-parts v n i s h) in
+    let a =
+    sum_below-same (2 ^ n) (subset_term v n i) (λ s. gained (for_member v n) i s +ℤ against v n i s)
+    (λ s k. subset_term-parts v n i s h) in
     let b = sum_below-add (2 ^ n) (gained (for_member v n) i) (against v n i) in
     let c = sum_below-moved n i (for_member v n) h in
-    let d = sum_below-same (2 ^ n) (λ s. credit n s (v s) i) (λ s. held (for_member v n) i s +ℤ against v n i s) (λ s k. credit-parts v n i s) in
+    let d =
+    sum_below-same (2 ^ n) (λ s. credit n s (v s) i) (λ s. held (for_member v n) i s +ℤ against v n i s)
+    (λ s k. credit-parts v n i s) in
     let e = sum_below-add (2 ^ n) (held (for_member v n) i) (against v n i) in
     let f = orders_are_subsets g i h in
     omega (arith, linear, a, b, c, d, e, f)

@@ -1,5 +1,6 @@
 -- The list of orders has orders alone, and each one exactly once.
-use Rattle.std.proofs.Common.{◌≡◌, ℕ, zero, suc, ◌+◌, ◌<◌, ◌≤◌, Bool, true, false, cond, ◌&&◌, ◌||◌, nat_eq, List, [], ◌∷◌, ◌++◌, length, map, refl, sym, ap, ◌∙◌, arith, if◌then◌else◌}
+use Rattle.std.proofs.Common.{◌≡◌, ℕ, zero, suc, ◌+◌, ◌<◌, ◌≤◌, Bool, true, false, cond, ◌&&◌, ◌||◌, nat_eq, List}
+use Rattle.std.proofs.Common.{[], ◌∷◌, ◌++◌, length, map, refl, sym, ap, ◌∙◌, arith, if◌then◌else◌}
 use Rattle.std.specs.List.{flat_map, AllByRecursion}
 use Rattle.std.proofs.lemmas.Bool.{false≢true}
 use Rattle.std.proofs.lemmas.Bool.Decides.{nat_tests}
@@ -34,21 +35,24 @@ strip-distinct n (p ∷ o) h = step (nat_eq p n) (strip-distinct n o h.1)
     step true k = h.1
     step false k = (All-strip (λ y. nat_eq p y ≡ false) n o h.0, k)
 
-others_below : (n p : ℕ) (o : List ℕ) → nat_eq p n ≡ true → AllByRecursion (λ y. nat_eq p y ≡ false) o → AllByRecursion (λ y. y < suc n) o → AllByRecursion (λ y. y < n) o
+others_below : (n p : ℕ) (o : List ℕ) → nat_eq p n ≡ true → AllByRecursion (λ y. nat_eq p y ≡ false) o
+    → AllByRecursion (λ y. y < suc n) o → AllByRecursion (λ y. y < n) o
 others_below n p [] e h k = tt
 others_below n p (y ∷ o) e h k = (less p y e h.0 k.0, others_below n p o e h.1 k.1)
   where
     less : (p y : ℕ) → nat_eq p n ≡ true → nat_eq p y ≡ false → y < suc n → y < n
     less p y e f lt = grind (arith, nat_tests)
 
-strip-below : (n : ℕ) (o : List ℕ) → AllDiffer o → AllByRecursion (λ y. y < suc n) o → AllByRecursion (λ y. y < n) (strip n o)
+strip-below : (n : ℕ) (o : List ℕ) → AllDiffer o → AllByRecursion (λ y. y < suc n) o
+    → AllByRecursion (λ y. y < n) (strip n o)
 strip-below n [] h k = tt
 strip-below n (p ∷ o) h k = step (nat_eq p n) refl (strip-below n o h.1 k.1)
   where
     less : (p : ℕ) → nat_eq p n ≡ false → p < suc n → p < n
     less p f lt = grind (arith, nat_tests)
 
-    step : (b : Bool) → nat_eq p n ≡ b → AllByRecursion (λ y. y < n) (strip n o) → AllByRecursion (λ y. y < n) (cond b o (p ∷ strip n o))
+    step : (b : Bool) → nat_eq p n ≡ b → AllByRecursion (λ y. y < n) (strip n o)
+        → AllByRecursion (λ y. y < n) (cond b o (p ∷ strip n o))
     step true e ih = others_below n p o e h.0 k.1
     step false e ih = (less p e k.0, ih)
 
@@ -56,11 +60,13 @@ strip-length : (n : ℕ) (o : List ℕ) → holds n o ≡ true → length o ≡ 
 strip-length n [] e = absurd (false≢true e)
 strip-length n (p ∷ o) e = step (nat_eq p n) e (strip-length n o)
   where
-    step : (b : Bool) → (b || holds n o) ≡ true → (holds n o ≡ true → length o ≡ suc (length (strip n o))) → suc (length o) ≡ suc (length (cond b o (p ∷ strip n o)))
+    step : (b : Bool) → (b || holds n o) ≡ true → (holds n o ≡ true → length o ≡ suc (length (strip n o)))
+        → suc (length o) ≡ suc (length (cond b o (p ∷ strip n o)))
     step true e ih = refl
     step false e ih = ap suc (ih e)
 
-none_below : (n : ℕ) (o : List ℕ) → holds n o ≡ false → AllByRecursion (λ y. y < suc n) o → AllByRecursion (λ y. y < n) o
+none_below : (n : ℕ) (o : List ℕ) → holds n o ≡ false → AllByRecursion (λ y. y < suc n) o
+    → AllByRecursion (λ y. y < n) o
 none_below n [] e k = tt
 none_below n (p ∷ o) e k =
     (less p (first (nat_eq p n) (holds n o) e) k.0, none_below n o (second (nat_eq p n) (holds n o) e) k.1)
@@ -83,7 +89,8 @@ few_below zero (p ∷ o) h k = let lt = k.0 in absurd (omega (arith, lt))
 few_below (suc n) o h k =
     cases (holds n o) refl (few_below n (strip n o) (strip-distinct n o h) (strip-below n o h k)) (few_below n o h)
   where
-    cases : (b : Bool) → holds n o ≡ b → length (strip n o) ≤ n → (AllByRecursion (λ y. y < n) o → length o ≤ n) → length o ≤ suc n
+    cases : (b : Bool) → holds n o ≡ b → length (strip n o) ≤ n → (AllByRecursion (λ y. y < n) o → length o ≤ n)
+        → length o ≤ suc n
     cases true e le f = let l = strip-length n o e in omega (arith, l, le)
     cases false e le f = let l = f (none_below n o e k) in omega (arith, l)
 
@@ -104,7 +111,8 @@ times-append : (o : List ℕ) (xs ys : List (List ℕ)) → times o (xs ++ ys) �
 times-append o [] ys = omega arith
 times-append o (x ∷ xs) ys = omega (arith, times-append o xs ys)
 
-times-map : (p y : ℕ) (o : List ℕ) (xs : List (List ℕ)) → times (p ∷ o) (map (λ zs. y ∷ zs) xs) ≡ cond (nat_eq p y) (times o xs) 0
+times-map : (p y : ℕ) (o : List ℕ) (xs : List (List ℕ))
+    → times (p ∷ o) (map (λ zs. y ∷ zs) xs) ≡ cond (nat_eq p y) (times o xs) 0
 times-map p y o [] = step (nat_eq p y)
   where
     step : (b : Bool) → times o [] ≡ cond b (times o []) 0
@@ -112,25 +120,29 @@ times-map p y o [] = step (nat_eq p y)
     step false = refl
 times-map p y o (x ∷ xs) = step (nat_eq p y) (times (p ∷ o) (map (λ zs. y ∷ zs) xs)) (times-map p y o xs)
   where
-    step : (b : Bool) (k : ℕ) → k ≡ cond b (times o xs) 0 → one_if (b && is_same o x) + k ≡ cond b (one_if (is_same o x) + times o xs) 0
+    step : (b : Bool) (k : ℕ) → k ≡ cond b (times o xs) 0
+        → one_if (b && is_same o x) + k ≡ cond b (one_if (is_same o x) + times o xs) 0
     step true k e = ap (λ (z : ℕ). one_if (is_same o x) + z) e
     step false k e = omega (arith, e)
 
-times-map_other : (n y : ℕ) (o : List ℕ) (xs : List (List ℕ)) → nat_eq n y ≡ false → times (n ∷ o) (map (λ zs. y ∷ zs) xs) ≡ 0
+times-map_other : (n y : ℕ) (o : List ℕ) (xs : List (List ℕ)) → nat_eq n y ≡ false
+    → times (n ∷ o) (map (λ zs. y ∷ zs) xs) ≡ 0
 times-map_other n y o xs ne = times-map n y o xs ∙ rw ne refl
 
 turned : (a b : ℕ) → nat_eq a b ≡ false → nat_eq b a ≡ false
 turned a b e = grind (arith, nat_tests)
 
 -- o comes of a list by putting n in just where it is the list with n, and then at one place
-times-insertions : (n : ℕ) (x o : List ℕ) → holds n o ≡ true → AllByRecursion (λ y. nat_eq y n ≡ false) x → times o (insertions n x) ≡ one_if (is_same (strip n o) x)
+times-insertions : (n : ℕ) (x o : List ℕ) → holds n o ≡ true → AllByRecursion (λ y. nat_eq y n ≡ false) x
+    → times o (insertions n x) ≡ one_if (is_same (strip n o) x)
 times-insertions n x [] e others = absurd (false≢true e)
 times-insertions n [] (p ∷ o) e others = step (nat_eq p n) (is_same o [])
   where
     step : (b c : Bool) → one_if (b && is_same o []) + 0 ≡ one_if (is_same (cond b o (p ∷ strip n o)) [])
     step true c = omega arith
     step false c = omega arith
-times-insertions n (y ∷ ys) (p ∷ o) e others = cases (nat_eq p n) refl e (λ held. times-insertions n ys o held others.1)
+times-insertions n (y ∷ ys) (p ∷ o) e others =
+    cases (nat_eq p n) refl e (λ held. times-insertions n ys o held others.1)
   where
     apart : nat_eq n y ≡ false
     apart = turned y n others.0
@@ -146,33 +158,56 @@ times-insertions n (y ∷ ys) (p ∷ o) e others = cases (nat_eq p n) refl e (λ
     join true k s e = e
     join false k s e = refl
 
-    cases : (b : Bool) → nat_eq p n ≡ b → (b || holds n o) ≡ true → (holds n o ≡ true → times o (insertions n ys) ≡ one_if (is_same (strip n o) ys)) → one_if (b && is_same o (y ∷ ys)) + times (p ∷ o) (map (λ zs. y ∷ zs) (insertions n ys)) ≡ one_if (is_same (cond b o (p ∷ strip n o)) (y ∷ ys))
+    cases : (b : Bool) → nat_eq p n ≡ b → (b || holds n o) ≡ true
+        → (holds n o ≡ true → times o (insertions n ys) ≡ one_if (is_same (strip n o) ys))
+        → one_if (b && is_same o (y ∷ ys)) + times (p ∷ o) (map (λ zs. y ∷ zs) (insertions n ys))
+        ≡ one_if (is_same (cond b o (p ∷ strip n o)) (y ∷ ys))
     cases true f held ih =
         let none = times-map p y o (insertions n ys) ∙ take (nat_eq p y) (times o (insertions n ys)) (here f) in
         omega (arith, none)
     cases false f held ih =
-        let some = times-map p y o (insertions n ys) ∙ join (nat_eq p y) (times o (insertions n ys)) (is_same (strip n o) ys) (ih held) in
+        let some =
+        times-map p y o (insertions n ys)
+        ∙ join (nat_eq p y) (times o (insertions n ys)) (is_same (strip n o) ys) (ih held) in
         omega (arith, some)
 
-times-flat_map : (n : ℕ) (o : List ℕ) (xs : List (List ℕ)) → holds n o ≡ true → AllByRecursion (AllByRecursion (λ y. nat_eq y n ≡ false)) xs → times o (flat_map (insertions n) xs) ≡ times (strip n o) xs
+times-flat_map : (n : ℕ) (o : List ℕ) (xs : List (List ℕ)) → holds n o ≡ true
+    → AllByRecursion (AllByRecursion (λ y. nat_eq y n ≡ false)) xs
+    → times o (flat_map (insertions n) xs) ≡ times (strip n o) xs
 times-flat_map n o [] e others = refl
 times-flat_map n o (x ∷ xs) e others =
-    omega (arith, times-append o (insertions n x) (flat_map (insertions n) xs), times-insertions n x o e others.0, times-flat_map n o xs e others.1)
+    omega (
+      arith,
+      times-append o (insertions n x) (flat_map (insertions n) xs),
+      times-insertions n x o e others.0,
+      times-flat_map n o xs e others.1,
+    )
 
 -- ---- the orders
 
-insertions-distinct : (n : ℕ) (x : List ℕ) → AllByRecursion (λ p. p < n) x → AllDiffer x → AllByRecursion AllDiffer (insertions n x)
+insertions-distinct : (n : ℕ) (x : List ℕ) → AllByRecursion (λ p. p < n) x → AllDiffer x
+    → AllByRecursion AllDiffer (insertions n x)
 insertions-distinct n [] below h = ((tt, tt), tt)
 insertions-distinct n (y ∷ ys) below h = (
-  (all_weaken (λ p. p < n) (λ p. nat_eq n p ≡ false) (y ∷ ys) (λ p lt. nat_eq-other n p (λ same. omega arith)) below, h),
-  All-map AllDiffer (λ zs. y ∷ zs) (insertions n ys) (both (insertions n ys) (All-insertions (λ z. nat_eq y z ≡ false) n ys (nat_eq-other y n (λ same. let lt = below.0 in omega (arith, lt))) h.0) (insertions-distinct n ys below.1 h.1)),
+  (
+    all_weaken (λ p. p < n) (λ p. nat_eq n p ≡ false) (y ∷ ys) (λ p lt. nat_eq-other n p (λ same. omega arith))
+        below,
+    h,
+  ),
+  All-map AllDiffer (λ zs. y ∷ zs) (insertions n ys)
+      (both (insertions n ys)
+      (All-insertions (λ z. nat_eq y z ≡ false) n ys
+      (nat_eq-other y n (λ same. let lt = below.0 in omega (arith, lt))) h.0)
+      (insertions-distinct n ys below.1 h.1)),
 )
   where
-    both : (zss : List (List ℕ)) → AllByRecursion (AllByRecursion (λ z. nat_eq y z ≡ false)) zss → AllByRecursion AllDiffer zss → AllByRecursion (λ zs. AllDiffer (y ∷ zs)) zss
+    both : (zss : List (List ℕ)) → AllByRecursion (AllByRecursion (λ z. nat_eq y z ≡ false)) zss
+        → AllByRecursion AllDiffer zss → AllByRecursion (λ zs. AllDiffer (y ∷ zs)) zss
     both [] a b = tt
     both (zs ∷ zss) a b = ((a.0, b.0), both zss a.1 b.1)
 
-join_orders : (n : ℕ) (xs : List (List ℕ)) → AllByRecursion (λ o. length o ≡ n) xs → AllByRecursion (AllByRecursion (λ p. p < n)) xs → AllByRecursion AllDiffer xs → AllByRecursion (IsOrder n) xs
+join_orders : (n : ℕ) (xs : List (List ℕ)) → AllByRecursion (λ o. length o ≡ n) xs
+    → AllByRecursion (AllByRecursion (λ p. p < n)) xs → AllByRecursion AllDiffer xs → AllByRecursion (IsOrder n) xs
 join_orders n [] a b c = tt
 join_orders n (x ∷ xs) a b c = (record { all = a.0; below = b.0; once = c.0 }, join_orders n xs a.1 b.1 c.1)
 
@@ -180,7 +215,14 @@ pub are_orders : (n : ℕ) → AllByRecursion (IsOrder n) (orders n)
 are_orders zero = (record { all = refl; below = tt; once = tt }, tt)
 are_orders (suc n) =
     let ih = are_orders n in
-    join_orders (suc n) (orders (suc n)) (All-flat_map (λ o. length o ≡ suc n) (insertions n) (orders n) (all_weaken (IsOrder n) (λ o. AllByRecursion (λ z. length z ≡ suc n) (insertions n o)) (orders n) (λ o h. all_weaken (λ z. length z ≡ suc (length o)) (λ z. length z ≡ suc n) (insertions n o) (λ z e. e ∙ ap suc h.all) (insertions-length n o)) ih)) (orders-below (suc n)) (All-flat_map AllDiffer (insertions n) (orders n) (all_weaken (IsOrder n) (λ o. AllByRecursion AllDiffer (insertions n o)) (orders n) (λ o h. insertions-distinct n o h.below h.once) ih))
+    join_orders (suc n) (orders (suc n))
+    (All-flat_map (λ o. length o ≡ suc n) (insertions n) (orders n)
+    (all_weaken (IsOrder n) (λ o. AllByRecursion (λ z. length z ≡ suc n) (insertions n o)) (orders n)
+    (λ o h. all_weaken (λ z. length z ≡ suc (length o)) (λ z. length z ≡ suc n) (insertions n o)
+    (λ z e. e ∙ ap suc h.all) (insertions-length n o)) ih)) (orders-below (suc n))
+    (All-flat_map AllDiffer (insertions n) (orders n)
+    (all_weaken (IsOrder n) (λ o. AllByRecursion AllDiffer (insertions n o)) (orders n)
+    (λ o h. insertions-distinct n o h.below h.once) ih))
 
 each_once : (n : ℕ) (o : List ℕ) → IsOrder n o → times o (orders n) ≡ 1
 each_once zero [] h = refl
@@ -189,8 +231,14 @@ each_once (suc n) o h =
     let held = last_held n o h in
     let l = strip-length n o held in
     let all = h.all in
-    times-flat_map n o (orders n) held (all_weaken (AllByRecursion (λ p. p < n)) (AllByRecursion (λ y. nat_eq y n ≡ false)) (orders n) (λ x below. all_weaken (λ p. p < n) (λ y. nat_eq y n ≡ false) x (λ p lt. nat_eq-other p n (λ same. omega arith)) below) (orders-below n))
-    ∙ each_once n (strip n o) (record { all = omega (arith, l, all); below = strip-below n o h.once h.below; once = strip-distinct n o h.once })
+    times-flat_map n o (orders n) held
+    (all_weaken (AllByRecursion (λ p. p < n)) (AllByRecursion (λ y. nat_eq y n ≡ false)) (orders n)
+    (λ x below. all_weaken (λ p. p < n) (λ y. nat_eq y n ≡ false) x
+    (λ p lt. nat_eq-other p n (λ same. omega arith)) below) (orders-below n))
+    ∙ each_once n (strip n o)
+    (record
+    { all = omega (arith, l, all); below = strip-below n o h.once h.below; once = strip-distinct n o h.once })
 
-pub orders_all : (n : ℕ) → AllByRecursion (IsOrder n) (orders n) × ((o : List ℕ) → IsOrder n o → times o (orders n) ≡ 1)
+pub orders_all : (n : ℕ)
+    → AllByRecursion (IsOrder n) (orders n) × ((o : List ℕ) → IsOrder n o → times o (orders n) ≡ 1)
 orders_all n = (are_orders n, each_once n)

@@ -1,12 +1,16 @@
 -- The sum over all orders of what a player adds is a sum over the coalitions in front of it.
-use Rattle.std.proofs.Common.{◌≡◌, ℕ, zero, suc, ◌+◌, ◌-◌, ◌*◌, ◌^◌, ◌<◌, ◌≤◌, Bool, true, false, cond, List, [], ◌∷◌, ◌++◌, length, map, ℤ, pos, ◌+ℤ◌, ◌-ℤ◌, ◌*ℤ◌, refl, sym, ap, ◌∙◌, inl, inr, arith, nat_eq, if◌then◌else◌}
+use Rattle.std.proofs.Common.{◌≡◌, ℕ, zero, suc, ◌+◌, ◌-◌, ◌*◌, ◌^◌, ◌<◌, ◌≤◌, Bool, true, false, cond}
+use Rattle.std.proofs.Common.{List, [], ◌∷◌, ◌++◌, length, map, ℤ, pos, ◌+ℤ◌, ◌-ℤ◌, ◌*ℤ◌, refl, sym}
+use Rattle.std.proofs.Common.{ap, ◌∙◌, inl, inr, arith, nat_eq, if◌then◌else◌}
 use Rattle.std.specs.List.{flat_map, AllByRecursion}
 use Rattle.std.proofs.lemmas.List.{length-map}
 use Rattle.definitions.proofs.Cases.{less_or_last, nat_eq-same, nat_eq-other}
 use Rattle.definitions.proofs.Alls.{all_weaken, all_join}
 use Rattle.definitions.proofs.Ring.{linear, add-mulℤ, mul-addℤ, zero-mulℤ, one-mulℤ, mul_assocℤ}
 use Rattle.definitions.proofs.Members.{sum_below-same}
-use Rattle.definitions.proofs.Halves.{has_player-last, has_player-upper, has_player-lower, size_below, size_below-zero, size_below-most, size_below-less, size_below-without, size_below-with, sum_below-halves}
+use Rattle.definitions.proofs.Halves.{has_player-last, has_player-upper, has_player-lower, size_below}
+use Rattle.definitions.proofs.Halves.{size_below-zero, size_below-most, size_below-less}
+use Rattle.definitions.proofs.Halves.{size_below-without, size_below-with, sum_below-halves}
 use Rattle.definitions.specs.Sums.{sum_below}
 use Rattle.definitions.specs.Coalitions.{has_player}
 use Rattle.definitions.specs.Games.{Game}
@@ -27,7 +31,8 @@ total-map : {X Y : Type 0} (f : Y → ℤ) (g : X → Y) (xs : List X) → total
 total-map f g [] = refl
 total-map f g (x ∷ xs) = ap (λ z. f (g x) +ℤ z) (total-map f g xs)
 
-total-flat_map : {X Y : Type 0} (f : Y → ℤ) (g : X → List Y) (xs : List X) → total f (flat_map g xs) ≡ total (λ x. total f (g x)) xs
+total-flat_map : {X Y : Type 0} (f : Y → ℤ) (g : X → List Y) (xs : List X)
+    → total f (flat_map g xs) ≡ total (λ x. total f (g x)) xs
 total-flat_map f g [] = refl
 total-flat_map f g (x ∷ xs) =
     total-append f (g x) (flat_map g xs) ∙ ap (λ z. total f (g x) +ℤ z) (total-flat_map f g xs)
@@ -56,14 +61,19 @@ pub length-insertions : (x : ℕ) (ys : List ℕ) → length (insertions x ys) �
 length-insertions x [] = refl
 length-insertions x (y ∷ ys) = ap suc (length-map (insertions x ys) (λ zs. y ∷ zs) ∙ length-insertions x ys)
 
-pub All-map : {X Y : Type 0} (P : Y → Type 0) (f : X → Y) (xs : List X) → AllByRecursion (λ x. P (f x)) xs → AllByRecursion P (map f xs)
+pub All-map : {X Y : Type 0} (P : Y → Type 0) (f : X → Y) (xs : List X) → AllByRecursion (λ x. P (f x)) xs
+    → AllByRecursion P (map f xs)
 All-map P f [] h = tt
 All-map P f (x ∷ xs) h = (h.0, All-map P f xs h.1)
 
 pub insertions-length : (x : ℕ) (ys : List ℕ) → AllByRecursion (λ zs. length zs ≡ suc (length ys)) (insertions x ys)
 insertions-length x [] = (refl, tt)
-insertions-length x (y ∷ ys) =
-    (refl, All-map (λ zs. length zs ≡ suc (suc (length ys))) (λ zs. y ∷ zs) (insertions x ys) (all_weaken (λ zs. length zs ≡ suc (length ys)) (λ zs. length (y ∷ zs) ≡ suc (suc (length ys))) (insertions x ys) (λ zs e. ap suc e) (insertions-length x ys)))
+insertions-length x (y ∷ ys) = (
+  refl,
+  All-map (λ zs. length zs ≡ suc (suc (length ys))) (λ zs. y ∷ zs) (insertions x ys)
+      (all_weaken (λ zs. length zs ≡ suc (length ys)) (λ zs. length (y ∷ zs) ≡ suc (suc (length ys)))
+      (insertions x ys) (λ zs e. ap suc e) (insertions-length x ys)),
+)
 
 -- ---- a number for each count in front, count behind, and mask in front
 
@@ -88,19 +98,25 @@ at_places h (p ∷ ps) = h 0 (suc (length ps)) 0 +ℤ at_places (behind p h) ps
 abbrev with_one : ℕ → Number → Number
 with_one n h j r c = pos (suc j) *ℤ h (suc j) r (c + 2 ^ n) +ℤ pos (suc r) *ℤ h j (suc r) c
 
-at_player-same : (h k : Number) (i : ℕ) (ps : List ℕ) → ((j r c : ℕ) → h j r c ≡ k j r c) → at_player h i ps ≡ at_player k i ps
+at_player-same : (h k : Number) (i : ℕ) (ps : List ℕ) → ((j r c : ℕ) → h j r c ≡ k j r c)
+    → at_player h i ps ≡ at_player k i ps
 at_player-same h k i [] e = refl
 at_player-same h k i (p ∷ ps) e =
-    either (nat_eq p i) (h 0 (length ps) 0) (k 0 (length ps) 0) (at_player (behind p h) i ps) (at_player (behind p k) i ps) (e 0 (length ps) 0) (at_player-same (behind p h) (behind p k) i ps (λ j r c. e (suc j) r (c + 2 ^ p)))
+    either (nat_eq p i) (h 0 (length ps) 0) (k 0 (length ps) 0) (at_player (behind p h) i ps)
+    (at_player (behind p k) i ps) (e 0 (length ps) 0)
+    (at_player-same (behind p h) (behind p k) i ps (λ j r c. e (suc j) r (c + 2 ^ p)))
   where
     either : (b : Bool) (x y z w : ℤ) → x ≡ y → z ≡ w → cond b x z ≡ cond b y w
     either true x y z w d f = d
     either false x y z w d f = f
 
-at_player-add : (h k : Number) (i : ℕ) (ps : List ℕ) → at_player h i ps +ℤ at_player k i ps ≡ at_player (λ j r c. h j r c +ℤ k j r c) i ps
+at_player-add : (h k : Number) (i : ℕ) (ps : List ℕ)
+    → at_player h i ps +ℤ at_player k i ps ≡ at_player (λ j r c. h j r c +ℤ k j r c) i ps
 at_player-add h k i [] = refl
 at_player-add h k i (p ∷ ps) =
-    either (nat_eq p i) (h 0 (length ps) 0) (k 0 (length ps) 0) (at_player (behind p h) i ps) (at_player (behind p k) i ps) (at_player (λ j r c. behind p h j r c +ℤ behind p k j r c) i ps) (at_player-add (behind p h) (behind p k) i ps)
+    either (nat_eq p i) (h 0 (length ps) 0) (k 0 (length ps) 0) (at_player (behind p h) i ps)
+    (at_player (behind p k) i ps) (at_player (λ j r c. behind p h j r c +ℤ behind p k j r c) i ps)
+    (at_player-add (behind p h) (behind p k) i ps)
   where
     either : (b : Bool) (x y z w s : ℤ) → z +ℤ w ≡ s → cond b x z +ℤ cond b y w ≡ cond b (x +ℤ y) s
     either true x y z w s e = refl
@@ -113,41 +129,56 @@ at_places-same h k (p ∷ ps) e =
     let b = at_places-same (behind p h) (behind p k) ps (λ j r c. e (suc j) r (c + 2 ^ p)) in
     cc
 
-at_places-add : (h k : Number) (ps : List ℕ) → at_places h ps +ℤ at_places k ps ≡ at_places (λ j r c. h j r c +ℤ k j r c) ps
+at_places-add : (h k : Number) (ps : List ℕ)
+    → at_places h ps +ℤ at_places k ps ≡ at_places (λ j r c. h j r c +ℤ k j r c) ps
 at_places-add h k [] = refl
 at_places-add h k (p ∷ ps) = omega (arith, linear, at_places-add (behind p h) (behind p k) ps)
 
 -- one of p and n stands in front of the other, or both of the place
-swap_two : (p n : ℕ) (h : Number) (j r c : ℕ) → behind p (behind n h) j r c +ℤ with_one n (behind p h) j r c ≡ behind p (with_one n h) j r c
+swap_two : (p n : ℕ) (h : Number) (j r c : ℕ)
+    → behind p (behind n h) j r c +ℤ with_one n (behind p h) j r c ≡ behind p (with_one n h) j r c
 swap_two p n h j r c =
     let moved : c + 2 ^ n + 2 ^ p ≡ c + 2 ^ p + 2 ^ n = omega arith in
     let one : pos (suc (suc j)) ≡ pos (suc j) +ℤ pos 1 = omega (arith, linear) in
-    rw (moved, one) (step (h (suc (suc j)) r (c + 2 ^ p + 2 ^ n)) (pos (suc r) *ℤ h (suc j) (suc r) (c + 2 ^ p)) (pos (suc j)))
+    rw (moved, one)
+    (step (h (suc (suc j)) r (c + 2 ^ p + 2 ^ n)) (pos (suc r) *ℤ h (suc j) (suc r) (c + 2 ^ p)) (pos (suc j)))
   where
     step : (x y k : ℤ) → x +ℤ (k *ℤ x +ℤ y) ≡ (k +ℤ pos 1) *ℤ x +ℤ y
     step x y k = omega (arith, linear, add-mulℤ k (pos 1) x, one-mulℤ x)
 
 -- each way to put n into the list has one more in it
-count_behind : (h : Number) (n : ℕ) (ps : List ℕ) → total (λ zs. h 0 (length zs) 0) (insertions n ps) ≡ pos (suc (length ps)) *ℤ h 0 (suc (length ps)) 0
+count_behind : (h : Number) (n : ℕ) (ps : List ℕ)
+    → total (λ zs. h 0 (length zs) 0) (insertions n ps) ≡ pos (suc (length ps)) *ℤ h 0 (suc (length ps)) 0
 count_behind h n ps =
-    total-same (λ zs. h 0 (length zs) 0) (λ zs. h 0 (suc (length ps)) 0) (insertions n ps) (all_weaken (λ zs. length zs ≡ suc (length ps)) (λ zs. h 0 (length zs) 0 ≡ h 0 (suc (length ps)) 0) (insertions n ps) (λ zs e. ap (λ (k : ℕ). h 0 k 0) e) (insertions-length n ps))
+    total-same (λ zs. h 0 (length zs) 0) (λ zs. h 0 (suc (length ps)) 0) (insertions n ps)
+    (all_weaken (λ zs. length zs ≡ suc (length ps)) (λ zs. h 0 (length zs) 0 ≡ h 0 (suc (length ps)) 0)
+    (insertions n ps) (λ zs e. ap (λ (k : ℕ). h 0 k 0) e) (insertions-length n ps))
     ∙ total-constant (h 0 (suc (length ps)) 0) (insertions n ps)
     ∙ ap (λ (k : ℕ). pos k *ℤ h 0 (suc (length ps)) 0) (length-insertions n ps)
 
 -- ---- another player put into an order
 
-insert_other : (n i : ℕ) (h : Number) (ps : List ℕ) → nat_eq n i ≡ false → total (at_player h i) (insertions n ps) ≡ at_player (with_one n h) i ps
+insert_other : (n i : ℕ) (h : Number) (ps : List ℕ) → nat_eq n i ≡ false
+    → total (at_player h i) (insertions n ps) ≡ at_player (with_one n h) i ps
 insert_other n i h [] ne = rw ne refl
 insert_other n i h (p ∷ ps) ne =
-    rw (ne, total-map (at_player h i) (λ zs. p ∷ zs) (insertions n ps)) (step (nat_eq p i) (insert_other n i (behind p h) ps ne))
+    rw (ne, total-map (at_player h i) (λ zs. p ∷ zs) (insertions n ps))
+    (step (nat_eq p i) (insert_other n i (behind p h) ps ne))
   where
-    there : total (at_player (behind p h) i) (insertions n ps) ≡ at_player (with_one n (behind p h)) i ps → at_player (behind p (behind n h)) i ps +ℤ total (at_player (behind p h) i) (insertions n ps) ≡ at_player (behind p (with_one n h)) i ps
+    there : total (at_player (behind p h) i) (insertions n ps) ≡ at_player (with_one n (behind p h)) i ps
+        → at_player (behind p (behind n h)) i ps +ℤ total (at_player (behind p h) i) (insertions n ps)
+        ≡ at_player (behind p (with_one n h)) i ps
     there ih =
         ap (λ z. at_player (behind p (behind n h)) i ps +ℤ z) ih
         ∙ at_player-add (behind p (behind n h)) (with_one n (behind p h)) i ps
-        ∙ at_player-same (λ j r c. behind p (behind n h) j r c +ℤ with_one n (behind p h) j r c) (behind p (with_one n h)) i ps (swap_two p n h)
+        ∙ at_player-same (λ j r c. behind p (behind n h) j r c +ℤ with_one n (behind p h) j r c)
+        (behind p (with_one n h)) i ps (swap_two p n h)
 
-    step : (b : Bool) → total (at_player (behind p h) i) (insertions n ps) ≡ at_player (with_one n (behind p h)) i ps → cond b (h 1 (length ps) (0 + 2 ^ n)) (at_player (behind p (behind n h)) i ps) +ℤ total (λ zs. cond b (h 0 (length zs) 0) (at_player (behind p h) i zs)) (insertions n ps) ≡ cond b (with_one n h 0 (length ps) 0) (at_player (behind p (with_one n h)) i ps)
+    step : (b : Bool)
+        → total (at_player (behind p h) i) (insertions n ps) ≡ at_player (with_one n (behind p h)) i ps
+        → cond b (h 1 (length ps) (0 + 2 ^ n)) (at_player (behind p (behind n h)) i ps)
+        +ℤ total (λ zs. cond b (h 0 (length zs) 0) (at_player (behind p h) i zs)) (insertions n ps)
+        ≡ cond b (with_one n h 0 (length ps) 0) (at_player (behind p (with_one n h)) i ps)
     step true ih = omega (arith, linear, count_behind h n ps, one-mulℤ (h 1 (length ps) (0 + 2 ^ n)))
     step false ih = there ih
 
@@ -156,33 +187,51 @@ insert_other n i h (p ∷ ps) ne =
 abbrev Others : ℕ → List ℕ → Type 0
 Others i ps = AllByRecursion (λ p. nat_eq p i ≡ false) ps
 
-insert_self : (i : ℕ) (h : Number) (ps : List ℕ) → Others i ps → total (at_player h i) (insertions i ps) ≡ at_places h ps
+insert_self : (i : ℕ) (h : Number) (ps : List ℕ) → Others i ps
+    → total (at_player h i) (insertions i ps) ≡ at_places h ps
 insert_self i h [] o = rw (nat_eq-same i) (omega (arith, linear))
 insert_self i h (p ∷ ps) o =
     let ih = insert_self i (behind p h) ps o.1 in
-    rw (nat_eq-same i, total-map (at_player h i) (λ zs. p ∷ zs) (insertions i ps), o.0) (ap (λ z. h 0 (suc (length ps)) 0 +ℤ z) ih)
+    rw (nat_eq-same i, total-map (at_player h i) (λ zs. p ∷ zs) (insertions i ps), o.0)
+    (ap (λ z. h 0 (suc (length ps)) 0 +ℤ z) ih)
 
 -- ---- another player, where each place counts
 
-insert_places : (n : ℕ) (h : Number) (ps : List ℕ) → total (at_places h) (insertions n ps) ≡ at_places (with_one n h) ps
+insert_places : (n : ℕ) (h : Number) (ps : List ℕ)
+    → total (at_places h) (insertions n ps) ≡ at_places (with_one n h) ps
 insert_places n h [] = omega (arith, linear, one-mulℤ (h 1 0 (0 + 2 ^ n)), one-mulℤ (h 0 1 0))
 insert_places n h (p ∷ ps) =
     rw (total-map (at_places h) (λ zs. p ∷ zs) (insertions n ps)) (step (insert_places n (behind p h) ps))
   where
-    there : total (at_places (behind p h)) (insertions n ps) ≡ at_places (with_one n (behind p h)) ps → at_places (behind p (behind n h)) ps +ℤ total (at_places (behind p h)) (insertions n ps) ≡ at_places (behind p (with_one n h)) ps
+    there : total (at_places (behind p h)) (insertions n ps) ≡ at_places (with_one n (behind p h)) ps
+        → at_places (behind p (behind n h)) ps +ℤ total (at_places (behind p h)) (insertions n ps)
+        ≡ at_places (behind p (with_one n h)) ps
     there ih =
         ap (λ z. at_places (behind p (behind n h)) ps +ℤ z) ih
         ∙ at_places-add (behind p (behind n h)) (with_one n (behind p h)) ps
-        ∙ at_places-same (λ j r c. behind p (behind n h) j r c +ℤ with_one n (behind p h) j r c) (behind p (with_one n h)) ps (swap_two p n h)
+        ∙ at_places-same (λ j r c. behind p (behind n h) j r c +ℤ with_one n (behind p h) j r c)
+        (behind p (with_one n h)) ps (swap_two p n h)
 
     more : (k : ℕ) (x : ℤ) → pos (suc (suc k)) *ℤ x ≡ pos (suc k) *ℤ x +ℤ x
     more k x =
         let one : pos (suc (suc k)) ≡ pos (suc k) +ℤ pos 1 = omega (arith, linear) in
         rw one (omega (arith, linear, add-mulℤ (pos (suc k)) (pos 1) x, one-mulℤ x))
 
-    step : total (at_places (behind p h)) (insertions n ps) ≡ at_places (with_one n (behind p h)) ps → h 0 (suc (suc (length ps))) 0 +ℤ (h 1 (suc (length ps)) (0 + 2 ^ n) +ℤ at_places (behind p (behind n h)) ps) +ℤ total (λ zs. h 0 (suc (length zs)) 0 +ℤ at_places (behind p h) zs) (insertions n ps) ≡ with_one n h 0 (suc (length ps)) 0 +ℤ at_places (behind p (with_one n h)) ps
+    step : total (at_places (behind p h)) (insertions n ps) ≡ at_places (with_one n (behind p h)) ps
+        → h 0 (suc (suc (length ps))) 0
+        +ℤ (h 1 (suc (length ps)) (0 + 2 ^ n) +ℤ at_places (behind p (behind n h)) ps)
+        +ℤ total (λ zs. h 0 (suc (length zs)) 0 +ℤ at_places (behind p h) zs) (insertions n ps)
+        ≡ with_one n h 0 (suc (length ps)) 0 +ℤ at_places (behind p (with_one n h)) ps
     step ih =
-        omega (arith, linear, there ih, total-add (λ zs. h 0 (suc (length zs)) 0) (at_places (behind p h)) (insertions n ps), count_behind (λ j r c. h j (suc r) c) n ps, more (length ps) (h 0 (suc (suc (length ps))) 0), one-mulℤ (h 1 (suc (length ps)) (0 + 2 ^ n)))
+        omega (
+          arith,
+          linear,
+          there ih,
+          total-add (λ zs. h 0 (suc (length zs)) 0) (at_places (behind p h)) (insertions n ps),
+          count_behind (λ j r c. h j (suc r) c) n ps,
+          more (length ps) (h 0 (suc (suc (length ps))) 0),
+          one-mulℤ (h 1 (suc (length ps)) (0 + 2 ^ n)),
+        )
 
 -- ---- those behind
 
@@ -214,17 +263,23 @@ abbrev weight : ℕ → ℕ → ℤ
 weight j r = pos (factorial j * factorial r)
 
 -- the weights of the coalitions with n and without it
-weigh : (n : ℕ) (h : Number) (j r s : ℕ) → weight j r *ℤ with_one n h j r s ≡ weight j (suc r) *ℤ h j (suc r) s +ℤ weight (suc j) r *ℤ h (suc j) r (2 ^ n + s)
+weigh : (n : ℕ) (h : Number) (j r s : ℕ)
+    → weight j r *ℤ with_one n h j r s
+    ≡ weight j (suc r) *ℤ h j (suc r) s +ℤ weight (suc j) r *ℤ h (suc j) r (2 ^ n + s)
 weigh n h j r s =
     let moved : s + 2 ^ n ≡ 2 ^ n + s = omega arith in
     rw moved (step (factorial j) (factorial r) j r (h (suc j) r (2 ^ n + s)) (h j (suc r) s))
   where
-    step : (a b j r : ℕ) (x y : ℤ) → pos (a * b) *ℤ (pos (suc j) *ℤ x +ℤ pos (suc r) *ℤ y) ≡ pos (a * (suc r * b)) *ℤ y +ℤ pos (suc j * a * b) *ℤ x
+    step : (a b j r : ℕ) (x y : ℤ)
+        → pos (a * b) *ℤ (pos (suc j) *ℤ x +ℤ pos (suc r) *ℤ y)
+        ≡ pos (a * (suc r * b)) *ℤ y +ℤ pos (suc j * a * b) *ℤ x
     step a b j r x y =
         let one : a * (suc r * b) ≡ a * b * suc r = omega arith in
         let two : suc j * a * b ≡ a * b * suc j = omega arith in
-        let f : pos (a * b * suc r) *ℤ y ≡ pos (a * b) *ℤ (pos (suc r) *ℤ y) = mul_assocℤ (pos (a * b)) (pos (suc r)) y in
-        let g : pos (a * b * suc j) *ℤ x ≡ pos (a * b) *ℤ (pos (suc j) *ℤ x) = mul_assocℤ (pos (a * b)) (pos (suc j)) x in
+        let f : pos (a * b * suc r) *ℤ y ≡ pos (a * b) *ℤ (pos (suc r) *ℤ y) =
+        mul_assocℤ (pos (a * b)) (pos (suc r)) y in
+        let g : pos (a * b * suc j) *ℤ x ≡ pos (a * b) *ℤ (pos (suc j) *ℤ x) =
+        mul_assocℤ (pos (a * b)) (pos (suc j)) x in
         rw (one, two) (omega (arith, linear, f, g, mul-addℤ (pos (a * b)) (pos (suc j) *ℤ x) (pos (suc r) *ℤ y)))
 
 abbrev term : Number → ℕ → ℕ → ℕ → ℤ
@@ -236,7 +291,8 @@ term-at h j k r q s e f = ap (λ (a : ℕ). term h a r s) e ∙ ap (λ (a : ℕ)
 abbrev place_term : Number → ℕ → ℕ → ℤ
 place_term h n s = term h (size_below n s) (lacks n s) s
 
-place_step : (h : Number) (n s : ℕ) → s < 2 ^ n → place_term (with_one n h) n s ≡ place_term h (suc n) s +ℤ place_term h (suc n) (2 ^ n + s)
+place_step : (h : Number) (n s : ℕ) → s < 2 ^ n
+    → place_term (with_one n h) n s ≡ place_term h (suc n) s +ℤ place_term h (suc n) (2 ^ n + s)
 place_step h n s lt =
     let a = term-at h _ _ _ _ s (size_below-without n s lt) (lacks-without n s lt) in
     let b = term-at h _ _ _ _ (2 ^ n + s) (size_below-with n s lt) (lacks-with n s lt) in
@@ -249,26 +305,38 @@ places_total zero h =
     omega (arith, linear, term-at h (size_below 0 0) 0 (lacks 0 0) 0 0 none (omega arith), one-mulℤ (h 0 0 0))
 places_total (suc n) h =
     total-flat_map (at_places h) (insertions n) (orders n)
-    ∙ total-same_all (λ o. total (at_places h) (insertions n o)) (at_places (with_one n h)) (orders n) (insert_places n h)
+    ∙ total-same_all (λ o. total (at_places h) (insertions n o)) (at_places (with_one n h)) (orders n)
+    (insert_places n h)
     ∙ places_total n (with_one n h)
-    ∙ sum_below-same (2 ^ n) (place_term (with_one n h) n) (λ s. place_term h (suc n) s +ℤ place_term h (suc n) (2 ^ n + s)) (place_step h n)
+    ∙ sum_below-same (2 ^ n) (place_term (with_one n h) n)
+    (λ s. place_term h (suc n) s +ℤ place_term h (suc n) (2 ^ n + s)) (place_step h n)
     ∙ sym (sum_below-halves n (place_term h (suc n)))
 
 -- ---- the members of orders are below n
 
-pub All-flat_map : {X Y : Type 0} (P : Y → Type 0) (f : X → List Y) (xs : List X) → AllByRecursion (λ x. AllByRecursion P (f x)) xs → AllByRecursion P (flat_map f xs)
+pub All-flat_map : {X Y : Type 0} (P : Y → Type 0) (f : X → List Y) (xs : List X)
+    → AllByRecursion (λ x. AllByRecursion P (f x)) xs → AllByRecursion P (flat_map f xs)
 All-flat_map P f [] h = tt
 All-flat_map P f (x ∷ xs) h = all_join P (f x) (flat_map f xs) h.0 (All-flat_map P f xs h.1)
 
-pub All-insertions : (P : ℕ → Type 0) (x : ℕ) (ys : List ℕ) → P x → AllByRecursion P ys → AllByRecursion (AllByRecursion P) (insertions x ys)
+pub All-insertions : (P : ℕ → Type 0) (x : ℕ) (ys : List ℕ) → P x → AllByRecursion P ys
+    → AllByRecursion (AllByRecursion P) (insertions x ys)
 All-insertions P x [] h k = ((h, tt), tt)
-All-insertions P x (y ∷ ys) h k =
-    ((h, k), All-map (AllByRecursion P) (λ zs. y ∷ zs) (insertions x ys) (all_weaken (AllByRecursion P) (λ zs. AllByRecursion P (y ∷ zs)) (insertions x ys) (λ zs all. (k.0, all)) (All-insertions P x ys h k.1)))
+All-insertions P x (y ∷ ys) h k = (
+  (h, k),
+  All-map (AllByRecursion P) (λ zs. y ∷ zs) (insertions x ys)
+      (all_weaken (AllByRecursion P) (λ zs. AllByRecursion P (y ∷ zs)) (insertions x ys) (λ zs all. (k.0, all))
+      (All-insertions P x ys h k.1)),
+)
 
 pub orders-below : (n : ℕ) → AllByRecursion (λ o. AllByRecursion (λ p. p < n) o) (orders n)
 orders-below zero = (tt, tt)
 orders-below (suc n) =
-    All-flat_map (AllByRecursion (λ p. p < suc n)) (insertions n) (orders n) (all_weaken (AllByRecursion (λ p. p < n)) (λ o. AllByRecursion (AllByRecursion (λ p. p < suc n)) (insertions n o)) (orders n) (λ o all. All-insertions (λ p. p < suc n) n o (omega arith) (all_weaken (λ p. p < n) (λ p. p < suc n) o (λ p lt. omega arith) all)) (orders-below n))
+    All-flat_map (AllByRecursion (λ p. p < suc n)) (insertions n) (orders n)
+    (all_weaken (AllByRecursion (λ p. p < n))
+    (λ o. AllByRecursion (AllByRecursion (λ p. p < suc n)) (insertions n o)) (orders n)
+    (λ o all. All-insertions (λ p. p < suc n) n o (omega arith)
+    (all_weaken (λ p. p < n) (λ p. p < suc n) o (λ p lt. omega arith) all)) (orders-below n))
 
 -- ---- the total at a player
 
@@ -278,21 +346,32 @@ player_term h n i s = if has_player s i then pos 0 else term h (size_below n s) 
 pred : (r : ℕ) → suc r - 1 ≡ r
 pred r = omega arith
 
-last_step : (h : Number) (n s : ℕ) → s < 2 ^ n → place_term h n s ≡ player_term h (suc n) n s +ℤ player_term h (suc n) n (2 ^ n + s)
+last_step : (h : Number) (n s : ℕ) → s < 2 ^ n
+    → place_term h n s ≡ player_term h (suc n) n s +ℤ player_term h (suc n) n (2 ^ n + s)
 last_step h n s lt =
-    let a = term-at h (size_below (suc n) s) (size_below n s) (lacks (suc n) s - 1) (lacks n s) s (size_below-without n s lt) (ap (λ (r : ℕ). r - 1) (lacks-without n s lt) ∙ pred (lacks n s)) in
+    let a =
+    term-at h (size_below (suc n) s) (size_below n s) (lacks (suc n) s - 1) (lacks n s) s
+    (size_below-without n s lt) (ap (λ (r : ℕ). r - 1) (lacks-without n s lt) ∙ pred (lacks n s)) in
     step (has_player s n) (has_player (2 ^ n + s) n) _ _ _ (has_player-last n s lt) (has_player-upper n s lt) a
   where
     step : (b c : Bool) (x y z : ℤ) → b ≡ false → c ≡ true → y ≡ x → x ≡ cond b (pos 0) y +ℤ cond c (pos 0) z
     step b c x y z e f k = rw (e, f) (omega (arith, linear, k))
 
-player_step : (h : Number) (n i s : ℕ) → i < n → s < 2 ^ n → player_term (with_one n h) n i s ≡ player_term h (suc n) i s +ℤ player_term h (suc n) i (2 ^ n + s)
+player_step : (h : Number) (n i s : ℕ) → i < n → s < 2 ^ n
+    → player_term (with_one n h) n i s ≡ player_term h (suc n) i s +ℤ player_term h (suc n) i (2 ^ n + s)
 player_step h n i s below lt =
-    let a = term-at h (size_below (suc n) s) (size_below n s) (lacks (suc n) s - 1) (lacks n s) s (size_below-without n s lt) (ap (λ (r : ℕ). r - 1) (lacks-without n s lt) ∙ pred (lacks n s)) in
-    let b = term-at h (size_below (suc n) (2 ^ n + s)) (suc (size_below n s)) (lacks (suc n) (2 ^ n + s) - 1) (lacks n s - 1) (2 ^ n + s) (size_below-with n s lt) (ap (λ (r : ℕ). r - 1) (lacks-with n s lt)) in
-    step (has_player s i) (has_player (2 ^ n + s) i) _ _ _ _ _ (has_player-lower n s i below) a b (λ e. here (lacks n s) (lacks-some n s i below e))
+    let a =
+    term-at h (size_below (suc n) s) (size_below n s) (lacks (suc n) s - 1) (lacks n s) s
+    (size_below-without n s lt) (ap (λ (r : ℕ). r - 1) (lacks-without n s lt) ∙ pred (lacks n s)) in
+    let b =
+    term-at h (size_below (suc n) (2 ^ n + s)) (suc (size_below n s)) (lacks (suc n) (2 ^ n + s) - 1)
+    (lacks n s - 1) (2 ^ n + s) (size_below-with n s lt) (ap (λ (r : ℕ). r - 1) (lacks-with n s lt)) in
+    step (has_player s i) (has_player (2 ^ n + s) i) _ _ _ _ _ (has_player-lower n s i below) a b
+    (λ e. here (lacks n s) (lacks-some n s i below e))
   where
-    here : (r : ℕ) → 1 ≤ r → term (with_one n h) (size_below n s) (r - 1) s ≡ term h (size_below n s) r s +ℤ term h (suc (size_below n s)) (r - 1) (2 ^ n + s)
+    here : (r : ℕ) → 1 ≤ r
+        → term (with_one n h) (size_below n s) (r - 1) s
+        ≡ term h (size_below n s) r s +ℤ term h (suc (size_below n s)) (r - 1) (2 ^ n + s)
     here zero some = absurd (omega arith)
     here (suc r) some =
         let a = term-at (with_one n h) (size_below n s) (size_below n s) (suc r - 1) r s refl (pred r) in
@@ -300,18 +379,22 @@ player_step h n i s below lt =
         let c = weigh n h (size_below n s) r s in
         omega (arith, linear, a, b, c)
 
-    step : (b c : Bool) (x y z u w : ℤ) → c ≡ b → y ≡ u → z ≡ w → (b ≡ false → x ≡ u +ℤ w) → cond b (pos 0) x ≡ cond b (pos 0) y +ℤ cond c (pos 0) z
+    step : (b c : Bool) (x y z u w : ℤ) → c ≡ b → y ≡ u → z ≡ w → (b ≡ false → x ≡ u +ℤ w)
+        → cond b (pos 0) x ≡ cond b (pos 0) y +ℤ cond c (pos 0) z
     step true c x y z u w e f g k = rw e refl
     step false c x y z u w e f g k = rw e (omega (arith, linear, f, g, k refl))
 
-pub player_total : (n i : ℕ) (h : Number) → i < n → total (at_player h i) (orders n) ≡ sum_below (2 ^ n) (player_term h n i)
+pub player_total : (n i : ℕ) (h : Number) → i < n
+    → total (at_player h i) (orders n) ≡ sum_below (2 ^ n) (player_term h n i)
 player_total zero i h lt = absurd (omega arith)
 player_total (suc n) i h lt = elim (less_or_last i n lt) [
   | inl less ↦
       total-flat_map (at_player h i) (insertions n) (orders n)
-      ∙ total-same_all (λ o. total (at_player h i) (insertions n o)) (at_player (with_one n h) i) (orders n) (λ o. insert_other n i h o (nat_eq-other n i (λ same. omega arith)))
+      ∙ total-same_all (λ o. total (at_player h i) (insertions n o)) (at_player (with_one n h) i) (orders n)
+      (λ o. insert_other n i h o (nat_eq-other n i (λ same. omega arith)))
       ∙ player_total n i (with_one n h) less
-      ∙ sum_below-same (2 ^ n) (player_term (with_one n h) n i) (λ s. player_term h (suc n) i s +ℤ player_term h (suc n) i (2 ^ n + s)) (λ s k. player_step h n i s less k)
+      ∙ sum_below-same (2 ^ n) (player_term (with_one n h) n i)
+      (λ s. player_term h (suc n) i s +ℤ player_term h (suc n) i (2 ^ n + s)) (λ s k. player_step h n i s less k)
       ∙ sym (sum_below-halves n (player_term h (suc n) i))
   | inr same ↦ rw same (itself n h)
 ]
@@ -319,12 +402,18 @@ player_total (suc n) i h lt = elim (less_or_last i n lt) [
     other : (n p : ℕ) → p < n → nat_eq p n ≡ false
     other n p k = nat_eq-other p n (λ same. omega arith)
 
-    itself : (n : ℕ) (h : Number) → total (at_player h n) (orders (suc n)) ≡ sum_below (2 ^ suc n) (player_term h (suc n) n)
+    itself : (n : ℕ) (h : Number)
+        → total (at_player h n) (orders (suc n)) ≡ sum_below (2 ^ suc n) (player_term h (suc n) n)
     itself n h =
         total-flat_map (at_player h n) (insertions n) (orders n)
-        ∙ total-same (λ o. total (at_player h n) (insertions n o)) (at_places h) (orders n) (all_weaken (AllByRecursion (λ p. p < n)) (λ o. total (at_player h n) (insertions n o) ≡ at_places h o) (orders n) (λ o all. insert_self n h o (all_weaken (λ p. p < n) (λ p. nat_eq p n ≡ false) o (other n) all)) (orders-below n))
+        ∙ total-same (λ o. total (at_player h n) (insertions n o)) (at_places h) (orders n)
+        (all_weaken (AllByRecursion (λ p. p < n)) (λ o. total (at_player h n) (insertions n o) ≡ at_places h o)
+        (orders n)
+        (λ o all. insert_self n h o (all_weaken (λ p. p < n) (λ p. nat_eq p n ≡ false) o (other n) all))
+        (orders-below n))
         ∙ places_total n h
-        ∙ sum_below-same (2 ^ n) (place_term h n) (λ s. player_term h (suc n) n s +ℤ player_term h (suc n) n (2 ^ n + s)) (last_step h n)
+        ∙ sum_below-same (2 ^ n) (place_term h n)
+        (λ s. player_term h (suc n) n s +ℤ player_term h (suc n) n (2 ^ n + s)) (last_step h n)
         ∙ sym (sum_below-halves n (player_term h (suc n) n))
 
 -- ---- marginal worths
@@ -335,7 +424,9 @@ marginal v i b j r c = v (b + c + 2 ^ i) -ℤ v (b + c)
 marginal-at : (v : ℕ → ℤ) (i b : ℕ) (o : List ℕ) → marginal_worth v i b o ≡ at_player (marginal v i b) i o
 marginal-at v i b [] = refl
 marginal-at v i b (p ∷ ps) =
-    either (nat_eq p i) _ _ _ _ (here b) (marginal-at v i (b + 2 ^ p) ps ∙ at_player-same (marginal v i (b + 2 ^ p)) (behind p (marginal v i b)) i ps (λ j r c. there c))
+    either (nat_eq p i) _ _ _ _ (here b)
+    (marginal-at v i (b + 2 ^ p) ps
+    ∙ at_player-same (marginal v i (b + 2 ^ p)) (behind p (marginal v i b)) i ps (λ j r c. there c))
   where
     either : (b : Bool) (x y z w : ℤ) → x ≡ y → z ≡ w → cond b x z ≡ cond b y w
     either true x y z w d f = d
@@ -347,7 +438,8 @@ marginal-at v i b (p ∷ ps) =
     there : (c : ℕ) → marginal v i (b + 2 ^ p) 0 0 c ≡ behind p (marginal v i b) 0 0 c
     there c = let e : b + 2 ^ p + c ≡ b + (c + 2 ^ p) = omega arith in ap (λ (k : ℕ). v (k + 2 ^ i) -ℤ v k) e
 
-total_over-is : (v : ℕ → ℤ) (i : ℕ) (os : List (List ℕ)) → total_over v i os ≡ total (at_player (marginal v i 0) i) os
+total_over-is : (v : ℕ → ℤ) (i : ℕ) (os : List (List ℕ))
+    → total_over v i os ≡ total (at_player (marginal v i 0) i) os
 total_over-is v i [] = refl
 total_over-is v i (o ∷ os) = let a = marginal-at v i 0 o in let b = total_over-is v i os in cc
 
@@ -363,4 +455,5 @@ pub orders_are_subsets : (g : Game) (i : ℕ) → i < g.players → shapley_tota
 orders_are_subsets g i h =
     total_over-is g.worth i (orders g.players)
     ∙ player_total g.players i (marginal g.worth i 0) h
-    ∙ sum_below-same (2 ^ g.players) (player_term (marginal g.worth i 0) g.players i) (subset_term g.worth g.players i) (λ s k. term-is g.worth g.players i s)
+    ∙ sum_below-same (2 ^ g.players) (player_term (marginal g.worth i 0) g.players i)
+    (subset_term g.worth g.players i) (λ s k. term-is g.worth g.players i s)

@@ -1,5 +1,8 @@
 -- The steps of the costs, and the common denominator.
-use Rattle.std.proofs.Common.{◌≡◌, ℕ, zero, suc, ◌+◌, ◌-◌, ◌*◌, ◌/◌, ◌<◌, ◌≤◌, Bool, true, false, cond, ◌&&◌, List, length, ℤ, pos, ◌+ℤ◌, ◌*ℤ◌, neg_ℤ, refl, sym, ap, ◌∙◌, inl, inr, arith, nat_eq, nat_lt, slice_index, mul-le-mul, div-le_self, [], ◌∷◌, ◌++◌, get_or, ◌^◌, unsigned_abs, to_z, of_z, length-append}
+use Rattle.std.proofs.Common.{◌≡◌, ℕ, zero, suc, ◌+◌, ◌-◌, ◌*◌, ◌/◌, ◌<◌, ◌≤◌, Bool, true, false, cond, ◌&&◌}
+use Rattle.std.proofs.Common.{List, length, ℤ, pos, ◌+ℤ◌, ◌*ℤ◌, neg_ℤ, refl, sym, ap, ◌∙◌, inl, inr, arith}
+use Rattle.std.proofs.Common.{nat_eq, nat_lt, slice_index, mul-le-mul, div-le_self, [], ◌∷◌, ◌++◌, get_or}
+use Rattle.std.proofs.Common.{◌^◌, unsigned_abs, to_z, of_z, length-append}
 use Rattle.std.proofs.lemmas.Bool.Decides.{nat_tests}
 use Rattle.std.proofs.lemmas.List.{get_or_append_left, get_or_push}
 use Rattle.std.proofs.Math.Nat.{le_refl}
@@ -39,7 +42,8 @@ count-same m k (suc n) h =
     let here = h n (omega arith) in
     rw (here, ih) refl
 
-pub some_above : (costs : List ℕ) (i u : ℕ) → i < length costs → u < slice_index costs i → 1 ≤ count (above (slice_index costs) u) (length costs)
+pub some_above : (costs : List ℕ) (i u : ℕ) → i < length costs → u < slice_index costs i
+    → 1 ≤ count (above (slice_index costs) u) (length costs)
 some_above costs i u lt h =
     count-some (above (slice_index costs) u) (length costs) i lt (nat_lt-less u (slice_index costs i) h)
 
@@ -50,11 +54,17 @@ sum_below-constant (suc n) c =
     rw one (omega (arith, linear, sum_below-constant n c, add-mulℤ (pos n) (pos 1) c, one-mulℤ c))
 
 -- between a cost and the next one the same players are above
-pub units_more : (costs : List ℕ) (l from next : ℕ) → from ≤ next → ((j : ℕ) → j < length costs → from < slice_index costs j → next ≤ slice_index costs j) → units_below costs l next ≡ units_below costs l from +ℤ pos ((next - from) * (l / count (above (slice_index costs) from) (length costs)))
+pub units_more : (costs : List ℕ) (l from next : ℕ) → from ≤ next
+    → ((j : ℕ) → j < length costs → from < slice_index costs j → next ≤ slice_index costs j)
+    → units_below costs l next
+    ≡ units_below costs l from
+    +ℤ pos ((next - from) * (l / count (above (slice_index costs) from) (length costs)))
 units_more costs l from next le upto =
     ap (λ (k : ℕ). sum_below k (unit_share costs l)) whole
     ∙ sum_below-split from (next - from) (unit_share costs l)
-    ∙ ap (λ z. units_below costs l from +ℤ z) (sum_below-same (next - from) (λ u. unit_share costs l (from + u)) (λ u. unit_share costs l from) same ∙ sum_below-constant (next - from) (unit_share costs l from))
+    ∙ ap (λ z. units_below costs l from +ℤ z)
+    (sum_below-same (next - from) (λ u. unit_share costs l (from + u)) (λ u. unit_share costs l from) same
+    ∙ sum_below-constant (next - from) (unit_share costs l from))
   where
     whole : next ≡ from + (next - from)
     whole = omega arith
@@ -64,9 +74,12 @@ units_more costs l from next le upto =
 
     same : (u : ℕ) → u < next - from → unit_share costs l (from + u) ≡ unit_share costs l from
     same u h =
-        ap (λ (k : ℕ). pos (l / k)) (count-same (above (slice_index costs) (from + u)) (above (slice_index costs) from) (length costs) (λ j lt. test u (slice_index costs j) h (upto j lt)))
+        ap (λ (k : ℕ). pos (l / k))
+        (count-same (above (slice_index costs) (from + u)) (above (slice_index costs) from) (length costs)
+        (λ j lt. test u (slice_index costs j) h (upto j lt)))
 
-pub step_small : (sum from next l q r : ℕ) → from ≤ next → sum ≤ from * l → r ≡ (next - from) * q → q ≤ l → sum + r ≤ next * l
+pub step_small : (sum from next l q r : ℕ) → from ≤ next → sum ≤ from * l → r ≡ (next - from) * q → q ≤ l
+    → sum + r ≤ next * l
 step_small sum from next l q r le h e k =
     let whole : next ≡ from + (next - from) = omega arith in
     step (next - from) whole e
@@ -97,9 +110,14 @@ common-divided : (k : ℕ) → 1 ≤ k → k ≤ 32 → k * (common / k) ≡ com
 common-divided zero some few = absurd (omega arith)
 common-divided (suc k) some few = from_nat_eq _ _ (passes_below-at 32 divides_common refl k (omega arith))
 
-pub common_shares : (costs : List ℕ) (i : ℕ) → length costs ≤ 32 → i < length costs → neg_ℤ (units_below costs common (slice_index costs i)) *ℤ pos (factorial (length costs)) ≡ pos common *ℤ shapley_total (game_of_costs costs) i
+pub common_shares : (costs : List ℕ) (i : ℕ) → length costs ≤ 32 → i < length costs
+    → neg_ℤ (units_below costs common (slice_index costs i)) *ℤ pos (factorial (length costs))
+    ≡ pos common *ℤ shapley_total (game_of_costs costs) i
 common_shares costs i few lt =
-    airport-shares costs i common lt (λ u h. common-divided (count (above (slice_index costs) u) (length costs)) (some_above costs i u lt h) (small (count (above (slice_index costs) u) (length costs)) (count-few (above (slice_index costs) u) (length costs))))
+    airport-shares costs i common lt
+    (λ u h. common-divided (count (above (slice_index costs) u) (length costs)) (some_above costs i u lt h)
+    (small (count (above (slice_index costs) u) (length costs))
+    (count-few (above (slice_index costs) u) (length costs))))
   where
     small : (k : ℕ) → k ≤ length costs → k ≤ 32
     small k h = omega arith
@@ -107,10 +125,14 @@ common_shares costs i few lt =
 pub share_small : (k : ℕ) → common / k ≤ common
 share_small k = div-le_self common k
 
-pub paid_more : (costs : List ℕ) (from next sum r k : ℕ) → from ≤ next → ((j : ℕ) → j < length costs → from < slice_index costs j → next ≤ slice_index costs j) → pos sum ≡ units_below costs common from → k ≡ count (above (slice_index costs) from) (length costs) → r ≡ (next - from) * (common / k) → pos (sum + r) ≡ units_below costs common next
+pub paid_more : (costs : List ℕ) (from next sum r k : ℕ) → from ≤ next
+    → ((j : ℕ) → j < length costs → from < slice_index costs j → next ≤ slice_index costs j)
+    → pos sum ≡ units_below costs common from → k ≡ count (above (slice_index costs) from) (length costs)
+    → r ≡ (next - from) * (common / k) → pos (sum + r) ≡ units_below costs common next
 paid_more costs from next sum r k le upto before same e =
     let more = units_more costs common from next le upto in
-    let here : pos r ≡ pos ((next - from) * (common / count (above (slice_index costs) from) (length costs))) = ap pos (e ∙ ap (λ (q : ℕ). (next - from) * (common / q)) same) in
+    let here : pos r ≡ pos ((next - from) * (common / count (above (slice_index costs) from) (length costs))) =
+    ap pos (e ∙ ap (λ (q : ℕ). (next - from) * (common / q)) same) in
     sums before here ∙ sym more
   where
     sums : {a b : ℤ} → pos sum ≡ a → pos r ≡ b → pos (sum + r) ≡ a +ℤ b
@@ -118,17 +140,24 @@ paid_more costs from next sum r k le upto before same e =
 
 -- ---- a list of results that grows
 
-pub pushed : (f : ℕ → ℤ) (xs ys : List ℤ) (r : ℤ) (n : ℕ) → ys ≡ xs ++ to_z w128 (of_z w128 r) ∷ [] → length xs ≡ n → ((k : ℕ) → k < n → (get_or xs k (pos 0) ≡ f k) × (unsigned_abs (get_or xs k (pos 0)) < 2 ^ 110)) → r ≡ f n → unsigned_abs r < 2 ^ 110 → (length ys ≡ n + 1) × ((k : ℕ) → k < n + 1 → (get_or ys k (pos 0) ≡ f k) × (unsigned_abs (get_or ys k (pos 0)) < 2 ^ 110))
+pub pushed : (f : ℕ → ℤ) (xs ys : List ℤ) (r : ℤ) (n : ℕ) → ys ≡ xs ++ to_z w128 (of_z w128 r) ∷ [] → length xs ≡ n
+    → ((k : ℕ) → k < n → (get_or xs k (pos 0) ≡ f k) × (unsigned_abs (get_or xs k (pos 0)) < 2 ^ 110)) → r ≡ f n
+    → unsigned_abs r < 2 ^ 110
+    → (length ys ≡ n + 1)
+    × ((k : ℕ) → k < n + 1 → (get_or ys k (pos 0) ≡ f k) × (unsigned_abs (get_or ys k (pos 0)) < 2 ^ 110))
 pushed f xs ys r n e len before here small =
     let kept : to_z w128 (of_z w128 r) ≡ r = cast_kept w128 r (omega arith) in
     let all : ys ≡ xs ++ r ∷ [] = e ∙ ap (λ (z : ℤ). xs ++ z ∷ []) kept in (
       ap length all ∙ longer xs r len,
       λ k lt. elim (less_or_last k n (omega arith)) [
         | inl less ↦
-            let at : get_or ys k (pos 0) ≡ get_or xs k (pos 0) = ap (λ (l : List ℤ). get_or l k (pos 0)) all ∙ get_or_append_left xs (r ∷ []) (pos 0) k (omega arith) in
+            let at : get_or ys k (pos 0) ≡ get_or xs k (pos 0) =
+            ap (λ (l : List ℤ). get_or l k (pos 0)) all
+            ∙ get_or_append_left xs (r ∷ []) (pos 0) k (omega arith) in
             (at ∙ (before k less).0, rw at (before k less).1)
         | inr same ↦
-            let at : get_or ys k (pos 0) ≡ r = ap (λ (l : List ℤ). get_or l k (pos 0)) all ∙ get_or_push xs r (pos 0) k (omega arith) in
+            let at : get_or ys k (pos 0) ≡ r =
+            ap (λ (l : List ℤ). get_or l k (pos 0)) all ∙ get_or_push xs r (pos 0) k (omega arith) in
             (at ∙ here ∙ ap f (sym same), rw at small)
       ],
     )

@@ -22,7 +22,9 @@ subset_term v n i s =
 abbrev pub subset_total : (ℕ → ℤ) → ℕ → ℕ → ℤ
 subset_total v n i = sum_below (2 ^ n) (subset_term v n i)
 
--- the worth w of s counts for each member, as often as the others of s stand in front of it, and against each other player, as often as s does
+-- the worth w of s counts for each member, as often as the others of s stand in front of it, and against each other
+-- player, as often as s does
 abbrev pub credit : ℕ → ℕ → ℤ → ℕ → ℤ
 credit n s w i =
-    if has_player s i then pos (orders_with n (length (members n s) - 1)) *ℤ w else neg_ℤ (pos (orders_with n (length (members n s))) *ℤ w)
+    if has_player s i then pos (orders_with n (length (members n s) - 1)) *ℤ w
+    else neg_ℤ (pos (orders_with n (length (members n s))) *ℤ w)

@@ -39,7 +39,8 @@ fn next_cost(game: &AirportGame, from: u64, upto: u64) -> u64
     requires { from < upto }
     ensures above { from < result }
     ensures within { result ≤ upto }
-    ensures next { (j : ℕ) → j < length game.now.costs → from < slice_index game.now.costs j → result ≤ slice_index game.now.costs j }
+    ensures next { (j : ℕ) → j < length game.now.costs → from < slice_index game.now.costs j
+        → result ≤ slice_index game.now.costs j }
 {
     let mut next = upto;
     for i in 0..game.len() {
@@ -93,7 +94,8 @@ fn owed(game: &AirportGame, i: u32) -> i128
 /// The Shapley shares of an airport game of at most 32 players, over the common denominator.
 fn step_shares(alloc: Global, game: &AirportGame) -> Result<Shares, AllocError>
     requires { length game.now.costs ≤ 32 }
-    ensures { IfOk result (IsShapley (airport_game game.now)) }
+    ensures value { IfOk result (IsShapley (airport_game game.now)) }
+    ensures den { IfOk result (λ x. x.den ≡ pos common) }
 {
     let mut num: Vec<i128> = Vec::new(alloc);
     for i in 0..game.len() {
@@ -110,6 +112,7 @@ fn step_shares(alloc: Global, game: &AirportGame) -> Result<Shares, AllocError>
 /// `TooMany` exactly where there are more than 32 players; `Memory` where there was no memory for the shares.
 pub fn airport_shapley(alloc: Global, game: &AirportGame) -> Result<Shares, ShapleyFault>
     ensures value { IfOk result (IsShapley (airport_game game.now)) }
+    ensures den { IfOk result (λ x. x.den ≡ pos common) }
     ensures too_many { IsErrOf result ShapleyFault.TooMany ↔ (32 < length game.now.costs) }
 {
     if game.len() > 32 {

@@ -98,7 +98,8 @@ fn add_worth(totals: &mut [i128], n: u32, s: Coalition, worth: i64)
     requires within { s < 2 ^ n }
     requires small { unsigned_abs worth < 2 ^ 46 }
     requires room { All (λ z. unsigned_abs z < 2 ^ 109) totals.old }
-    ensures { (k : ℕ) → k < n → slice_index_or totals.new k (pos 0) ≡ slice_index_or totals.old k (pos 0) +ℤ credit n s worth k }
+    ensures { (k : ℕ) → k < n
+        → slice_index_or totals.new k (pos 0) ≡ slice_index_or totals.old k (pos 0) +ℤ credit n s worth k }
 {
     let members = s.len();
     let gain = gain(n, members, worth);
@@ -128,7 +129,8 @@ fn all_totals<W: Worth>(alloc: Global, game: &W) -> Result<Vec<i128>, AllocError
 /// The Shapley shares of a game of at most 16 players, over the number of orders.
 fn mean_shares<W: Worth>(alloc: Global, game: &W) -> Result<Shares, AllocError>
     requires { (W.game game.now).players ≤ 16 }
-    ensures { IfOk result (IsShapley (W.game game.now)) }
+    ensures value { IfOk result (IsShapley (W.game game.now)) }
+    ensures den { IfOk result (λ x. x.den ≡ pos (factorial (W.game game.now).players)) }
 {
     let totals = all_totals(alloc, game)?;
     Ok(Shares::new(totals, factorial(game.players()) as i128).unwrap())
@@ -142,6 +144,7 @@ fn mean_shares<W: Worth>(alloc: Global, game: &W) -> Result<Shares, AllocError>
 /// `TooMany` exactly where there are more than 16 players; `Memory` where there was no memory for the shares.
 pub fn shapley<W: Worth>(alloc: Global, game: &W) -> Result<Shares, ShapleyFault>
     ensures value { IfOk result (IsShapley (W.game game.now)) }
+    ensures den { IfOk result (λ x. x.den ≡ pos (factorial (W.game game.now).players)) }
     ensures too_many { IsErrOf result ShapleyFault.TooMany ↔ (16 < (W.game game.now).players) }
 {
     if game.players() > 16 {

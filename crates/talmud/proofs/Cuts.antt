@@ -1,5 +1,6 @@
 -- The list of the claims, cut to the estate.
-use Rattle.std.proofs.Common.{◌≡◌, ℕ, ◌^◌, ◌<◌, ◌≤◌, List, length, get_or, min, pos, ◌≤ℤ◌, sym, ap, subst, ◌∙◌, inl, inr, arith}
+use Rattle.std.proofs.Common.{◌≡◌, ℕ, ◌^◌, ◌<◌, ◌≤◌, List, length, get_or, min, pos}
+use Rattle.std.proofs.Common.{◌≤ℤ◌, sym, ap, subst, ◌∙◌, inl, inr, arith}
 use Rattle.std.specs.List.{All}
 use Rattle.std.proofs.lemmas.List.{length-map, get_or-map}
 use Rattle.std.proofs.lemmas.Int.{ints}
@@ -15,26 +16,32 @@ use Rattle.talmud.proofs.Worths.{cut-covers}
 pub length-cut : (estate : ℕ) (claims cuts : List ℕ) → cuts ≡ cut_claims estate claims → length cuts ≡ length claims
 length-cut estate claims cuts e = ap length e ∙ length-map claims (λ c. min c estate)
 
-pub claim_sum-cut : (estate : ℕ) (claims cuts : List ℕ) → cuts ≡ cut_claims estate claims → sum_below (length cuts) (λ i. pos (get_or cuts i 0)) ≡ cut_sum estate claims
+pub claim_sum-cut : (estate : ℕ) (claims cuts : List ℕ) → cuts ≡ cut_claims estate claims
+    → sum_below (length cuts) (λ i. pos (get_or cuts i 0)) ≡ cut_sum estate claims
 claim_sum-cut estate claims cuts e =
     ap (λ (ds : List ℕ). sum_below (length ds) (λ i. pos (get_or ds i 0))) e
     ∙ ap (λ (n : ℕ). sum_below n (λ i. pos (cut estate claims i))) (length-map claims (λ c. min c estate))
 
-all-cut : (estate : ℕ) (claims : List ℕ) (P : ℕ → Type 0) → ((k : ℕ) → k < length claims → P (min (get_or claims k 0) estate)) → All P (cut_claims estate claims)
+all-cut : (estate : ℕ) (claims : List ℕ) (P : ℕ → Type 0)
+    → ((k : ℕ) → k < length claims → P (min (get_or claims k 0) estate)) → All P (cut_claims estate claims)
 all-cut estate claims P each k d lt =
     let within : k < length claims = subst (λ (n : ℕ). k < n) (length-map claims (λ c. min c estate)) lt in
     subst P (sym (get_or-map (λ c. min c estate) claims k 0 d within)) (each k within)
 
 -- no claim is left above the estate
 pub all-cut_low : (estate : ℕ) (claims cuts : List ℕ) → cuts ≡ cut_claims estate claims → All (λ c. c ≤ estate) cuts
-all-cut_low estate claims cuts e = subst (All (λ c. c ≤ estate)) (sym e) (all-cut estate claims (λ c. c ≤ estate) (λ k lt. omega arith))
+all-cut_low estate claims cuts e =
+    subst (All (λ c. c ≤ estate)) (sym e) (all-cut estate claims (λ c. c ≤ estate) (λ k lt. omega arith))
 
-pub all-cut_small : (b : Bankruptcy) → IsBankruptcy b → (cuts : List ℕ) → cuts ≡ cut_claims b.estate b.claims → All (λ d. d < 2 ^ 40) cuts
+pub all-cut_small : (b : Bankruptcy) → IsBankruptcy b → (cuts : List ℕ) → cuts ≡ cut_claims b.estate b.claims
+    → All (λ d. d < 2 ^ 40) cuts
 all-cut_small b h cuts e =
-    subst (All (λ d. d < 2 ^ 40)) (sym e) (all-cut b.estate b.claims (λ d. d < 2 ^ 40) (λ k lt. let small = h.small k 0 lt in omega (arith, small)))
+    subst (All (λ d. d < 2 ^ 40)) (sym e)
+    (all-cut b.estate b.claims (λ d. d < 2 ^ 40) (λ k lt. let small = h.small k 0 lt in omega (arith, small)))
 
 -- cut or not, the claims cover the estate
-pub cut-enough : (b : Bankruptcy) → IsBankruptcy b → (cuts : List ℕ) → cuts ≡ cut_claims b.estate b.claims → pos b.estate ≤ℤ sum_below (length cuts) (λ i. pos (get_or cuts i 0))
+pub cut-enough : (b : Bankruptcy) → IsBankruptcy b → (cuts : List ℕ) → cuts ≡ cut_claims b.estate b.claims
+    → pos b.estate ≤ℤ sum_below (length cuts) (λ i. pos (get_or cuts i 0))
 cut-enough b h cuts e =
     let n = length b.claims in
     let covers = cut-covers b.estate b.claims n (grand_coalition n) in

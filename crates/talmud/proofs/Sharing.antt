@@ -1,5 +1,6 @@
 -- How many players get half of their claims, and that the shares made of it are those of the rule.
-use Rattle.std.proofs.Common.{◌≡◌, ◌⊎◌, ℕ, zero, suc, ◌+◌, ◌-◌, ◌*◌, ◌<◌, ◌≤◌, Bool, true, false, length, get_or, min, ℤ, pos, ◌+ℤ◌, ◌*ℤ◌, ◌≤ℤ◌, refl, sym, ap, ◌∙◌, inl, inr, arith, add-one, subst}
+use Rattle.std.proofs.Common.{◌≡◌, ◌⊎◌, ℕ, zero, suc, ◌+◌, ◌-◌, ◌*◌, ◌<◌, ◌≤◌, Bool, true, false, length, get_or}
+use Rattle.std.proofs.Common.{min, ℤ, pos, ◌+ℤ◌, ◌*ℤ◌, ◌≤ℤ◌, refl, sym, ap, ◌∙◌, inl, inr, arith, add-one, subst}
 use Rattle.std.proofs.lemmas.Int.{ints}
 use Rattle.std.proofs.Math.Nat.{mul-le-mul, le_refl}
 use Rattle.definitions.proofs.Ring.{linear, mul-addℤ, mul-zeroℤ, add-mulℤ, one-mulℤ}
@@ -13,12 +14,14 @@ use Rattle.talmud.specs.Division.{claim_sum, divided, IsSplit, IsSide, IsDivisio
 use Rattle.std.specs.List.{All}
 
 -- one more half player
-pub IsSplit-more : (n : ℕ) (c : ℕ → ℕ) (double m left : ℕ) → ((j k : ℕ) → j < k → k < n → c j ≤ c k) → m < n → c m * (n - m) ≤ left → IsSplit n c double m left → IsSplit n c double (m + 1) (left - c m)
+pub IsSplit-more : (n : ℕ) (c : ℕ → ℕ) (double m left : ℕ) → ((j k : ℕ) → j < k → k < n → c j ≤ c k) → m < n
+    → c m * (n - m) ≤ left → IsSplit n c double m left → IsSplit n c double (m + 1) (left - c m)
 IsSplit-more n c double m left rising lt le s = record {
   within = omega arith;
   sum = sum_more;
   most = (let most = s.most in omega arith);
-  under = λ j h. at j (elim (last_or_less j h) [ inl less ↦ rising j m less lt | inr same ↦ rw same (omega arith) ]);
+  under =
+      λ j h. at j (elim (last_or_less j h) [ inl less ↦ rising j m less lt | inr same ↦ rw same (omega arith) ]);
 }
   where
     last_or_less : (j : ℕ) → j < m + 1 → (j < m) ⊎ (j ≡ m)
@@ -66,9 +69,11 @@ sum-constant (suc r) t g e =
     omega (arith, linear, ih, e r (omega arith), q, one)
 
 -- by place or by player
-sum-places : (n : ℕ) (cost at : ℕ → ℕ) → IsOrder n cost at → (f : ℕ → ℤ) → sum_below n f ≡ sum_below n (λ j. f (at j))
+sum-places : (n : ℕ) (cost at : ℕ → ℕ) → IsOrder n cost at → (f : ℕ → ℤ)
+    → sum_below n f ≡ sum_below n (λ j. f (at j))
 sum-places n cost at o f =
-    sym (sum_over-grand_coalition n f) ∙ ap (sum_over n f) (sym o.full) ∙ sum_over-front n cost at o f n (omega arith)
+    sym (sum_over-grand_coalition n f) ∙ ap (sum_over n f) (sym o.full)
+    ∙ sum_over-front n cost at o f n (omega arith)
 
 -- ---- the division
 
@@ -86,13 +91,17 @@ double_of : (amount : ℕ) (d : ℤ) → pos amount ≡ d → pos (2 * amount) �
 double_of amount d e = omega (arith, ints)
 
 -- where some players get more than half of their claims' bound, they share what is left
-pub IsDivision-rest : (estate : ℕ) (c : OrderedNumbers) (gain : Bool) (amount m left : ℕ) → IsOrdered c → IsSide estate c gain → pos amount ≡ divided estate c gain → IsSplit (length c.numbers) (number_at c) (2 * amount) m left → m < length c.numbers → left < number_at c m * (length c.numbers - m) → IsDivision estate c gain m (length c.numbers - m) left
+pub IsDivision-rest : (estate : ℕ) (c : OrderedNumbers) (gain : Bool) (amount m left : ℕ) → IsOrdered c
+    → IsSide estate c gain → pos amount ≡ divided estate c gain
+    → IsSplit (length c.numbers) (number_at c) (2 * amount) m left → m < length c.numbers
+    → left < number_at c m * (length c.numbers - m) → IsDivision estate c gain m (length c.numbers - m) left
 IsDivision-rest estate c gain amount m left o side e s lt stop = record {
   within = omega arith;
   some = omega arith;
   side = side;
   half = s.under;
-  rest = λ j low high. after (number_at c m * h) (number_at c j * h) (mul-le-mul (rises j low high) (le_refl h)) stop;
+  rest =
+      λ j low high. after (number_at c m * h) (number_at c j * h) (mul-le-mul (rises j low high) (le_refl h)) stop;
   sum = parts ∙ scaled;
 }
   where
@@ -109,7 +118,9 @@ IsDivision-rest estate c gain amount m left o side e s lt stop = record {
     same_or_more j le = grind arith
 
     rises : (j : ℕ) → m ≤ j → j < n → number_at c m ≤ number_at c j
-    rises j low high = elim (same_or_more j low) [ inl same ↦ rw same (le_refl (number_at c m)) | inr more ↦ o.sorted.lists.rising m j more high ]
+    rises j low high =
+        elim (same_or_more j low)
+        [ inl same ↦ rw same (le_refl (number_at c m)) | inr more ↦ o.sorted.lists.rising m j more high ]
 
     first : (j : ℕ) → j < m → counted c h left (place c j) ≡ pos h *ℤ pos (number_at c j)
     first j below = least (number_at c j * h) (s.under j below) ∙ sym (natural_times h (number_at c j))
@@ -118,7 +129,10 @@ IsDivision-rest estate c gain amount m left o side e s lt stop = record {
         least u le = omega (arith, ints)
 
     second : (d : ℕ) → d < h → counted c h left (place c (m + d)) ≡ pos left
-    second d below = least (number_at c (m + d) * h) (after (number_at c m * h) (number_at c (m + d) * h) (mul-le-mul (rises (m + d) (omega arith) (omega arith)) (le_refl h)) stop)
+    second d below =
+        least (number_at c (m + d) * h)
+        (after (number_at c m * h) (number_at c (m + d) * h)
+        (mul-le-mul (rises (m + d) (omega arith) (omega arith)) (le_refl h)) stop)
       where
         least : (u : ℕ) → left < u → pos (min u left) ≡ pos left
         least u le = omega (arith, ints)
@@ -131,20 +145,38 @@ IsDivision-rest estate c gain amount m left o side e s lt stop = record {
         let whole = ap (λ (k : ℕ). sum_below k (λ j. counted c h left (place c j))) all in
         let a = sum-times m (pos h) (λ j. pos (number_at c j)) (λ j. counted c h left (place c j)) first in
         let b = sum-constant h (pos left) (λ d. counted c h left (place c (m + d))) second in
-        omega (arith, linear, places, split, whole, a, b, mul-addℤ (pos h) (sum_below m (λ j. pos (number_at c j))) (pos left))
+        omega (
+          arith,
+          linear,
+          places,
+          split,
+          whole,
+          a,
+          b,
+          mul-addℤ (pos h) (sum_below m (λ j. pos (number_at c j))) (pos left),
+        )
 
-    scaled : pos h *ℤ (sum_below m (λ j. pos (number_at c j)) +ℤ pos left) ≡ (pos h +ℤ pos h) *ℤ divided estate c gain
-    scaled = twice (pos h) (sum_below m (λ j. pos (number_at c j)) +ℤ pos left) (divided estate c gain) (s.sum ∙ double_of amount (divided estate c gain) e)
+    scaled : pos h *ℤ (sum_below m (λ j. pos (number_at c j)) +ℤ pos left)
+        ≡ (pos h +ℤ pos h) *ℤ divided estate c gain
+    scaled =
+        twice (pos h) (sum_below m (λ j. pos (number_at c j)) +ℤ pos left) (divided estate c gain)
+        (s.sum ∙ double_of amount (divided estate c gain) e)
 
 -- where all get half of their claims, the estate is half of them
-pub IsDivision-all : (estate : ℕ) (c : OrderedNumbers) (gain : Bool) (amount m left : ℕ) → IsOrdered c → All (λ d. d ≤ estate) c.numbers → IsSide estate c gain → pos amount ≡ divided estate c gain → IsSplit (length c.numbers) (number_at c) (2 * amount) m left → length c.numbers ≤ m → IsDivision estate c gain (length c.numbers) 1 estate
+pub IsDivision-all : (estate : ℕ) (c : OrderedNumbers) (gain : Bool) (amount m left : ℕ) → IsOrdered c
+    → All (λ d. d ≤ estate) c.numbers → IsSide estate c gain → pos amount ≡ divided estate c gain
+    → IsSplit (length c.numbers) (number_at c) (2 * amount) m left → length c.numbers ≤ m
+    → IsDivision estate c gain (length c.numbers) 1 estate
 IsDivision-all estate c gain amount m left o low side e s le = record {
   within = omega arith;
   some = omega arith;
   side = side;
   half = λ j lt. one_low (number_at c j) (low (place c j) 0 (o.sorted.lists.below j lt));
   rest = λ j high lt. absurd (omega arith);
-  sum = sum_below-same (length c.numbers) (counted c 1 estate) (λ i. pos (get_or c.numbers i 0)) (λ i lt. one_least (get_or c.numbers i 0) (low i 0 lt)) ∙ both_sides gain side (sums ∙ double_of amount (divided estate c gain) e);
+  sum =
+      sum_below-same (length c.numbers) (counted c 1 estate) (λ i. pos (get_or c.numbers i 0))
+      (λ i lt. one_least (get_or c.numbers i 0) (low i 0 lt))
+      ∙ both_sides gain side (sums ∙ double_of amount (divided estate c gain) e);
 }
   where
     one_low : (d : ℕ) → d ≤ estate → d * 1 ≤ estate
@@ -156,13 +188,16 @@ IsDivision-all estate c gain amount m left o low side e s le = record {
     sums : claim_sum c +ℤ pos left ≡ pos (2 * amount)
     sums =
         let all : m ≡ length c.numbers = (let within = s.within in omega arith) in
-        let places = sum-places (length c.numbers) (λ i. get_or c.numbers i 0) (place c) o.sorted.lists (λ i. pos (get_or c.numbers i 0)) in
+        let places =
+        sum-places (length c.numbers) (λ i. get_or c.numbers i 0) (place c) o.sorted.lists
+        (λ i. pos (get_or c.numbers i 0)) in
         let whole = ap (λ (k : ℕ). sum_below k (λ j. pos (number_at c j))) all in
         omega (arith, linear, places, whole, s.sum)
 
     natural : pos 0 ≤ℤ pos left
     natural = omega (arith, ints)
 
-    both_sides : (g : Bool) → IsSide estate c g → claim_sum c +ℤ pos left ≡ divided estate c g +ℤ divided estate c g → claim_sum c ≡ (pos 1 +ℤ pos 1) *ℤ divided estate c g
+    both_sides : (g : Bool) → IsSide estate c g → claim_sum c +ℤ pos left ≡ divided estate c g +ℤ divided estate c g
+        → claim_sum c ≡ (pos 1 +ℤ pos 1) *ℤ divided estate c g
     both_sides true d f = let little = d.little refl in omega (arith, ints, little, f, natural)
     both_sides false d f = let much = d.much refl in absurd (omega (arith, linear, much, f, natural))

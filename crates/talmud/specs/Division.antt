@@ -1,3 +1,4 @@
+-- For the private functions of this crate.
 -- How the estate is divided: what the code keeps.
 --
 --   claim_sum    the sum of the claims
@@ -6,7 +7,8 @@
 --   IsSide       whether the estate is at most half of the claims
 --   IsDivision   who gets half, and the bound for the others
 --   award        the share of a claim
-use Rattle.std.specs.Prelude.{◌≡◌, ℕ, ◌-◌, ◌*◌, ◌<◌, ◌≤◌, Bool, true, false, length, min, ℤ, pos, ◌+ℤ◌, ◌-ℤ◌, ◌*ℤ◌, ◌<ℤ◌, ◌≤ℤ◌, slice_index, if◌then◌else◌}
+use Rattle.std.specs.Prelude.{◌≡◌, ℕ, ◌-◌, ◌*◌, ◌<◌, ◌≤◌, Bool, true, false, length, min, ℤ, pos}
+use Rattle.std.specs.Prelude.{◌+ℤ◌, ◌-ℤ◌, ◌*ℤ◌, ◌<ℤ◌, ◌≤ℤ◌, slice_index, if◌then◌else◌}
 use Rattle.definitions.specs.Sums.{sum_below}
 use Rattle.orders.specs.Ordered.{OrderedNumbers, number_at}
 
@@ -18,7 +20,8 @@ claim_sum c = sum_below (length c.numbers) (λ i. pos (slice_index c.numbers i))
 abbrev pub divided : ℕ → OrderedNumbers → Bool → ℤ
 divided estate c gain = if gain then pos estate else claim_sum c -ℤ pos estate
 
--- the claims at the first m places are taken from twice what there is to divide, and each of them times the places behind is at most what is left
+-- the claims at the first m places are taken from twice what there is to divide, and each of them times the places
+-- behind is at most what is left
 pub record IsSplit (n : ℕ) (claim : ℕ → ℕ) (double m left : ℕ) : Type 0 where
   pub within : m ≤ n
   pub sum : sum_below m (λ j. pos (claim j)) +ℤ pos left ≡ pos double
@@ -30,14 +33,16 @@ pub record IsSide (estate : ℕ) (c : OrderedNumbers) (gain : Bool) : Type 0 whe
   pub little : gain ≡ true → (pos estate +ℤ pos estate) ≤ℤ claim_sum c
   pub much : gain ≡ false → claim_sum c <ℤ (pos estate +ℤ pos estate)
 
--- the first m players get half of their claims, which is at most t over twice h; half of each other claim is more than t; and the lesser of the two is the part of each in what is divided
+-- the first m players get half of their claims, which is at most t over twice h; half of each other claim is more
+-- than t; and the lesser of the two is the part of each in what is divided
 pub record IsDivision (estate : ℕ) (c : OrderedNumbers) (gain : Bool) (m h t : ℕ) : Type 0 where
   pub within : m ≤ length c.numbers
   pub some : 1 ≤ h
   pub side : IsSide estate c gain
   pub half : (j : ℕ) → j < m → number_at c j * h ≤ t
   pub rest : (j : ℕ) → m ≤ j → j < length c.numbers → t < number_at c j * h
-  pub sum : sum_below (length c.numbers) (λ i. pos (min (slice_index c.numbers i * h) t)) ≡ (pos h +ℤ pos h) *ℤ divided estate c gain
+  pub sum : sum_below (length c.numbers) (λ i. pos (min (slice_index c.numbers i * h) t))
+      ≡ (pos h +ℤ pos h) *ℤ divided estate c gain
 
 -- the share of a claim over twice h: the lesser of half of it and t, or the claim less that
 abbrev pub award : Bool → ℕ → ℕ → ℕ → ℕ

@@ -1,5 +1,5 @@
--- The levels that certify the shares of the Talmud rule: one for each claim of half players, who get half of their claim,
--- and one for the others.
+-- The levels that certify the shares of the Talmud rule: one for each claim of half players, who get half of their
+-- claim, and one for the others.
 --
 --   single, others            a player alone, and all but that player, by the player's place in an order
 --   key_of                    the one of the two that settles a player who is no half player
@@ -12,7 +12,8 @@
 --   IsOfBoth, IsOfKeys        the pairs of a level
 --   HoldsHalf, HoldHalves, HoldsRest, HoldAll   the same levels, by what their lists hold
 --   AreRuleLevels             all levels, in such an order
-use Rattle.std.specs.Prelude.{◌≡◌, ◌≢◌, ◌⊎◌, ◌++◌, ℕ, zero, suc, ◌+◌, ◌-◌, ◌<◌, ◌≤◌, Bool, List, [], ◌∷◌, length, ℤ, pos, ◌-ℤ◌, ◌*ℤ◌, ◌≤ℤ◌, neg_ℤ, if◌then◌else◌}
+use Rattle.std.specs.Prelude.{◌≡◌, ◌≢◌, ◌⊎◌, ◌++◌, ℕ, zero, suc, ◌+◌, ◌-◌, ◌<◌, ◌≤◌, Bool, List, []}
+use Rattle.std.specs.Prelude.{◌∷◌, length, ℤ, pos, ◌-ℤ◌, ◌*ℤ◌, ◌≤ℤ◌, neg_ℤ, if◌then◌else◌}
 use Rattle.definitions.specs.Coalitions.{singleton, grand_coalition}
 use Rattle.definitions.specs.Games.{Allocation, share}
 use Rattle.definitions.specs.Certificates.{Level}
@@ -42,7 +43,8 @@ with_both n at i zero = []
 with_both n at i (suc b) =
     with_pair (others n at (i + b)) (pos 1) (with_pair (single at (i + b)) (pos 1) (with_both n at i b))
 
--- The half players from place i up to place k are all of the first m with their claim. Of two players the first stands for both: the other's two coalitions are the same.
+-- The half players from place i up to place k are all of the first m with their claim. Of two players the first
+-- stands for both: the other's two coalitions are the same.
 pub record IsHalfEnd (n : ℕ) (claim at : ℕ → ℕ) (m i k : ℕ) : Type 0 where
   pub some : i < k
   pub within : k ≤ m
@@ -79,7 +81,9 @@ pub record IsRestLevel (n : ℕ) (at : ℕ → ℕ) (m : ℕ) (gain : Bool) (t d
 -- half levels while two players are left, and behind all of them the level of the others, where they are two at least
 abbrev pub AreLevels : ℕ → (ℕ → ℕ) → (ℕ → ℕ) → ℕ → Bool → ℤ → ℤ → List Level → Type 0
 AreLevels n claim at m gain t den levels =
-    ((k : ℕ) × AreHalves n claim at m 0 levels k × (n ≤ k + 1)) ⊎ ((ls : List Level) × (l : Level) × (levels ≡ ls ++ l ∷ []) × AreHalves n claim at m 0 ls m × IsRestLevel n at m gain t den l)
+    ((k : ℕ) × AreHalves n claim at m 0 levels k × (n ≤ k + 1))
+    ⊎ ((ls : List Level) × (l : Level) × (levels ≡ ls ++ l ∷ []) × AreHalves n claim at m 0 ls m
+    × IsRestLevel n at m gain t den l)
 
 -- an order by the cut claims, in which the first m get half of theirs, and of the others each gets, or loses, t
 pub record IsHalfOrder (estate : ℕ) (claims : List ℕ) (x : Allocation) (at : ℕ → ℕ) (m : ℕ) (t : ℤ) : Type 0 where
@@ -128,9 +132,12 @@ pub record HoldsRest (n : ℕ) (at : ℕ → ℕ) (m : ℕ) (gain : Bool) (t den
 -- half levels while two players are left, and behind all of them the level of the others, where they are two at least
 abbrev pub HoldAll : ℕ → (ℕ → ℕ) → (ℕ → ℕ) → ℕ → Bool → ℤ → ℤ → List Level → Type 0
 HoldAll n claim at m gain t den levels =
-    ((k : ℕ) × HoldHalves n claim at m 0 levels k × (n ≤ k + 1)) ⊎ ((ls : List Level) × (l : Level) × (levels ≡ ls ++ l ∷ []) × HoldHalves n claim at m 0 ls m × HoldsRest n at m gain t den l)
+    ((k : ℕ) × HoldHalves n claim at m 0 levels k × (n ≤ k + 1))
+    ⊎ ((ls : List Level) × (l : Level) × (levels ≡ ls ++ l ∷ []) × HoldHalves n claim at m 0 ls m
+    × HoldsRest n at m gain t den l)
 
 -- the levels of the rule, for shares over a denominator
 abbrev pub AreRuleLevels : ℕ → List ℕ → Allocation → List Level → Type 0
 AreRuleLevels estate claims x levels =
-    (at : ℕ → ℕ) × (m : ℕ) × (t : ℤ) × IsHalfOrder estate claims x at m t × HoldAll (length claims) (cut estate claims) at m (is_little estate claims) t x.den levels
+    (at : ℕ → ℕ) × (m : ℕ) × (t : ℤ) × IsHalfOrder estate claims x at m t
+    × HoldAll (length claims) (cut estate claims) at m (is_little estate claims) t x.den levels

@@ -7,7 +7,8 @@
 --   is_little estate claims    the estate is at most half of the cut claims
 --   part estate claims x i     what player i gets, where the estate is at most half of them, and else what it loses
 --   IsTalmud estate claims x   the shares are those of the rule
-use Rattle.std.specs.Prelude.{◌≡◌, ℕ, ◌<◌, Bool, List, length, map, min, ℤ, pos, ◌+ℤ◌, ◌-ℤ◌, ◌*ℤ◌, ◌≤ℤ◌, int_le, slice_index, if◌then◌else◌}
+use Rattle.std.specs.Prelude.{◌≡◌, ℕ, ◌<◌, Bool, List, length, map, min, ℤ, pos, ◌+ℤ◌, ◌-ℤ◌}
+use Rattle.std.specs.Prelude.{◌*ℤ◌, ◌≤ℤ◌, int_le, slice_index, if◌then◌else◌}
 use Rattle.std.specs.Int.{int_min}
 use Rattle.definitions.specs.Sums.{sum_below}
 use Rattle.definitions.specs.Games.{Allocation, share}
@@ -41,4 +42,6 @@ pub record IsTalmud (estate : ℕ) (claims : List ℕ) (x : Allocation) : Type 0
   pub players : length x.shares ≡ length claims
   pub positive : pos 1 ≤ℤ x.den
   pub all : sum_below (length claims) (share x) ≡ x.den *ℤ pos estate
-  pub parts : (t : ℤ) × (pos 0 ≤ℤ t) × ((i : ℕ) → i < length claims → part estate claims x i +ℤ part estate claims x i ≡ int_min (x.den *ℤ pos (cut estate claims i)) (t +ℤ t))
+  pub parts : (t : ℤ) × (pos 0 ≤ℤ t)
+      × ((i : ℕ) → i < length claims
+      → part estate claims x i +ℤ part estate claims x i ≡ int_min (x.den *ℤ pos (cut estate claims i)) (t +ℤ t))

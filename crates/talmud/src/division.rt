@@ -89,7 +89,8 @@ impl Division {
 
     /// The share of each player, over the denominator.
     pub(crate) fn awards(self, alloc: Global, claims: &CutClaims) -> Result<Vec<i128>, AllocError>
-        ensures { IfOk result (λ v. v.items ≡ map (λ c. pos (award self.gain self.half_den self.bound c)) claims.now.numbers) }
+        ensures { IfOk result
+            (λ v. v.items ≡ map (λ c. pos (award self.gain self.half_den self.bound c)) claims.now.numbers) }
     {
         let mut num = Vec::new(alloc);
         for i in 0..claims.len() {
@@ -114,7 +115,8 @@ impl Division {
 fn half_players(claims: &CutClaims, double: u64) -> Split
     requires { double < 2 ^ 47 }
     ensures split { IsSplit (length claims.now.numbers) (number_at claims.now) double result.half result.left }
-    ensures stop { result.half < length claims.now.numbers → result.left < number_at claims.now result.half * (length claims.now.numbers - result.half) }
+    ensures stop { result.half < length claims.now.numbers
+        → result.left < number_at claims.now result.half * (length claims.now.numbers - result.half) }
 {
     let n = claims.len();
     let mut half = 0;

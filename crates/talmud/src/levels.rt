@@ -5,7 +5,8 @@ ghost use Rattle.std.specs.List.{AllByRecursion};
 ghost use Rattle.kohlberg.specs.Solved.{IsLowest};
 ghost use Rattle.definitions.specs.Coalitions.{singleton, grand_coalition};
 ghost use Rattle.orders.specs.Ordered.{place};
-ghost use Rattle.talmud.specs.Levels.{with_keys, with_both, key_of, IsHalfEnd, IsHalfLevel, AreHalves, IsRestLevel, AreLevels};
+ghost use Rattle.talmud.specs.Levels.{with_keys, with_both, key_of, IsHalfEnd, IsHalfLevel};
+ghost use Rattle.talmud.specs.Levels.{AreHalves, IsRestLevel, AreLevels};
 
 use crate::cut_claims::CutClaims;
 use crate::division::Division;
@@ -33,7 +34,8 @@ fn keys(
 ) -> Result<Vec<(Coalition, i128)>, AllocError>
     requires from { i ≤ k }
     requires within { k ≤ length claims.now.numbers }
-    ensures { IfOk result (λ v. v.items ≡ with_keys (key_of (length claims.now.numbers) (place claims.now) alone) i (k - i)) }
+    ensures { IfOk result
+        (λ v. v.items ≡ with_keys (key_of (length claims.now.numbers) (place claims.now) alone) i (k - i)) }
 {
     let n = claims.len();
     let mut pairs = Vec::new(alloc);
@@ -152,7 +154,8 @@ pub(crate) fn all_levels(
     division: Division,
 ) -> Result<Vec<Level>, AllocError>
     requires { division.half ≤ length claims.now.numbers }
-    ensures levels { IfOk result (λ v. AreLevels (length claims.now.numbers) (slice_index claims.now.numbers) (place claims.now)
+    ensures levels { IfOk result
+        (λ v. AreLevels (length claims.now.numbers) (slice_index claims.now.numbers) (place claims.now)
         division.half division.gain (pos division.bound) (pos (2 * division.half_den)) v.items) }
     ensures lowest { IfOk result (λ v. AllByRecursion IsLowest v.items) }
 {

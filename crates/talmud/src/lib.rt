@@ -37,10 +37,13 @@ use worth_core::{Shares, Worth};
 ///
 /// Its one error is want of memory.
 pub fn solve(alloc: Global, game: &BankruptcyGame) -> Result<(Shares, Certificate), OutOfMemory>
-    ensures solved { IfOk result (λ solution. (family : Family) → IsSolved Players family Plain (bankruptcy_game game.now) solution.0 solution.1) }
+    ensures solved { IfOk result
+        (λ solution. (family : Family)
+        → IsSolved Players family Plain (bankruptcy_game game.now) solution.0 solution.1) }
     ensures core { IfOk result (λ solution. InCore (bankruptcy_game game.now) solution.0) }
     ensures rule { IfOk result (λ solution. IsTalmud game.now.estate game.now.claims solution.0) }
-    ensures levels { IfOk result (λ solution. AreRuleLevels game.now.estate game.now.claims solution.0 solution.1.levels) }
+    ensures levels { IfOk result
+        (λ solution. AreRuleLevels game.now.estate game.now.claims solution.0 solution.1.levels) }
 {
     let claims = CutClaims::new(alloc, game)?;
     let division = Division::new(game.estate() as u64, &claims);

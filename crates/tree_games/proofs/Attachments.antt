@@ -1,5 +1,6 @@
 -- Sets of points as tests, and attachment plans over them.
-use Rattle.std.proofs.Common.{◌≡◌, ℕ, ◌+◌, Bool, true, false, not, ◌&&◌, ◌||◌, nat_eq, List, [], ◌∷◌, ◌++◌, refl, sym, ap, ◌∙◌, arith}
+use Rattle.std.proofs.Common.{◌≡◌, ℕ, ◌+◌, Bool, true, false, not, ◌&&◌, ◌||◌, nat_eq}
+use Rattle.std.proofs.Common.{List, [], ◌∷◌, ◌++◌, refl, sym, ap, ◌∙◌, arith}
 use Rattle.definitions.specs.Classes.{Matrix, joined, removed, IsAttachment, plan_cost}
 
 -- each point of the first set is in the second
@@ -20,14 +21,17 @@ pub removed-same : (a b : ℕ → Bool) (p : ℕ) → Same a b → Same (removed
 removed-same a b p h j = ap (λ x. not (nat_eq j p) && x) (h j)
 
 -- more connected points do no harm
-pub attachment-more : (c d w u : ℕ → Bool) (plan : List (ℕ × ℕ)) → Within c d → Same w u → IsAttachment c w plan → IsAttachment d u plan
+pub attachment-more : (c d w u : ℕ → Bool) (plan : List (ℕ × ℕ)) → Within c d → Same w u → IsAttachment c w plan
+    → IsAttachment d u plan
 attachment-more c d w u [] h k a = λ j. sym (k j) ∙ a j
 attachment-more c d w u (p ∷ plan) h k a = (
   h p.0 a.0,
   sym (k p.1) ∙ a.1,
-  attachment-more (joined c p.1) (joined d p.1) (removed w p.1) (removed u p.1) plan (joined-within c d p.1 h) (removed-same w u p.1 k) a.2,
+  attachment-more (joined c p.1) (joined d p.1) (removed w p.1) (removed u p.1) plan (joined-within c d p.1 h)
+      (removed-same w u p.1 k) a.2,
 )
 
-pub plan_cost-append : (matrix : Matrix) (a b : List (ℕ × ℕ)) → plan_cost matrix (a ++ b) ≡ plan_cost matrix a + plan_cost matrix b
+pub plan_cost-append : (matrix : Matrix) (a b : List (ℕ × ℕ))
+    → plan_cost matrix (a ++ b) ≡ plan_cost matrix a + plan_cost matrix b
 plan_cost-append matrix [] b = omega arith
 plan_cost-append matrix (p ∷ a) b = omega (arith, plan_cost-append matrix a b)

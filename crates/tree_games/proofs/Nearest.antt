@@ -1,8 +1,12 @@
 -- What the least entries and the closest point are, and that the steps give a least plan.
-use Rattle.std.proofs.Common.{◌≡◌, ◌⊎◌, ℕ, zero, suc, ◌+◌, ◌-◌, ◌<◌, ◌≤◌, Bool, true, false, not, cond, ◌&&◌, ◌||◌, nat_eq, nat_lt, List, [], ◌∷◌, length, ℤ, refl, sym, ap, subst, ◌∙◌, inl, inr, arith, if◌then◌else◌, min, add-one}
+use Rattle.std.proofs.Common.{◌≡◌, ◌⊎◌, ℕ, zero, suc, ◌+◌, ◌-◌, ◌<◌, ◌≤◌, Bool, true, false, not, cond}
+use Rattle.std.proofs.Common.{◌&&◌, ◌||◌, nat_eq, nat_lt, List, [], ◌∷◌, length, ℤ, refl, sym, ap, subst}
+use Rattle.std.proofs.Common.{◌∙◌, inl, inr, arith, if◌then◌else◌, min, add-one}
 use Rattle.std.proofs.lemmas.Bool.{false≢true}
-use Rattle.definitions.proofs.Cases.{nat_eq-same, nat_eq-other, from_nat_eq, and_right, or_right, from_nat_lt, from_not_nat_lt, less_or_last, not_true}
-use Rattle.definitions.specs.Classes.{Matrix, joined, removed, is_source, is_point_of, entry, plan_cost, IsLeastCost, IsTreeGame}
+use Rattle.definitions.proofs.Cases.{nat_eq-same, nat_eq-other, from_nat_eq, and_right, or_right}
+use Rattle.definitions.proofs.Cases.{from_nat_lt, from_not_nat_lt, less_or_last, not_true}
+use Rattle.definitions.specs.Classes.{Matrix, joined, removed, is_source, is_point_of}
+use Rattle.definitions.specs.Classes.{entry, plan_cost, IsLeastCost, IsTreeGame}
 use Rattle.matrices.specs.Rows.{entries_of}
 use Rattle.tree_games.specs.Steps.{IsPrimFrom, near, closest, prim_cost}
 use Rattle.tree_games.specs.Trees.{IsTree, tree_game}
@@ -22,19 +26,24 @@ near-low matrix c (suc m) b t lt e = elim (less_or_last b m lt) [
     step true x y h = omega arith
     step false x y h = h
 
-    last : (q : Bool) (x : ℕ) → q ≡ true → entry matrix b t ≡ entry matrix m t → cond q (min x (entry matrix m t)) x ≤ entry matrix b t
+    last : (q : Bool) (x : ℕ) → q ≡ true → entry matrix b t ≡ entry matrix m t
+        → cond q (min x (entry matrix m t)) x ≤ entry matrix b t
     last true x f g = omega arith
     last false x f g = absurd (false≢true f)
 
-near-reached : (matrix : Matrix) (c : ℕ → Bool) (m t : ℕ) → c 0 ≡ true → (b : ℕ) × (c b ≡ true) × (near matrix c m t ≡ entry matrix b t)
+near-reached : (matrix : Matrix) (c : ℕ → Bool) (m t : ℕ) → c 0 ≡ true
+    → (b : ℕ) × (c b ≡ true) × (near matrix c m t ≡ entry matrix b t)
 near-reached matrix c zero t e = (0, e, refl)
 near-reached matrix c (suc m) t e = cases (c m) refl (near-reached matrix c m t e)
   where
     which : (x y : ℕ) → (min x y ≡ x) ⊎ (min x y ≡ y)
     which x y = grind arith
 
-    cases : (q : Bool) → c m ≡ q → (b : ℕ) × (c b ≡ true) × (near matrix c m t ≡ entry matrix b t) → (b : ℕ) × (c b ≡ true) × (cond q (min (near matrix c m t) (entry matrix m t)) (near matrix c m t) ≡ entry matrix b t)
-    cases true f (b, cb, g) = elim (which (near matrix c m t) (entry matrix m t)) [ inl k ↦ (b, cb, k ∙ g) | inr k ↦ (m, f, k) ]
+    cases : (q : Bool) → c m ≡ q → (b : ℕ) × (c b ≡ true) × (near matrix c m t ≡ entry matrix b t)
+        → (b : ℕ) × (c b ≡ true)
+        × (cond q (min (near matrix c m t) (entry matrix m t)) (near matrix c m t) ≡ entry matrix b t)
+    cases true f (b, cb, g) =
+        elim (which (near matrix c m t) (entry matrix m t)) [ inl k ↦ (b, cb, k ∙ g) | inr k ↦ (m, f, k) ]
     cases false f (b, cb, g) = (b, cb, g)
 
 near-apart : (matrix : Matrix) (c : ℕ → Bool) (m p t : ℕ) → m ≤ p → near matrix (joined c p) m t ≡ near matrix c m t
@@ -42,12 +51,17 @@ near-apart matrix c zero p t h = refl
 near-apart matrix c (suc m) p t h =
     rw (nat_eq-other m p (λ e. omega arith), near-apart matrix c m p t (omega arith)) refl
 
-pub near-joined : (matrix : Matrix) (c : ℕ → Bool) (m p t : ℕ) → p < m → near matrix (joined c p) m t ≡ min (near matrix c m t) (entry matrix p t)
+pub near-joined : (matrix : Matrix) (c : ℕ → Bool) (m p t : ℕ) → p < m
+    → near matrix (joined c p) m t ≡ min (near matrix c m t) (entry matrix p t)
 near-joined matrix c zero p t h = absurd (omega arith)
 near-joined matrix c (suc m) p t h = elim (less_or_last p m h) [
   | inl less ↦
-      rw (nat_eq-other m p (λ e. omega arith), near-joined matrix c m p t less) (step (c m) (near matrix c m t) (entry matrix m t) (entry matrix p t))
-  | inr same ↦ subst (λ (k : ℕ). near matrix (joined c k) (suc m) t ≡ min (near matrix c (suc m) t) (entry matrix k t)) (sym same) (here (nat_eq m m) (c m) (near matrix (joined c m) m t) (near matrix c m t) (entry matrix m t) (nat_eq-same m) (near-apart matrix c m m t (omega arith)))
+      rw (nat_eq-other m p (λ e. omega arith), near-joined matrix c m p t less)
+      (step (c m) (near matrix c m t) (entry matrix m t) (entry matrix p t))
+  | inr same ↦ subst
+      (λ (k : ℕ). near matrix (joined c k) (suc m) t ≡ min (near matrix c (suc m) t) (entry matrix k t)) (sym same)
+      (here (nat_eq m m) (c m) (near matrix (joined c m) m t) (near matrix c m t) (entry matrix m t) (nat_eq-same m)
+      (near-apart matrix c m m t (omega arith)))
 ]
   where
     step : (q : Bool) (x y z : ℕ) → cond q (min (min x z) y) (min x z) ≡ min (cond q (min x y) x) z
@@ -63,11 +77,13 @@ pub near-source : (matrix : Matrix) (m t : ℕ) → near matrix is_source m t �
 near-source matrix zero t = refl
 near-source matrix (suc m) t = rw (near-source matrix m t) (cases m)
   where
-    cases : (m : ℕ) → cond (nat_eq m 0) (min (entry matrix 0 t) (entry matrix m t)) (entry matrix 0 t) ≡ entry matrix 0 t
+    cases : (m : ℕ)
+        → cond (nat_eq m 0) (min (entry matrix 0 t) (entry matrix m t)) (entry matrix 0 t) ≡ entry matrix 0 t
     cases zero = omega arith
     cases (suc m) = rw (nat_eq-other (suc m) 0 (λ e. omega arith)) refl
 
-pub near-small : (matrix : Matrix) (c : ℕ → Bool) (m t bound : ℕ) → entry matrix 0 t < bound → near matrix c m t < bound
+pub near-small : (matrix : Matrix) (c : ℕ → Bool) (m t bound : ℕ) → entry matrix 0 t < bound
+    → near matrix c m t < bound
 near-small matrix c zero t bound h = h
 near-small matrix c (suc m) t bound h =
     step (c m) (near matrix c m t) (entry matrix m t) (near-small matrix c m t bound h)
@@ -86,43 +102,63 @@ closest-below best w (suc zero) h = step (w 0 && (not (w 0) || nat_lt (best 0) (
     step true = omega arith
     step false = omega arith
 closest-below best w (suc (suc m)) h =
-    step (w (suc m) && (not (w (closest best w (suc m))) || nat_lt (best (suc m)) (best (closest best w (suc m))))) (closest best w (suc m)) (closest-below best w (suc m) (omega arith))
+    step (w (suc m) && (not (w (closest best w (suc m))) || nat_lt (best (suc m)) (best (closest best w (suc m)))))
+    (closest best w (suc m)) (closest-below best w (suc m) (omega arith))
   where
     step : (q : Bool) (k : ℕ) → k < suc m → cond q (suc m) k < suc (suc m)
     step true k h = omega arith
     step false k h = omega arith
 
 -- where some point waits, the closest waits, and no other is nearer
-pub closest-least : (best : ℕ → ℕ) (w : ℕ → Bool) (m t : ℕ) → t < m → w t ≡ true → (w (closest best w m) ≡ true) × (best (closest best w m) ≤ best t)
+pub closest-least : (best : ℕ → ℕ) (w : ℕ → Bool) (m t : ℕ) → t < m → w t ≡ true
+    → (w (closest best w m) ≡ true) × (best (closest best w m) ≤ best t)
 closest-least best w zero t lt e = absurd (omega arith)
 closest-least best w (suc m) t lt e = elim (less_or_last t m lt) [
   | inl less ↦ earlier (w m) (closest-least best w m t less e) refl
   | inr same ↦ last (w m) (w (closest best w m)) (ap w (sym same) ∙ e) refl (ap best same)
 ]
   where
-    chosen : (q : Bool) (k : ℕ) → k ≡ closest best w m → nat_lt (best m) (best k) ≡ q → w m ≡ true → w k ≡ true → best k ≤ best t → (w (cond q m k) ≡ true) × (best (cond q m k) ≤ best t)
+    chosen : (q : Bool) (k : ℕ) → k ≡ closest best w m → nat_lt (best m) (best k) ≡ q → w m ≡ true → w k ≡ true
+        → best k ≤ best t → (w (cond q m k) ≡ true) × (best (cond q m k) ≤ best t)
     chosen true k s f wm wk le = let lt = from_nat_lt (best m) (best k) f in (wm, omega arith)
     chosen false k s f wm wk le = (wk, le)
 
-    earlier : (q : Bool) → (w (closest best w m) ≡ true) × (best (closest best w m) ≤ best t) → w m ≡ q → (w (cond (q && (not (w (closest best w m)) || nat_lt (best m) (best (closest best w m)))) m (closest best w m)) ≡ true) × (best (cond (q && (not (w (closest best w m)) || nat_lt (best m) (best (closest best w m)))) m (closest best w m)) ≤ best t)
-    earlier true h wm = rw h.0 (chosen (nat_lt (best m) (best (closest best w m))) (closest best w m) refl refl wm h.0 h.1)
+    earlier : (q : Bool) → (w (closest best w m) ≡ true) × (best (closest best w m) ≤ best t) → w m ≡ q
+        → (w
+        (cond (q && (not (w (closest best w m)) || nat_lt (best m) (best (closest best w m)))) m
+        (closest best w m)) ≡ true)
+        × (best
+        (cond (q && (not (w (closest best w m)) || nat_lt (best m) (best (closest best w m)))) m
+        (closest best w m)) ≤ best t)
+    earlier true h wm =
+        rw h.0 (chosen (nat_lt (best m) (best (closest best w m))) (closest best w m) refl refl wm h.0 h.1)
     earlier false h wm = h
 
-    at_last : (q : Bool) (k : ℕ) → nat_lt (best m) (best k) ≡ q → w m ≡ true → w k ≡ true → best t ≡ best m → (w (cond q m k) ≡ true) × (best (cond q m k) ≤ best t)
+    at_last : (q : Bool) (k : ℕ) → nat_lt (best m) (best k) ≡ q → w m ≡ true → w k ≡ true → best t ≡ best m
+        → (w (cond q m k) ≡ true) × (best (cond q m k) ≤ best t)
     at_last true k f wm wk g = (wm, omega arith)
     at_last false k f wm wk g = let le = from_not_nat_lt (best m) (best k) f in (wk, omega arith)
 
-    last : (q r : Bool) → w m ≡ true → w (closest best w m) ≡ r → best t ≡ best m → (w (cond (w m && (not (w (closest best w m)) || nat_lt (best m) (best (closest best w m)))) m (closest best w m)) ≡ true) × (best (cond (w m && (not (w (closest best w m)) || nat_lt (best m) (best (closest best w m)))) m (closest best w m)) ≤ best t)
-    last q true wm wk g = rw (wm, wk) (at_last (nat_lt (best m) (best (closest best w m))) (closest best w m) refl wm wk g)
+    last : (q r : Bool) → w m ≡ true → w (closest best w m) ≡ r → best t ≡ best m
+        → (w
+        (cond (w m && (not (w (closest best w m)) || nat_lt (best m) (best (closest best w m)))) m
+        (closest best w m)) ≡ true)
+        × (best
+        (cond (w m && (not (w (closest best w m)) || nat_lt (best m) (best (closest best w m)))) m
+        (closest best w m)) ≤ best t)
+    last q true wm wk g =
+        rw (wm, wk) (at_last (nat_lt (best m) (best (closest best w m))) (closest best w m) refl wm wk g)
     last q false wm wk g = rw (wm, wk) (wm, omega arith)
 
 -- of those that are as near, the first is taken
-pub closest-first : (best : ℕ → ℕ) (w : ℕ → Bool) (m t : ℕ) → t < m → w t ≡ true → best (closest best w m) ≡ best t → closest best w m ≤ t
+pub closest-first : (best : ℕ → ℕ) (w : ℕ → Bool) (m t : ℕ) → t < m → w t ≡ true → best (closest best w m) ≡ best t
+    → closest best w m ≤ t
 closest-first best w zero t lt e same = absurd (omega arith)
 closest-first best w (suc m) t lt e tie = elim (less_or_last t m lt) [
   | inl less ↦
       let known = closest-least best w m t less e in
-      earlier (w m) (nat_lt (best m) (best (closest best w m))) known.0 known.1 refl (closest-first best w m t less e) tie
+      earlier (w m) (nat_lt (best m) (best (closest best w m))) known.0 known.1 refl
+      (closest-first best w m t less e) tie
   | inr same ↦ last (w m && (not (w (closest best w m)) || nat_lt (best m) (best (closest best w m)))) (low m) same
 ]
   where
@@ -134,15 +170,21 @@ closest-first best w (suc m) t lt e tie = elim (less_or_last t m lt) [
     last true h k = omega arith
     last false h k = omega arith
 
-    chosen : (q s : Bool) → nat_lt (best m) (best (closest best w m)) ≡ s → best (closest best w m) ≤ best t → (best (closest best w m) ≡ best t → closest best w m ≤ t) → best (cond (q && s) m (closest best w m)) ≡ best t → cond (q && s) m (closest best w m) ≤ t
+    chosen : (q s : Bool) → nat_lt (best m) (best (closest best w m)) ≡ s → best (closest best w m) ≤ best t
+        → (best (closest best w m) ≡ best t → closest best w m ≤ t)
+        → best (cond (q && s) m (closest best w m)) ≡ best t → cond (q && s) m (closest best w m) ≤ t
     chosen true true f le h k = let l = from_nat_lt (best m) (best (closest best w m)) f in absurd (omega arith)
     chosen true false f le h k = h k
     chosen false s f le h k = h k
 
-    earlier : (q s : Bool) → w (closest best w m) ≡ true → best (closest best w m) ≤ best t → nat_lt (best m) (best (closest best w m)) ≡ s → (best (closest best w m) ≡ best t → closest best w m ≤ t) → best (cond (q && (not (w (closest best w m)) || s)) m (closest best w m)) ≡ best t → cond (q && (not (w (closest best w m)) || s)) m (closest best w m) ≤ t
+    earlier : (q s : Bool) → w (closest best w m) ≡ true → best (closest best w m) ≤ best t
+        → nat_lt (best m) (best (closest best w m)) ≡ s → (best (closest best w m) ≡ best t → closest best w m ≤ t)
+        → best (cond (q && (not (w (closest best w m)) || s)) m (closest best w m)) ≡ best t
+        → cond (q && (not (w (closest best w m)) || s)) m (closest best w m) ≤ t
     earlier q s wc le f h = rw wc (chosen q s f le h)
 
-pub closest-same : (f g : ℕ → ℕ) (w : ℕ → Bool) (m k : ℕ) → k ≤ m → ((j : ℕ) → j < m → f j ≡ g j) → closest f w k ≡ closest g w k
+pub closest-same : (f g : ℕ → ℕ) (w : ℕ → Bool) (m k : ℕ) → k ≤ m → ((j : ℕ) → j < m → f j ≡ g j)
+    → closest f w k ≡ closest g w k
 closest-same f g w m zero h same = refl
 closest-same f g w m (suc k) h same =
     let ih = closest-same f g w m k (omega arith) same in
@@ -154,17 +196,26 @@ closest-same f g w m (suc k) h same =
     below zero h = omega arith
     below (suc k) h = let b = closest-below g w (suc k) (omega arith) in omega arith
 
-pub closest_takes : (best : ℕ → ℕ) (w : ℕ → Bool) (t q : ℕ) → q ≡ closest best w t → (w t && (not (w q) || nat_lt (best t) (best q))) ≡ true → t ≡ closest best w (t + 1)
+pub closest_takes : (best : ℕ → ℕ) (w : ℕ → Bool) (t q : ℕ) → q ≡ closest best w t
+    → (w t && (not (w q) || nat_lt (best t) (best q))) ≡ true → t ≡ closest best w (t + 1)
 closest_takes best w t q e f =
-    rw add-one (sym (step (w t && (not (w (closest best w t)) || nat_lt (best t) (best (closest best w t)))) (ap (λ (k : ℕ). w t && (not (w k) || nat_lt (best t) (best k))) (sym e) ∙ f)))
+    rw add-one
+    (sym
+    (step (w t && (not (w (closest best w t)) || nat_lt (best t) (best (closest best w t))))
+    (ap (λ (k : ℕ). w t && (not (w k) || nat_lt (best t) (best k))) (sym e) ∙ f)))
   where
     step : (b : Bool) → b ≡ true → cond b t (closest best w t) ≡ t
     step true h = refl
     step false h = absurd (false≢true h)
 
-pub closest_keeps : (best : ℕ → ℕ) (w : ℕ → Bool) (t q : ℕ) → q ≡ closest best w t → (w t && (not (w q) || nat_lt (best t) (best q))) ≡ false → q ≡ closest best w (t + 1)
+pub closest_keeps : (best : ℕ → ℕ) (w : ℕ → Bool) (t q : ℕ) → q ≡ closest best w t
+    → (w t && (not (w q) || nat_lt (best t) (best q))) ≡ false → q ≡ closest best w (t + 1)
 closest_keeps best w t q e f =
-    rw add-one (e ∙ sym (step (w t && (not (w (closest best w t)) || nat_lt (best t) (best (closest best w t)))) (ap (λ (k : ℕ). w t && (not (w k) || nat_lt (best t) (best k))) (sym e) ∙ f)))
+    rw add-one
+    (e
+    ∙ sym
+    (step (w t && (not (w (closest best w t)) || nat_lt (best t) (best (closest best w t))))
+    (ap (λ (k : ℕ). w t && (not (w k) || nat_lt (best t) (best k))) (sym e) ∙ f)))
   where
     step : (b : Bool) → b ≡ false → cond b t (closest best w t) ≡ closest best w t
     step true h = absurd (false≢true (sym h))
@@ -200,10 +251,13 @@ count-removed w zero p h e = absurd (omega arith)
 count-removed w (suc m) p h e = elim (less_or_last p m h) [
   | inl less ↦
       rw (nat_eq-other m p (λ k. omega arith), count-removed w m p less e) (step (w m) (count (removed w p) m))
-  | inr same ↦ subst (λ (k : ℕ). count w (suc m) ≡ suc (count (removed w k) (suc m))) (sym same) (here (w m) (nat_eq m m) (count w m) (count (removed w m) m) (ap w (sym same) ∙ e) (nat_eq-same m) (count-apart w m m (omega arith)))
+  | inr same ↦ subst (λ (k : ℕ). count w (suc m) ≡ suc (count (removed w k) (suc m))) (sym same)
+      (here (w m) (nat_eq m m) (count w m) (count (removed w m) m) (ap w (sym same) ∙ e) (nat_eq-same m)
+      (count-apart w m m (omega arith)))
 ]
   where
-    here : (q b : Bool) (x y : ℕ) → q ≡ true → b ≡ true → y ≡ x → cond q (suc x) x ≡ suc (cond (not b && q) (suc y) y)
+    here : (q b : Bool) (x y : ℕ) → q ≡ true → b ≡ true → y ≡ x
+        → cond q (suc x) x ≡ suc (cond (not b && q) (suc y) y)
     here true true x y e f g = ap suc (sym g)
     here true false x y e f g = absurd (false≢true f)
     here false b x y e f g = absurd (false≢true e)
@@ -225,7 +279,10 @@ count-few w (suc m) e = step (w (suc m)) (count w (suc m)) (count-few w m e)
 abbrev Found : Matrix → ℕ → (ℕ → Bool) → (ℕ → Bool) → ℕ → Type 0
 Found matrix m c w cost = (plan : List (ℕ × ℕ)) × IsPrimFrom matrix c w plan × (cost ≡ plan_cost matrix plan)
 
-found_step : (matrix : Matrix) (m : ℕ) (c w : ℕ → Bool) (p rest : ℕ) → p ≡ closest (near matrix c m) w m → c 0 ≡ true → ((b : ℕ) → c b ≡ true → b < m) → ((t : ℕ) → w t ≡ true → t < m) → (q : Bool) → w p ≡ q → (w p ≡ true → Found matrix m (joined c p) (removed w p) rest) → Found matrix m c w (cond q (near matrix c m p + rest) 0)
+found_step : (matrix : Matrix) (m : ℕ) (c w : ℕ → Bool) (p rest : ℕ) → p ≡ closest (near matrix c m) w m
+    → c 0 ≡ true → ((b : ℕ) → c b ≡ true → b < m) → ((t : ℕ) → w t ≡ true → t < m) → (q : Bool) → w p ≡ q
+    → (w p ≡ true → Found matrix m (joined c p) (removed w p) rest)
+    → Found matrix m c w (cond q (near matrix c m p + rest) 0)
 found_step matrix m c w p rest is source cm wm true e ih =
     let r = ih e in
     let end = near-reached matrix c m p source in (
@@ -234,25 +291,39 @@ found_step matrix m c w p rest is source cm wm true e ih =
       (let f = end.2 in let g = r.2 in omega (arith, f, g)),
     )
   where
-    least : (b t : ℕ) → c b ≡ true → w t ≡ true → near matrix c m t ≤ entry matrix b t → {x : ℕ} → x ≡ near matrix c m p → x ≤ entry matrix b t
+    least : (b t : ℕ) → c b ≡ true → w t ≡ true → near matrix c m t ≤ entry matrix b t → {x : ℕ}
+        → x ≡ near matrix c m p → x ≤ entry matrix b t
     least b t cb wt low f =
         let k = (closest-least (near matrix c m) w m t (wm t wt) wt).1 in
         let g = ap (near matrix c m) is in
         omega (arith, k, low, f, g)
-found_step matrix m c w p rest is source cm wm false e ih =
-    ([], λ j. not_true (w j) (λ f. false≢true (sym e ∙ ap w is ∙ (closest-least (near matrix c m) w m j (wm j f) f).0)), refl)
+found_step matrix m c w p rest is source cm wm false e ih = (
+  [],
+  λ j. not_true (w j)
+      (λ f. false≢true (sym e ∙ ap w is ∙ (closest-least (near matrix c m) w m j (wm j f) f).0)),
+  refl,
+)
 
-prim-found : (matrix : Matrix) (m k : ℕ) (c w : ℕ → Bool) → c 0 ≡ true → ((b : ℕ) → c b ≡ true → b < m) → ((t : ℕ) → w t ≡ true → t < m) → count w m ≤ k → Found matrix m c w (prim_cost matrix m k c w)
+prim-found : (matrix : Matrix) (m k : ℕ) (c w : ℕ → Bool) → c 0 ≡ true → ((b : ℕ) → c b ≡ true → b < m)
+    → ((t : ℕ) → w t ≡ true → t < m) → count w m ≤ k → Found matrix m c w (prim_cost matrix m k c w)
 prim-found matrix m zero c w source cm wm few =
     ([], λ j. not_true (w j) (λ e. false≢true (sym (count-none w m j (omega arith) (wm j e)) ∙ e)), refl)
 prim-found matrix m (suc k) c w source cm wm few =
-    found_step matrix m c w (closest (near matrix c m) w m) (prim_cost matrix m k (joined c (closest (near matrix c m) w m)) (removed w (closest (near matrix c m) w m))) refl source cm wm (w (closest (near matrix c m) w m)) refl (λ e. prim-found matrix m k (joined c (closest (near matrix c m) w m)) (removed w (closest (near matrix c m) w m)) (joins (closest (near matrix c m) w m)) (λ b. below_joined (closest (near matrix c m) w m) b e) (λ t h. wm t (and_right (not (nat_eq t (closest (near matrix c m) w m))) (w t) h)) (fewer (closest (near matrix c m) w m) e))
+    found_step matrix m c w (closest (near matrix c m) w m)
+    (prim_cost matrix m k (joined c (closest (near matrix c m) w m)) (removed w (closest (near matrix c m) w m)))
+    refl source cm wm (w (closest (near matrix c m) w m)) refl
+    (λ e. prim-found matrix m k (joined c (closest (near matrix c m) w m))
+    (removed w (closest (near matrix c m) w m)) (joins (closest (near matrix c m) w m))
+    (λ b. below_joined (closest (near matrix c m) w m) b e)
+    (λ t h. wm t (and_right (not (nat_eq t (closest (near matrix c m) w m))) (w t) h))
+    (fewer (closest (near matrix c m) w m) e))
   where
     joins : (p : ℕ) → joined c p 0 ≡ true
     joins p = or_right (nat_eq 0 p) (c 0) source
 
     below_joined : (p b : ℕ) → w p ≡ true → joined c p b ≡ true → b < m
-    below_joined p b e = step (nat_eq b p) (c b) (λ t. subst (λ (k : ℕ). k < m) (sym (from_nat_eq b p t)) (wm p e)) (cm b)
+    below_joined p b e =
+        step (nat_eq b p) (c b) (λ t. subst (λ (k : ℕ). k < m) (sym (from_nat_eq b p t)) (wm p e)) (cm b)
       where
         step : (x y : Bool) → (x ≡ true → b < m) → (y ≡ true → b < m) → (x || y) ≡ true → b < m
         step true y f g e = f refl
@@ -265,8 +336,14 @@ prim-found matrix m (suc k) c w source cm wm few =
 
 pub tree_is_game : (t : List (List ℤ)) → IsTree t → IsTreeGame (entries_of t) (tree_game t)
 tree_is_game t h s lt =
-    let found = prim-found (entries_of t) (length t) ((length t) - 1) is_source (is_point_of s) refl source_below points_below few in
-    (prim_cost (entries_of t) (length t) ((length t) - 1) is_source (is_point_of s), refl, subst (λ (k : ℕ). IsLeastCost (entries_of t) s k) (sym found.2) (prim_least (entries_of t) s found.0 h.links.symmetric found.1))
+    let found =
+    prim-found (entries_of t) (length t) ((length t) - 1) is_source (is_point_of s) refl source_below
+    points_below few in (
+      prim_cost (entries_of t) (length t) ((length t) - 1) is_source (is_point_of s),
+      refl,
+      subst (λ (k : ℕ). IsLeastCost (entries_of t) s k) (sym found.2)
+          (prim_least (entries_of t) s found.0 h.links.symmetric found.1),
+    )
   where
     some : 2 ≤ (length t)
     some = h.points.0
@@ -281,4 +358,6 @@ tree_is_game t h s lt =
     whole m k = omega arith
 
     few : count (is_point_of s) (length t) ≤ (length t) - 1
-    few = subst (λ (k : ℕ). count (is_point_of s) k ≤ (length t) - 1) (whole (length t) some) (count-few (is_point_of s) ((length t) - 1) refl)
+    few =
+        subst (λ (k : ℕ). count (is_point_of s) k ≤ (length t) - 1) (whole (length t) some)
+        (count-few (is_point_of s) ((length t) - 1) refl)

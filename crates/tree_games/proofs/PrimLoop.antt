@@ -1,5 +1,7 @@
 -- What the loop of Prim's steps keeps.
-use Rattle.std.proofs.Common.{◌≡◌, ℕ, zero, suc, ◌+◌, ◌-◌, ◌*◌, ◌/◌, ◌^◌, ◌<◌, ◌≤◌, Bool, true, false, not, cond, ◌&&◌, ◌||◌, nat_eq, List, length, ◌%◌, refl, sym, ap, ◌∙◌, arith, slice_index, min, ℤ, neg_ℤ, pos, unsigned_abs}
+use Rattle.std.proofs.Common.{◌≡◌, ℕ, zero, suc, ◌+◌, ◌-◌, ◌*◌, ◌/◌, ◌^◌, ◌<◌, ◌≤◌, Bool, true, false}
+use Rattle.std.proofs.Common.{not, cond, ◌&&◌, ◌||◌, nat_eq, List, length, ◌%◌, refl, sym, ap, ◌∙◌}
+use Rattle.std.proofs.Common.{arith, slice_index, min, ℤ, neg_ℤ, pos, unsigned_abs}
 use Rattle.std.proofs.Math.Path.{fun_ext}
 use Rattle.std.proofs.lemmas.Bool.Decides.{nat_tests}
 use Rattle.std.proofs.lemmas.Nat.Bits.{bit_at-suc, bit_at_lowest, bit_at-zero}
@@ -18,8 +20,11 @@ use Rattle.tree_games.proofs.Nearest.{near-joined, near-source, near-small, clos
 
 pub record PrimState (t : List (List ℤ)) (s k : ℕ) (best : List ℕ) (connected waiting total : ℕ) : Type 0 where
   pub len : length best ≡ 17
-  pub nears : (j : ℕ) → j < (length t) → slice_index best j ≡ near (entries_of t) (has_player connected) (length t) j
-  pub rest : total + prim_cost (entries_of t) (length t) ((length t) - 1 - k) (has_player connected) (has_player waiting) ≡ prim_cost (entries_of t) (length t) ((length t) - 1) is_source (is_point_of s)
+  pub nears : (j : ℕ) → j < (length t)
+      → slice_index best j ≡ near (entries_of t) (has_player connected) (length t) j
+  pub rest : total
+      + prim_cost (entries_of t) (length t) ((length t) - 1 - k) (has_player connected) (has_player waiting)
+      ≡ prim_cost (entries_of t) (length t) ((length t) - 1) is_source (is_point_of s)
   pub small : total ≤ k * 2 ^ 40
 
 pub source_alone : (has_player 1) ≡ is_source
@@ -41,53 +46,82 @@ points_of s = fun_ext each
         let half : 2 * s / 2 ≡ s = omega arith in
         ap (λ (b : ℕ). nat_eq b 1) (bit_at-suc (2 * s) j ∙ ap (λ (m : ℕ). bit_at m j) half)
 
-prim-idle : (matrix : Matrix) (m k : ℕ) (c w : ℕ → Bool) → w (closest (near matrix c m) w m) ≡ false → prim_cost matrix m k c w ≡ 0
+prim-idle : (matrix : Matrix) (m k : ℕ) (c w : ℕ → Bool) → w (closest (near matrix c m) w m) ≡ false
+    → prim_cost matrix m k c w ≡ 0
 prim-idle matrix m zero c w e = refl
 prim-idle matrix m (suc k) c w e = rw e refl
 
-prim-taken : (matrix : Matrix) (m k : ℕ) (c w : ℕ → Bool) (p : ℕ) → p ≡ closest (near matrix c m) w m → w p ≡ true → prim_cost matrix m (suc k) c w ≡ near matrix c m p + prim_cost matrix m k (joined c p) (removed w p)
+prim-taken : (matrix : Matrix) (m k : ℕ) (c w : ℕ → Bool) (p : ℕ) → p ≡ closest (near matrix c m) w m → w p ≡ true
+    → prim_cost matrix m (suc k) c w ≡ near matrix c m p + prim_cost matrix m k (joined c p) (removed w p)
 prim-taken matrix m k c w p e f =
-    rw (ap w (sym e) ∙ f) (ap (λ (q : ℕ). near matrix c m q + prim_cost matrix m k (joined c q) (removed w q)) (sym e))
+    rw (ap w (sym e) ∙ f)
+    (ap (λ (q : ℕ). near matrix c m q + prim_cost matrix m k (joined c q) (removed w q)) (sym e))
 
-pub prim_start : (t : List (List ℤ)) (s waiting : ℕ) (best : List ℕ) → length best ≡ 17 → ((j : ℕ) → j < (length t) → slice_index best j ≡ entries_of t 0 j) → waiting ≡ 2 * s → PrimState t s 0 best 1 waiting 0
+pub prim_start : (t : List (List ℤ)) (s waiting : ℕ) (best : List ℕ) → length best ≡ 17
+    → ((j : ℕ) → j < (length t) → slice_index best j ≡ entries_of t 0 j) → waiting ≡ 2 * s
+    → PrimState t s 0 best 1 waiting 0
 prim_start t s waiting best len nears e = record {
   len = len;
-  nears = λ j lt. nears j lt ∙ sym (near-source (entries_of t) (length t) j) ∙ ap (λ (c : ℕ → Bool). near (entries_of t) c (length t) j) (sym source_alone);
-  rest = start ∙ ap (λ (k : ℕ). prim_cost (entries_of t) (length t) k (has_player 1) (has_player waiting)) all ∙ ap (λ (c : ℕ → Bool). prim_cost (entries_of t) (length t) ((length t) - 1) c (has_player waiting)) source_alone ∙ ap (λ (w : ℕ → Bool). prim_cost (entries_of t) (length t) ((length t) - 1) is_source w) (ap has_player e ∙ points_of s);
+  nears = λ j lt. nears j lt ∙ sym (near-source (entries_of t) (length t) j)
+      ∙ ap (λ (c : ℕ → Bool). near (entries_of t) c (length t) j) (sym source_alone);
+  rest =
+      start ∙ ap (λ (k : ℕ). prim_cost (entries_of t) (length t) k (has_player 1) (has_player waiting)) all
+      ∙ ap (λ (c : ℕ → Bool). prim_cost (entries_of t) (length t) ((length t) - 1) c (has_player waiting))
+      source_alone
+      ∙ ap (λ (w : ℕ → Bool). prim_cost (entries_of t) (length t) ((length t) - 1) is_source w)
+      (ap has_player e ∙ points_of s);
   small = omega arith;
 }
   where
-    start : 0 + prim_cost (entries_of t) (length t) ((length t) - 1 - 0) (has_player 1) (has_player waiting) ≡ prim_cost (entries_of t) (length t) ((length t) - 1 - 0) (has_player 1) (has_player waiting)
+    start : 0 + prim_cost (entries_of t) (length t) ((length t) - 1 - 0) (has_player 1) (has_player waiting)
+        ≡ prim_cost (entries_of t) (length t) ((length t) - 1 - 0) (has_player 1) (has_player waiting)
     start = omega arith
 
     all : (length t) - 1 - 0 ≡ (length t) - 1
     all = omega arith
 
 -- the point that the code takes is the closest
-taken_is : (t : List (List ℤ)) (s k : ℕ) (best : List ℕ) (connected waiting total p : ℕ) → PrimState t s k best connected waiting total → p ≡ closest (slice_index best) (has_player waiting) (length t) → p ≡ closest (near (entries_of t) (has_player connected) (length t)) (has_player waiting) (length t)
+taken_is : (t : List (List ℤ)) (s k : ℕ) (best : List ℕ) (connected waiting total p : ℕ)
+    → PrimState t s k best connected waiting total → p ≡ closest (slice_index best) (has_player waiting) (length t)
+    → p ≡ closest (near (entries_of t) (has_player connected) (length t)) (has_player waiting) (length t)
 taken_is t s k best connected waiting total p h e =
-    e ∙ closest-same (slice_index best) (near (entries_of t) (has_player connected) (length t)) (has_player waiting) (length t) (length t) (omega arith) h.nears
+    e
+    ∙ closest-same (slice_index best) (near (entries_of t) (has_player connected) (length t)) (has_player waiting)
+    (length t) (length t) (omega arith) h.nears
 
 one_less : (m k : ℕ) → k < m → m - k ≡ suc (m - (k + 1))
 one_less m k h = omega arith
 
-pub prim_stays : (t : List (List ℤ)) (s k : ℕ) (best : List ℕ) (connected waiting total p : ℕ) → PrimState t s k best connected waiting total → p ≡ closest (slice_index best) (has_player waiting) (length t) → has_player waiting p ≡ false → PrimState t s (k + 1) best connected waiting total
+pub prim_stays : (t : List (List ℤ)) (s k : ℕ) (best : List ℕ) (connected waiting total p : ℕ)
+    → PrimState t s k best connected waiting total → p ≡ closest (slice_index best) (has_player waiting) (length t)
+    → has_player waiting p ≡ false → PrimState t s (k + 1) best connected waiting total
 prim_stays t s k best connected waiting total p h e out =
     let is = taken_is t s k best connected waiting total p h e in
-    let idle : (r : ℕ) → prim_cost (entries_of t) (length t) r (has_player connected) (has_player waiting) ≡ 0 = λ r. prim-idle (entries_of t) (length t) r (has_player connected) (has_player waiting) (ap (has_player waiting) (sym is) ∙ out) in
+    let idle : (r : ℕ) → prim_cost (entries_of t) (length t) r (has_player connected) (has_player waiting) ≡ 0 = λ r.
+    prim-idle (entries_of t) (length t) r (has_player connected) (has_player waiting)
+    (ap (has_player waiting) (sym is) ∙ out) in
     let before = idle ((length t) - 1 - k) in
     let after = idle ((length t) - 1 - (k + 1)) in
     let rest = h.rest in
     let few = h.small in
     record { len = h.len; nears = h.nears; rest = omega (arith, before, after, rest); small = omega (arith, few) }
 
-pub prim_takes : (t : List (List ℤ)) (s k : ℕ) (best next : List ℕ) (connected joint waiting less total p : ℕ) → PrimState t s k best connected waiting total → k < (length t) - 1 → p ≡ closest (slice_index best) (has_player waiting) (length t) → p < (length t) → has_player waiting p ≡ true → ((j : ℕ) → has_player joint j ≡ (nat_eq j p || has_player connected j)) → ((j : ℕ) → has_player less j ≡ (not (nat_eq j p) && has_player waiting j)) → length next ≡ 17 → ((j : ℕ) → j < (length t) → slice_index next j ≡ min (slice_index best j) (entries_of t p j)) → slice_index best p < 2 ^ 40 → PrimState t s (k + 1) next joint less (total + slice_index best p)
-prim_takes t s k best next connected joint waiting less total p h lt e below waits joins leaves len nexts cheap = record {
-  len = len;
-  nears = λ j k. nexts j k ∙ ap (λ (x : ℕ). min x (entries_of t p j)) (h.nears j k) ∙ sym (near-joined (entries_of t) (has_player connected) (length t) p j below) ∙ ap (λ (c : ℕ → Bool). near (entries_of t) c (length t) j) (sym more);
-  rest = (let a = taken in let b = now in let c = h.nears p below in let d = h.rest in omega (arith, a, b, c, d));
-  small = (let few = h.small in omega (arith, few, cheap));
-}
+pub prim_takes : (t : List (List ℤ)) (s k : ℕ) (best next : List ℕ) (connected joint waiting less total p : ℕ)
+    → PrimState t s k best connected waiting total → k < (length t) - 1
+    → p ≡ closest (slice_index best) (has_player waiting) (length t) → p < (length t) → has_player waiting p ≡ true
+    → ((j : ℕ) → has_player joint j ≡ (nat_eq j p || has_player connected j))
+    → ((j : ℕ) → has_player less j ≡ (not (nat_eq j p) && has_player waiting j)) → length next ≡ 17
+    → ((j : ℕ) → j < (length t) → slice_index next j ≡ min (slice_index best j) (entries_of t p j))
+    → slice_index best p < 2 ^ 40 → PrimState t s (k + 1) next joint less (total + slice_index best p)
+prim_takes t s k best next connected joint waiting less total p h lt e below waits joins leaves len nexts cheap =
+    record {
+      len = len;
+      nears = λ j k. nexts j k ∙ ap (λ (x : ℕ). min x (entries_of t p j)) (h.nears j k)
+          ∙ sym (near-joined (entries_of t) (has_player connected) (length t) p j below)
+          ∙ ap (λ (c : ℕ → Bool). near (entries_of t) c (length t) j) (sym more);
+      rest = (let a = taken in let b = now in let c = h.nears p below in let d = h.rest in omega (arith, a, b, c, d));
+      small = (let few = h.small in omega (arith, few, cheap));
+    }
   where
     more : has_player joint ≡ joined (has_player connected) p
     more = fun_ext joins
@@ -95,33 +129,53 @@ prim_takes t s k best next connected joint waiting less total p h lt e below wai
     fewer : has_player less ≡ removed (has_player waiting) p
     fewer = fun_ext leaves
 
-    taken : prim_cost (entries_of t) (length t) ((length t) - 1 - k) (has_player connected) (has_player waiting) ≡ near (entries_of t) (has_player connected) (length t) p + prim_cost (entries_of t) (length t) ((length t) - 1 - (k + 1)) (joined (has_player connected) p) (removed (has_player waiting) p)
+    taken : prim_cost (entries_of t) (length t) ((length t) - 1 - k) (has_player connected) (has_player waiting)
+        ≡ near (entries_of t) (has_player connected) (length t) p
+        + prim_cost (entries_of t) (length t) ((length t) - 1 - (k + 1)) (joined (has_player connected) p)
+        (removed (has_player waiting) p)
     taken =
-        ap (λ (r : ℕ). prim_cost (entries_of t) (length t) r (has_player connected) (has_player waiting)) (one_less ((length t) - 1) k lt)
-        ∙ prim-taken (entries_of t) (length t) ((length t) - 1 - (k + 1)) (has_player connected) (has_player waiting) p (taken_is t s k best connected waiting total p h e) waits
+        ap (λ (r : ℕ). prim_cost (entries_of t) (length t) r (has_player connected) (has_player waiting))
+        (one_less ((length t) - 1) k lt)
+        ∙ prim-taken (entries_of t) (length t) ((length t) - 1 - (k + 1)) (has_player connected)
+        (has_player waiting) p (taken_is t s k best connected waiting total p h e) waits
 
-    now : prim_cost (entries_of t) (length t) ((length t) - 1 - (k + 1)) (has_player joint) (has_player less) ≡ prim_cost (entries_of t) (length t) ((length t) - 1 - (k + 1)) (joined (has_player connected) p) (removed (has_player waiting) p)
+    now : prim_cost (entries_of t) (length t) ((length t) - 1 - (k + 1)) (has_player joint) (has_player less)
+        ≡ prim_cost (entries_of t) (length t) ((length t) - 1 - (k + 1)) (joined (has_player connected) p)
+        (removed (has_player waiting) p)
     now =
-        ap (λ (c : ℕ → Bool). prim_cost (entries_of t) (length t) ((length t) - 1 - (k + 1)) c (has_player less)) more
-        ∙ ap (λ (w : ℕ → Bool). prim_cost (entries_of t) (length t) ((length t) - 1 - (k + 1)) (joined (has_player connected) p) w) fewer
+        ap (λ (c : ℕ → Bool). prim_cost (entries_of t) (length t) ((length t) - 1 - (k + 1)) c (has_player less))
+        more
+        ∙ ap
+        (λ (w : ℕ → Bool). prim_cost (entries_of t) (length t) ((length t) - 1 - (k + 1))
+        (joined (has_player connected) p) w) fewer
 
-pub prim_end : (t : List (List ℤ)) (s k : ℕ) (best : List ℕ) (connected waiting total : ℕ) → PrimState t s k best connected waiting total → k ≡ (length t) - 1 → total ≡ prim_cost (entries_of t) (length t) ((length t) - 1) is_source (is_point_of s)
+pub prim_end : (t : List (List ℤ)) (s k : ℕ) (best : List ℕ) (connected waiting total : ℕ)
+    → PrimState t s k best connected waiting total → k ≡ (length t) - 1
+    → total ≡ prim_cost (entries_of t) (length t) ((length t) - 1) is_source (is_point_of s)
 prim_end t s k best connected waiting total h e =
     let none : (length t) - 1 - k ≡ 0 = omega arith in
-    let zero_rest = ap (λ (r : ℕ). prim_cost (entries_of t) (length t) r (has_player connected) (has_player waiting)) none in
+    let zero_rest =
+    ap (λ (r : ℕ). prim_cost (entries_of t) (length t) r (has_player connected) (has_player waiting)) none in
     let rest = h.rest in
     omega (arith, zero_rest, rest)
 
 -- ---- how large entries and costs are
 
-pub best-small : (t : List (List ℤ)) (s k : ℕ) (best : List ℕ) (connected waiting total p : ℕ) → IsTree t → PrimState t s k best connected waiting total → p < (length t) → slice_index best p < 2 ^ 40
+pub best-small : (t : List (List ℤ)) (s k : ℕ) (best : List ℕ) (connected waiting total p : ℕ) → IsTree t
+    → PrimState t s k best connected waiting total → p < (length t) → slice_index best p < 2 ^ 40
 best-small t s k best connected waiting total p tree h lt =
-    rw (h.nears p lt) (near-small (entries_of t) (has_player connected) (length t) p (2 ^ 40) (entries-small t 0 p tree.entries))
+    rw (h.nears p lt)
+    (near-small (entries_of t) (has_player connected) (length t) p (2 ^ 40) (entries-small t 0 p tree.entries))
 
-prim_cost-small : (matrix : Matrix) → ((i j : ℕ) → entry matrix i j < 2 ^ 40) → (m k : ℕ) (c w : ℕ → Bool) → prim_cost matrix m k c w ≤ k * 2 ^ 40
+prim_cost-small : (matrix : Matrix) → ((i j : ℕ) → entry matrix i j < 2 ^ 40) → (m k : ℕ) (c w : ℕ → Bool)
+    → prim_cost matrix m k c w ≤ k * 2 ^ 40
 prim_cost-small matrix h m zero c w = omega arith
 prim_cost-small matrix h m (suc k) c w =
-    step (w (closest (near matrix c m) w m)) (near matrix c m (closest (near matrix c m) w m)) (prim_cost matrix m k (joined c (closest (near matrix c m) w m)) (removed w (closest (near matrix c m) w m))) (near-small matrix c m (closest (near matrix c m) w m) (2 ^ 40) (h 0 (closest (near matrix c m) w m))) (prim_cost-small matrix h m k (joined c (closest (near matrix c m) w m)) (removed w (closest (near matrix c m) w m)))
+    step (w (closest (near matrix c m) w m)) (near matrix c m (closest (near matrix c m) w m))
+    (prim_cost matrix m k (joined c (closest (near matrix c m) w m)) (removed w (closest (near matrix c m) w m)))
+    (near-small matrix c m (closest (near matrix c m) w m) (2 ^ 40) (h 0 (closest (near matrix c m) w m)))
+    (prim_cost-small matrix h m k (joined c (closest (near matrix c m) w m))
+    (removed w (closest (near matrix c m) w m)))
   where
     step : (q : Bool) (x y : ℕ) → x < 2 ^ 40 → y ≤ k * 2 ^ 40 → cond q (x + y) 0 ≤ suc k * 2 ^ 40
     step true x y e f = omega arith
@@ -134,8 +188,13 @@ tree_laws t h =
     record {
       some = omega arith;
       few = omega arith;
-      nobody = nothing (prim-idle (entries_of t) (length t) ((length t) - 1) is_source (is_point_of 0) (nobody (closest (near (entries_of t) is_source (length t)) (is_point_of 0) (length t))));
-      small = λ s lt. small (prim_cost (entries_of t) (length t) ((length t) - 1) is_source (is_point_of s)) (prim_cost-small (entries_of t) (λ i j. entries-small t i j h.entries) (length t) ((length t) - 1) is_source (is_point_of s)) few;
+      nobody =
+          nothing
+          (prim-idle (entries_of t) (length t) ((length t) - 1) is_source (is_point_of 0)
+          (nobody (closest (near (entries_of t) is_source (length t)) (is_point_of 0) (length t))));
+      small = λ s lt. small (prim_cost (entries_of t) (length t) ((length t) - 1) is_source (is_point_of s))
+          (prim_cost-small (entries_of t) (λ i j. entries-small t i j h.entries) (length t) ((length t) - 1) is_source
+          (is_point_of s)) few;
     }
   where
     nothing : {k : ℕ} → k ≡ 0 → neg_ℤ (pos k) ≡ pos 0

@@ -7,7 +7,8 @@
 --   nearest                the first waiting point whose entry from a point is least
 --   reach                  that entry
 --   next_end               the first connected point of least reach
-use Rattle.std.specs.Prelude.{◌≡◌, ℕ, zero, suc, ◌+◌, ◌≤◌, Bool, false, not, ◌&&◌, ◌||◌, IsTrue, List, [], ◌∷◌, nat_lt, min, if◌then◌else◌}
+use Rattle.std.specs.Prelude.{◌≡◌, ℕ, zero, suc, ◌+◌, ◌≤◌, Bool, false, not, ◌&&◌, ◌||◌}
+use Rattle.std.specs.Prelude.{IsTrue, List, [], ◌∷◌, nat_lt, min, if◌then◌else◌}
 use Rattle.definitions.specs.Classes.{Matrix, entry, joined, removed}
 
 -- each pair has the least entry of those that lead from a connected point to a waiting one
@@ -29,14 +30,17 @@ near matrix connected (suc b) t =
 abbrev pub closest : (ℕ → ℕ) → (ℕ → Bool) → ℕ → ℕ
 closest number test zero = 0
 closest number test (suc t) =
-    if test t && (not (test (closest number test t)) || nat_lt (number t) (number (closest number test t))) then t else closest number test t
+    if test t && (not (test (closest number test t)) || nat_lt (number t) (number (closest number test t))) then t
+    else closest number test t
 
 -- the cost of at most k of Prim's steps
 abbrev pub prim_cost : Matrix → ℕ → ℕ → (ℕ → Bool) → (ℕ → Bool) → ℕ
 prim_cost matrix points zero connected waiting = 0
 prim_cost matrix points (suc k) connected waiting =
     if waiting (closest (near matrix connected points) waiting points)
-    then near matrix connected points (closest (near matrix connected points) waiting points) + prim_cost matrix points k (joined connected (closest (near matrix connected points) waiting points)) (removed waiting (closest (near matrix connected points) waiting points))
+    then near matrix connected points (closest (near matrix connected points) waiting points)
+    + prim_cost matrix points k (joined connected (closest (near matrix connected points) waiting points))
+    (removed waiting (closest (near matrix connected points) waiting points))
     else 0
 
 -- ---- the least pair by entry, end and point

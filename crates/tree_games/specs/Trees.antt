@@ -1,4 +1,5 @@
--- Tree games by the rows of their matrix: row and column 0 are the source, and row and column i + 1 are player i (Bird 1976).
+-- Tree games by the rows of their matrix: row and column 0 are the source, and row and column i + 1 are player i
+-- (Bird 1976).
 --
 --   HavePoints rows        2 to 17 rows: a source and 1 to 16 players
 --   AreLinks rows          square, the same in both directions, and 0 from a point to itself
@@ -12,7 +13,8 @@ use Rattle.std.specs.Prelude.{◌≡◌, ℕ, ◌-◌, ◌<◌, ◌≤◌, List,
 use Rattle.std.specs.List.{AllByRecursion}
 use Rattle.definitions.specs.Coalitions.{grand_coalition}
 use Rattle.definitions.specs.Games.{Game, Allocation, share, InCore}
-use Rattle.definitions.specs.Classes.{IsSymmetric, IsBirdPlan, IsLeastCost, IsBirdShares, plan_cost, entry, is_source, is_point_of}
+use Rattle.definitions.specs.Classes.{IsSymmetric, IsBirdPlan, IsLeastCost, IsBirdShares}
+use Rattle.definitions.specs.Classes.{plan_cost, entry, is_source, is_point_of}
 use Rattle.orders.specs.Numbers.{IsNumber}
 use Rattle.matrices.specs.Rows.{entries_of, HaveEntries, HaveLength}
 use Rattle.tree_games.specs.Steps.{prim_cost}
@@ -47,7 +49,8 @@ abbrev pub tree_game : List (List ℤ) → Game
 tree_game rows =
     record {
       players = length rows - 1;
-      worth = λ s. neg_ℤ (pos (prim_cost (entries_of rows) (length rows) (length rows - 1) is_source (is_point_of s)));
+      worth =
+          λ s. neg_ℤ (pos (prim_cost (entries_of rows) (length rows) (length rows - 1) is_source (is_point_of s)));
     }
 
 -- ---- the Bird plan
@@ -63,12 +66,14 @@ pub record IsEdge (rows : List (List ℤ)) (e : ℕ × ℕ × ℤ) : Type 0 wher
   pub cost : e.2 ≡ pos (entry (entries_of rows) e.0 e.1)
   pub small : IsNumber e.2
 
--- the edges are the Bird plan of all players, one for each, with the cost of each pair; no plan costs less; and the shares are minus these costs, each of which is from 0 to below 2 ^ 40, and lie in the core
+-- the edges are the Bird plan of all players, one for each, with the cost of each pair; no plan costs less; and the
+-- shares are minus these costs, each of which is from 0 to below 2 ^ 40, and lie in the core
 pub record IsBird (rows : List (List ℤ)) (x : Allocation) (edges : List (ℕ × ℕ × ℤ)) : Type 0 where
   pub bird : IsBirdPlan (entries_of rows) (grand_coalition (length rows - 1)) (plan_of edges)
   pub each : length edges ≡ length rows - 1
   pub links : AllByRecursion (IsEdge rows) edges
-  pub least : IsLeastCost (entries_of rows) (grand_coalition (length rows - 1)) (plan_cost (entries_of rows) (plan_of edges))
+  pub least : IsLeastCost (entries_of rows) (grand_coalition (length rows - 1))
+      (plan_cost (entries_of rows) (plan_of edges))
   pub shares : IsBirdShares (entries_of rows) (plan_of edges) x
   pub payments : (i : ℕ) → i < length x.shares → IsNumber (neg_ℤ (share x i))
   pub core : InCore (tree_game rows) x

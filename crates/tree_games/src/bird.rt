@@ -74,7 +74,8 @@ impl TreeGame {
 
     /// The first connected point from which a waiting one is nearest.
     fn next_end(&self, connected: Coalition, waiting: Coalition) -> u32
-        ensures value { result ≡ next_end (entries_of self.now) (length self.now) (has_player connected) (has_player waiting) }
+        ensures value { result
+            ≡ next_end (entries_of self.now) (length self.now) (has_player connected) (has_player waiting) }
         ensures below { result < length self.now }
     {
         let reaches = self.reaches(waiting);
@@ -84,7 +85,8 @@ impl TreeGame {
     /// What the link of each point to the waiting one nearest to it costs.
     fn reaches(&self, waiting: Coalition) -> [u64; 17]
         ensures len { length result ≡ 17 }
-        ensures value { (b : ℕ) → b < length self.now → slice_index result b ≡ reach (entries_of self.now) (length self.now) (has_player waiting) b }
+        ensures value { (b : ℕ) → b < length self.now
+            → slice_index result b ≡ reach (entries_of self.now) (length self.now) (has_player waiting) b }
     {
         let mut reaches = [0u64; 17];
         for b in 0..self.points() {

@@ -12,7 +12,8 @@ impl TreeGame {
     /// What the cheapest plan for the members costs.
     pub(crate) fn least_cost(&self, s: Coalition) -> u64
         requires { s < 2 ^ (length self.now - 1) }
-        ensures value { result ≡ prim_cost (entries_of self.now) (length self.now) (length self.now - 1) is_source (is_point_of s) }
+        ensures value { result
+            ≡ prim_cost (entries_of self.now) (length self.now) (length self.now - 1) is_source (is_point_of s) }
         ensures small { result < 2 ^ 45 }
     {
         let points = self.points();
@@ -49,7 +50,8 @@ impl TreeGame {
     fn relax(&self, best: &mut [u64; 17], p: u32)
         requires { p < length self.now }
         ensures len { length best.new ≡ 17 }
-        ensures value { (j : ℕ) → j < length self.now → slice_index best.new j ≡ min (slice_index best.old j) (entries_of self.now p j) }
+        ensures value { (j : ℕ) → j < length self.now
+            → slice_index best.new j ≡ min (slice_index best.old j) (entries_of self.now p j) }
     {
         for j in 0..self.points() {
             let cost = self.cost(p, j);

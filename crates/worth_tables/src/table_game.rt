@@ -39,7 +39,8 @@ impl TableGame {
 
     /// The game of `n` players with these worths, in mask order from 1; no memory is taken.
     pub fn new(_alloc: Global, n: u32, worths: Vec<i64>) -> Result<TableGame, TableFault>
-        ensures { let kept = table n worths.items in MatchResult result (λ t. (t ≡ kept) × IsTable kept) (IsRefused kept) }
+        ensures { let kept = table n worths.items in
+            MatchResult result (λ t. (t ≡ kept) × IsTable kept) (IsRefused kept) }
     {
         if n < 1 || n > 16 {
             return Err(TableFault::Players);

@@ -21,20 +21,27 @@ cast_back z e same h = rw same (ap unsigned_abs (cast_kept w64 (pos e) (omega (a
 pub new-division-requires-clause-cut : goal.new-division-requires-clause-cut
 new-division-requires-clause-cut c =
     let b = c.args.game.now in
-    rw (cast_back c.estate.result b.estate c.estate.ensures.value c.estate.ensures.laws.estate_small) (all-cut_low b.estate b.claims c.in_ok-claims.claims.numbers c.in_ok-claims.ensures.cuts)
+    rw (cast_back c.estate.result b.estate c.estate.ensures.value c.estate.ensures.laws.estate_small)
+    (all-cut_low b.estate b.claims c.in_ok-claims.claims.numbers c.in_ok-claims.ensures.cuts)
 
 pub new-division-requires-clause-enough : goal.new-division-requires-clause-enough
 new-division-requires-clause-enough c =
     let b = c.args.game.now in
-    rw (cast_back c.estate.result b.estate c.estate.ensures.value c.estate.ensures.laws.estate_small) (cut-enough b c.estate.ensures.laws c.in_ok-claims.claims.numbers c.in_ok-claims.ensures.cuts)
+    rw (cast_back c.estate.result b.estate c.estate.ensures.value c.estate.ensures.laws.estate_small)
+    (cut-enough b c.estate.ensures.laws c.in_ok-claims.claims.numbers c.in_ok-claims.ensures.cuts)
 
 pub unwrap-shares-requires : goal.unwrap-shares-requires
 unwrap-shares-requires c =
     let d = c.new-division.result in
     let ordered = c.in_ok-claims.ensures.ordered in
-    let den : to_z w128 (of_z w128 c.den.result) ≡ pos (2 * d.half_den) = kept c.den.result c.den.type_inv ∙ c.den.ensures in
+    let den : to_z w128 (of_z w128 c.den.result) ≡ pos (2 * d.half_den) =
+    kept c.den.result c.den.type_inv ∙ c.den.ensures in
     let new = rw (den, c.in_ok-num.ensures {u = tt}) at c.new-2.ensures in
-    is_some (IsShares (allocation (map (λ e. pos (award d.gain d.half_den d.bound e)) c.in_ok-claims.claims.numbers) (pos (2 * d.half_den)))) _ c.new-2.result new (IsShares-awards c.in_ok-claims.claims d.gain d.half_den d.bound ordered d.some d.few)
+    is_some
+    (IsShares
+    (allocation (map (λ e. pos (award d.gain d.half_den d.bound e)) c.in_ok-claims.claims.numbers)
+    (pos (2 * d.half_den)))) _ c.new-2.result new
+    (IsShares-awards c.in_ok-claims.claims d.gain d.half_den d.bound ordered d.some d.few)
 
 pub unwrap-certificate-requires : goal.unwrap-certificate-requires
 unwrap-certificate-requires c =
@@ -43,13 +50,20 @@ unwrap-certificate-requires c =
     let d = c.new-division.result in
     let claims = c.in_ok-claims.claims in
     let ordered = c.in_ok-claims.ensures.ordered in
-    let den : to_z w128 (of_z w128 c.den.result) ≡ pos (2 * d.half_den) = kept c.den.result c.den.type_inv ∙ c.den.ensures in
+    let den : to_z w128 (of_z w128 c.den.result) ≡ pos (2 * d.half_den) =
+    kept c.den.result c.den.type_inv ∙ c.den.ensures in
     let shares = rw (den, c.in_ok-num.ensures {u = tt}, c.unwrap-shares.ensures) at c.new-2.ensures in
-    let division = rw (cast_back c.estate.result b.estate c.estate.ensures.value laws.estate_small) at c.new-division.ensures in
+    let division = rw (cast_back c.estate.result b.estate c.estate.ensures.value laws.estate_small) at
+    c.new-division.ensures in
     let levels = c.in_ok-levels.levels.items in
-    let all = made b claims d.gain d.half d.half_den d.bound c.unwrap-shares.result levels ordered c.in_ok-claims.ensures.cuts division shares.0 (c.in_ok-levels.ensures.levels) in
+    let all =
+    made b claims d.gain d.half d.half_den d.bound c.unwrap-shares.result levels ordered
+    c.in_ok-claims.ensures.cuts division shares.0 (c.in_ok-levels.ensures.levels) in
     let new = rw c.players.ensures.count at c.new-3.ensures in
-    is_ok (HasForm Players (length b.claims) levels) (λ e. (e ≡ record { players = length b.claims; mode = Players; levels = levels }) × HasForm Players (length b.claims) levels) c.new-3.result new (levels-formed b laws (place claims) d.half d.gain (pos d.bound) c.unwrap-shares.result levels all)
+    is_ok (HasForm Players (length b.claims) levels)
+    (λ e. (e ≡ record { players = length b.claims; mode = Players; levels = levels })
+    × HasForm Players (length b.claims) levels) c.new-3.result new
+    (levels-formed b laws (place claims) d.half d.gain (pos d.bound) c.unwrap-shares.result levels all)
 
 pub returns : goal.returns
 returns c =
@@ -58,15 +72,23 @@ returns c =
     let d = c.new-division.result in
     let claims = c.in_ok-claims.claims in
     let ordered = c.in_ok-claims.ensures.ordered in
-    let den : to_z w128 (of_z w128 c.den.result) ≡ pos (2 * d.half_den) = kept c.den.result c.den.type_inv ∙ c.den.ensures in
+    let den : to_z w128 (of_z w128 c.den.result) ≡ pos (2 * d.half_den) =
+    kept c.den.result c.den.type_inv ∙ c.den.ensures in
     let shares = rw (den, c.in_ok-num.ensures {u = tt}, c.unwrap-shares.ensures) at c.new-2.ensures in
-    let division = rw (cast_back c.estate.result b.estate c.estate.ensures.value laws.estate_small) at c.new-division.ensures in
+    let division = rw (cast_back c.estate.result b.estate c.estate.ensures.value laws.estate_small) at
+    c.new-division.ensures in
     let levels = c.in_ok-levels.levels.items in
-    let all = made b claims d.gain d.half d.half_den d.bound c.unwrap-shares.result levels ordered c.in_ok-claims.ensures.cuts division shares.0 (c.in_ok-levels.ensures.levels) in
+    let all =
+    made b claims d.gain d.half d.half_den d.bound c.unwrap-shares.result levels ordered
+    c.in_ok-claims.ensures.cuts division shares.0 (c.in_ok-levels.ensures.levels) in
     let certificate = rw (c.players.ensures.count, c.unwrap-certificate.ensures) at c.new-3.ensures in
     record {
-      solved = λ family. solved family b (place claims) d.half d.gain (pos d.bound) c.unwrap-shares.result levels c.unwrap-certificate.result all c.in_ok-levels.ensures.lowest certificate.0;
-      core = InCore-rule b.estate b.claims (place claims) d.half d.gain (pos d.bound) c.unwrap-shares.result all.rule;
-      rule = IsTalmud-rule b.estate b.claims (place claims) d.half d.gain (pos d.bound) c.unwrap-shares.result all.rule;
-      levels = rw certificate.0 (AreRuleLevels-made b laws (place claims) d.half d.gain (pos d.bound) c.unwrap-shares.result levels all);
+      solved = λ family. solved family b (place claims) d.half d.gain (pos d.bound) c.unwrap-shares.result levels
+          c.unwrap-certificate.result all c.in_ok-levels.ensures.lowest certificate.0;
+      core =
+          InCore-rule b.estate b.claims (place claims) d.half d.gain (pos d.bound) c.unwrap-shares.result all.rule;
+      rule =
+          IsTalmud-rule b.estate b.claims (place claims) d.half d.gain (pos d.bound) c.unwrap-shares.result all.rule;
+      levels = rw certificate.0
+          (AreRuleLevels-made b laws (place claims) d.half d.gain (pos d.bound) c.unwrap-shares.result levels all);
     }

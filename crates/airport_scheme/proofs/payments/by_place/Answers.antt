@@ -14,12 +14,15 @@ sum_small : (u v : ℤ) → unsigned_abs u < 2 ^ 119 → unsigned_abs v < 2 ^ 11
 sum_small u v h k = omega (arith, ints)
 
 pub loop-done-init : goal.loop-done-init
-loop-done-init c = rw c.new-pay.ensures.items (IsRun-start (length c.args.game.now.costs) (cost_at c.args.game.now) c.len-n.ensures.laws.some)
+loop-done-init c = rw c.new-pay.ensures.items
+    (IsRun-start (length c.args.game.now.costs) (cost_at c.args.game.now) c.len-n.ensures.laws.some)
 
 pub next-block-requires-clause-paid : goal.next-block-requires-clause-paid
 next-block-requires-clause-paid c =
     let run = c.loop-done.invariant in
-    small_from _ (paid_low _ _ _ _ _ _ run) (paid_small _ _ _ _ _ _ (cost_at-small c.args.game.now c.len-n.ensures.laws) (omega (arith, c.loop-done-test.true, c.len-n.ensures.count)) run)
+    small_from _ (paid_low _ _ _ _ _ _ run)
+    (paid_small _ _ _ _ _ _ (cost_at-small c.args.game.now c.len-n.ensures.laws)
+    (omega (arith, c.loop-done-test.true, c.len-n.ensures.count)) run)
 
 pub grow-requires-clause-small : goal.grow-requires-clause-small
 grow-requires-clause-small c = run_small _ _ _ _ _ _ c.loop-done.invariant
@@ -27,14 +30,20 @@ grow-requires-clause-small c = run_small _ _ _ _ _ _ c.loop-done.invariant
 pub times-requires-clause-left : goal.times-requires-clause-left
 times-requires-clause-left c =
     let run = c.loop-done.invariant in
-    let small = small_from _ (paid_low _ _ _ _ _ _ run) (paid_small _ _ _ _ _ _ (cost_at-small c.args.game.now c.len-n.ensures.laws) (omega (arith, c.loop-done-test.true, c.len-n.ensures.count)) run) in
+    let small =
+    small_from _ (paid_low _ _ _ _ _ _ run)
+    (paid_small _ _ _ _ _ _ (cost_at-small c.args.game.now c.len-n.ensures.laws)
+    (omega (arith, c.loop-done-test.true, c.len-n.ensures.count)) run) in
     omega (arith, small)
 
 pub overflow_add-paid : goal.overflow_add-paid
 overflow_add-paid c =
     let first = cast_kept w128 c.times.result (omega (arith, c.times.ensures.small)) in
     let second = cast_kept w128 c.times-in-loop-done.result (omega (arith, c.times-in-loop-done.ensures.small)) in
-    rw (first, second) (fits_signed_from_abs w128 _ (sum_small c.times.result c.times-in-loop-done.result c.times.ensures.small c.times-in-loop-done.ensures.small))
+    rw (first, second)
+    (fits_signed_from_abs w128 _
+    (sum_small c.times.result c.times-in-loop-done.result c.times.ensures.small
+    c.times-in-loop-done.ensures.small))
 
 pub loop-done-preserved : goal.loop-done-preserved
 loop-done-preserved c =
@@ -44,16 +53,25 @@ loop-done-preserved c =
     let within = least.term.within in
     let size = cast_kept w128 block.size (omega (arith, c.next-block.ensures.size)) in
     let value = cast_kept w128 block.value (omega (arith, c.next-block.ensures.rate)) in
-    let count = to_z_pos w128 (block.last + 1 - c.loop-done.done) (omega (arith, within, c.len-n.ensures.laws.few)) in
+    let count =
+    to_z_pos w128 (block.last + 1 - c.loop-done.done) (omega (arith, within, c.len-n.ensures.laws.few)) in
     let first = cast_kept w128 c.times.result (omega (arith, c.times.ensures.small)) in
     let second = cast_kept w128 c.times-in-loop-done.result (omega (arith, c.times-in-loop-done.ensures.small)) in
     let third = cast_kept w128 c.times-den.result (omega (arith, c.times-den.ensures.small)) in
-    let sum = cast_kept w128 (c.times.result +ℤ c.times-in-loop-done.result) (sum_small c.times.result c.times-in-loop-done.result c.times.ensures.small c.times-in-loop-done.ensures.small) in
+    let sum =
+    cast_kept w128 (c.times.result +ℤ c.times-in-loop-done.result)
+    (sum_small c.times.result c.times-in-loop-done.result c.times.ensures.small
+    c.times-in-loop-done.ensures.small) in
     let e = rw size at c.times.ensures.value in
     let f = rw (value, count) at c.times-in-loop-done.ensures.value in
     let g = rw size at c.times-den.ensures.value in
     let grown = rw (size, value) at (c.in_ok-grow.ensures {u = tt}) in
-    rw (first, second, third, sum, e, f, g) (IsRun-next _ _ _ _ _ _ c.loop-done.done block.last block.size block.value c.len-n.ensures.laws.few (cost_at-small c.args.game.now c.len-n.ensures.laws) (omega (arith, c.loop-done-test.true, c.len-n.ensures.count)) run least grown)
+    rw (first, second, third, sum, e, f, g)
+    (IsRun-next _ _ _ _ _ _ c.loop-done.done block.last block.size block.value c.len-n.ensures.laws.few
+    (cost_at-small c.args.game.now c.len-n.ensures.laws)
+    (omega (arith, c.loop-done-test.true, c.len-n.ensures.count)) run least grown)
 
 pub returns-clause-payment : goal.returns-clause-payment
-returns-clause-payment c = IsPayment-whole _ _ _ _ _ c.loop-done.done (omega (arith, c.loop-done-test.false, c.len-n.ensures.count)) c.loop-done.invariant
+returns-clause-payment c =
+    IsPayment-whole _ _ _ _ _ c.loop-done.done (omega (arith, c.loop-done-test.false, c.len-n.ensures.count))
+    c.loop-done.invariant

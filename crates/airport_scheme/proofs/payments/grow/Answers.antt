@@ -13,4 +13,5 @@ returns c =
     let back = written_back s c.args.pay.now.items c.args.pay.now.len (omega (arith, long, c.args.pay.now.ok)) in
     let each = rw (size, c.deref_mut.ensures.value) at c.scale.ensures in
     let e = rw (back, rate) at c.loop-d.invariant in
-    grown_from c.args.pay.now.items s c.loop-d.pay.items c.args.size c.args.rate c.args.count c.loop-d.d long each e (omega arith)
+    grown_from c.args.pay.now.items s c.loop-d.pay.items c.args.size c.args.rate c.args.count c.loop-d.d long each e
+    (omega arith)

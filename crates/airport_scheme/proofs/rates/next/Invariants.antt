@@ -5,4 +5,5 @@ use Rattle.airport_scheme.proofs.rates.next.Given as goal
 
 abbrev pub invariant-loop-l : goal.invariant-loop-l
 invariant-loop-l l =
-    IsBest (length l.game.costs) (cost_at l.game) l.den l.paid l.done l.l l.best.last l.best.size l.best.value × (unsigned_abs l.best.size < 2 ^ 7) × (unsigned_abs l.best.value < 2 ^ 105)
+    IsBest (length l.game.costs) (cost_at l.game) l.den l.paid l.done l.l l.best.last l.best.size l.best.value
+    × (unsigned_abs l.best.size < 2 ^ 7) × (unsigned_abs l.best.value < 2 ^ 105)

@@ -6,4 +6,5 @@ use Rattle.assignment_games.proofs.values.best.Goals as goal
 
 pub returns-in-None : goal.returns-in-None
 returns-in-None c =
-    no_rows (entries_of (map (λ row. row.items) c.args.matrix.now)) c.args.buyers (has_player c.args.s) c.in-None.ensures
+    no_rows (entries_of (map (λ row. row.items) c.args.matrix.now)) c.args.buyers (has_player c.args.s)
+    c.in-None.ensures

@@ -7,10 +7,15 @@ pub gains_at-gains-requires-clause-less : goal.gains_at-gains-requires-clause-le
 gains_at-gains-requires-clause-less c =
     let d = c.args.deal.now in
     let q = c.least_prices-prices.result in
-    gain_less (offers d.table) c.args.n (slice_index d.gains) (slice_index d.prices) (slice_index q) (slice_index d.columns) c.requires.fair c.least_prices-prices.ensures.below
+    gain_less (offers d.table) c.args.n (slice_index d.gains) (slice_index d.prices) (slice_index q)
+    (slice_index d.columns) c.requires.fair c.least_prices-prices.ensures.below
 
 pub returns-clause-fair : goal.returns-clause-fair
 returns-clause-fair c =
     let d = c.args.deal.now in
     let q = c.least_prices-prices.result in
-    least_fair (offers d.table) c.args.n (slice_index d.gains) (slice_index d.prices) (slice_index q) (slice_index d.columns) (slice_index c.gains_at-gains.result) c.requires.fair c.least_prices-prices.ensures.below (content_meets (offers d.table) c.args.n (slice_index d.columns) (slice_index q) c.least_prices-prices.ensures.content) c.gains_at-gains.ensures
+    least_fair (offers d.table) c.args.n (slice_index d.gains) (slice_index d.prices) (slice_index q)
+    (slice_index d.columns) (slice_index c.gains_at-gains.result) c.requires.fair
+    c.least_prices-prices.ensures.below
+    (content_meets (offers d.table) c.args.n (slice_index d.columns) (slice_index q)
+    c.least_prices-prices.ensures.content) c.gains_at-gains.ensures

@@ -5,4 +5,6 @@ use Rattle.big_assignment.proofs.least.gains_at.Given as goal
 abbrev pub invariant-loop-i : goal.invariant-loop-i
 invariant-loop-i l =
     (length l.gains ≡ 33)
-    × ((j : ℕ) → j < l.i → slice_index l.gains j + slice_index l.prices (slice_index l.deal.columns j) ≡ offers l.deal.table j (slice_index l.deal.columns j))
+    × ((j : ℕ) → j < l.i
+    → slice_index l.gains j + slice_index l.prices (slice_index l.deal.columns j)
+    ≡ offers l.deal.table j (slice_index l.deal.columns j))

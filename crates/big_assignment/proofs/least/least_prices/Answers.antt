@@ -8,13 +8,19 @@ use Rattle.big_assignment.proofs.least.least_prices.Goals as goal
 
 pub loop-row-init : goal.loop-row-init
 loop-row-init c =
-    let d = c.args.deal.now in
-    (omega arith, refl, below_none (offers d.table) c.args.n (slice_index d.columns) (slice_index (replicate 33 0)) (λ k le. zeros 33 k))
+    let d = c.args.deal.now in (
+      omega arith,
+      refl,
+      below_none (offers d.table) c.args.n (slice_index d.columns) (slice_index (replicate 33 0))
+          (λ k le. zeros 33 k),
+    )
 
 pub wanted-requires-clause-small : goal.wanted-requires-clause-small
 wanted-requires-clause-small c =
     let d = c.args.deal.now in
-    below_small (offers d.table) c.args.n (slice_index d.gains) (slice_index d.prices) (slice_index c.loop-row.prices) (slice_index d.columns) c.requires.offers c.requires.rows c.requires.fair c.loop-row.invariant.2
+    below_small (offers d.table) c.args.n (slice_index d.gains) (slice_index d.prices)
+    (slice_index c.loop-row.prices) (slice_index d.columns) c.requires.offers c.requires.rows c.requires.fair
+    c.loop-row.invariant.2
 
 pub loop-row-smaller : goal.loop-row-smaller
 loop-row-smaller c =
@@ -22,9 +28,14 @@ loop-row-smaller c =
     let w = c.in-Some.ensures in
     let size = c.loop-row.invariant.1 in
     let le = w.1.column in
-    let small = below_small (offers d.table) c.args.n (slice_index d.gains) (slice_index d.prices) (slice_index c.loop-row.prices) (slice_index d.columns) c.requires.offers c.requires.rows c.requires.fair c.loop-row.invariant.2 c.in-Some.k le in
+    let small =
+    below_small (offers d.table) c.args.n (slice_index d.gains) (slice_index d.prices)
+    (slice_index c.loop-row.prices) (slice_index d.columns) c.requires.offers c.requires.rows c.requires.fair
+    c.loop-row.invariant.2 c.in-Some.k le in
     let dearer = w.1.dearer in
-    let sums = sum_by-set (λ (x : ℕ). 2 ^ 41 - x) c.loop-row.prices c.in-Some.k c.in-Some.price 0 (omega (arith, size, le)) in
+    let sums =
+    sum_by-set (λ (x : ℕ). 2 ^ 41 - x) c.loop-row.prices c.in-Some.k c.in-Some.price 0
+    (omega (arith, size, le)) in
     omega (arith, sums, dearer, small)
 
 pub loop-row-preserved : goal.loop-row-preserved
@@ -35,5 +46,8 @@ loop-row-preserved c =
     let le = w.1.column in (
       (let lt = w.0 in omega (arith, lt)),
       length-set c.loop-row.prices c.in-Some.k c.in-Some.price ∙ size,
-      wanted_raised (offers d.table) c.args.n (slice_index d.gains) (slice_index d.prices) (slice_index d.columns) (slice_index c.loop-row.prices) (slice_index (slice_set c.loop-row.prices c.in-Some.k c.in-Some.price)) c.in-Some.row c.in-Some.k c.in-Some.price c.requires.fair c.loop-row.invariant.2 w.0 w.1 (put_set c.loop-row.prices c.in-Some.k c.in-Some.price (omega (arith, size, le))),
+      wanted_raised (offers d.table) c.args.n (slice_index d.gains) (slice_index d.prices) (slice_index d.columns)
+          (slice_index c.loop-row.prices) (slice_index (slice_set c.loop-row.prices c.in-Some.k c.in-Some.price))
+          c.in-Some.row c.in-Some.k c.in-Some.price c.requires.fair c.loop-row.invariant.2 w.0 w.1
+          (put_set c.loop-row.prices c.in-Some.k c.in-Some.price (omega (arith, size, le))),
     )

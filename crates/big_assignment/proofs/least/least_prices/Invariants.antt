@@ -8,4 +8,5 @@ decreases-loop-row l = sum_by (λ x. 2 ^ 41 - x) l.prices
 
 abbrev pub invariant-loop-row : goal.invariant-loop-row
 invariant-loop-row l =
-    (l.from ≤ l.n) × (length l.prices ≡ 33) × IsBelow (offers l.deal.table) l.n (slice_index l.deal.columns) (slice_index l.prices)
+    (l.from ≤ l.n) × (length l.prices ≡ 33)
+    × IsBelow (offers l.deal.table) l.n (slice_index l.deal.columns) (slice_index l.prices)

@@ -5,7 +5,8 @@ use Rattle.big_assignment.proofs.least.wanted.Given as goal
 
 abbrev pub invariant-loop-later : goal.invariant-loop-later
 invariant-loop-later l =
-    (j : ℕ) → l.from ≤ j → j < l.later → NoneWanted (offers l.deal.table) (slice_index l.deal.columns) (slice_index l.prices) j
+    (j : ℕ) → l.from ≤ j → j < l.later
+    → NoneWanted (offers l.deal.table) (slice_index l.deal.columns) (slice_index l.prices) j
 
 abbrev pub invariant-loop-earlier : goal.invariant-loop-earlier
 invariant-loop-earlier l =

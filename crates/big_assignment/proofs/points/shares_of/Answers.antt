@@ -1,4 +1,5 @@
-use Rattle.std.proofs.Common.{◌≡◌, ℕ, ◌^◌, ◌<◌, ◌≤◌, List, length, ℤ, pos, slice_index, slice_index_or, unsigned_abs, to_z, of_z, refl, sym, ap, subst, ◌∙◌, arith, rules}
+use Rattle.std.proofs.Common.{◌≡◌, ℕ, ◌^◌, ◌<◌, ◌≤◌, List, length, ℤ, pos, slice_index, slice_index_or}
+use Rattle.std.proofs.Common.{unsigned_abs, to_z, of_z, refl, sym, ap, subst, ◌∙◌, arith, rules}
 use mir.Syntax.{w128}
 use Rattle.std.proofs.lemmas.Result.{IfOk-from_err}
 use Rattle.definitions.specs.Games.{Allocation, IsShares}
@@ -10,7 +11,9 @@ use Rattle.big_assignment.proofs.Arrays.{pushed_below, pushed_count}
 use Rattle.big_assignment.proofs.points.shares_of.Goals as goal
 
 -- small numbers are shares over 1
-whole_shares : (n : ℕ) (num : List ℤ) (f : ℕ → ℕ) → 1 ≤ n → n ≤ 64 → length num ≡ n → ((j : ℕ) → j < n → slice_index_or num j (pos 0) ≡ pos (f j)) → ((j : ℕ) → j < n → f j ≤ 2 ^ 40) → IsShares (allocation num (pos 1))
+whole_shares : (n : ℕ) (num : List ℤ) (f : ℕ → ℕ) → 1 ≤ n → n ≤ 64 → length num ≡ n
+    → ((j : ℕ) → j < n → slice_index_or num j (pos 0) ≡ pos (f j)) → ((j : ℕ) → j < n → f j ≤ 2 ^ 40)
+    → IsShares (allocation num (pos 1))
 whole_shares n num f some few count at small = record {
   some = omega (arith, some, count);
   few = omega (arith, few, count);
@@ -19,7 +22,8 @@ whole_shares n num f some few count at small = record {
   small = λ j lt.
       let below : j < n = omega (arith, lt, count) in
       let bound = small j below in
-      subst (λ (z : ℤ). unsigned_abs z < 2 ^ 110) (sym (at j below)) (let fits : f j < 2 ^ 110 = omega (arith, bound) in fits);
+      subst (λ (z : ℤ). unsigned_abs z < 2 ^ 110) (sym (at j below))
+      (let fits : f j < 2 ^ 110 = omega (arith, bound) in fits);
 }
 
 pub loop-k-preserved : goal.loop-k-preserved
@@ -28,8 +32,11 @@ loop-k-preserved c =
     let inv = c.loop-k.invariant in
     let f = payoff c.args.rows (slice_index c.args.gains.now) (slice_index c.args.prices.now) in
     let pushed = c.in_ok-push.ensures.items in
-    let kept : to_z w128 (of_z w128 c.from.result) ≡ c.from.result = search rules in
-    (pushed_count xs c.push.new.self.items c.loop-k.k _ pushed inv.0, pushed_below (λ j z. z ≡ pos (f j)) (pos 0) xs c.push.new.self.items c.loop-k.k _ pushed inv.0 inv.1 (kept ∙ c.from.ensures ∙ ap pos c.payoff_of.ensures))
+    let kept : to_z w128 (of_z w128 c.from.result) ≡ c.from.result = search rules in (
+      pushed_count xs c.push.new.self.items c.loop-k.k _ pushed inv.0,
+      pushed_below (λ j z. z ≡ pos (f j)) (pos 0) xs c.push.new.self.items c.loop-k.k _ pushed inv.0 inv.1
+          (kept ∙ c.from.ensures ∙ ap pos c.payoff_of.ensures),
+    )
 
 pub returns-in_err-push : goal.returns-in_err-push
 returns-in_err-push c = IfOk-from_err c.from_residual.result _ c.from_residual.ensures.0
@@ -37,11 +44,19 @@ returns-in_err-push c = IfOk-from_err c.from_residual.result _ c.from_residual.e
 pub unwrap-requires : goal.unwrap-requires
 unwrap-requires c =
     let f = payoff c.args.rows (slice_index c.args.gains.now) (slice_index c.args.prices.now) in
-    is_some (IsShares (allocation c.loop-k.num.items (pos 1))) _ c.new.result c.new.ensures (whole_shares c.args.players c.loop-k.num.items f c.requires.some (omega (arith, c.requires.players, c.requires.rows)) (omega (arith, c.loop-k.invariant.0, c.loop-k.auto.k-end, c.loop-k-test.false)) (λ j lt. c.loop-k.invariant.1 j (omega (arith, lt, c.loop-k-test.false))) c.requires.small)
+    is_some (IsShares (allocation c.loop-k.num.items (pos 1))) _ c.new.result c.new.ensures
+    (whole_shares c.args.players c.loop-k.num.items f c.requires.some
+    (omega (arith, c.requires.players, c.requires.rows))
+    (omega (arith, c.loop-k.invariant.0, c.loop-k.auto.k-end, c.loop-k-test.false))
+    (λ j lt. c.loop-k.invariant.1 j (omega (arith, lt, c.loop-k-test.false))) c.requires.small)
 
 pub returns : goal.returns
 returns c =
     let f = payoff c.args.rows (slice_index c.args.gains.now) (slice_index c.args.prices.now) in
     let new = rw c.unwrap.ensures at c.new.ensures in
-    let whole : IsWhole c.args.players (allocation c.loop-k.num.items (pos 1)) 1 f = record { length_is = omega (arith, c.loop-k.invariant.0, c.loop-k.auto.k-end, c.loop-k-test.false); den = refl; shares = λ j lt. c.loop-k.invariant.1 j (omega (arith, lt, c.loop-k-test.false)) } in
+    let whole : IsWhole c.args.players (allocation c.loop-k.num.items (pos 1)) 1 f = record {
+      length_is = omega (arith, c.loop-k.invariant.0, c.loop-k.auto.k-end, c.loop-k-test.false);
+      den = refl;
+      shares = λ j lt. c.loop-k.invariant.1 j (omega (arith, lt, c.loop-k-test.false));
+    } in
     subst (λ (x : Allocation). IsWhole c.args.players x 1 f) (sym new.0) whole

@@ -12,8 +12,13 @@ returns-then-is_held-clause-more c _ =
     let t = c.mark.new.self in
     let a = c.approach-i.ensures in
     let held = c.is_held.ensures.held c.if-is_held.true in (
-      subst (λ (z : ℕ). IsSearch (offers d.table) c.args.n (slice_index d.gains) (slice_index d.prices) (slice_index d.columns) (slice_index t.ranks) (slice_index t.parents) z) (sym c.mark.ensures.count)
-          (mark_keeps (offers d.table) c.args.n (slice_index d.gains) (slice_index d.prices) (slice_index d.columns) (slice_index s.ranks) (slice_index s.parents) (slice_index t.ranks) (slice_index t.parents) s.count c.approach-i.result.0 c.approach-i.result.1 a.search.0 a.row held.0 a.unreached a.tight held.1 c.mark.ensures.ranks c.mark.ensures.parents),
+      subst
+          (λ (z : ℕ). IsSearch (offers d.table) c.args.n (slice_index d.gains) (slice_index d.prices)
+          (slice_index d.columns) (slice_index t.ranks) (slice_index t.parents) z) (sym c.mark.ensures.count)
+          (mark_keeps (offers d.table) c.args.n (slice_index d.gains) (slice_index d.prices) (slice_index d.columns)
+          (slice_index s.ranks) (slice_index s.parents) (slice_index t.ranks) (slice_index t.parents) s.count
+          c.approach-i.result.0 c.approach-i.result.1 a.search.0 a.row held.0 a.unreached a.tight held.1
+          c.mark.ensures.ranks c.mark.ensures.parents),
       c.mark.ensures.total,
     )
 
@@ -23,4 +28,7 @@ hand_over-deal-requires-clause-open c =
     let s = c.args.search.now in
     let t = c.mark.new.self in
     let a = c.approach-i.ensures in
-    walk_start (offers d.table) c.args.n (slice_index d.gains) (slice_index d.prices) (slice_index d.columns) (slice_index s.ranks) (slice_index s.parents) (slice_index t.ranks) (slice_index t.parents) s.count c.approach-i.result.0 c.approach-i.result.1 a.search.0 a.row a.column a.unreached a.tight (c.is_held.ensures.free c.if-is_held.false) c.mark.ensures.ranks c.mark.ensures.parents
+    walk_start (offers d.table) c.args.n (slice_index d.gains) (slice_index d.prices) (slice_index d.columns)
+    (slice_index s.ranks) (slice_index s.parents) (slice_index t.ranks) (slice_index t.parents) s.count
+    c.approach-i.result.0 c.approach-i.result.1 a.search.0 a.row a.column a.unreached a.tight
+    (c.is_held.ensures.free c.if-is_held.false) c.mark.ensures.ranks c.mark.ensures.parents

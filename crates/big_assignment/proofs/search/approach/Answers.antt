@@ -8,7 +8,10 @@ pub lowered-gains-requires-clause-enough : goal.lowered-gains-requires-clause-en
 lowered-gains-requires-clause-enough c =
     let d = c.args.deal.now in
     let s = c.args.search.now in
-    slack_enough (offers d.table) c.args.n c.slack-by.result c.nearest-i.result.0 c.nearest-i.result.1 (slice_index d.gains) (slice_index d.prices) (slice_index d.columns) (slice_index s.ranks) (slice_index s.parents) s.count c.requires.offers c.requires.rows c.requires.search.0 c.nearest-i.ensures c.slack-by.ensures
+    slack_enough (offers d.table) c.args.n c.slack-by.result c.nearest-i.result.0 c.nearest-i.result.1
+    (slice_index d.gains) (slice_index d.prices) (slice_index d.columns) (slice_index s.ranks)
+    (slice_index s.parents) s.count c.requires.offers c.requires.rows c.requires.search.0 c.nearest-i.ensures
+    c.slack-by.ensures
 
 pub returns-clause-search : goal.returns-clause-search
 returns-clause-search c =
@@ -22,8 +25,17 @@ returns-clause-search c =
     let ranks = slice_index s.ranks in
     let v = slice_index c.lowered-gains.result in
     let q = slice_index c.raised-deal.result in
-    let shifted : IsShifted n by u p mate ranks v q = record { in_row = c.lowered-gains.ensures.reached; out_row = c.lowered-gains.ensures.rest; in_column = c.raised-deal.ensures.reached; out_column = c.raised-deal.ensures.rest } in
-    (shift_keeps (offers d.table) n by u p mate ranks (slice_index s.parents) v q s.count c.requires.search.0 (slack_covers (offers d.table) n by c.nearest-i.result.0 c.nearest-i.result.1 u p mate ranks c.nearest-i.ensures c.slack-by.ensures) shifted, c.requires.search.1)
+    let shifted : IsShifted n by u p mate ranks v q = record {
+      in_row = c.lowered-gains.ensures.reached;
+      out_row = c.lowered-gains.ensures.rest;
+      in_column = c.raised-deal.ensures.reached;
+      out_column = c.raised-deal.ensures.rest;
+    } in (
+      shift_keeps (offers d.table) n by u p mate ranks (slice_index s.parents) v q s.count c.requires.search.0
+          (slack_covers (offers d.table) n by c.nearest-i.result.0 c.nearest-i.result.1 u p mate ranks
+          c.nearest-i.ensures c.slack-by.ensures) shifted,
+      c.requires.search.1,
+    )
 
 pub returns-clause-tight : goal.returns-clause-tight
 returns-clause-tight c =
@@ -36,19 +48,24 @@ pub nearest-i-requires-clause-covered : goal.nearest-i-requires-clause-covered
 nearest-i-requires-clause-covered c =
     let d = c.args.deal.now in
     let s = c.args.search.now in
-    search_covered (offers d.table) c.args.n (slice_index d.gains) (slice_index d.prices) (slice_index d.columns) (slice_index s.ranks) (slice_index s.parents) s.count c.requires.offers c.requires.rows c.requires.search.0
+    search_covered (offers d.table) c.args.n (slice_index d.gains) (slice_index d.prices) (slice_index d.columns)
+    (slice_index s.ranks) (slice_index s.parents) s.count c.requires.offers c.requires.rows c.requires.search.0
 
 pub slack-by-requires-clause-covered : goal.slack-by-requires-clause-covered
 slack-by-requires-clause-covered c =
     let d = c.args.deal.now in
     let s = c.args.search.now in
-    search_covered (offers d.table) c.args.n (slice_index d.gains) (slice_index d.prices) (slice_index d.columns) (slice_index s.ranks) (slice_index s.parents) s.count c.requires.offers c.requires.rows c.requires.search.0
+    search_covered (offers d.table) c.args.n (slice_index d.gains) (slice_index d.prices) (slice_index d.columns)
+    (slice_index s.ranks) (slice_index s.parents) s.count c.requires.offers c.requires.rows c.requires.search.0
 
 pub raised-deal-requires : goal.raised-deal-requires
 raised-deal-requires c =
     let d = c.args.deal.now in
     let s = c.args.search.now in
-    let covered = search_covered (offers d.table) c.args.n (slice_index d.gains) (slice_index d.prices) (slice_index d.columns) (slice_index s.ranks) (slice_index s.parents) s.count c.requires.offers c.requires.rows c.requires.search.0 in
+    let covered =
+    search_covered (offers d.table) c.args.n (slice_index d.gains) (slice_index d.prices)
+    (slice_index d.columns) (slice_index s.ranks) (slice_index s.parents) s.count c.requires.offers
+    c.requires.rows c.requires.search.0 in
     let gain = covered.gains c.nearest-i.result.0 c.nearest-i.ensures.row in
     let price = covered.prices c.nearest-i.result.1 c.nearest-i.ensures.column in
     record { small = λ k le. omega (arith, gain, price, c.slack-by.ensures, covered.prices k le) }

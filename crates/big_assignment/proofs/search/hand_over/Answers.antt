@@ -11,7 +11,10 @@ returns-then-i-n c =
     let s = c.args.search.now in
     let l = c.loop-columns in
     let n = c.args.n in
-    walk_end (offers d.table) n (slice_index d.gains) (slice_index d.prices) (slice_index l.columns) (slice_index (slice_set l.columns n l.k)) (slice_index s.ranks) (slice_index s.parents) l.k l.invariant.1 c.if-i-n.true (put_set l.columns n l.k (let few = c.requires.rows in let size = l.invariant.0 in omega (arith, few, size)))
+    walk_end (offers d.table) n (slice_index d.gains) (slice_index d.prices) (slice_index l.columns)
+    (slice_index (slice_set l.columns n l.k)) (slice_index s.ranks) (slice_index s.parents) l.k l.invariant.1
+    c.if-i-n.true
+    (put_set l.columns n l.k (let few = c.requires.rows in let size = l.invariant.0 in omega (arith, few, size)))
 
 pub loop-columns-preserved : goal.loop-columns-preserved
 loop-columns-preserved c =
@@ -24,5 +27,8 @@ loop-columns-preserved c =
     let few = c.requires.rows in
     let size = l.invariant.0 in
     let lt : i < n = (elim joined [ inl e ↦ absurd (c.if-i-n.false e) | inr e ↦ e.0 ]) in
-    let step = walk_on (offers d.table) n (slice_index d.gains) (slice_index d.prices) (slice_index l.columns) (slice_index (slice_set l.columns i l.k)) (slice_index s.ranks) (slice_index s.parents) l.k l.invariant.1 c.if-i-n.false (put_set l.columns i l.k (omega (arith, lt, few, size))) in
+    let step =
+    walk_on (offers d.table) n (slice_index d.gains) (slice_index d.prices) (slice_index l.columns)
+    (slice_index (slice_set l.columns i l.k)) (slice_index s.ranks) (slice_index s.parents) l.k l.invariant.1
+    c.if-i-n.false (put_set l.columns i l.k (omega (arith, lt, few, size))) in
     (length-set l.columns i l.k ∙ size, step.0)

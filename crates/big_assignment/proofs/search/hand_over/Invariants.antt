@@ -9,4 +9,5 @@ decreases-loop-columns l = slice_index l.search.ranks l.k
 abbrev pub invariant-loop-columns : goal.invariant-loop-columns
 invariant-loop-columns l =
     (length l.columns ≡ 33)
-    × IsOpen (offers l.deal.table) l.n (slice_index l.deal.gains) (slice_index l.deal.prices) (slice_index l.columns) (slice_index l.search.ranks) (slice_index l.search.parents) l.k
+    × IsOpen (offers l.deal.table) l.n (slice_index l.deal.gains) (slice_index l.deal.prices)
+    (slice_index l.columns) (slice_index l.search.ranks) (slice_index l.search.parents) l.k

@@ -15,8 +15,15 @@ loop-i-preserved c =
           let items = w.push.ensures.items in
           let more = members-more_yes c.loop-i.i c.args.self (sym w.if-contains.ensures) in
           let same = c.loop-i.invariant.0 in
-          rw found (rw items (ap (λ l. l ++ c.loop-i.i ∷ []) same ∙ sym more, omega (arith, length-append c.loop-i.found.items (c.loop-i.i ∷ []))))
+          rw found
+          (rw items (
+            ap (λ l. l ++ c.loop-i.i ∷ []) same ∙ sym more,
+            omega (arith, length-append c.loop-i.found.items (c.loop-i.i ∷ [])),
+          ))
       | else-contains w ↦
           let found = w.found-is in
-          rw found (c.loop-i.invariant.0 ∙ sym (members-more_no c.loop-i.i c.args.self (sym w.if-contains.ensures)), omega arith)
+          rw found (
+            c.loop-i.invariant.0 ∙ sym (members-more_no c.loop-i.i c.args.self (sym w.if-contains.ensures)),
+            omega arith,
+          )
     ]

@@ -7,4 +7,6 @@ pub loop-i-preserved : goal.loop-i-preserved
 loop-i-preserved c =
     let i = c.loop-i.i in
     let none : 0 + i ≡ i = omega arith in
-    rw add-one (c.in_ok-push.ensures.items ∙ ap (λ (xs : List ℕ). xs ++ i ∷ []) c.loop-i.invariant ∙ ap (λ (k : ℕ). range_with_len 0 i ++ k ∷ []) (sym none) ∙ sym (range_more 0 i))
+    rw add-one
+    (c.in_ok-push.ensures.items ∙ ap (λ (xs : List ℕ). xs ++ i ∷ []) c.loop-i.invariant
+    ∙ ap (λ (k : ℕ). range_with_len 0 i ++ k ∷ []) (sym none) ∙ sym (range_more 0 i))

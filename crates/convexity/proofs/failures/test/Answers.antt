@@ -18,13 +18,16 @@ loop-mask-init g c = λ t lt. absurd (omega (arith, lt))
 
 pub loop-mask-preserved : goal.loop-mask-preserved
 loop-mask-preserved g c =
-    one_more (λ t. (k m : ℕ) → k < m → HoldsAt (g.W.Worth.game c.args.game.now) t k m) c.loop-mask.mask c.loop-mask.invariant (c.in_default.ensures {u = tt})
+    one_more (λ t. (k m : ℕ) → k < m → HoldsAt (g.W.Worth.game c.args.game.now) t k m) c.loop-mask.mask
+    c.loop-mask.invariant (c.in_default.ensures {u = tt})
 
 pub returns-in-Some : goal.returns-in-Some
 returns-in-Some g c =
     let pair = c.in-Some.pair in
     let fits : FitsSigned w64 c.in-Some.pair.deficit = search rules in
-    rw (to_z-of_z w64 pair.deficit fits) (first_failure (g.W.Worth.game c.args.game.now) c.loop-mask.mask pair.i pair.j pair.deficit c.loop-mask.invariant (c.in-Some.ensures {u = tt}))
+    rw (to_z-of_z w64 pair.deficit fits)
+    (first_failure (g.W.Worth.game c.args.game.now) c.loop-mask.mask pair.i pair.j pair.deficit
+    c.loop-mask.invariant (c.in-Some.ensures {u = tt}))
 
 pub returns : goal.returns
 returns g c =

@@ -5,4 +5,5 @@ use Rattle.drawn_games.proofs.draws.short_draws.Given as goal
 
 abbrev pub invariant-loop-k : goal.invariant-loop-k
 invariant-loop-k l =
-    (l.draws.state ≡ state l.seed l.k) × (l.draws.state < 2 ^ 31) × (l.found.items ≡ map (short_draw l.seed) (range_with_len 0 l.k))
+    (l.draws.state ≡ state l.seed l.k) × (l.draws.state < 2 ^ 31)
+    × (l.found.items ≡ map (short_draw l.seed) (range_with_len 0 l.k))

@@ -7,4 +7,6 @@ use Rattle.drawn_games.proofs.matrices_of_draws.link_row.Goals as goal
 pub loop-j-preserved : goal.loop-j-preserved
 loop-j-preserved c =
     let kept : to_z w64 (of_z w64 c.from.result) ≡ c.from.result = search rules in
-    one_more (λ k. pos (link (slice_index c.args.draws.now) c.args.n c.args.i k)) c.loop-j.j c.loop-j.row.items c.push.new.self.items _ c.loop-j.invariant c.in_ok-push.ensures.items (kept ∙ c.from.ensures ∙ ap pos c.link_at.ensures)
+    one_more (λ k. pos (link (slice_index c.args.draws.now) c.args.n c.args.i k)) c.loop-j.j c.loop-j.row.items
+    c.push.new.self.items _ c.loop-j.invariant c.in_ok-push.ensures.items
+    (kept ∙ c.from.ensures ∙ ap pos c.link_at.ensures)

@@ -3,4 +3,5 @@ use Rattle.shapley.proofs.airport_steps.next_cost.Given as goal
 
 abbrev pub invariant-loop-i : goal.invariant-loop-i
 invariant-loop-i l =
-    (l.from < l.next) × (l.next ≤ l.upto) × ((j : ℕ) → j < l.i → l.from < slice_index l.game.costs j → l.next ≤ slice_index l.game.costs j)
+    (l.from < l.next) × (l.next ≤ l.upto)
+    × ((j : ℕ) → j < l.i → l.from < slice_index l.game.costs j → l.next ≤ slice_index l.game.costs j)

@@ -9,10 +9,12 @@ use Rattle.shapley.proofs.airport_steps.step_shares.Goals as goal
 pub loop-i-preserved : goal.loop-i-preserved
 loop-i-preserved c =
     let costs = c.args.game.now.costs in
-    pushed (λ k. neg_ℤ (units_below costs common (slice_index costs k))) c.loop-i.num.items c.push.new.self.items c.owed.result c.loop-i.i c.in_ok-push.ensures.items c.loop-i.invariant.0 c.loop-i.invariant.1 c.owed.ensures.value c.owed.ensures.small
+    pushed (λ k. neg_ℤ (units_below costs common (slice_index costs k))) c.loop-i.num.items c.push.new.self.items
+    c.owed.result c.loop-i.i c.in_ok-push.ensures.items c.loop-i.invariant.0 c.loop-i.invariant.1
+    c.owed.ensures.value c.owed.ensures.small
 
-pub returns : goal.returns
-returns c =
+pub returns-clause-value : goal.returns-clause-value
+returns-clause-value c =
     let costs = c.args.game.now.costs in
     let made = rw c.unwrap.ensures at c.new.ensures in
     let len = c.loop-i.invariant.0 in
@@ -25,5 +27,12 @@ returns c =
       λ i lt.
           let value = (c.loop-i.invariant.1 i (omega arith)).0 in
           let at = ap (λ (x : Allocation). share x i) made.0 ∙ value in
-          ap (λ z. z *ℤ pos (factorial (length costs))) at ∙ common_shares costs i (omega (arith, count, c.requires)) lt ∙ ap (λ z. z *ℤ shapley_total (airport_game c.args.game.now) i) (sym den),
+          ap (λ z. z *ℤ pos (factorial (length costs))) at
+          ∙ common_shares costs i (omega (arith, count, c.requires)) lt
+          ∙ ap (λ z. z *ℤ shapley_total (airport_game c.args.game.now) i) (sym den),
     )
+
+pub returns-clause-den : goal.returns-clause-den
+returns-clause-den c =
+    let made = rw c.unwrap.ensures at c.new.ensures in
+    ap (λ (x : Allocation). x.den) made.0

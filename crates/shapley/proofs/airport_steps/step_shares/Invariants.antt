@@ -4,4 +4,8 @@ use Rattle.shapley.proofs.airport_steps.step_shares.Given as goal
 
 abbrev pub invariant-loop-i : goal.invariant-loop-i
 invariant-loop-i l =
-    (length l.num.items ≡ l.i) × ((k : ℕ) → k < l.i → (slice_index_or l.num.items k (pos 0) ≡ neg_ℤ (units_below l.game.costs common (slice_index l.game.costs k))) × (unsigned_abs (slice_index_or l.num.items k (pos 0)) < 2 ^ 110))
+    (length l.num.items ≡ l.i)
+    × ((k : ℕ) → k < l.i
+    → (slice_index_or l.num.items k (pos 0)
+    ≡ neg_ℤ (units_below l.game.costs common (slice_index l.game.costs k)))
+    × (unsigned_abs (slice_index_or l.num.items k (pos 0)) < 2 ^ 110))

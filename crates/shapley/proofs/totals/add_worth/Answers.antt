@@ -9,12 +9,14 @@ use Rattle.shapley.proofs.totals.add_worth.Goals as goal
 
 pub gain-gain-requires-clause-members : goal.gain-gain-requires-clause-members
 gain-gain-requires-clause-members c =
-    let count = c.len-members.ensures ∙ size-at c.args.n c.args.s (omega (arith, c.requires.few)) c.requires.within in
+    let count =
+    c.len-members.ensures ∙ size-at c.args.n c.args.s (omega (arith, c.requires.few)) c.requires.within in
     rw count (size_below-most c.args.n c.args.s)
 
 pub loss-loss-requires-clause-members : goal.loss-loss-requires-clause-members
 loss-loss-requires-clause-members c =
-    let count = c.len-members.ensures ∙ size-at c.args.n c.args.s (omega (arith, c.requires.few)) c.requires.within in
+    let count =
+    c.len-members.ensures ∙ size-at c.args.n c.args.s (omega (arith, c.requires.few)) c.requires.within in
     rw count (size_below-most c.args.n c.args.s)
 
 pub loop-i-preserved : goal.loop-i-preserved
@@ -23,13 +25,21 @@ loop-i-preserved c =
     let same = c.loop-i.invariant.1 i (omega arith) in
     let small = c.requires.room i (pos 0) c.loop-i-test.true in
     let kept = cast_kept w128 (get_or c.loop-i.totals i (pos 0)) (rw same (omega (arith, small))) in
-    set_next c.loop-i.totals c.args.totals.now i (λ k. if has_player c.args.s k then to_z w128 (of_z w128 c.gain-gain.result) else neg_ℤ (to_z w128 (of_z w128 c.loss-loss.result))) c.changed.result (omega (arith, c.loop-i-test.true, c.loop-i.auto.totals)) c.changed.ensures.small c.loop-i.invariant (rw (kept, c.contains.ensures) at c.changed.ensures.value)
+    set_next c.loop-i.totals c.args.totals.now i
+    (λ k. if has_player c.args.s k then to_z w128 (of_z w128 c.gain-gain.result)
+    else neg_ℤ (to_z w128 (of_z w128 c.loss-loss.result))) c.changed.result
+    (omega (arith, c.loop-i-test.true, c.loop-i.auto.totals)) c.changed.ensures.small c.loop-i.invariant
+    (rw (kept, c.contains.ensures) at c.changed.ensures.value)
 
 pub returns : goal.returns
 returns c = λ k lt.
-    let count = c.len-members.ensures ∙ size-at c.args.n c.args.s (omega (arith, c.requires.few)) c.requires.within in
+    let count =
+    c.len-members.ensures ∙ size-at c.args.n c.args.s (omega (arith, c.requires.few)) c.requires.within in
     let gain = cast_kept w128 c.gain-gain.result (omega (arith, c.gain-gain.ensures.small)) in
     let loss = cast_kept w128 c.loss-loss.result (omega (arith, c.loss-loss.ensures.small)) in
     let worth = cast_kept w64 c.args.worth (omega (arith, c.requires.small)) in
     let here = c.loop-i.invariant.0 k (omega (arith, c.loop-i-test.false, c.requires.count)) in
-    (rw (gain, loss) at here) ∙ ap (λ z. get_or c.args.totals.now k (pos 0) +ℤ z) (credit-is c.args.n c.args.s c.len-members.result k c.args.worth c.gain-gain.result c.loss-loss.result lt count (rw worth at c.gain-gain.ensures.value) (rw worth at c.loss-loss.ensures.value))
+    (rw (gain, loss) at here)
+    ∙ ap (λ z. get_or c.args.totals.now k (pos 0) +ℤ z)
+    (credit-is c.args.n c.args.s c.len-members.result k c.args.worth c.gain-gain.result c.loss-loss.result lt
+    count (rw worth at c.gain-gain.ensures.value) (rw worth at c.loss-loss.ensures.value))

@@ -15,5 +15,8 @@ unwrap-requires g c =
     let long : length c.in_ok-totals.totals.items ≡ n = omega (arith, c.in_ok-totals.ensures.long, count) in
     let some = c.players.ensures.laws.some in
     let den = den_is n c.factorial.result few c.factorial.ensures.value in
-    let fit = totals_fit n c.in_ok-totals.totals.items (omega (arith, some, count)) few long c.in_ok-totals.ensures.small in
-    is_some (IsShares (allocation c.in_ok-totals.totals.items (pos (factorial n)))) _ c.new.result (rw den.0 at c.new.ensures) fit
+    let fit =
+    totals_fit n c.in_ok-totals.totals.items (omega (arith, some, count)) few long
+    c.in_ok-totals.ensures.small in
+    is_some (IsShares (allocation c.in_ok-totals.totals.items (pos (factorial n)))) _ c.new.result
+    (rw den.0 at c.new.ensures) fit

@@ -1,4 +1,5 @@
-use Rattle.std.proofs.Common.{◌≡◌, ℕ, ◌+◌, ◌^◌, ◌<◌, ◌≤◌, min, List, [], ◌∷◌, ◌++◌, length, get_or, map, take, ℤ, pos, ◌<ℤ◌, unsigned_abs, to_z, of_z, ap, sym, ◌∙◌, arith}
+use Rattle.std.proofs.Common.{◌≡◌, ℕ, ◌+◌, ◌^◌, ◌<◌, ◌≤◌, min, List, [], ◌∷◌, ◌++◌, length, get_or, map}
+use Rattle.std.proofs.Common.{take, ℤ, pos, ◌<ℤ◌, unsigned_abs, to_z, of_z, ap, sym, ◌∙◌, arith}
 use Rattle.std.proofs.lemmas.Int.{ints}
 use Rattle.std.proofs.lemmas.List.{map_push, take_all, take_more}
 use mir.Syntax.{w64}
@@ -9,13 +10,15 @@ kept : (z : ℤ) (n : ℕ) → z ≡ pos n → z <ℤ pos (2 ^ 40) → unsigned_
 kept z n same small = omega (arith, ints)
 
 -- one claim more is cut
-one_more : (claims cuts : List ℕ) (estate i least : ℕ) (claim e : ℤ) → i < length claims → cuts ≡ map (λ c. min c estate) (take i claims)
+one_more : (claims cuts : List ℕ) (estate i least : ℕ) (claim e : ℤ) → i < length claims
+    → cuts ≡ map (λ c. min c estate) (take i claims)
     → claim ≡ pos (get_or claims i 0) → claim <ℤ pos (2 ^ 40) → e ≡ pos estate → e <ℤ pos (2 ^ 40)
     → least ≡ min (unsigned_abs (to_z w64 (of_z w64 claim))) (unsigned_abs (to_z w64 (of_z w64 e)))
     → cuts ++ least ∷ [] ≡ map (λ c. min c estate) (take (i + 1) claims)
 one_more claims cuts estate i least claim e lt before is_claim claim_small is_estate estate_small is_least =
     let x = get_or claims i 0 in
-    let cut : least ≡ min x estate = rw (kept claim x is_claim claim_small, kept e estate is_estate estate_small) at is_least in
+    let cut : least ≡ min x estate =
+    rw (kept claim x is_claim claim_small, kept e estate is_estate estate_small) at is_least in
     ap (λ (cs : List ℕ). cs ++ least ∷ []) before
     ∙ ap (λ (k : ℕ). map (λ c. min c estate) (take i claims) ++ k ∷ []) cut
     ∙ sym (map_push (λ c. min c estate) (take i claims) x)
@@ -29,7 +32,10 @@ loop-i-preserved c =
     let claims = c.args.game.now.claims in
     let lt : c.loop-i.i < length claims = omega (arith, c.loop-i-test.true, c.players-i-end.ensures.count) in
     let pushed = (c.in_ok-push.ensures {u = tt}).items in
-    let more = one_more claims c.loop-i.cuts.items c.args.game.now.estate c.loop-i.i c.min.result c.claim-claim.result c.estate-estate.result lt c.loop-i.invariant c.claim-claim.ensures.value c.claim-claim.ensures.small c.estate-estate.ensures.value c.estate-estate.ensures.small c.min.ensures in
+    let more =
+    one_more claims c.loop-i.cuts.items c.args.game.now.estate c.loop-i.i c.min.result c.claim-claim.result
+    c.estate-estate.result lt c.loop-i.invariant c.claim-claim.ensures.value c.claim-claim.ensures.small
+    c.estate-estate.ensures.value c.estate-estate.ensures.small c.min.ensures in
     pushed ∙ more
 
 pub returns-clause-cuts : goal.returns-clause-cuts

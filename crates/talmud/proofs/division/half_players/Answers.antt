@@ -7,4 +7,7 @@ pub loop-half-preserved : goal.loop-half-preserved
 loop-half-preserved c =
     let laws = c.len-n.ensures.laws in
     let le = rw (c.cut.ensures.value, c.place.ensures.value, c.len-n.ensures.count) at c.if-cut-n.true in
-    rw (c.cut-left.ensures.value, c.place-in-loop-half.ensures.value) (IsSplit-more (length c.args.claims.now.numbers) (number_at c.args.claims.now) c.args.double c.loop-half.half c.loop-half.left laws.sorted.lists.rising (omega (arith, c.loop-half-test.true, c.len-n.ensures.count)) le c.loop-half.invariant)
+    rw (c.cut-left.ensures.value, c.place-in-loop-half.ensures.value)
+    (IsSplit-more (length c.args.claims.now.numbers) (number_at c.args.claims.now) c.args.double c.loop-half.half
+    c.loop-half.left laws.sorted.lists.rising (omega (arith, c.loop-half-test.true, c.len-n.ensures.count)) le
+    c.loop-half.invariant)

@@ -10,8 +10,11 @@ returns-clause-levels c =
     elim c.if-division-n.branch [
       | then-division-n+in_ok-rest_level+in_ok-push w ↦
           let pushed = w.in_ok-push.ensures {u = tt} in
-          rw (w.levels-is, pushed.items) (AreLevels-rest _ _ _ _ _ _ _ c.in_ok-levels.levels.items _ halves w.in_ok-rest_level.ensures.level)
-      | else-division-n w ↦ rw w.levels-is (AreLevels-halves _ _ _ _ _ _ _ c.in_ok-levels.levels.items halves (omega (arith, w.if-division-n.false, c.len-n.ensures.count)))
+          rw (w.levels-is, pushed.items)
+          (AreLevels-rest _ _ _ _ _ _ _ c.in_ok-levels.levels.items _ halves w.in_ok-rest_level.ensures.level)
+      | else-division-n w ↦ rw w.levels-is
+          (AreLevels-halves _ _ _ _ _ _ _ c.in_ok-levels.levels.items halves
+          (omega (arith, w.if-division-n.false, c.len-n.ensures.count)))
     ]
 
 pub returns-clause-lowest : goal.returns-clause-lowest
@@ -20,6 +23,7 @@ returns-clause-lowest c =
     elim c.if-division-n.branch [
       | then-division-n+in_ok-rest_level+in_ok-push w ↦
           let pushed = w.in_ok-push.ensures {u = tt} in
-          rw (w.levels-is, pushed.items) (all_join _ c.in_ok-levels.levels.items (_ ∷ []) halves (w.in_ok-rest_level.ensures.lowest, tt))
+          rw (w.levels-is, pushed.items)
+          (all_join _ c.in_ok-levels.levels.items (_ ∷ []) halves (w.in_ok-rest_level.ensures.lowest, tt))
       | else-division-n w ↦ rw w.levels-is halves
     ]

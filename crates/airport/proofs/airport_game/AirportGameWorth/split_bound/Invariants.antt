@@ -11,4 +11,7 @@ use Rattle.airport.proofs.airport_game.AirportGameWorth.split_bound.Given as goa
 
 abbrev pub invariant-loop-k : goal.invariant-loop-k
 invariant-loop-k l =
-    (l.sums.count ≡ l.k) × AreSplitSums (length l.self.costs) (paid l.x) l.free (front (place l.self) l.k) l.sums × ((j : ℕ) → has_player l.unseen j ≡ (has_player l.free j && not (has_player (front (place l.self) l.k) j))) × IsFrontBound (length l.self.costs) (front (place l.self) l.k) (is_split (airport_game l.self) l.free) (excess (airport_game l.self) l.x) l.most
+    (l.sums.count ≡ l.k) × AreSplitSums (length l.self.costs) (paid l.x) l.free (front (place l.self) l.k) l.sums
+    × ((j : ℕ) → has_player l.unseen j ≡ (has_player l.free j && not (has_player (front (place l.self) l.k) j)))
+    × IsFrontBound (length l.self.costs) (front (place l.self) l.k) (is_split (airport_game l.self) l.free)
+    (excess (airport_game l.self) l.x) l.most

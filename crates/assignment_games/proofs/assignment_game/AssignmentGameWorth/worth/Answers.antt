@@ -10,14 +10,23 @@ pub overflow_cast-result : goal.overflow_cast-result
 overflow_cast-result c =
     let x = c.index.result.now in
     let values = c.self.inside.values.items in
-    let inside = subst (λ (rows : List (List ℤ)). IsAssignment rows × IsFilled (entries_of rows) (length rows) values (2 ^ (length rows + seller_count rows))) c.self.view_is c.self.invariant in
+    let inside =
+    subst
+    (λ (rows : List (List ℤ)). IsAssignment rows
+    × IsFilled (entries_of rows) (length rows) values (2 ^ (length rows + seller_count rows)))
+    c.self.view_is c.self.invariant in
     let is = c.index.ensures ∙ ap (λ (k : ℕ). get_or values k x) c.s.view_is in
-    fits_signed_from_abs w64 (pos x) (worth_read c.args.self.now values c.args.s x inside.0 inside.1 c.requires is).1
+    fits_signed_from_abs w64 (pos x)
+    (worth_read c.args.self.now values c.args.s x inside.0 inside.1 c.requires is).1
 
 pub returns : goal.returns
 returns c =
     let x = c.index.result.now in
     let values = c.self.inside.values.items in
-    let inside = subst (λ (rows : List (List ℤ)). IsAssignment rows × IsFilled (entries_of rows) (length rows) values (2 ^ (length rows + seller_count rows))) c.self.view_is c.self.invariant in
+    let inside =
+    subst
+    (λ (rows : List (List ℤ)). IsAssignment rows
+    × IsFilled (entries_of rows) (length rows) values (2 ^ (length rows + seller_count rows)))
+    c.self.view_is c.self.invariant in
     let is = c.index.ensures ∙ ap (λ (k : ℕ). get_or values k x) c.s.view_is in
     (worth_read c.args.self.now values c.args.s x inside.0 inside.1 c.requires is).0

@@ -1,7 +1,9 @@
-use Rattle.std.proofs.Common.{◌∙◌, ◌≡◌, ℕ, ◌+◌, ◌*◌, ◌^◌, ◌<◌, ◌≤◌, true, false, length, ℤ, pos, ◌+ℤ◌, ◌<ℤ◌, ◌≤ℤ◌, unsigned_abs, to_z, of_z, sym, ap, arith}
+use Rattle.std.proofs.Common.{◌∙◌, ◌≡◌, ℕ, ◌+◌, ◌*◌, ◌^◌, ◌<◌, ◌≤◌, true, false, length, ℤ, pos, ◌+ℤ◌}
+use Rattle.std.proofs.Common.{◌<ℤ◌, ◌≤ℤ◌, unsigned_abs, to_z, of_z, sym, ap, arith}
 use Rattle.std.proofs.lemmas.Int.{ints}
 use Rattle.bankruptcy.specs.Arms.{arm_at, arm_base, arm_number}
-use Rattle.bankruptcy.proofs.LeastGreatest.{mask_with, linear-empty, IsLeastGreatest-start, IsLeastGreatest-joins, IsLeastGreatest-stays}
+use Rattle.bankruptcy.proofs.LeastGreatest.{mask_with, linear-empty, IsLeastGreatest-start}
+use Rattle.bankruptcy.proofs.LeastGreatest.{IsLeastGreatest-joins, IsLeastGreatest-stays}
 use lib.Signed.{lt_z}
 use mir.Syntax.{w128}
 use Rattle.bankruptcy.proofs.arms.Arm.greatest.Goals as goal
@@ -14,18 +16,25 @@ loop-i-init c =
     let x = c.args.x.now in
     let kept = cast_kept w128 c.base-excess.result (omega (arith, c.base-excess.ensures.small)) in
     let none = linear-empty (arm_base c.args.self.factor b) (length b.claims) (arm_number c.args.self.factor b x) in
-    rw kept (IsLeastGreatest-start (arm_at c.args.self.factor b x) c.empty-coalition.result c.base-excess.result c.empty-coalition.ensures (c.base-excess.ensures.value ∙ sym none), omega (arith, c.base-excess.ensures.small))
+    rw kept (
+      IsLeastGreatest-start (arm_at c.args.self.factor b x) c.empty-coalition.result c.base-excess.result
+          c.empty-coalition.ensures (c.base-excess.ensures.value ∙ sym none),
+      omega (arith, c.base-excess.ensures.small),
+    )
 
 -- ---- one number more, in 128 bits
 
-sum_kept : (m k : ℤ) (i : ℕ) → i < 64 → unsigned_abs m ≤ 2 ^ 110 + i * 2 ^ 111 → unsigned_abs k < 2 ^ 111 → to_z w128 (of_z w128 (m +ℤ to_z w128 (of_z w128 k))) ≡ m +ℤ k
+sum_kept : (m k : ℤ) (i : ℕ) → i < 64 → unsigned_abs m ≤ 2 ^ 110 + i * 2 ^ 111 → unsigned_abs k < 2 ^ 111
+    → to_z w128 (of_z w128 (m +ℤ to_z w128 (of_z w128 k))) ≡ m +ℤ k
 sum_kept m k i lt small number =
     rw (cast_kept w128 k (omega arith)) (cast_kept w128 (m +ℤ k) (omega (arith, ints)))
 
-sum_small : (m k : ℤ) (i : ℕ) → unsigned_abs m ≤ 2 ^ 110 + i * 2 ^ 111 → unsigned_abs k < 2 ^ 111 → unsigned_abs (m +ℤ k) ≤ 2 ^ 110 + (i + 1) * 2 ^ 111
+sum_small : (m k : ℤ) (i : ℕ) → unsigned_abs m ≤ 2 ^ 110 + i * 2 ^ 111 → unsigned_abs k < 2 ^ 111
+    → unsigned_abs (m +ℤ k) ≤ 2 ^ 110 + (i + 1) * 2 ^ 111
 sum_small m k i small number = omega (arith, ints)
 
-still_small : (m : ℤ) (i : ℕ) → unsigned_abs m ≤ 2 ^ 110 + i * 2 ^ 111 → unsigned_abs m ≤ 2 ^ 110 + (i + 1) * 2 ^ 111
+still_small : (m : ℤ) (i : ℕ) → unsigned_abs m ≤ 2 ^ 110 + i * 2 ^ 111
+    → unsigned_abs m ≤ 2 ^ 110 + (i + 1) * 2 ^ 111
 still_small m i small = omega arith
 
 is_positive : (k : ℤ) → lt_z (pos 0) k ≡ true → pos 0 <ℤ k
@@ -54,12 +63,18 @@ loop-i-preserved c =
       | then-number-gt0 w ↦
           let sum = w.excess-is ∙ sum_kept m number i (omega arith) small less in
           let positive = is_positive number (rw kept at w.if-number-gt0.true) in
-          let mask = w.coalition-is ∙ mask_with w.with-coalition.result c.loop-i.coalition i h.within w.with-coalition.ensures in
+          let mask =
+          w.coalition-is
+          ∙ mask_with w.with-coalition.result c.loop-i.coalition i h.within w.with-coalition.ensures in
           rw sum (
-            IsLeastGreatest-joins base (length b.claims) a i c.loop-i.coalition c.if-number-gt0.coalition m (m +ℤ number) lt h (rw (sym value) positive) mask (ap (λ (z : ℤ). m +ℤ z) value),
+            IsLeastGreatest-joins base (length b.claims) a i c.loop-i.coalition c.if-number-gt0.coalition m
+                (m +ℤ number) lt h (rw (sym value) positive) mask (ap (λ (z : ℤ). m +ℤ z) value),
             sum_small m number i small less,
           )
       | else-number-gt0 w ↦
           let low = isnt_positive number (rw kept at w.if-number-gt0.false) in
-          rw (w.excess-is, w.coalition-is) (IsLeastGreatest-stays base (length b.claims) a i c.loop-i.coalition m lt h (rw (sym value) low), still_small m i small)
+          rw (w.excess-is, w.coalition-is) (
+            IsLeastGreatest-stays base (length b.claims) a i c.loop-i.coalition m lt h (rw (sym value) low),
+            still_small m i small,
+          )
     ]

@@ -13,8 +13,11 @@ returns-then-not-are_numbers c =
     let estate = c.args.estate in
     let z = to_z w64 (of_z w64 estate) in
     let kept : z ≡ estate = search rules in
-    let players = have_players cs.items cs.len c.len.result c.is_empty.result cs.ok.0 c.is_empty.ensures c.if-is_empty.false c.len.ensures c.if-len-gt64.false in
-    let asked : AreNumbers estate cs.items → AreNumbers z c.deref.result.now = λ h. rw (kept, c.deref.ensures.value) h in
+    let players =
+    have_players cs.items cs.len c.len.result c.is_empty.result cs.ok.0 c.is_empty.ensures c.if-is_empty.false
+    c.len.ensures c.if-len-gt64.false in
+    let asked : AreNumbers estate cs.items → AreNumbers z c.deref.result.now =
+    λ h. rw (kept, c.deref.ensures.value) h in
     (players, λ h. false≢true (sym c.if-not-are_numbers.true ∙ c.are_numbers.ensures.1 (asked h)))
 
 pub total-requires-clause-small : goal.total-requires-clause-small
@@ -23,7 +26,8 @@ total-requires-clause-small c =
     let estate = c.args.estate in
     let z = to_z w64 (of_z w64 estate) in
     let kept : z ≡ estate = search rules in
-    let numbers : AreNumbers estate cs.items = rw (kept, c.deref.ensures.value) at (c.are_numbers.ensures.0 c.if-not-are_numbers.false) in
+    let numbers : AreNumbers estate cs.items =
+    rw (kept, c.deref.ensures.value) at (c.are_numbers.ensures.0 c.if-not-are_numbers.false) in
     subst (All IsNumber) (sym c.deref-2.ensures.value) numbers.1
 
 pub returns-then-total-estate : goal.returns-then-total-estate
@@ -32,8 +36,11 @@ returns-then-total-estate c =
     let estate = c.args.estate in
     let z = to_z w64 (of_z w64 estate) in
     let kept : z ≡ estate = search rules in
-    let players = have_players cs.items cs.len c.len.result c.is_empty.result cs.ok.0 c.is_empty.ensures c.if-is_empty.false c.len.ensures c.if-len-gt64.false in
-    let numbers : AreNumbers estate cs.items = rw (kept, c.deref.ensures.value) at (c.are_numbers.ensures.0 c.if-not-are_numbers.false) in
+    let players =
+    have_players cs.items cs.len c.len.result c.is_empty.result cs.ok.0 c.is_empty.ensures c.if-is_empty.false
+    c.len.ensures c.if-len-gt64.false in
+    let numbers : AreNumbers estate cs.items =
+    rw (kept, c.deref.ensures.value) at (c.are_numbers.ensures.0 c.if-not-are_numbers.false) in
     let sums = c.total.ensures ∙ ap (sum_by unsigned_abs) c.deref-2.ensures.value in
     (players, numbers, above_claims estate z cs.items c.total.result kept numbers.0 sums c.if-total-estate.true)
 
@@ -43,7 +50,8 @@ naturals-requires c =
     let estate = c.args.estate in
     let z = to_z w64 (of_z w64 estate) in
     let kept : z ≡ estate = search rules in
-    let numbers : AreNumbers estate cs.items = rw (kept, c.deref.ensures.value) at (c.are_numbers.ensures.0 c.if-not-are_numbers.false) in
+    let numbers : AreNumbers estate cs.items =
+    rw (kept, c.deref.ensures.value) at (c.are_numbers.ensures.0 c.if-not-are_numbers.false) in
     subst (All IsNumber) (sym c.deref-3.ensures.value) numbers.1
 
 pub returns-in_default : goal.returns-in_default
@@ -52,10 +60,16 @@ returns-in_default c =
     let estate = c.args.estate in
     let z = to_z w64 (of_z w64 estate) in
     let kept : z ≡ estate = search rules in
-    let players = have_players cs.items cs.len c.len.result c.is_empty.result cs.ok.0 c.is_empty.ensures c.if-is_empty.false c.len.ensures c.if-len-gt64.false in
-    let numbers : AreNumbers estate cs.items = rw (kept, c.deref.ensures.value) at (c.are_numbers.ensures.0 c.if-not-are_numbers.false) in
-    let sums = c.total.ensures ∙ ap (sum_by unsigned_abs) c.deref-2.ensures.value in
-    (players, numbers, not_above_claims estate z cs.items c.total.result kept numbers.0 sums c.if-total-estate.false)
+    let players =
+    have_players cs.items cs.len c.len.result c.is_empty.result cs.ok.0 c.is_empty.ensures c.if-is_empty.false
+    c.len.ensures c.if-len-gt64.false in
+    let numbers : AreNumbers estate cs.items =
+    rw (kept, c.deref.ensures.value) at (c.are_numbers.ensures.0 c.if-not-are_numbers.false) in
+    let sums = c.total.ensures ∙ ap (sum_by unsigned_abs) c.deref-2.ensures.value in (
+      players,
+      numbers,
+      not_above_claims estate z cs.items c.total.result kept numbers.0 sums c.if-total-estate.false,
+    )
 
 pub invariant_of-result : goal.invariant_of-result
 invariant_of-result c =
@@ -63,10 +77,14 @@ invariant_of-result c =
     let estate = c.args.estate in
     let z = to_z w64 (of_z w64 estate) in
     let kept : z ≡ estate = search rules in
-    let players = have_players cs.items cs.len c.len.result c.is_empty.result cs.ok.0 c.is_empty.ensures c.if-is_empty.false c.len.ensures c.if-len-gt64.false in
-    let numbers : AreNumbers estate cs.items = rw (kept, c.deref.ensures.value) at (c.are_numbers.ensures.0 c.if-not-are_numbers.false) in
+    let players =
+    have_players cs.items cs.len c.len.result c.is_empty.result cs.ok.0 c.is_empty.ensures c.if-is_empty.false
+    c.len.ensures c.if-len-gt64.false in
+    let numbers : AreNumbers estate cs.items =
+    rw (kept, c.deref.ensures.value) at (c.are_numbers.ensures.0 c.if-not-are_numbers.false) in
     let sums = c.total.ensures ∙ ap (sum_by unsigned_abs) c.deref-2.ensures.value in
-    is_bankruptcy estate z cs.items c.total.result kept numbers.0 sums c.in-Ok.claims.items (c.in-Ok.ensures.0 ∙ c.deref-3.ensures.value) c.in-Ok.ensures.1 players c.if-total-estate.false
+    is_bankruptcy estate z cs.items c.total.result kept numbers.0 sums c.in-Ok.claims.items
+    (c.in-Ok.ensures.0 ∙ c.deref-3.ensures.value) c.in-Ok.ensures.1 players c.if-total-estate.false
 
 pub returns : goal.returns
 returns c =
@@ -74,6 +92,7 @@ returns c =
     let estate = c.args.estate in
     let z = to_z w64 (of_z w64 estate) in
     let kept : z ≡ estate = search rules in
-    let numbers : AreNumbers estate cs.items = rw (kept, c.deref.ensures.value) at (c.are_numbers.ensures.0 c.if-not-are_numbers.false) in
+    let numbers : AreNumbers estate cs.items =
+    rw (kept, c.deref.ensures.value) at (c.are_numbers.ensures.0 c.if-not-are_numbers.false) in
     let sums = c.total.ensures ∙ ap (sum_by unsigned_abs) c.deref-2.ensures.value in
     (same_estate estate z cs.items c.total.result kept numbers.0 sums, c.in-Ok.ensures.0 ∙ c.deref-3.ensures.value)

@@ -11,6 +11,9 @@ returns c =
     let x = c.args.x.now in
     let f = c.nothing.result.factor in
     let g = c.rest.result.factor in
-    let best = c.or.ensures (arm_at f b x) (arm_at g b x) (2 ^ length b.claims) c.greatest-nothing.ensures c.greatest-rest.ensures in
+    let best =
+    c.or.ensures (arm_at f b x) (arm_at g b x) (2 ^ length b.claims) c.greatest-nothing.ensures
+    c.greatest-rest.ensures in
     blocker-least (bankruptcy_game b) x _ c.or.result.coalition c.or.result.excess c.blocking.result
-    (λ s lt. excess-arms b x f g s c.requires c.rest.ensures.positive c.nothing.ensures c.rest.ensures.factor lt) best c.blocking.ensures.blocks c.blocking.ensures.none
+    (λ s lt. excess-arms b x f g s c.requires c.rest.ensures.positive c.nothing.ensures c.rest.ensures.factor lt)
+    best c.blocking.ensures.blocks c.blocking.ensures.none

@@ -16,5 +16,8 @@ returns c =
     let nothing = to_z-of_z w128 c.split_bound-nothing.result (record { sfits = c.split_bound-nothing.type_inv }) in
     let rest = to_z-of_z w128 c.split_bound-rest.result (record { sfits = c.split_bound-rest.type_inv }) in
     let kept = to_z-of_z w128 c.max.result (record { sfits = c.max.type_inv }) in
-    IsSplitMaximum-greater (bankruptcy_game b) x c.args.free (arm_at f b x) (arm_at g b x) c.split_bound-nothing.result c.split_bound-rest.result _
-    (λ s lt. excess-arms b x f g s c.requires.shares c.rest.ensures.positive c.nothing.ensures c.rest.ensures.factor lt) c.split_bound-nothing.ensures c.split_bound-rest.ensures (kept ∙ rw (nothing, rest) at c.max.ensures.value)
+    IsSplitMaximum-greater (bankruptcy_game b) x c.args.free (arm_at f b x) (arm_at g b x)
+    c.split_bound-nothing.result c.split_bound-rest.result _
+    (λ s lt. excess-arms b x f g s c.requires.shares c.rest.ensures.positive c.nothing.ensures c.rest.ensures.factor
+    lt) c.split_bound-nothing.ensures c.split_bound-rest.ensures
+    (kept ∙ rw (nothing, rest) at c.max.ensures.value)

@@ -1,4 +1,4 @@
-use Rattle.std.proofs.Common.{length, slice_index, arith}
+use Rattle.std.proofs.Common.{◌≡◌, pos, length, slice_index, arith}
 use Rattle.std.proofs.lemmas.Result.{IfOk-weaker}
 use Rattle.definitions.specs.Sides.{IsBestFor, IsBuyer}
 use Rattle.assignment_games.specs.Assignments.{assignment_game}
@@ -16,13 +16,27 @@ shares_of-requires-clause-small c =
     let n = c.players.ensures.count in
     let e = c.buyers-rows.ensures.count in
     let p = c.buyers-rows.ensures.laws.players in
-    λ k lt. payoff_small (offers d.table) c.buyers-rows.result k (slice_index l.gains) (slice_index l.prices) (slice_index d.columns) c.requires.offers_small (omega (arith, e, p.1)) c.cheapest-low.ensures.fair (omega (arith, lt, n, e, p.3))
+    λ k lt. payoff_small (offers d.table) c.buyers-rows.result k (slice_index l.gains) (slice_index l.prices)
+    (slice_index d.columns) c.requires.offers_small (omega (arith, e, p.1)) c.cheapest-low.ensures.fair
+    (omega (arith, lt, n, e, p.3))
 
-pub returns : goal.returns
-returns c =
+pub returns-clause-best : goal.returns-clause-best
+returns-clause-best c =
     let d = c.args.deal.now in
     let l = c.cheapest-low.result in
     let rows = c.args.self.now in
-    IfOk-weaker c.shares_of.result (λ x. IsWhole c.players.result x 1 (payoff c.buyers-rows.result (slice_index l.gains) (slice_index l.prices))) (IsBestFor (assignment_game rows) (IsBuyer (length rows)))
-    (λ x whole. buyers_end (offers d.table) rows c.buyers-rows.result c.players.result (slice_index d.gains) (slice_index d.prices) (slice_index d.columns) (slice_index l.gains) (slice_index l.prices) x c.buyers-rows.ensures.laws c.requires.table c.requires.fair c.buyers-rows.ensures.count c.players.ensures.count c.cheapest-low.ensures.fair c.cheapest-low.ensures.below whole)
+    IfOk-weaker c.shares_of.result
+    (λ x. IsWhole c.players.result x 1 (payoff c.buyers-rows.result (slice_index l.gains) (slice_index l.prices)))
+    (IsBestFor (assignment_game rows) (IsBuyer (length rows)))
+    (λ x whole. buyers_end (offers d.table) rows c.buyers-rows.result c.players.result (slice_index d.gains)
+    (slice_index d.prices) (slice_index d.columns) (slice_index l.gains) (slice_index l.prices) x
+    c.buyers-rows.ensures.laws c.requires.table c.requires.fair c.buyers-rows.ensures.count
+    c.players.ensures.count c.cheapest-low.ensures.fair c.cheapest-low.ensures.below whole)
     c.shares_of.ensures
+
+pub returns-clause-den : goal.returns-clause-den
+returns-clause-den c =
+    let l = c.cheapest-low.result in
+    IfOk-weaker c.shares_of.result
+    (λ x. IsWhole c.players.result x 1 (payoff c.buyers-rows.result (slice_index l.gains) (slice_index l.prices)))
+    (λ x. x.den ≡ pos 1) (λ x whole. whole.den) c.shares_of.ensures

@@ -14,7 +14,8 @@ add_row-requires-clause-fair c = c.loop-n.invariant.2
 pub loop-n-preserved : goal.loop-n-preserved
 loop-n-preserved c =
     let rows = c.args.self.now in (
-      λ i j lt le. subst (λ (t : List ℕ). offers t i j ≡ offered (entries_of rows) (length rows) c.args.s i j) (sym c.add_row.ensures.table) (c.loop-n.invariant.0 i j lt le),
+      λ i j lt le. subst (λ (t : List ℕ). offers t i j ≡ offered (entries_of rows) (length rows) c.args.s i j)
+          (sym c.add_row.ensures.table) (c.loop-n.invariant.0 i j lt le),
       subst (λ (t : List ℕ). AreOffers (offers t)) (sym c.add_row.ensures.table) c.loop-n.invariant.1,
       c.add_row.ensures.fair,
     )

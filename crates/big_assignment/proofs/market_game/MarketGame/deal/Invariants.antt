@@ -6,6 +6,7 @@ use Rattle.big_assignment.proofs.market_game.MarketGame.deal.Given as goal
 
 abbrev pub invariant-loop-n : goal.invariant-loop-n
 invariant-loop-n l =
-    ((i j : ℕ) → i < 32 → j ≤ 32 → offers l.deal.table i j ≡ offered (entries_of l.fn.self) (length l.fn.self) l.fn.s i j)
+    ((i j : ℕ) → i < 32 → j ≤ 32
+    → offers l.deal.table i j ≡ offered (entries_of l.fn.self) (length l.fn.self) l.fn.s i j)
     × AreDealOffers l.deal
     × IsFairDeal l.deal l.n

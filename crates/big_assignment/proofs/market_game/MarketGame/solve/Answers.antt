@@ -8,4 +8,7 @@ returns-clause-pairs c =
     let d = c.deal_of_all-deal.result in
     let h = c.deal_of_all-deal.ensures in
     let rows = c.args.self.now in
-    pairs_end (offers d.table) rows c.buyers.result c.sellers.result (slice_index d.gains) (slice_index d.prices) (slice_index d.columns) c.in_ok-pairs.pairs.items _ c.buyers.ensures.laws h.table h.fair c.buyers.ensures.count c.sellers.ensures.count c.in_ok-pairs.ensures (value_kept rows c.everybody.result c.worth.result c.buyers.ensures.laws c.everybody.ensures c.worth.ensures)
+    pairs_end (offers d.table) rows c.buyers.result c.sellers.result (slice_index d.gains) (slice_index d.prices)
+    (slice_index d.columns) c.in_ok-pairs.pairs.items _ c.buyers.ensures.laws h.table h.fair
+    c.buyers.ensures.count c.sellers.ensures.count c.in_ok-pairs.ensures
+    (value_kept rows c.everybody.result c.worth.result c.buyers.ensures.laws c.everybody.ensures c.worth.ensures)

@@ -7,7 +7,8 @@ pub returns-clause-steps : goal.returns-clause-steps
 returns-clause-steps c =
     let k = c.self.inside.upcoming in
     let n = c.self.inside.players in
-    sym c.self.view_is ∙ steps_next n k (still_upcoming n k c.self.invariant.0 c.self.invariant.1 c.if-self.false) ∙ ap (λ s. s ∷ steps_from n (k + 1)) (sym c.at-step.ensures)
+    sym c.self.view_is ∙ steps_next n k (still_upcoming n k c.self.invariant.0 c.self.invariant.1 c.if-self.false)
+    ∙ ap (λ s. s ∷ steps_from n (k + 1)) (sym c.at-step.ensures)
 
 pub returns-clause-goes : goal.returns-clause-goes
 returns-clause-goes c =

@@ -9,8 +9,14 @@ invariant_of-result c =
     let count = c.len-n.ensures.count in
     let most = c.half_players-split.ensures.split.most in
     elim c.if-split-n.branch [
-      | then-split-n w ↦ rw w.result-is (record { some = omega (arith, w.if-split-n.true); few = omega (arith, few, count); small = omega (arith, most, c.requires.amount) })
-      | else-split-n w ↦ rw w.result-is (record { some = omega arith; few = omega arith; small = omega (arith, c.requires.small) })
+      | then-split-n w ↦ rw w.result-is
+          (record {
+            some = omega (arith, w.if-split-n.true);
+            few = omega (arith, few, count);
+            small = omega (arith, most, c.requires.amount);
+          })
+      | else-split-n w ↦ rw w.result-is
+          (record { some = omega arith; few = omega arith; small = omega (arith, c.requires.small) })
     ]
 
 pub returns : goal.returns
@@ -21,8 +27,12 @@ returns c =
     elim c.if-split-n.branch [
       | then-split-n w ↦
           let lt = rw count at w.if-split-n.true in
-          rw (w.result-is, count) (IsDivision-rest c.args.estate c.args.claims.now c.args.gain c.args.amount _ _ laws c.requires.side c.requires.divided split lt (c.half_players-split.ensures.stop lt))
+          rw (w.result-is, count)
+          (IsDivision-rest c.args.estate c.args.claims.now c.args.gain c.args.amount _ _ laws c.requires.side
+          c.requires.divided split lt (c.half_players-split.ensures.stop lt))
       | else-split-n w ↦
           let le = rw count at w.if-split-n.false in
-          rw (w.result-is, count) (IsDivision-all c.args.estate c.args.claims.now c.args.gain c.args.amount _ _ laws c.requires.cut c.requires.side c.requires.divided split le)
+          rw (w.result-is, count)
+          (IsDivision-all c.args.estate c.args.claims.now c.args.gain c.args.amount _ _ laws c.requires.cut
+          c.requires.side c.requires.divided split le)
     ]

@@ -1,4 +1,5 @@
-use Rattle.std.proofs.Common.{arith, ap, sym, ◌∙◌, ℕ, ◌≡◌, ◌-◌, ◌*◌, ◌%◌, ◌^◌, ◌<◌, List, [], ◌∷◌, ◌++◌, replicate, refl, subst, set, pos, ℤ, to_z, of_z, length}
+use Rattle.std.proofs.Common.{arith, ap, sym, ◌∙◌, ℕ, ◌≡◌, ◌-◌, ◌*◌, ◌%◌, ◌^◌, ◌<◌, List, [], ◌∷◌, ◌++◌}
+use Rattle.std.proofs.Common.{replicate, refl, subst, set, pos, ℤ, to_z, of_z, length}
 use Rattle.std.proofs.lemmas.List.{length-replicate}
 use mir.Syntax.{w128}
 use Rattle.definitions.proofs.Casts.{cast_kept}
@@ -22,13 +23,23 @@ loop-k-init c =
     let len : c.points-points.result - 1 ≡ length t - 1 = omega arith in
     let made = c.in_ok-num.ensures.items_if_clones_equal (λ y e. e) in
     let all = c.waiting.view_is ∙ c.all.ensures ∙ ap grand_coalition len in
-    let twice = doubled (length t) (grand_coalition (length t - 1)) c.waiting.inside.0 (omega (arith, same, few)) (grand_coalition-within (length t - 1)) all in
-    subst (λ (l : List (ℕ × ℕ × ℤ)). BirdState t 0 num l 1 (c.waiting.inside.0 * 2 % 2 ^ 64)) (sym c.new-edges.ensures.items) (bird_start t num (c.waiting.inside.0 * 2 % 2 ^ 64) c.points-points.ensures.laws (ap length made ∙ length-replicate (c.points-points.result - 1) (pos 0) ∙ len) (made ∙ ap (λ (n : ℕ). replicate n (pos 0)) len) twice)
+    let twice =
+    doubled (length t) (grand_coalition (length t - 1)) c.waiting.inside.0 (omega (arith, same, few))
+    (grand_coalition-within (length t - 1)) all in
+    subst (λ (l : List (ℕ × ℕ × ℤ)). BirdState t 0 num l 1 (c.waiting.inside.0 * 2 % 2 ^ 64))
+    (sym c.new-edges.ensures.items)
+    (bird_start t num (c.waiting.inside.0 * 2 % 2 ^ 64) c.points-points.ensures.laws
+    (ap length made ∙ length-replicate (c.points-points.result - 1) (pos 0) ∙ len)
+    (made ∙ ap (λ (n : ℕ). replicate n (pos 0)) len) twice)
 
 pub overflow_sub-player : goal.overflow_sub-player
 overflow_sub-player c =
     let t = c.args.self.now in
-    let taken = pair_taken t c.loop-k._k c.loop-k.num.items c.loop-k.edges.items c.loop-k.connected c.loop-k.waiting c.next_end-end.result c.nearest-player.result c.loop-k.invariant (let lt = c.loop-k-test.true in let same = c.points-points.ensures.count in omega (arith, lt, same)) c.next_end-end.ensures.value c.nearest-player.ensures.value in
+    let taken =
+    pair_taken t c.loop-k._k c.loop-k.num.items c.loop-k.edges.items c.loop-k.connected c.loop-k.waiting
+    c.next_end-end.result c.nearest-player.result c.loop-k.invariant
+    (let lt = c.loop-k-test.true in let same = c.points-points.ensures.count in omega (arith, lt, same))
+    c.next_end-end.ensures.value c.nearest-player.ensures.value in
     (c.loop-k.invariant.far c.nearest-player.result taken.1).0
 
 pub loop-k-preserved : goal.loop-k-preserved
@@ -40,16 +51,25 @@ loop-k-preserved c =
     let edges = c.loop-k.edges.items in
     let v = c.owed.result in
     let cost = pos (entries_of t end player) in
-    let lt : c.loop-k._k < length t - 1 = (let test = c.loop-k-test.true in let same = c.points-points.ensures.count in omega (arith, test, same)) in
-    let taken = pair_taken t c.loop-k._k num edges c.loop-k.connected c.loop-k.waiting end player c.loop-k.invariant lt c.next_end-end.ensures.value c.nearest-player.ensures.value in
+    let lt : c.loop-k._k < length t - 1 =
+    (let test = c.loop-k-test.true in let same = c.points-points.ensures.count in omega (arith, test, same)) in
+    let taken =
+    pair_taken t c.loop-k._k num edges c.loop-k.connected c.loop-k.waiting end player c.loop-k.invariant lt
+    c.next_end-end.ensures.value c.nearest-player.ensures.value in
     let kept : to_z w128 (of_z w128 v) ≡ v = cast_kept w128 v (omega (arith, c.owed.ensures.small)) in
-    let pushed : c.push.new.self.items ≡ edges ++ (end, player, cost) ∷ [] = c.in_ok-push.ensures.items ∙ ap (λ (e : ℕ × ℕ × ℤ). edges ++ e ∷ []) c.edge.ensures in
-    bird_takes t c.loop-k._k num (set num (player - 1) (to_z w128 (of_z w128 v))) edges c.push.new.self.items c.loop-k.connected c.with-connected.result c.loop-k.waiting c.without-waiting.result end player v cost c.points-points.ensures.laws c.loop-k.invariant lt taken c.with-connected.ensures c.without-waiting.ensures (ap (λ (z : ℤ). set num (player - 1) z) kept) c.owed.ensures.value pushed refl
+    let pushed : c.push.new.self.items ≡ edges ++ (end, player, cost) ∷ [] =
+    c.in_ok-push.ensures.items ∙ ap (λ (e : ℕ × ℕ × ℤ). edges ++ e ∷ []) c.edge.ensures in
+    bird_takes t c.loop-k._k num (set num (player - 1) (to_z w128 (of_z w128 v))) edges c.push.new.self.items
+    c.loop-k.connected c.with-connected.result c.loop-k.waiting c.without-waiting.result end player v cost
+    c.points-points.ensures.laws c.loop-k.invariant lt taken c.with-connected.ensures c.without-waiting.ensures
+    (ap (λ (z : ℤ). set num (player - 1) z) kept) c.owed.ensures.value pushed refl
 
 pub unwrap-shares-requires : goal.unwrap-shares-requires
 unwrap-shares-requires c =
     let t = c.args.self.now in
-    is_some (IsShares (allocation c.loop-k.num.items (pos 1))) _ c.new.result c.new.ensures (bird_shares t c.loop-k._k c.loop-k.num.items c.loop-k.edges.items c.loop-k.connected c.loop-k.waiting c.points-points.ensures.laws c.loop-k.invariant)
+    is_some (IsShares (allocation c.loop-k.num.items (pos 1))) _ c.new.result c.new.ensures
+    (bird_shares t c.loop-k._k c.loop-k.num.items c.loop-k.edges.items c.loop-k.connected c.loop-k.waiting
+    c.points-points.ensures.laws c.loop-k.invariant)
 
 pub returns : goal.returns
 returns c =
@@ -57,4 +77,6 @@ returns c =
     let same = c.points-points.ensures.count in
     let end = c.loop-k-test.false in
     let new = rw c.unwrap-shares.ensures at c.new.ensures in
-    subst (λ (x : Allocation). IsBird t x c.loop-k.edges.items) (sym new.0) (bird_end t c.loop-k._k c.loop-k.num.items c.loop-k.edges.items c.loop-k.connected c.loop-k.waiting c.points-points.ensures.laws c.loop-k.invariant (omega (arith, end, same)))
+    subst (λ (x : Allocation). IsBird t x c.loop-k.edges.items) (sym new.0)
+    (bird_end t c.loop-k._k c.loop-k.num.items c.loop-k.edges.items c.loop-k.connected c.loop-k.waiting
+    c.points-points.ensures.laws c.loop-k.invariant (omega (arith, end, same)))

@@ -10,4 +10,5 @@ returns-clause-value c =
     let m = length c.args.self.now in
     c.closest.ensures.value
     ∙ ap (closest (slice_index c.links_of-links.result) (has_player c.args.waiting)) c.points.ensures.count
-    ∙ closest-same (slice_index c.links_of-links.result) (entries_of c.args.self.now c.args.p) (has_player c.args.waiting) m m (omega arith) c.links_of-links.ensures.value
+    ∙ closest-same (slice_index c.links_of-links.result) (entries_of c.args.self.now c.args.p)
+    (has_player c.args.waiting) m m (omega arith) c.links_of-links.ensures.value

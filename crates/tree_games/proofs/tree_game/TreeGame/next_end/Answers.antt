@@ -10,4 +10,6 @@ returns-clause-value c =
     let m = length c.args.self.now in
     c.closest.ensures.value
     ∙ ap (closest (slice_index c.reaches-reaches.result) (has_player c.args.connected)) c.points.ensures.count
-    ∙ closest-same (slice_index c.reaches-reaches.result) (reach (entries_of c.args.self.now) m (has_player c.args.waiting)) (has_player c.args.connected) m m (omega arith) c.reaches-reaches.ensures.value
+    ∙ closest-same (slice_index c.reaches-reaches.result)
+    (reach (entries_of c.args.self.now) m (has_player c.args.waiting)) (has_player c.args.connected) m m
+    (omega arith) c.reaches-reaches.ensures.value

@@ -6,4 +6,6 @@ use Rattle.tree_games.proofs.tree_game.TreeGame.reaches.Given as goal
 
 abbrev pub invariant-loop-b : goal.invariant-loop-b
 invariant-loop-b l =
-    (length l.reaches ≡ 17) × ((k : ℕ) → k < l.b → slice_index l.reaches k ≡ reach (entries_of l.self) (length l.self) (has_player l.waiting) k)
+    (length l.reaches ≡ 17)
+    × ((k : ℕ) → k < l.b
+    → slice_index l.reaches k ≡ reach (entries_of l.self) (length l.self) (has_player l.waiting) k)
