@@ -1,5 +1,6 @@
 -- Behind the tests of what is written, the tests of a certificate's form decide the form of its levels.
-use Rattle.std.proofs.Common.{◌≡◌, ℕ, ◌+◌, ◌≤◌, Bool, true, false, ◌&&◌, nat_le, if◌then◌else◌, List, [], ◌∷◌, ◌++◌, map, length, Some, None, pos, ◌≤ℤ◌, codes, refl, sym, ap, ◌∙◌, inl, inr, arith}
+use Rattle.std.proofs.Common.{◌≡◌, ℕ, ◌+◌, ◌≤◌, Bool, true, false, ◌&&◌, nat_le, if◌then◌else◌, List, [], ◌∷◌, ◌++◌}
+use Rattle.std.proofs.Common.{map, length, Some, None, pos, ◌≤ℤ◌, codes, refl, sym, ap, ◌∙◌, inl, inr, arith}
 use Rattle.std.specs.Prelude.{unwrap_or, ◌⊎◌}
 use Rattle.std.specs.Bool.{Decides}
 use Rattle.std.specs.List.{list_all}
@@ -16,16 +17,20 @@ use Rattle.kohlberg.proofs.Forms.{Decides-level_form}
 use Rattle.json_trees.proofs.Fractions.{scaled_at_reduced}
 use Rattle.certificate_texts.specs.Shape.{mode_of}
 use Rattle.certificate_texts.specs.Levels.{level_of}
-use Rattle.certificate_texts.specs.Certificates.{level_trees, levels_of, certificate_of, allows_mode, has_few_levels, is_written, have_form, has_form}
+use Rattle.certificate_texts.specs.Certificates.{level_trees, levels_of, certificate_of, allows_mode}
+use Rattle.certificate_texts.specs.Certificates.{has_few_levels, is_written, have_form, has_form}
 
 level_positive : (k n : ℕ) (d : Data) → pos 1 ≤ℤ (level_of k n d).excess_den
 level_positive k n d = (scaled_at_reduced k (codes "excess") d).positive
 
-decides_levels : (k n : ℕ) (front : List Level) (ds : List Data) → Decides (have_form n front (map (level_of k n) ds)) (LevelsForm n front (map (level_of k n) ds))
+decides_levels : (k n : ℕ) (front : List Level) (ds : List Data)
+    → Decides (have_form n front (map (level_of k n) ds)) (LevelsForm n front (map (level_of k n) ds))
 decides_levels k n front [] = (λ h. tt, λ h. refl)
 decides_levels k n front (d ∷ ds) =
-    Decides-and (level_form n front (level_of k n d)) (have_form n (front ++ level_of k n d ∷ []) (map (level_of k n) ds))
-    (Decides-level_form n front (level_of k n d) (level_positive k n d)) (decides_levels k n (front ++ level_of k n d ∷ []) ds)
+    Decides-and (level_form n front (level_of k n d))
+    (have_form n (front ++ level_of k n d ∷ []) (map (level_of k n) ds))
+    (Decides-level_form n front (level_of k n d) (level_positive k n d))
+    (decides_levels k n (front ++ level_of k n d ∷ []) ds)
 
 few_for_span : (n : ℕ) → (Span ≡ Players) ⊎ (n ≤ 16) → nat_le n 16 ≡ true
 few_for_span n (inl e) = absurd (cc e)
@@ -49,8 +54,12 @@ from_few_levels k n c h =
 module _ (k n : ℕ) (m : Mode) (c : Data) (named : mode_of c ≡ Some m) where
   pub form_holds : has_form k n c ≡ true → HasForm m n (levels_of k n c)
   form_holds h =
-      let a = and_parts (allows_mode n (mode_of c) && has_few_levels n c && list_all (is_written k n) (level_trees c)) (have_form n [] (levels_of k n c)) h in
-      let b = and_parts (allows_mode n (mode_of c) && has_few_levels n c) (list_all (is_written k n) (level_trees c)) a.0 in
+      let a =
+      and_parts (allows_mode n (mode_of c) && has_few_levels n c && list_all (is_written k n) (level_trees c))
+      (have_form n [] (levels_of k n c)) h in
+      let b =
+      and_parts (allows_mode n (mode_of c) && has_few_levels n c) (list_all (is_written k n) (level_trees c))
+      a.0 in
       let d = and_parts (allows_mode n (mode_of c)) (has_few_levels n c) b.0 in
       record {
         players = (decides_mode n m).0 (ap (allows_mode n) (sym named) ∙ d.0);
@@ -58,18 +67,25 @@ module _ (k n : ℕ) (m : Mode) (c : Data) (named : mode_of c ≡ Some m) where
         each = (decides_levels k n [] (level_trees c)).0 a.1;
       }
 
-  pub form_passes : list_all (is_written k n) (level_trees c) ≡ true → HasForm m n (levels_of k n c) → has_form k n c ≡ true
+  pub form_passes : list_all (is_written k n) (level_trees c) ≡ true → HasForm m n (levels_of k n c)
+      → has_form k n c ≡ true
   form_passes w f =
-      and_from (allows_mode n (mode_of c) && has_few_levels n c && list_all (is_written k n) (level_trees c)) (have_form n [] (levels_of k n c))
+      and_from (allows_mode n (mode_of c) && has_few_levels n c && list_all (is_written k n) (level_trees c))
+      (have_form n [] (levels_of k n c))
       (and_from (allows_mode n (mode_of c) && has_few_levels n c) (list_all (is_written k n) (level_trees c))
-      (and_from (allows_mode n (mode_of c)) (has_few_levels n c) (ap (allows_mode n) named ∙ (decides_mode n m).1 f.players) (from_few_levels k n c f.few)) w)
+      (and_from (allows_mode n (mode_of c)) (has_few_levels n c)
+      (ap (allows_mode n) named ∙ (decides_mode n m).1 f.players) (from_few_levels k n c f.few)) w)
       ((decides_levels k n [] (level_trees c)).1 f.each)
 
-  if_formed : (x : CertificateData) (b : Bool) → b ≡ true → x ≡ record { players = n; mode = m; levels = levels_of k n c } → Some x ≡ (if b then Some (certificate_of k n c) else None)
-  if_formed x true h e = ap Some (e ∙ ap (λ o. record { players = n; mode = unwrap_or o Players; levels = levels_of k n c }) (sym named))
+  if_formed : (x : CertificateData) (b : Bool) → b ≡ true
+      → x ≡ record { players = n; mode = m; levels = levels_of k n c }
+      → Some x ≡ (if b then Some (certificate_of k n c) else None)
+  if_formed x true h e =
+      ap Some (e ∙ ap (λ o. record { players = n; mode = unwrap_or o Players; levels = levels_of k n c }) (sym named))
   if_formed x false h e = absurd (false≢true h)
 
-  pub formed : (x : CertificateData) → list_all (is_written k n) (level_trees c) ≡ true → x ≡ record { players = n; mode = m; levels = levels_of k n c } → HasForm m n (levels_of k n c)
+  pub formed : (x : CertificateData) → list_all (is_written k n) (level_trees c) ≡ true
+      → x ≡ record { players = n; mode = m; levels = levels_of k n c } → HasForm m n (levels_of k n c)
       → Some x ≡ (if has_form k n c then Some (certificate_of k n c) else None)
   formed x w e f = if_formed x (has_form k n c) (form_passes w f) e
 
@@ -77,5 +93,6 @@ if_not : {A : Type 0} (b : Bool) (x : A) → (b ≡ true → ⊥) → None ≡ (
 if_not true x h = absurd (h refl)
 if_not false x h = refl
 
-pub malformed : (k n : ℕ) (m : Mode) (c : Data) → mode_of c ≡ Some m → ¬ HasForm m n (levels_of k n c) → None ≡ (if has_form k n c then Some (certificate_of k n c) else None)
+pub malformed : (k n : ℕ) (m : Mode) (c : Data) → mode_of c ≡ Some m → ¬ HasForm m n (levels_of k n c)
+    → None ≡ (if has_form k n c then Some (certificate_of k n c) else None)
 malformed k n m c named h = if_not (has_form k n c) (certificate_of k n c) (λ e. h (form_holds k n m c named e))

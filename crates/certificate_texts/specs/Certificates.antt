@@ -10,7 +10,8 @@
 --   is_written        the excess, the pairs and the total of a level can be read
 --   have_form         each level has its form behind those in front
 --   has_form          the form of a certificate for n players
-use Rattle.std.specs.Prelude.{ℕ, codes, List, [], ◌∷◌, ◌++◌, length, map, Bool, true, false, ◌&&◌, Option, Some, None, is_some, unwrap_or, nat_lt, nat_le}
+use Rattle.std.specs.Prelude.{ℕ, codes, List, [], ◌∷◌, ◌++◌, length, map, Bool, true, false, ◌&&◌}
+use Rattle.std.specs.Prelude.{Option, Some, None, is_some, unwrap_or, nat_lt, nat_le}
 use Rattle.std.specs.List.{list_all}
 use Rattle.serde_json.specs.Data.{Data}
 use Rattle.serde_json.specs.Find.{get}
@@ -35,7 +36,8 @@ levels_of k n certificate = map (level_of k n) (level_trees certificate)
 
 -- what the tree of a certificate for n players describes, its excesses times the scale k
 abbrev pub certificate_of : ℕ → ℕ → Data → CertificateData
-certificate_of k n certificate = record { players = n; mode = unwrap_or (mode_of certificate) Players; levels = levels_of k n certificate }
+certificate_of k n certificate =
+    record { players = n; mode = unwrap_or (mode_of certificate) Players; levels = levels_of k n certificate }
 
 -- ---- the form
 
@@ -61,7 +63,11 @@ lists_player n pair = is_some (first_player n (parts pair)) && second_passes is_
 -- the total is an integer
 abbrev pub is_written : ℕ → ℕ → Data → Bool
 is_written k n level =
-    passes (is_scaled k) (get (codes "excess") level) && list_all (lists_coalition n) (parts_at (codes "coalitions") level) && list_all (lists_coalition n) (parts_at (codes "earlier") level) && list_all (lists_player n) (parts_at (codes "bounds") level) && passes is_integer (get (codes "total") level)
+    passes (is_scaled k) (get (codes "excess") level)
+    && list_all (lists_coalition n) (parts_at (codes "coalitions") level)
+    && list_all (lists_coalition n) (parts_at (codes "earlier") level)
+    && list_all (lists_player n) (parts_at (codes "bounds") level)
+    && passes is_integer (get (codes "total") level)
 
 -- each level behind those in front has 1 to 65,536 coalitions and at most 65,536 earlier ones; coalitions are neither
 -- empty nor all, earlier ones stand in the coalitions of a level in front; masks and players ascend strictly; weights
@@ -73,4 +79,5 @@ have_form n front (l ∷ levels) = level_form n front l && have_form n (front ++
 -- the form of a certificate for n players, in a document with the scale k
 abbrev pub has_form : ℕ → ℕ → Data → Bool
 has_form k n certificate =
-    allows_mode n (mode_of certificate) && has_few_levels n certificate && list_all (is_written k n) (level_trees certificate) && have_form n [] (levels_of k n certificate)
+    allows_mode n (mode_of certificate) && has_few_levels n certificate
+    && list_all (is_written k n) (level_trees certificate) && have_form n [] (levels_of k n certificate)

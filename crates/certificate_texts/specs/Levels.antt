@@ -9,7 +9,8 @@
 --   first_player         the player that the first of two items names
 --   weighted_player      a player and its weight
 --   level_of             what the tree of a level describes, its excess times the scale, where no test refuses it
-use Rattle.std.specs.Prelude.{◌+◌, ◌-◌, ◌^◌, ℕ, ℤ, pos, negsuc, codes, List, [], ◌∷◌, map, ◌&&◌, Option, Some, None, option_and_then, option_map, unwrap_or, nat_lt, nat_le, if◌then◌else◌}
+use Rattle.std.specs.Prelude.{◌+◌, ◌-◌, ◌^◌, ℕ, ℤ, pos, negsuc, codes, List, [], ◌∷◌, map, ◌&&◌, Option, Some, None}
+use Rattle.std.specs.Prelude.{option_and_then, option_map, unwrap_or, nat_lt, nat_le, if◌then◌else◌}
 use Rattle.serde_json.specs.Data.{Data}
 use Rattle.definitions.specs.Certificates.{Level}
 use Rattle.json_trees.specs.Trees.{parts, parts_at, pair_members, integer}
@@ -31,7 +32,8 @@ number_above low n d = option_and_then (number_between low n) (integer d)
 -- numbers that ascend strictly, above low and at most n
 abbrev pub numbers_above : ℕ → ℕ → List Data → Option (List ℕ)
 numbers_above low n [] = Some []
-numbers_above low n (d ∷ ds) = option_and_then (λ k. option_map (λ ks. k ∷ ks) (numbers_above k n ds)) (number_above low n d)
+numbers_above low n (d ∷ ds) =
+    option_and_then (λ k. option_map (λ ks. k ∷ ks) (numbers_above k n ds)) (number_above low n d)
 
 -- the mask of the players with these numbers: the sum of their bits
 abbrev pub mask_by_numbers : List ℕ → ℕ

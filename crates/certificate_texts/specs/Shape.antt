@@ -10,7 +10,8 @@
 --   is_weighted_player      the number of a player, and a weight
 --   is_level                a level has its keys and kinds
 --   is_certificate          a certificate has its keys, kinds and words
-use Rattle.std.specs.Prelude.{ℕ, List, [], ◌∷◌, codes, Bool, ◌&&◌, Option, Some, None, is_some, option_and_then, if◌then◌else◌}
+use Rattle.std.specs.Prelude.{ℕ, List, [], ◌∷◌, codes, Bool, ◌&&◌, Option, Some, None}
+use Rattle.std.specs.Prelude.{is_some, option_and_then, if◌then◌else◌}
 use Rattle.std.specs.Str.{bytes_eq}
 use Rattle.serde_json.specs.Data.{Data}
 use Rattle.serde_json.specs.Find.{get, as_str}
@@ -23,7 +24,9 @@ use Rattle.json_trees.specs.Trees.{passes, is_number, is_text, is_array_of, is_p
 
 -- the family that a word names
 abbrev pub family_named : List ℕ → Option Family
-family_named s = if bytes_eq s (codes "nucleolus") then Some Imputations else (if bytes_eq s (codes "prenucleolus") then Some Preimputations else None)
+family_named s =
+    if bytes_eq s (codes "nucleolus") then Some Imputations
+    else (if bytes_eq s (codes "prenucleolus") then Some Preimputations else None)
 
 -- the family that the answer of a document names
 abbrev pub family_of : Data → Option Family
@@ -31,7 +34,8 @@ family_of tree = option_and_then family_named (option_and_then as_str (get (code
 
 -- the mode that a word names
 abbrev pub mode_named : List ℕ → Option Mode
-mode_named s = if bytes_eq s (codes "players") then Some Players else (if bytes_eq s (codes "span") then Some Span else None)
+mode_named s =
+    if bytes_eq s (codes "players") then Some Players else (if bytes_eq s (codes "span") then Some Span else None)
 
 -- the mode that a certificate names
 abbrev pub mode_of : Data → Option Mode
@@ -56,8 +60,12 @@ is_weighted_player d = is_pair_of is_number is_number d
 -- the keys and kinds of a level
 abbrev pub is_level : Data → Bool
 is_level d =
-    has_only_keys level_keys d && passes (is_array_of is_weighted_player) (get (codes "bounds") d) && passes (is_array_of is_weighted_coalition) (get (codes "coalitions") d) && passes (is_array_of is_weighted_coalition) (get (codes "earlier") d) && passes is_text (get (codes "excess") d) && passes is_number (get (codes "total") d)
+    has_only_keys level_keys d && passes (is_array_of is_weighted_player) (get (codes "bounds") d)
+    && passes (is_array_of is_weighted_coalition) (get (codes "coalitions") d)
+    && passes (is_array_of is_weighted_coalition) (get (codes "earlier") d)
+    && passes is_text (get (codes "excess") d) && passes is_number (get (codes "total") d)
 
 -- the keys, kinds and words of a certificate
 abbrev pub is_certificate : Data → Bool
-is_certificate d = has_only_keys certificate_keys d && passes (is_array_of is_level) (get (codes "levels") d) && is_some (mode_of d)
+is_certificate d =
+    has_only_keys certificate_keys d && passes (is_array_of is_level) (get (codes "levels") d) && is_some (mode_of d)

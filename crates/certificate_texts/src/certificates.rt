@@ -3,7 +3,8 @@ ghost use Rattle.std.specs.Prelude.{◌≡◌, ◌≤◌, IfOk, Some, None, if�
 ghost use Rattle.std.specs.List.{list_all};
 ghost use Rattle.serde_json.specs.View.{view};
 ghost use Rattle.json_trees.specs.Trees.{parts_at};
-ghost use Rattle.certificate_texts.specs.Certificates.{lists_coalition, is_written, level_trees, has_form, certificate_of};
+ghost use Rattle.certificate_texts.specs.Certificates.{lists_coalition, is_written, level_trees};
+ghost use Rattle.certificate_texts.specs.Certificates.{has_form, certificate_of};
 
 use crate::ascending::coalition_of;
 use crate::levels::{first_player, levels_of};
@@ -86,7 +87,9 @@ pub fn certificate_of(
 ) -> Result<Option<Certificate>, OutOfMemory>
     requires some { 1 ≤ n }
     requires few { n ≤ 64 }
-    ensures { IfOk result (λ o. o ≡ (if has_form scale n (view tree.now) then Some (certificate_of scale n (view tree.now)) else None)) }
+    ensures { IfOk result
+        (λ o. o
+        ≡ (if has_form scale n (view tree.now) then Some (certificate_of scale n (view tree.now)) else None)) }
 {
     let Some(mode) = mode_of(tree) else {
         return Ok(None);

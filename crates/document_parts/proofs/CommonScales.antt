@@ -1,9 +1,12 @@
 -- The scale of a game, number by number.
-use Rattle.std.proofs.Common.{◌≡◌, ℕ, ◌+◌, ◌*◌, ◌/◌, ◌<◌, ◌≤◌, List, [], ◌∷◌, ◌++◌, length, get_or, map, Bool, true, false, nat_le, if◌then◌else◌, unsigned_abs, Option, Some, None, option_and_then, refl, sym, ap, ◌∙◌, subst, arith}
+use Rattle.std.proofs.Common.{◌≡◌, ℕ, ◌+◌, ◌*◌, ◌/◌, ◌%◌, ◌<◌, ◌≤◌, ℤ, pos, unsigned_abs}
+use Rattle.std.proofs.Common.{List, [], ◌∷◌, ◌++◌, length, get_or, map, Bool, true, false, nat_le, if◌then◌else◌}
+use Rattle.std.proofs.Common.{Option, Some, None, option_and_then, refl, sym, ap, ◌∙◌, subst, arith}
+use Rattle.std.specs.Prelude.{unwrap_or}
 use native.Mathlib.Nat.{one-dvd}
 use Rattle.std.proofs.lemmas.Bool.{leb-true, leb-false, le-leb}
 use Rattle.std.proofs.lemmas.Int.{ints}
-use Rattle.std.proofs.lemmas.Nat.Gcd.{dvd_refl, dvd_trans, dvd_antisymm, le_of_dvd}
+use Rattle.std.proofs.lemmas.Nat.Gcd.{dvd_refl, dvd_trans, dvd_antisymm, dvd_of_mod-eq-zero, le_of_dvd}
 use Rattle.serde_json.specs.Data.{Data}
 use Rattle.serde_json.specs.Find.{as_str}
 use Rattle.serde_json.specs.View.{view}
@@ -12,7 +15,8 @@ use Rattle.fractions.specs.Divisors.{gcd}
 use Rattle.fractions.specs.Fraction.{Fraction, IsReduced}
 use Rattle.worth_core.specs.Multiples.{IsLeastMultiple}
 use Rattle.worth_core.proofs.LeastMultiples.{least_multiple}
-use Rattle.json_trees.specs.Fractions.{fraction_or_zero}
+use Rattle.json_trees.specs.Fractions.{whole_fraction, written_fraction, fraction_or_zero}
+use Rattle.json_trees.specs.Trees.{integer}
 use Rattle.json_trees.proofs.Fractions.{written_or_zero}
 use Rattle.json_trees.proofs.Values.{rest, rest_step}
 use Rattle.document_parts.specs.CommonMultiples.{lcm, least_denominator}
@@ -52,8 +56,10 @@ lcm_assoc a b c p q r =
     let left = lcm_is (lcm a b) c one.positive r in
     let right = lcm_is a (lcm b c) p two.positive in
     dvd_antisymm
-    (left.least (lcm a (lcm b c)) (one.least (lcm a (lcm b c)) right.left (dvd_trans b two.left right.right)) (dvd_trans c two.right right.right))
-    (right.least (lcm (lcm a b) c) (dvd_trans a one.left left.left) (two.least (lcm (lcm a b) c) (dvd_trans b one.right left.left) left.right))
+    (left.least (lcm a (lcm b c)) (one.least (lcm a (lcm b c)) right.left (dvd_trans b two.left right.right))
+    (dvd_trans c two.right right.right))
+    (right.least (lcm (lcm a b) c) (dvd_trans a one.left left.left)
+    (two.least (lcm (lcm a b) c) (dvd_trans b one.right left.left) left.right))
 
 -- ---- what is too large stays too large
 
@@ -75,15 +81,42 @@ large_denominator k d p h =
     none_above (lcm k d) (omega (arith, h, le))
 
 pub lcm_positive : (k d g m : ℕ) → 0 < k → 0 < d → g ≡ gcd k d → m ≡ k * (d / g) → 0 < m
-lcm_positive k d g m p q e f = subst (λ (n : ℕ). 0 < n) (sym (f ∙ ap (λ (n : ℕ). k * (d / n)) e)) (lcm_is k d p q).positive
+lcm_positive k d g m p q e f =
+    subst (λ (n : ℕ). 0 < n) (sym (f ∙ ap (λ (n : ℕ). k * (d / n)) e)) (lcm_is k d p q).positive
+
+-- a denominator that divides the scale is in it already
+pub keeps_scale : (k d : ℕ) → 0 < k → k ≤ 65536 → 0 < d → k % d ≡ 0 → Some k ≡ if_scale (lcm k d)
+keeps_scale k d p h q e =
+    let m = lcm_is k d p q in
+    let same : lcm k d ≡ k = dvd_antisymm (m.least k (dvd_refl k) (dvd_of_mod-eq-zero d e)) m.left in
+    some_below k h ∙ ap if_scale (sym same)
+
+whole_den : (o : Option ℤ)
+    → unsigned_abs (unwrap_or (whole_fraction o) (record { num = pos 0; den = pos 1 })).den ≡ 1
+whole_den None = refl
+whole_den (Some z) = refl
+
+no_text_den : (d : Data) → None ≡ as_str d → den d ≡ 1
+no_text_den d e =
+    subst
+    (λ (o : Option (List ℕ)). unsigned_abs
+    (unwrap_or (written_fraction d o) (record { num = pos 0; den = pos 1 })).den ≡ 1) e
+    (whole_den (integer d))
+
+-- and so is that of what is no text
+pub no_text_keeps_scale : (k : ℕ) (d : Data) → 0 < k → k ≤ 65536 → None ≡ as_str d → Some k ≡ with_number k d
+no_text_keeps_scale k d p h e = some_below k h ∙ ap if_scale (sym (ap (lcm k) (no_text_den d e) ∙ with_one k p))
 
 -- ---- all numbers
 
-step : (k : ℕ) (d : Data) (ds : List Data) (b : Bool) → 0 < k → nat_le (lcm k (den d)) 65536 ≡ b → ((m : ℕ) → 0 < m → m ≤ 65536 → with_numbers m ds ≡ if_scale (lcm m (least ds)))
-    → option_and_then (λ m. with_numbers m ds) (if b then Some (lcm k (den d)) else None) ≡ if_scale (lcm k (lcm (den d) (least ds)))
+step : (k : ℕ) (d : Data) (ds : List Data) (b : Bool) → 0 < k → nat_le (lcm k (den d)) 65536 ≡ b
+    → ((m : ℕ) → 0 < m → m ≤ 65536 → with_numbers m ds ≡ if_scale (lcm m (least ds)))
+    → option_and_then (λ m. with_numbers m ds) (if b then Some (lcm k (den d)) else None)
+    ≡ if_scale (lcm k (lcm (den d) (least ds)))
 step k d ds true p e ih =
     let one = lcm_is k (den d) p (den_positive d) in
-    ih (lcm k (den d)) one.positive (leb-true (lcm k (den d)) 65536 e) ∙ ap if_scale (lcm_assoc k (den d) (least ds) p (den_positive d) (least_positive ds))
+    ih (lcm k (den d)) one.positive (leb-true (lcm k (den d)) 65536 e)
+    ∙ ap if_scale (lcm_assoc k (den d) (least ds) p (den_positive d) (least_positive ds))
 step k d ds false p e ih =
     let above = leb-false (lcm k (den d)) 65536 e in
     let one = lcm_is k (den d) p (den_positive d) in
@@ -97,29 +130,36 @@ numbers_are k [] p h = some_below k h ∙ ap if_scale (sym (with_one k p))
 numbers_are k (d ∷ ds) p h = step k d ds (nat_le (lcm k (den d)) 65536) p refl (λ m q r. numbers_are m ds q r)
 
 pub scale_is : (game : Data) → with_numbers 1 (game_numbers game) ≡ if_scale (scale_of game)
-scale_is game = numbers_are 1 (game_numbers game) (omega arith) (omega arith) ∙ ap if_scale (one_with (least (game_numbers game)) (least_positive (game_numbers game)))
+scale_is game =
+    numbers_are 1 (game_numbers game) (omega arith) (omega arith)
+    ∙ ap if_scale (one_with (least (game_numbers game)) (least_positive (game_numbers game)))
 
 -- ---- one list after another
 
-append_step : (ds es : List Data) (o : Option ℕ) → ((m : ℕ) → with_numbers m (ds ++ es) ≡ option_and_then (λ n. with_numbers n es) (with_numbers m ds))
-    → option_and_then (λ m. with_numbers m (ds ++ es)) o ≡ option_and_then (λ n. with_numbers n es) (option_and_then (λ m. with_numbers m ds) o)
+append_step : (ds es : List Data) (o : Option ℕ)
+    → ((m : ℕ) → with_numbers m (ds ++ es) ≡ option_and_then (λ n. with_numbers n es) (with_numbers m ds))
+    → option_and_then (λ m. with_numbers m (ds ++ es)) o
+    ≡ option_and_then (λ n. with_numbers n es) (option_and_then (λ m. with_numbers m ds) o)
 append_step ds es None ih = refl
 append_step ds es (Some m) ih = ih m
 
-with_append : (k : ℕ) (ds es : List Data) → with_numbers k (ds ++ es) ≡ option_and_then (λ n. with_numbers n es) (with_numbers k ds)
+with_append : (k : ℕ) (ds es : List Data)
+    → with_numbers k (ds ++ es) ≡ option_and_then (λ n. with_numbers n es) (with_numbers k ds)
 with_append k [] es = refl
 with_append k (d ∷ ds) es = append_step ds es (with_number k d) (λ m. with_append m ds es)
 
 pub none_front : (k : ℕ) (ds es : List Data) → None ≡ with_numbers k ds → None ≡ with_numbers k (ds ++ es)
 none_front k ds es e = sym (with_append k ds es ∙ ap (option_and_then (λ n. with_numbers n es)) (sym e))
 
-pub some_front : (k m : ℕ) (ds es : List Data) → Some m ≡ with_numbers k ds → with_numbers m es ≡ with_numbers k (ds ++ es)
+pub some_front : (k m : ℕ) (ds es : List Data) → Some m ≡ with_numbers k ds
+    → with_numbers m es ≡ with_numbers k (ds ++ es)
 some_front k m ds es e = sym (with_append k ds es ∙ ap (option_and_then (λ n. with_numbers n es)) (sym e))
 
 -- ---- turn by turn
 
 -- one number more
-module _ (whole : Option ℕ) (vs : List Value) (i s : ℕ) (v : Value) (h : i < length vs) (at : v ≡ get_or vs i v) (goes : whole ≡ with_numbers s (rest vs i)) where
+module _ (whole : Option ℕ) (vs : List Value) (i s : ℕ) (v : Value) (h : i < length vs) (at : v ≡ get_or vs i v)
+    (goes : whole ≡ with_numbers s (rest vs i)) where
   turn : whole ≡ option_and_then (λ m. with_numbers m (rest vs (i + 1))) (with_number s (view v))
   turn = goes ∙ ap (with_numbers s) (rest_step vs i v h at)
 
@@ -130,12 +170,14 @@ module _ (whole : Option ℕ) (vs : List Value) (i s : ℕ) (v : Value) (h : i <
   scale_more m e = turn ∙ ap (option_and_then (λ m. with_numbers m (rest vs (i + 1)))) (sym e)
 
 -- the numbers of one pair, or of one row, more
-module _ (f : Data → List Data) (whole : Option ℕ) (vs : List Value) (i s : ℕ) (v : Value) (h : i < length vs) (at : v ≡ get_or vs i v) (goes : whole ≡ with_numbers s (all_parts f (rest vs i))) where
+module _ (f : Data → List Data) (whole : Option ℕ) (vs : List Value) (i s : ℕ) (v : Value) (h : i < length vs)
+    (at : v ≡ get_or vs i v) (goes : whole ≡ with_numbers s (all_parts f (rest vs i))) where
   parts_turn : whole ≡ with_numbers s (f (view v) ++ all_parts f (rest vs (i + 1)))
   parts_turn = goes ∙ ap (λ ds. with_numbers s (all_parts f ds)) (rest_step vs i v h at)
 
   pub no_parts : None ≡ with_numbers s (f (view v)) → None ≡ whole
   no_parts e = none_front s (f (view v)) (all_parts f (rest vs (i + 1))) e ∙ sym parts_turn
 
-  pub parts_more : (m : ℕ) → Some m ≡ with_numbers s (f (view v)) → whole ≡ with_numbers m (all_parts f (rest vs (i + 1)))
+  pub parts_more : (m : ℕ) → Some m ≡ with_numbers s (f (view v))
+      → whole ≡ with_numbers m (all_parts f (rest vs (i + 1)))
   parts_more m e = parts_turn ∙ sym (some_front s m (f (view v)) (all_parts f (rest vs (i + 1))) e)

@@ -1,5 +1,6 @@
 -- Masks, joined player by player.
-use Rattle.std.proofs.Common.{◌≡◌, ℕ, zero, suc, ◌+◌, ◌/◌, ◌^◌, ◌<◌, ◌≤◌, List, length, get_or, map, false, Option, Some, None, option_and_then, sym, ap, ◌∙◌, arith}
+use Rattle.std.proofs.Common.{◌≡◌, ℕ, zero, suc, ◌+◌, ◌/◌, ◌^◌, ◌<◌, ◌≤◌, List, length, get_or, map}
+use Rattle.std.proofs.Common.{false, Option, Some, None, option_and_then, sym, ap, ◌∙◌, arith}
 use Rattle.std.proofs.lemmas.Bool.{eqb-false}
 use Rattle.std.proofs.lemmas.List.{drop_all}
 use Rattle.std.proofs.lemmas.Nat.Bits.{bit_at-suc, bit_at-lt, bit_at_lowest}
@@ -25,18 +26,28 @@ no_bit s i h = let ne = eqb-false (bit_at s i) 1 h in omega (arith, bit_at-lt s 
 pub join_below : (n s i : ℕ) → i < n → s < 2 ^ n → has_player s i ≡ false → s + 2 ^ i < 2 ^ n
 join_below n s i h small e = add_below i n s h small (no_bit s i e)
 
-module _ (n : ℕ) (names : List (List ℕ)) (whole : Option ℕ) (vs : List Value) (i s : ℕ) (v : Value) (h : i < length vs) (at : v ≡ get_or vs i v) (goes : whole ≡ joined n names s (rest vs i)) where
-  turn : whole ≡ option_and_then (λ t. joined n names t (rest vs (i + 1))) (option_and_then (join s) (player_of n names (view v)))
+module _ (n : ℕ) (names : List (List ℕ)) (whole : Option ℕ) (vs : List Value) (i s : ℕ) (v : Value)
+    (h : i < length vs) (at : v ≡ get_or vs i v) (goes : whole ≡ joined n names s (rest vs i)) where
+  turn : whole
+      ≡ option_and_then (λ t. joined n names t (rest vs (i + 1)))
+      (option_and_then (join s) (player_of n names (view v)))
   turn = goes ∙ ap (joined n names s) (rest_step vs i v h at)
 
   pub no_player : None ≡ player_of n names (view v) → whole ≡ None
-  no_player e = turn ∙ ap (λ o. option_and_then (λ t. joined n names t (rest vs (i + 1))) (option_and_then (join s) o)) (sym e)
+  no_player e =
+      turn ∙ ap (λ o. option_and_then (λ t. joined n names t (rest vs (i + 1))) (option_and_then (join s) o)) (sym e)
 
   pub no_join : (k : ℕ) → Some k ≡ player_of n names (view v) → None ≡ join s k → whole ≡ None
-  no_join k e f = turn ∙ ap (λ o. option_and_then (λ t. joined n names t (rest vs (i + 1))) (option_and_then (join s) o)) (sym e) ∙ ap (option_and_then (λ t. joined n names t (rest vs (i + 1)))) (sym f)
+  no_join k e f =
+      turn ∙ ap (λ o. option_and_then (λ t. joined n names t (rest vs (i + 1))) (option_and_then (join s) o)) (sym e)
+      ∙ ap (option_and_then (λ t. joined n names t (rest vs (i + 1)))) (sym f)
 
-  pub one_more : (k t : ℕ) → Some k ≡ player_of n names (view v) → Some t ≡ join s k → whole ≡ joined n names t (rest vs (i + 1))
-  one_more k t e f = turn ∙ ap (λ o. option_and_then (λ t. joined n names t (rest vs (i + 1))) (option_and_then (join s) o)) (sym e) ∙ ap (option_and_then (λ t. joined n names t (rest vs (i + 1)))) (sym f)
+  pub one_more : (k t : ℕ) → Some k ≡ player_of n names (view v) → Some t ≡ join s k
+      → whole ≡ joined n names t (rest vs (i + 1))
+  one_more k t e f =
+      turn ∙ ap (λ o. option_and_then (λ t. joined n names t (rest vs (i + 1))) (option_and_then (join s) o)) (sym e)
+      ∙ ap (option_and_then (λ t. joined n names t (rest vs (i + 1)))) (sym f)
 
-pub all_joined : (n : ℕ) (names : List (List ℕ)) (whole : Option ℕ) (vs : List Value) (i s : ℕ) → length vs ≤ i → whole ≡ joined n names s (rest vs i) → whole ≡ Some s
+pub all_joined : (n : ℕ) (names : List (List ℕ)) (whole : Option ℕ) (vs : List Value) (i s : ℕ) → length vs ≤ i
+    → whole ≡ joined n names s (rest vs i) → whole ≡ Some s
 all_joined n names whole vs i s h goes = goes ∙ ap (λ l. joined n names s (map view l)) (drop_all i vs h)

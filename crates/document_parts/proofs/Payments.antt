@@ -1,5 +1,6 @@
 -- Shares with their signs turned are shares.
-use Rattle.std.proofs.Common.{◌≡◌, ℕ, zero, suc, ◌<◌, ◌≤◌, ◌^◌, List, length, map, take, ℤ, pos, negsuc, neg_ℤ, unsigned_abs, refl, sym, ap, ap₂, ◌∙◌, subst, arith}
+use Rattle.std.proofs.Common.{◌≡◌, ℕ, zero, suc, ◌<◌, ◌≤◌, ◌^◌, List, length, map, take, ℤ, pos, negsuc}
+use Rattle.std.proofs.Common.{neg_ℤ, unsigned_abs, refl, sym, ap, ap₂, ◌∙◌, subst, arith}
 use Rattle.std.proofs.Math.ListN.{get_or-map}
 use Rattle.std.proofs.lemmas.List.{length-map, take_all}
 use Rattle.definitions.specs.Games.{Allocation, IsShares, share}
@@ -24,7 +25,8 @@ negated_shares x h =
           subst (λ k. k < 2 ^ 110) (sym same) (h.small i (omega (arith, l, long)));
     }
 
-pub turned_shares : (x : Allocation) (num : List ℤ) (den : ℤ) (i : ℕ) → IsShares x → num ≡ map neg_ℤ (take i x.shares) → length x.shares ≤ i → den ≡ x.den → IsShares (allocation num den)
+pub turned_shares : (x : Allocation) (num : List ℤ) (den : ℤ) (i : ℕ) → IsShares x
+    → num ≡ map neg_ℤ (take i x.shares) → length x.shares ≤ i → den ≡ x.den → IsShares (allocation num den)
 turned_shares x num den i h e over f =
     let same : num ≡ map neg_ℤ x.shares = e ∙ ap (map neg_ℤ) (take_all i x.shares over) in
     subst IsShares (sym (ap₂ allocation same f)) (negated_shares x h)

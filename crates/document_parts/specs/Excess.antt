@@ -4,7 +4,8 @@
 --   measure_in      the measure that a text names
 --   is_measure      a text that names one of both
 --   measure_of      plain excess, or excess per head where the game says so
-use Rattle.std.specs.Prelude.{ℕ, codes, List, Bool, Option, Some, None, is_some, option_and_then, unwrap_or, if◌then◌else◌}
+use Rattle.std.specs.Prelude.{ℕ, codes, List, Bool, Option, Some, None, is_some}
+use Rattle.std.specs.Prelude.{option_and_then, unwrap_or, if◌then◌else◌}
 use Rattle.std.specs.Str.{bytes_eq}
 use Rattle.serde_json.specs.Data.{Data}
 use Rattle.serde_json.specs.Find.{get, as_str}
@@ -13,7 +14,8 @@ use Rattle.definitions.specs.declared.Measure.TheVariants.{Plain, PerHead}
 
 -- the measure that a word names
 abbrev pub measure_named : List ℕ → Option Measure
-measure_named s = if bytes_eq s (codes "plain") then Some Plain else (if bytes_eq s (codes "per-head") then Some PerHead else None)
+measure_named s =
+    if bytes_eq s (codes "plain") then Some Plain else (if bytes_eq s (codes "per-head") then Some PerHead else None)
 
 -- the measure that a text names
 abbrev pub measure_in : Data → Option Measure

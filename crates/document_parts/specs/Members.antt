@@ -7,7 +7,8 @@
 --   mask_of          the mask of the coalition that members name
 --   is_mask          there is a mask, and it is s
 --   are_coalitions   each is a coalition, and no two are the same
-use Rattle.std.specs.Prelude.{◌+◌, ◌^◌, ℕ, List, [], ◌∷◌, Bool, true, false, not, ◌&&◌, Option, Some, None, option_and_then, position, nat_eq, if◌then◌else◌}
+use Rattle.std.specs.Prelude.{◌+◌, ◌^◌, ℕ, List, [], ◌∷◌, Bool, true, false, not, ◌&&◌, Option, Some}
+use Rattle.std.specs.Prelude.{None, option_and_then, position, nat_eq, if◌then◌else◌}
 use Rattle.std.specs.List.{list_any}
 use Rattle.std.specs.Str.{bytes_eq}
 use Rattle.serde_json.specs.Data.{Data}
@@ -32,7 +33,8 @@ join s i = if has_player s i then None else Some (s + 2 ^ i)
 -- s with the members, each of them a player that isn't there before
 abbrev pub joined : ℕ → List (List ℕ) → ℕ → List Data → Option ℕ
 joined n names s [] = Some s
-joined n names s (d ∷ ds) = option_and_then (λ t. joined n names t ds) (option_and_then (join s) (player_of n names d))
+joined n names s (d ∷ ds) =
+    option_and_then (λ t. joined n names t ds) (option_and_then (join s) (player_of n names d))
 
 -- the mask of the coalition of these members: at least one, and none twice
 abbrev pub mask_of : ℕ → List (List ℕ) → List Data → Option ℕ

@@ -15,7 +15,8 @@
 --   if_scale            a scale, where it is at most 65,536
 --   with_number         the least common multiple of a scale and the denominator of a number, within that limit
 --   with_numbers        the same with the denominators of some numbers
-use Rattle.std.specs.Prelude.{ℕ, ℤ, codes, List, [], ◌∷◌, ◌++◌, map, unsigned_abs, Option, Some, None, option_and_then, nat_le, if◌then◌else◌}
+use Rattle.std.specs.Prelude.{ℕ, ℤ, codes, List, [], ◌∷◌, ◌++◌, map, unsigned_abs, Option}
+use Rattle.std.specs.Prelude.{Some, None, option_and_then, nat_le, if◌then◌else◌}
 use Rattle.serde_json.specs.Data.{Data}
 use Rattle.serde_json.specs.Find.{get}
 use Rattle.fractions.specs.Fraction.{Fraction}
@@ -47,11 +48,14 @@ all_parts f (d ∷ ds) = f d ++ all_parts f ds
 
 -- the numbers of a table: of all coalitions, of those in pairs, and of the others
 abbrev pub table_numbers_in : Data → List Data
-table_numbers_in game = parts_at (codes "worths") game ++ (all_parts pair_number (parts_at (codes "sparse") game) ++ if_there (get (codes "default") game))
+table_numbers_in game =
+    parts_at (codes "worths") game
+    ++ (all_parts pair_number (parts_at (codes "sparse") game) ++ if_there (get (codes "default") game))
 
 -- costs, an estate and claims
 abbrev pub player_numbers_in : Data → List Data
-player_numbers_in game = parts_at (codes "costs") game ++ (if_there (get (codes "estate") game) ++ parts_at (codes "claims") game)
+player_numbers_in game =
+    parts_at (codes "costs") game ++ (if_there (get (codes "estate") game) ++ parts_at (codes "claims") game)
 
 -- the entries of a matrix, row by row
 abbrev pub matrix_numbers_in : Data → List Data

@@ -9,7 +9,8 @@
 --   IsDenominatorOf       the least common denominator of the fractions that are written, times a scale
 --   has_small_numerator   over a denominator, a fraction has a numerator below 2^110 in size
 --   has_small_terms       over a denominator, fractions keep within the limits of shares
-use Rattle.std.specs.Prelude.{◌==◌, ◌^◌, ◌&&◌, ℕ, pos, neg_ℤ, unsigned_abs, nat_lt, nat_le, codes, List, length, map, Bool, if◌then◌else◌}
+use Rattle.std.specs.Prelude.{◌==◌, ◌^◌, ◌&&◌, ℕ, pos, neg_ℤ, unsigned_abs, nat_lt, nat_le}
+use Rattle.std.specs.Prelude.{codes, List, length, map, Bool, if◌then◌else◌}
 use Rattle.std.specs.List.{list_all}
 use Rattle.serde_json.specs.Data.{Data}
 use Rattle.definitions.specs.Games.{Allocation}

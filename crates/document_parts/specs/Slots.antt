@@ -10,4 +10,6 @@ use Rattle.document_parts.specs.TableNumbers.{sparse_number}
 pub record HasNumbers (k n : ℕ) (names : List (List ℕ)) (pairs : List Data) (slots : List (Option ℤ)) : Type 0 where
   pub good : are_coalitions (map (λ pair. mask_of n names (pair_members pair)) pairs) ≡ true
   pub size : length slots ≡ 2 ^ n
-  pub numbers : (other : ℤ) → map (λ o. unwrap_or o other) (drop 1 slots) ≡ map (λ s. sparse_number k n names other s pairs) (range_with_len 1 (2 ^ n - 1))
+  pub numbers : (other : ℤ)
+      → map (λ o. unwrap_or o other) (drop 1 slots)
+      ≡ map (λ s. sparse_number k n names other s pairs) (range_with_len 1 (2 ^ n - 1))

@@ -18,11 +18,15 @@ masks_by n names game = map (λ pair. mask_of n names (pair_members pair)) (part
 -- the number, times the scale k, of the first pair with the mask s, and another number where no pair has it
 abbrev pub sparse_number : ℕ → ℕ → List (List ℕ) → ℤ → ℕ → List Data → ℤ
 sparse_number k n names other s [] = other
-sparse_number k n names other s (pair ∷ pairs) = if is_mask s (mask_of n names (pair_members pair)) then second_number k (parts pair) else sparse_number k n names other s pairs
+sparse_number k n names other s (pair ∷ pairs) =
+    if is_mask s (mask_of n names (pair_members pair)) then second_number k (parts pair)
+    else sparse_number k n names other s pairs
 
 -- the number of each mask from 1, by the pairs and the number of all others
 abbrev pub sparse_numbers : ℕ → ℕ → List (List ℕ) → Data → List ℤ
-sparse_numbers k n names game = map (λ s. sparse_number k n names (number_at k (codes "default") game) s (parts_at (codes "sparse") game)) (range_with_len 1 (2 ^ n - 1))
+sparse_numbers k n names game =
+    map (λ s. sparse_number k n names (number_at k (codes "default") game) s (parts_at (codes "sparse") game))
+    (range_with_len 1 (2 ^ n - 1))
 
 -- the number of each mask from 1: by pairs, where there are any, or all listed
 abbrev pub numbers_by : ℕ → Option Data → ℕ → List (List ℕ) → Data → List ℤ

@@ -75,8 +75,10 @@ fn is_name(name: &str) -> bool
 
 /// Adds the text of the value where it is a name and a new one, and says whether it is.
 fn add_name<'a>(names: &mut Names<'a>, value: &'a Value) -> Result<bool, OutOfMemory>
-    ensures added { IfOk result (λ b. b ≡ (is_name (text_of (view value.now)) && not (is_among names.old (text_of (view value.now))))) }
-    ensures names { IfOk result (λ b. names.new ≡ (if b then names.old ++ text_of (view value.now) ∷ [] else names.old)) }
+    ensures added { IfOk result
+        (λ b. b ≡ (is_name (text_of (view value.now)) && not (is_among names.old (text_of (view value.now))))) }
+    ensures names { IfOk result
+        (λ b. names.new ≡ (if b then names.old ++ text_of (view value.now) ∷ [] else names.old)) }
 {
     let name = text(value);
     if !is_name(name) {
@@ -123,7 +125,8 @@ pub fn names_of<'a>(
     players: usize,
 ) -> Result<Option<Names<'a>>, OutOfMemory>
     ensures few { IfOk result (λ o. IfSome o (λ names. length names ≤ players)) }
-    ensures names { IfOk result (λ o. o ≡ (if are_names players (get (codes "names") (view game.now)) (names_of (view game.now))
+    ensures names { IfOk result
+        (λ o. o ≡ (if are_names players (get (codes "names") (view game.now)) (names_of (view game.now))
         then Some (names_of (view game.now)) else None)) }
 {
     let Some(value) = game.get("names") else {

@@ -4,7 +4,8 @@ ghost use Rattle.serde_json.specs.View.{view};
 ghost use Rattle.serde_json.specs.Find.{get};
 ghost use Rattle.json_trees.specs.Trees.{parts};
 ghost use Rattle.document_parts.specs.CommonMultiples.{lcm};
-ghost use Rattle.document_parts.specs.Scales.{if_there, pair_number, all_parts, table_numbers_in, player_numbers_in, matrix_numbers_in};
+ghost use Rattle.document_parts.specs.Scales.{if_there, pair_number, all_parts, table_numbers_in};
+ghost use Rattle.document_parts.specs.Scales.{player_numbers_in, matrix_numbers_in};
 ghost use Rattle.document_parts.specs.Scales.{scale_of, if_scale, with_number, with_numbers};
 
 use fractions::gcd;
@@ -26,6 +27,10 @@ fn common_scale(scale: u32, den: i128) -> Option<u32>
     if den > GREATEST {
         return None;
     }
+    // Most denominators divide the scale that those before them made.
+    if scale % (den as u32) == 0 {
+        return Some(scale);
+    }
     let scale = u128::from(scale);
     let multiple = scale * (den / gcd(scale, den));
     if multiple > GREATEST {
@@ -41,7 +46,11 @@ fn with_number(scale: u32, value: &Value) -> Option<u32>
     ensures value { result ≡ with_number scale (view value.now) }
     ensures range { IfSome result (λ k. (0 < k) × (k ≤ 65536)) }
 {
-    common_scale(scale, fraction_or_zero(value).den())
+    match value.as_str() {
+        Some(_) => common_scale(scale, fraction_or_zero(value).den()),
+        // The denominator is 1: it is an integer, or no number of a game.
+        None => Some(scale),
+    }
 }
 
 /// The same with each of these numbers.

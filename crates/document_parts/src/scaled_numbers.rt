@@ -1,12 +1,14 @@
 //! The numbers of a game, times its scale.
-ghost use Rattle.std.specs.Prelude.{◌≡◌, map, pos, Some, IfOk};
+ghost use Rattle.std.specs.Prelude.{◌≡◌, map, pos, ◌*ℤ◌, Some, IfOk, option_map};
 ghost use Rattle.serde_json.specs.View.{view};
+ghost use Rattle.fractions.specs.FractionTexts.{parsed};
 ghost use Rattle.json_trees.specs.Trees.{parts};
 ghost use Rattle.worth_core.specs.LeastDenominators.{numerator_over};
-ghost use Rattle.document_parts.specs.ScaledNumbers.{if_small, small_number, number_or_zero, number_at, numbers_at, numbers_of, rows_at, second_number};
+ghost use Rattle.document_parts.specs.ScaledNumbers.{if_small, small_number, number_or_zero, number_at};
+ghost use Rattle.document_parts.specs.ScaledNumbers.{numbers_at, numbers_of, rows_at, second_number};
 
 use fractions::{Frac, OutOfMemory};
-use json_trees::{fraction_of, parts, parts_at};
+use json_trees::{integer, parts, parts_at};
 use serde_json::Value;
 use std::alloc::Global;
 
@@ -20,13 +22,34 @@ fn times_scale(number: &Frac, scale: u32) -> Option<i64>
     Some(num as i64)
 }
 
+fn whole_times_scale(number: i64, scale: u32) -> Option<i64>
+    ensures { result ≡ if_small (Some (number *ℤ pos scale)) }
+{
+    let product = number.checked_mul(i64::from(scale))?;
+    if product.unsigned_abs() >= 1 << 40 {
+        return None;
+    }
+    Some(product)
+}
+
+/// The number that a text writes, times the scale. It stands apart from the integers, which are many in a table.
+#[inline(never)]
+fn text_times_scale(text: &str, scale: u32) -> Option<i64>
+    ensures { result ≡ if_small (option_map (numerator_over (pos scale)) (parsed text.now)) }
+{
+    match Frac::parse(text.as_bytes()) {
+        Some(number) => times_scale(&number, scale),
+        None => None,
+    }
+}
+
 /// The number times the scale, where it is below 2^40 in size.
 pub fn small_number(value: &Value, scale: u32) -> Option<i64>
     ensures { result ≡ small_number scale (view value.now) }
 {
-    match fraction_of(value) {
-        Some(number) => times_scale(&number, scale),
-        None => None,
+    match value.as_str() {
+        Some(text) => text_times_scale(text, scale),
+        None => whole_times_scale(integer(value)?, scale),
     }
 }
 
@@ -60,7 +83,7 @@ pub(crate) fn second_number(pair: &Value, scale: u32) -> i64
 fn numbers(alloc: Global, values: &[Value], scale: u32) -> Result<Vec<i64>, OutOfMemory>
     ensures { IfOk result (λ v. v.items ≡ map (λ d. number_or_zero scale (view d)) values.now) }
 {
-    let mut found = Vec::new(alloc);
+    let mut found = Vec::with_capacity(alloc, values.len())?;
     for value in values {
         let n = number_or_zero(value, scale);
         found.push(n)?;

@@ -4,7 +4,8 @@ ghost use Rattle.std.specs.Prelude.{◌≤◌, length, map, All};
 ghost use Rattle.serde_json.specs.View.{view};
 ghost use Rattle.fractions.specs.Fraction.{IsReduced};
 ghost use Rattle.document_parts.specs.Denominators.{keep_limits, over_least};
-ghost use Rattle.document_parts.specs.Shares.{has_share_numbers, has_shares_for, scaled_share, scaled_shares, negated, as_worth};
+ghost use Rattle.document_parts.specs.Shares.{has_share_numbers, has_shares_for, scaled_share};
+ghost use Rattle.document_parts.specs.Shares.{scaled_shares, negated, as_worth};
 
 use fractions::{Frac, OutOfMemory};
 use json_trees::{Fraction, each_at, fraction_or_zero, parts_at, scaled};
@@ -103,7 +104,8 @@ fn signed_shares(
     requires some { 1 ≤ length written.now }
     requires few { length written.now ≤ 64 }
     requires reduced { All IsReduced written.now }
-    ensures { IfOk result (λ o. o ≡ (if keep_limits written.now then Some (as_worth are_payments (over_least written.now)) else None)) }
+    ensures { IfOk result
+        (λ o. o ≡ (if keep_limits written.now then Some (as_worth are_payments (over_least written.now)) else None)) }
 {
     match over_least(alloc, written) {
         Ok(Some(shares)) if are_payments => match negated(alloc, &shares) {

@@ -21,7 +21,7 @@ use std::alloc::Global;
 fn empty_slots(alloc: Global, count: usize) -> Result<Vec<Option<i64>>, OutOfMemory>
     ensures { IfOk result (λ v. v.items ≡ replicate count None) }
 {
-    let mut slots = Vec::new(alloc);
+    let mut slots = Vec::with_capacity(alloc, count)?;
     for i in 0..count {
         slots.push(None)?;
     }
@@ -40,7 +40,8 @@ fn filled(
     requires few { players ≤ 16 }
     requires named { length names.now ≤ players }
     requires empty { slots.items ≡ replicate (2 ^ players) None }
-    ensures none { IfNone result (are_coalitions (map (λ pair. mask_of players names.now (pair_members pair)) (map view pairs.now)) ≡ false) }
+    ensures none { IfNone result
+        (are_coalitions (map (λ pair. mask_of players names.now (pair_members pair)) (map view pairs.now)) ≡ false) }
     ensures some { IfSome result (λ v. HasNumbers scale players names.now (map view pairs.now) v.items) }
 {
     for pair in pairs {
@@ -60,7 +61,7 @@ fn filled(
 fn numbers(alloc: Global, slots: &[Option<i64>], other: i64) -> Result<Vec<i64>, OutOfMemory>
     ensures { IfOk result (λ v. v.items ≡ map (λ o. unwrap_or o other) slots.now) }
 {
-    let mut found = Vec::new(alloc);
+    let mut found = Vec::with_capacity(alloc, slots.len())?;
     for slot in slots {
         found.push(slot.unwrap_or(other))?;
     }
@@ -89,7 +90,9 @@ fn sparse_numbers(
     requires named { length names.now ≤ players }
     ensures { IfOk result (λ o. option_map (λ v. v.items) o
         ≡ (if are_coalitions (map (λ pair. mask_of players names.now (pair_members pair)) (map view pairs.now))
-        then Some (map (λ s. sparse_number scale players names.now other s (map view pairs.now)) (range_with_len 1 (2 ^ players - 1)))
+        then Some
+        (map (λ s. sparse_number scale players names.now other s (map view pairs.now))
+        (range_with_len 1 (2 ^ players - 1)))
         else None)) }
 {
     let slots = empty_slots(alloc, 1 << players)?;
@@ -115,8 +118,10 @@ pub fn table_numbers(
 ) -> Result<Option<Vec<i64>>, OutOfMemory>
     requires few { count ≤ 16 }
     requires named { length names.now ≤ count }
-    ensures { IfOk result (λ o. option_map (λ v. v.items) o ≡ (if are_coalitions (masks_by count names.now (view game.now))
-        then Some (numbers_by scale (get (codes "sparse") (view game.now)) count names.now (view game.now)) else None)) }
+    ensures { IfOk result
+        (λ o. option_map (λ v. v.items) o ≡ (if are_coalitions (masks_by count names.now (view game.now))
+        then Some (numbers_by scale (get (codes "sparse") (view game.now)) count names.now (view game.now))
+        else None)) }
 {
     if game.get("sparse").is_none() {
         let found = numbers_at(alloc, game, "worths", scale)?;

@@ -1,5 +1,7 @@
 -- Numerals: decimal digits without a leading zero are what is written of their value.
-use Rattle.std.proofs.Common.{◌≡◌, ◌≢◌, ℕ, zero, suc, ◌+◌, ◌*◌, ◌/◌, ◌%◌, ◌^◌, ◌<◌, ◌≤◌, Bool, true, false, not, eqb, ◌&&◌, ◌||◌, List, [], ◌∷◌, ◌++◌, length, get_or, take, decimal, sym, refl, ap, ◌∙◌, arith, append_assoc}
+use Rattle.std.proofs.Common.{◌≡◌, ◌≢◌, ℕ, zero, suc, ◌+◌, ◌*◌, ◌/◌, ◌%◌, ◌^◌, ◌<◌, ◌≤◌, Bool, true}
+use Rattle.std.proofs.Common.{false, not, eqb, ◌&&◌, ◌||◌, List, [], ◌∷◌, ◌++◌, length, get_or, take}
+use Rattle.std.proofs.Common.{decimal, sym, refl, ap, ◌∙◌, arith, append_assoc}
 use Rattle.std.specs.List.{list_all}
 use Rattle.std.specs.Char.{is_ascii_digit, digit_value}
 use Rattle.std.specs.Str.Parse.{AllDigits, digits_value_after, digits_value}
@@ -8,16 +10,20 @@ use Rattle.std.proofs.lemmas.List.Folds.{list_all-append}
 use Rattle.std.proofs.lemmas.Bool.{and_left, and_right, and_from, and_parts, ltb-true, lt-ltb}
 use Rattle.std.proofs.lemmas.Bool.Decides.{nat_tests}
 use Rattle.std.proofs.lemmas.Str.Parse.{digit_from_value}
-use Rattle.std.proofs.lemmas.Fmt.{decimal_digit, decimal_step_wide, decimal_by_steps_wide, decimal_is_IsNumeral_wide}
+use Rattle.std.proofs.lemmas.Fmt.{decimal_digit, decimal_step_wide}
+use Rattle.std.proofs.lemmas.Fmt.{decimal_by_steps_wide, decimal_is_IsNumeral_wide}
 use Rattle.fractions.specs.FractionTexts.{is_numeral}
 
 -- ---- all of the first elements pass, and one that doesn't
 
-pub list_all_more : {X : Type 0} (p : X → Bool) (xs : List X) (i : ℕ) (d : X) → i < length xs → list_all p (take i xs) ≡ true → p (get_or xs i d) ≡ true → list_all p (take (i + 1) xs) ≡ true
+pub list_all_more : {X : Type 0} (p : X → Bool) (xs : List X) (i : ℕ) (d : X) → i < length xs
+    → list_all p (take i xs) ≡ true → p (get_or xs i d) ≡ true → list_all p (take (i + 1) xs) ≡ true
 list_all_more p xs i d inside before here =
-    ap (list_all p) (take_more xs i d inside) ∙ list_all-append p (take i xs) _ ∙ (λ k. before k && (here k && true))
+    ap (list_all p) (take_more xs i d inside) ∙ list_all-append p (take i xs) _
+    ∙ (λ k. before k && (here k && true))
 
-pub list_all_fails : {X : Type 0} (p : X → Bool) (xs : List X) (i : ℕ) (d : X) → i < length xs → p (get_or xs i d) ≡ false → list_all p xs ≡ false
+pub list_all_fails : {X : Type 0} (p : X → Bool) (xs : List X) (i : ℕ) (d : X) → i < length xs
+    → p (get_or xs i d) ≡ false → list_all p xs ≡ false
 list_all_fails p [] i d inside fails = absurd (omega arith)
 list_all_fails p (x ∷ xs) zero d inside fails = and_left _ _ fails
 list_all_fails p (x ∷ xs) (suc i) d inside fails = and_right _ _ (list_all_fails p xs i d (omega arith) fails)
@@ -47,7 +53,8 @@ le_value_after : (n : ℕ) (ds : List ℕ) → n ≤ digits_value_after 10 n ds
 le_value_after n [] = omega arith
 le_value_after n (c ∷ cs) = omega (arith, le_value_after (n * 10 + digit_value c) cs)
 
-decimal_value_after : (n : ℕ) (ds : List ℕ) → 0 < n → AllDigits 10 ds → digits_value_after 10 n ds < 10 ^ 64 → decimal (digits_value_after 10 n ds) ≡ decimal n ++ ds
+decimal_value_after : (n : ℕ) (ds : List ℕ) → 0 < n → AllDigits 10 ds → digits_value_after 10 n ds < 10 ^ 64
+    → decimal (digits_value_after 10 n ds) ≡ decimal n ++ ds
 decimal_value_after n [] some d small = sym (append-nil (decimal n))
 decimal_value_after n (c ∷ cs) some d small =
     let m : ℕ = n * 10 + digit_value c in
@@ -55,10 +62,13 @@ decimal_value_after n (c ∷ cs) some d small =
     let front : m / 10 ≡ n = omega (arith, d.0) in
     let end : 48 + m % 10 ≡ c = omega (arith, d.0) in
     decimal_value_after m cs (omega arith) d.1 small
-    ∙ ap (λ x. x ++ cs) (decimal_step_wide m (omega arith) (omega (arith, le_value_after m cs)) ∙ (λ i. decimal (front i) ++ (end i ∷ [])))
+    ∙ ap (λ x. x ++ cs)
+    (decimal_step_wide m (omega arith) (omega (arith, le_value_after m cs))
+    ∙ (λ i. decimal (front i) ++ (end i ∷ [])))
     ∙ append_assoc (decimal n) (c ∷ []) cs
 
-decimal_value_digits : (ds : List ℕ) → AllDigits 10 ds → 0 < length ds → (get_or ds 0 0 ≡ 48 → length ds ≡ 1) → digits_value 10 ds < 10 ^ 64 → decimal (digits_value 10 ds) ≡ ds
+decimal_value_digits : (ds : List ℕ) → AllDigits 10 ds → 0 < length ds → (get_or ds 0 0 ≡ 48 → length ds ≡ 1)
+    → digits_value 10 ds < 10 ^ 64 → decimal (digits_value 10 ds) ≡ ds
 decimal_value_digits [] d some lead small = absurd (omega arith)
 decimal_value_digits (c ∷ []) d some lead small =
     let k = digit_is c d.0 in
@@ -70,10 +80,12 @@ decimal_value_digits (c ∷ e ∷ cs) d some lead small =
     decimal_value_after (0 * 10 + digit_value c) (e ∷ cs) (omega arith) d.1 small
     ∙ ap (λ x. x ++ (e ∷ cs)) (decimal_digit (0 * 10 + digit_value c) (omega (arith, d.0)) ∙ ap (λ x. x ∷ []) is)
 
-lead_from_test : (s : List ℕ) → (eqb (length s) 1 || not (eqb (get_or s 0 0) 48)) ≡ true → get_or s 0 0 ≡ 48 → length s ≡ 1
+lead_from_test : (s : List ℕ) → (eqb (length s) 1 || not (eqb (get_or s 0 0) 48)) ≡ true → get_or s 0 0 ≡ 48
+    → length s ≡ 1
 lead_from_test s h e = grind (arith, nat_tests)
 
-pub decimal-numeral : (s : List ℕ) → is_numeral s ≡ true → digits_value 10 s < 2 ^ 128 → decimal (digits_value 10 s) ≡ s
+pub decimal-numeral : (s : List ℕ) → is_numeral s ≡ true → digits_value 10 s < 2 ^ 128
+    → decimal (digits_value 10 s) ≡ s
 decimal-numeral s h small =
     let p = and_parts _ _ h in
     let q = and_parts _ _ p.0 in
@@ -117,4 +129,5 @@ lead_test (suc n) ds h = let e = h.first (omega arith) in grind (arith, nat_test
 pub is_numeral-decimal : (n : ℕ) → n < 2 ^ 128 → is_numeral (decimal n) ≡ true
 is_numeral-decimal n h =
     let l = led n (omega arith) in
-    and_from _ _ (and_from _ _ (lt-ltb 0 (length (decimal n)) l.some) (decimal_digits n h)) (lead_test n (decimal n) l)
+    and_from _ _ (and_from _ _ (lt-ltb 0 (length (decimal n)) l.some) (decimal_digits n h))
+    (lead_test n (decimal n) l)

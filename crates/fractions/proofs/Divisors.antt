@@ -1,11 +1,15 @@
--- The greatest common divisor: what it divides, how it scales, and when a product has no divisor in common with another number.
-use Rattle.std.proofs.Common.{◌≡◌, inl, inr, ℕ, zero, suc, ◌+◌, ◌*◌, ◌/◌, ◌%◌, ◌<◌, ◌≤◌, arith, refl, sym, ap, subst, ◌∙◌, Bool, true, false, cond, eqb, mod-lt, mul-lt-mul_of_pos_right, eq-zero-or-pos, div-add-mod', mul_comm, le_refl}
+-- The greatest common divisor: what it divides, how it scales, and when a product has no divisor in common with
+-- another number.
+use Rattle.std.proofs.Common.{◌≡◌, inl, inr, ℕ, zero, suc, ◌+◌, ◌*◌, ◌/◌, ◌%◌, ◌<◌, ◌≤◌, arith, refl, sym}
+use Rattle.std.proofs.Common.{ap, subst, ◌∙◌, Bool, true, false, cond, eqb, mod-lt}
+use Rattle.std.proofs.Common.{mul-lt-mul_of_pos_right, eq-zero-or-pos, div-add-mod', mul_comm, le_refl}
 use Prim.Native.Nat.{◌∣◌}
 use Rattle.std.proofs.lemmas.Bool.{false≢true}
 use Rattle.std.proofs.lemmas.Bool.Decides.{nat_tests}
 use Rattle.std.specs.Int.{IsGcd}
 use Rattle.std.proofs.lemmas.Nat.{mod-mul-add}
-use Rattle.std.proofs.lemmas.Nat.Gcd.{dvd_refl, dvd-zero, dvd_trans, dvd_antisymm, IsGcd-from_zero, IsGcd-from_mod, IsGcd-swap, same_from_IsGcd}
+use Rattle.std.proofs.lemmas.Nat.Gcd.{dvd_refl, dvd-zero, dvd_trans, dvd_antisymm, IsGcd-from_zero}
+use Rattle.std.proofs.lemmas.Nat.Gcd.{IsGcd-from_mod, IsGcd-swap, same_from_IsGcd}
 use native.Mathlib.Nat.{dvd-mod_iff, dvd-mul_right, dvd-mul_left, pos_of_dvd_of_pos, le_of_dvd, mul-div_cancel'}
 use Rattle.fractions.specs.Divisors.{gcd_within, gcd}
 
@@ -28,8 +32,10 @@ pub gcd_within_is : (n a b : ℕ) → b ≤ n → IsGcd a b (gcd_within n a b)
 unfolding gcd_within
 gcd_within_is zero a b le = IsGcd-from_zero a b (omega arith)
 gcd_within_is (suc n) a b le = elim (eq-zero-or-pos b) [
-  | inl e ↦ chosen (eqb b 0) a b a (gcd_within n b (a % b)) (λ t. IsGcd-from_zero a b e) (λ t. absurd (false≢true (sym t ∙ zero_test b e)))
-  | inr p ↦ chosen (eqb b 0) a b a (gcd_within n b (a % b)) (λ t. absurd (false≢true (sym (positive_test b p) ∙ t))) (λ t. IsGcd-from_mod a b _ (gcd_within_is n b (a % b) (within_step a b n p le)))
+  | inl e ↦ chosen (eqb b 0) a b a (gcd_within n b (a % b)) (λ t. IsGcd-from_zero a b e)
+      (λ t. absurd (false≢true (sym t ∙ zero_test b e)))
+  | inr p ↦ chosen (eqb b 0) a b a (gcd_within n b (a % b)) (λ t. absurd (false≢true (sym (positive_test b p) ∙ t)))
+      (λ t. IsGcd-from_mod a b _ (gcd_within_is n b (a % b) (within_step a b n p le)))
 ]
 
 pub gcd_is : (a b : ℕ) → IsGcd a b (gcd a b)
@@ -63,14 +69,16 @@ IsGcd-to_mod a b g h = (h.1, (dvd-mod_iff g h.1).1 h.0, λ d p q. h.2 d ((dvd-mo
 times_zero : (a b g k : ℕ) → b ≡ 0 → IsGcd a b g → IsGcd (a * k) (b * k) (g * k)
 times_zero a b g k e h =
     let same : g ≡ a = dvd_antisymm h.0 (h.2 a (dvd_refl a) (subst (λ (n : ℕ). a ∣ n) (sym e) (dvd-zero a))) in
-    subst (λ (n : ℕ). IsGcd (a * k) (b * k) (n * k)) (sym same) (IsGcd-from_zero (a * k) (b * k) (ap (λ (n : ℕ). n * k) e ∙ none k))
+    subst (λ (n : ℕ). IsGcd (a * k) (b * k) (n * k)) (sym same)
+    (IsGcd-from_zero (a * k) (b * k) (ap (λ (n : ℕ). n * k) e ∙ none k))
   where
     none : (k : ℕ) → 0 * k ≡ 0
     none k = omega arith
 
 mod_times : (a b k : ℕ) → 0 < b → 0 < k → (a * k) % (b * k) ≡ (a % b) * k
 mod_times a b k p q =
-    ap (λ (n : ℕ). n % (b * k)) whole ∙ mod-mul-add (a / b) (b * k) ((a % b) * k) (mul-lt-mul_of_pos_right (mod-lt a p) q)
+    ap (λ (n : ℕ). n % (b * k)) whole
+    ∙ mod-mul-add (a / b) (b * k) ((a % b) * k) (mul-lt-mul_of_pos_right (mod-lt a p) q)
   where
     whole : a * k ≡ (a / b) * (b * k) + (a % b) * k
     whole = let e = div-add-mod' a b in ap (λ (n : ℕ). n * k) (sym e) ∙ omega arith
@@ -80,7 +88,9 @@ scaled_within zero a b g k le h = times_zero a b g k (omega arith) h
 scaled_within (suc n) a b g k le h = elim (eq-zero-or-pos b) [
   | inl e ↦ times_zero a b g k e h
   | inr p ↦ elim (eq-zero-or-pos k) [
-    | inl z ↦ subst (λ (t : ℕ). IsGcd (a * k) (b * k) t) (ap (λ (t : ℕ). a * t) z ∙ nothing a g ∙ ap (λ (t : ℕ). g * t) (sym z)) (IsGcd-from_zero (a * k) (b * k) (ap (λ (t : ℕ). b * t) z ∙ omega arith))
+    | inl z ↦ subst (λ (t : ℕ). IsGcd (a * k) (b * k) t)
+        (ap (λ (t : ℕ). a * t) z ∙ nothing a g ∙ ap (λ (t : ℕ). g * t) (sym z))
+        (IsGcd-from_zero (a * k) (b * k) (ap (λ (t : ℕ). b * t) z ∙ omega arith))
     | inr q ↦ IsGcd-from_mod (a * k) (b * k) (g * k)
         (subst (λ (t : ℕ). IsGcd (b * k) t (g * k)) (sym (mod_times a b k p q))
         (scaled_within n b (a % b) g k (within_step a b n p le) (IsGcd-to_mod a b g h)))
@@ -100,7 +110,8 @@ one_is a b h = subst (λ (g : ℕ). IsGcd a b g) h (gcd_is a b)
 
 -- what divides a product and has no divisor in common with one factor divides the other
 pub divides_other : (a b c : ℕ) → gcd a b ≡ 1 → a ∣ b * c → a ∣ c
-divides_other a b c h p = subst (λ (n : ℕ). a ∣ n) (one c) ((scaled_within b a b 1 c (le_refl b) (one_is a b h)).2 a (dvd-mul_right a c) p)
+divides_other a b c h p =
+    subst (λ (n : ℕ). a ∣ n) (one c) ((scaled_within b a b 1 c (le_refl b) (one_is a b h)).2 a (dvd-mul_right a c) p)
   where
     one : (c : ℕ) → 1 * c ≡ c
     one c = omega arith
@@ -114,7 +125,9 @@ one_divides d = subst (λ (n : ℕ). 1 ∣ n) (one d) (dvd-mul_right 1 d)
 -- divisors of two numbers without a common divisor have none either
 pub gcd_of_divisors : (a b x y : ℕ) → gcd a b ≡ 1 → x ∣ a → y ∣ b → gcd x y ≡ 1
 gcd_of_divisors a b x y h p q =
-    sym (gcd_from x y 1 (one_divides x, one_divides y, λ d u v. (one_is a b h).2 d (dvd_trans d u p) (dvd_trans d v q)))
+    sym
+    (gcd_from x y 1
+    (one_divides x, one_divides y, λ d u v. (one_is a b h).2 d (dvd_trans d u p) (dvd_trans d v q)))
 
 -- nor does a product with what its factors have none with
 pub gcd_of_product : (a b c : ℕ) → gcd a c ≡ 1 → gcd b c ≡ 1 → gcd (a * b) c ≡ 1
@@ -126,7 +139,8 @@ gcd_of_product a b c h k =
           (one_is b c k).2 d (divides_other d a b (gcd_swap d a ∙ gcd_of_divisors a c a d h (dvd_refl a) q) p) q,
     ))
 
-pub gcd_of_products : (a b c d : ℕ) → gcd a c ≡ 1 → gcd a d ≡ 1 → gcd b c ≡ 1 → gcd b d ≡ 1 → gcd (a * b) (c * d) ≡ 1
+pub gcd_of_products : (a b c d : ℕ) → gcd a c ≡ 1 → gcd a d ≡ 1 → gcd b c ≡ 1 → gcd b d ≡ 1
+    → gcd (a * b) (c * d) ≡ 1
 gcd_of_products a b c d ac ad bc bd =
     gcd_swap (a * b) (c * d) ∙ gcd_of_product c d (a * b)
     (gcd_swap c (a * b) ∙ gcd_of_product a b c ac bc)
@@ -157,7 +171,8 @@ gcd_of_quotients a b h =
     let g = gcd a b in
     let left : (a / g) * g ≡ a = mul_comm (a / g) g ∙ left_quotient a b in
     let right : (b / g) * g ≡ b = mul_comm (b / g) g ∙ right_quotient a b in
-    let whole : gcd (a / g) (b / g) * g ≡ g = gcd-mul (a / g) (b / g) g ∙ ap (λ (n : ℕ). gcd n ((b / g) * g)) left ∙ ap (λ (n : ℕ). gcd a n) right in
+    let whole : gcd (a / g) (b / g) * g ≡ g =
+    gcd-mul (a / g) (b / g) g ∙ ap (λ (n : ℕ). gcd n ((b / g) * g)) left ∙ ap (λ (n : ℕ). gcd a n) right in
     one_factor g (gcd (a / g) (b / g)) (gcd_positive a b h) whole
 
 -- ---- reduced forms are unique

@@ -1,5 +1,7 @@
 -- The order of two fractions by whole parts and remainders.
-use Rattle.std.proofs.Common.{◌≡◌, ◌⊎◌, inl, inr, ℕ, zero, suc, ◌+◌, ◌*◌, ◌/◌, ◌%◌, ◌<◌, ◌≤◌, arith, refl, sym, ap, subst, subst₂, ◌∙◌, Ordering, Less, Equal, Greater, nat_cmp, mod-lt, div-add-mod', mul-lt-mul_of_pos_right, mul-le-mul_right, mul-le-mul_left}
+use Rattle.std.proofs.Common.{◌≡◌, ◌⊎◌, inl, inr, ℕ, zero, suc, ◌+◌, ◌*◌, ◌/◌, ◌%◌, ◌<◌, ◌≤◌, arith, refl, sym, ap}
+use Rattle.std.proofs.Common.{subst, subst₂, ◌∙◌, Ordering, Less, Equal, Greater, nat_cmp, mod-lt, div-add-mod'}
+use Rattle.std.proofs.Common.{mul-lt-mul_of_pos_right, mul-le-mul_right, mul-le-mul_left}
 
 shift : (k x y : ℕ) → nat_cmp (k + x) (k + y) ≡ nat_cmp x y
 shift k x y = grind arith
@@ -12,7 +14,10 @@ greater_is x y h = grind arith
 
 -- the rests' order, where the whole parts agree
 pub rests_order : (a b c d : ℕ) → a / b ≡ c / d → nat_cmp ((a % b) * d) ((c % d) * b) ≡ nat_cmp (a * d) (c * b)
-rests_order a b c d e = sym (shift ((a / b) * b * d) ((a % b) * d) ((c % d) * b)) ∙ subst₂ (λ (x y : ℕ). nat_cmp ((a / b) * b * d + (a % b) * d) ((a / b) * b * d + (c % d) * b) ≡ nat_cmp x y) (whole a b d) (part (a / b) c b d e) refl
+rests_order a b c d e =
+    sym (shift ((a / b) * b * d) ((a % b) * d) ((c % d) * b))
+    ∙ subst₂ (λ (x y : ℕ). nat_cmp ((a / b) * b * d + (a % b) * d) ((a / b) * b * d + (c % d) * b) ≡ nat_cmp x y)
+    (whole a b d) (part (a / b) c b d e) refl
   where
     whole : (a b d : ℕ) → (a / b) * b * d + (a % b) * d ≡ a * d
     whole a b d = let h = div-add-mod' a b in omega (arith, ap (λ (t : ℕ). t * d) h)
@@ -36,7 +41,9 @@ turned : (x y s t : ℕ) → x ≡ s → y ≡ t → nat_cmp s t ≡ nat_cmp x y
 turned x y s t e f = rw (e, f)
 
 pub next_order : (a b c d : ℕ) → a / b ≡ c / d → nat_cmp (d * (a % b)) (b * (c % d)) ≡ nat_cmp (a * d) (c * b)
-next_order a b c d e = turned ((a % b) * d) ((c % d) * b) (d * (a % b)) (b * (c % d)) (Rattle.std.proofs.Common.mul_comm (a % b) d) (Rattle.std.proofs.Common.mul_comm (c % d) b) ∙ rests_order a b c d e
+next_order a b c d e =
+    turned ((a % b) * d) ((c % d) * b) (d * (a % b)) (b * (c % d)) (Rattle.std.proofs.Common.mul_comm (a % b) d)
+    (Rattle.std.proofs.Common.mul_comm (c % d) b) ∙ rests_order a b c d e
 
 -- a rest of 0
 pub zero_left : (r s b d : ℕ) → 0 < b → r ≡ 0 → nat_cmp r s ≡ nat_cmp (r * d) (s * b)

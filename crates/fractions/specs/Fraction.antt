@@ -11,7 +11,8 @@
 --   HasCombined          every number that a difference or a sum takes has such a form
 --   HasSum x y           every number that the sum of x and y takes has such a form
 --   HasDifference x y    the same of the difference
-use Rattle.std.specs.Prelude.{◌≡◌, Bool, true, false, ◌≢◌, ℤ, pos, ◌+ℤ◌, ◌-ℤ◌, ◌*ℤ◌, ◌≤ℤ◌, unsigned_abs, int_div, FitsSigned}
+use Rattle.std.specs.Prelude.{◌≡◌, Bool, true, false, ◌≢◌, ℤ, pos, ◌+ℤ◌, ◌-ℤ◌, ◌*ℤ◌}
+use Rattle.std.specs.Prelude.{◌≤ℤ◌, unsigned_abs, int_div, FitsSigned}
 use Rattle.std.specs.Int.{w128}
 use Rattle.fractions.specs.Divisors.{gcd}
 
@@ -57,7 +58,9 @@ combined false a b = a +ℤ b
 -- the numbers that a difference takes, or a sum, have a form of 128 bits
 pub record HasCombined (subtracts : Bool) (x y : Fraction) : Type 0 where
   pub common : HasCommonForm x y
-  pub numerator : FitsSigned w128 (combined subtracts (x.num *ℤ int_div y.den (common_divisor x y)) (y.num *ℤ int_div x.den (common_divisor x y)))
+  pub numerator : FitsSigned w128
+      (combined subtracts (x.num *ℤ int_div y.den (common_divisor x y))
+      (y.num *ℤ int_div x.den (common_divisor x y)))
 
 -- the numbers that a sum takes have a form of 128 bits
 abbrev pub HasSum : Fraction → Fraction → Type 0

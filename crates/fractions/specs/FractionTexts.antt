@@ -1,4 +1,5 @@
--- Texts of fractions: an optional minus, digits, and for a denominator above 1 a slash and digits. Each fraction has one text.
+-- Texts of fractions: an optional minus, digits, and for a denominator above 1 a slash and digits. Each fraction
+-- has one text.
 --
 --   is_numeral s                       decimal digits without a leading zero, but for 0 itself
 --   before_slash, has_slash            how many bytes stand in front of a slash; whether there is one
@@ -14,7 +15,8 @@
 --   is_i128                            a number that has a form of 128 bits
 --   parsed s                           that fraction, if s is such a text and both numbers have a form of 128 bits
 --   fraction_text f                    the text of a fraction
-use Rattle.std.specs.Prelude.{◌==◌, ◌+◌, ◌^◌, ℕ, ℤ, pos, negsuc, neg_ℤ, List, [], ◌∷◌, ◌++◌, length, take, drop, slice_index, Bool, not, ◌&&◌, ◌||◌, Option, Some, None, nat_lt, if◌then◌else◌}
+use Rattle.std.specs.Prelude.{◌==◌, ◌+◌, ◌^◌, ℕ, ℤ, pos, negsuc, neg_ℤ, List, [], ◌∷◌, ◌++◌, length, take, drop}
+use Rattle.std.specs.Prelude.{slice_index, Bool, not, ◌&&◌, ◌||◌, Option, Some, None, nat_lt, if◌then◌else◌}
 use Rattle.std.specs.Ordering.{int_eq}
 use Rattle.std.specs.List.{list_all, prefix_len}
 use Rattle.std.specs.Char.{is_ascii_digit}
@@ -53,7 +55,8 @@ has_denominator s = not (has_slash s) || (is_numeral (denominator_text s) && nat
 
 -- a numeral, and perhaps a slash and a numeral above 1 that has no divisor in common with it
 abbrev pub is_unsigned_fraction : List ℕ → Bool
-is_unsigned_fraction s = is_numeral (numerator_text s) && has_denominator s && (gcd (numerator s) (denominator s) == 1)
+is_unsigned_fraction s =
+    is_numeral (numerator_text s) && has_denominator s && (gcd (numerator s) (denominator s) == 1)
 
 abbrev pub has_minus : List ℕ → Bool
 has_minus s = slice_index s 0 == 45
@@ -85,7 +88,9 @@ is_i128 (negsuc n) = nat_lt n (2 ^ 127)
 
 -- the fraction of a text whose numbers have a form of 128 bits
 abbrev pub parsed : List ℕ → Option Fraction
-parsed s = if is_fraction_text s && is_i128 (text_fraction s).num && is_i128 (text_fraction s).den then Some (text_fraction s) else None
+parsed s =
+    if is_fraction_text s && is_i128 (text_fraction s).num && is_i128 (text_fraction s).den
+    then Some (text_fraction s) else None
 
 -- the text of a fraction
 abbrev pub fraction_text : Fraction → List ℕ

@@ -6,7 +6,8 @@ ghost use Rattle.std.specs.Int.{w128};
 ghost use Rattle.std.specs.Result.{OkIff};
 ghost use Rattle.std.specs.Option.{SomeIff};
 ghost use Rattle.std.specs.Ordering.{int_cmp};
-ghost use Rattle.fractions.specs.Fraction.{IsReduced, IsRatio, HasNoForm, HasCommonForm, HasSum, HasDifference, HasCombined, combined, common_divisor};
+ghost use Rattle.fractions.specs.Fraction.{IsReduced, IsRatio, HasNoForm, HasCommonForm, HasSum};
+ghost use Rattle.fractions.specs.Fraction.{HasDifference, HasCombined, combined, common_divisor};
 
 mod text;
 
@@ -145,8 +146,11 @@ impl Frac {
     /// Both numerators over the least common denominator, and that denominator.
     fn over_common(&self, other: &Frac) -> Result<(i128, i128, i128), OutOfRange>
         ensures value { let g = common_divisor self.now other.now in
-            OkIff result (HasCommonForm self.now other.now)
-            (self.now.num *ℤ int_div other.now.den g, other.now.num *ℤ int_div self.now.den g, self.now.den *ℤ int_div other.now.den g) }
+            OkIff result (HasCommonForm self.now other.now) (
+              self.now.num *ℤ int_div other.now.den g,
+              other.now.num *ℤ int_div self.now.den g,
+              self.now.den *ℤ int_div other.now.den g,
+            ) }
         ensures self_positive { pos 1 ≤ℤ self.now.den }
         ensures other_positive { pos 1 ≤ℤ other.now.den }
     {

@@ -25,7 +25,8 @@ fn digits_number(digits: &[u8]) -> Option<u128>
 
 /// The number of a numeral. None where the text is none, or the number needs more than 128 bits.
 pub(crate) fn numeral(text: &[u8]) -> Option<u128>
-    ensures { SomeIff result (IsTrue (is_numeral text.now) × (digits_value 10 text.now < 2 ^ 128)) (digits_value 10 text.now) }
+    ensures { SomeIff result (IsTrue (is_numeral text.now) × (digits_value 10 text.now < 2 ^ 128))
+        (digits_value 10 text.now) }
 {
     let n = digits_number(text)?;
     if text.len() > 1 && text[0] == b'0' {

@@ -1,5 +1,6 @@
 -- What reading the tree says of the bytes.
-use Rattle.std.proofs.Common.{◌≡◌, ◌≤◌, ◌&&◌, ℕ, List, length, Bool, true, false, Option, Some, None, Result, Ok, Err, MatchResult, ap, ◌∙◌, subst}
+use Rattle.std.proofs.Common.{◌≡◌, ◌≤◌, ◌&&◌, ℕ, List, length, Bool, true, false, Option, Some}
+use Rattle.std.proofs.Common.{None, Result, Ok, Err, MatchResult, ap, ◌∙◌, subst}
 use Rattle.std.specs.Prelude.{⊤}
 use Rattle.std.proofs.lemmas.Bool.{and_from}
 use Rattle.serde_json.specs.Data.{Data}
@@ -10,17 +11,22 @@ use Rattle.game_text.specs.Names.{has_names}
 use Rattle.game_text.specs.Coalitions.{has_coalitions}
 use Rattle.game_text.specs.Descriptions.{description_of}
 use Rattle.game_text.specs.Documents.{game_tree}
-use Rattle.game_text.specs.Refusals.{unless, is_covered, has_quota, has_matrix, has_needed_numbers, has_needed_shares, has_needed_form, IsRefused}
+use Rattle.game_text.specs.Refusals.{unless, is_covered, has_quota, has_matrix, has_needed_numbers}
+use Rattle.game_text.specs.Refusals.{has_needed_shares, has_needed_form, IsRefused}
 use Rattle.game_text.specs.Denominators.{needed_keep_limits, contents_of, tree_refusal}
-use Rattle.game_text.specs.Steps.{coalition_refusal, game_refusal, share_refusal, certificate_refusal, needed_refusal, late_refusal}
-use Rattle.game_text.specs.Readings.{IsBuilt, IsBuildFault, IsGameReading, IsGameFault, IsTreeReading, IsTreeFault, IsLateReading, IsLateFault, IsReading, IsFault, contents_in}
+use Rattle.game_text.specs.Steps.{coalition_refusal, game_refusal, share_refusal}
+use Rattle.game_text.specs.Steps.{certificate_refusal, needed_refusal, late_refusal}
+use Rattle.game_text.specs.Readings.{IsBuilt, IsBuildFault, IsGameReading, IsGameFault, IsTreeReading, IsTreeFault}
+use Rattle.game_text.specs.Readings.{IsLateReading, IsLateFault, IsReading, IsFault, contents_in}
 use Rattle.game_text.specs.declared.command.Command.{Command}
 use Rattle.game_text.specs.declared.document.Document.{Document}
 use Rattle.game_text.specs.declared.fault.TextFault.{TextFault}
 use Rattle.game_text.specs.declared.fault.TextFault.TheVariants.{Refused, Memory}
 use Rattle.game_text.specs.declared.game.Game.{Game}
 use Rattle.kinds.specs.declared.refusal.Refusal.{Refusal}
-use Rattle.kinds.specs.declared.refusal.Refusal.TheVariants.{TooLong, NotJson, Shape, Players, Number, Names, Coalition, Estate, Matrix, Proposal, TooFine, Certificate, Quota}
+use Rattle.kinds.specs.declared.refusal.Refusal.TheVariants.{TooLong, NotJson, Shape, Players, Number}
+use Rattle.kinds.specs.declared.refusal.Refusal.TheVariants.{Names, Coalition, Estate, Matrix, Proposal}
+use Rattle.kinds.specs.declared.refusal.Refusal.TheVariants.{TooFine, Certificate, Quota}
 use Rattle.game_text.proofs.Computed.{document_from, refused_from}
 
 -- a refusal of the tree is behind the first two
@@ -37,12 +43,16 @@ choose false r x p q = q
 certificate_of_tree : (command : Command) (game tree : Data) → IsOfTree (certificate_refusal command game tree)
 certificate_of_tree command game tree = choose (has_needed_form command game tree) Certificate None tt tt
 
-share_of_tree : (command : Command) (game tree : Data) (rest : Option Refusal) → IsOfTree rest → IsOfTree (share_refusal command game tree rest)
+share_of_tree : (command : Command) (game tree : Data) (rest : Option Refusal) → IsOfTree rest
+    → IsOfTree (share_refusal command game tree rest)
 share_of_tree command game tree rest p =
-    choose (has_needed_shares command game tree) Proposal (unless (needed_keep_limits command game tree) TooFine rest) (choose (needed_keep_limits command game tree) TooFine rest p tt) tt
+    choose (has_needed_shares command game tree) Proposal
+    (unless (needed_keep_limits command game tree) TooFine rest)
+    (choose (needed_keep_limits command game tree) TooFine rest p tt) tt
 
 needed_of_tree : (command : Command) (game tree : Data) → IsOfTree (needed_refusal command game tree)
-needed_of_tree command game tree = share_of_tree command game tree (certificate_refusal command game tree) (certificate_of_tree command game tree)
+needed_of_tree command game tree =
+    share_of_tree command game tree (certificate_refusal command game tree) (certificate_of_tree command game tree)
 
 game_of_tree : (game : Data) (rest : Option Refusal) → IsOfTree rest → IsOfTree (game_refusal game rest)
 game_of_tree game rest p =
@@ -51,7 +61,9 @@ game_of_tree game rest p =
     let estate = unless (is_covered (description_of game)) Estate quota in
     choose (has_names game) Names (unless (has_coalitions game) Coalition estate)
     (choose (has_coalitions game) Coalition estate
-    (choose (is_covered (description_of game)) Estate quota (choose (has_quota (description_of game)) Quota matrix (choose (has_matrix (description_of game)) Matrix rest p tt) tt) tt) tt) tt
+    (choose (is_covered (description_of game)) Estate quota
+    (choose (has_quota (description_of game)) Quota matrix
+    (choose (has_matrix (description_of game)) Matrix rest p tt) tt) tt) tt) tt
 
 of_tree : (command : Command) (tree : Data) → IsOfTree (tree_refusal command tree)
 of_tree command tree =
@@ -60,30 +72,50 @@ of_tree command tree =
     let numbers = has_numbers game && has_needed_numbers command tree in
     let number = unless numbers Number late in
     choose (is_shaped command tree) Shape (unless (has_players game) Players number)
-    (choose (has_players game) Players number (choose numbers Number late (game_of_tree game (needed_refusal command game tree) (needed_of_tree command game tree)) tt) tt) tt
+    (choose (has_players game) Players number
+    (choose numbers Number late
+    (game_of_tree game (needed_refusal command game tree) (needed_of_tree command game tree)) tt) tt) tt
 
-refused_at : (command : Command) (bytes : List ℕ) (tree : Data) → length bytes ≤ document_limit command → IsTextOf bytes tree → (r : Refusal) → IsOfTree (Some r) → tree_refusal command tree ≡ Some r → IsRefused command bytes r
+refused_at : (command : Command) (bytes : List ℕ) (tree : Data) → length bytes ≤ document_limit command
+    → IsTextOf bytes tree → (r : Refusal) → IsOfTree (Some r) → tree_refusal command tree ≡ Some r
+    → IsRefused command bytes r
 refused_at command bytes tree h text TooLong k e = absurd k
 refused_at command bytes tree h text NotJson k e = absurd k
-refused_at command bytes tree h text Shape k e = refused_from command bytes _ (record { short = h; tree = tree; text = text; refused = e })
-refused_at command bytes tree h text Players k e = refused_from command bytes _ (record { short = h; tree = tree; text = text; refused = e })
-refused_at command bytes tree h text Number k e = refused_from command bytes _ (record { short = h; tree = tree; text = text; refused = e })
-refused_at command bytes tree h text Names k e = refused_from command bytes _ (record { short = h; tree = tree; text = text; refused = e })
-refused_at command bytes tree h text Coalition k e = refused_from command bytes _ (record { short = h; tree = tree; text = text; refused = e })
-refused_at command bytes tree h text Estate k e = refused_from command bytes _ (record { short = h; tree = tree; text = text; refused = e })
-refused_at command bytes tree h text Matrix k e = refused_from command bytes _ (record { short = h; tree = tree; text = text; refused = e })
-refused_at command bytes tree h text Proposal k e = refused_from command bytes _ (record { short = h; tree = tree; text = text; refused = e })
-refused_at command bytes tree h text TooFine k e = refused_from command bytes _ (record { short = h; tree = tree; text = text; refused = e })
-refused_at command bytes tree h text Certificate k e = refused_from command bytes _ (record { short = h; tree = tree; text = text; refused = e })
-refused_at command bytes tree h text Quota k e = refused_from command bytes _ (record { short = h; tree = tree; text = text; refused = e })
+refused_at command bytes tree h text Shape k e =
+    refused_from command bytes _ (record { short = h; tree = tree; text = text; refused = e })
+refused_at command bytes tree h text Players k e =
+    refused_from command bytes _ (record { short = h; tree = tree; text = text; refused = e })
+refused_at command bytes tree h text Number k e =
+    refused_from command bytes _ (record { short = h; tree = tree; text = text; refused = e })
+refused_at command bytes tree h text Names k e =
+    refused_from command bytes _ (record { short = h; tree = tree; text = text; refused = e })
+refused_at command bytes tree h text Coalition k e =
+    refused_from command bytes _ (record { short = h; tree = tree; text = text; refused = e })
+refused_at command bytes tree h text Estate k e =
+    refused_from command bytes _ (record { short = h; tree = tree; text = text; refused = e })
+refused_at command bytes tree h text Matrix k e =
+    refused_from command bytes _ (record { short = h; tree = tree; text = text; refused = e })
+refused_at command bytes tree h text Proposal k e =
+    refused_from command bytes _ (record { short = h; tree = tree; text = text; refused = e })
+refused_at command bytes tree h text TooFine k e =
+    refused_from command bytes _ (record { short = h; tree = tree; text = text; refused = e })
+refused_at command bytes tree h text Certificate k e =
+    refused_from command bytes _ (record { short = h; tree = tree; text = text; refused = e })
+refused_at command bytes tree h text Quota k e =
+    refused_from command bytes _ (record { short = h; tree = tree; text = text; refused = e })
 
-fault_at : (command : Command) (bytes : List ℕ) (tree : Data) → length bytes ≤ document_limit command → IsTextOf bytes tree → (e : TextFault) → IsTreeFault command tree e → IsFault command bytes e
-fault_at command bytes tree h text (Refused r) e = refused_at command bytes tree h text r (subst IsOfTree e (of_tree command tree)) e
+fault_at : (command : Command) (bytes : List ℕ) (tree : Data) → length bytes ≤ document_limit command
+    → IsTextOf bytes tree → (e : TextFault) → IsTreeFault command tree e → IsFault command bytes e
+fault_at command bytes tree h text (Refused r) e =
+    refused_at command bytes tree h text r (subst IsOfTree e (of_tree command tree)) e
 fault_at command bytes tree h text Memory e = tt
 
-pub from_tree : (command : Command) (bytes : List ℕ) (tree : Data) → length bytes ≤ document_limit command → IsTextOf bytes tree → (r : Result Document TextFault) → MatchResult r (IsTreeReading command tree) (IsTreeFault command tree)
+pub from_tree : (command : Command) (bytes : List ℕ) (tree : Data) → length bytes ≤ document_limit command
+    → IsTextOf bytes tree → (r : Result Document TextFault)
+    → MatchResult r (IsTreeReading command tree) (IsTreeFault command tree)
     → MatchResult r (IsReading command bytes) (IsFault command bytes)
-from_tree command bytes tree h text (Ok d) m = document_from command bytes _ (record { short = h; tree = tree; text = text; passed = m.passed; says = m.says })
+from_tree command bytes tree h text (Ok d) m =
+    document_from command bytes _ (record { short = h; tree = tree; text = text; passed = m.passed; says = m.says })
 from_tree command bytes tree h text (Err e) m = fault_at command bytes tree h text e m
 
 -- ---- behind the test of the names
@@ -92,8 +124,10 @@ fault_behind : (game : Data) → has_names game ≡ true → (e : TextFault) →
 fault_behind game h (Refused r) e = λ rest. ap (λ b. unless b Names (coalition_refusal game rest)) h ∙ e rest
 fault_behind game h Memory e = tt
 
-pub behind_names : (game : Data) → has_names game ≡ true → (r : Result Game TextFault) → MatchResult r (IsBuilt game) (IsBuildFault game) → MatchResult r (IsGameReading game) (IsGameFault game)
-behind_names game h (Ok g) m = record { passed = λ rest. ap (λ b. unless b Names (coalition_refusal game rest)) h ∙ m.passed rest; same = m.same }
+pub behind_names : (game : Data) → has_names game ≡ true → (r : Result Game TextFault)
+    → MatchResult r (IsBuilt game) (IsBuildFault game) → MatchResult r (IsGameReading game) (IsGameFault game)
+behind_names game h (Ok g) m = record
+    { passed = λ rest. ap (λ b. unless b Names (coalition_refusal game rest)) h ∙ m.passed rest; same = m.same }
 behind_names game h (Err e) m = fault_behind game h e m
 
 pub refused_by_names : (game : Data) → has_names game ≡ false → IsGameFault game (Refused Names)
@@ -101,18 +135,23 @@ refused_by_names game h = λ rest. ap (λ b. unless b Names (coalition_refusal g
 
 -- ---- behind the tests of the shape, the players and the numbers
 
-reached : (command : Command) (tree : Data) → is_shaped command tree ≡ true → has_players (game_tree tree) ≡ true → (has_numbers (game_tree tree) && has_needed_numbers command tree) ≡ true
+reached : (command : Command) (tree : Data) → is_shaped command tree ≡ true → has_players (game_tree tree) ≡ true
+    → (has_numbers (game_tree tree) && has_needed_numbers command tree) ≡ true
     → tree_refusal command tree ≡ late_refusal command (game_tree tree) tree
 reached command tree shaped players numbers =
     let late = late_refusal command (game_tree tree) tree in
     let number = unless (has_numbers (game_tree tree) && has_needed_numbers command tree) Number late in
-    ap (λ b. unless b Shape (unless (has_players (game_tree tree)) Players number)) shaped ∙ ap (λ b. unless b Players number) players ∙ ap (λ b. unless b Number late) numbers
+    ap (λ b. unless b Shape (unless (has_players (game_tree tree)) Players number)) shaped
+    ∙ ap (λ b. unless b Players number) players ∙ ap (λ b. unless b Number late) numbers
 
-late_fault : (command : Command) (tree : Data) → tree_refusal command tree ≡ late_refusal command (game_tree tree) tree → (e : TextFault) → IsLateFault command (game_tree tree) tree e → IsTreeFault command tree e
+late_fault : (command : Command) (tree : Data)
+    → tree_refusal command tree ≡ late_refusal command (game_tree tree) tree → (e : TextFault)
+    → IsLateFault command (game_tree tree) tree e → IsTreeFault command tree e
 late_fault command tree h (Refused r) e = h ∙ e
 late_fault command tree h Memory e = tt
 
-late_says : (command : Command) (tree : Data) (d : Document) → IsLateReading command (game_tree tree) tree d → contents_in d ≡ contents_of command tree
+late_says : (command : Command) (tree : Data) (d : Document) → IsLateReading command (game_tree tree) tree d
+    → contents_in d ≡ contents_of command tree
 late_says command tree d m =
     let described = m.described in
     let same = m.same in
@@ -123,25 +162,42 @@ late_says command tree d m =
     let certificate = m.certificate in
     cc
 
-at_game : (command : Command) (tree : Data) → is_shaped command tree ≡ true → has_players (game_tree tree) ≡ true → (has_numbers (game_tree tree) && has_needed_numbers command tree) ≡ true
-    → (r : Result Document TextFault) → MatchResult r (IsLateReading command (game_tree tree) tree) (IsLateFault command (game_tree tree) tree) → MatchResult r (IsTreeReading command tree) (IsTreeFault command tree)
-at_game command tree a b c (Ok d) m = record { passed = reached command tree a b c ∙ m.passed; says = late_says command tree d m }
+at_game : (command : Command) (tree : Data) → is_shaped command tree ≡ true → has_players (game_tree tree) ≡ true
+    → (has_numbers (game_tree tree) && has_needed_numbers command tree) ≡ true
+    → (r : Result Document TextFault)
+    → MatchResult r (IsLateReading command (game_tree tree) tree) (IsLateFault command (game_tree tree) tree)
+    → MatchResult r (IsTreeReading command tree) (IsTreeFault command tree)
+at_game command tree a b c (Ok d) m =
+    record { passed = reached command tree a b c ∙ m.passed; says = late_says command tree d m }
 at_game command tree a b c (Err e) m = late_fault command tree (reached command tree a b c) e m
 
-pub behind_numbers : (command : Command) (game tree : Data) → game ≡ game_tree tree → is_shaped command tree ≡ true → has_players game ≡ true → has_numbers game ≡ true → has_needed_numbers command tree ≡ true
-    → (r : Result Document TextFault) → MatchResult r (IsLateReading command game tree) (IsLateFault command game tree) → MatchResult r (IsTreeReading command tree) (IsTreeFault command tree)
+pub behind_numbers : (command : Command) (game tree : Data) → game ≡ game_tree tree → is_shaped command tree ≡ true
+    → has_players game ≡ true → has_numbers game ≡ true → has_needed_numbers command tree ≡ true
+    → (r : Result Document TextFault)
+    → MatchResult r (IsLateReading command game tree) (IsLateFault command game tree)
+    → MatchResult r (IsTreeReading command tree) (IsTreeFault command tree)
 behind_numbers command game tree e shaped players numbers needed r m =
-    at_game command tree shaped (subst (λ g. has_players g ≡ true) e players) (and_from (has_numbers (game_tree tree)) (has_needed_numbers command tree) (subst (λ g. has_numbers g ≡ true) e numbers) needed) r
+    at_game command tree shaped (subst (λ g. has_players g ≡ true) e players)
+    (and_from (has_numbers (game_tree tree)) (has_needed_numbers command tree)
+    (subst (λ g. has_numbers g ≡ true) e numbers) needed) r
     (subst (λ g. MatchResult r (IsLateReading command g tree) (IsLateFault command g tree)) e m)
 
-pub few_players : (command : Command) (game tree : Data) → game ≡ game_tree tree → is_shaped command tree ≡ true → has_players game ≡ false → tree_refusal command tree ≡ Some Players
+pub few_players : (command : Command) (game tree : Data) → game ≡ game_tree tree → is_shaped command tree ≡ true
+    → has_players game ≡ false → tree_refusal command tree ≡ Some Players
 few_players command game tree e shaped players =
-    let number = unless (has_numbers (game_tree tree) && has_needed_numbers command tree) Number (late_refusal command (game_tree tree) tree) in
-    ap (λ b. unless b Shape (unless (has_players (game_tree tree)) Players number)) shaped ∙ ap (λ b. unless b Players number) (subst (λ g. has_players g ≡ false) e players)
+    let number =
+    unless (has_numbers (game_tree tree) && has_needed_numbers command tree) Number
+    (late_refusal command (game_tree tree) tree) in
+    ap (λ b. unless b Shape (unless (has_players (game_tree tree)) Players number)) shaped
+    ∙ ap (λ b. unless b Players number) (subst (λ g. has_players g ≡ false) e players)
 
-pub bad_number : (command : Command) (game tree : Data) → game ≡ game_tree tree → is_shaped command tree ≡ true → has_players game ≡ true → (has_numbers game && has_needed_numbers command tree) ≡ false → tree_refusal command tree ≡ Some Number
+pub bad_number : (command : Command) (game tree : Data) → game ≡ game_tree tree → is_shaped command tree ≡ true
+    → has_players game ≡ true → (has_numbers game && has_needed_numbers command tree) ≡ false
+    → tree_refusal command tree ≡ Some Number
 bad_number command game tree e shaped players numbers =
     let late = late_refusal command (game_tree tree) tree in
     let number = unless (has_numbers (game_tree tree) && has_needed_numbers command tree) Number late in
-    ap (λ b. unless b Shape (unless (has_players (game_tree tree)) Players number)) shaped ∙ ap (λ b. unless b Players number) (subst (λ g. has_players g ≡ true) e players)
-    ∙ ap (λ b. unless b Number late) (subst (λ g. (has_numbers g && has_needed_numbers command tree) ≡ false) e numbers)
+    ap (λ b. unless b Shape (unless (has_players (game_tree tree)) Players number)) shaped
+    ∙ ap (λ b. unless b Players number) (subst (λ g. has_players g ≡ true) e players)
+    ∙ ap (λ b. unless b Number late)
+    (subst (λ g. (has_numbers g && has_needed_numbers command tree) ≡ false) e numbers)

@@ -27,15 +27,39 @@ pub record IsRefusedAs (command : Command) (bytes : List ℕ) (r : Refusal) : Ty
 
 module _ (command : Command) (bytes : List ℕ) where
   pub document_from : (p : Contents) → IsReadAs command bytes p → IsDocument command bytes p
-  document_from p h = (h.short, (h.tree, h.text, (share_denominator (game_tree h.tree) h.tree, denominator_of (scale_of (game_tree h.tree)) h.tree, h.passed, h.says)))
+  document_from p h = (
+    h.short,
+    (
+      h.tree,
+      h.text,
+      (
+        share_denominator (game_tree h.tree) h.tree,
+        denominator_of (scale_of (game_tree h.tree)) h.tree,
+        h.passed,
+        h.says,
+      ),
+    ),
+  )
 
   pub refused_from : (r : Refusal) → IsRefusedAs command bytes r → IsTreeRefused command bytes r
-  refused_from r h = (h.short, (h.tree, h.text, (share_denominator (game_tree h.tree) h.tree, denominator_of (scale_of (game_tree h.tree)) h.tree, h.refused)))
+  refused_from r h = (
+    h.short,
+    (
+      h.tree,
+      h.text,
+      (
+        share_denominator (game_tree h.tree) h.tree,
+        denominator_of (scale_of (game_tree h.tree)) h.tree,
+        h.refused,
+      ),
+    ),
+  )
 
   pub document_as : (p : Contents) → IsDocument command bytes p → IsReadAs command bytes p
   document_as p h =
       let tree = h.1.0 in
-      let same : share_denominator (game_tree tree) tree ≡ h.1.2.0 = sym (one_denominator_of (scale_of (game_tree tree)) tree h.1.2.0 h.1.2.1) in
+      let same : share_denominator (game_tree tree) tree ≡ h.1.2.0 =
+      sym (one_denominator_of (scale_of (game_tree tree)) tree h.1.2.0 h.1.2.1) in
       record {
         short = h.0;
         tree = tree;
@@ -47,5 +71,7 @@ module _ (command : Command) (bytes : List ℕ) where
   pub refused_as : (r : Refusal) → IsTreeRefused command bytes r → IsRefusedAs command bytes r
   refused_as r h =
       let tree = h.1.0 in
-      let same : share_denominator (game_tree tree) tree ≡ h.1.2.0 = sym (one_denominator_of (scale_of (game_tree tree)) tree h.1.2.0 h.1.2.1) in
-      record { short = h.0; tree = tree; text = h.1.1; refused = ap (λ d. refusal_over d command tree) same ∙ h.1.2.2 }
+      let same : share_denominator (game_tree tree) tree ≡ h.1.2.0 =
+      sym (one_denominator_of (scale_of (game_tree tree)) tree h.1.2.0 h.1.2.1) in
+      record
+      { short = h.0; tree = tree; text = h.1.1; refused = ap (λ d. refusal_over d command tree) same ∙ h.1.2.2 }

@@ -1,5 +1,7 @@
 -- A document has a share for each player of its game, and a certificate for its players.
-use Rattle.std.proofs.Common.{◌≡◌, ℕ, ◌+◌, ◌-◌, List, length, map, Bool, true, false, pos, neg_ℤ, Option, Some, None, Result, Ok, Err, MatchResult, IfOk, IfSome, unsigned_abs, codes, refl, sym, ap, ap₂, ◌∙◌, subst}
+use Rattle.std.proofs.Common.{◌≡◌, ℕ, ◌+◌, ◌-◌, List, length, map, Bool, true, false, pos, neg_ℤ}
+use Rattle.std.proofs.Common.{Option, Some, None, Result, Ok, Err, MatchResult, IfOk, IfSome}
+use Rattle.std.proofs.Common.{unsigned_abs, codes, refl, sym, ap, ap₂, ◌∙◌, subst}
 use Rattle.std.proofs.lemmas.Bool.{eqb-true}
 use Rattle.std.proofs.lemmas.List.{length-map}
 use Rattle.serde_json.specs.Data.{Data}
@@ -23,18 +25,23 @@ use Rattle.game_text.specs.Readings.{IsTreeReading, IsTreeFault}
 use Rattle.game_text.proofs.MatrixRows.{row_count, seller_count_of}
 use Rattle.game_text.proofs.Passed.{IsPassed, behind, passed_tests}
 use Rattle.game_text.specs.declared.class.Class.{Class}
-use Rattle.game_text.specs.declared.class.Class.TheVariants.{Table, CostTable, Airport, Bankruptcy, Tree, Assignment, Market, Voting}
+use Rattle.game_text.specs.declared.class.Class.TheVariants.{Table, CostTable, Airport, Bankruptcy, Tree}
+use Rattle.game_text.specs.declared.class.Class.TheVariants.{Assignment, Market, Voting}
 use Rattle.game_text.specs.declared.command.Command.{Command}
-use Rattle.game_text.specs.declared.command.Command.TheVariants.{Nucleolus, Prenucleolus, Propose, Core, Check, Shapley, Bird, Convex, Kernel, Matching}
+use Rattle.game_text.specs.declared.command.Command.TheVariants.{Nucleolus, Prenucleolus, Propose, Core, Check}
+use Rattle.game_text.specs.declared.command.Command.TheVariants.{Shapley, Bird, Convex, Kernel, Matching}
 use Rattle.game_text.specs.declared.document.Document.{Document}
 use Rattle.game_text.specs.declared.fault.TextFault.{TextFault}
 use Rattle.kinds.specs.declared.refusal.Refusal.{Refusal}
 use Rattle.kinds.specs.declared.refusal.Refusal.TheVariants.{Proposal, TooFine}
 
-pub costs_length : (k : ℕ) (key : List ℕ) (game : Data) → length (map unsigned_abs (numbers_at k key game)) ≡ length (parts_at key game)
-costs_length k key game = length-map (numbers_at k key game) unsigned_abs ∙ length-map (parts_at key game) (number_or_zero k)
+pub costs_length : (k : ℕ) (key : List ℕ) (game : Data)
+    → length (map unsigned_abs (numbers_at k key game)) ≡ length (parts_at key game)
+costs_length k key game =
+    length-map (numbers_at k key game) unsigned_abs ∙ length-map (parts_at key game) (number_or_zero k)
 
-pub players_described : (k : ℕ) (game : Data) (c : Option Class) → c ≡ class_of game → (game_of (description_as k c game)).players ≡ players_as c game
+pub players_described : (k : ℕ) (game : Data) (c : Option Class) → c ≡ class_of game
+    → (game_of (description_as k c game)).players ≡ players_as c game
 players_described k game None e = refl
 players_described k game (Some Table) e = ap (λ o. players_as o game) (sym e)
 players_described k game (Some CostTable) e = ap (λ o. players_as o game) (sym e)
@@ -55,26 +62,35 @@ length_as_worth false fs = length_over fs
 abbrev HasShareEach : Document → Type 0
 HasShareEach d = IfSome d.shares (λ x. length x.shares ≡ (game_of (description_in d.game)).players)
 
-shares_each : (game tree : Data) → has_shares_for (players game) tree ≡ true → length (shares_of game tree).shares ≡ (game_of (description_of game)).players
+shares_each : (game tree : Data) → has_shares_for (players game) tree ≡ true
+    → length (shares_of game tree).shares ≡ (game_of (description_of game)).players
 shares_each game tree h =
-    length_as_worth (is_cost (description_of game)) (scaled_shares (scale_of game) tree) ∙ length-map (parts_at (codes "shares") tree) (scaled_share (scale_of game)) ∙ eqb-true _ _ h
+    length_as_worth (is_cost (description_of game)) (scaled_shares (scale_of game) tree)
+    ∙ length-map (parts_at (codes "shares") tree) (scaled_share (scale_of game)) ∙ eqb-true _ _ h
     ∙ sym (players_described (scale_of game) game (class_of game) refl)
 
 -- ---- the test of the number of shares passed
 
-enough_shares : (game tree : Data) (rest : Option Refusal) → IsPassed (proposal_refusal game tree rest) → has_shares_for (players game) tree ≡ true
-enough_shares game tree rest h = (behind (has_shares_for (players game) tree) Proposal (unless (keep_limits (scaled_shares (scale_of game) tree)) TooFine rest) h).0
+enough_shares : (game tree : Data) (rest : Option Refusal) → IsPassed (proposal_refusal game tree rest)
+    → has_shares_for (players game) tree ≡ true
+enough_shares game tree rest h =
+    (behind (has_shares_for (players game) tree) Proposal
+    (unless (keep_limits (scaled_shares (scale_of game) tree)) TooFine rest) h).0
 
-abbrev described : (command : Command) (tree : Data) (d : Document) → IsTreeReading command tree d → description_in d.game ≡ description_of (game_tree tree)
+abbrev described : (command : Command) (tree : Data) (d : Document) → IsTreeReading command tree d
+    → description_in d.game ≡ description_of (game_tree tree)
 described command tree d m = ap (λ c. c.game) m.says
 
-abbrev tests_passed : (command : Command) (tree : Data) (d : Document) → IsTreeReading command tree d → IsPassed (needed_refusal command (game_tree tree) tree)
+abbrev tests_passed : (command : Command) (tree : Data) (d : Document) → IsTreeReading command tree d
+    → IsPassed (needed_refusal command (game_tree tree) tree)
 tests_passed command tree d m = (passed_tests command tree m.passed).needed
 
 no_shares : (d : Document) → d.shares ≡ None → HasShareEach d
 no_shares d e = subst (λ o. IfSome o (λ x. length x.shares ≡ (game_of (description_in d.game)).players)) (sym e) tt
 
-some_shares : (tree : Data) (d : Document) → d.shares ≡ Some (shares_of (game_tree tree) tree) → description_in d.game ≡ description_of (game_tree tree) → has_shares_for (players (game_tree tree)) tree ≡ true → HasShareEach d
+some_shares : (tree : Data) (d : Document) → d.shares ≡ Some (shares_of (game_tree tree) tree)
+    → description_in d.game ≡ description_of (game_tree tree)
+    → has_shares_for (players (game_tree tree)) tree ≡ true → HasShareEach d
 some_shares tree d e same enough =
     subst (λ o. IfSome o (λ x. length x.shares ≡ (game_of (description_in d.game)).players)) (sym e)
     (shares_each (game_tree tree) tree enough ∙ ap (λ k. (game_of k).players) (sym same))
@@ -82,18 +98,24 @@ some_shares tree d e same enough =
 has_share_each : (command : Command) (tree : Data) (d : Document) → IsTreeReading command tree d → HasShareEach d
 has_share_each Nucleolus tree d m = no_shares d (ap (λ c. c.shares) m.says)
 has_share_each Prenucleolus tree d m = no_shares d (ap (λ c. c.shares) m.says)
-has_share_each Propose tree d m = some_shares tree d (ap (λ c. c.shares) m.says) (described Propose tree d m) (enough_shares (game_tree tree) tree None (tests_passed Propose tree d m))
+has_share_each Propose tree d m =
+    some_shares tree d (ap (λ c. c.shares) m.says) (described Propose tree d m)
+    (enough_shares (game_tree tree) tree None (tests_passed Propose tree d m))
 has_share_each Core tree d m = no_shares d (ap (λ c. c.shares) m.says)
 has_share_each Check tree d m =
     some_shares tree d (ap (λ c. c.shares) m.says) (described Check tree d m)
-    (enough_shares (game_tree tree) tree (certificate_refusal Check (game_tree tree) tree) (tests_passed Check tree d m))
+    (enough_shares (game_tree tree) tree (certificate_refusal Check (game_tree tree) tree)
+    (tests_passed Check tree d m))
 has_share_each Shapley tree d m = no_shares d (ap (λ c. c.shares) m.says)
 has_share_each Bird tree d m = no_shares d (ap (λ c. c.shares) m.says)
 has_share_each Convex tree d m = no_shares d (ap (λ c. c.shares) m.says)
-has_share_each Kernel tree d m = some_shares tree d (ap (λ c. c.shares) m.says) (described Kernel tree d m) (enough_shares (game_tree tree) tree None (tests_passed Kernel tree d m))
+has_share_each Kernel tree d m =
+    some_shares tree d (ap (λ c. c.shares) m.says) (described Kernel tree d m)
+    (enough_shares (game_tree tree) tree None (tests_passed Kernel tree d m))
 has_share_each Matching tree d m = no_shares d (ap (λ c. c.shares) m.says)
 
-pub share_each : (command : Command) (tree : Data) (r : Result Document TextFault) → MatchResult r (IsTreeReading command tree) (IsTreeFault command tree) → IfOk r HasShareEach
+pub share_each : (command : Command) (tree : Data) (r : Result Document TextFault)
+    → MatchResult r (IsTreeReading command tree) (IsTreeFault command tree) → IfOk r HasShareEach
 share_each command tree (Ok d) m = has_share_each command tree d m
 share_each command tree (Err e) m = tt
 
@@ -111,15 +133,18 @@ has_its_players Prenucleolus tree d m = no_certificate d (ap (λ c. c.certificat
 has_its_players Propose tree d m = no_certificate d (ap (λ c. c.certificate) m.says)
 has_its_players Core tree d m = no_certificate d (ap (λ c. c.certificate) m.says)
 has_its_players Check tree d m =
-    let certificate : d.certificate ≡ certificate_for Check (game_tree tree) tree = ap (λ c. c.certificate) m.says in
+    let certificate : d.certificate ≡ certificate_for Check (game_tree tree) tree =
+    ap (λ c. c.certificate) m.says in
     subst (λ o. IfSome o (λ c. c.players ≡ (game_of (description_in d.game)).players)) (sym certificate)
-    (sym (players_described (scale_of (game_tree tree)) (game_tree tree) (class_of (game_tree tree)) refl) ∙ ap (λ k. (game_of k).players) (sym (described Check tree d m)))
+    (sym (players_described (scale_of (game_tree tree)) (game_tree tree) (class_of (game_tree tree)) refl)
+    ∙ ap (λ k. (game_of k).players) (sym (described Check tree d m)))
 has_its_players Shapley tree d m = no_certificate d (ap (λ c. c.certificate) m.says)
 has_its_players Bird tree d m = no_certificate d (ap (λ c. c.certificate) m.says)
 has_its_players Convex tree d m = no_certificate d (ap (λ c. c.certificate) m.says)
 has_its_players Kernel tree d m = no_certificate d (ap (λ c. c.certificate) m.says)
 has_its_players Matching tree d m = no_certificate d (ap (λ c. c.certificate) m.says)
 
-pub its_players : (command : Command) (tree : Data) (r : Result Document TextFault) → MatchResult r (IsTreeReading command tree) (IsTreeFault command tree) → IfOk r HasItsPlayers
+pub its_players : (command : Command) (tree : Data) (r : Result Document TextFault)
+    → MatchResult r (IsTreeReading command tree) (IsTreeFault command tree) → IfOk r HasItsPlayers
 its_players command tree (Ok d) m = has_its_players command tree d m
 its_players command tree (Err e) m = tt

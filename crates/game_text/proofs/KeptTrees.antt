@@ -1,5 +1,6 @@
 -- The tree that a document keeps is exact, and written in no more bytes than were read.
-use Rattle.std.proofs.Common.{◌≡◌, ℕ, ◌≤◌, codes, List, length, take, Bool, true, false, ◌&&◌, if◌then◌else◌, Option, Some, None, Result, Ok, Err, MatchResult, IfOk, refl, sym, ap, subst, arith}
+use Rattle.std.proofs.Common.{◌≡◌, ℕ, ◌≤◌, codes, List, length, take, Bool, true, false, ◌&&◌, if◌then◌else◌}
+use Rattle.std.proofs.Common.{Option, Some, None, Result, Ok, Err, MatchResult, IfOk, refl, sym, ap, subst, arith}
 use Rattle.std.specs.Prelude.{unwrap_or}
 use Rattle.std.proofs.lemmas.Bool.{false≢true, and_parts}
 use Rattle.std.proofs.lemmas.List.{length-take}
@@ -33,9 +34,12 @@ pub passes_there : (test : Data → Bool) (o : Option Data) → passes test o �
 passes_there test None h = absurd (false≢true h)
 passes_there test (Some d) h = h
 
-has_game : (command : Command) (tree : Data) → is_shaped command tree ≡ true → passes is_game_shaped (get (codes "game") tree) ≡ true
+has_game : (command : Command) (tree : Data) → is_shaped command tree ≡ true
+    → passes is_game_shaped (get (codes "game") tree) ≡ true
 has_game command tree h =
-    let a = and_parts (has_only_keys document_keys tree && passes is_game_shaped (get (codes "game") tree)) (has_needed command tree) h in
+    let a =
+    and_parts (has_only_keys document_keys tree && passes is_game_shaped (get (codes "game") tree))
+    (has_needed command tree) h in
     (and_parts (has_only_keys document_keys tree) (passes is_game_shaped (get (codes "game") tree)) a.0).1
 
 cut_is_shorter : (b : Bool) (n : ℕ) (bytes : List ℕ) → length (if b then take n bytes else bytes) ≤ length bytes
@@ -45,18 +49,30 @@ cut_is_shorter false n bytes = omega arith
 without_newline_is_shorter : (bytes : List ℕ) → length (without_newline bytes) ≤ length bytes
 without_newline_is_shorter bytes = cut_is_shorter _ _ bytes
 
-kept_game : (command : Command) (bytes : List ℕ) (tree : Data) → read (without_newline bytes) ≡ Some tree → Passes command tree → IsKept bytes (game_tree tree)
+kept_game : (command : Command) (bytes : List ℕ) (tree : Data) → read (without_newline bytes) ≡ Some tree
+    → Passes command tree → IsKept bytes (game_tree tree)
 kept_game command bytes tree read p =
     let found = has_game command tree p.shaped in
     let ordered = (read_ordered (without_newline bytes) tree read).0 in
-    let part = member_keeps (codes "game") (game_tree tree) tree ordered (there is_game_shaped (get (codes "game") tree) found) in
+    let part =
+    member_keeps (codes "game") (game_tree tree) tree ordered
+    (there is_game_shaped (get (codes "game") tree) found) in
     let numbers = (and_parts (has_numbers (game_tree tree)) (has_needed_numbers command tree) p.numbers).0 in
-    let plain = plain_game (game_tree tree) part.ordered (passes_there is_game_shaped (get (codes "game") tree) found) p.players numbers p.coalitions in
+    let plain =
+    plain_game (game_tree tree) part.ordered (passes_there is_game_shaped (get (codes "game") tree) found)
+    p.players numbers p.coalitions in
     let light = no_longer (without_newline bytes) tree read in
     let cut = without_newline_is_shorter bytes in
-    record { exact = exact_from (game_tree tree) part.ordered plain.whole; whole = plain.whole; integers = plain.integers; shallow = omega (arith, plain.shallow); shorter = omega (arith, part.shorter, light, cut) }
+    record {
+      exact = exact_from (game_tree tree) part.ordered plain.whole;
+      whole = plain.whole;
+      integers = plain.integers;
+      shallow = omega (arith, plain.shallow);
+      shorter = omega (arith, part.shorter, light, cut);
+    }
 
-pub kept_tree : (command : Command) (bytes : List ℕ) (tree : Data) → read (without_newline bytes) ≡ Some tree → (r : Result Document TextFault) → MatchResult r (IsTreeReading command tree) (IsTreeFault command tree)
+pub kept_tree : (command : Command) (bytes : List ℕ) (tree : Data) → read (without_newline bytes) ≡ Some tree
+    → (r : Result Document TextFault) → MatchResult r (IsTreeReading command tree) (IsTreeFault command tree)
     → IfOk r (λ d. IsKept bytes (view d.tree))
 kept_tree command bytes tree read (Ok d) m =
     let same : view d.tree ≡ game_tree tree = ap (λ c. c.tree) m.says in

@@ -29,15 +29,20 @@ sides_in k game h =
     let some_sellers = ltb-true 0 m sellers.0 in
     let few_sellers = leb-true m 32 sellers.1 in
     let rows = row_count k game in
-    let first = seller_count_of k game in
-    (omega (arith, some_buyers, rows), omega (arith, few_buyers, rows), omega (arith, some_sellers, first), omega (arith, few_sellers, first))
+    let first = seller_count_of k game in (
+      omega (arith, some_buyers, rows),
+      omega (arith, few_buyers, rows),
+      omega (arith, some_sellers, first),
+      omega (arith, few_sellers, first),
+    )
 
 -- the rows have as many players and such entries as a market wants
 pub record HasMarketSizes (rows : List (List ℤ)) : Type 0 where
   pub players : HavePlayers rows
   pub entries : HaveEntries rows
 
-pub market_sizes : (k : ℕ) (game : Data) → k ≡ scale_of game → class_of game ≡ Some Market → HasSizes game → HasMarketSizes (rows_of k game)
+pub market_sizes : (k : ℕ) (game : Data) → k ≡ scale_of game → class_of game ≡ Some Market → HasSizes game
+    → HasMarketSizes (rows_of k game)
 market_sizes k game s e h =
     record {
       players = sides_in k game (subst (λ c. has_players_as c game ≡ true) e h.players);

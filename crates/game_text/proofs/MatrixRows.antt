@@ -1,5 +1,7 @@
 -- The rows of a matrix in a document, and what the tests of them say.
-use Rattle.std.proofs.Common.{◌≡◌, ◌==◌, ℕ, ◌<◌, ℤ, List, [], ◌∷◌, length, map, get_or, codes, Bool, true, false, ◌&&◌, nat_le, Some, None, is_some, if◌then◌else◌, All, refl, sym, ap, subst, ◌∙◌, arith}
+use Rattle.std.proofs.Common.{◌≡◌, ◌==◌, ℕ, ◌<◌, ℤ, List, [], ◌∷◌, length, map, get_or, codes}
+use Rattle.std.proofs.Common.{Bool, true, false, ◌&&◌, nat_le, Some, None, is_some}
+use Rattle.std.proofs.Common.{if◌then◌else◌, All, refl, sym, ap, subst, ◌∙◌, arith}
 use Rattle.std.specs.List.{list_all, range_with_len, AllPass}
 use Rattle.std.proofs.lemmas.Bool.{true≢false, and_parts, leb-true, eqb-true, eq-eqb}
 use Rattle.std.proofs.lemmas.List.{length-map}
@@ -41,10 +43,13 @@ seller_count_of k game = first_length k (parts_at (codes "matrix") game)
 -- ---- entries
 
 row_entries : (k : ℕ) (d : Data) → is_array_of (is_cost k) d ≡ true → All IsCost (numbers_of k d)
-row_entries k d h = all_map IsCost (number_or_zero k) (is_cost k) (cost k) (parts d) (and_parts (is_some (as_array d)) (list_all (is_cost k) (parts d)) h).1
+row_entries k d h =
+    all_map IsCost (number_or_zero k) (is_cost k) (cost k) (parts d)
+    (and_parts (is_some (as_array d)) (list_all (is_cost k) (parts d)) h).1
 
 pub entries_in : (k : ℕ) (game : Data) → has_matrix_numbers k game ≡ true → HaveEntries (rows_of k game)
-entries_in k game h = all_map (All IsCost) (numbers_of k) (is_array_of (is_cost k)) (row_entries k) (parts_at (codes "matrix") game) h
+entries_in k game h =
+    all_map (All IsCost) (numbers_of k) (is_array_of (is_cost k)) (row_entries k) (parts_at (codes "matrix") game) h
 
 pub points_in : (k : ℕ) (game : Data) → has_tree_players game ≡ true → HavePoints (rows_of k game)
 points_in k game h =
@@ -72,7 +77,8 @@ pub record HasTreeSizes (rows : List (List ℤ)) : Type 0 where
   pub points : HavePoints rows
   pub entries : HaveEntries rows
 
-pub tree_sizes : (k : ℕ) (game : Data) → k ≡ scale_of game → class_of game ≡ Some Tree → HasSizes game → HasTreeSizes (rows_of k game)
+pub tree_sizes : (k : ℕ) (game : Data) → k ≡ scale_of game → class_of game ≡ Some Tree → HasSizes game
+    → HasTreeSizes (rows_of k game)
 tree_sizes k game s e h =
     record {
       points = points_in k game (subst (λ c. has_players_as c game ≡ true) e h.players);
@@ -84,7 +90,8 @@ pub record HasAssignmentSizes (rows : List (List ℤ)) : Type 0 where
   pub players : HavePlayers rows
   pub entries : HaveEntries rows
 
-pub assignment_sizes : (k : ℕ) (game : Data) → k ≡ scale_of game → class_of game ≡ Some Assignment → HasSizes game → HasAssignmentSizes (rows_of k game)
+pub assignment_sizes : (k : ℕ) (game : Data) → k ≡ scale_of game → class_of game ≡ Some Assignment → HasSizes game
+    → HasAssignmentSizes (rows_of k game)
 assignment_sizes k game s e h =
     record {
       players = players_in k game (subst (λ c. has_players_as c game ≡ true) e h.players);
@@ -99,9 +106,11 @@ at_place n i d lt = let there = get_or-range_with_len 0 n i d lt in omega (arith
 below : (n : ℕ) (test : ℕ → Bool) → list_all test (range_with_len 0 n) ≡ true → (i : ℕ) → i < n → test i ≡ true
 below n test h i lt =
     let long = length-range_with_len 0 n in
-    subst (λ k. test k ≡ true) (at_place n i 0 lt) (AllPass-from_list_all test (range_with_len 0 n) h i 0 (omega (arith, lt, long)))
+    subst (λ k. test k ≡ true) (at_place n i 0 lt)
+    (AllPass-from_list_all test (range_with_len 0 n) h i 0 (omega (arith, lt, long)))
 
-all_below : (n : ℕ) (test : ℕ → Bool) → ((i : ℕ) → i < n → test i ≡ true) → list_all test (range_with_len 0 n) ≡ true
+all_below : (n : ℕ) (test : ℕ → Bool) → ((i : ℕ) → i < n → test i ≡ true)
+    → list_all test (range_with_len 0 n) ≡ true
 all_below n test h = list_all-from_AllPass test (range_with_len 0 n) each
   where
     each : AllPass test (range_with_len 0 n)
@@ -127,21 +136,28 @@ links_hold rows h =
     let square = length_holds n rows both.0 in
     record {
       square = square;
-      symmetric = square-symmetric rows square (λ i il j jl. eqb-true _ _ (below n (is_turned rows i) (parts_of i il).1 j jl));
+      symmetric =
+          square-symmetric rows square
+          (λ i il j jl. eqb-true _ _ (below n (is_turned rows i) (parts_of i il).1 j jl));
       loopless = square-loopless rows square (λ i il. eqb-true _ _ (parts_of i il).0);
     }
   where
-    parts_of : (i : ℕ) → i < length rows → ((entries_of rows i i == 0) ≡ true) × (list_all (is_turned rows i) (range_with_len 0 (length rows)) ≡ true)
+    parts_of : (i : ℕ) → i < length rows
+        → ((entries_of rows i i == 0) ≡ true)
+        × (list_all (is_turned rows i) (range_with_len 0 (length rows)) ≡ true)
     parts_of i il =
         let n = length rows in
         let both = and_parts (have_length n rows) (list_all (is_linked n rows) (range_with_len 0 n)) h in
-        and_parts (entries_of rows i i == 0) (list_all (is_turned rows i) (range_with_len 0 n)) (below n (is_linked n rows) both.1 i il)
+        and_parts (entries_of rows i i == 0) (list_all (is_turned rows i) (range_with_len 0 n))
+        (below n (is_linked n rows) both.1 i il)
 
 links_pass : (rows : List (List ℤ)) → AreLinks rows → are_links rows ≡ true
 links_pass rows h =
     let n = length rows in
     and_both (have_length n rows) (list_all (is_linked n rows) (range_with_len 0 n)) (length_passes n rows h.square)
-    (all_below n (is_linked n rows) (λ i il. and_both (entries_of rows i i == 0) (list_all (is_turned rows i) (range_with_len 0 n)) (eq-eqb _ _ (h.loopless i))
+    (all_below n (is_linked n rows)
+    (λ i il. and_both (entries_of rows i i == 0) (list_all (is_turned rows i) (range_with_len 0 n))
+    (eq-eqb _ _ (h.loopless i))
     (all_below n (is_turned rows i) (λ j jl. eq-eqb _ _ (h.symmetric i j)))))
 
 -- ---- what was made of the rows, or not
@@ -154,14 +170,21 @@ pub none_if : {A : Type 0} (b : Bool) (x : A) → ¬ (b ≡ true) → None ≡ (
 none_if true x h = absurd (h refl)
 none_if false x h = refl
 
-pub tree_made : (made rows there : List (List ℤ)) → rows ≡ there → made ≡ rows → IsTree rows → Some made ≡ (if are_links there then Some there else None)
-tree_made made rows there e f h = made_if (are_links there) there made (f ∙ e) (ap are_links (sym e) ∙ links_pass rows h.links)
+pub tree_made : (made rows there : List (List ℤ)) → rows ≡ there → made ≡ rows → IsTree rows
+    → Some made ≡ (if are_links there then Some there else None)
+tree_made made rows there e f h =
+    made_if (are_links there) there made (f ∙ e) (ap are_links (sym e) ∙ links_pass rows h.links)
 
-pub tree_not_made : (rows there : List (List ℤ)) → rows ≡ there → ¬ AreLinks rows → None ≡ (if are_links there then Some there else None)
+pub tree_not_made : (rows there : List (List ℤ)) → rows ≡ there → ¬ AreLinks rows
+    → None ≡ (if are_links there then Some there else None)
 tree_not_made rows there e h = none_if (are_links there) there (λ t. h (links_hold rows (ap are_links e ∙ t)))
 
-pub even_made : (made rows there : List (List ℤ)) → rows ≡ there → made ≡ rows → IsEven rows → Some made ≡ (if are_even there then Some there else None)
-even_made made rows there e f h = made_if (are_even there) there made (f ∙ e) (ap are_even (sym e) ∙ length_passes (seller_count rows) rows h)
+pub even_made : (made rows there : List (List ℤ)) → rows ≡ there → made ≡ rows → IsEven rows
+    → Some made ≡ (if are_even there then Some there else None)
+even_made made rows there e f h =
+    made_if (are_even there) there made (f ∙ e) (ap are_even (sym e) ∙ length_passes (seller_count rows) rows h)
 
-pub even_not_made : (rows there : List (List ℤ)) → rows ≡ there → ¬ IsEven rows → None ≡ (if are_even there then Some there else None)
-even_not_made rows there e h = none_if (are_even there) there (λ t. h (length_holds (seller_count rows) rows (ap are_even e ∙ t)))
+pub even_not_made : (rows there : List (List ℤ)) → rows ≡ there → ¬ IsEven rows
+    → None ≡ (if are_even there then Some there else None)
+even_not_made rows there e h =
+    none_if (are_even there) there (λ t. h (length_holds (seller_count rows) rows (ap are_even e ∙ t)))

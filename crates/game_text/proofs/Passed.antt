@@ -13,7 +13,8 @@ use Rattle.game_text.specs.Denominators.{tree_refusal}
 use Rattle.game_text.specs.Steps.{needed_refusal}
 use Rattle.game_text.specs.declared.command.Command.{Command}
 use Rattle.kinds.specs.declared.refusal.Refusal.{Refusal}
-use Rattle.kinds.specs.declared.refusal.Refusal.TheVariants.{Shape, Players, Number, Names, Coalition, Estate, Matrix, Quota}
+use Rattle.kinds.specs.declared.refusal.Refusal.TheVariants.{Shape, Players, Number, Names, Coalition}
+use Rattle.kinds.specs.declared.refusal.Refusal.TheVariants.{Estate, Matrix, Quota}
 
 -- no test refuses
 abbrev pub IsPassed : Option Refusal → Type 0
@@ -47,7 +48,9 @@ passed_tests command tree e =
     let names = unless (has_names game) Names coalition in
     let numbers = has_numbers game && has_needed_numbers command tree in
     let number = unless numbers Number names in
-    let a = behind (is_shaped command tree) Shape (unless (has_players game) Players number) (subst IsPassed (sym e) tt) in
+    let a =
+    behind (is_shaped command tree) Shape (unless (has_players game) Players number)
+    (subst IsPassed (sym e) tt) in
     let b = behind (has_players game) Players number a.1 in
     let c = behind numbers Number names b.1 in
     let d = behind (has_names game) Names coalition c.1 in
@@ -55,4 +58,14 @@ passed_tests command tree e =
     let e = behind (is_covered (description_of game)) Estate quota f.1 in
     let q = behind (has_quota (description_of game)) Quota matrix e.1 in
     let m = behind (has_matrix (description_of game)) Matrix needed q.1 in
-    record { shaped = a.0; players = b.0; numbers = c.0; names = d.0; coalitions = f.0; covered = e.0; quota = q.0; matrix = m.0; needed = m.1 }
+    record {
+      shaped = a.0;
+      players = b.0;
+      numbers = c.0;
+      names = d.0;
+      coalitions = f.0;
+      covered = e.0;
+      quota = q.0;
+      matrix = m.0;
+      needed = m.1;
+    }

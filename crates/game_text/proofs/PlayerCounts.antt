@@ -1,5 +1,6 @@
 -- A game within its limits has 1 to 64 players, and a table has at most 16.
-use Rattle.std.proofs.Common.{◌≡◌, ℕ, ◌+◌, ◌-◌, ◌≤◌, true, length, codes, ◌&&◌, nat_lt, nat_le, Option, Some, None, IfSome, arith}
+use Rattle.std.proofs.Common.{◌≡◌, ℕ, ◌+◌, ◌-◌, ◌≤◌, true, length, codes, ◌&&◌, nat_lt}
+use Rattle.std.proofs.Common.{nat_le, Option, Some, None, IfSome, arith}
 use Rattle.std.specs.Prelude.{unwrap_or, option_and_then}
 use Rattle.std.proofs.lemmas.Bool.{false≢true, and_parts, ltb-true, leb-true}
 use Rattle.serde_json.specs.Data.{Data}
@@ -14,18 +15,22 @@ use Rattle.game_text.specs.VotingClass.{voting_players}
 use Rattle.game_text.specs.Limits.{has_players_as, players_as}
 use Rattle.game_text.specs.Readings.{IsTableClass}
 use Rattle.game_text.specs.declared.class.Class.{Class}
-use Rattle.game_text.specs.declared.class.Class.TheVariants.{Table, CostTable, Airport, Bankruptcy, Tree, Assignment, Market, Voting}
+use Rattle.game_text.specs.declared.class.Class.TheVariants.{Table, CostTable, Airport, Bankruptcy, Tree}
+use Rattle.game_text.specs.declared.class.Class.TheVariants.{Assignment, Market, Voting}
 use Rattle.game_text.proofs.Sizes.{IsPlayers, players_range}
 
 abbrev IsCount : ℕ → Type 0
 IsCount n = (1 ≤ n) × (n ≤ 64)
 
-at_table : (game : Data) (o : Option ℕ) → IfSome o IsPlayers → has_worths_for game o ≡ true → IsPlayers (unwrap_or o 0)
+at_table : (game : Data) (o : Option ℕ) → IfSome o IsPlayers → has_worths_for game o ≡ true
+    → IsPlayers (unwrap_or o 0)
 at_table game None r h = absurd (false≢true h)
 at_table game (Some n) r h = r
 
-table_range : (game : Data) → has_worths_for game (players_at game) ≡ true → IsPlayers (unwrap_or (players_at game) 0)
-table_range game h = at_table game (players_at game) (players_range (option_and_then integer (get (codes "players") game))) h
+table_range : (game : Data) → has_worths_for game (players_at game) ≡ true
+    → IsPlayers (unwrap_or (players_at game) 0)
+table_range game h =
+    at_table game (players_at game) (players_range (option_and_then integer (get (codes "players") game))) h
 
 listed : (n : ℕ) → is_list_size n ≡ true → IsCount n
 listed n h =
@@ -76,7 +81,8 @@ counted (Some Market) game h =
 counted (Some Voting) game h = of_voters (voting_players game) (short_listed (voting_players game) h)
 
 -- a table has at most 16
-pub table_counted : (c : Option Class) (game : Data) → IsTableClass c → has_players_as c game ≡ true → players_as c game ≤ 16
+pub table_counted : (c : Option Class) (game : Data) → IsTableClass c → has_players_as c game ≡ true
+    → players_as c game ≤ 16
 table_counted None game t h = absurd t
 table_counted (Some Table) game t h = (table_range game h).1
 table_counted (Some CostTable) game t h = (table_range game h).1

@@ -1,5 +1,7 @@
 -- The quota and the weights of a voting game in a document, and what the tests of them say.
-use Rattle.std.proofs.Common.{◌≡◌, ◌&&◌, ℕ, ◌+◌, List, [], ◌∷◌, length, map, codes, true, nat_lt, nat_le, if◌then◌else◌, ℤ, pos, negsuc, Some, None, unsigned_abs, sum_by, refl, sym, ap, ◌∙◌, subst, arith}
+use Rattle.std.proofs.Common.{◌≡◌, ◌&&◌, ℕ, ◌+◌, List, [], ◌∷◌, length, map, codes, true, nat_lt}
+use Rattle.std.proofs.Common.{nat_le, if◌then◌else◌, ℤ, pos, negsuc, Some, None, unsigned_abs}
+use Rattle.std.proofs.Common.{sum_by, refl, sym, ap, ◌∙◌, subst, arith}
 use Rattle.std.specs.Prelude.{sum}
 use Rattle.std.specs.List.{list_all}
 use Rattle.std.proofs.lemmas.Bool.{and_parts, and_from, ltb-true, leb-true, lt-ltb, le-leb}
@@ -35,12 +37,20 @@ players_in ds h =
     let long = length-map ds (number_or_zero 1) in
     (omega (arith, some, long), omega (arith, few, long))
 
-pub voting_sizes : (game : Data) → class_of game ≡ Some Voting → HasSizes game → AreVotes (number_at 1 (codes "quota") game) (numbers_at 1 (codes "weights") game)
+pub voting_sizes : (game : Data) → class_of game ≡ Some Voting → HasSizes game
+    → AreVotes (number_at 1 (codes "quota") game) (numbers_at 1 (codes "weights") game)
 voting_sizes game e h =
-    let both = and_parts (passes (is_cost 1) (get (codes "quota") game)) (list_all (is_cost 1) (parts_at (codes "weights") game)) (numbers_within game (scale_of game) Voting refl e h.numbers) in
+    let both =
+    and_parts (passes (is_cost 1) (get (codes "quota") game))
+    (list_all (is_cost 1) (parts_at (codes "weights") game))
+    (numbers_within game (scale_of game) Voting refl e h.numbers) in
     record {
-      players = players_in (parts_at (codes "weights") game) (subst (λ c. has_players_as c game ≡ true) e h.players);
-      numbers = (estate_cost 1 (get (codes "quota") game) both.0, all_map IsCost (number_or_zero 1) (is_cost 1) (cost 1) (parts_at (codes "weights") game) both.1);
+      players =
+          players_in (parts_at (codes "weights") game) (subst (λ c. has_players_as c game ≡ true) e h.players);
+      numbers = (
+        estate_cost 1 (get (codes "quota") game) both.0,
+        all_map IsCost (number_or_zero 1) (is_cost 1) (cost 1) (parts_at (codes "weights") game) both.1,
+      );
     }
 
 -- ---- the game that was made
@@ -48,10 +58,14 @@ voting_sizes game e h =
 quota_passes : (g : Votes) → IsVoting g → is_quota g.quota g.weights ≡ true
 quota_passes g h =
     and_from (nat_le (sum g.weights) 1000 && nat_lt 0 g.quota) (nat_le g.quota (sum g.weights))
-    (and_from (nat_le (sum g.weights) 1000) (nat_lt 0 g.quota) (le-leb (sum g.weights) 1000 h.light) (lt-ltb 0 g.quota h.positive)) (le-leb g.quota (sum g.weights) h.reached)
+    (and_from (nat_le (sum g.weights) 1000) (nat_lt 0 g.quota) (le-leb (sum g.weights) 1000 h.light)
+    (lt-ltb 0 g.quota h.positive)) (le-leb g.quota (sum g.weights) h.reached)
 
-pub voting_made : (g : Votes) (quota : ℤ) (weights : List ℤ) → pos g.quota ≡ quota → map pos g.weights ≡ weights → IsVoting g
-    → Some g ≡ (if is_quota (unsigned_abs quota) (map unsigned_abs weights) then Some (voting (unsigned_abs quota) (map unsigned_abs weights)) else None)
+pub voting_made : (g : Votes) (quota : ℤ) (weights : List ℤ) → pos g.quota ≡ quota → map pos g.weights ≡ weights
+    → IsVoting g
+    → Some g
+    ≡ (if is_quota (unsigned_abs quota) (map unsigned_abs weights)
+    then Some (voting (unsigned_abs quota) (map unsigned_abs weights)) else None)
 voting_made g quota weights e f h =
     let x : unsigned_abs quota ≡ g.quota = ap unsigned_abs (sym e) in
     let y : map unsigned_abs weights ≡ g.weights = sym (kept_sizes g.weights weights f) in
@@ -62,9 +76,11 @@ voting_made g quota weights e f h =
 sum_sizes : (zs : List ℤ) → sum (map unsigned_abs zs) ≡ sum_by unsigned_abs zs
 sum_sizes [] = refl
 sum_sizes (z ∷ zs) =
-    sum_by-cons (λ (x : ℕ). x) (unsigned_abs z) (map unsigned_abs zs) ∙ ap (λ n. unsigned_abs z + n) (sum_sizes zs) ∙ sym (sum_by-cons unsigned_abs z zs)
+    sum_by-cons (λ (x : ℕ). x) (unsigned_abs z) (map unsigned_abs zs) ∙ ap (λ n. unsigned_abs z + n) (sum_sizes zs)
+    ∙ sym (sum_by-cons unsigned_abs z zs)
 
-quota_holds : (quota : ℤ) (weights : List ℤ) → IsCost quota → is_quota (unsigned_abs quota) (map unsigned_abs weights) ≡ true → IsQuota quota weights
+quota_holds : (quota : ℤ) (weights : List ℤ) → IsCost quota
+    → is_quota (unsigned_abs quota) (map unsigned_abs weights) ≡ true → IsQuota quota weights
 quota_holds (pos n) weights number h =
     let total = sum (map unsigned_abs weights) in
     let parts = and_parts (nat_le total 1000 && nat_lt 0 n) (nat_le n total) h in
@@ -73,10 +89,17 @@ quota_holds (pos n) weights number h =
     let positive = ltb-true 0 n front.1 in
     let reached = leb-true n total parts.1 in
     let same = sum_sizes weights in
-    record { light = omega (arith, light, same); positive = omega (arith, ints, positive); reached = omega (arith, ints, reached, same) }
+    record {
+      light = omega (arith, light, same);
+      positive = omega (arith, ints, positive);
+      reached = omega (arith, ints, reached, same);
+    }
 quota_holds (negsuc n) weights number h = absurd (omega (arith, ints, number.0))
 
 pub voting_not_made : (quota : ℤ) (weights : List ℤ) → IsCost quota → ¬ IsQuota quota weights
-    → None ≡ (if is_quota (unsigned_abs quota) (map unsigned_abs weights) then Some (voting (unsigned_abs quota) (map unsigned_abs weights)) else None)
+    → None
+    ≡ (if is_quota (unsigned_abs quota) (map unsigned_abs weights)
+    then Some (voting (unsigned_abs quota) (map unsigned_abs weights)) else None)
 voting_not_made quota weights number h =
-    none_if (is_quota (unsigned_abs quota) (map unsigned_abs weights)) (voting (unsigned_abs quota) (map unsigned_abs weights)) (λ t. h (quota_holds quota weights number t))
+    none_if (is_quota (unsigned_abs quota) (map unsigned_abs weights))
+    (voting (unsigned_abs quota) (map unsigned_abs weights)) (λ t. h (quota_holds quota weights number t))

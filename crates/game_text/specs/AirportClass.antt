@@ -19,7 +19,8 @@ airport_keys = codes "class" ∷ codes "costs" ∷ codes "excess" ∷ codes "nam
 
 -- a list of costs
 abbrev pub is_airport_shaped : Data → Bool
-is_airport_shaped game = has_only_keys airport_keys game && passes (is_array_of (is_numeric (has_texts game))) (get (codes "costs") game)
+is_airport_shaped game =
+    has_only_keys airport_keys game && passes (is_array_of (is_numeric (has_texts game))) (get (codes "costs") game)
 
 -- one player for each cost
 abbrev pub airport_players : Data → ℕ

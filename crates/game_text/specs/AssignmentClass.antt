@@ -21,7 +21,9 @@ assignment_players game = length (parts_at (codes "matrix") game) + sellers_at g
 
 -- a row and an item in the first, and at most 16 together
 abbrev pub has_assignment_players : Data → Bool
-has_assignment_players game = nat_le 1 (length (parts_at (codes "matrix") game)) && nat_le 1 (sellers_at game) && nat_le (assignment_players game) 16
+has_assignment_players game =
+    nat_le 1 (length (parts_at (codes "matrix") game)) && nat_le 1 (sellers_at game)
+    && nat_le (assignment_players game) 16
 
 -- each row is as long as the first
 abbrev pub are_even : List (List ℤ) → Bool

@@ -16,11 +16,14 @@ use Rattle.document_parts.specs.Sizes.{is_cost}
 
 -- the keys of a bankruptcy game
 abbrev pub bankruptcy_keys : List (List ℕ)
-bankruptcy_keys = codes "class" ∷ codes "claims" ∷ codes "estate" ∷ codes "excess" ∷ codes "names" ∷ codes "version" ∷ []
+bankruptcy_keys =
+    codes "class" ∷ codes "claims" ∷ codes "estate" ∷ codes "excess" ∷ codes "names" ∷ codes "version" ∷ []
 
 -- an estate and a list of claims
 abbrev pub is_bankruptcy_shaped : Data → Bool
-is_bankruptcy_shaped game = has_only_keys bankruptcy_keys game && passes (is_numeric (has_texts game)) (get (codes "estate") game) && passes (is_array_of (is_numeric (has_texts game))) (get (codes "claims") game)
+is_bankruptcy_shaped game =
+    has_only_keys bankruptcy_keys game && passes (is_numeric (has_texts game)) (get (codes "estate") game)
+    && passes (is_array_of (is_numeric (has_texts game))) (get (codes "claims") game)
 
 -- one player for each claim
 abbrev pub bankruptcy_players : Data → ℕ
@@ -28,7 +31,8 @@ bankruptcy_players game = length (parts_at (codes "claims") game)
 
 -- the estate and each claim are from 0, and below 2^40 times the scale k
 abbrev pub has_bankruptcy_numbers : ℕ → Data → Bool
-has_bankruptcy_numbers k game = passes (is_cost k) (get (codes "estate") game) && list_all (is_cost k) (parts_at (codes "claims") game)
+has_bankruptcy_numbers k game =
+    passes (is_cost k) (get (codes "estate") game) && list_all (is_cost k) (parts_at (codes "claims") game)
 
 -- the estate is at most the sum of the claims
 abbrev pub claims_cover : ℕ → List ℕ → Bool

@@ -7,7 +7,8 @@ use Rattle.game_text.specs.Limits.{players}
 use Rattle.game_text.specs.Shape.{class_of}
 use Rattle.document_parts.specs.Names.{names_of}
 use Rattle.game_text.specs.declared.class.Class.{Class}
-use Rattle.game_text.specs.declared.class.Class.TheVariants.{Table, CostTable, Airport, Bankruptcy, Tree, Assignment, Market, Voting}
+use Rattle.game_text.specs.declared.class.Class.TheVariants.{Table, CostTable, Airport, Bankruptcy, Tree}
+use Rattle.game_text.specs.declared.class.Class.TheVariants.{Assignment, Market, Voting}
 
 -- the coalition of each pair of a sparse table
 abbrev pub masks : Data → List (Option ℕ)

@@ -21,7 +21,8 @@ use Rattle.document_parts.specs.Names.{names_of}
 use Rattle.document_parts.specs.TableNumbers.{numbers_by}
 use Rattle.game_text.specs.MatrixClass.{rows_of}
 use Rattle.game_text.specs.declared.class.Class.{Class}
-use Rattle.game_text.specs.declared.class.Class.TheVariants.{Table, CostTable, Airport, Bankruptcy, Tree, Assignment, Market, Voting}
+use Rattle.game_text.specs.declared.class.Class.TheVariants.{Table, CostTable, Airport, Bankruptcy, Tree}
+use Rattle.game_text.specs.declared.class.Class.TheVariants.{Assignment, Market, Voting}
 
 -- the class of a game, and its numbers: by coalition in mask order from 1, by player, or by the rows of a matrix
 pub data Description : Type 0 where
@@ -70,11 +71,13 @@ description_as k None game = table 0 []
 description_as k (Some Table) game = table (players game) (table_numbers k game)
 description_as k (Some CostTable) game = cost_table (players game) (table_numbers k game)
 description_as k (Some Airport) game = airport (costs_at k (codes "costs") game)
-description_as k (Some Bankruptcy) game = bankruptcy (unsigned_abs (number_at k (codes "estate") game)) (costs_at k (codes "claims") game)
+description_as k (Some Bankruptcy) game =
+    bankruptcy (unsigned_abs (number_at k (codes "estate") game)) (costs_at k (codes "claims") game)
 description_as k (Some Tree) game = network (rows_of k game)
 description_as k (Some Assignment) game = assignment (rows_of k game)
 description_as k (Some Market) game = market (rows_of k game)
-description_as k (Some Voting) game = voting (unsigned_abs (number_at 1 (codes "quota") game)) (costs_at 1 (codes "weights") game)
+description_as k (Some Voting) game =
+    voting (unsigned_abs (number_at 1 (codes "quota") game)) (costs_at 1 (codes "weights") game)
 
 -- what the tree of a game describes, its numbers times its scale
 abbrev pub description_of : Data → Description

@@ -53,7 +53,8 @@ family_for command tree = given (needs command).answer (unwrap_or (family_of tre
 
 -- the proposed shares as worth and times the scale of the game, over the denominator d
 abbrev pub shares_over : ℕ → Data → Data → Allocation
-shares_over d game tree = as_worth (is_cost (description_of game)) (over (pos d) (scaled_shares (scale_of game) tree))
+shares_over d game tree =
+    as_worth (is_cost (description_of game)) (over (pos d) (scaled_shares (scale_of game) tree))
 
 -- the shares that a command needs, over the denominator d
 abbrev pub proposed_over : ℕ → Command → Data → Data → Option Allocation
@@ -61,7 +62,8 @@ proposed_over d command game tree = given (needs command).shares (shares_over d 
 
 -- the certificate that a command needs
 abbrev pub certificate_for : Command → Data → Data → Option CertificateData
-certificate_for command game tree = given (needs command).certificate (certificate_of (scale_of game) (players game) (certificate_tree tree))
+certificate_for command game tree =
+    given (needs command).certificate (certificate_of (scale_of game) (players game) (certificate_tree tree))
 
 -- what the tree of a document says to a command, with the shares over the denominator d
 abbrev pub contents_over : ℕ → Command → Data → Contents

@@ -1,7 +1,9 @@
 -- What a game in memory keeps.
-use Rattle.game_text.specs.Descriptions.{Description, table, cost_table, airport, bankruptcy, network, assignment, market, voting}
+use Rattle.game_text.specs.Descriptions.{Description, table, cost_table, airport, bankruptcy}
+use Rattle.game_text.specs.Descriptions.{network, assignment, market, voting}
 use Rattle.game_text.specs.declared.game.Game.{Game}
-use Rattle.game_text.specs.declared.game.Game.TheVariants.{Table, Cost, Airport, Bankruptcy, Tree, Assignment, Market, Voting}
+use Rattle.game_text.specs.declared.game.Game.TheVariants.{Table, Cost, Airport, Bankruptcy, Tree}
+use Rattle.game_text.specs.declared.game.Game.TheVariants.{Assignment, Market, Voting}
 
 -- the description that a game keeps
 abbrev pub description_in : Game → Description

@@ -5,7 +5,8 @@
 --   members_have_integers   the same of the members of an object
 --   IsKept                  no other numbers, nested at most 8 deep, and written in no more bytes than were read
 use Rattle.std.specs.Prelude.{◌≡◌, ◌≤◌, ◌&&◌, ℕ, List, Bool, length, true, false, is_some}
-use Rattle.serde_json.specs.Data.{Data, null, boolean, number, string, array, object, Items, no_items, item, Members, no_members, member, depth}
+use Rattle.serde_json.specs.Data.{Data, null, boolean, number, string, array, object, Items}
+use Rattle.serde_json.specs.Data.{no_items, item, Members, no_members, member, depth}
 use Rattle.serde_json.specs.Find.{as_i64}
 use Rattle.serde_json.specs.Written.{compact_text, has_float}
 use Rattle.json_texts.specs.Exact.{IsExact}

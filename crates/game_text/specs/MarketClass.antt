@@ -9,4 +9,5 @@ use Rattle.game_text.specs.AssignmentClass.{sellers_at}
 
 -- 1 to 32 rows, and 1 to 32 items in the first
 abbrev pub has_market_players : Data → Bool
-has_market_players game = is_short_list_size (length (parts_at (codes "matrix") game)) && is_short_list_size (sellers_at game)
+has_market_players game =
+    is_short_list_size (length (parts_at (codes "matrix") game)) && is_short_list_size (sellers_at game)

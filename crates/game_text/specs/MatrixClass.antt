@@ -21,7 +21,9 @@ matrix_keys = codes "class" ∷ codes "excess" ∷ codes "matrix" ∷ codes "nam
 
 -- a list of rows of numbers
 abbrev pub is_matrix_shaped : Data → Bool
-is_matrix_shaped game = has_only_keys matrix_keys game && passes (is_array_of (is_array_of (is_numeric (has_texts game)))) (get (codes "matrix") game)
+is_matrix_shaped game =
+    has_only_keys matrix_keys game
+    && passes (is_array_of (is_array_of (is_numeric (has_texts game)))) (get (codes "matrix") game)
 
 -- each entry is from 0, and below 2^40 times the scale k
 abbrev pub has_matrix_numbers : ℕ → Data → Bool

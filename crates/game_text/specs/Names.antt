@@ -9,4 +9,6 @@ use Rattle.game_text.specs.Limits.{players}
 
 -- one name for each player, where there are names, and the sparse table uses no other
 abbrev pub has_names : Data → Bool
-has_names game = are_names (players game) (get (codes "names") game) (names_of game) && list_all (are_known (names_of game)) (parts_at (codes "sparse") game)
+has_names game =
+    are_names (players game) (get (codes "names") game) (names_of game)
+    && list_all (are_known (names_of game)) (parts_at (codes "sparse") game)

@@ -5,7 +5,8 @@
 use Rattle.std.specs.Prelude.{⊤, length}
 use Rattle.definitions.specs.Classes.{IsTreeGame, IsAssignmentGame}
 use Rattle.matrices.specs.Rows.{entries_of}
-use Rattle.game_text.specs.Descriptions.{Description, table, cost_table, airport, bankruptcy, network, assignment, market, voting, game_of}
+use Rattle.game_text.specs.Descriptions.{Description, table, cost_table, airport, bankruptcy}
+use Rattle.game_text.specs.Descriptions.{network, assignment, market, voting, game_of}
 
 -- the worths are those of the class: over all attachment plans (Bird 1976), and over all matchings (Shapley and Shubik
 -- 1971)

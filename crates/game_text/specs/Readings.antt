@@ -25,9 +25,11 @@ use Rattle.game_text.specs.Games.{description_in}
 use Rattle.game_text.specs.Denominators.{shares_of, shares_for, contents_of, tree_refusal}
 use Rattle.game_text.specs.Documents.{Contents, family_for, certificate_for}
 use Rattle.game_text.specs.Refusals.{IsRefused, IsDocument}
-use Rattle.game_text.specs.Steps.{coalition_refusal, game_refusal, proposal_refusal, share_refusal, certificate_refusal, late_refusal}
+use Rattle.game_text.specs.Steps.{coalition_refusal, game_refusal, proposal_refusal}
+use Rattle.game_text.specs.Steps.{share_refusal, certificate_refusal, late_refusal}
 use Rattle.game_text.specs.declared.class.Class.{Class}
-use Rattle.game_text.specs.declared.class.Class.TheVariants.{Table, CostTable, Airport, Bankruptcy, Tree, Assignment, Market, Voting}
+use Rattle.game_text.specs.declared.class.Class.TheVariants.{Table, CostTable, Airport, Bankruptcy, Tree}
+use Rattle.game_text.specs.declared.class.Class.TheVariants.{Assignment, Market, Voting}
 use Rattle.game_text.specs.declared.command.Command.{Command}
 use Rattle.game_text.specs.declared.document.Document.{Document}
 use Rattle.game_text.specs.declared.fault.TextFault.{TextFault}
@@ -96,7 +98,8 @@ IsShareFault command game tree (Refused r) = (rest : Option Refusal) → share_r
 IsShareFault command game tree Memory = ⊤
 
 -- the test of the certificate that the command needs passes, and this is the certificate that it needs
-pub record IsCertificateReading (command : Command) (game tree : Data) (certificate : Option CertificateData) : Type 0 where
+pub record IsCertificateReading (command : Command) (game tree : Data) (certificate : Option CertificateData) : Type
+    0 where
   pub passed : certificate_refusal command game tree ≡ None
   pub same : certificate ≡ certificate_for command game tree
 
@@ -107,7 +110,15 @@ IsCertificateFault command game tree Memory = ⊤
 
 -- what a document in memory says
 abbrev pub contents_in : Document → Contents
-contents_in d = record { game = description_in d.game; tree = view d.tree; measure = d.measure; scale = d.scale; family = d.family; shares = d.shares; certificate = d.certificate }
+contents_in d = record {
+  game = description_in d.game;
+  tree = view d.tree;
+  measure = d.measure;
+  scale = d.scale;
+  family = d.family;
+  shares = d.shares;
+  certificate = d.certificate;
+}
 
 -- the tests behind those of the shape, the players and the numbers pass, and this is what the tree says
 pub record IsLateReading (command : Command) (game tree : Data) (d : Document) : Type 0 where

@@ -14,7 +14,8 @@
 --   IsTreeRefused        the bytes are the text of a tree that is refused so
 --   IsRefused            the first refusal that applies to the bytes
 --   IsDocument           no refusal applies to the bytes, and this is what they say
-use Rattle.std.specs.Prelude.{◌≡◌, ◌<◌, ◌≤◌, ◌&&◌, ℕ, codes, List, [], ◌∷◌, length, Bool, true, false, Option, Some, None}
+use Rattle.std.specs.Prelude.{◌≡◌, ◌<◌, ◌≤◌, ◌&&◌, ℕ, codes, List, [], ◌∷◌, length}
+use Rattle.std.specs.Prelude.{Bool, true, false, Option, Some, None}
 use Rattle.serde_json.specs.Data.{Data}
 use Rattle.serde_json.specs.Find.{get}
 use Rattle.json_trees.specs.Trees.{passes}
@@ -27,15 +28,19 @@ use Rattle.game_text.specs.Shape.{is_shaped}
 use Rattle.game_text.specs.Limits.{players, has_players, has_numbers}
 use Rattle.game_text.specs.Names.{has_names}
 use Rattle.game_text.specs.Coalitions.{has_coalitions}
-use Rattle.game_text.specs.Descriptions.{Description, table, cost_table, airport, bankruptcy, network, assignment, market, voting, description_of}
+use Rattle.game_text.specs.Descriptions.{Description, table, cost_table, airport, bankruptcy, network}
+use Rattle.game_text.specs.Descriptions.{assignment, market, voting, description_of}
 use Rattle.document_parts.specs.Scales.{scale_of}
-use Rattle.document_parts.specs.Shares.{has_share_numbers, has_shares_for, scaled_shares, has_small_terms, IsDenominatorOf}
+use Rattle.document_parts.specs.Shares.{has_share_numbers, has_shares_for, scaled_shares}
+use Rattle.document_parts.specs.Shares.{has_small_terms, IsDenominatorOf}
 use Rattle.certificate_texts.specs.Certificates.{has_form}
 use Rattle.game_text.specs.Documents.{Contents, game_tree, contents_over}
 use Rattle.game_text.specs.declared.command.Command.{Command}
 use Rattle.game_text.specs.Needs.{needs, if_needed}
 use Rattle.kinds.specs.declared.refusal.Refusal.{Refusal}
-use Rattle.kinds.specs.declared.refusal.Refusal.TheVariants.{TooLong, NotJson, Shape, Players, Number, Names, Coalition, Estate, Matrix, Proposal, TooFine, Certificate, Quota}
+use Rattle.kinds.specs.declared.refusal.Refusal.TheVariants.{TooLong, NotJson, Shape, Players, Number}
+use Rattle.kinds.specs.declared.refusal.Refusal.TheVariants.{Names, Coalition, Estate, Matrix, Proposal}
+use Rattle.kinds.specs.declared.refusal.Refusal.TheVariants.{TooFine, Certificate, Quota}
 
 -- an estate is at most the sum of the claims
 abbrev pub is_covered : Description → Bool
@@ -91,11 +96,14 @@ has_needed_shares command game tree = if_needed (needs command).shares (has_shar
 -- over the denominator d, the shares that a command needs, times the scale of the game, keep within the limits of
 -- shares
 abbrev pub has_needed_terms : ℕ → Command → Data → Data → Bool
-has_needed_terms d command game tree = if_needed (needs command).shares (has_small_terms d (scaled_shares (scale_of game) tree))
+has_needed_terms d command game tree =
+    if_needed (needs command).shares (has_small_terms d (scaled_shares (scale_of game) tree))
 
 -- the certificate that a command needs has its form
 abbrev pub has_needed_form : Command → Data → Data → Bool
-has_needed_form command game tree = if_needed (needs command).certificate (passes (has_form (scale_of game) (players game)) (get (codes "certificate") tree))
+has_needed_form command game tree =
+    if_needed (needs command).certificate
+    (passes (has_form (scale_of game) (players game)) (get (codes "certificate") tree))
 
 -- the tests of a tree, in the order of the numbers of their refusals but for Quota, where d is the denominator of the
 -- shares
@@ -121,7 +129,9 @@ refusal_over d command tree = first_failed (tree_tests d command (game_tree tree
 -- bytes within the limit are the text of a tree that is refused so
 abbrev pub IsTreeRefused : Command → List ℕ → Refusal → Type 0
 IsTreeRefused command bytes r =
-    (length bytes ≤ document_limit command) × ((tree : Data) × IsTextOf bytes tree × ((d : ℕ) × IsDenominatorOf (scale_of (game_tree tree)) tree d × (refusal_over d command tree ≡ Some r)))
+    (length bytes ≤ document_limit command)
+    × ((tree : Data) × IsTextOf bytes tree
+    × ((d : ℕ) × IsDenominatorOf (scale_of (game_tree tree)) tree d × (refusal_over d command tree ≡ Some r)))
 
 -- the first refusal that applies
 abbrev pub IsRefused : Command → List ℕ → Refusal → Type 0
@@ -132,4 +142,7 @@ IsRefused command bytes r = IsTreeRefused command bytes r
 -- no refusal applies, and this is what the bytes say
 abbrev pub IsDocument : Command → List ℕ → Contents → Type 0
 IsDocument command bytes p =
-    (length bytes ≤ document_limit command) × ((tree : Data) × IsTextOf bytes tree × ((d : ℕ) × IsDenominatorOf (scale_of (game_tree tree)) tree d × (refusal_over d command tree ≡ None) × (p ≡ contents_over d command tree)))
+    (length bytes ≤ document_limit command)
+    × ((tree : Data) × IsTextOf bytes tree
+    × ((d : ℕ) × IsDenominatorOf (scale_of (game_tree tree)) tree d × (refusal_over d command tree ≡ None)
+    × (p ≡ contents_over d command tree)))

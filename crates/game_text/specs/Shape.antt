@@ -8,7 +8,8 @@
 --   has_shares       shares are numbers and texts
 --   has_needed       there is what a command needs beside the game
 --   is_shaped        a document has the keys and kinds that a command needs
-use Rattle.std.specs.Prelude.{ℕ, List, [], ◌∷◌, codes, Bool, false, ◌&&◌, Option, Some, None, is_some, option_and_then, if◌then◌else◌}
+use Rattle.std.specs.Prelude.{ℕ, List, [], ◌∷◌, codes, Bool, false, ◌&&◌, Option, Some}
+use Rattle.std.specs.Prelude.{None, is_some, option_and_then, if◌then◌else◌}
 use Rattle.std.specs.Str.{bytes_eq}
 use Rattle.serde_json.specs.Data.{Data}
 use Rattle.serde_json.specs.Find.{get, as_str}
@@ -23,7 +24,8 @@ use Rattle.game_text.specs.BankruptcyClass.{is_bankruptcy_shaped}
 use Rattle.game_text.specs.MatrixClass.{is_matrix_shaped}
 use Rattle.game_text.specs.VotingClass.{is_voting_shaped}
 use Rattle.game_text.specs.declared.class.Class.{Class}
-use Rattle.game_text.specs.declared.class.Class.TheVariants.{Table, CostTable, Airport, Bankruptcy, Tree, Assignment, Market, Voting}
+use Rattle.game_text.specs.declared.class.Class.TheVariants.{Table, CostTable, Airport, Bankruptcy, Tree}
+use Rattle.game_text.specs.declared.class.Class.TheVariants.{Assignment, Market, Voting}
 use Rattle.game_text.specs.declared.command.Command.{Command}
 use Rattle.game_text.specs.Needs.{needs, if_needed}
 
@@ -33,7 +35,15 @@ document_keys = codes "answer" ∷ codes "certificate" ∷ codes "game" ∷ code
 
 -- the class that a word names
 abbrev pub class_named : List ℕ → Option Class
-class_named s = if bytes_eq s (codes "table") then Some Table else (if bytes_eq s (codes "cost-table") then Some CostTable else (if bytes_eq s (codes "airport") then Some Airport else (if bytes_eq s (codes "bankruptcy") then Some Bankruptcy else (if bytes_eq s (codes "tree") then Some Tree else (if bytes_eq s (codes "assignment") then Some Assignment else (if bytes_eq s (codes "market") then Some Market else (if bytes_eq s (codes "voting") then Some Voting else None)))))))
+class_named s =
+    if bytes_eq s (codes "table") then Some Table
+    else (if bytes_eq s (codes "cost-table") then Some CostTable
+    else (if bytes_eq s (codes "airport") then Some Airport
+    else (if bytes_eq s (codes "bankruptcy") then Some Bankruptcy
+    else (if bytes_eq s (codes "tree") then Some Tree
+    else (if bytes_eq s (codes "assignment") then Some Assignment
+    else (if bytes_eq s (codes "market") then Some Market
+    else (if bytes_eq s (codes "voting") then Some Voting else None)))))))
 
 -- the class that a game names
 abbrev pub class_of : Data → Option Class
@@ -54,7 +64,10 @@ is_shaped_as (Some Voting) game = is_voting_shaped game
 -- names are texts, the excess is a measure and the version is 1 or 2, where there are any, and the rest is as the class
 -- asks
 abbrev pub is_game_shaped : Data → Bool
-is_game_shaped game = passes_if_there (is_array_of is_text) (get (codes "names") game) && passes_if_there is_measure (get (codes "excess") game) && passes_if_there is_version (get (codes "version") game) && is_shaped_as (class_of game) game
+is_game_shaped game =
+    passes_if_there (is_array_of is_text) (get (codes "names") game)
+    && passes_if_there is_measure (get (codes "excess") game)
+    && passes_if_there is_version (get (codes "version") game) && is_shaped_as (class_of game) game
 
 -- shares are numbers and texts
 abbrev pub has_shares : Data → Bool
@@ -63,8 +76,11 @@ has_shares tree = passes (is_array_of is_member) (get (codes "shares") tree)
 -- the values that the command needs beside the game
 abbrev pub has_needed : Command → Data → Bool
 has_needed command tree =
-    if_needed (needs command).shares (has_shares tree) && if_needed (needs command).answer (is_some (family_of tree)) && if_needed (needs command).certificate (passes is_certificate (get (codes "certificate") tree))
+    if_needed (needs command).shares (has_shares tree)
+    && if_needed (needs command).answer (is_some (family_of tree))
+    && if_needed (needs command).certificate (passes is_certificate (get (codes "certificate") tree))
 
 -- an object with keys of a document, a game, and what the command needs; what is no object has no game
 abbrev pub is_shaped : Command → Data → Bool
-is_shaped command tree = has_only_keys document_keys tree && passes is_game_shaped (get (codes "game") tree) && has_needed command tree
+is_shaped command tree =
+    has_only_keys document_keys tree && passes is_game_shaped (get (codes "game") tree) && has_needed command tree

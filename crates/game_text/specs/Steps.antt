@@ -20,7 +20,8 @@ use Rattle.game_text.specs.Denominators.{needed_keep_limits}
 use Rattle.game_text.specs.Refusals.{unless, is_covered, has_quota, has_matrix, has_needed_shares, has_needed_form}
 use Rattle.game_text.specs.declared.command.Command.{Command}
 use Rattle.kinds.specs.declared.refusal.Refusal.{Refusal}
-use Rattle.kinds.specs.declared.refusal.Refusal.TheVariants.{Names, Coalition, Estate, Matrix, Proposal, TooFine, Certificate, Quota}
+use Rattle.kinds.specs.declared.refusal.Refusal.TheVariants.{Names, Coalition, Estate, Matrix, Proposal}
+use Rattle.kinds.specs.declared.refusal.Refusal.TheVariants.{TooFine, Certificate, Quota}
 
 -- the tests of the coalitions, of the estate, of the quota and of the matrix, and then the rest
 abbrev pub coalition_refusal : Data → Option Refusal → Option Refusal

@@ -13,12 +13,15 @@
 --   is_worth            a number that times the scale is below 2^40 in size
 --   has_worth           the number of a pair is such a number
 --   has_table_numbers   each number is within its limits
-use Rattle.std.specs.Prelude.{◌==◌, ◌+◌, ◌^◌, ℕ, ℤ, pos, negsuc, List, [], ◌∷◌, length, codes, Bool, false, ◌&&◌, ◌||◌, Option, Some, None, is_some, is_none, option_and_then, nat_lt, nat_le, if◌then◌else◌}
+use Rattle.std.specs.Prelude.{◌==◌, ◌+◌, ◌^◌, ℕ, ℤ, pos, negsuc, List, [], ◌∷◌, length, codes}
+use Rattle.std.specs.Prelude.{Bool, false, ◌&&◌, ◌||◌, Option, Some, None, is_some, is_none}
+use Rattle.std.specs.Prelude.{option_and_then, nat_lt, nat_le, if◌then◌else◌}
 use Rattle.std.specs.List.{list_all}
 use Rattle.serde_json.specs.Data.{Data}
 use Rattle.serde_json.specs.Find.{get}
 use Rattle.json_trees.specs.Keys.{has_only_keys}
-use Rattle.json_trees.specs.Trees.{parts, parts_at, passes, passes_if_there, second_passes, is_member, is_number, is_numeric, is_array_of, is_pair_of, integer}
+use Rattle.json_trees.specs.Trees.{parts, parts_at, passes, passes_if_there, second_passes, is_member}
+use Rattle.json_trees.specs.Trees.{is_number, is_numeric, is_array_of, is_pair_of, integer}
 use Rattle.document_parts.specs.ScaledNumbers.{small_number}
 use Rattle.document_parts.specs.Version.{has_texts}
 
@@ -26,7 +29,9 @@ use Rattle.document_parts.specs.Version.{has_texts}
 
 -- the keys of a game of a table of worths or costs
 abbrev pub table_keys : List (List ℕ)
-table_keys = codes "class" ∷ codes "default" ∷ codes "excess" ∷ codes "names" ∷ codes "players" ∷ codes "sparse" ∷ codes "version" ∷ codes "worths" ∷ []
+table_keys =
+    codes "class" ∷ codes "default" ∷ codes "excess" ∷ codes "names" ∷ codes "players" ∷ codes "sparse"
+    ∷ codes "version" ∷ codes "worths" ∷ []
 
 -- a coalition and its number, which may be a text where texts are allowed
 abbrev pub is_sparse_pair : Bool → Data → Bool
@@ -34,15 +39,22 @@ is_sparse_pair texts d = is_pair_of (is_array_of is_member) (is_numeric texts) d
 
 -- all numbers are listed, in mask order
 abbrev pub lists_worths : Data → Bool
-lists_worths game = passes (is_array_of (is_numeric (has_texts game))) (get (codes "worths") game) && is_none (get (codes "sparse") game) && is_none (get (codes "default") game)
+lists_worths game =
+    passes (is_array_of (is_numeric (has_texts game))) (get (codes "worths") game)
+    && is_none (get (codes "sparse") game) && is_none (get (codes "default") game)
 
 -- some coalitions are listed with their numbers, perhaps with a number for all others
 abbrev pub lists_coalitions : Data → Bool
-lists_coalitions game = passes (is_array_of (is_sparse_pair (has_texts game))) (get (codes "sparse") game) && is_none (get (codes "worths") game) && passes_if_there (is_numeric (has_texts game)) (get (codes "default") game)
+lists_coalitions game =
+    passes (is_array_of (is_sparse_pair (has_texts game))) (get (codes "sparse") game)
+    && is_none (get (codes "worths") game)
+    && passes_if_there (is_numeric (has_texts game)) (get (codes "default") game)
 
 -- a number of players, and a table in one of its two forms
 abbrev pub is_table_shaped : Data → Bool
-is_table_shaped game = has_only_keys table_keys game && passes is_number (get (codes "players") game) && (lists_worths game || lists_coalitions game)
+is_table_shaped game =
+    has_only_keys table_keys game && passes is_number (get (codes "players") game)
+    && (lists_worths game || lists_coalitions game)
 
 -- ---- players
 
@@ -80,4 +92,6 @@ has_worth k d = second_passes (is_worth k) (parts d)
 
 -- each number of a table is a worth, also that of the coalitions that are not listed
 abbrev pub has_table_numbers : ℕ → Data → Bool
-has_table_numbers k game = list_all (is_worth k) (parts_at (codes "worths") game) && list_all (has_worth k) (parts_at (codes "sparse") game) && passes_if_there (is_worth k) (get (codes "default") game)
+has_table_numbers k game =
+    list_all (is_worth k) (parts_at (codes "worths") game) && list_all (has_worth k) (parts_at (codes "sparse") game)
+    && passes_if_there (is_worth k) (get (codes "default") game)

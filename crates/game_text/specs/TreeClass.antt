@@ -19,7 +19,8 @@ tree_players game = length (parts_at (codes "matrix") game) - 1
 
 -- 2 to 17 rows
 abbrev pub has_tree_players : Data → Bool
-has_tree_players game = nat_le 2 (length (parts_at (codes "matrix") game)) && nat_le (length (parts_at (codes "matrix") game)) 17
+has_tree_players game =
+    nat_le 2 (length (parts_at (codes "matrix") game)) && nat_le (length (parts_at (codes "matrix") game)) 17
 
 -- the entry is the same in both directions
 abbrev pub is_turned : List (List ℤ) → ℕ → ℕ → Bool
@@ -31,4 +32,5 @@ is_linked n rows i = (entries_of rows i i == 0) && list_all (is_turned rows i) (
 
 -- a square, the same in both directions, and 0 from each point to itself
 abbrev pub are_links : List (List ℤ) → Bool
-are_links rows = have_length (length rows) rows && list_all (is_linked (length rows) rows) (range_with_len 0 (length rows))
+are_links rows =
+    have_length (length rows) rows && list_all (is_linked (length rows) rows) (range_with_len 0 (length rows))

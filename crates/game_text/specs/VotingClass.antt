@@ -16,11 +16,14 @@ use Rattle.document_parts.specs.Sizes.{is_cost}
 
 -- the keys of a voting game
 abbrev pub voting_keys : List (List ℕ)
-voting_keys = codes "class" ∷ codes "excess" ∷ codes "names" ∷ codes "quota" ∷ codes "version" ∷ codes "weights" ∷ []
+voting_keys =
+    codes "class" ∷ codes "excess" ∷ codes "names" ∷ codes "quota" ∷ codes "version" ∷ codes "weights" ∷ []
 
 -- a quota and a list of weights
 abbrev pub is_voting_shaped : Data → Bool
-is_voting_shaped game = has_only_keys voting_keys game && passes is_number (get (codes "quota") game) && passes (is_array_of is_number) (get (codes "weights") game)
+is_voting_shaped game =
+    has_only_keys voting_keys game && passes is_number (get (codes "quota") game)
+    && passes (is_array_of is_number) (get (codes "weights") game)
 
 -- one player for each weight
 abbrev pub voting_players : Data → ℕ
@@ -28,7 +31,8 @@ voting_players game = length (parts_at (codes "weights") game)
 
 -- the quota and each weight are integers from 0, below 2^40
 abbrev pub has_voting_numbers : Data → Bool
-has_voting_numbers game = passes (is_cost 1) (get (codes "quota") game) && list_all (is_cost 1) (parts_at (codes "weights") game)
+has_voting_numbers game =
+    passes (is_cost 1) (get (codes "quota") game) && list_all (is_cost 1) (parts_at (codes "weights") game)
 
 -- the weights sum to at most 1,000, and the quota is from 1 to their sum
 abbrev pub is_quota : ℕ → List ℕ → Bool

@@ -5,7 +5,8 @@ ghost use Rattle.bankruptcy.specs.Bankruptcy.{bankruptcy};
 ghost use Rattle.document_parts.specs.Scales.{scale_of};
 ghost use Rattle.document_parts.specs.ScaledNumbers.{number_at, costs_at};
 ghost use Rattle.game_text.specs.Shape.{class_of};
-ghost use Rattle.game_text.specs.BankruptcyClass.{is_bankruptcy_shaped, bankruptcy_players, has_bankruptcy_numbers, claims_cover};
+ghost use Rattle.game_text.specs.BankruptcyClass.{is_bankruptcy_shaped, bankruptcy_players};
+ghost use Rattle.game_text.specs.BankruptcyClass.{has_bankruptcy_numbers, claims_cover};
 ghost use Rattle.game_text.specs.Readings.{HasSizes};
 ghost use Rattle.game_text.specs.declared.class.Class.TheVariants.{Bankruptcy};
 

@@ -6,7 +6,7 @@ ghost use Rattle.serde_json.specs.View.{view};
 ghost use Rattle.serde_json.specs.Find.{get};
 ghost use Rattle.json_trees.specs.Trees.{passes};
 ghost use Rattle.certificate_texts.specs.Certificates.{has_form, certificate_of};
-ghost use Rattle.game_text.specs.Documents.{certificate_tree, family_for};
+ghost use Rattle.game_text.specs.Documents.{game_tree, certificate_tree, family_for};
 ghost use Rattle.game_text.specs.Descriptions.{description_of, game_of, is_cost};
 ghost use Rattle.game_text.specs.Games.{description_in};
 ghost use Rattle.game_text.specs.Kept.{IsKept};
@@ -17,7 +17,8 @@ ghost use Rattle.game_text.specs.Names.{has_names};
 ghost use Rattle.game_text.specs.Refusals.{has_needed_numbers};
 ghost use Rattle.game_text.specs.Text.{document_limit};
 ghost use Rattle.json_texts.specs.Newlines.{without_newline};
-ghost use Rattle.game_text.specs.Readings.{HasSizes, IsReading, IsFault, IsTreeReading, IsTreeFault, IsLateReading, IsLateFault};
+ghost use Rattle.game_text.specs.Readings.{HasSizes, IsReading, IsFault, IsTreeReading};
+ghost use Rattle.game_text.specs.Readings.{IsTreeFault, IsLateReading, IsLateFault};
 ghost use Rattle.game_text.specs.Readings.{IsGameReading, IsGameFault, IsProposal, IsProposalFault};
 ghost use Rattle.game_text.specs.Readings.{IsShareReading, IsShareFault, IsCertificateReading, IsCertificateFault};
 
@@ -49,10 +50,12 @@ use worth_core::Shares;
 /// The kept tree of the game holds no float, is nested at most 8 deep, and is written in no more bytes than were read.
 pub fn read_document(alloc: Global, bytes: &[u8], command: Command) -> Result<Document, TextFault>
     ensures reading { MatchResult result (IsReading command bytes.now) (IsFault command bytes.now) }
-    ensures count { IfOk result (λ d. IfSome d.shares (λ x. length x.shares ≡ (game_of (description_in d.game)).players)) }
+    ensures count { IfOk result
+        (λ d. IfSome d.shares (λ x. length x.shares ≡ (game_of (description_in d.game)).players)) }
     ensures kept { IfOk result (λ d. IsKept bytes.now (view d.tree)) }
     ensures scale { IfOk result (λ d. (d.scale ≤ℤ pos 65536) × IsScaleOf (view d.tree) d.scale) }
-    ensures players { IfOk result (λ d. IfSome d.certificate (λ c. c.players ≡ (game_of (description_in d.game)).players)) }
+    ensures players { IfOk result
+        (λ d. IfSome d.certificate (λ c. c.players ≡ (game_of (description_in d.game)).players)) }
 {
     if bytes.len() > document_limit(command) {
         return Err(TextFault::Refused(Refusal::TooLong));
@@ -62,7 +65,7 @@ pub fn read_document(alloc: Global, bytes: &[u8], command: Command) -> Result<Do
         Err(e) if e.is_memory() => return Err(TextFault::Memory),
         Err(_) => return Err(TextFault::Refused(Refusal::NotJson)),
     };
-    document_of(alloc, command, &tree)
+    document_of(alloc, command, tree)
 }
 
 /// The most bytes that a document for the command may have.
@@ -83,10 +86,10 @@ fn without_newline(bytes: &[u8]) -> &[u8]
 }
 
 /// The document of a JSON tree.
-fn document_of(alloc: Global, command: Command, tree: &Value) -> Result<Document, TextFault>
-    ensures { MatchResult result (IsTreeReading command (view tree.now)) (IsTreeFault command (view tree.now)) }
+fn document_of(alloc: Global, command: Command, tree: Value) -> Result<Document, TextFault>
+    ensures { MatchResult result (IsTreeReading command (view tree)) (IsTreeFault command (view tree)) }
 {
-    let shaped = is_shaped(command, tree);
+    let shaped = is_shaped(command, &tree);
     let Some(game) = tree.get("game") else {
         return Err(TextFault::Refused(Refusal::Shape));
     };
@@ -99,10 +102,10 @@ fn document_of(alloc: Global, command: Command, tree: &Value) -> Result<Document
     let Some(scale) = scale_of(game) else {
         return Err(TextFault::Refused(Refusal::Number));
     };
-    if !has_numbers(game, scale) || !has_needed_numbers(command, tree) {
+    if !has_numbers(game, scale) || !has_needed_numbers(command, &tree) {
         return Err(TextFault::Refused(Refusal::Number));
     }
-    document_of_numbers(alloc, command, game, tree, scale)
+    document_of_numbers(alloc, command, tree, scale)
 }
 
 fn has_needed_numbers(command: Command, tree: &Value) -> bool
@@ -115,16 +118,17 @@ fn has_needed_numbers(command: Command, tree: &Value) -> bool
 fn document_of_numbers(
     alloc: Global,
     command: Command,
-    game: &Value,
-    tree: &Value,
+    tree: Value,
     scale: u32,
 ) -> Result<Document, TextFault>
-    requires sizes { HasSizes (view game.now) }
-    requires scale { scale ≡ scale_of (view game.now) }
-    ensures { MatchResult result (IsLateReading command (view game.now) (view tree.now)) (IsLateFault command (view game.now) (view tree.now)) }
+    requires sizes { HasSizes (game_tree (view tree)) }
+    requires scale { scale ≡ scale_of (game_tree (view tree)) }
+    ensures { MatchResult result
+        (IsLateReading command (game_tree (view tree)) (view tree))
+        (IsLateFault command (game_tree (view tree)) (view tree)) }
 {
-    match right_game(alloc, game, scale) {
-        Ok(described) => document_of_game(alloc, command, game, tree, scale, described),
+    match right_game(alloc, game_in(&tree), scale) {
+        Ok(described) => document_of_game(alloc, command, tree, scale, described),
         Err(e) => Err(e),
     }
 }
@@ -133,61 +137,55 @@ fn document_of_numbers(
 fn document_of_game(
     alloc: Global,
     command: Command,
-    game: &Value,
-    tree: &Value,
+    tree: Value,
     scale: u32,
     described: Game,
 ) -> Result<Document, TextFault>
-    requires sizes { HasSizes (view game.now) }
-    requires scale { scale ≡ scale_of (view game.now) }
-    requires described { IsGameReading (view game.now) described }
-    ensures { MatchResult result (IsLateReading command (view game.now) (view tree.now)) (IsLateFault command (view game.now) (view tree.now)) }
+    requires sizes { HasSizes (game_tree (view tree)) }
+    requires scale { scale ≡ scale_of (game_tree (view tree)) }
+    requires described { IsGameReading (game_tree (view tree)) described }
+    ensures { MatchResult result
+        (IsLateReading command (game_tree (view tree)) (view tree))
+        (IsLateFault command (game_tree (view tree)) (view tree)) }
 {
-    let shares = match needed_shares(alloc, command, game, tree, scale, described.is_cost()) {
+    let game = game_in(&tree);
+    let shares = match needed_shares(alloc, command, game, &tree, scale, described.is_cost()) {
         Ok(shares) => shares,
         Err(e) => return Err(e),
     };
-    match needed_certificate(alloc, command, game, tree, scale) {
-        Ok(certificate) => whole_document(
-            command,
-            game,
-            tree,
-            scale,
-            described,
-            shares,
-            certificate,
-        ),
-        Err(e) => Err(e),
+    let certificate = match needed_certificate(alloc, command, game, &tree, scale) {
+        Ok(certificate) => certificate,
+        Err(e) => return Err(e),
+    };
+    Ok(Document {
+        measure: measure_of(game),
+        family: needed_family(command, &tree),
+        game: described,
+        tree: game_out_of(tree),
+        scale: i64::from(scale),
+        shares,
+        certificate,
+    })
+}
+
+/// The tree of the game, in the tree of a document that has one.
+fn game_in(tree: &Value) -> &Value
+    requires { HasSizes (game_tree (view tree.now)) }
+    ensures { view result.now ≡ game_tree (view tree.now) }
+{
+    match tree.get("game") {
+        Some(game) => game,
+        None => unreachable!(),
     }
 }
 
-/// The document of its parts, with a copy of the tree of the game.
-fn whole_document(
-    command: Command,
-    game: &Value,
-    tree: &Value,
-    scale: u32,
-    described: Game,
-    shares: Option<Shares>,
-    certificate: Option<Certificate>,
-) -> Result<Document, TextFault>
-    requires scale { scale ≡ scale_of (view game.now) }
-    requires described { IsGameReading (view game.now) described }
-    requires shares { IsShareReading command (view game.now) (view tree.now) shares }
-    requires certificate { IsCertificateReading command (view game.now) (view tree.now) certificate }
-    ensures { MatchResult result (IsLateReading command (view game.now) (view tree.now)) (IsLateFault command (view game.now) (view tree.now)) }
+/// The tree of the game, taken out of the tree of a document, so that none of it is copied.
+fn game_out_of(tree: Value) -> Value
+    ensures { view result ≡ game_tree (view tree) }
 {
-    match game.clone() {
-        Ok(copy) => Ok(Document {
-            game: described,
-            tree: copy,
-            measure: measure_of(game),
-            scale: i64::from(scale),
-            family: needed_family(command, tree),
-            shares,
-            certificate,
-        }),
-        Err(_) => Err(TextFault::Memory),
+    match tree {
+        Value::Object(mut members) => members.remove("game").unwrap_or(Value::Null),
+        _ => Value::Null,
     }
 }
 
@@ -207,7 +205,8 @@ fn right_game(alloc: Global, game: &Value, scale: u32) -> Result<Game, TextFault
 /// The names of the players, where they are right and a sparse table uses no other.
 fn right_names<'a>(alloc: Global, game: &'a Value) -> Result<Option<Names<'a>>, OutOfMemory>
     ensures few { IfOk result (λ o. IfSome o (λ names. length names ≤ players (view game.now))) }
-    ensures names { IfOk result (λ o. o ≡ (if has_names (view game.now) then Some (names_of (view game.now)) else None)) }
+    ensures names { IfOk result
+        (λ o. o ≡ (if has_names (view game.now) then Some (names_of (view game.now)) else None)) }
 {
     let players = players(game);
     match names_of(alloc, game, players) {
@@ -238,7 +237,8 @@ fn right_shares(
     requires sizes { HasSizes (view game.now) }
     requires scale { scale ≡ scale_of (view game.now) }
     requires sign { are_payments ≡ is_cost (description_of (view game.now)) }
-    ensures { MatchResult result (IsProposal (view game.now) (view tree.now)) (IsProposalFault (view game.now) (view tree.now)) }
+    ensures { MatchResult result (IsProposal (view game.now) (view tree.now))
+        (IsProposalFault (view game.now) (view tree.now)) }
 {
     if !has_shares_for(players(game), tree) {
         return Err(TextFault::Refused(Refusal::Proposal));
@@ -261,7 +261,8 @@ fn needed_shares(
     requires sizes { HasSizes (view game.now) }
     requires scale { scale ≡ scale_of (view game.now) }
     requires sign { are_payments ≡ is_cost (description_of (view game.now)) }
-    ensures { MatchResult result (IsShareReading command (view game.now) (view tree.now)) (IsShareFault command (view game.now) (view tree.now)) }
+    ensures { MatchResult result (IsShareReading command (view game.now) (view tree.now))
+        (IsShareFault command (view game.now) (view tree.now)) }
 {
     if !command.needs().shares {
         return Ok(None);
@@ -300,7 +301,8 @@ fn needed_certificate(
 ) -> Result<Option<Certificate>, TextFault>
     requires sizes { HasSizes (view game.now) }
     requires scale { scale ≡ scale_of (view game.now) }
-    ensures { MatchResult result (IsCertificateReading command (view game.now) (view tree.now)) (IsCertificateFault command (view game.now) (view tree.now)) }
+    ensures { MatchResult result (IsCertificateReading command (view game.now) (view tree.now))
+        (IsCertificateFault command (view game.now) (view tree.now)) }
 {
     if !command.needs().certificate {
         return Ok(None);

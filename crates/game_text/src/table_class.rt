@@ -14,7 +14,8 @@ ghost use Rattle.document_parts.specs.Members.{are_coalitions};
 ghost use Rattle.game_text.specs.Descriptions.{table_numbers};
 ghost use Rattle.game_text.specs.Readings.{HasSizes, IsTableClass};
 ghost use Rattle.game_text.specs.TableClass.{is_table_shaped, is_sparse_pair, lists_worths, lists_coalitions};
-ghost use Rattle.game_text.specs.TableClass.{players_at, table_players, has_items, has_worths_for, has_table_players, has_table_numbers};
+ghost use Rattle.game_text.specs.TableClass.{players_at, table_players, has_items, has_worths_for};
+ghost use Rattle.game_text.specs.TableClass.{has_table_players, has_table_numbers};
 
 use crate::limits::players;
 use document_parts::{Names, has_texts, small_number, table_numbers};

@@ -39,7 +39,8 @@ pub(crate) fn tree_of(
     requires class { class_of (view game.now) ≡ Some Tree }
     requires sizes { HasSizes (view game.now) }
     requires scale { scale ≡ scale_of (view game.now) }
-    ensures { IfOk result (λ o. let rows = rows_of scale (view game.now) in o ≡ (if are_links rows then Some rows else None)) }
+    ensures { IfOk result
+        (λ o. let rows = rows_of scale (view game.now) in o ≡ (if are_links rows then Some rows else None)) }
 {
     let rows = rows_at(alloc, game, "matrix", scale)?;
     match TreeGame::new(alloc, rows) {

@@ -1,5 +1,7 @@
 -- What is written for an exact tree is read back, and what was read is exact.
-use Rattle.std.proofs.Common.{◌≡◌, ℕ, suc, ◌≤◌, false, pos, negsuc, List, [], Option, Some, None, option_map, option_and_then, Ordering, Less, Equal, Greater, refl, sym, ap, ◌∙◌, subst, arith, append-nil}
+use Rattle.std.proofs.Common.{◌≡◌, ℕ, suc, ◌≤◌, false, pos, negsuc, List, [], Option, Some, None}
+use Rattle.std.proofs.Common.{option_map, option_and_then, Ordering, Less, Equal, Greater, refl}
+use Rattle.std.proofs.Common.{sym, ap, ◌∙◌, subst, arith, append-nil}
 use Rattle.std.specs.Prelude.{⊤}
 use Rattle.std.specs.Ordering.{nat_cmp, match_ordering, ordering_reverse}
 use Rattle.std.specs.Cmp.Lexicographic.{slice_cmp}
@@ -13,13 +15,17 @@ use Rattle.json.specs.Print.{IsNumber}
 use Rattle.json.proofs.Printed.Decimals.{IsNumber-decimal, IsNumber-signed_decimal}
 use Rattle.json.proofs.Printed.Tokens.{tokens-print}
 use Rattle.json.proofs.Printed.Trees.{value-json_tokens, ArePrintable-json_tokens}
-use Rattle.serde_json.specs.Data.{Num, unsigned, negative, float, Data, null, boolean, number, string, array, object, Items, no_items, item, Members, no_members, member, put, depth, items_depth, members_depth}
+use Rattle.serde_json.specs.Data.{Num, unsigned, negative, float, Data, null, boolean, number}
+use Rattle.serde_json.specs.Data.{string, array, object, Items, no_items, item, Members, no_members}
+use Rattle.serde_json.specs.Data.{member, put, depth, items_depth, members_depth}
 use Rattle.serde_json.specs.Read.{number_of, of_json, of_items, of_members, read, max_depth}
-use Rattle.serde_json.specs.Written.{number_text, outline, items_outline, members_outline, compact_text, has_float, items_have_float, members_have_float}
+use Rattle.serde_json.specs.Written.{number_text, outline, items_outline, members_outline, compact_text}
+use Rattle.serde_json.specs.Written.{has_float, items_have_float, members_have_float}
 use Rattle.serde_json.proofs.Numbers.{number_of-decimal, number_of-negative}
 use Rattle.serde_json.proofs.Nesting.{depth-read}
 use Rattle.serde_json.proofs.Texts.{print-outline}
-use Rattle.json_texts.specs.Exact.{IsExactNumber, AllAbove, IsExact, AreExact, HasExact, IsOrdered, AreOrdered, HasOrdered}
+use Rattle.json_texts.specs.Exact.{IsExactNumber, AllAbove, IsExact, AreExact, HasExact}
+use Rattle.json_texts.specs.Exact.{IsOrdered, AreOrdered, HasOrdered}
 use Rattle.json_texts.proofs.Integers.{ReadAs, number_read}
 
 -- ---- numbers
@@ -88,15 +94,18 @@ whole_join : (found : Members) → found ≡ join found no_members
 whole_join no_members = refl
 whole_join (member k d ms) = ap (member k d) (whole_join ms)
 
-put_last : (k : List ℕ) (d e : Data) (found more : Members) → Apart found (member k e more) → put k d found ≡ join found (member k d no_members)
+put_last : (k : List ℕ) (d e : Data) (found more : Members) → Apart found (member k e more)
+    → put k d found ≡ join found (member k d no_members)
 put_last k d e no_members more h = refl
 put_last k d e (member l f ms) more h = rw (above k l h.0.0) (ap (member l f) (put_last k d e ms more h.1))
 
-join_one : (k : List ℕ) (d : Data) (found more : Members) → join (join found (member k d no_members)) more ≡ join found (member k d more)
+join_one : (k : List ℕ) (d : Data) (found more : Members)
+    → join (join found (member k d no_members)) more ≡ join found (member k d more)
 join_one k d no_members more = refl
 join_one k d (member l e ms) more = ap (member l e) (join_one k d ms more)
 
-apart_one : (k : List ℕ) (d : Data) (found more : Members) → AllAbove k more → Apart found (member k d more) → Apart (join found (member k d no_members)) more
+apart_one : (k : List ℕ) (d : Data) (found more : Members) → AllAbove k more → Apart found (member k d more)
+    → Apart (join found (member k d no_members)) more
 apart_one k d no_members more a h = (a, tt)
 apart_one k d (member l e ms) more a h = (h.0.1, apart_one k d ms more a h.1)
 
@@ -113,17 +122,25 @@ mutual
   items_back no_items h = refl
   items_back (item d ds) h = rw (back d h.0) (ap (option_map (item d)) (items_back ds h.1))
 
-  members_back : (ms found : Members) → Apart found ms → HasExact ms → of_members (members_outline ms) found ≡ Some (join found ms)
+  members_back : (ms found : Members) → Apart found ms → HasExact ms
+      → of_members (members_outline ms) found ≡ Some (join found ms)
   members_back no_members found a h = ap Some (whole_join found)
   members_back (member k d ms) found a h =
-      rw (back d h.1) (ap (of_members (members_outline ms)) (put_last k d d found ms a) ∙ members_back ms (join found (member k d no_members)) (apart_one k d found ms h.0 a) h.2 ∙ ap Some (join_one k d found ms))
+      rw (back d h.1)
+      (ap (of_members (members_outline ms)) (put_last k d d found ms a)
+      ∙ members_back ms (join found (member k d no_members)) (apart_one k d found ms h.0 a) h.2
+      ∙ ap Some (join_one k d found ms))
 
 pub read_back : (d : Data) → IsExact d → depth d ≤ max_depth → read (compact_text d) ≡ Some d
 read_back d h shallow =
     let j = outline d in
-    let lexed : tokens (compact_text d) ≡ json_tokens j = ap tokens (sym (print-outline d)) ∙ tokens-print (json_tokens j) (ArePrintable-json_tokens j (numbers d h)) in
-    ap (λ ts. option_and_then of_json (option_and_then (λ p. json.if_last p.0 p.1) (json.value max_depth ts))) (lexed ∙ sym (append-nil (json_tokens j)))
-    ∙ ap (λ o. option_and_then of_json (option_and_then (λ p. json.if_last p.0 p.1) o)) (value-json_tokens j max_depth [] (omega (arith, same_depth d)))
+    let lexed : tokens (compact_text d) ≡ json_tokens j =
+    ap tokens (sym (print-outline d))
+    ∙ tokens-print (json_tokens j) (ArePrintable-json_tokens j (numbers d h)) in
+    ap (λ ts. option_and_then of_json (option_and_then (λ p. json.if_last p.0 p.1) (json.value max_depth ts)))
+    (lexed ∙ sym (append-nil (json_tokens j)))
+    ∙ ap (λ o. option_and_then of_json (option_and_then (λ p. json.if_last p.0 p.1) o))
+    (value-json_tokens j max_depth [] (omega (arith, same_depth d)))
     ∙ back d h
 
 -- ---- what was read
@@ -132,11 +149,13 @@ abbrev Where : {A : Type 0} → (A → Type 0) → Option A → Type 0
 Where P None = ⊤
 Where P (Some a) = P a
 
-mapped : {A B : Type 0} (P : A → Type 0) (Q : B → Type 0) (h : A → B) → ((a : A) → P a → Q (h a)) → (o : Option A) → Where P o → Where Q (option_map h o)
+mapped : {A B : Type 0} (P : A → Type 0) (Q : B → Type 0) (h : A → B) → ((a : A) → P a → Q (h a)) → (o : Option A)
+    → Where P o → Where Q (option_map h o)
 mapped P Q h k None x = tt
 mapped P Q h k (Some a) x = k a x
 
-then : {A B : Type 0} (P : A → Type 0) (Q : B → Type 0) (h : A → Option B) → ((a : A) → P a → Where Q (h a)) → (o : Option A) → Where P o → Where Q (option_and_then h o)
+then : {A B : Type 0} (P : A → Type 0) (Q : B → Type 0) (h : A → Option B) → ((a : A) → P a → Where Q (h a))
+    → (o : Option A) → Where P o → Where Q (option_and_then h o)
 then P Q h k None x = tt
 then P Q h k (Some a) x = k a x
 
@@ -144,17 +163,21 @@ AllAbove-trans : (k l : List ℕ) (ms : Members) → slice_cmp nat_cmp k l ≡ L
 AllAbove-trans k l no_members e h = tt
 AllAbove-trans k l (member m d ms) e h = (nat_list_cmp_total.trans k l m e h.0, AllAbove-trans k l ms e h.1)
 
-AllAbove-at : (o : Ordering) (l : List ℕ) (a b c : Members) → AllAbove l a → AllAbove l b → AllAbove l c → AllAbove l (match_ordering o a b c)
+AllAbove-at : (o : Ordering) (l : List ℕ) (a b c : Members) → AllAbove l a → AllAbove l b → AllAbove l c
+    → AllAbove l (match_ordering o a b c)
 AllAbove-at Less l a b c p q r = p
 AllAbove-at Equal l a b c p q r = q
 AllAbove-at Greater l a b c p q r = r
 
-AllAbove-put : (l k : List ℕ) (d : Data) (ms : Members) → slice_cmp nat_cmp l k ≡ Less → AllAbove l ms → AllAbove l (put k d ms)
+AllAbove-put : (l k : List ℕ) (d : Data) (ms : Members) → slice_cmp nat_cmp l k ≡ Less → AllAbove l ms
+    → AllAbove l (put k d ms)
 AllAbove-put l k d no_members e h = (e, tt)
 AllAbove-put l k d (member m f ms) e h =
-    AllAbove-at (slice_cmp nat_cmp k m) l (member k d (member m f ms)) (member m d ms) (member m f (put k d ms)) (e, h) (h.0, h.1) (h.0, AllAbove-put l k d ms e h.1)
+    AllAbove-at (slice_cmp nat_cmp k m) l (member k d (member m f ms)) (member m d ms) (member m f (put k d ms))
+    (e, h) (h.0, h.1) (h.0, AllAbove-put l k d ms e h.1)
 
-put_at : (o : Ordering) (k l : List ℕ) (d e : Data) (ms : Members) → slice_cmp nat_cmp k l ≡ o → IsOrdered d → HasOrdered (member l e ms) → HasOrdered (put k d ms)
+put_at : (o : Ordering) (k l : List ℕ) (d e : Data) (ms : Members) → slice_cmp nat_cmp k l ≡ o → IsOrdered d
+    → HasOrdered (member l e ms) → HasOrdered (put k d ms)
     → HasOrdered (match_ordering o (member k d (member l e ms)) (member l d ms) (member l e (put k d ms)))
 put_at Less k l d e ms is x h later = ((is, AllAbove-trans k l ms is h.0), x, h)
 put_at Equal k l d e ms is x h later = (h.0, x, h.2)
@@ -164,7 +187,8 @@ put_at Greater k l d e ms is x h later =
 
 HasOrdered-put : (k : List ℕ) (d : Data) (ms : Members) → IsOrdered d → HasOrdered ms → HasOrdered (put k d ms)
 HasOrdered-put k d no_members x h = (tt, x, tt)
-HasOrdered-put k d (member l e ms) x h = put_at (slice_cmp nat_cmp k l) k l d e ms refl x h (HasOrdered-put k d ms x h.2)
+HasOrdered-put k d (member l e ms) x h =
+    put_at (slice_cmp nat_cmp k l) k l d e ms refl x h (HasOrdered-put k d ms x h.2)
 
 number_ordered : (n : ℕ) (o : Option Num) → ReadAs n o → Where IsOrdered (option_map number o)
 number_ordered n None h = tt
@@ -181,11 +205,16 @@ mutual
 
   ordered_items : (js : json.Items) → Where AreOrdered (of_items js)
   ordered_items json.no_items = tt
-  ordered_items (json.item j js) = then IsOrdered AreOrdered _ (λ d h. mapped AreOrdered AreOrdered (item d) (λ ds k. (h, k)) _ (ordered_items js)) _ (ordered j)
+  ordered_items (json.item j js) =
+      then IsOrdered AreOrdered _ (λ d h. mapped AreOrdered AreOrdered (item d) (λ ds k. (h, k)) _ (ordered_items js))
+      _ (ordered j)
 
-  ordered_members : (ms : json.Members) (found : Members) → HasOrdered found → Where HasOrdered (of_members ms found)
+  ordered_members : (ms : json.Members) (found : Members) → HasOrdered found
+      → Where HasOrdered (of_members ms found)
   ordered_members json.no_members found f = f
-  ordered_members (json.member k j ms) found f = then IsOrdered HasOrdered _ (λ d h. ordered_members ms (put k d found) (HasOrdered-put k d found h f)) _ (ordered j)
+  ordered_members (json.member k j ms) found f =
+      then IsOrdered HasOrdered _ (λ d h. ordered_members ms (put k d found) (HasOrdered-put k d found h f)) _
+      (ordered j)
 
 mutual
   pub exact_from : (d : Data) → IsOrdered d → has_float d ≡ false → IsExact d
@@ -202,12 +231,16 @@ mutual
 
   members_exact : (ms : Members) → HasOrdered ms → members_have_float ms ≡ false → HasExact ms
   members_exact no_members h e = tt
-  members_exact (member k d ms) h e = let p = or_parts (has_float d) _ e in (h.0, exact_from d h.1 p.0, members_exact ms h.2 p.1)
+  members_exact (member k d ms) h e =
+      let p = or_parts (has_float d) _ e in (h.0, exact_from d h.1 p.0, members_exact ms h.2 p.1)
 
 whole_ordered : (o : Option json.Json) → Where IsOrdered (option_and_then of_json o)
 whole_ordered None = tt
 whole_ordered (Some j) = ordered j
 
 pub read_ordered : (text : List ℕ) (d : Data) → read text ≡ Some d → IsOrdered d × (depth d ≤ max_depth)
-read_ordered text d e =
-    (subst (Where IsOrdered) e (whole_ordered (option_and_then (λ p. json.if_last p.0 p.1) (json.value max_depth (tokens text)))), depth-read text d e)
+read_ordered text d e = (
+  subst (Where IsOrdered) e
+      (whole_ordered (option_and_then (λ p. json.if_last p.0 p.1) (json.value max_depth (tokens text)))),
+  depth-read text d e,
+)

@@ -1,5 +1,7 @@
 -- A number that was read is written in no more bytes, and an integer fits 64 bits.
-use Rattle.std.proofs.Common.{◌≡◌, ℕ, zero, suc, ◌+◌, ◌-◌, ◌^◌, ◌<◌, ◌≤◌, Bool, true, false, cond, ◌&&◌, ◌==◌, nat_lt, nat_le, List, [], ◌∷◌, ◌++◌, length, drop, Option, Some, None, decimal, refl, ap, ◌∙◌, arith, append-nil, length-drop}
+use Rattle.std.proofs.Common.{◌≡◌, ℕ, zero, suc, ◌+◌, ◌-◌, ◌^◌, ◌<◌, ◌≤◌, Bool, true, false, cond, ◌&&◌}
+use Rattle.std.proofs.Common.{◌==◌, nat_lt, nat_le, List, [], ◌∷◌, ◌++◌, length, drop, Option, Some, None}
+use Rattle.std.proofs.Common.{decimal, refl, ap, ◌∙◌, arith, append-nil, length-drop}
 use Rattle.std.specs.Prelude.{⊤}
 use Rattle.std.specs.Float.{binary64, float_is_finite}
 use Rattle.std.specs.Float.Numeral.{digits_end}
@@ -26,7 +28,9 @@ choose n true x y f g = f refl
 choose n false x y f g = g
 
 float_read : (n : ℕ) (sign : Bool) (p : Parts) → ReadAs n (float_of sign p)
-float_read n sign p = choose n (float_is_finite (nearest binary64 sign p)) (Some (float (nearest binary64 sign p))) None (λ e. (omega arith, λ f. absurd (true≢false f))) tt
+float_read n sign p =
+    choose n (float_is_finite (nearest binary64 sign p)) (Some (float (nearest binary64 sign p))) None
+    (λ e. (omega arith, λ f. absurd (true≢false f))) tt
 
 no_fraction : (b : Bool) (xs : List ℕ) → b ≡ false → cond b xs [] ≡ []
 no_fraction b xs e = ap (λ c. cond c xs []) e
@@ -46,9 +50,11 @@ module _ (bs : List ℕ) (int : is_integer (scan bs) ≡ true) (small : digits_o
       let q = and_parts _ _ p.0 in
       let some : 0 < length (scan bs).whole = ltb-true _ _ q.0 in
       let none = fraction_is bs (not-true _ q.1) in
-      let only : (scan bs).whole ++ (scan bs).fraction ≡ (scan bs).whole = ap (λ l. (scan bs).whole ++ l) none ∙ append-nil _ in
+      let only : (scan bs).whole ++ (scan bs).fraction ≡ (scan bs).whole =
+      ap (λ l. (scan bs).whole ++ l) none ∙ append-nil _ in
       let digits = scan_numeral-AllDigits bs in
-      let below : digits_value 10 (scan bs).whole < 10 ^ length (scan bs).whole = digits_value-lt 10 (scan bs).whole digits.0 in
+      let below : digits_value 10 (scan bs).whole < 10 ^ length (scan bs).whole =
+      digits_value-lt 10 (scan bs).whole digits.0 in
       let same : digits_of (scan bs) ≡ digits_value 10 (scan bs).whole = ap (digits_value 10) only in
       let fits : digits_of (scan bs) < 10 ^ length (scan bs).whole = rw same below in
       let short = length-decimal-le (length (scan bs).whole) (digits_of (scan bs)) some fits small in
@@ -61,19 +67,22 @@ unsigned_read bs =
     let small : digits_of (scan bs) < 2 ^ 64 = ltb-true _ _ p.1 in
     (decimal_within bs p.0 small, λ f. small)) (float_read _ false (scan bs))
 
-negative_as : (n k : ℕ) → 0 < n → n ≤ 2 ^ 63 → length (decimal n) + 1 ≤ k → ReadAs k (Some (negative (with_sign true n)))
+negative_as : (n k : ℕ) → 0 < n → n ≤ 2 ^ 63 → length (decimal n) + 1 ≤ k
+    → ReadAs k (Some (negative (with_sign true n)))
 negative_as zero k some small long = absurd (omega arith)
 negative_as (suc n) k some small long = (omega arith, λ f. omega arith)
 
 negative_read : (bs : List ℕ) → ReadAs (length bs + 1) (number_from true (scan bs))
 negative_read bs =
-    choose _ (is_integer (scan bs) && nat_lt 0 (digits_of (scan bs)) && nat_le (digits_of (scan bs)) (2 ^ 63)) _ _ (λ e.
+    choose _ (is_integer (scan bs) && nat_lt 0 (digits_of (scan bs)) && nat_le (digits_of (scan bs)) (2 ^ 63)) _ _
+    (λ e.
     let p = and_parts _ _ e in
     let q = and_parts _ _ p.0 in
     let some : 0 < digits_of (scan bs) = ltb-true _ _ q.1 in
     let small : digits_of (scan bs) ≤ 2 ^ 63 = leb-true _ _ p.1 in
     let wide : digits_of (scan bs) < 2 ^ 64 = omega arith in
-    negative_as (digits_of (scan bs)) (length bs + 1) some small (omega (arith, decimal_within bs q.0 wide))) (float_read _ true (scan bs))
+    negative_as (digits_of (scan bs)) (length bs + 1) some small (omega (arith, decimal_within bs q.0 wide)))
+    (float_read _ true (scan bs))
 
 pub number_read : (s : List ℕ) → ReadAs (length s) (number_of s)
 unfolding number_of
@@ -84,6 +93,7 @@ number_read (x ∷ xs) = choose_sign (x == 45)
     longer None h = tt
     longer (Some n) h = (omega (arith, h.0), h.1)
 
-    choose_sign : (b : Bool) → ReadAs (length (x ∷ xs)) (cond b (number_from true (scan xs)) (number_from false (scan (x ∷ xs))))
+    choose_sign : (b : Bool)
+        → ReadAs (length (x ∷ xs)) (cond b (number_from true (scan xs)) (number_from false (scan (x ∷ xs))))
     choose_sign true = longer _ (negative_read xs)
     choose_sign false = unsigned_read (x ∷ xs)

@@ -1,12 +1,17 @@
 -- The tokens of a text are printed in no more bytes than they were read from.
-use Rattle.std.proofs.Common.{◌≡◌, ℕ, zero, suc, ◌+◌, ◌-◌, ◌<◌, ◌≤◌, Bool, true, false, cond, ◌==◌, nat_eq, List, [], ◌∷◌, ◌++◌, length, take, drop, Option, Some, None, refl, sym, ap, ◌∙◌, subst, arith, length-append}
+use Rattle.std.proofs.Common.{◌≡◌, ℕ, zero, suc, ◌+◌, ◌-◌, ◌<◌, ◌≤◌, Bool, true, false, cond, ◌==◌}
+use Rattle.std.proofs.Common.{nat_eq, List, [], ◌∷◌, ◌++◌, length, take, drop, Option, Some, None}
+use Rattle.std.proofs.Common.{refl, sym, ap, ◌∙◌, subst, arith, length-append}
 use Rattle.std.proofs.lemmas.Bool.{and_parts}
 use Rattle.std.specs.Prelude.{⊤}
 use Rattle.std.specs.List.{starts_with}
 use Rattle.json.specs.Token.{Token}
 use Rattle.json.specs.Text.{plain, content}
 use Rattle.json.specs.Word.{ends_word, after_number, literal, number_before, word}
-use Rattle.json.specs.Lex.{Lexeme, token, comma, colon, Class, quote, backslash, operator, space, other, class, Mode, between, in_word, in_string, in_escape, operator_lexeme, string_token, lex, lex_byte, Place, fresh, after_value, after_comma, after_key, begins_colon, may_begin, may_close, if_allowed, place_token, punctuate, tokens}
+use Rattle.json.specs.Lex.{Lexeme, token, comma, colon, Class, quote, backslash, operator, space, other, class}
+use Rattle.json.specs.Lex.{Mode, between, in_word, in_string, in_escape, operator_lexeme, string_token, lex}
+use Rattle.json.specs.Lex.{lex_byte, Place, fresh, after_value, after_comma, after_key, begins_colon, may_begin}
+use Rattle.json.specs.Lex.{may_close, if_allowed, place_token, punctuate, tokens}
 use Rattle.json.specs.Align.{span_byte, span}
 use Rattle.json.specs.Print.{escape, quoted, token_text, begins, ends, separator, print_from, print, IsNumber}
 use Rattle.json.proofs.Printed.Numbers.{lex-number, number_alone}
@@ -30,7 +35,9 @@ size_of false x y p q = q
 
 operator_size : (x : ℕ) → lexeme_size (operator_lexeme x) ≡ 1
 operator_size x =
-    size_of (x == 123) _ _ refl (size_of (x == 125) _ _ refl (size_of (x == 91) _ _ refl (size_of (x == 93) _ _ refl (size_of (x == 44) _ _ refl refl))))
+    size_of (x == 123) _ _ refl
+    (size_of (x == 125) _ _ refl
+    (size_of (x == 91) _ _ refl (size_of (x == 93) _ _ refl (size_of (x == 44) _ _ refl refl))))
 
 string_size : (n : ℕ) (o : Option (List ℕ)) → AtMost n o → lexeme_size (token (string_token o)) ≤ n + 1
 string_size n None h = omega arith
@@ -42,13 +49,15 @@ string_size n (Some s) h = omega (arith, length-append (escape s) (34 ∷ []))
 abbrev Fits : ℕ → List Lexeme → Token → Type 0
 Fits n rest t = length (token_text t) + total rest ≤ n
 
-by_test : (n : ℕ) (rest : List Lexeme) (b : Bool) (x y : Token) → (b ≡ true → Fits n rest x) → (b ≡ false → Fits n rest y) → Fits n rest (cond b x y)
+by_test : (n : ℕ) (rest : List Lexeme) (b : Bool) (x y : Token) → (b ≡ true → Fits n rest x)
+    → (b ≡ false → Fits n rest y) → Fits n rest (cond b x y)
 by_test n rest true x y f g = f refl
 by_test n rest false x y f g = g refl
 
 -- the total of the texts of at most n bytes
 abbrev Bounded : ℕ → Type 0
-Bounded n = (xs : List ℕ) → length xs ≤ n → (total (lex between xs) ≤ length xs) × (total (lex in_word xs) ≤ length xs)
+Bounded n =
+    (xs : List ℕ) → length xs ≤ n → (total (lex between xs) ≤ length xs) × (total (lex in_word xs) ≤ length xs)
 
 -- a text that begins with a name
 begins_with : (t name : List ℕ) → starts_with nat_eq t name ≡ true → t ≡ name ++ drop (length name) t
@@ -83,20 +92,27 @@ module _ (n x : ℕ) (xs : List ℕ) (fits : length xs ≤ n) (bounded : Bounded
   refused : Sized Token.bad
   refused = let b = bounded xs fits in omega (arith, b.1)
 
-  name_fits : (name : List ℕ) (t : Token) → length (token_text t) ≡ 1 + length name → ((r : List ℕ) → lex in_word (name ++ r) ≡ lex in_word r) → (r : List ℕ) → xs ≡ name ++ r → Sized t
+  name_fits : (name : List ℕ) (t : Token) → length (token_text t) ≡ 1 + length name
+      → ((r : List ℕ) → lex in_word (name ++ r) ≡ lex in_word r) → (r : List ℕ) → xs ≡ name ++ r → Sized t
   name_fits name t size pass r is =
       let long = ap length is in
       let short : length r ≤ n = omega (arith, length-append name r) in
       let rest = bounded r short in
-      let same : total (lex in_word xs) ≡ total (lex in_word r) = ap (λ l. total (lex in_word l)) is ∙ ap total (pass r) in
+      let same : total (lex in_word xs) ≡ total (lex in_word r) =
+      ap (λ l. total (lex in_word l)) is ∙ ap total (pass r) in
       omega (arith, rest.1, length-append name r)
 
-  literal_fits : (first : ℕ) (name : List ℕ) (t : Token) → length (token_text t) ≡ 1 + length name → ((r : List ℕ) → lex in_word (name ++ r) ≡ lex in_word r)
+  literal_fits : (first : ℕ) (name : List ℕ) (t : Token) → length (token_text t) ≡ 1 + length name
+      → ((r : List ℕ) → lex in_word (name ++ r) ≡ lex in_word r)
       → Sized (literal (first ∷ name) t (x ∷ xs))
   literal_fits first name t size pass =
-      by_test _ _ _ t Token.bad (λ e. let is = begins_with (x ∷ xs) (first ∷ name) (and_parts _ _ e).0 in name_fits name t size pass _ (ap (λ l. drop 1 l) is)) (λ e. refused)
+      by_test _ _ _ t Token.bad
+      (λ e.
+      let is = begins_with (x ∷ xs) (first ∷ name) (and_parts _ _ e).0 in
+      name_fits name t size pass _ (ap (λ l. drop 1 l) is)) (λ e. refused)
 
-  number_fits : (o : Option (List ℕ)) → after_number (x ∷ xs) ≡ o → class x ≡ other → Leaves (x ∷ xs) o → Sized (number_before (x ∷ xs) o)
+  number_fits : (o : Option (List ℕ)) → after_number (x ∷ xs) ≡ o → class x ≡ other → Leaves (x ∷ xs) o
+      → Sized (number_before (x ∷ xs) o)
   unfolding lex
   number_fits None e c h = refused
   number_fits (Some r) e c h = by_test _ _ (ends_word r) _ Token.bad (λ ended.
@@ -104,8 +120,10 @@ module _ (n x : ℕ) (xs : List ℕ) (fits : length xs ≤ n) (bounded : Bounded
       let s = take (length t - length r) t in
       let whole = front_and_rest t r h in
       let singleton = number_alone s r ended (ap after_number whole ∙ e) in
-      let lexed : lex between t ≡ token (Token.number s) ∷ lex between r = ap (lex between) (sym whole) ∙ lex-number s r singleton ended in
-      let lexed_at : lex between t ≡ token (word t) ∷ lex in_word xs = ap (λ k. lex_byte between k x xs (λ m. lex m xs)) c in
+      let lexed : lex between t ≡ token (Token.number s) ∷ lex between r =
+      ap (lex between) (sym whole) ∙ lex-number s r singleton ended in
+      let lexed_at : lex between t ≡ token (word t) ∷ lex in_word xs =
+      ap (λ k. lex_byte between k x xs (λ m. lex m xs)) c in
       let rest : lex in_word xs ≡ lex between r = ap (λ l. drop 1 l) (sym lexed_at ∙ lexed) in
       let some : 0 < length s = nonempty s singleton in
       let size : length s + length r ≡ 1 + length xs = omega (arith, ap length whole, length-append s r) in
@@ -116,8 +134,10 @@ module _ (n x : ℕ) (xs : List ℕ) (fits : length xs ≤ n) (bounded : Bounded
   word_fits : class x ≡ other → Sized (word (x ∷ xs))
   unfolding word
   word_fits c =
-      by_test _ _ (x == 116) _ _ (λ e. literal_fits 116 (114 ∷ 117 ∷ 101 ∷ []) (Token.boolean true) refl passes_true)
-      (λ e. by_test _ _ (x == 102) _ _ (λ e. literal_fits 102 (97 ∷ 108 ∷ 115 ∷ 101 ∷ []) (Token.boolean false) refl passes_false)
+      by_test _ _ (x == 116) _ _
+      (λ e. literal_fits 116 (114 ∷ 117 ∷ 101 ∷ []) (Token.boolean true) refl passes_true)
+      (λ e. by_test _ _ (x == 102) _ _
+      (λ e. literal_fits 102 (97 ∷ 108 ∷ 115 ∷ 101 ∷ []) (Token.boolean false) refl passes_false)
       (λ e. by_test _ _ (x == 110) _ _ (λ e. literal_fits 110 (117 ∷ 108 ∷ 108 ∷ []) Token.null refl passes_null)
       (λ e. number_fits (after_number (x ∷ xs)) refl c (Leaves-after_number (x ∷ xs)))))
 
@@ -131,10 +151,15 @@ unfolding span
 sizes_bound n h xs le = (omega (arith, h between xs le), omega (arith, h in_word xs le))
 
 module _ (n x : ℕ) (xs : List ℕ) (le : length xs ≤ n) (sizes : Sizes n) where
-  size_at : (m : Mode) (c : Class) → class x ≡ c → total (lex_byte m c x xs (λ k. lex k xs)) + span_byte m c (λ k. span k xs) ≤ 1 + length xs
+  size_at : (m : Mode) (c : Class) → class x ≡ c
+      → total (lex_byte m c x xs (λ k. lex k xs)) + span_byte m c (λ k. span k xs) ≤ 1 + length xs
   unfolding lex span
   size_at between quote e =
-      omega (arith, string_size (span in_string xs + 0) (content plain xs) (escaped-span plain xs), sizes in_string xs le)
+      omega (
+        arith,
+        string_size (span in_string xs + 0) (content plain xs) (escaped-span plain xs),
+        sizes in_string xs le,
+      )
   size_at between backslash e = omega (arith, sizes in_word xs le)
   size_at between operator e = omega (arith, operator_size x, sizes between xs le)
   size_at between space e = omega (arith, sizes between xs le)
@@ -155,7 +180,8 @@ sizes_at : (n : ℕ) → Sizes n
 unfolding lex span
 sizes_at n m [] le = omega arith
 sizes_at zero m (x ∷ xs) le = absurd (omega arith)
-sizes_at (suc n) m (x ∷ xs) le = let h = size_at n x xs (omega arith) (sizes_at n) m (class x) refl in omega (arith, h)
+sizes_at (suc n) m (x ∷ xs) le =
+    let h = size_at n x xs (omega arith) (sizes_at n) m (class x) refl in omega (arith, h)
 
 pub lex-total : (xs : List ℕ) → total (lex between xs) ≤ length xs
 lex-total xs = omega (arith, sizes_at (length xs) between xs (omega arith))
@@ -201,11 +227,19 @@ later after_key = false
 abbrev Printed : Place → ℕ → List Token → Type 0
 Printed p n ts = AreGood ts → length (print_from (later p) ts) + debt p ≤ n + credit p
 
-print_step : (c : Bool) (t : Token) (ts : List Token) → length (print_from c (t ∷ ts)) ≡ length (separator c t) + (length (token_text t) + length (print_from (ends t) ts))
+print_step : (c : Bool) (t : Token) (ts : List Token)
+    → length (print_from c (t ∷ ts))
+    ≡ length (separator c t) + (length (token_text t) + length (print_from (ends t) ts))
 unfolding print_from
-print_step c t ts = omega (arith, length-append (separator c t) (token_text t ++ print_from (ends t) ts), length-append (token_text t) (print_from (ends t) ts))
+print_step c t ts =
+    omega (
+      arith,
+      length-append (separator c t) (token_text t ++ print_from (ends t) ts),
+      length-append (token_text t) (print_from (ends t) ts),
+    )
 
-module _ (t : Token) (next : Place) (k : Place → List Token) (m n : ℕ) (same : ends t ≡ later next) (zero_credit : credit next ≡ 0) (size : n + debt next ≡ length (token_text t) + m)
+module _ (t : Token) (next : Place) (k : Place → List Token) (m n : ℕ) (same : ends t ≡ later next)
+    (zero_credit : credit next ≡ 0) (size : n + debt next ≡ length (token_text t) + m)
     (rest : Printed next m (k next)) where
   after_is : length (print_from (ends t) (k next)) ≡ length (print_from (later next) (k next))
   after_is = ap (λ c. length (print_from c (k next))) same
@@ -226,16 +260,26 @@ module _ (t : Token) (next : Place) (k : Place → List Token) (m n : ℕ) (same
   close_step after_comma b g = absurd g.0
   close_step after_key b g = absurd g.0
 
-placed : (p : Place) (t : Token) (b : Bool) (k : Place → List Token) (m : ℕ) → ((q : Place) → Printed q m (k q)) → Printed p (length (token_text t) + m) (place_token p t b k)
-placed p Token.begin_object b k m h = begin_step Token.begin_object fresh k m _ refl refl (omega arith) (h fresh) p refl
-placed p Token.end_object b k m h = close_step Token.end_object after_value k m _ refl refl (omega arith) (h after_value) p refl
-placed p Token.begin_array b k m h = begin_step Token.begin_array fresh k m _ refl refl (omega arith) (h fresh) p refl
-placed p Token.end_array b k m h = close_step Token.end_array after_value k m _ refl refl (omega arith) (h after_value) p refl
+placed : (p : Place) (t : Token) (b : Bool) (k : Place → List Token) (m : ℕ) → ((q : Place) → Printed q m (k q))
+    → Printed p (length (token_text t) + m) (place_token p t b k)
+placed p Token.begin_object b k m h =
+    begin_step Token.begin_object fresh k m _ refl refl (omega arith) (h fresh) p refl
+placed p Token.end_object b k m h =
+    close_step Token.end_object after_value k m _ refl refl (omega arith) (h after_value) p refl
+placed p Token.begin_array b k m h =
+    begin_step Token.begin_array fresh k m _ refl refl (omega arith) (h fresh) p refl
+placed p Token.end_array b k m h =
+    close_step Token.end_array after_value k m _ refl refl (omega arith) (h after_value) p refl
 placed p (Token.key s) b k m h = λ g. absurd g.0
-placed p (Token.string s) true k m h = begin_step (Token.key s) after_key k m (length (quoted s) + m) refl refl (omega (arith, length-append (quoted s) (58 ∷ []))) (h after_key) p refl
-placed p (Token.string s) false k m h = begin_step (Token.string s) after_value k m _ refl refl (omega arith) (h after_value) p refl
-placed p (Token.number s) b k m h = begin_step (Token.number s) after_value k m _ refl refl (omega arith) (h after_value) p refl
-placed p (Token.boolean v) b k m h = begin_step (Token.boolean v) after_value k m _ refl refl (omega arith) (h after_value) p refl
+placed p (Token.string s) true k m h =
+    begin_step (Token.key s) after_key k m (length (quoted s) + m) refl refl
+    (omega (arith, length-append (quoted s) (58 ∷ []))) (h after_key) p refl
+placed p (Token.string s) false k m h =
+    begin_step (Token.string s) after_value k m _ refl refl (omega arith) (h after_value) p refl
+placed p (Token.number s) b k m h =
+    begin_step (Token.number s) after_value k m _ refl refl (omega arith) (h after_value) p refl
+placed p (Token.boolean v) b k m h =
+    begin_step (Token.boolean v) after_value k m _ refl refl (omega arith) (h after_value) p refl
 placed p Token.null b k m h = begin_step Token.null after_value k m _ refl refl (omega arith) (h after_value) p refl
 placed p Token.bad b k m h = λ g. absurd g.0
 
@@ -245,10 +289,14 @@ punctuate-total fresh [] g = omega arith
 punctuate-total after_value [] g = omega arith
 punctuate-total after_comma [] g = absurd g.0
 punctuate-total after_key [] g = absurd g.0
-punctuate-total fresh (token t ∷ ls) g = placed fresh t (begins_colon ls) (λ q. punctuate q ls) (total ls) (λ q. punctuate-total q ls) g
-punctuate-total after_value (token t ∷ ls) g = placed after_value t (begins_colon ls) (λ q. punctuate q ls) (total ls) (λ q. punctuate-total q ls) g
-punctuate-total after_comma (token t ∷ ls) g = placed after_comma t (begins_colon ls) (λ q. punctuate q ls) (total ls) (λ q. punctuate-total q ls) g
-punctuate-total after_key (token t ∷ ls) g = placed after_key t (begins_colon ls) (λ q. punctuate q ls) (total ls) (λ q. punctuate-total q ls) g
+punctuate-total fresh (token t ∷ ls) g =
+    placed fresh t (begins_colon ls) (λ q. punctuate q ls) (total ls) (λ q. punctuate-total q ls) g
+punctuate-total after_value (token t ∷ ls) g =
+    placed after_value t (begins_colon ls) (λ q. punctuate q ls) (total ls) (λ q. punctuate-total q ls) g
+punctuate-total after_comma (token t ∷ ls) g =
+    placed after_comma t (begins_colon ls) (λ q. punctuate q ls) (total ls) (λ q. punctuate-total q ls) g
+punctuate-total after_key (token t ∷ ls) g =
+    placed after_key t (begins_colon ls) (λ q. punctuate q ls) (total ls) (λ q. punctuate-total q ls) g
 punctuate-total fresh (comma ∷ ls) g = absurd g.0
 punctuate-total after_value (comma ∷ ls) g = omega (arith, punctuate-total after_comma ls g)
 punctuate-total after_comma (comma ∷ ls) g = absurd g.0

@@ -1,7 +1,9 @@
 -- How long the printed tokens of a value are.
-use Rattle.std.proofs.Common.{◌≡◌, ℕ, ◌+◌, max, Bool, true, false, cond, List, [], ◌∷◌, ◌++◌, length, sym, ap, ◌∙◌, arith, append_assoc, append-nil, length-append}
+use Rattle.std.proofs.Common.{◌≡◌, ℕ, ◌+◌, max, Bool, true, false, cond, List, [], ◌∷◌, ◌++◌, length}
+use Rattle.std.proofs.Common.{sym, ap, ◌∙◌, arith, append_assoc, append-nil, length-append}
 use Rattle.json.specs.Token.{Token}
-use Rattle.json.specs.Json.{Json, null, boolean, number, string, array, object, Items, no_items, item, Members, no_members, member}
+use Rattle.json.specs.Json.{Json, null, boolean, number, string, array, object, Items}
+use Rattle.json.specs.Json.{no_items, item, Members, no_members, member}
 use Rattle.json.specs.Tree.{json_tokens, items_tokens, members_tokens}
 use Rattle.json.specs.Print.{quoted, token_text, print_from, print}
 
@@ -31,11 +33,13 @@ from later n = cond later (n + 1) (max 1 n)
 mutual
   unfolding print_from
 
-  print_value : (later : Bool) (j : Json) (ts : List Token) → length (print_from later (json_tokens j ++ ts)) ≡ one_if later + weight j + length (print_from true ts)
+  print_value : (later : Bool) (j : Json) (ts : List Token)
+      → length (print_from later (json_tokens j ++ ts)) ≡ one_if later + weight j + length (print_from true ts)
   print_value true null ts = omega arith
   print_value false null ts = omega arith
   print_value true (boolean b) ts = omega (arith, length-append (token_text (Token.boolean b)) (print_from true ts))
-  print_value false (boolean b) ts = omega (arith, length-append (token_text (Token.boolean b)) (print_from true ts))
+  print_value false (boolean b) ts =
+      omega (arith, length-append (token_text (Token.boolean b)) (print_from true ts))
   print_value true (number s) ts = omega (arith, length-append s (print_from true ts))
   print_value false (number s) ts = omega (arith, length-append s (print_from true ts))
   print_value true (string s) ts = omega (arith, length-append (quoted s) (print_from true ts))
@@ -45,7 +49,9 @@ mutual
   print_value true (object ms) ts = omega (arith, print_members false ms ts)
   print_value false (object ms) ts = omega (arith, print_members false ms ts)
 
-  print_items : (later : Bool) (js : Items) (ts : List Token) → length (print_from later (items_tokens js ++ ts)) ≡ from later (items_weight js) + length (print_from true ts)
+  print_items : (later : Bool) (js : Items) (ts : List Token)
+      → length (print_from later (items_tokens js ++ ts))
+      ≡ from later (items_weight js) + length (print_from true ts)
   print_items true no_items ts = omega arith
   print_items false no_items ts = omega arith
   print_items true (item j js) ts =
@@ -55,18 +61,35 @@ mutual
       let e = ap (λ l. length (print_from false l)) (append_assoc (json_tokens j) (items_tokens js) ts) in
       omega (arith, e, print_value false j (items_tokens js ++ ts), print_items true js ts)
 
-  print_members : (later : Bool) (ms : Members) (ts : List Token) → length (print_from later (members_tokens ms ++ ts)) ≡ from later (members_weight ms) + length (print_from true ts)
+  print_members : (later : Bool) (ms : Members) (ts : List Token)
+      → length (print_from later (members_tokens ms ++ ts))
+      ≡ from later (members_weight ms) + length (print_from true ts)
   print_members true no_members ts = omega arith
   print_members false no_members ts = omega arith
   print_members true (member k j ms) ts =
       let rest = (json_tokens j ++ members_tokens ms) ++ ts in
       let e = ap (λ l. length (print_from false l)) (append_assoc (json_tokens j) (members_tokens ms) ts) in
-      omega (arith, e, length-append (quoted k ++ 58 ∷ []) (print_from false rest), length-append (quoted k) (58 ∷ []), print_value false j (members_tokens ms ++ ts), print_members true ms ts)
+      omega (
+        arith,
+        e,
+        length-append (quoted k ++ 58 ∷ []) (print_from false rest),
+        length-append (quoted k) (58 ∷ []),
+        print_value false j (members_tokens ms ++ ts),
+        print_members true ms ts,
+      )
   print_members false (member k j ms) ts =
       let rest = (json_tokens j ++ members_tokens ms) ++ ts in
       let e = ap (λ l. length (print_from false l)) (append_assoc (json_tokens j) (members_tokens ms) ts) in
-      omega (arith, e, length-append (quoted k ++ 58 ∷ []) (print_from false rest), length-append (quoted k) (58 ∷ []), print_value false j (members_tokens ms ++ ts), print_members true ms ts)
+      omega (
+        arith,
+        e,
+        length-append (quoted k ++ 58 ∷ []) (print_from false rest),
+        length-append (quoted k) (58 ∷ []),
+        print_value false j (members_tokens ms ++ ts),
+        print_members true ms ts,
+      )
 
 pub length-print : (j : Json) → length (print (json_tokens j)) ≡ weight j
 unfolding print_from
-length-print j = ap (λ l. length (print l)) (sym (append-nil (json_tokens j))) ∙ omega (arith, print_value false j [])
+length-print j =
+    ap (λ l. length (print l)) (sym (append-nil (json_tokens j))) ∙ omega (arith, print_value false j [])

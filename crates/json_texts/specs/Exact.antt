@@ -2,7 +2,8 @@
 --
 --   IsExactNumber       an integer of 64 bits, in its one form
 --   AllAbove            each key comes after another
---   IsExact             a tree with no number but integers, whose keys ascend; AreExact and HasExact of the parts of arrays and objects
+--   IsExact             a tree with no number but integers, whose keys ascend; AreExact and HasExact of the parts of
+--                       arrays and objects
 --   IsOrdered           the same with floats too; AreOrdered and HasOrdered of the parts of arrays and objects
 --   WrittenIsReadBack   what is written for an exact tree is read as that tree
 --   ReadIsOrdered       a tree that was read is ordered
@@ -14,7 +15,8 @@ use Rattle.std.specs.Prelude.{◌≡◌, ◌<◌, ◌≤◌, ◌^◌, ℕ, pos, 
 use Rattle.std.specs.Ordering.{nat_cmp}
 use Rattle.std.specs.declared.cmp.Ordering.TheVariants.{Less}
 use Rattle.std.specs.Cmp.Lexicographic.{slice_cmp}
-use Rattle.serde_json.specs.Data.{Num, unsigned, negative, float, Data, null, boolean, number, string, array, object, Items, no_items, item, Members, no_members, member, depth}
+use Rattle.serde_json.specs.Data.{Num, unsigned, negative, float, Data, null, boolean, number, string, array}
+use Rattle.serde_json.specs.Data.{object, Items, no_items, item, Members, no_members, member, depth}
 use Rattle.serde_json.specs.Find.{get, is_float}
 use Rattle.serde_json.specs.Read.{read, max_depth}
 use Rattle.serde_json.specs.Written.{compact_text, has_float}
@@ -79,7 +81,8 @@ ReadIsOrdered = (text : List ℕ) (d : Data) → read text ≡ Some d → IsOrde
 abbrev pub OrderedIsExact : Type 0
 OrderedIsExact = (d : Data) → IsOrdered d → has_float d ≡ false → IsExact d
 
--- the compact text of a tree that was read has no more bytes than the text that it was read from; a float counts as no byte
+-- the compact text of a tree that was read has no more bytes than the text that it was read from; a float counts as
+-- no byte
 abbrev pub WrittenIsNoLonger : Type 0
 WrittenIsNoLonger = (text : List ℕ) (d : Data) → read text ≡ Some d → length (compact_text d) ≤ length text
 

@@ -3,4 +3,6 @@ use Rattle.std.specs.Prelude.{◌==◌, ◌-◌, ◌&&◌, ℕ, List, length, ta
 
 -- the bytes without a newline at their end
 abbrev pub without_newline : List ℕ → List ℕ
-without_newline bytes = if nat_lt 0 (length bytes) && (slice_index bytes (length bytes - 1) == 10) then take (length bytes - 1) bytes else bytes
+without_newline bytes =
+    if nat_lt 0 (length bytes) && (slice_index bytes (length bytes - 1) == 10) then take (length bytes - 1) bytes
+    else bytes

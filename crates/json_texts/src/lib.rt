@@ -1,7 +1,8 @@
 //! What is kept when a JSON tree is written and read. Each function's contract is a theorem, and its body is empty.
 #![tactic(auto)]
 
-ghost use Rattle.json_texts.specs.Exact.{WrittenIsReadBack, ReadIsOrdered, OrderedIsExact, WrittenIsNoLonger, MembersKeep};
+ghost use Rattle.json_texts.specs.Exact.{WrittenIsReadBack, ReadIsOrdered, OrderedIsExact};
+ghost use Rattle.json_texts.specs.Exact.{WrittenIsNoLonger, MembersKeep};
 
 /// What is written for a tree without floats is read as that tree.
 pub fn written_is_read_back()

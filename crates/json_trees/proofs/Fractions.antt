@@ -30,11 +30,14 @@ written_or_zero d None = whole_or_zero (integer d)
 written_or_zero d (Some s) = text_or_zero s (parsed s) refl
 
 pub written_reduced : (ds : List Data) → All IsReduced (map fraction_or_zero ds)
-written_reduced ds = All-map IsReduced fraction_or_zero ds (λ k d l. written_or_zero (slice_index_or ds k d) (as_str (slice_index_or ds k d)))
+written_reduced ds =
+    All-map IsReduced fraction_or_zero ds
+    (λ k d l. written_or_zero (slice_index_or ds k d) (as_str (slice_index_or ds k d)))
 
 -- ---- times a scale
 
-scaled_choice : (k : ℕ) (o : Option Fraction) → IsReduced (or_zero o) → IsReduced (or_zero (option_and_then (if_scaled k) o))
+scaled_choice : (k : ℕ) (o : Option Fraction) → IsReduced (or_zero o)
+    → IsReduced (or_zero (option_and_then (if_scaled k) o))
 scaled_choice k None r = whole_reduced (pos 0)
 scaled_choice k (Some f) r = times_or_zero k f r.positive
 

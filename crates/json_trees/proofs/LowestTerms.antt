@@ -1,5 +1,7 @@
 -- The fraction in lowest terms, times a scale and over it.
-use Rattle.std.proofs.Common.{◌≡◌, ◌≢◌, ℕ, ◌*◌, ◌/◌, ◌^◌, FitsSigned, ◌<◌, arith, refl, sym, ap, subst, ◌∙◌, Bool, true, false, Some, None, if◌then◌else◌, ℤ, pos, negsuc, ◌*ℤ◌, ◌≤ℤ◌, unsigned_abs, int_div}
+use Rattle.std.proofs.Common.{◌≡◌, ◌≢◌, ℕ, ◌*◌, ◌/◌, ◌^◌, FitsSigned, ◌<◌, arith, refl, sym, ap}
+use Rattle.std.proofs.Common.{subst, ◌∙◌, Bool, true, false, Some, None, if◌then◌else◌, ℤ, pos}
+use Rattle.std.proofs.Common.{negsuc, ◌*ℤ◌, ◌≤ℤ◌, unsigned_abs, int_div}
 use Rattle.std.specs.Prelude.{unwrap_or}
 use Rattle.std.proofs.lemmas.Bool.{ltb-true, lt-ltb}
 use Rattle.std.proofs.lemmas.Int.{ints, fits_signed_from_abs}
@@ -35,20 +37,27 @@ abbrev made : ℤ → ℤ → Fraction
 made n d = record { num = n; den = d }
 
 -- both numbers are the fraction's, times their greatest common divisor
-pub factors : (f : Fraction) (n d : ℤ) → pos 1 ≤ℤ d → IsRatio f n d → (n ≡ pos (gcd (unsigned_abs n) (unsigned_abs d)) *ℤ f.num) × (d ≡ pos (gcd (unsigned_abs n) (unsigned_abs d)) *ℤ f.den)
+pub factors : (f : Fraction) (n d : ℤ) → pos 1 ≤ℤ d → IsRatio f n d
+    → (n ≡ pos (gcd (unsigned_abs n) (unsigned_abs d)) *ℤ f.num)
+    × (d ≡ pos (gcd (unsigned_abs n) (unsigned_abs d)) *ℤ f.den)
 factors f n d h r =
     let g = gcd (unsigned_abs n) (unsigned_abs d) in
     let q = unsigned_abs d / g in
-    let same : f.den ≡ pos q = ap (λ (x : Fraction). x.den) (one_ratio f (lowest n d) n d r (lowest_is n d (apart d h))) in
-    let den : d ≡ pos g *ℤ f.den = whole d g q h (right_quotient (unsigned_abs n) (unsigned_abs d)) ∙ ap (λ (z : ℤ). pos g *ℤ z) (sym same) in
-    (cancel f.den n (pos g *ℤ f.num) (apart f.den r.reduced.positive) (swapped (pos g) f.num f.den n d r.same den), den)
+    let same : f.den ≡ pos q =
+    ap (λ (x : Fraction). x.den) (one_ratio f (lowest n d) n d r (lowest_is n d (apart d h))) in
+    let den : d ≡ pos g *ℤ f.den =
+    whole d g q h (right_quotient (unsigned_abs n) (unsigned_abs d)) ∙ ap (λ (z : ℤ). pos g *ℤ z) (sym same) in (
+      cancel f.den n (pos g *ℤ f.num) (apart f.den r.reduced.positive) (swapped (pos g) f.num f.den n d r.same den),
+      den,
+    )
 
 pub is_lowest : (f : Fraction) (n d : ℤ) → pos 1 ≤ℤ d → IsRatio f n d → f ≡ in_lowest_terms n d
 is_lowest f n d h r =
     let g = gcd (unsigned_abs n) (unsigned_abs d) in
     let by = factors f n d h r in
     let not_zero = some (unsigned_abs n) d h in
-    ap (λ (z : ℤ). made z f.den) (sym (quot_exact n (pos g) f.num by.0 not_zero)) ∙ ap (λ (z : ℤ). made (int_div n (pos g)) z) (sym (quot_exact d (pos g) f.den by.1 not_zero))
+    ap (λ (z : ℤ). made z f.den) (sym (quot_exact n (pos g) f.num by.0 not_zero))
+    ∙ ap (λ (z : ℤ). made (int_div n (pos g)) z) (sym (quot_exact d (pos g) f.den by.1 not_zero))
 
 pub lowest_ratio : (n d : ℤ) → pos 1 ≤ℤ d → IsRatio (in_lowest_terms n d) n d
 lowest_ratio n d h =
@@ -65,14 +74,18 @@ unfolding over_scale
 over_ratio k f p h = lowest_ratio f.num (f.den *ℤ k) (product_positive f.den k h p)
 
 -- the product with a whole number is the fraction times the scale
-pub times_made : (k : ℕ) (f g : Fraction) → pos 1 ≤ℤ f.den → IsRatio g (f.num *ℤ pos k) (f.den *ℤ pos 1) → g ≡ times_scale k f
-times_made k f g h r = is_lowest g (f.num *ℤ pos k) f.den h (subst (λ (d : ℤ). IsRatio g (f.num *ℤ pos k) d) (mul-oneℤ f.den) r)
+pub times_made : (k : ℕ) (f g : Fraction) → pos 1 ≤ℤ f.den → IsRatio g (f.num *ℤ pos k) (f.den *ℤ pos 1)
+    → g ≡ times_scale k f
+times_made k f g h r =
+    is_lowest g (f.num *ℤ pos k) f.den h (subst (λ (d : ℤ). IsRatio g (f.num *ℤ pos k) d) (mul-oneℤ f.den) r)
 
-pub times_unmade : (k : ℕ) (f : Fraction) → pos 1 ≤ℤ f.den → unsigned_abs f.den < 2 ^ 127 → HasNoForm (f.num *ℤ pos k) (f.den *ℤ pos 1) → FitsSigned w128 (times_scale k f).num → ⊥
+pub times_unmade : (k : ℕ) (f : Fraction) → pos 1 ≤ℤ f.den → unsigned_abs f.den < 2 ^ 127
+    → HasNoForm (f.num *ℤ pos k) (f.den *ℤ pos 1) → FitsSigned w128 (times_scale k f).num → ⊥
 times_unmade k f h small none fits =
     let r = times_ratio k f h in
     let le = le_of_dvd (above f.den h) (denominator_divides (times_scale k f) (f.num *ℤ pos k) f.den r) in
-    none (times_scale k f) (subst (λ (d : ℤ). IsRatio (times_scale k f) (f.num *ℤ pos k) d) (sym (mul-oneℤ f.den)) r)
+    none (times_scale k f)
+    (subst (λ (d : ℤ). IsRatio (times_scale k f) (f.num *ℤ pos k) d) (sym (mul-oneℤ f.den)) r)
     (fits, fits_signed_from_abs w128 (times_scale k f).den (omega (arith, le, small)))
   where
     above : (d : ℤ) → pos 1 ≤ℤ d → 0 < unsigned_abs d
@@ -86,7 +99,8 @@ times_over k f p r =
     let over = over_ratio (pos k) f one r.positive in
     let back = times_ratio k g over.reduced.positive in
     one_ratio (times_scale k g) f f.num f.den
-    (ratio_of_same (times_scale k g) (g.num *ℤ pos k) g.den f.num f.den (apart f.den r.positive) (turned g.num (pos k) f.den ∙ over.same) back)
+    (ratio_of_same (times_scale k g) (g.num *ℤ pos k) g.den f.num f.den (apart f.den r.positive)
+    (turned g.num (pos k) f.den ∙ over.same) back)
     (record { divisor = apart f.den r.positive; reduced = r; same = refl })
   where
     turned : (a k d : ℤ) → (a *ℤ k) *ℤ d ≡ a *ℤ (d *ℤ k)
@@ -101,7 +115,8 @@ over_times k f p r =
     let back = over_ratio (pos k) g one times.reduced.positive in
     let h = over_scale (pos k) g in
     one_ratio h f f.num f.den
-    (ratio_of_same h g.num (g.den *ℤ pos k) f.num f.den (apart f.den r.positive) (times.same ∙ turned f.num (pos k) g.den) back)
+    (ratio_of_same h g.num (g.den *ℤ pos k) f.num f.den (apart f.den r.positive)
+    (times.same ∙ turned f.num (pos k) g.den) back)
     (record { divisor = apart f.den r.positive; reduced = r; same = refl })
   where
     turned : (a k d : ℤ) → (a *ℤ k) *ℤ d ≡ a *ℤ (d *ℤ k)
@@ -119,7 +134,8 @@ form_of (negsuc n) h = let b = ltb-true n (2 ^ 127) h in omega (arith, ints, b)
 
 pub chosen_some : (k : ℕ) (f g : Fraction) → g ≡ times_scale k f → FitsSigned w128 g.num → Some g ≡ if_scaled k f
 chosen_some k f g e h =
-    let form : is_i128 (times_scale k f).num ≡ true = is_form (times_scale k f).num (subst (λ (x : Fraction). FitsSigned w128 x.num) e h) in
+    let form : is_i128 (times_scale k f).num ≡ true =
+    is_form (times_scale k f).num (subst (λ (x : Fraction). FitsSigned w128 x.num) e h) in
     ap (λ (x : Fraction). Some x) e ∙ ap (λ (b : Bool). if b then Some (times_scale k f) else None) (sym form)
 
 pub chosen_none : (k : ℕ) (f : Fraction) → ¬ FitsSigned w128 (times_scale k f).num → None ≡ if_scaled k f
@@ -129,9 +145,11 @@ chosen_none k f h = choose (is_i128 (times_scale k f).num) (λ e. h (form_of (ti
     choose true g = absurd (g refl)
     choose false g = refl
 
-reduced_choice : (k : ℕ) (f : Fraction) (b : Bool) → pos 1 ≤ℤ f.den → IsReduced (unwrap_or (if b then Some (times_scale k f) else None) (record { num = pos 0; den = pos 1 }))
+reduced_choice : (k : ℕ) (f : Fraction) (b : Bool) → pos 1 ≤ℤ f.den
+    → IsReduced (unwrap_or (if b then Some (times_scale k f) else None) (record { num = pos 0; den = pos 1 }))
 reduced_choice k f true h = (times_ratio k f h).reduced
 reduced_choice k f false h = whole_reduced (pos 0)
 
-pub times_or_zero : (k : ℕ) (f : Fraction) → pos 1 ≤ℤ f.den → IsReduced (unwrap_or (if_scaled k f) (record { num = pos 0; den = pos 1 }))
+pub times_or_zero : (k : ℕ) (f : Fraction) → pos 1 ≤ℤ f.den
+    → IsReduced (unwrap_or (if_scaled k f) (record { num = pos 0; den = pos 1 }))
 times_or_zero k f h = reduced_choice k f (is_i128 (times_scale k f).num) h

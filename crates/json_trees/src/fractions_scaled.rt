@@ -12,7 +12,8 @@ use serde_json::Value;
 
 /// The fraction times the scale, in lowest terms. None where its numerator has no form in 128 bits.
 pub fn scaled(number: &Frac, scale: u32) -> Option<Frac>
-    ensures value { MatchOption result (¬ FitsSigned w128 (times_scale scale number.now).num) (λ f. f ≡ times_scale scale number.now) }
+    ensures value { MatchOption result (¬ FitsSigned w128 (times_scale scale number.now).num)
+        (λ f. f ≡ times_scale scale number.now) }
     ensures chosen { result ≡ if_scaled scale number.now }
 {
     // Its laws say that the denominator is at least 1.

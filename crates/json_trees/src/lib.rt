@@ -1,5 +1,5 @@
-//! Looking into a JSON tree: its parts, its keys, its integers and fractions, the players that its integers name, and the
-//! forms that its parts may have.
+//! Looking into a JSON tree: its parts, its keys, its integers and fractions, the players that its integers name, and
+//! the forms that its parts may have.
 #![tactic(auto)]
 
 mod form;

@@ -14,7 +14,9 @@ pub enum Refusal {
     Shape,
     /// There are too few or too many players, or numbers for them.
     Players,
-    /// A number isn't an integer within its limits, or a share is no fraction text.
+    /// A number of the game isn't an integer, nor, where the document is of version 2, a fraction text; it isn't within
+    /// its limits, or the common denominator of such numbers isn't; or a share is neither an integer nor a fraction
+    /// text.
     Number,
     /// There isn't one good name for each player, or a coalition uses an unknown one.
     Names,

@@ -34,10 +34,14 @@ pub record IsAccepted (game : Data) : Type 0 where
   pub quota : has_quota (description_of game) ≡ true
   pub matrix : has_matrix (description_of game) ≡ true
 
-game_shaped : (command : Command) (tree : Data) → is_shaped command tree ≡ true → is_game_shaped (game_tree tree) ≡ true
+game_shaped : (command : Command) (tree : Data) → is_shaped command tree ≡ true
+    → is_game_shaped (game_tree tree) ≡ true
 game_shaped command tree h =
-    let a = and_parts (has_only_keys document_keys tree && passes is_game_shaped (get (codes "game") tree)) (has_needed command tree) h in
-    passes_there is_game_shaped (get (codes "game") tree) (and_parts (has_only_keys document_keys tree) (passes is_game_shaped (get (codes "game") tree)) a.0).1
+    let a =
+    and_parts (has_only_keys document_keys tree && passes is_game_shaped (get (codes "game") tree))
+    (has_needed command tree) h in
+    passes_there is_game_shaped (get (codes "game") tree)
+    (and_parts (has_only_keys document_keys tree) (passes is_game_shaped (get (codes "game") tree)) a.0).1
 
 pub accepted : (command : Command) (tree : Data) → tree_refusal command tree ≡ None → IsAccepted (game_tree tree)
 accepted command tree e =
@@ -57,7 +61,9 @@ accepted command tree e =
 
 pub accepted_scale : (game : Data) → has_numbers game ≡ true → IsScale (pos (scale_of game))
 accepted_scale game h =
-    let few = leb-true (scale_of game) 65536 (and_parts (nat_le (scale_of game) 65536) (has_numbers_as (scale_of game) (class_of game) game) h).0 in
+    let few =
+    leb-true (scale_of game) 65536
+    (and_parts (nat_le (scale_of game) 65536) (has_numbers_as (scale_of game) (class_of game) game) h).0 in
     let least = least_denominator_is (game_fractions game) (written_reduced (game_numbers game)) in
     (least.positive, omega (arith, ints, few))
 

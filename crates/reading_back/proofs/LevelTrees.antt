@@ -21,7 +21,9 @@ use Rattle.report.specs.Limits.{IsScale}
 use Rattle.report.specs.Values.{scaled_data}
 use Rattle.report.proofs.Readers.{scaled}
 use Rattle.reading_back.specs.CertificatesReadBack.{HasLowestExcess}
-use Rattle.reading_back.proofs.WeightTexts.{IsWeighted, IsBound, weight_read, coalition_pair_read, coalition_pair_listed, coalition_pair_shaped, bound_pair_read, bound_pair_listed, bound_pair_shaped, all_read, all_pass, every_pass}
+use Rattle.reading_back.proofs.WeightTexts.{IsWeighted, IsBound, weight_read, coalition_pair_read}
+use Rattle.reading_back.proofs.WeightTexts.{coalition_pair_listed, coalition_pair_shaped, bound_pair_read}
+use Rattle.reading_back.proofs.WeightTexts.{bound_pair_listed, bound_pair_shaped, all_read, all_pass, every_pass}
 
 -- what makes a level of n players one that is read back
 pub record IsReadable (n : ℕ) (l : Level) : Type 0 where
@@ -31,41 +33,62 @@ pub record IsReadable (n : ℕ) (l : Level) : Type 0 where
   pub bounds : AllByRecursion (IsBound n) l.bounds
   pub total : IsSmall l.total
 
-excess_read : (k : ℕ) (l : Level) → IsScale (pos k) → HasLowestExcess l → scaled_of k (scaled_data k (excess_of l)) ≡ Some (excess_of l)
+excess_read : (k : ℕ) (l : Level) → IsScale (pos k) → HasLowestExcess l
+    → scaled_of k (scaled_data k (excess_of l)) ≡ Some (excess_of l)
 excess_read k l s h =
     let back = scaled k (excess_of l) s h.reduced h.fits.0 h.fine in
-    ap (option_and_then (if_scaled k)) back.0 ∙ sym (chosen_some k (over_scale (pos k) (excess_of l)) (excess_of l) (sym back.1) h.fits.0)
+    ap (option_and_then (if_scaled k)) back.0
+    ∙ sym (chosen_some k (over_scale (pos k) (excess_of l)) (excess_of l) (sym back.1) h.fits.0)
 
 -- ---- the level
 
 abbrev level : Fraction → List (ℕ × ℤ) → List (ℕ × ℤ) → List (ℕ × ℤ) → ℤ → Level
-level f cs es bs z = record { excess_num = f.num; excess_den = f.den; coalitions = cs; earlier = es; bounds = bs; total = z }
+level f cs es bs z =
+    record { excess_num = f.num; excess_den = f.den; coalitions = cs; earlier = es; bounds = bs; total = z }
 
-pub level_read : (k n : ℕ) → IsScale (pos k) → n ≤ 64 → (l : Level) → IsReadable n l → level_of k n (level_tree k l) ≡ l
+pub level_read : (k n : ℕ) → IsScale (pos k) → n ≤ 64 → (l : Level) → IsReadable n l
+    → level_of k n (level_tree k l) ≡ l
 level_read k n s m l h =
-    let f = ap (λ (o : Option Fraction). unwrap_or o (record { num = pos 0; den = pos 1 })) (excess_read k l s h.excess) in
-    let cs = all_read (IsWeighted n) coalition_pair (weighted_coalition n) (coalition_pair_read n m) l.coalitions h.coalitions in
-    let es = all_read (IsWeighted n) coalition_pair (weighted_coalition n) (coalition_pair_read n m) l.earlier h.earlier in
+    let f =
+    ap (λ (o : Option Fraction). unwrap_or o (record { num = pos 0; den = pos 1 }))
+    (excess_read k l s h.excess) in
+    let cs =
+    all_read (IsWeighted n) coalition_pair (weighted_coalition n) (coalition_pair_read n m) l.coalitions
+    h.coalitions in
+    let es =
+    all_read (IsWeighted n) coalition_pair (weighted_coalition n) (coalition_pair_read n m) l.earlier
+    h.earlier in
     let bs = all_read (IsBound n) bound_pair (weighted_player n) (bound_pair_read n m) l.bounds h.bounds in
     let z = ap (λ (o : Option ℤ). unwrap_or o (pos 0)) (weight_read l.total h.total) in
-    ap (λ g. level g (level_of k n (level_tree k l)).coalitions (level_of k n (level_tree k l)).earlier (level_of k n (level_tree k l)).bounds (level_of k n (level_tree k l)).total) f
-    ∙ ap (λ ps. level (excess_of l) ps (level_of k n (level_tree k l)).earlier (level_of k n (level_tree k l)).bounds (level_of k n (level_tree k l)).total) cs
-    ∙ ap (λ ps. level (excess_of l) l.coalitions ps (level_of k n (level_tree k l)).bounds (level_of k n (level_tree k l)).total) es
+    ap
+    (λ g. level g (level_of k n (level_tree k l)).coalitions (level_of k n (level_tree k l)).earlier
+    (level_of k n (level_tree k l)).bounds (level_of k n (level_tree k l)).total) f
+    ∙ ap
+    (λ ps. level (excess_of l) ps (level_of k n (level_tree k l)).earlier (level_of k n (level_tree k l)).bounds
+    (level_of k n (level_tree k l)).total) cs
+    ∙ ap
+    (λ ps. level (excess_of l) l.coalitions ps (level_of k n (level_tree k l)).bounds
+    (level_of k n (level_tree k l)).total) es
     ∙ ap (λ ps. level (excess_of l) l.coalitions l.earlier ps (level_of k n (level_tree k l)).total) bs
     ∙ ap (λ t. level (excess_of l) l.coalitions l.earlier l.bounds t) z
 
 -- ---- its tests
 
 five : (a b c d e : Bool) → a ≡ true → b ≡ true → c ≡ true → d ≡ true → e ≡ true → (a && b && c && d && e) ≡ true
-five a b c d e p q r s t = and_from (a && b && c && d) e (and_from (a && b && c) d (and_from (a && b) c (and_from a b p q) r) s) t
+five a b c d e p q r s t =
+    and_from (a && b && c && d) e (and_from (a && b && c) d (and_from (a && b) c (and_from a b p q) r) s) t
 
-pub level_written : (k n : ℕ) → IsScale (pos k) → n ≤ 64 → (l : Level) → IsReadable n l → is_written k n (level_tree k l) ≡ true
+pub level_written : (k n : ℕ) → IsScale (pos k) → n ≤ 64 → (l : Level) → IsReadable n l
+    → is_written k n (level_tree k l) ≡ true
 level_written k n s m l h =
     let d = level_tree k l in
-    five (passes (is_scaled k) (get (codes "excess") d)) (list_all (lists_coalition n) (parts_at (codes "coalitions") d)) (list_all (lists_coalition n) (parts_at (codes "earlier") d))
+    five (passes (is_scaled k) (get (codes "excess") d))
+    (list_all (lists_coalition n) (parts_at (codes "coalitions") d))
+    (list_all (lists_coalition n) (parts_at (codes "earlier") d))
     (list_all (lists_player n) (parts_at (codes "bounds") d)) (passes is_integer (get (codes "total") d))
     (ap is_some (excess_read k l s h.excess))
-    (all_pass (IsWeighted n) coalition_pair (lists_coalition n) (coalition_pair_listed n m) l.coalitions h.coalitions)
+    (all_pass (IsWeighted n) coalition_pair (lists_coalition n) (coalition_pair_listed n m) l.coalitions
+    h.coalitions)
     (all_pass (IsWeighted n) coalition_pair (lists_coalition n) (coalition_pair_listed n m) l.earlier h.earlier)
     (all_pass (IsBound n) bound_pair (lists_player n) (bound_pair_listed n m) l.bounds h.bounds)
     (ap is_some (weight_read l.total h.total))
@@ -73,9 +96,15 @@ level_written k n s m l h =
 pub level_shaped : (k : ℕ) (l : Level) → is_level (level_tree k l) ≡ true
 level_shaped k l =
     let d = level_tree k l in
-    and_from (has_only_keys level_keys d && passes (is_array_of is_weighted_player) (get (codes "bounds") d) && passes (is_array_of is_weighted_coalition) (get (codes "coalitions") d) && passes (is_array_of is_weighted_coalition) (get (codes "earlier") d) && passes is_text (get (codes "excess") d))
+    and_from
+    (has_only_keys level_keys d && passes (is_array_of is_weighted_player) (get (codes "bounds") d)
+    && passes (is_array_of is_weighted_coalition) (get (codes "coalitions") d)
+    && passes (is_array_of is_weighted_coalition) (get (codes "earlier") d)
+    && passes is_text (get (codes "excess") d))
     (passes is_number (get (codes "total") d))
-    (five (has_only_keys level_keys d) (passes (is_array_of is_weighted_player) (get (codes "bounds") d)) (passes (is_array_of is_weighted_coalition) (get (codes "coalitions") d)) (passes (is_array_of is_weighted_coalition) (get (codes "earlier") d))
+    (five (has_only_keys level_keys d) (passes (is_array_of is_weighted_player) (get (codes "bounds") d))
+    (passes (is_array_of is_weighted_coalition) (get (codes "coalitions") d))
+    (passes (is_array_of is_weighted_coalition) (get (codes "earlier") d))
     (passes is_text (get (codes "excess") d))
     refl
     (every_pass bound_pair is_weighted_player bound_pair_shaped l.bounds)

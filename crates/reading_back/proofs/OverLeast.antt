@@ -1,5 +1,7 @@
--- Fractions in lowest terms over their least common denominator, against the numerators and the denominator that they were made from.
-use Rattle.std.proofs.Common.{◌≡◌, ℕ, ◌*◌, ◌/◌, ◌<◌, ◌≤◌, List, length, map, get_or, arith, sym, ap, subst, ◌∙◌, ℤ, pos, ◌*ℤ◌, ◌≤ℤ◌, unsigned_abs, int_div, All}
+-- Fractions in lowest terms over their least common denominator, against the numerators and the denominator that
+-- they were made from.
+use Rattle.std.proofs.Common.{◌≡◌, ℕ, ◌*◌, ◌/◌, ◌<◌, ◌≤◌, List, length, map, get_or, arith, sym, ap}
+use Rattle.std.proofs.Common.{subst, ◌∙◌, ℤ, pos, ◌*ℤ◌, ◌≤ℤ◌, unsigned_abs, int_div, All}
 use Prim.Native.Nat.{◌∣◌}
 use native.Mathlib.Nat.{dvd-mul_right_of_dvd}
 use Rattle.std.proofs.Math.Nat.{mul-le-mul_left, le_of_mul-le-mul_right}
@@ -25,10 +27,13 @@ whole_times f m h = dvd-mul_right_of_dvd (unsigned_abs f.den) h (unsigned_abs f.
 pub size_positive : (d : ℤ) → pos 1 ≤ℤ d → 0 < unsigned_abs d
 size_positive d h = omega (arith, ints)
 
-pub over_value : (f : Fraction) (m : ℕ) → pos 1 ≤ℤ f.den → unsigned_abs f.den ∣ m → f.den *ℤ numerator_over (pos m) f ≡ f.num *ℤ pos m
+pub over_value : (f : Fraction) (m : ℕ) → pos 1 ≤ℤ f.den → unsigned_abs f.den ∣ m
+    → f.den *ℤ numerator_over (pos m) f ≡ f.num *ℤ pos m
 over_value f m p h =
     let k = m / unsigned_abs f.den in
-    let whole : pos m ≡ f.den *ℤ pos k = ap pos (sym (times_quotient m (unsigned_abs f.den) h)) ∙ ap (λ (z : ℤ). z *ℤ pos k) (sym (size_of f.den p)) in
+    let whole : pos m ≡ f.den *ℤ pos k =
+    ap pos (sym (times_quotient m (unsigned_abs f.den) h))
+    ∙ ap (λ (z : ℤ). z *ℤ pos k) (sym (size_of f.den p)) in
     mul_left_commℤ f.den f.num (int_div (pos m) f.den)
     ∙ ap (λ (z : ℤ). f.num *ℤ (f.den *ℤ z)) (quot_exact (pos m) f.den (pos k) whole (apart f.den p))
     ∙ ap (λ (z : ℤ). f.num *ℤ z) (sym whole)
@@ -44,7 +49,8 @@ joined b y d a m n e f =
     moved n b m = simp ring_laws
 
 -- over m, the fraction is still n over d
-pub same_value : (f : Fraction) (n d : ℤ) (m : ℕ) → IsRatio f n d → unsigned_abs f.den ∣ m → numerator_over (pos m) f *ℤ d ≡ n *ℤ pos m
+pub same_value : (f : Fraction) (n d : ℤ) (m : ℕ) → IsRatio f n d → unsigned_abs f.den ∣ m
+    → numerator_over (pos m) f *ℤ d ≡ n *ℤ pos m
 same_value f n d m r h =
     cancel f.den (numerator_over (pos m) f *ℤ d) (n *ℤ pos m) (apart f.den r.reduced.positive)
     (joined f.den (numerator_over (pos m) f) d f.num (pos m) n (over_value f m r.reduced.positive h) r.same)
@@ -53,28 +59,36 @@ pub no_greater : (y d n m : ℕ) → 0 < d → m ≤ d → y * d ≡ n * m → y
 no_greater y d n m p le e = le_of_mul-le-mul_right (subst (λ (k : ℕ). k ≤ n * d) (sym e) (mul-le-mul_left n le)) p
 
 -- and for m of at most d, its numerator is no greater in size than n
-pub no_larger : (f : Fraction) (n d : ℤ) (m : ℕ) → IsRatio f n d → pos 1 ≤ℤ d → m ≤ unsigned_abs d → unsigned_abs f.den ∣ m → unsigned_abs (numerator_over (pos m) f) ≤ unsigned_abs n
+pub no_larger : (f : Fraction) (n d : ℤ) (m : ℕ) → IsRatio f n d → pos 1 ≤ℤ d → m ≤ unsigned_abs d
+    → unsigned_abs f.den ∣ m → unsigned_abs (numerator_over (pos m) f) ≤ unsigned_abs n
 no_larger f n d m r p le h =
     no_greater (unsigned_abs (numerator_over (pos m) f)) (unsigned_abs d) (unsigned_abs n) m (size_positive d p) le
-    (sym (unsigned_abs-mul (numerator_over (pos m) f) d) ∙ ap unsigned_abs (same_value f n d m r h) ∙ unsigned_abs-mul n (pos m))
+    (sym (unsigned_abs-mul (numerator_over (pos m) f) d) ∙ ap unsigned_abs (same_value f n d m r h)
+    ∙ unsigned_abs-mul n (pos m))
 
 -- ---- the fractions F z, each of which is P z over d
 
-pub all_reduced : (F : ℤ → Fraction) (P : ℤ → ℤ) (d : ℤ) → ((z : ℤ) → IsRatio (F z) (P z) d) → (zs : List ℤ) → All IsReduced (map F zs)
+pub all_reduced : (F : ℤ → Fraction) (P : ℤ → ℤ) (d : ℤ) → ((z : ℤ) → IsRatio (F z) (P z) d) → (zs : List ℤ)
+    → All IsReduced (map F zs)
 all_reduced F P d h zs = All-map IsReduced F zs (λ k e l. (h (get_or zs k e)).reduced)
 
 -- their least common denominator is at most d
-pub least_below : (F : ℤ → Fraction) (P : ℤ → ℤ) (d : ℤ) → ((z : ℤ) → IsRatio (F z) (P z) d) → pos 1 ≤ℤ d → (zs : List ℤ) → least_denominator (map F zs) ≤ unsigned_abs d
+pub least_below : (F : ℤ → Fraction) (P : ℤ → ℤ) (d : ℤ) → ((z : ℤ) → IsRatio (F z) (P z) d) → pos 1 ≤ℤ d
+    → (zs : List ℤ) → least_denominator (map F zs) ≤ unsigned_abs d
 least_below F P d h p zs =
     let is = least_denominator_is (map F zs) (all_reduced F P d h zs) in
     le_of_dvd (size_positive d p) (is.least (unsigned_abs d) (All-map (IsWholeTimes (unsigned_abs d)) F zs (λ k e l.
-    whole_times (F (get_or zs k e)) (unsigned_abs d) (divides (F (get_or zs k e)) (P (get_or zs k e)) d (h (get_or zs k e))))))
+    whole_times (F (get_or zs k e)) (unsigned_abs d)
+    (divides (F (get_or zs k e)) (P (get_or zs k e)) d (h (get_or zs k e))))))
 
 -- and the denominator of each divides it
-pub divides_least : (F : ℤ → Fraction) (P : ℤ → ℤ) (d : ℤ) → ((z : ℤ) → IsRatio (F z) (P z) d) → (zs : List ℤ) (i : ℕ) → i < length zs → unsigned_abs (F (get_or zs i (pos 0))).den ∣ least_denominator (map F zs)
+pub divides_least : (F : ℤ → Fraction) (P : ℤ → ℤ) (d : ℤ) → ((z : ℤ) → IsRatio (F z) (P z) d)
+    → (zs : List ℤ) (i : ℕ) → i < length zs
+    → unsigned_abs (F (get_or zs i (pos 0))).den ∣ least_denominator (map F zs)
 divides_least F P d h zs i l =
     let z = get_or zs i (pos 0) in
     let m = least_denominator (map F zs) in
     let is = least_denominator_is (map F zs) (all_reduced F P d h zs) in
     denominator_divides (F z) m (h z).reduced
-    (subst (IsWholeTimes m) (get_or-map F zs i (pos 0) (F z) l) (is.common i (F z) (subst (λ (k : ℕ). i < k) (sym (length-map zs F)) l)))
+    (subst (IsWholeTimes m) (get_or-map F zs i (pos 0) (F z) l)
+    (is.common i (F z) (subst (λ (k : ℕ). i < k) (sym (length-map zs F)) l)))

@@ -17,7 +17,8 @@ printed_times false z w = refl
 
 -- ---- allocations
 
-pub worth_share : (b : Bool) (x : Allocation) (i : ℕ) → i < length x.shares → share (as_worth b x) i ≡ as_printed b (share x i)
+pub worth_share : (b : Bool) (x : Allocation) (i : ℕ) → i < length x.shares
+    → share (as_worth b x) i ≡ as_printed b (share x i)
 worth_share true x i l = get_or-map neg_ℤ x.shares i (pos 0) (pos 0) l
 worth_share false x i l = refl
 

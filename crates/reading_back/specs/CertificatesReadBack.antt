@@ -33,4 +33,6 @@ pub record IsReadAs (k : ℕ) (c : CertificateData) (tree : Data) : Type 0 where
 
 -- a certificate that is printed over a scale is read back
 abbrev pub CertificatesAreReadBack : Type 0
-CertificatesAreReadBack = (k : ℕ) (c : CertificateData) → IsScale (pos k) → IsCertificate c → AreInLowestTerms c.levels → IsReadAs k c (certificate_tree k c)
+CertificatesAreReadBack =
+    (k : ℕ) (c : CertificateData) → IsScale (pos k) → IsCertificate c → AreInLowestTerms c.levels
+    → IsReadAs k c (certificate_tree k c)

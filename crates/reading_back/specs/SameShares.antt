@@ -17,8 +17,10 @@ SameSharesStayInTheFamily = (family : Family) (g : Game) (x y : Allocation)
 
 -- what certifies the shares of x certifies the same shares over another denominator
 abbrev pub SameSharesCertify : Type 0
-SameSharesCertify = (mode : Mode) (family : Family) (measure : Measure) (g : Game) (x y : Allocation) (levels : List Level)
-    → IsAllocation g y → IsSame g x y → Certifies mode family measure g x levels → Certifies mode family measure g y levels
+SameSharesCertify =
+    (mode : Mode) (family : Family) (measure : Measure) (g : Game) (x y : Allocation) (levels : List Level)
+    → IsAllocation g y → IsSame g x y → Certifies mode family measure g x levels
+    → Certifies mode family measure g y levels
 
 -- the shares of the nucleolus over another denominator are the nucleolus
 abbrev pub SameSharesAreTheNucleolus : Type 0

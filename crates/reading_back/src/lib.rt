@@ -6,7 +6,8 @@
 ghost use Rattle.reading_back.specs.ReadBack.{SharesAreReadBack, ShareListsAreArrays};
 ghost use Rattle.reading_back.specs.CertificatesReadBack.{CertificatesAreReadBack};
 ghost use Rattle.reading_back.specs.DocumentsReadBack.{PrintedNucleolusIsADocument};
-ghost use Rattle.reading_back.specs.SameShares.{SameSharesStayInTheFamily, SameSharesCertify, SameSharesAreTheNucleolus};
+ghost use Rattle.reading_back.specs.SameShares.{SameSharesStayInTheFamily, SameSharesCertify};
+ghost use Rattle.reading_back.specs.SameShares.{SameSharesAreTheNucleolus};
 
 /// A printed list of shares is an array of texts.
 pub fn share_lists_are_arrays()

@@ -1,5 +1,6 @@
 -- The text of a fraction of 128 bits is ASCII.
-use Rattle.std.proofs.Common.{◌≡◌, ℕ, suc, ◌^◌, Bool, true, false, cond, ◌&&◌, List, [], ◌∷◌, Some, None, ℤ, pos, negsuc, refl, subst, arith}
+use Rattle.std.proofs.Common.{◌≡◌, ℕ, suc, ◌^◌, Bool, true, false, cond, ◌&&◌, List, [], ◌∷◌}
+use Rattle.std.proofs.Common.{Some, None, ℤ, pos, negsuc, refl, subst, arith}
 use Rattle.std.specs.Fmt.{signed_decimal}
 use Rattle.std.specs.Ordering.{int_eq}
 use Rattle.std.specs.Str.{IsAscii}
@@ -20,15 +21,20 @@ denominator_ascii : (d : ℤ) (b : Bool) → is_i128 d ≡ true → IsAscii (con
 denominator_ascii d true h = IsAscii-nil
 denominator_ascii d false h = IsAscii-cons 47 _ (omega arith) (signed_ascii d h)
 
-fits : (a b c : Bool) (f g : Fraction) → b ≡ is_i128 f.num → c ≡ is_i128 f.den → cond (a && b && c) (Some f) None ≡ Some g → (is_i128 g.num ≡ true) × (is_i128 g.den ≡ true)
-fits true true true f g num den e = let same : f ≡ g = cc in (subst (λ h. is_i128 h.num ≡ true) same (cc), subst (λ h. is_i128 h.den ≡ true) same (cc))
+fits : (a b c : Bool) (f g : Fraction) → b ≡ is_i128 f.num → c ≡ is_i128 f.den
+    → cond (a && b && c) (Some f) None ≡ Some g → (is_i128 g.num ≡ true) × (is_i128 g.den ≡ true)
+fits true true true f g num den e =
+    let same : f ≡ g = cc in
+    (subst (λ h. is_i128 h.num ≡ true) same (cc), subst (λ h. is_i128 h.den ≡ true) same (cc))
 fits true true false f g num den e = absurd (cc)
 fits true false c f g num den e = absurd (cc)
 fits false b c f g num den e = absurd (cc)
 
 -- both numbers of a fraction that was read have a form of 128 bits
 pub numbers_fit : (s : List ℕ) (f : Fraction) → parsed s ≡ Some f → (is_i128 f.num ≡ true) × (is_i128 f.den ≡ true)
-numbers_fit s f e = fits (is_fraction_text s) (is_i128 (text_fraction s).num) (is_i128 (text_fraction s).den) (text_fraction s) f refl refl e
+numbers_fit s f e =
+    fits (is_fraction_text s) (is_i128 (text_fraction s).num) (is_i128 (text_fraction s).den) (text_fraction s) f refl
+    refl e
 
 pub fraction_text_ascii : (s : List ℕ) (f : Fraction) → parsed s ≡ Some f → IsAscii (fraction_text f)
 fraction_text_ascii s f e =

@@ -22,4 +22,9 @@ pub edges_whole : (k : ℕ) (edges : List (ℕ × ℕ × ℤ)) → has_float (ed
 edges_whole k edges = items_whole (edge_tree k) edges (edge_whole k)
 
 pub edges_depth : (k : ℕ) (edges : List (ℕ × ℕ × ℤ)) → depth (edge_list k edges) ≤ 2
-edges_depth k edges = omega (arith, items_shallow (edge_tree k) 1 edges (all_any (λ e. depth (edge_tree k e) ≤ 1) edges (λ e. omega (arith, cost_depth (nat_eq k 1) k e.2))))
+edges_depth k edges =
+    omega (
+      arith,
+      items_shallow (edge_tree k) 1 edges
+          (all_any (λ e. depth (edge_tree k e) ≤ 1) edges (λ e. omega (arith, cost_depth (nat_eq k 1) k e.2))),
+    )

@@ -1,5 +1,6 @@
 -- How long the texts of certificates and shares are.
-use Rattle.std.proofs.Common.{◌≡◌, ℕ, ◌+◌, ◌*◌, ◌^◌, ◌<◌, ◌≤◌, Bool, true, false, cond, List, [], ◌∷◌, length, map, codes, ℤ, pos, negsuc, unsigned_abs, arith, length-append}
+use Rattle.std.proofs.Common.{◌≡◌, ℕ, ◌+◌, ◌*◌, ◌^◌, ◌<◌, ◌≤◌, Bool, true, false, cond, List, [], ◌∷◌, length}
+use Rattle.std.proofs.Common.{map, codes, ℤ, pos, negsuc, unsigned_abs, arith, length-append}
 use Rattle.std.specs.Fmt.{signed_decimal}
 use Rattle.std.specs.Ordering.{int_eq}
 use Rattle.std.specs.List.{AllByRecursion}
@@ -20,7 +21,8 @@ use Rattle.kohlberg.specs.Certificate.{CertificateData}
 use Rattle.json_trees.specs.LowestTerms.{over_scale}
 use Rattle.report.specs.Values.{fraction_data, scaled_data, player_data, player_numbers}
 use Rattle.report.specs.Words.{family_word, mode_word}
-use Rattle.report.specs.Certificates.{weight_data, coalition_pair, bound_pair, coalition_pairs, bound_pairs, excess_of, level_tree, certificate_tree}
+use Rattle.report.specs.Certificates.{weight_data, coalition_pair, bound_pair, coalition_pairs}
+use Rattle.report.specs.Certificates.{bound_pairs, excess_of, level_tree, certificate_tree}
 use Rattle.report.specs.ShareLists.{share_data, share_list}
 use Rattle.report.specs.ReadingBack.{IsReadBack, SharesAreReadBack}
 use Rattle.report.specs.Lines.{nucleolus_tree}
@@ -47,7 +49,13 @@ denominator_length d false h = omega (arith, number_length d h)
 fraction_length : (f : Fraction) → IsReadBack f → length (compact_text (fraction_data f)) ≤ 488
 fraction_length f h =
     let small = numbers_fit (fraction_text f) f h in
-    omega (arith, quoted_length (fraction_text f), length-append (signed_decimal f.num) (cond (int_eq f.den (pos 1)) [] (47 ∷ signed_decimal f.den)), number_length f.num small.0, denominator_length f.den (int_eq f.den (pos 1)) small.1)
+    omega (
+      arith,
+      quoted_length (fraction_text f),
+      length-append (signed_decimal f.num) (cond (int_eq f.den (pos 1)) [] (47 ∷ signed_decimal f.den)),
+      number_length f.num small.0,
+      denominator_length f.den (int_eq f.den (pos 1)) small.1,
+    )
 
 -- ---- pairs
 
@@ -57,25 +65,38 @@ player_length i h = length-decimal-le_wide 2 (i + 1) (omega arith) (omega arith)
 coalition_length : (s : ℕ) → length (compact_text (player_numbers s)) ≤ 194
 coalition_length s =
     let few = members_below 64 s in
-    omega (arith, few.1, array_length player_data 2 (members 64 s) (all_weaken (λ i. i < 64) (λ i. length (compact_text (player_data i)) ≤ 2) (members 64 s) player_length few.0))
+    omega (
+      arith,
+      few.1,
+      array_length player_data 2 (members 64 s)
+          (all_weaken (λ i. i < 64) (λ i. length (compact_text (player_data i)) ≤ 2) (members 64 s) player_length
+          few.0),
+    )
 
 weight_length : (z : ℤ) → IsSmall z → length (compact_text (weight_data z)) ≤ 20
 weight_length (pos n) h = omega (arith, length-decimal-le_wide 19 n (omega arith) (omega arith) (omega arith))
 weight_length (negsuc n) h = signed_length 19 (negsuc n) (omega arith) (omega arith) (omega arith)
 
 coalition_pair_length : (p : ℕ × ℤ) → IsSmall p.1 → length (compact_text (coalition_pair p)) ≤ 218
-coalition_pair_length p h = omega (arith, pair_length (player_numbers p.0) (weight_data p.1), coalition_length p.0, weight_length p.1 h)
+coalition_pair_length p h =
+    omega (arith, pair_length (player_numbers p.0) (weight_data p.1), coalition_length p.0, weight_length p.1 h)
 
 bound_pair_length : (p : ℕ × ℤ) → IsSmall p.1 × (p.0 < 64) → length (compact_text (bound_pair p)) ≤ 218
-bound_pair_length p h = omega (arith, pair_length (player_data p.0) (weight_data p.1), player_length p.0 h.1, weight_length p.1 h.0)
+bound_pair_length p h =
+    omega (arith, pair_length (player_data p.0) (weight_data p.1), player_length p.0 h.1, weight_length p.1 h.0)
 
-coalition_pairs_length : (ps : List (ℕ × ℤ)) → AllByRecursion (λ p. IsSmall p.1) ps → length (compact_text (coalition_pairs ps)) ≤ length ps * 219 + 2
-coalition_pairs_length ps h = array_length coalition_pair 218 ps (all_weaken (λ p. IsSmall p.1) (λ p. length (compact_text (coalition_pair p)) ≤ 218) ps coalition_pair_length h)
+coalition_pairs_length : (ps : List (ℕ × ℤ)) → AllByRecursion (λ p. IsSmall p.1) ps
+    → length (compact_text (coalition_pairs ps)) ≤ length ps * 219 + 2
+coalition_pairs_length ps h =
+    array_length coalition_pair 218 ps
+    (all_weaken (λ p. IsSmall p.1) (λ p. length (compact_text (coalition_pair p)) ≤ 218) ps coalition_pair_length h)
 
-bound_pairs_length : (ps : List (ℕ × ℤ)) → AllByRecursion (λ p. IsSmall p.1) ps → AllByRecursion (λ p. p.0 < 64) ps → length (compact_text (bound_pairs ps)) ≤ length ps * 219 + 2
+bound_pairs_length : (ps : List (ℕ × ℤ)) → AllByRecursion (λ p. IsSmall p.1) ps → AllByRecursion (λ p. p.0 < 64) ps
+    → length (compact_text (bound_pairs ps)) ≤ length ps * 219 + 2
 bound_pairs_length ps h k =
     array_length bound_pair 218 ps
-    (all_weaken (λ p. IsSmall p.1 × (p.0 < 64)) (λ p. length (compact_text (bound_pair p)) ≤ 218) ps bound_pair_length (all_both (λ p. IsSmall p.1) (λ p. p.0 < 64) ps h k))
+    (all_weaken (λ p. IsSmall p.1 × (p.0 < 64)) (λ p. length (compact_text (bound_pair p)) ≤ 218) ps
+    bound_pair_length (all_both (λ p. IsSmall p.1) (λ p. p.0 < 64) ps h k))
 
 -- ---- levels
 
@@ -115,24 +136,36 @@ family_length : (f : Family) → length (compact_text (string (family_word f))) 
 family_length Imputations = omega (arith, quoted_length (codes "nucleolus"))
 family_length Preimputations = quoted_length (codes "prenucleolus")
 
-certificate_length : (k : ℕ) (c : CertificateData) → length c.levels ≤ 63 → AllByRecursion (IsShortLevel k) c.levels → length (compact_text (certificate_tree k c)) ≤ 1812815
+certificate_length : (k : ℕ) (c : CertificateData) → length c.levels ≤ 63 → AllByRecursion (IsShortLevel k) c.levels
+    → length (compact_text (certificate_tree k c)) ≤ 1812815
 certificate_length k c few h =
     let levels = array (items_of (map (level_tree k) c.levels)) in
     let mode = member (codes "mode") (string (mode_word c.mode)) no_members in
     omega (
       arith,
       few,
-      array_length (level_tree k) 28772 c.levels (all_weaken (IsShortLevel k) (λ l. length (compact_text (level_tree k l)) ≤ 28772) c.levels (level_length k) h),
+      array_length (level_tree k) 28772 c.levels
+          (all_weaken (IsShortLevel k) (λ l. length (compact_text (level_tree k l)) ≤ 28772) c.levels (level_length k)
+          h),
       mode_length c.mode,
       member_length false (codes "levels") levels mode,
       member_length true (codes "mode") (string (mode_word c.mode)) no_members,
     )
 
-shares_length : (k : ℕ) (is_cost : Bool) (x : Allocation) → length x.shares ≤ 64 → SharesAreReadBack k is_cost x → length (compact_text (share_list k is_cost x)) ≤ 31298
+shares_length : (k : ℕ) (is_cost : Bool) (x : Allocation) → length x.shares ≤ 64 → SharesAreReadBack k is_cost x
+    → length (compact_text (share_list k is_cost x)) ≤ 31298
 shares_length k is_cost x few h =
-    omega (arith, few, array_length (share_data k is_cost x.den) 488 x.shares (all_weaken _ (λ z. length (compact_text (share_data k is_cost x.den z)) ≤ 488) x.shares (λ z r. fraction_length _ r) h))
+    omega (
+      arith,
+      few,
+      array_length (share_data k is_cost x.den) 488 x.shares
+          (all_weaken _ (λ z. length (compact_text (share_data k is_cost x.den z)) ≤ 488) x.shares
+          (λ z r. fraction_length _ r) h),
+    )
 
-pub nucleolus_length : (k : ℕ) (family : Family) (game : Data) (is_cost : Bool) (x : Allocation) (c : CertificateData) → length c.levels ≤ 63 → length x.shares ≤ 64 → AllByRecursion (IsShortLevel k) c.levels → SharesAreReadBack k is_cost x
+pub nucleolus_length : (k : ℕ) (family : Family) (game : Data) (is_cost : Bool) (x : Allocation)
+    (c : CertificateData) → length c.levels ≤ 63 → length x.shares ≤ 64 → AllByRecursion (IsShortLevel k) c.levels
+    → SharesAreReadBack k is_cost x
     → length (compact_text (nucleolus_tree k family game is_cost x c)) ≤ length (compact_text game) + 2 ^ 21
 nucleolus_length k family game is_cost x c levels shares h r =
     let list = member (codes "shares") (share_list k is_cost x) no_members in

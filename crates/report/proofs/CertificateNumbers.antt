@@ -15,7 +15,8 @@ use Rattle.balanced_collections.specs.Collections.{CollectionData}
 use Rattle.report.specs.CoreTrees.{empty_core_tree}
 use Rattle.report.specs.Lines.{nucleolus_tree}
 
-pub items_whole : {X : Type 0} (f : X → Data) (xs : List X) → ((x : X) → has_float (f x) ≡ false) → items_have_float (items_of (map f xs)) ≡ false
+pub items_whole : {X : Type 0} (f : X → Data) (xs : List X) → ((x : X) → has_float (f x) ≡ false)
+    → items_have_float (items_of (map f xs)) ≡ false
 items_whole f [] h = refl
 items_whole f (x ∷ xs) h = rw (h x) (items_whole f xs h)
 
@@ -34,13 +35,22 @@ bound_pair_whole p = rw (weight_whole p.1) refl
 
 level_whole : (k : ℕ) (l : Level) → has_float (level_tree k l) ≡ false
 level_whole k l =
-    rw (items_whole bound_pair l.bounds bound_pair_whole, items_whole coalition_pair l.coalitions coalition_pair_whole, items_whole coalition_pair l.earlier coalition_pair_whole, weight_whole l.total) refl
+    rw (
+      items_whole bound_pair l.bounds bound_pair_whole,
+      items_whole coalition_pair l.coalitions coalition_pair_whole,
+      items_whole coalition_pair l.earlier coalition_pair_whole,
+      weight_whole l.total,
+    ) refl
 
 pub shares_whole : (k : ℕ) (is_cost : Bool) (x : Allocation) → has_float (share_list k is_cost x) ≡ false
 shares_whole k is_cost x = items_whole (share_data k is_cost x.den) x.shares (λ z. refl)
 
-pub empty_core_whole : (k : ℕ) (c : CollectionData) (value against : ℤ) → has_float (empty_core_tree k c value against) ≡ false
-empty_core_whole k c value against = rw (items_whole coalition_pair c.weights coalition_pair_whole, weight_whole c.k) refl
+pub empty_core_whole : (k : ℕ) (c : CollectionData) (value against : ℤ)
+    → has_float (empty_core_tree k c value against) ≡ false
+empty_core_whole k c value against =
+    rw (items_whole coalition_pair c.weights coalition_pair_whole, weight_whole c.k) refl
 
-pub nucleolus_whole : (k : ℕ) (family : Family) (game : Data) (is_cost : Bool) (x : Allocation) (c : CertificateData) → has_float game ≡ false → has_float (nucleolus_tree k family game is_cost x c) ≡ false
-nucleolus_whole k family game is_cost x c h = rw (items_whole (level_tree k) c.levels (level_whole k), h, shares_whole k is_cost x) refl
+pub nucleolus_whole : (k : ℕ) (family : Family) (game : Data) (is_cost : Bool) (x : Allocation)
+    (c : CertificateData) → has_float game ≡ false → has_float (nucleolus_tree k family game is_cost x c) ≡ false
+nucleolus_whole k family game is_cost x c h =
+    rw (items_whole (level_tree k) c.levels (level_whole k), h, shares_whole k is_cost x) refl

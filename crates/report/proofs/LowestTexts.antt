@@ -1,5 +1,6 @@
 -- A fraction in lowest terms is read from its text.
-use Rattle.std.proofs.Common.{◌≡◌, ◌≢◌, ℕ, zero, suc, ◌^◌, ◌<◌, ◌≤◌, arith, refl, subst, ap, ◌∙◌, ℤ, pos, negsuc, ◌*ℤ◌, ◌≤ℤ◌, unsigned_abs, FitsSigned}
+use Rattle.std.proofs.Common.{◌≡◌, ◌≢◌, ℕ, zero, suc, ◌^◌, ◌<◌, ◌≤◌, arith, refl, subst, ap, ◌∙◌}
+use Rattle.std.proofs.Common.{ℤ, pos, negsuc, ◌*ℤ◌, ◌≤ℤ◌, unsigned_abs, FitsSigned}
 use Rattle.std.proofs.lemmas.Int.{ints, unsigned_abs-mul, fits_signed_from_abs}
 use mir.Syntax.{w128}
 use Rattle.definitions.proofs.Ring.{linear, mul-leℤ}
@@ -26,7 +27,8 @@ fits_factor z n zero h e f = absurd (h refl)
 fits_factor (pos a) n (suc g) h e f = let k = subst (FitsSigned w128) e f in omega (arith, ints, k)
 fits_factor (negsuc a) n (suc g) h e f = let k = subst (FitsSigned w128) e f in omega (arith, ints, k)
 
-pub lowest_read_back : (n d : ℤ) → pos 1 ≤ℤ d → d ≤ℤ pos (2 ^ 120) → FitsSigned w128 n → IsReadBack (in_lowest_terms n d)
+pub lowest_read_back : (n d : ℤ) → pos 1 ≤ℤ d → d ≤ℤ pos (2 ^ 120) → FitsSigned w128 n
+    → IsReadBack (in_lowest_terms n d)
 lowest_read_back n d low high small =
     let f = lowest n d in
     let r = lowest_is n d (apart d low) in
@@ -35,7 +37,9 @@ lowest_read_back n d low high small =
     let not_zero = some (unsigned_abs n) d low in
     let den = no_larger g f.den d not_zero by.1 in
     let size : unsigned_abs d ≤ 2 ^ 120 = omega (arith, ints) in
-    let back : IsReadBack f = read_back f r.reduced (fits_factor f.num n g not_zero by.0 small, fits_signed_from_abs w128 f.den (omega (arith, den, size))) in
+    let back : IsReadBack f =
+    read_back f r.reduced
+    (fits_factor f.num n g not_zero by.0 small, fits_signed_from_abs w128 f.den (omega (arith, den, size))) in
     subst IsReadBack (is_lowest f n d low r) back
 
 -- a denominator times a scale is positive, and no larger than both bounds together
@@ -49,7 +53,8 @@ scaled_high d k b p q h j =
     omega (arith, linear, one, two, *ℤ_comm d (pos 65536))
 
 -- a fraction over a scale is read from its text
-pub over_read_back : (k : ℤ) (f : Fraction) → IsScale k → IsFine f.den → FitsSigned w128 f.num → IsReadBack (over_scale k f)
+pub over_read_back : (k : ℤ) (f : Fraction) → IsScale k → IsFine f.den → FitsSigned w128 f.num
+    → IsReadBack (over_scale k f)
 unfolding over_scale
 over_read_back k f s d n =
     let high = scaled_high f.den k (pos (2 ^ 100)) d.0 s.0 (let b = d.1 in omega (arith, linear, b)) s.1 in

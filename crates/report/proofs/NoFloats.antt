@@ -5,12 +5,17 @@ use Rattle.serde_json.specs.Written.{has_float}
 use Rattle.kohlberg.specs.declared.verdicts.Verdict.{Verdict}
 use Rattle.kohlberg.specs.declared.verdicts.Verdict.TheVariants.{Yes, No}
 use Rattle.kohlberg.specs.declared.verdicts.Place.TheVariants.{Coalition, Player}
-use Rattle.kohlberg.specs.declared.verdicts.Reason.TheVariants.{NotEfficient as not_efficient, NotIndividual, WrongExcess, WeightSign, Unbalanced, BoundNotTight, OutsideAbove, NotAll}
+use Rattle.kohlberg.specs.declared.verdicts.Reason.TheVariants.{NotEfficient as not_efficient, NotIndividual}
+use Rattle.kohlberg.specs.declared.verdicts.Reason.TheVariants.{WrongExcess, WeightSign, Unbalanced}
+use Rattle.kohlberg.specs.declared.verdicts.Reason.TheVariants.{BoundNotTight, OutsideAbove, NotAll}
 use Rattle.report.specs.Verdicts.{verdict_tree}
 use Rattle.report.specs.Limits.{HasPrintableForm}
 use Rattle.report.specs.Lines.{answer_tree}
 use Rattle.report.specs.declared.answer.Answer.{Answer}
-use Rattle.report.specs.declared.answer.Answer.TheVariants.{Nucleolus, NoImputation, InCore, NotEfficient, Blocked, CorePoint, EmptyCore, Shapley, Bird, Convex, Prekernel, NotPrekernel, Matching, Verdict as verdict, Usage, Refused, Summary}
+use Rattle.report.specs.declared.answer.Answer.TheVariants.{Nucleolus, NoImputation, InCore, NotEfficient}
+use Rattle.report.specs.declared.answer.Answer.TheVariants.{Blocked, CorePoint, EmptyCore, Shapley, Bird, Convex}
+use Rattle.report.specs.declared.answer.Answer.TheVariants.{Prekernel, NotPrekernel, Matching, Verdict as verdict}
+use Rattle.report.specs.declared.answer.Answer.TheVariants.{Usage, Refused, Summary}
 use Rattle.report.proofs.Summaries.{summary_whole}
 use Rattle.report.proofs.BirdEdges.{edges_whole}
 use Rattle.report.proofs.ConvexAnswers.{convex_whole}

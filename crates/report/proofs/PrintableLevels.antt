@@ -15,6 +15,7 @@ small_level n front l h =
       total = h.total_small;
     }
 
-pub small_levels : (n : ℕ) (front levels : List Level) → LevelsForm n front levels → AllByRecursion HasSmallWeights levels
+pub small_levels : (n : ℕ) (front levels : List Level) → LevelsForm n front levels
+    → AllByRecursion HasSmallWeights levels
 small_levels n front [] h = tt
 small_levels n front (l ∷ levels) h = (small_level n front l h.0, small_levels n (front ++ l ∷ []) levels h.1)

@@ -18,7 +18,8 @@ use Rattle.serde_json.specs.Written.{has_float}
 use Rattle.definitions.specs.Certificates.{Level, IsSmall}
 use Rattle.balanced_collections.specs.Collections.{CollectionData}
 use Rattle.report.specs.declared.answer.Answer.{Answer}
-use Rattle.report.specs.declared.answer.Answer.TheVariants.{Nucleolus, NotEfficient, Blocked, EmptyCore, NotPrekernel, Verdict, Summary}
+use Rattle.report.specs.declared.answer.Answer.TheVariants.{Nucleolus, NotEfficient, Blocked, EmptyCore}
+use Rattle.report.specs.declared.answer.Answer.TheVariants.{NotPrekernel, Verdict, Summary}
 use Rattle.kohlberg.specs.declared.verdicts.Verdict.{Verdict as CheckVerdict}
 use Rattle.kohlberg.specs.declared.verdicts.Verdict.TheVariants.{No}
 use Rattle.kohlberg.specs.declared.verdicts.Reason.TheVariants.{OutsideAbove}
@@ -44,7 +45,8 @@ IsFineIfThere (Some f) = IsFine f.den
 
 -- each fraction in an answer has a denominator below 2^100
 abbrev pub HasFineNumbers : Answer → Type 0
-HasFineNumbers (Nucleolus family tree is_cost shares certificate) = AllByRecursion (λ l. IsFine l.excess_den) certificate.levels
+HasFineNumbers (Nucleolus family tree is_cost shares certificate) =
+    AllByRecursion (λ l. IsFine l.excess_den) certificate.levels
 HasFineNumbers (NotEfficient sum total) = IsFine sum.den
 HasFineNumbers (Blocked s e) = IsFine e.den
 HasFineNumbers (NotPrekernel i j ij ji) = IsFine ij.den × IsFine ji.den

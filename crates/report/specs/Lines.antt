@@ -24,7 +24,10 @@ use Rattle.report.specs.KernelTrees.{prekernel_tree, not_prekernel_tree}
 use Rattle.report.specs.MatchingTrees.{matching_tree}
 use Rattle.report.specs.Words.{refusal_name, usage_word, family_word}
 use Rattle.report.specs.declared.answer.Answer.{Answer}
-use Rattle.report.specs.declared.answer.Answer.TheVariants.{Nucleolus, NoImputation, InCore, NotEfficient, Blocked, CorePoint, EmptyCore, Shapley, Bird, Convex, Prekernel, NotPrekernel, Matching, Verdict, Usage, Refused, Summary}
+use Rattle.report.specs.declared.answer.Answer.TheVariants.{Nucleolus, NoImputation, InCore, NotEfficient}
+use Rattle.report.specs.declared.answer.Answer.TheVariants.{Blocked, CorePoint, EmptyCore, Shapley, Bird}
+use Rattle.report.specs.declared.answer.Answer.TheVariants.{Convex, Prekernel, NotPrekernel, Matching, Verdict}
+use Rattle.report.specs.declared.answer.Answer.TheVariants.{Usage, Refused, Summary}
 
 -- the object that is printed for the nucleolus or prenucleolus of a game, over the scale k, its keys ascending
 abbrev pub nucleolus_tree : ℕ → Family → Data → Bool → Allocation → CertificateData → Data
@@ -39,12 +42,19 @@ nucleolus_tree k family game is_cost x c =
 abbrev pub answer_tree : ℕ → Answer → Data
 answer_tree k (Nucleolus family tree is_cost x c) = nucleolus_tree k family (view tree) is_cost x c
 answer_tree k (NoImputation singles total) =
-    object (member (codes "answer") (string (codes "no imputation")) (member (codes "singles") (integer_data k singles) (member (codes "total") (integer_data k total) no_members)))
+    object
+    (member (codes "answer") (string (codes "no imputation"))
+    (member (codes "singles") (integer_data k singles)
+    (member (codes "total") (integer_data k total) no_members)))
 answer_tree k InCore = object (member (codes "answer") (string (codes "core")) no_members)
 answer_tree k (NotEfficient sum total) =
-    object (member (codes "answer") (string (codes "not efficient")) (member (codes "sum") (scaled_data k sum) (member (codes "total") (integer_data k total) no_members)))
+    object
+    (member (codes "answer") (string (codes "not efficient"))
+    (member (codes "sum") (scaled_data k sum) (member (codes "total") (integer_data k total) no_members)))
 answer_tree k (Blocked s e) =
-    object (member (codes "answer") (string (codes "blocked")) (member (codes "coalition") (player_numbers s) (member (codes "excess") (scaled_data k e) no_members)))
+    object
+    (member (codes "answer") (string (codes "blocked"))
+    (member (codes "coalition") (player_numbers s) (member (codes "excess") (scaled_data k e) no_members)))
 answer_tree k (CorePoint is_cost x) = core_point_tree k is_cost x
 answer_tree k (EmptyCore c value against) = empty_core_tree k c value against
 answer_tree k (Shapley is_cost x) = shapley_tree k is_cost x
@@ -56,7 +66,9 @@ answer_tree k (Matching solution) = matching_tree k solution
 answer_tree k (Verdict v) = verdict_tree k v
 answer_tree k (Usage kind) = object (member (codes "usage") (string (usage_word kind)) no_members)
 answer_tree k (Refused r) =
-    object (member (codes "number") (count_data (refusal_number r)) (member (codes "refused") (string (refusal_name r)) no_members))
+    object
+    (member (codes "number") (count_data (refusal_number r))
+    (member (codes "refused") (string (refusal_name r)) no_members))
 answer_tree k (Summary s) = summary_tree k s
 
 -- compact JSON of the answer over the scale k, and a newline

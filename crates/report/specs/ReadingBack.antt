@@ -41,7 +41,8 @@ abbrev pub SharesAreReadBack : ℕ → Bool → Allocation → Type 0
 SharesAreReadBack k is_cost x = AllByRecursion (λ z. IsReadBack (printed_share k is_cost x.den z)) x.shares
 
 -- the tree is read from its text, is nested at most 9 deep, and has its parts at their keys
-pub record SaysNucleolus (k : ℕ) (family : Family) (game : Data) (is_cost : Bool) (x : Allocation) (c : CertificateData) (tree : Data) : Type 0 where
+pub record SaysNucleolus (k : ℕ) (family : Family) (game : Data) (is_cost : Bool) (x : Allocation)
+    (c : CertificateData) (tree : Data) : Type 0 where
   pub exact : IsExact tree
   pub shallow : depth tree ≤ 9
   pub read_back : read (compact_text tree) ≡ Some tree
@@ -55,9 +56,11 @@ abbrev pub NucleoliAreReadBack : Type 0
 NucleoliAreReadBack =
     (k : ℕ) (family : Family) (game : Data) (is_cost : Bool) (x : Allocation) (c : CertificateData)
     → IsScale (pos k) → IsShares x → IsCertificate c → IsExact game → depth game ≤ 8
-    → SaysNucleolus k family game is_cost x c (nucleolus_tree k family game is_cost x c) × SharesAreReadBack k is_cost x
+    → SaysNucleolus k family game is_cost x c (nucleolus_tree k family game is_cost x c)
+    × SharesAreReadBack k is_cost x
 
--- the text of a nucleolus whose levels have at most 128 entries is less than 2 MiB longer than that of the game
+-- the text of a nucleolus is at most 2 MiB longer than that of the game, where each level has at most 128 entries and
+-- an excess that is read from its text
 abbrev pub NucleoliAreShort : Type 0
 NucleoliAreShort =
     (k : ℕ) (family : Family) (game : Data) (is_cost : Bool) (x : Allocation) (c : CertificateData)

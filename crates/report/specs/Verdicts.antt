@@ -15,32 +15,46 @@ use Rattle.kohlberg.specs.declared.verdicts.Verdict.{Verdict}
 use Rattle.kohlberg.specs.declared.verdicts.Verdict.TheVariants.{Yes, No}
 use Rattle.kohlberg.specs.declared.verdicts.Place.TheVariants.{Coalition, Player}
 use Rattle.kohlberg.specs.declared.verdicts.Reason.{Reason}
-use Rattle.kohlberg.specs.declared.verdicts.Reason.TheVariants.{NotEfficient, NotIndividual, WrongExcess, WeightSign, Unbalanced, BoundNotTight, OutsideAbove, NotAll}
+use Rattle.kohlberg.specs.declared.verdicts.Reason.TheVariants.{NotEfficient, NotIndividual, WrongExcess}
+use Rattle.kohlberg.specs.declared.verdicts.Reason.TheVariants.{WeightSign, Unbalanced, BoundNotTight, OutsideAbove}
+use Rattle.kohlberg.specs.declared.verdicts.Reason.TheVariants.{NotAll}
 use Rattle.report.specs.Values.{scaled_data, count_data, player_data, player_numbers}
 
 -- a reason without a place
 abbrev pub no_alone : ℕ → Data
-no_alone reason = object (member (codes "answer") (string (codes "no")) (member (codes "reason") (count_data reason) no_members))
+no_alone reason =
+    object (member (codes "answer") (string (codes "no")) (member (codes "reason") (count_data reason) no_members))
 
 -- a reason with a player
 abbrev pub no_at_player : ℕ → ℕ → Data
 no_at_player reason i =
-    object (member (codes "answer") (string (codes "no")) (member (codes "player") (player_data i) (member (codes "reason") (count_data reason) no_members)))
+    object
+    (member (codes "answer") (string (codes "no"))
+    (member (codes "player") (player_data i) (member (codes "reason") (count_data reason) no_members)))
 
 -- a reason with a level and a coalition
 abbrev pub no_at_coalition : ℕ → ℕ → ℕ → Data
 no_at_coalition reason j s =
-    object (member (codes "answer") (string (codes "no")) (member (codes "coalition") (player_numbers s) (member (codes "level") (count_data j) (member (codes "reason") (count_data reason) no_members))))
+    object
+    (member (codes "answer") (string (codes "no"))
+    (member (codes "coalition") (player_numbers s)
+    (member (codes "level") (count_data j) (member (codes "reason") (count_data reason) no_members))))
 
 -- a reason with a level and a player
 abbrev pub no_at_level : ℕ → ℕ → ℕ → Data
 no_at_level reason j i =
-    object (member (codes "answer") (string (codes "no")) (member (codes "level") (count_data j) (member (codes "player") (player_data i) (member (codes "reason") (count_data reason) no_members))))
+    object
+    (member (codes "answer") (string (codes "no"))
+    (member (codes "level") (count_data j)
+    (member (codes "player") (player_data i) (member (codes "reason") (count_data reason) no_members))))
 
 -- a reason with a level and the greatest excess of a coalition outside, over the scale k
 abbrev pub no_above : ℕ → ℕ → ℕ → Fraction → Data
 no_above k reason j e =
-    object (member (codes "answer") (string (codes "no")) (member (codes "excess") (scaled_data k e) (member (codes "level") (count_data j) (member (codes "reason") (count_data reason) no_members))))
+    object
+    (member (codes "answer") (string (codes "no"))
+    (member (codes "excess") (scaled_data k e)
+    (member (codes "level") (count_data j) (member (codes "reason") (count_data reason) no_members))))
 
 -- the first condition that fails
 abbrev pub reason_tree : ℕ → Reason → Data

@@ -14,11 +14,11 @@ use worth_core::{Family, Shares};
 /// Why a command has no other answer: for its words, or for the class and the players of its document.
 #[derive(Clone, Copy, Debug, PartialEq, Eq)]
 pub enum UsageKind {
-    /// They name no command.
+    /// They name no command; or, behind `gen`, no kind with a number of players that it has and a seed.
     Words,
-    /// The command doesn't serve the class of the document (or, for `gen`, the class isn't one that is generated).
+    /// The command doesn't serve the class of the document.
     Class,
-    /// The command doesn't serve so many players (or, for `gen`, the class hasn't so many).
+    /// The command doesn't serve so many players of that class.
     Players,
 }
 

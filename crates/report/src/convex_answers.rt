@@ -43,7 +43,9 @@ fn both_shares_members(
     scale: u32,
 ) -> Result<Map<String, Value>, OutOfMemory>
     requires { IsScale (pos scale) }
-    ensures { IfOk result (λ m. object (members_view m.entries) ≡ convex_tree scale is_cost (ConvexAnswer.Convex shapley.now marginal.now)) }
+    ensures { IfOk result
+        (λ m. object (members_view m.entries)
+        ≡ convex_tree scale is_cost (ConvexAnswer.Convex shapley.now marginal.now)) }
 {
     let members = with_answer(alloc, "convex")?;
     let members = with_shares(alloc, members, "marginal", marginal, is_cost, scale)?;
@@ -60,7 +62,8 @@ fn failure_members(
     scale: u32,
 ) -> Result<Map<String, Value>, OutOfMemory>
     requires { IsScale (pos scale) }
-    ensures { IfOk result (λ m. object (members_view m.entries) ≡ convex_tree scale false (ConvexAnswer.Not s i j deficit)) }
+    ensures { IfOk result
+        (λ m. object (members_view m.entries) ≡ convex_tree scale false (ConvexAnswer.Not s i j deficit)) }
 {
     let members = with_answer(alloc, "not convex")?;
     let members = with_integer(alloc, members, "deficit", i128::from(deficit), scale)?;

@@ -45,7 +45,8 @@ fn text_over(alloc: Global, value: &Frac, scale: u32) -> Result<String, OutOfMem
 /// The text of an integer over the scale, in lowest terms.
 fn integer_over(alloc: Global, value: i128, scale: u32) -> Result<String, OutOfMemory>
     requires { IsScale (pos scale) }
-    ensures { IfOk result (λ s. string_bytes s ≡ fraction_text (over_scale (pos scale) (record { num = value; den = pos 1 }))) }
+    ensures { IfOk result
+        (λ s. string_bytes s ≡ fraction_text (over_scale (pos scale) (record { num = value; den = pos 1 }))) }
 {
     text_over(alloc, &Frac::from_int(value), scale)
 }

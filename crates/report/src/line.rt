@@ -33,7 +33,8 @@ pub fn write_report(alloc: Global, answer: Answer, scale: i64) -> Result<Vec<u8>
     ensures text { IfOk result (λ v. v.items ≡ line scale answer) }
     // What stands in front of the newline is JSON, and reads as the tree that was written.
     ensures utf8 { IfOk result (λ v. IsUtf8 (without_newline v.items)) }
-    ensures reads_back { IfOk result (λ v. read (without_newline v.items) ≡ Some (answer_tree (unsigned_abs scale) answer)) }
+    ensures reads_back { IfOk result
+        (λ v. read (without_newline v.items) ≡ Some (answer_tree (unsigned_abs scale) answer)) }
 {
     let members = members_of(alloc, answer, narrow(scale))?;
     let mut text = Value::Object(members).to_vec(alloc)?;
@@ -98,7 +99,8 @@ fn no_imputation_members(
     scale: u32,
 ) -> Result<Map<String, Value>, OutOfMemory>
     requires { IsScale (pos scale) }
-    ensures { IfOk result (λ m. object (members_view m.entries) ≡ answer_tree scale (Answer.NoImputation singles total)) }
+    ensures { IfOk result
+        (λ m. object (members_view m.entries) ≡ answer_tree scale (Answer.NoImputation singles total)) }
 {
     let members = with_answer(alloc, "no imputation")?;
     let members = with_integer(alloc, members, "singles", i128::from(singles), scale)?;
@@ -113,7 +115,8 @@ fn not_efficient_members(
 ) -> Result<Map<String, Value>, OutOfMemory>
     requires scale { IsScale (pos scale) }
     requires fine { IsFine sum.now.den }
-    ensures { IfOk result (λ m. object (members_view m.entries) ≡ answer_tree scale (Answer.NotEfficient sum.now total)) }
+    ensures { IfOk result
+        (λ m. object (members_view m.entries) ≡ answer_tree scale (Answer.NotEfficient sum.now total)) }
 {
     let members = with_answer(alloc, "not efficient")?;
     let members = with_value(alloc, members, "sum", sum, scale)?;
@@ -128,7 +131,8 @@ fn blocked_members(
 ) -> Result<Map<String, Value>, OutOfMemory>
     requires scale { IsScale (pos scale) }
     requires fine { IsFine excess.now.den }
-    ensures { IfOk result (λ m. object (members_view m.entries) ≡ answer_tree scale (Answer.Blocked coalition excess.now)) }
+    ensures { IfOk result
+        (λ m. object (members_view m.entries) ≡ answer_tree scale (Answer.Blocked coalition excess.now)) }
 {
     let members = with_answer(alloc, "blocked")?;
     let members = with_coalition(alloc, members, "coalition", coalition)?;

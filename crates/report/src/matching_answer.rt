@@ -12,7 +12,8 @@ use fractions::OutOfMemory;
 use serde_json::{Map, Value};
 use std::alloc::Global;
 
-/// The members of the tree of the pairs of a market with their value, beside the core points that are best for either side.
+/// The members of the tree of the pairs of a market with their value, beside the core points that are best for either
+/// side.
 pub(crate) fn matching_members(
     alloc: Global,
     solution: &Solution,

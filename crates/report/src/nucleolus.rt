@@ -27,7 +27,9 @@ pub(crate) fn nucleolus_members(
 ) -> Result<Map<String, Value>, OutOfMemory>
     requires scale { IsScale (pos scale) }
     requires fine { AllByRecursion (λ l. IsFine l.excess_den) certificate.now.levels }
-    ensures { IfOk result (λ m. object (members_view m.entries) ≡ nucleolus_tree scale family (view game) is_cost shares.now certificate.now) }
+    ensures { IfOk result
+        (λ m. object (members_view m.entries)
+        ≡ nucleolus_tree scale family (view game) is_cost shares.now certificate.now) }
 {
     // The game first, since it is there already; keys ascend in the object in any case.
     let members = with(alloc, Map::new(alloc), "game", game)?;

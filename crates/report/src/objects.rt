@@ -29,7 +29,8 @@ pub(crate) fn with(
     key: &str,
     value: Value,
 ) -> Result<Map<String, Value>, OutOfMemory>
-    ensures { IfOk result (λ m. members_view m.entries ≡ with_member key.now (view value) (members_view members.entries)) }
+    ensures { IfOk result
+        (λ m. members_view m.entries ≡ with_member key.now (view value) (members_view members.entries)) }
 {
     let mut members = members;
     put(&mut members, alloc, key, value)?;
@@ -43,7 +44,8 @@ pub(crate) fn with_text(
     key: &str,
     text: &str,
 ) -> Result<Map<String, Value>, OutOfMemory>
-    ensures { IfOk result (λ m. members_view m.entries ≡ with_member key.now (string text.now) (members_view members.entries)) }
+    ensures { IfOk result
+        (λ m. members_view m.entries ≡ with_member key.now (string text.now) (members_view members.entries)) }
 {
     let value = Value::try_from_str(alloc, text)?;
     with(alloc, members, key, value)
@@ -59,7 +61,9 @@ pub(crate) fn with_value(
 ) -> Result<Map<String, Value>, OutOfMemory>
     requires scale { IsScale (pos scale) }
     requires fine { IsFine value.now.den }
-    ensures { IfOk result (λ m. members_view m.entries ≡ with_member key.now (scaled_data scale value.now) (members_view members.entries)) }
+    ensures { IfOk result
+        (λ m. members_view m.entries
+        ≡ with_member key.now (scaled_data scale value.now) (members_view members.entries)) }
 {
     let value = value_over(alloc, value, scale)?;
     with(alloc, members, key, value)
@@ -74,7 +78,9 @@ pub(crate) fn with_integer(
     scale: u32,
 ) -> Result<Map<String, Value>, OutOfMemory>
     requires { IsScale (pos scale) }
-    ensures { IfOk result (λ m. members_view m.entries ≡ with_member key.now (integer_data scale value) (members_view members.entries)) }
+    ensures { IfOk result
+        (λ m. members_view m.entries
+        ≡ with_member key.now (integer_data scale value) (members_view members.entries)) }
 {
     let value = integer_value(alloc, value, scale)?;
     with(alloc, members, key, value)
@@ -90,7 +96,9 @@ pub(crate) fn with_shares(
     scale: u32,
 ) -> Result<Map<String, Value>, OutOfMemory>
     requires { IsScale (pos scale) }
-    ensures { IfOk result (λ m. members_view m.entries ≡ with_member key.now (share_list scale is_cost shares.now) (members_view members.entries)) }
+    ensures { IfOk result
+        (λ m. members_view m.entries
+        ≡ with_member key.now (share_list scale is_cost shares.now) (members_view members.entries)) }
 {
     let texts = share_texts(alloc, shares, is_cost, scale)?;
     with(alloc, members, key, Value::Array(texts))
@@ -103,7 +111,9 @@ pub(crate) fn with_coalition(
     key: &str,
     coalition: Coalition,
 ) -> Result<Map<String, Value>, OutOfMemory>
-    ensures { IfOk result (λ m. members_view m.entries ≡ with_member key.now (player_numbers coalition) (members_view members.entries)) }
+    ensures { IfOk result
+        (λ m. members_view m.entries
+        ≡ with_member key.now (player_numbers coalition) (members_view members.entries)) }
 {
     let players = player_numbers(alloc, coalition)?;
     with(alloc, members, key, Value::Array(players))

@@ -3,7 +3,8 @@ ghost use Rattle.std.specs.Prelude.{◌≡◌, ◌<◌, ◌-◌, pos, length, If
 ghost use Rattle.serde_json.specs.Data.{object};
 ghost use Rattle.serde_json.specs.View.{view, members_view};
 ghost use Rattle.report.specs.Limits.{IsScale, IsFineIfThere};
-ghost use Rattle.report.specs.SummaryTrees.{least_denominator, player_share, share_members, greatest_data, summary_tree};
+ghost use Rattle.report.specs.SummaryTrees.{least_denominator, player_share, share_members};
+ghost use Rattle.report.specs.SummaryTrees.{greatest_data, summary_tree};
 ghost use Rattle.report.specs.Values.{integer_data};
 
 use crate::fraction::{integer_value, value_over};

@@ -3,7 +3,8 @@ ghost use Rattle.std.specs.Prelude.{◌≡◌, pos, IfOk};
 ghost use Rattle.serde_json.specs.Data.{object};
 ghost use Rattle.serde_json.specs.View.{members_view};
 ghost use Rattle.report.specs.Limits.{IsScale, IsFine, IsFineVerdict};
-ghost use Rattle.report.specs.Verdicts.{no_alone, no_at_player, no_at_coalition, no_at_level, no_above, reason_tree, verdict_tree};
+ghost use Rattle.report.specs.Verdicts.{no_alone, no_at_player, no_at_coalition, no_at_level};
+ghost use Rattle.report.specs.Verdicts.{no_above, reason_tree, verdict_tree};
 
 use crate::objects::{with, with_answer, with_coalition, with_value};
 use crate::players::player_value;

@@ -7,7 +7,8 @@ use Rattle.certificate_texts.proofs.ascending.coalition_of.Given as goal
 
 abbrev pub invariant-loop-member : goal.invariant-loop-member
 invariant-loop-member l = record {
-  goes : coalition_of l.n (map view l.members) ≡ summed l.mask (numbers_above l.low l.n (rest l.members l.member-index));
+  goes : coalition_of l.n (map view l.members)
+      ≡ summed l.mask (numbers_above l.low l.n (rest l.members l.member-index));
   within : l.mask < 2 ^ l.low;
   few : l.low ≤ l.n;
 }

@@ -6,6 +6,7 @@ use Rattle.document_parts.proofs.masks.mask_of.Given as goal
 
 abbrev pub invariant-loop-member : goal.invariant-loop-member
 invariant-loop-member l = record {
-  goes : joined l.fn.players l.fn.names 0 (map view l.members) ≡ joined l.fn.players l.fn.names l.s (rest l.members l.member-index);
+  goes : joined l.fn.players l.fn.names 0 (map view l.members)
+      ≡ joined l.fn.players l.fn.names l.s (rest l.members l.member-index);
   within : l.s < 2 ^ l.fn.players;
 }

@@ -7,16 +7,21 @@ use Rattle.document_parts.proofs.scale.scale_of.Goals as goal
 pub returns-in_default-clause-value : goal.returns-in_default-clause-value
 returns-in_default-clause-value c =
     let g = view c.args.game.now in
-    none_front 1 (table_numbers_in g) (player_numbers_in g ++ matrix_numbers_in g) c.in_default.ensures.value ∙ scale_is g
+    none_front 1 (table_numbers_in g) (player_numbers_in g ++ matrix_numbers_in g) c.in_default.ensures.value
+    ∙ scale_is g
 
 pub returns-in_default-with_players-clause-value : goal.returns-in_default-with_players-clause-value
 returns-in_default-with_players-clause-value c =
     let g = view c.args.game.now in
     none_front c.in-Some.table (player_numbers_in g) (matrix_numbers_in g) c.in_default-with_players.ensures.value
-    ∙ some_front 1 c.in-Some.table (table_numbers_in g) (player_numbers_in g ++ matrix_numbers_in g) c.in-Some.ensures.value ∙ scale_is g
+    ∙ some_front 1 c.in-Some.table (table_numbers_in g) (player_numbers_in g ++ matrix_numbers_in g)
+    c.in-Some.ensures.value ∙ scale_is g
 
 pub returns-clause-value : goal.returns-clause-value
 returns-clause-value c =
     let g = view c.args.game.now in
-    c.with_matrix.ensures.value ∙ some_front c.in-Some.table c.in-Some-with_players.players (player_numbers_in g) (matrix_numbers_in g) c.in-Some-with_players.ensures.value
-    ∙ some_front 1 c.in-Some.table (table_numbers_in g) (player_numbers_in g ++ matrix_numbers_in g) c.in-Some.ensures.value ∙ scale_is g
+    c.with_matrix.ensures.value
+    ∙ some_front c.in-Some.table c.in-Some-with_players.players (player_numbers_in g) (matrix_numbers_in g)
+    c.in-Some-with_players.ensures.value
+    ∙ some_front 1 c.in-Some.table (table_numbers_in g) (player_numbers_in g ++ matrix_numbers_in g)
+    c.in-Some.ensures.value ∙ scale_is g

@@ -6,7 +6,8 @@ use Rattle.document_parts.proofs.scale.with_pairs.Given as goal
 
 abbrev pub invariant-loop-pair : goal.invariant-loop-pair
 invariant-loop-pair l = record {
-  goes : with_numbers l.scale (all_parts pair_number (map view l.pairs)) ≡ with_numbers l.common (all_parts pair_number (rest l.pairs l.pair-index));
+  goes : with_numbers l.scale (all_parts pair_number (map view l.pairs))
+      ≡ with_numbers l.common (all_parts pair_number (rest l.pairs l.pair-index));
   some : 0 < l.common;
   few : l.common ≤ 65536;
 }

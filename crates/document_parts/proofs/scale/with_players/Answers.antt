@@ -9,20 +9,25 @@ use Rattle.document_parts.proofs.scale.with_players.Goals as goal
 pub returns-in_default-clause-value : goal.returns-in_default-clause-value
 returns-in_default-clause-value c =
     let g = view c.args.game.now in
-    none_front c.args.scale (parts_at (codes "costs") g) (if_there (get (codes "estate") g) ++ parts_at (codes "claims") g)
+    none_front c.args.scale (parts_at (codes "costs") g)
+    (if_there (get (codes "estate") g) ++ parts_at (codes "claims") g)
     (c.in_default.ensures.value ∙ ap (with_numbers c.args.scale) c.parts_at.ensures)
 
 pub returns-in_default-with_number_at-clause-value : goal.returns-in_default-with_number_at-clause-value
 returns-in_default-with_number_at-clause-value c =
     let g = view c.args.game.now in
-    none_front c.in-Some.costs (if_there (get (codes "estate") g)) (parts_at (codes "claims") g) c.in_default-with_number_at.ensures.value
-    ∙ some_front c.args.scale c.in-Some.costs (parts_at (codes "costs") g) (if_there (get (codes "estate") g) ++ parts_at (codes "claims") g)
+    none_front c.in-Some.costs (if_there (get (codes "estate") g)) (parts_at (codes "claims") g)
+    c.in_default-with_number_at.ensures.value
+    ∙ some_front c.args.scale c.in-Some.costs (parts_at (codes "costs") g)
+    (if_there (get (codes "estate") g) ++ parts_at (codes "claims") g)
     (c.in-Some.ensures.value ∙ ap (with_numbers c.args.scale) c.parts_at.ensures)
 
 pub returns-clause-value : goal.returns-clause-value
 returns-clause-value c =
     let g = view c.args.game.now in
     c.with_numbers-2.ensures.value ∙ ap (with_numbers c.in-Some-with_number_at.estate) c.parts_at-2.ensures
-    ∙ some_front c.in-Some.costs c.in-Some-with_number_at.estate (if_there (get (codes "estate") g)) (parts_at (codes "claims") g) c.in-Some-with_number_at.ensures.value
-    ∙ some_front c.args.scale c.in-Some.costs (parts_at (codes "costs") g) (if_there (get (codes "estate") g) ++ parts_at (codes "claims") g)
+    ∙ some_front c.in-Some.costs c.in-Some-with_number_at.estate (if_there (get (codes "estate") g))
+    (parts_at (codes "claims") g) c.in-Some-with_number_at.ensures.value
+    ∙ some_front c.args.scale c.in-Some.costs (parts_at (codes "costs") g)
+    (if_there (get (codes "estate") g) ++ parts_at (codes "claims") g)
     (c.in-Some.ensures.value ∙ ap (with_numbers c.args.scale) c.parts_at.ensures)

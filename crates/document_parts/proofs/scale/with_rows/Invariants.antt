@@ -7,7 +7,8 @@ use Rattle.document_parts.proofs.scale.with_rows.Given as goal
 
 abbrev pub invariant-loop-row : goal.invariant-loop-row
 invariant-loop-row l = record {
-  goes : with_numbers l.scale (all_parts parts (map view l.rows)) ≡ with_numbers l.common (all_parts parts (rest l.rows l.row-index));
+  goes : with_numbers l.scale (all_parts parts (map view l.rows))
+      ≡ with_numbers l.common (all_parts parts (rest l.rows l.row-index));
   some : 0 < l.common;
   few : l.common ≤ 65536;
 }

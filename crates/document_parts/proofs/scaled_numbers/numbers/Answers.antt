@@ -12,10 +12,14 @@ pub loop-value-preserved : goal.loop-value-preserved
 loop-value-preserved c =
     let f = λ (v : Value). number_or_zero c.args.scale (view v) in
     let kept = to_z-of_z w64 c.number_or_zero-n.result (record { sfits = c.number_or_zero-n.type_inv }) in
-    c.in_ok-push.ensures.items ∙ map_pushed f c.args.values.now c.loop-value.value-index c.value-item.result c.loop-value.found.items _ c.loop-value-test.true c.loop-value.invariant (kept ∙ c.number_or_zero-n.ensures ∙ ap f c.value-item.is)
+    c.in_ok-push.ensures.items
+    ∙ map_pushed f c.args.values.now c.loop-value.value-index c.value-item.result c.loop-value.found.items _
+    c.loop-value-test.true c.loop-value.invariant (kept ∙ c.number_or_zero-n.ensures ∙ ap f c.value-item.is)
 
 pub returns-in_err-push : goal.returns-in_err-push
-returns-in_err-push c = IfOk-from_err c.from_residual.result _ c.from_residual.ensures.0
+returns-in_err-push c = IfOk-from_err c.from_residual-in_err-push.result _ c.from_residual-in_err-push.ensures.0
 
 pub returns : goal.returns
-returns c = map_all (λ v. number_or_zero c.args.scale (view v)) c.args.values.now c.loop-value.value-index c.loop-value.found.items c.loop-value-test.false c.loop-value.invariant
+returns c =
+    map_all (λ v. number_or_zero c.args.scale (view v)) c.args.values.now c.loop-value.value-index
+    c.loop-value.found.items c.loop-value-test.false c.loop-value.invariant

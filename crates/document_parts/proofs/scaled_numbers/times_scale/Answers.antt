@@ -1,4 +1,5 @@
-use Rattle.std.proofs.Common.{◌≡◌, ◌<◌, ◌≤◌, ◌^◌, ℕ, ℤ, ◌*ℤ◌, pos, unsigned_abs, to_z, of_z, Some, None, if◌then◌else◌, sym, ap, ap₂, ◌∙◌, subst, arith, rules}
+use Rattle.std.proofs.Common.{◌≡◌, ◌<◌, ◌≤◌, ◌^◌, ℕ, ℤ, ◌*ℤ◌, pos, unsigned_abs, to_z, of_z, Some}
+use Rattle.std.proofs.Common.{None, if◌then◌else◌, sym, ap, ap₂, ◌∙◌, subst, arith, rules}
 use Rattle.std.specs.Prelude.{int_div}
 use Rattle.std.proofs.lemmas.Bool.{lt-ltb, le-ltb}
 use Rattle.std.proofs.lemmas.Int.{to_z-of_z, fits_signed_from_abs}
@@ -19,27 +20,45 @@ overflow_cast-result c = fits_signed_from_abs w64 _ (omega (arith, c.unsigned_ab
 pub returns-then-unsigned_abs : goal.returns-then-unsigned_abs
 returns-then-unsigned_abs c =
     let f = c.args.number.now in
-    let num : to_z w128 (of_z w128 c.num.result) ≡ f.num = to_z-of_z w128 c.num.result (record { sfits = c.num.type_inv }) ∙ c.num.ensures in
-    let from : to_z w128 (of_z w128 c.from.result) ≡ pos c.args.scale = to_z-of_z w128 c.from.result (record { sfits = c.from.type_inv }) ∙ c.from.ensures in
-    let den : to_z w128 (of_z w128 c.den.result) ≡ f.den = to_z-of_z w128 c.den.result (record { sfits = c.den.type_inv }) ∙ c.den.ensures.value in
-    let whole : to_z w128 (of_z w128 (int_div (to_z w128 (of_z w128 c.from.result)) (to_z w128 (of_z w128 c.den.result)))) ≡ int_div (to_z w128 (of_z w128 c.from.result)) (to_z w128 (of_z w128 c.den.result)) = search rules in
-    let value : c.in_ok-num.num ≡ numerator_over (pos c.args.scale) f = c.in_ok-num.ensures.1 ∙ ap₂ ◌*ℤ◌ num (whole ∙ ap₂ int_div from den) in
+    let num : to_z w128 (of_z w128 c.num.result) ≡ f.num =
+    to_z-of_z w128 c.num.result (record { sfits = c.num.type_inv }) ∙ c.num.ensures in
+    let from : to_z w128 (of_z w128 c.from.result) ≡ pos c.args.scale =
+    to_z-of_z w128 c.from.result (record { sfits = c.from.type_inv }) ∙ c.from.ensures in
+    let den : to_z w128 (of_z w128 c.den.result) ≡ f.den =
+    to_z-of_z w128 c.den.result (record { sfits = c.den.type_inv }) ∙ c.den.ensures.value in
+    let whole : to_z w128
+    (of_z w128 (int_div (to_z w128 (of_z w128 c.from.result)) (to_z w128 (of_z w128 c.den.result))))
+    ≡ int_div (to_z w128 (of_z w128 c.from.result)) (to_z w128 (of_z w128 c.den.result)) = search rules in
+    let value : c.in_ok-num.num ≡ numerator_over (pos c.args.scale) f =
+    c.in_ok-num.ensures.1 ∙ ap₂ ◌*ℤ◌ num (whole ∙ ap₂ int_div from den) in
     let kept : to_z w128 (of_z w128 c.in_ok-num.num) ≡ c.in_ok-num.num = search rules in
     let is : to_z w128 (of_z w128 c.in_ok-num.num) ≡ numerator_over (pos c.args.scale) f = kept ∙ value in
-    let size : c.unsigned_abs.result ≡ unsigned_abs (numerator_over (pos c.args.scale) f) = c.unsigned_abs.ensures.value ∙ ap unsigned_abs is in
+    let size : c.unsigned_abs.result ≡ unsigned_abs (numerator_over (pos c.args.scale) f) =
+    c.unsigned_abs.ensures.value ∙ ap unsigned_abs is in
     large (numerator_over (pos c.args.scale) f) (subst (λ (n : ℕ). 2 ^ 40 ≤ n) size c.if-unsigned_abs.true)
 
 pub returns : goal.returns
 returns c =
     let f = c.args.number.now in
-    let num : to_z w128 (of_z w128 c.num.result) ≡ f.num = to_z-of_z w128 c.num.result (record { sfits = c.num.type_inv }) ∙ c.num.ensures in
-    let from : to_z w128 (of_z w128 c.from.result) ≡ pos c.args.scale = to_z-of_z w128 c.from.result (record { sfits = c.from.type_inv }) ∙ c.from.ensures in
-    let den : to_z w128 (of_z w128 c.den.result) ≡ f.den = to_z-of_z w128 c.den.result (record { sfits = c.den.type_inv }) ∙ c.den.ensures.value in
-    let whole : to_z w128 (of_z w128 (int_div (to_z w128 (of_z w128 c.from.result)) (to_z w128 (of_z w128 c.den.result)))) ≡ int_div (to_z w128 (of_z w128 c.from.result)) (to_z w128 (of_z w128 c.den.result)) = search rules in
-    let value : c.in_ok-num.num ≡ numerator_over (pos c.args.scale) f = c.in_ok-num.ensures.1 ∙ ap₂ ◌*ℤ◌ num (whole ∙ ap₂ int_div from den) in
+    let num : to_z w128 (of_z w128 c.num.result) ≡ f.num =
+    to_z-of_z w128 c.num.result (record { sfits = c.num.type_inv }) ∙ c.num.ensures in
+    let from : to_z w128 (of_z w128 c.from.result) ≡ pos c.args.scale =
+    to_z-of_z w128 c.from.result (record { sfits = c.from.type_inv }) ∙ c.from.ensures in
+    let den : to_z w128 (of_z w128 c.den.result) ≡ f.den =
+    to_z-of_z w128 c.den.result (record { sfits = c.den.type_inv }) ∙ c.den.ensures.value in
+    let whole : to_z w128
+    (of_z w128 (int_div (to_z w128 (of_z w128 c.from.result)) (to_z w128 (of_z w128 c.den.result))))
+    ≡ int_div (to_z w128 (of_z w128 c.from.result)) (to_z w128 (of_z w128 c.den.result)) = search rules in
+    let value : c.in_ok-num.num ≡ numerator_over (pos c.args.scale) f =
+    c.in_ok-num.ensures.1 ∙ ap₂ ◌*ℤ◌ num (whole ∙ ap₂ int_div from den) in
     let kept : to_z w128 (of_z w128 c.in_ok-num.num) ≡ c.in_ok-num.num = search rules in
     let is : to_z w128 (of_z w128 c.in_ok-num.num) ≡ numerator_over (pos c.args.scale) f = kept ∙ value in
-    let size : c.unsigned_abs.result ≡ unsigned_abs (numerator_over (pos c.args.scale) f) = c.unsigned_abs.ensures.value ∙ ap unsigned_abs is in
-    let below : unsigned_abs (numerator_over (pos c.args.scale) f) < 2 ^ 40 = subst (λ (n : ℕ). n < 2 ^ 40) size c.if-unsigned_abs.false in
-    let fits = fits_signed_from_abs w64 (to_z w128 (of_z w128 c.in_ok-num.num)) (omega (arith, below, ap unsigned_abs is)) in
-    ap Some (to_z-of_z w64 (to_z w128 (of_z w128 c.in_ok-num.num)) fits ∙ is) ∙ small (numerator_over (pos c.args.scale) f) below
+    let size : c.unsigned_abs.result ≡ unsigned_abs (numerator_over (pos c.args.scale) f) =
+    c.unsigned_abs.ensures.value ∙ ap unsigned_abs is in
+    let below : unsigned_abs (numerator_over (pos c.args.scale) f) < 2 ^ 40 =
+    subst (λ (n : ℕ). n < 2 ^ 40) size c.if-unsigned_abs.false in
+    let fits =
+    fits_signed_from_abs w64 (to_z w128 (of_z w128 c.in_ok-num.num))
+    (omega (arith, below, ap unsigned_abs is)) in
+    ap Some (to_z-of_z w64 (to_z w128 (of_z w128 c.in_ok-num.num)) fits ∙ is)
+    ∙ small (numerator_over (pos c.args.scale) f) below

@@ -7,5 +7,8 @@ use Rattle.document_parts.proofs.shares.scaled_shares.Goals as goal
 
 pub returns : goal.returns
 returns c =
-    subst (λ (fs : List Fraction). IfOk c.scaled_fractions.result (λ o. MatchOption o (keep_limits fs ≡ false) (λ v. v.items ≡ fs)))
-    (sym (map_views (scaled_share c.args.scale) c.parts_at.result.now) ∙ ap (map (scaled_share c.args.scale)) c.parts_at.ensures) c.scaled_fractions.ensures
+    subst
+    (λ (fs : List Fraction). IfOk c.scaled_fractions.result
+    (λ o. MatchOption o (keep_limits fs ≡ false) (λ v. v.items ≡ fs)))
+    (sym (map_views (scaled_share c.args.scale) c.parts_at.result.now)
+    ∙ ap (map (scaled_share c.args.scale)) c.parts_at.ensures) c.scaled_fractions.ensures

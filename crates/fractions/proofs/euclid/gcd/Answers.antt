@@ -9,5 +9,6 @@ loop-y-preserved c = gcd-mod c.loop-y.x c.loop-y.y ∙ c.loop-y.invariant
 
 pub returns : goal.returns
 returns c =
-    let value : c.loop-y.x ≡ gcd c.args.a c.args.b = sym (gcd-zero c.loop-y.x c.loop-y.y c.loop-y-test.false) ∙ c.loop-y.invariant in
+    let value : c.loop-y.x ≡ gcd c.args.a c.args.b =
+    sym (gcd-zero c.loop-y.x c.loop-y.y c.loop-y-test.false) ∙ c.loop-y.invariant in
     record { value = value; greatest = subst (IsGcd c.args.a c.args.b) (sym value) (gcd_is c.args.a c.args.b) }

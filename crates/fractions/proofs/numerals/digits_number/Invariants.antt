@@ -6,4 +6,5 @@ use Rattle.fractions.proofs.numerals.digits_number.Given as goal
 
 abbrev pub invariant-loop-b : goal.invariant-loop-b
 invariant-loop-b l =
-    (l.n ≡ digits_value 10 (take l.b-index l.digits)) × (list_all is_ascii_digit (take l.b-index l.digits) ≡ true) × (l.n < 2 ^ 128)
+    (l.n ≡ digits_value 10 (take l.b-index l.digits)) × (list_all is_ascii_digit (take l.b-index l.digits) ≡ true)
+    × (l.n < 2 ^ 128)

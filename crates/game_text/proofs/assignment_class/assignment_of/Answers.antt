@@ -5,16 +5,23 @@ use Rattle.game_text.proofs.assignment_class.assignment_of.Goals as goal
 
 pub unreachable-requires : goal.unreachable-requires
 unreachable-requires c =
-    let sizes = subst HasAssignmentSizes (sym c.in_ok-rows.ensures) (assignment_sizes c.args.scale (view c.args.game.now) c.requires.scale c.requires.class c.requires.sizes) in
+    let sizes =
+    subst HasAssignmentSizes (sym c.in_ok-rows.ensures)
+    (assignment_sizes c.args.scale (view c.args.game.now) c.requires.scale c.requires.class
+    c.requires.sizes) in
     (rw c.in-Err-Players.field-0-is at c.in-Err-Players.ensures) sizes.players
 
 pub unreachable-requires-in-Err-Number : goal.unreachable-requires-in-Err-Number
 unreachable-requires-in-Err-Number c =
-    let sizes = subst HasAssignmentSizes (sym c.in_ok-rows.ensures) (assignment_sizes c.args.scale (view c.args.game.now) c.requires.scale c.requires.class c.requires.sizes) in
+    let sizes =
+    subst HasAssignmentSizes (sym c.in_ok-rows.ensures)
+    (assignment_sizes c.args.scale (view c.args.game.now) c.requires.scale c.requires.class
+    c.requires.sizes) in
     (rw c.in-Err-Number.field-0-is at c.in-Err-Number.ensures).1 sizes.entries
 
 pub returns-in-Ok : goal.returns-in-Ok
 returns-in-Ok c = even_made c.in-Ok.game _ _ c.in_ok-rows.ensures c.in-Ok.ensures.0 c.in-Ok.ensures.1.even
 
 pub returns-in-Err-Matrix : goal.returns-in-Err-Matrix
-returns-in-Err-Matrix c = even_not_made _ _ c.in_ok-rows.ensures (rw c.in-Err-Matrix.field-0-is at c.in-Err-Matrix.ensures).2
+returns-in-Err-Matrix c =
+    even_not_made _ _ c.in_ok-rows.ensures (rw c.in-Err-Matrix.field-0-is at c.in-Err-Matrix.ensures).2

@@ -9,7 +9,8 @@ use Rattle.game_text.proofs.Built.{built, built_if, refused_if}
 use Rattle.game_text.proofs.building.game_of.Goals as goal
 
 pub table_of-requires-clause-class : goal.table_of-requires-clause-class
-table_of-requires-clause-class c = subst IsTableClass (sym (sym c.class_of.ensures ∙ c.in-Some-Table.is ∙ ap Some c.in-Some-Table.field-0-is)) tt
+table_of-requires-clause-class c =
+    subst IsTableClass (sym (sym c.class_of.ensures ∙ c.in-Some-Table.is ∙ ap Some c.in-Some-Table.field-0-is)) tt
 
 pub table_of-requires-clause-named : goal.table_of-requires-clause-named
 table_of-requires-clause-named c = c.requires.named
@@ -25,14 +26,21 @@ table_of-requires-clause-scale c = c.requires.scale
 
 pub returns-in-Ok-Some : goal.returns-in-Ok-Some
 returns-in-Ok-Some c =
-    built_if (Some class.Table) c.args.scale (view c.args.game.now) (sym c.class_of.ensures ∙ c.in-Some-Table.is ∙ ap Some c.in-Some-Table.field-0-is) c.requires.scale games.Table Coalition _ _ c.in-Ok-Some.table (sym c.in-Ok-Some.field-0-is ∙ c.in-Ok-Some.ensures) (λ rest. refl) refl
+    built_if (Some class.Table) c.args.scale (view c.args.game.now)
+    (sym c.class_of.ensures ∙ c.in-Some-Table.is ∙ ap Some c.in-Some-Table.field-0-is) c.requires.scale
+    games.Table Coalition _ _ c.in-Ok-Some.table (sym c.in-Ok-Some.field-0-is ∙ c.in-Ok-Some.ensures)
+    (λ rest. refl) refl
 
 pub returns-in-Ok-None : goal.returns-in-Ok-None
 returns-in-Ok-None c =
-    refused_if (Some class.Table) c.args.scale (view c.args.game.now) (sym c.class_of.ensures ∙ c.in-Some-Table.is ∙ ap Some c.in-Some-Table.field-0-is) c.requires.scale Coalition _ _ (sym c.in-Ok-None.field-0-is ∙ c.in-Ok-None.ensures) (λ rest. refl)
+    refused_if (Some class.Table) c.args.scale (view c.args.game.now)
+    (sym c.class_of.ensures ∙ c.in-Some-Table.is ∙ ap Some c.in-Some-Table.field-0-is) c.requires.scale Coalition
+    _ _ (sym c.in-Ok-None.field-0-is ∙ c.in-Ok-None.ensures) (λ rest. refl)
 
 pub table_of-requires-in-Some-CostTable-clause-class : goal.table_of-requires-in-Some-CostTable-clause-class
-table_of-requires-in-Some-CostTable-clause-class c = subst IsTableClass (sym (sym c.class_of.ensures ∙ c.in-Some-CostTable.is ∙ ap Some c.in-Some-CostTable.field-0-is)) tt
+table_of-requires-in-Some-CostTable-clause-class c =
+    subst IsTableClass
+    (sym (sym c.class_of.ensures ∙ c.in-Some-CostTable.is ∙ ap Some c.in-Some-CostTable.field-0-is)) tt
 
 pub table_of-requires-in-Some-CostTable-clause-named : goal.table_of-requires-in-Some-CostTable-clause-named
 table_of-requires-in-Some-CostTable-clause-named c = c.requires.named
@@ -48,14 +56,21 @@ table_of-requires-in-Some-CostTable-clause-scale c = c.requires.scale
 
 pub returns-in-Ok-Some-table_of : goal.returns-in-Ok-Some-table_of
 returns-in-Ok-Some-table_of c =
-    built_if (Some class.CostTable) c.args.scale (view c.args.game.now) (sym c.class_of.ensures ∙ c.in-Some-CostTable.is ∙ ap Some c.in-Some-CostTable.field-0-is) c.requires.scale games.Cost Coalition _ _ c.new.result (ap Some c.new.ensures ∙ sym c.in-Ok-Some-table_of.field-0-is ∙ c.in-Ok-Some-table_of.ensures) (λ rest. refl) refl
+    built_if (Some class.CostTable) c.args.scale (view c.args.game.now)
+    (sym c.class_of.ensures ∙ c.in-Some-CostTable.is ∙ ap Some c.in-Some-CostTable.field-0-is) c.requires.scale
+    games.Cost Coalition _ _ c.new.result
+    (ap Some c.new.ensures ∙ sym c.in-Ok-Some-table_of.field-0-is ∙ c.in-Ok-Some-table_of.ensures) (λ rest. refl)
+    refl
 
 pub returns-in-Ok-None-table_of : goal.returns-in-Ok-None-table_of
 returns-in-Ok-None-table_of c =
-    refused_if (Some class.CostTable) c.args.scale (view c.args.game.now) (sym c.class_of.ensures ∙ c.in-Some-CostTable.is ∙ ap Some c.in-Some-CostTable.field-0-is) c.requires.scale Coalition _ _ (sym c.in-Ok-None-table_of.field-0-is ∙ c.in-Ok-None-table_of.ensures) (λ rest. refl)
+    refused_if (Some class.CostTable) c.args.scale (view c.args.game.now)
+    (sym c.class_of.ensures ∙ c.in-Some-CostTable.is ∙ ap Some c.in-Some-CostTable.field-0-is) c.requires.scale
+    Coalition _ _ (sym c.in-Ok-None-table_of.field-0-is ∙ c.in-Ok-None-table_of.ensures) (λ rest. refl)
 
 pub airport_of-requires-clause-class : goal.airport_of-requires-clause-class
-airport_of-requires-clause-class c = sym c.class_of.ensures ∙ c.in-Some-Airport.is ∙ ap Some c.in-Some-Airport.field-0-is
+airport_of-requires-clause-class c =
+    sym c.class_of.ensures ∙ c.in-Some-Airport.is ∙ ap Some c.in-Some-Airport.field-0-is
 
 pub airport_of-requires-clause-sizes : goal.airport_of-requires-clause-sizes
 airport_of-requires-clause-sizes c = c.requires.sizes
@@ -65,10 +80,13 @@ airport_of-requires-clause-scale c = c.requires.scale
 
 pub returns-in-Ok : goal.returns-in-Ok
 returns-in-Ok c =
-    built (Some class.Airport) c.args.scale (view c.args.game.now) (sym c.class_of.ensures ∙ c.in-Some-Airport.is ∙ ap Some c.in-Some-Airport.field-0-is) c.requires.scale (games.Airport c.in-Ok.costs) (λ rest. refl, ap airport c.in-Ok.ensures)
+    built (Some class.Airport) c.args.scale (view c.args.game.now)
+    (sym c.class_of.ensures ∙ c.in-Some-Airport.is ∙ ap Some c.in-Some-Airport.field-0-is) c.requires.scale
+    (games.Airport c.in-Ok.costs) (λ rest. refl, ap airport c.in-Ok.ensures)
 
 pub bankruptcy_of-requires-clause-class : goal.bankruptcy_of-requires-clause-class
-bankruptcy_of-requires-clause-class c = sym c.class_of.ensures ∙ c.in-Some-Bankruptcy.is ∙ ap Some c.in-Some-Bankruptcy.field-0-is
+bankruptcy_of-requires-clause-class c =
+    sym c.class_of.ensures ∙ c.in-Some-Bankruptcy.is ∙ ap Some c.in-Some-Bankruptcy.field-0-is
 
 pub bankruptcy_of-requires-clause-sizes : goal.bankruptcy_of-requires-clause-sizes
 bankruptcy_of-requires-clause-sizes c = c.requires.sizes
@@ -78,11 +96,16 @@ bankruptcy_of-requires-clause-scale c = c.requires.scale
 
 pub returns-in-Ok-Some-bankruptcy_of : goal.returns-in-Ok-Some-bankruptcy_of
 returns-in-Ok-Some-bankruptcy_of c =
-    built_if (Some class.Bankruptcy) c.args.scale (view c.args.game.now) (sym c.class_of.ensures ∙ c.in-Some-Bankruptcy.is ∙ ap Some c.in-Some-Bankruptcy.field-0-is) c.requires.scale games.Bankruptcy Estate _ _ c.in-Ok-Some-bankruptcy_of.claims (sym c.in-Ok-Some-bankruptcy_of.field-0-is ∙ c.in-Ok-Some-bankruptcy_of.ensures) (λ rest. refl) refl
+    built_if (Some class.Bankruptcy) c.args.scale (view c.args.game.now)
+    (sym c.class_of.ensures ∙ c.in-Some-Bankruptcy.is ∙ ap Some c.in-Some-Bankruptcy.field-0-is) c.requires.scale
+    games.Bankruptcy Estate _ _ c.in-Ok-Some-bankruptcy_of.claims
+    (sym c.in-Ok-Some-bankruptcy_of.field-0-is ∙ c.in-Ok-Some-bankruptcy_of.ensures) (λ rest. refl) refl
 
 pub returns-in-Ok-None-bankruptcy_of : goal.returns-in-Ok-None-bankruptcy_of
 returns-in-Ok-None-bankruptcy_of c =
-    refused_if (Some class.Bankruptcy) c.args.scale (view c.args.game.now) (sym c.class_of.ensures ∙ c.in-Some-Bankruptcy.is ∙ ap Some c.in-Some-Bankruptcy.field-0-is) c.requires.scale Estate _ _ (sym c.in-Ok-None-bankruptcy_of.field-0-is ∙ c.in-Ok-None-bankruptcy_of.ensures) (λ rest. refl)
+    refused_if (Some class.Bankruptcy) c.args.scale (view c.args.game.now)
+    (sym c.class_of.ensures ∙ c.in-Some-Bankruptcy.is ∙ ap Some c.in-Some-Bankruptcy.field-0-is) c.requires.scale
+    Estate _ _ (sym c.in-Ok-None-bankruptcy_of.field-0-is ∙ c.in-Ok-None-bankruptcy_of.ensures) (λ rest. refl)
 
 pub tree_of-requires-clause-class : goal.tree_of-requires-clause-class
 tree_of-requires-clause-class c = sym c.class_of.ensures ∙ c.in-Some-Tree.is ∙ ap Some c.in-Some-Tree.field-0-is
@@ -95,14 +118,20 @@ tree_of-requires-clause-scale c = c.requires.scale
 
 pub returns-in-Ok-Some-tree_of : goal.returns-in-Ok-Some-tree_of
 returns-in-Ok-Some-tree_of c =
-    built_if (Some class.Tree) c.args.scale (view c.args.game.now) (sym c.class_of.ensures ∙ c.in-Some-Tree.is ∙ ap Some c.in-Some-Tree.field-0-is) c.requires.scale games.Tree Matrix _ _ c.in-Ok-Some-tree_of.links (sym c.in-Ok-Some-tree_of.field-0-is ∙ c.in-Ok-Some-tree_of.ensures) (λ rest. refl) refl
+    built_if (Some class.Tree) c.args.scale (view c.args.game.now)
+    (sym c.class_of.ensures ∙ c.in-Some-Tree.is ∙ ap Some c.in-Some-Tree.field-0-is) c.requires.scale games.Tree
+    Matrix _ _ c.in-Ok-Some-tree_of.links (sym c.in-Ok-Some-tree_of.field-0-is ∙ c.in-Ok-Some-tree_of.ensures)
+    (λ rest. refl) refl
 
 pub returns-in-Ok-None-tree_of : goal.returns-in-Ok-None-tree_of
 returns-in-Ok-None-tree_of c =
-    refused_if (Some class.Tree) c.args.scale (view c.args.game.now) (sym c.class_of.ensures ∙ c.in-Some-Tree.is ∙ ap Some c.in-Some-Tree.field-0-is) c.requires.scale Matrix _ _ (sym c.in-Ok-None-tree_of.field-0-is ∙ c.in-Ok-None-tree_of.ensures) (λ rest. refl)
+    refused_if (Some class.Tree) c.args.scale (view c.args.game.now)
+    (sym c.class_of.ensures ∙ c.in-Some-Tree.is ∙ ap Some c.in-Some-Tree.field-0-is) c.requires.scale Matrix _ _
+    (sym c.in-Ok-None-tree_of.field-0-is ∙ c.in-Ok-None-tree_of.ensures) (λ rest. refl)
 
 pub assignment_of-requires-clause-class : goal.assignment_of-requires-clause-class
-assignment_of-requires-clause-class c = sym c.class_of.ensures ∙ c.in-Some-Assignment.is ∙ ap Some c.in-Some-Assignment.field-0-is
+assignment_of-requires-clause-class c =
+    sym c.class_of.ensures ∙ c.in-Some-Assignment.is ∙ ap Some c.in-Some-Assignment.field-0-is
 
 pub assignment_of-requires-clause-sizes : goal.assignment_of-requires-clause-sizes
 assignment_of-requires-clause-sizes c = c.requires.sizes
@@ -112,14 +141,20 @@ assignment_of-requires-clause-scale c = c.requires.scale
 
 pub returns-in-Ok-Some-assignment_of : goal.returns-in-Ok-Some-assignment_of
 returns-in-Ok-Some-assignment_of c =
-    built_if (Some class.Assignment) c.args.scale (view c.args.game.now) (sym c.class_of.ensures ∙ c.in-Some-Assignment.is ∙ ap Some c.in-Some-Assignment.field-0-is) c.requires.scale games.Assignment Matrix _ _ c.in-Ok-Some-assignment_of.values (sym c.in-Ok-Some-assignment_of.field-0-is ∙ c.in-Ok-Some-assignment_of.ensures) (λ rest. refl) refl
+    built_if (Some class.Assignment) c.args.scale (view c.args.game.now)
+    (sym c.class_of.ensures ∙ c.in-Some-Assignment.is ∙ ap Some c.in-Some-Assignment.field-0-is) c.requires.scale
+    games.Assignment Matrix _ _ c.in-Ok-Some-assignment_of.values
+    (sym c.in-Ok-Some-assignment_of.field-0-is ∙ c.in-Ok-Some-assignment_of.ensures) (λ rest. refl) refl
 
 pub returns-in-Ok-None-assignment_of : goal.returns-in-Ok-None-assignment_of
 returns-in-Ok-None-assignment_of c =
-    refused_if (Some class.Assignment) c.args.scale (view c.args.game.now) (sym c.class_of.ensures ∙ c.in-Some-Assignment.is ∙ ap Some c.in-Some-Assignment.field-0-is) c.requires.scale Matrix _ _ (sym c.in-Ok-None-assignment_of.field-0-is ∙ c.in-Ok-None-assignment_of.ensures) (λ rest. refl)
+    refused_if (Some class.Assignment) c.args.scale (view c.args.game.now)
+    (sym c.class_of.ensures ∙ c.in-Some-Assignment.is ∙ ap Some c.in-Some-Assignment.field-0-is) c.requires.scale
+    Matrix _ _ (sym c.in-Ok-None-assignment_of.field-0-is ∙ c.in-Ok-None-assignment_of.ensures) (λ rest. refl)
 
 pub market_of-requires-clause-class : goal.market_of-requires-clause-class
-market_of-requires-clause-class c = sym c.class_of.ensures ∙ c.in-Some-Market.is ∙ ap Some c.in-Some-Market.field-0-is
+market_of-requires-clause-class c =
+    sym c.class_of.ensures ∙ c.in-Some-Market.is ∙ ap Some c.in-Some-Market.field-0-is
 
 pub market_of-requires-clause-sizes : goal.market_of-requires-clause-sizes
 market_of-requires-clause-sizes c = c.requires.sizes
@@ -129,22 +164,33 @@ market_of-requires-clause-scale c = c.requires.scale
 
 pub returns-in-Ok-Some-market_of : goal.returns-in-Ok-Some-market_of
 returns-in-Ok-Some-market_of c =
-    built_if (Some class.Market) c.args.scale (view c.args.game.now) (sym c.class_of.ensures ∙ c.in-Some-Market.is ∙ ap Some c.in-Some-Market.field-0-is) c.requires.scale games.Market Matrix _ _ c.in-Ok-Some-market_of.market (sym c.in-Ok-Some-market_of.field-0-is ∙ c.in-Ok-Some-market_of.ensures) (λ rest. refl) refl
+    built_if (Some class.Market) c.args.scale (view c.args.game.now)
+    (sym c.class_of.ensures ∙ c.in-Some-Market.is ∙ ap Some c.in-Some-Market.field-0-is) c.requires.scale
+    games.Market Matrix _ _ c.in-Ok-Some-market_of.market
+    (sym c.in-Ok-Some-market_of.field-0-is ∙ c.in-Ok-Some-market_of.ensures) (λ rest. refl) refl
 
 pub returns-in-Ok-None-market_of : goal.returns-in-Ok-None-market_of
 returns-in-Ok-None-market_of c =
-    refused_if (Some class.Market) c.args.scale (view c.args.game.now) (sym c.class_of.ensures ∙ c.in-Some-Market.is ∙ ap Some c.in-Some-Market.field-0-is) c.requires.scale Matrix _ _ (sym c.in-Ok-None-market_of.field-0-is ∙ c.in-Ok-None-market_of.ensures) (λ rest. refl)
+    refused_if (Some class.Market) c.args.scale (view c.args.game.now)
+    (sym c.class_of.ensures ∙ c.in-Some-Market.is ∙ ap Some c.in-Some-Market.field-0-is) c.requires.scale Matrix _
+    _ (sym c.in-Ok-None-market_of.field-0-is ∙ c.in-Ok-None-market_of.ensures) (λ rest. refl)
 
 pub voting_of-requires-clause-class : goal.voting_of-requires-clause-class
-voting_of-requires-clause-class c = sym c.class_of.ensures ∙ c.in-Some-Voting.is ∙ ap Some c.in-Some-Voting.field-0-is
+voting_of-requires-clause-class c =
+    sym c.class_of.ensures ∙ c.in-Some-Voting.is ∙ ap Some c.in-Some-Voting.field-0-is
 
 pub voting_of-requires-clause-sizes : goal.voting_of-requires-clause-sizes
 voting_of-requires-clause-sizes c = c.requires.sizes
 
 pub returns-in-Ok-Some-voting_of : goal.returns-in-Ok-Some-voting_of
 returns-in-Ok-Some-voting_of c =
-    built_if (Some class.Voting) c.args.scale (view c.args.game.now) (sym c.class_of.ensures ∙ c.in-Some-Voting.is ∙ ap Some c.in-Some-Voting.field-0-is) c.requires.scale games.Voting Quota _ _ c.in-Ok-Some-voting_of.votes (sym c.in-Ok-Some-voting_of.field-0-is ∙ c.in-Ok-Some-voting_of.ensures) (λ rest. refl) refl
+    built_if (Some class.Voting) c.args.scale (view c.args.game.now)
+    (sym c.class_of.ensures ∙ c.in-Some-Voting.is ∙ ap Some c.in-Some-Voting.field-0-is) c.requires.scale
+    games.Voting Quota _ _ c.in-Ok-Some-voting_of.votes
+    (sym c.in-Ok-Some-voting_of.field-0-is ∙ c.in-Ok-Some-voting_of.ensures) (λ rest. refl) refl
 
 pub returns-in-Ok-None-voting_of : goal.returns-in-Ok-None-voting_of
 returns-in-Ok-None-voting_of c =
-    refused_if (Some class.Voting) c.args.scale (view c.args.game.now) (sym c.class_of.ensures ∙ c.in-Some-Voting.is ∙ ap Some c.in-Some-Voting.field-0-is) c.requires.scale Quota _ _ (sym c.in-Ok-None-voting_of.field-0-is ∙ c.in-Ok-None-voting_of.ensures) (λ rest. refl)
+    refused_if (Some class.Voting) c.args.scale (view c.args.game.now)
+    (sym c.class_of.ensures ∙ c.in-Some-Voting.is ∙ ap Some c.in-Some-Voting.field-0-is) c.requires.scale Quota _
+    _ (sym c.in-Ok-None-voting_of.field-0-is ∙ c.in-Ok-None-voting_of.ensures) (λ rest. refl)

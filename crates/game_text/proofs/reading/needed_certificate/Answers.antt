@@ -5,10 +5,25 @@ use Rattle.game_text.proofs.PlayerCounts.{counted}
 use Rattle.game_text.proofs.reading.needed_certificate.Goals as goal
 
 pub overflow_cast-players : goal.overflow_cast-players
-overflow_cast-players c = omega (arith, c.players.ensures, (counted (class_of (view c.args.game.now)) (view c.args.game.now) c.requires.sizes.players).1)
+overflow_cast-players c =
+    omega (
+      arith,
+      c.players.ensures,
+      (counted (class_of (view c.args.game.now)) (view c.args.game.now) c.requires.sizes.players).1,
+    )
 
 pub right_certificate-requires-clause-some : goal.right_certificate-requires-clause-some
-right_certificate-requires-clause-some c = omega (arith, c.players.ensures, (counted (class_of (view c.args.game.now)) (view c.args.game.now) c.requires.sizes.players).0)
+right_certificate-requires-clause-some c =
+    omega (
+      arith,
+      c.players.ensures,
+      (counted (class_of (view c.args.game.now)) (view c.args.game.now) c.requires.sizes.players).0,
+    )
 
 pub right_certificate-requires-clause-few : goal.right_certificate-requires-clause-few
-right_certificate-requires-clause-few c = omega (arith, c.players.ensures, (counted (class_of (view c.args.game.now)) (view c.args.game.now) c.requires.sizes.players).1)
+right_certificate-requires-clause-few c =
+    omega (
+      arith,
+      c.players.ensures,
+      (counted (class_of (view c.args.game.now)) (view c.args.game.now) c.requires.sizes.players).1,
+    )

@@ -7,20 +7,34 @@ use Rattle.game_text.proofs.table_class.table_of.Goals as goal
 
 pub unreachable-requires : goal.unreachable-requires
 unreachable-requires c =
-    let made = table_made c.args.scale (view c.args.game.now) c.requires.class c.requires.sizes c.players-count.result c.args.names.now c.in-Some.worths.items c.players-count.ensures c.requires.names
+    let made =
+    table_made c.args.scale (view c.args.game.now) c.requires.class c.requires.sizes c.players-count.result
+    c.args.names.now c.in-Some.worths.items c.players-count.ensures c.requires.names
     (ap (option_map (λ v. v.items)) (sym c.in-Some.is) ∙ c.in_ok-worths.ensures) in
     (rw c.in-Err-Players.field-0-is at c.in-Err-Players.ensures) made.whole
 
 pub unreachable-requires-in-Err-Number : goal.unreachable-requires-in-Err-Number
 unreachable-requires-in-Err-Number c =
-    let made = table_made c.args.scale (view c.args.game.now) c.requires.class c.requires.sizes c.players-count.result c.args.names.now c.in-Some.worths.items c.players-count.ensures c.requires.names
+    let made =
+    table_made c.args.scale (view c.args.game.now) c.requires.class c.requires.sizes c.players-count.result
+    c.args.names.now c.in-Some.worths.items c.players-count.ensures c.requires.names
     (ap (option_map (λ v. v.items)) (sym c.in-Some.is) ∙ c.in_ok-worths.ensures) in
     (rw c.in-Err-Number.field-0-is at c.in-Err-Number.ensures).1 made.small
 
 pub overflow_cast-count : goal.overflow_cast-count
 overflow_cast-count c =
-    omega (arith, c.players-count.ensures, table_counted (class_of (view c.args.game.now)) (view c.args.game.now) c.requires.class c.requires.sizes.players)
+    omega (
+      arith,
+      c.players-count.ensures,
+      table_counted (class_of (view c.args.game.now)) (view c.args.game.now) c.requires.class
+          c.requires.sizes.players,
+    )
 
 pub table_numbers-requires-clause-few : goal.table_numbers-requires-clause-few
 table_numbers-requires-clause-few c =
-    omega (arith, c.players-count.ensures, table_counted (class_of (view c.args.game.now)) (view c.args.game.now) c.requires.class c.requires.sizes.players)
+    omega (
+      arith,
+      c.players-count.ensures,
+      table_counted (class_of (view c.args.game.now)) (view c.args.game.now) c.requires.class
+          c.requires.sizes.players,
+    )

@@ -11,7 +11,8 @@ returns-in-Ok-clause-value c =
     let same = c.den.ensures.value in
     let p = c.den.ensures.positive in
     let positive : pos 1 ≤ℤ c.args.number.now.den = subst (λ (z : ℤ). pos 1 ≤ℤ z) same p in
-    let made : IsRatio c.in-Ok.product (c.args.number.now.num *ℤ pos c.args.scale) (c.args.number.now.den *ℤ pos 1) = search rules in
+    let made : IsRatio c.in-Ok.product (c.args.number.now.num *ℤ pos c.args.scale)
+    (c.args.number.now.den *ℤ pos 1) = search rules in
     times_made c.args.scale c.args.number.now c.in-Ok.product positive made
 
 pub returns-in-Err-clause-value : goal.returns-in-Err-clause-value
@@ -20,8 +21,10 @@ returns-in-Err-clause-value c =
     let same = c.den.ensures.value in
     let p = c.den.ensures.positive in
     let positive : pos 1 ≤ℤ c.args.number.now.den = subst (λ (z : ℤ). pos 1 ≤ℤ z) same p in
-    let small : unsigned_abs c.args.number.now.den < 2 ^ 127 = subst (λ (z : ℤ). unsigned_abs z < 2 ^ 127) same (omega (arith, ints, fd, p)) in
-    let none : HasNoForm (c.args.number.now.num *ℤ pos c.args.scale) (c.args.number.now.den *ℤ pos 1) = search rules in
+    let small : unsigned_abs c.args.number.now.den < 2 ^ 127 =
+    subst (λ (z : ℤ). unsigned_abs z < 2 ^ 127) same (omega (arith, ints, fd, p)) in
+    let none : HasNoForm (c.args.number.now.num *ℤ pos c.args.scale) (c.args.number.now.den *ℤ pos 1) =
+    search rules in
     times_unmade c.args.scale c.args.number.now positive small none
 
 pub returns-in-Ok-clause-chosen : goal.returns-in-Ok-clause-chosen
@@ -30,9 +33,11 @@ returns-in-Ok-clause-chosen c =
     let same = c.den.ensures.value in
     let p = c.den.ensures.positive in
     let positive : pos 1 ≤ℤ c.args.number.now.den = subst (λ (z : ℤ). pos 1 ≤ℤ z) same p in
-    let made : IsRatio c.in-Ok.product (c.args.number.now.num *ℤ pos c.args.scale) (c.args.number.now.den *ℤ pos 1) = search rules in
+    let made : IsRatio c.in-Ok.product (c.args.number.now.num *ℤ pos c.args.scale)
+    (c.args.number.now.den *ℤ pos 1) = search rules in
     let fits : FitsSigned w128 c.in-Ok.product.num = search rules in
-    chosen_some c.args.scale c.args.number.now c.in-Ok.product (times_made c.args.scale c.args.number.now c.in-Ok.product positive made) fits
+    chosen_some c.args.scale c.args.number.now c.in-Ok.product
+    (times_made c.args.scale c.args.number.now c.in-Ok.product positive made) fits
 
 pub returns-in-Err-clause-chosen : goal.returns-in-Err-clause-chosen
 returns-in-Err-clause-chosen c =
@@ -40,6 +45,8 @@ returns-in-Err-clause-chosen c =
     let same = c.den.ensures.value in
     let p = c.den.ensures.positive in
     let positive : pos 1 ≤ℤ c.args.number.now.den = subst (λ (z : ℤ). pos 1 ≤ℤ z) same p in
-    let small : unsigned_abs c.args.number.now.den < 2 ^ 127 = subst (λ (z : ℤ). unsigned_abs z < 2 ^ 127) same (omega (arith, ints, fd, p)) in
-    let none : HasNoForm (c.args.number.now.num *ℤ pos c.args.scale) (c.args.number.now.den *ℤ pos 1) = search rules in
+    let small : unsigned_abs c.args.number.now.den < 2 ^ 127 =
+    subst (λ (z : ℤ). unsigned_abs z < 2 ^ 127) same (omega (arith, ints, fd, p)) in
+    let none : HasNoForm (c.args.number.now.num *ℤ pos c.args.scale) (c.args.number.now.den *ℤ pos 1) =
+    search rules in
     chosen_none c.args.scale c.args.number.now (times_unmade c.args.scale c.args.number.now positive small none)

@@ -3,4 +3,5 @@ use Rattle.report.proofs.PrintableLevels.{small_levels}
 use Rattle.report.proofs.certificate.certificate_members.Goals as goal
 
 pub level_trees-requires-clause-small : goal.level_trees-requires-clause-small
-level_trees-requires-clause-small c = small_levels c.args.certificate.now.players [] c.levels.result.now c.levels.ensures.form.each
+level_trees-requires-clause-small c =
+    small_levels c.args.certificate.now.players [] c.levels.result.now c.levels.ensures.form.each

@@ -12,8 +12,18 @@ pub returns : goal.returns
 returns c =
     let k = c.args.scale in
     let collection = c.args.collection.now in
-    let against : members_view c.in_ok-members.members.entries ≡ member (codes "against") (integer_data k c.args.against) no_members = put_on (codes "against") (integer_data k c.args.against) c.in_ok-members.ensures (ap (integer_data k) (kept c.args.against c.ranges.against.sfits)) (ap members_view c.new.ensures.empty) in
+    let against : members_view c.in_ok-members.members.entries
+    ≡ member (codes "against") (integer_data k c.args.against) no_members =
+    put_on (codes "against") (integer_data k c.args.against) c.in_ok-members.ensures
+    (ap (integer_data k) (kept c.args.against c.ranges.against.sfits))
+    (ap members_view c.new.ensures.empty) in
     let answer = put_on (codes "answer") (string (codes "empty core")) c.in_ok-members-2.ensures refl against in
-    let pairs = put_on (codes "collection") (coalition_pairs collection.weights) c.in_ok-members-3.ensures (ap coalition_pairs (c.deref.ensures.value ∙ ap (λ (d : CollectionData). d.weights) c.collection.view_is)) answer in
-    let total = put_on (codes "k") (weight_data collection.k) c.in_ok-members-4.ensures (c.weight_value.ensures ∙ search rules) pairs in
-    last_on _ (codes "value") (integer_data k c.args.value) c.with_integer-2.result c.with_integer-2.ensures (ap (integer_data k) (kept c.args.value c.ranges.value.sfits)) total
+    let pairs =
+    put_on (codes "collection") (coalition_pairs collection.weights) c.in_ok-members-3.ensures
+    (ap coalition_pairs (c.deref.ensures.value ∙ ap (λ (d : CollectionData). d.weights) c.collection.view_is))
+    answer in
+    let total =
+    put_on (codes "k") (weight_data collection.k) c.in_ok-members-4.ensures
+    (c.weight_value.ensures ∙ search rules) pairs in
+    last_on _ (codes "value") (integer_data k c.args.value) c.with_integer-2.result c.with_integer-2.ensures
+    (ap (integer_data k) (kept c.args.value c.ranges.value.sfits)) total

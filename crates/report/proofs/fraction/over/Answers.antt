@@ -14,7 +14,8 @@ overflow_mul-den c =
     let fk : FitsSigned w128 c.from.result = search rules in
     let fine : IsFine c.den.result = subst IsFine (sym c.den.ensures.value) c.requires.fine in
     let scale : IsScale c.from.result = subst IsScale (sym c.from.ensures) c.requires.scale in
-    rw (to_z-of_z w128 c.den.result fd, to_z-of_z w128 c.from.result fk) (scaled_fits c.den.result c.from.result fine scale)
+    rw (to_z-of_z w128 c.den.result fd, to_z-of_z w128 c.from.result fk)
+    (scaled_fits c.den.result c.from.result fine scale)
 
 pub ratio-requires : goal.ratio-requires
 ratio-requires c =
@@ -23,7 +24,12 @@ ratio-requires c =
     let from = c.from.ensures in
     let fine : IsFine c.den.result = subst IsFine (sym c.den.ensures.value) c.requires.fine in
     let scale : IsScale c.from.result = subst IsScale (sym from) c.requires.scale in
-    rw (to_z-of_z w128 c.den.result fd, to_z-of_z w128 c.from.result fk, to_z-of_z w128 (c.den.result *ℤ c.from.result) (scaled_fits c.den.result c.from.result fine scale)) (scaled_low c.den.result c.from.result fine.0 scale.0)
+    rw (
+      to_z-of_z w128 c.den.result fd,
+      to_z-of_z w128 c.from.result fk,
+      to_z-of_z w128 (c.den.result *ℤ c.from.result) (scaled_fits c.den.result c.from.result fine scale),
+    )
+    (scaled_low c.den.result c.from.result fine.0 scale.0)
 
 pub returns : goal.returns
 unfolding over_scale
@@ -36,7 +42,15 @@ returns c =
     let scale : IsScale c.from.result = subst IsScale (sym from) c.requires.scale in
     let d = c.den.result *ℤ c.from.result in
     let ratio : IsRatio c.ratio.result c.num.result (c.den.result *ℤ c.from.result) =
-    rw (to_z-of_z w128 c.num.result fn, to_z-of_z w128 c.den.result fd, to_z-of_z w128 c.from.result fk, to_z-of_z w128 (c.den.result *ℤ c.from.result) (scaled_fits c.den.result c.from.result fine scale)) at c.ratio.ensures in
-    let lowest = is_lowest c.ratio.result c.num.result (c.den.result *ℤ c.from.result) (scaled_low c.den.result c.from.result fine.0 scale.0) ratio in
+    rw (
+      to_z-of_z w128 c.num.result fn,
+      to_z-of_z w128 c.den.result fd,
+      to_z-of_z w128 c.from.result fk,
+      to_z-of_z w128 (c.den.result *ℤ c.from.result) (scaled_fits c.den.result c.from.result fine scale),
+    ) at
+    c.ratio.ensures in
+    let lowest =
+    is_lowest c.ratio.result c.num.result (c.den.result *ℤ c.from.result)
+    (scaled_low c.den.result c.from.result fine.0 scale.0) ratio in
     let same = ap₂ in_lowest_terms c.num.ensures (ap₂ (λ (x y : ℤ). x *ℤ y) c.den.ensures.value from) in
     lowest ∙ same

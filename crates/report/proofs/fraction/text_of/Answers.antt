@@ -8,7 +8,12 @@ use Rattle.report.proofs.fraction.text_of.Goals as goal
 
 pub unreachable-requires : goal.unreachable-requires
 unreachable-requires c =
-    let text = c.in_ok-write_to.ensures.written ∙ ap (λ (l : List ℕ). l ++ fraction_text c.args.value.now) c.new-text.ensures.items in
-    let ascii = fraction_text_ascii (fraction_text c.args.value.now) c.args.value.now c.write_to.ensures.read_back in
-    let succeeds = c.from_utf8.ensures.succeeds (subst IsUtf8 (sym text) (IsUtf8-from_ascii (fraction_text c.args.value.now) ascii)) in
+    let text =
+    c.in_ok-write_to.ensures.written
+    ∙ ap (λ (l : List ℕ). l ++ fraction_text c.args.value.now) c.new-text.ensures.items in
+    let ascii =
+    fraction_text_ascii (fraction_text c.args.value.now) c.args.value.now c.write_to.ensures.read_back in
+    let succeeds =
+    c.from_utf8.ensures.succeeds
+    (subst IsUtf8 (sym text) (IsUtf8-from_ascii (fraction_text c.args.value.now) ascii)) in
     false≢true (rw c.in_default.is at succeeds)

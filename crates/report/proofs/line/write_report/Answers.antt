@@ -1,4 +1,5 @@
-use Rattle.std.proofs.Common.{◌≡◌, to_z, of_z, w64, rules, ℕ, unsigned_abs, List, ◌∷◌, ◌++◌, [], Some, sym, subst, ap, ◌∙◌}
+use Rattle.std.proofs.Common.{◌≡◌, to_z, of_z, w64, rules, ℕ, unsigned_abs, List}
+use Rattle.std.proofs.Common.{◌∷◌, ◌++◌, [], Some, sym, subst, ap, ◌∙◌}
 use Rattle.std.specs.Str.{IsUtf8}
 use Rattle.serde_json.specs.Read.{read}
 use Rattle.serde_json.specs.View.{view}
@@ -15,8 +16,13 @@ use Rattle.report.proofs.line.write_report.Goals as goal
 pub returns-clause-text : goal.returns-clause-text
 returns-clause-text c =
     let kept : to_z w64 (of_z w64 c.args.scale) ≡ c.args.scale = search rules in
-    let tree : view (Object c.in_ok-members.members) ≡ answer_tree (unsigned_abs c.args.scale) c.args.answer = view-Object c.in_ok-members.members ∙ c.in_ok-members.ensures ∙ ap (λ (k : ℕ). answer_tree k c.args.answer) (c.narrow.ensures.value ∙ ap unsigned_abs kept) in
-    let text = c.in_ok-text.ensures.text (rw tree (no_float (unsigned_abs c.args.scale) c.args.answer c.requires.printable.form)) ∙ ap compact_text tree in
+    let tree : view (Object c.in_ok-members.members) ≡ answer_tree (unsigned_abs c.args.scale) c.args.answer =
+    view-Object c.in_ok-members.members ∙ c.in_ok-members.ensures
+    ∙ ap (λ (k : ℕ). answer_tree k c.args.answer) (c.narrow.ensures.value ∙ ap unsigned_abs kept) in
+    let text =
+    c.in_ok-text.ensures.text
+    (rw tree (no_float (unsigned_abs c.args.scale) c.args.answer c.requires.printable.form))
+    ∙ ap compact_text tree in
     c.in_ok-push.ensures.items ∙ ap (λ (l : List ℕ). l ++ 10 ∷ []) text
 
 pub returns-clause-utf8 : goal.returns-clause-utf8
@@ -27,6 +33,10 @@ returns-clause-utf8 c =
 pub returns-clause-reads_back : goal.returns-clause-reads_back
 returns-clause-reads_back c =
     let kept : to_z w64 (of_z w64 c.args.scale) ≡ c.args.scale = search rules in
-    let tree : view (Object c.in_ok-members.members) ≡ answer_tree (unsigned_abs c.args.scale) c.args.answer = view-Object c.in_ok-members.members ∙ c.in_ok-members.ensures ∙ ap (λ (k : ℕ). answer_tree k c.args.answer) (c.narrow.ensures.value ∙ ap unsigned_abs kept) in
+    let tree : view (Object c.in_ok-members.members) ≡ answer_tree (unsigned_abs c.args.scale) c.args.answer =
+    view-Object c.in_ok-members.members ∙ c.in_ok-members.ensures
+    ∙ ap (λ (k : ℕ). answer_tree k c.args.answer) (c.narrow.ensures.value ∙ ap unsigned_abs kept) in
     let front = ap without_newline c.in_ok-push.ensures.items ∙ without_added _ in
-    ap read front ∙ c.in_ok-text.ensures.reads_back (rw tree (shallow (unsigned_abs c.args.scale) c.args.answer c.requires.printable.form)) ∙ ap Some tree
+    ap read front
+    ∙ c.in_ok-text.ensures.reads_back
+    (rw tree (shallow (unsigned_abs c.args.scale) c.args.answer c.requires.printable.form)) ∙ ap Some tree

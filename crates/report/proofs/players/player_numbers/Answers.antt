@@ -6,4 +6,6 @@ use Rattle.report.proofs.players.player_numbers.Goals as goal
 
 pub loop-i-preserved : goal.loop-i-preserved
 loop-i-preserved c =
-    ap (map view) c.in_ok-push.ensures.items ∙ mapped_more view player_data c.as_slice-i-items.result.now c.loop-i.numbers.items c.loop-i.i-index 0 c.player_value.result (omega arith) c.loop-i.invariant c.player_value.ensures
+    ap (map view) c.in_ok-push.ensures.items
+    ∙ mapped_more view player_data c.as_slice-i-items.result.now c.loop-i.numbers.items c.loop-i.i-index 0
+    c.player_value.result (omega arith) c.loop-i.invariant c.player_value.ensures

@@ -21,7 +21,8 @@ overflow_mul-den c =
     let fk : FitsSigned w128 c.from.result = search rules in
     let fine = fine_of_shares c.args.den c.requires.positive c.requires.common in
     let scale : IsScale c.from.result = subst IsScale (sym c.from.ensures) c.requires.scale in
-    rw (kept c.args.den c.ranges.den.sfits, to_z-of_z w128 c.from.result fk) (scaled_fits c.args.den c.from.result fine scale)
+    rw (kept c.args.den c.ranges.den.sfits, to_z-of_z w128 c.from.result fk)
+    (scaled_fits c.args.den c.from.result fine scale)
 
 pub ratio-share-requires : goal.ratio-share-requires
 ratio-share-requires c =
@@ -29,7 +30,12 @@ ratio-share-requires c =
     let from = c.from.ensures in
     let fine = fine_of_shares c.args.den c.requires.positive c.requires.common in
     let scale : IsScale c.from.result = subst IsScale (sym from) c.requires.scale in
-    rw (kept c.args.den c.ranges.den.sfits, to_z-of_z w128 c.from.result fk, to_z-of_z w128 (c.args.den *ℤ c.from.result) (scaled_fits c.args.den c.from.result fine scale)) (scaled_low c.args.den c.from.result fine.0 scale.0)
+    rw (
+      kept c.args.den c.ranges.den.sfits,
+      to_z-of_z w128 c.from.result fk,
+      to_z-of_z w128 (c.args.den *ℤ c.from.result) (scaled_fits c.args.den c.from.result fine scale),
+    )
+    (scaled_low c.args.den c.from.result fine.0 scale.0)
 
 pub returns : goal.returns
 returns c =
@@ -39,7 +45,19 @@ returns c =
     let scale : IsScale c.from.result = subst IsScale (sym from) c.requires.scale in
     let num = cast_kept w128 c.as_printed.result (omega (arith, c.as_printed.ensures.small)) in
     let ratio : IsRatio c.ratio-share.result c.as_printed.result (c.args.den *ℤ c.from.result) =
-    rw (num, kept c.args.den c.ranges.den.sfits, to_z-of_z w128 c.from.result fk, to_z-of_z w128 (c.args.den *ℤ c.from.result) (scaled_fits c.args.den c.from.result fine scale)) at c.ratio-share.ensures in
-    let lowest = is_lowest c.ratio-share.result c.as_printed.result (c.args.den *ℤ c.from.result) (scaled_low c.args.den c.from.result fine.0 scale.0) ratio in
+    rw (
+      num,
+      kept c.args.den c.ranges.den.sfits,
+      to_z-of_z w128 c.from.result fk,
+      to_z-of_z w128 (c.args.den *ℤ c.from.result) (scaled_fits c.args.den c.from.result fine scale),
+    ) at
+    c.ratio-share.ensures in
+    let lowest =
+    is_lowest c.ratio-share.result c.as_printed.result (c.args.den *ℤ c.from.result)
+    (scaled_low c.args.den c.from.result fine.0 scale.0) ratio in
     let same = ap (λ (k : ℤ). in_lowest_terms c.as_printed.result (c.args.den *ℤ k)) from in
-    view_text c.in_ok-text.text ∙ ap (λ (s : List ℕ). string s) (c.in_ok-text.ensures ∙ ap fraction_text (rw (c.as_printed.ensures.value, kept c.args.num c.ranges.num.sfits) at (lowest ∙ same)))
+    view_text c.in_ok-text.text
+    ∙ ap (λ (s : List ℕ). string s)
+    (c.in_ok-text.ensures
+    ∙ ap fraction_text
+    (rw (c.as_printed.ensures.value, kept c.args.num c.ranges.num.sfits) at (lowest ∙ same)))

@@ -13,5 +13,8 @@ loop-i-preserved c =
     let den : FitsSigned w128 c.den.result = search rules in
     let printed = share_data c.args.scale c.args.is_cost in
     let kept = rw (to_z-of_z w128 c.num.result num, to_z-of_z w128 c.den.result den) at c.in_ok-text.ensures in
-    let text : view c.in_ok-text.text ≡ printed x.den (get_or x.shares c.loop-i.i (pos 0)) = kept ∙ ap₂ printed c.den.ensures.value c.num.ensures.value in
-    ap (map view) c.in_ok-push.ensures.items ∙ mapped_more view (printed x.den) x.shares c.loop-i.texts.items c.loop-i.i (pos 0) c.in_ok-text.text (omega arith) c.loop-i.invariant text
+    let text : view c.in_ok-text.text ≡ printed x.den (get_or x.shares c.loop-i.i (pos 0)) =
+    kept ∙ ap₂ printed c.den.ensures.value c.num.ensures.value in
+    ap (map view) c.in_ok-push.ensures.items
+    ∙ mapped_more view (printed x.den) x.shares c.loop-i.texts.items c.loop-i.i (pos 0) c.in_ok-text.text
+    (omega arith) c.loop-i.invariant text

@@ -10,6 +10,8 @@ pub returns : goal.returns
 returns c =
     let positive = subst (λ (d : ℤ). pos 1 ≤ℤ d) c.den.ensures.value c.den.ensures.positive in
     let most = subst (λ (d : ℤ). d ≤ℤ pos (2 ^ 63)) c.den.ensures.value c.den.ensures.common in
-    let kept = cast_kept w128 _ (least_denominator_small c.args.shares.now _ positive most c.least_den-common.ensures) in
+    let kept =
+    cast_kept w128 _ (least_denominator_small c.args.shares.now _ positive most c.least_den-common.ensures) in
     let same = least_denominator_is c.args.shares.now _ positive c.least_den-common.ensures in
-    subst (λ (d : ℤ). IfOk c.integer_value.result (λ v. view v ≡ integer_data c.args.scale d)) (kept ∙ same) c.integer_value.ensures
+    subst (λ (d : ℤ). IfOk c.integer_value.result (λ v. view v ≡ integer_data c.args.scale d)) (kept ∙ same)
+    c.integer_value.ensures

@@ -8,7 +8,9 @@ pub ratio-requires : goal.ratio-requires
 ratio-requires c =
     let known = c.in_ok-left.ensures {u = tt} in
     let d : FitsSigned w128 c.in_ok-left.den = search rules in
-    simp to_z-of_z (common_denominator_positive c.args.self.now c.args.other.now _ _ _ known.self_positive known.other_positive known.value.1)
+    simp to_z-of_z
+    (common_denominator_positive c.args.self.now c.args.other.now _ _ _ known.self_positive known.other_positive
+    known.value.1)
 
 pub returns-clause-value : goal.returns-clause-value
 returns-clause-value c =
@@ -18,4 +20,5 @@ returns-clause-value c =
     let d : FitsSigned w128 c.in_ok-left.den = search rules in
     let n : FitsSigned w128 c.in_ok-num.num = search rules in
     let total = simp to_z-of_z at (c.in_ok-num.ensures {u = tt}) in
-    combined_ratio c.args.subtracts c.args.self.now c.args.other.now c.ratio.result _ _ _ _ known.self_positive known.other_positive known.value.1 total.1 (simp to_z-of_z at c.ratio.ensures)
+    combined_ratio c.args.subtracts c.args.self.now c.args.other.now c.ratio.result _ _ _ _ known.self_positive
+    known.other_positive known.value.1 total.1 (simp to_z-of_z at c.ratio.ensures)

@@ -10,9 +10,11 @@ returns-in_err-left c =
     let a : FitsSigned w128 c.self.inside.num = search rules in
     let e : FitsSigned w128 c.other.inside.num = search rules in
     let none = simp to_z-of_z at (rw (c.in_err-left.ensures {u = tt}).ok_part at c.new.ensures.value) in
-    let apart : c.other.inside.num ≢ pos 0 = subst (λ (v : Fraction). v.num ≢ pos 0) (sym c.other.view_is) c.requires in
+    let apart : c.other.inside.num ≢ pos 0 =
+    subst (λ (v : Fraction). v.num ≢ pos 0) (sym c.other.view_is) c.requires in
     let h : HasNoForm (c.args.self.now.num *ℤ c.args.other.now.den) (c.args.other.now.num *ℤ c.args.self.now.den) =
-    subst₂ (λ (u v : Fraction). HasNoForm (u.num *ℤ v.den) (v.num *ℤ u.den)) c.self.view_is c.other.view_is (left_no_form _ _ c.self.invariant c.other.invariant apart none) in
+    subst₂ (λ (u v : Fraction). HasNoForm (u.num *ℤ v.den) (v.num *ℤ u.den)) c.self.view_is c.other.view_is
+    (left_no_form _ _ c.self.invariant c.other.invariant apart none) in
     search rules
 
 pub returns : goal.returns
@@ -23,5 +25,7 @@ returns c =
     let f : FitsSigned w128 c.other.inside.den = search rules in
     let p = simp to_z-of_z at (rw (c.in_ok-left.ensures {u = tt}).ok_part at c.new.ensures.value) in
     let q = simp to_z-of_z at c.ratio.ensures in
-    subst₂ (λ (u v : Fraction). MatchResult c.mul.result (λ f. IsRatio f (u.num *ℤ v.den) (v.num *ℤ u.den)) (λ _. HasNoForm (u.num *ℤ v.den) (v.num *ℤ u.den))) c.self.view_is c.other.view_is
+    subst₂
+    (λ (u v : Fraction). MatchResult c.mul.result (λ f. IsRatio f (u.num *ℤ v.den) (v.num *ℤ u.den))
+    (λ _. HasNoForm (u.num *ℤ v.den) (v.num *ℤ u.den))) c.self.view_is c.other.view_is
     (quotient_result _ _ c.in_ok-left.left c.ratio.result c.mul.result p q c.mul.ensures)
