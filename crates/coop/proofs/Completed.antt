@@ -8,7 +8,10 @@ use Rattle.game_text.specs.Refusals.{IsDocument, IsRefused}
 use Rattle.game_text.specs.declared.command.Command.{Command}
 use Rattle.game_text.specs.declared.command.Command.TheVariants as command
 use Rattle.report.specs.declared.answer.Answer.{Answer}
-use Rattle.report.specs.declared.answer.Answer.TheVariants.{Nucleolus, NoImputation, InCore, NotEfficient, Blocked, CorePoint, EmptyCore, Shapley, Bird, Convex, Prekernel, NotPrekernel, Matching, Verdict, Usage, Refused, Summary}
+use Rattle.report.specs.declared.answer.Answer.TheVariants.{Nucleolus, NoImputation, InCore, NotEfficient}
+use Rattle.report.specs.declared.answer.Answer.TheVariants.{Blocked, CorePoint, EmptyCore, Shapley, Bird}
+use Rattle.report.specs.declared.answer.Answer.TheVariants.{Convex, Prekernel, NotPrekernel, Matching, Verdict}
+use Rattle.report.specs.declared.answer.Answer.TheVariants.{Usage, Refused, Summary}
 use Rattle.report.specs.declared.answer.UsageKind.{UsageKind}
 use Rattle.report.specs.declared.answer.UsageKind.TheVariants.{Words, Class, Players}
 use Rattle.coop.specs.Headline.{Says, AnswersTo, IsAnsweredFor, IsRefusedFor}
@@ -21,7 +24,8 @@ use Rattle.coop.proofs.Requests.{one_command}
 use Rattle.coop.proofs.OneAnswer.{same_document, not_refused}
 
 -- a document whose class and players are served is answered with no usage
-none_said : (given : Command) (d : Contents) (kind : UsageKind) → ServesPlayers given d → Says given d (Usage kind) → ⊥
+none_said : (given : Command) (d : Contents) (kind : UsageKind) → ServesPlayers given d → Says given d (Usage kind)
+    → ⊥
 none_said command.Nucleolus d Players serves h = omega (arith, serves, h)
 none_said command.Prenucleolus d Players serves h = omega (arith, serves, h)
 none_said command.Check d Players serves h = omega (arith, serves, h)
@@ -41,13 +45,17 @@ no_usage given d Words serves h = none_said given d Words serves.1 h.1
 no_usage given d Class serves h = true≢false (sym serves.0 ∙ h)
 no_usage given d Players serves h = none_said given d Players serves.1 h.1
 
-module _ (words : List (List ℕ)) (given : Command) (bytes : List ℕ) (d : Contents) (said : IsCommand words given) (document : IsDocument given bytes d) (serves : Serves given d) where
+module _ (words : List (List ℕ)) (given : Command) (bytes : List ℕ) (d : Contents) (said : IsCommand words given)
+    (document : IsDocument given bytes d) (serves : Serves given d) where
   -- what is right for the words and the bytes is right for the document
   served : (k : ℤ) (a : Answer) → IsAnsweredFor words bytes k a → AnswersTo given d a
   served k a h =
       let same = one_command given h.0 (sym said ∙ h.1.0) in
-      let here : IsDocument given bytes h.1.1.0 × AnswersTo given h.1.1.0 a = subst (λ (k : Command). IsDocument k bytes h.1.1.0 × AnswersTo k h.1.1.0 a) (sym same) (h.1.1.1.0, h.1.1.1.3) in
-      subst (λ (e : Contents). AnswersTo given e a) (sym (same_document given bytes d document h.1.1.0 here.0)) here.1
+      let here : IsDocument given bytes h.1.1.0 × AnswersTo given h.1.1.0 a =
+      subst (λ (k : Command). IsDocument k bytes h.1.1.0 × AnswersTo k h.1.1.0 a) (sym same)
+      (h.1.1.1.0, h.1.1.1.3) in
+      subst (λ (e : Contents). AnswersTo given e a) (sym (same_document given bytes d document h.1.1.0 here.0))
+      here.1
 
   none_refused : (r : _) → IsRefusedFor words bytes r → ⊥
   none_refused r h =
@@ -58,11 +66,25 @@ module _ (words : List (List ℕ)) (given : Command) (bytes : List ℕ) (d : Con
     same_bytes : (b : List ℕ) → IsLeft old b → b ≡ bytes
     same_bytes b left = sym (subst (λ (o : Option (List ℕ)). IsLeft o b) told left)
 
-    pub positive_or_negative : (k : ℤ) (a : Answer) → IsRight words old new k a → (status_of a ≡ status.Done) ⊎ (status_of a ≡ status.Negative)
+    pub positive_or_negative : (k : ℤ) (a : Answer) → IsRight words old new k a
+        → (status_of a ≡ status.Done) ⊎ (status_of a ≡ status.Negative)
     positive_or_negative k (Usage Words) right = absurd (right.answers.1.reads given said)
-    positive_or_negative k (Usage Class) right = absurd (no_usage given d Class serves (served k (Usage Class) (subst (λ (b : List ℕ). IsAnsweredFor words b k (Usage Class)) (same_bytes right.bytes right.left) right.answers)))
-    positive_or_negative k (Usage Players) right = absurd (no_usage given d Players serves (served k (Usage Players) (subst (λ (b : List ℕ). IsAnsweredFor words b k (Usage Players)) (same_bytes right.bytes right.left) right.answers)))
-    positive_or_negative k (Refused r) right = absurd (none_refused r (subst (λ (b : List ℕ). IsRefusedFor words b r) (same_bytes right.bytes right.left) right.answers.1))
+    positive_or_negative k (Usage Class) right =
+        absurd
+        (no_usage given d Class serves
+        (served k (Usage Class)
+        (subst (λ (b : List ℕ). IsAnsweredFor words b k (Usage Class)) (same_bytes right.bytes right.left)
+        right.answers)))
+    positive_or_negative k (Usage Players) right =
+        absurd
+        (no_usage given d Players serves
+        (served k (Usage Players)
+        (subst (λ (b : List ℕ). IsAnsweredFor words b k (Usage Players)) (same_bytes right.bytes right.left)
+        right.answers)))
+    positive_or_negative k (Refused r) right =
+        absurd
+        (none_refused r
+        (subst (λ (b : List ℕ). IsRefusedFor words b r) (same_bytes right.bytes right.left) right.answers.1))
     positive_or_negative k (Nucleolus family tree are_costs x c) right = inl refl
     positive_or_negative k (NoImputation singles total) right = inr refl
     positive_or_negative k InCore right = inl refl
@@ -82,6 +104,7 @@ module _ (words : List (List ℕ)) (given : Command) (bytes : List ℕ) (d : Con
     positive_or_negative k (Summary s) right = inl refl
 
 -- the status of such an answer
-pub answered : {s t : Status} → s ≡ t → (t ≡ status.Done) ⊎ (t ≡ status.Negative) → (s ≡ status.Done) ⊎ (s ≡ status.Negative) ⊎ (s ≡ status.OutOfMemory)
+pub answered : {s t : Status} → s ≡ t → (t ≡ status.Done) ⊎ (t ≡ status.Negative)
+    → (s ≡ status.Done) ⊎ (s ≡ status.Negative) ⊎ (s ≡ status.OutOfMemory)
 answered e (inl done) = inl (e ∙ done)
 answered e (inr negative) = inr (inl (e ∙ negative))

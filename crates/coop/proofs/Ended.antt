@@ -10,12 +10,16 @@ use Rattle.coop.specs.Outcome.{IsRight, Answered, Ends, status_of}
 use Rattle.coop.specs.ReadBack.{IsReadBack}
 
 module _ (words : List (List ℕ)) (old new taken_old taken_new : Option (List ℕ)) (k : ℤ) where
-  printed : (a : Answer) → IsRight words old new k a → Appends taken_old taken_new (line k a) → IsReadBack k a → Answered words old new taken_old taken_new (status_of a)
+  printed : (a : Answer) → IsRight words old new k a → Appends taken_old taken_new (line k a) → IsReadBack k a
+      → Answered words old new taken_old taken_new (status_of a)
   printed a right took again = (k, (a, right, refl, took, again))
 
-  pub ended : (a : Answer) → IsRight words old new k a → Appends taken_old taken_new (line k a) → IsReadBack k a → Ends words old new taken_old taken_new (status_of a)
+  pub ended : (a : Answer) → IsRight words old new k a → Appends taken_old taken_new (line k a) → IsReadBack k a
+      → Ends words old new taken_old taken_new (status_of a)
   ended (Verdict Yes) right took again = printed (Verdict Yes) right took again
   ended (Verdict (No r)) right took again = printed (Verdict (No r)) right took again
-  ended (Convex are_costs (ConvexShares shapley marginal)) right took again = printed (Convex are_costs (ConvexShares shapley marginal)) right took again
-  ended (Convex are_costs (NotConvex s i j deficit)) right took again = printed (Convex are_costs (NotConvex s i j deficit)) right took again
+  ended (Convex are_costs (ConvexShares shapley marginal)) right took again =
+      printed (Convex are_costs (ConvexShares shapley marginal)) right took again
+  ended (Convex are_costs (NotConvex s i j deficit)) right took again =
+      printed (Convex are_costs (NotConvex s i j deficit)) right took again
   ended a right took again = printed a right took again

@@ -1,5 +1,6 @@
 -- A game that a document describes, and that is no market and has no scheme of its own, has at most 16 players.
-use Rattle.std.proofs.Common.{◌-◌, ◌≤◌, ℕ, ℤ, pos, negsuc, Bool, true, false, ◌&&◌, length, Option, Some, None, if◌then◌else◌, codes, nat_lt, nat_le, unwrap_or, option_and_then, refl, arith}
+use Rattle.std.proofs.Common.{◌-◌, ◌≤◌, ℕ, ℤ, pos, negsuc, Bool, true, false, ◌&&◌, length, Option, Some, None}
+use Rattle.std.proofs.Common.{if◌then◌else◌, codes, nat_lt, nat_le, unwrap_or, option_and_then, refl, arith}
 use Rattle.std.specs.Prelude.{◌≡◌}
 use Rattle.std.proofs.lemmas.Bool.{false≢true, leb-true}
 use Rattle.serde_json.specs.Data.{Data}
@@ -15,9 +16,11 @@ use Rattle.game_text.specs.Denominators.{tree_refusal}
 use Rattle.game_text.proofs.MatrixRows.{points_in, players_in}
 use Rattle.game_text.proofs.Passed.{passed_tests}
 use Rattle.game_text.specs.declared.command.Command.{Command}
-use Rattle.game_text.specs.Descriptions.{Description, table, cost_table, airport, bankruptcy, network, assignment, market, voting, game_of, description_as, description_of}
+use Rattle.game_text.specs.Descriptions.{Description, table, cost_table, airport, bankruptcy, network, assignment}
+use Rattle.game_text.specs.Descriptions.{market, voting, game_of, description_as, description_of}
 use Rattle.game_text.specs.declared.class.Class.{Class}
-use Rattle.game_text.specs.declared.class.Class.TheVariants.{Table, CostTable, Airport, Bankruptcy, Tree, Assignment, Market, Voting}
+use Rattle.game_text.specs.declared.class.Class.TheVariants.{Table, CostTable, Airport, Bankruptcy, Tree}
+use Rattle.game_text.specs.declared.class.Class.TheVariants.{Assignment, Market, Voting}
 use Rattle.coop.specs.Classes.{is_no_market}
 use Rattle.coop.specs.Finding.{HasFewPlayers}
 use Rattle.coop.specs.Limits.{nucleolus_limit, core_limit}
@@ -36,7 +39,10 @@ few_at (Some (negsuc n)) = omega arith
 few_points : (n : ℕ) → n ≤ 17 → n - 1 ≤ 16
 few_points n h = omega (arith, h)
 
-few_as : (k : ℕ) (c : Option Class) (game : Data) → class_of game ≡ c → has_players_as c game ≡ true → is_no_market (description_as k c game) ≡ true → (game_of (description_as k c game)).players ≤ core_limit (description_as k c game) → HasFewPlayers (description_as k c game)
+few_as : (k : ℕ) (c : Option Class) (game : Data) → class_of game ≡ c → has_players_as c game ≡ true
+    → is_no_market (description_as k c game) ≡ true
+    → (game_of (description_as k c game)).players ≤ core_limit (description_as k c game)
+    → HasFewPlayers (description_as k c game)
 few_as k None game e h s t = omega arith
 few_as k (Some Table) game e h s t = rw e (few_at (option_and_then integer (get (codes "players") game)))
 few_as k (Some CostTable) game e h s t = rw e (few_at (option_and_then integer (get (codes "players") game)))
@@ -47,12 +53,17 @@ few_as k (Some Assignment) game e h s t = (players_in k game h).2
 few_as k (Some Market) game e h s t = absurd (false≢true s)
 few_as k (Some Voting) game e h s t = t
 
-pub few_players : (command : Command) (document : Data) → tree_refusal command document ≡ None → is_no_market (description_of (game_tree document)) ≡ true
-    → (game_of (description_of (game_tree document))).players ≤ core_limit (description_of (game_tree document)) → HasFewPlayers (description_of (game_tree document))
-few_players command document passed served taken = few_as (scale_of (game_tree document)) (class_of (game_tree document)) (game_tree document) refl (passed_tests command document passed).players served taken
+pub few_players : (command : Command) (document : Data) → tree_refusal command document ≡ None
+    → is_no_market (description_of (game_tree document)) ≡ true
+    → (game_of (description_of (game_tree document))).players ≤ core_limit (description_of (game_tree document))
+    → HasFewPlayers (description_of (game_tree document))
+few_players command document passed served taken =
+    few_as (scale_of (game_tree document)) (class_of (game_tree document)) (game_tree document) refl
+    (passed_tests command document passed).players served taken
 
 -- within the limit of plain excess there are few players
-pub few_within : (d : Description) → is_no_market d ≡ true → (game_of d).players ≤ nucleolus_limit Plain d → HasFewPlayers d
+pub few_within : (d : Description) → is_no_market d ≡ true → (game_of d).players ≤ nucleolus_limit Plain d
+    → HasFewPlayers d
 few_within (table n worths) k h = h
 few_within (cost_table n costs) k h = h
 few_within (airport costs) k h = tt

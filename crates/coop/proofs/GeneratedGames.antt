@@ -22,7 +22,8 @@ few_generated Tree n seed h = subst (λ (k : ℕ). k ≤ 16) (sym (generated_pla
 few_generated Assignment n seed h = subst (λ (k : ℕ). k ≤ 16) (sym (generated_players Assignment n seed h)) h.1
 
 -- a game that has imputations doesn't lack them
-pub has_them : (family : Family) (g : Game) (alone total : ℤ) → HasImputations g → LacksImputation family g alone total → ⊥
+pub has_them : (family : Family) (g : Game) (alone total : ℤ) → HasImputations g
+    → LacksImputation family g alone total → ⊥
 has_them family g alone total h lacks =
     let above = is_above family g alone total lacks in
     omega (arith, ints, above, h)
@@ -34,4 +35,11 @@ more_than_one (suc (suc n)) h other = omega arith
 
 -- of two players or more, all together are two at least
 pub all_have_two : (n : ℕ) → 2 ≤ n → HasTwo n (grand_coalition n)
-all_have_two n h = (0, 1, omega arith, omega (arith, h), has_player-grand_coalition n 0 (omega (arith, h)), has_player-grand_coalition n 1 (omega (arith, h)))
+all_have_two n h = (
+  0,
+  1,
+  omega arith,
+  omega (arith, h),
+  has_player-grand_coalition n 0 (omega (arith, h)),
+  has_player-grand_coalition n 1 (omega (arith, h)),
+)

@@ -15,9 +15,11 @@ pub asks_for_something : (words : List (List ℕ)) → IsNoCommand words → Ask
 asks_for_something words none asks = none.makes asks.0 asks.1.0 asks.1.1.0 asks.1.1.1
 
 -- where they ask for a game, what is answered is what is answered for a game
-pub made : (words : List (List ℕ)) (r : Request) (old new : Option (List ℕ)) (a : Result Reply Stop) → IsRequest words r → AsksForGame words → IsMadeFor r old new a
+pub made : (words : List (List ℕ)) (r : Request) (old new : Option (List ℕ)) (a : Result Reply Stop)
+    → IsRequest words r → AsksForGame words → IsMadeFor r old new a
     → (new ≡ old) × MatchResult a (λ x. status_of x.answer ≡ status.Done) (λ e. e ≡ Memory)
-made words (Read command) old new a reads asks h = absurd (omega (arith, ap (λ (l : List (List ℕ)). length l) (sym reads ∙ asks.1.1.1.said)))
+made words (Read command) old new a reads asks h =
+    absurd (omega (arith, ap (λ (l : List (List ℕ)). length l) (sym reads ∙ asks.1.1.1.said)))
 made words (Generate kind n seed) old new a makes asks h = h
 
 -- words that ask for something are those of a command

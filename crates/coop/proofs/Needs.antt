@@ -19,10 +19,13 @@ kept : {T : Type 0} (P : T → Type 0) (o : Option T) (t : T) → o ≡ Some t �
 kept P o t e h = subst (λ o. IfSome o P) e h
 
 module _ (bytes : List ℕ) (d : Contents) where
-  has_shares : (x : Allocation) → d.shares ≡ Some x → IfSome d.shares (λ (x : Allocation). length x.shares ≡ (game_of d.game).players) → HasShares d
+  has_shares : (x : Allocation) → d.shares ≡ Some x
+      → IfSome d.shares (λ (x : Allocation). length x.shares ≡ (game_of d.game).players) → HasShares d
   has_shares x given fit = (x, given, kept _ _ _ given fit)
 
-  is_complete : IsDocument command.Check bytes d → IfSome d.shares (λ (x : Allocation). length x.shares ≡ (game_of d.game).players) → IfSome d.certificate (λ (c : CertificateData). c.players ≡ (game_of d.game).players) → IsComplete d
+  is_complete : IsDocument command.Check bytes d
+      → IfSome d.shares (λ (x : Allocation). length x.shares ≡ (game_of d.game).players)
+      → IfSome d.certificate (λ (c : CertificateData). c.players ≡ (game_of d.game).players) → IsComplete d
   is_complete document fit certified =
       let says = (document_as command.Check bytes d document).says in
       let family = ap (λ (c : Contents). c.family) says in
@@ -38,7 +41,8 @@ module _ (bytes : List ℕ) (d : Contents) where
       }
 
   -- no test refused the document, and what was read can be printed again
-  accepted : (given : Command) → IsDocument given bytes d → document_limit given ≤ document_limit command.Nucleolus → IsKept bytes d.tree → IsAccepted d
+  accepted : (given : Command) → IsDocument given bytes d → document_limit given ≤ document_limit command.Nucleolus
+      → IsKept bytes d.tree → IsAccepted d
   accepted given document limit k =
       let this = document_as given bytes d document in
       record {
@@ -56,15 +60,18 @@ module _ (bytes : List ℕ) (d : Contents) where
       }
 
   pub has_needed : (given : Command) → IsDocument given bytes d
-      → IfSome d.shares (λ (x : Allocation). length x.shares ≡ (game_of d.game).players) → IfSome d.certificate (λ (c : CertificateData). c.players ≡ (game_of d.game).players) → IsKept bytes d.tree
+      → IfSome d.shares (λ (x : Allocation). length x.shares ≡ (game_of d.game).players)
+      → IfSome d.certificate (λ (c : CertificateData). c.players ≡ (game_of d.game).players) → IsKept bytes d.tree
       → HasNeeded given d
   has_needed command.Nucleolus document fit certified k = accepted command.Nucleolus document (omega arith) k
   has_needed command.Prenucleolus document fit certified k = accepted command.Prenucleolus document (omega arith) k
-  has_needed command.Propose document fit certified k = has_shares _ (ap (λ (c : Contents). c.shares) (document_as command.Propose bytes d document).says) fit
+  has_needed command.Propose document fit certified k =
+      has_shares _ (ap (λ (c : Contents). c.shares) (document_as command.Propose bytes d document).says) fit
   has_needed command.Core document fit certified k = accepted command.Core document (omega arith) k
   has_needed command.Check document fit certified k = is_complete document fit certified
   has_needed command.Shapley document fit certified k = tt
   has_needed command.Bird document fit certified k = tt
   has_needed command.Convex document fit certified k = tt
   has_needed command.Matching document fit certified k = tt
-  has_needed command.Kernel document fit certified k = has_shares _ (ap (λ (c : Contents). c.shares) (document_as command.Kernel bytes d document).says) fit
+  has_needed command.Kernel document fit certified k =
+      has_shares _ (ap (λ (c : Contents). c.shares) (document_as command.Kernel bytes d document).says) fit

@@ -63,16 +63,22 @@ module _ (given : Command) (bytes : List ℕ) (d : Contents) (document : IsDocum
 
 -- ---- one verdict
 
-module _ (d : Contents) (f : Family) (x : Allocation) (c : CertificateData) (evidence : HasEvidence d f x c) (taken : (game_of d.game).players ≤ check_limit d.measure) (certified : Certifies c.mode f d.measure (game_of d.game) x c.levels) where
-  not_failing : (k : Family) (y : Allocation) (e : CertificateData) → HasEvidence d k y e → (r : Reason) → Means d.measure y (IsFirstFailure e.mode k d.measure (game_of d.game) y e.levels) r → ⊥
+module _ (d : Contents) (f : Family) (x : Allocation) (c : CertificateData) (evidence : HasEvidence d f x c)
+    (taken : (game_of d.game).players ≤ check_limit d.measure)
+    (certified : Certifies c.mode f d.measure (game_of d.game) x c.levels) where
+  not_failing : (k : Family) (y : Allocation) (e : CertificateData) → HasEvidence d k y e → (r : Reason)
+      → Means d.measure y (IsFirstFailure e.mode k d.measure (game_of d.game) y e.levels) r → ⊥
   not_failing k y e other r means =
       let g = game_of d.game in
       let family = same_Some f k (sym evidence.family ∙ other.family) in
       let shares = same_Some x y (sym evidence.shares ∙ other.shares) in
       let certificate = same_Some c e (sym evidence.certificate ∙ other.certificate) in
-      let first : Certifies c.mode k d.measure g x c.levels = subst (λ (k : Family). Certifies c.mode k d.measure g x c.levels) family certified in
-      let second : Certifies c.mode k d.measure g y c.levels = subst (λ (y : Allocation). Certifies c.mode k d.measure g y c.levels) shares first in
-      let third : Certifies e.mode k d.measure g y e.levels = subst (λ (e : CertificateData). Certifies e.mode k d.measure g y e.levels) certificate second in
+      let first : Certifies c.mode k d.measure g x c.levels =
+      subst (λ (k : Family). Certifies c.mode k d.measure g x c.levels) family certified in
+      let second : Certifies c.mode k d.measure g y c.levels =
+      subst (λ (y : Allocation). Certifies c.mode k d.measure g y c.levels) shares first in
+      let third : Certifies e.mode k d.measure g y e.levels =
+      subst (λ (e : CertificateData). Certifies e.mode k d.measure g y e.levels) certificate second in
       not_certified e.mode k d.measure g y e.levels r means third
 
   only_verdict : (answer : Answer) → Checks d answer → answer ≡ Verdict Yes
@@ -84,29 +90,61 @@ module _ (d : Contents) (f : Family) (x : Allocation) (c : CertificateData) (evi
 -- ---- one answer
 
 -- one word is not two or more
-one_word : (word : List ℕ) (first : List ℕ) {second : List ℕ} {words : List (List ℕ)} → word ∷ [] ≡ first ∷ second ∷ words → ⊥
+one_word : (word : List ℕ) (first : List ℕ) {second : List ℕ} {words : List (List ℕ)}
+    → word ∷ [] ≡ first ∷ second ∷ words → ⊥
 one_word word first e = absurd (omega (arith, ap (λ (l : List (List ℕ)). length l) e))
 
 -- the class is served
-only_said : (d : Contents) → serves_class command.Check d.game ≡ true → ((answer : Answer) → Checks d answer → answer ≡ Verdict Yes) → (answer : Answer) → AnswersTo command.Check d answer → answer ≡ Verdict Yes
+only_said : (d : Contents) → serves_class command.Check d.game ≡ true
+    → ((answer : Answer) → Checks d answer → answer ≡ Verdict Yes) → (answer : Answer)
+    → AnswersTo command.Check d answer → answer ≡ Verdict Yes
 only_said d served only (Usage Class) h = absurd (true≢false (sym served ∙ h))
 only_said d served only answer h = only answer h.1
 
-module _ (bytes : List ℕ) (d : Contents) (document : IsDocument command.Check bytes d) (served : serves_class command.Check d.game ≡ true) (only : (answer : Answer) → Checks d answer → answer ≡ Verdict Yes) where
-  only_served : (k : ℤ) (answer : Answer) → IsAnsweredFor (word_of command.Check ∷ []) bytes k answer → answer ≡ Verdict Yes
+module _ (bytes : List ℕ) (d : Contents) (document : IsDocument command.Check bytes d)
+    (served : serves_class command.Check d.game ≡ true)
+    (only : (answer : Answer) → Checks d answer → answer ≡ Verdict Yes) where
+  only_served : (k : ℤ) (answer : Answer) → IsAnsweredFor (word_of command.Check ∷ []) bytes k answer
+      → answer ≡ Verdict Yes
   only_served k answer h =
       let here : IsDocument command.Check bytes h.1.1.0 × AnswersTo command.Check h.1.1.0 answer =
-      subst (λ (k : Command). IsDocument k bytes h.1.1.0 × AnswersTo k h.1.1.0 answer) (only_check h.0 h.1.0) (h.1.1.1.0, h.1.1.1.3) in
-      only_said d served only answer (subst (λ (e : Contents). AnswersTo command.Check e answer) (sym (same_document command.Check bytes d document h.1.1.0 here.0)) here.1)
+      subst (λ (k : Command). IsDocument k bytes h.1.1.0 × AnswersTo k h.1.1.0 answer) (only_check h.0 h.1.0)
+      (h.1.1.1.0, h.1.1.1.3) in
+      only_said d served only answer
+      (subst (λ (e : Contents). AnswersTo command.Check e answer)
+      (sym (same_document command.Check bytes d document h.1.1.0 here.0)) here.1)
 
   only_yes : (k : ℤ) (answer : Answer) → Answers (word_of command.Check ∷ []) bytes k answer → answer ≡ Verdict Yes
   only_yes k (Usage Words) h = absurd (h.1.reads command.Check refl)
-  only_yes k (Refused r) h = absurd (not_refused command.Check bytes d document r (subst (λ (g : Command). IsRefused g bytes r) (only_check h.1.0 h.1.1.0) h.1.1.1))
+  only_yes k (Refused r) h =
+      absurd
+      (not_refused command.Check bytes d document r
+      (subst (λ (g : Command). IsRefused g bytes r) (only_check h.1.0 h.1.1.0) h.1.1.1))
   only_yes k (Summary s) h = absurd (one_word _ _ h.1.1.1.1.0.said)
   only_yes k answer h = only_served k answer h
 
-pub check_says_yes : (bytes : List ℕ) (d : Contents) → IsDocument command.Check bytes d → (f : Family) (printed : Data) (x : Allocation) (c : CertificateData) → SaysSame f printed x c d → CheckSaysYes bytes
+pub check_says_yes : (bytes : List ℕ) (d : Contents) → IsDocument command.Check bytes d
+    → (f : Family) (printed : Data) (x : Allocation) (c : CertificateData) → SaysSame f printed x c d
+    → CheckSaysYes bytes
 check_says_yes bytes d document f printed x c says = record {
-  yes = (d.scale, (command.Check, (refl, (d, (document, document_of_class command.Check bytes d document, refl, (says.served, (says.taken, (f, (says.shares, (c, (says.evidence, says.certifies)))))))))));
-  only = only_yes bytes d document says.served (only_verdict d f says.shares c says.evidence says.taken says.certifies);
+  yes = (
+    d.scale,
+    (
+      command.Check,
+      (
+        refl,
+        (
+          d,
+          (
+            document,
+            document_of_class command.Check bytes d document,
+            refl,
+            (says.served, (says.taken, (f, (says.shares, (c, (says.evidence, says.certifies)))))),
+          ),
+        ),
+      ),
+    ),
+  );
+  only =
+      only_yes bytes d document says.served (only_verdict d f says.shares c says.evidence says.taken says.certifies);
 }

@@ -1,4 +1,5 @@
--- What is right can be printed over any scale: its fractions stand over the denominator of the shares, or that of measured
+-- What is right can be printed over any scale: its fractions stand over the denominator of the shares, or that of
+-- measured
 -- excesses over them.
 use Rattle.std.specs.Prelude.{⊤}
 use Rattle.std.proofs.Common.{◌≡◌, ◌^◌, ℕ, List, ℤ, pos, ◌≤ℤ◌, sym, subst}
@@ -30,14 +31,20 @@ pub differs_not_balanced : (i j : ℕ) (ij ji : Fraction) → Differs i j ij ji 
 differs_not_balanced i j ij ji e = subst IsDiffers e tt
 
 -- the surplus of a player against another
-pub surplus_fine : (g : Game) (x : Allocation) (i j : ℕ) (f : Fraction) → pos 1 ≤ℤ x.den → x.den ≤ℤ pos (2 ^ 63) → IsSurplusFraction g x i j f → IsFine f.den
+pub surplus_fine : (g : Game) (x : Allocation) (i j : ℕ) (f : Fraction) → pos 1 ≤ℤ x.den → x.den ≤ℤ pos (2 ^ 63)
+    → IsSurplusFraction g x i j f → IsFine f.den
 surplus_fine g x i j f p q h = fine_ratio f h.0 x.den h.2 p q
 
 -- the value of a measured excess, in lowest terms
-pub value_fine : (measure : Measure) (x : Allocation) (m : ℤ) (f : Fraction) → IsReduced f → pos 1 ≤ℤ x.den → x.den ≤ℤ pos (2 ^ 63) → IsValueOf measure x m f → IsFine f.den
-value_fine measure x m f r p q h = fine f m (measured_den measure x.den) r (den_positive measure x.den p) (den_small measure x.den p q) (sym h)
+pub value_fine : (measure : Measure) (x : Allocation) (m : ℤ) (f : Fraction) → IsReduced f → pos 1 ≤ℤ x.den
+    → x.den ≤ℤ pos (2 ^ 63) → IsValueOf measure x m f → IsFine f.den
+value_fine measure x m f r p q h =
+    fine f m (measured_den measure x.den) r (den_positive measure x.den p) (den_small measure x.den p q) (sym h)
 
 -- the excess of a verdict
-pub verdict_fine : (mode : Mode) (family : Family) (measure : Measure) (g : Game) (x : Allocation) (levels : List Level) (v : Verdict) → IsShares x → IsVerdict mode family measure g x levels v → HasLowestExcess v → IsFineVerdict v
-verdict_fine mode family measure g x levels (No (OutsideAbove j e)) s h low = value_fine measure x h.0 e low s.positive s.common h.1
+pub verdict_fine : (mode : Mode) (family : Family) (measure : Measure) (g : Game) (x : Allocation)
+    (levels : List Level) (v : Verdict) → IsShares x → IsVerdict mode family measure g x levels v
+    → HasLowestExcess v → IsFineVerdict v
+verdict_fine mode family measure g x levels (No (OutsideAbove j e)) s h low =
+    value_fine measure x h.0 e low s.positive s.common h.1
 verdict_fine mode family measure g x levels v s h low = tt

@@ -13,18 +13,30 @@ use Rattle.coop.specs.ReadBack.{CanBeRead, IsNoNucleolus, IsReadBack}
 use Rattle.game_text.proofs.Computed.{document_from}
 use Rattle.coop.proofs.OneAnswer.{check_says_yes}
 
-pub is_read_back : (k : ℤ) (answer : Answer) → CanBeRead k answer → IsUtf8 (without_newline (line k answer)) → read (without_newline (line k answer)) ≡ Some (answer_tree (unsigned_abs k) answer) → IsReadBack k answer
+pub is_read_back : (k : ℤ) (answer : Answer) → CanBeRead k answer → IsUtf8 (without_newline (line k answer))
+    → read (without_newline (line k answer)) ≡ Some (answer_tree (unsigned_abs k) answer) → IsReadBack k answer
 is_read_back k (Nucleolus family tree are_costs x c) can utf8 same =
     let answer = Nucleolus family tree are_costs x c in
     let d = contents_of command.Check (answer_tree (unsigned_abs k) answer) in
-    let document : IsDocument command.Check (line k answer) d = document_from command.Check (line k answer) d (record { short = can.short; tree = answer_tree (unsigned_abs k) answer; text = (utf8, same); passed = can.passed; says = refl }) in
+    let document : IsDocument command.Check (line k answer) d =
+    document_from command.Check (line k answer) d
+    (record {
+      short = can.short;
+      tree = answer_tree (unsigned_abs k) answer;
+      text = (utf8, same);
+      passed = can.passed;
+      says = refl;
+    }) in
     (d, (document, can.says, check_says_yes (line k answer) d document family (view tree) x c can.says))
 is_read_back k answer can utf8 same = tt
 
 -- likewise of bytes that are the line
-pub is_read_back_from : (k : ℤ) (answer : Answer) (bytes : List ℕ) → bytes ≡ line k answer → CanBeRead k answer → IsUtf8 (without_newline bytes) → read (without_newline bytes) ≡ Some (answer_tree (unsigned_abs k) answer) → IsReadBack k answer
+pub is_read_back_from : (k : ℤ) (answer : Answer) (bytes : List ℕ) → bytes ≡ line k answer → CanBeRead k answer
+    → IsUtf8 (without_newline bytes) → read (without_newline bytes) ≡ Some (answer_tree (unsigned_abs k) answer)
+    → IsReadBack k answer
 is_read_back_from k answer bytes e can utf8 same =
-    is_read_back k answer can (subst (λ (b : List ℕ). IsUtf8 (without_newline b)) e utf8) (subst (λ (b : List ℕ). read (without_newline b) ≡ Some (answer_tree (unsigned_abs k) answer)) e same)
+    is_read_back k answer can (subst (λ (b : List ℕ). IsUtf8 (without_newline b)) e utf8)
+    (subst (λ (b : List ℕ). read (without_newline b) ≡ Some (answer_tree (unsigned_abs k) answer)) e same)
 
 -- of any other answer there is nothing to be read back
 pub readable_anyway : (k : ℤ) (answer : Answer) → IsNoNucleolus answer → CanBeRead k answer

@@ -1,5 +1,6 @@
 -- The line of what a solver found can be checked.
-use Rattle.std.proofs.Common.{◌≡◌, ℕ, ℤ, pos, ◌+◌, ◌≤◌, List, [], ◌∷◌, length, Bool, true, None, sym, ap, subst, ◌∙◌, length-append, arith}
+use Rattle.std.proofs.Common.{◌≡◌, ℕ, ℤ, pos, ◌+◌, ◌≤◌, List, [], ◌∷◌, length, Bool, true}
+use Rattle.std.proofs.Common.{None, sym, ap, subst, ◌∙◌, length-append, arith}
 use Rattle.std.specs.List.{AllByRecursion}
 use Rattle.serde_json.specs.Data.{Data}
 use Rattle.serde_json.specs.View.{view}
@@ -9,7 +10,8 @@ use Rattle.definitions.specs.Games.{Allocation, IsAllocation, IsShares}
 use Rattle.definitions.specs.Certificates.{Level, Certifies}
 use Rattle.definitions.specs.declared.Family.{Family}
 use Rattle.kohlberg.specs.Certificate.{CertificateData, IsCertificate}
-use Rattle.game_text.specs.Descriptions.{Description, table, cost_table, airport, bankruptcy, network, assignment, market, voting, description_of, game_of, is_cost}
+use Rattle.game_text.specs.Descriptions.{Description, table, cost_table, airport, bankruptcy, network}
+use Rattle.game_text.specs.Descriptions.{assignment, market, voting, description_of, game_of, is_cost}
 use Rattle.game_text.specs.Documents.{Contents, game_tree}
 use Rattle.game_text.specs.Denominators.{contents_of, tree_refusal}
 use Rattle.game_text.specs.Text.{document_limit}
@@ -41,15 +43,18 @@ use Rattle.definitions.proofs.Families.{allocation_of}
 
 -- ---- the levels
 
-all_lowest : (ls : List Level) → AllByRecursion IsLowest ls → AllByRecursion (λ l. IsFine l.excess_den) ls → AreInLowestTerms ls
+all_lowest : (ls : List Level) → AllByRecursion IsLowest ls → AllByRecursion (λ l. IsFine l.excess_den) ls
+    → AreInLowestTerms ls
 all_lowest [] h fine = tt
 all_lowest (l ∷ ls) h fine = (record { reduced = h.0.0; fits = h.0.1; fine = fine.0 }, all_lowest ls h.1 fine.1)
 
 all_read_back : (k : ℕ) → IsScale (pos k) → (ls : List Level) → AreInLowestTerms ls → ExcessesAreReadBack k ls
 all_read_back k s [] h = tt
-all_read_back k s (l ∷ ls) h = ((scaled k (excess_of l) s h.0.reduced h.0.fits.0 h.0.fine).0, all_read_back k s ls h.1)
+all_read_back k s (l ∷ ls) h =
+    ((scaled k (excess_of l) s h.0.reduced h.0.fits.0 h.0.fine).0, all_read_back k s ls h.1)
 
-all_few : (n : ℕ) → n ≤ 64 → (ls : List Level) → AllByRecursion (HasFew n) ls → AllByRecursion (λ l. length l.coalitions + length l.earlier + length l.bounds ≤ 128) ls
+all_few : (n : ℕ) → n ≤ 64 → (ls : List Level) → AllByRecursion (HasFew n) ls
+    → AllByRecursion (λ l. length l.coalitions + length l.earlier + length l.bounds ≤ 128) ls
 all_few n few [] h = tt
 all_few n few (l ∷ ls) h = (omega (arith, h.0), all_few n few ls h.1)
 
@@ -70,7 +75,8 @@ within_check Plain (voting quota weights) = omega arith
 
 module _ (family : Family) (d : Contents) (value : Value) (are_costs : Bool) (x : Allocation) (c : CertificateData)
     (accepted : IsAccepted d) (same : view value ≡ d.tree) (signs : are_costs ≡ is_cost d.game)
-    (s : IsShares x) (h : IsCertificate c) (found : IsSolved c.mode family d.measure (game_of d.game) x c) (taken : IsTaken d) (served : serves_class command.Check d.game ≡ true) where
+    (s : IsShares x) (h : IsCertificate c) (found : IsSolved c.mode family d.measure (game_of d.game) x c)
+    (taken : IsTaken d) (served : serves_class command.Check d.game ≡ true) where
   allocation : IsAllocation (game_of d.game) x
   allocation = allocation_of family (game_of d.game) x found.certifies.0
 
@@ -85,7 +91,9 @@ module _ (family : Family) (d : Contents) (value : Value) (are_costs : Bool) (x 
   printed_signs = sym (signs ∙ ap is_cost accepted.described)
 
   abbrev Reads : Data → Bool → Type 0
-  Reads g b = (tree_refusal command.Check (nucleolus_tree (scale_of g) family g b x c) ≡ None) × IsReadOf family g x c (contents_of command.Check (nucleolus_tree (scale_of g) family g b x c))
+  Reads g b =
+      (tree_refusal command.Check (nucleolus_tree (scale_of g) family g b x c) ≡ None)
+      × IsReadOf family g x c (contents_of command.Check (nucleolus_tree (scale_of g) family g b x c))
 
   -- the excesses are in lowest terms, over denominators that can be printed over a scale
   lowest : AreInLowestTerms c.levels
@@ -93,7 +101,10 @@ module _ (family : Family) (d : Contents) (value : Value) (are_costs : Bool) (x 
 
   -- the scale that the line is printed over
   scale : IsScale (pos (scale_of (view value)))
-  scale = subst (λ (g : Data). IsScale (pos (scale_of g))) printed_game (accepted_scale (game_tree accepted.document) (accepted_game accepted.command accepted.document accepted.passed).numbers)
+  scale =
+      subst (λ (g : Data). IsScale (pos (scale_of g))) printed_game
+      (accepted_scale (game_tree accepted.document)
+      (accepted_game accepted.command accepted.document accepted.passed).numbers)
 
   scale_said : d.scale ≡ pos (scale_of (view value))
   scale_said = accepted.scaled ∙ ap (λ (g : Data). pos (scale_of g)) printed_game
@@ -101,17 +112,33 @@ module _ (family : Family) (d : Contents) (value : Value) (are_costs : Bool) (x 
   is_read : Reads (view value) are_costs
   is_read =
       let counted = ap (λ e. (game_of e).players) accepted.described in
-      let first : Reads (game_tree accepted.document) (is_cost (description_of (game_tree accepted.document))) = printed_is_read accepted.command accepted.document family x c accepted.passed s (allocation.0 ∙ counted) h (found.players ∙ counted) lowest in
-      let second : Reads (view value) (is_cost (description_of (game_tree accepted.document))) = subst (λ (g : Data). Reads g (is_cost (description_of (game_tree accepted.document)))) printed_game first in
+      let first : Reads (game_tree accepted.document) (is_cost (description_of (game_tree accepted.document))) =
+      printed_is_read accepted.command accepted.document family x c accepted.passed s (allocation.0 ∙ counted) h
+      (found.players ∙ counted) lowest in
+      let second : Reads (view value) (is_cost (description_of (game_tree accepted.document))) =
+      subst (λ (g : Data). Reads g (is_cost (description_of (game_tree accepted.document)))) printed_game
+      first in
       subst (λ (b : Bool). Reads (view value) b) printed_signs second
 
   -- the line is short
-  is_short : length (line (pos (scale_of (view value))) (Nucleolus family value are_costs x c)) ≤ document_limit command.Check
+  is_short : length (line (pos (scale_of (view value))) (Nucleolus family value are_costs x c))
+      ≤ document_limit command.Check
   is_short =
       let players = found.players in
-      let text = short (scale_of (view value)) family (view value) are_costs x c scale s h (all_read_back (scale_of (view value)) scale c.levels lowest) (all_few (game_of d.game).players (omega (arith, players, h.few)) c.levels found.few) in
-      let game = subst (λ (t : Data). length (compact_text t) ≤ document_limit command.Nucleolus) (sym same) accepted.short in
-      omega (arith, text, game, length-append (compact_text (nucleolus_tree (scale_of (view value)) family (view value) are_costs x c)) (10 ∷ []))
+      let text =
+      short (scale_of (view value)) family (view value) are_costs x c scale s h
+      (all_read_back (scale_of (view value)) scale c.levels lowest)
+      (all_few (game_of d.game).players (omega (arith, players, h.few)) c.levels found.few) in
+      let game =
+      subst (λ (t : Data). length (compact_text t) ≤ document_limit command.Nucleolus) (sym same)
+      accepted.short in
+      omega (
+        arith,
+        text,
+        game,
+        length-append (compact_text (nucleolus_tree (scale_of (view value)) family (view value) are_costs x c))
+            (10 ∷ []),
+      )
 
   says : (e : Contents) → IsReadOf family (view value) x c e → SaysSame family (view value) x c e
   says e of =
@@ -119,21 +146,29 @@ module _ (family : Family) (d : Contents) (value : Value) (are_costs : Bool) (x 
       let games : d.game ≡ e.game = accepted.described ∙ ap description_of printed_game ∙ sym of.game in
       let measures : d.measure ≡ e.measure = accepted.measured ∙ ap measure_of printed_game ∙ sym of.measure in
       let here = subst (λ g. IsAllocation (game_of g) x) games allocation in
-      let checked : (game_of d.game).players ≤ check_limit d.measure = omega (arith, taken, within_check d.measure d.game) in
+      let checked : (game_of d.game).players ≤ check_limit d.measure =
+      omega (arith, taken, within_check d.measure d.game) in
       record {
         tree = of.tree;
         game = of.game;
         measure = of.measure;
         scale = of.scale;
         served = subst (λ g. serves_class command.Check g ≡ true) games served;
-        taken = subst (λ m. (game_of e.game).players ≤ check_limit m) measures (subst (λ g. (game_of g).players ≤ check_limit d.measure) games checked);
+        taken =
+            subst (λ m. (game_of e.game).players ≤ check_limit m) measures
+            (subst (λ g. (game_of g).players ≤ check_limit d.measure) games checked);
         shares = of.shares.0;
         evidence = record { family = of.family; shares = of.shares.1; certificate = of.certificate };
         same = again.same (game_of e.game) here;
-        certifies = same_certify c.mode family e.measure (game_of e.game) x of.shares.0 c.levels (again.allocation (game_of e.game) here) (again.same (game_of e.game) here) (subst (λ m. Certifies c.mode family m (game_of e.game) x c.levels) measures (subst (λ g. Certifies c.mode family d.measure (game_of g) x c.levels) games certified));
+        certifies =
+            same_certify c.mode family e.measure (game_of e.game) x of.shares.0 c.levels
+            (again.allocation (game_of e.game) here) (again.same (game_of e.game) here)
+            (subst (λ m. Certifies c.mode family m (game_of e.game) x c.levels) measures
+            (subst (λ g. Certifies c.mode family d.measure (game_of g) x c.levels) games certified));
       }
 
   pub can_be_checked : CanBeChecked d.scale (Nucleolus family value are_costs x c) family (view value) x c
   can_be_checked =
-      subst (λ (k : ℤ). CanBeChecked k (Nucleolus family value are_costs x c) family (view value) x c) (sym scale_said)
+      subst (λ (k : ℤ). CanBeChecked k (Nucleolus family value are_costs x c) family (view value) x c)
+      (sym scale_said)
       (record { short = is_short; passed = is_read.0; says = says _ is_read.1 })

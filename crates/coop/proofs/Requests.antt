@@ -1,5 +1,6 @@
 -- What words ask for: the parts of a generated game are told from its words, and other words are those of no command.
-use Rattle.std.proofs.Common.{◌≡◌, ◌≢◌, ◌^◌, ◌<◌, ℕ, zero, suc, pos, List, [], ◌∷◌, length, codes, nat_eq, slice_index, if◌then◌else◌, ℤ, None, Some, refl, sym, ap, ap₂, ◌∙◌, subst, arith}
+use Rattle.std.proofs.Common.{◌≡◌, ◌≢◌, ◌^◌, ◌<◌, ℕ, zero, suc, pos, List, [], ◌∷◌, length, codes, nat_eq}
+use Rattle.std.proofs.Common.{slice_index, if◌then◌else◌, ℤ, None, Some, refl, sym, ap, ap₂, ◌∙◌, subst, arith}
 use Rattle.std.proofs.lemmas.Int.{ints}
 use Rattle.std.proofs.lemmas.Option.{none-some, same_Some}
 use Rattle.fractions.specs.Fraction.{Fraction}
@@ -28,11 +29,16 @@ word_at (suc k) (word ∷ words) = word_at k words
 -- the command of a word, by its length, and for two of one length by the first letter
 command_in : List ℕ → Command
 command_in w =
-    if nat_eq (length w) 9 then command.Nucleolus else (if nat_eq (length w) 12 then command.Prenucleolus else (if nat_eq (length w) 5 then command.Check else (if nat_eq (length w) 8 then command.Matching else of_letter (length w) (slice_index w 0))))
+    if nat_eq (length w) 9 then command.Nucleolus
+    else (if nat_eq (length w) 12 then command.Prenucleolus
+    else (if nat_eq (length w) 5 then command.Check
+    else (if nat_eq (length w) 8 then command.Matching else of_letter (length w) (slice_index w 0))))
   where
     of_letter : ℕ → ℕ → Command
     of_letter n letter =
-        if nat_eq n 7 then (if nat_eq letter 112 then command.Propose else command.Shapley) else (if nat_eq n 4 then (if nat_eq letter 99 then command.Core else command.Bird) else (if nat_eq letter 99 then command.Convex else command.Kernel))
+        if nat_eq n 7 then (if nat_eq letter 112 then command.Propose else command.Shapley)
+        else (if nat_eq n 4 then (if nat_eq letter 99 then command.Core else command.Bird)
+        else (if nat_eq letter 99 then command.Convex else command.Kernel))
 
 command_read : (given : Command) → command_in (word_of given) ≡ given
 unfolding command_in
@@ -48,14 +54,18 @@ command_read command.Kernel = refl
 command_read command.Matching = refl
 
 pub one_command : (a b : Command) → word_of a ∷ [] ≡ word_of b ∷ [] → a ≡ b
-one_command a b e = sym (command_read a) ∙ ap (λ (words : List (List ℕ)). command_in (word_at 0 words)) e ∙ command_read b
+one_command a b e =
+    sym (command_read a) ∙ ap (λ (words : List (List ℕ)). command_in (word_at 0 words)) e ∙ command_read b
 
 -- ---- kinds
 
 -- the kind of a word, by its length, and for two of one length by the first letter
 kind_in : List ℕ → Kind
 kind_in w =
-    if nat_eq (length w) 5 then Table else (if nat_eq (length w) 7 then Airport else (if nat_eq (length w) 4 then Tree else (if nat_eq (slice_index w 0) 98 then Bankruptcy else Assignment)))
+    if nat_eq (length w) 5 then Table
+    else (if nat_eq (length w) 7 then Airport
+    else (if nat_eq (length w) 4 then Tree
+    else (if nat_eq (slice_index w 0) 98 then Bankruptcy else Assignment)))
 
 kind_read : (kind : Kind) → kind_in (kind_word kind) ≡ kind
 unfolding kind_in
@@ -74,26 +84,32 @@ abbrev whole : ℕ → Fraction
 whole n = record { num = pos n; den = pos 1 }
 
 pub number_read : (n : ℕ) → n < 2 ^ 32 → parsed (number_text n) ≡ Some (record { num = pos n; den = pos 1 })
-number_read n h = read_back (record { num = pos n; den = pos 1 }) (record { positive = omega arith; lowest = gcd_of_one n }) (omega (arith, ints, h), omega arith)
+number_read n h =
+    read_back (record { num = pos n; den = pos 1 }) (record { positive = omega arith; lowest = gcd_of_one n })
+    (omega (arith, ints, h), omega arith)
 
 same_pos : (m n : ℕ) → pos m ≡ pos n → m ≡ n
 same_pos m n e = cc
 
 pub one_number : (m n : ℕ) → m < 2 ^ 32 → n < 2 ^ 32 → number_text m ≡ number_text n → m ≡ n
 one_number m n h k e =
-    same_pos m n (ap (λ (f : Fraction). f.num) (same_Some _ _ (sym (number_read m h) ∙ ap parsed e ∙ number_read n k)))
+    same_pos m n
+    (ap (λ (f : Fraction). f.num) (same_Some _ _ (sym (number_read m h) ∙ ap parsed e ∙ number_read n k)))
 
 -- a word that is no fraction's is no number's
 pub no_number : (word : List ℕ) → None ≡ parsed word → (n : ℕ) → n < 2 ^ 32 → number_text n ≢ word
 no_number word none n h e = none-some _ (none ∙ sym (ap parsed e) ∙ number_read n h)
 
 -- a number's word is read as that number
-pub read_as_whole : (word : List ℕ) (f : Fraction) → Some f ≡ parsed word → (n : ℕ) → n < 2 ^ 32 → number_text n ≡ word → f ≡ record { num = pos n; den = pos 1 }
+pub read_as_whole : (word : List ℕ) (f : Fraction) → Some f ≡ parsed word → (n : ℕ) → n < 2 ^ 32
+    → number_text n ≡ word → f ≡ record { num = pos n; den = pos 1 }
 read_as_whole word f read n h e = same_Some _ _ (read ∙ sym (ap parsed e) ∙ number_read n h)
 
 -- a word that is read as a whole number is that number's
-pub is_number_text : (word : List ℕ) (f : Fraction) → Some f ≡ parsed word → (n : ℕ) → f.num ≡ pos n → f.den ≡ pos 1 → word ≡ number_text n
-is_number_text word f read n num den = sym (read_text_is_written word f read) ∙ ap₂ (λ (a b : ℤ). fraction_text (record { num = a; den = b })) num den
+pub is_number_text : (word : List ℕ) (f : Fraction) → Some f ≡ parsed word → (n : ℕ) → f.num ≡ pos n → f.den ≡ pos 1
+    → word ≡ number_text n
+is_number_text word f read n num den =
+    sym (read_text_is_written word f read) ∙ ap₂ (λ (a b : ℤ). fraction_text (record { num = a; den = b })) num den
 
 -- ---- other words
 
@@ -134,29 +150,41 @@ module _ (first second third fourth : List ℕ) where
   kind_is_none h = record { reads = not_one; makes = λ kind n seed g. h kind (sym (ap (word_at 1) g.said)) }
 
   -- the third is no number
-  pub players_is_none : ((n : ℕ) → n < 2 ^ 32 → number_text n ≢ third) → IsNoCommand (first ∷ second ∷ third ∷ fourth ∷ [])
-  players_is_none h = record { reads = not_one; makes = λ kind n seed g. h n (few_fit kind n g.size) (sym (ap (word_at 2) g.said)) }
+  pub players_is_none : ((n : ℕ) → n < 2 ^ 32 → number_text n ≢ third)
+      → IsNoCommand (first ∷ second ∷ third ∷ fourth ∷ [])
+  players_is_none h =
+      record { reads = not_one; makes = λ kind n seed g. h n (few_fit kind n g.size) (sym (ap (word_at 2) g.said)) }
 
   -- the fourth is no number
-  pub seed_is_none : ((n : ℕ) → n < 2 ^ 32 → number_text n ≢ fourth) → IsNoCommand (first ∷ second ∷ third ∷ fourth ∷ [])
-  seed_is_none h = record { reads = not_one; makes = λ kind n seed g. h seed (seed_fits seed g.small) (sym (ap (word_at 3) g.said)) }
+  pub seed_is_none : ((n : ℕ) → n < 2 ^ 32 → number_text n ≢ fourth)
+      → IsNoCommand (first ∷ second ∷ third ∷ fourth ∷ [])
+  seed_is_none h = record
+      { reads = not_one; makes = λ kind n seed g. h seed (seed_fits seed g.small) (sym (ap (word_at 3) g.said)) }
 
   -- the kind has no games of so many players, or the seed is too great
-  pub size_is_none : (kind : Kind) (n seed : ℕ) → second ≡ kind_word kind → third ≡ number_text n → fourth ≡ number_text seed → n < 2 ^ 32 → seed < 2 ^ 32 → ¬ (HasKindSize kind n × (seed < 2 ^ 31))
+  pub size_is_none : (kind : Kind) (n seed : ℕ) → second ≡ kind_word kind → third ≡ number_text n
+      → fourth ≡ number_text seed → n < 2 ^ 32 → seed < 2 ^ 32 → ¬ (HasKindSize kind n × (seed < 2 ^ 31))
       → IsNoCommand (first ∷ second ∷ third ∷ fourth ∷ [])
   size_is_none kind n seed second_is third_is fourth_is small few misfit = record {
     reads = not_one;
     makes = λ kind' n' seed' g.
         let kinds : kind' ≡ kind = one_kind kind' kind (sym (ap (word_at 1) g.said) ∙ second_is) in
-        let numbers : n' ≡ n = one_number n' n (few_fit kind' n' g.size) small (sym (ap (word_at 2) g.said) ∙ third_is) in
-        let seeds : seed' ≡ seed = one_number seed' seed (seed_fits seed' g.small) few (sym (ap (word_at 3) g.said) ∙ fourth_is) in
-        misfit (subst (λ (k : Kind). HasKindSize k n) kinds (subst (λ (m : ℕ). HasKindSize kind' m) numbers g.size), subst (λ (m : ℕ). m < 2 ^ 31) seeds g.small);
+        let numbers : n' ≡ n =
+        one_number n' n (few_fit kind' n' g.size) small (sym (ap (word_at 2) g.said) ∙ third_is) in
+        let seeds : seed' ≡ seed =
+        one_number seed' seed (seed_fits seed' g.small) few (sym (ap (word_at 3) g.said) ∙ fourth_is) in
+        misfit (
+          subst (λ (k : Kind). HasKindSize k n) kinds (subst (λ (m : ℕ). HasKindSize kind' m) numbers g.size),
+          subst (λ (m : ℕ). m < 2 ^ 31) seeds g.small,
+        );
   }
 
   -- and where all fit, they are the words of a generated game
-  pub generation_is : (kind : Kind) (n seed : ℕ) → first ≡ codes "gen" → second ≡ kind_word kind → third ≡ number_text n → fourth ≡ number_text seed → HasKindSize kind n → seed < 2 ^ 31
+  pub generation_is : (kind : Kind) (n seed : ℕ) → first ≡ codes "gen" → second ≡ kind_word kind
+      → third ≡ number_text n → fourth ≡ number_text seed → HasKindSize kind n → seed < 2 ^ 31
       → IsGeneration (first ∷ second ∷ third ∷ fourth ∷ []) kind n seed
-  generation_is kind n seed first_is second_is third_is fourth_is size small = record { said = cc; size = size; small = small }
+  generation_is kind n seed first_is second_is third_is fourth_is size small =
+      record { said = cc; size = size; small = small }
 
 -- what words ask for can be answered
 pub is_fit : (words : List (List ℕ)) (r : Request) → IsRequest words r → IsFit r

@@ -1,5 +1,6 @@
 -- The answer is right for the words and the bytes that were left.
-use Rattle.std.proofs.Common.{◌≡◌, ℕ, pos, ◌+◌, ◌<◌, ◌≤◌, List, [], ◌∷◌, ◌++◌, length, true, Option, Some, None, Result, Ok, Err, IfOk, refl, ap, ◌∙◌, append-nil, length-append, arith}
+use Rattle.std.proofs.Common.{◌≡◌, ℕ, pos, ◌+◌, ◌<◌, ◌≤◌, List, [], ◌∷◌, ◌++◌, length, true, Option, Some, None}
+use Rattle.std.proofs.Common.{Result, Ok, Err, IfOk, refl, ap, ◌∙◌, append-nil, length-append, arith}
 use Rattle.std.specs.Io.KnownBytes.{Consumes, IsAtEnd}
 use Rattle.game_text.specs.Documents.{Contents}
 use Rattle.game_text.specs.Refusals.{IsRefused, IsDocument}
@@ -29,19 +30,38 @@ IsLeft-all (Some x) (Some y) input p end = p ∙ ap (λ l. input ++ l) end ∙ a
 -- ---- refusals
 
 module _ (given : Command) where
-  right_too_long : (old new : Option (List ℕ)) (input : List ℕ) → Consumes old new input → length input ≤ document_limit given + 1 → document_limit given < length input
+  right_too_long : (old new : Option (List ℕ)) (input : List ℕ) → Consumes old new input
+      → length input ≤ document_limit given + 1 → document_limit given < length input
       → IsRight (word_of given ∷ []) old new (pos 1) (Refused refusal.TooLong)
-  right_too_long None new input p most long = record { bytes = input; left = tt; answers = (refl, (given, (refl, long))); reads = (given, (refl, (input, tt, omega arith))) }
+  right_too_long None new input p most long = record {
+    bytes = input;
+    left = tt;
+    answers = (refl, (given, (refl, long)));
+    reads = (given, (refl, (input, tt, omega arith)));
+  }
   right_too_long (Some x) None input p most long = absurd p
   right_too_long (Some x) (Some y) input p most long =
-      record { bytes = x; left = refl; answers = (refl, (given, (refl, omega (arith, ap length p, length-append input y)))); reads = (given, (refl, (input, p, omega arith))) }
+      record {
+        bytes = x;
+        left = refl;
+        answers = (refl, (given, (refl, omega (arith, ap length p, length-append input y))));
+        reads = (given, (refl, (input, p, omega arith)));
+      }
 
-  right_whole : (old new : Option (List ℕ)) (input : List ℕ) → Consumes old new input → IsAtEnd new → (r : Refusal) → IsRefused given input r → (ReadsAll old new → ReadsForRefusal r (word_of given ∷ []) old new)
+  right_whole : (old new : Option (List ℕ)) (input : List ℕ) → Consumes old new input → IsAtEnd new → (r : Refusal)
+      → IsRefused given input r → (ReadsAll old new → ReadsForRefusal r (word_of given ∷ []) old new)
       → IsRight (word_of given ∷ []) old new (pos 1) (Refused r)
   right_whole old new input p end r refused reads =
-      record { bytes = input; left = IsLeft-all old new input p end; answers = (refl, (given, (refl, refused))); reads = reads ((input, p), end) }
+      record {
+        bytes = input;
+        left = IsLeft-all old new input p end;
+        answers = (refl, (given, (refl, refused)));
+        reads = reads ((input, p), end);
+      }
 
-  pub right_refusal : (old new : Option (List ℕ)) (input : List ℕ) → Consumes old new input → length input ≤ document_limit given + 1 → (length input ≤ document_limit given → IsAtEnd new) → (r : Refusal) → IsRefused given input r
+  pub right_refusal : (old new : Option (List ℕ)) (input : List ℕ) → Consumes old new input
+      → length input ≤ document_limit given + 1 → (length input ≤ document_limit given → IsAtEnd new)
+      → (r : Refusal) → IsRefused given input r
       → IsRight (word_of given ∷ []) old new (pos 1) (Refused r)
   right_refusal old new input p most end refusal.TooLong long = right_too_long old new input p most long
   right_refusal old new input p most end r refused = right_whole old new input p (end refused.0) r refused (λ h. h)
@@ -56,11 +76,13 @@ no_class command.Core d h = h.1
 no_class given d h = h
 
 -- what is right for a document of a class that is served is right for the document
-pub of_class : (given : Command) (d : Contents) → serves_class given d.game ≡ true → (a : Answer) → Says given d a → AnswersTo given d a
+pub of_class : (given : Command) (d : Contents) → serves_class given d.game ≡ true → (a : Answer) → Says given d a
+    → AnswersTo given d a
 of_class given d served (Usage Class) h = absurd (no_class given d h)
 of_class given d served a h = (served, h)
 
-pub all_of_class : {E : Type 0} (given : Command) (d : Contents) → serves_class given d.game ≡ true → (r : Result Answer E) → IfOk r (Says given d) → IfOk r (AnswersTo given d)
+pub all_of_class : {E : Type 0} (given : Command) (d : Contents) → serves_class given d.game ≡ true
+    → (r : Result Answer E) → IfOk r (Says given d) → IfOk r (AnswersTo given d)
 all_of_class given d served (Ok a) h = of_class given d served a h
 all_of_class given d served (Err e) h = tt
 
@@ -85,35 +107,40 @@ no_refusal command.Kernel d r h = h.1.says
 no_refusal command.Core d r h = h.1.1
 no_refusal given d r h = h.1
 
-module _ (given : Command) (old new : Option (List ℕ)) (input : List ℕ) (p : Consumes old new input) (end : length input ≤ document_limit given → IsAtEnd new) (d : Contents) (document : IsDocument given input d) where
-  left : IsLeft old input
-  left = IsLeft-all old new input p (end document.0)
+module _ (given : Command) (old new : Option (List ℕ)) (input : List ℕ) (p : Consumes old new input)
+    (end : length input ≤ document_limit given → IsAtEnd new) (d : Contents) (document : IsDocument given input d)
+  where
+    left : IsLeft old input
+    left = IsLeft-all old new input p (end document.0)
 
-  read : ReadsAll old new
-  read = ((input, p), end document.0)
+    read : ReadsAll old new
+    read = ((input, p), end document.0)
 
-  served : (a : Answer) → AnswersTo given d a → IsAnsweredFor (word_of given ∷ []) input d.scale a
-  served a right = (given, (refl, (d, (document, document_of_class given input d document, refl, right))))
+    served : (a : Answer) → AnswersTo given d a → IsAnsweredFor (word_of given ∷ []) input d.scale a
+    served a right = (given, (refl, (d, (document, document_of_class given input d document, refl, right))))
 
-  pub right_answer : (a : Answer) → AnswersTo given d a → IsRight (word_of given ∷ []) old new d.scale a
-  right_answer (Usage Words) right = absurd (no_usage given d right)
-  right_answer (Refused r) right = absurd (no_refusal given d r right)
-  right_answer (Summary s) right = absurd (no_summary given d s right)
-  right_answer a right = record { bytes = input; left = left; answers = served a right; reads = read }
+    pub right_answer : (a : Answer) → AnswersTo given d a → IsRight (word_of given ∷ []) old new d.scale a
+    right_answer (Usage Words) right = absurd (no_usage given d right)
+    right_answer (Refused r) right = absurd (no_refusal given d r right)
+    right_answer (Summary s) right = absurd (no_summary given d s right)
+    right_answer a right = record { bytes = input; left = left; answers = served a right; reads = read }
 
 -- ---- other words
 
 -- where nothing is asked for, the words are those of no command
-pub no_command : (words : List (List ℕ)) (o : Option Request) → Names words o → ((given : Request) → o ≡ Some given → ⊥) → IsNoCommand words
+pub no_command : (words : List (List ℕ)) (o : Option Request) → Names words o
+    → ((given : Request) → o ≡ Some given → ⊥) → IsNoCommand words
 no_command words None h none = h
 no_command words (Some given) h none = absurd (none given refl)
 
 -- the summary of the game that the words ask for, and nothing is read
-pub right_summary : (words : List (List ℕ)) (old : Option (List ℕ)) (s : Summaries) → IsSummaryFor words s → IsRight words old old (pos 1) (Summary s)
+pub right_summary : (words : List (List ℕ)) (old : Option (List ℕ)) (s : Summaries) → IsSummaryFor words s
+    → IsRight words old old (pos 1) (Summary s)
 right_summary words None s h = record { bytes = []; left = tt; answers = (refl, h); reads = refl }
 right_summary words (Some x) s h = record { bytes = x; left = refl; answers = (refl, h); reads = refl }
 
 -- words that are no command get Usage, and nothing is read
-pub right_usage : (words : List (List ℕ)) (old : Option (List ℕ)) → IsNoCommand words → IsRight words old old (pos 1) (Usage Words)
+pub right_usage : (words : List (List ℕ)) (old : Option (List ℕ)) → IsNoCommand words
+    → IsRight words old old (pos 1) (Usage Words)
 right_usage words None h = record { bytes = []; left = tt; answers = (refl, h); reads = refl }
 right_usage words (Some x) h = record { bytes = x; left = refl; answers = (refl, h); reads = refl }

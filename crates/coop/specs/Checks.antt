@@ -39,7 +39,11 @@ pub record IsComplete (d : Contents) : Type 0 where
 -- yes where the certificate meets all conditions for the shares by the measure of the document, and no with the first
 -- that fails
 abbrev pub IsCheckedAs : Contents → CheckVerdict → Type 0
-IsCheckedAs d v = (family : Family) × ((x : Allocation) × ((c : CertificateData) × (HasEvidence d family x c × IsVerdict c.mode family d.measure (game_of d.game) x c.levels v)))
+IsCheckedAs d v =
+    (family : Family)
+    × ((x : Allocation)
+    × ((c : CertificateData)
+    × (HasEvidence d family x c × IsVerdict c.mode family d.measure (game_of d.game) x c.levels v)))
 
 -- the answer is the right verdict on the certificate of a document, or says that its game has more players than are
 -- checked

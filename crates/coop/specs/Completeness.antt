@@ -9,7 +9,8 @@ use Rattle.game_text.specs.Descriptions.{game_of}
 use Rattle.game_text.specs.Documents.{Contents}
 use Rattle.game_text.specs.Refusals.{IsDocument}
 use Rattle.game_text.specs.declared.command.Command.{Command}
-use Rattle.game_text.specs.declared.command.Command.TheVariants.{Nucleolus, Prenucleolus, Propose, Core, Check, Shapley, Bird, Convex, Kernel, Matching}
+use Rattle.game_text.specs.declared.command.Command.TheVariants.{Nucleolus, Prenucleolus, Propose, Core, Check}
+use Rattle.game_text.specs.declared.command.Command.TheVariants.{Shapley, Bird, Convex, Kernel, Matching}
 use Rattle.coop.specs.Words.{IsCommand}
 use Rattle.coop.specs.Classes.{serves_class}
 use Rattle.coop.specs.Limits.{check_limit, core_limit}
@@ -41,5 +42,7 @@ Serves command d = (serves_class command d.game ≡ true) × ServesPlayers comma
 -- the status is that of a positive or of a negative answer, or says that memory wasn't found
 abbrev pub IsComplete : List (List ℕ) → Option (List ℕ) → ℕ → ℕ → ℕ → ℕ → Status → Type 0
 IsComplete words left reads_before reads_now writes_before writes_now s =
-    (command : Command) (bytes : List ℕ) (d : Contents) → IsCommand words command → left ≡ Some bytes → IsDocument command bytes d → Serves command d
-    → ¬ CountRose reads_before reads_now → ¬ CountRose writes_before writes_now → (s ≡ status.Done) ⊎ (s ≡ status.Negative) ⊎ (s ≡ status.OutOfMemory)
+    (command : Command) (bytes : List ℕ) (d : Contents) → IsCommand words command → left ≡ Some bytes
+    → IsDocument command bytes d → Serves command d
+    → ¬ CountRose reads_before reads_now → ¬ CountRose writes_before writes_now
+    → (s ≡ status.Done) ⊎ (s ≡ status.Negative) ⊎ (s ≡ status.OutOfMemory)

@@ -6,12 +6,13 @@
 --   IsSchemePoint   the point of an airport or bankruptcy game is its nucleolus, and that of a tree game has
 --                   Bird's shares
 --   IsSaidOf        what a solver says of the core
---   IsCorePoint     a point of the core, as it is printed
---   IsEmptyCore     a collection that shows that the core is empty, with both numbers as they are printed
+--   IsCorePoint     a point of the core, among fractions and among real shares, as it is printed
+--   IsEmptyCore     a collection of few coalitions that shows that the core is empty, with both numbers as they
+--                   are printed
 --   IsShown         the answer is such a collection
 --   FindsCore       the answer is right for a game that has no more players than are answered
 --   SaysOfCore      the answer is right for the game of a document
-use Rattle.std.specs.Prelude.{◌≡◌, ◌<◌, ◌≤◌, ⊤, Bool, ℕ, ℤ, List, ◌*ℤ◌}
+use Rattle.std.specs.Prelude.{◌≡◌, ◌<◌, ◌≤◌, ⊤, Bool, ℕ, ℤ, List, length, ◌*ℤ◌}
 use Rattle.definitions.specs.Sums.{weighted_sum}
 use Rattle.definitions.specs.Coalitions.{grand_coalition}
 use Rattle.definitions.specs.Games.{Game, Allocation, InCore, IsNucleolus}
@@ -19,10 +20,12 @@ use Rattle.definitions.specs.Balanced.{IsBalancedOfExcessWorth}
 use Rattle.definitions.specs.declared.Family.TheVariants.{Imputations}
 use Rattle.definitions.specs.declared.Measure.TheVariants.{Plain}
 use Rattle.balanced_collections.specs.Collections.{CollectionData, ShowsEmpty}
+use Rattle.real_shares.specs.Claims.{InCoreForReals, HasNoCoreForReals}
 use Rattle.balanced.specs.declared.CoreAnswer.{CoreAnswer}
 use Rattle.balanced.specs.declared.CoreAnswer.TheVariants.{Point, Empty}
 use Rattle.tree_games.specs.Trees.{IsBird}
-use Rattle.game_text.specs.Descriptions.{Description, table, cost_table, airport, bankruptcy, network, assignment, market, voting, game_of, is_cost}
+use Rattle.game_text.specs.Descriptions.{Description, table, cost_table, airport, bankruptcy, network}
+use Rattle.game_text.specs.Descriptions.{assignment, market, voting, game_of, is_cost}
 use Rattle.game_text.specs.Documents.{Contents}
 use Rattle.report.specs.declared.answer.Answer.{Answer}
 use Rattle.report.specs.declared.answer.Answer.TheVariants.{CorePoint, EmptyCore, Usage}
@@ -47,17 +50,21 @@ abbrev pub IsSaidOf : Description → CoreAnswer → Type 0
 IsSaidOf d (Point x) = InCore (game_of d) x × IsSchemePoint d x
 IsSaidOf d (Empty c) = ShowsEmpty (game_of d) c
 
--- the shares are in the core, and are printed as payments where the numbers of the game are costs
+-- the shares are in the core, among fractions and among real shares, and are printed as payments where the numbers of
+-- the game are costs
 pub record IsCorePoint (d : Contents) (are_costs : Bool) (x : Allocation) : Type 0 where
   pub in_core : InCore (game_of d.game) x
+  pub for_reals : InCoreForReals (game_of d.game) x
   pub chosen : IsSchemePoint d.game x
   pub signs : are_costs ≡ is_cost d.game
 
--- the coalitions balance, and are worth more together than k times all, so no point is in the core; both numbers are
--- given as they are printed
+-- at most as many coalitions as there are players balance, and are worth more together than k times all, so no point is
+-- in the core, in fractions or in real shares; both numbers are given as they are printed
 pub record IsEmptyCore (are_costs : Bool) (g : Game) (c : CollectionData) (value against : ℤ) : Type 0 where
+  pub few : length c.weights ≤ g.players
   pub balanced : IsBalancedOfExcessWorth g c.weights c.k
   pub none : (x : Allocation) → ¬ InCore g x
+  pub none_for_reals : HasNoCoreForReals g
   pub value_is : value ≡ printed are_costs (weighted_sum g.worth c.weights)
   pub against_is : against ≡ printed are_costs (c.k *ℤ g.worth (grand_coalition g.players))
 

@@ -21,7 +21,8 @@ use Rattle.coop.specs.Words.{IsGeneration}
 -- of them
 abbrev pub IsGreatestExcess : Game → Allocation → Option Fraction → Type 0
 IsGreatestExcess g x None = g.players ≡ 1
-IsGreatestExcess g x (Some f) = (2 ≤ g.players) × IsReduced f × IsMeasuredBound Plain g x (grand_coalition g.players) f
+IsGreatestExcess g x (Some f) =
+    (2 ≤ g.players) × IsReduced f × IsMeasuredBound Plain g x (grand_coalition g.players) f
 
 -- the shares are the nucleolus of the generated game, whose worths are those of its class
 pub record IsSummaryOf (kind : Kind) (n seed : ℕ) (s : Summary) : Type 0 where
@@ -35,4 +36,5 @@ pub record IsSummaryOf (kind : Kind) (n seed : ℕ) (s : Summary) : Type 0 where
 
 -- the words ask for a game, and this is its summary
 abbrev pub IsSummaryFor : List (List ℕ) → Summary → Type 0
-IsSummaryFor words s = (kind : Kind) × ((n : ℕ) × ((seed : ℕ) × (IsGeneration words kind n seed × IsSummaryOf kind n seed s)))
+IsSummaryFor words s =
+    (kind : Kind) × ((n : ℕ) × ((seed : ℕ) × (IsGeneration words kind n seed × IsSummaryOf kind n seed s)))

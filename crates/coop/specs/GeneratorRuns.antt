@@ -22,7 +22,8 @@ AsksForGame words = (kind : Kind) × ((n : ℕ) × ((seed : ℕ) × IsGeneration
 -- for a generated game nothing is read, and the answer is positive, or memory wasn't found
 abbrev pub IsMadeFor : Request → Option (List ℕ) → Option (List ℕ) → Result Reply Stop → Type 0
 IsMadeFor (Read command) old new r = ⊤
-IsMadeFor (Generate kind n seed) old new r = (new ≡ old) × MatchResult r (λ a. status_of a.answer ≡ status.Done) (λ e. e ≡ Memory)
+IsMadeFor (Generate kind n seed) old new r =
+    (new ≡ old) × MatchResult r (λ a. status_of a.answer ≡ status.Done) (λ e. e ≡ Memory)
 
 -- nothing was read, and the status is Done, or says that memory wasn't found or that a write failed
 abbrev pub EndsMade : Option (List ℕ) → Option (List ℕ) → Status → Type 0

@@ -5,6 +5,10 @@
 -- players, and every other of at most sixteen; with excess per head every game of at most eight; but for games of the
 -- class market, which `matching` alone answers.
 --
+-- "Every other imputation" is every other one in fractions; every other one in real shares, whose order is taken to be
+-- decided, as excluded middle has it; and every other one over any linearly ordered abelian group that comes with a
+-- test of its order and whose numbers have sequences of integers for names.
+--
 -- It is the clause `ends` of `run`: after a status of an answer there is an answer that `Answers` the words and the
 -- bytes, and the sink took its line (`Ends` in Outcome.antt). What is below says it from the inside out:
 --
@@ -21,7 +25,7 @@
 -- What is right for the other commands stands in Judgement.antt (`propose`), CoreClaims.antt (`core`), Checks.antt
 -- (`check`), ShapleyClaims.antt (`shapley`), BirdClaims.antt (`bird`), ConvexClaims.antt (`convex`), KernelClaims.antt
 -- (`kernel`), MatchingClaims.antt (`matching`) and GeneratorClaims.antt (`gen`); which classes a command serves, in
--- Classes.antt.
+-- Classes.antt; which certificate is printed for a class with a scheme of its own, in Chosen.antt.
 --
 -- The game, the shares and the certificate of a document of version 2 are those that it writes, times its scale, and
 -- the line is printed over that scale. One positive factor on all worths and shares changes no comparison
@@ -38,12 +42,16 @@ use Rattle.definitions.specs.Certificates.{HasForm, Certifies}
 use Rattle.definitions.specs.declared.Family.{Family}
 use Rattle.definitions.specs.declared.Family.TheVariants.{Imputations, Preimputations}
 use Rattle.kohlberg.specs.Certificate.{CertificateData}
+use Rattle.real_shares.specs.Claims.{IsNucleolusForReals, IsNucleolusOverGroups}
 use Rattle.game_text.specs.Descriptions.{game_of, is_cost}
 use Rattle.game_text.specs.Documents.{Contents}
 use Rattle.game_text.specs.OfClass.{IsOfClass}
 use Rattle.game_text.specs.Refusals.{IsDocument, IsRefused}
 use Rattle.game_text.specs.declared.command.Command.{Command}
-use Rattle.game_text.specs.declared.command.Command.TheVariants.{Nucleolus as NucleolusWord, Prenucleolus as PrenucleolusWord, Propose, Core, Check, Shapley, Bird, Convex, Kernel, Matching}
+use Rattle.game_text.specs.declared.command.Command.TheVariants.{Nucleolus as NucleolusWord}
+use Rattle.game_text.specs.declared.command.Command.TheVariants.{Prenucleolus as PrenucleolusWord}
+use Rattle.game_text.specs.declared.command.Command.TheVariants.{Propose, Core, Check, Shapley, Bird}
+use Rattle.game_text.specs.declared.command.Command.TheVariants.{Convex, Kernel, Matching}
 use Rattle.kinds.specs.declared.refusal.Refusal.{Refusal}
 use Rattle.nested_programs.specs.Answer.{singles}
 use Rattle.report.specs.declared.answer.Answer.{Answer}
@@ -53,6 +61,7 @@ use Rattle.coop.specs.Words.{IsCommand, IsNoCommand}
 use Rattle.coop.specs.Classes.{serves_class}
 use Rattle.coop.specs.Limits.{nucleolus_limit}
 use Rattle.coop.specs.Judgement.{printed, JudgesAll}
+use Rattle.coop.specs.Chosen.{IsChosen}
 use Rattle.coop.specs.Checks.{Checks}
 use Rattle.coop.specs.CoreClaims.{SaysOfCore}
 use Rattle.coop.specs.ShapleyClaims.{SaysOfShapley}
@@ -67,15 +76,21 @@ abbrev pub IsTaken : Contents → Type 0
 IsTaken d = (game_of d.game).players ≤ nucleolus_limit d.measure d.game
 
 -- The shares are a member of the family whose excesses over all coalitions, by the measure of the document and listed
--- from the greatest, come before those of every other member. The certificate has its form for the game's players and
--- meets all conditions for the shares, which alone imply this (`certificates_are_sound`). They stand beside the tree of
--- the game that was read.
-pub record IsSolution (family : Family) (d : Contents) (printed : Data) (are_costs : Bool) (x : Allocation) (c : CertificateData) : Type 0 where
+-- from the greatest, come before those of every other member: of those in fractions, of those in real shares, and of
+-- those over any linearly ordered abelian group. The certificate has its form for the game's players and meets all
+-- conditions for the shares, which alone imply this (`certificates_are_sound` and, of `real_shares`,
+-- `certificates_are_sound_for_reals` and `certificates_are_sound_over_groups`); with plain excess that of an airport or
+-- bankruptcy game is its scheme's. They stand beside the tree of the game that was read.
+pub record IsSolution (family : Family) (d : Contents) (printed : Data) (are_costs : Bool)
+    (x : Allocation) (c : CertificateData) : Type 0 where
   pub taken : IsTaken d
   pub nucleolus : IsNucleolus family d.measure (game_of d.game) x
+  pub for_reals : IsNucleolusForReals family d.measure (game_of d.game) x
+  pub over_groups : IsNucleolusOverGroups family d.measure (game_of d.game) x
   pub players : c.players ≡ (game_of d.game).players
   pub form : HasForm c.mode (game_of d.game).players c.levels
   pub certifies : Certifies c.mode family d.measure (game_of d.game) x c.levels
+  pub chosen : IsChosen d.measure d.game x c
   pub tree : printed ≡ d.tree
   pub signs : are_costs ≡ is_cost d.game
 
@@ -92,7 +107,8 @@ pub record IsWithoutImputation (family : Family) (g : Game) (are_costs : Bool) (
 -- has more players than are answered
 abbrev pub Solves : Family → Contents → Answer → Type 0
 Solves family d (Nucleolus f tree are_costs x c) = (f ≡ family) × IsSolution family d (view tree) are_costs x c
-Solves family d (NoImputation alone total) = IsTaken d × IsWithoutImputation family (game_of d.game) (is_cost d.game) alone total
+Solves family d (NoImputation alone total) =
+    IsTaken d × IsWithoutImputation family (game_of d.game) (is_cost d.game) alone total
 Solves family d (Usage Players) = nucleolus_limit d.measure d.game < (game_of d.game).players
 Solves family d _ = ⊥
 
@@ -118,7 +134,9 @@ AnswersTo command d answer = (serves_class command d.game ≡ true) × Says comm
 -- the words are a command, the bytes are a document of it with this scale, whose game has the worths of its class, and
 -- the answer is right for both
 abbrev pub IsAnsweredFor : List (List ℕ) → List ℕ → ℤ → Answer → Type 0
-IsAnsweredFor words bytes k answer = (command : Command) × (IsCommand words command × ((d : Contents) × (IsDocument command bytes d × IsOfClass d.game × (k ≡ d.scale) × AnswersTo command d answer)))
+IsAnsweredFor words bytes k answer =
+    (command : Command) × (IsCommand words command × ((d : Contents)
+    × (IsDocument command bytes d × IsOfClass d.game × (k ≡ d.scale) × AnswersTo command d answer)))
 
 -- the words are a command, and this is the first refusal that applies to the bytes
 abbrev pub IsRefusedFor : List (List ℕ) → List ℕ → Refusal → Type 0

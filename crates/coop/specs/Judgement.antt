@@ -3,12 +3,14 @@
 --   printed         a number as it is printed: costs and payments are negative worth
 --   IsInefficient   the shares add to something else than the worth of all, with both sums
 --   IsBlockedBy     they add to it, and this coalition blocks them
+--   IsCore          the allocation is in the core, among fractions and among real shares
 --   Judges          the answer is right for an allocation of a game
 --   JudgesAll       the answer is right for the game and the shares of a document
 --   HasShares       there is a share for each player
 use Rattle.std.specs.Prelude.{◌≡◌, ℕ, ℤ, neg_ℤ, Bool, Some, length, if◌then◌else◌}
 use Rattle.definitions.specs.Coalitions.{grand_coalition}
 use Rattle.definitions.specs.Games.{Game, Allocation, amount, excess, IsEfficient, IsChosenBlocker, InCore}
+use Rattle.real_shares.specs.Claims.{InCoreForReals}
 use Rattle.fractions.specs.Fraction.{Fraction, IsRatio}
 use Rattle.game_text.specs.Descriptions.{game_of, is_cost}
 use Rattle.game_text.specs.Documents.{Contents}
@@ -29,9 +31,13 @@ pub record IsInefficient (are_costs : Bool) (g : Game) (x : Allocation) (sum : F
 abbrev pub IsBlockedBy : Game → Allocation → ℕ → Fraction → Type 0
 IsBlockedBy g x s e = IsEfficient g x × IsChosenBlocker g x s × IsRatio e (excess g x s) x.den
 
+-- the allocation is in the core, and, written as real numbers, in that of real shares
+abbrev pub IsCore : Game → Allocation → Type 0
+IsCore g x = InCore g x × InCoreForReals g x
+
 -- the answer is the right judgement on an allocation
 abbrev pub Judges : Bool → Game → Allocation → Answer → Type 0
-Judges are_costs g x Core = InCore g x
+Judges are_costs g x Core = IsCore g x
 Judges are_costs g x (NotEfficient sum total) = IsInefficient are_costs g x sum total
 Judges are_costs g x (Blocked s e) = IsBlockedBy g x s e
 Judges are_costs g x _ = ⊥

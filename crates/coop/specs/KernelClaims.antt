@@ -1,6 +1,7 @@
 -- The right answer on whether the shares of a document are in the prekernel of its game.
 --
 --   kernel_limit   the most players of a game whose prekernel is tested
+--   IsPrekernel    the allocation is in the prekernel, among fractions and among real shares
 --   Balances       the answer is right for an allocation of a game
 --   IsBalanceOf    the answer is right for the shares of a document
 --   SaysOfKernel   the answer is right for a document: for its shares, or that its game has more players
@@ -9,6 +10,7 @@ use Rattle.definitions.specs.Games.{Game, Allocation, IsNucleolus}
 use Rattle.definitions.specs.Prekernel.{InPrekernel}
 use Rattle.definitions.specs.declared.Family.TheVariants.{Preimputations}
 use Rattle.definitions.specs.declared.Measure.TheVariants.{Plain}
+use Rattle.real_shares.specs.Claims.{InPrekernelForReals}
 use Rattle.kernel_test.specs.Answers.{IsKernelAnswer}
 use Rattle.kernel_test.specs.declared.KernelAnswer.TheVariants.{Differs}
 use Rattle.game_text.specs.Descriptions.{game_of, is_cost}
@@ -22,10 +24,14 @@ use Rattle.coop.specs.Judgement.{IsInefficient}
 abbrev pub kernel_limit : ℕ
 kernel_limit = 16
 
+-- the allocation is in the prekernel, and, written as real numbers, in that of real shares
+abbrev pub IsPrekernel : Game → Allocation → Type 0
+IsPrekernel g x = InPrekernel g x × InPrekernelForReals g x
+
 -- the allocation is in the prekernel; or it isn't efficient, with both sums; or it is, and these are the first two
 -- players that aren't balanced, with both surpluses
 abbrev pub Balances : Bool → Game → Allocation → Answer → Type 0
-Balances are_costs g x Prekernel = InPrekernel g x
+Balances are_costs g x Prekernel = IsPrekernel g x
 Balances are_costs g x (NotEfficient sum total) = IsInefficient are_costs g x sum total
 Balances are_costs g x (NotPrekernel i j ij ji) = IsKernelAnswer g x (Differs i j ij ji)
 Balances are_costs g x _ = ⊥

@@ -11,6 +11,7 @@ pub mod GeneratorRuns
 pub mod ConvexClaims
 pub mod KernelClaims
 pub mod MatchingClaims
+pub mod Chosen
 pub mod Headline
 pub mod ReadBack
 pub mod Completeness

@@ -6,7 +6,8 @@
 use Rattle.std.specs.Prelude.{ℕ}
 use Rattle.definitions.specs.declared.Measure.{Measure}
 use Rattle.definitions.specs.declared.Measure.TheVariants.{Plain, PerHead}
-use Rattle.game_text.specs.Descriptions.{Description, table, cost_table, airport, bankruptcy, network, assignment, market, voting}
+use Rattle.game_text.specs.Descriptions.{Description, table, cost_table, airport, bankruptcy}
+use Rattle.game_text.specs.Descriptions.{network, assignment, market, voting}
 
 -- the most players of a game whose nucleolus is answered: the programs per head are those of few players, and with
 -- plain excess airport and bankruptcy games have schemes of their own

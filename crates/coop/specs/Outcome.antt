@@ -9,8 +9,8 @@
 --   IsRight                      the answer is right for the words and for what the source had left
 --   Answered, CutShort           its line was printed, or a proper front of it
 --   Ends                         what stands after each status
---   IsCauseOf                    which count of failures rose
-use Rattle.std.specs.Prelude.{◌≡◌, ◌≢◌, ◌<◌, ◌+◌, ℕ, ℤ, List, length, take, Option, Some, None, ⊤}
+--   IsCauseOf                    which count of failures rose, and that the first failure was the last call
+use Rattle.std.specs.Prelude.{◌≡◌, ◌≢◌, ◌<◌, ◌+◌, ℕ, ℤ, Bool, true, List, length, take, Option, Some, None, ⊤}
 use Rattle.std.specs.Io.KnownBytes.{Appends, Consumes, IsAtEnd}
 use Rattle.ports.specs.Causes.{CountRose}
 use Rattle.coop.specs.Headline.{Answers}
@@ -21,7 +21,10 @@ use Rattle.kinds.specs.declared.refusal.Refusal.{Refusal}
 use Rattle.kinds.specs.declared.refusal.Refusal.TheVariants.{TooLong}
 use Rattle.report.specs.Lines.{line}
 use Rattle.report.specs.declared.answer.Answer.{Answer}
-use Rattle.report.specs.declared.answer.Answer.TheVariants.{Nucleolus, NoImputation, InCore, NotEfficient, Blocked, CorePoint, EmptyCore, Shapley, Bird, Convex, Prekernel, NotPrekernel, Matching, Verdict, Usage, Refused, Summary}
+use Rattle.report.specs.declared.answer.Answer.TheVariants.{Nucleolus, NoImputation, InCore, NotEfficient}
+use Rattle.report.specs.declared.answer.Answer.TheVariants.{Blocked, CorePoint, EmptyCore, Shapley, Bird}
+use Rattle.report.specs.declared.answer.Answer.TheVariants.{Convex, Prekernel, NotPrekernel, Matching, Verdict}
+use Rattle.report.specs.declared.answer.Answer.TheVariants.{Usage, Refused, Summary}
 use Rattle.report.specs.declared.answer.UsageKind.TheVariants.{Words}
 use Rattle.kohlberg.specs.declared.verdicts.Verdict.{Verdict as CheckVerdict}
 use Rattle.kohlberg.specs.declared.verdicts.Verdict.TheVariants.{Yes, No}
@@ -38,7 +41,8 @@ IsLeft (Some told) bytes = told ≡ bytes
 
 -- one byte more than a document of the command may have was read
 abbrev pub ReadsPastLimit : Command → Option (List ℕ) → Option (List ℕ) → Type 0
-ReadsPastLimit command old new = (bytes : List ℕ) × Consumes old new bytes × (length bytes ≡ document_limit command + 1)
+ReadsPastLimit command old new =
+    (bytes : List ℕ) × Consumes old new bytes × (length bytes ≡ document_limit command + 1)
 
 -- all was read
 abbrev pub ReadsAll : Option (List ℕ) → Option (List ℕ) → Type 0
@@ -46,7 +50,8 @@ ReadsAll old new = ((bytes : List ℕ) × Consumes old new bytes) × IsAtEnd new
 
 -- how far the input was read for a refusal
 abbrev pub ReadsForRefusal : Refusal → List (List ℕ) → Option (List ℕ) → Option (List ℕ) → Type 0
-ReadsForRefusal TooLong words old new = (command : Command) × (IsCommand words command × ReadsPastLimit command old new)
+ReadsForRefusal TooLong words old new =
+    (command : Command) × (IsCommand words command × ReadsPastLimit command old new)
 ReadsForRefusal r words old new = ReadsAll old new
 
 -- how far the input was read for an answer
@@ -104,17 +109,21 @@ pub record IsRight (words : List (List ℕ)) (old new : Option (List ℕ)) (k : 
   pub reads : ReadsFor answer words old new
 
 -- the line of a right answer was printed, and the status goes with it; the line of a nucleolus is read back
-abbrev pub Answered : List (List ℕ) → Option (List ℕ) → Option (List ℕ) → Option (List ℕ) → Option (List ℕ) → Status → Type 0
+abbrev pub Answered : List (List ℕ) → Option (List ℕ) → Option (List ℕ)
+    → Option (List ℕ) → Option (List ℕ) → Status → Type 0
 Answered words old new taken_old taken_new s =
-    (k : ℤ) × ((answer : Answer) × IsRight words old new k answer × (s ≡ status_of answer) × Appends taken_old taken_new (line k answer) × IsReadBack k answer)
+    (k : ℤ) × ((answer : Answer) × IsRight words old new k answer × (s ≡ status_of answer)
+    × Appends taken_old taken_new (line k answer) × IsReadBack k answer)
 
 -- a proper front of the line of a right answer was printed
 abbrev pub CutShort : List (List ℕ) → Option (List ℕ) → Option (List ℕ) → Option (List ℕ) → Option (List ℕ) → Type 0
 CutShort words old new taken_old taken_new =
-    (k : ℤ) × ((answer : Answer) × IsRight words old new k answer × ((n : ℕ) × (n < length (line k answer)) × Appends taken_old taken_new (take n (line k answer))))
+    (k : ℤ) × ((answer : Answer) × IsRight words old new k answer
+    × ((n : ℕ) × (n < length (line k answer)) × Appends taken_old taken_new (take n (line k answer))))
 
 -- what stands after each status
-abbrev pub Ends : List (List ℕ) → Option (List ℕ) → Option (List ℕ) → Option (List ℕ) → Option (List ℕ) → Status → Type 0
+abbrev pub Ends : List (List ℕ) → Option (List ℕ) → Option (List ℕ)
+    → Option (List ℕ) → Option (List ℕ) → Status → Type 0
 Ends words old new taken_old taken_new status.Done = Answered words old new taken_old taken_new status.Done
 Ends words old new taken_old taken_new status.Negative = Answered words old new taken_old taken_new status.Negative
 Ends words old new taken_old taken_new status.Usage = Answered words old new taken_old taken_new status.Usage
@@ -123,7 +132,9 @@ Ends words old new taken_old taken_new status.ReadFault = taken_new ≡ taken_ol
 Ends words old new taken_old taken_new status.WriteFault = CutShort words old new taken_old taken_new
 Ends words old new taken_old taken_new status.OutOfMemory = taken_new ≡ taken_old
 
--- the count rose at this status, and is as before after every other
-pub record IsCauseOf (fault : Status) (before now : ℕ) (s : Status) : Type 0 where
+-- at this status the count rose by one, or stands at its last value, and the last call failed: so, below that value, no
+-- call came after the first that failed; after every other status the count is as before
+pub record IsCauseOf (fault : Status) (before now : ℕ) (failed : Bool) (s : Status) : Type 0 where
   pub rose : s ≡ fault → CountRose before now
+  pub last : s ≡ fault → failed ≡ true
   pub unchanged : s ≢ fault → now ≡ before

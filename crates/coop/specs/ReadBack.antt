@@ -33,27 +33,30 @@ use Rattle.coop.specs.Headline.{Answers}
 
 -- the document gives the game of this tree, its measure and its scale, the family, the same shares over some
 -- denominator, and the certificate, which certifies them; the class and the number of players are checked
-pub record SaysSame (f : Family) (printed : Data) (x : Allocation) (c : CertificateData) (d : Contents) : Type 0 where
-  pub tree : d.tree ≡ printed
-  pub game : d.game ≡ description_of printed
-  pub measure : d.measure ≡ measure_of printed
-  pub scale : d.scale ≡ pos (scale_of printed)
-  pub served : serves_class Check d.game ≡ true
-  pub taken : (game_of d.game).players ≤ check_limit d.measure
-  pub shares : Allocation
-  pub evidence : HasEvidence d f shares c
-  pub same : IsSame (game_of d.game) x shares
-  pub certifies : Certifies c.mode f d.measure (game_of d.game) shares c.levels
+pub record SaysSame (f : Family) (printed : Data) (x : Allocation) (c : CertificateData) (d : Contents) : Type 0
+  where
+    pub tree : d.tree ≡ printed
+    pub game : d.game ≡ description_of printed
+    pub measure : d.measure ≡ measure_of printed
+    pub scale : d.scale ≡ pos (scale_of printed)
+    pub served : serves_class Check d.game ≡ true
+    pub taken : (game_of d.game).players ≤ check_limit d.measure
+    pub shares : Allocation
+    pub evidence : HasEvidence d f shares c
+    pub same : IsSame (game_of d.game) x shares
+    pub certifies : Certifies c.mode f d.measure (game_of d.game) shares c.levels
 
 -- the line is no longer than a document to check may be, no test refuses its tree, and it says the same
-pub record CanBeChecked (k : ℤ) (answer : Answer) (f : Family) (printed : Data) (x : Allocation) (c : CertificateData) : Type 0 where
+pub record CanBeChecked (k : ℤ) (answer : Answer) (f : Family) (printed : Data) (x : Allocation)
+    (c : CertificateData) : Type 0 where
   pub short : length (line k answer) ≤ document_limit Check
   pub passed : tree_refusal Check (answer_tree (unsigned_abs k) answer) ≡ None
   pub says : SaysSame f printed x c (contents_of Check (answer_tree (unsigned_abs k) answer))
 
 -- the tree of a nucleolus over the scale k can be checked
 abbrev pub CanBeRead : ℤ → Answer → Type 0
-CanBeRead k (Nucleolus family tree are_costs x c) = CanBeChecked k (Nucleolus family tree are_costs x c) family (view tree) x c
+CanBeRead k (Nucleolus family tree are_costs x c) =
+    CanBeChecked k (Nucleolus family tree are_costs x c) family (view tree) x c
 CanBeRead k _ = ⊤
 
 -- the answer is no nucleolus, whose line alone is read back
@@ -70,5 +73,6 @@ pub record CheckSaysYes (bytes : List ℕ) : Type 0 where
 -- the shares; and the verdict on it is yes
 abbrev pub IsReadBack : ℤ → Answer → Type 0
 IsReadBack k (Nucleolus family tree are_costs x c) =
-    let bytes = line k (Nucleolus family tree are_costs x c) in (d : Contents) × (IsDocument Check bytes d × SaysSame family (view tree) x c d × CheckSaysYes bytes)
+    let bytes = line k (Nucleolus family tree are_costs x c) in
+    (d : Contents) × (IsDocument Check bytes d × SaysSame family (view tree) x c d × CheckSaysYes bytes)
 IsReadBack k _ = ⊤

@@ -1,14 +1,16 @@
 -- Why an answer isn't found.
-use Rattle.std.specs.Prelude.{◌≡◌, ℕ, Result, MatchResult}
+use Rattle.std.specs.Prelude.{◌≡◌, ℕ, Bool, true, Result, MatchResult}
 use Rattle.ports.specs.Causes.{CountRose}
 use Rattle.coop.specs.declared.stop.Stop.{Stop}
 use Rattle.coop.specs.declared.stop.Stop.TheVariants.{Fault, Memory}
 
--- the count rose at a fault, and is as before at want of memory
-abbrev pub IsStopBetween : ℕ → ℕ → Stop → Type 0
-IsStopBetween before now Fault = CountRose before now
-IsStopBetween before now Memory = now ≡ before
+-- the count rose by one, or stands at its last value, at a fault, which was the last call, and is as before at want of
+-- memory
+abbrev pub IsStopBetween : ℕ → ℕ → Bool → Stop → Type 0
+IsStopBetween before now failed Fault = CountRose before now × (failed ≡ true)
+IsStopBetween before now failed Memory = now ≡ before
 
--- the count rose where a fault is the cause, and is as before otherwise
-abbrev pub IsFaultOf : {T : Type 0} → ℕ → ℕ → Result T Stop → Type 0
-IsFaultOf before now r = MatchResult r (λ _. now ≡ before) (IsStopBetween before now)
+-- the count rose by one, or stands at its last value, where a fault is the cause, which was the last call, and is as
+-- before otherwise
+abbrev pub IsFaultOf : {T : Type 0} → ℕ → ℕ → Bool → Result T Stop → Type 0
+IsFaultOf before now failed r = MatchResult r (λ _. now ≡ before) (IsStopBetween before now failed)

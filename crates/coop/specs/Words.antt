@@ -12,7 +12,8 @@
 use Rattle.std.specs.Prelude.{◌≡◌, ⊤, ◌<◌, ◌^◌, ℕ, pos, List, [], ◌∷◌, codes, Option, Some, None}
 use Rattle.fractions.specs.FractionTexts.{fraction_text}
 use Rattle.game_text.specs.declared.command.Command.{Command}
-use Rattle.game_text.specs.declared.command.Command.TheVariants.{Nucleolus, Prenucleolus, Propose, Core, Check, Shapley, Bird, Convex, Kernel, Matching}
+use Rattle.game_text.specs.declared.command.Command.TheVariants.{Nucleolus, Prenucleolus, Propose, Core, Check}
+use Rattle.game_text.specs.declared.command.Command.TheVariants.{Shapley, Bird, Convex, Kernel, Matching}
 use Rattle.kinds.specs.declared.kind.Kind.{Kind}
 use Rattle.coop_gen.specs.Generated.{HasKindSize}
 use Rattle.report.specs.Words.{kind_word}

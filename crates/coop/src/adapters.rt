@@ -8,11 +8,16 @@ use std::rt::{Stdin, Stdout};
 pub(crate) struct StdSource {
     input: Stdin,
     faults: u64,
+    failed: bool,
 }
 
 impl StdSource {
     pub(crate) fn new(input: Stdin) -> StdSource {
-        StdSource { input, faults: 0 }
+        StdSource {
+            input,
+            faults: 0,
+            failed: false,
+        }
     }
 }
 
@@ -23,10 +28,16 @@ impl Source for StdSource {
 
     ghost faults = { λ s. s.faults };
 
+    ghost failed = { λ s. s.failed };
+
     fn read(&mut self, buf: &mut [u8]) -> Result<usize, Failed> {
         match self.input.read(buf) {
-            Ok(count) => Ok(count),
+            Ok(count) => {
+                self.failed = false;
+                Ok(count)
+            }
             Err(_) => {
+                self.failed = true;
                 self.faults = self.faults.saturating_add(1);
                 Err(Failed)
             }
@@ -39,11 +50,16 @@ impl Source for StdSource {
 pub(crate) struct StdSink {
     output: Stdout,
     faults: u64,
+    failed: bool,
 }
 
 impl StdSink {
     pub(crate) fn new(output: Stdout) -> StdSink {
-        StdSink { output, faults: 0 }
+        StdSink {
+            output,
+            faults: 0,
+            failed: false,
+        }
     }
 }
 
@@ -54,12 +70,16 @@ impl Sink for StdSink {
 
     ghost faults = { λ s. s.faults };
 
+    ghost failed = { λ s. s.failed };
+
     fn write(&mut self, piece: &[u8]) -> Result<usize, Failed> {
         match self.output.write(piece) {
             Ok(count) if (count > 0 || piece.is_empty()) && self.output.flush().is_ok() => {
+                self.failed = false;
                 Ok(count)
             }
             _ => {
+                self.failed = true;
                 self.faults = self.faults.saturating_add(1);
                 Err(Failed)
             }

@@ -13,6 +13,7 @@ use report::Answer;
 use std::alloc::Global;
 
 /// What each player of the tree game of a document pays in Bird's plan, with the plan.
+#[inline(never)]
 pub(crate) fn bird_document(alloc: Global, document: &Document) -> Result<Answer, OutOfMemory>
     requires { is_tree (description_in document.now.game) ≡ true }
     ensures says { IfOk result (SaysOfBird (contents_in document.now)) }

@@ -1,4 +1,9 @@
 //! The verdict on the certificate of a document.
+ghost use Rattle.std.specs.Prelude.{◌≡◌, length, IfOk};
+ghost use Rattle.definitions.specs.Measures.{IsMeasurable};
+ghost use Rattle.checker.specs.Meaning.{IsVerdict};
+ghost use Rattle.game_text.specs.Descriptions.{game_of};
+ghost use Rattle.game_text.specs.Games.{description_in};
 ghost use Rattle.game_text.specs.Readings.{contents_in};
 ghost use Rattle.report.specs.Limits.{IsPrintable};
 ghost use Rattle.coop.specs.Checks.{Checks, HasLowestExcess, IsComplete};
@@ -7,17 +12,22 @@ ghost use Rattle.coop.specs.ReadBack.{IsNoNucleolus};
 use crate::limits::check_limit;
 use crate::solve::keep_their_limits;
 use checker::{Reason, Verdict, check};
-use game_text::Document;
+use fractions::OutOfMemory;
+use game_text::{Document, Game};
+use kohlberg::Certificate;
 use report::{Answer, UsageKind};
-use worth_core::Worth;
+use std::alloc::Global;
+use worth_core::{Family, Measure, Shares, Worth};
+use worth_tables::KeptWorths;
 
 /// The verdict on what a document says is the nucleolus of its game, or the prenucleolus, by the measure that it says;
 /// or that the game has more players than are checked by it.
-pub(crate) fn check_document(document: &Document) -> Answer
+#[inline(never)]
+pub(crate) fn check_document(alloc: Global, document: &Document) -> Result<Answer, OutOfMemory>
     requires { IsComplete (contents_in document.now) }
-    ensures checks { Checks (contents_in document.now) result }
-    ensures printable { IsPrintable result }
-    ensures readable { IsNoNucleolus result }
+    ensures checks { IfOk result (Checks (contents_in document.now)) }
+    ensures printable { IfOk result IsPrintable }
+    ensures readable { IfOk result IsNoNucleolus }
 {
     let (Some(family), Some(shares), Some(certificate)) = (
         document.family,
@@ -27,13 +37,45 @@ pub(crate) fn check_document(document: &Document) -> Answer
         unreachable!()
     };
     if document.game.players() > check_limit(document.measure) {
-        return Answer::Usage(UsageKind::Players);
+        return Ok(Answer::Usage(UsageKind::Players));
     }
     let measure = document.measure;
-    let verdict = check(&document.game, family, measure, shares, certificate);
+    let verdict = verdict_on(alloc, &document.game, family, measure, shares, certificate)?;
     keep_lowest(&verdict);
     keep_their_limits(shares, certificate);
-    Answer::Verdict(verdict)
+    Ok(Answer::Verdict(verdict))
+}
+
+// The checker's verdict. It asks for each worth at each level: those of a tree game, which finds them anew each time,
+// are kept.
+fn verdict_on(
+    alloc: Global,
+    game: &Game,
+    family: Family,
+    measure: Measure,
+    shares: &Shares,
+    certificate: &Certificate,
+) -> Result<Verdict, OutOfMemory>
+    requires shares { length shares.now.shares ≡ (game_of (description_in game.now)).players }
+    requires measurable { IsMeasurable measure (game_of (description_in game.now)).players }
+    requires certificate { certificate.now.players ≡ (game_of (description_in game.now)).players }
+    ensures { IfOk result (IsVerdict certificate.now.mode family measure (game_of (description_in game.now))
+        shares.now certificate.now.levels) }
+{
+    match game {
+        Game::Tree(game) => {
+            game.points(); // There are at most 17, by its type.
+            let kept = KeptWorths::new(alloc, game)?;
+            Ok(check(&kept, family, measure, shares, certificate))
+        }
+        Game::Table(_)
+        | Game::Cost(_)
+        | Game::Airport(_)
+        | Game::Bankruptcy(_)
+        | Game::Assignment(_)
+        | Game::Market(_)
+        | Game::Voting(_) => Ok(check(game, family, measure, shares, certificate)),
+    }
 }
 
 // The excess that a verdict carries is in lowest terms by its type; this call says so.

@@ -22,6 +22,7 @@ const MOST: u32 = 16;
 
 /// Whether the game of a document is convex, with its Shapley and marginal shares, or where it first isn't; or that it
 /// has more than 16 players.
+#[inline(never)]
 pub(crate) fn convex_document(alloc: Global, document: &Document) -> Result<Answer, OutOfMemory>
     requires { is_no_market (description_in document.now.game) ≡ true }
     ensures says { IfOk result (SaysOfConvex (contents_in document.now)) }

@@ -31,6 +31,7 @@ use worth_tables::KeptWorths;
 ///
 /// The point of an airport or bankruptcy game is its nucleolus, that of a tree game has Bird's shares, and the others
 /// are answered by the balanced program.
+#[inline(never)]
 pub(crate) fn core_document(alloc: Global, document: &Document) -> Result<Answer, OutOfMemory>
     requires accepted { IsAccepted (contents_in document.now) }
     requires class { is_no_market (description_in document.now.game) ≡ true }
@@ -48,7 +49,8 @@ pub(crate) fn core_document(alloc: Global, document: &Document) -> Result<Answer
 fn core_of_few(alloc: Global, document: &Document) -> Result<Answer, OutOfMemory>
     requires accepted { IsAccepted (contents_in document.now) }
     requires class { is_no_market (description_in document.now.game) ≡ true }
-    requires taken { (game_of (description_in document.now.game)).players ≤ core_limit (description_in document.now.game) }
+    requires taken { (game_of (description_in document.now.game)).players
+        ≤ core_limit (description_in document.now.game) }
     ensures finds { IfOk result (FindsCore (contents_in document.now)) }
     ensures printable { IfOk result IsPrintable }
     ensures readable { IfOk result IsNoNucleolus }

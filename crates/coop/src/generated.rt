@@ -9,10 +9,10 @@ ghost use Rattle.drawn_games.specs.Imputations.{HasImputations};
 ghost use Rattle.game_text.specs.Descriptions.{game_of};
 ghost use Rattle.game_text.specs.Games.{description_in};
 ghost use Rattle.report.specs.Limits.{IsFineIfThere};
-ghost use Rattle.coop.specs.Finding.{HasFewPlayers};
+ghost use Rattle.coop.specs.Finding.{HasFewPlayers, IsFoundFor};
 ghost use Rattle.coop.specs.GeneratorClaims.{IsGreatestExcess, IsSummaryOf};
 
-use crate::solve::found_plainly;
+use crate::solve::{by_programs, found_plainly};
 use checker::{Verdict, check};
 use coalitions::Coalition;
 use coop_gen::generate;
@@ -23,6 +23,7 @@ use nested_programs::Found;
 use report::Summary;
 use std::alloc::Global;
 use worth_core::{Family, Measure, Shares, Worth, measured_bound};
+use worth_tables::KeptWorths;
 
 /// What is said of the nucleolus of a generated game, after the checker has said yes to its certificate.
 pub(crate) fn summary_of(
@@ -37,8 +38,7 @@ pub(crate) fn summary_of(
     ensures fine { IfOk result (λ s. IsFineIfThere s.greatest) }
 {
     let game = generate(alloc, kind, players, seed)?;
-    let shares = checked_shares(alloc, &game)?;
-    let greatest = greatest_excess(&game, &shares);
+    let (shares, greatest) = solved(alloc, &game)?;
     Ok(Summary {
         kind,
         players,
@@ -49,31 +49,64 @@ pub(crate) fn summary_of(
     })
 }
 
-// The shares of the nucleolus of a game that has imputations, whose certificate the checker says yes to.
-fn checked_shares(alloc: Global, game: &Game) -> Result<Shares, OutOfMemory>
+// The nucleolus of a game that has imputations, and its greatest excess. Each worth is asked for many times: those of a
+// tree game, which finds a worth anew each time, are kept.
+fn solved(alloc: Global, game: &Game) -> Result<(Shares, Option<Frac>), OutOfMemory>
     requires few { HasFewPlayers (description_in game.now) }
     requires imputations { HasImputations (game_of (description_in game.now)) }
-    ensures { IfOk result (IsNucleolus Imputations Plain (game_of (description_in game.now))) }
+    ensures nucleolus { IfOk result (λ s. IsNucleolus Imputations Plain (game_of (description_in game.now)) s.0) }
+    ensures greatest { IfOk result (λ s. IsGreatestExcess (game_of (description_in game.now)) s.0 s.1) }
+    ensures fine { IfOk result (λ s. IsFineIfThere s.1) }
 {
-    let (shares, certificate) = match found_plainly(alloc, game, Family::Imputations)? {
+    match game {
+        Game::Tree(game) => {
+            let kept = KeptWorths::new(alloc, game)?;
+            let found = by_programs(alloc, &kept, Family::Imputations, Measure::Plain)?;
+            Ok(checked(&kept, found))
+        }
+        Game::Table(_)
+        | Game::Cost(_)
+        | Game::Airport(_)
+        | Game::Bankruptcy(_)
+        | Game::Assignment(_)
+        | Game::Market(_)
+        | Game::Voting(_) => {
+            let found = found_plainly(alloc, game, Family::Imputations)?;
+            Ok(checked(game, found))
+        }
+    }
+}
+
+// The shares that were found, whose certificate the checker says yes to, and their greatest excess.
+fn checked<W: Worth>(game: &W, found: Found) -> (Shares, Option<Frac>)
+    requires found { IsFoundFor Imputations Plain (W.game game.now) found }
+    requires imputations { HasImputations (W.game game.now) }
+    ensures nucleolus { IsNucleolus Imputations Plain (W.game game.now) result.0 }
+    ensures greatest { IsGreatestExcess (W.game game.now) result.0 result.1 }
+    ensures fine { IsFineIfThere result.1 }
+{
+    let (shares, certificate) = match found {
         Found::Point(shares, certificate) => (shares, certificate),
         // The game has imputations.
         Found::NoImputation { .. } => unreachable!(),
     };
     match approved(game, shares, &certificate) {
-        Some(shares) => Ok(shares),
+        Some(shares) => {
+            let greatest = greatest_excess(game, &shares);
+            (shares, greatest)
+        }
         // What was found meets all conditions.
         None => unreachable!(),
     }
 }
 
 // The shares, where the checker says yes to their certificate.
-fn approved(game: &Game, shares: Shares, certificate: &Certificate) -> Option<Shares>
-    requires shares { length shares.shares ≡ (game_of (description_in game.now)).players }
-    requires certificate { certificate.now.players ≡ (game_of (description_in game.now)).players }
+fn approved<W: Worth>(game: &W, shares: Shares, certificate: &Certificate) -> Option<Shares>
+    requires shares { length shares.shares ≡ (W.game game.now).players }
+    requires certificate { certificate.now.players ≡ (W.game game.now).players }
     ensures { MatchOption result
-        (¬ Certifies certificate.now.mode Imputations Plain (game_of (description_in game.now)) shares certificate.now.levels)
-        (IsNucleolus Imputations Plain (game_of (description_in game.now))) }
+        (¬ Certifies certificate.now.mode Imputations Plain (W.game game.now) shares certificate.now.levels)
+        (IsNucleolus Imputations Plain (W.game game.now)) }
 {
     let verdict = check(
         game,
@@ -89,9 +122,9 @@ fn approved(game: &Game, shares: Shares, certificate: &Certificate) -> Option<Sh
 }
 
 // The greatest excess of a coalition that is neither empty nor all, and none for one player.
-fn greatest_excess(game: &Game, shares: &Shares) -> Option<Frac>
-    requires { length shares.now.shares ≡ (game_of (description_in game.now)).players }
-    ensures greatest { IsGreatestExcess (game_of (description_in game.now)) shares.now result }
+fn greatest_excess<W: Worth>(game: &W, shares: &Shares) -> Option<Frac>
+    requires { length shares.now.shares ≡ (W.game game.now).players }
+    ensures greatest { IsGreatestExcess (W.game game.now) shares.now result }
     ensures fine { IsFineIfThere result }
 {
     let players = game.players();

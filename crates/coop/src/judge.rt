@@ -13,6 +13,7 @@ use report::Answer;
 use worth_core::{Shares, Worth, scaled, scaled_excess};
 
 /// The judgement on what a document proposes.
+#[inline(never)]
 pub(crate) fn judge_document(document: &Document) -> Answer
     requires { HasShares (contents_in document.now) }
     ensures judges { JudgesAll (contents_in document.now) result }

@@ -2,6 +2,7 @@
 #![tactic(auto)]
 
 mod adapters;
+mod behind_name;
 mod bird_shares;
 mod check;
 mod classes;
@@ -16,6 +17,7 @@ mod reply;
 mod run;
 mod shapley_values;
 mod solve;
+mod stack;
 mod status;
 mod stop;
 mod stream;
@@ -24,19 +26,23 @@ mod tests;
 mod words;
 
 use adapters::{StdSink, StdSource};
+use behind_name::BehindName;
 use run::run;
+use stack::use_stack;
 use status::Status;
 use std::io::ErrorKind;
 use std::process::ExitCode;
 use std::{env, io};
 
-// The words after the program's name.
+// The words of the command line behind the program's name, which may be a path that isn't UTF-8.
 fn arguments(rt: &HostRuntime) -> io::Result<Vec<String>> {
-    let arguments = env::args(rt)?.skip(1).collect(rt.alloc())?;
+    let behind_name = (BehindName { rt }, rt.alloc());
+    let arguments = env::args(&behind_name)?.collect(rt.alloc())?;
     Ok(arguments)
 }
 
 fn main(rt: HostRuntime) -> ExitCode {
+    use_stack(&rt);
     let words = match arguments(&rt) {
         Ok(words) => words,
         Err(e) if e.kind() == ErrorKind::OutOfMemory => {

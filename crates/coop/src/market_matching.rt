@@ -14,6 +14,7 @@ use std::alloc::Global;
 
 /// An optimal matching of the market of a document with its value, and the core points that are best for every buyer
 /// and for every seller.
+#[inline(never)]
 pub(crate) fn matching_document(alloc: Global, document: &Document) -> Result<Answer, OutOfMemory>
     requires { is_market (description_in document.now.game) ≡ true }
     ensures says { IfOk result (SaysOfMatching (contents_in document.now)) }

@@ -18,6 +18,7 @@ const MOST: u32 = 16;
 
 /// Whether the shares of a document are in the prekernel of its game, or the first two players that aren't balanced; or
 /// that the game has more than 16 players.
+#[inline(never)]
 pub(crate) fn kernel_document(document: &Document) -> Answer
     requires { HasShares (contents_in document.now) }
     ensures says { SaysOfKernel (contents_in document.now) result }
@@ -38,7 +39,8 @@ fn balance<W: Worth>(game: &W, shares: &Shares, are_costs: bool) -> Answer
     requires few { (W.game game.now).players ≤ 16 }
     requires each { length shares.now.shares ≡ (W.game game.now).players }
     ensures balances { Balances are_costs (W.game game.now) shares.now result }
-    ensures prenucleolus { IsNucleolus Family.Preimputations Measure.Plain (W.game game.now) shares.now → result ≡ Answer.Prekernel }
+    ensures prenucleolus { IsNucleolus Family.Preimputations Measure.Plain (W.game game.now) shares.now
+        → result ≡ Answer.Prekernel }
     ensures printable { IsPrintable result }
     ensures readable { IsNoNucleolus result }
 {

@@ -49,17 +49,20 @@ pub fn run<S: Source, K: Sink>(
     sink: &mut K,
 ) -> Status
     // After an answer the sink took its line, and the answer is right for the bytes that the source had left.
-    ensures ends { Ends (map string_bytes words.now) (S.left source.old) (S.left source.new) (K.taken sink.old) (K.taken sink.new) result }
+    ensures ends { Ends (map string_bytes words.now) (S.left source.old) (S.left source.new)
+        (K.taken sink.old) (K.taken sink.new) result }
     // No fault is answered without a cause, and the first fault ends the run.
-    ensures read { IsCauseOf Status.ReadFault (S.faults source.old) (S.faults source.new) result }
-    ensures write { IsCauseOf Status.WriteFault (K.faults sink.old) (K.faults sink.new) result }
+    ensures read { IsCauseOf Status.ReadFault (S.faults source.old) (S.faults source.new) (S.failed source.new) result }
+    ensures write { IsCauseOf Status.WriteFault (K.faults sink.old) (K.faults sink.new) (K.failed sink.new) result }
     // A document that its command serves has its answer, unless memory isn't found or a port fails.
     ensures complete { IsComplete (map string_bytes words.now) (S.left source.old)
         (S.faults source.old) (S.faults source.new) (K.faults sink.old) (K.faults sink.new) result }
     // For other words no memory is taken.
-    ensures other_words { IsNoCommand (map string_bytes words.now) → (result ≡ Status.Usage) ⊎ (result ≡ Status.WriteFault) }
+    ensures other_words { IsNoCommand (map string_bytes words.now)
+        → (result ≡ Status.Usage) ⊎ (result ≡ Status.WriteFault) }
     // For a generated game nothing is read, and its answer is positive.
-    ensures generated { AsksForGame (map string_bytes words.now) → EndsMade (S.left source.old) (S.left source.new) result }
+    ensures generated { AsksForGame (map string_bytes words.now)
+        → EndsMade (S.left source.old) (S.left source.new) result }
 {
     let Some(request) = request_of(words) else {
         return match write_line(sink, usage_line()) {
@@ -90,7 +93,7 @@ fn reply_to<S: Source>(alloc: Global, request: Request, source: &mut S) -> Resul
     ensures scale { IfOk result (λ r. IsScale r.scale) }
     ensures printable { IfOk result (λ r. IsPrintable r.answer) }
     ensures readable { IfOk result (λ r. CanBeRead r.scale r.answer) }
-    ensures cause { IsFaultOf (S.faults source.old) (S.faults source.new) result }
+    ensures cause { IsFaultOf (S.faults source.old) (S.faults source.new) (S.failed source.new) result }
     ensures made { IsMadeFor request (S.left source.old) (S.left source.new) result }
 {
     match request {
@@ -111,11 +114,12 @@ fn reply_to<S: Source>(alloc: Global, request: Request, source: &mut S) -> Resul
 
 // The answer to the command on the input of the source, with its scale.
 fn answer_on<S: Source>(alloc: Global, command: Command, source: &mut S) -> Result<Reply, Stop>
-    ensures right { IfOk result (λ r. IsRight (word_of command ∷ []) (S.left source.old) (S.left source.new) r.scale r.answer) }
+    ensures right { IfOk result
+        (λ r. IsRight (word_of command ∷ []) (S.left source.old) (S.left source.new) r.scale r.answer) }
     ensures scale { IfOk result (λ r. IsScale r.scale) }
     ensures printable { IfOk result (λ r. IsPrintable r.answer) }
     ensures readable { IfOk result (λ r. CanBeRead r.scale r.answer) }
-    ensures cause { IsFaultOf (S.faults source.old) (S.faults source.new) result }
+    ensures cause { IsFaultOf (S.faults source.old) (S.faults source.new) (S.failed source.new) result }
 {
     let input = read_input(alloc, source, document_limit(command))?;
     let mut document = match read_document(alloc, &input, command) {
@@ -168,7 +172,8 @@ fn said_to(alloc: Global, command: Command, document: &mut Document) -> Result<A
     }
 }
 
-// The answer to a command that leaves the document as it is.
+// The answer to a command that leaves the document as it is. Each command is a call that isn't inlined, so that a run
+// takes the stack of its own command alone.
 fn said_of(alloc: Global, command: Command, document: &Document) -> Result<Answer, OutOfMemory>
     requires needed { HasNeeded command (contents_in document.now) }
     requires class { serves_class command (description_in document.now.game) ≡ true }
@@ -182,7 +187,7 @@ fn said_of(alloc: Global, command: Command, document: &Document) -> Result<Answe
         Command::Nucleolus | Command::Prenucleolus => unreachable!(),
         Command::Propose => Ok(judge_document(document)),
         Command::Core => core_document(alloc, document),
-        Command::Check => Ok(check_document(document)),
+        Command::Check => check_document(alloc, document),
         Command::Shapley => shapley_document(alloc, document),
         Command::Bird => bird_document(alloc, document),
         Command::Convex => convex_document(alloc, document),

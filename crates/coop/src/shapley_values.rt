@@ -20,6 +20,7 @@ use worth_core::Shares;
 
 /// The Shapley shares of the game of a document, or that it has more players than are answered: 32 for an airport or
 /// voting game, and 16 for another.
+#[inline(never)]
 pub(crate) fn shapley_document(alloc: Global, document: &Document) -> Result<Answer, OutOfMemory>
     requires { is_no_market (description_in document.now.game) ≡ true }
     ensures says { IfOk result (SaysOfShapley (contents_in document.now)) }
@@ -39,7 +40,8 @@ pub(crate) fn shapley_document(alloc: Global, document: &Document) -> Result<Ans
 fn shares_of(alloc: Global, game: &Game) -> Result<Shares, ShapleyFault>
     requires { is_no_market (description_in game.now) ≡ true }
     ensures value { IfOk result (IsShapley (game_of (description_in game.now))) }
-    ensures too_many { IsErrOf result ShapleyFault.TooMany ↔ (shapley_limit (description_in game.now) < (game_of (description_in game.now)).players) }
+    ensures too_many { IsErrOf result ShapleyFault.TooMany
+        ↔ (shapley_limit (description_in game.now) < (game_of (description_in game.now)).players) }
 {
     match game {
         Game::Airport(game) => airport_shapley(alloc, game),

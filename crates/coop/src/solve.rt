@@ -11,7 +11,7 @@ ghost use Rattle.coop.specs.ReadBack.{CanBeRead};
 ghost use Rattle.definitions.specs.declared.Measure.{Measure};
 ghost use Rattle.coop.specs.Classes.{is_no_market};
 ghost use Rattle.coop.specs.Limits.{nucleolus_limit};
-ghost use Rattle.coop.specs.Finding.{HasFewPlayers, IsFoundFor};
+ghost use Rattle.coop.specs.Finding.{HasFewPlayers, IsFoundFor, IsChosenFound};
 ghost use Rattle.coop.specs.Headline.{Solves};
 
 use crate::judge::printed_worth;
@@ -73,7 +73,8 @@ fn found_for(
 ) -> Result<Found, OutOfMemory>
     requires class { is_no_market (description_in game.now) ≡ true }
     requires few { (game_of (description_in game.now)).players ≤ nucleolus_limit measure (description_in game.now) }
-    ensures { IfOk result (IsFoundFor family measure (game_of (description_in game.now))) }
+    ensures found { IfOk result (IsFoundFor family measure (game_of (description_in game.now))) }
+    ensures chosen { IfOk result (IsChosenFound measure (description_in game.now)) }
 {
     match measure {
         Measure::Plain => found_plainly(alloc, game, family),
@@ -88,7 +89,8 @@ pub(crate) fn found_plainly(
     family: Family,
 ) -> Result<Found, OutOfMemory>
     requires { HasFewPlayers (description_in game.now) }
-    ensures { IfOk result (IsFoundFor family Measure.Plain (game_of (description_in game.now))) }
+    ensures found { IfOk result (IsFoundFor family Measure.Plain (game_of (description_in game.now))) }
+    ensures chosen { IfOk result (IsChosenFound Measure.Plain (description_in game.now)) }
 {
     match game {
         Game::Airport(game) => {
@@ -124,8 +126,10 @@ fn point(solution: (Shares, Certificate)) -> Found
     Found::Point(solution.0, solution.1)
 }
 
-// What the nested programs find for a game of few players.
-fn by_programs<W: Worth>(
+/// What the nested programs find for a game of few players. It is called from two functions on one path, which would
+/// each take its great frame if it were inlined.
+#[inline(never)]
+pub(crate) fn by_programs<W: Worth>(
     alloc: Global,
     game: &W,
     family: Family,

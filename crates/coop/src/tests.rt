@@ -27,10 +27,9 @@ use std::process::Abort;
 use std::test::Fail;
 
 const BLOCKED: &str =
-    "{\"game\":{\"class\":\"table\",\"players\":3,\"worths\":[0,0,1,0,1,1,1]},\"shares\":[1,0,0]}";
+    r#"{"game":{"class":"table","players":3,"worths":[0,0,1,0,1,1,1]},"shares":[1,0,0]}"#;
 
-const CORE: &str =
-    "{\"game\":{\"class\":\"table\",\"players\":2,\"worths\":[1,2,7]},\"shares\":[3,4]}";
+const CORE: &str = r#"{"game":{"class":"table","players":2,"worths":[1,2,7]},"shares":[3,4]}"#;
 
 // More bytes than a line of these tests has.
 const ROOM: usize = 1_000_000;

@@ -41,7 +41,8 @@ pub(crate) fn request_of(words: &[String]) -> Option<Request>
 
 /// The command that a word names.
 fn command_named(word: &str) -> Option<Command>
-    ensures { MatchOption result ((command : Commands) → word_of command ≢ word.now) (λ command. word.now ≡ word_of command) }
+    ensures { MatchOption result ((command : Commands) → word_of command ≢ word.now)
+        (λ command. word.now ≡ word_of command) }
 {
     match word {
         "nucleolus" => Some(Command::Nucleolus),
@@ -74,7 +75,8 @@ fn kind_named(word: &str) -> Option<Kind>
 
 /// The number below 2^32 whose decimal digits a word has.
 fn number_in(word: &str) -> Option<u32>
-    ensures value { MatchOption result ((n : ℕ) → n < 2 ^ 32 → number_text n ≢ word.now) (λ n. word.now ≡ number_text n) }
+    ensures value { MatchOption result ((n : ℕ) → n < 2 ^ 32 → number_text n ≢ word.now)
+        (λ n. word.now ≡ number_text n) }
     ensures small { IfSome result (λ n. n < 2 ^ 32) }
 {
     let Some(number) = Frac::parse(word.as_bytes()) else {

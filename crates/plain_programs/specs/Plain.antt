@@ -9,7 +9,8 @@
 --   scale_limit      the greatest size of a scale
 --   excess_limit     what measured excesses are below in size
 --   blocking_masks   the coalitions that are worth more than their members get
-use Rattle.std.specs.Prelude.{◌≡◌, ℕ, ◌+◌, ◌^◌, ◌<◌, ◌≤◌, List, length, All, ℤ, pos, ◌*ℤ◌, ◌≤ℤ◌, int_lt, unsigned_abs}
+use Rattle.std.specs.Prelude.{◌≡◌, ℕ, ◌+◌, ◌^◌, ◌<◌, ◌≤◌, List, length, All, ℤ}
+use Rattle.std.specs.Prelude.{pos, ◌*ℤ◌, ◌≤ℤ◌, int_lt, unsigned_abs}
 use Rattle.std.specs.List.{filter, range_with_len}
 use Rattle.definitions.specs.Games.{Game, Allocation, amount}
 use Rattle.definitions.specs.Classes.{table_worth}

@@ -15,15 +15,18 @@ is_chosen fails call = list_any (λ f. f == call) fails
 abbrev pub after : ℕ → ℕ
 after calls = min (calls + 1) (2 ^ 64 - 1)
 
--- the bytes that are left, the most that a call gives, the calls that fail, the number of the next call, and how often a read failed
+-- the bytes that are left, the most that a call gives, the calls that fail, the number of the next call, how often a
+-- read failed, and whether the last one did
 pub record Remaining : Type 0 where
   pub left : List ℕ
   pub piece : ℕ
   pub fails : List ℕ
   pub calls : ℕ
   pub faults : ℕ
+  pub failed : Bool
 
--- the bytes taken so far, how many fit in all, the most that a call takes, the calls that fail, the number of the next call, and how often a write failed
+-- the bytes taken so far, how many fit in all, the most that a call takes, the calls that fail, the number of the next
+-- call, how often a write failed, and whether the last one did
 pub record Held : Type 0 where
   pub bytes : List ℕ
   pub capacity : ℕ
@@ -31,3 +34,4 @@ pub record Held : Type 0 where
   pub fails : List ℕ
   pub calls : ℕ
   pub faults : ℕ
+  pub failed : Bool

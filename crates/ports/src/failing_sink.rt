@@ -1,4 +1,4 @@
-ghost use Rattle.std.specs.Prelude.{◌≡◌, ◌⊎◌, ◌↔◌, IfOk, IsErr, IsTrue, length, []};
+ghost use Rattle.std.specs.Prelude.{◌≡◌, ◌⊎◌, ◌↔◌, IfOk, IsErr, IsTrue, false, length, []};
 ghost use Rattle.std.specs.Prelude.{◌<◌, ◌≤◌, ◌-◌, min};
 ghost use Rattle.ports.specs.Writes.{IsWrite};
 ghost use Rattle.ports.specs.Failing.{is_chosen, after};
@@ -31,6 +31,7 @@ impl Model for FailingSink {
       fails = s.fails.items;
       calls = s.calls;
       faults = s.memory.faults;
+      failed = s.memory.failed;
     } };
 
     ghost invariant = { λ s. 1 ≤ s.piece };
@@ -47,7 +48,15 @@ impl FailingSink {
         fails: Vec<u64>,
     ) -> Result<FailingSink, OutOfMemory>
         requires { 1 ≤ piece }
-        ensures { IfOk result (λ s. s ≡ record { bytes = []; capacity = capacity; piece = piece; fails = fails.items; calls = 0; faults = 0 }) }
+        ensures { IfOk result (λ s. s ≡ record {
+          bytes = [];
+          capacity = capacity;
+          piece = piece;
+          fails = fails.items;
+          calls = 0;
+          faults = 0;
+          failed = false;
+        }) }
     {
         let memory = MemorySink::new(alloc, capacity)?;
         Ok(FailingSink {
@@ -73,14 +82,18 @@ impl Sink for FailingSink {
 
     ghost faults = { λ s. s.faults };
 
+    ghost failed = { λ s. s.failed };
+
     /// Takes as many bytes of `piece` as fit and are taken at once.
     ///
     /// Fails exactly at the chosen calls, and where none fits of a piece that isn't empty.
     fn write(&mut self, piece: &[u8]) -> Result<usize, Failed>
-        ensures write { IsWrite (Some self.old.bytes) (Some self.new.bytes) self.old.faults self.new.faults result piece.now }
+        ensures write { IsWrite (Some self.old.bytes) (Some self.new.bytes) self.old.faults self.new.faults
+            self.new.failed result piece.now }
         ensures chosen { IsErr result ↔ IsTrue (is_chosen self.old.fails self.old.calls)
             ⊎ ((length self.old.bytes ≡ self.old.capacity) × (0 < length piece.now)) }
-        ensures count { IfOk result (λ n. n ≡ min (self.old.capacity - length self.old.bytes) (min self.old.piece (length piece.now))) }
+        ensures count { IfOk result
+            (λ n. n ≡ min (self.old.capacity - length self.old.bytes) (min self.old.piece (length piece.now))) }
         ensures next { self.new.calls ≡ after self.old.calls }
         ensures same_capacity { self.new.capacity ≡ self.old.capacity }
         ensures same_piece { self.new.piece ≡ self.old.piece }

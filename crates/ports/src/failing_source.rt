@@ -1,4 +1,4 @@
-ghost use Rattle.std.specs.Prelude.{◌≡◌, ◌↔◌, ◌≤◌, length, min, take, IfOk, IsErr, IsTrue};
+ghost use Rattle.std.specs.Prelude.{◌≡◌, ◌↔◌, ◌≤◌, length, min, take, false, IfOk, IsErr, IsTrue, is_err};
 ghost use Rattle.std.specs.Io.{ReadsAtMost};
 ghost use Rattle.std.specs.Io.KnownBytes.{ReadConsumes};
 ghost use Rattle.ports.specs.Causes.{HasCause};
@@ -16,6 +16,7 @@ pub struct FailingSource {
     fails: Vec<u64>,
     calls: u64,
     faults: u64,
+    failed: bool,
 }
 
 impl Model for FailingSource {
@@ -24,7 +25,14 @@ impl Model for FailingSource {
 
     ghost Value = { Remaining };
 
-    ghost view = { λ s. record { left = drop s.at s.bytes.items; piece = s.piece; fails = s.fails.items; calls = s.calls; faults = s.faults } };
+    ghost view = { λ s. record {
+      left = drop s.at s.bytes.items;
+      piece = s.piece;
+      fails = s.fails.items;
+      calls = s.calls;
+      faults = s.faults;
+      failed = s.failed;
+    } };
 
     ghost invariant = { λ s. (s.at ≤ length s.bytes.items) × (1 ≤ s.piece) };
 }
@@ -35,7 +43,14 @@ impl FailingSource {
     /// The calls whose numbers, from 0, stand in `fails` fail and give nothing.
     pub fn new(bytes: Vec<u8>, piece: usize, fails: Vec<u64>) -> FailingSource
         requires { 1 ≤ piece }
-        ensures { result ≡ record { left = bytes.items; piece = piece; fails = fails.items; calls = 0; faults = 0 } }
+        ensures { result ≡ record {
+          left = bytes.items;
+          piece = piece;
+          fails = fails.items;
+          calls = 0;
+          faults = 0;
+          failed = false;
+        } }
     {
         FailingSource {
             bytes,
@@ -44,6 +59,7 @@ impl FailingSource {
             fails,
             calls: 0,
             faults: 0,
+            failed: false,
         }
     }
 }
@@ -55,11 +71,14 @@ impl Source for FailingSource {
 
     ghost faults = { λ s. s.faults };
 
+    ghost failed = { λ s. s.failed };
+
     /// Reads as many bytes as are left, fit into `buf` and are given at once. Fails exactly at the chosen calls.
     fn read(&mut self, buf: &mut [u8]) -> Result<usize, Failed>
         ensures bound { ReadsAtMost result buf.new }
         ensures bytes { ReadConsumes (Some self.old.left) (Some self.new.left) result buf.new }
         ensures cause { HasCause self.old.faults self.new.faults result }
+        ensures last { self.new.failed ≡ is_err result }
         ensures chosen { IsErr result ↔ IsTrue (is_chosen self.old.fails self.old.calls) }
         ensures count { IfOk result (λ n. n ≡ min (length self.old.left) (min self.old.piece (length buf.old))) }
         ensures next { self.new.calls ≡ after self.old.calls }
@@ -68,7 +87,8 @@ impl Source for FailingSource {
     {
         let call = self.calls;
         self.calls = call.saturating_add(1);
-        if self.fails.contains(&call) {
+        self.failed = self.fails.contains(&call);
+        if self.failed {
             self.faults = self.faults.saturating_add(1);
             return Err(Failed);
         }

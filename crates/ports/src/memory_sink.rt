@@ -1,4 +1,4 @@
-ghost use Rattle.std.specs.Prelude.{◌≡◌, ◌<◌, ◌-◌, length, min, [], IfOk, OnErr, IsErr};
+ghost use Rattle.std.specs.Prelude.{◌≡◌, ◌<◌, ◌-◌, length, min, [], true, false, IfOk, OnErr, IsErr};
 ghost use Rattle.ports.specs.Causes.{HasCause};
 ghost use Rattle.ports.specs.Writes.{IsWrite};
 
@@ -13,6 +13,7 @@ pub struct MemorySink {
     bytes: Vec<u8>,
     capacity: usize,
     faults: u64,
+    failed: bool,
 }
 
 impl Model for MemorySink {
@@ -21,7 +22,7 @@ impl Model for MemorySink {
 
     ghost Value = { Taken };
 
-    ghost view = { λ s. record { bytes = s.bytes.items; capacity = s.capacity; faults = s.faults } };
+    ghost view = { λ s. record { bytes = s.bytes.items; capacity = s.capacity; faults = s.faults; failed = s.failed } };
 
     ghost invariant = { λ s. (vec_len s.bytes ≤ s.capacity) × (s.capacity ≤ vec_capacity s.bytes) };
 }
@@ -29,13 +30,14 @@ impl Model for MemorySink {
 impl MemorySink {
     /// An empty sink for at most `capacity` bytes; its memory is taken now.
     pub fn new(alloc: Global, capacity: usize) -> Result<MemorySink, OutOfMemory>
-        ensures { IfOk result (λ s. s ≡ record { bytes = []; capacity = capacity; faults = 0 }) }
+        ensures { IfOk result (λ s. s ≡ record { bytes = []; capacity = capacity; faults = 0; failed = false }) }
     {
         let bytes = Vec::with_capacity(alloc, capacity)?;
         Ok(MemorySink {
             bytes,
             capacity,
             faults: 0,
+            failed: false,
         })
     }
 
@@ -50,10 +52,12 @@ impl MemorySink {
     pub(crate) fn fail(&mut self) -> Result<usize, Failed>
         ensures failed { IsErr result }
         ensures cause { HasCause self.old.faults self.new.faults result }
+        ensures last { self.new.failed ≡ true }
         ensures same_bytes { self.new.bytes ≡ self.old.bytes }
         ensures same_capacity { self.new.capacity ≡ self.old.capacity }
     {
         self.faults = self.faults.saturating_add(1);
+        self.failed = true;
         Err(Failed)
     }
 }
@@ -65,9 +69,12 @@ impl Sink for MemorySink {
 
     ghost faults = { λ s. s.faults };
 
+    ghost failed = { λ s. s.failed };
+
     /// Takes as many bytes of `piece` as fit. Fails exactly where none fits of a piece that isn't empty.
     fn write(&mut self, piece: &[u8]) -> Result<usize, Failed>
-        ensures write { IsWrite (Some self.old.bytes) (Some self.new.bytes) self.old.faults self.new.faults result piece.now }
+        ensures write { IsWrite (Some self.old.bytes) (Some self.new.bytes) self.old.faults self.new.faults
+            self.new.failed result piece.now }
         ensures count { IfOk result (λ n. n ≡ min (self.old.capacity - length self.old.bytes) (length piece.now)) }
         ensures full { OnErr result ((length self.old.bytes ≡ self.old.capacity) × (0 < length piece.now)) }
         ensures same_capacity { self.new.capacity ≡ self.old.capacity }
@@ -76,6 +83,7 @@ impl Sink for MemorySink {
         if room == 0 && !piece.is_empty() {
             return self.fail();
         }
+        self.failed = false;
         let count = room.min(piece.len());
         match self.bytes.extend_from_slice(&piece[..count]) {
             Ok(()) => Ok(count),

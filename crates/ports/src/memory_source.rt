@@ -1,4 +1,4 @@
-ghost use Rattle.std.specs.Prelude.{◌≡◌, length, min, take, IfOk, IsOk};
+ghost use Rattle.std.specs.Prelude.{◌≡◌, length, min, take, false, IfOk, IsOk, is_err};
 ghost use Rattle.std.specs.Io.{ReadsAtMost};
 ghost use Rattle.std.specs.Io.KnownBytes.{ReadConsumes};
 ghost use Rattle.ports.specs.Causes.{HasCause};
@@ -39,11 +39,14 @@ impl Source for MemorySource {
 
     ghost faults = { λ _. 0 };
 
+    ghost failed = { λ _. false };
+
     /// Reads as many bytes as are left and fit into `buf`.
     fn read(&mut self, buf: &mut [u8]) -> Result<usize, Failed>
         ensures bound { ReadsAtMost result buf.new }
         ensures bytes { ReadConsumes (Some self.old) (Some self.new) result buf.new }
         ensures cause { HasCause 0 0 result }
+        ensures last { false ≡ is_err result }
         ensures never { IsOk result }
         ensures count { IfOk result (λ n. n ≡ min (length self.old) (length buf.old)) }
     {

@@ -1,4 +1,4 @@
-ghost use Rattle.std.specs.Prelude.{ℕ, List, Option};
+ghost use Rattle.std.specs.Prelude.{ℕ, List, Option, Bool};
 ghost use Rattle.ports.specs.Writes.{IsWrite};
 
 use crate::Failed;
@@ -7,12 +7,16 @@ use crate::Failed;
 pub trait Sink {
     // The bytes taken so far, where the sink tells them.
     ghost taken: { Self → Option (List ℕ) };
-    // How often a write failed; the last value stays.
+    // How often a write failed, one a failure, up to 2^64 - 1, where it stays.
     ghost faults: { Self → ℕ };
+    // Whether the last write failed.
+    ghost failed: { Self → Bool };
 
     /// Takes bytes from the front of `piece`, at least one where there is one, and gives their number.
     ///
-    /// `Failed` comes only where the count of faults rises or stands at its last value, and keeps what was taken.
+    /// `Failed` comes only where the count of faults rises by one or stands at its last value, and keeps what was
+    /// taken.
     fn write(&mut self, piece: &[u8]) -> Result<usize, Failed>
-        ensures { IsWrite (taken self.old) (taken self.new) (faults self.old) (faults self.new) result piece.now };
+        ensures { IsWrite (taken self.old) (taken self.new) (faults self.old) (faults self.new) (failed self.new)
+            result piece.now };
 }

@@ -7,61 +7,83 @@ use std::test::Fail;
 fn checks_the_worked_certificates(rt: HostRuntime) -> Result<(), Fail> {
     let rows = &[
         (
-            "{\"answer\":\"nucleolus\",\"certificate\":{\"levels\":[{\"bounds\":[],\"coalitions\":[[[1],1],[[2,3],1]],\"earlier\":[],\
-             \"excess\":\"-1\",\"total\":1},{\"bounds\":[],\"coalitions\":[[[1,2],1],[[1,3],1]],\"earlier\":[[[1],-1]],\"excess\":\"-3/2\",\
-             \"total\":1}],\"mode\":\"players\"},\"game\":{\"class\":\"airport\",\"costs\":[2,4,6]},\"shares\":[\"1\",\"3/2\",\"7/2\"]}",
-            "{\"answer\":\"yes\"}\n",
+            concat!(
+                r#"{"answer":"nucleolus","certificate":{"levels":[{"bounds":[],"coalitions":[[[1],1],[[2,3],1]],"#,
+                r#""earlier":[],"excess":"-1","total":1},{"bounds":[],"coalitions":[[[1,2],1],[[1,3],1]],"#,
+                r#""earlier":[[[1],-1]],"excess":"-3/2","total":1}],"mode":"players"},"game":{"class":"airport","#,
+                r#""costs":[2,4,6]},"shares":["1","3/2","7/2"]}"#,
+            ),
+            concat!(r#"{"answer":"yes"}"#, "\n"),
             Status::Done,
         ),
         (
-            "{\"answer\":\"nucleolus\",\"certificate\":{\"levels\":[{\"bounds\":[],\"coalitions\":[[[1],1],[[2,3],1]],\"earlier\":[],\
-             \"excess\":\"-1\",\"total\":1},{\"bounds\":[],\"coalitions\":[[[1,2],2],[[1,3],1]],\"earlier\":[[[1],-1]],\"excess\":\"-3/2\",\
-             \"total\":1}],\"mode\":\"players\"},\"game\":{\"class\":\"airport\",\"costs\":[2,4,6]},\"shares\":[\"1\",\"3/2\",\"7/2\"]}",
-            "{\"answer\":\"no\",\"level\":2,\"player\":1,\"reason\":5}\n",
+            concat!(
+                r#"{"answer":"nucleolus","certificate":{"levels":[{"bounds":[],"coalitions":[[[1],1],[[2,3],1]],"#,
+                r#""earlier":[],"excess":"-1","total":1},{"bounds":[],"coalitions":[[[1,2],2],[[1,3],1]],"#,
+                r#""earlier":[[[1],-1]],"excess":"-3/2","total":1}],"mode":"players"},"game":{"class":"airport","#,
+                r#""costs":[2,4,6]},"shares":["1","3/2","7/2"]}"#,
+            ),
+            concat!(r#"{"answer":"no","level":2,"player":1,"reason":5}"#, "\n"),
             Status::Negative,
         ),
         (
-            "{\"answer\":\"nucleolus\",\"certificate\":{\"levels\":[{\"bounds\":[],\"coalitions\":[[[1],1],[[2,3],1]],\"earlier\":[],\
-             \"excess\":\"-1\",\"total\":1},{\"bounds\":[],\"coalitions\":[[[1,2],1],[[1,3],1]],\"earlier\":[[[1],-1]],\"excess\":\"-3/2\",\
-             \"total\":1}],\"mode\":\"players\"},\"game\":{\"class\":\"airport\",\"costs\":[2,4,6]},\"shares\":[\"1\",\"3/2\",\"9/2\"]}",
-            "{\"answer\":\"no\",\"reason\":1}\n",
+            concat!(
+                r#"{"answer":"nucleolus","certificate":{"levels":[{"bounds":[],"coalitions":[[[1],1],[[2,3],1]],"#,
+                r#""earlier":[],"excess":"-1","total":1},{"bounds":[],"coalitions":[[[1,2],1],[[1,3],1]],"#,
+                r#""earlier":[[[1],-1]],"excess":"-3/2","total":1}],"mode":"players"},"game":{"class":"airport","#,
+                r#""costs":[2,4,6]},"shares":["1","3/2","9/2"]}"#,
+            ),
+            concat!(r#"{"answer":"no","reason":1}"#, "\n"),
             Status::Negative,
         ),
         (
-            "{\"answer\":\"prenucleolus\",\"certificate\":{\"levels\":[{\"bounds\":[],\"coalitions\":[[[1,2],1],[[3],1]],\"earlier\":[],\
-             \"excess\":\"2\",\"total\":1},{\"bounds\":[],\"coalitions\":[[[1,3],1],[[2,3],1]],\"earlier\":[[[3],-1]],\"excess\":\"1\",\"total\":1}],\
-             \"mode\":\"span\"},\"game\":{\"class\":\"table\",\"players\":3,\"worths\":[0,0,4,0,0,0,0]},\"shares\":[\"1\",\"1\",\"-2\"]}",
-            "{\"answer\":\"yes\"}\n",
+            concat!(
+                r#"{"answer":"prenucleolus","certificate":{"levels":[{"bounds":[],"coalitions":[[[1,2],1],"#,
+                r#"[[3],1]],"earlier":[],"excess":"2","total":1},{"bounds":[],"coalitions":[[[1,3],1],"#,
+                r#"[[2,3],1]],"earlier":[[[3],-1]],"excess":"1","total":1}],"mode":"span"},"#,
+                r#""game":{"class":"table","players":3,"worths":[0,0,4,0,0,0,0]},"shares":["1","1","-2"]}"#,
+            ),
+            concat!(r#"{"answer":"yes"}"#, "\n"),
             Status::Done,
         ),
         (
-            "{\"answer\":\"nucleolus\",\"certificate\":{\"levels\":[{\"bounds\":[],\"coalitions\":[[[1,2],1],[[3],1]],\"earlier\":[],\
-             \"excess\":\"2\",\"total\":1},{\"bounds\":[],\"coalitions\":[[[1,3],1],[[2,3],1]],\"earlier\":[[[3],-1]],\"excess\":\"1\",\"total\":1}],\
-             \"mode\":\"span\"},\"game\":{\"class\":\"table\",\"players\":3,\"worths\":[0,0,4,0,0,0,0]},\"shares\":[\"1\",\"1\",\"-2\"]}",
-            "{\"answer\":\"no\",\"player\":3,\"reason\":2}\n",
+            concat!(
+                r#"{"answer":"nucleolus","certificate":{"levels":[{"bounds":[],"coalitions":[[[1,2],1],[[3],1]],"#,
+                r#""earlier":[],"excess":"2","total":1},{"bounds":[],"coalitions":[[[1,3],1],[[2,3],1]],"#,
+                r#""earlier":[[[3],-1]],"excess":"1","total":1}],"mode":"span"},"game":{"class":"table","#,
+                r#""players":3,"worths":[0,0,4,0,0,0,0]},"shares":["1","1","-2"]}"#,
+            ),
+            concat!(r#"{"answer":"no","player":3,"reason":2}"#, "\n"),
             Status::Negative,
         ),
         (
-            "{\"answer\":\"nucleolus\",\"certificate\":{\"levels\":[{\"bounds\":[],\"coalitions\":[[[2,3],1],[[1,4],1]],\"earlier\":[],\
-             \"excess\":\"0\",\"total\":1},{\"bounds\":[],\"coalitions\":[[[1,3],1],[[2,4],1]],\"earlier\":[],\"excess\":\"-2\",\"total\":1},\
-             {\"bounds\":[],\"coalitions\":[[[1],1],[[3],1]],\"earlier\":[[[1,3],-1]],\"excess\":\"-7/2\",\"total\":0}],\"mode\":\"span\"},\
-             \"game\":{\"class\":\"table\",\"players\":4,\"worths\":[0,0,0,0,5,7,7,0,8,6,8,0,8,7,15]},\"shares\":[\"7/2\",\"7/2\",\"7/2\",\"9/2\"]}",
-            "{\"answer\":\"yes\"}\n",
+            concat!(
+                r#"{"answer":"nucleolus","certificate":{"levels":[{"bounds":[],"coalitions":[[[2,3],1],"#,
+                r#"[[1,4],1]],"earlier":[],"excess":"0","total":1},{"bounds":[],"coalitions":[[[1,3],1],"#,
+                r#"[[2,4],1]],"earlier":[],"excess":"-2","total":1},{"bounds":[],"coalitions":[[[1],1],[[3],1]],"#,
+                r#""earlier":[[[1,3],-1]],"excess":"-7/2","total":0}],"mode":"span"},"game":{"class":"table","#,
+                r#""players":4,"worths":[0,0,0,0,5,7,7,0,8,6,8,0,8,7,15]},"shares":["7/2","7/2","7/2","9/2"]}"#,
+            ),
+            concat!(r#"{"answer":"yes"}"#, "\n"),
             Status::Done,
         ),
         (
-            "{\"answer\":\"nucleolus\",\"certificate\":{\"levels\":[{\"bounds\":[],\"coalitions\":[[[2,3],1],[[1,4],1]],\"earlier\":[],\
-             \"excess\":\"0\",\"total\":1},{\"bounds\":[],\"coalitions\":[[[1,3],1],[[2,4],1]],\"earlier\":[],\"excess\":\"-2\",\"total\":1}],\
-             \"mode\":\"span\"},\"game\":{\"class\":\"table\",\"players\":4,\"worths\":[0,0,0,0,5,7,7,0,8,6,8,0,8,7,15]},\
-             \"shares\":[\"2\",\"2\",\"5\",\"6\"]}",
-            "{\"answer\":\"no\",\"player\":1,\"reason\":8}\n",
+            concat!(
+                r#"{"answer":"nucleolus","certificate":{"levels":[{"bounds":[],"coalitions":[[[2,3],1],"#,
+                r#"[[1,4],1]],"earlier":[],"excess":"0","total":1},{"bounds":[],"coalitions":[[[1,3],1],"#,
+                r#"[[2,4],1]],"earlier":[],"excess":"-2","total":1}],"mode":"span"},"game":{"class":"table","#,
+                r#""players":4,"worths":[0,0,0,0,5,7,7,0,8,6,8,0,8,7,15]},"shares":["2","2","5","6"]}"#,
+            ),
+            concat!(r#"{"answer":"no","player":1,"reason":8}"#, "\n"),
             Status::Negative,
         ),
         (
-            "{\"answer\":\"nucleolus\",\"certificate\":{\"levels\":[{\"bounds\":[],\"coalitions\":[[[1,3],1],[[2,4],1]],\"earlier\":[],\
-             \"excess\":\"-2\",\"total\":1}],\"mode\":\"span\"},\"game\":{\"class\":\"table\",\"players\":4,\
-             \"worths\":[0,0,0,0,5,7,7,0,8,6,8,0,8,7,15]},\"shares\":[\"7/2\",\"7/2\",\"7/2\",\"9/2\"]}",
-            "{\"answer\":\"no\",\"excess\":\"0\",\"level\":1,\"reason\":7}\n",
+            concat!(
+                r#"{"answer":"nucleolus","certificate":{"levels":[{"bounds":[],"coalitions":[[[1,3],1],"#,
+                r#"[[2,4],1]],"earlier":[],"excess":"-2","total":1}],"mode":"span"},"game":{"class":"table","#,
+                r#""players":4,"worths":[0,0,0,0,5,7,7,0,8,6,8,0,8,7,15]},"shares":["7/2","7/2","7/2","9/2"]}"#,
+            ),
+            concat!(r#"{"answer":"no","excess":"0","level":1,"reason":7}"#, "\n"),
             Status::Negative,
         ),
     ];
@@ -70,27 +92,28 @@ fn checks_the_worked_certificates(rt: HostRuntime) -> Result<(), Fail> {
 
 #[test]
 fn refuses_spans_of_17_players(rt: HostRuntime) -> Result<(), Fail> {
-    let input =
-        "{\"answer\":\"nucleolus\",\"certificate\":{\"levels\":[{\"bounds\":[],\"coalitions\":[[[1],1]],\"earlier\":[],\"excess\":\"0\",\
-         \"total\":1}],\"mode\":\"span\"},\"game\":{\"class\":\"airport\",\"costs\":[1,1,1,1,1,1,1,1,1,1,1,1,1,1,1,1,1]},\
-         \"shares\":[\"1\",\"0\",\"0\",\"0\",\"0\",\"0\",\"0\",\"0\",\"0\",\"0\",\"0\",\"0\",\"0\",\"0\",\"0\",\"0\",\"0\"]}";
-    let line = "{\"number\":12,\"refused\":\"Certificate\"}\n";
+    let input = concat!(
+        r#"{"answer":"nucleolus","certificate":{"levels":[{"bounds":[],"coalitions":[[[1],1]],"earlier":[],"#,
+        r#""excess":"0","total":1}],"mode":"span"},"game":{"class":"airport","#,
+        r#""costs":[1,1,1,1,1,1,1,1,1,1,1,1,1,1,1,1,1]},"shares":["1","0","0","0","0","0","0","0","0","0","#,
+        r#""0","0","0","0","0","0","0"]}"#,
+    );
+    let line = concat!(r#"{"number":12,"refused":"Certificate"}"#, "\n");
     expect_run(&rt, rt.alloc(), "check", &input, line, Status::Refused)
 }
 
 #[test]
 fn needs_the_answer_and_the_certificate(rt: HostRuntime) -> Result<(), Fail> {
-    let line = "{\"number\":3,\"refused\":\"Shape\"}\n";
-    let input =
-        "{\"game\":{\"class\":\"airport\",\"costs\":[2,4,6]},\"shares\":[\"1\",\"3/2\",\"7/2\"]}";
+    let line = concat!(r#"{"number":3,"refused":"Shape"}"#, "\n");
+    let input = r#"{"game":{"class":"airport","costs":[2,4,6]},"shares":["1","3/2","7/2"]}"#;
     expect_run(&rt, rt.alloc(), "check", &input, line, Status::Refused)
 }
 
 #[test]
 fn reads_four_times_as_much_as_the_other_commands(rt: HostRuntime) -> Result<(), Fail> {
     let blanks = vec![in rt.alloc(); b' '; 8_388_609]?;
-    let too_long = "{\"number\":1,\"refused\":\"TooLong\"}\n";
-    let not_json = "{\"number\":2,\"refused\":\"NotJson\"}\n";
+    let too_long = concat!(r#"{"number":1,"refused":"TooLong"}"#, "\n");
+    let not_json = concat!(r#"{"number":2,"refused":"NotJson"}"#, "\n");
     let found = (
         run_on(rt.alloc(), &["check"], &blanks, 100, too_long)?,
         run_on(rt.alloc(), &["check"], &blanks[1..], 100, not_json)?,

@@ -7,20 +7,26 @@ use std::test::Fail;
 fn prints_the_point_of_the_scheme(rt: HostRuntime) -> Result<(), Fail> {
     let rows = &[
         (
-            "{\"game\":{\"class\":\"airport\",\"costs\":[2,4,6]}}",
-            "{\"answer\":\"core point\",\"shares\":[\"1\",\"3/2\",\"7/2\"]}\n",
+            r#"{"game":{"class":"airport","costs":[2,4,6]}}"#,
+            concat!(
+                r#"{"answer":"core point","shares":["1","3/2","7/2"]}"#,
+                "\n"
+            ),
         ),
         (
-            "{\"game\":{\"claims\":[100,200,300],\"class\":\"bankruptcy\",\"estate\":400}}",
-            "{\"answer\":\"core point\",\"shares\":[\"50\",\"125\",\"225\"]}\n",
+            r#"{"game":{"claims":[100,200,300],"class":"bankruptcy","estate":400}}"#,
+            concat!(
+                r#"{"answer":"core point","shares":["50","125","225"]}"#,
+                "\n"
+            ),
         ),
         (
-            "{\"game\":{\"class\":\"table\",\"players\":1,\"worths\":[-5]}}",
-            "{\"answer\":\"core point\",\"shares\":[\"-5\"]}\n",
+            r#"{"game":{"class":"table","players":1,"worths":[-5]}}"#,
+            concat!(r#"{"answer":"core point","shares":["-5"]}"#, "\n"),
         ),
         (
-            "{\"game\":{\"class\":\"cost-table\",\"players\":2,\"worths\":[1,2,3]}}",
-            "{\"answer\":\"core point\",\"shares\":[\"1\",\"2\"]}\n",
+            r#"{"game":{"class":"cost-table","players":2,"worths":[1,2,3]}}"#,
+            concat!(r#"{"answer":"core point","shares":["1","2"]}"#, "\n"),
         ),
     ];
     expect_lines(&rt, rt.alloc(), "core", Status::Done, rows)
@@ -30,12 +36,20 @@ fn prints_the_point_of_the_scheme(rt: HostRuntime) -> Result<(), Fail> {
 fn prints_a_collection_where_the_core_is_empty(rt: HostRuntime) -> Result<(), Fail> {
     let rows = &[
         (
-            "{\"game\":{\"class\":\"table\",\"players\":3,\"worths\":[0,0,1,0,1,1,1]}}",
-            "{\"against\":\"2\",\"answer\":\"empty core\",\"collection\":[[[1,2],1],[[1,3],1],[[2,3],1]],\"k\":2,\"value\":\"3\"}\n",
+            r#"{"game":{"class":"table","players":3,"worths":[0,0,1,0,1,1,1]}}"#,
+            concat!(
+                r#"{"against":"2","answer":"empty core","collection":[[[1,2],1],[[1,3],1],[[2,3],1]],"k":2,"#,
+                r#""value":"3"}"#,
+                "\n",
+            ),
         ),
         (
-            "{\"game\":{\"class\":\"cost-table\",\"players\":3,\"worths\":[6,6,6,6,6,6,12]}}",
-            "{\"against\":\"24\",\"answer\":\"empty core\",\"collection\":[[[1,2],1],[[1,3],1],[[2,3],1]],\"k\":2,\"value\":\"18\"}\n",
+            r#"{"game":{"class":"cost-table","players":3,"worths":[6,6,6,6,6,6,12]}}"#,
+            concat!(
+                r#"{"against":"24","answer":"empty core","collection":[[[1,2],1],[[1,3],1],[[2,3],1]],"k":2,"#,
+                r#""value":"18"}"#,
+                "\n",
+            ),
         ),
     ];
     expect_lines(&rt, rt.alloc(), "core", Status::Negative, rows)
@@ -45,13 +59,16 @@ fn prints_a_collection_where_the_core_is_empty(rt: HostRuntime) -> Result<(), Fa
 fn departments_and_tables_that_are_large_have_points(rt: HostRuntime) -> Result<(), Fail> {
     for &(input, front) in &[
         (
-            "{\"game\":{\"class\":\"cost-table\",\"default\":18,\"names\":[\"Sales\",\"Ops\",\"Legal\",\"IT\",\"HR\"],\"players\":5,\
-             \"sparse\":[[[\"Sales\"],6],[[\"Ops\"],6],[[\"Legal\"],6],[[\"IT\"],6],[[\"HR\"],6],[[\"Sales\",\"Ops\",\"Legal\",\"IT\",\"HR\"],20]]}}",
-            "{\"answer\":\"core point\",\"shares\":[",
+            concat!(
+                r#"{"game":{"class":"cost-table","default":18,"names":["Sales","Ops","Legal","IT","HR"],"#,
+                r#""players":5,"sparse":[[["Sales"],6],[["Ops"],6],[["Legal"],6],[["IT"],6],[["HR"],6],"#,
+                r#"[["Sales","Ops","Legal","IT","HR"],20]]}}"#,
+            ),
+            r#"{"answer":"core point","shares":["#,
         ),
         (
-            "{\"game\":{\"class\":\"table\",\"players\":16,\"sparse\":[[[1,2,3,4,5,6,7,8,9,10,11,12,13,14,15,16],16]]}}",
-            "{\"answer\":\"core point\",\"shares\":[",
+            r#"{"game":{"class":"table","players":16,"sparse":[[[1,2,3,4,5,6,7,8,9,10,11,12,13,14,15,16],16]]}}"#,
+            r#"{"answer":"core point","shares":["#,
         ),
     ] {
         let found = started(rt.alloc(), "core", input, front)?;

@@ -8,7 +8,10 @@ use ports::{FailingSink, FailingSource, MemorySink, MemorySource};
 use std::alloc::Global;
 use std::test::Fail;
 
-const LINE: &str = "{\"answer\":\"blocked\",\"coalition\":[2,3],\"excess\":\"1\"}\n";
+const LINE: &str = concat!(
+    r#"{"answer":"blocked","coalition":[2,3],"excess":"1"}"#,
+    "\n"
+);
 
 // The status of a run whose input comes by that many bytes and fails at that call, and how many bytes were printed.
 fn with_failing_read(alloc: Global, piece: usize, call: u64) -> Result<(Status, usize), Fail>
@@ -77,7 +80,7 @@ fn a_full_sink_ends_the_run_with_a_front_of_the_line(rt: HostRuntime) -> Result<
         &["propose"],
         BLOCKED.as_bytes(),
         10,
-        "{\"answer\":",
+        r#"{"answer":"#,
     )?;
     assert_eq!(rt; found, (Status::WriteFault, true));
     Ok(())

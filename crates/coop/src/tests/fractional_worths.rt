@@ -6,12 +6,11 @@ use std::alloc::Global;
 use std::test::Fail;
 
 // The two together have more than alone, by 1/3.
-const TWO: &str =
-    "{\"class\":\"table\",\"players\":2,\"version\":2,\"worths\":[\"1/2\",\"1/3\",\"7/6\"]}";
+const TWO: &str = r#"{"class":"table","players":2,"version":2,"worths":["1/2","1/3","7/6"]}"#;
 
 // The status of a run of `nucleolus` on this game, whether its line ends so, and whether `check` says yes to it.
 fn solved(alloc: Global, game: &str, end: &str) -> Result<((Status, bool), bool), Fail> {
-    let mut input = String::from_str(alloc, "{\"game\":")?;
+    let mut input = String::from_str(alloc, r#"{"game":"#)?;
     input.push_str(game)?;
     input.push_str("}")?;
     let found = ended(alloc, "nucleolus", input.as_str(), end)?;
@@ -21,14 +20,14 @@ fn solved(alloc: Global, game: &str, end: &str) -> Result<((Status, bool), bool)
 #[test]
 fn nucleoli_are_printed_over_the_scale(rt: HostRuntime) -> Result<(), Fail> {
     for &(game, part) in &[
-        (TWO, "\"shares\":[\"2/3\",\"1/2\"]}\n"),
+        (TWO, concat!(r#""shares":["2/3","1/2"]}"#, "\n")),
         (
-            "{\"class\":\"table\",\"players\":2,\"version\":2,\"worths\":[\"1/65536\",0,1]}",
-            "\"shares\":[\"65537/131072\",\"65535/131072\"]}\n",
+            r#"{"class":"table","players":2,"version":2,"worths":["1/65536",0,1]}"#,
+            concat!(r#""shares":["65537/131072","65535/131072"]}"#, "\n"),
         ),
         (
-            "{\"claims\":[\"100/3\",\"200/3\",100],\"class\":\"bankruptcy\",\"estate\":\"200/3\",\"version\":2}",
-            "\"shares\":[\"50/3\",\"25\",\"25\"]}\n",
+            r#"{"claims":["100/3","200/3",100],"class":"bankruptcy","estate":"200/3","version":2}"#,
+            concat!(r#""shares":["50/3","25","25"]}"#, "\n"),
         ),
     ] {
         let found = solved(rt.alloc(), game, part)?;
@@ -40,10 +39,11 @@ fn nucleoli_are_printed_over_the_scale(rt: HostRuntime) -> Result<(), Fail> {
 #[test]
 fn the_level_of_two_players_has_its_excess_over_the_scale(rt: HostRuntime) -> Result<(), Fail> {
     let input =
-        "{\"game\":{\"class\":\"table\",\"players\":2,\"version\":2,\"worths\":[\"1/2\",\"1/3\",\"7/6\"]}}";
-    let front =
-        "{\"answer\":\"nucleolus\",\"certificate\":{\"levels\":[{\"bounds\":[],\"coalitions\":[[[1],1],[[2],1]],\"earlier\":[],\"excess\":\"-1/6\",\
-         \"total\":1}],";
+        r#"{"game":{"class":"table","players":2,"version":2,"worths":["1/2","1/3","7/6"]}}"#;
+    let front = concat!(
+        r#"{"answer":"nucleolus","certificate":{"levels":[{"bounds":[],"coalitions":[[[1],1],[[2],1]],"#,
+        r#""earlier":[],"excess":"-1/6","total":1}],"#,
+    );
     let found = started(rt.alloc(), "nucleolus", input, front)?;
     assert_eq!(rt; found, (Status::Done, true));
     Ok(())
@@ -54,66 +54,88 @@ fn other_answers_are_over_the_scale(rt: HostRuntime) -> Result<(), Fail> {
     let rows = &[
         (
             "nucleolus",
-            "{\"game\":{\"class\":\"table\",\"players\":2,\"version\":2,\"worths\":[\"1/65537\",0,1]}}",
-            "{\"number\":5,\"refused\":\"Number\"}\n",
+            r#"{"game":{"class":"table","players":2,"version":2,"worths":["1/65537",0,1]}}"#,
+            concat!(r#"{"number":5,"refused":"Number"}"#, "\n"),
             Status::Refused,
         ),
         (
             "bird",
-            "{\"game\":{\"class\":\"tree\",\"matrix\":[[0,\"1/2\"],[\"1/2\",0]],\"version\":2}}",
-            "{\"answer\":\"bird\",\"shares\":[\"1/2\"],\"tree\":[[0,1,\"1/2\"]]}\n",
+            r#"{"game":{"class":"tree","matrix":[[0,"1/2"],["1/2",0]],"version":2}}"#,
+            concat!(
+                r#"{"answer":"bird","shares":["1/2"],"tree":[[0,1,"1/2"]]}"#,
+                "\n"
+            ),
             Status::Done,
         ),
         (
             "bird",
-            "{\"game\":{\"class\":\"tree\",\"matrix\":[[0,2],[2,0]],\"version\":2}}",
-            "{\"answer\":\"bird\",\"shares\":[\"2\"],\"tree\":[[0,1,2]]}\n",
+            r#"{"game":{"class":"tree","matrix":[[0,2],[2,0]],"version":2}}"#,
+            concat!(r#"{"answer":"bird","shares":["2"],"tree":[[0,1,2]]}"#, "\n"),
             Status::Done,
         ),
         (
             "propose",
-            "{\"game\":{\"class\":\"table\",\"players\":2,\"version\":2,\"worths\":[\"1/2\",\"1/3\",\"7/6\"]},\"shares\":[\"1/3\",\"5/6\"]}",
-            "{\"answer\":\"blocked\",\"coalition\":[1],\"excess\":\"1/6\"}\n",
+            r#"{"game":{"class":"table","players":2,"version":2,"worths":["1/2","1/3","7/6"]},"shares":["1/3","5/6"]}"#,
+            concat!(
+                r#"{"answer":"blocked","coalition":[1],"excess":"1/6"}"#,
+                "\n"
+            ),
             Status::Negative,
         ),
         (
             "propose",
-            "{\"game\":{\"class\":\"table\",\"players\":2,\"version\":2,\"worths\":[\"1/2\",\"1/3\",\"7/6\"]},\"shares\":[\"1/3\",\"1/3\"]}",
-            "{\"answer\":\"not efficient\",\"sum\":\"2/3\",\"total\":\"7/6\"}\n",
+            r#"{"game":{"class":"table","players":2,"version":2,"worths":["1/2","1/3","7/6"]},"shares":["1/3","1/3"]}"#,
+            concat!(
+                r#"{"answer":"not efficient","sum":"2/3","total":"7/6"}"#,
+                "\n"
+            ),
             Status::Negative,
         ),
         (
             "nucleolus",
-            "{\"game\":{\"class\":\"table\",\"players\":2,\"version\":2,\"worths\":[\"1/2\",\"1/3\",\"1/6\"]}}",
-            "{\"answer\":\"no imputation\",\"singles\":\"5/6\",\"total\":\"1/6\"}\n",
+            r#"{"game":{"class":"table","players":2,"version":2,"worths":["1/2","1/3","1/6"]}}"#,
+            concat!(
+                r#"{"answer":"no imputation","singles":"5/6","total":"1/6"}"#,
+                "\n"
+            ),
             Status::Negative,
         ),
         (
             "shapley",
-            "{\"game\":{\"class\":\"airport\",\"costs\":[\"1/2\",1],\"version\":2}}",
-            "{\"answer\":\"shapley\",\"shares\":[\"1/4\",\"3/4\"]}\n",
+            r#"{"game":{"class":"airport","costs":["1/2",1],"version":2}}"#,
+            concat!(r#"{"answer":"shapley","shares":["1/4","3/4"]}"#, "\n"),
             Status::Done,
         ),
         (
             "core",
-            "{\"game\":{\"class\":\"table\",\"players\":2,\"version\":2,\"worths\":[\"1/2\",\"1/3\",\"1/6\"]}}",
-            "{\"against\":\"1/6\",\"answer\":\"empty core\",\"collection\":[[[1],1],[[2],1]],\"k\":1,\"value\":\"5/6\"}\n",
+            r#"{"game":{"class":"table","players":2,"version":2,"worths":["1/2","1/3","1/6"]}}"#,
+            concat!(
+                r#"{"against":"1/6","answer":"empty core","collection":[[[1],1],[[2],1]],"k":1,"value":"5/6"}"#,
+                "\n",
+            ),
             Status::Negative,
         ),
         (
             "check",
-            "{\"answer\":\"nucleolus\",\"certificate\":{\"levels\":[{\"bounds\":[],\"coalitions\":[[[1],1],[[2],1]],\"earlier\":[],\
-             \"excess\":\"-1/6\",\"total\":1}],\"mode\":\"span\"},\"game\":{\"class\":\"table\",\"players\":2,\"version\":2,\
-             \"worths\":[\"1/2\",\"1/3\",\"7/6\"]},\"shares\":[\"2/3\",\"1/2\"]}",
-            "{\"answer\":\"yes\"}\n",
+            concat!(
+                r#"{"answer":"nucleolus","certificate":{"levels":[{"bounds":[],"coalitions":[[[1],1],[[2],1]],"#,
+                r#""earlier":[],"excess":"-1/6","total":1}],"mode":"span"},"game":{"class":"table","players":2,"#,
+                r#""version":2,"worths":["1/2","1/3","7/6"]},"shares":["2/3","1/2"]}"#,
+            ),
+            concat!(r#"{"answer":"yes"}"#, "\n"),
             Status::Done,
         ),
         (
             "check",
-            "{\"answer\":\"nucleolus\",\"certificate\":{\"levels\":[{\"bounds\":[],\"coalitions\":[[[1],1],[[2],1]],\"earlier\":[],\"excess\":\"-1\",\
-             \"total\":1}],\"mode\":\"span\"},\"game\":{\"class\":\"table\",\"players\":2,\"version\":2,\"worths\":[\"1/2\",\"1/3\",\"7/6\"]},\
-             \"shares\":[\"2/3\",\"1/2\"]}",
-            "{\"answer\":\"no\",\"coalition\":[1],\"level\":1,\"reason\":3}\n",
+            concat!(
+                r#"{"answer":"nucleolus","certificate":{"levels":[{"bounds":[],"coalitions":[[[1],1],[[2],1]],"#,
+                r#""earlier":[],"excess":"-1","total":1}],"mode":"span"},"game":{"class":"table","players":2,"#,
+                r#""version":2,"worths":["1/2","1/3","7/6"]},"shares":["2/3","1/2"]}"#,
+            ),
+            concat!(
+                r#"{"answer":"no","coalition":[1],"level":1,"reason":3}"#,
+                "\n"
+            ),
             Status::Negative,
         ),
     ];
@@ -125,32 +147,42 @@ fn matchings_deficits_and_surpluses_are_over_the_scale(rt: HostRuntime) -> Resul
     let rows = &[
         (
             "matching",
-            "{\"game\":{\"class\":\"market\",\"matrix\":[[\"5/2\"],[\"3/2\"]],\"version\":2}}",
-            "{\"answer\":\"matching\",\"buyers best\":[\"1\",\"0\",\"3/2\"],\"pairs\":[[1,3]],\"sellers best\":[\"0\",\"0\",\"5/2\"],\"value\":\"5/2\"}\n",
+            r#"{"game":{"class":"market","matrix":[["5/2"],["3/2"]],"version":2}}"#,
+            concat!(
+                r#"{"answer":"matching","buyers best":["1","0","3/2"],"pairs":[[1,3]],"sellers best":["0","0","#,
+                r#""5/2"],"value":"5/2"}"#,
+                "\n",
+            ),
             Status::Done,
         ),
         (
             "convex",
-            "{\"game\":{\"class\":\"table\",\"players\":2,\"version\":2,\"worths\":[\"1/2\",\"1/3\",\"1/6\"]}}",
-            "{\"answer\":\"not convex\",\"deficit\":\"2/3\",\"i\":1,\"j\":2,\"set\":[]}\n",
+            r#"{"game":{"class":"table","players":2,"version":2,"worths":["1/2","1/3","1/6"]}}"#,
+            concat!(
+                r#"{"answer":"not convex","deficit":"2/3","i":1,"j":2,"set":[]}"#,
+                "\n"
+            ),
             Status::Negative,
         ),
         (
             "kernel",
-            "{\"game\":{\"class\":\"table\",\"players\":2,\"version\":2,\"worths\":[\"1/2\",\"1/3\",\"7/6\"]},\"shares\":[\"1/3\",\"5/6\"]}",
-            "{\"answer\":\"not prekernel\",\"i\":1,\"ij\":\"1/6\",\"j\":2,\"ji\":\"-1/2\"}\n",
+            r#"{"game":{"class":"table","players":2,"version":2,"worths":["1/2","1/3","7/6"]},"shares":["1/3","5/6"]}"#,
+            concat!(
+                r#"{"answer":"not prekernel","i":1,"ij":"1/6","j":2,"ji":"-1/2"}"#,
+                "\n"
+            ),
             Status::Negative,
         ),
         (
             "shapley",
-            "{\"game\":{\"class\":\"voting\",\"quota\":5,\"version\":2,\"weights\":[4,2,1]}}",
-            "{\"answer\":\"shapley\",\"shares\":[\"2/3\",\"1/6\",\"1/6\"]}\n",
+            r#"{"game":{"class":"voting","quota":5,"version":2,"weights":[4,2,1]}}"#,
+            concat!(r#"{"answer":"shapley","shares":["2/3","1/6","1/6"]}"#, "\n"),
             Status::Done,
         ),
         (
             "shapley",
-            "{\"game\":{\"class\":\"voting\",\"quota\":\"5\",\"version\":2,\"weights\":[4,2,1]}}",
-            "{\"number\":3,\"refused\":\"Shape\"}\n",
+            r#"{"game":{"class":"voting","quota":"5","version":2,"weights":[4,2,1]}}"#,
+            concat!(r#"{"number":3,"refused":"Shape"}"#, "\n"),
             Status::Refused,
         ),
     ];

@@ -46,27 +46,43 @@ fn prints_what_it_found_of_a_generated_game(rt: HostRuntime) -> Result<(), Fail>
     for &(words, line) in &[
         (
             ["table", "2", "1"],
-            "{\"class\":\"table\",\"common\":\"2\",\"first\":\"538831/2\",\"greatest\":\"-538831/2\",\"last\":\"538831/2\",\"players\":2,\"seed\":1,\
-             \"verdict\":\"yes\"}\n",
+            concat!(
+                r#"{"class":"table","common":"2","first":"538831/2","greatest":"-538831/2","last":"538831/2","#,
+                r#""players":2,"seed":1,"verdict":"yes"}"#,
+                "\n",
+            ),
         ),
         (
             ["airport", "2", "1"],
-            "{\"class\":\"airport\",\"common\":\"1\",\"first\":\"446692\",\"greatest\":\"-92139\",\"last\":\"92139\",\"players\":2,\"seed\":1,\
-             \"verdict\":\"yes\"}\n",
+            concat!(
+                r#"{"class":"airport","common":"1","first":"446692","greatest":"-92139","last":"92139","#,
+                r#""players":2,"seed":1,"verdict":"yes"}"#,
+                "\n",
+            ),
         ),
         (
             ["bankruptcy", "2", "1"],
-            "{\"class\":\"bankruptcy\",\"common\":\"1\",\"first\":\"269415\",\"greatest\":\"-92139\",\"last\":\"92139\",\"players\":2,\"seed\":1,\
-             \"verdict\":\"yes\"}\n",
+            concat!(
+                r#"{"class":"bankruptcy","common":"1","first":"269415","greatest":"-92139","last":"92139","#,
+                r#""players":2,"seed":1,"verdict":"yes"}"#,
+                "\n",
+            ),
         ),
         (
             ["tree", "1", "1"],
-            "{\"class\":\"tree\",\"common\":\"1\",\"first\":\"33676\",\"greatest\":\"none\",\"last\":\"33676\",\"players\":1,\"seed\":1,\"verdict\":\"yes\"}\n",
+            concat!(
+                r#"{"class":"tree","common":"1","first":"33676","greatest":"none","last":"33676","players":1,"#,
+                r#""seed":1,"verdict":"yes"}"#,
+                "\n",
+            ),
         ),
         (
             ["assignment", "2", "1"],
-            "{\"class\":\"assignment\",\"common\":\"1\",\"first\":\"16838\",\"greatest\":\"-16838\",\"last\":\"16838\",\"players\":2,\"seed\":1,\
-             \"verdict\":\"yes\"}\n",
+            concat!(
+                r#"{"class":"assignment","common":"1","first":"16838","greatest":"-16838","last":"16838","#,
+                r#""players":2,"seed":1,"verdict":"yes"}"#,
+                "\n",
+            ),
         ),
     ] {
         expect_made(&rt, rt.alloc(), &words, line)?;
@@ -91,7 +107,7 @@ fn the_greatest_games_of_each_kind_are_answered_alike_twice(rt: HostRuntime) -> 
 
 // Whether the words behind `gen` are those of no command.
 fn are_no_command(alloc: Global, words: &[&str]) -> Result<bool, Fail> {
-    let found = makes(alloc, words, "{\"usage\":\"words\"}\n")?;
+    let found = makes(alloc, words, concat!(r#"{"usage":"words"}"#, "\n"))?;
     Ok(found == (Status::Usage, true))
 }
 
@@ -157,7 +173,7 @@ fn gen_has_three_words_more(rt: HostRuntime) -> Result<(), Fail> {
 // The document of a generated table of so many players and masks, by a program of its own.
 fn table_document(alloc: Global, players: u32, masks: u32) -> Result<Vec<u8>, Fail> {
     let mut text = format!(in alloc;
-        "{{\"game\":{{\"class\":\"table\",\"players\":{players},\"worths\":["
+        r#"{{"game":{{"class":"table","players":{players},"worths":["#
     )?;
     let mut state: u32 = 1;
     for s in 1..masks {
@@ -191,13 +207,13 @@ fn nucleolus_line(alloc: Global, players: u32, masks: u32) -> Result<String, Fai
 // The first and the last share and the greatest excess in the line of a nucleolus, as `gen` prints them.
 fn summary_in(alloc: Global, line: &str) -> Result<String, Fail> {
     // The first level has the greatest excess of all.
-    let (_, levels) = line.split_once("\"excess\":").ok_or("no level")?;
+    let (_, levels) = line.split_once(r#""excess":"#).ok_or("no level")?;
     let (greatest, _) = levels.split_once(",").ok_or("no excess")?;
-    let (_, shares) = line.split_once("\"shares\":[").ok_or("no shares")?;
+    let (_, shares) = line.split_once(r#""shares":["#).ok_or("no shares")?;
     let (first, _) = shares.split_once(",").ok_or("one share")?;
     let (_, last) = shares.rsplit_once(",").ok_or("one share")?;
     let last = last.strip_suffix("]}\n").ok_or("no end")?;
-    Ok(format!(in alloc; "\"first\":{first},\"greatest\":{greatest},\"last\":{last},")?)
+    Ok(format!(in alloc; r#""first":{first},"greatest":{greatest},"last":{last},"#)?)
 }
 
 #[test]

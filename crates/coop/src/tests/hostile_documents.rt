@@ -5,28 +5,29 @@ use std::alloc::Global;
 use std::process::Abort;
 use std::test::Fail;
 
-const FRONT: &str = "{\"answer\":\"nucleolus\",\"certificate\":{\"levels\":[";
+const FRONT: &str = r#"{"answer":"nucleolus","certificate":{"levels":["#;
 
-const LEVELS: &str =
-    "{\"bounds\":[],\"coalitions\":[[[1],1],[[2,3],1]],\"earlier\":[],\"excess\":\"-1\",\"total\":1},\
-     {\"bounds\":[],\"coalitions\":[[[1,2],1],[[1,3],1]],\"earlier\":[[[1],-1]],\"excess\":\"-3/2\",\"total\":1}";
+const LEVELS: &str = concat!(
+    r#"{"bounds":[],"coalitions":[[[1],1],[[2,3],1]],"earlier":[],"excess":"-1","total":1},{"bounds":[],"#,
+    r#""coalitions":[[[1,2],1],[[1,3],1]],"earlier":[[[1],-1]],"excess":"-3/2","total":1}"#,
+);
 
-const GAME: &str = "{\"class\":\"airport\",\"costs\":[2,4,6]}";
+const GAME: &str = r#"{"class":"airport","costs":[2,4,6]}"#;
 
-const SHARES: &str = "\"1\",\"3/2\",\"7/2\"";
+const SHARES: &str = r#""1","3/2","7/2""#;
 
-const REFUSED: &str = "{\"number\":12,\"refused\":\"Certificate\"}\n";
+const REFUSED: &str = concat!(r#"{"number":12,"refused":"Certificate"}"#, "\n");
 
-const NOT_JSON: &str = "{\"number\":2,\"refused\":\"NotJson\"}\n";
+const NOT_JSON: &str = concat!(r#"{"number":2,"refused":"NotJson"}"#, "\n");
 
 // A document to check of these levels, this game and these shares.
 fn document(alloc: Global, levels: &str, game: &str, shares: &str) -> Result<String, Fail> {
     let mut text = String::from_str(alloc, FRONT)?;
     for &part in &[
         levels,
-        "],\"mode\":\"players\"},\"game\":",
+        r#"],"mode":"players"},"game":"#,
         game,
-        ",\"shares\":[",
+        r#","shares":["#,
         shares,
         "]}",
     ] {
@@ -58,81 +59,116 @@ fn expect_check(
 fn each_change_of_a_certificate_has_its_answer(rt: HostRuntime) -> Result<(), Fail> {
     for &(levels, line, status) in &[
         // The certificate as printed.
-        (LEVELS, "{\"answer\":\"yes\"}\n", Status::Done),
+        (LEVELS, concat!(r#"{"answer":"yes"}"#, "\n"), Status::Done),
         // A weight of 2^63 - 1.
         (
-            "{\"bounds\":[],\"coalitions\":[[[1],1],[[2,3],1]],\"earlier\":[],\"excess\":\"-1\",\"total\":1},\
-             {\"bounds\":[],\"coalitions\":[[[1,2],9223372036854775807],[[1,3],1]],\"earlier\":[[[1],-1]],\"excess\":\"-3/2\",\"total\":1}",
-            "{\"answer\":\"no\",\"level\":2,\"player\":1,\"reason\":5}\n",
+            concat!(
+                r#"{"bounds":[],"coalitions":[[[1],1],[[2,3],1]],"earlier":[],"excess":"-1","total":1},"#,
+                r#"{"bounds":[],"coalitions":[[[1,2],9223372036854775807],[[1,3],1]],"earlier":[[[1],-1]],"#,
+                r#""excess":"-3/2","total":1}"#,
+            ),
+            concat!(r#"{"answer":"no","level":2,"player":1,"reason":5}"#, "\n"),
             Status::Negative,
         ),
         // A weight of -2^63.
         (
-            "{\"bounds\":[],\"coalitions\":[[[1],1],[[2,3],1]],\"earlier\":[],\"excess\":\"-1\",\"total\":1},\
-             {\"bounds\":[],\"coalitions\":[[[1,2],-9223372036854775808],[[1,3],1]],\"earlier\":[[[1],-1]],\"excess\":\"-3/2\",\"total\":1}",
+            concat!(
+                r#"{"bounds":[],"coalitions":[[[1],1],[[2,3],1]],"earlier":[],"excess":"-1","total":1},"#,
+                r#"{"bounds":[],"coalitions":[[[1,2],-9223372036854775808],[[1,3],1]],"earlier":[[[1],-1]],"#,
+                r#""excess":"-3/2","total":1}"#,
+            ),
             REFUSED,
             Status::Refused,
         ),
         // A coalition that stands twice.
         (
-            "{\"bounds\":[],\"coalitions\":[[[1],1],[[2,3],1]],\"earlier\":[],\"excess\":\"-1\",\"total\":1},\
-             {\"bounds\":[],\"coalitions\":[[[1,2],1],[[1,2],1],[[1,3],1]],\"earlier\":[[[1],-1]],\"excess\":\"-3/2\",\"total\":1}",
+            concat!(
+                r#"{"bounds":[],"coalitions":[[[1],1],[[2,3],1]],"earlier":[],"excess":"-1","total":1},"#,
+                r#"{"bounds":[],"coalitions":[[[1,2],1],[[1,2],1],[[1,3],1]],"earlier":[[[1],-1]],"#,
+                r#""excess":"-3/2","total":1}"#,
+            ),
             REFUSED,
             Status::Refused,
         ),
         // Levels exchanged.
         (
-            "{\"bounds\":[],\"coalitions\":[[[1,2],1],[[1,3],1]],\"earlier\":[[[1],-1]],\"excess\":\"-3/2\",\"total\":1},\
-             {\"bounds\":[],\"coalitions\":[[[1],1],[[2,3],1]],\"earlier\":[],\"excess\":\"-1\",\"total\":1}",
+            concat!(
+                r#"{"bounds":[],"coalitions":[[[1,2],1],[[1,3],1]],"earlier":[[[1],-1]],"excess":"-3/2","#,
+                r#""total":1},{"bounds":[],"coalitions":[[[1],1],[[2,3],1]],"earlier":[],"excess":"-1","total":1}"#,
+            ),
             REFUSED,
             Status::Refused,
         ),
         // The coalition of all.
         (
-            "{\"bounds\":[],\"coalitions\":[[[1],1],[[1,2,3],1]],\"earlier\":[],\"excess\":\"-1\",\"total\":1},\
-             {\"bounds\":[],\"coalitions\":[[[1,2],1],[[1,3],1]],\"earlier\":[[[1],-1]],\"excess\":\"-3/2\",\"total\":1}",
+            concat!(
+                r#"{"bounds":[],"coalitions":[[[1],1],[[1,2,3],1]],"earlier":[],"excess":"-1","total":1},"#,
+                r#"{"bounds":[],"coalitions":[[[1,2],1],[[1,3],1]],"earlier":[[[1],-1]],"excess":"-3/2","#,
+                r#""total":1}"#,
+            ),
             REFUSED,
             Status::Refused,
         ),
         // The empty coalition.
         (
-            "{\"bounds\":[],\"coalitions\":[[[],1],[[2,3],1]],\"earlier\":[],\"excess\":\"-1\",\"total\":1},\
-             {\"bounds\":[],\"coalitions\":[[[1,2],1],[[1,3],1]],\"earlier\":[[[1],-1]],\"excess\":\"-3/2\",\"total\":1}",
+            concat!(
+                r#"{"bounds":[],"coalitions":[[[],1],[[2,3],1]],"earlier":[],"excess":"-1","total":1},"#,
+                r#"{"bounds":[],"coalitions":[[[1,2],1],[[1,3],1]],"earlier":[[[1],-1]],"excess":"-3/2","#,
+                r#""total":1}"#,
+            ),
             REFUSED,
             Status::Refused,
         ),
         // An excess not in lowest terms.
         (
-            "{\"bounds\":[],\"coalitions\":[[[1],1],[[2,3],1]],\"earlier\":[],\"excess\":\"-2/2\",\"total\":1},\
-             {\"bounds\":[],\"coalitions\":[[[1,2],1],[[1,3],1]],\"earlier\":[[[1],-1]],\"excess\":\"-3/2\",\"total\":1}",
+            concat!(
+                r#"{"bounds":[],"coalitions":[[[1],1],[[2,3],1]],"earlier":[],"excess":"-2/2","total":1},"#,
+                r#"{"bounds":[],"coalitions":[[[1,2],1],[[1,3],1]],"earlier":[[[1],-1]],"excess":"-3/2","#,
+                r#""total":1}"#,
+            ),
             REFUSED,
             Status::Refused,
         ),
         // Another excess.
         (
-            "{\"bounds\":[],\"coalitions\":[[[1],1],[[2,3],1]],\"earlier\":[],\"excess\":\"-2\",\"total\":1},\
-             {\"bounds\":[],\"coalitions\":[[[1,2],1],[[1,3],1]],\"earlier\":[[[1],-1]],\"excess\":\"-3/2\",\"total\":1}",
-            "{\"answer\":\"no\",\"coalition\":[1],\"level\":1,\"reason\":3}\n",
+            concat!(
+                r#"{"bounds":[],"coalitions":[[[1],1],[[2,3],1]],"earlier":[],"excess":"-2","total":1},"#,
+                r#"{"bounds":[],"coalitions":[[[1,2],1],[[1,3],1]],"earlier":[[[1],-1]],"excess":"-3/2","#,
+                r#""total":1}"#,
+            ),
+            concat!(
+                r#"{"answer":"no","coalition":[1],"level":1,"reason":3}"#,
+                "\n"
+            ),
             Status::Negative,
         ),
         // A weight of 0.
         (
-            "{\"bounds\":[],\"coalitions\":[[[1],1],[[2,3],0]],\"earlier\":[],\"excess\":\"-1\",\"total\":1},\
-             {\"bounds\":[],\"coalitions\":[[[1,2],1],[[1,3],1]],\"earlier\":[[[1],-1]],\"excess\":\"-3/2\",\"total\":1}",
-            "{\"answer\":\"no\",\"coalition\":[2,3],\"level\":1,\"reason\":4}\n",
+            concat!(
+                r#"{"bounds":[],"coalitions":[[[1],1],[[2,3],0]],"earlier":[],"excess":"-1","total":1},"#,
+                r#"{"bounds":[],"coalitions":[[[1,2],1],[[1,3],1]],"earlier":[[[1],-1]],"excess":"-3/2","#,
+                r#""total":1}"#,
+            ),
+            concat!(
+                r#"{"answer":"no","coalition":[2,3],"level":1,"reason":4}"#,
+                "\n"
+            ),
             Status::Negative,
         ),
         // A bound on a player above its own worth.
         (
-            "{\"bounds\":[[1,1]],\"coalitions\":[[[1],1],[[2,3],2]],\"earlier\":[],\"excess\":\"-1\",\"total\":2},\
-             {\"bounds\":[],\"coalitions\":[[[1,2],1],[[1,3],1]],\"earlier\":[[[1],-1]],\"excess\":\"-3/2\",\"total\":1}",
-            "{\"answer\":\"no\",\"level\":1,\"player\":1,\"reason\":6}\n",
+            concat!(
+                r#"{"bounds":[[1,1]],"coalitions":[[[1],1],[[2,3],2]],"earlier":[],"excess":"-1","total":2},"#,
+                r#"{"bounds":[],"coalitions":[[[1,2],1],[[1,3],1]],"earlier":[[[1],-1]],"excess":"-3/2","#,
+                r#""total":1}"#,
+            ),
+            concat!(r#"{"answer":"no","level":1,"player":1,"reason":6}"#, "\n"),
             Status::Negative,
         ),
         // One level alone.
         (
-            "{\"bounds\":[],\"coalitions\":[[[1],1],[[2,3],1]],\"earlier\":[],\"excess\":\"-1\",\"total\":1}",
-            "{\"answer\":\"no\",\"player\":2,\"reason\":8}\n",
+            r#"{"bounds":[],"coalitions":[[[1],1],[[2,3],1]],"earlier":[],"excess":"-1","total":1}"#,
+            concat!(r#"{"answer":"no","player":2,"reason":8}"#, "\n"),
             Status::Negative,
         ),
     ] {
@@ -179,8 +215,8 @@ fn a_game_of_brackets_alone_is_no_json_that_is_read(rt: HostRuntime) -> Result<(
 
 #[test]
 fn a_cost_is_a_whole_number(rt: HostRuntime) -> Result<(), Fail> {
-    let game = "{\"class\":\"airport\",\"costs\":[2.0,4,6]}";
-    let line = "{\"number\":5,\"refused\":\"Number\"}\n";
+    let game = r#"{"class":"airport","costs":[2.0,4,6]}"#;
+    let line = concat!(r#"{"number":5,"refused":"Number"}"#, "\n");
     expect_check(&rt, rt.alloc(), LEVELS, game, SHARES, line, Status::Refused)
 }
 
@@ -206,20 +242,20 @@ const PLAYERS: [&str; 17] = [
 
 // A level of all coalitions of 17 players up to the mask 65,537.
 fn long_level(alloc: Global) -> Result<String, Fail> {
-    let mut level = String::from_str(alloc, "{\"bounds\":[],\"coalitions\":[")?;
+    let mut level = String::from_str(alloc, r#"{"bounds":[],"coalitions":["#)?;
     for mask in 1..65_537 {
         push_coalition(&mut level, mask)?;
         level.push_str(",")?;
     }
     push_coalition(&mut level, 65_537)?;
-    level.push_str("],\"earlier\":[],\"excess\":\"0\",\"total\":1}")?;
+    level.push_str(r#"],"earlier":[],"excess":"0","total":1}"#)?;
     Ok(level)
 }
 
 #[test]
 fn a_level_of_65537_coalitions_is_no_level(rt: HostRuntime) -> Result<(), Fail> {
     let level = long_level(rt.alloc())?;
-    let game = "{\"class\":\"airport\",\"costs\":[0,0,0,0,0,0,0,0,0,0,0,0,0,0,0,0,0]}";
+    let game = r#"{"class":"airport","costs":[0,0,0,0,0,0,0,0,0,0,0,0,0,0,0,0,0]}"#;
     let zeros = "0,0,0,0,0,0,0,0,0,0,0,0,0,0,0,0,0";
     expect_check(
         &rt,

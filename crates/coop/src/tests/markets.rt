@@ -8,26 +8,34 @@ use std::test::Fail;
 fn markets_are_printed_with_their_pairs(rt: HostRuntime) -> Result<(), Fail> {
     let rows = &[
         (
-            "{\"game\":{\"class\":\"market\",\"matrix\":[[5],[3]]}}",
-            "{\"answer\":\"matching\",\"buyers best\":[\"2\",\"0\",\"3\"],\"pairs\":[[1,3]],\"sellers best\":[\"0\",\"0\",\"5\"],\"value\":\"5\"}\n",
+            r#"{"game":{"class":"market","matrix":[[5],[3]]}}"#,
+            concat!(
+                r#"{"answer":"matching","buyers best":["2","0","3"],"pairs":[[1,3]],"sellers best":["0","0","#,
+                r#""5"],"value":"5"}"#,
+                "\n",
+            ),
         ),
         (
-            "{\"game\":{\"class\":\"market\",\"matrix\":[[5,8],[7,6]],\"names\":[\"Ann\",\"Ben\",\"house\",\"flat\"]}}",
-            "{\"answer\":\"matching\",\"buyers best\":[\"8\",\"7\",\"0\",\"0\"],\"pairs\":[[1,4],[2,3]],\"sellers best\":[\"0\",\"0\",\"7\",\"8\"],\
-             \"value\":\"15\"}\n",
+            r#"{"game":{"class":"market","matrix":[[5,8],[7,6]],"names":["Ann","Ben","house","flat"]}}"#,
+            concat!(
+                r#"{"answer":"matching","buyers best":["8","7","0","0"],"pairs":[[1,4],[2,3]],"#,
+                r#""sellers best":["0","0","7","8"],"value":"15"}"#,
+                "\n",
+            ),
         ),
     ];
     expect_lines(&rt, rt.alloc(), "matching", Status::Done, rows)
 }
 
 const DIAGONAL_PAIRS: &str =
-    "[[1,33],[2,34],[3,35],[4,36],[5,37],[6,38],[7,39],[8,40],[9,41],[10,42],[11,43],[12,44],[13,45],[14,46],[15,47],[16,48],[17,49],[18,50],[19,51],\
-     [20,52],[21,53],[22,54],[23,55],[24,56],[25,57],[26,58],[27,59],[28,60],[29,61],[30,62],[31,63],[32,64]]";
+    "[[1,33],[2,34],[3,35],[4,36],[5,37],[6,38],[7,39],[8,40],[9,41],[10,42],[11,43],[12,44],[13,45],[14,46],[15,47],\
+     [16,48],[17,49],[18,50],[19,51],[20,52],[21,53],[22,54],[23,55],[24,56],[25,57],[26,58],[27,59],[28,60],[29,61],\
+     [30,62],[31,63],[32,64]]";
 
 // A market of so many buyers, each with an entry for each of so many sellers: 1 for the seller of its own number,
 // else 0.
 fn diagonal(alloc: Global, buyers: u32, sellers: u32) -> Result<String, Fail> {
-    let mut text = String::from_str(alloc, "{\"game\":{\"class\":\"market\",\"matrix\":[")?;
+    let mut text = String::from_str(alloc, r#"{"game":{"class":"market","matrix":["#)?;
     for i in 0..buyers {
         text.push_str(if i == 0 { "[" } else { ",[" })?;
         for j in 0..sellers {
@@ -43,22 +51,22 @@ fn diagonal(alloc: Global, buyers: u32, sellers: u32) -> Result<String, Fail> {
 // The shares of 32 players, and then of 32 more.
 fn push_shares(text: &mut String, first: &str, last: &str) -> Result<(), Fail> {
     for k in 0..64 {
-        text.push_str(if k == 0 { "\"" } else { ",\"" })?;
+        text.push_str(if k == 0 { r#"""# } else { r#",""# })?;
         text.push_str(if k < 32 { first } else { last })?;
-        text.push_str("\"")?;
+        text.push_str(r#"""#)?;
     }
     Ok(())
 }
 
 // The line of the market of 32 buyers and sellers.
 fn diagonal_line(alloc: Global) -> Result<String, Fail> {
-    let mut line = String::from_str(alloc, "{\"answer\":\"matching\",\"buyers best\":[")?;
+    let mut line = String::from_str(alloc, r#"{"answer":"matching","buyers best":["#)?;
     push_shares(&mut line, "1", "0")?;
-    line.push_str("],\"pairs\":")?;
+    line.push_str(r#"],"pairs":"#)?;
     line.push_str(DIAGONAL_PAIRS)?;
-    line.push_str(",\"sellers best\":[")?;
+    line.push_str(r#","sellers best":["#)?;
     push_shares(&mut line, "0", "1")?;
-    line.push_str("],\"value\":\"32\"}\n")?;
+    line.push_str(concat!(r#"],"value":"32"}"#, "\n"))?;
     Ok(line)
 }
 
@@ -74,19 +82,25 @@ fn markets_are_refused_by_the_first_cause(rt: HostRuntime) -> Result<(), Fail> {
     let tall = diagonal(rt.alloc(), 33, 1)?;
     let wide = diagonal(rt.alloc(), 1, 33)?;
     let rows = &[
-        (tall.as_str(), "{\"number\":4,\"refused\":\"Players\"}\n"),
-        (wide.as_str(), "{\"number\":4,\"refused\":\"Players\"}\n"),
         (
-            "{\"game\":{\"class\":\"market\",\"matrix\":[[1,2],[1099511627776]]}}",
-            "{\"number\":5,\"refused\":\"Number\"}\n",
+            tall.as_str(),
+            concat!(r#"{"number":4,"refused":"Players"}"#, "\n"),
         ),
         (
-            "{\"game\":{\"class\":\"market\",\"matrix\":[[1,2],[3]],\"names\":[\"one\"]}}",
-            "{\"number\":6,\"refused\":\"Names\"}\n",
+            wide.as_str(),
+            concat!(r#"{"number":4,"refused":"Players"}"#, "\n"),
         ),
         (
-            "{\"game\":{\"class\":\"market\",\"matrix\":[[1,2],[3]]}}",
-            "{\"number\":9,\"refused\":\"Matrix\"}\n",
+            r#"{"game":{"class":"market","matrix":[[1,2],[1099511627776]]}}"#,
+            concat!(r#"{"number":5,"refused":"Number"}"#, "\n"),
+        ),
+        (
+            r#"{"game":{"class":"market","matrix":[[1,2],[3]],"names":["one"]}}"#,
+            concat!(r#"{"number":6,"refused":"Names"}"#, "\n"),
+        ),
+        (
+            r#"{"game":{"class":"market","matrix":[[1,2],[3]]}}"#,
+            concat!(r#"{"number":9,"refused":"Matrix"}"#, "\n"),
         ),
     ];
     expect_lines(&rt, rt.alloc(), "matching", Status::Refused, rows)
@@ -94,24 +108,26 @@ fn markets_are_refused_by_the_first_cause(rt: HostRuntime) -> Result<(), Fail> {
 
 #[test]
 fn matching_is_for_markets_alone(rt: HostRuntime) -> Result<(), Fail> {
-    let line = "{\"usage\":\"class\"}\n";
+    let line = concat!(r#"{"usage":"class"}"#, "\n");
     let inputs = &[
-        "{\"game\":{\"class\":\"table\",\"players\":1,\"worths\":[5]}}",
-        "{\"game\":{\"class\":\"cost-table\",\"players\":1,\"worths\":[5]}}",
-        "{\"game\":{\"class\":\"airport\",\"costs\":[2,4,6]}}",
-        "{\"game\":{\"claims\":[100,200,300],\"class\":\"bankruptcy\",\"estate\":200}}",
-        "{\"game\":{\"class\":\"tree\",\"matrix\":[[0,3],[3,0]]}}",
-        "{\"game\":{\"class\":\"assignment\",\"matrix\":[[9]]}}",
-        "{\"game\":{\"class\":\"voting\",\"quota\":5,\"weights\":[4,2,1]}}",
+        r#"{"game":{"class":"table","players":1,"worths":[5]}}"#,
+        r#"{"game":{"class":"cost-table","players":1,"worths":[5]}}"#,
+        r#"{"game":{"class":"airport","costs":[2,4,6]}}"#,
+        r#"{"game":{"claims":[100,200,300],"class":"bankruptcy","estate":200}}"#,
+        r#"{"game":{"class":"tree","matrix":[[0,3],[3,0]]}}"#,
+        r#"{"game":{"class":"assignment","matrix":[[9]]}}"#,
+        r#"{"game":{"class":"voting","quota":5,"weights":[4,2,1]}}"#,
     ];
     expect_line(&rt, rt.alloc(), "matching", Status::Usage, line, inputs)
 }
 
 #[test]
 fn markets_are_for_matching_alone(rt: HostRuntime) -> Result<(), Fail> {
-    let input =
-        "{\"answer\":\"nucleolus\",\"certificate\":{\"levels\":[],\"mode\":\"players\"},\"game\":{\"class\":\"market\",\"matrix\":[[9]]},\"shares\":[4,5]}";
-    let line = "{\"usage\":\"class\"}\n";
+    let input = concat!(
+        r#"{"answer":"nucleolus","certificate":{"levels":[],"mode":"players"},"game":{"class":"market","#,
+        r#""matrix":[[9]]},"shares":[4,5]}"#,
+    );
+    let line = concat!(r#"{"usage":"class"}"#, "\n");
     let commands = &[
         "nucleolus",
         "prenucleolus",

@@ -15,11 +15,11 @@ fn is_refused(alloc: Global, input: &[u8], line: &str) -> Result<bool, Fail> {
 #[test]
 fn refuses_what_is_no_json(rt: HostRuntime) -> Result<(), Fail> {
     for &input in &[
-        b"{\"game\":{\"class\":".as_slice(),
+        br#"{"game":{"class":"#.as_slice(),
         b"\"\xff\"".as_slice(),
         b"".as_slice(),
     ] {
-        let line = "{\"number\":2,\"refused\":\"NotJson\"}\n";
+        let line = concat!(r#"{"number":2,"refused":"NotJson"}"#, "\n");
         assert!(rt; is_refused(rt.alloc(), input, line)?, "{input:?}");
     }
     Ok(())
@@ -43,8 +43,8 @@ fn is_nested_refused(alloc: Global, depth: usize, line: &str) -> Result<bool, Fa
 #[test]
 fn refuses_what_is_nested_deeper_than_is_read(rt: HostRuntime) -> Result<(), Fail> {
     let alloc = rt.alloc();
-    let shape = "{\"number\":3,\"refused\":\"Shape\"}\n";
-    let not_json = "{\"number\":2,\"refused\":\"NotJson\"}\n";
+    let shape = concat!(r#"{"number":3,"refused":"Shape"}"#, "\n");
+    let not_json = concat!(r#"{"number":2,"refused":"NotJson"}"#, "\n");
     let found = (
         is_nested_refused(alloc, 127, shape)?,
         is_nested_refused(alloc, 128, not_json)?,
@@ -57,90 +57,90 @@ fn refuses_what_is_nested_deeper_than_is_read(rt: HostRuntime) -> Result<(), Fai
 #[test]
 fn refuses_each_for_its_first_reason(rt: HostRuntime) -> Result<(), Fail> {
     for &(input, line) in &[
-        ("[]", "{\"number\":3,\"refused\":\"Shape\"}\n"),
+        ("[]", concat!(r#"{"number":3,"refused":"Shape"}"#, "\n")),
         (
-            "{\"game\":{\"class\":\"table\",\"players\":1,\"worths\":[5]},\"shares\":[5],\"answers\":1}",
-            "{\"number\":3,\"refused\":\"Shape\"}\n",
+            r#"{"game":{"class":"table","players":1,"worths":[5]},"shares":[5],"answers":1}"#,
+            concat!(r#"{"number":3,"refused":"Shape"}"#, "\n"),
         ),
         (
-            "{\"game\":{\"class\":\"table\",\"players\":1,\"worths\":[5]}}",
-            "{\"number\":3,\"refused\":\"Shape\"}\n",
+            r#"{"game":{"class":"table","players":1,"worths":[5]}}"#,
+            concat!(r#"{"number":3,"refused":"Shape"}"#, "\n"),
         ),
         (
-            "{\"game\":{\"class\":\"airport\",\"players\":1,\"worths\":[5]},\"shares\":[5]}",
-            "{\"number\":3,\"refused\":\"Shape\"}\n",
+            r#"{"game":{"class":"airport","players":1,"worths":[5]},"shares":[5]}"#,
+            concat!(r#"{"number":3,"refused":"Shape"}"#, "\n"),
         ),
         (
-            "{\"game\":{\"players\":1,\"worths\":[5]},\"shares\":[5]}",
-            "{\"number\":3,\"refused\":\"Shape\"}\n",
+            r#"{"game":{"players":1,"worths":[5]},"shares":[5]}"#,
+            concat!(r#"{"number":3,"refused":"Shape"}"#, "\n"),
         ),
         (
-            "{\"game\":{\"class\":\"table\",\"players\":0,\"worths\":[]},\"shares\":[]}",
-            "{\"number\":4,\"refused\":\"Players\"}\n",
+            r#"{"game":{"class":"table","players":0,"worths":[]},"shares":[]}"#,
+            concat!(r#"{"number":4,"refused":"Players"}"#, "\n"),
         ),
         (
-            "{\"game\":{\"class\":\"table\",\"players\":17,\"worths\":[5]},\"shares\":[5]}",
-            "{\"number\":4,\"refused\":\"Players\"}\n",
+            r#"{"game":{"class":"table","players":17,"worths":[5]},"shares":[5]}"#,
+            concat!(r#"{"number":4,"refused":"Players"}"#, "\n"),
         ),
         (
-            "{\"game\":{\"class\":\"table\",\"players\":2,\"worths\":[5,6]},\"shares\":[5,6]}",
-            "{\"number\":4,\"refused\":\"Players\"}\n",
+            r#"{"game":{"class":"table","players":2,"worths":[5,6]},"shares":[5,6]}"#,
+            concat!(r#"{"number":4,"refused":"Players"}"#, "\n"),
         ),
         (
-            "{\"game\":{\"class\":\"table\",\"players\":1,\"worths\":[1099511627776]},\"shares\":[5]}",
-            "{\"number\":5,\"refused\":\"Number\"}\n",
+            r#"{"game":{"class":"table","players":1,"worths":[1099511627776]},"shares":[5]}"#,
+            concat!(r#"{"number":5,"refused":"Number"}"#, "\n"),
         ),
         (
-            "{\"game\":{\"class\":\"table\",\"players\":1,\"worths\":[5.0]},\"shares\":[5]}",
-            "{\"number\":5,\"refused\":\"Number\"}\n",
+            r#"{"game":{"class":"table","players":1,"worths":[5.0]},"shares":[5]}"#,
+            concat!(r#"{"number":5,"refused":"Number"}"#, "\n"),
         ),
         (
-            "{\"game\":{\"class\":\"table\",\"players\":1,\"worths\":[5]},\"shares\":[\"05\"]}",
-            "{\"number\":5,\"refused\":\"Number\"}\n",
+            r#"{"game":{"class":"table","players":1,"worths":[5]},"shares":["05"]}"#,
+            concat!(r#"{"number":5,"refused":"Number"}"#, "\n"),
         ),
         (
-            "{\"game\":{\"class\":\"table\",\"names\":[\"a\",\"a\"],\"players\":2,\"worths\":[1,2,7]},\"shares\":[3,4]}",
-            "{\"number\":6,\"refused\":\"Names\"}\n",
+            r#"{"game":{"class":"table","names":["a","a"],"players":2,"worths":[1,2,7]},"shares":[3,4]}"#,
+            concat!(r#"{"number":6,"refused":"Names"}"#, "\n"),
         ),
         (
-            "{\"game\":{\"class\":\"table\",\"default\":0,\"players\":2,\"sparse\":[[[1,1],7]]},\"shares\":[3,4]}",
-            "{\"number\":7,\"refused\":\"Coalition\"}\n",
+            r#"{"game":{"class":"table","default":0,"players":2,"sparse":[[[1,1],7]]},"shares":[3,4]}"#,
+            concat!(r#"{"number":7,"refused":"Coalition"}"#, "\n"),
         ),
         (
-            "{\"game\":{\"class\":\"bankruptcy\",\"claims\":[1,2],\"estate\":4},\"shares\":[2,2]}",
-            "{\"number\":8,\"refused\":\"Estate\"}\n",
+            r#"{"game":{"class":"bankruptcy","claims":[1,2],"estate":4},"shares":[2,2]}"#,
+            concat!(r#"{"number":8,"refused":"Estate"}"#, "\n"),
         ),
         (
-            "{\"game\":{\"class\":\"table\",\"players\":1,\"worths\":[5]},\"shares\":[5,6]}",
-            "{\"number\":10,\"refused\":\"Proposal\"}\n",
+            r#"{"game":{"class":"table","players":1,"worths":[5]},"shares":[5,6]}"#,
+            concat!(r#"{"number":10,"refused":"Proposal"}"#, "\n"),
         ),
         (
-            "{\"game\":{\"class\":\"table\",\"players\":1,\"worths\":[5]},\"shares\":[\"1/9223372036854775809\"]}",
-            "{\"number\":11,\"refused\":\"TooFine\"}\n",
+            r#"{"game":{"class":"table","players":1,"worths":[5]},"shares":["1/9223372036854775809"]}"#,
+            concat!(r#"{"number":11,"refused":"TooFine"}"#, "\n"),
         ),
         (
-            "{\"game\":{\"class\":\"table\",\"players\":3,\"sparse\":[[[1,2],6],[[3,2,1],12],[[2,1],6]]},\"shares\":[4,4,4]}",
-            "{\"number\":7,\"refused\":\"Coalition\"}\n",
+            r#"{"game":{"class":"table","players":3,"sparse":[[[1,2],6],[[3,2,1],12],[[2,1],6]]},"shares":[4,4,4]}"#,
+            concat!(r#"{"number":7,"refused":"Coalition"}"#, "\n"),
         ),
         (
-            "{\"game\":{\"class\":\"table\",\"players\":3,\"worths\":[0,0,1,0,1,1]},\"shares\":[1,0,0]}",
-            "{\"number\":4,\"refused\":\"Players\"}\n",
+            r#"{"game":{"class":"table","players":3,"worths":[0,0,1,0,1,1]},"shares":[1,0,0]}"#,
+            concat!(r#"{"number":4,"refused":"Players"}"#, "\n"),
         ),
         (
-            "{\"game\":{\"class\":\"table\",\"players\":2,\"worths\":[0,0,1099511627776]},\"shares\":[1,0]}",
-            "{\"number\":5,\"refused\":\"Number\"}\n",
+            r#"{"game":{"class":"table","players":2,"worths":[0,0,1099511627776]},"shares":[1,0]}"#,
+            concat!(r#"{"number":5,"refused":"Number"}"#, "\n"),
         ),
         (
-            "{\"game\":{\"claims\":[100,200,300],\"class\":\"bankruptcy\",\"estate\":200},\"shares\":[\"2/4\",0,0]}",
-            "{\"number\":5,\"refused\":\"Number\"}\n",
+            r#"{"game":{"claims":[100,200,300],"class":"bankruptcy","estate":200},"shares":["2/4",0,0]}"#,
+            concat!(r#"{"number":5,"refused":"Number"}"#, "\n"),
         ),
         (
-            "{\"game\":{\"claims\":[100,200,300],\"class\":\"bankruptcy\",\"estate\":200},\"shares\":[100,100]}",
-            "{\"number\":10,\"refused\":\"Proposal\"}\n",
+            r#"{"game":{"claims":[100,200,300],"class":"bankruptcy","estate":200},"shares":[100,100]}"#,
+            concat!(r#"{"number":10,"refused":"Proposal"}"#, "\n"),
         ),
         (
-            "{\"game\":{\"clas\":\"airport\",\"costs\":[2,4,6]},\"shares\":[1,2,3]}",
-            "{\"number\":3,\"refused\":\"Shape\"}\n",
+            r#"{"game":{"clas":"airport","costs":[2,4,6]},"shares":[1,2,3]}"#,
+            concat!(r#"{"number":3,"refused":"Shape"}"#, "\n"),
         ),
     ] {
         assert!(rt; is_refused(rt.alloc(), input.as_bytes(), line)?, "{input}");
@@ -152,8 +152,8 @@ fn refuses_each_for_its_first_reason(rt: HostRuntime) -> Result<(), Fail> {
 fn refuses_one_byte_past_the_limit_and_not_the_limit_itself(rt: HostRuntime) -> Result<(), Fail> {
     let alloc = rt.alloc();
     let blanks = vec![in alloc; b' '; 2_097_153]?;
-    let too_long = "{\"number\":1,\"refused\":\"TooLong\"}\n";
-    let not_json = "{\"number\":2,\"refused\":\"NotJson\"}\n";
+    let too_long = concat!(r#"{"number":1,"refused":"TooLong"}"#, "\n");
+    let not_json = concat!(r#"{"number":2,"refused":"NotJson"}"#, "\n");
     let found = (
         is_refused(alloc, &blanks, too_long)?,
         is_refused(alloc, &blanks[1..], not_json)?,

@@ -7,22 +7,37 @@ use std::test::Fail;
 fn prints_shapley_shares(rt: HostRuntime) -> Result<(), Fail> {
     let rows = &[
         (
-            "{\"game\":{\"class\":\"table\",\"players\":3,\"worths\":[0,0,1,0,1,1,1]}}",
-            "{\"answer\":\"shapley\",\"shares\":[\"1/3\",\"1/3\",\"1/3\"]}\n",
+            r#"{"game":{"class":"table","players":3,"worths":[0,0,1,0,1,1,1]}}"#,
+            concat!(r#"{"answer":"shapley","shares":["1/3","1/3","1/3"]}"#, "\n"),
         ),
         (
-            "{\"game\":{\"class\":\"airport\",\"costs\":[2,4,6]}}",
-            "{\"answer\":\"shapley\",\"shares\":[\"2/3\",\"5/3\",\"11/3\"]}\n",
+            r#"{"game":{"class":"airport","costs":[2,4,6]}}"#,
+            concat!(
+                r#"{"answer":"shapley","shares":["2/3","5/3","11/3"]}"#,
+                "\n"
+            ),
         ),
         (
-            "{\"game\":{\"class\":\"cost-table\",\"default\":18,\"names\":[\"Sales\",\"Ops\",\"Legal\",\"IT\",\"HR\"],\"players\":5,\
-             \"sparse\":[[[\"Sales\"],6],[[\"Ops\"],6],[[\"Legal\"],6],[[\"IT\"],6],[[\"HR\"],6],[[\"Sales\",\"Ops\",\"Legal\",\"IT\",\"HR\"],20]]}}",
-            "{\"answer\":\"shapley\",\"shares\":[\"4\",\"4\",\"4\",\"4\",\"4\"]}\n",
+            concat!(
+                r#"{"game":{"class":"cost-table","default":18,"names":["Sales","Ops","Legal","IT","HR"],"#,
+                r#""players":5,"sparse":[[["Sales"],6],[["Ops"],6],[["Legal"],6],[["IT"],6],[["HR"],6],"#,
+                r#"[["Sales","Ops","Legal","IT","HR"],20]]}}"#,
+            ),
+            concat!(
+                r#"{"answer":"shapley","shares":["4","4","4","4","4"]}"#,
+                "\n"
+            ),
         ),
         (
-            "{\"game\":{\"class\":\"airport\",\"costs\":[32,32,32,32,32,32,32,32,32,32,32,32,32,32,32,32,32,32,32,32,32,32,32,32,32,32,32,32,32,32,32,32]}}",
-            "{\"answer\":\"shapley\",\"shares\":[\"1\",\"1\",\"1\",\"1\",\"1\",\"1\",\"1\",\"1\",\"1\",\"1\",\"1\",\"1\",\"1\",\"1\",\"1\",\"1\",\
-             \"1\",\"1\",\"1\",\"1\",\"1\",\"1\",\"1\",\"1\",\"1\",\"1\",\"1\",\"1\",\"1\",\"1\",\"1\",\"1\"]}\n",
+            concat!(
+                r#"{"game":{"class":"airport","costs":[32,32,32,32,32,32,32,32,32,32,32,32,32,32,32,32,32,32,32,"#,
+                "32,32,32,32,32,32,32,32,32,32,32,32,32]}}",
+            ),
+            concat!(
+                r#"{"answer":"shapley","shares":["1","1","1","1","1","1","1","1","1","1","1","1","1","1","1","#,
+                r#""1","1","1","1","1","1","1","1","1","1","1","1","1","1","1","1","1"]}"#,
+                "\n",
+            ),
         ),
     ];
     expect_lines(&rt, rt.alloc(), "shapley", Status::Done, rows)
@@ -30,10 +45,13 @@ fn prints_shapley_shares(rt: HostRuntime) -> Result<(), Fail> {
 
 #[test]
 fn airports_of_33_and_estates_of_17_have_too_many_players(rt: HostRuntime) -> Result<(), Fail> {
-    let line = "{\"usage\":\"players\"}\n";
+    let line = concat!(r#"{"usage":"players"}"#, "\n");
     let inputs = &[
-        "{\"game\":{\"class\":\"airport\",\"costs\":[32,32,32,32,32,32,32,32,32,32,32,32,32,32,32,32,32,32,32,32,32,32,32,32,32,32,32,32,32,32,32,32,32]}}",
-        "{\"game\":{\"claims\":[1,1,1,1,1,1,1,1,1,1,1,1,1,1,1,1,1],\"class\":\"bankruptcy\",\"estate\":17}}",
+        concat!(
+            r#"{"game":{"class":"airport","costs":[32,32,32,32,32,32,32,32,32,32,32,32,32,32,32,32,32,32,32,32,"#,
+            "32,32,32,32,32,32,32,32,32,32,32,32,32]}}",
+        ),
+        r#"{"game":{"claims":[1,1,1,1,1,1,1,1,1,1,1,1,1,1,1,1,1],"class":"bankruptcy","estate":17}}"#,
     ];
     expect_line(&rt, rt.alloc(), "shapley", Status::Usage, line, inputs)
 }

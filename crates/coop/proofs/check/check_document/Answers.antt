@@ -8,7 +8,9 @@ returns-clause-printable c =
     let document = c.args.document.now in
     let given = c.in-Some-Some-Some in
     record {
-      fine = verdict_fine given.certificate.mode given.family document.measure (game_of (description_in document.game)) given.shares given.certificate.levels c.check-verdict.result
-          c.keep_their_limits.ensures.shares c.check-verdict.ensures.verdict c.keep_lowest.ensures;
+      fine =
+          verdict_fine given.certificate.mode given.family document.measure (game_of (description_in document.game))
+          given.shares given.certificate.levels c.in_ok-verdict.verdict c.keep_their_limits.ensures.shares
+          c.in_ok-verdict.ensures c.keep_lowest.ensures;
       form = tt;
     }

@@ -4,4 +4,7 @@ use Rattle.coop.proofs.CorePoints.{all_of_few}
 use Rattle.coop.proofs.core_search.core_document.Goals as goal
 
 pub returns-clause-says : goal.returns-clause-says
-returns-clause-says c = all_of_few (contents_in c.args.document.now) (omega (arith, c.if-players-core_limit.false, c.core_limit.ensures, c.players.ensures.count)) c.core_of_few.result c.core_of_few.ensures.finds
+returns-clause-says c =
+    all_of_few (contents_in c.args.document.now)
+    (omega (arith, c.if-players-core_limit.false, c.core_limit.ensures, c.players.ensures.count))
+    c.core_of_few.result c.core_of_few.ensures.finds

@@ -9,9 +9,10 @@ use Rattle.coop_gen.proofs.Classes.{generated_of_class}
 use Rattle.coop.specs.GeneratorClaims.{IsGreatestExcess}
 use Rattle.coop.proofs.generated.summary_of.Goals as goal
 
-pub checked_shares-requires-clause-imputations : goal.checked_shares-requires-clause-imputations
-checked_shares-requires-clause-imputations c =
-    subst (λ d. HasImputations (game_of d)) (sym c.in_ok-game.ensures) (generated_imputations c.args.kind c.args.players c.args.seed c.requires.size)
+pub solved-requires-clause-imputations : goal.solved-requires-clause-imputations
+solved-requires-clause-imputations c =
+    subst (λ d. HasImputations (game_of d)) (sym c.in_ok-game.ensures)
+    (generated_imputations c.args.kind c.args.players c.args.seed c.requires.size)
 
 pub returns-clause-summary : goal.returns-clause-summary
 returns-clause-summary c =
@@ -22,6 +23,10 @@ returns-clause-summary c =
       seed_is = refl;
       class = generated_of_class c.args.kind c.args.players c.args.seed c.requires.size;
       signs = c.is_cost.ensures ∙ ap is_cost made;
-      nucleolus = subst (λ d. IsNucleolus Imputations Plain (game_of d) c.in_ok-shares.shares) made c.in_ok-shares.ensures;
-      greatest = subst (λ d. IsGreatestExcess (game_of d) c.in_ok-shares.shares c.greatest_excess-greatest.result) made c.greatest_excess-greatest.ensures.greatest;
+      nucleolus =
+          subst (λ d. IsNucleolus Imputations Plain (game_of d) c.in_ok-shares.shares) made
+          c.in_ok-shares.ensures.nucleolus;
+      greatest =
+          subst (λ d. IsGreatestExcess (game_of d) c.in_ok-shares.shares c.in_ok-shares.greatest) made
+          c.in_ok-shares.ensures.greatest;
     }

@@ -1,10 +1,18 @@
 use Rattle.std.proofs.Common.{◌^◌, ℤ, pos, ◌≤ℤ◌, subst}
 use Rattle.coop.proofs.PrintableAnswers.{differs_not_balanced, surplus_fine}
+use Rattle.real_shares.proofs.ForReals.{in_prekernel_for_reals}
 use Rattle.coop.proofs.prekernel_test.balance.Goals as goal
+
+pub returns-in-Balanced-clause-balances : goal.returns-in-Balanced-clause-balances
+returns-in-Balanced-clause-balances g c =
+    let inside = c.in-Balanced.ensures.answer in
+    (inside, in_prekernel_for_reals (g.W.Worth.game c.args.game.now) c.args.shares.now inside)
 
 pub returns-in-Differs-clause-prenucleolus : goal.returns-in-Differs-clause-prenucleolus
 returns-in-Differs-clause-prenucleolus g c = λ h.
-    absurd (differs_not_balanced c.in-Differs.i c.in-Differs.j c.in-Differs.ij c.in-Differs.ji (c.in-Differs.ensures.prenucleolus_is_balanced h))
+    absurd
+    (differs_not_balanced c.in-Differs.i c.in-Differs.j c.in-Differs.ij c.in-Differs.ji
+    (c.in-Differs.ensures.prenucleolus_is_balanced h))
 
 pub returns-in-Differs-clause-printable : goal.returns-in-Differs-clause-printable
 returns-in-Differs-clause-printable g c =

@@ -10,18 +10,28 @@ pub returns-in-Err-Refused-clause-right : goal.returns-in-Err-Refused-clause-rig
 returns-in-Err-Refused-clause-right g c =
     let input = c.in_ok-input.input in
     let refused = rw (c.in-Err-Refused.field-0-is, c.deref.ensures.value) at c.in-Err-Refused.ensures.reading in
-    let right = right_refusal c.args.command _ _ input.items c.in_ok-input.ensures.bytes (omega (arith, input.ok.0, c.in_ok-input.ensures.most, c.document_limit.ensures.value)) (λ h. c.in_ok-input.ensures.end (omega (arith, input.ok.0, c.document_limit.ensures.value))) c.in-Err-Refused.refusal refused in
+    let right =
+    right_refusal c.args.command _ _ input.items c.in_ok-input.ensures.bytes
+    (omega (arith, input.ok.0, c.in_ok-input.ensures.most, c.document_limit.ensures.value))
+    (λ h. c.in_ok-input.ensures.end (omega (arith, input.ok.0, c.document_limit.ensures.value)))
+    c.in-Err-Refused.refusal refused in
     rw c.in-Err-Refused.refusal-is right
 
 pub answer_to-requires : goal.answer_to-requires
 answer_to-requires g c =
     let e = rw c.deref.ensures.value at c.in-Ok.ensures in
-    has_needed c.in_ok-input.input.items (contents_in c.in-Ok.document) c.args.command e.reading e.count e.players e.kept
+    has_needed c.in_ok-input.input.items (contents_in c.in-Ok.document) c.args.command e.reading e.count e.players
+    e.kept
 
 pub returns-clause-right : goal.returns-clause-right
 returns-clause-right g c =
     let input = c.in_ok-input.input in
     let e = rw c.deref.ensures.value at c.in-Ok.ensures in
     let kept : to_z w64 (of_z w64 c.in-Ok.document.scale) ≡ c.in-Ok.document.scale = search rules in
-    let right = right_answer c.args.command _ _ input.items c.in_ok-input.ensures.bytes (λ h. c.in_ok-input.ensures.end (omega (arith, input.ok.0, c.document_limit.ensures.value))) (contents_in c.in-Ok.document) e.reading c.in-Ok-answer_to.answer c.in-Ok-answer_to.ensures.right in
-    subst (λ (k : ℤ). IsRight (word_of c.args.command ∷ []) (g.S.Source.left c.args.source.now) (g.S.Source.left c.read_input.new.source) k c.in-Ok-answer_to.answer) (sym kept) right
+    let right =
+    right_answer c.args.command _ _ input.items c.in_ok-input.ensures.bytes
+    (λ h. c.in_ok-input.ensures.end (omega (arith, input.ok.0, c.document_limit.ensures.value)))
+    (contents_in c.in-Ok.document) e.reading c.in-Ok-answer_to.answer c.in-Ok-answer_to.ensures.right in
+    subst
+    (λ (k : ℤ). IsRight (word_of c.args.command ∷ []) (g.S.Source.left c.args.source.now)
+    (g.S.Source.left c.read_input.new.source) k c.in-Ok-answer_to.answer) (sym kept) right

@@ -24,4 +24,6 @@ returns-in-Err-clause-value c = λ n h e.
     let number : c.num.result ≡ pos n = c.num.ensures ∙ ap (λ f. f.num) same in
     let fits : FitsUnsigned w32 (pos n) = omega (arith, ints, h) in
     let kept = cast_kept w128 (pos n) (omega (arith, h)) in
-    c.in-Err.ensures (subst (λ (z : ℤ). FitsUnsigned w32 (to_z w128 (of_z w128 z))) (sym number) (subst (FitsUnsigned w32) (sym kept) fits))
+    c.in-Err.ensures
+    (subst (λ (z : ℤ). FitsUnsigned w32 (to_z w128 (of_z w128 z))) (sym number)
+    (subst (FitsUnsigned w32) (sym kept) fits))

@@ -13,6 +13,8 @@ loop-coalition-preserved c =
     let test = int_lt-from_test (amount x s) (x.den *ℤ g.worth s) _ c.blocks-in-loop-coalition.ensures in
     let blocking = λ (t : ℕ). int_lt (amount x t) (x.den *ℤ g.worth t) in
     elim c.if-blocks.branch [
-      | then-blocks+in_ok-push w ↦ filter-passed blocking s _ _ (test ∙ w.if-blocks.true) c.loop-coalition.invariant (ap (λ v. v.items) w.masks-is ∙ w.in_ok-push.ensures.items)
-      | else-blocks w ↦ filter-failed blocking s _ _ (test ∙ w.if-blocks.false) c.loop-coalition.invariant (ap (λ v. v.items) w.masks-is)
+      | then-blocks+in_ok-push w ↦ filter-passed blocking s _ _ (test ∙ w.if-blocks.true) c.loop-coalition.invariant
+          (ap (λ v. v.items) w.masks-is ∙ w.in_ok-push.ensures.items)
+      | else-blocks w ↦ filter-failed blocking s _ _ (test ∙ w.if-blocks.false) c.loop-coalition.invariant
+          (ap (λ v. v.items) w.masks-is)
     ]

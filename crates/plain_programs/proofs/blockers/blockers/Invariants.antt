@@ -6,4 +6,6 @@ use Rattle.plain_programs.proofs.blockers.blockers.Given as goal
 
 abbrev pub invariant-loop-coalition : goal.invariant-loop-coalition
 invariant-loop-coalition l =
-    l.masks.items ≡ filter (λ s. int_lt (amount l.point s) (l.point.den *ℤ (game_of l.table).worth s)) (range_with_len 0 l.coalition)
+    l.masks.items
+    ≡ filter (λ s. int_lt (amount l.point s) (l.point.den *ℤ (game_of l.table).worth s))
+    (range_with_len 0 l.coalition)

@@ -12,5 +12,7 @@ loop-coalition-preserved c =
     let f = excess (game_of c.args.table.now) c.args.point.now in
     let here = cast_kept w128 c.excess.result (omega (arith, c.excess.ensures.small)) ∙ c.excess.ensures.value in
     let kept = cast_kept w128 c.greater-greatest.result (omega (arith, c.greater-greatest.ensures.small)) in
-    let value = kept ∙ c.greater-greatest.ensures.value ∙ ap (int_max _) here in
-    (rw value (IsGreatest-more f c.loop-coalition.coalition _ c.loop-coalition.invariant.0), rw kept c.greater-greatest.ensures.small)
+    let value = kept ∙ c.greater-greatest.ensures.value ∙ ap (int_max _) here in (
+      rw value (IsGreatest-more f c.loop-coalition.coalition _ c.loop-coalition.invariant.0),
+      rw kept c.greater-greatest.ensures.small,
+    )

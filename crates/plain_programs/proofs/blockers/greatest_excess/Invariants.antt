@@ -6,4 +6,5 @@ use Rattle.plain_programs.proofs.blockers.greatest_excess.Given as goal
 
 abbrev pub invariant-loop-coalition : goal.invariant-loop-coalition
 invariant-loop-coalition l =
-    IsGreatest (λ s. s < l.coalition) (excess (game_of l.table) l.point) l.greatest × (unsigned_abs l.greatest < 2 ^ 89)
+    IsGreatest (λ s. s < l.coalition) (excess (game_of l.table) l.point) l.greatest
+    × (unsigned_abs l.greatest < 2 ^ 89)

@@ -6,4 +6,6 @@ use Rattle.plain_programs.proofs.excesses.excess_list.Given as goal
 
 abbrev pub invariant-loop-coalition : goal.invariant-loop-coalition
 invariant-loop-coalition l =
-    l.list.items ≡ map (λ s. l.scale *ℤ measured_excess l.measure (game_of l.table) l.point s) (range_with_len 1 (l.coalition - 1))
+    l.list.items
+    ≡ map (λ s. l.scale *ℤ measured_excess l.measure (game_of l.table) l.point s)
+    (range_with_len 1 (l.coalition - 1))

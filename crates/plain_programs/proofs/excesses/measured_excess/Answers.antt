@@ -5,7 +5,8 @@ use Rattle.definitions.proofs.Sizes.{size-some}
 use Rattle.plain_programs.proofs.excesses.measured_excess.Goals as goal
 
 pub per_head-requires-clause-some : goal.per_head-requires-clause-some
-per_head-requires-clause-some c = size-some 64 c.args.coalition (omega arith) c.requires.some c.ranges.coalition.fits
+per_head-requires-clause-some c =
+    size-some 64 c.args.coalition (omega arith) c.requires.some c.ranges.coalition.fits
 
 pub per_head-requires-clause-small : goal.per_head-requires-clause-small
 per_head-requires-clause-small c =

@@ -12,6 +12,14 @@ loop-player-preserved c =
     let s = c.args.coalition in
     let i = c.loop-player.player in
     elim c.if-has_player.branch [
-      | then-has_player w ↦ rw w.count-is (let more = length-more_yes i s (sym c.has_player.ensures ∙ w.if-has_player.true) in omega (arith, more, c.loop-player.invariant.0), omega (arith, c.loop-player.invariant.1))
-      | else-has_player w ↦ rw w.count-is (let more = length-more_no i s (sym c.has_player.ensures ∙ w.if-has_player.false) in omega (arith, more, c.loop-player.invariant.0), omega (arith, c.loop-player.invariant.1))
+      | then-has_player w ↦ rw w.count-is (
+        let more = length-more_yes i s (sym c.has_player.ensures ∙ w.if-has_player.true) in
+            omega (arith, more, c.loop-player.invariant.0),
+        omega (arith, c.loop-player.invariant.1),
+      )
+      | else-has_player w ↦ rw w.count-is (
+        let more = length-more_no i s (sym c.has_player.ensures ∙ w.if-has_player.false) in
+            omega (arith, more, c.loop-player.invariant.0),
+        omega (arith, c.loop-player.invariant.1),
+      )
     ]
