@@ -27,8 +27,8 @@ pub fn judged(game: &AirportGame, shares: &Shares) -> Option<Coalition>
     game.blocker(shares)
 }
 
-/// Whether the certificate shows that the shares are the nucleolus: both are for the game's players, and the certificate
-/// meets all conditions.
+/// Whether the certificate shows that the shares are the nucleolus: both are for the game's players, and the
+/// certificate meets all conditions.
 pub fn is_shown(game: &AirportGame, shares: &Shares, certificate: &Certificate) -> bool
     ensures exact { let g = airport_game game.now in (result ≡ true) ↔ ((length shares.now.shares ≡ g.players)
         × (certificate.now.players ≡ g.players)

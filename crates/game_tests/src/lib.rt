@@ -20,6 +20,8 @@ mod fracs;
 #[cfg(test)]
 mod fractions_tests;
 #[cfg(test)]
+mod greatest_games_tests;
+#[cfg(test)]
 mod matrices_tests;
 #[cfg(test)]
 mod orders_tests;

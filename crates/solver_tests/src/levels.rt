@@ -6,8 +6,8 @@ use kohlberg::{Certificate, Level, Mode};
 use std::alloc::{AllocError, Global};
 use std::test::Fail;
 
-/// A level's excess over a denominator, the masks of its coalitions and earlier ones and its bounds, with their weights,
-/// and its total.
+/// A level's excess over a denominator, the masks of its coalitions and earlier ones and its bounds, with their
+/// weights, and its total.
 pub(crate) type Row<'a> = (
     (i128, i128),
     &'a [(u64, i128)],

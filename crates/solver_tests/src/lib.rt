@@ -12,6 +12,8 @@ mod convexity_tests;
 #[cfg(test)]
 mod determinants_tests;
 #[cfg(test)]
+mod greatest_games_tests;
+#[cfg(test)]
 mod kernel_test_tests;
 #[cfg(test)]
 mod kohlberg_tests;
@@ -19,6 +21,8 @@ mod kohlberg_tests;
 mod levels;
 #[cfg(test)]
 mod nested_programs_tests;
+#[cfg(test)]
+mod pivots_tests;
 #[cfg(test)]
 mod separation_columns_tests;
 #[cfg(test)]

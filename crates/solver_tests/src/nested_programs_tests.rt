@@ -32,7 +32,8 @@ fn point_by(
     players: u32,
     worths: &[i64],
 ) -> Result<Solved, Fail>
-    ensures point { IfOk result (λ s. IsPoint s.family s.measure (⟦<TableGame as Worth>⟧.game s.game) s.shares s.certificate) }
+    ensures point { IfOk result
+        (λ s. IsPoint s.family s.measure (⟦<TableGame as Worth>⟧.game s.game) s.shares s.certificate) }
     ensures few { IfOk result (λ s. (⟦<TableGame as Worth>⟧.game s.game).players ≤ 16) }
 {
     let game = TableGame::new(alloc, players, worths.to_vec(alloc)?)
@@ -55,7 +56,8 @@ fn point_by(
 
 /// Whether the checker says Yes to the certificate.
 fn is_certified(s: &Solved) -> bool
-    requires point { IsPoint s.now.family s.now.measure (⟦<TableGame as Worth>⟧.game s.now.game) s.now.shares s.now.certificate }
+    requires point { IsPoint s.now.family s.now.measure (⟦<TableGame as Worth>⟧.game s.now.game) s.now.shares
+        s.now.certificate }
     requires few { (⟦<TableGame as Worth>⟧.game s.now.game).players ≤ 16 }
 {
     check(&s.game, s.family, s.measure, &s.shares, &s.certificate) == Verdict::Yes

@@ -14,9 +14,9 @@ use std::test::Fail;
 
 // The text of a document of this game and these shares.
 pub(crate) fn document(alloc: Global, game: &str, shares: &str) -> Result<String, Fail> {
-    let mut text = String::from_str(alloc, "{\"game\":")?;
+    let mut text = String::from_str(alloc, r#"{"game":"#)?;
     text.push_str(game)?;
-    text.push_str(",\"shares\":")?;
+    text.push_str(r#","shares":"#)?;
     text.push_str(shares)?;
     text.push_str("}")?;
     Ok(text)
@@ -64,39 +64,39 @@ pub(crate) fn expect_fault(
 fn other_kinds_keys_and_words_are_refused(rt: HostRuntime) {
     for text in &[
         "[]",
-        "{\"shares\":[1]}",
-        "{\"game\":{\"class\":\"airport\",\"costs\":[1]}}",
-        "{\"game\":[],\"shares\":[1]}",
-        "{\"game\":{\"class\":\"airport\",\"costs\":[1]},\"price\":1,\"shares\":[1]}",
-        "{\"game\":{\"clas\":\"airport\",\"costs\":[1]},\"shares\":[1]}",
-        "{\"game\":{\"class\":1,\"costs\":[1]},\"shares\":[1]}",
-        "{\"game\":{\"class\":\"airports\",\"costs\":[1]},\"shares\":[1]}",
-        "{\"game\":{\"class\":\"trees\",\"matrix\":[[0,1],[1,0]]},\"shares\":[1]}",
-        "{\"game\":{\"class\":\"tree\",\"matrix\":[[0,1],\"10\"]},\"shares\":[1]}",
-        "{\"game\":{\"class\":\"tree\",\"matrix\":[[0,\"1\"],[1,0]]},\"shares\":[1]}",
-        "{\"game\":{\"class\":\"tree\",\"costs\":[1]},\"shares\":[1]}",
-        "{\"game\":{\"class\":\"assignment\",\"matrix\":1},\"shares\":[1,1]}",
-        "{\"game\":{\"class\":\"assignment\",\"matrix\":[[1]],\"players\":2},\"shares\":[1,1]}",
-        "{\"game\":{\"class\":\"airport\",\"costs\":1},\"shares\":[1]}",
-        "{\"game\":{\"class\":\"airport\",\"costs\":[\"1\"]},\"shares\":[1]}",
-        "{\"game\":{\"class\":\"airport\",\"costs\":[1],\"players\":1},\"shares\":[1]}",
-        "{\"game\":{\"class\":\"airport\",\"costs\":[1],\"names\":[\"a\",1]},\"shares\":[1]}",
-        "{\"game\":{\"class\":\"airport\",\"costs\":[1],\"excess\":\"half\"},\"shares\":[1]}",
-        "{\"game\":{\"class\":\"airport\",\"costs\":[1],\"excess\":\"Plain\"},\"shares\":[1]}",
-        "{\"game\":{\"class\":\"tree\",\"excess\":1,\"matrix\":[[0,1],[1,0]]},\"shares\":[1]}",
-        "{\"game\":{\"claims\":[1],\"class\":\"bankruptcy\"},\"shares\":[1]}",
-        "{\"game\":{\"claims\":[1],\"class\":\"bankruptcy\",\"estate\":\"1\"},\"shares\":[1]}",
-        "{\"game\":{\"class\":\"table\",\"worths\":[1]},\"shares\":[1]}",
-        "{\"game\":{\"class\":\"table\",\"players\":\"1\",\"worths\":[1]},\"shares\":[1]}",
-        "{\"game\":{\"class\":\"table\",\"players\":1},\"shares\":[1]}",
-        "{\"game\":{\"class\":\"table\",\"players\":1,\"sparse\":[],\"worths\":[1]},\"shares\":[1]}",
-        "{\"game\":{\"class\":\"table\",\"default\":0,\"players\":1,\"worths\":[1]},\"shares\":[1]}",
-        "{\"game\":{\"class\":\"table\",\"default\":\"0\",\"players\":1,\"sparse\":[]},\"shares\":[1]}",
-        "{\"game\":{\"class\":\"cost-table\",\"players\":1,\"sparse\":[[[1],1,1]]},\"shares\":[1]}",
-        "{\"game\":{\"class\":\"cost-table\",\"players\":1,\"sparse\":[[1,1]]},\"shares\":[1]}",
-        "{\"game\":{\"class\":\"cost-table\",\"players\":1,\"sparse\":[[[null],1]]},\"shares\":[1]}",
-        "{\"game\":{\"class\":\"airport\",\"costs\":[1]},\"shares\":[null]}",
-        "{\"game\":{\"class\":\"airport\",\"costs\":[1]},\"shares\":1}",
+        r#"{"shares":[1]}"#,
+        r#"{"game":{"class":"airport","costs":[1]}}"#,
+        r#"{"game":[],"shares":[1]}"#,
+        r#"{"game":{"class":"airport","costs":[1]},"price":1,"shares":[1]}"#,
+        r#"{"game":{"clas":"airport","costs":[1]},"shares":[1]}"#,
+        r#"{"game":{"class":1,"costs":[1]},"shares":[1]}"#,
+        r#"{"game":{"class":"airports","costs":[1]},"shares":[1]}"#,
+        r#"{"game":{"class":"trees","matrix":[[0,1],[1,0]]},"shares":[1]}"#,
+        r#"{"game":{"class":"tree","matrix":[[0,1],"10"]},"shares":[1]}"#,
+        r#"{"game":{"class":"tree","matrix":[[0,"1"],[1,0]]},"shares":[1]}"#,
+        r#"{"game":{"class":"tree","costs":[1]},"shares":[1]}"#,
+        r#"{"game":{"class":"assignment","matrix":1},"shares":[1,1]}"#,
+        r#"{"game":{"class":"assignment","matrix":[[1]],"players":2},"shares":[1,1]}"#,
+        r#"{"game":{"class":"airport","costs":1},"shares":[1]}"#,
+        r#"{"game":{"class":"airport","costs":["1"]},"shares":[1]}"#,
+        r#"{"game":{"class":"airport","costs":[1],"players":1},"shares":[1]}"#,
+        r#"{"game":{"class":"airport","costs":[1],"names":["a",1]},"shares":[1]}"#,
+        r#"{"game":{"class":"airport","costs":[1],"excess":"half"},"shares":[1]}"#,
+        r#"{"game":{"class":"airport","costs":[1],"excess":"Plain"},"shares":[1]}"#,
+        r#"{"game":{"class":"tree","excess":1,"matrix":[[0,1],[1,0]]},"shares":[1]}"#,
+        r#"{"game":{"claims":[1],"class":"bankruptcy"},"shares":[1]}"#,
+        r#"{"game":{"claims":[1],"class":"bankruptcy","estate":"1"},"shares":[1]}"#,
+        r#"{"game":{"class":"table","worths":[1]},"shares":[1]}"#,
+        r#"{"game":{"class":"table","players":"1","worths":[1]},"shares":[1]}"#,
+        r#"{"game":{"class":"table","players":1},"shares":[1]}"#,
+        r#"{"game":{"class":"table","players":1,"sparse":[],"worths":[1]},"shares":[1]}"#,
+        r#"{"game":{"class":"table","default":0,"players":1,"worths":[1]},"shares":[1]}"#,
+        r#"{"game":{"class":"table","default":"0","players":1,"sparse":[]},"shares":[1]}"#,
+        r#"{"game":{"class":"cost-table","players":1,"sparse":[[[1],1,1]]},"shares":[1]}"#,
+        r#"{"game":{"class":"cost-table","players":1,"sparse":[[1,1]]},"shares":[1]}"#,
+        r#"{"game":{"class":"cost-table","players":1,"sparse":[[[null],1]]},"shares":[1]}"#,
+        r#"{"game":{"class":"airport","costs":[1]},"shares":[null]}"#,
+        r#"{"game":{"class":"airport","costs":[1]},"shares":1}"#,
     ] {
         let fault = fault_of(rt.alloc(), text.as_bytes());
         assert_eq!(rt;
@@ -111,78 +111,78 @@ fn other_kinds_keys_and_words_are_refused(rt: HostRuntime) {
 fn of_two_refusals_the_first_is_given(rt: HostRuntime) -> Result<(), Fail> {
     for &(game, shares, refusal) in &[
         (
-            "{\"class\":\"airport\",\"cost\":[],\"costs\":[]}",
+            r#"{"class":"airport","cost":[],"costs":[]}"#,
             "[1]",
             Refusal::Shape,
         ),
         (
-            "{\"class\":\"table\",\"players\":0,\"sparse\":[[[1],1,1]]}",
-            "[\"2/4\"]",
+            r#"{"class":"table","players":0,"sparse":[[[1],1,1]]}"#,
+            r#"["2/4"]"#,
             Refusal::Shape,
         ),
         (
-            "{\"class\":\"airport\",\"costs\":[]}",
-            "[\"2/4\"]",
+            r#"{"class":"airport","costs":[]}"#,
+            r#"["2/4"]"#,
             Refusal::Players,
         ),
         (
-            "{\"class\":\"table\",\"players\":2,\"worths\":[0.5]}",
+            r#"{"class":"table","players":2,"worths":[0.5]}"#,
             "[1]",
             Refusal::Players,
         ),
         (
-            "{\"class\":\"airport\",\"costs\":[-1],\"names\":[]}",
+            r#"{"class":"airport","costs":[-1],"names":[]}"#,
             "[1]",
             Refusal::Number,
         ),
         (
-            "{\"class\":\"table\",\"players\":3,\"sparse\":[[[],1.5]]}",
+            r#"{"class":"table","players":3,"sparse":[[[],1.5]]}"#,
             "[1]",
             Refusal::Number,
         ),
         (
-            "{\"class\":\"airport\",\"costs\":[1],\"names\":[]}",
+            r#"{"class":"airport","costs":[1],"names":[]}"#,
             "[1.5,1]",
             Refusal::Number,
         ),
         (
-            "{\"claims\":[1],\"class\":\"bankruptcy\",\"estate\":2}",
-            "[\"+1\"]",
+            r#"{"claims":[1],"class":"bankruptcy","estate":2}"#,
+            r#"["+1"]"#,
             Refusal::Number,
         ),
         (
-            "{\"class\":\"table\",\"names\":[\"a\"],\"players\":3,\"sparse\":[[[],1]]}",
+            r#"{"class":"table","names":["a"],"players":3,"sparse":[[[],1]]}"#,
             "[1]",
             Refusal::Names,
         ),
         (
-            "{\"class\":\"table\",\"players\":3,\"sparse\":[[[1,1],1],[[\"a\"],1]]}",
+            r#"{"class":"table","players":3,"sparse":[[[1,1],1],[["a"],1]]}"#,
             "[1,2,3]",
             Refusal::Names,
         ),
         (
-            "{\"claims\":[1],\"class\":\"bankruptcy\",\"estate\":2,\"names\":[\"\"]}",
+            r#"{"claims":[1],"class":"bankruptcy","estate":2,"names":[""]}"#,
             "[1]",
             Refusal::Names,
         ),
         (
-            "{\"class\":\"table\",\"players\":3,\"sparse\":[[[1,2],6],[[3,2,1],12],[[2,1],6]]}",
+            r#"{"class":"table","players":3,"sparse":[[[1,2],6],[[3,2,1],12],[[2,1],6]]}"#,
             "[1,2]",
             Refusal::Coalition,
         ),
         (
-            "{\"claims\":[100,200,300],\"class\":\"bankruptcy\",\"estate\":601}",
+            r#"{"claims":[100,200,300],"class":"bankruptcy","estate":601}"#,
             "[1,2]",
             Refusal::Estate,
         ),
         (
-            "{\"claims\":[100,200,300],\"class\":\"bankruptcy\",\"estate\":601}",
-            "[\"1/9223372036854775809\",0,0]",
+            r#"{"claims":[100,200,300],"class":"bankruptcy","estate":601}"#,
+            r#"["1/9223372036854775809",0,0]"#,
             Refusal::Estate,
         ),
         (
-            "{\"class\":\"airport\",\"costs\":[2,4,6]}",
-            "[\"1/9223372036854775809\",0]",
+            r#"{"class":"airport","costs":[2,4,6]}"#,
+            r#"["1/9223372036854775809",0]"#,
             Refusal::Proposal,
         ),
     ] {
@@ -204,8 +204,8 @@ fn bytes_are_at_most_2_mib(rt: HostRuntime) -> Result<(), Fail> {
 fn bytes_are_json(rt: HostRuntime) {
     for &(bytes, refusal) in &[
         (b"" as &[u8], Refusal::NotJson),
-        (b"{\"game\":{\"class\":" as &[u8], Refusal::NotJson),
-        (b"{\"game\":{},}" as &[u8], Refusal::NotJson),
+        (br#"{"game":{"class":"# as &[u8], Refusal::NotJson),
+        (br#"{"game":{},}"# as &[u8], Refusal::NotJson),
         (b"\"\xff\"" as &[u8], Refusal::NotJson),
         (b"[1e999]" as &[u8], Refusal::NotJson),
     ] {
@@ -221,15 +221,18 @@ fn bytes_are_json(rt: HostRuntime) {
 fn the_last_of_two_equal_keys_counts(rt: HostRuntime) {
     for &(text, refusal) in &[
         (
-            "{\"game\":{\"class\":\"airport\",\"costs\":[]},\"game\":{\"class\":\"airport\",\"costs\":[1]},\"shares\":[1]}\n",
+            concat!(
+                r#"{"game":{"class":"airport","costs":[]},"game":{"class":"airport","costs":[1]},"shares":[1]}"#,
+                "\n",
+            ),
             None,
         ),
         (
-            "{\"game\":{\"class\":\"airport\",\"costs\":[1]},\"game\":{\"class\":\"airport\",\"costs\":[]},\"shares\":[1]}",
+            r#"{"game":{"class":"airport","costs":[1]},"game":{"class":"airport","costs":[]},"shares":[1]}"#,
             Some(Refusal::Players),
         ),
         (
-            "{\"game\":{\"class\":\"airport\",\"costs\":[],\"costs\":[1]},\"shares\":[1],\"shares\":[2,3]}",
+            r#"{"game":{"class":"airport","costs":[],"costs":[1]},"shares":[1],"shares":[2,3]}"#,
             Some(Refusal::Proposal),
         ),
     ] {

@@ -5,7 +5,7 @@ use std::test::Fail;
 
 #[test]
 fn forms_are_put_together(rt: HostRuntime) -> Result<(), Fail> {
-    let text = b"{\"sparse\":[[[1,2],3],[[1],4]]}";
+    let text = br#"{"sparse":[[[1,2],3],[[1],4]]}"#;
     let Ok(tree) = Value::from_slice(rt.alloc(), text) else {
         return Err(Fail::from("no tree"));
     };

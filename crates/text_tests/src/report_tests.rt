@@ -51,25 +51,34 @@ fn fraction(num: i128, den: i128) -> Result<Frac, Fail>
 
 #[test]
 fn judgements_have_their_lines(rt: HostRuntime) -> Result<(), Fail> {
-    let core = "{\"answer\":\"core\"}\n";
+    let core = concat!(r#"{"answer":"core"}"#, "\n");
     expect_line(&rt, rt.alloc(), Answer::InCore, core)?;
     let inefficient = Answer::NotEfficient {
         sum: fraction(1, -2)?,
         total: -7,
     };
-    let line = "{\"answer\":\"not efficient\",\"sum\":\"-1/2\",\"total\":\"-7\"}\n";
+    let line = concat!(
+        r#"{"answer":"not efficient","sum":"-1/2","total":"-7"}"#,
+        "\n"
+    );
     expect_line(&rt, rt.alloc(), inefficient, line)?;
     let none = Answer::NoImputation {
         singles: 6,
         total: 5,
     };
-    let line = "{\"answer\":\"no imputation\",\"singles\":\"6\",\"total\":\"5\"}\n";
+    let line = concat!(
+        r#"{"answer":"no imputation","singles":"6","total":"5"}"#,
+        "\n"
+    );
     expect_line(&rt, rt.alloc(), none, line)?;
     let blocked = Answer::Blocked {
         coalition: Coalition(0b1000_0101),
         excess: Frac::from_int(3),
     };
-    let line = "{\"answer\":\"blocked\",\"coalition\":[1,3,8],\"excess\":\"3\"}\n";
+    let line = concat!(
+        r#"{"answer":"blocked","coalition":[1,3,8],"excess":"3"}"#,
+        "\n"
+    );
     expect_line(&rt, rt.alloc(), blocked, line)?;
     Ok(())
 }
@@ -80,7 +89,7 @@ fn what_is_said_of_the_core_has_its_line(rt: HostRuntime) -> Result<(), Fail> {
         is_cost: true,
         shares: shares(rt.alloc(), &[-2, -3], 2)?,
     };
-    let line = "{\"answer\":\"core point\",\"shares\":[\"1\",\"3/2\"]}\n";
+    let line = concat!(r#"{"answer":"core point","shares":["1","3/2"]}"#, "\n");
     expect_line(&rt, rt.alloc(), point, line)?;
     let empty = Answer::EmptyCore {
         collection: Collection {
@@ -90,8 +99,11 @@ fn what_is_said_of_the_core_has_its_line(rt: HostRuntime) -> Result<(), Fail> {
         value: 3,
         against: 2,
     };
-    let line =
-        "{\"against\":\"2\",\"answer\":\"empty core\",\"collection\":[[[1,2],1],[[1,3],1],[[2,3],1]],\"k\":2,\"value\":\"3\"}\n";
+    let line = concat!(
+        r#"{"against":"2","answer":"empty core","collection":[[[1,2],1],[[1,3],1],[[2,3],1]],"k":2,"#,
+        r#""value":"3"}"#,
+        "\n",
+    );
     expect_line(&rt, rt.alloc(), empty, line)?;
     Ok(())
 }
@@ -101,11 +113,17 @@ fn shapley_shares_have_their_line(rt: HostRuntime) -> Result<(), Fail> {
     for &(is_cost, line) in &[
         (
             true,
-            "{\"answer\":\"shapley\",\"shares\":[\"2/3\",\"5/3\",\"11/3\",\"-2\"]}\n",
+            concat!(
+                r#"{"answer":"shapley","shares":["2/3","5/3","11/3","-2"]}"#,
+                "\n"
+            ),
         ),
         (
             false,
-            "{\"answer\":\"shapley\",\"shares\":[\"-2/3\",\"-5/3\",\"-11/3\",\"2\"]}\n",
+            concat!(
+                r#"{"answer":"shapley","shares":["-2/3","-5/3","-11/3","2"]}"#,
+                "\n"
+            ),
         ),
     ] {
         let shares = shares(rt.alloc(), &[-4, -10, -22, 12], 6)?;
@@ -117,52 +135,61 @@ fn shapley_shares_have_their_line(rt: HostRuntime) -> Result<(), Fail> {
 
 #[test]
 fn verdicts_have_their_lines(rt: HostRuntime) -> Result<(), Fail> {
-    let yes = "{\"answer\":\"yes\"}\n";
+    let yes = concat!(r#"{"answer":"yes"}"#, "\n");
     expect_line(&rt, rt.alloc(), Answer::Verdict(Verdict::Yes), yes)?;
     for &(reason, line) in &[
-        (Reason::NotEfficient, "{\"answer\":\"no\",\"reason\":1}\n"),
+        (
+            Reason::NotEfficient,
+            concat!(r#"{"answer":"no","reason":1}"#, "\n"),
+        ),
         (
             Reason::NotIndividual { player: 2 },
-            "{\"answer\":\"no\",\"player\":3,\"reason\":2}\n",
+            concat!(r#"{"answer":"no","player":3,"reason":2}"#, "\n"),
         ),
         (
             Reason::WrongExcess {
                 level: 1,
                 coalition: Coalition(0b1000_0101),
             },
-            "{\"answer\":\"no\",\"coalition\":[1,3,8],\"level\":1,\"reason\":3}\n",
+            concat!(
+                r#"{"answer":"no","coalition":[1,3,8],"level":1,"reason":3}"#,
+                "\n"
+            ),
         ),
         (
             Reason::WeightSign {
                 level: 63,
                 place: Place::Coalition(Coalition(1 << 63)),
             },
-            "{\"answer\":\"no\",\"coalition\":[64],\"level\":63,\"reason\":4}\n",
+            concat!(
+                r#"{"answer":"no","coalition":[64],"level":63,"reason":4}"#,
+                "\n"
+            ),
         ),
         (
             Reason::WeightSign {
                 level: 2,
                 place: Place::Player(0),
             },
-            "{\"answer\":\"no\",\"level\":2,\"player\":1,\"reason\":4}\n",
+            concat!(r#"{"answer":"no","level":2,"player":1,"reason":4}"#, "\n"),
         ),
         (
             Reason::Unbalanced {
                 level: 2,
                 player: 0,
             },
-            "{\"answer\":\"no\",\"level\":2,\"player\":1,\"reason\":5}\n",
+            concat!(r#"{"answer":"no","level":2,"player":1,"reason":5}"#, "\n"),
         ),
         (
             Reason::BoundNotTight {
                 level: 3,
                 player: 63,
             },
-            "{\"answer\":\"no\",\"level\":3,\"player\":64,\"reason\":6}\n",
+            concat!(r#"{"answer":"no","level":3,"player":64,"reason":6}"#, "\n"),
         ),
         (
             Reason::NotAll { player: 0 },
-            "{\"answer\":\"no\",\"player\":1,\"reason\":8}\n",
+            concat!(r#"{"answer":"no","player":1,"reason":8}"#, "\n"),
         ),
     ] {
         let verdict = Answer::Verdict(Verdict::No(reason));
@@ -172,7 +199,10 @@ fn verdicts_have_their_lines(rt: HostRuntime) -> Result<(), Fail> {
         level: 1,
         excess: fraction(-3, 2)?,
     };
-    let line = "{\"answer\":\"no\",\"excess\":\"-3/2\",\"level\":1,\"reason\":7}\n";
+    let line = concat!(
+        r#"{"answer":"no","excess":"-3/2","level":1,"reason":7}"#,
+        "\n"
+    );
     expect_line(&rt, rt.alloc(), Answer::Verdict(Verdict::No(above)), line)?;
     Ok(())
 }
@@ -180,9 +210,9 @@ fn verdicts_have_their_lines(rt: HostRuntime) -> Result<(), Fail> {
 #[test]
 fn usages_have_their_lines(rt: HostRuntime) -> Result<(), Fail> {
     for &(kind, line) in &[
-        (UsageKind::Words, "{\"usage\":\"words\"}\n"),
-        (UsageKind::Class, "{\"usage\":\"class\"}\n"),
-        (UsageKind::Players, "{\"usage\":\"players\"}\n"),
+        (UsageKind::Words, concat!(r#"{"usage":"words"}"#, "\n")),
+        (UsageKind::Class, concat!(r#"{"usage":"class"}"#, "\n")),
+        (UsageKind::Players, concat!(r#"{"usage":"players"}"#, "\n")),
     ] {
         expect_line(&rt, rt.alloc(), Answer::Usage(kind), line)?;
     }
@@ -192,31 +222,58 @@ fn usages_have_their_lines(rt: HostRuntime) -> Result<(), Fail> {
 #[test]
 fn refusals_have_their_lines(rt: HostRuntime) -> Result<(), Fail> {
     for &(refusal, line) in &[
-        (Refusal::TooLong, "{\"number\":1,\"refused\":\"TooLong\"}\n"),
-        (Refusal::NotJson, "{\"number\":2,\"refused\":\"NotJson\"}\n"),
-        (Refusal::Shape, "{\"number\":3,\"refused\":\"Shape\"}\n"),
-        (Refusal::Players, "{\"number\":4,\"refused\":\"Players\"}\n"),
-        (Refusal::Number, "{\"number\":5,\"refused\":\"Number\"}\n"),
-        (Refusal::Names, "{\"number\":6,\"refused\":\"Names\"}\n"),
+        (
+            Refusal::TooLong,
+            concat!(r#"{"number":1,"refused":"TooLong"}"#, "\n"),
+        ),
+        (
+            Refusal::NotJson,
+            concat!(r#"{"number":2,"refused":"NotJson"}"#, "\n"),
+        ),
+        (
+            Refusal::Shape,
+            concat!(r#"{"number":3,"refused":"Shape"}"#, "\n"),
+        ),
+        (
+            Refusal::Players,
+            concat!(r#"{"number":4,"refused":"Players"}"#, "\n"),
+        ),
+        (
+            Refusal::Number,
+            concat!(r#"{"number":5,"refused":"Number"}"#, "\n"),
+        ),
+        (
+            Refusal::Names,
+            concat!(r#"{"number":6,"refused":"Names"}"#, "\n"),
+        ),
         (
             Refusal::Coalition,
-            "{\"number\":7,\"refused\":\"Coalition\"}\n",
+            concat!(r#"{"number":7,"refused":"Coalition"}"#, "\n"),
         ),
-        (Refusal::Estate, "{\"number\":8,\"refused\":\"Estate\"}\n"),
-        (Refusal::Matrix, "{\"number\":9,\"refused\":\"Matrix\"}\n"),
+        (
+            Refusal::Estate,
+            concat!(r#"{"number":8,"refused":"Estate"}"#, "\n"),
+        ),
+        (
+            Refusal::Matrix,
+            concat!(r#"{"number":9,"refused":"Matrix"}"#, "\n"),
+        ),
         (
             Refusal::Proposal,
-            "{\"number\":10,\"refused\":\"Proposal\"}\n",
+            concat!(r#"{"number":10,"refused":"Proposal"}"#, "\n"),
         ),
         (
             Refusal::TooFine,
-            "{\"number\":11,\"refused\":\"TooFine\"}\n",
+            concat!(r#"{"number":11,"refused":"TooFine"}"#, "\n"),
         ),
         (
             Refusal::Certificate,
-            "{\"number\":12,\"refused\":\"Certificate\"}\n",
+            concat!(r#"{"number":12,"refused":"Certificate"}"#, "\n"),
         ),
-        (Refusal::Quota, "{\"number\":13,\"refused\":\"Quota\"}\n"),
+        (
+            Refusal::Quota,
+            concat!(r#"{"number":13,"refused":"Quota"}"#, "\n"),
+        ),
     ] {
         expect_line(&rt, rt.alloc(), Answer::Refused(refusal), line)?;
     }

@@ -5,7 +5,7 @@ use std::process::Abort;
 use std::test::Fail;
 
 /// An airport game of three players.
-pub(crate) const AIRPORT: &str = "{\"class\":\"airport\",\"costs\":[2,4,6]}";
+pub(crate) const AIRPORT: &str = r#"{"class":"airport","costs":[2,4,6]}"#;
 
 // The text of a document with all four keys.
 pub(crate) fn whole_document(
@@ -15,13 +15,13 @@ pub(crate) fn whole_document(
     game: &str,
     shares: &str,
 ) -> Result<String, Fail> {
-    let mut text = String::from_str(alloc, "{\"answer\":")?;
+    let mut text = String::from_str(alloc, r#"{"answer":"#)?;
     text.push_str(answer)?;
-    text.push_str(",\"certificate\":")?;
+    text.push_str(r#","certificate":"#)?;
     text.push_str(certificate)?;
-    text.push_str(",\"game\":")?;
+    text.push_str(r#","game":"#)?;
     text.push_str(game)?;
-    text.push_str(",\"shares\":")?;
+    text.push_str(r#","shares":"#)?;
     text.push_str(shares)?;
     text.push_str("}")?;
     Ok(text)
@@ -29,9 +29,9 @@ pub(crate) fn whole_document(
 
 // The text of a certificate of these levels, in mode players.
 fn certificate(alloc: Global, levels: &str) -> Result<String, Fail> {
-    let mut text = String::from_str(alloc, "{\"levels\":[")?;
+    let mut text = String::from_str(alloc, r#"{"levels":["#)?;
     text.push_str(levels)?;
-    text.push_str("],\"mode\":\"players\"}")?;
+    text.push_str(r#"],"mode":"players"}"#)?;
     Ok(text)
 }
 
@@ -73,12 +73,12 @@ fn level_with(alloc: Global, key: &str, value: &str) -> Result<String, Fail> {
         ("bounds", "[]", ","),
         ("coalitions", "[[[1],1],[[2,3],1]]", ","),
         ("earlier", "[]", ","),
-        ("excess", "\"-1\"", ","),
+        ("excess", r#""-1""#, ","),
         ("total", "1", "}"),
     ] {
-        text.push_str("\"")?;
+        text.push_str(r#"""#)?;
         text.push_str(name)?;
-        text.push_str("\":")?;
+        text.push_str(r#"":"#)?;
         text.push_str(if name == key { value } else { usual })?;
         text.push_str(end)?;
     }
@@ -96,7 +96,7 @@ fn expect_levels(
     expect_check(
         rt,
         alloc,
-        "\"nucleolus\"",
+        r#""nucleolus""#,
         &text,
         AIRPORT,
         "[1,1,1]",
@@ -119,15 +119,15 @@ fn expect_level(
 #[test]
 fn each_line_of_the_form_of_a_level_is_tested(rt: HostRuntime) -> Result<(), Fail> {
     for &(key, value, refusal) in &[
-        ("excess", "\"2/4\"", Some(Refusal::Certificate)),
+        ("excess", r#""2/4""#, Some(Refusal::Certificate)),
         (
             "excess",
-            "\"170141183460469231731687303715884105727\"",
+            r#""170141183460469231731687303715884105727""#,
             None,
         ),
         (
             "excess",
-            "\"170141183460469231731687303715884105728\"",
+            r#""170141183460469231731687303715884105728""#,
             Some(Refusal::Certificate),
         ),
         ("coalitions", "[[[],1]]", Some(Refusal::Certificate)),
@@ -216,9 +216,9 @@ fn weights_and_totals_are_integers_below_2_to_63(rt: HostRuntime) -> Result<(), 
 // The text of two levels, the second with these earlier coalitions.
 fn levels_with(alloc: Global, earlier: &str) -> Result<String, Fail> {
     let mut levels = level_with(alloc, "", "")?;
-    levels.push_str(",{\"bounds\":[],\"coalitions\":[[[1,2],1]],\"earlier\":")?;
+    levels.push_str(r#",{"bounds":[],"coalitions":[[[1,2],1]],"earlier":"#)?;
     levels.push_str(earlier)?;
-    levels.push_str(",\"excess\":\"-2\",\"total\":1}")?;
+    levels.push_str(r#","excess":"-2","total":1}"#)?;
     Ok(levels)
 }
 
@@ -292,74 +292,110 @@ fn there_are_fewer_levels_than_players(rt: HostRuntime) -> Result<(), Fail> {
 #[test]
 fn other_kinds_keys_and_words_of_certificates_are_refused(rt: HostRuntime) -> Result<(), Fail> {
     for &(answer, certificate) in &[
-        ("\"nucleolus\"", "[]"),
-        ("\"nucleolus\"", "{\"levels\":[]}"),
-        ("\"nucleolus\"", "{\"mode\":\"players\"}"),
+        (r#""nucleolus""#, "[]"),
+        (r#""nucleolus""#, r#"{"levels":[]}"#),
+        (r#""nucleolus""#, r#"{"mode":"players"}"#),
         (
-            "\"nucleolus\"",
-            "{\"levels\":[],\"mode\":\"players\",\"total\":0}",
+            r#""nucleolus""#,
+            r#"{"levels":[],"mode":"players","total":0}"#,
         ),
         (
-            "\"nucleolus\"",
-            "{\"levels\":[{\"bounds\":[],\"coalitions\":[[[1],1],[[2,3],1]],\"earlier\":[],\"excess\":\"-1\",\"total\":1}],\"mode\":\"Span\"}",
+            r#""nucleolus""#,
+            concat!(
+                r#"{"levels":[{"bounds":[],"coalitions":[[[1],1],[[2,3],1]],"earlier":[],"excess":"-1","#,
+                r#""total":1}],"mode":"Span"}"#,
+            ),
         ),
         (
-            "\"nucleolus\"",
-            "{\"levels\":[{\"bounds\":[],\"coalitions\":[[[1],1],[[2,3],1]],\"earlier\":[],\"excess\":\"-1\",\"total\":1}],\"mode\":1}",
+            r#""nucleolus""#,
+            concat!(
+                r#"{"levels":[{"bounds":[],"coalitions":[[[1],1],[[2,3],1]],"earlier":[],"excess":"-1","#,
+                r#""total":1}],"mode":1}"#,
+            ),
         ),
-        ("\"nucleolus\"", "{\"levels\":{},\"mode\":\"span\"}"),
-        ("\"nucleolus\"", "{\"levels\":[[]],\"mode\":\"players\"}"),
+        (r#""nucleolus""#, r#"{"levels":{},"mode":"span"}"#),
+        (r#""nucleolus""#, r#"{"levels":[[]],"mode":"players"}"#),
         (
-            "\"nucleolus\"",
-            "{\"levels\":[{\"bounds\":[],\"coalitions\":[[[1],1]],\"earlier\":[],\"excess\":\"-1\"}],\"mode\":\"players\"}",
-        ),
-        (
-            "\"nucleolus\"",
-            "{\"levels\":[{\"bounds\":[],\"coalitions\":[[[1],1]],\"earlier\":[],\"excess\":\"-1\",\"mode\":\"span\",\"total\":1}],\"mode\":\"players\"}",
-        ),
-        (
-            "\"nucleolus\"",
-            "{\"levels\":[{\"bounds\":[],\"coalitions\":[[[1],1],[[2,3],1]],\"earlier\":[],\"excess\":-1,\"total\":1}],\"mode\":\"players\"}",
+            r#""nucleolus""#,
+            r#"{"levels":[{"bounds":[],"coalitions":[[[1],1]],"earlier":[],"excess":"-1"}],"mode":"players"}"#,
         ),
         (
-            "\"nucleolus\"",
-            "{\"levels\":[{\"bounds\":[],\"coalitions\":[[[1],1],[[2,3],1]],\"earlier\":[],\"excess\":\"-1\",\"total\":\"1\"}],\"mode\":\"players\"}",
+            r#""nucleolus""#,
+            concat!(
+                r#"{"levels":[{"bounds":[],"coalitions":[[[1],1]],"earlier":[],"excess":"-1","mode":"span","#,
+                r#""total":1}],"mode":"players"}"#,
+            ),
         ),
         (
-            "\"nucleolus\"",
-            "{\"levels\":[{\"bounds\":[],\"coalitions\":[[[1],1,1]],\"earlier\":[],\"excess\":\"-1\",\"total\":1}],\"mode\":\"players\"}",
+            r#""nucleolus""#,
+            concat!(
+                r#"{"levels":[{"bounds":[],"coalitions":[[[1],1],[[2,3],1]],"earlier":[],"excess":-1,"#,
+                r#""total":1}],"mode":"players"}"#,
+            ),
         ),
         (
-            "\"nucleolus\"",
-            "{\"levels\":[{\"bounds\":[],\"coalitions\":[[[1]]],\"earlier\":[],\"excess\":\"-1\",\"total\":1}],\"mode\":\"players\"}",
+            r#""nucleolus""#,
+            concat!(
+                r#"{"levels":[{"bounds":[],"coalitions":[[[1],1],[[2,3],1]],"earlier":[],"excess":"-1","#,
+                r#""total":"1"}],"mode":"players"}"#,
+            ),
         ),
         (
-            "\"nucleolus\"",
-            "{\"levels\":[{\"bounds\":[],\"coalitions\":[[1,1]],\"earlier\":[],\"excess\":\"-1\",\"total\":1}],\"mode\":\"players\"}",
+            r#""nucleolus""#,
+            concat!(
+                r#"{"levels":[{"bounds":[],"coalitions":[[[1],1,1]],"earlier":[],"excess":"-1","total":1}],"#,
+                r#""mode":"players"}"#,
+            ),
         ),
         (
-            "\"nucleolus\"",
-            "{\"levels\":[{\"bounds\":[],\"coalitions\":[[[\"a\"],1]],\"earlier\":[],\"excess\":\"-1\",\"total\":1}],\"mode\":\"players\"}",
+            r#""nucleolus""#,
+            r#"{"levels":[{"bounds":[],"coalitions":[[[1]]],"earlier":[],"excess":"-1","total":1}],"mode":"players"}"#,
         ),
         (
-            "\"nucleolus\"",
-            "{\"levels\":[{\"bounds\":[],\"coalitions\":[[[1],1],[[2,3],1]],\"earlier\":[[[1],\"1\"]],\"excess\":\"-1\",\"total\":1}],\"mode\":\"players\"}",
+            r#""nucleolus""#,
+            r#"{"levels":[{"bounds":[],"coalitions":[[1,1]],"earlier":[],"excess":"-1","total":1}],"mode":"players"}"#,
         ),
         (
-            "\"nucleolus\"",
-            "{\"levels\":[{\"bounds\":[[[1],1]],\"coalitions\":[[[1],1],[[2,3],1]],\"earlier\":[],\"excess\":\"-1\",\"total\":1}],\"mode\":\"players\"}",
+            r#""nucleolus""#,
+            concat!(
+                r#"{"levels":[{"bounds":[],"coalitions":[[["a"],1]],"earlier":[],"excess":"-1","total":1}],"#,
+                r#""mode":"players"}"#,
+            ),
         ),
         (
-            "\"nucleolus\"",
-            "{\"levels\":[{\"bounds\":[[1,1,1]],\"coalitions\":[[[1],1],[[2,3],1]],\"earlier\":[],\"excess\":\"-1\",\"total\":1}],\"mode\":\"players\"}",
+            r#""nucleolus""#,
+            concat!(
+                r#"{"levels":[{"bounds":[],"coalitions":[[[1],1],[[2,3],1]],"earlier":[[[1],"1"]],"excess":"-1","#,
+                r#""total":1}],"mode":"players"}"#,
+            ),
         ),
         (
-            "\"core\"",
-            "{\"levels\":[{\"bounds\":[],\"coalitions\":[[[1],1],[[2,3],1]],\"earlier\":[],\"excess\":\"-1\",\"total\":1}],\"mode\":\"players\"}",
+            r#""nucleolus""#,
+            concat!(
+                r#"{"levels":[{"bounds":[[[1],1]],"coalitions":[[[1],1],[[2,3],1]],"earlier":[],"excess":"-1","#,
+                r#""total":1}],"mode":"players"}"#,
+            ),
+        ),
+        (
+            r#""nucleolus""#,
+            concat!(
+                r#"{"levels":[{"bounds":[[1,1,1]],"coalitions":[[[1],1],[[2,3],1]],"earlier":[],"excess":"-1","#,
+                r#""total":1}],"mode":"players"}"#,
+            ),
+        ),
+        (
+            r#""core""#,
+            concat!(
+                r#"{"levels":[{"bounds":[],"coalitions":[[[1],1],[[2,3],1]],"earlier":[],"excess":"-1","#,
+                r#""total":1}],"mode":"players"}"#,
+            ),
         ),
         (
             "1",
-            "{\"levels\":[{\"bounds\":[],\"coalitions\":[[[1],1],[[2,3],1]],\"earlier\":[],\"excess\":\"-1\",\"total\":1}],\"mode\":\"players\"}",
+            concat!(
+                r#"{"levels":[{"bounds":[],"coalitions":[[[1],1],[[2,3],1]],"earlier":[],"excess":"-1","#,
+                r#""total":1}],"mode":"players"}"#,
+            ),
         ),
     ] {
         let shape = Some(Refusal::Shape);

@@ -14,49 +14,49 @@ use worth_core::Shares;
 fn certificates_are_tested_last(rt: HostRuntime) -> Result<(), Fail> {
     for &(certificate, game, shares, refusal) in &[
         (
-            "{\"levels\":[{\"bounds\":[[1]],\"coalitions\":[],\"earlier\":[],\"excess\":\"-1\",\"total\":1}],\"mode\":\"players\"}",
-            "{\"class\":\"airport\",\"costs\":[]}",
+            r#"{"levels":[{"bounds":[[1]],"coalitions":[],"earlier":[],"excess":"-1","total":1}],"mode":"players"}"#,
+            r#"{"class":"airport","costs":[]}"#,
             "[1]",
             Refusal::Shape,
         ),
         (
-            "{\"levels\":[{\"bounds\":[],\"coalitions\":[],\"earlier\":[],\"excess\":\"-1\",\"total\":1}],\"mode\":\"players\"}",
-            "{\"class\":\"airport\",\"costs\":[]}",
+            r#"{"levels":[{"bounds":[],"coalitions":[],"earlier":[],"excess":"-1","total":1}],"mode":"players"}"#,
+            r#"{"class":"airport","costs":[]}"#,
             "[1.5]",
             Refusal::Players,
         ),
         (
-            "{\"levels\":[{\"bounds\":[],\"coalitions\":[],\"earlier\":[],\"excess\":\"-1\",\"total\":1}],\"mode\":\"players\"}",
-            "{\"class\":\"airport\",\"costs\":[2,4,6]}",
+            r#"{"levels":[{"bounds":[],"coalitions":[],"earlier":[],"excess":"-1","total":1}],"mode":"players"}"#,
+            r#"{"class":"airport","costs":[2,4,6]}"#,
             "[1.5]",
             Refusal::Number,
         ),
         (
-            "{\"levels\":[{\"bounds\":[],\"coalitions\":[],\"earlier\":[],\"excess\":\"-1\",\"total\":1}],\"mode\":\"players\"}",
-            "{\"class\":\"airport\",\"costs\":[2,4,6],\"names\":[]}",
+            r#"{"levels":[{"bounds":[],"coalitions":[],"earlier":[],"excess":"-1","total":1}],"mode":"players"}"#,
+            r#"{"class":"airport","costs":[2,4,6],"names":[]}"#,
             "[1,1,1]",
             Refusal::Names,
         ),
         (
-            "{\"levels\":[{\"bounds\":[],\"coalitions\":[],\"earlier\":[],\"excess\":\"-1\",\"total\":1}],\"mode\":\"players\"}",
-            "{\"class\":\"airport\",\"costs\":[2,4,6]}",
+            r#"{"levels":[{"bounds":[],"coalitions":[],"earlier":[],"excess":"-1","total":1}],"mode":"players"}"#,
+            r#"{"class":"airport","costs":[2,4,6]}"#,
             "[1,1]",
             Refusal::Proposal,
         ),
         (
-            "{\"levels\":[{\"bounds\":[],\"coalitions\":[],\"earlier\":[],\"excess\":\"-1\",\"total\":1}],\"mode\":\"players\"}",
-            "{\"class\":\"airport\",\"costs\":[2,4,6]}",
-            "[\"1/9223372036854775809\",0,0]",
+            r#"{"levels":[{"bounds":[],"coalitions":[],"earlier":[],"excess":"-1","total":1}],"mode":"players"}"#,
+            r#"{"class":"airport","costs":[2,4,6]}"#,
+            r#"["1/9223372036854775809",0,0]"#,
             Refusal::TooFine,
         ),
         (
-            "{\"levels\":[{\"bounds\":[],\"coalitions\":[],\"earlier\":[],\"excess\":\"-1\",\"total\":1}],\"mode\":\"players\"}",
-            "{\"class\":\"airport\",\"costs\":[2,4,6]}",
+            r#"{"levels":[{"bounds":[],"coalitions":[],"earlier":[],"excess":"-1","total":1}],"mode":"players"}"#,
+            r#"{"class":"airport","costs":[2,4,6]}"#,
             "[1,1,1]",
             Refusal::Certificate,
         ),
     ] {
-        let answer = "\"nucleolus\"";
+        let answer = r#""nucleolus""#;
         expect_check(
             &rt,
             rt.alloc(),
@@ -75,11 +75,11 @@ fn mode_span_is_for_at_most_16_players(rt: HostRuntime) -> Result<(), Fail> {
     for &(players, certificate, refusal) in &[
         (
             17,
-            "{\"levels\":[],\"mode\":\"span\"}",
+            r#"{"levels":[],"mode":"span"}"#,
             Some(Refusal::Certificate),
         ),
-        (17, "{\"levels\":[],\"mode\":\"players\"}", None),
-        (16, "{\"levels\":[],\"mode\":\"span\"}", None),
+        (17, r#"{"levels":[],"mode":"players"}"#, None),
+        (16, r#"{"levels":[],"mode":"span"}"#, None),
     ] {
         expect_ones(&rt, rt.alloc(), players, certificate, refusal)?;
     }
@@ -95,13 +95,13 @@ fn expect_ones(
     refusal: Option<Refusal>,
 ) -> Result<(), Fail> {
     let ones = ones(alloc, players)?;
-    let mut game = String::from_str(alloc, "{\"class\":\"airport\",\"costs\":")?;
+    let mut game = String::from_str(alloc, r#"{"class":"airport","costs":"#)?;
     game.push_str(&ones)?;
     game.push_str("}")?;
     expect_check(
         rt,
         alloc,
-        "\"nucleolus\"",
+        r#""nucleolus""#,
         certificate,
         &game,
         &ones,
@@ -125,68 +125,77 @@ fn commands_look_at_what_they_need(rt: HostRuntime) {
     for &(command, text, refusal) in &[
         (
             Command::Nucleolus,
-            "{\"answer\":1,\"certificate\":[],\"game\":{\"class\":\"airport\",\"costs\":[2,4,6]},\"shares\":null}",
+            r#"{"answer":1,"certificate":[],"game":{"class":"airport","costs":[2,4,6]},"shares":null}"#,
             None,
         ),
         (
             Command::Prenucleolus,
-            "{\"game\":{\"class\":\"airport\",\"costs\":[2,4,6]}}",
+            r#"{"game":{"class":"airport","costs":[2,4,6]}}"#,
             None,
         ),
         (
             Command::Nucleolus,
-            "{\"game\":{\"class\":\"airport\",\"costs\":[2,4,6]},\"share\":null}",
+            r#"{"game":{"class":"airport","costs":[2,4,6]},"share":null}"#,
             Some(Refusal::Shape),
         ),
         (
             Command::Nucleolus,
-            "{\"shares\":[1,1,1]}",
+            r#"{"shares":[1,1,1]}"#,
             Some(Refusal::Shape),
         ),
         (
             Command::Prenucleolus,
-            "{\"game\":{\"class\":\"airport\",\"costs\":[-1]},\"shares\":[1.5]}",
+            r#"{"game":{"class":"airport","costs":[-1]},"shares":[1.5]}"#,
             Some(Refusal::Number),
         ),
         (
             Command::Propose,
-            "{\"answer\":1,\"certificate\":[],\"game\":{\"class\":\"airport\",\"costs\":[2,4,6]},\"shares\":[1,1,1]}",
+            r#"{"answer":1,"certificate":[],"game":{"class":"airport","costs":[2,4,6]},"shares":[1,1,1]}"#,
             None,
         ),
         (
             Command::Core,
-            "{\"answer\":1,\"game\":{\"class\":\"airport\",\"costs\":[2,4,6]},\"shares\":[]}",
+            r#"{"answer":1,"game":{"class":"airport","costs":[2,4,6]},"shares":[]}"#,
             None,
         ),
         (
             Command::Check,
-            "{\"certificate\":{\"levels\":[],\"mode\":\"span\"},\"game\":{\"class\":\"airport\",\"costs\":[2,4,6]},\"shares\":[1,1,1]}",
+            concat!(
+                r#"{"certificate":{"levels":[],"mode":"span"},"game":{"class":"airport","costs":[2,4,6]},"#,
+                r#""shares":[1,1,1]}"#,
+            ),
             Some(Refusal::Shape),
         ),
         (
             Command::Check,
-            "{\"answer\":\"nucleolus\",\"game\":{\"class\":\"airport\",\"costs\":[2,4,6]},\"shares\":[1,1,1]}",
+            r#"{"answer":"nucleolus","game":{"class":"airport","costs":[2,4,6]},"shares":[1,1,1]}"#,
             Some(Refusal::Shape),
         ),
         (
             Command::Check,
-            "{\"answer\":\"nucleolus\",\"certificate\":{\"levels\":[],\"mode\":\"span\"},\"game\":{\"class\":\"airport\",\"costs\":[2,4,6]}}",
+            concat!(
+                r#"{"answer":"nucleolus","certificate":{"levels":[],"mode":"span"},"game":{"class":"airport","#,
+                r#""costs":[2,4,6]}}"#,
+            ),
             Some(Refusal::Shape),
         ),
         (
             Command::Check,
-            "{\"answer\":\"nucleolus\",\"certificate\":{\"levels\":[],\"mode\":\"span\"},\"shares\":[1,1,1]}",
+            r#"{"answer":"nucleolus","certificate":{"levels":[],"mode":"span"},"shares":[1,1,1]}"#,
             Some(Refusal::Shape),
         ),
         (
             Command::Check,
-            "{\"answer\":\"nucleolus\",\"certificate\":{\"levels\":[],\"mode\":\"span\"},\
-            \"game\":{\"class\":\"airport\",\"costs\":[2,4,6]},\"shares\":[1,1,1]}\n",
+            concat!(
+                r#"{"answer":"nucleolus","certificate":{"levels":[],"mode":"span"},"game":{"class":"airport","#,
+                r#""costs":[2,4,6]},"shares":[1,1,1]}"#,
+                "\n",
+            ),
             None,
         ),
         (
             Command::Shapley,
-            "{\"answer\":1,\"certificate\":[],\"game\":{\"class\":\"airport\",\"costs\":[2,4,6]},\"shares\":[]}",
+            r#"{"answer":1,"certificate":[],"game":{"class":"airport","costs":[2,4,6]},"shares":[]}"#,
             None,
         ),
     ] {
@@ -222,15 +231,16 @@ fn documents_to_check_have_at_most_8_mib(rt: HostRuntime) -> Result<(), Fail> {
     Ok(())
 }
 
-const TWO_LEVELS: &str = "{\"levels\":[\
-    {\"bounds\":[],\"coalitions\":[[[1],1],[[2,3],1]],\"earlier\":[],\"excess\":\"-1\",\"total\":1},\
-    {\"bounds\":[],\"coalitions\":[[[1,2],1],[[1,3],1]],\"earlier\":[[[1],-1]],\"excess\":\"-3/2\",\"total\":1}\
-    ],\"mode\":\"players\"}";
+const TWO_LEVELS: &str = concat!(
+    r#"{"levels":[{"bounds":[],"coalitions":[[[1],1],[[2,3],1]],"earlier":[],"excess":"-1","total":1},"#,
+    r#"{"bounds":[],"coalitions":[[[1,2],1],[[1,3],1]],"earlier":[[[1],-1]],"excess":"-3/2","total":1}],"#,
+    r#""mode":"players"}"#,
+);
 
 // A document to check the two levels.
 fn certified(alloc: Global) -> Result<Document, Fail> {
-    let answer = "\"prenucleolus\"";
-    let shares = "[\"1\",\"3/2\",\"7/2\"]";
+    let answer = r#""prenucleolus""#;
+    let shares = r#"["1","3/2","7/2"]"#;
     let text = whole_document(alloc, answer, TWO_LEVELS, AIRPORT, shares)?;
     Ok(read_document(alloc, text.as_bytes(), Command::Check)?)
 }

@@ -9,125 +9,131 @@ use std::test::Fail;
 fn games_keep_their_limits(rt: HostRuntime) -> Result<(), Fail> {
     for &(game, shares, refusal) in &[
         (
-            "{\"class\":\"table\",\"players\":0,\"sparse\":[]}",
+            r#"{"class":"table","players":0,"sparse":[]}"#,
             "[]",
             Some(Refusal::Players),
         ),
         (
-            "{\"class\":\"table\",\"players\":16,\"sparse\":[]}",
+            r#"{"class":"table","players":16,"sparse":[]}"#,
             "[0,0,0,0,0,0,0,0,0,0,0,0,0,0,0,0]",
             None,
         ),
         (
-            "{\"class\":\"table\",\"players\":17,\"sparse\":[]}",
+            r#"{"class":"table","players":17,"sparse":[]}"#,
             "[]",
             Some(Refusal::Players),
         ),
         (
-            "{\"class\":\"table\",\"players\":1.0,\"sparse\":[]}",
+            r#"{"class":"table","players":1.0,"sparse":[]}"#,
             "[0]",
             Some(Refusal::Players),
         ),
         (
-            "{\"class\":\"table\",\"players\":2,\"worths\":[1,2]}",
+            r#"{"class":"table","players":2,"worths":[1,2]}"#,
             "[0,0]",
             Some(Refusal::Players),
         ),
         (
-            "{\"class\":\"table\",\"players\":2,\"worths\":[1,2,3]}",
+            r#"{"class":"table","players":2,"worths":[1,2,3]}"#,
             "[0,0]",
             None,
         ),
         (
-            "{\"class\":\"table\",\"players\":2,\"worths\":[1,2,3,4]}",
+            r#"{"class":"table","players":2,"worths":[1,2,3,4]}"#,
             "[0,0]",
             Some(Refusal::Players),
         ),
         (
-            "{\"claims\":[],\"class\":\"bankruptcy\",\"estate\":0}",
+            r#"{"claims":[],"class":"bankruptcy","estate":0}"#,
             "[]",
             Some(Refusal::Players),
         ),
         (
-            "{\"class\":\"airport\",\"costs\":\
-            [1,1,1,1,1,1,1,1,1,1,1,1,1,1,1,1,1,1,1,1,1,1,1,1,1,1,1,1,1,1,1,1,1,1,1,1,1,1,1,1,1,1,1,1,1,1,1,1,1,1,1,1,1,1,1,1,1,1,1,1,1,1,1,1]}",
-            "[1,1,1,1,1,1,1,1,1,1,1,1,1,1,1,1,1,1,1,1,1,1,1,1,1,1,1,1,1,1,1,1,1,1,1,1,1,1,1,1,1,1,1,1,1,1,1,1,1,1,1,1,1,1,1,1,1,1,1,1,1,1,1,1]",
+            concat!(
+                r#"{"class":"airport","costs":[1,1,1,1,1,1,1,1,1,1,1,1,1,1,1,1,1,1,1,1,1,1,1,1,1,1,1,1,1,1,1,1,1,"#,
+                "1,1,1,1,1,1,1,1,1,1,1,1,1,1,1,1,1,1,1,1,1,1,1,1,1,1,1,1,1,1,1]}",
+            ),
+            "[1,1,1,1,1,1,1,1,1,1,1,1,1,1,1,1,1,1,1,1,1,1,1,1,1,1,1,1,1,1,1,1,\
+             1,1,1,1,1,1,1,1,1,1,1,1,1,1,1,1,1,1,1,1,1,1,1,1,1,1,1,1,1,1,1,1]",
             None,
         ),
         (
-            "{\"class\":\"airport\",\"costs\":\
-            [1,1,1,1,1,1,1,1,1,1,1,1,1,1,1,1,1,1,1,1,1,1,1,1,1,1,1,1,1,1,1,1,1,1,1,1,1,1,1,1,1,1,1,1,1,1,1,1,1,1,1,1,1,1,1,1,1,1,1,1,1,1,1,1,1]}",
-            "[1,1,1,1,1,1,1,1,1,1,1,1,1,1,1,1,1,1,1,1,1,1,1,1,1,1,1,1,1,1,1,1,1,1,1,1,1,1,1,1,1,1,1,1,1,1,1,1,1,1,1,1,1,1,1,1,1,1,1,1,1,1,1,1,1]",
+            concat!(
+                r#"{"class":"airport","costs":[1,1,1,1,1,1,1,1,1,1,1,1,1,1,1,1,1,1,1,1,1,1,1,1,1,1,1,1,1,1,1,1,1,"#,
+                "1,1,1,1,1,1,1,1,1,1,1,1,1,1,1,1,1,1,1,1,1,1,1,1,1,1,1,1,1,1,1,1]}",
+            ),
+            "[1,1,1,1,1,1,1,1,1,1,1,1,1,1,1,1,1,1,1,1,1,1,1,1,1,1,1,1,1,1,1,1,\
+             1,1,1,1,1,1,1,1,1,1,1,1,1,1,1,1,1,1,1,1,1,1,1,1,1,1,1,1,1,1,1,1,1]",
             Some(Refusal::Players),
         ),
         (
-            "{\"class\":\"table\",\"players\":1,\"worths\":[1099511627775]}",
+            r#"{"class":"table","players":1,"worths":[1099511627775]}"#,
             "[0]",
             None,
         ),
         (
-            "{\"class\":\"table\",\"players\":1,\"worths\":[1099511627776]}",
+            r#"{"class":"table","players":1,"worths":[1099511627776]}"#,
             "[0]",
             Some(Refusal::Number),
         ),
         (
-            "{\"class\":\"table\",\"players\":1,\"worths\":[-1099511627775]}",
+            r#"{"class":"table","players":1,"worths":[-1099511627775]}"#,
             "[0]",
             None,
         ),
         (
-            "{\"class\":\"table\",\"players\":1,\"worths\":[-1099511627776]}",
+            r#"{"class":"table","players":1,"worths":[-1099511627776]}"#,
             "[0]",
             Some(Refusal::Number),
         ),
         (
-            "{\"class\":\"table\",\"default\":1099511627776,\"players\":1,\"sparse\":[]}",
+            r#"{"class":"table","default":1099511627776,"players":1,"sparse":[]}"#,
             "[0]",
             Some(Refusal::Number),
         ),
         (
-            "{\"class\":\"table\",\"players\":1,\"worths\":[1e2]}",
+            r#"{"class":"table","players":1,"worths":[1e2]}"#,
             "[0]",
             Some(Refusal::Number),
         ),
-        ("{\"class\":\"airport\",\"costs\":[0]}", "[0]", None),
+        (r#"{"class":"airport","costs":[0]}"#, "[0]", None),
         (
-            "{\"class\":\"airport\",\"costs\":[-1]}",
-            "[0]",
-            Some(Refusal::Number),
-        ),
-        (
-            "{\"class\":\"airport\",\"costs\":[1099511627776]}",
+            r#"{"class":"airport","costs":[-1]}"#,
             "[0]",
             Some(Refusal::Number),
         ),
         (
-            "{\"claims\":[0],\"class\":\"bankruptcy\",\"estate\":-1}",
+            r#"{"class":"airport","costs":[1099511627776]}"#,
             "[0]",
             Some(Refusal::Number),
         ),
         (
-            "{\"claims\":[1099511627776],\"class\":\"bankruptcy\",\"estate\":0}",
+            r#"{"claims":[0],"class":"bankruptcy","estate":-1}"#,
             "[0]",
             Some(Refusal::Number),
         ),
         (
-            "{\"claims\":[1,2],\"class\":\"bankruptcy\",\"estate\":3}",
+            r#"{"claims":[1099511627776],"class":"bankruptcy","estate":0}"#,
+            "[0]",
+            Some(Refusal::Number),
+        ),
+        (
+            r#"{"claims":[1,2],"class":"bankruptcy","estate":3}"#,
             "[0,0]",
             None,
         ),
         (
-            "{\"claims\":[1,2],\"class\":\"bankruptcy\",\"estate\":4}",
+            r#"{"claims":[1,2],"class":"bankruptcy","estate":4}"#,
             "[0,0]",
             Some(Refusal::Estate),
         ),
         (
-            "{\"class\":\"airport\",\"costs\":[1,2]}",
+            r#"{"class":"airport","costs":[1,2]}"#,
             "[0,0,0]",
             Some(Refusal::Proposal),
         ),
         (
-            "{\"class\":\"airport\",\"costs\":[1,2]}",
+            r#"{"class":"airport","costs":[1,2]}"#,
             "[0]",
             Some(Refusal::Proposal),
         ),
@@ -137,56 +143,56 @@ fn games_keep_their_limits(rt: HostRuntime) -> Result<(), Fail> {
     Ok(())
 }
 
-const ONE_PLAYER: &str = "{\"class\":\"airport\",\"costs\":[1]}";
+const ONE_PLAYER: &str = r#"{"class":"airport","costs":[1]}"#;
 
 #[test]
 fn shares_are_texts_of_fractions_within_their_limits(rt: HostRuntime) -> Result<(), Fail> {
     for &(shares, refusal) in &[
         ("[1.5]", Some(Refusal::Number)),
-        ("[\"2/4\"]", Some(Refusal::Number)),
-        ("[\"+1\"]", Some(Refusal::Number)),
-        ("[\"-0\"]", Some(Refusal::Number)),
-        ("[\"01\"]", Some(Refusal::Number)),
-        ("[\"1/1\"]", Some(Refusal::Number)),
-        ("[\"0/5\"]", Some(Refusal::Number)),
-        ("[\" 1\"]", Some(Refusal::Number)),
-        ("[\"1/\"]", Some(Refusal::Number)),
-        ("[\"\"]", Some(Refusal::Number)),
+        (r#"["2/4"]"#, Some(Refusal::Number)),
+        (r#"["+1"]"#, Some(Refusal::Number)),
+        (r#"["-0"]"#, Some(Refusal::Number)),
+        (r#"["01"]"#, Some(Refusal::Number)),
+        (r#"["1/1"]"#, Some(Refusal::Number)),
+        (r#"["0/5"]"#, Some(Refusal::Number)),
+        (r#"[" 1"]"#, Some(Refusal::Number)),
+        (r#"["1/"]"#, Some(Refusal::Number)),
+        (r#"[""]"#, Some(Refusal::Number)),
         ("[-0]", Some(Refusal::Number)),
         ("[9223372036854775808]", Some(Refusal::Number)),
         (
-            "[\"170141183460469231731687303715884105728\"]",
+            r#"["170141183460469231731687303715884105728"]"#,
             Some(Refusal::Number),
         ),
         (
-            "[\"170141183460469231731687303715884105727\"]",
+            r#"["170141183460469231731687303715884105727"]"#,
             Some(Refusal::TooFine),
         ),
         (
-            "[\"-170141183460469231731687303715884105728\"]",
+            r#"["-170141183460469231731687303715884105728"]"#,
             Some(Refusal::TooFine),
         ),
         (
-            "[\"-170141183460469231731687303715884105729\"]",
+            r#"["-170141183460469231731687303715884105729"]"#,
             Some(Refusal::Number),
         ),
         (
-            "[\"1/170141183460469231731687303715884105728\"]",
+            r#"["1/170141183460469231731687303715884105728"]"#,
             Some(Refusal::Number),
         ),
         (
-            "[\"1/170141183460469231731687303715884105727\"]",
+            r#"["1/170141183460469231731687303715884105727"]"#,
             Some(Refusal::TooFine),
         ),
-        ("[\"1/9223372036854775808\"]", None),
-        ("[\"1/9223372036854775809\"]", Some(Refusal::TooFine)),
-        ("[\"1298074214633706907132624082305023\"]", None),
+        (r#"["1/9223372036854775808"]"#, None),
+        (r#"["1/9223372036854775809"]"#, Some(Refusal::TooFine)),
+        (r#"["1298074214633706907132624082305023"]"#, None),
         (
-            "[\"1298074214633706907132624082305024\"]",
+            r#"["1298074214633706907132624082305024"]"#,
             Some(Refusal::TooFine),
         ),
         (
-            "[\"-1298074214633706907132624082305024\"]",
+            r#"["-1298074214633706907132624082305024"]"#,
             Some(Refusal::TooFine),
         ),
     ] {
@@ -199,21 +205,21 @@ fn shares_are_texts_of_fractions_within_their_limits(rt: HostRuntime) -> Result<
 fn names_have_1_to_64_bytes(rt: HostRuntime) -> Result<(), Fail> {
     for &(names, refusal) in &[
         (
-            "[\"xxxxxxxxxxxxxxxxxxxxxxxxxxxxxxxxxxxxxxxxxxxxxxxxxxxxxxxxxxxxxxxx\"]",
+            r#"["xxxxxxxxxxxxxxxxxxxxxxxxxxxxxxxxxxxxxxxxxxxxxxxxxxxxxxxxxxxxxxxx"]"#,
             None,
         ),
         (
-            "[\"xxxxxxxxxxxxxxxxxxxxxxxxxxxxxxxxxxxxxxxxxxxxxxxxxxxxxxxxxxxxxxxxx\"]",
+            r#"["xxxxxxxxxxxxxxxxxxxxxxxxxxxxxxxxxxxxxxxxxxxxxxxxxxxxxxxxxxxxxxxxx"]"#,
             Some(Refusal::Names),
         ),
-        ("[\"éééééééééééééééééééééééééééééééé\"]", None),
+        (r#"["éééééééééééééééééééééééééééééééé"]"#, None),
         (
-            "[\"ééééééééééééééééééééééééééééééééé\"]",
+            r#"["ééééééééééééééééééééééééééééééééé"]"#,
             Some(Refusal::Names),
         ),
-        ("[\"\"]", Some(Refusal::Names)),
+        (r#"[""]"#, Some(Refusal::Names)),
         ("[]", Some(Refusal::Names)),
-        ("[\"a\",\"b\"]", Some(Refusal::Names)),
+        (r#"["a","b"]"#, Some(Refusal::Names)),
     ] {
         expect_names(&rt, rt.alloc(), names, refusal)?;
     }
@@ -223,20 +229,17 @@ fn names_have_1_to_64_bytes(rt: HostRuntime) -> Result<(), Fail> {
 #[test]
 fn sparse_coalitions_are_sets_of_players(rt: HostRuntime) -> Result<(), Fail> {
     for &(pairs, refusal) in &[
-        (
-            "[[\"Ann\"],1],[[2,\"Élodie\"],2],[[\"Bob\",\"Ann\"],3]",
-            None,
-        ),
-        ("[[\"ann\"],1]", Some(Refusal::Names)),
-        ("[[\"Elodie\"],1]", Some(Refusal::Names)),
+        (r#"[["Ann"],1],[[2,"Élodie"],2],[["Bob","Ann"],3]"#, None),
+        (r#"[["ann"],1]"#, Some(Refusal::Names)),
+        (r#"[["Elodie"],1]"#, Some(Refusal::Names)),
         ("[[],1]", Some(Refusal::Coalition)),
         ("[[0],1]", Some(Refusal::Coalition)),
         ("[[4],1]", Some(Refusal::Coalition)),
         ("[[1.5],1]", Some(Refusal::Coalition)),
         ("[[-1],1]", Some(Refusal::Coalition)),
         ("[[1,2,1],1]", Some(Refusal::Coalition)),
-        ("[[\"Ann\",1],1]", Some(Refusal::Coalition)),
-        ("[[\"Ann\",\"Bob\"],1],[[2,1],1]", Some(Refusal::Coalition)),
+        (r#"[["Ann",1],1]"#, Some(Refusal::Coalition)),
+        (r#"[["Ann","Bob"],1],[[2,1],1]"#, Some(Refusal::Coalition)),
         ("[[1,2],1],[[1,2],1]", Some(Refusal::Coalition)),
     ] {
         expect_pairs(&rt, rt.alloc(), pairs, refusal)?;
@@ -246,7 +249,7 @@ fn sparse_coalitions_are_sets_of_players(rt: HostRuntime) -> Result<(), Fail> {
 
 // An airport game of one player with these names.
 fn named(alloc: Global, names: &str) -> Result<String, Fail> {
-    let mut text = String::from_str(alloc, "{\"class\":\"airport\",\"costs\":[1],\"names\":")?;
+    let mut text = String::from_str(alloc, r#"{"class":"airport","costs":[1],"names":"#)?;
     text.push_str(names)?;
     text.push_str("}")?;
     Ok(text)
@@ -254,8 +257,7 @@ fn named(alloc: Global, names: &str) -> Result<String, Fail> {
 
 // A sparse table of the costs of three players with names.
 fn sparse(alloc: Global, pairs: &str) -> Result<String, Fail> {
-    let front =
-        "{\"class\":\"cost-table\",\"names\":[\"Ann\",\"Bob\",\"Élodie\"],\"players\":3,\"sparse\":[";
+    let front = r#"{"class":"cost-table","names":["Ann","Bob","Élodie"],"players":3,"sparse":["#;
     let mut text = String::from_str(alloc, front)?;
     text.push_str(pairs)?;
     text.push_str("]}")?;

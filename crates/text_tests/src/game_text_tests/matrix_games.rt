@@ -19,9 +19,9 @@ const SIXTEEN_SHARES: &str = "[0,0,0,0,0,0,0,0,0,0,0,0,0,0,0,0]";
 
 // A game of this class whose matrix has these rows, all alike.
 fn with_rows(alloc: Global, class: &str, row: &str, count: usize) -> Result<String, Fail> {
-    let mut text = String::from_str(alloc, "{\"class\":\"")?;
+    let mut text = String::from_str(alloc, r#"{"class":""#)?;
     text.push_str(class)?;
-    text.push_str("\",\"matrix\":[")?;
+    text.push_str(r#"","matrix":["#)?;
     for i in 0..count {
         if i > 0 {
             text.push_str(",")?;
@@ -75,67 +75,64 @@ fn matrices_keep_the_numbers_of_players(rt: HostRuntime) -> Result<(), Fail> {
 fn matrices_are_refused_by_the_first_test(rt: HostRuntime) -> Result<(), Fail> {
     for &(game, refusal) in &[
         (
-            "{\"class\":\"tree\",\"matrix\":[[0,1],[1,0]]}",
+            r#"{"class":"tree","matrix":[[0,1],[1,0]]}"#,
             Refusal::Proposal,
         ),
         (
-            "{\"class\":\"tree\",\"matrix\":[[0,1],[2,0]]}",
+            r#"{"class":"tree","matrix":[[0,1],[2,0]]}"#,
             Refusal::Matrix,
         ),
         (
-            "{\"class\":\"tree\",\"matrix\":[[0,1],[1,1]]}",
+            r#"{"class":"tree","matrix":[[0,1],[1,1]]}"#,
+            Refusal::Matrix,
+        ),
+        (r#"{"class":"tree","matrix":[[0,1],[1]]}"#, Refusal::Matrix),
+        (
+            r#"{"class":"tree","matrix":[[0,1],[1,0,0]]}"#,
             Refusal::Matrix,
         ),
         (
-            "{\"class\":\"tree\",\"matrix\":[[0,1],[1]]}",
+            r#"{"class":"tree","matrix":[[0,1,2],[1,0,3],[2,4,0]]}"#,
             Refusal::Matrix,
         ),
         (
-            "{\"class\":\"tree\",\"matrix\":[[0,1],[1,0,0]]}",
-            Refusal::Matrix,
-        ),
-        (
-            "{\"class\":\"tree\",\"matrix\":[[0,1,2],[1,0,3],[2,4,0]]}",
-            Refusal::Matrix,
-        ),
-        (
-            "{\"class\":\"tree\",\"matrix\":[[0,1],[2,-1]]}",
+            r#"{"class":"tree","matrix":[[0,1],[2,-1]]}"#,
             Refusal::Number,
         ),
         (
-            "{\"class\":\"tree\",\"matrix\":[[0,1],[2,0,1099511627776]]}",
+            r#"{"class":"tree","matrix":[[0,1],[2,0,1099511627776]]}"#,
             Refusal::Number,
         ),
         (
-            "{\"class\":\"tree\",\"matrix\":[[0,1],[2,0]],\"names\":[]}",
+            r#"{"class":"tree","matrix":[[0,1],[2,0]],"names":[]}"#,
             Refusal::Names,
         ),
         (
-            "{\"class\":\"assignment\",\"matrix\":[[1,2],[3]]}",
+            r#"{"class":"assignment","matrix":[[1,2],[3]]}"#,
             Refusal::Matrix,
         ),
         (
-            "{\"class\":\"assignment\",\"matrix\":[[1,2],[]]}",
+            r#"{"class":"assignment","matrix":[[1,2],[]]}"#,
             Refusal::Matrix,
         ),
         (
-            "{\"class\":\"assignment\",\"matrix\":[[1,2],[0.5]]}",
+            r#"{"class":"assignment","matrix":[[1,2],[0.5]]}"#,
             Refusal::Number,
         ),
         (
-            "{\"class\":\"assignment\",\"matrix\":[[1,2],[3,4]]}",
+            r#"{"class":"assignment","matrix":[[1,2],[3,4]]}"#,
             Refusal::Proposal,
         ),
         (
-            "{\"class\":\"market\",\"matrix\":[[1,2],[-3]]}",
+            r#"{"class":"market","matrix":[[1,2],[-3]]}"#,
             Refusal::Number,
         ),
         (
-            "{\"class\":\"market\",\"matrix\":[[1,2],[3]],\"names\":[]}",
+            r#"{"class":"market","matrix":[[1,2],[3]],"names":[]}"#,
             Refusal::Names,
         ),
         (
-            "{\"class\":\"market\",\"matrix\":[[1,2],[3]]}",
+            r#"{"class":"market","matrix":[[1,2],[3]]}"#,
             Refusal::Matrix,
         ),
     ] {
@@ -148,19 +145,19 @@ fn matrices_are_refused_by_the_first_test(rt: HostRuntime) -> Result<(), Fail> {
 fn links_cost_and_pairs_are_worth(rt: HostRuntime) -> Result<(), Fail> {
     for &(game, shares, is_cost, worths) in &[
         (
-            "{\"class\":\"tree\",\"matrix\":[[0,10,10],[10,0,1],[10,1,0]]}",
+            r#"{"class":"tree","matrix":[[0,10,10],[10,0,1],[10,1,0]]}"#,
             "[10,1]",
             true,
             &[0i64, -10, -10, -11] as &[i64],
         ),
         (
-            "{\"class\":\"assignment\",\"matrix\":[[5,8],[7,6]]}",
+            r#"{"class":"assignment","matrix":[[5,8],[7,6]]}"#,
             "[2,2,5,6]",
             false,
             &[0i64, 0, 0, 0, 0, 5, 7, 7, 0, 8, 6, 8, 0, 8, 7, 15] as &[i64],
         ),
         (
-            "{\"class\":\"market\",\"matrix\":[[5,8],[7,6]]}",
+            r#"{"class":"market","matrix":[[5,8],[7,6]]}"#,
             "[2,2,5,6]",
             false,
             &[0i64, 0, 0, 0, 0, 5, 7, 7, 0, 8, 6, 8, 0, 8, 7, 15] as &[i64],

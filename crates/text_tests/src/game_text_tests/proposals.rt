@@ -78,8 +78,8 @@ pub(crate) fn said(
 
 #[test]
 fn payments_are_negated_shares_over_the_least_denominator(rt: HostRuntime) -> Result<(), Fail> {
-    let game = "{\"class\":\"airport\",\"costs\":[2,4,6]}";
-    let found = said(&rt, rt.alloc(), game, "[\"3/4\",-1,\"5/6\"]")?;
+    let game = r#"{"class":"airport","costs":[2,4,6]}"#;
+    let found = said(&rt, rt.alloc(), game, r#"["3/4",-1,"5/6"]"#)?;
     assert_eq!(rt;
         (
             found.players,
@@ -100,8 +100,8 @@ fn payments_are_negated_shares_over_the_least_denominator(rt: HostRuntime) -> Re
 #[test]
 fn sparse_tables_list_some_coalitions_by_names(rt: HostRuntime) -> Result<(), Fail> {
     let game =
-        "{\"class\":\"table\",\"default\":-5,\"names\":[\"a\",\"b\"],\"players\":2,\"sparse\":[[[\"b\",1],7]]}";
-    let found = said(&rt, rt.alloc(), game, "[\"1/3\",\"-1/3\"]")?;
+        r#"{"class":"table","default":-5,"names":["a","b"],"players":2,"sparse":[[["b",1],7]]}"#;
+    let found = said(&rt, rt.alloc(), game, r#"["1/3","-1/3"]"#)?;
     assert_eq!(rt;
         (
             found.players,
@@ -119,22 +119,22 @@ fn sparse_tables_list_some_coalitions_by_names(rt: HostRuntime) -> Result<(), Fa
 fn games_answer_with_the_bodies_of_their_classes(rt: HostRuntime) -> Result<(), Fail> {
     for &(game, shares, blocker) in &[
         (
-            "{\"class\":\"airport\",\"costs\":[2,4,6]}",
+            r#"{"class":"airport","costs":[2,4,6]}"#,
             "[3,1,2]",
             Some(Coalition(1)),
         ),
         (
-            "{\"claims\":[100,200,300],\"class\":\"bankruptcy\",\"estate\":200}",
+            r#"{"claims":[100,200,300],"class":"bankruptcy","estate":200}"#,
             "[110,45,45]",
             Some(Coalition(6)),
         ),
         (
-            "{\"class\":\"table\",\"players\":3,\"worths\":[0,0,1,0,1,1,1]}",
-            "[\"1/3\",\"1/3\",\"1/3\"]",
+            r#"{"class":"table","players":3,"worths":[0,0,1,0,1,1,1]}"#,
+            r#"["1/3","1/3","1/3"]"#,
             Some(Coalition(3)),
         ),
         (
-            "{\"class\":\"cost-table\",\"players\":3,\"worths\":[2,2,3,2,3,3,4]}",
+            r#"{"class":"cost-table","players":3,"worths":[2,2,3,2,3,3,4]}"#,
             "[1,1,2]",
             None,
         ),
@@ -153,38 +153,34 @@ fn measure_in(alloc: Global, game: &str, shares: &str) -> Result<Measure, Fail> 
 #[test]
 fn every_class_may_say_how_excess_is_measured(rt: HostRuntime) -> Result<(), Fail> {
     for &(game, shares, measure) in &[
+        (r#"{"class":"airport","costs":[1]}"#, "[1]", Measure::Plain),
         (
-            "{\"class\":\"airport\",\"costs\":[1]}",
-            "[1]",
-            Measure::Plain,
-        ),
-        (
-            "{\"class\":\"airport\",\"costs\":[1],\"excess\":\"per-head\"}",
+            r#"{"class":"airport","costs":[1],"excess":"per-head"}"#,
             "[1]",
             Measure::PerHead,
         ),
         (
-            "{\"claims\":[1],\"class\":\"bankruptcy\",\"estate\":1,\"excess\":\"per-head\"}",
+            r#"{"claims":[1],"class":"bankruptcy","estate":1,"excess":"per-head"}"#,
             "[1]",
             Measure::PerHead,
         ),
         (
-            "{\"class\":\"tree\",\"excess\":\"plain\",\"matrix\":[[0,1],[1,0]]}",
+            r#"{"class":"tree","excess":"plain","matrix":[[0,1],[1,0]]}"#,
             "[1]",
             Measure::Plain,
         ),
         (
-            "{\"class\":\"assignment\",\"excess\":\"per-head\",\"matrix\":[[1]]}",
+            r#"{"class":"assignment","excess":"per-head","matrix":[[1]]}"#,
             "[1,0]",
             Measure::PerHead,
         ),
         (
-            "{\"class\":\"table\",\"excess\":\"per-head\",\"players\":1,\"worths\":[1]}",
+            r#"{"class":"table","excess":"per-head","players":1,"worths":[1]}"#,
             "[1]",
             Measure::PerHead,
         ),
         (
-            "{\"class\":\"cost-table\",\"excess\":\"per-head\",\"names\":[\"a\"],\"players\":1,\"sparse\":[]}",
+            r#"{"class":"cost-table","excess":"per-head","names":["a"],"players":1,"sparse":[]}"#,
             "[0]",
             Measure::PerHead,
         ),

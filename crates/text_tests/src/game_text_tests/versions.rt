@@ -11,62 +11,62 @@ const SHARE: &str = "[0]";
 fn the_scale_is_the_least_common_denominator(rt: HostRuntime) -> Result<(), Fail> {
     for &(game, scale, worths) in &[
         (
-            "{\"class\":\"table\",\"players\":2,\"version\":2,\"worths\":[\"1/2\",\"1/3\",\"7/6\"]}",
+            r#"{"class":"table","players":2,"version":2,"worths":["1/2","1/3","7/6"]}"#,
             6,
             [0, 3, 2, 7],
         ),
         (
-            "{\"class\":\"table\",\"players\":2,\"version\":2,\"worths\":[\"1/65536\",0,1]}",
+            r#"{"class":"table","players":2,"version":2,"worths":["1/65536",0,1]}"#,
             65_536,
             [0, 1, 0, 65_536],
         ),
         (
-            "{\"class\":\"cost-table\",\"default\":\"1/4\",\"players\":2,\"sparse\":[[[1],\"5/6\"]],\"version\":2}",
+            r#"{"class":"cost-table","default":"1/4","players":2,"sparse":[[[1],"5/6"]],"version":2}"#,
             12,
             [0, -10, -3, -3],
         ),
         (
-            "{\"class\":\"airport\",\"costs\":[\"1/2\",2],\"version\":2}",
+            r#"{"class":"airport","costs":["1/2",2],"version":2}"#,
             2,
             [0, -1, -4, -4],
         ),
         (
-            "{\"claims\":[\"1/3\",1],\"class\":\"bankruptcy\",\"estate\":\"1/2\",\"version\":2}",
+            r#"{"claims":["1/3",1],"class":"bankruptcy","estate":"1/2","version":2}"#,
             6,
             [0, 0, 1, 3],
         ),
         (
-            "{\"class\":\"tree\",\"matrix\":[[0,\"1/2\",3],[\"1/2\",0,1],[3,1,0]],\"version\":2}",
+            r#"{"class":"tree","matrix":[[0,"1/2",3],["1/2",0,1],[3,1,0]],"version":2}"#,
             2,
             [0, -1, -6, -3],
         ),
         (
-            "{\"class\":\"assignment\",\"matrix\":[[\"5/7\"]],\"version\":2}",
+            r#"{"class":"assignment","matrix":[["5/7"]],"version":2}"#,
             7,
             [0, 0, 0, 5],
         ),
         (
-            "{\"class\":\"market\",\"matrix\":[[\"5/7\"]],\"version\":2}",
+            r#"{"class":"market","matrix":[["5/7"]],"version":2}"#,
             7,
             [0, 0, 0, 5],
         ),
         (
-            "{\"class\":\"voting\",\"quota\":3,\"version\":2,\"weights\":[2,1]}",
+            r#"{"class":"voting","quota":3,"version":2,"weights":[2,1]}"#,
             1,
             [0, 0, 0, 1],
         ),
         (
-            "{\"class\":\"airport\",\"costs\":[1,2],\"version\":2}",
+            r#"{"class":"airport","costs":[1,2],"version":2}"#,
             1,
             [0, -1, -2, -2],
         ),
         (
-            "{\"class\":\"airport\",\"costs\":[1,2],\"version\":1}",
+            r#"{"class":"airport","costs":[1,2],"version":1}"#,
             1,
             [0, -1, -2, -2],
         ),
     ] {
-        let found = said(&rt, rt.alloc(), game, "[\"1/2\",\"-1/5\"]")?;
+        let found = said(&rt, rt.alloc(), game, r#"["1/2","-1/5"]"#)?;
         assert_eq!(rt;
             (found.scale, found.worths.as_slice()),
             (scale, worths.as_slice()),
@@ -78,9 +78,8 @@ fn the_scale_is_the_least_common_denominator(rt: HostRuntime) -> Result<(), Fail
 
 #[test]
 fn shares_are_times_the_scale(rt: HostRuntime) -> Result<(), Fail> {
-    let game =
-        "{\"class\":\"table\",\"players\":2,\"version\":2,\"worths\":[\"1/2\",\"1/3\",\"7/6\"]}";
-    let found = said(&rt, rt.alloc(), game, "[\"1/3\",\"5/12\"]")?;
+    let game = r#"{"class":"table","players":2,"version":2,"worths":["1/2","1/3","7/6"]}"#;
+    let found = said(&rt, rt.alloc(), game, r#"["1/3","5/12"]"#)?;
     assert_eq!(rt;
         (found.players, found.shares.as_slice()),
         (2, [4, 5, 2].as_slice())
@@ -92,92 +91,92 @@ fn shares_are_times_the_scale(rt: HostRuntime) -> Result<(), Fail> {
 fn versions_are_1_and_2_and_texts_are_fractions(rt: HostRuntime) -> Result<(), Fail> {
     for &(game, refusal) in &[
         (
-            "{\"class\":\"airport\",\"costs\":[\"1/2\"]}",
+            r#"{"class":"airport","costs":["1/2"]}"#,
             Some(Refusal::Shape),
         ),
         (
-            "{\"class\":\"airport\",\"costs\":[\"1/2\"],\"version\":1}",
+            r#"{"class":"airport","costs":["1/2"],"version":1}"#,
             Some(Refusal::Shape),
         ),
         (
-            "{\"class\":\"airport\",\"costs\":[1],\"version\":3}",
+            r#"{"class":"airport","costs":[1],"version":3}"#,
             Some(Refusal::Shape),
         ),
         (
-            "{\"class\":\"airport\",\"costs\":[1],\"version\":\"2\"}",
+            r#"{"class":"airport","costs":[1],"version":"2"}"#,
             Some(Refusal::Shape),
         ),
         (
-            "{\"class\":\"airport\",\"costs\":[1],\"version\":2.0}",
+            r#"{"class":"airport","costs":[1],"version":2.0}"#,
             Some(Refusal::Shape),
         ),
         (
-            "{\"class\":\"voting\",\"quota\":\"1\",\"version\":2,\"weights\":[1]}",
+            r#"{"class":"voting","quota":"1","version":2,"weights":[1]}"#,
             Some(Refusal::Shape),
         ),
         (
-            "{\"class\":\"voting\",\"quota\":1,\"version\":2,\"weights\":[\"1\"]}",
+            r#"{"class":"voting","quota":1,"version":2,"weights":["1"]}"#,
             Some(Refusal::Shape),
         ),
         (
-            "{\"class\":\"airport\",\"costs\":[\"2/4\"],\"version\":2}",
+            r#"{"class":"airport","costs":["2/4"],"version":2}"#,
             Some(Refusal::Number),
         ),
         (
-            "{\"class\":\"airport\",\"costs\":[\"-1/2\"],\"version\":2}",
+            r#"{"class":"airport","costs":["-1/2"],"version":2}"#,
             Some(Refusal::Number),
         ),
         (
-            "{\"class\":\"airport\",\"costs\":[0.5],\"version\":2}",
+            r#"{"class":"airport","costs":[0.5],"version":2}"#,
             Some(Refusal::Number),
         ),
         (
-            "{\"class\":\"airport\",\"costs\":[\"1/65537\"],\"version\":2}",
+            r#"{"class":"airport","costs":["1/65537"],"version":2}"#,
             Some(Refusal::Number),
         ),
         (
-            "{\"class\":\"airport\",\"costs\":[\"1099511627775/2\"],\"version\":2}",
+            r#"{"class":"airport","costs":["1099511627775/2"],"version":2}"#,
             None,
         ),
         (
-            "{\"class\":\"airport\",\"costs\":[\"1099511627777/2\"],\"version\":2}",
+            r#"{"class":"airport","costs":["1099511627777/2"],"version":2}"#,
             Some(Refusal::Number),
         ),
     ] {
         expect_fault(&rt, rt.alloc(), game, SHARE, refusal)?;
     }
-    let apart = "{\"class\":\"airport\",\"costs\":[\"1/256\",\"1/257\"],\"version\":2}";
+    let apart = r#"{"class":"airport","costs":["1/256","1/257"],"version":2}"#;
     expect_fault(&rt, rt.alloc(), apart, "[0,0]", Some(Refusal::Number))?;
-    let low = "{\"class\":\"airport\",\"costs\":[549755813888,\"1/2\"],\"version\":2}";
+    let low = r#"{"class":"airport","costs":[549755813888,"1/2"],"version":2}"#;
     expect_fault(&rt, rt.alloc(), low, "[0,0]", Some(Refusal::Number))
 }
 
 // A cost of a half, and a whole one.
-const HALVES: &str = "{\"class\":\"airport\",\"costs\":[\"1/2\"],\"version\":2}";
+const HALVES: &str = r#"{"class":"airport","costs":["1/2"],"version":2}"#;
 
-const WHOLE: &str = "{\"class\":\"airport\",\"costs\":[1],\"version\":2}";
+const WHOLE: &str = r#"{"class":"airport","costs":[1],"version":2}"#;
 
 #[test]
 fn shares_keep_their_limits_times_the_scale(rt: HostRuntime) -> Result<(), Fail> {
     for &(game, share, refusal) in &[
         // 2^64 below the line, and 2^63 times the scale
-        (HALVES, "[\"1/18446744073709551616\"]", None),
+        (HALVES, r#"["1/18446744073709551616"]"#, None),
         (
             WHOLE,
-            "[\"1/18446744073709551616\"]",
+            r#"["1/18446744073709551616"]"#,
             Some(Refusal::TooFine),
         ),
         // 2^109
-        (WHOLE, "[\"649037107316853453566312041152512\"]", None),
+        (WHOLE, r#"["649037107316853453566312041152512"]"#, None),
         (
             HALVES,
-            "[\"649037107316853453566312041152512\"]",
+            r#"["649037107316853453566312041152512"]"#,
             Some(Refusal::TooFine),
         ),
         // 2^126, which leaves 128 bits times the scale
         (
             HALVES,
-            "[\"85070591730234615865843651857942052864\"]",
+            r#"["85070591730234615865843651857942052864"]"#,
             Some(Refusal::TooFine),
         ),
     ] {

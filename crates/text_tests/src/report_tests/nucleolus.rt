@@ -1,6 +1,7 @@
 //! Lines of a nucleolus.
 ghost use Rattle.std.specs.Prelude.{◌≡◌, codes, IfOk};
-ghost use Rattle.serde_json.specs.Data.{put as with_member, number, unsigned, string, array, object, item, no_items, member, no_members};
+ghost use Rattle.serde_json.specs.Data.{put as with_member, number, unsigned, string, array};
+ghost use Rattle.serde_json.specs.Data.{object, item, no_items, member, no_members};
 ghost use Rattle.serde_json.specs.View.{view, members_view};
 ghost use Rattle.std.specs.List.{AllByRecursion};
 ghost use Rattle.report.specs.Limits.{IsFine, IsGameTree};
@@ -73,7 +74,8 @@ fn with(
     key: &str,
     value: Value,
 ) -> Result<Map<String, Value>, OutOfMemory>
-    ensures { IfOk result (λ m. members_view m.entries ≡ with_member key.now (view value) (members_view members.entries)) }
+    ensures { IfOk result
+        (λ m. members_view m.entries ≡ with_member key.now (view value) (members_view members.entries)) }
 {
     let mut members = members;
     put(&mut members, alloc, key, value)?;
@@ -84,7 +86,9 @@ fn with(
 fn airport(alloc: Global) -> Result<Value, OutOfMemory>
     ensures { IfOk result (λ v. view v ≡ object
         (member (codes "class") (string (codes "airport"))
-        (member (codes "costs") (array (item (number (unsigned 2)) (item (number (unsigned 4)) (item (number (unsigned 6)) no_items)))) no_members))) }
+        (member (codes "costs")
+        (array (item (number (unsigned 2)) (item (number (unsigned 4)) (item (number (unsigned 6)) no_items))))
+        no_members))) }
 {
     let costs = json!(in alloc; [2, 4, 6])?;
     let class = Value::try_from_str(alloc, "airport")?;
@@ -133,10 +137,13 @@ fn payments_and_excesses_of_a_cost_class(rt: HostRuntime) -> Result<(), Fail> {
         Mode::Players,
         levels,
     )?;
-    let line =
-        "{\"answer\":\"nucleolus\",\"certificate\":{\"levels\":[{\"bounds\":[],\"coalitions\":[[[1],1],[[2,3],1]],\"earlier\":[],\"excess\":\"-1\",\
-         \"total\":1},{\"bounds\":[],\"coalitions\":[[[1,2],1],[[1,3],1]],\"earlier\":[[[1],-1]],\"excess\":\"-3/2\",\"total\":1}],\
-         \"mode\":\"players\"},\"game\":{\"class\":\"airport\",\"costs\":[2,4,6]},\"shares\":[\"1\",\"3/2\",\"7/2\"]}\n";
+    let line = concat!(
+        r#"{"answer":"nucleolus","certificate":{"levels":[{"bounds":[],"coalitions":[[[1],1],[[2,3],1]],"#,
+        r#""earlier":[],"excess":"-1","total":1},{"bounds":[],"coalitions":[[[1,2],1],[[1,3],1]],"#,
+        r#""earlier":[[[1],-1]],"excess":"-3/2","total":1}],"mode":"players"},"game":{"class":"airport","#,
+        r#""costs":[2,4,6]},"shares":["1","3/2","7/2"]}"#,
+        "\n",
+    );
     assert_eq!(rt; written.as_slice(), line.as_bytes());
     Ok(())
 }
@@ -147,9 +154,11 @@ fn one_player_without_levels(rt: HostRuntime) -> Result<(), Fail> {
     let shares: (&[i128], i128, bool) = (&[15], 3, false);
     let levels = Vec::new(rt.alloc());
     let written = written(&rt, Family::Imputations, tree, shares, Mode::Span, levels)?;
-    let line =
-        "{\"answer\":\"nucleolus\",\"certificate\":{\"levels\":[],\"mode\":\"span\"},\"game\":{\"class\":\"table\",\"players\":1,\"worths\":[5]},\
-         \"shares\":[\"5\"]}\n";
+    let line = concat!(
+        r#"{"answer":"nucleolus","certificate":{"levels":[],"mode":"span"},"game":{"class":"table","#,
+        r#""players":1,"worths":[5]},"shares":["5"]}"#,
+        "\n",
+    );
     assert_eq!(rt; written.as_slice(), line.as_bytes());
     Ok(())
 }
@@ -170,10 +179,12 @@ fn bounds_and_the_greatest_weights(rt: HostRuntime) -> Result<(), Fail> {
         Mode::Span,
         levels,
     )?;
-    let line =
-        "{\"answer\":\"prenucleolus\",\"certificate\":{\"levels\":[{\"bounds\":[[1,1],[2,-9223372036854775807]],\
-         \"coalitions\":[[[3],9223372036854775807]],\"earlier\":[],\"excess\":\"2\",\"total\":9223372036854775807}],\"mode\":\"span\"},\"game\":null,\
-         \"shares\":[\"1\",\"1\",\"-2\"]}\n";
+    let line = concat!(
+        r#"{"answer":"prenucleolus","certificate":{"levels":[{"bounds":[[1,1],[2,-9223372036854775807]],"#,
+        r#""coalitions":[[[3],9223372036854775807]],"earlier":[],"excess":"2","total":9223372036854775807}],"#,
+        r#""mode":"span"},"game":null,"shares":["1","1","-2"]}"#,
+        "\n",
+    );
     assert_eq!(rt; written.as_slice(), line.as_bytes());
     Ok(())
 }
@@ -196,13 +207,13 @@ fn sixty_four_players(rt: HostRuntime) -> Result<(), Fail> {
         levels,
     )?;
     let start =
-        "{\"answer\":\"nucleolus\",\"certificate\":{\"levels\":[{\"bounds\":[],\"coalitions\":[[[1,2,3,4,";
+        r#"{"answer":"nucleolus","certificate":{"levels":[{"bounds":[],"coalitions":[[[1,2,3,4,"#;
     let end =
-        "],\"earlier\":[],\"excess\":\"-1\",\"total\":63}],\"mode\":\"players\"},\"game\":null,\"shares\":[\"1\",";
+        r#"],"earlier":[],"excess":"-1","total":63}],"mode":"players"},"game":null,"shares":["1","#;
     let text = std::str::from_utf8(&written).map_err(|_| "no UTF-8")?;
     assert!(rt; text.starts_with(start));
     assert!(rt; text.contains(end));
-    assert!(rt; text.ends_with("\"1\",\"1\"]}\n"));
+    assert!(rt; text.ends_with(concat!(r#""1","1"]}"#, "\n")));
     assert_eq!(rt; text.len(), 12326);
     Ok(())
 }

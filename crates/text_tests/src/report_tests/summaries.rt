@@ -10,29 +10,47 @@ fn summaries_have_their_lines(rt: HostRuntime) -> Result<(), Fail> {
         (
             Kind::Table,
             false,
-            "{\"class\":\"table\",\"common\":\"3\",\"first\":\"-2/3\",\"greatest\":\"-5/2\",\"last\":\"2\",\"players\":4,\"seed\":9,\"verdict\":\"yes\"}\n",
+            concat!(
+                r#"{"class":"table","common":"3","first":"-2/3","greatest":"-5/2","last":"2","players":4,"#,
+                r#""seed":9,"verdict":"yes"}"#,
+                "\n",
+            ),
         ),
         (
             Kind::Airport,
             true,
-            "{\"class\":\"airport\",\"common\":\"3\",\"first\":\"2/3\",\"greatest\":\"-5/2\",\"last\":\"-2\",\"players\":4,\"seed\":9,\"verdict\":\"yes\"}\n",
+            concat!(
+                r#"{"class":"airport","common":"3","first":"2/3","greatest":"-5/2","last":"-2","players":4,"#,
+                r#""seed":9,"verdict":"yes"}"#,
+                "\n",
+            ),
         ),
         (
             Kind::Bankruptcy,
             false,
-            "{\"class\":\"bankruptcy\",\"common\":\"3\",\"first\":\"-2/3\",\"greatest\":\"-5/2\",\"last\":\"2\",\"players\":4,\"seed\":9,\
-             \"verdict\":\"yes\"}\n",
+            concat!(
+                r#"{"class":"bankruptcy","common":"3","first":"-2/3","greatest":"-5/2","last":"2","players":4,"#,
+                r#""seed":9,"verdict":"yes"}"#,
+                "\n",
+            ),
         ),
         (
             Kind::Tree,
             true,
-            "{\"class\":\"tree\",\"common\":\"3\",\"first\":\"2/3\",\"greatest\":\"-5/2\",\"last\":\"-2\",\"players\":4,\"seed\":9,\"verdict\":\"yes\"}\n",
+            concat!(
+                r#"{"class":"tree","common":"3","first":"2/3","greatest":"-5/2","last":"-2","players":4,"#,
+                r#""seed":9,"verdict":"yes"}"#,
+                "\n",
+            ),
         ),
         (
             Kind::Assignment,
             false,
-            "{\"class\":\"assignment\",\"common\":\"3\",\"first\":\"-2/3\",\"greatest\":\"-5/2\",\"last\":\"2\",\"players\":4,\"seed\":9,\
-             \"verdict\":\"yes\"}\n",
+            concat!(
+                r#"{"class":"assignment","common":"3","first":"-2/3","greatest":"-5/2","last":"2","players":4,"#,
+                r#""seed":9,"verdict":"yes"}"#,
+                "\n",
+            ),
         ),
     ] {
         let greatest = Some(fraction(-5, 2)?);
@@ -60,8 +78,11 @@ fn one_player_has_no_greatest_excess(rt: HostRuntime) -> Result<(), Fail> {
         shares: shares(rt.alloc(), &[-5], 1)?,
         greatest: None,
     };
-    let line =
-        "{\"class\":\"tree\",\"common\":\"1\",\"first\":\"5\",\"greatest\":\"none\",\"last\":\"5\",\"players\":1,\"seed\":0,\"verdict\":\"yes\"}\n";
+    let line = concat!(
+        r#"{"class":"tree","common":"1","first":"5","greatest":"none","last":"5","players":1,"seed":0,"#,
+        r#""verdict":"yes"}"#,
+        "\n",
+    );
     expect_line(&rt, rt.alloc(), Answer::Summary(summary), line)?;
     Ok(())
 }

@@ -12,4 +12,5 @@ pub overflow_cast-result : goal.overflow_cast-result
 overflow_cast-result c = rw c.len-members.ensures (omega (arith, squared c.args.s))
 
 pub returns : goal.returns
-returns c = rw c.len-members.ensures (to_z_pos w64 (size c.args.s * size c.args.s) (omega (arith, squared c.args.s)))
+returns c =
+    rw c.len-members.ensures (to_z_pos w64 (size c.args.s * size c.args.s) (omega (arith, squared c.args.s)))
