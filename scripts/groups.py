@@ -1,0 +1,98 @@
+"""Players and groups of players in words, by their names."""
+from documents import members
+
+
+def listed(parts):
+    """Some parts with commas and an "and"."""
+    return parts[0] if len(parts) == 1 else ", ".join(parts[:-1]) + " and " + parts[-1]
+
+
+def enumerated(parts):
+    """Parts that have commas or an "and" themselves."""
+    return parts[0] if len(parts) == 1 else "; ".join(parts[:-1]) + "; and " + parts[-1]
+
+
+def times(count):
+    return {1: "once", 2: "twice"}.get(count, f"{count} times")
+
+
+def is_alone(group):
+    return group & group - 1 == 0
+
+
+class Namer:
+    """Names the players and the groups of a game."""
+
+    def __init__(self, game):
+        self.n, self.everyone, self.named = game.n, game.everyone, game.named
+        self.names = game.names if game.named else [f"player {name}" for name in game.names]
+
+    def players(self, ids, most=12):
+        """Some players: of many those that are left out, or the first and the last, or the first ones."""
+        ids = sorted(ids)
+        out = [i for i in range(self.n) if i not in ids]
+        if len(ids) > 3 and not out:
+            return "all players"
+        if len(ids) > most // 2 and len(out) <= 3:
+            return "all players but " + listed([self.names[i] for i in out])
+        if self.named and len(ids) > 4 and ids[-1] - ids[0] == len(ids) - 1:
+            return f"{self.names[ids[0]]} to {self.names[ids[-1]]} ({len(ids)} in a row)"
+        if len(ids) <= most:
+            return listed([self.names[i] for i in ids])
+        return ", ".join(self.names[i] for i in ids[: most - 2]) + f" and {len(ids) - most + 2} others"
+
+    def group(self, group):
+        """One group, by its members or by those that are left out."""
+        ids, out = members(group), members(self.everyone - group)
+        if len(ids) == 1:
+            return self.names[ids[0]] + " alone"
+        if len(ids) > len(out) + 1:
+            return "all but " + self.players(out)
+        return self.players(ids) + " together"
+
+    def in_a_sum(self, group, is_only):
+        """A group that is counted with others."""
+        name = self.group(group)
+        if is_alone(group):
+            return name[: -len(" alone")]
+        name = name[: -len(" together")] if name.endswith(" together") else name
+        return name if is_only else f"({name})"
+
+    def groups(self, groups):
+        """Several groups; of many, those of one player and those without one player are put together."""
+        if len(groups) <= 4:
+            return enumerated([self.group(group) for group in groups])
+        alone = [group for group in groups if is_alone(group)]
+        without = [group for group in groups if not is_alone(group) and is_alone(self.everyone - group)]
+        rest = [group for group in groups if group not in alone and group not in without]
+        return enumerated(self.each_alone(alone) + self.each_left_out(without) + self.first_and_count(rest))
+
+    def each_alone(self, groups):
+        if len(groups) < 2:
+            return [self.group(group) for group in groups]
+        if len(groups) == self.n:
+            return ["each player alone"]
+        return [f"each of {self.players(sum(map(members, groups), []))} alone"]
+
+    def each_left_out(self, groups):
+        if len(groups) < 2:
+            return [self.group(group) for group in groups]
+        if len(groups) == self.n:
+            return ["all but one, whichever is left out"]
+        out = sum((members(self.everyone - group) for group in groups), [])
+        return [f"all but one, whichever of {self.players(out)} is left out"]
+
+    def first_and_count(self, groups, most=8):
+        parts = [self.group(group) for group in groups[:most]]
+        sizes = sorted({len(members(group)) for group in groups[most:]})
+        if sizes:
+            size = f"{sizes[0]} to {sizes[-1]}" if len(sizes) > 1 else sizes[0]
+            parts.append(f"{len(groups) - most} more groups, of {size} players")
+        return parts
+
+    def equal(self, shares, ids):
+        """The players of each share: pairs of the share and a list of them."""
+        equal = {}
+        for i in sorted(ids):
+            equal.setdefault(shares[i], []).append(i)
+        return list(equal.items())
