@@ -2,7 +2,7 @@
 use Rattle.std.proofs.Common.{◌≡◌, ◌≢◌, ◌⊎◌, ℕ, zero, suc, ◌+◌, ◌-◌, ◌^◌, ◌<◌, ◌≤◌, Bool, true, false, not}
 use Rattle.std.proofs.Common.{cond, ◌||◌, nat_lt, nat_eq, List, [], ◌∷◌, ◌++◌, length, ℤ, pos, negsuc, ◌+ℤ◌}
 use Rattle.std.proofs.Common.{◌-ℤ◌, ◌*ℤ◌, neg_ℤ, ◌≤ℤ◌, refl, sym, ap, ◌∙◌, inl, inr, arith}
-use Rattle.std.specs.List.{list_any, AllByRecursion}
+use Rattle.std.specs.List.{list_any}
 use Rattle.std.proofs.lemmas.Bool.{false≢true}
 use Rattle.std.proofs.lemmas.Int.{ints}
 use Rattle.std.proofs.Math.Pow.{pow-lt}
@@ -24,14 +24,14 @@ use Rattle.airport_scheme.specs.Scheme.{IsPaid}
 use Rattle.airport_scheme.specs.Levels.{with_others, front_pair, IsBlock, IsChain}
 use Rattle.airport_scheme.proofs.Excesses.{game_of, cost, amount-at, excess-outside}
 use Rattle.airport_scheme.proofs.Excesses.{excess-core, excess-front, excess-others}
-use Rattle.kohlberg.proofs.Listed.{or_true, listed_before, listed_here}
+use Rattle.kohlberg.proofs.Listed.{listed_before, listed_here}
 use Rattle.kohlberg.proofs.Conditions.{proper, splits-two, level_excess, level_most}
 use Rattle.airport_scheme.proofs.Pairs.{length-with_others, all-with_others, any-with_others}
 use Rattle.airport_scheme.proofs.Pairs.{any-with_others_start, others-has, others-lacks, weight_at-outside}
 use Rattle.airport_scheme.proofs.Pairs.{weight_at-inside, ascends-with_others, weight_at-front}
-use Rattle.airport_scheme.proofs.Pairs.{weight_at-front_past}
+use Rattle.airport_scheme.proofs.Pairs.{weight_at-front_past, all-front}
 use Rattle.definitions.specs.declared.Measure.TheVariants.{Plain}
-use Rattle.definitions.proofs.Cases.{from_nat_lt, next_or_last, nat_eq-same, below_or_above, nat_lt-less}
+use Rattle.definitions.proofs.Cases.{from_nat_lt, next_or_last, nat_eq-same, below_or_above, nat_lt-less, or_either}
 use Rattle.definitions.proofs.Alls.{all_join}
 use Rattle.definitions.proofs.UnitWeights.{one_small, one_le}
 
@@ -64,7 +64,7 @@ Covers-more n at pay den i k levels l b h = record {
 }
   where
     starts : (t : Bool) → t ≡ true → list_any (λ c. nat_eq c.0 (front at k)) (front_pair at k (pos 1) t) ≡ true
-    starts true e = or_true (nat_eq (front at k) (front at k)) false (inl (nat_eq-same (front at k)))
+    starts true e = or_either (nat_eq (front at k) (front at k)) false (inl (nat_eq-same (front at k)))
     starts false e = absurd (false≢true e)
 
 -- who is free stands behind the first i
@@ -155,11 +155,6 @@ level_balanced n cost at pay den i k l o b j lt =
 
 -- ---- the form of a level
 
-all-front : (P : ℕ × ℤ → Type 0) (at : ℕ → ℕ) (k : ℕ) (w : ℤ) (t : Bool) → (t ≡ true → P (front at k, w))
-    → AllByRecursion P (front_pair at k w t)
-all-front P at k w true h = (h refl, tt)
-all-front P at k w false h = tt
-
 pub length-front : (at : ℕ → ℕ) (k : ℕ) (w : ℤ) (t : Bool) → length (front_pair at k w t) ≤ 1
 length-front at k w true = omega arith
 length-front at k w false = omega arith
@@ -170,19 +165,19 @@ ascends-front at k w false = tt
 
 others_proper : (n : ℕ) (cost at : ℕ → ℕ) → IsOrder n cost at → 2 ≤ n → (j : ℕ) → j < n
     → (0 < grand_coalition n - singleton (at j)) × (grand_coalition n - singleton (at j) < grand_coalition n)
-others_proper n cost at o two j lt = with_other (other j lt two)
+others_proper n cost at o two j lt = with_other (another_place j lt two)
   where
-    other : (j : ℕ) → j < n → 2 ≤ n → (h : ℕ) × (h < n) × (h ≢ j)
-    other zero lt two = (1, omega arith, λ e. omega arith)
-    other (suc j) lt two = (0, omega arith, λ e. omega arith)
+    another_place : (j : ℕ) → j < n → 2 ≤ n → (h : ℕ) × (h < n) × (h ≢ j)
+    another_place zero lt two = (1, omega arith, λ e. omega arith)
+    another_place (suc j) lt two = (0, omega arith, λ e. omega arith)
 
-    small : grand_coalition n - singleton (at j) < 2 ^ n
-    small = let p = pow-lt (o.below j lt) in omega (arith, p)
+    within : grand_coalition n - singleton (at j) < 2 ^ n
+    within = let p = pow-lt (o.below j lt) in omega (arith, p)
 
     with_other : ((h : ℕ) × (h < n) × (h ≢ j))
         → (0 < grand_coalition n - singleton (at j)) × (grand_coalition n - singleton (at j) < grand_coalition n)
     with_other (h, hn, ne) =
-        proper n (grand_coalition n - singleton (at j)) (at h) (at j) small (others-has n cost at o j h lt hn ne)
+        proper n (grand_coalition n - singleton (at j)) (at h) (at j) within (others-has n cost at o j h lt hn ne)
         (o.below j lt) (others-lacks n cost at o j lt)
 
 front_proper : (n : ℕ) (cost at : ℕ → ℕ) → IsOrder n cost at → (k : ℕ) → 0 < k → k < n

@@ -8,15 +8,10 @@ use Rattle.definitions.specs.Certificates.{Level, LevelForm, LevelsForm}
 use Rattle.orders.specs.Orders.{front}
 use Rattle.airport_scheme.specs.Levels.{with_others, front_pair, IsBlock, IsChain, IsOfBlock}
 use Rattle.airport_scheme.specs.Levels.{IsInFront, IsBlockLevel, AreBlockLevels}
-use Rattle.airport_scheme.proofs.Pairs.{all-with_others, any-with_others_start, any-with_others}
+use Rattle.airport_scheme.proofs.Pairs.{all-with_others, any-with_others_start, any-with_others, all-front}
 use Rattle.definitions.proofs.Cases.{from_nat_lt, nat_lt-less, nat_eq-equal}
 
--- the pair that may stand is one that P holds of, and stands where it is given
-all-front : (P : ℕ × ℤ → Type 0) (at : ℕ → ℕ) (k : ℕ) (w : ℤ) (given : Bool) → (given ≡ true → P (front at k, w))
-    → AllByRecursion P (front_pair at k w given)
-all-front P at k w true h = (h refl, tt)
-all-front P at k w false h = tt
-
+-- the pair that may stand stands where it is given
 any-front : (test : ℕ × ℤ → Bool) (at : ℕ → ℕ) (k : ℕ) (w : ℤ) (given : Bool) → given ≡ true
     → test (front at k, w) ≡ true → list_any test (front_pair at k w given) ≡ true
 any-front test at k w true e h = rw h refl

@@ -16,7 +16,7 @@ use Rattle.orders.specs.Orders.{front, IsOrder}
 use Rattle.airport.proofs.GreatestCosts.{greatest_cost-at_least, greatest_cost-at_most}
 use Rattle.orders.proofs.Fronts.{front-has, front-lacks, front-place, order-place, sum_over-front}
 use Rattle.airport_scheme.specs.Scheme.{IsScheme, IsPaid}
-use Rattle.definitions.proofs.Cases.{next_or_last, true_or_false, less_or_greater}
+use Rattle.definitions.proofs.Cases.{next_or_last, true_or_false, less_or_greater, same_or_less}
 
 abbrev pub game_of : List ℕ → Game
 game_of costs = record { players = length costs; worth = airport_worth costs }
@@ -50,11 +50,6 @@ share-low costs at pay x p i h =
     let l = p.scheme.least r.0 r.1 in
     let low : share x (at r.0) ≤ℤ pos 0 = omega (arith, ints) in
     rw (← r.2) low
-
-sum-nonnegative : (k n : ℕ) (pay : ℕ → ℤ) → k ≤ n → ((j : ℕ) → j < n → pos 0 ≤ℤ pay j) → pos 0 ≤ℤ sum_below k pay
-sum-nonnegative zero n pay le h = omega (arith, ints)
-sum-nonnegative (suc k) n pay le h =
-    omega (arith, linear, sum-nonnegative k n pay (omega arith) h, h k (omega arith))
 
 -- the first players pay no more than their cost
 room : (n : ℕ) (c : ℕ → ℕ) (pay : ℕ → ℤ) (den : ℤ) → IsScheme n c pay den → (k : ℕ) → k < n
@@ -165,9 +160,6 @@ excess-outside costs at pay x p s i h q ih hn has iq qn lacks =
     up_to : (j : ℕ) → i ≤ j → j < length costs → pay i ≤ℤ pay j
     up_to j le lt =
         elim (same_or_less i j le) [ inl e ↦ rw e (omega (arith, ints)) | inr less ↦ p.scheme.rises i j less lt ]
-      where
-        same_or_less : (i j : ℕ) → i ≤ j → (i ≡ j) ⊎ (i < j)
-        same_or_less i j le = grind arith
 
     not_past : (k : ℕ) → has_player (front at (suc k)) (at h) ≡ true → h < suc k
     not_past k e =
@@ -212,9 +204,6 @@ cost-up_to : (costs : List ℕ) (at : ℕ → ℕ) (pay : ℕ → ℤ) (x : Allo
     → j ≤ k → k < length costs → cost costs (at j) ≤ cost costs (at k)
 cost-up_to costs at pay x p j k le lt =
     elim (same_or_less j k le) [ inl e ↦ rw e (omega arith) | inr less ↦ p.order.rising j k less lt ]
-  where
-    same_or_less : (j k : ℕ) → j ≤ k → (j ≡ k) ⊎ (j < k)
-    same_or_less j k le = grind arith
 
 worth-is : (den : ℤ) (c g : ℕ) → c ≤ g → g ≤ c → den *ℤ neg_ℤ (pos g) ≡ neg_ℤ (den *ℤ pos c)
 worth-is den c g le ge =

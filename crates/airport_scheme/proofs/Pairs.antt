@@ -8,7 +8,7 @@ use Rattle.definitions.proofs.Ring.{linear}
 use Rattle.definitions.proofs.Parts.{others_has, others_lacks}
 use Rattle.definitions.specs.Coalitions.{has_player, singleton, grand_coalition, weight_at}
 use Rattle.definitions.specs.Certificates.{Ascends}
-use Rattle.orders.specs.Orders.{IsOrder}
+use Rattle.orders.specs.Orders.{IsOrder, front}
 use Rattle.orders.proofs.Fronts.{front-has, front-lacks}
 use Rattle.kohlberg.proofs.WithPair.{weight_at-with_pair, all-with_pair, any-with_pair}
 use Rattle.kohlberg.proofs.WithPair.{length-with_pair, ascends-with_pair}
@@ -131,6 +131,12 @@ ascends-with_others n cost at o ps i (suc b) le start h =
     (ascends-with_others n cost at o ps i b (omega arith) (λ k low high. start k low (omega arith)) h)
 
 -- ---- the first players as a pair
+
+-- the pair that may stand is one that P holds of
+pub all-front : (P : ℕ × ℤ → Type 0) (at : ℕ → ℕ) (k : ℕ) (w : ℤ) (given : Bool)
+    → (given ≡ true → P (front at k, w)) → AllByRecursion P (front_pair at k w given)
+all-front P at k w true h = (h refl, tt)
+all-front P at k w false h = tt
 
 pub weight_at-front : (n : ℕ) (cost at : ℕ → ℕ) → IsOrder n cost at → (k : ℕ) (w : ℤ) (t : Bool) (h : ℕ) → k ≤ n
     → h < k → weight_at (front_pair at k w t) (at h) ≡ cond t w (pos 0)

@@ -4,7 +4,6 @@ use Rattle.std.proofs.Common.{List, [], ◌++◌, length, get_or, replicate, tak
 use Rattle.std.proofs.Common.{neg_ℤ, ◌≤ℤ◌, ◌<ℤ◌, unsigned_abs, refl, ap, subst, ◌∙◌, inl, inr, arith}
 use Rattle.std.specs.List.{All}
 use Rattle.std.proofs.lemmas.Int.{ints, unsigned_abs-mul}
-use Rattle.std.proofs.lemmas.Bool.Decides.{nat_tests}
 use Rattle.std.proofs.lemmas.List.{get_or_append_left, get_or-append-add, get_or-replicate}
 use Rattle.std.proofs.lemmas.List.{take-append-le, take_all, length-append, length-replicate}
 use Rattle.std.proofs.lemmas.List.{length-set, get_or-set_same, get_or-set_other}
@@ -23,7 +22,7 @@ use Rattle.kohlberg.specs.Pairs.{with_pair}
 use Rattle.airport_scheme.specs.Levels.{with_others}
 use Rattle.airport_scheme.proofs.Steps.{sum-block, sum-scaled, IsPart, IsNext}
 use Rattle.airport_scheme.proofs.Steps.{IsPart-start, IsPart-next, IsScheme-whole}
-use Rattle.definitions.proofs.Cases.{less_or_last_of, next_or_last, nat_lt-less}
+use Rattle.definitions.proofs.Cases.{less_or_last_of, next_or_last, nat_lt-less, nat_lt-past}
 
 -- ---- the least term
 
@@ -196,12 +195,10 @@ product_power : (den m : ℤ) (i b k : ℕ) → pos 1 ≤ℤ den → den ≤ℤ 
     → (den *ℤ m) ≤ℤ pos (2 ^ (i + b))
 product_power den m i b k one le e h =
     let d = natural den one in
-    let du : d.0 ≤ 2 ^ i = up d.0 (2 ^ i) (rw (← d.1) le) in
+    let most : pos d.0 ≤ℤ pos (2 ^ i) = rw (← d.1) le in
+    let du : d.0 ≤ 2 ^ i = omega (arith, ints, most) in
     let p = size_power d.0 i b k du h in
     rw (d.1, e) (omega (arith, ints, p))
-  where
-    up : (a b : ℕ) → pos a ≤ℤ pos b → a ≤ b
-    up a b h = omega (arith, ints)
 
 -- ---- a step of the run
 
@@ -226,10 +223,7 @@ next_of n c pay den paid i b m r sum least =
     inner_size d lt = rw (nat_lt-less (i + d + 1) n (omega arith)) (omega arith)
 
     outer_size : (d : ℕ) → suc (i + d) ≡ n → size_of n i (i + d) ≡ suc d
-    outer_size d e = rw (ge_test (i + d + 1) n (omega arith)) (omega arith)
-      where
-        ge_test : (a b : ℕ) → b ≤ a → nat_lt a b ≡ false
-        ge_test a b h = grind (arith, nat_tests)
+    outer_size d e = rw (nat_lt-past (i + d + 1) n (omega arith)) (omega arith)
 
 pub IsPayment-whole : (n : ℕ) (c : ℕ → ℕ) (pay : List ℤ) (den paid : ℤ) (done : ℕ) → n ≤ done
     → IsRun n c pay den paid done → IsPayment n c pay den

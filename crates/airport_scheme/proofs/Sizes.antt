@@ -1,7 +1,7 @@
 -- Products that fit 128 bits.
-use Rattle.std.proofs.Common.{◌≡◌, ℕ, ◌-◌, ◌^◌, ◌<◌, ◌≤◌, ℤ, pos, ◌-ℤ◌, ◌*ℤ◌, ◌≤ℤ◌, ◌<ℤ◌}
+use Rattle.std.proofs.Common.{◌≡◌, ◌-◌, ◌^◌, ◌<◌, ◌≤◌, ℤ, pos, ◌-ℤ◌, ◌*ℤ◌, ◌≤ℤ◌, ◌<ℤ◌}
 use Rattle.std.proofs.Common.{unsigned_abs, neg_ℤ, to_z, of_z, FitsSigned, arith, ap, sym, refl}
-use Rattle.std.proofs.Common.{zero, suc, List, [], ◌∷◌, length, get_or, ◌∙◌}
+use Rattle.std.proofs.Common.{◌∙◌}
 use Rattle.std.proofs.Math.Nat.{mul-le-mul}
 use Rattle.std.proofs.lemmas.Int.{ints, fits_signed_from_abs, unsigned_abs-mul}
 use mir.Syntax.{w64, w128}
@@ -78,22 +78,17 @@ rest_value den cost paid a b c d e =
     rw (rest_kept den cost paid a b c d e)
     (cast_kept w128 (den *ℤ cost -ℤ paid) (let s = rest_small den cost paid a b c d e in omega (arith, s)))
 
+pub negated_small : (z : ℤ) → unsigned_abs z < 2 ^ 104 → unsigned_abs (pos 0 -ℤ z) < 2 ^ 127
+negated_small z h = omega (arith, ints)
+
 pub negated_value : (z : ℤ) → unsigned_abs z < 2 ^ 104
     → to_z w128 (of_z w128 (pos 0 -ℤ to_z w128 (of_z w128 z))) ≡ neg_ℤ z
 negated_value z h =
     let u : to_z w128 (of_z w128 z) ≡ z = cast_kept w128 z (omega arith) in
-    rw u (cast_kept w128 (pos 0 -ℤ z) (small z h) ∙ zero-subℤ z)
-  where
-    small : (z : ℤ) → unsigned_abs z < 2 ^ 104 → unsigned_abs (pos 0 -ℤ z) < 2 ^ 127
-    small z h = omega (arith, ints)
+    rw u (cast_kept w128 (pos 0 -ℤ z) (negated_small z h) ∙ zero-subℤ z)
 
 pub same_small : (a b : ℤ) → unsigned_abs a < 2 ^ 104 → unsigned_abs b < 2 ^ 104 → of_z w128 a ≡ of_z w128 b → a ≡ b
 same_small a b h k e =
     let u : to_z w128 (of_z w128 a) ≡ a = cast_kept w128 a (omega arith) in
     let v : to_z w128 (of_z w128 b) ≡ b = cast_kept w128 b (omega arith) in
     sym u ∙ ap (to_z w128) e ∙ v
-
-pub get_or_same : (xs : List ℤ) (i : ℕ) (d e : ℤ) → i < length xs → get_or xs i d ≡ get_or xs i e
-get_or_same [] i d e lt = absurd (omega arith)
-get_or_same (x ∷ xs) zero d e lt = refl
-get_or_same (x ∷ xs) (suc i) d e lt = get_or_same xs i d e (omega arith)

@@ -3,10 +3,11 @@ use Rattle.std.proofs.Common.{◌≡◌, ◌⊎◌, ℕ, zero, suc, ◌+◌, ◌
 use Rattle.std.proofs.Common.{refl, sym, ap, ◌∙◌, inl, inr, arith, add-zero, add-suc, add_assoc}
 use Rattle.std.proofs.lemmas.Int.{ints, by_lt_z}
 use Rattle.definitions.proofs.Ring.{ring_laws, linear, linear, mul-leℤ, add-mulℤ, mul-subℤ}
-use Rattle.definitions.proofs.Ring.{mul-nonnegativeℤ, mul-positiveℤ, one-mulℤ}
+use Rattle.definitions.proofs.Ring.{mul-nonnegativeℤ, one-mulℤ, suc-mulℤ}
 use Rattle.definitions.specs.Sums.{sum_below}
 use Rattle.airport_scheme.specs.Scheme.{IsScheme}
 use Rattle.definitions.proofs.Cases.{below_or_above, less_same_or_greater}
+use Rattle.fractions.proofs.Ratios.{product_positive}
 
 -- what is left of the cost at place l
 abbrev pub left : (ℕ → ℕ) → (ℕ → ℤ) → ℤ → ℕ → ℕ → ℤ
@@ -71,9 +72,7 @@ sum-block i g r (suc b) h =
     (h b (omega arith)))
   where
     added : (u v a : ℤ) (b : ℕ) → u ≡ a +ℤ pos b *ℤ r → v ≡ r → u +ℤ v ≡ a +ℤ pos (suc b) *ℤ r
-    added u v a b e f =
-        let p : pos (suc b) ≡ pos b +ℤ pos 1 = omega (arith, ints) in
-        rw p (omega (arith, linear, e, f, add-mulℤ (pos b) (pos 1) r, one-mulℤ r))
+    added u v a b e f = omega (arith, linear, e, f, suc-mulℤ b r)
 
 split_place : (i b j : ℕ) → j < i + suc b → (j < i) ⊎ ((d : ℕ) × (d < suc b) × (j ≡ i + d))
 split_place i b j lt =
@@ -149,7 +148,7 @@ pub IsPart-next : (n : ℕ) (c : ℕ → ℕ) (pay : ℕ → ℤ) (den : ℤ) (i
     → IsPart n c pay den i rate → IsNext n c pay den i b m r → ((j : ℕ) → j < i → more j ≡ m *ℤ pay j)
     → ((d : ℕ) → d < suc b → more (i + d) ≡ r) → IsPart n c more (den *ℤ m) (i + suc b) r
 IsPart-next n c pay den i b rate m r more p q before block = record {
-  positive = mul_one_le den m p.positive one;
+  positive = product_positive den m p.positive one;
   bottom = bottom;
   last = λ k e. ap more (place_of k e) ∙ block b (omega arith);
   least =
@@ -180,10 +179,6 @@ IsPart-next n c pay den i b rate m r more p q before block = record {
 
     bottom : pos 0 ≤ℤ r
     bottom = let z = mul-nonnegativeℤ m rate (omega (arith, linear, one)) p.bottom in omega (arith, linear, z, rise)
-
-    mul_one_le : (a b : ℤ) → pos 1 ≤ℤ a → pos 1 ≤ℤ b → pos 1 ≤ℤ (a *ℤ b)
-    mul_one_le a b h k =
-        let z = mul-positiveℤ a b (omega (arith, linear)) (omega (arith, linear)) in omega (arith, linear)
 
     whole : sum_below (i + suc b) more ≡ m *ℤ sum_below i pay +ℤ pos (suc b) *ℤ r
     whole =

@@ -4,12 +4,13 @@ use Rattle.std.proofs.Common.{◌≡◌, ◌≢◌, ℕ, ◌+◌, ◌^◌, ◌<�
 use Rattle.std.proofs.Common.{map, ℤ, pos, ◌+ℤ◌, ◌*ℤ◌, ◌<ℤ◌, ◌≤ℤ◌, refl, sym, ap, subst, ◌∙◌, arith}
 use Rattle.std.proofs.Common.{nat_eq, nat_lt, IsTrue, if◌then◌else◌, unsigned_abs}
 use Prim.Native.Nat.{◌∣◌}
-use Rattle.std.proofs.lemmas.Bool.Decides.{nat_tests}
 use Rattle.std.proofs.lemmas.Int.{by_lt_z, unsigned_abs-mul}
 use Rattle.std.proofs.Math.Nat.{dvd-mul_right}
 use Rattle.std.specs.List.{AllByRecursion, IsDistinct}
 use Rattle.definitions.proofs.Ring.{linear, mul-oneℤ, mul-leℤ, mul-ltℤ, mul_left_commℤ}
-use Rattle.definitions.proofs.Members.{sum_over-grand_coalition}
+use Rattle.definitions.proofs.Members.{sum_over-grand_coalition, times_bit}
+use Rattle.definitions.proofs.Cases.{from_not_nat_eq}
+use Rattle.definitions.proofs.Alls.{all_weaken}
 use Rattle.theorems.proofs.Bondareva.{collection_blocks}
 use Rattle.definitions.specs.Sums.{weighted_sum}
 use Rattle.definitions.specs.Coalitions.{has_player, grand_coalition, weight_at}
@@ -24,7 +25,7 @@ use Rattle.separation.specs.Balanced.{balanced_program}
 use Rattle.separation.specs.Shares.{IsReadFrom}
 use Rattle.separation.specs.Values.{multiplier_at}
 use Rattle.balanced_collections.specs.Collections.{ShowsEmpty}
-use Rattle.balanced.proofs.Values.{above_none, below_all, unit, value_right}
+use Rattle.balanced.proofs.Values.{above_none, below_all, value_right}
 use Rattle.balanced.proofs.Points.{amount_read, above_worth}
 
 -- ---- masks in order
@@ -34,13 +35,10 @@ unfolding IsDistinct
 keys_apart [] h = tt
 keys_apart (w ∷ ws) h = (others ws h.0, keys_apart ws h.1)
   where
-    other : (a b : ℕ) → nat_eq a b ≡ false → b ≢ a
-    other a b h e = grind (arith, nat_tests)
-
     others : (vs : List (ℕ × ℤ)) → AllByRecursion (λ y. nat_eq w.0 y ≡ false) (map (λ (v : ℕ × ℤ). v.0) vs)
         → AllByRecursion (λ p. p.0 ≢ w.0) vs
     others [] h = tt
-    others (v ∷ vs) h = (other w.0 v.0 h.0, others vs h.1)
+    others (v ∷ vs) h = (from_not_nat_eq w.0 v.0 h.0, others vs h.1)
 
 further : (k : ℕ) (ps : List (ℕ × ℤ)) → Ascends (k + 1) ps → AscendsFrom k ps
 further k [] h = tt
@@ -78,13 +76,13 @@ weighted_sum-placed f qs = omega (arith, linear, weighted_sum-placed_behind f []
 all_of_pair : (P : ℕ × ℤ → Type 0) (s : ℕ) (w : ℤ) (ps : List (ℕ × ℤ)) → AllByRecursion P (with_pair s w ps)
     → P (s, w) × AllByRecursion P ps
 all_of_pair P s w [] h = (h.0, tt)
-all_of_pair P s w (p ∷ ps) h = step (nat_lt s p.0) (all_of_pair P s w ps) h
+all_of_pair P s w (p ∷ ps) h = parts_either (nat_lt s p.0) (all_of_pair P s w ps) h
   where
-    step : (b : Bool) → (AllByRecursion P (with_pair s w ps) → P (s, w) × AllByRecursion P ps)
+    parts_either : (b : Bool) → (AllByRecursion P (with_pair s w ps) → P (s, w) × AllByRecursion P ps)
         → AllByRecursion P (cond b ((s, w) ∷ (p ∷ ps)) (p ∷ with_pair s w ps))
         → P (s, w) × (P p × AllByRecursion P ps)
-    step true ih h = (h.0, (h.1.0, h.1.1))
-    step false ih h = let rest = ih h.1 in (rest.0, (h.0, rest.1))
+    parts_either true ih h = (h.0, (h.1.0, h.1.1))
+    parts_either false ih h = let rest = ih h.1 in (rest.0, (h.0, rest.1))
 
 all_of_placed_behind : (P : ℕ × ℤ → Type 0) (ps qs : List (ℕ × ℤ)) → AllByRecursion P (placed_behind ps qs)
     → AllByRecursion P ps × AllByRecursion P qs
@@ -97,17 +95,12 @@ all_of_placed_behind P ps (q ∷ qs) h =
 all_of_placed : (P : ℕ × ℤ → Type 0) (qs : List (ℕ × ℤ)) → AllByRecursion P (placed qs) → AllByRecursion P qs
 all_of_placed P qs h = (all_of_placed_behind P [] qs h).1
 
-all_weaken : (P Q : ℕ × ℤ → Type 0) (ws : List (ℕ × ℤ)) → ((w : ℕ × ℤ) → P w → Q w) → AllByRecursion P ws
-    → AllByRecursion Q ws
-all_weaken P Q [] f h = tt
-all_weaken P Q (w ∷ ws) f h = (f w h.0, all_weaken P Q ws f h.1)
-
 -- ---- weights at a player
 
 row_weight : (ws : List (ℕ × ℤ)) (i : ℕ)
     → weighted_sum (λ id. if has_player id i then pos 1 else pos 0) ws ≡ weight_at ws i
 row_weight [] i = refl
-row_weight (w ∷ ws) i = omega (arith, linear, row_weight ws i, unit (has_player w.0 i) w.1)
+row_weight (w ∷ ws) i = omega (arith, linear, row_weight ws i, times_bit (has_player w.0 i) w.1)
 
 -- ---- divisors
 

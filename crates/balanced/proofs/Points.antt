@@ -2,9 +2,9 @@
 use Rattle.std.proofs.Common.{◌≡◌, ℕ, zero, suc, ◌^◌, ◌<◌, List, ℤ, pos, ◌*ℤ◌, ◌<ℤ◌, ◌≤ℤ◌}
 use Rattle.std.proofs.Common.{sym, ap, subst, ◌∙◌, arith, if◌then◌else◌}
 use Rattle.std.proofs.lemmas.Int.{by_lt_z}
-use Rattle.std.proofs.Math.Pow.{pow_pos}
 use Rattle.definitions.proofs.Ring.{linear, mul-zeroℤ}
 use Rattle.definitions.proofs.Members.{has_player-empty, sum_below-same, sum_below-zero}
+use Rattle.definitions.proofs.Masks.{grand_coalition-within}
 use Rattle.definitions.specs.Coalitions.{has_player, grand_coalition, sum_over}
 use Rattle.definitions.specs.Games.{Game, IsGame, Allocation, share, amount, IsEfficient, InCore}
 use Rattle.definitions.specs.Programs.{Bounds}
@@ -52,8 +52,5 @@ module _ (g : Game) (laws : IsGame g) (m : List ℤ) (den : ℤ) (bounds : Bound
   above_worth not =
       by_lt_z (x.den *ℤ g.worth (grand_coalition g.players)) (amount x (grand_coalition g.players)) (λ lt. lt)
       (λ le.
-      let low = covered (grand_coalition g.players) (all_high g.players) in
+      let low = covered (grand_coalition g.players) (grand_coalition-within g.players) in
       absurd (not (omega (arith, linear, low, le))))
-    where
-      all_high : (n : ℕ) → grand_coalition n < 2 ^ n
-      all_high n = let p = pow_pos n in omega (arith, p)

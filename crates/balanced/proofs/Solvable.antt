@@ -7,6 +7,7 @@ use Rattle.std.proofs.Math.Pow.{pow-lt}
 use Rattle.std.specs.List.{IsDistinct}
 use Rattle.definitions.proofs.Ring.{linear, one-mulℤ}
 use Rattle.definitions.proofs.Members.{has_player-grand_coalition, sum_below-same}
+use Rattle.definitions.proofs.SomeMembers.{some_member}
 use Rattle.definitions.specs.Coalitions.{has_player, grand_coalition, sum_over}
 use Rattle.definitions.specs.Games.{Game, IsGame}
 use Rattle.definitions.specs.Programs.{Program, Solves, Bounds}
@@ -18,7 +19,7 @@ use Rattle.separation.specs.Balanced.{balanced_program}
 use Rattle.separation.specs.Same.{IsSame}
 use Rattle.separation.specs.Values.{multiplier_at}
 use Rattle.separation.proofs.SamePrograms.{ray_same, no_solution_same}
-use Rattle.balanced.proofs.Values.{column_of, above_none, below_all, value_members, some_member, member_less}
+use Rattle.balanced.proofs.Values.{column_of, above_none, below_all, value_members, member_less}
 
 -- ---- a solution
 

@@ -1,44 +1,23 @@
 -- A greatest sum over the coalitions of the first players, and the least mask that has it, with one player more.
-use Rattle.std.proofs.Common.{◌≡◌, ◌⊎◌, ℕ, ◌+◌, ◌-◌, ◌^◌, ◌<◌, ◌≤◌, true, false, ◌||◌, cond}
+use Rattle.std.proofs.Common.{◌≡◌, ℕ, ◌+◌, ◌^◌, ◌<◌, ◌||◌}
 use Rattle.std.proofs.Common.{nat_eq, ℤ, pos, ◌+ℤ◌, ◌<ℤ◌, ◌≤ℤ◌, Option, Some, None, MatchOption}
-use Rattle.std.proofs.Common.{refl, sym, ap, ◌∙◌, inl, inr, add-one, arith}
-use Rattle.std.proofs.lemmas.Bool.Decides.{nat_tests}
+use Rattle.std.proofs.Common.{sym, ap, ◌∙◌, inl, inr, arith}
 use Rattle.std.proofs.lemmas.Int.{ints, by_lt_z}
-use Rattle.std.proofs.lemmas.Nat.Bits.{bit_at-lt, same_from_bits}
-use Rattle.std.proofs.Math.Nat.{pow-suc}
-use Rattle.std.specs.Int.{bit_at}
 use Rattle.definitions.proofs.Ring.{linear}
-use Rattle.definitions.proofs.Members.{has_player-empty, sum_below-zero}
-use Rattle.definitions.proofs.Parts.{has_player-more_same, has_player-more_other, has_player-past, sum_over-more}
+use Rattle.definitions.proofs.Parts.{has_player-past, sum_over-more}
+use Rattle.definitions.proofs.Parts.{more-is}
 use Rattle.definitions.specs.Coalitions.{has_player, sum_over}
 use Rattle.definitions.specs.Games.{Game, Allocation, excess, Blocks, IsChosenBlocker}
 use Rattle.bankruptcy.specs.Arms.{IsLeastGreatest}
-use Rattle.definitions.proofs.Cases.{same_bit, below_or_above, same_or_other}
+use Rattle.definitions.proofs.Masks.{masks-double, low_or_high}
+use Rattle.definitions.proofs.SumsOver.{sum_over-empty}
 
 -- ---- a coalition with one player more
 
 -- by its members it is the sum of the masks
 pub mask_with : (r c i : ℕ) → c < 2 ^ i → ((j : ℕ) → has_player r j ≡ (nat_eq j i || has_player c j))
     → r ≡ c + 2 ^ i
-mask_with r c i below h =
-    same_from_bits r (c + 2 ^ i)
-    (λ j. same_bit (bit_at r j) (bit_at (c + 2 ^ i) j) (bit_at-lt r j) (bit_at-lt (c + 2 ^ i) j)
-    (h j ∙ sym (members j)))
-  where
-    lacks : has_player c i ≡ false
-    lacks = has_player-past i c i below (omega arith)
-
-    at_i : (j : ℕ) → j ≡ i → nat_eq j i ≡ true
-    at_i j e = grind (arith, nat_tests)
-
-    past_i : (j : ℕ) → (j ≡ i → ⊥) → nat_eq j i ≡ false
-    past_i j ne = grind (arith, nat_tests)
-
-    members : (j : ℕ) → has_player (c + 2 ^ i) j ≡ (nat_eq j i || has_player c j)
-    members j = elim (same_or_other j i) [
-      | inl e ↦ rw (at_i j e) (ap (has_player (c + 2 ^ i)) e ∙ has_player-more_same c i lacks)
-      | inr ne ↦ rw (past_i j ne) (has_player-more_other c i j lacks ne)
-    ]
+mask_with r c i below h = more-is c i r (has_player-past i c i below (omega arith)) h
 
 -- ---- the sum of a base and the members' numbers
 
@@ -48,26 +27,13 @@ linear_at base n a s = base +ℤ sum_over n a s
 
 pub linear-empty : (base : ℤ) (n : ℕ) (a : ℕ → ℤ) → linear_at base n a 0 ≡ base
 linear-empty base n a =
-    let none : sum_over n a 0 ≡ pos 0 =
-    sum_below-zero n (λ i. cond (has_player 0 i) (a i) (pos 0)) (λ i lt. rw (has_player-empty i) refl) in
-    omega (arith, linear, none)
+    omega (arith, linear, sum_over-empty n a)
 
 linear-more : (base : ℤ) (n : ℕ) (a : ℕ → ℤ) (i t : ℕ) → i < n → t < 2 ^ i
     → linear_at base n a (t + 2 ^ i) ≡ linear_at base n a t +ℤ a i
 linear-more base n a i t lt below =
     let e = sum_over-more n t i a lt (has_player-past i t i below (omega arith)) in
     omega (arith, linear, e)
-
-pub next_pow : (i : ℕ) → 2 ^ (i + 1) ≡ 2 ^ i + 2 ^ i
-next_pow i = let p = pow-suc 2 i in rw (add-one i) (omega arith)
-
--- the masks of one player more
-low_or_high : (i t : ℕ) → t < 2 ^ (i + 1) → (t < 2 ^ i) ⊎ ((u : ℕ) × (u < 2 ^ i) × (t ≡ u + 2 ^ i))
-low_or_high i t h = decide (below_or_above t (2 ^ i))
-  where
-    decide : (t < 2 ^ i) ⊎ (2 ^ i ≤ t) → (t < 2 ^ i) ⊎ ((u : ℕ) × (u < 2 ^ i) × (t ≡ u + 2 ^ i))
-    decide (inl low) = inl low
-    decide (inr high) = let p = next_pow i in inr (t - 2 ^ i, omega arith, omega arith)
 
 -- ---- the steps
 
@@ -84,7 +50,7 @@ pub IsLeastGreatest-joins : (base : ℤ) (n : ℕ) (a : ℕ → ℤ) (i c r : �
     → IsLeastGreatest (linear_at base n a) (2 ^ i) c m → pos 0 <ℤ a i → r ≡ c + 2 ^ i → k ≡ m +ℤ a i
     → IsLeastGreatest (linear_at base n a) (2 ^ (i + 1)) r k
 IsLeastGreatest-joins base n a i c r m k lt h positive mask sum =
-    let p = next_pow i in
+    let p = masks-double i in
     let within = h.within in
     record {
       within = omega arith;
@@ -107,7 +73,7 @@ pub IsLeastGreatest-stays : (base : ℤ) (n : ℕ) (a : ℕ → ℤ) (i c : ℕ)
     → IsLeastGreatest (linear_at base n a) (2 ^ i) c m → a i ≤ℤ pos 0
     → IsLeastGreatest (linear_at base n a) (2 ^ (i + 1)) c m
 IsLeastGreatest-stays base n a i c m lt h low =
-    let p = next_pow i in
+    let p = masks-double i in
     let within = h.within in
     record {
       within = omega arith;

@@ -11,9 +11,10 @@ use Rattle.definitions.specs.Coalitions.{has_player, singleton, grand_coalition,
 use Rattle.definitions.specs.Games.{Game, Allocation, excess, HasTwo, IsSplitMaximum}
 use Rattle.worth_core.specs.SplitKinds.{holds_some, lacks_some, IsSeenSet, IsGreatestSum}
 use Rattle.bankruptcy.specs.Arms.{IsSplitGreatest}
-use Rattle.bankruptcy.proofs.LeastGreatest.{linear_at, next_pow}
+use Rattle.bankruptcy.proofs.LeastGreatest.{linear_at}
 use Rattle.definitions.proofs.Cases.{and_true, or_false, below_or_above, int_max-cases}
 use Rattle.definitions.proofs.Splits.{some_below-same, splits-singleton}
+use Rattle.definitions.proofs.Masks.{masks-double}
 
 -- ---- where all players are seen
 
@@ -36,7 +37,7 @@ both-splits n f s =
 
 -- all before player i, and player i
 pub grand_coalition-more : (i : ℕ) → grand_coalition i + 2 ^ i ≡ grand_coalition (i + 1)
-grand_coalition-more i = omega (arith, next_pow i, pow_pos i)
+grand_coalition-more i = omega (arith, masks-double i, pow_pos i)
 
 pub grand_coalition-lacks : (i : ℕ) → has_player (grand_coalition i) i ≡ false
 grand_coalition-lacks i = has_player-past i (grand_coalition i) i (omega (arith, pow_pos i)) (omega arith)

@@ -1,7 +1,6 @@
 -- Failures and verdicts.
-use Rattle.std.proofs.Common.{◌≡◌, ℕ, ◌+◌, ◌-◌, ◌<◌, ◌≤◌, true, false, List, [], ◌∷◌, ◌++◌, length, Option, Some}
+use Rattle.std.proofs.Common.{◌≡◌, ℕ, ◌+◌, true, false, List, [], ◌∷◌, ◌++◌, Option, Some}
 use Rattle.std.proofs.Common.{None, MatchOption, is_some, ℤ, pos, ◌*ℤ◌, ◌<ℤ◌, ◌≤ℤ◌, sym, ap, ◌∙◌, arith, inl, inr}
-use Rattle.std.specs.List.{AllByRecursion}
 use Rattle.std.proofs.lemmas.Bool.{false≢true}
 use Rattle.std.proofs.lemmas.Int.{by_lt_z}
 use Rattle.definitions.proofs.Ring.{linear, mul-leℤ, mul-ltℤ, mul-le_cancelℤ}
@@ -12,7 +11,7 @@ use Rattle.definitions.specs.Measures.{measured_den}
 use lib.IntN.{*ℤ_comm}
 use Rattle.theorems.proofs.OneVerdict.{fails_not}
 use Rattle.definitions.specs.Games.{Game, Allocation, measured_excess, InFamily}
-use Rattle.definitions.specs.Certificates.{Level, LevelHolds, LevelsHold, OutsideIsLow, Ascends, Certifies}
+use Rattle.definitions.specs.Certificates.{Level, LevelHolds, LevelsHold, OutsideIsLow, Certifies}
 use Rattle.definitions.specs.Failures.{Reason as Failure, not_efficient, not_individual, wrong_excess}
 use Rattle.definitions.specs.Failures.{coalition_sign, player_sign, unbalanced, bound_not_tight}
 use Rattle.definitions.specs.Failures.{outside_above, not_all, LevelFails, LevelsFail, IsFirstFailure}
@@ -87,17 +86,6 @@ none_above mode measure g x front l f den positive fraction (m, top, value) no_m
     mul-leℤ l.excess_den (measured_excess measure g x s) m (omega (arith, linear, fraction))
     (top.1 s (within, out)) in
     omega (arith, linear, most, less, *ℤ_comm l.excess_den (measured_excess measure g x s), *ℤ_comm l.excess_den m)
-
--- ---- sizes
-
-pub ascending_few : (low n : ℕ) (ps : List (ℕ × ℤ)) → Ascends low ps → AllByRecursion (λ b. b.0 < n) ps
-    → length ps ≤ n - low
-ascending_few low n [] h k = omega arith
-ascending_few low n (p ∷ ps) h k =
-    let rest = ascending_few (p.0 + 1) n ps h.1 k.1 in
-    let first : low ≤ p.0 = h.0 in
-    let inside : p.0 < n = k.0 in
-    omega arith
 
 -- ---- reasons
 

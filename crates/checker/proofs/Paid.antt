@@ -10,7 +10,7 @@ use Rattle.definitions.specs.Coalitions.{has_player, sum_over}
 use Rattle.std.specs.Option.{ForSome}
 use Rattle.coalitions.specs.declared.gray.GrayStep.{GrayStep}
 use Rattle.definitions.specs.Games.{Allocation, share, amount}
-use Rattle.worth_core.proofs.Amounts.{amount-empty}
+use Rattle.definitions.proofs.SumsOver.{amount-empty}
 use Rattle.coalitions.specs.GrayOrder.{gray_mask, gray_step, IsFlip}
 use Rattle.checker.specs.Paid.{paid_after}
 use Rattle.definitions.proofs.Cases.{less_or_last}
@@ -43,10 +43,10 @@ sum_flipped n i s t a lt h =
     let flip : has_player t i ≡ not (has_player s i) =
     h i ∙ ap (λ (b : Bool). cond b (not (has_player s i)) (has_player s i)) here in
     pick (has_player t i) (has_player s i) (sum_over n a t) (sum_over n a s) (a i) flip
-    (sums_but_one n i (at a t) (at a s) lt other)
+    (sums_but_one n i (at a t) (at a s) lt others_same)
   where
-    other : (j : ℕ) → j ≢ i → at a t j ≡ at a s j
-    other j ne =
+    others_same : (j : ℕ) → j ≢ i → at a t j ≡ at a s j
+    others_same j ne =
         let off : nat_eq j i ≡ false = grind (arith, nat_tests) in
         ap (λ (b : Bool). cond b (a j) (pos 0))
         (h j ∙ ap (λ (b : Bool). cond b (not (has_player s j)) (has_player s j)) off)

@@ -4,7 +4,6 @@ use Rattle.std.proofs.Common.{nat_lt, nat_eq, List, [], ◌++◌, refl, sym, ap,
 use Rattle.std.proofs.lemmas.Bool.{false≢true}
 use Rattle.std.proofs.lemmas.Bool.Decides.{nat_tests}
 use Rattle.std.proofs.lemmas.List.Folds.{list_any-append}
-use Rattle.std.proofs.lemmas.Nat.Bits.{bit_at_above}
 use Rattle.std.specs.List.{list_any}
 use Rattle.definitions.specs.Coalitions.{has_player, singleton, grand_coalition}
 use Rattle.definitions.specs.Certificates.{Level, is_listed, has_bound, is_fixed, is_free}
@@ -12,6 +11,7 @@ use Rattle.definitions.proofs.Members.{has_player-grand_coalition}
 use Rattle.checker.specs.Fixed.{IsFreeSet}
 use Rattle.checker.proofs.Free.{within_from_players}
 use Rattle.definitions.proofs.Cases.{and_false, same_or_other, nat_eq-same, nat_eq-other, below_or_above}
+use Rattle.definitions.proofs.Parts.{has_player-past}
 
 -- ---- the players that a loop has taken out
 
@@ -106,11 +106,9 @@ IsFreeSet-start n f e lt = record { within = lt; free = λ i. ap (λ (s : ℕ). 
     yes : (i n : ℕ) → i < n → (nat_lt i n && true) ≡ true
     yes i n lt = grind (arith, nat_tests)
 
-    absent : (s n j : ℕ) → s < 2 ^ n → n ≤ j → has_player s j ≡ false
-    absent s n j lt le = grind (arith, nat_tests, bit_at_above s n j lt le)
-
     all : (i : ℕ) → has_player (grand_coalition n) i ≡ (nat_lt i n && is_free n [] i)
     all i = elim (below_or_above i n) [
       | inl below ↦ has_player-grand_coalition n i below ∙ sym (yes i n below)
-      | inr above ↦ sym (ap (λ (s : ℕ). has_player s i) e) ∙ absent f n i lt above ∙ sym (beyond i n true above)
+      | inr above ↦ sym (ap (λ (s : ℕ). has_player s i) e) ∙ has_player-past n f i lt above
+          ∙ sym (beyond i n true above)
     ]

@@ -4,22 +4,23 @@ use Rattle.std.proofs.Common.{◌≡◌, ◌≢◌, ℕ, zero, suc, ◌+◌, ◌
 use Rattle.std.proofs.Common.{◌&&◌, nat_eq, List, [], ◌∷◌, length, ℤ, pos, ◌+ℤ◌, ◌-ℤ◌, ◌≤ℤ◌, refl}
 use Rattle.std.proofs.Common.{sym, ap, ◌∙◌, inl, inr, arith, if◌then◌else◌}
 use Rattle.std.specs.List.{AllByRecursion}
-use Rattle.std.proofs.lemmas.Bool.Decides.{nat_tests}
 use Rattle.definitions.proofs.Ring.{linear}
 use Rattle.definitions.proofs.Members.{has_player-empty, has_player-grand_coalition}
 use Rattle.definitions.proofs.Members.{has_player-singleton, has_player-singleton_other}
-use Rattle.definitions.proofs.Members.{sum_below-same, sum_below-zero, sum_below-add, sum_over-singleton}
+use Rattle.definitions.proofs.Members.{sum_below-same, sum_below-add, sum_over-singleton}
 use Rattle.definitions.proofs.Cases.{true_or_false, below_or_above, same_or_other}
-use Rattle.definitions.proofs.Cases.{less_or_last, nat_eq-same, nat_eq-other}
+use Rattle.definitions.proofs.Cases.{less_or_last, nat_eq-same, nat_eq-other, from_not_nat_eq, and_left}
 use Rattle.definitions.proofs.Halves.{size_below, size_below-yes, size_below-no, size_below-most, size_below-more}
 use Rattle.definitions.proofs.Masks.{grand_coalition-within}
 use Rattle.definitions.proofs.Parts.{same_coalition, has_player-more_same}
-use Rattle.definitions.proofs.Parts.{has_player-more_other, has_player-past, more-lt, part}
+use Rattle.definitions.proofs.Parts.{has_player-more_other, has_player-past, more-lt, part, has_player-within}
+use Rattle.definitions.proofs.MarginalWorths.{marginal_worth-none}
+use Rattle.definitions.proofs.SumsOver.{sum_over-zero}
 use Rattle.definitions.specs.Coalitions.{has_player, singleton, grand_coalition, sum_over}
 use Rattle.definitions.specs.Games.{Game}
 use Rattle.definitions.specs.Shapley.{AllDiffer, IsOrder, marginal_worth}
 use Rattle.definitions.specs.Convexity.{IsConvex}
-use Rattle.convexity.proofs.Joining.{adds, adds_more, held_below}
+use Rattle.convexity.proofs.Joining.{adds, adds_more}
 
 -- players that are still to come: none twice, none in front
 pub record IsRest (n front : ℕ) (ps : List ℕ) : Type 0 where
@@ -31,11 +32,10 @@ still_apart : (front p : ℕ) (ps : List ℕ) → has_player front p ≡ false �
     → AllByRecursion (λ q. has_player front q ≡ false) ps
     → AllByRecursion (λ q. has_player (front + 2 ^ p) q ≡ false) ps
 still_apart front p [] e differ apart = tt
-still_apart front p (q ∷ ps) e differ apart =
-    (has_player-more_other front p q e (other p q differ.0) ∙ apart.0, still_apart front p ps e differ.1 apart.1)
-  where
-    other : (p q : ℕ) → nat_eq p q ≡ false → q ≢ p
-    other p q h = grind (arith, nat_tests)
+still_apart front p (q ∷ ps) e differ apart = (
+  has_player-more_other front p q e (from_not_nat_eq p q differ.0) ∙ apart.0,
+  still_apart front p ps e differ.1 apart.1,
+)
 
 pub rest_next : (n front p : ℕ) (ps : List ℕ) → IsRest n front (p ∷ ps) → IsRest n (front + 2 ^ p) ps
 rest_next n front p ps h = record {
@@ -51,16 +51,6 @@ rest_of_order n order h = record { below = h.below; apart = all order; once = h.
     all [] = tt
     all (p ∷ ps) = (has_player-empty p, all ps)
 
--- who doesn't come adds nothing
-pub marginal_worth-none : (v : ℕ → ℤ) (i front : ℕ) (ps : List ℕ) → AllByRecursion (λ p. nat_eq i p ≡ false) ps
-    → marginal_worth v i front ps ≡ pos 0
-marginal_worth-none v i front [] h = refl
-marginal_worth-none v i front (p ∷ ps) h =
-    rw (turned i p h.0) (marginal_worth-none v i (front + 2 ^ p) ps h.1)
-  where
-    turned : (i p : ℕ) → nat_eq i p ≡ false → nat_eq p i ≡ false
-    turned i p e = grind (arith, nat_tests)
-
 -- what the members of s add, where front stand in front of the list
 abbrev pub along : (ℕ → ℤ) → ℕ → ℕ → List ℕ → ℤ
 along v s front [] = pos 0
@@ -69,11 +59,7 @@ along v s front (p ∷ ps) = (if has_player s p then adds v p front else pos 0) 
 pub amount-along : (n s : ℕ) (v : ℕ → ℤ) (front : ℕ) (ps : List ℕ) → IsRest n front ps
     → sum_over n (λ i. marginal_worth v i front ps) s ≡ along v s front ps
 amount-along n s v front [] h =
-    sum_below-zero n (part (λ i. pos 0) s) (λ i lt. none (has_player s i))
-  where
-    none : (b : Bool) → cond b (pos 0) (pos 0) ≡ pos 0
-    none true = refl
-    none false = refl
+    sum_over-zero n s
 amount-along n s v front (p ∷ ps) h =
     let ih = amount-along n s v (front + 2 ^ p) ps (rest_next n front p ps h) in
     let sums =
@@ -92,11 +78,11 @@ amount-along n s v front (p ∷ ps) h =
         ≡ part (λ j. marginal_worth v j (front + 2 ^ p) ps) s i +ℤ part (λ j. first) (singleton p) i
     itself i e = rw e
         (rw (has_player-singleton p, nat_eq-same p, marginal_worth-none v p (front + 2 ^ p) ps h.once.0)
-        (step (has_player s p) (adds v p front)))
+        (after_nothing (has_player s p) (adds v p front)))
       where
-        step : (b : Bool) (z : ℤ) → cond b z (pos 0) ≡ cond b (pos 0) (pos 0) +ℤ cond b z (pos 0)
-        step true z = omega (arith, linear)
-        step false z = omega (arith, linear)
+        after_nothing : (b : Bool) (z : ℤ) → cond b z (pos 0) ≡ cond b (pos 0) (pos 0) +ℤ cond b z (pos 0)
+        after_nothing true z = omega (arith, linear)
+        after_nothing false z = omega (arith, linear)
 
     another : (i : ℕ) → i ≢ p
         → part (λ j. marginal_worth v j front (p ∷ ps)) s i
@@ -178,11 +164,7 @@ along-reaches g s convex ls (p ∷ ps) a b rest count la lb h =
     ]
 
     within : (j : ℕ) → has_player a j ≡ true → has_player b j ≡ true
-    within j e = first (has_player b j) (has_player s j) (sym (h j) ∙ e)
-      where
-        first : (c d : Bool) → (c && d) ≡ true → c ≡ true
-        first true d e = refl
-        first false d e = e
+    within j e = and_left (has_player b j) (has_player s j) (sym (h j) ∙ e)
 
     cases : (c : Bool) → has_player s p ≡ c
         → (a + 2 ^ p < 2 ^ g.players
@@ -201,7 +183,7 @@ everybody : (n b : ℕ) → b < 2 ^ n → size_below n b ≡ n → b ≡ grand_c
 everybody n b lb full =
     all_came n (grand_coalition n) b b (grand_coalition-within n) lb full
     (λ j. both (has_player b j) (has_player (grand_coalition n) j)
-    (λ e. has_player-grand_coalition n j (held_below n b j lb e)))
+    (λ e. has_player-grand_coalition n j (has_player-within n b j lb e)))
   where
     both : (c d : Bool) → (c ≡ true → d ≡ true) → c ≡ (c && d)
     both true d f = sym (f refl)

@@ -3,9 +3,9 @@ use Rattle.std.proofs.Common.{◌≡◌, ◌⊎◌, ℕ, zero, suc, ◌+◌, ◌
 use Rattle.std.proofs.Common.{◌-ℤ◌, ◌≤ℤ◌, refl, sym, ap, ◌∙◌, inl, inr, arith}
 use Rattle.std.proofs.lemmas.Bool.{false≢true}
 use Rattle.definitions.proofs.Ring.{linear}
-use Rattle.definitions.proofs.Cases.{below_or_above, same_or_other}
+use Rattle.definitions.proofs.Cases.{same_or_other}
 use Rattle.definitions.proofs.Parts.{same_coalition, has_player-more_same}
-use Rattle.definitions.proofs.Parts.{has_player-more_other, has_player-past, more-lt}
+use Rattle.definitions.proofs.Parts.{has_player-more_other, has_player-past, more-lt, has_player-within}
 use Rattle.definitions.specs.Coalitions.{has_player}
 use Rattle.definitions.specs.Games.{Game}
 use Rattle.definitions.specs.Convexity.{IsConvex}
@@ -21,22 +21,13 @@ IsPartOf a b = (j : ℕ) → has_player a j ≡ true → has_player b j ≡ true
 at_or_above : (k j : ℕ) → k ≤ j → (suc k ≤ j) ⊎ (j ≡ k)
 at_or_above k j h = grind arith
 
-pub held_below : (n s k : ℕ) → s < 2 ^ n → has_player s k ≡ true → k < n
-held_below n s k lt h = elim (below_or_above k n) [
-  | inl less ↦ less
-  | inr past ↦ absurd (false≢true (sym (has_player-past n s k lt past) ∙ h))
-]
-
 -- the coalitions differ below k alone
 adds_below : (g : Game) (k p a b : ℕ) → IsConvex g → a < 2 ^ g.players → b < 2 ^ g.players → p < g.players
     → has_player b p ≡ false → IsPartOf a b → ((j : ℕ) → k ≤ j → has_player a j ≡ has_player b j)
     → adds g.worth p a ≤ℤ adds g.worth p b
 adds_below g zero p a b convex la lb lp out part same =
     let e = same_coalition a b (λ j. same j (omega arith)) in
-    rw e (le_self (adds g.worth p b))
-  where
-    le_self : (z : ℤ) → z ≤ℤ z
-    le_self z = omega (arith, linear)
+    rw e (omega (arith, linear))
 adds_below g (suc k) p a b convex la lb lp out part same =
     cases (has_player a k) (has_player b k) refl refl (adds_below g k p a b convex la lb lp out part)
     (λ less within now. adds_below g k p (a + 2 ^ k) b convex less lb lp out within now)
@@ -64,10 +55,11 @@ adds_below g (suc k) p a b convex la lb lp out part same =
     lacks true e = absurd (false≢true (sym out ∙ part p e))
     lacks false e = e
 
-    step : has_player a k ≡ false → has_player b k ≡ true → adds g.worth p (a + 2 ^ k) ≤ℤ adds g.worth p b
+    adds_no_less : has_player a k ≡ false → has_player b k ≡ true → adds g.worth p (a + 2 ^ k) ≤ℤ adds g.worth p b
         → adds g.worth p a ≤ℤ adds g.worth p b
-    step e f more =
-        let here = convex a k p (la, held_below g.players b k lb f, lp, apart f, e, lacks (has_player a p) refl) in
+    adds_no_less e f more =
+        let here =
+        convex a k p (la, has_player-within g.players b k lb f, lp, apart f, e, lacks (has_player a p) refl) in
         omega (arith, linear, here, more)
 
     cases : (c d : Bool) → has_player a k ≡ c → has_player b k ≡ d
@@ -78,7 +70,8 @@ adds_below g (suc k) p a b convex la lb lp out part same =
     cases true true e f keep join = keep (agree (e ∙ sym f))
     cases true false e f keep join = absurd (false≢true (sym f ∙ part k e))
     cases false true e f keep join =
-        step e f (join (more-lt g.players a k la (held_below g.players b k lb f) e) (within e f) (joined e f))
+        adds_no_less e f
+        (join (more-lt g.players a k la (has_player-within g.players b k lb f) e) (within e f) (joined e f))
     cases false false e f keep join = keep (agree (e ∙ sym f))
 
 pub adds_more : (g : Game) (p a b : ℕ) → IsConvex g → a < 2 ^ g.players → b < 2 ^ g.players → p < g.players

@@ -15,9 +15,6 @@ nobody : (n : ℕ) → size_below n 0 ≡ 0
 nobody zero = size_below-zero 0
 nobody (suc n) = size_below-no n 0 (has_player-empty n) ∙ nobody n
 
-none_below : (n : ℕ) → 0 < 2 ^ n
-none_below n = pow_pos n
-
 -- what the members of s add in an order
 abbrev pub added : (ℕ → ℤ) → List ℕ → ℕ → ℕ → ℤ
 added v order n s = sum_over n (λ i. marginal_worth v i 0 order) s
@@ -29,8 +26,8 @@ added-reaches g order s convex h none ls =
     let rest = rest_of_order g.players order h in
     let e = amount-along g.players s g.worth 0 order rest in
     let reach =
-    along-reaches g s convex ls order 0 0 rest (omega (arith, nobody g.players, all)) (none_below g.players)
-    (none_below g.players) (λ j. lacks j) in
+    along-reaches g s convex ls order 0 0 rest (omega (arith, nobody g.players, all)) (pow_pos g.players)
+    (pow_pos g.players) (λ j. lacks j) in
     omega (arith, linear, e, reach, none)
   where
     lacks : (j : ℕ) → has_player 0 j ≡ (has_player 0 j && has_player s j)
@@ -42,7 +39,7 @@ added-all g order h none =
     let all = h.all in
     let rest = rest_of_order g.players order h in
     let e = amount-along g.players (grand_coalition g.players) g.worth 0 order rest in
-    let reach = along-all g order 0 rest (omega (arith, nobody g.players, all)) (none_below g.players) in
+    let reach = along-all g order 0 rest (omega (arith, nobody g.players, all)) (pow_pos g.players) in
     omega (arith, linear, e, reach, none)
 
 amount-marginal : (g : Game) (order : List ℕ) (x : Allocation) (s : ℕ) → IsMarginal g order x

@@ -10,12 +10,14 @@ use Rattle.std.proofs.Math.Pow.{pow_pos}
 use Rattle.definitions.proofs.Ring.{linear, one-mulℤ}
 use Rattle.definitions.proofs.Cases.{same_or_other, nat_eq-same, nat_eq-other}
 use Rattle.definitions.proofs.Parts.{has_player-more_same, has_player-more_other, more-lt}
+use Rattle.definitions.proofs.MarginalWorths.{marginal_worth-none}
 use Rattle.definitions.specs.Coalitions.{has_player}
 use Rattle.definitions.specs.Games.{Game, IsGame, IsShares}
 use Rattle.definitions.specs.Shapley.{IsOrder, marginal_worth}
 use Rattle.definitions.specs.Convexity.{IsMarginal}
+use lib.IntN.{+ℤ_idr}
 use Rattle.worth_core.specs.Allocations.{allocation}
-use Rattle.convexity.proofs.AlongOrders.{IsRest, rest_next, rest_of_order, marginal_worth-none}
+use Rattle.convexity.proofs.AlongOrders.{IsRest, rest_next, rest_of_order}
 
 -- the first k players of the order are front, and their shares are found
 pub record IsPartway (g : Game) (order : List ℕ) (k front : ℕ) (before : ℤ) (num : List ℤ) : Type 0 where
@@ -108,11 +110,11 @@ partway_next g order k front before num laws h lt = record {
         ≡ get_or (set num p more) i (pos 0) +ℤ marginal_worth g.worth i (front + 2 ^ p) ps
     itself i same l =
         rw same
-        (step _ _ _ _ _ (at p next.0) (h.none p next.0 next.1) first (get_or-set_same num p more (pos 0) below)
+        (exchanged _ _ _ _ _ (at p next.0) (h.none p next.0 next.1) first (get_or-set_same num p more (pos 0) below)
         (marginal_worth-none g.worth p (front + 2 ^ p) ps next.2.once.0))
       where
-        step : (m a b c d : ℤ) → m ≡ a +ℤ b → a ≡ pos 0 → b ≡ more → c ≡ more → d ≡ pos 0 → m ≡ c +ℤ d
-        step m a b c d e f s t u = omega (arith, linear, e, f, s, t, u)
+        exchanged : (m a b c d : ℤ) → m ≡ a +ℤ b → a ≡ pos 0 → b ≡ more → c ≡ more → d ≡ pos 0 → m ≡ c +ℤ d
+        exchanged m a b c d e f s t u = omega (arith, linear, e, f, s, t, u)
 
     another : (i : ℕ) → i ≢ p → i < g.players
         → marginal_worth g.worth i 0 order
@@ -131,12 +133,9 @@ partway_end g order k front before num h le = (
   λ i lt. sym
       (one-mulℤ (marginal_worth g.worth i 0 order) ∙ h.left i lt
       ∙ ap (λ (qs : List ℕ). get_or num i (pos 0) +ℤ marginal_worth g.worth i front qs) (nothing_left k order le)
-      ∙ add_none (get_or num i (pos 0))),
+      ∙ +ℤ_idr (get_or num i (pos 0))),
 )
   where
-    add_none : (z : ℤ) → z +ℤ pos 0 ≡ z
-    add_none z = omega (arith, linear)
-
     nothing_left : (k : ℕ) (qs : List ℕ) → length qs ≤ k → drop k qs ≡ []
     nothing_left zero [] h = refl
     nothing_left zero (q ∷ qs) h = absurd (omega arith)

@@ -1,9 +1,9 @@
 -- The players in ascending order are an order.
 use Rattle.std.proofs.Common.{◌≡◌, ℕ, zero, suc, ◌+◌, ◌<◌, ◌≤◌, false, nat_eq, List, [], ◌∷◌, ◌++◌, ap, ◌∙◌, arith}
 use Rattle.std.specs.List.{AllByRecursion, range_with_len}
-use Rattle.std.proofs.lemmas.Bool.Decides.{nat_tests}
 use Rattle.std.proofs.lemmas.List.FromFn.{length-range_with_len}
 use Rattle.definitions.specs.Shapley.{AllDiffer, IsOrder}
+use Rattle.definitions.proofs.Cases.{nat_eq-less}
 
 range-below : (a n m : ℕ) → a + n ≤ m → AllByRecursion (λ p. p < m) (range_with_len a n)
 range-below a zero m h = tt
@@ -11,10 +11,7 @@ range-below a (suc n) m h = (omega arith, range-below (a + 1) n m (omega arith))
 
 range-apart : (x a n : ℕ) → x < a → AllByRecursion (λ p. nat_eq x p ≡ false) (range_with_len a n)
 range-apart x a zero h = tt
-range-apart x a (suc n) h = (test x a h, range-apart x (a + 1) n (omega arith))
-  where
-    test : (x a : ℕ) → x < a → nat_eq x a ≡ false
-    test x a lt = grind (arith, nat_tests)
+range-apart x a (suc n) h = (nat_eq-less x a h, range-apart x (a + 1) n (omega arith))
 
 range-differ : (a n : ℕ) → AllDiffer (range_with_len a n)
 range-differ a zero = tt
@@ -28,10 +25,10 @@ range_is_order n = record {
 }
 
 pub range_more : (a n : ℕ) → range_with_len a (suc n) ≡ range_with_len a n ++ (a + n) ∷ []
-range_more a zero = ap (λ (k : ℕ). k ∷ []) (none a)
+range_more a zero = ap (λ (k : ℕ). k ∷ []) (plus_zero a)
   where
-    none : (a : ℕ) → a ≡ a + 0
-    none a = omega arith
+    plus_zero : (a : ℕ) → a ≡ a + 0
+    plus_zero a = omega arith
 range_more a (suc n) =
     let next : a + 1 + n ≡ a + suc n = omega arith in
     ap (λ (ks : List ℕ). a ∷ ks) (range_more (a + 1) n ∙ ap (λ (k : ℕ). range_with_len (a + 1) n ++ k ∷ []) next)

@@ -1,9 +1,10 @@
 -- Steps of the search for the first coalition and players at which a game isn't convex.
-use Rattle.std.proofs.Common.{◌≡◌, ◌⊎◌, ℕ, ◌+◌, ◌^◌, ◌<◌, ◌≤◌, true, false, ◌||◌, nat_eq, ℤ}
+use Rattle.std.proofs.Common.{◌≡◌, ◌⊎◌, ℕ, ◌+◌, ◌^◌, ◌<◌, true, false, ◌||◌, nat_eq, ℤ}
 use Rattle.std.proofs.Common.{pos, ◌-ℤ◌, ◌≤ℤ◌, sym, ap, ◌∙◌, inl, inr, arith}
 use Rattle.std.proofs.lemmas.Bool.{false≢true}
 use Rattle.definitions.proofs.Ring.{linear}
 use Rattle.definitions.proofs.Parts.{has_player-more_other, more-is, more-lt}
+use Rattle.definitions.proofs.Cases.{less_or_last_of, less_or_greater}
 use Rattle.definitions.specs.Coalitions.{has_player}
 use Rattle.definitions.specs.Games.{Game}
 use Rattle.definitions.specs.Convexity.{AreOutside, apart, together, IsConvex, IsFirstNonconvexity}
@@ -29,24 +30,12 @@ with_two n s i j r t out h k =
 pub holds-inside : (g : Game) (s i j : ℕ) → has_player s j ≡ true → HoldsAt g s i j
 holds-inside g s i j h out = absurd (false≢true (sym out.5 ∙ h))
 
-pub holds-inside_first : (g : Game) (s i j : ℕ) → has_player s i ≡ true → HoldsAt g s i j
-holds-inside_first g s i j h out = absurd (false≢true (sym out.4 ∙ h))
-
-pub holds-past : (g : Game) (s i j : ℕ) → g.players ≤ j → HoldsAt g s i j
-holds-past g s i j h out = let lt = out.2 in absurd (omega (arith, h, lt))
-
-pub holds-past_first : (g : Game) (s i j : ℕ) → g.players ≤ i → HoldsAt g s i j
-holds-past_first g s i j h out = let lt = out.1 in absurd (omega (arith, h, lt))
-
 pub holds-by : (g : Game) (s i j : ℕ) (d : ℤ) → d ≡ apart g s i j -ℤ together g s i j → d ≤ℤ pos 0 → HoldsAt g s i j
 holds-by g s i j d e h out = omega (arith, linear, e, h)
 
-last_or_less : (k n : ℕ) → k < n + 1 → (k < n) ⊎ (k ≡ n)
-last_or_less k n h = grind arith
-
 -- a fact on all numbers below one, and on that one
 pub one_more : (P : ℕ → Type 0) (n : ℕ) → ((k : ℕ) → k < n → P k) → P n → (k : ℕ) → k < n + 1 → P k
-one_more P n h here k lt = elim (last_or_less k n lt) [ inl less ↦ h k less | inr same ↦ rw same here ]
+one_more P n h here k lt = elim (less_or_last_of k n lt) [ inl less ↦ h k less | inr same ↦ rw same here ]
 
 -- ---- the answers
 
@@ -57,18 +46,9 @@ swapped g s i j h out =
     let same = ap g.worth moved in
     omega (arith, linear, le, same)
 
-less_or_more : (i j : ℕ) → ¬ (i ≡ j) → (i < j) ⊎ (j < i)
-less_or_more i j ne = elim (three i j) [
-  | inl less ↦ inl less
-  | inr rest ↦ elim rest [ inl more ↦ inr more | inr same ↦ absurd (ne same) ]
-]
-  where
-    three : (i j : ℕ) → (i < j) ⊎ ((j < i) ⊎ (i ≡ j))
-    three i j = grind arith
-
 -- convex, where no two players fail in ascending order
 pub convex_from : (g : Game) → ((s : ℕ) → s < 2 ^ g.players → (i j : ℕ) → i < j → HoldsAt g s i j) → IsConvex g
-convex_from g h s i j out = elim (less_or_more i j out.3) [
+convex_from g h s i j out = elim (less_or_greater i j out.3) [
   | inl less ↦ h s out.0 i j less out
   | inr more ↦ swapped g s i j (h s out.0 j i more) out
 ]

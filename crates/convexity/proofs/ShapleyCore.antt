@@ -1,47 +1,19 @@
 -- The Shapley shares of a convex game lie in its core, since those of each order do (Shapley 1971).
-use Rattle.std.proofs.Common.{◌≡◌, ℕ, zero, suc, ◌+◌, ◌*◌, ◌^◌, ◌<◌, List, [], ◌∷◌, ◌++◌, length}
-use Rattle.std.proofs.Common.{length-append, ℤ, pos, ◌+ℤ◌, ◌*ℤ◌, ◌<ℤ◌, ◌≤ℤ◌, refl, sym, ap, ◌∙◌, arith}
-use Rattle.std.specs.List.{AllByRecursion, flat_map}
+use Rattle.std.proofs.Common.{◌≡◌, ℕ, ◌^◌, ◌<◌, List, [], ◌∷◌, length}
+use Rattle.std.proofs.Common.{ℤ, pos, ◌+ℤ◌, ◌*ℤ◌, ◌<ℤ◌, ◌≤ℤ◌, sym, ap, ◌∙◌, arith}
+use Rattle.std.specs.List.{AllByRecursion}
 use lib.IntN.{*ℤ_comm}
-use Rattle.definitions.proofs.Ring.{linear, add-mulℤ, zero-mulℤ, one-mulℤ, mul-leℤ}
-use Rattle.definitions.proofs.Ring.{mul-cancelℤ, mul-le_cancelℤ, mul_left_commℤ}
-use Rattle.definitions.proofs.Alls.{all_weaken}
+use Rattle.definitions.proofs.Ring.{linear, zero-mulℤ, mul-leℤ}
+use Rattle.definitions.proofs.Ring.{mul-cancelℤ, mul-le_cancelℤ, mul_left_commℤ, suc-mulℤ}
 use Rattle.definitions.proofs.SumsOver.{sum_over-same, sum_over-times, sum_over-add, sum_over-zero}
 use Rattle.definitions.specs.Coalitions.{grand_coalition, sum_over}
 use Rattle.definitions.specs.Games.{Game, Allocation, share, amount, IsEfficient, Blocks, InCore}
-use Rattle.definitions.specs.Shapley.{IsOrder, insertions, orders, marginal_worth}
+use Rattle.definitions.specs.Shapley.{IsOrder, orders, marginal_worth}
 use Rattle.definitions.specs.Shapley.{total_over, shapley_total, factorial, IsShapley}
 use Rattle.definitions.specs.Convexity.{IsConvex}
-use Rattle.shapley.proofs.Orders.{length-insertions}
-use Rattle.shapley.proofs.EachOnce.{are_orders}
+use Rattle.shapley.proofs.EachOnce.{are_orders, length-orders}
 use Rattle.shapley.proofs.Sizes.{factorial-some}
 use Rattle.convexity.proofs.MarginalCore.{added, added-reaches, added-all}
-
--- ---- there are n! orders
-
-length-flat_map : (n : ℕ) (os : List (List ℕ)) → AllByRecursion (λ o. length o ≡ n) os
-    → length (flat_map (insertions n) os) ≡ suc n * length os
-length-flat_map n [] h = none n
-  where
-    none : (n : ℕ) → 0 ≡ suc n * 0
-    none n = omega arith
-length-flat_map n (o ∷ os) h =
-    let both = length-append (insertions n o) (flat_map (insertions n) os) in
-    let first = length-insertions n o in
-    let ih = length-flat_map n os h.1 in
-    let l = h.0 in
-    step (length (insertions n o ++ flat_map (insertions n) os)) (length (insertions n o))
-    (length (flat_map (insertions n) os)) (length os) both (first ∙ ap suc l) ih
-  where
-    step : (t a b k : ℕ) → t ≡ a + b → a ≡ suc n → b ≡ suc n * k → t ≡ suc n * suc k
-    step t a b k e f g = let one : suc n * suc k ≡ suc n + suc n * k = omega arith in omega (arith, e, f, g, one)
-
-orders-count : (n : ℕ) → length (orders n) ≡ factorial n
-orders-count zero = refl
-orders-count (suc n) =
-    length-flat_map n (orders n)
-    (all_weaken (IsOrder n) (λ o. length o ≡ n) (orders n) (λ o h. h.all) (are_orders n))
-    ∙ ap (λ (k : ℕ). suc n * k) (orders-count n)
 
 -- ---- the sum over orders
 
@@ -54,11 +26,6 @@ got-next : (g : Game) (o : List ℕ) (os : List (List ℕ)) (s : ℕ)
 got-next g o os s =
     sum_over-add g.players (λ i. marginal_worth g.worth i 0 o) (λ i. total_over g.worth i os) s
 
-count_times : (k : ℕ) (z : ℤ) → pos (suc k) *ℤ z ≡ z +ℤ pos k *ℤ z
-count_times k z =
-    let one : pos (suc k) ≡ pos k +ℤ pos 1 = omega (arith, linear) in
-    rw one (omega (arith, linear, add-mulℤ (pos k) (pos 1) z, one-mulℤ z))
-
 got-reaches : (g : Game) (s : ℕ) → IsConvex g → g.worth 0 ≡ pos 0 → s < 2 ^ g.players → (os : List (List ℕ))
     → AllByRecursion (IsOrder g.players) os → (pos (length os) *ℤ g.worth s) ≤ℤ got g os s
 got-reaches g s convex none ls [] h =
@@ -68,7 +35,7 @@ got-reaches g s convex none ls (o ∷ os) h =
       arith,
       linear,
       got-next g o os s,
-      count_times (length os) (g.worth s),
+      suc-mulℤ (length os) (g.worth s),
       added-reaches g o s convex h.0 none ls,
       got-reaches g s convex none ls os h.1,
     )
@@ -87,7 +54,7 @@ got-all g none (o ∷ os) h =
       arith,
       linear,
       got-next g o os (grand_coalition g.players),
-      count_times (length os) (g.worth (grand_coalition g.players)),
+      suc-mulℤ (length os) (g.worth (grand_coalition g.players)),
       added-all g o h.0 none,
       got-all g none os h.1,
     )
@@ -113,7 +80,7 @@ shapley_in_core g x none h convex = (h.0, efficient, unblocked)
     positive = let some = factorial-some g.players in omega (arith, linear, some)
 
     counted : (z : ℤ) → pos (length (orders g.players)) *ℤ z ≡ f *ℤ z
-    counted z = ap (λ (k : ℕ). pos k *ℤ z) (orders-count g.players)
+    counted z = ap (λ (k : ℕ). pos k *ℤ z) (length-orders g.players)
 
     efficient : IsEfficient g x
     efficient =

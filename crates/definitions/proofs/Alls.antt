@@ -1,5 +1,5 @@
--- Facts on all items of a list: of parts, of a longer list, and from one fact to another.
-use Rattle.std.proofs.Common.{ℕ, zero, suc, ◌<◌, List, [], ◌∷◌, ◌++◌, length, get_or, arith}
+-- Facts on all items of a list: of parts, of a longer list, and from one fact to another; and what is the same at each.
+use Rattle.std.proofs.Common.{◌≡◌, ℕ, zero, suc, ◌<◌, List, [], ◌∷◌, ◌++◌, length, map, get_or, ap, arith}
 use Rattle.std.specs.List.{AllByRecursion}
 
 pub all_any : {X : Type 0} (P : X → Type 0) (xs : List X) → ((x : X) → P x) → AllByRecursion P xs
@@ -44,3 +44,6 @@ pub all_at_places : {X : Type 0} (P : X → Type 0) (d : X) (xs : List X)
     → ((i : ℕ) → i < length xs → P (get_or xs i d)) → AllByRecursion P xs
 all_at_places P d [] h = tt
 all_at_places P d (x ∷ xs) h = (h 0 (omega arith), all_at_places P d xs (λ i lt. h (suc i) (omega arith)))
+
+pub map_same : {X Y : Type 0} (f h : X → Y) (xs : List X) → ((x : X) → f x ≡ h x) → map f xs ≡ map h xs
+map_same f h xs e = ap (λ k. map k xs) (λ i x. e x i)

@@ -14,7 +14,7 @@ no_zero : (m n : ℕ) → m * n ≡ 0 → m ≢ 0 → n ≡ 0
 no_zero zero n e h = absurd (h refl)
 no_zero (suc m) n e h = omega arith
 
-product_zero : (d z : ℤ) → d ≢ pos 0 → d *ℤ z ≡ pos 0 → z ≡ pos 0
+pub product_zero : (d z : ℤ) → d ≢ pos 0 → d *ℤ z ≡ pos 0 → z ≡ pos 0
 product_zero d z h e =
     abs_zero z
     (no_zero (unsigned_abs d) (unsigned_abs z) (sym (unsigned_abs-mul d z) ∙ ap unsigned_abs e)
@@ -47,10 +47,10 @@ quot_exact z d q e h =
     (subst (λ (n : ℕ). n < unsigned_abs d) size (rem_below z d (size_positive d h)))))
   where
     rest : (t r : ℤ) → t *ℤ d +ℤ r ≡ z → r ≡ d *ℤ (q -ℤ t)
-    rest t r k = moved (t *ℤ d) r z k ∙ ap (λ (u : ℤ). u -ℤ t *ℤ d) e ∙ simp ring_laws
+    rest t r k = subtracted (t *ℤ d) r z k ∙ ap (λ (u : ℤ). u -ℤ t *ℤ d) e ∙ simp ring_laws
       where
-        moved : (a r z : ℤ) → a +ℤ r ≡ z → r ≡ z -ℤ a
-        moved a r z k = omega (arith, linear)
+        subtracted : (a r z : ℤ) → a +ℤ r ≡ z → r ≡ z -ℤ a
+        subtracted a r z k = omega (arith, linear)
 
     gap : (q t : ℤ) → unsigned_abs (q -ℤ t) ≡ 0 → q ≡ t
     gap q t k = omega (arith, ints)

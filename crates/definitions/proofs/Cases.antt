@@ -2,11 +2,11 @@
 --
 -- Lemmas are named by what they give; the statement of each is one line.
 use Rattle.std.proofs.Common.{◌≡◌, ◌≢◌, ◌⊎◌, ℕ, suc, ◌+◌, ◌-◌, ◌<◌, ◌≤◌, Bool, true, false, ◌&&◌, ◌||◌, not}
-use Rattle.std.proofs.Common.{nat_eq, nat_lt, ℤ, ◌≤ℤ◌, int_lt, cond, refl, inl, inr, arith}
+use Rattle.std.proofs.Common.{nat_eq, nat_lt, ℤ, ◌≤ℤ◌, int_lt, cond, refl, sym, inl, inr, arith}
 use Rattle.std.proofs.lemmas.Bool.{false≢true}
 use Rattle.std.proofs.lemmas.Bool.Decides.{nat_tests}
 use Rattle.std.proofs.lemmas.Int.{ints}
-use Rattle.std.specs.Int.{int_max}
+use Rattle.std.specs.Int.{int_max, int_min}
 
 -- ---- numbers
 
@@ -38,6 +38,12 @@ last_or_less i n h = grind arith
 pub last_or_less_of : (i n : ℕ) → i < n + 1 → (i ≡ n) ⊎ (i < n)
 last_or_less_of i n h = grind arith
 
+pub same_or_less : (i j : ℕ) → i ≤ j → (i ≡ j) ⊎ (i < j)
+same_or_less i j h = grind arith
+
+pub same_or_later : (i j : ℕ) → i ≤ j → (i ≡ j) ⊎ (i + 1 ≤ j)
+same_or_later i j h = grind arith
+
 pub next_or_last : (i n : ℕ) → i < n → (suc i < n) ⊎ (suc i ≡ n)
 next_or_last i n h = grind arith
 
@@ -61,11 +67,17 @@ nat_eq-less i j h = grind (arith, nat_tests)
 pub nat_eq-some : (k m : ℕ) → k < m → nat_eq m 0 ≡ false
 nat_eq-some k m h = grind (arith, nat_tests)
 
+pub nat_eq-turned : (i j : ℕ) → nat_eq i j ≡ false → nat_eq j i ≡ false
+nat_eq-turned i j h = grind (arith, nat_tests)
+
 pub nat_lt-past : (i n : ℕ) → n ≤ i → nat_lt i n ≡ false
 nat_lt-past i n h = grind (arith, nat_tests)
 
 pub from_nat_eq : (i j : ℕ) → nat_eq i j ≡ true → i ≡ j
 from_nat_eq i j h = grind (arith, nat_tests)
+
+pub from_not_nat_eq : (i j : ℕ) → nat_eq i j ≡ false → j ≢ i
+from_not_nat_eq i j h = grind (arith, nat_tests)
 
 pub from_nat_lt : (i j : ℕ) → nat_lt i j ≡ true → i < j
 from_nat_lt i j h = grind (arith, nat_tests)
@@ -111,6 +123,14 @@ pub or_right : (a b : Bool) → b ≡ true → (a || b) ≡ true
 or_right true b h = refl
 or_right false b h = h
 
+pub or_either : (a b : Bool) → (a ≡ true) ⊎ (b ≡ true) → (a || b) ≡ true
+or_either a b (inl h) = or_left a b h
+or_either a b (inr h) = or_right a b h
+
+pub neither : (a b : Bool) → (a || b) ≡ false → (a ≡ false) × (b ≡ false)
+neither true b h = absurd (false≢true (sym h))
+neither false b h = (refl, h)
+
 pub or_true : (a : Bool) → (a || true) ≡ true
 or_true true = refl
 or_true false = refl
@@ -133,6 +153,10 @@ and_left a b h = (and_parts a b h).0
 pub and_right : (a b : Bool) → (a && b) ≡ true → b ≡ true
 and_right a b h = (and_parts a b h).1
 
+pub and_either : (a b : Bool) → (a && b) ≡ false → (a ≡ false) ⊎ (b ≡ false)
+and_either true b h = inr h
+and_either false b h = inl refl
+
 pub and_true : (a : Bool) → (a && true) ≡ a
 and_true true = refl
 and_true false = refl
@@ -141,7 +165,7 @@ pub and_false : (a : Bool) → (a && false) ≡ false
 and_false true = refl
 and_false false = refl
 
--- ---- the greater of two numbers
+-- ---- the greater and the lesser of two numbers
 
 pub int_max-cases : (a b : ℤ) → ((int_max a b ≡ a) × (b ≤ℤ a)) ⊎ ((int_max a b ≡ b) × (a ≤ℤ b))
 int_max-cases a b =
@@ -150,3 +174,9 @@ int_max-cases a b =
       | false ↦ λ e. inr (refl, omega (arith, ints))
     ] in
     step (int_lt b a) refl
+
+pub int_min-left : (a b : ℤ) → a ≤ℤ b → int_min a b ≡ a
+int_min-left a b h = grind (arith, ints)
+
+pub int_min-right : (a b : ℤ) → b ≤ℤ a → int_min a b ≡ b
+int_min-right a b h = grind (arith, ints)

@@ -1,5 +1,5 @@
 -- Casts that lose nothing.
-use Rattle.std.proofs.Common.{◌≡◌, ◌^◌, ◌<◌, ◌≤◌, ℤ, ◌-◌, ◌-ℤ◌, ◌*ℤ◌, unsigned_abs}
+use Rattle.std.proofs.Common.{◌≡◌, ℕ, ◌*◌, ◌^◌, ◌<◌, ◌≤◌, ℤ, ◌-◌, ◌-ℤ◌, ◌*ℤ◌, unsigned_abs}
 use Rattle.std.proofs.Common.{to_z, of_z, to_z-of_z, arith, mul-le-mul}
 use Rattle.std.proofs.lemmas.Int.{ints, fits_signed_from_abs, unsigned_abs-mul}
 use mir.Syntax.{w128, Width}
@@ -15,11 +15,15 @@ difference_kept a b h k =
     rw (cast_kept w128 a (omega arith), cast_kept w128 b (omega arith))
     (cast_kept w128 (a -ℤ b) (omega (arith, ints)))
 
+pub unsigned_abs-mul_le : (a b : ℤ) (m n : ℕ) → unsigned_abs a ≤ m → unsigned_abs b ≤ n
+    → unsigned_abs (a *ℤ b) ≤ m * n
+unsigned_abs-mul_le a b m n h k = omega (arith, unsigned_abs-mul a b, mul-le-mul h k)
+
 -- a product that 128 bits hold
 pub product_small : (a b : ℤ) → unsigned_abs a ≤ 2 ^ 38 → unsigned_abs b < 2 ^ 89 → unsigned_abs (a *ℤ b) < 2 ^ 127
 product_small a b h k =
     let below : unsigned_abs b ≤ 2 ^ 89 - 1 = omega arith in
-    omega (arith, unsigned_abs-mul a b, mul-le-mul h below)
+    omega (arith, unsigned_abs-mul_le a b (2 ^ 38) (2 ^ 89 - 1) h below)
 
 pub product_kept : (a b : ℤ) → unsigned_abs a ≤ 2 ^ 38 → unsigned_abs b < 2 ^ 89
     → to_z w128 (of_z w128 (to_z w128 (of_z w128 a) *ℤ to_z w128 (of_z w128 b))) ≡ a *ℤ b

@@ -8,10 +8,14 @@ pub mod Members
 pub mod Sizes
 pub mod Measured
 pub mod Parts
+pub mod SomeMembers
 pub mod SumsOver
+pub mod ScaledPairs
+pub mod MarginalWorths
 pub mod Halves
 pub mod UnitWeights
 pub mod Families
+pub mod Levels
 pub mod Casts
 pub mod Masks
 pub mod Scans

@@ -4,7 +4,7 @@ use Rattle.std.proofs.Common.{◌≡◌, ℕ, zero, suc, ◌*◌, ◌/◌, ◌^�
 use Rattle.std.proofs.Common.{pos, ◌*ℤ◌, ◌≤ℤ◌, ◌<ℤ◌, refl, sym, ap, ◌∙◌, inl, inr, arith}
 use Rattle.std.proofs.lemmas.Bool.Decides.{nat_tests}
 use Rattle.definitions.proofs.Ring.{linear, one-mulℤ, mul-oneℤ, mul-zeroℤ, mul_assocℤ, mul_left_commℤ}
-use Rattle.definitions.proofs.Ring.{mul-leℤ, mul-positiveℤ, mul-cancelℤ, mul-le_cancelℤ}
+use Rattle.definitions.proofs.Ring.{mul-leℤ, mul-positiveℤ, mul-le_cancelℤ, mul_exchangeℤ}
 use lib.IntN.{*ℤ_comm}
 use Rattle.definitions.proofs.Sizes.{size-few, size-some}
 use Rattle.definitions.specs.Coalitions.{size}
@@ -110,13 +110,6 @@ measured-same measure n s e q a b m some within h =
     let k = scaled_sides measure n s e q a b m some within in
     k.0 ∙ ap (λ z. weight measure s *ℤ z) h ∙ sym k.1
 
-pub divided-same : (measure : Measure) (n s : ℕ) (e q a b : ℤ) → IsMeasurable measure n → 0 < s → s < 2 ^ n
-    → measured measure s e *ℤ b ≡ a *ℤ measured_den measure q → e *ℤ b ≡ a *ℤ (q *ℤ pos (divisor measure s))
-divided-same measure n s e q a b m some within h =
-    let k = scaled_sides measure n s e q a b m some within in
-    mul-cancelℤ (weight measure s) (e *ℤ b) (a *ℤ (q *ℤ pos (divisor measure s)))
-    (weight-positive measure n s m some within) (sym k.0 ∙ h ∙ k.1)
-
 pub measured-le : (measure : Measure) (n s : ℕ) (e q a b : ℤ) → IsMeasurable measure n → 0 < s → s < 2 ^ n
     → (e *ℤ b) ≤ℤ (a *ℤ (q *ℤ pos (divisor measure s)))
     → (measured measure s e *ℤ b) ≤ℤ (a *ℤ measured_den measure q)
@@ -125,14 +118,6 @@ measured-le measure n s e q a b m some within h =
     let w = weight-positive measure n s m some within in
     rw (k.0, k.1)
     (mul-leℤ (weight measure s) (e *ℤ b) (a *ℤ (q *ℤ pos (divisor measure s))) (omega (arith, linear, w)) h)
-
-pub divided-le : (measure : Measure) (n s : ℕ) (e q a b : ℤ) → IsMeasurable measure n → 0 < s → s < 2 ^ n
-    → (measured measure s e *ℤ b) ≤ℤ (a *ℤ measured_den measure q)
-    → (e *ℤ b) ≤ℤ (a *ℤ (q *ℤ pos (divisor measure s)))
-divided-le measure n s e q a b m some within h =
-    let k = scaled_sides measure n s e q a b m some within in
-    mul-le_cancelℤ (weight measure s) (e *ℤ b) (a *ℤ (q *ℤ pos (divisor measure s)))
-    (weight-positive measure n s m some within) (rw (k.0, k.1) at h)
 
 -- ---- the order of two measured excesses
 
@@ -146,11 +131,6 @@ weight-divisor measure n s m some within =
 measured_den-positive : (measure : Measure) → pos 0 <ℤ measured_den measure (pos 1)
 measured_den-positive Plain = omega (arith, linear)
 measured_den-positive PerHead = omega (arith, linear, mul-oneℤ (pos 720720))
-
--- (w·e)·(v·d) is (w·v)·(e·d)
-exchanged : (w e v d : ℤ) → (w *ℤ e) *ℤ (v *ℤ d) ≡ (w *ℤ v) *ℤ (e *ℤ d)
-exchanged w e v d =
-    mul_assocℤ w e (v *ℤ d) ∙ ap (λ z. w *ℤ z) (mul_left_commℤ e v d) ∙ sym (mul_assocℤ w v (e *ℤ d))
 
 -- an excess over its divisor is at most another over its divisor: so are the measured ones
 pub measured-order : (measure : Measure) (n s t : ℕ) (e f : ℤ) → IsMeasurable measure n → 0 < s → s < 2 ^ n → 0 < t
@@ -169,10 +149,10 @@ measured-order measure n s t e f m some_s within_s some_t within_t le =
     le in
     let left : whole *ℤ (w *ℤ e) ≡ (w *ℤ v) *ℤ (e *ℤ pos (divisor measure t)) =
     *ℤ_comm whole (w *ℤ e) ∙ ap (λ z. (w *ℤ e) *ℤ z) (sym (weight-divisor measure n t m some_t within_t))
-    ∙ exchanged w e v (pos (divisor measure t)) in
+    ∙ mul_exchangeℤ w e v (pos (divisor measure t)) in
     let right : whole *ℤ (v *ℤ f) ≡ (w *ℤ v) *ℤ (f *ℤ pos (divisor measure s)) =
     *ℤ_comm whole (v *ℤ f) ∙ ap (λ z. (v *ℤ f) *ℤ z) (sym (weight-divisor measure n s m some_s within_s))
-    ∙ exchanged v f w (pos (divisor measure s)) ∙ ap (λ z. z *ℤ (f *ℤ pos (divisor measure s))) (*ℤ_comm v w) in
+    ∙ mul_exchangeℤ v f w (pos (divisor measure s)) ∙ ap (λ z. z *ℤ (f *ℤ pos (divisor measure s))) (*ℤ_comm v w) in
     let both : (whole *ℤ (w *ℤ e)) ≤ℤ (whole *ℤ (v *ℤ f)) = omega (arith, linear, scaled, left, right) in
     let less = mul-le_cancelℤ whole (w *ℤ e) (v *ℤ f) positive both in
     rw (measured-weight measure s e, measured-weight measure t f) less

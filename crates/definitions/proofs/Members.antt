@@ -7,6 +7,7 @@ use Rattle.std.proofs.lemmas.Nat.Bits.{bit_at-suc, bit_at-zero, bit_at-pow_same}
 use Rattle.std.proofs.lemmas.Nat.Bits.{bit_at-pow_other, bit_at_ones, bit_at_lowest}
 use Rattle.std.proofs.Math.Nat.{pow-suc, mul_comm, le_refl}
 use Rattle.std.specs.Int.{bit_at}
+use Rattle.std.specs.List.{AllByRecursion}
 use Rattle.definitions.proofs.Ring.{linear, add-mulℤ, mul-addℤ, mul-zeroℤ, zero-mulℤ, mul-oneℤ}
 use Rattle.definitions.specs.Sums.{sum_below, weighted_sum}
 use Rattle.definitions.specs.Coalitions.{has_player, singleton, grand_coalition, sum_over, weight_at, members}
@@ -55,6 +56,10 @@ pub times_bit : (b : Bool) (z : ℤ) → z *ℤ cond b (pos 1) (pos 0) ≡ cond 
 times_bit true z = mul-oneℤ z
 times_bit false z = mul-zeroℤ z
 
+pub scaled_either : (b : Bool) (m z : ℤ) → cond b m (pos 0) *ℤ z ≡ m *ℤ cond b z (pos 0)
+scaled_either true m z = refl
+scaled_either false m z = zero-mulℤ z ∙ sym (mul-zeroℤ m)
+
 pub zero_either : (b : Bool) (z : ℤ) → z ≡ pos 0 → cond b z (pos 0) ≡ pos 0
 zero_either true z e = e
 zero_either false z e = refl
@@ -90,6 +95,11 @@ sum_below-split n (suc j) f =
 pub sum_below-front : (n : ℕ) (f : ℕ → ℤ) → sum_below (suc n) f ≡ f 0 +ℤ sum_below n (λ i. f (suc i))
 sum_below-front zero f = omega (arith, linear)
 sum_below-front (suc n) f = let ih = sum_below-front n f in omega (arith, linear, ih)
+
+pub sum_below-nonnegative : (n : ℕ) (f : ℕ → ℤ) → ((i : ℕ) → i < n → pos 0 ≤ℤ f i) → pos 0 ≤ℤ sum_below n f
+sum_below-nonnegative zero f low = omega (arith, linear)
+sum_below-nonnegative (suc n) f low =
+    omega (arith, linear, sum_below-nonnegative n f (λ i h. low i (omega arith)), low n (omega arith))
 
 pub sum_over-nonnegative : (n s : ℕ) (f : ℕ → ℤ) → ((i : ℕ) → i < n → pos 0 ≤ℤ f i) → pos 0 ≤ℤ sum_over n f s
 sum_over-nonnegative zero s f low = omega (arith, linear)
@@ -188,6 +198,12 @@ weighted_sum-one n a (p ∷ ps) =
 pub weighted_sum-zero : (ps : List (ℕ × ℤ)) → weighted_sum (λ s. pos 0) ps ≡ pos 0
 weighted_sum-zero [] = refl
 weighted_sum-zero (p ∷ ps) = omega (arith, linear, weighted_sum-zero ps, mul-zeroℤ p.1)
+
+pub weighted_sum-zero_terms : (f : ℕ → ℤ) (ps : List (ℕ × ℤ)) → AllByRecursion (λ p. f p.0 ≡ pos 0) ps
+    → weighted_sum f ps ≡ pos 0
+weighted_sum-zero_terms f [] h = refl
+weighted_sum-zero_terms f (p ∷ ps) h =
+    omega (arith, linear, weighted_sum-zero_terms f ps h.1, ap (λ z. p.1 *ℤ z) h.0, mul-zeroℤ p.1)
 
 -- the weighted sum of what coalitions have is the sum of what players have, times the weights at each player
 pub weighted_sum-sum_over : (n : ℕ) (a : ℕ → ℤ) (ps : List (ℕ × ℤ))

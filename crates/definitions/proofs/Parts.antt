@@ -1,28 +1,25 @@
 -- A coalition with one more player, and sums over parts of a coalition.
-use Rattle.std.proofs.Common.{◌≡◌, ◌≢◌, ℕ, zero, suc, ◌+◌, ◌-◌, ◌*◌, ◌/◌, ◌^◌, ◌<◌, ◌≤◌, Bool}
+use Rattle.std.proofs.Common.{◌≡◌, ◌≢◌, ℕ, zero, suc, ◌+◌, ◌-◌, ◌/◌, ◌^◌, ◌<◌, ◌≤◌, Bool}
 use Rattle.std.proofs.Common.{true, false, not, ◌||◌, cond, ℤ, pos, ◌+ℤ◌, ◌≤ℤ◌, refl, sym, ap}
 use Rattle.std.proofs.Common.{◌∙◌, inl, inr, arith, nat_eq, if◌then◌else◌}
 use Rattle.std.proofs.lemmas.Bool.{false≢true}
 use Rattle.std.proofs.lemmas.Bool.Decides.{nat_tests}
 use Rattle.std.proofs.lemmas.Nat.Bits.{bit_at-suc, bit_at_lowest, bit_at-lt, bit_at_above, same_from_bits}
-use Rattle.std.proofs.Math.Nat.{pow-suc, mul_comm}
+use Rattle.std.proofs.Math.Nat.{pow-succ'}
 use Rattle.std.specs.Int.{bit_at}
 use Rattle.definitions.proofs.Ring.{linear}
 use Rattle.definitions.proofs.Members.{has_player-singleton, has_player-singleton_other}
 use Rattle.definitions.proofs.Members.{has_player-complement, sum_below-same, sum_below-add, sum_over-singleton}
 use Rattle.definitions.specs.Sums.{sum_below}
 use Rattle.definitions.specs.Coalitions.{has_player, singleton, grand_coalition, sum_over}
-use Rattle.definitions.proofs.Cases.{same_or_other, zero_bit, same_bit, nat_eq-equal, nat_eq-other}
+use Rattle.definitions.proofs.Cases.{below_or_above, same_or_other, zero_bit, same_bit, nat_eq-equal, nat_eq-other}
 
 -- ---- one more player
-
-double : (n : ℕ) → 2 ^ suc n ≡ 2 * 2 ^ n
-double n = pow-suc 2 n ∙ mul_comm (2 ^ n) 2
 
 bit_more_same : (s j : ℕ) → bit_at s j ≡ 0 → bit_at (s + 2 ^ j) j ≡ 1
 bit_more_same s zero h = omega (arith, bit_at_lowest s, bit_at_lowest (s + 1))
 bit_more_same s (suc j) h =
-    let p = double j in
+    let p = pow-succ' 2 j in
     let half : (s + 2 ^ suc j) / 2 ≡ s / 2 + 2 ^ j = omega arith in
     let ih = bit_more_same (s / 2) j (sym (bit_at-suc s j) ∙ h) in
     bit_at-suc (s + 2 ^ suc j) j ∙ ap (λ (m : ℕ). bit_at m j) half ∙ ih
@@ -34,14 +31,14 @@ bit_more_other s zero (suc i) h ne =
     let half : (s + 1) / 2 ≡ s / 2 = omega arith in
     bit_at-suc (s + 1) i ∙ ap (λ (m : ℕ). bit_at m i) half ∙ sym (bit_at-suc s i)
 bit_more_other s (suc j) zero h ne =
-    let p = double j in omega (arith, bit_at_lowest s, bit_at_lowest (s + 2 ^ suc j))
+    let p = pow-succ' 2 j in omega (arith, bit_at_lowest s, bit_at_lowest (s + 2 ^ suc j))
 bit_more_other s (suc j) (suc i) h ne =
-    let p = double j in
+    let p = pow-succ' 2 j in
     let half : (s + 2 ^ suc j) / 2 ≡ s / 2 + 2 ^ j = omega arith in
     let ih = bit_more_other (s / 2) j i (sym (bit_at-suc s j) ∙ h) (λ e. ne (ap suc e)) in
     bit_at-suc (s + 2 ^ suc j) i ∙ ap (λ (m : ℕ). bit_at m i) half ∙ ih ∙ sym (bit_at-suc s i)
 
-bit_zero : (s i : ℕ) → has_player s i ≡ false → bit_at s i ≡ 0
+pub bit_zero : (s i : ℕ) → has_player s i ≡ false → bit_at s i ≡ 0
 bit_zero s i e = zero_bit (bit_at s i) (bit_at-lt s i) e
 
 pub has_player-more_same : (s j : ℕ) → has_player s j ≡ false → has_player (s + 2 ^ j) j ≡ true
@@ -55,10 +52,10 @@ has_player-more_other s j i h ne = ap (λ (b : ℕ). nat_eq b 1) (bit_more_other
 
 bit_more_lt : (n s j : ℕ) → s < 2 ^ n → j < n → bit_at s j ≡ 0 → s + 2 ^ j < 2 ^ n
 bit_more_lt zero s j lt k h = absurd (omega arith)
-bit_more_lt (suc n) s zero lt k h = let p = double n in omega (arith, bit_at_lowest s)
+bit_more_lt (suc n) s zero lt k h = let p = pow-succ' 2 n in omega (arith, bit_at_lowest s)
 bit_more_lt (suc n) s (suc j) lt k h =
-    let p = double n in
-    let q = double j in
+    let p = pow-succ' 2 n in
+    let q = pow-succ' 2 j in
     let ih = bit_more_lt n (s / 2) j (omega arith) (omega arith) (sym (bit_at-suc s j) ∙ h) in
     omega (arith, ih)
 
@@ -81,10 +78,13 @@ more-is s i r lacks h = same_coalition r (s + 2 ^ i) (λ j. elim (same_or_other 
 
 -- nobody past the last player
 pub has_player-past : (n s i : ℕ) → s < 2 ^ n → n ≤ i → has_player s i ≡ false
-has_player-past n s i h k = is_zero (bit_at s i) (bit_at_above s n i h k)
-  where
-    is_zero : (b : ℕ) → b ≡ 0 → nat_eq b 1 ≡ false
-    is_zero b e = grind (arith, nat_tests)
+has_player-past n s i h k = grind (arith, nat_tests, bit_at_above s n i h k)
+
+pub has_player-within : (n s i : ℕ) → s < 2 ^ n → has_player s i ≡ true → i < n
+has_player-within n s i within has = elim (below_or_above i n) [
+  | inl less ↦ less
+  | inr past ↦ absurd (false≢true (sym (has_player-past n s i within past) ∙ has))
+]
 
 -- all but one
 pub others_has : (n k i : ℕ) → singleton k < 2 ^ n → i < n → i ≢ k

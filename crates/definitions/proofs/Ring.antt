@@ -57,6 +57,13 @@ mul_assocℤ a b c =
 pub mul_left_commℤ : (a b c : ℤ) → a *ℤ (b *ℤ c) ≡ b *ℤ (a *ℤ c)
 mul_left_commℤ a b c = sym (mul_assocℤ a b c) ∙ ap (λ (k : ℤ). k *ℤ c) (*ℤ_comm a b) ∙ mul_assocℤ b a c
 
+pub mul_assoc_commℤ : (a b c : ℤ) → (a *ℤ b) *ℤ c ≡ b *ℤ (a *ℤ c)
+mul_assoc_commℤ a b c = mul_assocℤ a b c ∙ mul_left_commℤ a b c
+
+pub mul_exchangeℤ : (a b c d : ℤ) → (a *ℤ b) *ℤ (c *ℤ d) ≡ (a *ℤ c) *ℤ (b *ℤ d)
+mul_exchangeℤ a b c d =
+    mul_assocℤ a b (c *ℤ d) ∙ ap (λ z. a *ℤ z) (mul_left_commℤ b c d) ∙ sym (mul_assocℤ a c (b *ℤ d))
+
 pub mul-zeroℤ : (a : ℤ) → a *ℤ pos 0 ≡ pos 0
 mul-zeroℤ a = omega (arith, ints)
 
@@ -68,6 +75,11 @@ mul-oneℤ a = omega (arith, ints)
 
 pub one-mulℤ : (a : ℤ) → pos 1 *ℤ a ≡ a
 one-mulℤ a = omega (arith, ints)
+
+pub suc-mulℤ : (m : ℕ) (a : ℤ) → pos (suc m) *ℤ a ≡ pos m *ℤ a +ℤ a
+suc-mulℤ m a =
+    let one : pos (suc m) ≡ pos m +ℤ pos 1 = omega (arith, ints) in
+    ap (λ z. z *ℤ a) one ∙ add-mulℤ (pos m) (pos 1) a ∙ ap (λ z. pos m *ℤ a +ℤ z) (one-mulℤ a)
 
 pub zero-subℤ : (a : ℤ) → pos 0 -ℤ a ≡ neg_ℤ a
 zero-subℤ a = omega (arith, ints)
@@ -127,6 +139,12 @@ mul-subℤ a b c = omega (arith, linear, mul-addℤ a b (neg_ℤ c), mul-negℤ 
 pub sub-mulℤ : (a b c : ℤ) → (a -ℤ b) *ℤ c ≡ a *ℤ c -ℤ b *ℤ c
 sub-mulℤ a b c = omega (arith, linear, add-mulℤ a (neg_ℤ b) c, neg-mulℤ b c)
 
+pub negsuc-mulℤ : (m : ℕ) (a : ℤ) → negsuc m *ℤ a ≡ pos 0 -ℤ pos (suc m) *ℤ a
+negsuc-mulℤ m a =
+    let opposite : negsuc m ≡ neg_ℤ (pos (suc m)) = omega (arith, ints) in
+    let product = ap (λ z. z *ℤ a) opposite ∙ neg-mulℤ (pos (suc m)) a in
+    omega (arith, linear, product)
+
 -- ---- orders
 
 pub mul-nonnegativeℤ : (a b : ℤ) → pos 0 ≤ℤ a → pos 0 ≤ℤ b → pos 0 ≤ℤ (a *ℤ b)
@@ -155,6 +173,11 @@ pub mul-le_cancelℤ : (c a b : ℤ) → pos 0 <ℤ c → (c *ℤ a) ≤ℤ (c *
 mul-le_cancelℤ c a b h k =
     let other : b <ℤ a → ⊥ = λ lt. omega (arith, linear, mul-ltℤ c b a h lt) in
     by_lt_z b a (λ lt. absurd (other lt)) (λ le. le)
+
+pub mul-lt_cancelℤ : (c a b : ℤ) → pos 0 <ℤ c → (c *ℤ a) <ℤ (c *ℤ b) → a <ℤ b
+mul-lt_cancelℤ c a b h k =
+    let other : b ≤ℤ a → ⊥ = λ le. omega (arith, linear, mul-leℤ c b a (omega (arith, linear)) le) in
+    by_lt_z a b (λ lt. lt) (λ le. absurd (other le))
 
 pub mul-cancelℤ : (c a b : ℤ) → pos 0 <ℤ c → c *ℤ a ≡ c *ℤ b → a ≡ b
 mul-cancelℤ c a b h k =

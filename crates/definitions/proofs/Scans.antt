@@ -13,7 +13,10 @@ use Rattle.definitions.specs.Sums.{IsGreatest}
 use Rattle.definitions.specs.Games.{Game, Allocation, excess, Blocks, IsChosenBlocker}
 use Rattle.definitions.proofs.Cases.{less_or_last_of}
 
--- ---- the greatest so far
+-- ---- the greatest, and the greatest so far
+
+pub IsGreatest-unique : (P : ℕ → Type 0) (f : ℕ → ℤ) (m k : ℤ) → IsGreatest P f m → IsGreatest P f k → m ≡ k
+IsGreatest-unique P f m k h l = omega (arith, linear, h.0.2, l.0.2, h.1 l.0.0 l.0.1, l.1 h.0.0 h.0.1)
 
 greatest-kept : (f : ℕ → ℤ) (k : ℕ) (m : ℤ) → IsGreatest (λ s. s < k) f m → f k ≤ℤ m
     → IsGreatest (λ s. s < k + 1) f m

@@ -1,15 +1,12 @@
 -- How many members a coalition has.
 use Rattle.std.proofs.Common.{◌≡◌, ℕ, zero, suc, ◌+◌, ◌-◌, ◌^◌, ◌<◌, ◌≤◌, Bool, true, false, [], ◌∷◌}
-use Rattle.std.proofs.Common.{length, length-append, refl, sym, ap, subst, ◌∙◌, inl, inr, arith}
-use Rattle.std.proofs.lemmas.Bool.Decides.{nat_tests}
+use Rattle.std.proofs.Common.{length, length-append, add-one, refl, sym, ap, subst, ◌∙◌, inl, inr, arith}
 use Rattle.std.proofs.lemmas.Nat.Bits.{bit_at-zero, bit_at-lt, bit_at_above, same_from_bits}
 use Rattle.std.specs.Int.{bit_at}
 use Rattle.definitions.proofs.Members.{members-zero, members-more_yes, members-more_no}
+use Rattle.definitions.proofs.Parts.{has_player-past}
 use Rattle.definitions.specs.Coalitions.{has_player, members, size}
 use Rattle.definitions.proofs.Cases.{less_or_last, below_or_above, zero_bit}
-
-has_player-above : (n s i : ℕ) → s < 2 ^ n → n ≤ i → has_player s i ≡ false
-has_player-above n s i h le = grind (arith, nat_tests, bit_at_above s n i h le)
 
 -- one player more is a member more, or none
 pub length-more_yes : (n s : ℕ) → has_player s n ≡ true → length (members (n + 1) s) ≡ length (members n s) + 1
@@ -21,35 +18,29 @@ length-more_no n s h = rw (members-more_no n s h) refl
 -- no more members than players
 pub length-few : (n s : ℕ) → length (members n s) ≤ n
 length-few zero s = rw (members-zero s) (omega arith)
-length-few (suc n) s = rw next (step (has_player s n) refl (length-few n s))
+length-few (suc n) s = rw (← add-one n) (with_last (has_player s n) refl (length-few n s))
   where
-    next : suc n ≡ n + 1
-    next = omega arith
-
-    step : (b : Bool) → has_player s n ≡ b → length (members n s) ≤ n → length (members (n + 1) s) ≤ n + 1
-    step true h low = omega (arith, length-more_yes n s h)
-    step false h low = omega (arith, length-more_no n s h)
+    with_last : (b : Bool) → has_player s n ≡ b → length (members n s) ≤ n → length (members (n + 1) s) ≤ n + 1
+    with_last true h low = omega (arith, length-more_yes n s h)
+    with_last false h low = omega (arith, length-more_no n s h)
 
 -- players beyond those of a game are no members
 length-beyond : (n k s : ℕ) → s < 2 ^ n → length (members (n + k) s) ≡ length (members n s)
 length-beyond n zero s h = let same : n + 0 ≡ n = omega arith in rw same refl
 length-beyond n (suc k) s h =
     let next : n + suc k ≡ (n + k) + 1 = omega arith in
-    rw next (length-more_no (n + k) s (has_player-above n s (n + k) h (omega arith)) ∙ length-beyond n k s h)
+    rw next (length-more_no (n + k) s (has_player-past n s (n + k) h (omega arith)) ∙ length-beyond n k s h)
 
 -- without members, each player is outside
 none-at : (n s : ℕ) → length (members n s) ≡ 0 → (i : ℕ) → i < n → has_player s i ≡ false
 none-at zero s e i lt = absurd (omega arith)
-none-at (suc n) s e i lt = step (has_player s n) refl (none-at n s)
+none-at (suc n) s e i lt = with_last (has_player s n) refl (none-at n s)
   where
-    next : suc n ≡ n + 1
-    next = omega arith
-
-    step : (b : Bool) → has_player s n ≡ b → (length (members n s) ≡ 0 → (i : ℕ) → i < n → has_player s i ≡ false)
+    with_last : (b : Bool) → has_player s n ≡ b → (length (members n s) ≡ 0 → (i : ℕ) → i < n → has_player s i ≡ false)
         → has_player s i ≡ false
-    step true h less = absurd (omega (arith, length-more_yes n s h, rw next at e))
-    step false h less =
-        let rest : length (members n s) ≡ 0 = sym (length-more_no n s h) ∙ (rw next at e) in
+    with_last true h less = absurd (omega (arith, length-more_yes n s h, rw (← add-one n) at e))
+    with_last false h less =
+        let rest : length (members n s) ≡ 0 = sym (length-more_no n s h) ∙ (rw (← add-one n) at e) in
         elim (less_or_last i n lt) [ inl lower ↦ less rest i lower | inr same ↦ ap (has_player s) same ∙ h ]
 
 empty-from_none : (n s : ℕ) → s < 2 ^ n → length (members n s) ≡ 0 → s ≡ 0

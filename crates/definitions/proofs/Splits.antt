@@ -1,8 +1,10 @@
--- Whether some number below a bound passes a test, and the coalitions that split a set of players.
+-- Whether some number below a bound passes a test, or all do, and the coalitions that split a set of players.
+--
+--   passes_below n test   each number below n passes
 use Rattle.std.proofs.Common.{◌≡◌, ℕ, zero, suc, ◌<◌, Bool, true, false, ◌&&◌}
-use Rattle.std.proofs.Common.{◌||◌, not, refl, sym, inl, inr, arith}
+use Rattle.std.proofs.Common.{not, refl, sym, ap, ◌∙◌, inl, inr, arith}
 use Rattle.std.proofs.lemmas.Bool.{false≢true}
-use Rattle.definitions.proofs.Cases.{less_or_last, or_cases, or_true}
+use Rattle.definitions.proofs.Cases.{less_or_last, or_cases, or_true, neither, and_left, and_right}
 use Rattle.definitions.proofs.Members.{has_player-singleton, has_player-singleton_other}
 use Rattle.definitions.specs.Coalitions.{has_player, singleton, some_below, splits}
 
@@ -40,10 +42,18 @@ some_below-false (suc n) test e i h = elim (less_or_last i n h) [
   | inl less ↦ some_below-false n test (neither (test n) (some_below n test) e).1 i less
   | inr same ↦ rw same (neither (test n) (some_below n test) e).0
 ]
-  where
-    neither : (a b : Bool) → (a || b) ≡ false → (a ≡ false) × (b ≡ false)
-    neither true b h = absurd (false≢true (sym h))
-    neither false b h = (refl, h)
+
+-- each number below n passes
+abbrev pub passes_below : ℕ → (ℕ → Bool) → Bool
+passes_below zero test = true
+passes_below (suc n) test = passes_below n test && test n
+
+pub passes_below-at : (n : ℕ) (test : ℕ → Bool) → passes_below n test ≡ true → (t : ℕ) → t < n → test t ≡ true
+passes_below-at zero test h t lt = absurd (omega arith)
+passes_below-at (suc n) test h t lt = elim (less_or_last t n lt) [
+  | inl less ↦ passes_below-at n test (and_left (passes_below n test) (test n) h) t less
+  | inr same ↦ ap test same ∙ and_right (passes_below n test) (test n) h
+]
 
 -- of two players of f, the first alone is a coalition that splits f
 pub splits-singleton : (n f i j : ℕ) → i < j → j < n → has_player f i ≡ true → has_player f j ≡ true

@@ -8,6 +8,7 @@ use Rattle.std.proofs.lemmas.Int.{ints, by_lt_z}
 use Rattle.definitions.proofs.Ring.{linear, mul-zeroℤ, zero-mulℤ, mul-oneℤ, one-mulℤ, neg-mulℤ, mul-negℤ}
 use Rattle.definitions.proofs.Members.{has_player-empty, sum_below-same, sum_below-times}
 use Rattle.definitions.proofs.Members.{sum_below-zero, sum_below-front, sum_over-grand_coalition}
+use Rattle.definitions.proofs.Members.{sum_below-nonnegative, times_bit}
 use Rattle.definitions.proofs.SumsOver.{sum_over-same}
 use Rattle.definitions.proofs.Masks.{grand_coalition-within}
 use Rattle.definitions.proofs.Cases.{nat_eq-same, nat_eq-less, less_or_last}
@@ -18,7 +19,7 @@ use Rattle.definitions.specs.Balanced.{AscendsFrom}
 use Rattle.duality.specs.Farkas.{MeetsAll, Contradicts}
 use Rattle.duality.specs.BondarevaShapley.{HasBalancedCollection, BondarevaShapley}
 use Rattle.theorems.proofs.Bondareva.{collection_blocks}
-use Rattle.theorems.proofs.SomeMembers.{some_member}
+use Rattle.definitions.proofs.SomeMembers.{some_member}
 use Rattle.duality.proofs.CommonDivisors.{IsUnreduced, reduced}
 use Rattle.duality.proofs.Farkas.{farkas}
 
@@ -131,34 +132,34 @@ collected w j (suc c) = if int_lt (pos 0) (w j) then (j, w j) ∷ collected w (j
 collected_ascends : (w : ℕ → ℤ) (low j c : ℕ) → low < j → AscendsFrom low (collected w j c)
 collected_ascends w low j zero h = tt
 collected_ascends w low j (suc c) h =
-    step (int_lt (pos 0) (w j)) (collected_ascends w j (j + 1) c (omega arith))
+    ascends_either (int_lt (pos 0) (w j)) (collected_ascends w j (j + 1) c (omega arith))
     (collected_ascends w low (j + 1) c (omega arith))
   where
-    step : (b : Bool) → AscendsFrom j (collected w (j + 1) c) → AscendsFrom low (collected w (j + 1) c)
+    ascends_either : (b : Bool) → AscendsFrom j (collected w (j + 1) c) → AscendsFrom low (collected w (j + 1) c)
         → AscendsFrom low (cond b ((j, w j) ∷ collected w (j + 1) c) (collected w (j + 1) c))
-    step true taken left = (h, taken)
-    step false taken left = left
+    ascends_either true taken left = (h, taken)
+    ascends_either false taken left = left
 
 collected_within : (w : ℕ → ℤ) (j c n : ℕ) → j + c ≤ n → AllByRecursion (λ (p : ℕ × ℤ). p.0 < n) (collected w j c)
 collected_within w j zero n h = tt
-collected_within w j (suc c) n h = step (int_lt (pos 0) (w j)) (collected_within w (j + 1) c n (omega arith))
+collected_within w j (suc c) n h = within_either (int_lt (pos 0) (w j)) (collected_within w (j + 1) c n (omega arith))
   where
-    step : (b : Bool) → AllByRecursion (λ (p : ℕ × ℤ). p.0 < n) (collected w (j + 1) c)
+    within_either : (b : Bool) → AllByRecursion (λ (p : ℕ × ℤ). p.0 < n) (collected w (j + 1) c)
         → AllByRecursion (λ (p : ℕ × ℤ). p.0 < n)
         (cond b ((j, w j) ∷ collected w (j + 1) c) (collected w (j + 1) c))
-    step true ih = (omega arith, ih)
-    step false ih = ih
+    within_either true ih = (omega arith, ih)
+    within_either false ih = ih
 
 collected_positive : (w : ℕ → ℤ) (j c : ℕ) → AllByRecursion (λ (p : ℕ × ℤ). pos 1 ≤ℤ p.1) (collected w j c)
 collected_positive w j zero = tt
-collected_positive w j (suc c) = step (int_lt (pos 0) (w j)) refl (collected_positive w (j + 1) c)
+collected_positive w j (suc c) = positive_either (int_lt (pos 0) (w j)) refl (collected_positive w (j + 1) c)
   where
-    step : (b : Bool) → int_lt (pos 0) (w j) ≡ b
+    positive_either : (b : Bool) → int_lt (pos 0) (w j) ≡ b
         → AllByRecursion (λ (p : ℕ × ℤ). pos 1 ≤ℤ p.1) (collected w (j + 1) c)
         → AllByRecursion (λ (p : ℕ × ℤ). pos 1 ≤ℤ p.1)
         (cond b ((j, w j) ∷ collected w (j + 1) c) (collected w (j + 1) c))
-    step true e ih = (omega (arith, ints, e), ih)
-    step false e ih = ih
+    positive_either true e ih = (omega (arith, ints, e), ih)
+    positive_either false e ih = ih
 
 collected_sum : (f w : ℕ → ℤ) (j c : ℕ) → ((s : ℕ) → s < j + c → pos 0 ≤ℤ w s)
     → weighted_sum f (collected w j c) ≡ sum_below c (λ t. w (j + t) *ℤ f (j + t))
@@ -169,28 +170,24 @@ collected_sum f w j (suc c) low =
     sum_below-same c (λ t. w (j + 1 + t) *ℤ f (j + 1 + t)) (λ t. w (j + suc t) *ℤ f (j + suc t))
     (λ t h. ap (λ (s : ℕ). w s *ℤ f s) (shift t)) in
     let first : w (j + 0) *ℤ f (j + 0) ≡ w j *ℤ f j = ap (λ (s : ℕ). w s *ℤ f s) (omega arith) in
-    step (int_lt (pos 0) (w j)) refl ∙ ap (λ (z : ℤ). w j *ℤ f j +ℤ z) (ih ∙ moved)
+    sum_either (int_lt (pos 0) (w j)) refl ∙ ap (λ (z : ℤ). w j *ℤ f j +ℤ z) (ih ∙ moved)
     ∙ ap (λ (z : ℤ). z +ℤ sum_below c (λ t. w (j + suc t) *ℤ f (j + suc t))) (sym first)
     ∙ sym (sum_below-front c (λ t. w (j + t) *ℤ f (j + t)))
   where
     shift : (t : ℕ) → j + 1 + t ≡ j + suc t
     shift t = omega arith
 
-    step : (b : Bool) → int_lt (pos 0) (w j) ≡ b
+    sum_either : (b : Bool) → int_lt (pos 0) (w j) ≡ b
         → weighted_sum f (cond b ((j, w j) ∷ collected w (j + 1) c) (collected w (j + 1) c))
         ≡ w j *ℤ f j +ℤ weighted_sum f (collected w (j + 1) c)
-    step true e = refl
-    step false e =
+    sum_either true e = refl
+    sum_either false e =
         let none : w j ≡ pos 0 = omega (arith, ints, e, low j (omega arith)) in
         omega (arith, linear, ap (λ (z : ℤ). z *ℤ f j) none, zero-mulℤ (f j))
 
 pub weights_at : (ps : List (ℕ × ℤ)) (i : ℕ) → weight_at ps i ≡ weighted_sum (λ s. member s i) ps
 weights_at [] i = refl
-weights_at (p ∷ ps) i = omega (arith, linear, weights_at ps i, step (has_player p.0 i))
-  where
-    step : (b : Bool) → p.1 *ℤ cond b (pos 1) (pos 0) ≡ cond b p.1 (pos 0)
-    step true = mul-oneℤ p.1
-    step false = mul-zeroℤ p.1
+weights_at (p ∷ ps) i = omega (arith, linear, weights_at ps i, times_bit (has_player p.0 i) p.1)
 
 -- nothing is lost with the empty coalition
 without_empty : (n : ℕ) (f w : ℕ → ℤ) → ((s : ℕ) → s < 2 ^ n → pos 0 ≤ℤ w s) → w 0 *ℤ f 0 ≡ pos 0
@@ -217,16 +214,13 @@ without_empty n f w low none =
 
 -- ---- the weight of all is positive
 
--- numbers of at least 0 add to at least each, and to at least 0
-sum_low : (m : ℕ) (f : ℕ → ℤ) → ((s : ℕ) → s < m → pos 0 ≤ℤ f s) → pos 0 ≤ℤ sum_below m f
-sum_low zero f low = omega (arith, linear)
-sum_low (suc m) f low = omega (arith, linear, sum_low m f (λ s h. low s (omega arith)), low m (omega arith))
+-- numbers of at least 0 add to at least each
 
 one_of_sum : (m s : ℕ) (f : ℕ → ℤ) → ((s : ℕ) → s < m → pos 0 ≤ℤ f s) → s < m → f s ≤ℤ sum_below m f
 one_of_sum zero s f low lt = absurd (omega arith)
 one_of_sum (suc m) s f low lt = elim (less_or_last s m lt) [
   | inl less ↦ omega (arith, linear, one_of_sum m s f (λ t h. low t (omega arith)) less, low m (omega arith))
-  | inr same ↦ (let e = ap f same in omega (arith, linear, sum_low m f (λ t h. low t (omega arith)), e))
+  | inr same ↦ (let e = ap f same in omega (arith, linear, sum_below-nonnegative m f (λ t h. low t (omega arith)), e))
 ]
 
 member_low : (b : Bool) (z : ℤ) → pos 0 ≤ℤ z → pos 0 ≤ℤ (z *ℤ cond b (pos 1) (pos 0))

@@ -1,5 +1,5 @@
 -- Pairs of a key and a weight, one for each number that passes a test, in ascending order.
-use Rattle.std.proofs.Common.{◌≡◌, ◌⊎◌, ℕ, zero, suc, ◌+◌, ◌<◌, ◌≤◌, Bool, true, false, cond, ◌&&◌, nat_eq, List}
+use Rattle.std.proofs.Common.{◌≡◌, ℕ, zero, suc, ◌+◌, ◌<◌, ◌≤◌, Bool, true, false, cond, ◌&&◌, nat_eq, List}
 use Rattle.std.proofs.Common.{[], ◌∷◌, length, ℤ, pos, ◌+ℤ◌, ◌*ℤ◌, int_le, refl, ap, subst, ◌∙◌, inl, inr}
 use Rattle.std.proofs.Common.{arith, if◌then◌else◌}
 use Rattle.std.specs.List.{AllByRecursion, list_any}
@@ -7,6 +7,7 @@ use Rattle.std.proofs.lemmas.Bool.{false≢true}
 use Rattle.definitions.proofs.Ring.{linear, zero-mulℤ}
 use Rattle.definitions.proofs.Members.{times_bit, sum_below-same, sum_below-front}
 use Rattle.definitions.proofs.Cases.{from_nat_eq, nat_eq-same, or_cases, or_left, or_right, and_parts}
+use Rattle.definitions.proofs.Cases.{same_or_later}
 use Rattle.definitions.specs.Sums.{sum_below, weighted_sum}
 use Rattle.definitions.specs.Coalitions.{weight_at}
 use Rattle.definitions.specs.Certificates.{number_at, Ascends}
@@ -24,25 +25,25 @@ pub chosen_ascends : (key : ℕ → ℕ) (test : ℕ → Bool) (w : ℕ → ℤ)
     → (low t c : ℕ) → low ≤ key t → Ascends low (chosen key test w t c)
 chosen_ascends key test w rises low t zero h = tt
 chosen_ascends key test w rises low t (suc c) h =
-    step (test t) (chosen_ascends key test w rises (key t + 1) (t + 1) c (rises t))
+    ascends_either (test t) (chosen_ascends key test w rises (key t + 1) (t + 1) c (rises t))
     (chosen_ascends key test w rises low (t + 1) c (let r = rises t in omega (arith, r, h)))
   where
-    step : (b : Bool) → Ascends (key t + 1) (chosen key test w (t + 1) c)
+    ascends_either : (b : Bool) → Ascends (key t + 1) (chosen key test w (t + 1) c)
         → Ascends low (chosen key test w (t + 1) c)
         → Ascends low (cond b ((key t, w t) ∷ chosen key test w (t + 1) c) (chosen key test w (t + 1) c))
-    step true taken left = (h, taken)
-    step false taken left = left
+    ascends_either true taken left = (h, taken)
+    ascends_either false taken left = left
 
 pub chosen_all : (P : ℕ × ℤ → Type 0) (key : ℕ → ℕ) (test : ℕ → Bool) (w : ℕ → ℤ) (t c : ℕ)
     → ((k : ℕ) → k < t + c → test k ≡ true → P (key k, w k)) → AllByRecursion P (chosen key test w t c)
 chosen_all P key test w t zero h = tt
 chosen_all P key test w t (suc c) h =
-    step (test t) refl (chosen_all P key test w (t + 1) c (λ k lt e. h k (omega arith) e))
+    all_either (test t) refl (chosen_all P key test w (t + 1) c (λ k lt e. h k (omega arith) e))
   where
-    step : (b : Bool) → test t ≡ b → AllByRecursion P (chosen key test w (t + 1) c)
+    all_either : (b : Bool) → test t ≡ b → AllByRecursion P (chosen key test w (t + 1) c)
         → AllByRecursion P (cond b ((key t, w t) ∷ chosen key test w (t + 1) c) (chosen key test w (t + 1) c))
-    step true e ih = (h t (omega arith) e, ih)
-    step false e ih = ih
+    all_either true e ih = (h t (omega arith) e, ih)
+    all_either false e ih = ih
 
 -- numbers that don't pass weigh nothing, so nothing is lost
 pub chosen_sum : (f : ℕ → ℤ) (key : ℕ → ℕ) (test : ℕ → Bool) (w : ℕ → ℤ) (t c : ℕ)
@@ -56,16 +57,16 @@ chosen_sum f key test w t (suc c) none =
     (λ k h. ap (λ (s : ℕ). w s *ℤ f (key s)) (shift k)) in
     let first : w (t + 0) *ℤ f (key (t + 0)) ≡ w t *ℤ f (key t) = ap (λ (s : ℕ). w s *ℤ f (key s)) (omega arith) in
     let front = sum_below-front c (λ k. w (t + k) *ℤ f (key (t + k))) in
-    omega (arith, linear, step (test t) refl, ih, moved, first, front)
+    omega (arith, linear, sum_either (test t) refl, ih, moved, first, front)
   where
     shift : (k : ℕ) → t + 1 + k ≡ t + suc k
     shift k = omega arith
 
-    step : (b : Bool) → test t ≡ b
+    sum_either : (b : Bool) → test t ≡ b
         → weighted_sum f (cond b ((key t, w t) ∷ chosen key test w (t + 1) c) (chosen key test w (t + 1) c))
         ≡ w t *ℤ f (key t) +ℤ weighted_sum f (chosen key test w (t + 1) c)
-    step true e = refl
-    step false e = omega (arith, linear, ap (λ (z : ℤ). z *ℤ f (key t)) (none t e), zero-mulℤ (f (key t)))
+    sum_either true e = refl
+    sum_either false e = omega (arith, linear, ap (λ (z : ℤ). z *ℤ f (key t)) (none t e), zero-mulℤ (f (key t)))
 
 pub chosen_from_zero : (f : ℕ → ℤ) (key : ℕ → ℕ) (test : ℕ → Bool) (w : ℕ → ℤ) (c : ℕ)
     → ((k : ℕ) → test k ≡ false → w k ≡ pos 0)
@@ -102,14 +103,11 @@ is_key s p = nat_eq p.0 s
 pub chosen_any : (key : ℕ → ℕ) (test : ℕ → Bool) (w : ℕ → ℤ) (t c k : ℕ) → t ≤ k → k < t + c → test k ≡ true
     → list_any (λ (p : ℕ × ℤ). nat_eq p.0 (key k)) (chosen key test w t c) ≡ true
 chosen_any key test w t zero k low high e = absurd (omega arith)
-chosen_any key test w t (suc c) k low high e = elim (first_or_later t k low) [
+chosen_any key test w t (suc c) k low high e = elim (same_or_later t k low) [
   | inl same ↦ here (test t) (ap test same ∙ e) (ap key same)
-  | inr later ↦ step (test t) (chosen_any key test w (t + 1) c k later (omega arith) e)
+  | inr later ↦ any_either (test t) (chosen_any key test w (t + 1) c k later (omega arith) e)
 ]
   where
-    first_or_later : (t k : ℕ) → t ≤ k → (t ≡ k) ⊎ (t + 1 ≤ k)
-    first_or_later t k low = grind arith
-
     here : (b : Bool) → b ≡ true → key t ≡ key k
         → list_any (is_key (key k))
         (cond b ((key t, w t) ∷ chosen key test w (t + 1) c) (chosen key test w (t + 1) c))
@@ -119,12 +117,12 @@ chosen_any key test w t (suc c) k low high e = elim (first_or_later t k low) [
         (ap (λ (s : ℕ). nat_eq s (key k)) same ∙ nat_eq-same (key k))
     here false e same = absurd (false≢true e)
 
-    step : (b : Bool) → list_any (is_key (key k)) (chosen key test w (t + 1) c) ≡ true
+    any_either : (b : Bool) → list_any (is_key (key k)) (chosen key test w (t + 1) c) ≡ true
         → list_any (is_key (key k))
         (cond b ((key t, w t) ∷ chosen key test w (t + 1) c) (chosen key test w (t + 1) c))
         ≡ true
-    step true ih = or_right (nat_eq (key t) (key k)) (list_any (is_key (key k)) (chosen key test w (t + 1) c)) ih
-    step false ih = ih
+    any_either true ih = or_right (nat_eq (key t) (key k)) (list_any (is_key (key k)) (chosen key test w (t + 1) c)) ih
+    any_either false ih = ih
 
 pub some_any : (test : ℕ × ℤ → Bool) (ps : List (ℕ × ℤ)) → list_any test ps ≡ true → 1 ≤ length ps
 some_any test [] e = absurd (false≢true e)

@@ -1,6 +1,6 @@
 -- Weights over their greatest common divisor.
 use Rattle.std.proofs.Common.{◌≡◌, ℕ, zero, suc, ◌*◌, ◌/◌, ◌%◌, ◌^◌, ◌<◌, ◌≤◌, Bool, true, false, cond, List}
-use Rattle.std.proofs.Common.{[], ◌∷◌, ℤ, pos, negsuc, ◌*ℤ◌, ◌<ℤ◌, ◌≤ℤ◌, unsigned_abs, refl, sym, ap, subst}
+use Rattle.std.proofs.Common.{[], ◌∷◌, ℤ, pos, ◌*ℤ◌, ◌<ℤ◌, ◌≤ℤ◌, unsigned_abs, sym, ap, subst}
 use Rattle.std.proofs.Common.{◌∙◌, inl, inr, arith, mod-lt, eq-zero-or-pos, if◌then◌else◌}
 use Prim.Native.Nat.{◌∣◌}
 use Rattle.std.specs.Int.{IsGcd}
@@ -9,9 +9,8 @@ use Rattle.std.proofs.lemmas.Int.{ints, unsigned_abs-mul}
 use Rattle.std.proofs.lemmas.Nat.Gcd.{dvd_refl, dvd_trans, IsGcd-from_zero, IsGcd-from_mod}
 use Rattle.std.proofs.Math.Nat.{dvd-mul_right, le_refl}
 use native.Mathlib.Nat.{le_of_dvd, mul-div_cancel', mul-dvd-mul_left, pos_of_dvd_of_pos}
-use Rattle.definitions.proofs.Ring.{linear, mul-addℤ, mul_assocℤ, mul-zeroℤ, mul-cancelℤ}
+use Rattle.definitions.proofs.Ring.{linear, mul-addℤ, mul_assocℤ, mul-zeroℤ, mul-cancelℤ, mul-lt_cancelℤ}
 use Rattle.definitions.proofs.Alls.{all_weaken}
-use Rattle.duality.proofs.Elimination.{lt_cancel}
 use Rattle.definitions.specs.Sums.{weighted_sum}
 use Rattle.definitions.specs.Coalitions.{has_player, grand_coalition, weight_at}
 use Rattle.definitions.specs.Games.{Game}
@@ -59,22 +58,20 @@ abbrev all_over : ℕ → List (ℕ × ℤ) → List (ℕ × ℤ)
 all_over g [] = []
 all_over g (p ∷ ps) = (p.0, over g p.1) ∷ all_over g ps
 
-natural : (z : ℤ) → pos 1 ≤ℤ z → z ≡ pos (unsigned_abs z)
-natural (pos z) h = refl
-natural (negsuc z) h = absurd (omega (arith, ints, h))
-
 product_of : (a b c : ℕ) → a * b ≡ c → pos a *ℤ pos b ≡ pos c
 product_of a b c e = omega (arith, ints, e)
 
 times_over : (g : ℕ) (z : ℤ) → pos 1 ≤ℤ z → g ∣ unsigned_abs z → pos g *ℤ over g z ≡ z
-times_over g z h k = product_of g (unsigned_abs z / g) (unsigned_abs z) (mul-div_cancel' g k) ∙ sym (natural z h)
+times_over g z h k =
+    let natural : pos (unsigned_abs z) ≡ z = omega (arith, ints, h) in
+    product_of g (unsigned_abs z / g) (unsigned_abs z) (mul-div_cancel' g k) ∙ natural
 
 over_positive : (g : ℕ) (z : ℤ) → pos 1 ≤ℤ z → g ∣ unsigned_abs z → pos 1 ≤ℤ over g z
-over_positive g z h k = step (unsigned_abs z / g) (times_over g z h k)
+over_positive g z h k = quotient_positive (unsigned_abs z / g) (times_over g z h k)
   where
-    step : (c : ℕ) → pos g *ℤ pos c ≡ z → pos 1 ≤ℤ pos c
-    step zero e = absurd (omega (arith, linear, e, h, mul-zeroℤ (pos g)))
-    step (suc c) e = omega (arith, ints)
+    quotient_positive : (c : ℕ) → pos g *ℤ pos c ≡ z → pos 1 ≤ℤ pos c
+    quotient_positive zero e = absurd (omega (arith, linear, e, h, mul-zeroℤ (pos g)))
+    quotient_positive (suc c) e = omega (arith, ints)
 
 abbrev Positive : ℕ × ℤ → Type 0
 Positive p = pos 1 ≤ℤ p.1
@@ -100,7 +97,7 @@ weight_over : (g : ℕ) (i : ℕ) (ps : List (ℕ × ℤ)) → AllByRecursion Po
     → pos g *ℤ weight_at (all_over g ps) i ≡ weight_at ps i
 weight_over g i [] h k = mul-zeroℤ (pos g)
 weight_over g i (p ∷ ps) h k =
-    let here = step (has_player p.0 i) in
+    let here = times_either (has_player p.0 i) in
     omega (
       arith,
       linear,
@@ -109,9 +106,9 @@ weight_over g i (p ∷ ps) h k =
       mul-addℤ (pos g) (if has_player p.0 i then over g p.1 else pos 0) (weight_at (all_over g ps) i),
     )
   where
-    step : (b : Bool) → pos g *ℤ cond b (over g p.1) (pos 0) ≡ cond b p.1 (pos 0)
-    step true = times_over g p.1 h.0 k.0
-    step false = mul-zeroℤ (pos g)
+    times_either : (b : Bool) → pos g *ℤ cond b (over g p.1) (pos 0) ≡ cond b p.1 (pos 0)
+    times_either true = times_over g p.1 h.0 k.0
+    times_either false = mul-zeroℤ (pos g)
 
 ascends_over : (g low : ℕ) (ps : List (ℕ × ℤ)) → AscendsFrom low ps → AscendsFrom low (all_over g ps)
 ascends_over g low [] h = tt
@@ -165,7 +162,9 @@ pub reduced : (g : Game) (ps : List (ℕ × ℤ)) (k : ℤ) → IsUnreduced g ps
 reduced g ps k h =
     let r = greatest_divisor (unsigned_abs k) ps in
     let c = r.0 in
-    let some : 0 < c = pos_of_dvd_of_pos r.1.first (size_positive k h.positive) in
+    let positive = h.positive in
+    let size : 0 < unsigned_abs k = omega (arith, ints, positive) in
+    let some : 0 < c = pos_of_dvd_of_pos r.1.first size in
     let above : pos 0 <ℤ pos c = omega (arith, ints, some) in
     let whole = times_over c k h.positive r.1.first in (
       all_over c ps,
@@ -178,7 +177,7 @@ reduced g ps k h =
         balanced = λ i lt. mul-cancelℤ (pos c) (weight_at (all_over c ps) i) (over c k) above
             (weight_over c i ps h.weights r.1.each ∙ h.balanced i lt ∙ sym whole);
         excess_worth =
-            lt_cancel (pos c) (over c k *ℤ g.worth (grand_coalition g.players))
+            mul-lt_cancelℤ (pos c) (over c k *ℤ g.worth (grand_coalition g.players))
             (weighted_sum g.worth (all_over c ps))
             above
             (omega (
@@ -194,6 +193,3 @@ reduced g ps k h =
             (r.1.greatest (c * d) (times_divides c d k r.1.first first) (times_divide c d ps r.1.each each)));
       },
     )
-  where
-    size_positive : (z : ℤ) → pos 1 ≤ℤ z → 0 < unsigned_abs z
-    size_positive z h = omega (arith, ints, h)

@@ -189,10 +189,6 @@ fractions_ascend a b c p q r hp hq hr h k =
     let e3 : p *ℤ (c *ℤ q) ≡ q *ℤ (c *ℤ p) = simp ring_laws refl in
     mul-le_cancelℤ q (a *ℤ r) (c *ℤ p) hq (omega (arith, linear, one, two, e1, e2, e3))
 
-pub lt_cancel : (c a b : ℤ) → pos 0 <ℤ c → (c *ℤ a) <ℤ (c *ℤ b) → a <ℤ b
-lt_cancel c a b h k =
-    by_lt_z a b (λ lt. lt) (λ le. absurd (omega (arith, linear, k, mul-leℤ c b a (omega (arith, linear, h)) le)))
-
 -- a row whose fraction is at most that of each
 pub record Least (e c : Row → ℤ) (Q : Row → Type 0) (us : List Row) : Type 0 where
   pub row : Row

@@ -6,8 +6,9 @@ use Rattle.std.specs.List.{AllByRecursion}
 use Rattle.std.proofs.lemmas.Int.{by_lt_z}
 use Rattle.definitions.proofs.Ring.{linear, ring_laws, mul-addℤ, add-mulℤ, one-mulℤ, neg-mulℤ, mul_left_commℤ}
 use Rattle.definitions.proofs.Ring.{mul_assocℤ, mul-leℤ, mul-ltℤ, mul-le_cancelℤ, mul-cancelℤ, mul-positiveℤ}
+use Rattle.definitions.proofs.Ring.{mul-lt_cancelℤ}
 use Rattle.definitions.proofs.Alls.{all_weaken, all_join, all_right}
-use Rattle.duality.proofs.Elimination.{Row, Meets, lt_cancel}
+use Rattle.duality.proofs.Elimination.{Row, Meets}
 use Rattle.duality.proofs.LeastValues.{In}
 use Rattle.duality.proofs.Levels.{Member, all_member, Choice, pick, upto, upto_member, upto_below, val, Flat}
 use Rattle.duality.proofs.Levels.{set_one, val_set, in_set, scaled, val_scaled, in_scaled, Tops, minimax, cappeds}
@@ -240,7 +241,7 @@ module _ (n m : ℕ) (e : ℕ → Row) (level : (j : ℕ) → Flat (e j)) (base 
             (let scaled =
             mul-ltℤ (y 0) (x 1 *ℤ z 0) (x 0 *ℤ val n z (e k)) (let h = hy.0 in omega (arith, linear, h)) above in
             let a = ap (λ (t : ℤ). z 0 *ℤ t) (c.is y hy) in
-            lt_cancel (x 0) (z 0 *ℤ val n y (e c.one)) (y 0 *ℤ val n z (e k)) some
+            mul-lt_cancelℤ (x 0) (z 0 *ℤ val n y (e c.one)) (y 0 *ℤ val n z (e k)) some
             (omega (
               arith,
               linear,

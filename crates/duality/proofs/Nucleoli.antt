@@ -3,18 +3,19 @@ use Rattle.std.proofs.Common.{◌≡◌, ◌⊎◌, ℕ, zero, suc, ◌+◌, ◌
 use Rattle.std.proofs.Common.{List, [], ◌∷◌, map, ℤ, pos, neg_ℤ, ◌+ℤ◌, ◌-ℤ◌, ◌*ℤ◌, ◌≤ℤ◌, refl, sym, ap}
 use Rattle.std.proofs.Common.{subst, ◌∙◌, inl, inr, arith, nat_eq, if◌then◌else◌}
 use Rattle.std.specs.List.{AllByRecursion}
-use Rattle.definitions.proofs.Ring.{linear, ring_laws, mul-zeroℤ, zero-mulℤ, one-mulℤ, neg-mulℤ}
+use Rattle.definitions.proofs.Ring.{linear, ring_laws, zero-mulℤ, one-mulℤ, neg-mulℤ}
 use Rattle.definitions.proofs.Ring.{mul_left_commℤ, mul_assocℤ, mul-subℤ, mul-cancelℤ, mul-le_cancelℤ}
 use Rattle.definitions.proofs.Members.{sum_below-same, sum_below-add, sum_below-times, sum_below-front}
 use Rattle.definitions.proofs.Members.{sum_over-grand_coalition, sum_over-singleton, sum_over-complement}
-use Rattle.definitions.proofs.Masks.{grand_coalition-within, singleton-within}
+use Rattle.definitions.proofs.Members.{scaled_either}
+use Rattle.definitions.proofs.Masks.{grand_coalition-within, singleton-within, proper_or_all}
 use Rattle.definitions.proofs.Measured.{weight, measured-weight, weight-positive}
 use Rattle.definitions.proofs.Families.{allocation_of, efficient_of}
 use Rattle.definitions.proofs.Cases.{less_or_last}
 use Rattle.definitions.specs.Sums.{sum_below}
 use Rattle.definitions.specs.Coalitions.{has_player, singleton, grand_coalition, proper_coalitions, sum_over}
 use Rattle.definitions.specs.Measures.{IsMeasurable}
-use Rattle.definitions.specs.Games.{Game, Allocation, share, amount, excess, measured_excess, Beats}
+use Rattle.definitions.specs.Games.{Game, Allocation, share, excess, measured_excess, Beats}
 use Rattle.definitions.specs.Games.{IsAllocation, IsEfficient, InFamily, IsNucleolus}
 use Rattle.definitions.specs.declared.Family.{Family}
 use Rattle.definitions.specs.declared.Family.TheVariants.{Imputations, Preimputations}
@@ -24,6 +25,7 @@ use Rattle.theorems.proofs.SortedLemmas.{ComesBefore-sorted}
 use Rattle.theorems.proofs.Soundness.{SameOrLow-range, SomeAbove-range}
 use Rattle.duality.proofs.Elimination.{Row, Meets}
 use Rattle.definitions.proofs.Parts.{sum_below-le}
+use Rattle.definitions.proofs.SumsOver.{amount-at}
 use Rattle.duality.proofs.Farkas.{unit_at, sum_below-unit}
 use Rattle.duality.proofs.LeastValues.{In}
 use Rattle.duality.proofs.Levels.{val, Flat}
@@ -63,12 +65,8 @@ sum_form : (n s : ℕ) (w : ℤ) (a : ℕ → ℤ)
     → sum_below n (λ i. (if has_player s i then neg_ℤ w else pos 0) *ℤ a i) ≡ neg_ℤ (w *ℤ sum_over n a s)
 sum_form n s w a =
     sum_below-same n (λ i. (if has_player s i then neg_ℤ w else pos 0) *ℤ a i)
-    (λ i. neg_ℤ w *ℤ (if has_player s i then a i else pos 0)) (λ i lt. step (has_player s i) (a i))
+    (λ i. neg_ℤ w *ℤ (if has_player s i then a i else pos 0)) (λ i lt. scaled_either (has_player s i) (neg_ℤ w) (a i))
     ∙ sum_below-times n (λ i. if has_player s i then a i else pos 0) (neg_ℤ w) ∙ neg-mulℤ w (sum_over n a s)
-  where
-    step : (b : Bool) (z : ℤ) → cond b (neg_ℤ w) (pos 0) *ℤ z ≡ neg_ℤ w *ℤ cond b z (pos 0)
-    step true z = refl
-    step false z = omega (arith, linear, zero-mulℤ z, mul-zeroℤ (neg_ℤ w))
 
 pub val_form : (measure : Measure) (g : Game) (s : ℕ) (y : Row)
     → val g.players y (form measure g s)
@@ -193,12 +191,9 @@ point_in Preimputations g y one e low = (one, (to_enough g y e, (to_no_more g y 
 abbrev pub row_of : Allocation → Row
 row_of y = asks y.den (share y)
 
-amount_is : (g : Game) (y : Allocation) (s : ℕ) → IsAllocation g y → amount y s ≡ sum_over g.players (share y) s
-amount_is g y s h = ap (λ k. sum_over k (share y) s) h.0
-
 pub efficient_row : (g : Game) (y : Allocation) → IsAllocation g y → IsEfficient g y → Efficient g (row_of y)
 efficient_row g y h e =
-    sym (sum_over-grand_coalition g.players (share y)) ∙ sym (amount_is g y (grand_coalition g.players) h) ∙ e
+    sym (sum_over-grand_coalition g.players (share y)) ∙ sym (amount-at g y (grand_coalition g.players) h) ∙ e
 
 pub member_in : (family : Family) (g : Game) (y : Allocation) → InFamily family g y
     → In (suc g.players) (base family g) (row_of y)
@@ -239,7 +234,7 @@ pub excess_row : (measure : Measure) (g : Game) (y : Allocation) (s : ℕ) → I
     → measured_excess measure g y s ≡ val g.players (row_of y) (form measure g s)
 excess_row measure g y s h =
     measured-weight measure s (excess g y s)
-    ∙ ap (λ (t : ℤ). weight measure s *ℤ (y.den *ℤ g.worth s -ℤ t)) (amount_is g y s h)
+    ∙ ap (λ (t : ℤ). weight measure s *ℤ (y.den *ℤ g.worth s -ℤ t)) (amount-at g y s h)
     ∙ sym (val_form measure g s (row_of y))
 
 excess_point : (measure : Measure) (g : Game) (x : Row) (s : ℕ)
@@ -339,11 +334,8 @@ module _ (family : Family) (measure : Measure) (g : Game) (m : IsMeasurable meas
   amounts_same : (x : Row) → In (suc n) (base family g) x → (y : Allocation) → InFamily family g y
       → ((j : ℕ) → j < 2 ^ n - 2 → Agree n (2 ^ n - 2) forms (λ j. refl) (base family g) x (row_of y) j) → (s : ℕ)
       → 0 < s → s < 2 ^ n → y.den *ℤ sum_over n (shares_of x) s ≡ x 0 *ℤ sum_over n (share y) s
-  amounts_same x hx y hy agree s low high = by_lt (below_or_all s high)
+  amounts_same x hx y hy agree s low high = by_lt (proper_or_all n s high)
     where
-      below_or_all : (s : ℕ) → s < 2 ^ n → (s < grand_coalition n) ⊎ (s ≡ grand_coalition n)
-      below_or_all s h = grind arith
-
       by_lt : (s < grand_coalition n) ⊎ (s ≡ grand_coalition n)
           → y.den *ℤ sum_over n (shares_of x) s ≡ x 0 *ℤ sum_over n (share y) s
       by_lt (inl less) =
@@ -447,11 +439,11 @@ module _ (g : Game) where
   f i = alone i +ℤ unit_at 0 i *ℤ rest
 
   rest_low : sum_below g.players alone ≤ℤ v → (i : ℕ) → alone i ≤ℤ f i
-  rest_low le i = step (nat_eq i 0)
+  rest_low le i = no_less_either (nat_eq i 0)
     where
-      step : (b : Bool) → alone i ≤ℤ (alone i +ℤ cond b (pos 1) (pos 0) *ℤ rest)
-      step true = omega (arith, linear, le, one-mulℤ rest)
-      step false = omega (arith, linear, zero-mulℤ rest)
+      no_less_either : (b : Bool) → alone i ≤ℤ (alone i +ℤ cond b (pos 1) (pos 0) *ℤ rest)
+      no_less_either true = omega (arith, linear, le, one-mulℤ rest)
+      no_less_either false = omega (arith, linear, zero-mulℤ rest)
 
   imputation_of : 1 ≤ g.players → sum_below g.players alone ≤ℤ v → (y : Allocation) × InFamily Imputations g y
   imputation_of some le =

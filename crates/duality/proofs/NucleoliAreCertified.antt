@@ -7,16 +7,16 @@ use Rattle.std.proofs.Common.{int_le, int_lt, IsTrue, refl, sym, ap, subst, ◌�
 use Rattle.std.specs.List.{AllByRecursion}
 use Rattle.std.proofs.lemmas.Bool.{false≢true}
 use Rattle.std.proofs.lemmas.Int.{by_lt_z, ints}
-use Rattle.definitions.proofs.Ring.{linear, mul-leℤ, mul-zeroℤ, one-mulℤ, zero-mulℤ}
+use Rattle.definitions.proofs.Ring.{linear, mul-leℤ, mul-zeroℤ, one-mulℤ, unit_laws}
 use Rattle.definitions.proofs.Members.{sum_below-same, sum_below-times}
 use Rattle.definitions.proofs.Members.{sum_over-grand_coalition, sum_over-singleton}
 use Rattle.definitions.proofs.Members.{weighted_sum-sum_over, has_player-grand_coalition}
-use Rattle.definitions.proofs.Masks.{grand_coalition-within, singleton-within}
+use Rattle.definitions.proofs.Members.{weighted_sum-zero_terms, scaled_either}
+use Rattle.definitions.proofs.Masks.{grand_coalition-within, singleton-within, proper_or_all}
 use Rattle.definitions.proofs.Measured.{measured_den-above}
 use Rattle.definitions.proofs.Families.{allocation_of}
 use Rattle.definitions.proofs.Cancel.{cancel}
-use Rattle.definitions.proofs.Cases.{less_or_last, true_or_false, or_cases, and_parts, and_both}
-use Rattle.definitions.specs.Sums.{weighted_sum}
+use Rattle.definitions.proofs.Cases.{less_or_last, true_or_false, or_cases, and_parts, and_both, neither}
 use Rattle.definitions.specs.Coalitions.{has_player, singleton, grand_coalition, sum_over, weight_at}
 use Rattle.definitions.specs.Measures.{measured_den, IsMeasurable}
 use Rattle.definitions.specs.Games.{Game, Allocation, share, measured_excess, IsNucleolus}
@@ -52,10 +52,6 @@ second_of_two : {A B : Type 0} (r : A ⊎ B) → is_second r ≡ true → B
 second_of_two (inl a) e = absurd (false≢true e)
 second_of_two (inr b) e = b
 
-neither : (a b : Bool) → (a || b) ≡ false → (a ≡ false) × (b ≡ false)
-neither true b e = absurd (false≢true (sym e))
-neither false b e = (refl, e)
-
 -- ---- what is fixed stays fixed, and a transfer that leaves the fixed ones as they are leaves their span
 
 wider : (n : ℕ) (front : List Level) (l : Level) (s : ℕ) → IsFixedVector n front s
@@ -70,18 +66,8 @@ spanned_itself n Fixed s fixed = (
   (λ e. omega (arith, linear, e)),
   (s, pos 1) ∷ [],
   (fixed, tt),
-  λ i lt. one (has_player s i),
+  λ i lt. simp unit_laws,
 )
-  where
-    one : (b : Bool) → cond b (pos 1) (pos 0) +ℤ pos 0 ≡ cond b (pos 1) (pos 0)
-    one true = refl
-    one false = refl
-
-weighted_zero : (f : ℕ → ℤ) (ps : List (ℕ × ℤ)) → AllByRecursion (λ p. f p.0 ≡ pos 0) ps
-    → weighted_sum f ps ≡ pos 0
-weighted_zero f [] h = refl
-weighted_zero f (p ∷ ps) h =
-    omega (arith, linear, ap (λ (z : ℤ). p.1 *ℤ z) h.0, mul-zeroℤ p.1, weighted_zero f ps h.1)
 
 all_zero : (Fixed : ℕ → Type 0) (f : ℕ → ℤ) → ((s : ℕ) → Fixed s → f s ≡ pos 0) → (ps : List (ℕ × ℤ))
     → AllByRecursion (λ p. Fixed p.0) ps → AllByRecursion (λ p. f p.0 ≡ pos 0) ps
@@ -93,17 +79,13 @@ spanned_zero : (n : ℕ) (Fixed : ℕ → Type 0) (z : ℕ → ℤ) → ((s : �
 spanned_zero n Fixed z zero_at s span =
     let m = span.0 in
     let ps = span.2 in
-    let none = weighted_zero (sum_over n z) ps (all_zero Fixed (sum_over n z) zero_at ps span.3) in
+    let none = weighted_sum-zero_terms (sum_over n z) ps (all_zero Fixed (sum_over n z) zero_at ps span.3) in
     let sums = weighted_sum-sum_over n z ps in
     let same =
     sum_below-same n (λ i. weight_at ps i *ℤ z i) (λ i. m *ℤ (if has_player s i then z i else pos 0))
-    (λ i lt. ap (λ (t : ℤ). t *ℤ z i) (span.4 i lt) ∙ step (has_player s i) m (z i)) in
+    (λ i lt. ap (λ (t : ℤ). t *ℤ z i) (span.4 i lt) ∙ scaled_either (has_player s i) m (z i)) in
     let times = sum_below-times n (λ i. if has_player s i then z i else pos 0) m in
     cancel m (sum_over n z s) (pos 0) span.1 (omega (arith, linear, none, sums, same, times, mul-zeroℤ m))
-  where
-    step : (b : Bool) (m t : ℤ) → cond b m (pos 0) *ℤ t ≡ m *ℤ cond b t (pos 0)
-    step true m t = refl
-    step false m t = omega (arith, linear, zero-mulℤ t, mul-zeroℤ m)
 
 -- ---- the levels of a nucleolus
 
@@ -142,7 +124,7 @@ module _ (family : Family) (measure : Measure) (g : Game) (m : IsMeasurable meas
     levels = [];
     few = omega arith;
     shape = tt;
-    holds = λ i lt. elim (below_or_all (singleton i) (singleton-within n i lt)) [
+    holds = λ i lt. elim (proper_or_all n (singleton i) (singleton-within n i lt)) [
       | inl less ↦
           (let some = grand_coalition-within i in
           let back : suc (singleton i - 1) ≡ singleton i = omega (arith, some) in
@@ -150,9 +132,6 @@ module _ (family : Family) (measure : Measure) (g : Game) (m : IsMeasurable meas
       | inr same ↦ spanned_itself n (IsFixedVector n front) (singleton i) (inl same)
     ];
   }
-    where
-      below_or_all : (s : ℕ) → s < 2 ^ n → (s < grand_coalition n) ⊎ (s ≡ grand_coalition n)
-      below_or_all s lt = grind arith
 
   -- the coalition suc t isn't spanned
   abbrev out : (front : List Level) (js : List ℕ) → Stage front js → ℕ → Bool

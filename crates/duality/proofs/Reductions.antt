@@ -1,38 +1,18 @@
 -- The span of fixed coalitions, by elimination of one player after the other: each vector is a combination of the fixed
 -- ones but at some players. A coalition whose vector isn't such a combination there takes one more player away.
-use Rattle.std.proofs.Common.{◌≡◌, ◌≢◌, ◌⊎◌, ℕ, ◌<◌, Bool, true, false, cond, List, [], ◌∷◌, ◌++◌, ℤ, pos, neg_ℤ}
+use Rattle.std.proofs.Common.{◌≡◌, ◌≢◌, ◌⊎◌, ℕ, ◌<◌, List, [], ◌∷◌, ◌++◌, ℤ, pos, neg_ℤ}
 use Rattle.std.proofs.Common.{◌+ℤ◌, ◌*ℤ◌, refl, sym, ap, subst, ◌∙◌, inl, inr, arith}
 use Rattle.std.specs.List.{AllByRecursion}
 use Rattle.std.proofs.lemmas.Int.{by_lt_z}
-use Rattle.definitions.proofs.Ring.{linear, ring_laws, mul-addℤ, mul-zeroℤ}
+use Rattle.definitions.proofs.Ring.{linear, ring_laws, mul-zeroℤ}
 use Rattle.definitions.proofs.Members.{times_bit, weight_at-append}
 use Rattle.definitions.proofs.Alls.{all_join, all_weaken}
 use Rattle.definitions.proofs.Cancel.{cancel}
+use Rattle.definitions.proofs.ScaledPairs.{scaled_pairs, weight_at-scaled, all_scaled}
 use Rattle.definitions.specs.Coalitions.{has_player, weight_at}
 use Rattle.definitions.specs.Certificates.{InSpan}
 use Rattle.duality.proofs.BondarevaShapley.{member}
 use Rattle.duality.proofs.Levels.{Member, all_member, Choice, pick}
-
--- ---- combinations
-
-abbrev pub scaled_pairs : ℤ → List (ℕ × ℤ) → List (ℕ × ℤ)
-scaled_pairs c [] = []
-scaled_pairs c (p ∷ ps) = (p.0, c *ℤ p.1) ∷ scaled_pairs c ps
-
-weight_at-scaled : (c : ℤ) (ps : List (ℕ × ℤ)) (i : ℕ) → weight_at (scaled_pairs c ps) i ≡ c *ℤ weight_at ps i
-weight_at-scaled c [] i = sym (mul-zeroℤ c)
-weight_at-scaled c (p ∷ ps) i =
-    let ih = weight_at-scaled c ps i in
-    step (has_player p.0 i) (weight_at (scaled_pairs c ps) i) (weight_at ps i) ih
-  where
-    step : (b : Bool) (u t : ℤ) → u ≡ c *ℤ t → cond b (c *ℤ p.1) (pos 0) +ℤ u ≡ c *ℤ (cond b p.1 (pos 0) +ℤ t)
-    step true u t e = omega (arith, linear, e, mul-addℤ c p.1 t)
-    step false u t e = omega (arith, linear, e, mul-addℤ c (pos 0) t, mul-zeroℤ c)
-
-all_scaled : (P : ℕ → Type 0) (c : ℤ) (ps : List (ℕ × ℤ)) → AllByRecursion (λ (p : ℕ × ℤ). P p.0) ps
-    → AllByRecursion (λ (p : ℕ × ℤ). P p.0) (scaled_pairs c ps)
-all_scaled P c [] h = tt
-all_scaled P c (p ∷ ps) h = (h.0, all_scaled P c ps h.1)
 
 -- ---- vectors but for some players
 

@@ -1,26 +1,17 @@
 -- Levels in the form without limits of size, of at most 16 players and with weights within the limits, have the form of
 -- a certificate: their coalitions ascend, so they aren't too many.
-use Rattle.std.proofs.Common.{◌≡◌, ℕ, ◌+◌, ◌-◌, ◌^◌, ◌<◌, ◌≤◌, true, List, [], ◌∷◌, ◌++◌, length, ℤ}
+use Rattle.std.proofs.Common.{◌≡◌, ℕ, ◌^◌, ◌<◌, ◌≤◌, true, List, [], ◌∷◌, ◌++◌, length, ℤ}
 use Rattle.std.proofs.Common.{IsTrue, inl, inr, arith}
 use Rattle.std.specs.List.{AllByRecursion}
 use Rattle.std.proofs.lemmas.Bool.{false≢true}
 use Rattle.std.proofs.Math.Nat.{pow-le-pow_right}
 use Rattle.definitions.proofs.Alls.{all_weaken}
 use Rattle.definitions.proofs.Masks.{proper-within}
+use Rattle.definitions.proofs.Levels.{Ascends-few}
 use Rattle.definitions.specs.Certificates.{Level, is_listed, Ascends, LevelForm, LevelsForm}
 use Rattle.duality.specs.Kohlberg.{LevelShape, LevelsShape, AreSmall, SmallShapesAreForms}
 use Rattle.duality.proofs.Chosen.{any_key}
 use Rattle.duality.proofs.LevelTests.{last_any, lists}
-
--- keys that ascend from low on and stay below top are at most the numbers between
-ascends-few : (low top : ℕ) (ps : List (ℕ × ℤ)) → Ascends low ps → AllByRecursion (λ p. p.0 < top) ps
-    → length ps ≤ top - low
-ascends-few low top [] rises within = omega arith
-ascends-few low top (p ∷ ps) rises within =
-    let rest = ascends-few (p.0 + 1) top ps rises.1 within.1 in
-    let first = rises.0 in
-    let last = within.0 in
-    omega (arith, rest, first, last)
 
 module _ (n : ℕ) (few : n ≤ 16) where
   -- the levels list coalitions of the players
@@ -31,7 +22,7 @@ module _ (n : ℕ) (few : n ≤ 16) where
   few_masks ps rises within =
       let positive : 0 < 2 = omega arith in
       let most : 2 ^ n ≤ 2 ^ 16 = pow-le-pow_right positive few in
-      let short = ascends-few 0 (2 ^ n) ps rises within in
+      let short = Ascends-few 0 (2 ^ n) ps rises within in
       omega (arith, most, short)
 
   level_form : (front : List Level) (l : Level) → ListsWithin front → LevelShape n front l → AreSmall (l ∷ [])

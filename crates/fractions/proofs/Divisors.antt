@@ -70,10 +70,10 @@ times_zero : (a b g k : ℕ) → b ≡ 0 → IsGcd a b g → IsGcd (a * k) (b * 
 times_zero a b g k e h =
     let same : g ≡ a = dvd_antisymm h.0 (h.2 a (dvd_refl a) (subst (λ (n : ℕ). a ∣ n) (sym e) (dvd-zero a))) in
     subst (λ (n : ℕ). IsGcd (a * k) (b * k) (n * k)) (sym same)
-    (IsGcd-from_zero (a * k) (b * k) (ap (λ (n : ℕ). n * k) e ∙ none k))
+    (IsGcd-from_zero (a * k) (b * k) (ap (λ (n : ℕ). n * k) e ∙ zero_times k))
   where
-    none : (k : ℕ) → 0 * k ≡ 0
-    none k = omega arith
+    zero_times : (k : ℕ) → 0 * k ≡ 0
+    zero_times k = omega arith
 
 mod_times : (a b k : ℕ) → 0 < b → 0 < k → (a * k) % (b * k) ≡ (a % b) * k
 mod_times a b k p q =
@@ -105,22 +105,20 @@ gcd-mul a b k = gcd_from (a * k) (b * k) (gcd a b * k) (scaled_within b a b (gcd
 
 -- ---- no divisor in common
 
+one_times : (c : ℕ) → 1 * c ≡ c
+one_times c = omega arith
+
 one_is : (a b : ℕ) → gcd a b ≡ 1 → IsGcd a b 1
 one_is a b h = subst (λ (g : ℕ). IsGcd a b g) h (gcd_is a b)
 
 -- what divides a product and has no divisor in common with one factor divides the other
 pub divides_other : (a b c : ℕ) → gcd a b ≡ 1 → a ∣ b * c → a ∣ c
 divides_other a b c h p =
-    subst (λ (n : ℕ). a ∣ n) (one c) ((scaled_within b a b 1 c (le_refl b) (one_is a b h)).2 a (dvd-mul_right a c) p)
-  where
-    one : (c : ℕ) → 1 * c ≡ c
-    one c = omega arith
+    subst (λ (n : ℕ). a ∣ n) (one_times c)
+    ((scaled_within b a b 1 c (le_refl b) (one_is a b h)).2 a (dvd-mul_right a c) p)
 
 one_divides : (d : ℕ) → 1 ∣ d
-one_divides d = subst (λ (n : ℕ). 1 ∣ n) (one d) (dvd-mul_right 1 d)
-  where
-    one : (d : ℕ) → 1 * d ≡ d
-    one d = omega arith
+one_divides d = subst (λ (n : ℕ). 1 ∣ n) (one_times d) (dvd-mul_right 1 d)
 
 -- divisors of two numbers without a common divisor have none either
 pub gcd_of_divisors : (a b x y : ℕ) → gcd a b ≡ 1 → x ∣ a → y ∣ b → gcd x y ≡ 1

@@ -27,13 +27,12 @@ common_small b d h f =
 divided : (b : ℤ) (g : ℕ) → pos 1 ≤ℤ b → 0 < g → g * (unsigned_abs b / g) ≡ unsigned_abs b
     → b ≡ pos g *ℤ int_div b (pos g)
 divided b g h p e =
-    whole ∙ ap (λ (z : ℤ). pos g *ℤ z) (sym (quot_exact b (pos g) (pos (unsigned_abs b / g)) whole (some g p)))
+    whole
+    ∙ ap (λ (z : ℤ). pos g *ℤ z)
+    (sym (quot_exact b (pos g) (pos (unsigned_abs b / g)) whole (λ e. omega (arith, ints))))
   where
     whole : b ≡ pos g *ℤ pos (unsigned_abs b / g)
     whole = size_of b h ∙ ap pos (sym e)
-
-    some : (g : ℕ) → 0 < g → pos g ≢ pos 0
-    some g p e = omega (arith, ints)
 
 pub left_divided : (b d : ℤ) → pos 1 ≤ℤ b → pos 1 ≤ℤ d
     → b ≡ pos (gcd (unsigned_abs b) (unsigned_abs d)) *ℤ int_div b (pos (gcd (unsigned_abs b) (unsigned_abs d)))

@@ -5,8 +5,9 @@ use Rattle.std.proofs.Common.{ℤ, pos, negsuc, ◌*ℤ◌, ◌≤ℤ◌, unsign
 use Prim.Native.Nat.{◌∣◌}
 use Rattle.std.proofs.lemmas.Int.{ints, unsigned_abs-mul}
 use native.Mathlib.Nat.{dvd-mul_left, dvd-mul_right}
-use Rattle.definitions.proofs.Ring.{ring_laws, linear, mul-zeroℤ}
+use Rattle.definitions.proofs.Ring.{ring_laws, linear, mul-zeroℤ, mul_assoc_commℤ, mul_exchangeℤ}
 use Rattle.definitions.proofs.Cancel.{cancel}
+use lib.IntN.{*ℤ_comm}
 use Rattle.fractions.proofs.Divisors.{gcd_swap, divides_other, gcd_of_divisors, gcd_of_products, same_denominator}
 use Rattle.fractions.specs.Divisors.{gcd}
 use Rattle.fractions.specs.Fraction.{Fraction, IsReduced, IsRatio}
@@ -21,16 +22,12 @@ size_of d h = omega (arith, ints)
 
 crossed : (p q r s n d : ℤ) → d ≢ pos 0 → p *ℤ d ≡ n *ℤ q → r *ℤ d ≡ n *ℤ s → p *ℤ s ≡ r *ℤ q
 crossed p q r s n d nz e f =
-    cancel d (p *ℤ s) (r *ℤ q) nz (left ∙ ap (λ (z : ℤ). z *ℤ s) e ∙ middle ∙ ap (λ (z : ℤ). z *ℤ q) (sym f) ∙ right)
+    cancel d (p *ℤ s) (r *ℤ q) nz
+    (sym (mul_assoc_commℤ p d s) ∙ ap (λ (z : ℤ). z *ℤ s) e ∙ swapped ∙ ap (λ (z : ℤ). z *ℤ q) (sym f)
+    ∙ mul_assoc_commℤ r d q)
   where
-    left : d *ℤ (p *ℤ s) ≡ (p *ℤ d) *ℤ s
-    left = simp ring_laws (omega (arith, linear))
-
-    middle : (n *ℤ q) *ℤ s ≡ (n *ℤ s) *ℤ q
-    middle = simp ring_laws (omega (arith, linear))
-
-    right : (r *ℤ d) *ℤ q ≡ d *ℤ (r *ℤ q)
-    right = simp ring_laws (omega (arith, linear))
+    swapped : (n *ℤ q) *ℤ s ≡ (n *ℤ s) *ℤ q
+    swapped = simp ring_laws (omega (arith, linear))
 
 sizes : (p q r s : ℤ) → p *ℤ s ≡ r *ℤ q → unsigned_abs p * unsigned_abs s ≡ unsigned_abs r * unsigned_abs q
 sizes p q r s e = sym (unsigned_abs-mul p s) ∙ ap unsigned_abs e ∙ unsigned_abs-mul r q
@@ -44,13 +41,7 @@ same_den f g h k e =
     ∙ sym (size_of g.den k.positive)
 
 same_num : (p r q s : ℤ) → pos 1 ≤ℤ q → q ≡ s → p *ℤ s ≡ r *ℤ q → p ≡ r
-same_num p r q s h e f = cancel q p r (apart q h) (turn p q ∙ ap (λ (z : ℤ). p *ℤ z) e ∙ f ∙ turn' r q)
-  where
-    turn : (x y : ℤ) → y *ℤ x ≡ x *ℤ y
-    turn x y = simp ring_laws (omega (arith, linear))
-
-    turn' : (x y : ℤ) → x *ℤ y ≡ y *ℤ x
-    turn' x y = simp ring_laws (omega (arith, linear))
+same_num p r q s h e f = cancel q p r (apart q h) (*ℤ_comm q p ∙ ap (λ (z : ℤ). p *ℤ z) e ∙ f ∙ *ℤ_comm r q)
 
 -- two fractions in lowest terms of equal value are one
 pub same_fraction : (f g : Fraction) → IsReduced f → IsReduced g → f.num *ℤ g.den ≡ g.num *ℤ f.den → f ≡ g
@@ -123,13 +114,9 @@ product_positive (negsuc a) b h k = absurd (omega (arith, ints))
 
 pub product_value : (p q r s m d n e : ℤ) → p *ℤ d ≡ m *ℤ q → r *ℤ e ≡ n *ℤ s
     → (p *ℤ r) *ℤ (d *ℤ e) ≡ (m *ℤ n) *ℤ (q *ℤ s)
-product_value p q r s m d n e h k = left ∙ ap (λ (z : ℤ). z *ℤ (r *ℤ e)) h ∙ ap (λ (z : ℤ). (m *ℤ q) *ℤ z) k ∙ right
-  where
-    left : (p *ℤ r) *ℤ (d *ℤ e) ≡ (p *ℤ d) *ℤ (r *ℤ e)
-    left = simp ring_laws (omega (arith, linear))
-
-    right : (m *ℤ q) *ℤ (n *ℤ s) ≡ (m *ℤ n) *ℤ (q *ℤ s)
-    right = simp ring_laws (omega (arith, linear))
+product_value p q r s m d n e h k =
+    mul_exchangeℤ p r d e ∙ ap (λ (z : ℤ). z *ℤ (r *ℤ e)) h ∙ ap (λ (z : ℤ). (m *ℤ q) *ℤ z) k
+    ∙ mul_exchangeℤ m q n s
 
 -- the product of m/d and n/e in lowest terms, where m has no divisor in common with e, nor n with d
 pub product_ratio : (p r : Fraction) (m d n e : ℤ) → IsRatio p m d → IsRatio r n e

@@ -4,7 +4,7 @@ use Rattle.std.proofs.Common.{cond, not, eqb, ltb, List, [], ◌∷◌, ◌++◌
 use Rattle.std.proofs.Common.{refl, ap, subst, ◌∙◌, arith, add-one, length-append}
 use Rattle.std.specs.List.{list_all, prefix_len}
 use Rattle.std.specs.Char.{is_ascii_digit}
-use Rattle.std.proofs.lemmas.Bool.{and_parts, false≢true}
+use Rattle.std.proofs.lemmas.Bool.{and_parts, false≢true, lt-ltb, le-ltb}
 use Rattle.std.proofs.lemmas.Bool.Decides.{nat_tests}
 use Rattle.std.proofs.lemmas.List.{take_all, take-append-drop}
 use Rattle.std.proofs.lemmas.List.Sums.{prefix_len-le-length, prefix_len_passes, prefix_len_stops}
@@ -57,9 +57,10 @@ slash_nowhere s i h le = let most = prefix_len-le-length (λ c. not (eqb c 47)) 
 digit_no_slash : (c : ℕ) → is_ascii_digit c ≡ true → not (eqb c 47) ≡ true
 digit_no_slash c h = grind (arith, nat_tests)
 
-step : (p : ℕ → Bool) (c : ℕ) (cs : List ℕ) (n : ℕ) → p c ≡ true → prefix_len p cs ≡ n
+prefix_len-passed : (p : ℕ → Bool) (c : ℕ) (cs : List ℕ) (n : ℕ) → p c ≡ true → prefix_len p cs ≡ n
     → prefix_len p (c ∷ cs) ≡ suc n
-step p c cs n h e = ap (λ (b : Bool). cond b (1 + prefix_len p cs) 0) h ∙ ap (λ (k : ℕ). 1 + k) e ∙ omega arith
+prefix_len-passed p c cs n h e =
+    ap (λ (b : Bool). cond b (1 + prefix_len p cs) 0) h ∙ ap (λ (k : ℕ). 1 + k) e ∙ omega arith
 
 stop : (p : ℕ → Bool) (c : ℕ) (cs : List ℕ) → p c ≡ false → prefix_len p (c ∷ cs) ≡ 0
 stop p c cs h = ap (λ (b : Bool). cond b (1 + prefix_len p cs) 0) h
@@ -68,23 +69,18 @@ pub before_slash-digits : (s : List ℕ) → list_all is_ascii_digit s ≡ true 
 before_slash-digits [] h = refl
 before_slash-digits (c ∷ cs) h =
     let p = and_parts _ _ h in
-    step (λ c. not (eqb c 47)) c cs (length cs) (digit_no_slash c p.0) (before_slash-digits cs p.1)
+    prefix_len-passed (λ c. not (eqb c 47)) c cs (length cs) (digit_no_slash c p.0) (before_slash-digits cs p.1)
 
 pub before_slash-append : (s t : List ℕ) → list_all is_ascii_digit s ≡ true → before_slash (s ++ 47 ∷ t) ≡ length s
 before_slash-append [] t h = stop (λ c. not (eqb c 47)) 47 t refl
 before_slash-append (c ∷ cs) t h =
     let p = and_parts _ _ h in
-    step (λ c. not (eqb c 47)) c (cs ++ 47 ∷ t) (length cs) (digit_no_slash c p.0) (before_slash-append cs t p.1)
-
-not_less : (m n : ℕ) → n ≤ m → ltb m n ≡ false
-not_less m n h = grind (arith, nat_tests)
-
-is_less : (m n : ℕ) → m < n → ltb m n ≡ true
-is_less m n h = grind (arith, nat_tests)
+    prefix_len-passed (λ c. not (eqb c 47)) c (cs ++ 47 ∷ t) (length cs) (digit_no_slash c p.0)
+    (before_slash-append cs t p.1)
 
 -- digits alone
 pub alone_has_slash : (s : List ℕ) → list_all is_ascii_digit s ≡ true → has_slash s ≡ false
-alone_has_slash s h = not_less (before_slash s) (length s) (omega (arith, before_slash-digits s h))
+alone_has_slash s h = le-ltb (before_slash s) (length s) (omega (arith, before_slash-digits s h))
 
 pub alone_numerator : (s : List ℕ) → list_all is_ascii_digit s ≡ true → numerator_text s ≡ s
 alone_numerator s h = take_all (before_slash s) s (omega (arith, before_slash-digits s h))
@@ -92,7 +88,7 @@ alone_numerator s h = take_all (before_slash s) s (omega (arith, before_slash-di
 -- digits around a slash
 pub around_has_slash : (s t : List ℕ) → list_all is_ascii_digit s ≡ true → has_slash (s ++ 47 ∷ t) ≡ true
 around_has_slash s t h =
-    is_less (before_slash (s ++ 47 ∷ t)) (length (s ++ 47 ∷ t))
+    lt-ltb (before_slash (s ++ 47 ∷ t)) (length (s ++ 47 ∷ t))
     (omega (arith, before_slash-append s t h, length-append s (47 ∷ t)))
 
 pub around_numerator : (s t : List ℕ) → list_all is_ascii_digit s ≡ true → numerator_text (s ++ 47 ∷ t) ≡ s

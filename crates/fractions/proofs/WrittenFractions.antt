@@ -9,7 +9,7 @@ use Rattle.std.specs.Char.{is_ascii_digit}
 use Rattle.std.specs.Str.Parse.{digits_value}
 use Rattle.std.proofs.lemmas.Int.{ints}
 use Rattle.std.proofs.lemmas.List.{append-nil}
-use Rattle.std.proofs.lemmas.Bool.{and_parts, and_from, ltb-true}
+use Rattle.std.proofs.lemmas.Bool.{and_parts, and_from, ltb-true, lt-ltb}
 use Rattle.std.proofs.lemmas.Bool.Decides.{nat_tests, Decides-int_eq}
 use Rattle.fractions.proofs.DecimalTexts.{digits_value-decimal, decimal_digits, is_numeral-decimal, decimal-numeral}
 use Rattle.fractions.proofs.Slashes.{alone_has_slash, alone_numerator, around_has_slash}
@@ -55,8 +55,8 @@ equal_test m n h = grind (arith, nat_tests)
 unequal_test : (m n : ℕ) → m ≢ n → eqb m n ≡ false
 unequal_test m n h = grind (arith, nat_tests)
 
-less_test : (m n : ℕ) → m < n → ltb m n ≡ true
-less_test m n h = grind (arith, nat_tests)
+one_from_test : (n : ℕ) → eqb n 1 ≡ true → n ≡ 1
+one_from_test n h = grind (arith, nat_tests)
 
 den_alone : (u : List ℕ) → has_slash u ≡ false → denominator u ≡ 1
 den_alone u e = ap (λ (b : Bool). cond b (digits_value 10 (denominator_text u)) 1) e
@@ -97,7 +97,7 @@ read_around n d h k more g =
       test = by_parts (s ++ 47 ∷ t) true s t some front back
           ∙ and_from _ _
           (and_from _ _ (is_numeral-decimal n h)
-          (and_from _ _ (is_numeral-decimal d k) (less_test 1 _ (subst (λ (x : ℕ). 1 < x) (sym value') more))))
+          (and_from _ _ (is_numeral-decimal d k) (lt-ltb 1 _ (subst (λ (x : ℕ). 1 < x) (sym value') more))))
           (equal_test _ 1 (ap (λ (x : ℕ). gcd x (digits_value 10 t)) value ∙ ap (λ (x : ℕ). gcd n x) value' ∙ g));
       num = ap (digits_value 10) front ∙ value;
       den = den_around (s ++ 47 ∷ t) some ∙ ap (digits_value 10) back ∙ value';
@@ -160,13 +160,13 @@ pub record IsParsed (m : Bool) (u : List ℕ) : Type 0 where
   pub num : FitsSigned w128 (signed_fraction m u).num
   pub den : FitsSigned w128 (pos (denominator u))
 
-fits_from_test : (z : ℤ) → is_i128 z ≡ true → FitsSigned w128 z
+pub fits_from_test : (z : ℤ) → is_i128 z ≡ true → FitsSigned w128 z
 fits_from_test (pos n) h = let k = ltb-true _ _ h in omega (arith, ints)
 fits_from_test (negsuc n) h = let k = ltb-true _ _ h in omega (arith, ints)
 
-test_from_fits : (z : ℤ) → FitsSigned w128 z → is_i128 z ≡ true
-test_from_fits (pos n) h = less_test n (2 ^ 127) (omega (arith, ints))
-test_from_fits (negsuc n) h = less_test n (2 ^ 127) (omega (arith, ints))
+pub test_from_fits : (z : ℤ) → FitsSigned w128 z → is_i128 z ≡ true
+test_from_fits (pos n) h = lt-ltb n (2 ^ 127) (omega (arith, ints))
+test_from_fits (negsuc n) h = lt-ltb n (2 ^ 127) (omega (arith, ints))
 
 not_false : (b : Bool) → b ≡ false → not b ≡ true
 not_false b e = ap not e
@@ -217,21 +217,17 @@ numbers_small m u h = (numerator_small m (numerator u) h.num, numerator_small fa
 
 den_test : (d : ℕ) → int_eq (pos d) (pos 1) ≡ eqb d 1
 den_test d = elim (true_or_false (eqb d 1)) [
-  | inl t ↦ (Decides-int_eq (pos d) (pos 1)).1 (ap pos (one_of d t)) ∙ sym t
+  | inl t ↦ (Decides-int_eq (pos d) (pos 1)).1 (ap pos (one_from_test d t)) ∙ sym t
   | inr t ↦ elim (true_or_false (int_eq (pos d) (pos 1))) [
-    | inl s ↦ absurd (none_of d t (same d 1 ((Decides-int_eq (pos d) (pos 1)).0 s)))
+    | inl s ↦
+        let same : pos d ≡ pos 1 = (Decides-int_eq (pos d) (pos 1)).0 s in
+        absurd (none_of d t (omega (arith, ints, same)))
     | inr s ↦ s ∙ sym t
   ]
 ]
   where
-    one_of : (d : ℕ) → eqb d 1 ≡ true → d ≡ 1
-    one_of d h = grind (arith, nat_tests)
-
     none_of : (d : ℕ) → eqb d 1 ≡ false → d ≢ 1
     none_of d h e = grind (arith, nat_tests)
-
-    same : (m n : ℕ) → pos m ≡ pos n → m ≡ n
-    same m n e = cc
 
 pub plain_text : (n d : ℕ) → fraction_text (record { num = pos n; den = pos d }) ≡ unsigned_text n d
 plain_text n d = ap (λ (b : Bool). decimal n ++ cond b [] (47 ∷ decimal d)) (den_test d)
@@ -247,10 +243,10 @@ digit_no_minus c h = grind (arith, nat_tests)
 
 digits_no_minus : (s t : List ℕ) → list_all is_ascii_digit s ≡ true → ltb 0 (length s) ≡ true
     → has_minus (s ++ t) ≡ false
-digits_no_minus [] t h k = absurd (none (ltb-true _ _ k))
+digits_no_minus [] t h k = absurd (not_less_than_itself (ltb-true _ _ k))
   where
-    none : 0 < 0 → ⊥
-    none h = omega arith
+    not_less_than_itself : 0 < 0 → ⊥
+    not_less_than_itself h = omega arith
 digits_no_minus (c ∷ cs) t h k = digit_no_minus c (and_parts _ _ h).0
 
 unsigned_no_minus : (n d : ℕ) → n < 2 ^ 128 → has_minus (unsigned_text n d) ≡ false
@@ -357,9 +353,6 @@ denominator_positive u test = elim (true_or_false (has_slash u)) [
     above : (n : ℕ) → 1 < n → 0 < n
     above n h = omega arith
 
-one_from_test : (n : ℕ) → eqb n 1 ≡ true → n ≡ 1
-one_from_test n h = grind (arith, nat_tests)
-
 size_of_signed : (m : Bool) (n : ℕ) → unsigned_abs (cond m (neg_ℤ (pos n)) (pos n)) ≡ n
 size_of_signed true n = omega (arith, ints)
 size_of_signed false n = refl
@@ -381,7 +374,7 @@ unfolding parsed_as
 parsed_is s f e = elim (true_or_false (passes (has_minus s) (without_minus s))) [
   | inl t ↦ (
     passes_parsed (has_minus s) (without_minus s) t,
-    same f _
+    same_inside f _
         (e ∙ by_sign s (has_minus s) (without_minus s) refl refl
         ∙ ap (λ (b : Bool). cond b (Some (signed_fraction (has_minus s) (without_minus s))) None) t),
   )
@@ -391,8 +384,8 @@ parsed_is s f e = elim (true_or_false (passes (has_minus s) (without_minus s))) 
       ∙ ap (λ (b : Bool). cond b (Some (signed_fraction (has_minus s) (without_minus s))) None) t))
 ]
   where
-    same : (f g : Fraction) → Some f ≡ Some g → f ≡ g
-    same f g e = cc
+    same_inside : (f g : Fraction) → Some f ≡ Some g → f ≡ g
+    same_inside f g e = cc
 
     never : (f : Fraction) → Some f ≡ None → ⊥
     never f e = cc

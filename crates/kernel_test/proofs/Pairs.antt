@@ -1,18 +1,12 @@
 -- What a table of surpluses says of the balance of two players.
 use Rattle.std.proofs.Common.{◌≡◌, ◌≢◌, ℕ, ◌^◌, ◌<◌, true, ℤ, List, Option, Some, IsSome}
 use Rattle.std.proofs.Common.{arith, refl, sym, ap, subst, ◌∙◌, inl, inr}
-use Rattle.std.proofs.lemmas.Int.{ints}
 use Rattle.definitions.proofs.Cases.{less_or_greater}
-use Rattle.definitions.specs.Sums.{IsGreatest}
+use Rattle.definitions.proofs.Scans.{IsGreatest-unique}
 use Rattle.definitions.specs.Games.{Game, Allocation, excess, IsAllocation, IsEfficient}
 use Rattle.definitions.specs.Prekernel.{holds_without, IsSurplus, AreBalanced, InPrekernel}
 use Rattle.definitions.specs.Prekernel.{IsEarlierPair, IsFirstUnbalanced}
 use Rattle.kernel_test.specs.Tables.{number_at, AreSurpluses}
-
--- there is one greatest number
-IsGreatest-one : (P : ℕ → Type 0) (f : ℕ → ℤ) (m k : ℤ) → IsGreatest P f m → IsGreatest P f k → m ≡ k
-IsGreatest-one P f m k h l =
-    omega (arith, ints, h.0.2, l.0.2, h.1 l.0.0 l.0.1, l.1 h.0.0 h.0.1)
 
 pub found_in : (g : Game) (x : Allocation) (table : List (Option ℤ)) → AreSurpluses g x table → (i j : ℕ)
     → i < g.players → j < g.players → i ≢ j → IsSome (number_at table i j)
@@ -41,10 +35,10 @@ unbalanced_in g x table h i j hi hj ne differ balanced =
     let one = h i j hi hj ne in
     let other = h j i hj hi (λ k. ne (sym k)) in
     let first =
-    IsGreatest-one (λ s. (s < 2 ^ g.players) × (holds_without i j s ≡ true)) (excess g x) one.0 balanced.0 one.2
+    IsGreatest-unique (λ s. (s < 2 ^ g.players) × (holds_without i j s ≡ true)) (excess g x) one.0 balanced.0 one.2
     balanced.1 in
     let second =
-    IsGreatest-one (λ s. (s < 2 ^ g.players) × (holds_without j i s ≡ true)) (excess g x) other.0 balanced.0
+    IsGreatest-unique (λ s. (s < 2 ^ g.players) × (holds_without j i s ≡ true)) (excess g x) other.0 balanced.0
     other.2 balanced.2 in
     differ (one.1 ∙ ap Some (first ∙ sym second) ∙ sym other.1)
 

@@ -36,7 +36,7 @@ placed_behind_ascends ps (q ∷ qs) h fresh apart =
 pub placed_ascends : (qs : List (ℕ × ℤ)) → Apart qs → Ascends 0 (placed qs)
 placed_ascends qs apart = placed_behind_ascends [] qs tt (fresh_none qs) apart
 
-placed_behind_all : (P : ℕ × ℤ → Type 0) (ps qs : List (ℕ × ℤ)) → AllByRecursion P ps → AllByRecursion P qs
+pub placed_behind_all : (P : ℕ × ℤ → Type 0) (ps qs : List (ℕ × ℤ)) → AllByRecursion P ps → AllByRecursion P qs
     → AllByRecursion P (placed_behind ps qs)
 placed_behind_all P ps [] h k = h
 placed_behind_all P ps (q ∷ qs) h k =
@@ -55,7 +55,7 @@ weight_at-placed_behind ps (q ∷ qs) i =
 pub weight_at-placed : (qs : List (ℕ × ℤ)) (i : ℕ) → weight_at (placed qs) i ≡ weight_at qs i
 weight_at-placed qs i = omega (arith, linear, weight_at-placed_behind [] qs i)
 
-length-placed_behind : (ps qs : List (ℕ × ℤ)) → length (placed_behind ps qs) ≡ length ps + length qs
+pub length-placed_behind : (ps qs : List (ℕ × ℤ)) → length (placed_behind ps qs) ≡ length ps + length qs
 length-placed_behind ps [] = omega arith
 length-placed_behind ps (q ∷ qs) =
     omega (arith, length-placed_behind (with_pair q.0 q.1 ps) qs, length-with_pair q.0 q.1 ps)

@@ -14,34 +14,8 @@ use Rattle.definitions.proofs.Members.{weight_at-append}
 use Rattle.definitions.proofs.Alls.{all_join, all_weaken}
 use Rattle.fractions.proofs.Ratios.{product_apart}
 use Rattle.definitions.proofs.Cases.{or_cases, or_left, or_right}
-
--- ---- combinations
-
-abbrev pub scaled_pairs : ℤ → List (ℕ × ℤ) → List (ℕ × ℤ)
-scaled_pairs c [] = []
-scaled_pairs c (p ∷ ps) = (p.0, c *ℤ p.1) ∷ scaled_pairs c ps
-
-scale_all : (c w u t : ℤ) → u ≡ c *ℤ t → c *ℤ w +ℤ u ≡ c *ℤ (w +ℤ t)
-scale_all c w u t e = simp (e, ring_laws)
-
-scale_rest : (c u t : ℤ) → u ≡ c *ℤ t → pos 0 +ℤ u ≡ c *ℤ (pos 0 +ℤ t)
-scale_rest c u t e = simp (e, unit_laws)
-
-scale_step : (b : Bool) (c w u t : ℤ) → u ≡ c *ℤ t → cond b (c *ℤ w) (pos 0) +ℤ u ≡ c *ℤ (cond b w (pos 0) +ℤ t)
-scale_step true c w u t e = scale_all c w u t e
-scale_step false c w u t e = scale_rest c u t e
-
-weight_at-scaled : (c : ℤ) (ps : List (ℕ × ℤ)) (i : ℕ) → weight_at (scaled_pairs c ps) i ≡ c *ℤ weight_at ps i
-weight_at-scaled c [] i = sym none
-  where
-    none : c *ℤ pos 0 ≡ pos 0
-    none = simp unit_laws
-weight_at-scaled c (p ∷ ps) i = scale_step (has_player p.0 i) c p.1 _ (weight_at ps i) (weight_at-scaled c ps i)
-
-all_scaled : (P : ℕ → Type 0) (c : ℤ) (ps : List (ℕ × ℤ)) → AllByRecursion (λ p. P p.0) ps
-    → AllByRecursion (λ p. P p.0) (scaled_pairs c ps)
-all_scaled P c [] h = tt
-all_scaled P c (p ∷ ps) h = (h.0, all_scaled P c ps h.1)
+use Rattle.definitions.proofs.ScaledPairs.{scaled_pairs, weight_at-scaled, all_scaled}
+use lib.IntN.{+ℤ_idr}
 
 -- ---- what is spanned by what is spanned
 
@@ -63,6 +37,9 @@ sum_step : (b : Bool) (w m f u v x t : ℤ) → u ≡ (w *ℤ f) *ℤ cond b m (
 sum_step true w m f u v x t e g h = sum_all w m f u v x t e g h
 sum_step false w m f u v x t e g h = sum_rest w m f u v x t e g h
 
+one_apart : pos 1 ≢ pos 0
+one_apart e = cc
+
 more_multiple : (n : ℕ) (Q : ℕ → Type 0) (p : ℕ × ℤ) (ps : List (ℕ × ℤ)) → InSpan n Q p.0 → Multiple n Q ps
     → Multiple n Q (p ∷ ps)
 more_multiple n Q p ps (m, nz, rs, all, sum) k = record {
@@ -79,13 +56,11 @@ more_multiple n Q p ps (m, nz, rs, all, sum) k = record {
 }
 
 multiple : (n : ℕ) (Q : ℕ → Type 0) (ps : List (ℕ × ℤ)) → AllByRecursion (λ p. InSpan n Q p.0) ps → Multiple n Q ps
-multiple n Q [] h = record { factor = pos 1; apart = one; pairs = []; all = tt; sum = λ i lt. sym none }
+multiple n Q [] h =
+    record { factor = pos 1; apart = one_apart; pairs = []; all = tt; sum = λ i lt. sym one_times_zero }
   where
-    one : pos 1 ≢ pos 0
-    one e = cc
-
-    none : pos 1 *ℤ pos 0 ≡ pos 0
-    none = simp unit_laws
+    one_times_zero : pos 1 *ℤ pos 0 ≡ pos 0
+    one_times_zero = simp unit_laws
 multiple n Q (p ∷ ps) h = more_multiple n Q p ps h.0 (multiple n Q ps h.1)
 
 times_test : (b : Bool) (f m : ℤ) → f *ℤ cond b m (pos 0) ≡ cond b (f *ℤ m) (pos 0)
@@ -103,13 +78,8 @@ span_trans n P Q s h (m, nz, ps, all, sum) =
     )
 
 pub span_of_one : (n : ℕ) (P : ℕ → Type 0) (s : ℕ) → P s → InSpan n P s
-span_of_one n P s h = (pos 1, one, (s, pos 1) ∷ [], (h, tt), λ i lt. idr (if has_player s i then pos 1 else pos 0))
-  where
-    one : pos 1 ≢ pos 0
-    one e = cc
-
-    idr : (z : ℤ) → z +ℤ pos 0 ≡ z
-    idr z = simp unit_laws
+span_of_one n P s h =
+    (pos 1, one_apart, (s, pos 1) ∷ [], (h, tt), λ i lt. +ℤ_idr (if has_player s i then pos 1 else pos 0))
 
 pub span_mono : (n : ℕ) (P Q : ℕ → Type 0) (s : ℕ) → ((t : ℕ) → P t → Q t) → InSpan n P s → InSpan n Q s
 span_mono n P Q s h (m, nz, ps, all, sum) =

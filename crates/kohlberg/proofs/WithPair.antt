@@ -8,7 +8,7 @@ use Rattle.definitions.proofs.Ring.{linear}
 use Rattle.definitions.specs.Coalitions.{has_player, weight_at}
 use Rattle.definitions.specs.Certificates.{Ascends}
 use Rattle.kohlberg.specs.Pairs.{with_pair}
-use Rattle.definitions.proofs.Cases.{from_not_nat_lt}
+use Rattle.definitions.proofs.Cases.{from_not_nat_lt, or_either}
 
 pub weight_at-with_pair : (s : ℕ) (w : ℤ) (ps : List (ℕ × ℤ)) (i : ℕ)
     → weight_at (with_pair s w ps) i ≡ (if has_player s i then w else pos 0) +ℤ weight_at ps i
@@ -40,16 +40,11 @@ any-with_pair test s w [] (inl h) = rw h refl
 any-with_pair test s w [] (inr h) = absurd (false≢true h)
 any-with_pair test s w (p ∷ ps) h =
     let step : (b : Bool) → list_any test (cond b ((s, w) ∷ (p ∷ ps)) (p ∷ with_pair s w ps)) ≡ true = elim [
-      | true ↦ either (test (s, w)) (list_any test (p ∷ ps)) h
+      | true ↦ or_either (test (s, w)) (list_any test (p ∷ ps)) h
       | false ↦ later (test p) h (λ k. any-with_pair test s w ps k)
     ] in
     step (nat_lt s p.0)
   where
-    either : (a b : Bool) → (a ≡ true) ⊎ (b ≡ true) → (a || b) ≡ true
-    either true b h = refl
-    either false b (inl h) = absurd (false≢true h)
-    either false b (inr h) = h
-
     later : (t : Bool) → (test (s, w) ≡ true) ⊎ ((t || list_any test ps) ≡ true)
         → ((test (s, w) ≡ true) ⊎ (list_any test ps ≡ true) → list_any test (with_pair s w ps) ≡ true)
         → (t || list_any test (with_pair s w ps)) ≡ true

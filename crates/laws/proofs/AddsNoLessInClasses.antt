@@ -1,7 +1,7 @@
 -- Who adds no less, by the numbers of the class: who needs no more of a runway, who claims no less of an estate, who
 -- has no fewer votes.
 use Rattle.std.proofs.Common.{◌≡◌, ℕ, ◌+◌, ◌^◌, ◌<◌, ◌≤◌, Bool, true, false, cond, List, length, get_or, int_le}
-use Rattle.std.proofs.Common.{ℤ, pos, ◌-ℤ◌, ◌≤ℤ◌, neg_ℤ, refl, sym, ap, ◌∙◌, inl, inr, arith}
+use Rattle.std.proofs.Common.{ℤ, pos, ◌-ℤ◌, ◌≤ℤ◌, refl, sym, ap, ◌∙◌, inl, inr, arith}
 use Rattle.std.specs.Int.{int_max}
 use Rattle.std.proofs.lemmas.Int.{ints, clamps}
 use Rattle.definitions.proofs.Cases.{same_or_other}
@@ -14,9 +14,6 @@ use Rattle.laws.specs.ClassGames.{airport_game, bankruptcy_game, voting_game}
 use Rattle.airport.proofs.GreatestCosts.{greatest_cost-at_least, greatest_cost-at_most}
 use Rattle.definitions.specs.Players.{AddsNoLess}
 
-natural_le : {a b : ℕ} → a ≤ b → pos a ≤ℤ pos b
-natural_le h = omega (arith, ints)
-
 -- the numbers of the members, as integers
 abbrev numbers : List ℕ → ℕ → ℤ
 numbers xs i = pos (get_or xs i 0)
@@ -26,10 +23,11 @@ sums : (xs : List ℕ) (i j s : ℕ) → i < length xs → j < length xs → get
     → has_player s i ≡ false → has_player s j ≡ false
     → sum_over (length xs) (numbers xs) (s + 2 ^ j) ≤ℤ sum_over (length xs) (numbers xs) (s + 2 ^ i)
 sums xs i j s hi hj le out other =
+    let less : pos (get_or xs j 0) ≤ℤ pos (get_or xs i 0) = omega (arith, ints, le) in
     omega (
       arith,
       linear,
-      natural_le le,
+      less,
       sum_over-more (length xs) s i (numbers xs) hi out,
       sum_over-more (length xs) s j (numbers xs) hj other,
     )
@@ -49,13 +47,11 @@ votes quota weights i j hi hj le s lt out other =
 pub need : (costs : List ℕ) (i j : ℕ) → i < length costs → j < length costs → get_or costs i 0 ≤ get_or costs j 0
     → AddsNoLess (airport_game costs) i j
 need costs i j hi hj le s lt out other =
-    negated _ _
-    (greatest_cost-at_most (length costs) (λ k. get_or costs k 0) (s + 2 ^ i)
-    (greatest_cost (length costs) (λ k. get_or costs k 0) (s + 2 ^ j)) at)
+    let less =
+    greatest_cost-at_most (length costs) (λ k. get_or costs k 0) (s + 2 ^ i)
+    (greatest_cost (length costs) (λ k. get_or costs k 0) (s + 2 ^ j)) at in
+    omega (arith, ints, less)
   where
-    negated : (a b : ℕ) → a ≤ b → neg_ℤ (pos b) ≤ℤ neg_ℤ (pos a)
-    negated a b h = omega (arith, ints)
-
     at : (k : ℕ) → k < length costs → has_player (s + 2 ^ i) k ≡ true
         → get_or costs k 0 ≤ greatest_cost (length costs) (λ h. get_or costs h 0) (s + 2 ^ j)
     at k h has = elim (same_or_other k i) [

@@ -7,7 +7,7 @@ use Rattle.std.specs.Int.{int_max, int_min}
 use Rattle.std.proofs.lemmas.Int.{ints, clamps, by_lt_z}
 use Rattle.std.proofs.Math.Pow.{pow-lt}
 use Rattle.definitions.proofs.Cases.{and_parts, and_both, from_not}
-use Rattle.definitions.proofs.Masks.{grand_coalition-within}
+use Rattle.definitions.proofs.Masks.{grand_coalition-within, singleton-within}
 use Rattle.definitions.proofs.Members.{has_player-singleton, has_player-singleton_other}
 use Rattle.definitions.proofs.Members.{sum_over-singleton, sum_over-complement, sum_over-grand_coalition}
 use Rattle.definitions.proofs.Parts.{others_has, others_lacks}
@@ -119,9 +119,6 @@ module _ (estate : ℕ) (claims : List ℕ) (x : Allocation) (core : InCore (gam
       → m ≡ int_max (neg_ℤ (share x i)) (neg_ℤ (loss estate claims x j))
   surplus-is i j m hi hj ne h = greater m (share x i) (loss estate claims x j) upper alone others
     where
-      small : (k : ℕ) → k < n → singleton k < 2 ^ n
-      small k lt = pow-lt lt
-
       upper : m ≤ℤ neg_ℤ (int_min (share x i) (loss estate claims x j))
       upper =
           let s = h.0.0 in
@@ -146,7 +143,7 @@ module _ (estate : ℕ) (claims : List ℕ) (x : Allocation) (core : InCore (gam
           let lacks = ap not (has_player-singleton_other i j (λ e. ne (sym e))) in
           let le =
           h.1 (singleton i) (
-            small i hi,
+            singleton-within n i hi,
             and_both (has_player (singleton i) i) (not (has_player (singleton i) j)) (has_player-singleton i)
                 lacks,
           ) in
@@ -157,11 +154,11 @@ module _ (estate : ℕ) (claims : List ℕ) (x : Allocation) (core : InCore (gam
       others =
           let s = grand_coalition n - singleton j in
           let within = grand_coalition-within n in
-          let lacks = ap not (others_lacks n j (small j hj) hj) in
+          let lacks = ap not (others_lacks n j (singleton-within n j hj) hj) in
           let le =
           h.1 s (
             omega (arith, within),
-            and_both (has_player s i) (not (has_player s j)) (others_has n j i (small j hj) hi ne) lacks,
+            and_both (has_player s i) (not (has_player s j)) (others_has n j i (singleton-within n j hj) hi ne) lacks,
           ) in
           omega (arith, linear, le, excess-others estate claims x j divides hj)
 

@@ -15,10 +15,11 @@ use Rattle.definitions.proofs.Members.{has_player-empty, has_player-singleton}
 use Rattle.definitions.proofs.Parts.{others_lacks, sum_over-more, more-lt, has_player-more_same}
 use Rattle.definitions.proofs.Ring.{linear, mul-addℤ, mul-zeroℤ, mul-leℤ}
 use Rattle.definitions.proofs.Sizes.{size-at}
+use Rattle.definitions.proofs.SumsOver.{amount-empty}
 use Rattle.theorems.proofs.Moves.{moved, excess-raised, measured-less, parted, joined, proper_of, no_gain}
-use Rattle.laws.proofs.NucleolusIsInCore.{amount_empty, excess_grand}
+use Rattle.laws.proofs.NucleolusIsInCore.{excess_grand}
 use Rattle.theorems.proofs.Transfers.{some_greatest, measured_surplus_of, surplus_of}
-use Rattle.theorems.proofs.SomeMembers.{some_member, some_outsider}
+use Rattle.definitions.proofs.SomeMembers.{some_member, some_outsider}
 use Rattle.laws.proofs.Withouts.{without}
 use Rattle.definitions.specs.Sums.{IsGreatest}
 use Rattle.definitions.specs.Coalitions.{has_player, singleton, grand_coalition}
@@ -55,7 +56,7 @@ excess-empty : (g : Game) (x : Allocation) (i : ℕ) → IsDummy g i → i < g.p
 excess-empty g x i dummy hi =
     let alone = dummy 0 (omega (arith, singleton-within g.players i hi)) (has_player-empty i) in
     let none : g.worth 0 ≡ pos 0 = omega (arith, linear, alone, ap g.worth (nobody i)) in
-    omega (arith, linear, ap (λ (z : ℤ). x.den *ℤ z) none, mul-zeroℤ x.den, amount_empty x)
+    omega (arith, linear, ap (λ (z : ℤ). x.den *ℤ z) none, mul-zeroℤ x.den, amount-empty x)
 
 excess-alone : (g : Game) (x : Allocation) (i : ℕ) → IsDummy g i → IsAllocation g x → i < g.players
     → excess g x (singleton i) ≡ pos 0 -ℤ over g x i

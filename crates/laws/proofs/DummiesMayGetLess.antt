@@ -4,7 +4,7 @@ use Rattle.std.proofs.Common.{◌≡◌, ℕ, zero, suc, ◌+◌, ◌<◌, Bool,
 use Rattle.std.proofs.Common.{pos, negsuc, ◌+ℤ◌, ◌*ℤ◌, ◌<ℤ◌, int_le, refl, inr, inl, arith, rules}
 use Rattle.std.proofs.lemmas.Int.{ints}
 use Rattle.std.specs.Ordering.{int_eq}
-use Rattle.theorems.proofs.Examples.{majority, passes_below-at, from_int_eq, balances}
+use Rattle.theorems.proofs.Examples.{from_int_eq, balances}
 use Rattle.theorems.proofs.Soundness.{IsNucleolus-from_certificate}
 use Rattle.definitions.specs.Classes.{table_worth}
 use Rattle.definitions.specs.Coalitions.{has_player, singleton, weight_at, members}
@@ -16,6 +16,7 @@ use Rattle.definitions.specs.declared.Family.TheVariants.{Preimputations}
 use Rattle.definitions.specs.declared.Measure.TheVariants.{PerHead}
 use Rattle.definitions.specs.declared.Mode.TheVariants.{Span}
 use Rattle.definitions.specs.Players.{IsDummy}
+use Rattle.definitions.proofs.Splits.{passes_below-at}
 use Rattle.laws.specs.Nucleolus.{DummiesMayGetLess}
 
 -- ---- two of three who vote by majority

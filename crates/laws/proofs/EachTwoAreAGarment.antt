@@ -7,6 +7,7 @@ use Rattle.std.proofs.lemmas.Int.{ints, clamps}
 use Rattle.std.proofs.lemmas.List.{get_or-map}
 use Rattle.definitions.proofs.Cases.{less_or_last, less_or_greater}
 use Rattle.definitions.proofs.Ring.{linear, mul-leℤ, mul-subℤ, mul-nonnegativeℤ}
+use Rattle.definitions.proofs.Members.{sum_below-nonnegative}
 use Rattle.definitions.specs.Sums.{sum_below}
 use Rattle.definitions.specs.Games.{Allocation, share}
 use Rattle.talmud.specs.Rule.{cut, is_little, IsTalmud}
@@ -50,14 +51,10 @@ one_of (suc n) i f h lt = elim (less_or_last i n lt) [
       let last = h n (omega arith) in
       (omega (arith, linear, ih.0, last), omega (arith, linear, ih.1, last))
   | inr same ↦
-      let rest = nonnegative n f (λ k l. h k (omega arith)) in
+      let rest = sum_below-nonnegative n f (λ k l. h k (omega arith)) in
       let last = h n (omega arith) in
       (omega (arith, linear, rest, last), omega (arith, linear, rest, ap f same))
 ]
-  where
-    nonnegative : (n : ℕ) (f : ℕ → ℤ) → ((k : ℕ) → k < n → pos 0 ≤ℤ f k) → pos 0 ≤ℤ sum_below n f
-    nonnegative zero f h = omega (arith, linear)
-    nonnegative (suc n) f h = omega (arith, linear, nonnegative n f (λ k l. h k (omega arith)), h n (omega arith))
 
 pub two_of : (n i j : ℕ) (f : ℕ → ℤ) → ((k : ℕ) → k < n → pos 0 ≤ℤ f k) → i < j → j < n
     → (f i +ℤ f j) ≤ℤ sum_below n f
@@ -79,6 +76,9 @@ cut-is estate claims i lt = get_or-map (λ c. min c estate) claims i 0 0 lt
 
 -- ---- the claims as they are made
 
+natural_le : (a b : ℕ) → a ≤ b → pos a ≤ℤ pos b
+natural_le a b le = omega (arith, ints)
+
 module _ (estate : ℕ) (claims : List ℕ) (x : Allocation) (d : Divides estate claims x) where
   -- the cut claim is at most the claim
   pub less : (i : ℕ) → i < length claims → cut_claimed estate claims x i ≤ℤ claimed claims x i
@@ -86,9 +86,6 @@ module _ (estate : ℕ) (claims : List ℕ) (x : Allocation) (d : Divides estate
       mul-leℤ x.den (pos (cut estate claims i)) (pos (get_or claims i 0))
       (let positive = d.positive in omega (arith, linear))
       (natural_le _ _ (rw (cut-is estate claims i lt) (omega arith)))
-    where
-      natural_le : (a b : ℕ) → a ≤ b → pos a ≤ℤ pos b
-      natural_le a b le = omega (arith, ints)
 
   -- two get at most the estate together
   at_most : (i j : ℕ) → i < length claims → j < length claims → i ≢ j
@@ -141,9 +138,6 @@ module _ (estate : ℕ) (claims : List ℕ) (x : Allocation) (h : IsTalmud estat
 
   some : (i : ℕ) → pos 0 ≤ℤ cut_claimed estate claims x i
   some i = mul-nonnegativeℤ x.den (pos (cut estate claims i)) den_some (omega (arith, ints))
-
-  natural_le : (a b : ℕ) → a ≤ b → pos a ≤ℤ pos b
-  natural_le a b le = omega (arith, ints)
 
   within : (i : ℕ) → i < length claims → (pos 0 ≤ℤ share x i) × (share x i ≤ℤ cut_claimed estate claims x i)
   within i lt =

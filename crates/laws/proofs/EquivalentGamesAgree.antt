@@ -4,9 +4,10 @@ use Rattle.std.proofs.Common.{◌≡◌, ℕ, List, map, ℤ, pos, ◌-ℤ◌, �
 use Rattle.std.proofs.lemmas.Int.{by_lt_z}
 use Rattle.std.proofs.lemmas.List.{length-map}
 use Rattle.definitions.proofs.Measured.{weight, measured-weight}
-use Rattle.definitions.proofs.Ring.{linear, mul_assocℤ, mul_left_commℤ, mul-subℤ, mul-leℤ, mul-ltℤ}
-use Rattle.definitions.proofs.Ring.{mul-le_cancelℤ, mul-cancelℤ, mul-positiveℤ, one-mulℤ}
-use Rattle.theorems.proofs.Scaled.{above_zero, share_times, amount_times, same_from, part, part_same, map_alike}
+use Rattle.definitions.proofs.Ring.{linear, mul_left_commℤ, mul-subℤ, mul-leℤ, mul-ltℤ}
+use Rattle.definitions.proofs.Ring.{mul-le_cancelℤ, mul-cancelℤ, mul-positiveℤ, one-mulℤ, mul_assoc_commℤ}
+use Rattle.definitions.proofs.Alls.{map_same}
+use Rattle.theorems.proofs.Scaled.{above_zero, share_times, amount_times, same_from, part, part_same}
 use Rattle.theorems.proofs.ScaledLists.{order_kept, values_times}
 use Rattle.laws.proofs.ShiftsChangeNothing.{shifted_alike}
 use Rattle.definitions.specs.Coalitions.{singleton, grand_coalition, proper_coalitions}
@@ -114,29 +115,25 @@ beats_from k measure g x y p h =
 
 -- ---- the nucleolus
 
--- k times the denominator, as a factor of the worth
-moved_factor : (k d v : ℤ) → (k *ℤ d) *ℤ v ≡ d *ℤ (k *ℤ v)
-moved_factor k d v = mul_assocℤ k d v ∙ mul_left_commℤ k d v
-
 -- a rival in the game of k times the worths, over k times its denominator
 part_family : (k : ℤ) (f : Family) (g : Game) (y : Allocation) → pos 1 ≤ℤ k → InFamily f (scaled_game k g) y
     → InFamily f g (part k y)
-part_family k f g y p h = step f h
+part_family k f g y p h = by_family f h
   where
     allocation : IsAllocation (scaled_game k g) y → IsAllocation g (part k y)
     allocation a =
         (a.0, (let q = mul-positiveℤ k y.den (above_zero k p) (above_zero y.den a.1) in omega (arith, linear, q)))
 
     efficient : IsEfficient (scaled_game k g) y → IsEfficient g (part k y)
-    efficient e = e ∙ sym (moved_factor k y.den (g.worth (grand_coalition g.players)))
+    efficient e = e ∙ sym (mul_assoc_commℤ k y.den (g.worth (grand_coalition g.players)))
 
-    step : (f : Family) → InFamily f (scaled_game k g) y → InFamily f g (part k y)
-    step Imputations h = (
+    by_family : (f : Family) → InFamily f (scaled_game k g) y → InFamily f g (part k y)
+    by_family Imputations h = (
       allocation h.0,
       efficient h.1,
-      λ i lt. subst (λ (z : ℤ). z ≤ℤ share y i) (sym (moved_factor k y.den (g.worth (singleton i)))) (h.2 i lt),
+      λ i lt. subst (λ (z : ℤ). z ≤ℤ share y i) (sym (mul_assoc_commℤ k y.den (g.worth (singleton i)))) (h.2 i lt),
     )
-    step Preimputations h = (allocation h.0, efficient h.1)
+    by_family Preimputations h = (allocation h.0, efficient h.1)
 
 part_beats : (k : ℤ) (measure : Measure) (g : Game) (x y : Allocation) → Beats measure g x (part k y)
     → Beats measure (scaled_game k g) (times k x) y
@@ -146,16 +143,16 @@ part_beats k measure g x y h =
   where
     first : excess_list measure g x (k *ℤ y.den) ≡ excess_list measure (scaled_game k g) (times k x) y.den
     first =
-        map_alike (λ s. (k *ℤ y.den) *ℤ measured_excess measure g x s)
+        map_same (λ s. (k *ℤ y.den) *ℤ measured_excess measure g x s)
         (λ s. y.den *ℤ measured_excess measure (scaled_game k g) (times k x) s) (proper_coalitions g.players)
-        (λ s. moved_factor k y.den (measured_excess measure g x s)
+        (λ s. mul_assoc_commℤ k y.den (measured_excess measure g x s)
         ∙ ap (λ (z : ℤ). y.den *ℤ z) (sym (measured-scaled k measure g x s)))
 
     second : excess_list measure g (part k y) x.den ≡ excess_list measure (scaled_game k g) y x.den
     second =
-        map_alike (λ s. x.den *ℤ measured_excess measure g (part k y) s)
+        map_same (λ s. x.den *ℤ measured_excess measure g (part k y) s)
         (λ s. x.den *ℤ measured_excess measure (scaled_game k g) y s) (proper_coalitions g.players)
-        (λ s. ap (λ (z : ℤ). x.den *ℤ measured measure s (z -ℤ amount y s)) (moved_factor k y.den (g.worth s)))
+        (λ s. ap (λ (z : ℤ). x.den *ℤ measured measure s (z -ℤ amount y s)) (mul_assoc_commℤ k y.den (g.worth s)))
 
 nucleolus_to : (k : ℤ) (f : Family) (measure : Measure) (g : Game) (x : Allocation) → pos 1 ≤ℤ k
     → IsNucleolus f measure g x → IsNucleolus f measure (scaled_game k g) (times k x)

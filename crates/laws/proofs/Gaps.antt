@@ -1,16 +1,14 @@
 -- By how much two allocations differ, over the product of their denominators.
-use Rattle.std.proofs.Common.{◌≡◌, ℕ, ℤ, ◌+ℤ◌, ◌-ℤ◌, ◌*ℤ◌, ap, ◌∙◌, arith}
+use Rattle.std.proofs.Common.{◌≡◌, ℕ, ℤ, ◌+ℤ◌, ◌-ℤ◌, ◌*ℤ◌, ◌∙◌, arith}
 use Rattle.definitions.proofs.Members.{sum_over-combined}
 use Rattle.definitions.proofs.Ring.{linear, mul-subℤ, mul_left_commℤ}
+use Rattle.definitions.proofs.SumsOver.{amount-at}
 use Rattle.definitions.specs.Coalitions.{sum_over}
 use Rattle.definitions.specs.Games.{Game, Allocation, share, amount, excess, IsAllocation}
 
 -- what player i gets more in x than in y
 abbrev pub gap : Allocation → Allocation → ℕ → ℤ
 gap x y i = y.den *ℤ share x i -ℤ x.den *ℤ share y i
-
-amount-at : (g : Game) (x : Allocation) (s : ℕ) → IsAllocation g x → amount x s ≡ sum_over g.players (share x) s
-amount-at g x s h = ap (λ k. sum_over k (share x) s) h.0
 
 gap-amount : (g : Game) (x y : Allocation) (s : ℕ) → IsAllocation g x → IsAllocation g y
     → sum_over g.players (gap x y) s ≡ y.den *ℤ amount x s -ℤ x.den *ℤ amount y s

@@ -9,7 +9,8 @@ use Rattle.definitions.proofs.Families.{allocation_of, efficient_of}
 use Rattle.definitions.proofs.Masks.{grand_coalition-within}
 use Rattle.definitions.proofs.Measured.{weight, measured-weight, measured-zero}
 use Rattle.definitions.proofs.Ring.{linear, mul-zeroℤ, mul_left_commℤ}
-use Rattle.laws.proofs.NucleolusIsInCore.{amount_empty, excess_grand}
+use Rattle.definitions.proofs.SumsOver.{amount-empty}
+use Rattle.laws.proofs.NucleolusIsInCore.{excess_grand}
 use Rattle.laws.proofs.SortedLists.{one_if, Falls-with_number, times_in-with_number}
 use Rattle.laws.proofs.SortedLists.{length-with_number, Falls-sorted, times_in-sorted, falling_same}
 use Rattle.theorems.proofs.OneWay.{IsLesser-asymmetric}
@@ -26,32 +27,32 @@ use Rattle.laws.specs.SortedLists.{times_in, BeatsAmongAll, IsNucleolusAmongAll}
 -- what begins with less than a is lesser than what a stands in
 under_with : (a x : ℤ) (u v : List ℤ) → x <ℤ a → IsLesser (x ∷ u) (with_number a v)
 under_with a x u [] lt = inl lt
-under_with a x u (w ∷ v) lt = step (int_lt w a) refl
+under_with a x u (w ∷ v) lt = lesser_either (int_lt w a) refl
   where
-    step : (b : Bool) → int_lt w a ≡ b → IsLesser (x ∷ u) (cond b (a ∷ (w ∷ v)) (w ∷ with_number a v))
-    step true e = inl lt
-    step false e = inl (omega (arith, ints, lt, e))
+    lesser_either : (b : Bool) → int_lt w a ≡ b → IsLesser (x ∷ u) (cond b (a ∷ (w ∷ v)) (w ∷ with_number a v))
+    lesser_either true e = inl lt
+    lesser_either false e = inl (omega (arith, ints, lt, e))
 
 lesser_with : (a : ℤ) (u v : List ℤ) → IsLesser u v → IsLesser (with_number a u) (with_number a v)
 lesser_with a [] v h = absurd h
 lesser_with a (x ∷ u) [] h = absurd h
-lesser_with a (x ∷ u) (y ∷ v) h = step (lesser_with a u v) (int_lt x a) (int_lt y a) refl refl h
+lesser_with a (x ∷ u) (y ∷ v) h = lesser_by_tests (lesser_with a u v) (int_lt x a) (int_lt y a) refl refl h
   where
     at_most : (y : ℤ) → a ≤ℤ y → (a <ℤ y) ⊎ (a ≡ y)
     at_most y le = by_lt_z a y (λ lt. inl lt) (λ ge. inr (omega (arith, linear, le, ge)))
 
-    step : (IsLesser u v → IsLesser (with_number a u) (with_number a v)) → (b c : Bool) → int_lt x a ≡ b
+    lesser_by_tests : (IsLesser u v → IsLesser (with_number a u) (with_number a v)) → (b c : Bool) → int_lt x a ≡ b
         → int_lt y a ≡ c → (x <ℤ y) ⊎ ((x ≡ y) × IsLesser u v)
         → IsLesser (cond b (a ∷ (x ∷ u)) (x ∷ with_number a u)) (cond c (a ∷ (y ∷ v)) (y ∷ with_number a v))
-    step ih true true e f k = inr (refl, k)
-    step ih true false e f k = elim (at_most y (omega (arith, ints, f))) [
+    lesser_by_tests ih true true e f k = inr (refl, k)
+    lesser_by_tests ih true false e f k = elim (at_most y (omega (arith, ints, f))) [
       | inl lt ↦ inl lt
       | inr same ↦ inr (same, under_with a x u v (omega (arith, ints, e)))
     ]
-    step ih false true e f (inl lt) = absurd (omega (arith, ints, e, f, lt))
-    step ih false true e f (inr k) = absurd (let same = k.0 in omega (arith, ints, e, f, same))
-    step ih false false e f (inl lt) = inl lt
-    step ih false false e f (inr k) = inr (k.0, ih k.1)
+    lesser_by_tests ih false true e f (inl lt) = absurd (omega (arith, ints, e, f, lt))
+    lesser_by_tests ih false true e f (inr k) = absurd (let same = k.0 in omega (arith, ints, e, f, same))
+    lesser_by_tests ih false false e f (inl lt) = inl lt
+    lesser_by_tests ih false false e f (inr k) = inr (k.0, ih k.1)
 
 -- of two lists of one length one is lesser, or they are one
 lesser_or : (u v : List ℤ) → length u ≡ length v → IsLesser u v ⊎ ((u ≡ v) ⊎ IsLesser v u)
@@ -192,8 +193,8 @@ empty_same : (measure : Measure) (g : Game) (x y : Allocation)
 empty_same measure g x y =
     let w = weight measure 0 in
     let v = g.worth 0 in
-    let ex : excess g x 0 ≡ x.den *ℤ v = omega (arith, linear, amount_empty x) in
-    let ey : excess g y 0 ≡ y.den *ℤ v = omega (arith, linear, amount_empty y) in
+    let ex : excess g x 0 ≡ x.den *ℤ v = omega (arith, linear, amount-empty x) in
+    let ey : excess g y 0 ≡ y.den *ℤ v = omega (arith, linear, amount-empty y) in
     ap (λ (z : ℤ). y.den *ℤ z)
     (measured-weight measure 0 (excess g x 0) ∙ ap (λ (z : ℤ). w *ℤ z) ex ∙ mul_left_commℤ w x.den v)
     ∙ mul_left_commℤ y.den x.den (w *ℤ v)

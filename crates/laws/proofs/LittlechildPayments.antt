@@ -130,14 +130,11 @@ module _ (costs : List ℕ) (at : ℕ → ℕ) (pay : ℕ → ℤ) (x : Allocati
       (λ k h has. only k has) in
       let scaled =
       mul-leℤ x.den (pos (greatest_cost (length costs) (λ k. get_or costs k 0) (singleton i)))
-      (pos (get_or costs i 0)) positive (natural cost) in
+      (pos (get_or costs i 0)) positive (omega (arith, linear, cost)) in
       (omega (arith, linear, least, pays-at a.0 a.1, ap (pays x) a.2), omega (arith, linear, alone, one, scaled))
     where
       positive : pos 0 ≤ℤ x.den
       positive = let e = p.scheme.positive in omega (arith, linear, e)
-
-      natural : {a b : ℕ} → a ≤ b → pos a ≤ℤ pos b
-      natural h = omega (arith, linear, h)
 
       only : (k : ℕ) → has_player (singleton i) k ≡ true → get_or costs k 0 ≤ get_or costs i 0
       only k has = elim (same_or_other k i) [

@@ -10,6 +10,7 @@ use Rattle.definitions.proofs.Members.{sum_below-same, sum_below-add, sum_below-
 use Rattle.definitions.proofs.Ring.{linear, mul-leℤ, mul-subℤ, mul-addℤ, mul-zeroℤ, mul_left_commℤ}
 use Rattle.definitions.specs.Sums.{sum_below}
 use Rattle.definitions.specs.Games.{Allocation, share}
+use Rattle.theorems.proofs.Scaled.{above_zero}
 use Rattle.talmud.specs.Rule.{IsTalmud}
 use Rattle.laws.proofs.SomeGreater.{some_greater}
 use Rattle.laws.specs.TalmudRule.{unclaimed, IsGarment, claimed, IsConsistent}
@@ -25,19 +26,19 @@ unclaimed-scaled : (k s d : ℤ) → pos 0 <ℤ k → unclaimed (k *ℤ s) (k *�
 unclaimed-scaled k s d some = elim (int_max-cases (s -ℤ d) (pos 0)) [
   | inl above ↦
       let le = mul-leℤ k (pos 0) (s -ℤ d) (omega (arith, linear, some)) above.1 in
-      same (k *ℤ s -ℤ k *ℤ d) (omega (arith, linear, le, mul-zeroℤ k, mul-subℤ k s d))
+      max_at_least_zero (k *ℤ s -ℤ k *ℤ d) (omega (arith, linear, le, mul-zeroℤ k, mul-subℤ k s d))
       ∙ sym (ap (λ (z : ℤ). k *ℤ z) above.0 ∙ mul-subℤ k s d)
   | inr below ↦
       let le = mul-leℤ k (s -ℤ d) (pos 0) (omega (arith, linear, some)) below.1 in
-      none (k *ℤ s -ℤ k *ℤ d) (omega (arith, linear, le, mul-zeroℤ k, mul-subℤ k s d))
+      max_at_most_zero (k *ℤ s -ℤ k *ℤ d) (omega (arith, linear, le, mul-zeroℤ k, mul-subℤ k s d))
       ∙ sym (ap (λ (z : ℤ). k *ℤ z) below.0 ∙ mul-zeroℤ k)
 ]
   where
-    same : (z : ℤ) → pos 0 ≤ℤ z → int_max z (pos 0) ≡ z
-    same z h = omega (arith, ints, clamps)
+    max_at_least_zero : (z : ℤ) → pos 0 ≤ℤ z → int_max z (pos 0) ≡ z
+    max_at_least_zero z h = omega (arith, ints, clamps)
 
-    none : (z : ℤ) → z ≤ℤ pos 0 → int_max z (pos 0) ≡ pos 0
-    none z h = omega (arith, ints, clamps)
+    max_at_most_zero : (z : ℤ) → z ≤ℤ pos 0 → int_max z (pos 0) ≡ pos 0
+    max_at_most_zero z h = omega (arith, ints, clamps)
 
 garment-scaled : (k c d a b : ℤ) → pos 0 <ℤ k → IsGarment c d a b → IsGarment (k *ℤ c) (k *ℤ d) (k *ℤ a) (k *ℤ b)
 garment-scaled k c d a b some h =
@@ -87,12 +88,28 @@ module _ (n : ℕ) (claim f g : ℕ → ℤ)
 
 -- ---- consistent shares
 
+-- a garment of claims over the denominator of x, over that of y
+garment_over : (claims : List ℕ) (x y : Allocation) (f : ℕ → ℤ) (j l : ℕ) → pos 1 ≤ℤ y.den
+    → IsGarment (claimed claims x j) (claimed claims x l) (f j) (f l)
+    → IsGarment (x.den *ℤ claimed claims y j) (x.den *ℤ claimed claims y l) (y.den *ℤ f j) (y.den *ℤ f l)
+garment_over claims x y f j l some h =
+    subst (λ (z : ℤ). IsGarment (x.den *ℤ claimed claims y j) z (y.den *ℤ f j) (y.den *ℤ f l)) (same_claim l)
+    (subst (λ (z : ℤ). IsGarment z (y.den *ℤ claimed claims x l) (y.den *ℤ f j) (y.den *ℤ f l)) (same_claim j)
+    (garment-scaled y.den (claimed claims x j) (claimed claims x l) (f j) (f l) (above_zero y.den some) h))
+  where
+    same_claim : (j : ℕ) → y.den *ℤ claimed claims x j ≡ x.den *ℤ claimed claims y j
+    same_claim j = mul_left_commℤ y.den x.den _
+
 -- of a greater estate nobody gets less
 pub not_less : (estate more : ℕ) (claims : List ℕ) (x y : Allocation) → estate ≤ more → IsConsistent estate claims x
     → IsConsistent more claims y → (i : ℕ) → i < length claims → (share x i *ℤ y.den) ≤ℤ (share y i *ℤ x.den)
 not_less estate more claims x y le h k i lt =
     by_lt_z (f i) (g i)
-    (λ less. absurd (no_less n claim f g left right sums i lt less))
+    (λ less. absurd
+    (no_less n claim f g
+    (λ j l hj hl ne. garment-scaled x.den (claimed claims y j) (claimed claims y l) (share y j) (share y l)
+    (above_zero x.den h.positive) (k.each_two j l hj hl ne))
+    (λ j l hj hl ne. garment_over claims x y (share x) j l k.positive (h.each_two j l hj hl ne)) sums i lt less))
     (λ ge. omega (arith, linear, ge, *ℤ_comm (share x i) y.den, *ℤ_comm (share y i) x.den))
   where
     n : ℕ
@@ -107,27 +124,6 @@ not_less estate more claims x y le h k i lt =
     g : ℕ → ℤ
     g j = y.den *ℤ share x j
 
-    x_some : pos 0 <ℤ x.den
-    x_some = let positive = h.positive in omega (arith, linear, positive)
-
-    y_some : pos 0 <ℤ y.den
-    y_some = let positive = k.positive in omega (arith, linear, positive)
-
-    turned : (j : ℕ) → y.den *ℤ claimed claims x j ≡ claim j
-    turned j = mul_left_commℤ y.den x.den _
-
-    left : (j l : ℕ) → j < n → l < n → j ≢ l → IsGarment (claim j) (claim l) (f j) (f l)
-    left j l hj hl ne =
-        garment-scaled x.den (claimed claims y j) (claimed claims y l) (share y j) (share y l) x_some
-        (k.each_two j l hj hl ne)
-
-    right : (j l : ℕ) → j < n → l < n → j ≢ l → IsGarment (claim j) (claim l) (g j) (g l)
-    right j l hj hl ne =
-        subst (λ (z : ℤ). IsGarment (claim j) z (g j) (g l)) (turned l)
-        (subst (λ (z : ℤ). IsGarment z (y.den *ℤ claimed claims x l) (g j) (g l)) (turned j)
-        (garment-scaled y.den (claimed claims x j) (claimed claims x l) (share x j) (share x l) y_some
-        (h.each_two j l hj hl ne)))
-
     sums : sum_below n g ≤ℤ sum_below n f
     sums =
         let a =
@@ -135,8 +131,9 @@ not_less estate more claims x y le h k i lt =
         ∙ mul_left_commℤ y.den x.den (pos estate) in
         let b = sum_below-times n (share y) x.den ∙ ap (λ (z : ℤ). x.den *ℤ z) k.all in
         let inner =
-        mul-leℤ y.den (pos estate) (pos more) (omega (arith, linear, y_some)) (omega (arith, linear, le)) in
-        let outer = mul-leℤ x.den (y.den *ℤ pos estate) (y.den *ℤ pos more) (omega (arith, linear, x_some)) inner in
+        mul-leℤ y.den (pos estate) (pos more) (omega (arith, linear, k.positive)) (omega (arith, linear, le)) in
+        let outer =
+        mul-leℤ x.den (y.den *ℤ pos estate) (y.den *ℤ pos more) (omega (arith, linear, h.positive)) inner in
         omega (arith, linear, a, b, outer)
 
 -- ---- the rule
@@ -180,10 +177,10 @@ pub lost_alike : (estate missing : ℕ) (claims : List ℕ) (x y : Allocation) (
     → share y i *ℤ x.den ≡ y.den *ℤ (claimed claims x i -ℤ share x i)
 lost_alike estate missing claims x y i total h k lt =
     by_lt_z (f i) (g i)
-    (λ less. absurd (no_less n claim f g left right (omega (arith, linear, sums)) i lt less))
+    (λ less. absurd (no_less n claim f g lost_in_two missing_in_two (omega (arith, linear, sums)) i lt less))
     (λ le.
     by_lt_z (g i) (f i)
-    (λ more. absurd (no_less n claim g f right left (omega (arith, linear, sums)) i lt more))
+    (λ more. absurd (no_less n claim g f missing_in_two lost_in_two (omega (arith, linear, sums)) i lt more))
     (λ ge. omega (arith, linear, le, ge, *ℤ_comm (share y i) x.den)))
   where
     n : ℕ
@@ -201,28 +198,16 @@ lost_alike estate missing claims x y i total h k lt =
     g : ℕ → ℤ
     g j = x.den *ℤ share y j
 
-    x_some : pos 0 <ℤ x.den
-    x_some = let positive = h.positive in omega (arith, linear, positive)
+    lost_in_two : (j l : ℕ) → j < n → l < n → j ≢ l → IsGarment (claim j) (claim l) (f j) (f l)
+    lost_in_two j l hj hl ne =
+        garment_over claims x y lost j l k.positive
+        (garment-lost (claimed claims x j) (claimed claims x l) (share x j) (share x l)
+        (two_are_a_garment estate claims x h j l hj hl ne))
 
-    y_some : pos 0 <ℤ y.den
-    y_some = let positive = k.positive in omega (arith, linear, positive)
-
-    turned : (j : ℕ) → y.den *ℤ claimed claims x j ≡ claim j
-    turned j = mul_left_commℤ y.den x.den _
-
-    left : (j l : ℕ) → j < n → l < n → j ≢ l → IsGarment (claim j) (claim l) (f j) (f l)
-    left j l hj hl ne =
-        let two =
-        garment-lost (claimed claims x j) (claimed claims x l) (share x j) (share x l)
-        (two_are_a_garment estate claims x h j l hj hl ne) in
-        subst (λ (z : ℤ). IsGarment (claim j) z (f j) (f l)) (turned l)
-        (subst (λ (z : ℤ). IsGarment z (y.den *ℤ claimed claims x l) (f j) (f l)) (turned j)
-        (garment-scaled y.den (claimed claims x j) (claimed claims x l) (lost j) (lost l) y_some two))
-
-    right : (j l : ℕ) → j < n → l < n → j ≢ l → IsGarment (claim j) (claim l) (g j) (g l)
-    right j l hj hl ne =
-        garment-scaled x.den (claimed claims y j) (claimed claims y l) (share y j) (share y l) x_some
-        (two_are_a_garment missing claims y k j l hj hl ne)
+    missing_in_two : (j l : ℕ) → j < n → l < n → j ≢ l → IsGarment (claim j) (claim l) (g j) (g l)
+    missing_in_two j l hj hl ne =
+        garment-scaled x.den (claimed claims y j) (claimed claims y l) (share y j) (share y l)
+        (above_zero x.den h.positive) (two_are_a_garment missing claims y k j l hj hl ne)
 
     lost_all : sum_below n lost ≡ x.den *ℤ pos missing
     lost_all =

@@ -1,15 +1,16 @@
 -- Where some allocation is in the core, the nucleolus is: a coalition that blocked it would have an excess above 0,
 -- and no excess at a core point is above 0.
 use Rattle.std.proofs.Common.{◌≡◌, ℕ, ◌-◌, ◌+◌, ◌^◌, ◌<◌, ◌≤◌, ℤ, pos, ◌*ℤ◌, ◌<ℤ◌}
-use Rattle.std.proofs.Common.{◌≤ℤ◌, refl, ap, inr, arith, map, length}
+use Rattle.std.proofs.Common.{◌≤ℤ◌, ap, inr, arith, map, length}
 use Rattle.std.proofs.lemmas.Int.{by_lt_z}
 use lib.IntN.{*ℤ_comm}
 use Rattle.definitions.proofs.Ring.{linear, mul-leℤ, mul-le_cancelℤ, mul-zeroℤ, mul-positiveℤ}
 use Rattle.definitions.proofs.Families.{allocation_of, efficient_of}
 use Rattle.definitions.proofs.Masks.{singleton-within}
 use Rattle.definitions.proofs.Measured.{weight, measured-weight, weight-positive, measured-positive}
-use Rattle.definitions.proofs.Members.{has_player-empty, sum_below-zero, sum_over-singleton, zero_either}
+use Rattle.definitions.proofs.Members.{sum_below-zero, sum_over-singleton, zero_either}
 use Rattle.definitions.proofs.Parts.{part}
+use Rattle.definitions.proofs.SumsOver.{amount-empty}
 use Rattle.theorems.proofs.SortedLemmas.{ComesBefore-sorted}
 use Rattle.theorems.proofs.Soundness.{SameOrLow-range, SomeAbove-range}
 use Rattle.laws.proofs.Gaps.{gap, excess-gap}
@@ -22,10 +23,7 @@ use Rattle.definitions.specs.declared.Family.{Family}
 use Rattle.definitions.specs.declared.Family.TheVariants.{Imputations, Preimputations}
 use Rattle.definitions.specs.declared.Measure.{Measure}
 
--- ---- what nobody gets, and what all get
-
-pub amount_empty : (x : Allocation) → amount x 0 ≡ pos 0
-amount_empty x = sum_below-zero (length x.shares) (part (share x) 0) (λ i lt. rw (has_player-empty i) refl)
+-- ---- what all get
 
 pub excess_grand : (g : Game) (x : Allocation) → IsEfficient g x → excess g x (grand_coalition g.players) ≡ pos 0
 excess_grand g x e = omega (arith, linear, e)
@@ -73,13 +71,13 @@ empty_low g z x h hx some =
     let here = core_low g z h 0 some in
     let low : g.worth 0 ≤ℤ pos 0 =
     mul-le_cancelℤ z.den (g.worth 0) (pos 0) (omega (arith, linear, h.0.1))
-    (omega (arith, linear, here, amount_empty z, mul-zeroℤ z.den)) in
+    (omega (arith, linear, here, amount-empty z, mul-zeroℤ z.den)) in
     omega (
       arith,
       linear,
       mul-leℤ x.den (g.worth 0) (pos 0) (omega (arith, linear, hx.1)) low,
       mul-zeroℤ x.den,
-      amount_empty x,
+      amount-empty x,
     )
 
 measured_low : (measure : Measure) (g : Game) (z : Allocation) (q : ℤ) → IsMeasurable measure g.players → InCore g z
@@ -115,7 +113,7 @@ core_beats measure g x z s m hx h low high up =
 
 pub nucleolus_in_core : (family : Family) (measure : Measure) (g : Game) (x z : Allocation)
     → IsMeasurable measure g.players → IsNucleolus family measure g x → InCore g z → InCore g x
-nucleolus_in_core family measure g x z m hx h = (allocation, efficient, none)
+nucleolus_in_core family measure g x z m hx h = (allocation, efficient, unblocked)
   where
     allocation : IsAllocation g x
     allocation = allocation_of family g x hx.0
@@ -123,8 +121,8 @@ nucleolus_in_core family measure g x z m hx h = (allocation, efficient, none)
     efficient : IsEfficient g x
     efficient = efficient_of family g x hx.0
 
-    none : (s : ℕ) → s < 2 ^ g.players → ¬ Blocks g x s
-    none s lt blocks =
+    unblocked : (s : ℕ) → s < 2 ^ g.players → ¬ Blocks g x s
+    unblocked s lt blocks =
         let n = g.players in
         let up : pos 0 <ℤ excess g x s = omega (arith, linear, blocks) in
         let not_empty : s ≡ 0 → ⊥ = λ e.

@@ -1,25 +1,24 @@
 -- In each order the players together add the worth of all. So their totals add to that, as often as there are
 -- orders.
-use Rattle.std.proofs.Common.{◌≡◌, ℕ, zero, suc, ◌+◌, ◌*◌, ◌^◌, ◌<◌, Bool, true, false, cond, nat_eq, List, [], ◌∷◌}
+use Rattle.std.proofs.Common.{◌≡◌, ℕ, zero, suc, ◌+◌, ◌^◌, ◌<◌, Bool, true, false, cond, nat_eq, List, [], ◌∷◌}
 use Rattle.std.proofs.Common.{length, ℤ, pos, ◌+ℤ◌, ◌-ℤ◌, ◌*ℤ◌, ◌<ℤ◌, refl, sym, ap, ◌∙◌, inl, inr, arith}
 use lib.IntN.{*ℤ_comm}
-use Rattle.std.specs.List.{flat_map, AllByRecursion}
-use Rattle.std.proofs.lemmas.Bool.Decides.{nat_tests}
-use Rattle.std.proofs.lemmas.List.{length-append}
+use Rattle.std.specs.List.{AllByRecursion}
 use Rattle.std.proofs.Math.Nat.{pow-suc}
 use Rattle.definitions.proofs.Alls.{all_weaken, all_with}
 use Rattle.definitions.proofs.Cases.{less_or_last, nat_eq-same, nat_eq-other, from_nat_eq}
 use Rattle.definitions.proofs.Masks.{grand_coalition-within}
 use Rattle.definitions.proofs.Members.{sum_below-same, sum_below-zero, sum_below-add}
 use Rattle.definitions.proofs.Members.{sum_below-times, sum_over-grand_coalition}
-use Rattle.definitions.proofs.Ring.{linear, add-mulℤ, one-mulℤ, zero-mulℤ, mul-cancelℤ, mul_left_commℤ}
+use Rattle.definitions.proofs.Ring.{linear, zero-mulℤ, mul-cancelℤ, mul_left_commℤ, suc-mulℤ}
+use Rattle.definitions.proofs.MarginalWorths.{marginal_worth-none}
 use Rattle.definitions.specs.Sums.{sum_below}
 use Rattle.definitions.specs.Coalitions.{grand_coalition, sum_over}
 use Rattle.definitions.specs.Games.{Game, Allocation, share, amount, IsEfficient}
 use Rattle.definitions.specs.Shapley.{AllDiffer, IsOrder, insertions, orders, marginal_worth}
 use Rattle.definitions.specs.Shapley.{total_over, shapley_total, factorial, IsShapley}
-use Rattle.shapley.proofs.EachOnce.{are_orders}
-use Rattle.shapley.proofs.Orders.{All-map, All-flat_map, length-insertions}
+use Rattle.shapley.proofs.EachOnce.{are_orders, length-orders}
+use Rattle.shapley.proofs.Orders.{All-map, All-flat_map}
 use Rattle.shapley.proofs.Sizes.{factorial-some}
 
 -- ---- the mask of a list of players
@@ -62,24 +61,14 @@ sum_one (suc n) p c lt = elim (less_or_last p n lt) [
     sum_one n p c less,
     ap (λ (b : Bool). cond b c (pos 0)) (nat_eq-other p n (λ same. omega arith)),
   )
-  | inr same ↦ rw same (omega (arith, linear, none n, ap (λ (b : Bool). cond b c (pos 0)) (nat_eq-same n)))
+  | inr same ↦ rw same
+      (omega (arith, linear, others_add_nothing n, ap (λ (b : Bool). cond b c (pos 0)) (nat_eq-same n)))
 ]
   where
-    none : (n : ℕ) → sum_below n (λ i. cond (nat_eq n i) c (pos 0)) ≡ pos 0
-    none n =
+    others_add_nothing : (n : ℕ) → sum_below n (λ i. cond (nat_eq n i) c (pos 0)) ≡ pos 0
+    others_add_nothing n =
         sum_below-zero n (λ i. cond (nat_eq n i) c (pos 0))
         (λ i lt. ap (λ (b : Bool). cond b c (pos 0)) (nat_eq-other n i (λ same. omega arith)))
-
--- who isn't in the list adds nothing
-marginal_worth-none : (v : ℕ → ℤ) (i front : ℕ) (o : List ℕ) → AllByRecursion (λ y. nat_eq i y ≡ false) o
-    → marginal_worth v i front o ≡ pos 0
-marginal_worth-none v i front [] h = refl
-marginal_worth-none v i front (p ∷ o) h =
-    ap (λ (b : Bool). cond b (v (front + 2 ^ i) -ℤ v front) (marginal_worth v i (front + 2 ^ p) o)) (turned i p h.0)
-    ∙ marginal_worth-none v i (front + 2 ^ p) o h.1
-  where
-    turned : (a b : ℕ) → nat_eq a b ≡ false → nat_eq b a ≡ false
-    turned a b e = grind (arith, nat_tests)
 
 sum_marginals : (v : ℕ → ℤ) (n front : ℕ) (o : List ℕ) → AllByRecursion (λ p. p < n) o → AllDiffer o
     → sum_below n (λ i. marginal_worth v i front o) ≡ v (front + mask_of o) -ℤ v front
@@ -110,41 +99,20 @@ sum_marginals v n front (p ∷ o) below once =
 
 -- ---- all orders
 
-length-flat_map : (n : ℕ) (os : List (List ℕ)) → AllByRecursion (IsOrder n) os
-    → length (flat_map (insertions n) os) ≡ suc n * length os
-length-flat_map n [] h = omega arith
-length-flat_map n (o ∷ os) h =
-    let all = h.0.all in
-    omega (
-      arith,
-      length-append (insertions n o) (flat_map (insertions n) os),
-      length-insertions n o,
-      all,
-      length-flat_map n os h.1,
-    )
-
-pub orders-many : (n : ℕ) → length (orders n) ≡ factorial n
-orders-many zero = refl
-orders-many (suc n) =
-    length-flat_map n (orders n) (are_orders n) ∙ ap (λ (k : ℕ). suc n * k) (orders-many n)
-
 sum_totals : (v : ℕ → ℤ) (n : ℕ) (c : ℤ) (os : List (List ℕ))
     → AllByRecursion (λ o. sum_below n (λ i. marginal_worth v i 0 o) ≡ c) os
     → sum_below n (λ i. total_over v i os) ≡ pos (length os) *ℤ c
 sum_totals v n c [] h = omega (arith, linear, sum_below-zero n (λ i. pos 0) (λ i lt. refl), zero-mulℤ c)
 sum_totals v n c (o ∷ os) h =
-    let one : pos (suc (length os)) ≡ pos (length os) +ℤ pos 1 = omega (arith, linear) in
     let here = h.0 in
-    rw one
-    (omega (
+    omega (
       arith,
       linear,
       sum_below-add n (λ i. marginal_worth v i 0 o) (λ i. total_over v i os),
       here,
       sum_totals v n c os h.1,
-      add-mulℤ (pos (length os)) (pos 1) c,
-      one-mulℤ c,
-    ))
+      suc-mulℤ (length os) c,
+    )
 
 -- the totals add to the worth of all less that of nobody, times n!
 pub sum-totals : (g : Game)
@@ -159,7 +127,7 @@ sum-totals g =
     (λ o. sum_below n (λ i. marginal_worth v i 0 o) ≡ c) (orders n)
     (λ o h e. sum_marginals v n 0 o h.below h.once ∙ ap (λ (k : ℕ). v k -ℤ v 0) (nothing (mask_of o) ∙ e))
     (are_orders n) (orders-mask n))
-    ∙ ap (λ (k : ℕ). pos k *ℤ (v (grand_coalition n) -ℤ v 0)) (orders-many n)
+    ∙ ap (λ (k : ℕ). pos k *ℤ (v (grand_coalition n) -ℤ v 0)) (length-orders n)
   where
     nothing : (k : ℕ) → 0 + k ≡ k
     nothing k = omega arith

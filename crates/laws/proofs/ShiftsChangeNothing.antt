@@ -1,15 +1,15 @@
 -- A game and the game moved by a number of each player agree: every excess stays as it is, and every allocation is
 -- a moved one.
-use Rattle.std.proofs.Common.{◌≡◌, ℕ, zero, suc, ◌<◌, List, [], ◌∷◌, length, map, get_or, ℤ, pos}
-use Rattle.std.proofs.Common.{◌+ℤ◌, ◌-ℤ◌, ◌*ℤ◌, refl, sym, ap, subst, ◌∙◌, arith}
+use Rattle.std.proofs.Common.{◌≡◌, ℕ, ◌<◌, List, length, map, get_or, ℤ, pos}
+use Rattle.std.proofs.Common.{◌+ℤ◌, ◌-ℤ◌, ◌*ℤ◌, sym, ap, subst, ◌∙◌, arith}
 use Rattle.std.specs.List.{range_with_len}
-use Rattle.std.proofs.lemmas.List.{same_lists}
+use Rattle.std.proofs.lemmas.List.{same_lists, get_or_default}
 use Rattle.std.proofs.lemmas.List.FromFn.{get_or-map-range_with_len, length-map-range_with_len}
 use Rattle.definitions.proofs.Ring.{linear, ring_laws, mul-addℤ, add-mulℤ}
 use Rattle.definitions.proofs.Families.{allocation_of}
 use Rattle.definitions.proofs.Members.{sum_over-singleton}
 use Rattle.definitions.proofs.SumsOver.{sum_over-same, sum_over-add, sum_over-times}
-use Rattle.theorems.proofs.Scaled.{map_alike}
+use Rattle.definitions.proofs.Alls.{map_same}
 use Rattle.definitions.specs.Coalitions.{singleton, grand_coalition, proper_coalitions, sum_over}
 use Rattle.definitions.specs.Measures.{measured}
 use Rattle.definitions.specs.Games.{Game, Allocation, share, amount, excess, measured_excess}
@@ -124,7 +124,7 @@ same_from b g x y hx hy h = λ i lt. omega (arith, linear, same_products b g x y
 lists_same : (b : ℕ → ℤ) (measure : Measure) (g : Game) (x : Allocation) (c : ℤ) → IsAllocation g x
     → excess_list measure (shifted_game b g) (shifted b x) c ≡ excess_list measure g x c
 lists_same b measure g x c h =
-    map_alike (λ s. c *ℤ measured_excess measure (shifted_game b g) (shifted b x) s)
+    map_same (λ s. c *ℤ measured_excess measure (shifted_game b g) (shifted b x) s)
     (λ s. c *ℤ measured_excess measure g x s) (proper_coalitions g.players)
     (λ s. ap (λ (z : ℤ). c *ℤ measured measure s z) (excess-shifted b g x s h))
 
@@ -159,11 +159,6 @@ back b y = record { shares = map (less b y) (range_with_len 0 (length y.shares))
 length-back : (b : ℕ → ℤ) (y : Allocation) → length (back b y).shares ≡ length y.shares
 length-back b y = length-map-range_with_len (less b y) 0 (length y.shares)
 
-other_default : (xs : List ℤ) (k : ℕ) (d e : ℤ) → k < length xs → get_or xs k d ≡ get_or xs k e
-other_default [] k d e lt = absurd (omega arith)
-other_default (x ∷ xs) zero d e lt = refl
-other_default (x ∷ xs) (suc k) d e lt = other_default xs k d e (omega arith)
-
 shifted-back : (b : ℕ → ℤ) (y : Allocation) → shifted b (back b y) ≡ y
 shifted-back b y =
     ap (λ (zs : List ℤ). the_shares zs)
@@ -180,7 +175,7 @@ shifted-back b y =
         get_or-map-range_with_len (more b (back b y)) 0 (length (back b y).shares) k k d lt (omega arith)
         ∙ omega
         (arith, linear, get_or-map-range_with_len (less b y) 0 (length y.shares) k k (pos 0) within (omega arith))
-        ∙ other_default y.shares k (pos 0) d within
+        ∙ get_or_default y.shares k (pos 0) d within
 
 -- ---- the nucleolus
 

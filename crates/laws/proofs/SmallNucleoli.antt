@@ -4,7 +4,8 @@ use Rattle.std.proofs.Common.{◌*ℤ◌, int_le, refl, sym, ◌∙◌, inl, inr
 use Rattle.std.proofs.lemmas.Bool.{false≢true}
 use Rattle.std.proofs.lemmas.Int.{ints}
 use Rattle.definitions.proofs.Cases.{from_not}
-use Rattle.theorems.proofs.Examples.{passes_below-at, from_int_eq, from_either, balances, fair_nucleolus}
+use Rattle.definitions.proofs.Splits.{passes_below-at}
+use Rattle.theorems.proofs.Examples.{from_int_eq, from_either, balances, fair_nucleolus}
 use Rattle.theorems.proofs.Soundness.{IsNucleolus-from_certificate}
 use Rattle.definitions.specs.Coalitions.{singleton, splits, members}
 use Rattle.definitions.specs.Measures.{measured_den}

@@ -14,6 +14,7 @@ use Rattle.definitions.proofs.Members.{sum_below-same, sum_below-add, sum_below-
 use Rattle.definitions.proofs.Members.{sum_below-zero, sum_over-grand_coalition}
 use Rattle.definitions.proofs.Ring.{linear, mul-addℤ, add-mulℤ, mul-subℤ, mul-leℤ}
 use Rattle.definitions.proofs.Ring.{mul-oneℤ, mul-zeroℤ, one-mulℤ}
+use Rattle.definitions.proofs.Cases.{int_min-left, int_min-right}
 use Rattle.definitions.specs.Coalitions.{grand_coalition, sum_over}
 use Rattle.definitions.specs.Sums.{sum_below}
 use Rattle.definitions.specs.Games.{Allocation, share}
@@ -28,38 +29,32 @@ abbrev above : ℕ → ℕ → ℤ
 above l c = cond (nat_le c l) (pos 0) (pos 1)
 
 step_one : (l c : ℕ) → pos (min c (suc l)) ≡ pos (min c l) +ℤ above l c
-step_one l c = step (nat_le c l) refl
+step_one l c = one_either (nat_le c l) refl
   where
-    step : (b : Bool) → nat_le c l ≡ b → pos (min c (suc l)) ≡ pos (min c l) +ℤ cond b (pos 0) (pos 1)
-    step true e = (let le : c ≤ l = grind (arith, nat_tests, e) in omega (arith, ints, le))
-    step false e = (let lt : l < c = grind (arith, nat_tests, e) in omega (arith, ints, lt))
-
-lesser : (a b : ℤ) → a ≤ℤ b → int_min a b ≡ a
-lesser a b h = omega (arith, ints, clamps)
-
-greater : (a b : ℤ) → b ≤ℤ a → int_min a b ≡ b
-greater a b h = omega (arith, ints, clamps)
+    one_either : (b : Bool) → nat_le c l ≡ b → pos (min c (suc l)) ≡ pos (min c l) +ℤ cond b (pos 0) (pos 1)
+    one_either true e = (let le : c ≤ l = grind (arith, nat_tests, e) in omega (arith, ints, le))
+    one_either false e = (let lt : l < c = grind (arith, nat_tests, e) in omega (arith, ints, lt))
 
 -- what a claim gets of a bound between two whole ones, times how many are above
 between : (k r : ℤ) (l c : ℕ) → pos 0 ≤ℤ r → r <ℤ k
     → int_min (k *ℤ pos c) (k *ℤ pos l +ℤ r) ≡ k *ℤ pos (min c l) +ℤ r *ℤ above l c
-between k r l c low lt = step (nat_le c l) refl
+between k r l c low lt = between_either (nat_le c l) refl
   where
-    step : (b : Bool) → nat_le c l ≡ b
+    between_either : (b : Bool) → nat_le c l ≡ b
         → int_min (k *ℤ pos c) (k *ℤ pos l +ℤ r) ≡ k *ℤ pos (min c l) +ℤ r *ℤ cond b (pos 0) (pos 1)
-    step true e =
+    between_either true e =
         let le : c ≤ l = grind (arith, nat_tests, e) in
         let up = mul-leℤ k (pos c) (pos l) (omega (arith, linear, low, lt)) (omega (arith, ints, le)) in
         let all : min c l ≡ c = omega (arith, le) in
         let same = ap (λ (z : ℕ). k *ℤ pos z) all in
-        lesser (k *ℤ pos c) (k *ℤ pos l +ℤ r) (omega (arith, linear, up, low))
+        int_min-left (k *ℤ pos c) (k *ℤ pos l +ℤ r) (omega (arith, linear, up, low))
         ∙ sym (omega (arith, linear, same, mul-zeroℤ r))
-    step false e =
+    between_either false e =
         let more : suc l ≤ c = grind (arith, nat_tests, e) in
         let up = mul-leℤ k (pos l +ℤ pos 1) (pos c) (omega (arith, linear, low, lt)) (omega (arith, ints, more)) in
         let all : min c l ≡ l = omega (arith, more) in
         let same = ap (λ (z : ℕ). k *ℤ pos z) all in
-        greater (k *ℤ pos c) (k *ℤ pos l +ℤ r)
+        int_min-right (k *ℤ pos c) (k *ℤ pos l +ℤ r)
         (omega (arith, linear, up, lt, mul-addℤ k (pos l) (pos 1), mul-oneℤ k))
         ∙ sym (omega (arith, linear, same, mul-oneℤ r))
 
@@ -146,7 +141,7 @@ module _ (n : ℕ) (c : ℕ → ℕ) (amount : ℤ) where
       once : (d : ℕ) → d ≤ top → int_min (pos 1 *ℤ pos d) (pos top) ≡ pos d
       once d le =
           ap (λ (z : ℤ). int_min z (pos top)) (one-mulℤ (pos d))
-          ∙ lesser (pos d) (pos top) (omega (arith, ints, le))
+          ∙ int_min-left (pos d) (pos top) (omega (arith, ints, le))
 
 -- ---- the shares
 

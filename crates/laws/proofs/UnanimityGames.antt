@@ -76,11 +76,9 @@ no_less n k s hk hs none =
     (λ i. cond (has_player s i) (pos (2 ^ i)) (pos 0))
     (λ i lt. at (has_player k i) (has_player s i) (pos (2 ^ i)) (omega (arith, ints))
     (some_below-false n (λ j. has_player k j && not (has_player s j)) none i lt)) in
-    down k s (omega (arith, linear, le, value n k hk, value n s hs))
+    let less : pos k ≤ℤ pos s = omega (arith, linear, le, value n k hk, value n s hs) in
+    omega (arith, ints, less)
   where
-    down : (a b : ℕ) → pos a ≤ℤ pos b → a ≤ b
-    down a b h = omega (arith, ints)
-
     at : (b c : Bool) (z : ℤ) → pos 0 ≤ℤ z → (b && not c) ≡ false → cond b z (pos 0) ≤ℤ cond c z (pos 0)
     at true true z h e = omega (arith, linear)
     at true false z h e = absurd (false≢true (sym e))

@@ -1,19 +1,18 @@
 -- Integer combinations of the unit and of the shares of players, by their columns: entry 0 is how often the unit is
 -- taken, and entry 1 + i how often the share of player i.
 use Rattle.std.proofs.Common.{◌≡◌, ℕ, zero, suc, ◌<◌, Bool, true, false, cond, ℤ, pos, negsuc, ◌+ℤ◌, ◌-ℤ◌}
-use Rattle.std.proofs.Common.{◌*ℤ◌, sym, ap, ◌∙◌, inl, inr, arith, nat_eq, if◌then◌else◌}
-use Rattle.definitions.proofs.Ring.{linear, add-mulℤ, sub-mulℤ, zero-mulℤ, one-mulℤ}
+use Rattle.std.proofs.Common.{◌*ℤ◌, sym, ap, inl, inr, arith, nat_eq, if◌then◌else◌}
+use Rattle.definitions.proofs.Ring.{zero-mulℤ, suc-mulℤ, negsuc-mulℤ}
 use Rattle.definitions.proofs.Cases.{less_or_last, nat_eq-less, nat_eq-other, nat_eq-equal}
 use Rattle.std.proofs.lemmas.Bool.{false≢true}
-use Rattle.definitions.proofs.Members.{has_player-singleton, has_player-singleton_other}
-use Rattle.definitions.specs.Coalitions.{has_player, singleton}
+use Rattle.definitions.specs.Coalitions.{has_player}
 use Rattle.real_shares.specs.Numbers.{Numbers, IsOrderedGroup, AtMost, Equal, multiple, times, total_below}
 use Rattle.real_shares.specs.Numbers.{total_over}
 use Rattle.real_shares.proofs.Orders.{decided, at_most-same, from_less, equal-same}
 use Rattle.real_shares.proofs.Multiples.{chain, back, equal_path, plus-at_most, plus-equal, neutral_left}
 use Rattle.real_shares.proofs.Multiples.{exchanged, is_minus, minus-at_most, minus-equal, minus-zero}
 use Rattle.real_shares.proofs.Multiples.{times-add, times-minus, times-one, total_below-equal}
-use Rattle.real_shares.proofs.Multiples.{total_below-plus, total_below-minus, total_below-zero}
+use Rattle.real_shares.proofs.Multiples.{total_below-plus, total_below-minus, total_below-zero, add-minus}
 use Rattle.real_shares.proofs.Cones.{IsCone, Zero}
 
 -- the combination of a column
@@ -72,11 +71,8 @@ module _ {C : Type 0} (N : Numbers C) (L : IsOrderedGroup N) (n : ℕ) (y : ℕ 
       is_minus N L (combined N n y f) (combined N n y (λ k. pos 0 -ℤ f k))
       (chain N L (back N L (combined-plus f (λ k. pos 0 -ℤ f k)))
       (chain N L
-      (combined-same (λ k. f k +ℤ (pos 0 -ℤ f k)) (λ k. pos 0) (nothing (f 0)) (λ i lt. nothing (f (suc i))))
+      (combined-same (λ k. f k +ℤ (pos 0 -ℤ f k)) (λ k. pos 0) (add-minus (f 0)) (λ i lt. add-minus (f (suc i))))
       combined-none))
-    where
-      nothing : (z : ℤ) → z +ℤ (pos 0 -ℤ z) ≡ pos 0
-      nothing z = omega (arith, linear)
 
   combined-multiple : (m : ℕ) (f : ℕ → ℤ)
       → Equal N (multiple N m (combined N n y f)) (combined N n y (λ k. pos m *ℤ f k))
@@ -87,32 +83,16 @@ module _ {C : Type 0} (N : Numbers C) (L : IsOrderedGroup N) (n : ℕ) (y : ℕ 
   combined-multiple (suc m) f =
       chain N L (plus-equal N L (combined-multiple m f) (equal-same N L (combined N n y f)))
       (chain N L (back N L (combined-plus (λ k. pos m *ℤ f k) f))
-      (combined-same (λ k. pos m *ℤ f k +ℤ f k) (λ k. pos (suc m) *ℤ f k) (more m (f 0))
-      (λ i lt. more m (f (suc i)))))
-    where
-      one_more : (m : ℕ) → pos (suc m) ≡ pos m +ℤ pos 1
-      one_more m = omega (arith, linear)
-
-      more : (m : ℕ) (z : ℤ) → pos m *ℤ z +ℤ z ≡ pos (suc m) *ℤ z
-      more m z =
-          sym (ap (λ a. a *ℤ z) (one_more m) ∙ add-mulℤ (pos m) (pos 1) z ∙ ap (λ a. pos m *ℤ z +ℤ a) (one-mulℤ z))
+      (combined-same (λ k. pos m *ℤ f k +ℤ f k) (λ k. pos (suc m) *ℤ f k) (sym (suc-mulℤ m (f 0)))
+      (λ i lt. sym (suc-mulℤ m (f (suc i))))))
 
   pub combined-times : (z : ℤ) (f : ℕ → ℤ) → Equal N (times N z (combined N n y f)) (combined N n y (λ k. z *ℤ f k))
   combined-times (pos m) f = combined-multiple m f
   combined-times (negsuc m) f =
       chain N L (minus-equal N L (combined-multiple (suc m) f))
       (chain N L (back N L (combined-minus (λ k. pos (suc m) *ℤ f k)))
-      (combined-same (λ k. pos 0 -ℤ pos (suc m) *ℤ f k) (λ k. negsuc m *ℤ f k) (flip m (f 0))
-      (λ i lt. flip m (f (suc i)))))
-    where
-      is : (m : ℕ) → negsuc m ≡ pos 0 -ℤ pos (suc m)
-      is m = omega (arith, linear)
-
-      flip : (m : ℕ) (z : ℤ) → pos 0 -ℤ pos (suc m) *ℤ z ≡ negsuc m *ℤ z
-      flip m z =
-          sym
-          (ap (λ a. a *ℤ z) (is m) ∙ sub-mulℤ (pos 0) (pos (suc m)) z
-          ∙ ap (λ a. a -ℤ pos (suc m) *ℤ z) (zero-mulℤ z))
+      (combined-same (λ k. pos 0 -ℤ pos (suc m) *ℤ f k) (λ k. negsuc m *ℤ f k) (sym (negsuc-mulℤ m (f 0)))
+      (λ i lt. sym (negsuc-mulℤ m (f (suc i))))))
 
   -- ---- the cone
 
@@ -204,32 +184,3 @@ module _ {C : Type 0} (N : Numbers C) (L : IsOrderedGroup N) (n : ℕ) (y : ℕ 
   combined-player a q i h =
       plus-equal N L (equal-same N L (times N a N.unit))
       (chain N L (total-one n i (pos 0 -ℤ q) h) (times-minus N L q (y i)))
-
-  share_no : (b : Bool) (a : C) → b ≡ false → Equal N (cond b a N.zero) N.zero
-  share_no true a e = absurd (false≢true (sym e))
-  share_no false a e = equal-same N L N.zero
-
-  share_yes : (b : Bool) (a : C) → b ≡ true → Equal N (cond b a N.zero) a
-  share_yes true a e = equal-same N L a
-  share_yes false a e = absurd (false≢true e)
-
-  total_over-apart : (m k : ℕ) → m < suc k → Equal N (total_over N m y (singleton k)) N.zero
-  total_over-apart m k le =
-      total_below-zero N L m (λ i. if has_player (singleton k) i then y i else N.zero)
-      (λ i lt. share_no (has_player (singleton k) i) (y i) (has_player-singleton_other k i (λ e. omega arith)))
-
-  pub total_over-singleton : (m k : ℕ) → k < m → Equal N (total_over N m y (singleton k)) (y k)
-  total_over-singleton zero k lt = absurd (omega arith)
-  total_over-singleton (suc m) k lt = elim (less_or_last k m lt) [
-    | inl less ↦
-        chain N L
-        (plus-equal N L (total_over-singleton m k less)
-        (share_no (has_player (singleton k) m) (y m) (has_player-singleton_other k m (λ e. omega arith))))
-        (L.neutral (y k))
-    | inr same ↦
-        chain N L
-        (plus-equal N L (total_over-apart m k (omega arith))
-        (share_yes (has_player (singleton k) m) (y m)
-        (ap (has_player (singleton k)) (sym same) ∙ has_player-singleton k)))
-        (chain N L (neutral_left N L (y m)) (equal_path N L (y m) (y k) (ap y (sym same))))
-  ]

@@ -1,9 +1,9 @@
 -- Columns of integers, k by k, and a fact `Low` on them that is kept by sums and holds of each column or of its
 -- negative.
 use Rattle.std.proofs.Common.{◌≡◌, ◌≢◌, ◌⊎◌, ℕ, zero, suc, ◌<◌, List, [], ◌∷◌, ℤ, pos, negsuc, ◌+ℤ◌, ◌-ℤ◌}
-use Rattle.std.proofs.Common.{◌*ℤ◌, ◌≤ℤ◌, ◌<ℤ◌, refl, sym, subst, ap, ◌∙◌, inl, inr, arith}
+use Rattle.std.proofs.Common.{◌*ℤ◌, ◌≤ℤ◌, ◌<ℤ◌, refl, sym, subst, ap, inl, inr, arith}
 use Rattle.std.specs.List.{AllByRecursion}
-use Rattle.definitions.proofs.Ring.{linear, add-mulℤ, mul-subℤ, sub-mulℤ, zero-mulℤ, mul-zeroℤ, one-mulℤ}
+use Rattle.definitions.proofs.Ring.{linear, mul-subℤ, zero-mulℤ, mul-zeroℤ, suc-mulℤ, negsuc-mulℤ}
 use Rattle.definitions.specs.Sums.{sum_below, weighted_sum}
 
 pub by_places : (f g : ℕ → ℤ) → ((k : ℕ) → f k ≡ g k) → f ≡ g
@@ -29,12 +29,6 @@ from_one (pos zero) h = absurd (omega (arith, linear))
 from_one (pos (suc m)) h = (m, refl)
 from_one (negsuc m) h = absurd (omega (arith, linear))
 
-more : (m : ℕ) (z : ℤ) → pos (suc m) *ℤ z ≡ pos m *ℤ z +ℤ z
-more m z = ap (λ a. a *ℤ z) (one_more m) ∙ add-mulℤ (pos m) (pos 1) z ∙ ap (λ a. pos m *ℤ z +ℤ a) (one-mulℤ z)
-  where
-    one_more : (m : ℕ) → pos (suc m) ≡ pos m +ℤ pos 1
-    one_more m = omega (arith, linear)
-
 module _ {Low : (ℕ → ℤ) → Type 0} (K : IsCone Low) where
   pub low-same : (f g : ℕ → ℤ) → ((k : ℕ) → g k ≡ f k) → Low f → Low g
   low-same f g h = subst Low (by_places f g (λ k. sym (h k)))
@@ -45,7 +39,7 @@ module _ {Low : (ℕ → ℤ) → Type 0} (K : IsCone Low) where
   low-multiple : (m : ℕ) (f : ℕ → ℤ) → Low f → Low (λ k. pos m *ℤ f k)
   low-multiple zero f h = low-same (λ k. pos 0) (λ k. pos 0 *ℤ f k) (λ k. zero-mulℤ (f k)) K.none
   low-multiple (suc m) f h =
-      low-plus (λ k. pos m *ℤ f k) f (λ k. pos (suc m) *ℤ f k) (λ k. more m (f k)) (low-multiple m f h) h
+      low-plus (λ k. pos m *ℤ f k) f (λ k. pos (suc m) *ℤ f k) (λ k. suc-mulℤ m (f k)) (low-multiple m f h) h
 
   low-cancel : (m : ℕ) (f : ℕ → ℤ) → Low (λ k. pos (suc m) *ℤ f k) → Low f
   low-cancel m f h = elim (K.decided f) [
@@ -53,7 +47,7 @@ module _ {Low : (ℕ → ℤ) → Type 0} (K : IsCone Low) where
     | inr up ↦
         let down = low-multiple m (λ k. pos 0 -ℤ f k) (K.other f up) in
         low-plus (λ k. pos (suc m) *ℤ f k) (λ k. pos m *ℤ (pos 0 -ℤ f k)) f
-        (λ k. omega (arith, linear, more m (f k), mul-subℤ (pos m) (pos 0) (f k), mul-zeroℤ (pos m))) h down
+        (λ k. omega (arith, linear, suc-mulℤ m (f k), mul-subℤ (pos m) (pos 0) (f k), mul-zeroℤ (pos m))) h down
   ]
 
   pub zero-none : Zero Low (λ k. pos 0)
@@ -84,18 +78,13 @@ module _ {Low : (ℕ → ℤ) → Type 0} (K : IsCone Low) where
   )
   zero-times (negsuc m) f h = (
     low-same (λ k. pos (suc m) *ℤ (pos 0 -ℤ f k)) (λ k. negsuc m *ℤ f k)
-        (λ k. omega (arith, linear, flip m (f k), mul-subℤ (pos (suc m)) (pos 0) (f k), mul-zeroℤ (pos (suc m))))
+        (λ k. omega
+        (arith, linear, negsuc-mulℤ m (f k), mul-subℤ (pos (suc m)) (pos 0) (f k), mul-zeroℤ (pos (suc m))))
         (low-multiple (suc m) (λ k. pos 0 -ℤ f k) h.1),
-    low-same (λ k. pos (suc m) *ℤ f k) (λ k. pos 0 -ℤ negsuc m *ℤ f k) (λ k. omega (arith, linear, flip m (f k)))
+    low-same (λ k. pos (suc m) *ℤ f k) (λ k. pos 0 -ℤ negsuc m *ℤ f k)
+        (λ k. omega (arith, linear, negsuc-mulℤ m (f k)))
         (low-multiple (suc m) f h.0),
   )
-    where
-      flip : (m : ℕ) (z : ℤ) → negsuc m *ℤ z ≡ pos 0 -ℤ pos (suc m) *ℤ z
-      flip m z =
-          ap (λ a. a *ℤ z) (is m) ∙ sub-mulℤ (pos 0) (pos (suc m)) z ∙ ap (λ a. a -ℤ pos (suc m) *ℤ z) (zero-mulℤ z)
-        where
-          is : (m : ℕ) → negsuc m ≡ pos 0 -ℤ pos (suc m)
-          is m = omega (arith, linear)
 
   zero-cancel : (m : ℕ) (f : ℕ → ℤ) → Zero Low (λ k. pos (suc m) *ℤ f k) → Zero Low f
   zero-cancel m f h = (
@@ -110,14 +99,8 @@ module _ {Low : (ℕ → ℤ) → Type 0} (K : IsCone Low) where
   zero-divided (pos (suc m)) f ne h = zero-cancel m f h
   zero-divided (negsuc m) f ne h =
       zero-cancel m f
-      (zero-minus (λ k. pos 0) (λ k. negsuc m *ℤ f k) (λ k. pos (suc m) *ℤ f k) (λ k. flip m (f k)) zero-none h)
-    where
-      flip : (m : ℕ) (z : ℤ) → pos (suc m) *ℤ z ≡ pos 0 -ℤ negsuc m *ℤ z
-      flip m z =
-          ap (λ a. a *ℤ z) (is m) ∙ sub-mulℤ (pos 0) (negsuc m) z ∙ ap (λ a. a -ℤ negsuc m *ℤ z) (zero-mulℤ z)
-        where
-          is : (m : ℕ) → pos (suc m) ≡ pos 0 -ℤ negsuc m
-          is m = omega (arith, linear)
+      (zero-minus (λ k. pos 0) (λ k. negsuc m *ℤ f k) (λ k. pos (suc m) *ℤ f k)
+      (λ k. omega (arith, linear, negsuc-mulℤ m (f k))) zero-none h)
 
   pub zero-sum : (n : ℕ) (F : ℕ → ℕ → ℤ) → ((i : ℕ) → i < n → Zero Low (F i))
       → Zero Low (λ k. sum_below n (λ i. F i k))

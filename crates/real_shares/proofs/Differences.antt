@@ -4,6 +4,8 @@ use Rattle.std.proofs.Common.{◌-ℤ◌, ◌*ℤ◌, refl, sym, ap, ◌∙◌, 
 use Rattle.definitions.proofs.Ring.{linear, mul-subℤ, mul-zeroℤ, mul-oneℤ, mul_left_commℤ}
 use Rattle.definitions.proofs.Cases.{less_or_last, nat_eq-same, nat_eq-other}
 use Rattle.definitions.proofs.Measured.{weight, measured-weight}
+use Rattle.definitions.proofs.Members.{zero_either}
+use Rattle.definitions.proofs.SumsOver.{amount-at}
 use Rattle.definitions.specs.Coalitions.{has_player, singleton, grand_coalition, sum_over}
 use Rattle.definitions.specs.Games.{Game, Allocation, share, amount, excess}
 use Rattle.definitions.specs.Games.{measured_excess, IsAllocation, IsEfficient}
@@ -24,16 +26,16 @@ use Rattle.real_shares.proofs.Settled.{over}
 abbrev pub gap : Allocation → ℕ → ℕ → ℤ
 gap x i = of_player (share x i) x.den i
 
+-- a player other than j adds nothing
+other_adds_nothing : (b t : Bool) (c : ℤ) → t ≡ false → cond b (cond t c (pos 0)) (pos 0) ≡ pos 0
+other_adds_nothing b t c e = zero_either b (cond t c (pos 0)) (ap (λ u. cond u c (pos 0)) e)
+
 sum_over-out : (n j s : ℕ) (c : ℤ) → n ≤ j → sum_over n (λ i. if nat_eq j i then c else pos 0) s ≡ pos 0
 sum_over-out zero j s c h = refl
 sum_over-out (suc n) j s c h =
     let other = nat_eq-other j n (λ e. omega arith) in
     let rest = sum_over-out n j s c (omega arith) in
-    omega (arith, linear, rest, last (has_player s n) (nat_eq j n) other)
-  where
-    last : (b t : Bool) → t ≡ false → cond b (cond t c (pos 0)) (pos 0) ≡ pos 0
-    last true t e = ap (λ u. cond u c (pos 0)) e
-    last false t e = refl
+    omega (arith, linear, rest, other_adds_nothing (has_player s n) (nat_eq j n) c other)
 
 -- the number of one player is in the sum of s where the player is a member
 sum_over-one : (n j s : ℕ) (c : ℤ) → j < n
@@ -44,7 +46,7 @@ sum_over-one (suc n) j s c h = elim (less_or_last j n h) [
     arith,
     linear,
     sum_over-one n j s c less,
-    last_no (has_player s n) (nat_eq j n) (nat_eq-other j n (λ e. omega arith)),
+    other_adds_nothing (has_player s n) (nat_eq j n) c (nat_eq-other j n (λ e. omega arith)),
   )
   | inr same ↦ omega (
     arith,
@@ -55,10 +57,6 @@ sum_over-one (suc n) j s c h = elim (less_or_last j n h) [
   )
 ]
   where
-    last_no : (b t : Bool) → t ≡ false → cond b (cond t c (pos 0)) (pos 0) ≡ pos 0
-    last_no true t e = ap (λ u. cond u c (pos 0)) e
-    last_no false t e = refl
-
     last_yes : (b t : Bool) → t ≡ true → cond b (cond t c (pos 0)) (pos 0) ≡ cond b c (pos 0)
     last_yes b t e = ap (λ u. cond b (cond u c (pos 0)) (pos 0)) e
 
@@ -66,9 +64,6 @@ sum_over-one (suc n) j s c h = elim (less_or_last j n h) [
 once : (b : Bool) (q : ℤ) → cond b (pos 0 -ℤ q) (pos 0) ≡ q *ℤ cond b (pos 0 -ℤ pos 1) (pos 0)
 once true q = omega (arith, linear, mul-subℤ q (pos 0) (pos 1), mul-zeroℤ q, mul-oneℤ q)
 once false q = sym (mul-zeroℤ q)
-
-amount-at : (g : Game) (x : Allocation) (s : ℕ) → IsAllocation g x → amount x s ≡ sum_over g.players (share x) s
-amount-at g x s h = ap (λ k. sum_over k (share x) s) h.0
 
 module _ {C : Type 0} (N : Numbers C) (L : IsOrderedGroup N) (g : Game) (y : List C) (len : length y ≡ g.players)
   where

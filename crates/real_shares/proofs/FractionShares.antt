@@ -1,13 +1,14 @@
 -- Fractions over a common denominator, by their numerators, are a linearly ordered abelian group, and the nucleolus
 -- over these groups is that of Games.antt.
 use Rattle.std.proofs.Common.{◌≡◌, ◌⊎◌, ◌↔◌, ℕ, zero, suc, ◌/◌, Bool, true, false, cond, List, [], ◌∷◌, length}
-use Rattle.std.proofs.Common.{map, ℤ, pos, negsuc, ◌+ℤ◌, ◌-ℤ◌, ◌*ℤ◌, ◌≤ℤ◌, ◌<ℤ◌, int_lt, int_le, refl, sym, ap}
+use Rattle.std.proofs.Common.{ℤ, pos, negsuc, ◌+ℤ◌, ◌-ℤ◌, ◌*ℤ◌, ◌≤ℤ◌, ◌<ℤ◌, int_lt, int_le, refl, sym, ap}
 use Rattle.std.proofs.Common.{subst, ◌∙◌, inl, inr, arith, IsTrue, if◌then◌else◌}
 use Rattle.std.proofs.lemmas.Int.{ints, by_lt_z}
 use Rattle.std.proofs.lemmas.Bool.{false≢true}
 use lib.IntN.{*ℤ_comm}
-use Rattle.definitions.proofs.Ring.{linear, add-mulℤ, sub-mulℤ, one-mulℤ, zero-mulℤ}
+use Rattle.definitions.proofs.Ring.{linear, zero-mulℤ, suc-mulℤ, negsuc-mulℤ}
 use Rattle.definitions.proofs.Cases.{true_or_false}
+use Rattle.definitions.proofs.Alls.{map_same}
 use Rattle.definitions.specs.Sums.{sum_below}
 use Rattle.definitions.specs.Order.{with_number, sorted, IsLesser, ComesBefore}
 use Rattle.definitions.specs.Coalitions.{has_player, singleton, grand_coalition, proper_coalitions, size}
@@ -64,27 +65,11 @@ module _ (q : ℤ) where
 
   multiple-is : (k : ℕ) (a : ℤ) → multiple N k a ≡ pos k *ℤ a
   multiple-is zero a = sym (zero-mulℤ a)
-  multiple-is (suc k) a = ap (λ z. z +ℤ a) (multiple-is k a) ∙ more k a
-    where
-      one_more : (k : ℕ) → pos (suc k) ≡ pos k +ℤ pos 1
-      one_more k = omega (arith, linear)
-
-      more : (k : ℕ) (z : ℤ) → pos k *ℤ z +ℤ z ≡ pos (suc k) *ℤ z
-      more k z =
-          sym (ap (λ a. a *ℤ z) (one_more k) ∙ add-mulℤ (pos k) (pos 1) z ∙ ap (λ a. pos k *ℤ z +ℤ a) (one-mulℤ z))
+  multiple-is (suc k) a = ap (λ z. z +ℤ a) (multiple-is k a) ∙ sym (suc-mulℤ k a)
 
   times-is : (z a : ℤ) → times N z a ≡ z *ℤ a
   times-is (pos k) a = multiple-is k a
-  times-is (negsuc k) a = ap (λ z. pos 0 -ℤ z) (multiple-is (suc k) a) ∙ flip k a
-    where
-      is : (k : ℕ) → negsuc k ≡ pos 0 -ℤ pos (suc k)
-      is k = omega (arith, linear)
-
-      flip : (k : ℕ) (z : ℤ) → pos 0 -ℤ pos (suc k) *ℤ z ≡ negsuc k *ℤ z
-      flip k z =
-          sym
-          (ap (λ a. a *ℤ z) (is k) ∙ sub-mulℤ (pos 0) (pos (suc k)) z
-          ∙ ap (λ a. a -ℤ pos (suc k) *ℤ z) (zero-mulℤ z))
+  times-is (negsuc k) a = ap (λ z. pos 0 -ℤ z) (multiple-is (suc k) a) ∙ sym (negsuc-mulℤ k a)
 
   total_below-is : (n : ℕ) (f : ℕ → ℤ) → total_below N n f ≡ sum_below n f
   total_below-is zero f = refl
@@ -105,9 +90,6 @@ module _ (q : ℤ) where
       ∙ ap (λ z. pos (720720 / size s) *ℤ z) (excess-is g ys s)
 
   -- ---- lists
-
-  map_same : (f h : ℕ → ℤ) (l : List ℕ) → ((s : ℕ) → f s ≡ h s) → map f l ≡ map h l
-  map_same f h l e = ap (λ k. map k l) (λ i s. e s i)
 
   fraction_list-is : (measure : Measure) (g : Game) (x : Allocation)
       → fraction_list N measure g x ≡ excess_list measure g x q

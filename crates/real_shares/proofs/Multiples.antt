@@ -5,6 +5,9 @@ use Rattle.definitions.proofs.Ring.{linear}
 use Rattle.real_shares.specs.Numbers.{Numbers, IsOrderedGroup, AtMost, Equal, multiple, times, total_below}
 use Rattle.real_shares.proofs.Orders.{at_most-same, from_less, equal-same, equal-sym, equal-trans}
 
+pub add-minus : (z : ℤ) → z +ℤ (pos 0 -ℤ z) ≡ pos 0
+add-minus z = omega (arith, linear)
+
 module _ {C : Type 0} (N : Numbers C) (L : IsOrderedGroup N) where
   -- equalities, one after the other
   pub chain : {a b c : C} → Equal N a b → Equal N b c → Equal N a c
@@ -117,10 +120,7 @@ module _ {C : Type 0} (N : Numbers C) (L : IsOrderedGroup N) where
   times-minus z a =
       is_minus (times N z a) (times N (pos 0 -ℤ z) a)
       (chain (back (times-add z (pos 0 -ℤ z) a))
-      (equal_path (times N (z +ℤ (pos 0 -ℤ z)) a) N.zero (ap (λ w. times N w a) (nothing z))))
-    where
-      nothing : (z : ℤ) → z +ℤ (pos 0 -ℤ z) ≡ pos 0
-      nothing z = omega (arith, linear)
+      (equal_path (times N (z +ℤ (pos 0 -ℤ z)) a) N.zero (ap (λ w. times N w a) (add-minus z))))
 
   pub times-one : (a : C) → Equal N (times N (pos 1) a) a
   times-one a = neutral_left a

@@ -17,12 +17,6 @@ module _ {C : Type 0} (N : Numbers C) (L : IsOrderedGroup N) where
   pub from_less : (a b : C) → Less N a b → AtMost N a b
   from_less a b h = elim (L.linear a b) [ inl k ↦ k | inr k ↦ absurd (h k) ]
 
-  pub less_then : (a b c : C) → Less N a b → AtMost N b c → Less N a c
-  less_then a b c h k e = h (L.transitive b c a k e)
-
-  pub then_less : (a b c : C) → AtMost N a b → Less N b c → Less N a c
-  then_less a b c h k e = k (L.transitive c a b e h)
-
   pub equal-same : (a : C) → Equal N a a
   equal-same a = (at_most-same a, at_most-same a)
 

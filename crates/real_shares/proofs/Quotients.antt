@@ -4,7 +4,7 @@ use Rattle.std.proofs.Common.{◌≡◌, ℕ, zero, suc, ◌+◌, ◌*◌, ◌/�
 use Rattle.std.proofs.Common.{◌+ℤ◌, ◌-ℤ◌, ◌*ℤ◌, ◌≤ℤ◌, slice_index_or, refl, sym, ap, subst, ◌∙◌, arith}
 use Rattle.std.proofs.Math.Nat.{lt-div-mul-add, div-mul-le_self, div-lt_iff_lt-mul, le-div_iff_mul-le, add-mul}
 use lib.IntN.{*ℤ_comm}
-use Rattle.definitions.proofs.Ring.{linear, add-mulℤ, one-mulℤ, zero-mulℤ, mul-subℤ, mul-zeroℤ}
+use Rattle.definitions.proofs.Ring.{linear, zero-mulℤ, mul-subℤ, mul-zeroℤ, suc-mulℤ}
 use Rattle.definitions.specs.Games.{Game, Allocation, share, IsAllocation}
 use Rattle.real_shares.specs.Numbers.{Numbers, Equal, multiple, times}
 use Rattle.real_shares.specs.Shares.{number_of, IsWrittenAs}
@@ -42,14 +42,7 @@ module _ (N : Numbers Real) (R : AreReals N) where
   multiple-near : (k : ℕ) (a : Real) (n : ℕ) → (multiple N k a).near n ≡ pos k *ℤ a.near n
   multiple-near zero a n = R.zero n ∙ sym (zero-mulℤ (a.near n))
   multiple-near (suc k) a n =
-      R.plus (multiple N k a) a n ∙ ap (λ z. z +ℤ a.near n) (multiple-near k a n) ∙ more k (a.near n)
-    where
-      one_more : (k : ℕ) → pos (suc k) ≡ pos k +ℤ pos 1
-      one_more k = omega (arith, linear)
-
-      more : (k : ℕ) (z : ℤ) → pos k *ℤ z +ℤ z ≡ pos (suc k) *ℤ z
-      more k z =
-          sym (ap (λ a. a *ℤ z) (one_more k) ∙ add-mulℤ (pos k) (pos 1) z ∙ ap (λ a. pos k *ℤ z +ℤ a) (one-mulℤ z))
+      R.plus (multiple N k a) a n ∙ ap (λ z. z +ℤ a.near n) (multiple-near k a n) ∙ sym (suc-mulℤ k (a.near n))
 
   equal-near : (a b : Real) (k : ℕ) → ((n : ℕ) → a.near n ≤ℤ (b.near n +ℤ pos k))
       → ((n : ℕ) → b.near n ≤ℤ (a.near n +ℤ pos k)) → Equal N a b

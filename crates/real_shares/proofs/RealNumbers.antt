@@ -1,11 +1,11 @@
 -- The real numbers are a linearly ordered abelian group: what is additive but for a bounded error, and once above
 -- the bound, is never far below zero.
 use Rattle.std.proofs.Common.{◌≡◌, ◌⊎◌, ℕ, zero, suc, ◌+◌, ◌*◌, ℤ, pos, ◌+ℤ◌, ◌-ℤ◌, ◌*ℤ◌, ◌≤ℤ◌}
-use Rattle.std.proofs.Common.{◌<ℤ◌, refl, sym, ap, subst, ◌∙◌, inl, inr, arith}
+use Rattle.std.proofs.Common.{◌<ℤ◌, refl, sym, ap, subst, inl, inr, arith}
 use Rattle.std.proofs.lemmas.Int.{by_lt_z}
 use Rattle.std.proofs.Math.Nat.{mul_comm}
-use Rattle.definitions.proofs.Ring.{linear, add-mulℤ, mul-addℤ, mul-oneℤ, mul-zeroℤ}
-use Rattle.definitions.proofs.Ring.{one-mulℤ, mul-leℤ, mul-le_cancelℤ}
+use Rattle.definitions.proofs.Ring.{linear, mul-addℤ, mul-oneℤ, mul-zeroℤ}
+use Rattle.definitions.proofs.Ring.{one-mulℤ, mul-leℤ, mul-le_cancelℤ, suc-mulℤ}
 use Rattle.real_shares.specs.Numbers.{Numbers, IsOrderedGroup, Equal}
 use Rattle.real_shares.specs.Reals.{Real, IsAtMost, AreReals}
 use Rattle.real_shares.proofs.Orders.{decided}
@@ -15,11 +15,11 @@ record Steady (c : ℕ) (d : ℕ → ℤ) : Type 0 where
   above : (m n : ℕ) → d (m + n) ≤ℤ (d m +ℤ d n +ℤ pos c)
   below : (m n : ℕ) → (d m +ℤ d n) ≤ℤ (d (m + n) +ℤ pos c)
 
-one_more : (m : ℕ) (z : ℤ) → pos (suc m) *ℤ z ≡ pos m *ℤ z +ℤ z
-one_more m z = ap (λ a. a *ℤ z) (is m) ∙ add-mulℤ (pos m) (pos 1) z ∙ ap (λ a. pos m *ℤ z +ℤ a) (one-mulℤ z)
-  where
-    is : (m : ℕ) → pos (suc m) ≡ pos m +ℤ pos 1
-    is m = omega (arith, linear)
+once : (n : ℕ) → n ≡ suc zero * n
+once n = omega arith
+
+once_more : (m n : ℕ) → suc m * n + n ≡ suc (suc m) * n
+once_more m n = omega arith
 
 -- m times d n is d (m n), but for m times c
 multiples : (c : ℕ) (d : ℕ → ℤ) → Steady c d → (m n : ℕ) → (d (m * n) ≤ℤ (pos m *ℤ d n +ℤ pos m *ℤ pos c)) ⊎ (m ≡ 0)
@@ -28,18 +28,12 @@ multiples c d s (suc zero) n =
     inl
     (subst (λ k. d k ≤ℤ (pos 1 *ℤ d n +ℤ pos 1 *ℤ pos c)) (once n)
     (omega (arith, linear, one-mulℤ (d n), one-mulℤ (pos c))))
-  where
-    once : (n : ℕ) → n ≡ suc zero * n
-    once n = omega arith
 multiples c d s (suc (suc m)) n = elim (multiples c d s (suc m) n) [
   | inl ih ↦
-      inl (subst (λ k. d k ≤ℤ (pos (suc (suc m)) *ℤ d n +ℤ pos (suc (suc m)) *ℤ pos c)) (again m n)
-      (omega (arith, linear, ih, s.above (suc m * n) n, one_more (suc m) (d n), one_more (suc m) (pos c))))
+      inl (subst (λ k. d k ≤ℤ (pos (suc (suc m)) *ℤ d n +ℤ pos (suc (suc m)) *ℤ pos c)) (once_more m n)
+      (omega (arith, linear, ih, s.above (suc m * n) n, suc-mulℤ (suc m) (d n), suc-mulℤ (suc m) (pos c))))
   | inr e ↦ absurd (omega arith)
 ]
-  where
-    again : (m n : ℕ) → suc m * n + n ≡ suc (suc m) * n
-    again m n = omega arith
 
 multiples_below : (c : ℕ) (d : ℕ → ℤ) → Steady c d → (m n : ℕ)
     → ((pos m *ℤ d n) ≤ℤ (d (m * n) +ℤ pos m *ℤ pos c)) ⊎ (m ≡ 0)
@@ -48,31 +42,21 @@ multiples_below c d s (suc zero) n =
     inl
     (subst (λ k. (pos 1 *ℤ d n) ≤ℤ (d k +ℤ pos 1 *ℤ pos c)) (once n)
     (omega (arith, linear, one-mulℤ (d n), one-mulℤ (pos c))))
-  where
-    once : (n : ℕ) → n ≡ suc zero * n
-    once n = omega arith
 multiples_below c d s (suc (suc m)) n = elim (multiples_below c d s (suc m) n) [
   | inl ih ↦
-      inl (subst (λ k. (pos (suc (suc m)) *ℤ d n) ≤ℤ (d k +ℤ pos (suc (suc m)) *ℤ pos c)) (again m n)
-      (omega (arith, linear, ih, s.below (suc m * n) n, one_more (suc m) (d n), one_more (suc m) (pos c))))
+      inl (subst (λ k. (pos (suc (suc m)) *ℤ d n) ≤ℤ (d k +ℤ pos (suc (suc m)) *ℤ pos c)) (once_more m n)
+      (omega (arith, linear, ih, s.below (suc m * n) n, suc-mulℤ (suc m) (d n), suc-mulℤ (suc m) (pos c))))
   | inr e ↦ absurd (omega arith)
 ]
-  where
-    again : (m n : ℕ) → suc m * n + n ≡ suc (suc m) * n
-    again m n = omega arith
 
 -- once above c, never below -c
 never_low : (c : ℕ) (d : ℕ → ℤ) → Steady c d → (m n : ℕ) → pos c <ℤ d m → pos 0 ≤ℤ (d n +ℤ pos c)
 never_low c d s zero n up =
-    absurd (omega (arith, linear, up, subst (λ k. (d 0 +ℤ d 0) ≤ℤ (d k +ℤ pos c)) both (s.below 0 0)))
-  where
-    both : 0 + 0 ≡ 0
-    both = omega arith
+    let twice : (d 0 +ℤ d 0) ≤ℤ (d 0 +ℤ pos c) = s.below 0 0 in
+    absurd (omega (arith, linear, up, twice))
 never_low c d s (suc m) zero up =
-    let h = subst (λ k. d k ≤ℤ (d 0 +ℤ d 0 +ℤ pos c)) both (s.above 0 0) in omega (arith, linear, h)
-  where
-    both : 0 + 0 ≡ 0
-    both = omega arith
+    let twice : d 0 ≤ℤ (d 0 +ℤ d 0 +ℤ pos c) = s.above 0 0 in
+    omega (arith, linear, twice)
 never_low c d s (suc m) (suc n) up =
     elim (multiples c d s (suc m) (suc n)) [
       | inr e ↦ absurd (omega arith)

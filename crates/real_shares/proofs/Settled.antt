@@ -6,13 +6,16 @@ use Rattle.std.proofs.Common.{inr, arith, nat_eq, int_le, if◌then◌else◌, I
 use Rattle.std.specs.List.{list_any, AllByRecursion}
 use Rattle.std.proofs.lemmas.Bool.{false≢true}
 use Rattle.std.proofs.lemmas.Bool.Decides.{nat_tests}
-use Rattle.definitions.proofs.Ring.{linear, add-mulℤ, mul-zeroℤ, zero-mulℤ}
+use Rattle.definitions.proofs.Ring.{linear, add-mulℤ, zero-mulℤ}
 use Rattle.definitions.proofs.Members.{has_player-singleton, has_player-complement, sum_below-same}
 use Rattle.definitions.proofs.Members.{sum_below-zero, sum_below-add, sum_below-times, sum_over-grand_coalition}
 use Rattle.definitions.proofs.Members.{sum_over-singleton, sum_over-complement, weighted_sum-sum_over}
+use Rattle.definitions.proofs.Members.{scaled_either}
 use Rattle.definitions.proofs.Cases.{less_or_last, nat_eq-same, or_cases, not_true, nat_eq-less}
+use Rattle.definitions.proofs.Cases.{and_either, from_nat_eq, and_left}
 use Rattle.definitions.proofs.Splits.{some_below-false}
 use Rattle.definitions.proofs.Masks.{singleton-within}
+use Rattle.definitions.proofs.Levels.{free_or_fixed}
 use Rattle.definitions.specs.Sums.{sum_below, weighted_sum}
 use Rattle.definitions.specs.Coalitions.{has_player, singleton, grand_coalition, sum_over}
 use Rattle.definitions.specs.Coalitions.{weight_at, some_below, splits}
@@ -28,10 +31,10 @@ use Rattle.real_shares.proofs.Cones.{zero-divided, zero-sum, weighted-zero_terms
 sum_below-one_out : (n k : ℕ) (w : ℤ) (d : ℕ → ℤ) → n ≤ k
     → sum_below n (λ i. (if nat_eq k i then w else pos 0) *ℤ d i) ≡ pos 0
 sum_below-one_out n k w d h =
-    sum_below-zero n (λ i. (if nat_eq k i then w else pos 0) *ℤ d i) (λ i lt. rw (other i lt) (zero-mulℤ (d i)))
+    sum_below-zero n (λ i. (if nat_eq k i then w else pos 0) *ℤ d i) (λ i lt. rw (apart_from i lt) (zero-mulℤ (d i)))
   where
-    other : (i : ℕ) → i < n → nat_eq k i ≡ false
-    other i lt = grind (arith, nat_tests)
+    apart_from : (i : ℕ) → i < n → nat_eq k i ≡ false
+    apart_from i lt = grind (arith, nat_tests)
 
 -- the number of one player, times its weight
 sum_below-one : (n k : ℕ) (w : ℤ) (d : ℕ → ℤ) → k < n
@@ -103,13 +106,6 @@ list_any-append p (x ∷ xs) ys =
     elim_or true b c e h = refl
     elim_or false b c e h = h
 
-free_or_fixed : (n : ℕ) (front : List Level) (i : ℕ) → (is_free n front i ≡ true) ⊎ (is_fixed n front i ≡ true)
-free_or_fixed n front i = either (is_fixed n front i)
-  where
-    either : (b : Bool) → (not b ≡ true) ⊎ (b ≡ true)
-    either true = inr refl
-    either false = inl refl
-
 module _ {Low : (ℕ → ℤ) → Type 0} (K : IsCone Low) where
   pub Settled-none : (n : ℕ) (D : ℕ → ℕ → ℤ) → Settled Low n D []
   Settled-none n D = record { listed = λ s h. absurd (false≢true h); bounded = λ i k h. absurd (false≢true h) }
@@ -119,25 +115,20 @@ module _ {Low : (ℕ → ℤ) → Type 0} (K : IsCone Low) where
       → list_any (λ c. nat_eq c.0 s) ps ≡ true → Zero Low (F s)
   listed_zero F [] s h e = absurd (false≢true e)
   listed_zero F (p ∷ ps) s h e = elim (or_cases (nat_eq p.0 s) (list_any (λ c. nat_eq c.0 s) ps) e) [
-    | inl here ↦ zero-same K (F p.0) (F s) (λ k. ap (λ t. F t k) (same_number p.0 s here)) h.0
+    | inl here ↦ zero-same K (F p.0) (F s) (λ k. ap (λ t. F t k) (sym (from_nat_eq p.0 s here))) h.0
     | inr there ↦ listed_zero F ps s h.1 there
   ]
-    where
-      same_number : (a b : ℕ) → nat_eq a b ≡ true → b ≡ a
-      same_number a b e = grind (arith, nat_tests)
 
   bound_zero : (F : ℕ → ℕ → ℤ) (ps : List (ℕ × ℤ)) (i : ℕ) → AllByRecursion (λ p. Zero Low (F p.0)) ps
       → list_any (λ b. nat_eq b.0 i && int_le (pos 1) b.1) ps ≡ true → Zero Low (F i)
   bound_zero F [] i h e = absurd (false≢true e)
   bound_zero F (p ∷ ps) i h e =
       elim (or_cases (nat_eq p.0 i && int_le (pos 1) p.1) (list_any (λ b. nat_eq b.0 i && int_le (pos 1) b.1) ps) e) [
-        | inl here ↦ zero-same K (F p.0) (F i) (λ k. ap (λ t. F t k) (same_number p.0 i (int_le (pos 1) p.1) here))
-            h.0
+        | inl here ↦
+            let same = from_nat_eq p.0 i (and_left (nat_eq p.0 i) (int_le (pos 1) p.1) here) in
+            zero-same K (F p.0) (F i) (λ k. ap (λ t. F t k) (sym same)) h.0
         | inr there ↦ bound_zero F ps i h.1 there
       ]
-    where
-      same_number : (a b : ℕ) (t : Bool) → (nat_eq a b && t) ≡ true → b ≡ a
-      same_number a b t e = grind (arith, nat_tests)
 
   pub earlier_zero : (n : ℕ) (D : ℕ → ℕ → ℤ) (front : List Level) → Settled Low n D front → (ps : List (ℕ × ℤ))
       → AllByRecursion (λ c. IsTrue (is_listed front c.0)) ps → AllByRecursion (λ p. Zero Low (over n D p.0)) ps
@@ -204,7 +195,7 @@ module _ {Low : (ℕ → ℤ) → Type 0} (K : IsCone Low) where
       → Zero Low (over n D s)
   unsplit_zero n D front settled all s e =
       elim
-      (and_false (some_below n (λ i. is_free n front i && has_player s i))
+      (and_either (some_below n (λ i. is_free n front i && has_player s i))
       (some_below n (λ i. is_free n front i && not (has_player s i))) e) [
         | inl none ↦ zero-sum K n (λ i k. if has_player s i then D i k else pos 0)
             (λ i h. in_none i (is_free n front i) (has_player s i) (known i h) (some_below-false n _ none i h))
@@ -215,10 +206,6 @@ module _ {Low : (ℕ → ℤ) → Type 0} (K : IsCone Low) where
             all
       ]
     where
-      and_false : (a b : Bool) → (a && b) ≡ false → (a ≡ false) ⊎ (b ≡ false)
-      and_false true b e = inr e
-      and_false false b e = inl refl
-
       known : (i : ℕ) → i < n → (is_free n front i ≡ true) ⊎ Zero Low (D i)
       known i h =
           elim (free_or_fixed n front i) [ inl a ↦ inl a | inr a ↦ inr (fixed_zero n D front settled all i h a) ]
@@ -276,19 +263,15 @@ module _ {Low : (ℕ → ℤ) → Type 0} (K : IsCone Low) where
   span_zero n D front settled all s (m, ne, ps, fixed, sums) =
       let zero_sum = weighted-zero_terms K (over n D) ps (fixed_vectors_zero n D front settled all ps fixed) in
       zero-divided K m (over n D s) ne
-      (zero-same K (λ k. weighted_sum (λ t. over n D t k) ps) (λ k. m *ℤ over n D s k) moved_all zero_sum)
+      (zero-same K (λ k. weighted_sum (λ t. over n D t k) ps) (λ k. m *ℤ over n D s k) exchanged zero_sum)
     where
-      moved : (b : Bool) (z : ℤ) → cond b m (pos 0) *ℤ z ≡ m *ℤ cond b z (pos 0)
-      moved true z = refl
-      moved false z = zero-mulℤ z ∙ sym (mul-zeroℤ m)
-
-      moved_all : (k : ℕ) → m *ℤ over n D s k ≡ weighted_sum (λ t. over n D t k) ps
-      moved_all k =
+      exchanged : (k : ℕ) → m *ℤ over n D s k ≡ weighted_sum (λ t. over n D t k) ps
+      exchanged k =
           let d : ℕ → ℤ = λ i. D i k in
           let exchange = weighted_sum-sum_over n d ps in
           let each =
           sum_below-same n (λ i. weight_at ps i *ℤ d i) (λ i. m *ℤ (if has_player s i then d i else pos 0))
-          (λ i h. ap (λ w. w *ℤ d i) (sums i h) ∙ moved (has_player s i) (d i)) in
+          (λ i h. ap (λ w. w *ℤ d i) (sums i h) ∙ scaled_either (has_player s i) m (d i)) in
           let times = sum_below-times n (λ i. if has_player s i then d i else pos 0) m in
           sym (exchange ∙ each ∙ times)
 
@@ -319,7 +302,7 @@ module _ {Low : (ℕ → ℤ) → Type 0} (K : IsCone Low) where
         [ inl a ↦ inl (one i j h k free a) | inr a ↦ inr (fixed_zero n D front settled all j k a) ] in
         let others =
         zero-sum K n (λ j k. if has_player (grand_coalition n - singleton i) j then D j k else pos 0)
-        (λ j k. other j k (same j k)) in
+        (λ j k. others_zero j k (same j k)) in
         zero-minus K (over n D (grand_coalition n)) (over n D (grand_coalition n - singleton i)) (D i) rest_is all
         others
     | inr fixed ↦ fixed_zero n D front settled all i h fixed
@@ -343,13 +326,13 @@ module _ {Low : (ℕ → ℤ) → Type 0} (K : IsCone Low) where
       lacks true j e = absurd (false≢true (sym e))
       lacks false j e = zero-none K
 
-      other : (j : ℕ) → j < n → (i ≡ j) ⊎ Zero Low (D j)
+      others_zero : (j : ℕ) → j < n → (i ≡ j) ⊎ Zero Low (D j)
           → Zero Low (λ k. if has_player (grand_coalition n - singleton i) j then D j k else pos 0)
-      other j lt (inl e) =
+      others_zero j lt (inl e) =
           lacks (has_player (grand_coalition n - singleton i) j) j
           (has_player-complement n (singleton i) j (singleton-within n i h) lt
           ∙ ap not (ap (has_player (singleton i)) (sym e) ∙ has_player-singleton i))
-      other j lt (inr u) = either (has_player (grand_coalition n - singleton i) j) j u
+      others_zero j lt (inr u) = either (has_player (grand_coalition n - singleton i) j) j u
   all_fixed_zero Span n D front settled all spanned i h =
       zero-same K (over n D (singleton i)) (D i) (λ k. sym (sum_over-singleton n i (λ j. D j k) h))
       (span_zero n D front settled all (singleton i) (spanned i h))

@@ -8,6 +8,7 @@ use Rattle.definitions.proofs.Ring.{linear, mul-le_cancelℤ}
 use Rattle.definitions.proofs.Alls.{all_both}
 use Rattle.definitions.proofs.Families.{allocation_of, efficient_of}
 use Rattle.definitions.proofs.Measured.{weight, weight-positive}
+use Rattle.definitions.proofs.Cases.{same_or_later}
 use Rattle.definitions.specs.Sums.{weighted_sum}
 use Rattle.definitions.specs.Coalitions.{grand_coalition, proper_coalitions}
 use Rattle.definitions.specs.Measures.{measured_den, IsMeasurable}
@@ -46,13 +47,10 @@ SameOrLow-range N e f h a (suc k) each = (
 SomeAbove-range : {C : Type 0} (N : Numbers C) (e : C) (f h : ℕ → C) (a k c : ℕ) → a ≤ c → c < a + k
     → AtMost N (f c) e → Less N e (h c) → SomeAbove N e (map f (range_with_len a k)) (map h (range_with_len a k))
 SomeAbove-range N e f h a zero c low high at above = absurd (omega arith)
-SomeAbove-range N e f h a (suc k) c low high at above = elim (first_or_later a c low) [
+SomeAbove-range N e f h a (suc k) c low high at above = elim (same_or_later a c low) [
   | inl same ↦ inl (subst (λ (i : ℕ). AtMost N (f i) e × Less N e (h i)) (sym same) (at, above))
   | inr later ↦ inr (SomeAbove-range N e f h (a + 1) k c later (omega arith) at above)
 ]
-  where
-    first_or_later : (a c : ℕ) → a ≤ c → (a ≡ c) ⊎ (a + 1 ≤ c)
-    first_or_later a c low = grind arith
 
 -- ---- what is asked of a level's form: nothing of the size of its numbers
 

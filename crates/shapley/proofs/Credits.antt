@@ -1,5 +1,5 @@
 -- The worths of all coalitions, each counted for its members and against the others, add to the Shapley total.
-use Rattle.std.proofs.Common.{◌≡◌, ℕ, suc, ◌+◌, ◌-◌, ◌^◌, ◌<◌, Bool, true, false, cond, ℤ, pos, ◌+ℤ◌}
+use Rattle.std.proofs.Common.{◌≡◌, ℕ, ◌+◌, ◌-◌, ◌^◌, ◌<◌, Bool, true, false, cond, ℤ, pos, ◌+ℤ◌}
 use Rattle.std.proofs.Common.{◌-ℤ◌, ◌*ℤ◌, neg_ℤ, refl, ap, ◌∙◌, arith, if◌then◌else◌}
 use Rattle.definitions.proofs.Ring.{linear, mul-subℤ}
 use Rattle.definitions.proofs.Members.{sum_below-same, sum_below-add}
@@ -9,7 +9,7 @@ use Rattle.definitions.specs.Coalitions.{has_player}
 use Rattle.definitions.specs.Games.{Game}
 use Rattle.definitions.specs.Shapley.{shapley_total}
 use Rattle.shapley.specs.Subsets.{orders_with, subset_term, credit}
-use Rattle.shapley.proofs.Orders.{orders_are_subsets}
+use Rattle.shapley.proofs.Orders.{orders_are_subsets, suc_less_one}
 
 -- the worth of a coalition, as often as the others of it stand in front of a member
 abbrev for_member : (ℕ → ℤ) → ℕ → ℕ → ℤ
@@ -23,9 +23,6 @@ subset_term-parts : (v : ℕ → ℤ) (n i s : ℕ) → i < n
     → subset_term v n i s ≡ gained (for_member v n) i s +ℤ against v n i s
 subset_term-parts v n i s h = cases (has_player s i) refl
   where
-    pred : (k : ℕ) → suc k - 1 ≡ k
-    pred k = omega arith
-
     cases : (b : Bool) → has_player s i ≡ b
         → cond b (pos 0) (pos (orders_with n (size_below n s)) *ℤ (v (s + 2 ^ i) -ℤ v s))
         ≡ cond b (pos 0) (for_member v n (s + 2 ^ i))
@@ -34,16 +31,16 @@ subset_term-parts v n i s h = cases (has_player s i) refl
     cases false e =
         let more =
         ap (λ (k : ℕ). pos (orders_with n (k - 1)) *ℤ v (s + 2 ^ i)) (size_below-more n i s h e)
-        ∙ ap (λ (k : ℕ). pos (orders_with n k) *ℤ v (s + 2 ^ i)) (pred (size_below n s)) in
+        ∙ ap (λ (k : ℕ). pos (orders_with n k) *ℤ v (s + 2 ^ i)) (suc_less_one (size_below n s)) in
         omega (arith, linear, more, mul-subℤ (pos (orders_with n (size_below n s))) (v (s + 2 ^ i)) (v s))
 
 credit-parts : (v : ℕ → ℤ) (n i s : ℕ) → credit n s (v s) i ≡ held (for_member v n) i s +ℤ against v n i s
 credit-parts v n i s =
-    step (has_player s i) (for_member v n s) (neg_ℤ (pos (orders_with n (size_below n s)) *ℤ v s))
+    split_either (has_player s i) (for_member v n s) (neg_ℤ (pos (orders_with n (size_below n s)) *ℤ v s))
   where
-    step : (b : Bool) (x y : ℤ) → cond b x y ≡ cond b x (pos 0) +ℤ cond b (pos 0) y
-    step true x y = omega (arith, linear)
-    step false x y = omega (arith, linear)
+    split_either : (b : Bool) (x y : ℤ) → cond b x y ≡ cond b x (pos 0) +ℤ cond b (pos 0) y
+    split_either true x y = omega (arith, linear)
+    split_either false x y = omega (arith, linear)
 
 -- what the worths of the first m coalitions add to the total of player i
 abbrev pub credits : (ℕ → ℤ) → ℕ → ℕ → ℕ → ℤ

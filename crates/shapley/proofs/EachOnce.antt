@@ -1,14 +1,16 @@
 -- The list of orders has orders alone, and each one exactly once.
-use Rattle.std.proofs.Common.{◌≡◌, ℕ, zero, suc, ◌+◌, ◌<◌, ◌≤◌, Bool, true, false, cond, ◌&&◌, ◌||◌, nat_eq, List}
+use Rattle.std.proofs.Common.{◌≡◌, ℕ, zero, suc, ◌+◌, ◌*◌, ◌<◌, ◌≤◌, Bool, true, false, cond, ◌&&◌, ◌||◌, nat_eq, List}
 use Rattle.std.proofs.Common.{[], ◌∷◌, ◌++◌, length, map, refl, sym, ap, ◌∙◌, arith, if◌then◌else◌}
 use Rattle.std.specs.List.{flat_map, AllByRecursion}
 use Rattle.std.proofs.lemmas.Bool.{false≢true}
+use Rattle.std.proofs.lemmas.List.{length-append}
 use Rattle.std.proofs.lemmas.Bool.Decides.{nat_tests}
-use Rattle.definitions.proofs.Cases.{nat_eq-other, from_nat_eq}
+use Rattle.definitions.proofs.Cases.{nat_eq-other, from_nat_eq, nat_eq-turned, neither}
 use Rattle.definitions.proofs.Alls.{all_weaken}
-use Rattle.definitions.specs.Shapley.{AllDiffer, IsOrder, insertions, orders}
+use Rattle.definitions.specs.Shapley.{AllDiffer, IsOrder, insertions, orders, factorial}
 use Rattle.shapley.specs.Each.{is_same, one_if, times}
-use Rattle.shapley.proofs.Orders.{orders-below, insertions-length, All-map, All-flat_map, All-insertions}
+use Rattle.shapley.proofs.Orders.{orders-below, insertions-length, length-insertions}
+use Rattle.shapley.proofs.Orders.{All-map, All-flat_map, All-insertions}
 
 -- the list without the first n
 abbrev strip : ℕ → List ℕ → List ℕ
@@ -21,19 +23,22 @@ holds n (p ∷ o) = nat_eq p n || holds n o
 
 All-strip : (P : ℕ → Type 0) (n : ℕ) (o : List ℕ) → AllByRecursion P o → AllByRecursion P (strip n o)
 All-strip P n [] h = tt
-All-strip P n (p ∷ o) h = step (nat_eq p n) (All-strip P n o h.1)
+All-strip P n (p ∷ o) h = all_either (nat_eq p n) (All-strip P n o h.1)
   where
-    step : (b : Bool) → AllByRecursion P (strip n o) → AllByRecursion P (cond b o (p ∷ strip n o))
-    step true k = h.1
-    step false k = (h.0, k)
+    all_either : (b : Bool) → AllByRecursion P (strip n o) → AllByRecursion P (cond b o (p ∷ strip n o))
+    all_either true k = h.1
+    all_either false k = (h.0, k)
 
 strip-distinct : (n : ℕ) (o : List ℕ) → AllDiffer o → AllDiffer (strip n o)
 strip-distinct n [] h = tt
-strip-distinct n (p ∷ o) h = step (nat_eq p n) (strip-distinct n o h.1)
+strip-distinct n (p ∷ o) h = differ_either (nat_eq p n) (strip-distinct n o h.1)
   where
-    step : (b : Bool) → AllDiffer (strip n o) → AllDiffer (cond b o (p ∷ strip n o))
-    step true k = h.1
-    step false k = (All-strip (λ y. nat_eq p y ≡ false) n o h.0, k)
+    differ_either : (b : Bool) → AllDiffer (strip n o) → AllDiffer (cond b o (p ∷ strip n o))
+    differ_either true k = h.1
+    differ_either false k = (All-strip (λ y. nat_eq p y ≡ false) n o h.0, k)
+
+not_last : (n p : ℕ) → nat_eq p n ≡ false → p < suc n → p < n
+not_last n p f lt = grind (arith, nat_tests)
 
 others_below : (n p : ℕ) (o : List ℕ) → nat_eq p n ≡ true → AllByRecursion (λ y. nat_eq p y ≡ false) o
     → AllByRecursion (λ y. y < suc n) o → AllByRecursion (λ y. y < n) o
@@ -46,41 +51,28 @@ others_below n p (y ∷ o) e h k = (less p y e h.0 k.0, others_below n p o e h.1
 strip-below : (n : ℕ) (o : List ℕ) → AllDiffer o → AllByRecursion (λ y. y < suc n) o
     → AllByRecursion (λ y. y < n) (strip n o)
 strip-below n [] h k = tt
-strip-below n (p ∷ o) h k = step (nat_eq p n) refl (strip-below n o h.1 k.1)
+strip-below n (p ∷ o) h k = below_either (nat_eq p n) refl (strip-below n o h.1 k.1)
   where
-    less : (p : ℕ) → nat_eq p n ≡ false → p < suc n → p < n
-    less p f lt = grind (arith, nat_tests)
-
-    step : (b : Bool) → nat_eq p n ≡ b → AllByRecursion (λ y. y < n) (strip n o)
+    below_either : (b : Bool) → nat_eq p n ≡ b → AllByRecursion (λ y. y < n) (strip n o)
         → AllByRecursion (λ y. y < n) (cond b o (p ∷ strip n o))
-    step true e ih = others_below n p o e h.0 k.1
-    step false e ih = (less p e k.0, ih)
+    below_either true e ih = others_below n p o e h.0 k.1
+    below_either false e ih = (not_last n p e k.0, ih)
 
 strip-length : (n : ℕ) (o : List ℕ) → holds n o ≡ true → length o ≡ suc (length (strip n o))
 strip-length n [] e = absurd (false≢true e)
-strip-length n (p ∷ o) e = step (nat_eq p n) e (strip-length n o)
+strip-length n (p ∷ o) e = length_either (nat_eq p n) e (strip-length n o)
   where
-    step : (b : Bool) → (b || holds n o) ≡ true → (holds n o ≡ true → length o ≡ suc (length (strip n o)))
+    length_either : (b : Bool) → (b || holds n o) ≡ true → (holds n o ≡ true → length o ≡ suc (length (strip n o)))
         → suc (length o) ≡ suc (length (cond b o (p ∷ strip n o)))
-    step true e ih = refl
-    step false e ih = ap suc (ih e)
+    length_either true e ih = refl
+    length_either false e ih = ap suc (ih e)
 
 none_below : (n : ℕ) (o : List ℕ) → holds n o ≡ false → AllByRecursion (λ y. y < suc n) o
     → AllByRecursion (λ y. y < n) o
 none_below n [] e k = tt
 none_below n (p ∷ o) e k =
-    (less p (first (nat_eq p n) (holds n o) e) k.0, none_below n o (second (nat_eq p n) (holds n o) e) k.1)
-  where
-    less : (p : ℕ) → nat_eq p n ≡ false → p < suc n → p < n
-    less p f lt = grind (arith, nat_tests)
-
-    first : (a b : Bool) → (a || b) ≡ false → a ≡ false
-    first true b e = e
-    first false b e = refl
-
-    second : (a b : Bool) → (a || b) ≡ false → b ≡ false
-    second true b e = absurd (false≢true (sym e))
-    second false b e = e
+    let apart = neither (nat_eq p n) (holds n o) e in
+    (not_last n p apart.0 k.0, none_below n o apart.1 k.1)
 
 -- no more than n numbers below n
 few_below : (n : ℕ) (o : List ℕ) → AllDiffer o → AllByRecursion (λ y. y < n) o → length o ≤ n
@@ -113,39 +105,32 @@ times-append o (x ∷ xs) ys = omega (arith, times-append o xs ys)
 
 times-map : (p y : ℕ) (o : List ℕ) (xs : List (List ℕ))
     → times (p ∷ o) (map (λ zs. y ∷ zs) xs) ≡ cond (nat_eq p y) (times o xs) 0
-times-map p y o [] = step (nat_eq p y)
+times-map p y o [] = never_either (nat_eq p y)
   where
-    step : (b : Bool) → times o [] ≡ cond b (times o []) 0
-    step true = refl
-    step false = refl
-times-map p y o (x ∷ xs) = step (nat_eq p y) (times (p ∷ o) (map (λ zs. y ∷ zs) xs)) (times-map p y o xs)
+    never_either : (b : Bool) → times o [] ≡ cond b (times o []) 0
+    never_either true = refl
+    never_either false = refl
+times-map p y o (x ∷ xs) = times_either (nat_eq p y) (times (p ∷ o) (map (λ zs. y ∷ zs) xs)) (times-map p y o xs)
   where
-    step : (b : Bool) (k : ℕ) → k ≡ cond b (times o xs) 0
+    times_either : (b : Bool) (k : ℕ) → k ≡ cond b (times o xs) 0
         → one_if (b && is_same o x) + k ≡ cond b (one_if (is_same o x) + times o xs) 0
-    step true k e = ap (λ (z : ℕ). one_if (is_same o x) + z) e
-    step false k e = omega (arith, e)
-
-times-map_other : (n y : ℕ) (o : List ℕ) (xs : List (List ℕ)) → nat_eq n y ≡ false
-    → times (n ∷ o) (map (λ zs. y ∷ zs) xs) ≡ 0
-times-map_other n y o xs ne = times-map n y o xs ∙ rw ne refl
-
-turned : (a b : ℕ) → nat_eq a b ≡ false → nat_eq b a ≡ false
-turned a b e = grind (arith, nat_tests)
+    times_either true k e = ap (λ (z : ℕ). one_if (is_same o x) + z) e
+    times_either false k e = omega (arith, e)
 
 -- o comes of a list by putting n in just where it is the list with n, and then at one place
 times-insertions : (n : ℕ) (x o : List ℕ) → holds n o ≡ true → AllByRecursion (λ y. nat_eq y n ≡ false) x
     → times o (insertions n x) ≡ one_if (is_same (strip n o) x)
 times-insertions n x [] e others = absurd (false≢true e)
-times-insertions n [] (p ∷ o) e others = step (nat_eq p n) (is_same o [])
+times-insertions n [] (p ∷ o) e others = only_either (nat_eq p n) (is_same o [])
   where
-    step : (b c : Bool) → one_if (b && is_same o []) + 0 ≡ one_if (is_same (cond b o (p ∷ strip n o)) [])
-    step true c = omega arith
-    step false c = omega arith
+    only_either : (b c : Bool) → one_if (b && is_same o []) + 0 ≡ one_if (is_same (cond b o (p ∷ strip n o)) [])
+    only_either true c = omega arith
+    only_either false c = omega arith
 times-insertions n (y ∷ ys) (p ∷ o) e others =
     cases (nat_eq p n) refl e (λ held. times-insertions n ys o held others.1)
   where
     apart : nat_eq n y ≡ false
-    apart = turned y n others.0
+    apart = nat_eq-turned y n others.0
 
     here : nat_eq p n ≡ true → nat_eq p y ≡ false
     here f = ap (λ (k : ℕ). nat_eq k y) (from_nat_eq p n f) ∙ apart
@@ -242,3 +227,23 @@ each_once (suc n) o h =
 pub orders_all : (n : ℕ)
     → AllByRecursion (IsOrder n) (orders n) × ((o : List ℕ) → IsOrder n o → times o (orders n) ≡ 1)
 orders_all n = (are_orders n, each_once n)
+
+-- ---- there are n! orders
+
+length-flat_map : (n : ℕ) (os : List (List ℕ)) → AllByRecursion (IsOrder n) os
+    → length (flat_map (insertions n) os) ≡ suc n * length os
+length-flat_map n [] h = omega arith
+length-flat_map n (o ∷ os) h =
+    let all = h.0.all in
+    omega (
+      arith,
+      length-append (insertions n o) (flat_map (insertions n) os),
+      length-insertions n o,
+      all,
+      length-flat_map n os h.1,
+    )
+
+pub length-orders : (n : ℕ) → length (orders n) ≡ factorial n
+length-orders zero = refl
+length-orders (suc n) =
+    length-flat_map n (orders n) (are_orders n) ∙ ap (λ (k : ℕ). suc n * k) (length-orders n)

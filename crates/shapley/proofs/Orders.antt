@@ -4,9 +4,9 @@ use Rattle.std.proofs.Common.{List, [], ◌∷◌, ◌++◌, length, map, ℤ, p
 use Rattle.std.proofs.Common.{ap, ◌∙◌, inl, inr, arith, nat_eq, if◌then◌else◌}
 use Rattle.std.specs.List.{flat_map, AllByRecursion}
 use Rattle.std.proofs.lemmas.List.{length-map}
-use Rattle.definitions.proofs.Cases.{less_or_last, nat_eq-same, nat_eq-other}
+use Rattle.definitions.proofs.Cases.{less_or_last, nat_eq-same, nat_eq-other, nat_eq-less}
 use Rattle.definitions.proofs.Alls.{all_weaken, all_join}
-use Rattle.definitions.proofs.Ring.{linear, add-mulℤ, mul-addℤ, zero-mulℤ, one-mulℤ, mul_assocℤ}
+use Rattle.definitions.proofs.Ring.{linear, mul-addℤ, zero-mulℤ, one-mulℤ, mul_assocℤ, suc-mulℤ}
 use Rattle.definitions.proofs.Members.{sum_below-same}
 use Rattle.definitions.proofs.Halves.{has_player-last, has_player-upper, has_player-lower, size_below}
 use Rattle.definitions.proofs.Halves.{size_below-zero, size_below-most, size_below-less}
@@ -47,9 +47,7 @@ total-same_all f g (x ∷ xs) h = let e = total-same_all f g xs h in let d = h x
 
 total-constant : {X : Type 0} (c : ℤ) (xs : List X) → total (λ x. c) xs ≡ pos (length xs) *ℤ c
 total-constant c [] = sym (zero-mulℤ c)
-total-constant c (x ∷ xs) =
-    let one : pos (suc (length xs)) ≡ pos (length xs) +ℤ pos 1 = omega (arith, linear) in
-    rw one (omega (arith, linear, total-constant c xs, add-mulℤ (pos (length xs)) (pos 1) c, one-mulℤ c))
+total-constant c (x ∷ xs) = omega (arith, linear, total-constant c xs, suc-mulℤ (length xs) c)
 
 total-add : {X : Type 0} (f g : X → ℤ) (xs : List X) → total (λ x. f x +ℤ g x) xs ≡ total f xs +ℤ total g xs
 total-add f g [] = refl
@@ -98,17 +96,17 @@ at_places h (p ∷ ps) = h 0 (suc (length ps)) 0 +ℤ at_places (behind p h) ps
 abbrev with_one : ℕ → Number → Number
 with_one n h j r c = pos (suc j) *ℤ h (suc j) r (c + 2 ^ n) +ℤ pos (suc r) *ℤ h j (suc r) c
 
+same_either : (b : Bool) (x y z w : ℤ) → x ≡ y → z ≡ w → cond b x z ≡ cond b y w
+same_either true x y z w d f = d
+same_either false x y z w d f = f
+
 at_player-same : (h k : Number) (i : ℕ) (ps : List ℕ) → ((j r c : ℕ) → h j r c ≡ k j r c)
     → at_player h i ps ≡ at_player k i ps
 at_player-same h k i [] e = refl
 at_player-same h k i (p ∷ ps) e =
-    either (nat_eq p i) (h 0 (length ps) 0) (k 0 (length ps) 0) (at_player (behind p h) i ps)
+    same_either (nat_eq p i) (h 0 (length ps) 0) (k 0 (length ps) 0) (at_player (behind p h) i ps)
     (at_player (behind p k) i ps) (e 0 (length ps) 0)
     (at_player-same (behind p h) (behind p k) i ps (λ j r c. e (suc j) r (c + 2 ^ p)))
-  where
-    either : (b : Bool) (x y z w : ℤ) → x ≡ y → z ≡ w → cond b x z ≡ cond b y w
-    either true x y z w d f = d
-    either false x y z w d f = f
 
 at_player-add : (h k : Number) (i : ℕ) (ps : List ℕ)
     → at_player h i ps +ℤ at_player k i ps ≡ at_player (λ j r c. h j r c +ℤ k j r c) i ps
@@ -139,12 +137,7 @@ swap_two : (p n : ℕ) (h : Number) (j r c : ℕ)
     → behind p (behind n h) j r c +ℤ with_one n (behind p h) j r c ≡ behind p (with_one n h) j r c
 swap_two p n h j r c =
     let moved : c + 2 ^ n + 2 ^ p ≡ c + 2 ^ p + 2 ^ n = omega arith in
-    let one : pos (suc (suc j)) ≡ pos (suc j) +ℤ pos 1 = omega (arith, linear) in
-    rw (moved, one)
-    (step (h (suc (suc j)) r (c + 2 ^ p + 2 ^ n)) (pos (suc r) *ℤ h (suc j) (suc r) (c + 2 ^ p)) (pos (suc j)))
-  where
-    step : (x y k : ℤ) → x +ℤ (k *ℤ x +ℤ y) ≡ (k +ℤ pos 1) *ℤ x +ℤ y
-    step x y k = omega (arith, linear, add-mulℤ k (pos 1) x, one-mulℤ x)
+    rw moved (omega (arith, linear, suc-mulℤ (suc j) (h (suc (suc j)) r (c + 2 ^ p + 2 ^ n))))
 
 -- each way to put n into the list has one more in it
 count_behind : (h : Number) (n : ℕ) (ps : List ℕ)
@@ -163,7 +156,7 @@ insert_other : (n i : ℕ) (h : Number) (ps : List ℕ) → nat_eq n i ≡ false
 insert_other n i h [] ne = rw ne refl
 insert_other n i h (p ∷ ps) ne =
     rw (ne, total-map (at_player h i) (λ zs. p ∷ zs) (insertions n ps))
-    (step (nat_eq p i) (insert_other n i (behind p h) ps ne))
+    (insert_either (nat_eq p i) (insert_other n i (behind p h) ps ne))
   where
     there : total (at_player (behind p h) i) (insertions n ps) ≡ at_player (with_one n (behind p h)) i ps
         → at_player (behind p (behind n h)) i ps +ℤ total (at_player (behind p h) i) (insertions n ps)
@@ -174,13 +167,13 @@ insert_other n i h (p ∷ ps) ne =
         ∙ at_player-same (λ j r c. behind p (behind n h) j r c +ℤ with_one n (behind p h) j r c)
         (behind p (with_one n h)) i ps (swap_two p n h)
 
-    step : (b : Bool)
+    insert_either : (b : Bool)
         → total (at_player (behind p h) i) (insertions n ps) ≡ at_player (with_one n (behind p h)) i ps
         → cond b (h 1 (length ps) (0 + 2 ^ n)) (at_player (behind p (behind n h)) i ps)
         +ℤ total (λ zs. cond b (h 0 (length zs) 0) (at_player (behind p h) i zs)) (insertions n ps)
         ≡ cond b (with_one n h 0 (length ps) 0) (at_player (behind p (with_one n h)) i ps)
-    step true ih = omega (arith, linear, count_behind h n ps, one-mulℤ (h 1 (length ps) (0 + 2 ^ n)))
-    step false ih = there ih
+    insert_either true ih = omega (arith, linear, count_behind h n ps, one-mulℤ (h 1 (length ps) (0 + 2 ^ n)))
+    insert_either false ih = there ih
 
 -- ---- the player itself put into an order of others
 
@@ -201,7 +194,7 @@ insert_places : (n : ℕ) (h : Number) (ps : List ℕ)
     → total (at_places h) (insertions n ps) ≡ at_places (with_one n h) ps
 insert_places n h [] = omega (arith, linear, one-mulℤ (h 1 0 (0 + 2 ^ n)), one-mulℤ (h 0 1 0))
 insert_places n h (p ∷ ps) =
-    rw (total-map (at_places h) (λ zs. p ∷ zs) (insertions n ps)) (step (insert_places n (behind p h) ps))
+    rw (total-map (at_places h) (λ zs. p ∷ zs) (insertions n ps)) (with_first (insert_places n (behind p h) ps))
   where
     there : total (at_places (behind p h)) (insertions n ps) ≡ at_places (with_one n (behind p h)) ps
         → at_places (behind p (behind n h)) ps +ℤ total (at_places (behind p h)) (insertions n ps)
@@ -212,24 +205,19 @@ insert_places n h (p ∷ ps) =
         ∙ at_places-same (λ j r c. behind p (behind n h) j r c +ℤ with_one n (behind p h) j r c)
         (behind p (with_one n h)) ps (swap_two p n h)
 
-    more : (k : ℕ) (x : ℤ) → pos (suc (suc k)) *ℤ x ≡ pos (suc k) *ℤ x +ℤ x
-    more k x =
-        let one : pos (suc (suc k)) ≡ pos (suc k) +ℤ pos 1 = omega (arith, linear) in
-        rw one (omega (arith, linear, add-mulℤ (pos (suc k)) (pos 1) x, one-mulℤ x))
-
-    step : total (at_places (behind p h)) (insertions n ps) ≡ at_places (with_one n (behind p h)) ps
+    with_first : total (at_places (behind p h)) (insertions n ps) ≡ at_places (with_one n (behind p h)) ps
         → h 0 (suc (suc (length ps))) 0
         +ℤ (h 1 (suc (length ps)) (0 + 2 ^ n) +ℤ at_places (behind p (behind n h)) ps)
         +ℤ total (λ zs. h 0 (suc (length zs)) 0 +ℤ at_places (behind p h) zs) (insertions n ps)
         ≡ with_one n h 0 (suc (length ps)) 0 +ℤ at_places (behind p (with_one n h)) ps
-    step ih =
+    with_first ih =
         omega (
           arith,
           linear,
           there ih,
           total-add (λ zs. h 0 (suc (length zs)) 0) (at_places (behind p h)) (insertions n ps),
           count_behind (λ j r c. h j (suc r) c) n ps,
-          more (length ps) (h 0 (suc (suc (length ps))) 0),
+          suc-mulℤ (suc (length ps)) (h 0 (suc (suc (length ps))) 0),
           one-mulℤ (h 1 (suc (length ps)) (0 + 2 ^ n)),
         )
 
@@ -268,12 +256,12 @@ weigh : (n : ℕ) (h : Number) (j r s : ℕ)
     ≡ weight j (suc r) *ℤ h j (suc r) s +ℤ weight (suc j) r *ℤ h (suc j) r (2 ^ n + s)
 weigh n h j r s =
     let moved : s + 2 ^ n ≡ 2 ^ n + s = omega arith in
-    rw moved (step (factorial j) (factorial r) j r (h (suc j) r (2 ^ n + s)) (h j (suc r) s))
+    rw moved (weigh_numbers (factorial j) (factorial r) j r (h (suc j) r (2 ^ n + s)) (h j (suc r) s))
   where
-    step : (a b j r : ℕ) (x y : ℤ)
+    weigh_numbers : (a b j r : ℕ) (x y : ℤ)
         → pos (a * b) *ℤ (pos (suc j) *ℤ x +ℤ pos (suc r) *ℤ y)
         ≡ pos (a * (suc r * b)) *ℤ y +ℤ pos (suc j * a * b) *ℤ x
-    step a b j r x y =
+    weigh_numbers a b j r x y =
         let one : a * (suc r * b) ≡ a * b * suc r = omega arith in
         let two : suc j * a * b ≡ a * b * suc j = omega arith in
         let f : pos (a * b * suc r) *ℤ y ≡ pos (a * b) *ℤ (pos (suc r) *ℤ y) =
@@ -343,30 +331,30 @@ orders-below (suc n) =
 abbrev player_term : Number → ℕ → ℕ → ℕ → ℤ
 player_term h n i s = if has_player s i then pos 0 else term h (size_below n s) (lacks n s - 1) s
 
-pred : (r : ℕ) → suc r - 1 ≡ r
-pred r = omega arith
+pub suc_less_one : (r : ℕ) → suc r - 1 ≡ r
+suc_less_one r = omega arith
 
 last_step : (h : Number) (n s : ℕ) → s < 2 ^ n
     → place_term h n s ≡ player_term h (suc n) n s +ℤ player_term h (suc n) n (2 ^ n + s)
 last_step h n s lt =
     let a =
     term-at h (size_below (suc n) s) (size_below n s) (lacks (suc n) s - 1) (lacks n s) s
-    (size_below-without n s lt) (ap (λ (r : ℕ). r - 1) (lacks-without n s lt) ∙ pred (lacks n s)) in
-    step (has_player s n) (has_player (2 ^ n + s) n) _ _ _ (has_player-last n s lt) (has_player-upper n s lt) a
+    (size_below-without n s lt) (ap (λ (r : ℕ). r - 1) (lacks-without n s lt) ∙ suc_less_one (lacks n s)) in
+    one_of_two (has_player s n) (has_player (2 ^ n + s) n) _ _ _ (has_player-last n s lt) (has_player-upper n s lt) a
   where
-    step : (b c : Bool) (x y z : ℤ) → b ≡ false → c ≡ true → y ≡ x → x ≡ cond b (pos 0) y +ℤ cond c (pos 0) z
-    step b c x y z e f k = rw (e, f) (omega (arith, linear, k))
+    one_of_two : (b c : Bool) (x y z : ℤ) → b ≡ false → c ≡ true → y ≡ x → x ≡ cond b (pos 0) y +ℤ cond c (pos 0) z
+    one_of_two b c x y z e f k = rw (e, f) (omega (arith, linear, k))
 
 player_step : (h : Number) (n i s : ℕ) → i < n → s < 2 ^ n
     → player_term (with_one n h) n i s ≡ player_term h (suc n) i s +ℤ player_term h (suc n) i (2 ^ n + s)
 player_step h n i s below lt =
     let a =
     term-at h (size_below (suc n) s) (size_below n s) (lacks (suc n) s - 1) (lacks n s) s
-    (size_below-without n s lt) (ap (λ (r : ℕ). r - 1) (lacks-without n s lt) ∙ pred (lacks n s)) in
+    (size_below-without n s lt) (ap (λ (r : ℕ). r - 1) (lacks-without n s lt) ∙ suc_less_one (lacks n s)) in
     let b =
     term-at h (size_below (suc n) (2 ^ n + s)) (suc (size_below n s)) (lacks (suc n) (2 ^ n + s) - 1)
     (lacks n s - 1) (2 ^ n + s) (size_below-with n s lt) (ap (λ (r : ℕ). r - 1) (lacks-with n s lt)) in
-    step (has_player s i) (has_player (2 ^ n + s) i) _ _ _ _ _ (has_player-lower n s i below) a b
+    either_alike (has_player s i) (has_player (2 ^ n + s) i) _ _ _ _ _ (has_player-lower n s i below) a b
     (λ e. here (lacks n s) (lacks-some n s i below e))
   where
     here : (r : ℕ) → 1 ≤ r
@@ -374,15 +362,16 @@ player_step h n i s below lt =
         ≡ term h (size_below n s) r s +ℤ term h (suc (size_below n s)) (r - 1) (2 ^ n + s)
     here zero some = absurd (omega arith)
     here (suc r) some =
-        let a = term-at (with_one n h) (size_below n s) (size_below n s) (suc r - 1) r s refl (pred r) in
-        let b = term-at h (suc (size_below n s)) (suc (size_below n s)) (suc r - 1) r (2 ^ n + s) refl (pred r) in
+        let a = term-at (with_one n h) (size_below n s) (size_below n s) (suc r - 1) r s refl (suc_less_one r) in
+        let b =
+        term-at h (suc (size_below n s)) (suc (size_below n s)) (suc r - 1) r (2 ^ n + s) refl (suc_less_one r) in
         let c = weigh n h (size_below n s) r s in
         omega (arith, linear, a, b, c)
 
-    step : (b c : Bool) (x y z u w : ℤ) → c ≡ b → y ≡ u → z ≡ w → (b ≡ false → x ≡ u +ℤ w)
+    either_alike : (b c : Bool) (x y z u w : ℤ) → c ≡ b → y ≡ u → z ≡ w → (b ≡ false → x ≡ u +ℤ w)
         → cond b (pos 0) x ≡ cond b (pos 0) y +ℤ cond c (pos 0) z
-    step true c x y z u w e f g k = rw e refl
-    step false c x y z u w e f g k = rw e (omega (arith, linear, f, g, k refl))
+    either_alike true c x y z u w e f g k = rw e refl
+    either_alike false c x y z u w e f g k = rw e (omega (arith, linear, f, g, k refl))
 
 pub player_total : (n i : ℕ) (h : Number) → i < n
     → total (at_player h i) (orders n) ≡ sum_below (2 ^ n) (player_term h n i)
@@ -399,9 +388,6 @@ player_total (suc n) i h lt = elim (less_or_last i n lt) [
   | inr same ↦ rw same (itself n h)
 ]
   where
-    other : (n p : ℕ) → p < n → nat_eq p n ≡ false
-    other n p k = nat_eq-other p n (λ same. omega arith)
-
     itself : (n : ℕ) (h : Number)
         → total (at_player h n) (orders (suc n)) ≡ sum_below (2 ^ suc n) (player_term h (suc n) n)
     itself n h =
@@ -409,7 +395,8 @@ player_total (suc n) i h lt = elim (less_or_last i n lt) [
         ∙ total-same (λ o. total (at_player h n) (insertions n o)) (at_places h) (orders n)
         (all_weaken (AllByRecursion (λ p. p < n)) (λ o. total (at_player h n) (insertions n o) ≡ at_places h o)
         (orders n)
-        (λ o all. insert_self n h o (all_weaken (λ p. p < n) (λ p. nat_eq p n ≡ false) o (other n) all))
+        (λ o all. insert_self n h o
+        (all_weaken (λ p. p < n) (λ p. nat_eq p n ≡ false) o (λ p k. nat_eq-less p n k) all))
         (orders-below n))
         ∙ places_total n h
         ∙ sum_below-same (2 ^ n) (place_term h n)
@@ -424,14 +411,10 @@ marginal v i b j r c = v (b + c + 2 ^ i) -ℤ v (b + c)
 marginal-at : (v : ℕ → ℤ) (i b : ℕ) (o : List ℕ) → marginal_worth v i b o ≡ at_player (marginal v i b) i o
 marginal-at v i b [] = refl
 marginal-at v i b (p ∷ ps) =
-    either (nat_eq p i) _ _ _ _ (here b)
+    same_either (nat_eq p i) _ _ _ _ (here b)
     (marginal-at v i (b + 2 ^ p) ps
     ∙ at_player-same (marginal v i (b + 2 ^ p)) (behind p (marginal v i b)) i ps (λ j r c. there c))
   where
-    either : (b : Bool) (x y z w : ℤ) → x ≡ y → z ≡ w → cond b x z ≡ cond b y w
-    either true x y z w d f = d
-    either false x y z w d f = f
-
     here : (b : ℕ) → v (b + 2 ^ i) -ℤ v b ≡ v (b + 0 + 2 ^ i) -ℤ v (b + 0)
     here b = let e : b ≡ b + 0 = omega arith in ap (λ (k : ℕ). v (k + 2 ^ i) -ℤ v k) e
 

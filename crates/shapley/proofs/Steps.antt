@@ -1,5 +1,5 @@
 -- The steps of the costs, and the common denominator.
-use Rattle.std.proofs.Common.{◌≡◌, ℕ, zero, suc, ◌+◌, ◌-◌, ◌*◌, ◌/◌, ◌<◌, ◌≤◌, Bool, true, false, cond, ◌&&◌}
+use Rattle.std.proofs.Common.{◌≡◌, ℕ, zero, suc, ◌+◌, ◌-◌, ◌*◌, ◌/◌, ◌<◌, ◌≤◌, Bool, true, false, cond}
 use Rattle.std.proofs.Common.{List, length, ℤ, pos, ◌+ℤ◌, ◌*ℤ◌, neg_ℤ, refl, sym, ap, ◌∙◌, inl, inr, arith}
 use Rattle.std.proofs.Common.{nat_eq, nat_lt, slice_index, mul-le-mul, div-le_self, [], ◌∷◌, ◌++◌, get_or}
 use Rattle.std.proofs.Common.{◌^◌, unsigned_abs, to_z, of_z, length-append}
@@ -7,10 +7,11 @@ use Rattle.std.proofs.lemmas.Bool.Decides.{nat_tests}
 use Rattle.std.proofs.lemmas.List.{get_or_append_left, get_or_push}
 use Rattle.std.proofs.Math.Nat.{le_refl}
 use mir.Syntax.{w128}
-use Rattle.definitions.proofs.Cases.{less_or_last, from_nat_eq, nat_lt-less, and_left, and_right}
+use Rattle.definitions.proofs.Cases.{less_or_last, from_nat_eq, nat_lt-less}
 use Rattle.definitions.proofs.Casts.{cast_kept}
-use Rattle.definitions.proofs.Ring.{linear, add-mulℤ, zero-mulℤ, one-mulℤ}
+use Rattle.definitions.proofs.Ring.{linear, zero-mulℤ, suc-mulℤ}
 use Rattle.definitions.proofs.Members.{sum_below-same, sum_below-split}
+use Rattle.definitions.proofs.Splits.{passes_below-at}
 use Rattle.definitions.specs.Sums.{sum_below}
 use Rattle.definitions.specs.Shapley.{factorial, shapley_total}
 use Rattle.shapley.specs.Layers.{common, above, count, unit_share, units_below}
@@ -19,21 +20,21 @@ use Rattle.shapley.proofs.Airport.{game_of_costs, airport-shares}
 count-some : (m : ℕ → Bool) (n i : ℕ) → i < n → m i ≡ true → 1 ≤ count m n
 count-some m zero i lt e = absurd (omega arith)
 count-some m (suc n) i lt e = elim (less_or_last i n lt) [
-  | inl less ↦ step (m n) (count m n) (count-some m n i less e)
+  | inl less ↦ some_either (m n) (count m n) (count-some m n i less e)
   | inr same ↦ rw (ap m (sym same) ∙ e) (omega arith)
 ]
   where
-    step : (b : Bool) (k : ℕ) → 1 ≤ k → 1 ≤ cond b (suc k) k
-    step true k h = omega arith
-    step false k h = h
+    some_either : (b : Bool) (k : ℕ) → 1 ≤ k → 1 ≤ cond b (suc k) k
+    some_either true k h = omega arith
+    some_either false k h = h
 
 count-few : (m : ℕ → Bool) (n : ℕ) → count m n ≤ n
 count-few m zero = omega arith
-count-few m (suc n) = step (m n) (count m n) (count-few m n)
+count-few m (suc n) = few_either (m n) (count m n) (count-few m n)
   where
-    step : (b : Bool) (k : ℕ) → k ≤ n → cond b (suc k) k ≤ suc n
-    step true k h = omega arith
-    step false k h = omega arith
+    few_either : (b : Bool) (k : ℕ) → k ≤ n → cond b (suc k) k ≤ suc n
+    few_either true k h = omega arith
+    few_either false k h = omega arith
 
 count-same : (m k : ℕ → Bool) (n : ℕ) → ((j : ℕ) → j < n → m j ≡ k j) → count m n ≡ count k n
 count-same m k zero h = refl
@@ -49,9 +50,7 @@ some_above costs i u lt h =
 
 sum_below-constant : (n : ℕ) (c : ℤ) → sum_below n (λ u. c) ≡ pos n *ℤ c
 sum_below-constant zero c = sym (zero-mulℤ c)
-sum_below-constant (suc n) c =
-    let one : pos (suc n) ≡ pos n +ℤ pos 1 = omega (arith, linear) in
-    rw one (omega (arith, linear, sum_below-constant n c, add-mulℤ (pos n) (pos 1) c, one-mulℤ c))
+sum_below-constant (suc n) c = omega (arith, linear, sum_below-constant n c, suc-mulℤ n c)
 
 -- between a cost and the next one the same players are above
 pub units_more : (costs : List ℕ) (l from next : ℕ) → from ≤ next
@@ -63,7 +62,7 @@ units_more costs l from next le upto =
     ap (λ (k : ℕ). sum_below k (unit_share costs l)) whole
     ∙ sum_below-split from (next - from) (unit_share costs l)
     ∙ ap (λ z. units_below costs l from +ℤ z)
-    (sum_below-same (next - from) (λ u. unit_share costs l (from + u)) (λ u. unit_share costs l from) same
+    (sum_below-same (next - from) (λ u. unit_share costs l (from + u)) (λ u. unit_share costs l from) same_share
     ∙ sum_below-constant (next - from) (unit_share costs l from))
   where
     whole : next ≡ from + (next - from)
@@ -72,8 +71,8 @@ units_more costs l from next le upto =
     test : (u c : ℕ) → u < next - from → (from < c → next ≤ c) → nat_lt (from + u) c ≡ nat_lt from c
     test u c h k = grind (arith, nat_tests)
 
-    same : (u : ℕ) → u < next - from → unit_share costs l (from + u) ≡ unit_share costs l from
-    same u h =
+    same_share : (u : ℕ) → u < next - from → unit_share costs l (from + u) ≡ unit_share costs l from
+    same_share u h =
         ap (λ (k : ℕ). pos (l / k))
         (count-same (above (slice_index costs) (from + u)) (above (slice_index costs) from) (length costs)
         (λ j lt. test u (slice_index costs j) h (upto j lt)))
@@ -82,26 +81,15 @@ pub step_small : (sum from next l q r : ℕ) → from ≤ next → sum ≤ from 
     → sum + r ≤ next * l
 step_small sum from next l q r le h e k =
     let whole : next ≡ from + (next - from) = omega arith in
-    step (next - from) whole e
+    sum_within (next - from) whole e
   where
-    step : (d : ℕ) → next ≡ from + d → r ≡ d * q → sum + r ≤ next * l
-    step d w e =
+    sum_within : (d : ℕ) → next ≡ from + d → r ≡ d * q → sum + r ≤ next * l
+    sum_within d w e =
         let m : d * q ≤ d * l = mul-le-mul (le_refl d) k in
         let f : next * l ≡ from * l + d * l = ap (λ (z : ℕ). z * l) w ∙ omega arith in
         omega (arith, m, f, h, e)
 
 -- ---- the common denominator
-
-abbrev passes_below : ℕ → (ℕ → Bool) → Bool
-passes_below zero test = true
-passes_below (suc n) test = passes_below n test && test n
-
-passes_below-at : (n : ℕ) (test : ℕ → Bool) → passes_below n test ≡ true → (t : ℕ) → t < n → test t ≡ true
-passes_below-at zero test h t lt = absurd (omega arith)
-passes_below-at (suc n) test h t lt = elim (less_or_last t n lt) [
-  | inl less ↦ passes_below-at n test (and_left (passes_below n test) (test n) h) t less
-  | inr same ↦ ap test same ∙ and_right (passes_below n test) (test n) h
-]
 
 abbrev divides_common : ℕ → Bool
 divides_common k = nat_eq (suc k * (common / suc k)) common
@@ -116,11 +104,11 @@ pub common_shares : (costs : List ℕ) (i : ℕ) → length costs ≤ 32 → i <
 common_shares costs i few lt =
     airport-shares costs i common lt
     (λ u h. common-divided (count (above (slice_index costs) u) (length costs)) (some_above costs i u lt h)
-    (small (count (above (slice_index costs) u) (length costs))
+    (at_most_32 (count (above (slice_index costs) u) (length costs))
     (count-few (above (slice_index costs) u) (length costs))))
   where
-    small : (k : ℕ) → k ≤ length costs → k ≤ 32
-    small k h = omega arith
+    at_most_32 : (k : ℕ) → k ≤ length costs → k ≤ 32
+    at_most_32 k h = omega arith
 
 pub share_small : (k : ℕ) → common / k ≤ common
 share_small k = div-le_self common k

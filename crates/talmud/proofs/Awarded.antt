@@ -19,7 +19,7 @@ use Rattle.orders.specs.Ordered.{OrderedNumbers, IsOrdered, place, number_at}
 use Rattle.talmud.specs.Division.{claim_sum, divided, IsDivision, award}
 use Rattle.talmud.proofs.Cuts.{length-cut, claim_sum-cut}
 use Rattle.talmud.proofs.ByPlace.{IsRule}
-use Rattle.definitions.proofs.Cases.{below_or_above}
+use Rattle.definitions.proofs.Cases.{below_or_above, int_min-left, int_min-right}
 
 -- ---- the awards, as shares
 
@@ -82,7 +82,7 @@ IsRule-division estate claims c gain m h t x o e d a = record {
       let b = at_half j lt in
       let u = award_at j (inside j lt) in let v = scaled j in omega (arith, linear, b.0, b.1, u, v);
   under = λ j lt. rw (award_at j (inside j lt), (at_half j lt).0)
-      (up (subst (λ (k : ℕ). k * h ≤ t) (at j) (d.half j lt)));
+      (let least = subst (λ (k : ℕ). k * h ≤ t) (at j) (d.half j lt) in omega (arith, ints, least));
   rest = λ j low high. (at_rest j low high).0;
   over = λ j low high. (at_rest j low high).1;
   little = λ g. rw sums at (d.side.little g);
@@ -100,9 +100,6 @@ IsRule-division estate claims c gain m h t x o e d a = record {
 
     sums : claim_sum c ≡ cut_sum estate claims
     sums = claim_sum-cut estate claims c.numbers e
-
-    up : {a b : ℕ} → a ≤ b → pos a ≤ℤ pos b
-    up h = omega (arith, ints)
 
     at : (j : ℕ) → number_at c j ≡ cut estate claims (place c j)
     at j = ap (λ (ds : List ℕ). get_or ds (place c j) 0) e
@@ -172,30 +169,16 @@ IsRule-division estate claims c gain m h t x o e d a = record {
 -- ---- the rule by player
 
 side-is : (gain : Bool) (a b : ℤ) → (gain ≡ true → a ≤ℤ b) → (gain ≡ false → b <ℤ a) → gain ≡ int_le a b
-side-is true a b le more = sym (step (int_le a b) refl (le refl))
+side-is true a b le more = sym (int_le_yes (int_le a b) refl (le refl))
   where
-    step : (t : Bool) → int_le a b ≡ t → a ≤ℤ b → int_le a b ≡ true
-    step true e h = e
-    step false e h = absurd (omega (arith, ints))
-side-is false a b le more = sym (step (int_le a b) refl (more refl))
+    int_le_yes : (t : Bool) → int_le a b ≡ t → a ≤ℤ b → int_le a b ≡ true
+    int_le_yes true e h = e
+    int_le_yes false e h = absurd (omega (arith, ints))
+side-is false a b le more = sym (int_le_no (int_le a b) refl (more refl))
   where
-    step : (t : Bool) → int_le a b ≡ t → b <ℤ a → int_le a b ≡ false
-    step true e h = absurd (omega (arith, ints))
-    step false e h = e
-
-least-left : (a b : ℤ) → a ≤ℤ b → int_min a b ≡ a
-least-left a b h = step (int_lt b a) refl
-  where
-    step : (t : Bool) → int_lt b a ≡ t → cond t b a ≡ a
-    step true e = absurd (omega (arith, ints))
-    step false e = refl
-
-least-right : (a b : ℤ) → b <ℤ a → int_min a b ≡ b
-least-right a b h = step (int_lt b a) refl
-  where
-    step : (t : Bool) → int_lt b a ≡ t → cond t b a ≡ b
-    step true e = refl
-    step false e = absurd (omega (arith, ints))
+    int_le_no : (t : Bool) → int_le a b ≡ t → b <ℤ a → int_le a b ≡ false
+    int_le_no true e h = absurd (omega (arith, ints))
+    int_le_no false e h = e
 
 pub little-is : (estate : ℕ) (claims : List ℕ) (at : ℕ → ℕ) (m : ℕ) (gain : Bool) (t : ℤ) (x : Allocation)
     → IsRule estate claims at m gain t x → gain ≡ is_little estate claims
@@ -206,19 +189,19 @@ little-is estate claims at m gain t x r =
 half_part : (g : Bool) (y z w t : ℤ) → y ≡ z → z ≡ w -ℤ y → y ≤ℤ t → cond g y z +ℤ cond g y z ≡ int_min w (t +ℤ t)
 half_part true y z w t e f h =
     (let s : y +ℤ y ≡ w = omega (arith, linear, e, f) in
-    s ∙ sym (least-left w (t +ℤ t) (omega (arith, linear, s, h))))
+    s ∙ sym (int_min-left w (t +ℤ t) (omega (arith, linear, s, h))))
 half_part false y z w t e f h =
     (let s : z +ℤ z ≡ w = omega (arith, linear, e, f) in
-    s ∙ sym (least-left w (t +ℤ t) (omega (arith, linear, s, e, h))))
+    s ∙ sym (int_min-left w (t +ℤ t) (omega (arith, linear, s, e, h))))
 
 rest_part : (g : Bool) (y z w t : ℤ) → cond g y z ≡ t → t <ℤ cond g z y → z ≡ w -ℤ y
     → cond g y z +ℤ cond g y z ≡ int_min w (t +ℤ t)
 rest_part true y z w t e o f =
     (let s : y +ℤ y ≡ t +ℤ t = omega (arith, linear, e) in
-    s ∙ sym (least-right w (t +ℤ t) (omega (arith, linear, e, o, f))))
+    s ∙ sym (int_min-right w (t +ℤ t) (omega (arith, linear, e, o, f))))
 rest_part false y z w t e o f =
     (let s : z +ℤ z ≡ t +ℤ t = omega (arith, linear, e) in
-    s ∙ sym (least-right w (t +ℤ t) (omega (arith, linear, e, o, f))))
+    s ∙ sym (int_min-right w (t +ℤ t) (omega (arith, linear, e, o, f))))
 
 pub IsTalmud-rule : (estate : ℕ) (claims : List ℕ) (at : ℕ → ℕ) (m : ℕ) (gain : Bool) (t : ℤ) (x : Allocation)
     → IsRule estate claims at m gain t x → IsTalmud estate claims x

@@ -1,6 +1,6 @@
 -- The list of the claims, cut to the estate.
 use Rattle.std.proofs.Common.{◌≡◌, ℕ, ◌^◌, ◌<◌, ◌≤◌, List, length, get_or, min, pos}
-use Rattle.std.proofs.Common.{◌≤ℤ◌, sym, ap, subst, ◌∙◌, inl, inr, arith}
+use Rattle.std.proofs.Common.{◌≤ℤ◌, sym, ap, subst, ◌∙◌, inl, inr, arith, sum}
 use Rattle.std.specs.List.{All}
 use Rattle.std.proofs.lemmas.List.{length-map, get_or-map}
 use Rattle.std.proofs.lemmas.Int.{ints}
@@ -50,9 +50,9 @@ cut-enough b h cuts e =
     let total = sum-sum_below b.claims in
     let same = claim_sum-cut b.estate b.claims cuts e in
     elim covers.2 [
-      | inl equal ↦ let enough = up h.enough in omega (arith, linear, same, cut_all, equal, all, total, enough)
+      | inl equal ↦
+          let natural = h.enough in
+          let enough : pos b.estate ≤ℤ pos (sum b.claims) = omega (arith, ints, natural) in
+          omega (arith, linear, same, cut_all, equal, all, total, enough)
       | inr more ↦ omega (arith, linear, same, cut_all, more)
     ]
-  where
-    up : {a b : ℕ} → a ≤ b → pos a ≤ℤ pos b
-    up h = omega (arith, ints)

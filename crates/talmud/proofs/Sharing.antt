@@ -3,8 +3,9 @@ use Rattle.std.proofs.Common.{◌≡◌, ◌⊎◌, ℕ, zero, suc, ◌+◌, ◌
 use Rattle.std.proofs.Common.{min, ℤ, pos, ◌+ℤ◌, ◌*ℤ◌, ◌≤ℤ◌, refl, sym, ap, ◌∙◌, inl, inr, arith, add-one, subst}
 use Rattle.std.proofs.lemmas.Int.{ints}
 use Rattle.std.proofs.Math.Nat.{mul-le-mul, le_refl}
-use Rattle.definitions.proofs.Ring.{linear, mul-addℤ, mul-zeroℤ, add-mulℤ, one-mulℤ}
+use Rattle.definitions.proofs.Ring.{linear, mul-addℤ, mul-zeroℤ, add-mulℤ, one-mulℤ, suc-mulℤ}
 use Rattle.definitions.proofs.Members.{sum_over-grand_coalition, sum_below-same, sum_below-split}
+use Rattle.definitions.proofs.Cases.{less_or_last_of}
 use Rattle.definitions.specs.Sums.{sum_below}
 use Rattle.definitions.specs.Coalitions.{sum_over}
 use Rattle.orders.specs.Orders.{IsOrder}
@@ -21,12 +22,9 @@ IsSplit-more n c double m left rising lt le s = record {
   sum = sum_more;
   most = (let most = s.most in omega arith);
   under =
-      λ j h. at j (elim (last_or_less j h) [ inl less ↦ rising j m less lt | inr same ↦ rw same (omega arith) ]);
+      λ j h. at j (elim (less_or_last_of j m h) [ inl less ↦ rising j m less lt | inr same ↦ rw same (omega arith) ]);
 }
   where
-    last_or_less : (j : ℕ) → j < m + 1 → (j < m) ⊎ (j ≡ m)
-    last_or_less j h = grind arith
-
     behind : n - m ≡ suc (n - (m + 1))
     behind = omega arith
 
@@ -63,10 +61,7 @@ sum-constant : (r : ℕ) (t : ℤ) (g : ℕ → ℤ) → ((j : ℕ) → j < r �
 sum-constant zero t g e = omega (arith, ints)
 sum-constant (suc r) t g e =
     let ih = sum-constant r t g (λ j lt. e j (omega arith)) in
-    let p : pos (suc r) ≡ pos r +ℤ pos 1 = omega (arith, ints) in
-    let q = ap (λ (z : ℤ). z *ℤ t) p ∙ add-mulℤ (pos r) (pos 1) t in
-    let one : pos 1 *ℤ t ≡ t = one-mulℤ t in
-    omega (arith, linear, ih, e r (omega arith), q, one)
+    omega (arith, linear, ih, e r (omega arith), suc-mulℤ r t)
 
 -- by place or by player
 sum-places : (n : ℕ) (cost at : ℕ → ℕ) → IsOrder n cost at → (f : ℕ → ℤ)

@@ -16,6 +16,7 @@ use Rattle.definitions.specs.Classes.{bankruptcy_worth}
 use Rattle.orders.proofs.ListSums.{number_of}
 use Rattle.talmud.specs.Rule.{cut, loss}
 use Rattle.definitions.proofs.Cases.{int_max-cases, same_or_other}
+use Rattle.definitions.proofs.SumsOver.{sum_over-empty}
 
 -- ---- the cut
 
@@ -44,21 +45,21 @@ cut-covers estate claims zero s = (omega (arith, ints), omega (arith, ints), inl
 cut-covers estate claims (suc n) s =
     let ih = cut-covers estate claims n s in
     rw (cut-is estate claims n)
-    (step (has_player s n) (sum_over n (cut_claim estate claims) s) (sum_over n (number_of claims) s)
+    (covers_either (has_player s n) (sum_over n (cut_claim estate claims) s) (sum_over n (number_of claims) s)
     (get_or claims n 0) ih.0 ih.1 ih.2)
   where
     cases : (c : ℕ) → (c ≤ estate) ⊎ (estate < c)
     cases c = grind arith
 
-    step : (b : Bool) (u v : ℤ) (c : ℕ) → u ≤ℤ v → pos 0 ≤ℤ u → (u ≡ v) ⊎ (pos estate ≤ℤ u)
+    covers_either : (b : Bool) (u v : ℤ) (c : ℕ) → u ≤ℤ v → pos 0 ≤ℤ u → (u ≡ v) ⊎ (pos estate ≤ℤ u)
         → ((u +ℤ cond b (pos (min c estate)) (pos 0)) ≤ℤ (v +ℤ cond b (pos c) (pos 0)))
         × (pos 0 ≤ℤ (u +ℤ cond b (pos (min c estate)) (pos 0)))
         × ((u +ℤ cond b (pos (min c estate)) (pos 0) ≡ v +ℤ cond b (pos c) (pos 0))
         ⊎ (pos estate ≤ℤ (u +ℤ cond b (pos (min c estate)) (pos 0))))
-    step false u v c le low (inl e) = (omega (arith, ints), omega (arith, ints), inl (omega (arith, ints)))
-    step false u v c le low (inr e) = (omega (arith, ints), omega (arith, ints), inr (omega (arith, ints)))
-    step true u v c le low (inr e) = (omega (arith, ints), omega (arith, ints), inr (omega (arith, ints)))
-    step true u v c le low (inl e) = (
+    covers_either false u v c le low (inl e) = (omega (arith, ints), omega (arith, ints), inl (omega (arith, ints)))
+    covers_either false u v c le low (inr e) = (omega (arith, ints), omega (arith, ints), inr (omega (arith, ints)))
+    covers_either true u v c le low (inr e) = (omega (arith, ints), omega (arith, ints), inr (omega (arith, ints)))
+    covers_either true u v c le low (inl e) = (
       omega (arith, ints),
       omega (arith, ints),
       elim (cases c) [ inl small ↦ inl (omega (arith, ints)) | inr large ↦ inr (omega (arith, ints)) ],
@@ -72,13 +73,13 @@ pub worth-cut : (estate : ℕ) (claims : List ℕ) (s : ℕ)
 worth-cut estate claims s =
     let t = grand_coalition (length claims) - s in
     let c = cut-covers estate claims (length claims) t in
-    same (sum_over (length claims) (cut_claim estate claims) t) (sum_over (length claims) (number_of claims) t) c.0
+    same_left (sum_over (length claims) (cut_claim estate claims) t) (sum_over (length claims) (number_of claims) t) c.0
     c.2
   where
-    same : (u v : ℤ) → u ≤ℤ v → (u ≡ v) ⊎ (pos estate ≤ℤ u)
+    same_left : (u v : ℤ) → u ≤ℤ v → (u ≡ v) ⊎ (pos estate ≤ℤ u)
         → int_max (pos 0) (pos estate -ℤ v) ≡ int_max (pos 0) (pos estate -ℤ u)
-    same u v le (inl e) = ap (λ (z : ℤ). int_max (pos 0) (pos estate -ℤ z)) (sym e)
-    same u v le (inr e) = elim (int_max-cases (pos 0) (pos estate -ℤ v)) [
+    same_left u v le (inl e) = ap (λ (z : ℤ). int_max (pos 0) (pos estate -ℤ z)) (sym e)
+    same_left u v le (inr e) = elim (int_max-cases (pos 0) (pos estate -ℤ v)) [
       | inl a ↦ elim (int_max-cases (pos 0) (pos estate -ℤ u))
           [ inl b ↦ a.0 ∙ sym b.0 | inr b ↦ omega (arith, ints, a.0, b.0, b.1) ]
       | inr a ↦ elim (int_max-cases (pos 0) (pos estate -ℤ u))
@@ -245,13 +246,9 @@ worth-grand_coalition estate claims =
     let n = length claims in
     let nobody : grand_coalition n - grand_coalition n ≡ 0 = omega arith in
     let none : sum_over n (number_of claims) (grand_coalition n - grand_coalition n) ≡ pos 0 =
-    ap (sum_over n (number_of claims)) nobody ∙ sum_over-nobody n (number_of claims) in
+    ap (sum_over n (number_of claims)) nobody ∙ sum_over-empty n (number_of claims) in
     elim
     (int_max-cases (pos 0) (pos estate -ℤ sum_over n (number_of claims) (grand_coalition n - grand_coalition n))) [
       | inl a ↦ omega (arith, ints, none, a.0, a.1)
       | inr a ↦ omega (arith, ints, none, a.0)
     ]
-  where
-    sum_over-nobody : (n : ℕ) (f : ℕ → ℤ) → sum_over n f 0 ≡ pos 0
-    sum_over-nobody zero f = refl
-    sum_over-nobody (suc n) f = let ih = sum_over-nobody n f in rw (has_player-empty n) (omega (arith, linear, ih))

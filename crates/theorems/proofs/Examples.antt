@@ -1,6 +1,6 @@
 -- The definitions, computed on small games.
 use Rattle.std.proofs.Common.{◌≤◌, ◌≡◌, ℕ, zero, suc, ◌<◌, Bool, true, false, List, [], ◌∷◌, ℤ, pos}
-use Rattle.std.proofs.Common.{negsuc, ◌+ℤ◌, ◌≤ℤ◌, refl, arith, inl, inr, rules, ◌&&◌, sym, ap, ◌∙◌}
+use Rattle.std.proofs.Common.{negsuc, ◌+ℤ◌, ◌≤ℤ◌, refl, arith, inl, rules, sym, ◌∙◌}
 use Rattle.std.proofs.Common.{slice_index, slice_index_or, int_le, int_lt, not, ◌||◌, ◌*ℤ◌}
 use Rattle.std.proofs.lemmas.Bool.{false≢true}
 use Rattle.std.proofs.lemmas.Int.{ints}
@@ -18,7 +18,8 @@ use Rattle.definitions.specs.Balanced.{IsBalancedOfExcessWorth}
 use Rattle.definitions.specs.Classes.{table_worth, airport_worth, bankruptcy_worth}
 use Rattle.definitions.specs.Classes.{plan_cost, Matrix, IsMatching, matching_value}
 use Rattle.definitions.specs.Shapley.{shapley_total}
-use Rattle.definitions.proofs.Cases.{less_or_last, from_not}
+use Rattle.definitions.proofs.Cases.{from_not}
+use Rattle.definitions.proofs.Splits.{passes_below-at}
 
 -- ---- three players, of whom any two are worth 1
 
@@ -104,25 +105,6 @@ bankrupt : bankruptcy_worth 400 (100 ∷ (200 ∷ (300 ∷ []))) 6 ≡ pos 300
 bankrupt = refl
 
 -- ---- the chosen blocker of majority, by a test of each coalition
-
--- a test passes at each number below n
-abbrev pub passes_below : ℕ → (ℕ → Bool) → Bool
-passes_below zero test = true
-passes_below (suc n) test = passes_below n test && test n
-
-pub passes_below-at : (n : ℕ) (test : ℕ → Bool) → passes_below n test ≡ true → (t : ℕ) → t < n → test t ≡ true
-passes_below-at zero test h t lt = absurd (omega arith)
-passes_below-at (suc n) test h t lt =
-    let step : (b c : Bool) → b ≡ passes_below n test → c ≡ test n → (b && c) ≡ true → test t ≡ true = elim [
-      | true ↦ elim [
-        | true ↦
-            λ p q e. elim (less_or_last t n lt)
-            [ inl less ↦ passes_below-at n test (sym p) t less | inr same ↦ ap test same ∙ sym q ]
-        | false ↦ λ p q e. absurd (false≢true e)
-      ]
-      | false ↦ λ c p q e. absurd (false≢true e)
-    ] in
-    step (passes_below n test) (test n) refl refl h
 
 chosen : IsChosenBlocker majority first_takes_all 6
 chosen = record {

@@ -1,7 +1,6 @@
 pub mod SortedLemmas
 pub mod Settled
 pub mod Soundness
-pub mod SomeMembers
 pub mod OneWay
 pub mod Moves
 pub mod Transfers

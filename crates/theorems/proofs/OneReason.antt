@@ -2,8 +2,8 @@
 use Rattle.std.proofs.Common.{◌≡◌, ◌⊎◌, ℕ, ◌+◌, ◌^◌, ◌<◌, List, [], ◌∷◌, ◌++◌, ℤ, pos}
 use Rattle.std.proofs.Common.{◌*ℤ◌, ◌≤ℤ◌, refl, sym, ap, ◌∙◌, inl, inr, arith}
 use Rattle.std.specs.List.{AllByRecursion}
-use Rattle.definitions.proofs.Ring.{linear}
 use Rattle.definitions.proofs.Families.{efficient_of, individual_of}
+use Rattle.definitions.proofs.Scans.{IsGreatest-unique}
 use Rattle.theorems.proofs.OneVerdict.{none_failing, level_fails_not}
 use Rattle.definitions.specs.Sums.{IsGreatest}
 use Rattle.definitions.specs.Coalitions.{singleton}
@@ -41,9 +41,6 @@ unfixed_same : (mode : Mode) (n : ℕ) (levels : List Level) (i j : ℕ) → IsL
     → IsLeastUnfixed mode n levels j → i ≡ j
 unfixed_same Players n levels i j f h = neither_below i j (λ lt. h.2 i lt f.1) (λ lt. f.2 j lt h.1)
 unfixed_same Span n levels i j f h = least_same n (λ i. InSpan n (IsFixedVector n levels) (singleton i)) i j f h
-
-greatest_same : (P : ℕ → Type 0) (f : ℕ → ℤ) (a b : ℤ) → IsGreatest P f a → IsGreatest P f b → a ≡ b
-greatest_same P f a b h k = omega (arith, linear, h.0.2, k.0.2, h.1 k.0.0 k.0.1, k.1 h.0.0 h.0.1)
 
 -- ---- the stages of the tests
 
@@ -132,7 +129,7 @@ level_same mode family measure g x k front l r s =
     (list_same (bound_not_tight k) (IsTight family g x) l.bounds r s
     (named_same (outside_above k)
     (IsGreatest (λ t. (t < 2 ^ g.players) × IsOutside mode g.players front t) (measured_excess measure g x)) r s
-    (greatest_same (λ t. (t < 2 ^ g.players) × IsOutside mode g.players front t) (measured_excess measure g x)))))))
+    (IsGreatest-unique (λ t. (t < 2 ^ g.players) × IsOutside mode g.players front t) (measured_excess measure g x)))))))
 
 -- ---- all levels
 

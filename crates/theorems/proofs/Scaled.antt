@@ -1,9 +1,9 @@
 -- A game over a scale and the game of its whole numbers: shares, excesses, families, the nucleolus and the core.
-use Rattle.std.proofs.Common.{◌≡◌, ℕ, Bool, true, false, cond, List, [], ◌∷◌, length, map, ℤ, pos, ◌-ℤ◌}
-use Rattle.std.proofs.Common.{◌*ℤ◌, ◌<ℤ◌, ◌≤ℤ◌, refl, sym, ap, ap₂, subst, ◌∙◌, inl, inr, arith}
+use Rattle.std.proofs.Common.{◌≡◌, ℕ, Bool, true, false, cond, List, length, map, ℤ, pos, ◌-ℤ◌}
+use Rattle.std.proofs.Common.{◌*ℤ◌, ◌<ℤ◌, ◌≤ℤ◌, sym, ap, subst, ◌∙◌, inl, inr, arith}
 use Rattle.std.proofs.lemmas.List.{get_or_past, get_or-map, length-map}
-use Rattle.definitions.proofs.Ring.{linear, ring_laws, mul-subℤ, mul_assocℤ, mul_left_commℤ, mul-leℤ}
-use Rattle.definitions.proofs.Ring.{mul-cancelℤ, mul-zeroℤ, one-mulℤ, mul-positiveℤ}
+use Rattle.definitions.proofs.Ring.{linear, mul-subℤ, mul_assocℤ, mul_left_commℤ, mul-leℤ}
+use Rattle.definitions.proofs.Ring.{mul-cancelℤ, mul-zeroℤ, one-mulℤ, mul-positiveℤ, mul_assoc_commℤ}
 use Rattle.definitions.proofs.Members.{sum_below-same, sum_below-times}
 use Rattle.theorems.proofs.ScaledLists.{order_kept, values_times}
 use Rattle.definitions.specs.Coalitions.{has_player, singleton, grand_coalition, proper_coalitions, sum_over}
@@ -20,6 +20,7 @@ use Rattle.definitions.specs.declared.Family.{Family}
 use Rattle.definitions.specs.declared.Family.TheVariants.{Imputations, Preimputations}
 use Rattle.definitions.specs.declared.Measure.{Measure}
 use Rattle.definitions.proofs.Cases.{below_or_above}
+use Rattle.definitions.proofs.Alls.{map_same}
 
 pub above_zero : (k : ℤ) → pos 1 ≤ℤ k → pos 0 <ℤ k
 above_zero k h = omega (arith, linear, h)
@@ -106,14 +107,10 @@ same_from k g x y p h = λ i lt.
 
 -- ---- the order of excesses
 
-pub map_alike : (f h : ℕ → ℤ) (ss : List ℕ) → ((s : ℕ) → f s ≡ h s) → map f ss ≡ map h ss
-map_alike f h [] e = refl
-map_alike f h (s ∷ ss) e = ap₂ (λ (z : ℤ) (zs : List ℤ). z ∷ zs) (e s) (map_alike f h ss e)
-
 lists_alike : (k : ℤ) (measure : Measure) (g : Game) (x : Allocation) (c : ℤ)
     → excess_list measure g (times k x) c ≡ excess_list_over k measure g x c
 lists_alike k measure g x c =
-    map_alike (λ s. c *ℤ measured_excess measure g (times k x) s) (λ s. c *ℤ measured_excess_over k measure g x s)
+    map_same (λ s. c *ℤ measured_excess measure g (times k x) s) (λ s. c *ℤ measured_excess_over k measure g x s)
     (proper_coalitions g.players) (λ s. ap (λ (z : ℤ). c *ℤ z) (measured_times k measure g x s))
 
 pub beats_to : (k : ℤ) (measure : Measure) (g : Game) (x y : Allocation) → BeatsOver k measure g x y
@@ -165,10 +162,8 @@ part_family k Preimputations g y p h = (
 )
 
 pub part_same : (k : ℤ) (g : Game) (x y : Allocation) → IsSame g x (part k y) → IsSame g (times k x) y
-part_same k g x y h = λ i lt. ap (λ (z : ℤ). z *ℤ y.den) (share_times k x i) ∙ moved k (share x i) y.den ∙ h i lt
-  where
-    moved : (k a d : ℤ) → (k *ℤ a) *ℤ d ≡ a *ℤ (k *ℤ d)
-    moved k a d = simp ring_laws
+part_same k g x y h = λ i lt.
+    ap (λ (z : ℤ). z *ℤ y.den) (share_times k x i) ∙ mul_assoc_commℤ k (share x i) y.den ∙ h i lt
 
 part_measured : (k : ℤ) (measure : Measure) (g : Game) (y : Allocation) (s : ℕ)
     → measured_excess_over k measure g (part k y) s ≡ k *ℤ measured_excess measure g y s

@@ -3,7 +3,7 @@ use Rattle.std.proofs.Common.{◌≡◌, ℕ, zero, suc, ◌-◌, Bool, IsTrue, 
 use Rattle.std.proofs.Common.{ℤ, pos, ◌*ℤ◌, ◌≤ℤ◌, refl, sym, ap, ap₂, subst, ◌∙◌, inl, inr, arith}
 use Rattle.std.specs.List.{list_any, AllByRecursion}
 use Rattle.std.specs.Prelude.{int_le}
-use Rattle.definitions.proofs.Ring.{linear, ring_laws, mul-leℤ, mul-le_cancelℤ, mul-cancelℤ}
+use Rattle.definitions.proofs.Ring.{linear, ring_laws, mul-leℤ, mul-le_cancelℤ, mul-cancelℤ, mul_assoc_commℤ}
 use Rattle.theorems.proofs.Scaled.{above_zero, share_times, measured_times, family_to, family_from}
 use Rattle.definitions.specs.Coalitions.{has_player, singleton, grand_coalition, some_below, splits}
 use Rattle.definitions.specs.Games.{Game, Allocation, measured_excess}
@@ -29,11 +29,11 @@ Alike [] (m ∷ ms) = ⊥
 Alike (l ∷ ls) [] = ⊥
 Alike (l ∷ ls) (m ∷ ms) = (m.coalitions ≡ l.coalitions) × (m.bounds ≡ l.bounds) × Alike ls ms
 
-turned : (ls ms : List Level) → Alike ls ms → Alike ms ls
-turned [] [] h = tt
-turned [] (m ∷ ms) h = absurd h
-turned (l ∷ ls) [] h = absurd h
-turned (l ∷ ls) (m ∷ ms) h = (sym h.0, sym h.1, turned ls ms h.2)
+Alike-turned : (ls ms : List Level) → Alike ls ms → Alike ms ls
+Alike-turned [] [] h = tt
+Alike-turned [] (m ∷ ms) h = absurd h
+Alike-turned (l ∷ ls) [] h = absurd h
+Alike-turned (l ∷ ls) (m ∷ ms) h = (sym h.0, sym h.1, Alike-turned ls ms h.2)
 
 joined : (ls ms : List Level) (l m : Level) → Alike ls ms → m.coalitions ≡ l.coalitions → m.bounds ≡ l.bounds
     → Alike (ls ++ l ∷ []) (ms ++ m ∷ [])
@@ -102,7 +102,7 @@ outside_alike : (mode : Mode) (n : ℕ) (ls ms : List Level) → Alike ls ms →
     → IsOutside mode n ms s
 outside_alike Players n ls ms h s o =
     subst IsTrue (splits_alike n (is_free n ls) (is_free n ms) s (free_alike n ls ms h)) o
-outside_alike Span n ls ms h s o = (o.0, o.1, λ k. o.2 (span_alike n ms ls (turned ls ms h) s k))
+outside_alike Span n ls ms h s o = (o.0, o.1, λ k. o.2 (span_alike n ms ls (Alike-turned ls ms h) s k))
 
 fixed_alike : (mode : Mode) (n : ℕ) (ls ms : List Level) → Alike ls ms → IsAllFixed mode n ls → IsAllFixed mode n ms
 fixed_alike Players n ls ms h a = λ i j li lj fi fj. a i j li lj (subst IsTrue (sym (free_alike n ls ms h i)) fi)
@@ -112,14 +112,9 @@ fixed_alike Span n ls ms h a = λ i lt. span_alike n ls ms h (singleton i) (a i 
 -- ---- the conditions of a level
 
 -- e/d is k times n/q, in both forms
-pub moved : (k e d n q m r : ℤ) → m *ℤ d ≡ k *ℤ n *ℤ r → r *ℤ ((k *ℤ n) *ℤ q) ≡ d *ℤ (m *ℤ q)
-moved k e d n q m r h = left r (k *ℤ n) q ∙ ap (λ (z : ℤ). z *ℤ q) (sym h) ∙ right m d q
-  where
-    left : (r a q : ℤ) → r *ℤ (a *ℤ q) ≡ (a *ℤ r) *ℤ q
-    left r a q = simp ring_laws
-
-    right : (m d q : ℤ) → (m *ℤ d) *ℤ q ≡ d *ℤ (m *ℤ q)
-    right m d q = simp ring_laws
+excess_sides : (k e d n q m r : ℤ) → m *ℤ d ≡ k *ℤ n *ℤ r → r *ℤ ((k *ℤ n) *ℤ q) ≡ d *ℤ (m *ℤ q)
+excess_sides k e d n q m r h =
+    sym (mul_assoc_commℤ (k *ℤ n) r q) ∙ ap (λ (z : ℤ). z *ℤ q) (sym h) ∙ mul_assoc_commℤ m d q
 
 swapped : (e d r : ℤ) → r *ℤ (e *ℤ d) ≡ d *ℤ (e *ℤ r)
 swapped e d r = simp ring_laws
@@ -134,7 +129,7 @@ excess_to k measure g x l m o s h =
     (ap (λ (z : ℤ). l.excess_den *ℤ (z *ℤ m.excess_den)) (measured_times k measure g x s)
     ∙ sym (swapped e l.excess_den m.excess_den)
     ∙ ap (λ (z : ℤ). m.excess_den *ℤ z) h
-    ∙ moved k e l.excess_den l.excess_num q m.excess_num m.excess_den o.excess)
+    ∙ excess_sides k e l.excess_den l.excess_num q m.excess_num m.excess_den o.excess)
 
 excess_from : (k : ℤ) (measure : Measure) (g : Game) (x : Allocation) (l m : Level) → IsLevelOver k l m → (s : ℕ)
     → HasExcess measure g (times k x) m s → HasExcessOver k measure g x l s
@@ -146,7 +141,7 @@ excess_from k measure g x l m o s h =
     (swapped e l.excess_den m.excess_den
     ∙ sym (ap (λ (z : ℤ). l.excess_den *ℤ (z *ℤ m.excess_den)) (measured_times k measure g x s))
     ∙ ap (λ (z : ℤ). l.excess_den *ℤ z) h
-    ∙ sym (moved k e l.excess_den l.excess_num q m.excess_num m.excess_den o.excess))
+    ∙ sym (excess_sides k e l.excess_den l.excess_num q m.excess_num m.excess_den o.excess))
 
 at_most_to : (k : ℤ) (measure : Measure) (g : Game) (x : Allocation) (l m : Level) → IsLevelOver k l m → (s : ℕ)
     → HasAtMostExcessOver k measure g x l s → HasAtMostExcess measure g (times k x) m s
@@ -165,7 +160,7 @@ at_most_to k measure g x l m o s h =
       le,
       same,
       swapped e l.excess_den m.excess_den,
-      moved k e l.excess_den l.excess_num q m.excess_num m.excess_den o.excess,
+      excess_sides k e l.excess_den l.excess_num q m.excess_num m.excess_den o.excess,
     ))
 
 at_most_from : (k : ℤ) (measure : Measure) (g : Game) (x : Allocation) (l m : Level) → IsLevelOver k l m → (s : ℕ)
@@ -185,7 +180,7 @@ at_most_from k measure g x l m o s h =
       le,
       same,
       swapped e l.excess_den m.excess_den,
-      moved k e l.excess_den l.excess_num q m.excess_num m.excess_den o.excess,
+      excess_sides k e l.excess_den l.excess_num q m.excess_num m.excess_den o.excess,
     ))
 
 tight_to : (k : ℤ) (f : Family) (g : Game) (x : Allocation) (b : ℕ × ℤ) → IsTightOver k f g x b
@@ -223,7 +218,7 @@ level_to k mode f measure g x ls ms l m a o h = record {
       subst (AllByRecursion (IsTight f g (times k x))) (sym o.bounds)
       (all_weaken (IsTightOver k f g x) (IsTight f g (times k x)) l.bounds (tight_to k f g x) h.tight);
   outside = λ s lt out. at_most_to k measure g x l m o s
-      (h.outside s lt (outside_alike mode g.players ms ls (turned ls ms a) s out));
+      (h.outside s lt (outside_alike mode g.players ms ls (Alike-turned ls ms a) s out));
 }
 
 level_from : (k : ℤ) (mode : Mode) (f : Family) (measure : Measure) (g : Game) (x : Allocation) (ls ms : List Level)
@@ -237,7 +232,8 @@ level_from k mode f measure g x ls ms l m a o h = record {
   weights = subst (AllByRecursion (λ c. pos 1 ≤ℤ c.1)) o.coalitions h.weights;
   bound_weights =
       subst (AllByRecursion (BoundWeighs ls)) o.bounds
-      (all_weaken (BoundWeighs ms) (BoundWeighs ls) m.bounds (weighs_alike ms ls (turned ls ms a)) h.bound_weights);
+      (all_weaken (BoundWeighs ms) (BoundWeighs ls) m.bounds (weighs_alike ms ls (Alike-turned ls ms a))
+      h.bound_weights);
   balanced = balanced_alike g m l (sym o.coalitions) (sym o.earlier) (sym o.bounds) (sym o.total) h.balanced;
   tight =
       subst (AllByRecursion (IsTightOver k f g x)) o.bounds
@@ -263,7 +259,7 @@ levels_to k mode f measure g x p q (l ∷ ls) (m ∷ ms) a o h = (
 levels_from : (k : ℤ) (mode : Mode) (f : Family) (measure : Measure) (g : Game) (x : Allocation)
     (fronts fronts' ls ms : List Level) → Alike fronts fronts' → AreLevelsOver k ls ms
     → LevelsHold mode f measure g (times k x) fronts' ms → LevelsHoldOver k mode f measure g x fronts ls
-levels_from k mode f measure g x p q [] [] a o h = fixed_alike mode g.players q p (turned p q a) h
+levels_from k mode f measure g x p q [] [] a o h = fixed_alike mode g.players q p (Alike-turned p q a) h
 levels_from k mode f measure g x p q [] (m ∷ ms) a o h = absurd o
 levels_from k mode f measure g x p q (l ∷ ls) [] a o h = absurd o
 levels_from k mode f measure g x p q (l ∷ ls) (m ∷ ms) a o h = (

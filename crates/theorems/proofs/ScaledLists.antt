@@ -1,9 +1,8 @@
 -- Lists of numbers times a number above 0: their order, and which comes first.
 use Rattle.std.proofs.Common.{◌≡◌, ℕ, Bool, true, false, cond, List, [], ◌∷◌, length, map, ℤ, pos, ◌*ℤ◌}
 use Rattle.std.proofs.Common.{◌<ℤ◌, int_lt, refl, sym, ap, ap₂, subst, ◌∙◌, inl, inr, arith}
-use Rattle.std.proofs.lemmas.Int.{by_lt_z}
 use Rattle.std.proofs.lemmas.List.{length-map}
-use Rattle.definitions.proofs.Ring.{linear, mul-leℤ, mul-ltℤ, mul-cancelℤ}
+use Rattle.definitions.proofs.Ring.{linear, mul-leℤ, mul-ltℤ, mul-cancelℤ, mul-lt_cancelℤ}
 use Rattle.definitions.specs.Order.{with_number, sorted, IsLesser, ComesBefore}
 use Rattle.definitions.proofs.Scans.{int_lt-true, int_lt-false}
 
@@ -13,26 +12,26 @@ times c xs = map (λ z. c *ℤ z) xs
 
 pub below_times : (c x y : ℤ) → pos 0 <ℤ c → int_lt (c *ℤ x) (c *ℤ y) ≡ int_lt x y
 below_times c x y p =
-    let step : (b : Bool) → int_lt x y ≡ b → int_lt (c *ℤ x) (c *ℤ y) ≡ b = elim [
+    let by_test : (b : Bool) → int_lt x y ≡ b → int_lt (c *ℤ x) (c *ℤ y) ≡ b = elim [
       | true ↦ λ e. int_lt-true (c *ℤ x) (c *ℤ y) (mul-ltℤ c x y p (omega (arith, linear, e)))
       | false ↦
           λ e. int_lt-false (c *ℤ x) (c *ℤ y) (mul-leℤ c y x (omega (arith, linear, p)) (omega (arith, linear, e)))
     ] in
-    step (int_lt x y) refl
+    by_test (int_lt x y) refl
 
 pub with_number-times : (c f : ℤ) (xs : List ℤ) → pos 0 <ℤ c
     → with_number (c *ℤ f) (times c xs) ≡ times c (with_number f xs)
 with_number-times c f [] p = refl
 with_number-times c f (x ∷ xs) p =
     let ih = with_number-times c f xs p in
-    let step : (b : Bool)
+    let by_test : (b : Bool)
     → cond b ((c *ℤ f) ∷ ((c *ℤ x) ∷ times c xs)) ((c *ℤ x) ∷ with_number (c *ℤ f) (times c xs))
     ≡ times c (cond b (f ∷ (x ∷ xs)) (x ∷ with_number f xs)) = elim [
       | true ↦ refl
       | false ↦ ap (λ (zs : List ℤ). (c *ℤ x) ∷ zs) ih
     ] in
     ap (λ (b : Bool). cond b ((c *ℤ f) ∷ ((c *ℤ x) ∷ times c xs)) ((c *ℤ x) ∷ with_number (c *ℤ f) (times c xs)))
-    (below_times c x f p) ∙ step (int_lt x f)
+    (below_times c x f p) ∙ by_test (int_lt x f)
 
 pub sorted-times : (c : ℤ) (xs : List ℤ) → pos 0 <ℤ c → sorted (times c xs) ≡ times c (sorted xs)
 sorted-times c [] p = refl
@@ -50,13 +49,9 @@ pub lesser_cancel : (c : ℤ) (xs ys : List ℤ) → pos 0 <ℤ c → IsLesser (
 lesser_cancel c [] ys p h = absurd h
 lesser_cancel c (x ∷ xs) [] p h = absurd h
 lesser_cancel c (x ∷ xs) (y ∷ ys) p h = elim h [
-  | inl less ↦ inl (lt_cancel c x y p less)
+  | inl less ↦ inl (mul-lt_cancelℤ c x y p less)
   | inr more ↦ inr (mul-cancelℤ c x y p more.0, lesser_cancel c xs ys p more.1)
 ]
-  where
-    lt_cancel : (c x y : ℤ) → pos 0 <ℤ c → (c *ℤ x) <ℤ (c *ℤ y) → x <ℤ y
-    lt_cancel c x y p h =
-        by_lt_z x y (λ lt. lt) (λ le. absurd (omega (arith, linear, h, mul-leℤ c y x (omega (arith, linear, p)) le)))
 
 -- where c times two lists are d times two others, the order of the sorted lists is that of the others
 pub order_kept : (c d : ℤ) (xs ys us vs : List ℤ) → pos 0 <ℤ c → pos 0 <ℤ d → times c xs ≡ times d us

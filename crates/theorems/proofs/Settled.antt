@@ -1,31 +1,27 @@
 -- What the levels of a certificate settle of a difference d between two members of a family: d i is a number per
 -- player, and a coalition's number is the sum over its members.
-use Rattle.std.proofs.Common.{◌≡◌, ◌≢◌, ◌⊎◌, ℕ, ◌-◌, ◌<◌, Bool, true, false, not, cond, ◌&&◌}
-use Rattle.std.proofs.Common.{◌||◌, List, [], ◌∷◌, ℤ, pos, ◌-ℤ◌, ◌*ℤ◌, refl, sym, ap}
+use Rattle.std.proofs.Common.{◌≡◌, ◌⊎◌, ℕ, ◌-◌, ◌<◌, Bool, true, false, not, cond, ◌&&◌}
+use Rattle.std.proofs.Common.{◌||◌, List, [], ◌∷◌, ℤ, pos, ◌*ℤ◌, refl, sym, ap}
 use Rattle.std.proofs.Common.{◌∙◌, inl, inr, arith, if◌then◌else◌, IsTrue}
 use Rattle.std.specs.List.{AllByRecursion}
 use Rattle.std.proofs.lemmas.Int.{by_lt_z}
 use Rattle.std.proofs.lemmas.Bool.{false≢true}
-use Rattle.definitions.proofs.Ring.{linear, mul-zeroℤ, zero-mulℤ, mul-cancelℤ, sub-mulℤ}
+use Rattle.definitions.proofs.Ring.{linear}
 use Rattle.definitions.proofs.Members.{has_player-singleton, has_player-complement, sum_below-same, sum_below-zero}
 use Rattle.definitions.proofs.Members.{sum_below-times, sum_over-grand_coalition, sum_over-singleton}
 use Rattle.definitions.proofs.Members.{sum_over-complement, weighted_sum-sum_over, zero_either}
-use Rattle.definitions.specs.Sums.{weighted_sum}
+use Rattle.definitions.proofs.Members.{weighted_sum-zero_terms, scaled_either}
 use Rattle.definitions.specs.Coalitions.{has_player, singleton, grand_coalition, sum_over}
 use Rattle.definitions.specs.Coalitions.{weight_at, some_below, splits}
 use Rattle.definitions.specs.Certificates.{Level, is_listed, has_bound, is_fixed, is_free}
 use Rattle.definitions.specs.Certificates.{IsFixedVector, InSpan, IsOutside, IsAllFixed}
 use Rattle.definitions.specs.declared.Mode.{Mode}
 use Rattle.definitions.specs.declared.Mode.TheVariants.{Players, Span}
-use Rattle.definitions.proofs.Cases.{or_cases, not_true}
+use Rattle.definitions.proofs.Cases.{or_cases, not_true, and_either}
 use Rattle.definitions.proofs.Splits.{some_below-false}
 use Rattle.definitions.proofs.Masks.{singleton-within}
-
-pub weighted_sum-zero_terms : (f : ℕ → ℤ) (ps : List (ℕ × ℤ)) → AllByRecursion (λ p. f p.0 ≡ pos 0) ps
-    → weighted_sum f ps ≡ pos 0
-weighted_sum-zero_terms f [] h = refl
-weighted_sum-zero_terms f (p ∷ ps) h =
-    omega (arith, linear, weighted_sum-zero_terms f ps h.1, ap (λ z. p.1 *ℤ z) h.0, mul-zeroℤ p.1)
+use Rattle.definitions.proofs.Levels.{free_or_fixed}
+use Rattle.definitions.proofs.Cancel.{product_zero}
 
 -- ---- what is settled
 
@@ -58,20 +54,13 @@ fixed_zero n d front settled all i h e =
       | inr a ↦ settled.bounded i h a
     ]
 
-free_or_fixed : (n : ℕ) (front : List Level) (i : ℕ) → (is_free n front i ≡ true) ⊎ (is_fixed n front i ≡ true)
-free_or_fixed n front i = either (is_fixed n front i)
-  where
-    either : (b : Bool) → (not b ≡ true) ⊎ (b ≡ true)
-    either true = inr refl
-    either false = inl refl
-
 -- a coalition that holds all or none of the free players differs by nothing
 unsplit_zero : (n : ℕ) (d : ℕ → ℤ) (front : List Level) → Settled n d front
     → sum_over n d (grand_coalition n) ≡ pos 0 → (s : ℕ) → splits n (is_free n front) s ≡ false
     → sum_over n d s ≡ pos 0
 unsplit_zero n d front settled all s e =
     elim
-    (and_false (some_below n (λ i. is_free n front i && has_player s i))
+    (and_either (some_below n (λ i. is_free n front i && has_player s i))
     (some_below n (λ i. is_free n front i && not (has_player s i))) e) [
       | inl none ↦ sum_below-zero n (λ i. if has_player s i then d i else pos 0)
           (λ i h. holds_none i h (some_below-false n _ none i h))
@@ -79,10 +68,6 @@ unsplit_zero n d front settled all s e =
           (λ i h. holds_all i h (some_below-false n _ every i h)) ∙ sym (sum_over-grand_coalition n d) ∙ all
     ]
   where
-    and_false : (a b : Bool) → (a && b) ≡ false → (a ≡ false) ⊎ (b ≡ false)
-    and_false true b e = inr e
-    and_false false b e = inl refl
-
     in_none : (i : ℕ) (f t : Bool) → (f ≡ true) ⊎ (d i ≡ pos 0) → (f && t) ≡ false → cond t (d i) (pos 0) ≡ pos 0
     in_none i f false k e = refl
     in_none i true true (inl k) e = absurd (false≢true (sym e))
@@ -109,15 +94,6 @@ unsplit_zero n d front settled all s e =
 
 -- ---- mode span
 
-mul-zero_cancelℤ : (m z : ℤ) → m ≢ pos 0 → m *ℤ z ≡ pos 0 → z ≡ pos 0
-mul-zero_cancelℤ m z ne e =
-    by_lt_z (pos 0) m
-    (λ up. mul-cancelℤ m z (pos 0) up (e ∙ sym (mul-zeroℤ m)))
-    (λ low. by_lt_z m (pos 0)
-    (λ down. mul-cancelℤ (pos 0 -ℤ m) z (pos 0) (omega (arith, linear))
-    (omega (arith, linear, sub-mulℤ (pos 0) m z, zero-mulℤ z, mul-zeroℤ (pos 0 -ℤ m), e)))
-    (λ up. absurd (ne (omega (arith, linear)))))
-
 fixed_vector_zero : (n : ℕ) (d : ℕ → ℤ) (front : List Level) → Settled n d front
     → sum_over n d (grand_coalition n) ≡ pos 0 → (s : ℕ) → IsFixedVector n front s → sum_over n d s ≡ pos 0
 fixed_vector_zero n d front settled all s (inl e) = ap (sum_over n d) e ∙ all
@@ -139,13 +115,9 @@ span_zero n d front settled all s (m, ne, ps, fixed, sums) =
     let exchange = weighted_sum-sum_over n d ps in
     let each =
     sum_below-same n (λ i. weight_at ps i *ℤ d i) (λ i. m *ℤ (if has_player s i then d i else pos 0))
-    (λ i h. ap (λ w. w *ℤ d i) (sums i h) ∙ moved (has_player s i) (d i)) in
+    (λ i h. ap (λ w. w *ℤ d i) (sums i h) ∙ scaled_either (has_player s i) m (d i)) in
     let times = sum_below-times n (λ i. if has_player s i then d i else pos 0) m in
-    mul-zero_cancelℤ m (sum_over n d s) ne (sym times ∙ sym each ∙ sym exchange ∙ zero_sum)
-  where
-    moved : (b : Bool) (z : ℤ) → cond b m (pos 0) *ℤ z ≡ m *ℤ cond b z (pos 0)
-    moved true z = refl
-    moved false z = zero-mulℤ z ∙ sym (mul-zeroℤ m)
+    product_zero m (sum_over n d s) ne (sym times ∙ sym each ∙ sym exchange ∙ zero_sum)
 
 -- ---- both modes
 

@@ -9,6 +9,7 @@ use Rattle.definitions.specs.Certificates.{Level, HasForm, Certifies}
 use Rattle.definitions.specs.declared.Family.{Family}
 use Rattle.definitions.specs.declared.Measure.{Measure}
 use Rattle.definitions.specs.declared.Mode.{Mode}
+use Rattle.definitions.proofs.Cases.{same_or_later}
 use Rattle.real_shares.specs.Theorems.{fractions_over}
 use Rattle.real_shares.proofs.FractionShares.{fractions_ordered, fraction_shares}
 use Rattle.real_shares.proofs.Soundness.{IsNucleolusOver-from_certificate}
@@ -26,13 +27,10 @@ SameOrLow-range e f h a (suc k) each = (
 pub SomeAbove-range : (e : ℤ) (f h : ℕ → ℤ) (a k c : ℕ) → a ≤ c → c < a + k → f c ≤ℤ e → e <ℤ h c
     → SomeAbove e (map f (range_with_len a k)) (map h (range_with_len a k))
 SomeAbove-range e f h a zero c low high at above = absurd (omega arith)
-SomeAbove-range e f h a (suc k) c low high at above = elim (first_or_later a c low) [
+SomeAbove-range e f h a (suc k) c low high at above = elim (same_or_later a c low) [
   | inl same ↦ inl (subst (λ (i : ℕ). (f i ≤ℤ e) × (e <ℤ h i)) (sym same) (at, above))
   | inr later ↦ inr (SomeAbove-range e f h (a + 1) k c later (omega arith) at above)
 ]
-  where
-    first_or_later : (a c : ℕ) → a ≤ c → (a ≡ c) ⊎ (a + 1 ≤ c)
-    first_or_later a c low = grind arith
 
 pub IsNucleolus-from_certificate : (mode : Mode) (family : Family) (measure : Measure) (g : Game) (x : Allocation)
     (levels : List Level) → IsMeasurable measure g.players → HasForm mode g.players levels

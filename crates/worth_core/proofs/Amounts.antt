@@ -7,14 +7,14 @@ use Rattle.std.proofs.lemmas.Bool.Decides.{nat_tests}
 use Rattle.std.proofs.lemmas.Int.{ints}
 use Rattle.std.proofs.lemmas.Nat.Bits.{bit_at_cat_high, bit_at_lowest}
 use Rattle.std.proofs.lemmas.Nat.{pow_pos}
-use Rattle.std.proofs.Math.Nat.{pow-suc, le-mul_of_pos_right, pow-le-pow_right}
+use Rattle.std.proofs.Math.Nat.{le-mul_of_pos_right, pow-le-pow_right}
 use Rattle.std.specs.Int.{bit_at}
 use Rattle.definitions.specs.Coalitions.{has_player, sum_over}
 use Rattle.definitions.specs.Games.{Allocation, share, amount, IsShares}
 use Rattle.definitions.proofs.Cases.{below_or_above}
 use Rattle.definitions.proofs.Ring.{linear}
-use Rattle.definitions.proofs.Members.{sum_below-zero, has_player-empty}
-use Rattle.definitions.proofs.Parts.{part, sum_over-more}
+use Rattle.definitions.proofs.Parts.{sum_over-more}
+use Rattle.definitions.proofs.Masks.{masks-double}
 
 -- ---- sizes
 
@@ -23,26 +23,19 @@ sum_over-small : (n : ℕ) (a : ℕ → ℤ) (s : ℕ) → ((i : ℕ) → i < n 
     → unsigned_abs (sum_over n a s) ≤ n * 2 ^ 110
 sum_over-small zero a s h = omega (arith, ints)
 sum_over-small (suc n) a s h =
-    step (has_player s n) (sum_over n a s) (a n) (sum_over-small n a s (λ i lt. h i (omega arith)))
+    small_either (has_player s n) (sum_over n a s) (a n) (sum_over-small n a s (λ i lt. h i (omega arith)))
     (h n (omega arith))
   where
-    step : (b : Bool) (u w : ℤ) → unsigned_abs u ≤ n * 2 ^ 110 → unsigned_abs w < 2 ^ 110
+    small_either : (b : Bool) (u w : ℤ) → unsigned_abs u ≤ n * 2 ^ 110 → unsigned_abs w < 2 ^ 110
         → unsigned_abs (u +ℤ cond b w (pos 0)) ≤ suc n * 2 ^ 110
-    step true u w hu hw = omega (arith, ints)
-    step false u w hu hw = omega (arith, ints)
+    small_either true u w hu hw = omega (arith, ints)
+    small_either false u w hu hw = omega (arith, ints)
 
 pub amount-small : (x : Allocation) (s : ℕ) → IsShares x → unsigned_abs (amount x s) < 2 ^ 117
 amount-small x s h =
     let a = sum_over-small (length x.shares) (share x) s h.small in
     let few = h.few in
     omega (arith, a, few)
-
--- ---- the empty coalition
-
-pub amount-empty : (x : Allocation) → amount x 0 ≡ pos 0
-amount-empty x =
-    sum_below-zero (length x.shares) (part (share x) 0)
-    (λ i lt. ap (λ (b : Bool). cond b (share x i) (pos 0)) (has_player-empty i))
 
 -- ---- from the mask before
 
@@ -77,9 +70,6 @@ one_less (suc q) p some = let e : suc q - 1 ≡ q = omega arith in rw e (omega a
 two_less : (h p : ℕ) → 0 < h → h * (2 * p) - 2 * p ≡ (2 * (h - 1)) * p
 two_less zero p some = absurd (omega arith)
 two_less (suc h) p some = let e : suc h - 1 ≡ h = omega arith in rw e (omega arith)
-
-power_next : (i : ℕ) → 2 ^ (i + 1) ≡ 2 * 2 ^ i
-power_next i = let e : i + 1 ≡ suc i = omega arith in rw e (pow-suc 2 i ∙ omega arith)
 
 -- player i is one of the players
 pub walk_within : (x : Allocation) (n s i : ℕ) (sum : ℤ) → s < 2 ^ n → IsWalked x s i sum → i < n
@@ -138,9 +128,9 @@ walk_step x s i sum z h lt none is =
     record {
       times = half;
       some = positive;
-      mask = mask ∙ ap (λ (m : ℕ). half * m) (sym (power_next i));
+      mask = mask ∙ ap (λ (m : ℕ). half * m) (sym (masks-double i));
       paid = is ∙ difference z sum (amount x t) (share x i) before ∙ ap (amount x) (sym less)
-          ∙ ap (λ (m : ℕ). amount x (s - m)) (sym (power_next i));
+          ∙ ap (λ (m : ℕ). amount x (s - m)) (sym (masks-double i));
     }
   where
     regroup : (h p : ℕ) → (2 * h) * p ≡ h * (2 * p)

@@ -6,7 +6,7 @@ use Rattle.std.proofs.lemmas.Int.{ints, by_lt_z}
 use Rattle.definitions.specs.Games.{Game, Allocation, amount, excess, IsGame, Blocks, IsChosenBlocker}
 use Rattle.definitions.proofs.Cases.{less_or_last_of}
 use Rattle.definitions.proofs.Casts.{cast_kept}
-use Rattle.worth_core.proofs.Amounts.{amount-empty}
+use Rattle.definitions.proofs.SumsOver.{amount-empty}
 
 -- best is the chosen one among the masks below m, and most its excess, 0 where there is none
 pub record IsBestBelow (g : Game) (x : Allocation) (m : ℕ) (best : Option ℕ) (most : ℤ) : Type 0 where

@@ -1,15 +1,14 @@
 -- The sets of the seen players of a kind, with one more player seen.
 use Rattle.std.proofs.Common.{◌≡◌, ◌≢◌, ◌⊎◌, ℕ, zero, suc, ◌+◌, ◌-◌, ◌*◌, ◌/◌, ◌%◌, ◌^◌, ◌<◌, Bool, true, false}
-use Rattle.std.proofs.Common.{not, ◌&&◌, ◌||◌, IsTrue, refl, sym, ap, subst, ◌∙◌, inl, inr, arith, nat_eq}
+use Rattle.std.proofs.Common.{not, ◌&&◌, ◌||◌, IsTrue, refl, sym, ap, subst, ◌∙◌, inl, inr, arith}
 use Rattle.std.proofs.lemmas.Bool.{false≢true}
-use Rattle.std.proofs.lemmas.Bool.Decides.{nat_tests}
 use Rattle.std.proofs.lemmas.Nat.Bits.{bit_at-suc, bit_at_lowest}
 use Rattle.std.proofs.Math.Nat.{pow-suc, mul_comm}
 use Rattle.std.specs.Int.{bit_at}
 use Rattle.definitions.proofs.Parts.{has_player-more_same, has_player-more_other, more-lt}
 use Rattle.definitions.specs.Coalitions.{has_player, some_below}
 use Rattle.worth_core.specs.SplitKinds.{holds_some, lacks_some, IsSeenSet}
-use Rattle.definitions.proofs.Cases.{or_false, less_or_last, same_or_other}
+use Rattle.definitions.proofs.Cases.{or_false, less_or_last, same_or_other, from_nat_eq, nat_eq-other}
 use Rattle.definitions.proofs.Splits.{some_below-same}
 
 -- ---- a set with a player is a set without it, and that player
@@ -26,16 +25,10 @@ bit_less s (suc j) h =
         let half : (2 * t + s % 2) / 2 ≡ t = omega arith in
         (2 * t + s % 2, omega arith, bit_at-suc (2 * t + s % 2) j ∙ ap (λ (m : ℕ). bit_at m j) half ∙ z)
 
-one_from : (b : ℕ) → nat_eq b 1 ≡ true → b ≡ 1
-one_from b h = grind (arith, nat_tests)
-
-not_one : (b : ℕ) → b ≡ 0 → nat_eq b 1 ≡ false
-not_one b h = grind (arith, nat_tests)
-
 has_player-less : (s j : ℕ) → has_player s j ≡ true → (t : ℕ) × (s ≡ t + 2 ^ j) × (has_player t j ≡ false)
 has_player-less s j h =
-    let l = bit_less s j (one_from (bit_at s j) h) in
-    (l.0, l.1, not_one (bit_at l.0 j) l.2)
+    let l = bit_less s j (from_nat_eq (bit_at s j) 1 h) in
+    (l.0, l.1, nat_eq-other (bit_at l.0 j) 1 (λ e. omega (arith, l.2)))
 
 -- ---- whether some number passes a test
 

@@ -96,10 +96,7 @@ divisor_last den zs i g p le f = record {
 
 pub divisor_small : (den : ℤ) (zs : List ℤ) (i g : ℕ) → pos 1 ≤ℤ den → IsFrontDivisor (unsigned_abs den) zs i g
     → g ≤ unsigned_abs den
-divisor_small den zs i g p f = le_of_dvd (some den p) f.den
-  where
-    some : (d : ℤ) → pos 1 ≤ℤ d → 0 < unsigned_abs d
-    some d h = omega (arith, ints)
+divisor_small den zs i g p f = let some : 0 < unsigned_abs den = omega (arith, ints) in le_of_dvd some f.den
 
 pub quotient_of_positive : (d : ℤ) (g : ℕ) → pos 1 ≤ℤ d → int_div d (pos g) ≡ pos (unsigned_abs d / g)
 quotient_of_positive (pos d) g p = refl

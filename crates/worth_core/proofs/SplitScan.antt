@@ -1,15 +1,15 @@
 -- What a scan over the masks in ascending order knows of the greatest excess of the splitting masks behind it.
-use Rattle.std.proofs.Common.{◌≡◌, ℕ, zero, suc, ◌+◌, ◌^◌, ◌<◌, Bool, true, false, ◌&&◌, cond, ℤ, ◌≤ℤ◌, Option}
+use Rattle.std.proofs.Common.{◌≡◌, ℕ, ◌+◌, ◌^◌, ◌<◌, Bool, true, false, ◌&&◌, cond, ℤ, ◌≤ℤ◌, Option}
 use Rattle.std.proofs.Common.{Some, None, MatchOption, IsSome, IsTrue, arith, refl, sym, ap, ◌∙◌, inl, inr, int_lt}
 use Rattle.std.proofs.lemmas.Int.{ints}
 use Rattle.std.proofs.lemmas.Bool.{false≢true}
 use Rattle.std.proofs.Math.Pow.{pow-lt}
-use Rattle.definitions.specs.Coalitions.{has_player, singleton, some_below, splits}
+use Rattle.definitions.specs.Coalitions.{has_player, singleton, splits}
 use Rattle.definitions.specs.Games.{Game, Allocation, excess, IsSplitMaximum, HasTwo}
 use Rattle.definitions.proofs.Members.{has_player-empty}
 use Rattle.worth_core.specs.Greatest.{max_so_far}
 use Rattle.definitions.proofs.Cases.{less_or_last_of}
-use Rattle.definitions.proofs.Splits.{splits-singleton}
+use Rattle.definitions.proofs.Splits.{splits-singleton, some_below-none}
 
 abbrev pub is_split : Game → ℕ → ℕ → Bool
 is_split g f t = splits g.players (has_player f) t
@@ -29,21 +29,18 @@ pub is_split-singleton : (g : Game) (f i j : ℕ) → i < j → j < g.players �
 is_split-singleton g f i j lt within hi hj = splits-singleton g.players f i j lt within hi hj
 
 -- the empty coalition doesn't split
-none_below : (n : ℕ) (test : ℕ → Bool) → ((i : ℕ) → test i ≡ false) → some_below n test ≡ false
-none_below zero test h = refl
-none_below (suc n) test h = rw (h n) (none_below n test h)
 
 pub is_split-empty : (g : Game) (f : ℕ) → is_split g f 0 ≡ true → ⊥
-is_split-empty g f e = false≢true (sym none ∙ e)
+is_split-empty g f e = false≢true (sym no_split ∙ e)
   where
     and_false : (a b : Bool) → b ≡ false → (a && b) ≡ false
     and_false true b h = h
     and_false false b h = refl
 
-    none : is_split g f 0 ≡ false
-    none = rw
-        (none_below g.players (λ i. has_player f i && has_player 0 i)
-        (λ i. and_false (has_player f i) (has_player 0 i) (has_player-empty i))) refl
+    no_split : is_split g f 0 ≡ false
+    no_split = rw
+        (some_below-none g.players (λ i. has_player f i && has_player 0 i)
+        (λ i lt. and_false (has_player f i) (has_player 0 i) (has_player-empty i))) refl
 
 -- a step of the scan to a mask that doesn't split
 pub IsGreatestBelow-kept : (g : Game) (x : Allocation) (f m : ℕ) (most : Option ℤ) → IsGreatestBelow g x f m most

@@ -1,5 +1,5 @@
 -- The greatest sums over the sets of seen players of a kind, with one more player seen.
-use Rattle.std.proofs.Common.{◌≡◌, ◌⊎◌, ℕ, zero, suc, ◌+◌, ◌^◌, ◌<◌, Bool, true, false, not, ◌&&◌}
+use Rattle.std.proofs.Common.{◌≡◌, ◌⊎◌, ℕ, ◌+◌, ◌^◌, ◌<◌, Bool, true, false, not, ◌&&◌}
 use Rattle.std.proofs.Common.{◌||◌, ℤ, pos, ◌+ℤ◌, ◌≤ℤ◌, Option, None, Some, MatchOption, refl, sym}
 use Rattle.std.proofs.Common.{ap, subst, ◌∙◌, inl, inr, arith, if◌then◌else◌}
 use Rattle.std.proofs.lemmas.Bool.{false≢true}
@@ -7,12 +7,13 @@ use Rattle.std.proofs.lemmas.Int.{ints}
 use Rattle.std.proofs.Math.Pow.{pow_pos}
 use Rattle.definitions.proofs.Members.{has_player-empty, sum_below-zero}
 use Rattle.definitions.proofs.Parts.{sum_over-more}
-use Rattle.definitions.specs.Coalitions.{has_player, some_below, sum_over}
+use Rattle.definitions.specs.Coalitions.{has_player, sum_over}
 use Rattle.definitions.specs.Sums.{IsGreatest}
 use Rattle.worth_core.specs.SplitKinds.{holds_some, lacks_some, IsSeenSet, IsGreatestSum, Sums}
 use Rattle.worth_core.specs.SplitKinds.{AreSplitSums, greater_sum, longer_sum}
 use Rattle.worth_core.proofs.SeenSets.{IsSeenSet-without, IsSeenSet-with, IsSeenSet-cases, IsSeenSet-lacks}
 use Rattle.definitions.proofs.Cases.{int_max-cases, or_cases, or_true, or_false, and_false}
+use Rattle.definitions.proofs.Splits.{some_below-none}
 
 -- ---- greatest numbers over sets of any kind
 
@@ -24,9 +25,6 @@ IsGreatestOf P v x = MatchOption x ((s : ℕ) → ¬ P s) (λ m. IsGreatest P v 
 abbrev IsUnion : (ℕ → Type 0) → (ℕ → Type 0) → (ℕ → Type 0) → Type 0
 IsUnion P Q R = ((s : ℕ) → R s → P s ⊎ Q s) × ((s : ℕ) → P s → R s) × ((s : ℕ) → Q s → R s)
 
-le_trans : (a b c : ℤ) → a ≤ℤ b → b ≤ℤ c → a ≤ℤ c
-le_trans a b c h k = omega (arith, ints)
-
 joined : (P Q R : ℕ → Type 0) (v : ℕ → ℤ) (x y : Option ℤ) → IsGreatestOf P v x → IsGreatestOf Q v y → IsUnion P Q R
     → IsGreatestOf R v (greater_sum x y)
 joined P Q R v None None hx hy u = λ s r. elim (u.0 s r) [ inl p ↦ hx s p | inr q ↦ hy s q ]
@@ -37,19 +35,19 @@ joined P Q R v (Some m) None hx hy u =
 joined P Q R v (Some m) (Some k) hx hy u = elim (int_max-cases m k) [
   | inl (e, le) ↦ rw e (
     (hx.0.0, u.1 hx.0.0 hx.0.1, hx.0.2),
-    λ s r. elim (u.0 s r) [ inl p ↦ hx.1 s p | inr q ↦ le_trans (v s) k m (hy.1 s q) le ],
+    λ s r. elim (u.0 s r) [ inl p ↦ hx.1 s p | inr q ↦ omega (arith, ints, hy.1 s q, le) ],
   )
   | inr (e, le) ↦ rw e (
     (hy.0.0, u.2 hy.0.0 hy.0.1, hy.0.2),
-    λ s r. elim (u.0 s r) [ inl p ↦ le_trans (v s) m k (hx.1 s p) le | inr q ↦ hy.1 s q ],
+    λ s r. elim (u.0 s r) [ inl p ↦ omega (arith, ints, hx.1 s p, le) | inr q ↦ hy.1 s q ],
   )
 ]
 
 -- each set of the kind Q with the player of place value p, whose number is w
-moved : (Q : ℕ → Type 0) (v : ℕ → ℤ) (p : ℕ) (w : ℤ) (y : Option ℤ) → IsGreatestOf Q v y
+with_player : (Q : ℕ → Type 0) (v : ℕ → ℤ) (p : ℕ) (w : ℤ) (y : Option ℤ) → IsGreatestOf Q v y
     → ((t : ℕ) → Q t → v (t + p) ≡ v t +ℤ w) → IsGreatestOf (λ s. (t : ℕ) × Q t × (s ≡ t + p)) v (longer_sum y w)
-moved Q v p w None hy more = λ s r. hy r.0 r.1
-moved Q v p w (Some m) hy more = (
+with_player Q v p w None hy more = λ s r. hy r.0 r.1
+with_player Q v p w (Some m) hy more = (
   (hy.0.0 + p, (hy.0.0, hy.0.1, refl), sym (more hy.0.0 hy.0.1 ∙ ap (λ (z : ℤ). z +ℤ w) (sym hy.0.2))),
   λ s r. bounded s r.0 r.2 (more r.0 r.1) (hy.1 r.0 r.1),
 )
@@ -72,7 +70,7 @@ one_more n i a f seen test x y lt new hx hy =
     let grown = λ (s : ℕ). (t : ℕ) × before t × (s ≡ t + 2 ^ i) in
     joined (IsSeenSet n f seen (λ h l. test h (l || has_player f i))) grown (IsSeenSet n f (seen + 2 ^ i) test)
     (sum_over n a) x (longer_sum y (a i)) hx
-    (moved before (sum_over n a) (2 ^ i) (a i) y hy
+    (with_player before (sum_over n a) (2 ^ i) (a i) y hy
     (λ t q. sum_over-more n t i a lt (IsSeenSet-lacks n f seen i (λ h l. test (h || has_player f i) l) t new q)))
     (λ s. IsSeenSet-cases n f seen i test s lt new, λ s. IsSeenSet-without n f seen i test s lt new, back)
   where
@@ -162,18 +160,14 @@ AreSplitSums-new n a f = record {
     nobody : (test : Test) (s : ℕ) → IsSeenSet n f 0 test s → (i : ℕ) → has_player s i ≡ false
     nobody test s k i = IsSeenSet-lacks n f 0 i test s (has_player-empty i) k
 
-    none_below : (n : ℕ) (test : ℕ → Bool) → ((i : ℕ) → test i ≡ false) → some_below n test ≡ false
-    none_below zero test h = refl
-    none_below (suc n) test h = rw (h n) (none_below n test h)
-
     holds_nobody : (s : ℕ) → ((i : ℕ) → has_player s i ≡ false) → holds_some n f s ≡ false
     holds_nobody s h =
-        none_below n (λ i. has_player f i && has_player s i) (λ i. rw (h i) (and_false (has_player f i)))
+        some_below-none n (λ i. has_player f i && has_player s i) (λ i lt. rw (h i) (and_false (has_player f i)))
 
     lacks_nobody : (s : ℕ) → lacks_some n f 0 s ≡ false
     lacks_nobody s =
-        none_below n (λ i. (has_player f i && has_player 0 i) && not (has_player s i))
-        (λ i. rw (has_player-empty i, and_false (has_player f i)) refl)
+        some_below-none n (λ i. (has_player f i && has_player 0 i) && not (has_player s i))
+        (λ i lt. rw (has_player-empty i, and_false (has_player f i)) refl)
 
     holds_none : (test : Test) (s : ℕ) → IsSeenSet n f 0 test s → ((l : Bool) → test false l ≡ false)
         → test (holds_some n f s) (lacks_some n f 0 s) ≡ false

@@ -106,12 +106,6 @@ IsTop-below measure g x P order m (Some d) here b able h some within is more off
       );
     }
 
-le_self : (z : ℤ) → z ≤ℤ z
-le_self z = omega (arith, linear)
-
-le_trans : (a b c : ℤ) → a ≤ℤ b → b ≤ℤ c → a ≤ℤ c
-le_trans a b c h k = omega (arith, linear)
-
 -- one that P holds of and that has more is the new greatest
 pub IsTop-new : (measure : Measure) (g : Game) (x : Allocation) (P : ℕ → Type 0) (order : ℕ → ℕ) (m : ℕ)
     (most : Option Divided) (here : Divided) (b : Bool) → IsMeasurable measure g.players
@@ -130,7 +124,7 @@ IsTop-new measure g x P order m None here b able h some within holds is more on 
       | inl less ↦ absurd (h.found u less p)
       | inr same ↦ subst
           (λ (v : ℕ). measured_excess measure g x (order v) ≤ℤ measured_excess measure g x (order m)) (sym same)
-          (le_self (measured_excess measure g x (order m)))
+          (omega (arith, linear))
     ],
   );
 }
@@ -148,11 +142,10 @@ IsTop-new measure g x P order m (Some d) here b able h some within holds is more
         holds,
         is,
         λ u lt p. elim (less_or_last_of u m lt) [
-          | inl less ↦ le_trans (measured_excess measure g x (order u)) (measured_excess measure g x (order t))
-              (measured_excess measure g x (order m)) (h.found.6 u less p) low
+          | inl less ↦ omega (arith, linear, h.found.6 u less p, low)
           | inr same ↦ subst
               (λ (v : ℕ). measured_excess measure g x (order v) ≤ℤ measured_excess measure g x (order m)) (sym same)
-              (le_self (measured_excess measure g x (order m)))
+              (omega (arith, linear))
         ],
       );
     }

@@ -4,17 +4,15 @@ use Rattle.std.proofs.lemmas.Int.{ints, fits_signed_from_abs, to_z_pos}
 use mir.Syntax.{w128}
 use Rattle.airport_scheme.specs.Scheme.{pay_at}
 use Rattle.std.specs.List.{All}
-use Rattle.airport_scheme.proofs.Sizes.{negated_value, get_or_same}
+use Rattle.airport_scheme.proofs.Sizes.{negated_small, negated_value}
 use Rattle.airport_scheme.proofs.Solved.{until_rises, total_is}
 use Rattle.airport_scheme.proofs.blocks.block_level.Goals as goal
 use Rattle.airport_scheme.proofs.blocks.block_level.Goals.{then-k-len, else-k-len}
 use Rattle.definitions.proofs.Casts.{cast_kept}
-
-negated_small : (z : ℤ) → unsigned_abs z < 2 ^ 104 → unsigned_abs (pos 0 -ℤ z) < 2 ^ 127
-negated_small z h = omega (arith, ints)
+use Rattle.std.proofs.lemmas.List.{get_or_default}
 
 read : (xs : List ℤ) (i : ℕ) (r : ℤ) → i < length xs → r ≡ get_or xs i r → r ≡ pay_at xs i
-read xs i r lt e = e ∙ get_or_same xs i r (pos 0) lt
+read xs i r lt e = e ∙ get_or_default xs i r (pos 0) lt
 
 small_at : (xs : List ℤ) (i : ℕ) (r : ℤ) → i < length xs → All (λ z. unsigned_abs z < 2 ^ 104) xs
     → r ≡ get_or xs i r → unsigned_abs r < 2 ^ 104

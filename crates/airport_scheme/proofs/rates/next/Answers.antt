@@ -1,17 +1,10 @@
-use Rattle.std.proofs.Common.{◌≡◌, true, false, ℤ, ◌<ℤ◌, ◌≤ℤ◌, to_z, of_z, arith, sym, ◌∙◌}
+use Rattle.std.proofs.Common.{◌≡◌, to_z, of_z, arith, sym, ◌∙◌}
 use Rattle.std.proofs.lemmas.Int.{ints}
-use lib.Signed.{lt_z}
 use mir.Syntax.{w128}
 use Rattle.airport_scheme.proofs.Runs.{IsBest-start, IsBest-kept, IsBest-better, IsLeastTerm-whole}
 use Rattle.airport_scheme.proofs.rates.next.Goals as goal
 use Rattle.airport_scheme.proofs.rates.next.Goals.{then-less, else-less}
 use Rattle.definitions.proofs.Casts.{cast_kept}
-
-less_from : (a b : ℤ) → lt_z a b ≡ true → a <ℤ b
-less_from a b e = omega (arith, ints)
-
-most_from : (a b : ℤ) → lt_z a b ≡ false → b ≤ℤ a
-most_from a b e = omega (arith, ints)
 
 pub loop-l-init : goal.loop-l-init
 loop-l-init c =
@@ -32,17 +25,14 @@ loop-l-preserved c =
     let inv = c.loop-l.invariant in
     let here = c.term-here.ensures in
     elim c.if-less.branch [
-      | then-less w ↦ rw (w.best-is, here.last) (
-        IsBest-better _ _ _ _ _ _ _ _ _ _ _ inv.0 here.term
-            (less_from _ _ (sym c.less.ensures ∙ w.if-less.true)),
-        here.size,
-        here.rate,
-      )
-      | else-less w ↦ rw w.best-is (
-        IsBest-kept _ _ _ _ _ _ _ _ _ _ _ inv.0 here.term (most_from _ _ (sym c.less.ensures ∙ w.if-less.false)),
-        inv.1,
-        inv.2,
-      )
+      | then-less w ↦
+          let less = sym c.less.ensures ∙ w.if-less.true in
+          rw (w.best-is, here.last)
+          (IsBest-better _ _ _ _ _ _ _ _ _ _ _ inv.0 here.term (omega (arith, ints, less)), here.size, here.rate)
+      | else-less w ↦
+          let most = sym c.less.ensures ∙ w.if-less.false in
+          rw w.best-is
+          (IsBest-kept _ _ _ _ _ _ _ _ _ _ _ inv.0 here.term (omega (arith, ints, most)), inv.1, inv.2)
     ]
 
 pub returns-clause-least : goal.returns-clause-least

@@ -1,6 +1,6 @@
 use Rattle.std.proofs.Common.{◌++◌, ◌∙◌, ap, arith, refl}
 use Rattle.definitions.specs.Certificates.{Level, IsSmall}
-use Rattle.checker.proofs.Judged.{ascending_few}
+use Rattle.definitions.proofs.Levels.{Ascends-few}
 use Rattle.checker.proofs.failures.level_failure.Goals as goal
 use Rattle.definitions.proofs.Alls.{all_left, all_right}
 
@@ -8,7 +8,7 @@ pub first_unbalanced-requires-clause-few_bounds : goal.first_unbalanced-requires
 first_unbalanced-requires-clause-few_bounds g c =
     let game = g.W.Worth.game c.args.game.now in
     let f = c.requires.form in
-    let few = ascending_few 0 game.players c.args.tested.now.bounds f.bounds_ascend f.players in
+    let few = Ascends-few 0 game.players c.args.tested.now.bounds f.bounds_ascend f.players in
     let laws = c.players.ensures.laws.few in
     omega arith
 

@@ -3,7 +3,7 @@ use Rattle.std.proofs.Math.Pow.{pow_pos}
 use Rattle.std.proofs.lemmas.Bool.{false≢true}
 use mir.Syntax.{w128}
 use Rattle.definitions.proofs.Casts.{cast_kept}
-use Rattle.worth_core.proofs.Amounts.{amount-empty}
+use Rattle.definitions.proofs.SumsOver.{amount-empty}
 use Rattle.worth_core.proofs.SplitScan.{is_split, is_split-empty}
 use Rattle.worth_core.proofs.TopScan.{IsTop, ascending, IsTop-one, IsTop-next, all_seen}
 use Rattle.worth_core.proofs.TopScan.{greatest_from_top, some-from_top}
