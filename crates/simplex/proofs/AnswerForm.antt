@@ -1,6 +1,6 @@
 -- The weights of the last basis in lowest terms: they and its multipliers are an answer.
 use Rattle.std.proofs.Common.{◌≡◌, ℕ, zero, suc, ◌*◌, ◌^◌, ◌<◌, ◌≤◌, true, IsTrue, List, length}
-use Rattle.std.proofs.Common.{map, nat_eq, Option, arith, sym, ap, subst, ◌∙◌, ℤ, pos, negsuc}
+use Rattle.std.proofs.Common.{map, nat_eq, arith, sym, ap, subst, ◌∙◌, ℤ, pos, negsuc}
 use Rattle.std.proofs.Common.{◌+ℤ◌, ◌*ℤ◌, ◌<ℤ◌, ◌≤ℤ◌, unsigned_abs, mul_comm}
 use Prim.Native.Nat.{◌∣◌}
 use native.Mathlib.Nat.{pos_of_dvd_of_pos, le_of_dvd}
@@ -15,7 +15,8 @@ use Rattle.definitions.proofs.Cancel.{cancel}
 use Rattle.determinants.specs.Basis.{dot}
 use Rattle.determinants.specs.Matrix.{entry_at}
 use Rattle.simplex.specs.Answer.{AreInForm, IsAnswer}
-use Rattle.simplex.specs.Improving.{AreMultipliers, IsImproving}
+use Rattle.simplex.specs.declared.state.State.{State}
+use Rattle.simplex.specs.Improving.{AreMultipliersOf, IsImproving}
 use Rattle.simplex.specs.Reduced.{listed, AreReduced}
 use Rattle.simplex.specs.Tableau.{IsTame, id_at}
 use Rattle.simplex.proofs.Ends.{no_ray}
@@ -51,51 +52,50 @@ times_dot (suc n) c w v s h =
     split : (c a w s : ℤ) → c *ℤ (a +ℤ w *ℤ s) ≡ c *ℤ a +ℤ (c *ℤ w) *ℤ s
     split c a w s = simp ring_laws
 
-turned : (c d v : ℤ) → (c *ℤ d) *ℤ v ≡ d *ℤ (c *ℤ v)
-turned c d v = simp ring_laws
+second_factor_first : (c d v : ℤ) → (c *ℤ d) *ℤ v ≡ d *ℤ (c *ℤ v)
+second_factor_first c d v = simp ring_laws
 
-module _ (P : Program) (n : ℕ) (ids : List (Option ℕ)) (xs ts : List ℤ) (d : ℤ) (costs num : List ℤ) (mden : ℤ)
-    (ws : List (ℕ × ℤ)) (den : ℤ)
-    (st : IsImproving P true n ids xs ts d costs) (m : AreMultipliers xs costs n d num mden) (b : Bounds P num mden)
-    (r : AreReduced n ids ts d ws den) where
-  pub shares_of : (k : ℕ) → k < P.rows → r.common *ℤ r.shares k ≡ entry_at 32 ts k 0
-  shares_of k lt = r.shares_are k (subst (λ (t : ℕ). k < t) (sym st.rows_is) lt)
+module _ (P : Program) (s : State) (num : List ℤ) (mden : ℤ) (ws : List (ℕ × ℤ)) (den : ℤ)
+    (st : IsImproving P true s) (m : AreMultipliersOf s num mden) (b : Bounds P num mden)
+    (r : AreReduced s ws den) where
+  pub reduced_at : (k : ℕ) → k < P.rows → r.common *ℤ r.reduced k ≡ entry_at 32 s.tracked k 0
+  reduced_at k lt = r.reduced_are k (subst (λ (t : ℕ). k < t) (sym st.rows_is) lt)
 
-  pub shares_nonneg : (k : ℕ) → k < P.rows → pos 0 ≤ℤ r.shares k
-  shares_nonneg k lt =
-      quotient_nonneg r.common (r.shares k) (entry_at 32 ts k 0) r.is_common.positive (shares_of k lt)
-      (right_nonneg P n ids xs ts d costs st k lt)
+  pub reduced_nonneg : (k : ℕ) → k < P.rows → pos 0 ≤ℤ r.reduced k
+  reduced_nonneg k lt =
+      quotient_nonneg r.common (r.reduced k) (entry_at 32 s.tracked k 0) r.is_common.positive (reduced_at k lt)
+      (right_nonneg P s st k lt)
 
-  pub list_is : ws ≡ listed ids r.shares P.rows
-  list_is = r.weights_are ∙ ap (listed ids r.shares) st.rows_is
+  pub list_is : ws ≡ listed s.ids r.reduced P.rows
+  list_is = r.weights_are ∙ ap (listed s.ids r.reduced) st.rows_is
 
   sums : (f : ℕ → ℤ)
-      → r.common *ℤ weighted_sum f ws ≡ dot P.rows (λ k. entry_at 32 ts k 0) (λ k. on_id f (id_at ids k))
+      → r.common *ℤ weighted_sum f ws ≡ dot P.rows (λ k. entry_at 32 s.tracked k 0) (λ k. on_id f (id_at s.ids k))
   sums f =
       ap (λ (l : List (ℕ × ℤ)). r.common *ℤ weighted_sum f l) list_is
-      ∙ ap (λ (z : ℤ). r.common *ℤ z) (listed_sum f ids r.shares P.rows shares_nonneg)
-      ∙ times_dot P.rows r.common r.shares (λ k. entry_at 32 ts k 0) (λ k. on_id f (id_at ids k)) shares_of
+      ∙ ap (λ (z : ℤ). r.common *ℤ z) (listed_sum f s.ids r.reduced P.rows reduced_nonneg)
+      ∙ times_dot P.rows r.common r.reduced (λ k. entry_at 32 s.tracked k 0) (λ k. on_id f (id_at s.ids k)) reduced_at
 
   pub is_optimal : IsOptimal P ws den num mden
   is_optimal = (
     (
       (
         subst (AllByRecursion (λ w. IsTrue (P.is_column w.0) × (pos 0 ≤ℤ w.1))) (sym list_is)
-            (listed_all (λ w. IsTrue (P.is_column w.0) × (pos 0 ≤ℤ w.1)) ids r.shares P.rows
-            (λ j id u lt e f. (is_column_at P ids xs d st.table.inverse j id lt e, suc_nonneg u))),
+            (listed_all (λ w. IsTrue (P.is_column w.0) × (pos 0 ≤ℤ w.1)) s.ids r.reduced P.rows
+            (λ j id u lt e f. (is_column_at P s.ids s.inverse s.den st.table.inverse j id lt e, suc_nonneg u))),
         subst (λ (l : List (ℕ × ℤ)). IsDistinct nat_eq (map (λ (w : ℕ × ℤ). w.0) l)) (sym list_is)
-            (listed_distinct ids r.shares P.rows (ids_apart P ids xs d st.table.inverse)),
+            (listed_distinct s.ids r.reduced P.rows (ids_apart P s.ids s.inverse s.den st.table.inverse)),
       ),
-      at_least_one den (quotient_positive r.common den d r.is_common.positive r.den_is st.table.positive),
+      at_least_one den (quotient_positive r.common den s.den r.is_common.positive r.den_is st.table.positive),
       λ i lt. cancel r.common (weighted_sum (λ id. P.entry id i) ws) (den *ℤ P.right i)
           (positive_apart r.common r.is_common.positive)
-          (sums (λ id. P.entry id i) ∙ right_rows P n ids xs ts d costs st i lt
+          (sums (λ id. P.entry id i) ∙ right_rows P s st i lt
           ∙ ap (λ (z : ℤ). z *ℤ P.right i) (sym r.den_is) ∙ mul_assocℤ r.common den (P.right i)),
     ),
     b,
     *ℤ_comm (weighted_sum P.cost ws) mden ∙ ap (λ (z : ℤ). z *ℤ weighted_sum P.cost ws) (m.den_is ∙ sym r.den_is)
-        ∙ turned r.common den (weighted_sum P.cost ws)
-        ∙ ap (λ (z : ℤ). den *ℤ z) (sums P.cost ∙ sym (value_right P n ids xs ts d costs st num mden m))
+        ∙ second_factor_first r.common den (weighted_sum P.cost ws)
+        ∙ ap (λ (z : ℤ). den *ℤ z) (sums P.cost ∙ sym (value_right P s st num mden m))
         ∙ *ℤ_comm den (value_of P num P.right),
   )
 
@@ -124,74 +124,73 @@ one_of zero c p q h = absurd (omega arith)
 one_of (suc zero) c p q h = omega arith
 one_of (suc (suc g)) c p q h = absurd (omega arith)
 
-zero_share : (c w z : ℤ) → pos 0 <ℤ c → c *ℤ w ≡ z → z ≡ pos 0 → w ≡ pos 0
-zero_share c w z p e h = cancel c w (pos 0) (positive_apart c p) (e ∙ h ∙ sym (mul-zeroℤ c))
+zero_quotient : (c w z : ℤ) → pos 0 <ℤ c → c *ℤ w ≡ z → z ≡ pos 0 → w ≡ pos 0
+zero_quotient c w z p e h = cancel c w (pos 0) (positive_apart c p) (e ∙ h ∙ sym (mul-zeroℤ c))
 
 suc_positive : (u : ℕ) → pos 1 ≤ℤ pos (suc u)
 suc_positive u = omega (arith, ints)
 
-module _ (P : Program) (n : ℕ) (ids : List (Option ℕ)) (xs ts : List ℤ) (d : ℤ) (costs num : List ℤ) (mden : ℤ)
-    (ws : List (ℕ × ℤ)) (den : ℤ)
-    (st : IsImproving P true n ids xs ts d costs) (m : AreMultipliers xs costs n d num mden) (b : Bounds P num mden)
-    (r : AreReduced n ids ts d ws den) (tame : IsTame P) where
-  share_at : (k : ℕ) → k < P.rows → r.common *ℤ r.shares k ≡ entry_at 32 ts k 0
-  share_at k lt = shares_of P n ids xs ts d costs num mden ws den st m b r k lt
-
-  weight_small : (k : ℕ) → k < P.rows → unsigned_abs (entry_at 32 ts k 0) ≤ 2 ^ 58
+module _ (P : Program) (s : State) (num : List ℤ) (mden : ℤ) (ws : List (ℕ × ℤ)) (den : ℤ)
+    (st : IsImproving P true s) (m : AreMultipliersOf s num mden) (b : Bounds P num mden)
+    (r : AreReduced s ws den) (tame : IsTame P) where
+  weight_small : (k : ℕ) → k < P.rows → unsigned_abs (entry_at 32 s.tracked k 0) ≤ 2 ^ 58
   weight_small k lt =
       subst (λ (z : ℤ). unsigned_abs z ≤ 2 ^ 58) (sym (st.table.tracked.tracked k 0 lt (omega arith)))
-      (right_small P ids xs d tame st.table.inverse k lt)
+      (right_small P s.ids s.inverse s.den tame st.table.inverse k lt)
 
-  share_small : (k : ℕ) → k < P.rows → unsigned_abs (r.shares k) < 2 ^ 62
-  share_small k lt =
-      below_62 (unsigned_abs (r.shares k)) (unsigned_abs (entry_at 32 ts k 0))
-      (factor_le r.common (r.shares k) (entry_at 32 ts k 0) r.is_common.positive (share_at k lt))
+  reduced_small : (k : ℕ) → k < P.rows → unsigned_abs (r.reduced k) < 2 ^ 62
+  reduced_small k lt =
+      below_62 (unsigned_abs (r.reduced k)) (unsigned_abs (entry_at 32 s.tracked k 0))
+      (factor_le r.common (r.reduced k) (entry_at 32 s.tracked k 0) r.is_common.positive
+      (reduced_at P s num mden ws den st m b r k lt))
       (weight_small k lt)
 
-  listed_is : ws ≡ listed ids r.shares P.rows
-  listed_is = list_is P n ids xs ts d costs num mden ws den st m b r
+  listed_is : ws ≡ listed s.ids r.reduced P.rows
+  listed_is = list_is P s num mden ws den st m b r
 
   -- what divides the denominator and all weights divides the numbers that they come from
-  shares_divisible : (g : ℕ) → AllByRecursion (λ w. g ∣ unsigned_abs w.1) ws → (k : ℕ) → k < P.rows
-      → g ∣ unsigned_abs (r.shares k)
-  shares_divisible g h =
-      listed_divisible g ids r.shares P.rows (shares_nonneg P n ids xs ts d costs num mden ws den st m b r)
-      (λ k lt none. zero_share r.common (r.shares k) (entry_at 32 ts k 0) r.is_common.positive (share_at k lt)
-      (right_clear P n ids xs ts d costs st k lt none))
+  reduced_divisible : (g : ℕ) → AllByRecursion (λ w. g ∣ unsigned_abs w.1) ws → (k : ℕ) → k < P.rows
+      → g ∣ unsigned_abs (r.reduced k)
+  reduced_divisible g h =
+      listed_divisible g s.ids r.reduced P.rows (reduced_nonneg P s num mden ws den st m b r)
+      (λ k lt none. zero_quotient r.common (r.reduced k) (entry_at 32 s.tracked k 0) r.is_common.positive
+      (reduced_at P s num mden ws den st m b r k lt)
+      (right_clear P s st k lt none))
       (subst (AllByRecursion (λ w. g ∣ unsigned_abs w.1)) listed_is h)
 
   lowest_terms : (g : ℕ) → g ∣ unsigned_abs den → AllByRecursion (λ w. g ∣ unsigned_abs w.1) ws → g ≡ 1
   lowest_terms g h k =
-      let whole = r.is_common.greatest (g * unsigned_abs r.common) (times_both (pos g) r.common den d r.den_is h)
+      let whole = r.is_common.greatest (g * unsigned_abs r.common) (times_both (pos g) r.common den s.den r.den_is h)
       (λ j jl.
       let lt' = subst (λ (t : ℕ). j < t) st.rows_is jl in
-      times_both (pos g) r.common (r.shares j) (entry_at 32 ts j 0) (share_at j lt')
-      (shares_divisible g k j lt')) in
+      times_both (pos g) r.common (r.reduced j) (entry_at 32 s.tracked j 0)
+      (reduced_at P s num mden ws den st m b r j lt')
+      (reduced_divisible g k j lt')) in
       let cp = size_positive r.common r.is_common.positive in
       one_of g (unsigned_abs r.common) cp
       (pos_of_dvd_of_pos h
-      (size_positive den (quotient_positive r.common den d r.is_common.positive r.den_is st.table.positive)))
+      (size_positive den (quotient_positive r.common den s.den r.is_common.positive r.den_is st.table.positive)))
       (le_of_dvd cp whole)
 
   form : AreInForm P.rows ws den
   form = record {
-    count = subst (λ (l : List (ℕ × ℤ)). length l ≤ P.rows) (sym listed_is) (listed_count ids r.shares P.rows);
+    count = subst (λ (l : List (ℕ × ℤ)). length l ≤ P.rows) (sym listed_is) (listed_count s.ids r.reduced P.rows);
     positive =
         subst (AllByRecursion (λ w. pos 1 ≤ℤ w.1)) (sym listed_is)
-        (listed_all (λ w. pos 1 ≤ℤ w.1) ids r.shares P.rows (λ j id u lt e f. suc_positive u));
+        (listed_all (λ w. pos 1 ≤ℤ w.1) s.ids r.reduced P.rows (λ j id u lt e f. suc_positive u));
     small =
         subst (AllByRecursion (λ w. unsigned_abs w.1 < 2 ^ 62)) (sym listed_is)
-        (listed_all (λ w. unsigned_abs w.1 < 2 ^ 62) ids r.shares P.rows
-        (λ j id u lt e f. subst (λ (z : ℤ). unsigned_abs z < 2 ^ 62) f (share_small j lt)));
+        (listed_all (λ w. unsigned_abs w.1 < 2 ^ 62) s.ids r.reduced P.rows
+        (λ j id u lt e f. subst (λ (z : ℤ). unsigned_abs z < 2 ^ 62) f (reduced_small j lt)));
     den_small =
-        below_62 (unsigned_abs den) (unsigned_abs d) (factor_le r.common den d r.is_common.positive r.den_is)
-        (den_small P ids xs d tame st.table.inverse);
+        below_62 (unsigned_abs den) (unsigned_abs s.den) (factor_le r.common den s.den r.is_common.positive r.den_is)
+        (den_small P s.ids s.inverse s.den tame st.table.inverse);
     lowest = lowest_terms;
   }
 
   pub is_answer : IsAnswer P ws den num mden
   is_answer = record {
-    optimal = is_optimal P n ids xs ts d costs num mden ws den st m b r;
+    optimal = is_optimal P s num mden ws den st m b r;
     form = form;
     count = m.count ∙ st.rows_is;
     bounded = no_ray P num mden b;

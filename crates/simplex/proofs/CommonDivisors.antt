@@ -72,13 +72,13 @@ product_of k (negsuc m) h =
     step : (a b : ℤ) → neg_ℤ (a *ℤ b) ≡ a *ℤ neg_ℤ b
     step a b = simp ring_laws
 
-pub share_is : (c z : ℤ) → pos 0 <ℤ c → unsigned_abs c ∣ unsigned_abs z → c *ℤ int_div z c ≡ z
-share_is c z p h =
+pub quotient_is : (c z : ℤ) → pos 0 <ℤ c → unsigned_abs c ∣ unsigned_abs z → c *ℤ int_div z c ≡ z
+quotient_is c z p h =
     let q = product_of (unsigned_abs c) z h in
     let e : z ≡ c *ℤ q.0 = q.1 ∙ ap (λ (t : ℤ). t *ℤ q.0) (sym (of_size c p)) in
     ap (λ (t : ℤ). c *ℤ t) (quot_exact z c q.0 e (positive_apart c p)) ∙ sym e
 
--- ---- the shares, one by one
+-- ---- the reduced weights, one by one
 pub is_multiple : (ts : List ℤ) (n : ℕ) (d c : ℤ) (k : ℕ) → IsCommon ts n d c → k < n
     → IsMultiple c (slice_index_or ts (32 * k) (pos 0))
 is_multiple ts n d c k h lt = record {
@@ -86,14 +86,14 @@ is_multiple ts n d c k h lt = record {
       subst (λ (t : ℕ). unsigned_abs c ∣ unsigned_abs (slice_index_or ts t (pos 0))) (omega arith) (h.weights k lt);
 }
 
-pub next_share : (ts shares : List ℤ) (c : ℤ) (k : ℕ) (v : ℤ) → k < length shares
-    → c *ℤ v ≡ slice_index_or ts (32 * k) (pos 0) → ((j : ℕ) → j < k → c *ℤ weight_at shares j ≡ entry_at 32 ts j 0)
-    → (j : ℕ) → j < k + 1 → c *ℤ weight_at (set shares k v) j ≡ entry_at 32 ts j 0
-next_share ts shares c k v len e done j lt = elim (last_or_less_of j k lt) [
-  | inl same ↦ ap (λ (t : ℕ). c *ℤ weight_at (set shares k v) t) same
-      ∙ ap (λ (z : ℤ). c *ℤ z) (get_or-set_same shares k v (pos 0) len) ∙ e
+pub next_reduced : (ts reduced : List ℤ) (c : ℤ) (k : ℕ) (v : ℤ) → k < length reduced
+    → c *ℤ v ≡ slice_index_or ts (32 * k) (pos 0) → ((j : ℕ) → j < k → c *ℤ weight_at reduced j ≡ entry_at 32 ts j 0)
+    → (j : ℕ) → j < k + 1 → c *ℤ weight_at (set reduced k v) j ≡ entry_at 32 ts j 0
+next_reduced ts reduced c k v len e done j lt = elim (last_or_less_of j k lt) [
+  | inl same ↦ ap (λ (t : ℕ). c *ℤ weight_at (set reduced k v) t) same
+      ∙ ap (λ (z : ℤ). c *ℤ z) (get_or-set_same reduced k v (pos 0) len) ∙ e
       ∙ ap (λ (t : ℕ). slice_index_or ts t (pos 0)) (omega arith) ∙ ap (λ (t : ℕ). entry_at 32 ts t 0) (sym same)
   | inr less ↦
       let ne : j ≢ k = omega arith in
-      ap (λ (z : ℤ). c *ℤ z) (get_or-set_other shares k j v (pos 0) ne) ∙ done j less
+      ap (λ (z : ℤ). c *ℤ z) (get_or-set_other reduced k j v (pos 0) ne) ∙ done j less
 ]

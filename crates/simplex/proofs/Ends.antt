@@ -13,7 +13,8 @@ use Rattle.determinants.proofs.Objective.{objective}
 use Rattle.determinants.specs.Basis.{dot}
 use Rattle.determinants.specs.Matrix.{entry_at, weight_at}
 use Rattle.simplex.specs.Between.{HasAddedWeight}
-use Rattle.simplex.specs.Improving.{part_cost, AreMultipliers, IsImproving, HasDirection}
+use Rattle.simplex.specs.declared.state.State.{State}
+use Rattle.simplex.specs.Improving.{part_cost, AreMultipliersOf, IsImproving, HasDirection}
 use Rattle.simplex.specs.Program.{column, right_side, price, priced}
 use Rattle.simplex.specs.Tableau.{id_at}
 use Rattle.simplex.proofs.Steps.{value_is}
@@ -77,12 +78,12 @@ not_both z d h k = below z h (subst (λ (t : ℤ). z <ℤ t) (mul-zeroℤ d) k)
     below : (z : ℤ) → pos 0 ≤ℤ z → z <ℤ pos 0 → ⊥
     below z h k = omega (arith, linear)
 
-pub no_first_direction : (P : Program) (n : ℕ) (ids : List (Option ℕ)) (xs ts : List ℤ) (d : ℤ) (costs : List ℤ)
-    → IsImproving P false n ids xs ts d costs → HasDirection P false xs d costs → ⊥
-no_first_direction P n ids xs ts d costs st r =
-    not_both _ d (dot_nonneg P.rows (weight_at costs) (λ k. dot P.rows (entry_at 32 xs k) (column P r.id))
-    (λ k lt. times_neg (weight_at costs k) (dot P.rows (entry_at 32 xs k) (column P r.id))
-    (subst (λ (z : ℤ). z ≤ℤ pos 0) (sym (st.costs_are k lt)) (part_nonpos P (id_at ids k))) (r.lowers k lt)))
+pub no_first_direction : (P : Program) (s : State) → IsImproving P false s → HasDirection P false s → ⊥
+no_first_direction P s st r =
+    not_both _ s.den
+    (dot_nonneg P.rows (weight_at s.costs) (λ k. dot P.rows (entry_at 32 s.inverse k) (column P r.id))
+    (λ k lt. times_neg (weight_at s.costs k) (dot P.rows (entry_at 32 s.inverse k) (column P r.id))
+    (subst (λ (z : ℤ). z ≤ℤ pos 0) (sym (st.costs_are k lt)) (part_nonpos P (id_at s.ids k))) (r.lowers k lt)))
     r.above
 
 -- ---- no solution
@@ -146,26 +147,24 @@ part_below P o w e h = subst (λ (t : Option ℕ). (part_cost P false t *ℤ w) 
     below w h = omega (arith, ints)
 
 -- the objective of the right sides is what the tracked weights give
-pub objective_right : (P : Program) (w : Bool) (n : ℕ) (ids : List (Option ℕ)) (xs ts : List ℤ) (d : ℤ)
-    (costs : List ℤ) → IsImproving P w n ids xs ts d costs
-    → objective P.rows (weight_at costs) (entry_at 32 xs) (right_side P)
-    ≡ dot P.rows (weight_at costs) (λ k. entry_at 32 ts k 0)
-objective_right P w n ids xs ts d costs st =
-    dot_cong P.rows (weight_at costs) (weight_at costs) (λ k. dot P.rows (entry_at 32 xs k) (right_side P))
-    (λ k. entry_at 32 ts k 0) (λ k lt. refl) (λ k lt. sym (st.table.tracked.tracked k 0 lt (omega arith)))
+pub objective_right : (P : Program) (w : Bool) (s : State) → IsImproving P w s
+    → objective P.rows (weight_at s.costs) (entry_at 32 s.inverse) (right_side P)
+    ≡ dot P.rows (weight_at s.costs) (λ k. entry_at 32 s.tracked k 0)
+objective_right P w s st =
+    dot_cong P.rows (weight_at s.costs) (weight_at s.costs) (λ k. dot P.rows (entry_at 32 s.inverse k) (right_side P))
+    (λ k. entry_at 32 s.tracked k 0) (λ k lt. refl) (λ k lt. sym (st.table.tracked.tracked k 0 lt (omega arith)))
 
-pub no_solution : (P : Program) (n : ℕ) (ids : List (Option ℕ)) (xs ts : List ℤ) (d : ℤ) (costs num : List ℤ)
-    (den : ℤ) → IsImproving P false n ids xs ts d costs → AreMultipliers xs costs n d num den
-    → Bounds (priced P false) num den → HasAddedWeight n ids ts → HasNoSolution P
-no_solution P n ids xs ts d costs num den st m b a =
+pub no_solution : (P : Program) (s : State) (num : List ℤ) (den : ℤ) → IsImproving P false s
+    → AreMultipliersOf s num den → Bounds (priced P false) num den → HasAddedWeight s → HasNoSolution P
+no_solution P s num den st m b a =
+    let place = subst (λ (t : ℕ). a.position < t) st.rows_is a.place in
     contradicts P num den b
     (subst (λ (z : ℤ). z <ℤ pos 0)
     (sym
-    (value_is P xs costs num n d den P.right st.rows_is m ∙ objective_right P false n ids xs ts d costs st))
-    (dot_negative P.rows (weight_at costs) (λ k. entry_at 32 ts k 0) a.position
-    (subst (λ (t : ℕ). a.position < t) st.rows_is a.place)
-    (λ k lt. subst (λ (z : ℤ). (z *ℤ entry_at 32 ts k 0) ≤ℤ pos 0) (sym (st.costs_are k lt))
-    (part_times P (id_at ids k) (entry_at 32 ts k 0) (lex_first (entry_at 32 ts k 0) (st.nonneg.rows k lt))))
-    (let lt = subst (λ (t : ℕ). a.position < t) st.rows_is a.place in
-    subst (λ (z : ℤ). (z *ℤ entry_at 32 ts a.position 0) <ℤ pos 0) (sym (st.costs_are a.position lt))
-    (part_below P (id_at ids a.position) (entry_at 32 ts a.position 0) a.added a.positive))))
+    (value_is P s.inverse s.costs num s.rows s.den den P.right st.rows_is m ∙ objective_right P false s st))
+    (dot_negative P.rows (weight_at s.costs) (λ k. entry_at 32 s.tracked k 0) a.position place
+    (λ k lt. subst (λ (z : ℤ). (z *ℤ entry_at 32 s.tracked k 0) ≤ℤ pos 0) (sym (st.costs_are k lt))
+    (part_times P (id_at s.ids k) (entry_at 32 s.tracked k 0)
+    (lex_first (entry_at 32 s.tracked k 0) (st.nonneg.rows k lt))))
+    (subst (λ (z : ℤ). (z *ℤ entry_at 32 s.tracked a.position 0) <ℤ pos 0) (sym (st.costs_are a.position place))
+    (part_below P (id_at s.ids a.position) (entry_at 32 s.tracked a.position 0) a.added a.positive))))

@@ -6,6 +6,8 @@ pub mod DotProducts
 pub mod Ratios
 pub mod Tableaus
 pub mod Progress
+pub mod States
+pub mod Replaced
 pub mod Steps
 pub mod Fills
 pub mod FreshRows

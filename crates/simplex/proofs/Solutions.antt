@@ -4,7 +4,7 @@ use Rattle.std.proofs.Common.{nat_eq, Option, Some, None, arith, refl, sym, ap, 
 use Rattle.std.proofs.Common.{pos, ◌+ℤ◌, ◌-ℤ◌, ◌*ℤ◌, neg_ℤ, ◌<ℤ◌, ◌≤ℤ◌}
 use Rattle.std.specs.List.{AllByRecursion, IsDistinct}
 use Rattle.std.proofs.lemmas.Int.{ints}
-use Rattle.definitions.proofs.Ring.{ring_laws, unit_laws, linear, mul-oneℤ, mul-zeroℤ}
+use Rattle.definitions.proofs.Ring.{unit_laws, linear, mul-oneℤ, mul-zeroℤ}
 use Rattle.definitions.specs.Programs.{Program, value_of, HasRay}
 use Rattle.determinants.proofs.BasisWeights.{weights}
 use Rattle.determinants.proofs.Units.{unit_same, unit_other}
@@ -13,14 +13,15 @@ use Rattle.determinants.specs.Determinant.{Column}
 use Rattle.determinants.specs.Matrix.{entry_at, weight_at}
 use Rattle.determinants.specs.Weighted.{weigh}
 use Rattle.simplex.specs.Answer.{HasSolution}
-use Rattle.simplex.specs.Improving.{part_cost, AreMultipliers, IsImproving, HasDirection}
+use Rattle.simplex.specs.declared.state.State.{State}
+use Rattle.simplex.specs.Improving.{part_cost, AreMultipliersOf, IsImproving, HasDirection}
 use Rattle.simplex.specs.Laws.{first_columns}
 use Rattle.simplex.specs.Program.{column, right_side}
 use Rattle.simplex.specs.Reduced.{listed}
 use Rattle.simplex.specs.Tableau.{id_at, IsId, place, placed, IsInverse}
 use Rattle.simplex.proofs.DotProducts.{flipped_at, flipped_within, dot_comm}
 use Rattle.simplex.proofs.Ends.{lex_first, neg_le, objective_right}
-use Rattle.simplex.proofs.FreshRows.{own_at}
+use Rattle.simplex.proofs.FreshRows.{dot_negated, own_at}
 use Rattle.simplex.proofs.ListedWeights.{listed_all, listed_sum, listed_distinct, on_id, all_new}
 use Rattle.simplex.proofs.Steps.{value_is}
 use Rattle.simplex.proofs.Tableaus.{of_within, place_of}
@@ -99,118 +100,115 @@ pub is_column_at : (P : Program) (ids : List (Option ℕ)) (xs : List ℤ) (d : 
     → j < P.rows → id_at ids j ≡ Some id → IsTrue (P.is_column id)
 is_column_at P ids xs d h j id lt e = subst (IsId P) e (h.ids_of j lt)
 
+-- a column of the basis has a positive weight at its own position
+positive_weight : (d a u : ℤ) → a ≡ d *ℤ u → u ≡ pos 1 → pos 0 <ℤ d → a ≤ℤ pos 0 → ⊥
+positive_weight d a u e f p h =
+    not_both d (subst (λ (z : ℤ). z ≤ℤ pos 0) (e ∙ ap (λ (z : ℤ). d *ℤ z) f ∙ mul-oneℤ d) h) p
+
+above_by_one : (a b : ℤ) → b <ℤ a → pos 1 ≤ℤ (a -ℤ b)
+above_by_one a b h = omega (arith, linear)
+
 pub suc_nonneg : (u : ℕ) → pos 0 ≤ℤ pos (suc u)
 suc_nonneg u = omega (arith, ints)
 
-module _ (P : Program) (n : ℕ) (ids : List (Option ℕ)) (xs ts : List ℤ) (d : ℤ) (costs : List ℤ)
-    (st : IsImproving P true n ids xs ts d costs) where
-  pub right_clear : (k : ℕ) → k < P.rows → id_at ids k ≡ None → entry_at 32 ts k 0 ≡ pos 0
+on_id-cost : (P : Program) (o : Option ℕ) → on_id P.cost o ≡ part_cost P true o
+on_id-cost P None = refl
+on_id-cost P (Some id) = refl
+
+module _ (P : Program) (s : State) (st : IsImproving P true s) where
+  pub right_clear : (k : ℕ) → k < P.rows → id_at s.ids k ≡ None → entry_at 32 s.tracked k 0 ≡ pos 0
   right_clear k lt h = (st.silent refl k lt h).right
 
   pub right_rows : (i : ℕ) → i < P.rows
-      → dot P.rows (λ k. entry_at 32 ts k 0) (λ k. on_id (λ id. P.entry id i) (id_at ids k)) ≡ d *ℤ P.right i
+      → dot P.rows (λ k. entry_at 32 s.tracked k 0) (λ k. on_id (λ id. P.entry id i) (id_at s.ids k))
+      ≡ s.den *ℤ P.right i
   right_rows i lt =
-      spread P ids xs d (right_side P) (λ k. entry_at 32 ts k 0) st.table.inverse (flipped_within P.rows P.right)
+      spread P s.ids s.inverse s.den (right_side P) (λ k. entry_at 32 s.tracked k 0) st.table.inverse
+      (flipped_within P.rows P.right)
       (λ k l. st.table.tracked.tracked k 0 l (omega arith)) right_clear i lt
-      ∙ ap (λ (z : ℤ). d *ℤ z)
+      ∙ ap (λ (z : ℤ). s.den *ℤ z)
       (flipped_at P.rows P.right (P.rows - 1 - i) (turned_below P.rows i lt) ∙ ap P.right (turn P.rows i lt))
 
-  pub right_nonneg : (k : ℕ) → k < P.rows → pos 0 ≤ℤ entry_at 32 ts k 0
-  right_nonneg k lt = lex_first (entry_at 32 ts k 0) (st.nonneg.rows k lt)
+  pub right_nonneg : (k : ℕ) → k < P.rows → pos 0 ≤ℤ entry_at 32 s.tracked k 0
+  right_nonneg k lt = lex_first (entry_at 32 s.tracked k 0) (st.nonneg.rows k lt)
 
   listed_weights : (w : ℕ → ℤ)
-      → AllByRecursion (λ v. IsTrue (P.is_column v.0) × (pos 0 ≤ℤ v.1)) (listed ids w P.rows)
+      → AllByRecursion (λ v. IsTrue (P.is_column v.0) × (pos 0 ≤ℤ v.1)) (listed s.ids w P.rows)
   listed_weights w =
-      listed_all (λ v. IsTrue (P.is_column v.0) × (pos 0 ≤ℤ v.1)) ids w P.rows
-      (λ j id u lt e f. (is_column_at P ids xs d st.table.inverse j id lt e, suc_nonneg u))
+      listed_all (λ v. IsTrue (P.is_column v.0) × (pos 0 ≤ℤ v.1)) s.ids w P.rows
+      (λ j id u lt e f. (is_column_at P s.ids s.inverse s.den st.table.inverse j id lt e, suc_nonneg u))
 
   pub has_solution : HasSolution P
   has_solution = record {
-    weights = listed ids (λ k. entry_at 32 ts k 0) P.rows;
-    den = d;
+    weights = listed s.ids (λ k. entry_at 32 s.tracked k 0) P.rows;
+    den = s.den;
     solves = (
       (
-        listed_weights (λ k. entry_at 32 ts k 0),
-        listed_distinct ids (λ k. entry_at 32 ts k 0) P.rows (ids_apart P ids xs d st.table.inverse),
+        listed_weights (λ k. entry_at 32 s.tracked k 0),
+        listed_distinct s.ids (λ k. entry_at 32 s.tracked k 0) P.rows
+            (ids_apart P s.ids s.inverse s.den st.table.inverse),
       ),
-      at_least_one d st.table.positive,
-      λ i lt. listed_sum (λ id. P.entry id i) ids (λ k. entry_at 32 ts k 0) P.rows right_nonneg ∙ right_rows i lt,
+      at_least_one s.den st.table.positive,
+      λ i lt. listed_sum (λ id. P.entry id i) s.ids (λ k. entry_at 32 s.tracked k 0) P.rows right_nonneg
+          ∙ right_rows i lt,
     );
   }
 
-  cost_on : (k : ℕ) → k < P.rows → on_id P.cost (id_at ids k) ≡ weight_at costs k
-  cost_on k lt = same (id_at ids k) ∙ sym (st.costs_are k lt)
-    where
-      same : (o : Option ℕ) → on_id P.cost o ≡ part_cost P true o
-      same None = refl
-      same (Some id) = refl
+  cost_on : (k : ℕ) → k < P.rows → on_id P.cost (id_at s.ids k) ≡ weight_at s.costs k
+  cost_on k lt = on_id-cost P (id_at s.ids k) ∙ sym (st.costs_are k lt)
 
-  pub cost_sum : (w : ℕ → ℤ) → dot P.rows w (λ k. on_id P.cost (id_at ids k)) ≡ dot P.rows (weight_at costs) w
+  pub cost_sum : (w : ℕ → ℤ) → dot P.rows w (λ k. on_id P.cost (id_at s.ids k)) ≡ dot P.rows (weight_at s.costs) w
   cost_sum w =
-      dot_cong P.rows w w (λ k. on_id P.cost (id_at ids k)) (weight_at costs) (λ k lt. refl) cost_on
-      ∙ dot_comm P.rows w (weight_at costs)
-
-  neg_dot : (n : ℕ) (a s : ℕ → ℤ) → dot n (λ k. neg_ℤ (a k)) s ≡ neg_ℤ (dot n a s)
-  neg_dot zero a s = refl
-  neg_dot (suc n) a s = ap (λ (z : ℤ). z +ℤ neg_ℤ (a n) *ℤ s n) (neg_dot n a s) ∙ step (dot n a s) (a n) (s n)
-    where
-      step : (p a s : ℤ) → neg_ℤ p +ℤ neg_ℤ a *ℤ s ≡ neg_ℤ (p +ℤ a *ℤ s)
-      step p a s = simp ring_laws
-
-  gap : (a b c : ℤ) → b ≡ c → a +ℤ neg_ℤ b ≡ a -ℤ c
-  gap a b c e = ap (λ (z : ℤ). a -ℤ z) e
-
-  some_left : (a b : ℤ) → b <ℤ a → pos 1 ≤ℤ (a -ℤ b)
-  some_left a b h = omega (arith, linear)
+      dot_cong P.rows w w (λ k. on_id P.cost (id_at s.ids k)) (weight_at s.costs) (λ k lt. refl) cost_on
+      ∙ dot_comm P.rows w (weight_at s.costs)
 
   -- the column of a direction isn't in the basis
-  direction_new : (r : HasDirection P true xs d costs) (j id : ℕ) → j < P.rows → id_at ids j ≡ Some id → r.id ≢ id
+  direction_new : (r : HasDirection P true s) (j id : ℕ) → j < P.rows → id_at s.ids j ≡ Some id → r.id ≢ id
   direction_new r j id lt e same =
-      never d (dot P.rows (entry_at 32 xs j) (column P r.id)) (unit j j)
-      (ap (λ (t : ℕ). dot P.rows (entry_at 32 xs j) (column P t)) same
-      ∙ own_weight P ids xs d id j j st.table.inverse lt lt e) (unit_same j) st.table.positive (r.lowers j lt)
-    where
-      never : (d a u : ℤ) → a ≡ d *ℤ u → u ≡ pos 1 → pos 0 <ℤ d → a ≤ℤ pos 0 → ⊥
-      never d a u e f p h =
-          not_both d (subst (λ (z : ℤ). z ≤ℤ pos 0) (e ∙ ap (λ (z : ℤ). d *ℤ z) f ∙ mul-oneℤ d) h) p
+      positive_weight s.den (dot P.rows (entry_at 32 s.inverse j) (column P r.id)) (unit j j)
+      (ap (λ (t : ℕ). dot P.rows (entry_at 32 s.inverse j) (column P t)) same
+      ∙ own_weight P s.ids s.inverse s.den id j j st.table.inverse lt lt e) (unit_same j) st.table.positive
+      (r.lowers j lt)
 
-  pub has_ray : HasDirection P true xs d costs → HasRay P
+  pub has_ray : HasDirection P true s → HasRay P
   unfolding IsDistinct
   has_ray r =
-      let s = column P r.id in
-      let y = λ (k : ℕ). dot P.rows (entry_at 32 xs k) s in
+      let entering = column P r.id in
+      let y = λ (k : ℕ). dot P.rows (entry_at 32 s.inverse k) entering in
       let m = λ (k : ℕ). neg_ℤ (y k) in
       let lowered = λ (k : ℕ) (lt : k < P.rows). neg_le (y k) (r.lowers k lt) in (
-        (r.id, d) ∷ listed ids m P.rows,
+        (r.id, s.den) ∷ listed s.ids m P.rows,
         (
-          ((r.is_column, less_le d st.table.positive), listed_weights m),
+          ((r.is_column, less_le s.den st.table.positive), listed_weights m),
           (
-            all_new r.id (listed ids m P.rows)
-                (listed_all (λ v. nat_eq r.id v.0 ≡ false) ids m P.rows
+            all_new r.id (listed s.ids m P.rows)
+                (listed_all (λ v. nat_eq r.id v.0 ≡ false) s.ids m P.rows
                 (λ j id u lt e f. nat_eq-other r.id id (direction_new r j id lt e))),
-            listed_distinct ids m P.rows (ids_apart P ids xs d st.table.inverse),
+            listed_distinct s.ids m P.rows (ids_apart P s.ids s.inverse s.den st.table.inverse),
           ),
         ),
-        λ i lt. ap (λ (z : ℤ). d *ℤ P.entry r.id i +ℤ z)
-            (listed_sum (λ id. P.entry id i) ids m P.rows lowered
-            ∙ neg_dot P.rows y (λ k. on_id (λ id. P.entry id i) (id_at ids k)))
-            ∙ gap_of (d *ℤ P.entry r.id i) (dot P.rows y (λ k. on_id (λ id. P.entry id i) (id_at ids k)))
+        λ i lt. ap (λ (z : ℤ). s.den *ℤ P.entry r.id i +ℤ z)
+            (listed_sum (λ id. P.entry id i) s.ids m P.rows lowered
+            ∙ dot_negated P.rows y m (λ k. on_id (λ id. P.entry id i) (id_at s.ids k)) (λ k l. refl))
+            ∙ gap_of (s.den *ℤ P.entry r.id i) (dot P.rows y (λ k. on_id (λ id. P.entry id i) (id_at s.ids k)))
             (sym
-            (spread P ids xs d s y st.table.inverse (flipped_within P.rows (P.entry r.id)) (λ k l. refl)
+            (spread P s.ids s.inverse s.den entering y st.table.inverse (flipped_within P.rows (P.entry r.id))
+            (λ k l. refl)
             (λ k l h. (st.silent refl k l h).columns r.id r.is_column) i lt
-            ∙ ap (λ (z : ℤ). d *ℤ z)
+            ∙ ap (λ (z : ℤ). s.den *ℤ z)
             (flipped_at P.rows (P.entry r.id) (P.rows - 1 - i) (turned_below P.rows i lt)
             ∙ ap (P.entry r.id) (turn P.rows i lt)))),
         subst (λ (z : ℤ). pos 1 ≤ℤ z)
             (sym
-            (ap (λ (z : ℤ). d *ℤ P.cost r.id +ℤ z)
-            (listed_sum P.cost ids m P.rows lowered ∙ neg_dot P.rows y (λ k. on_id P.cost (id_at ids k))
+            (ap (λ (z : ℤ). s.den *ℤ P.cost r.id +ℤ z)
+            (listed_sum P.cost s.ids m P.rows lowered
+            ∙ dot_negated P.rows y m (λ k. on_id P.cost (id_at s.ids k)) (λ k l. refl)
             ∙ ap neg_ℤ (cost_sum y))))
-            (some_left (d *ℤ P.cost r.id) (dot P.rows (weight_at costs) y) r.above),
+            (above_by_one (s.den *ℤ P.cost r.id) (dot P.rows (weight_at s.costs) y) r.above),
       )
 
-  pub value_right : (num : List ℤ) (den : ℤ) → AreMultipliers xs costs n d num den
-      → value_of P num P.right ≡ dot P.rows (λ k. entry_at 32 ts k 0) (λ k. on_id P.cost (id_at ids k))
+  pub value_right : (num : List ℤ) (den : ℤ) → AreMultipliersOf s num den
+      → value_of P num P.right ≡ dot P.rows (λ k. entry_at 32 s.tracked k 0) (λ k. on_id P.cost (id_at s.ids k))
   value_right num den m =
-      value_is P xs costs num n d den P.right st.rows_is m ∙ objective_right P true n ids xs ts d costs st
-      ∙ sym (cost_sum (λ k. entry_at 32 ts k 0))
+      value_is P s.inverse s.costs num s.rows s.den den P.right st.rows_is m ∙ objective_right P true s st
+      ∙ sym (cost_sum (λ k. entry_at 32 s.tracked k 0))

@@ -12,6 +12,7 @@ use Rattle.std.specs.Prelude.{◌<ℤ◌, List, [], ◌∷◌, ◌++◌, Option,
 use Prim.Native.Nat.{◌∣◌}
 use Rattle.determinants.specs.Matrix.{entry_at}
 use Rattle.simplex.specs.Tableau.{id_at}
+use Rattle.simplex.specs.declared.state.State.{State}
 
 -- whether a number is positive
 abbrev pub is_positive : ℤ → Bool
@@ -42,11 +43,10 @@ pub record IsCommon (ts : List ℤ) (n : ℕ) (d c : ℤ) : Type 0 where
       → g ∣ unsigned_abs c
 
 -- the weights of a basis over their common divisor with the denominator
-pub record AreReduced (n : ℕ) (ids : List (Option ℕ)) (ts : List ℤ) (d : ℤ) (ws : List (ℕ × ℤ)) (den : ℤ) : Type 0
-  where
-    pub common : ℤ
-    pub shares : ℕ → ℤ
-    pub is_common : IsCommon ts n d common
-    pub den_is : common *ℤ den ≡ d
-    pub shares_are : (k : ℕ) → k < n → common *ℤ shares k ≡ entry_at 32 ts k 0
-    pub weights_are : ws ≡ listed ids shares n
+pub record AreReduced (s : State) (ws : List (ℕ × ℤ)) (den : ℤ) : Type 0 where
+  pub common : ℤ
+  pub reduced : ℕ → ℤ
+  pub is_common : IsCommon s.tracked s.rows s.den common
+  pub den_is : common *ℤ den ≡ s.den
+  pub reduced_are : (k : ℕ) → k < s.rows → common *ℤ reduced k ≡ entry_at 32 s.tracked k 0
+  pub weights_are : ws ≡ listed s.ids reduced s.rows

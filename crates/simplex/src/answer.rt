@@ -37,25 +37,25 @@ fn common_of(tracked: &[i128; 1024], n: usize, den: i128) -> i128
 }
 
 /// A number over a divisor of it.
-fn share(weight: i128, common: i128) -> i128
+fn reduced_number(number: i128, common: i128) -> i128
     requires positive { pos 0 <ℤ common }
-    requires divides { IsMultiple common weight }
-    ensures { common *ℤ result ≡ weight }
+    requires divides { IsMultiple common number }
+    ensures { common *ℤ result ≡ number }
 {
-    weight / common
+    number / common
 }
 
-/// The weights of the right sides over their common divisor.
-fn shares_of(tracked: &[i128; 1024], n: usize, den: i128, common: i128) -> [i128; 32]
+/// The reduced weights of the right sides: over their common divisor with the denominator.
+fn reduced_weights(tracked: &[i128; 1024], n: usize, den: i128, common: i128) -> [i128; 32]
     requires rows { n ≤ 31 }
     requires common { IsCommon tracked.now n den common }
     ensures { (k : ℕ) → k < n → common *ℤ weight_at result k ≡ entry_at 32 tracked.now k 0 }
 {
-    let mut shares = [0; 32];
+    let mut weights = [0; 32];
     for k in 0..n {
-        shares[k] = share(tracked[32 * k], common);
+        weights[k] = reduced_number(tracked[32 * k], common);
     }
-    shares
+    weights
 }
 
 /// Adds the column at a position, if there is one and its weight is positive.
@@ -70,14 +70,18 @@ fn add_weight(weights: &mut ArrayVec<(u64, i128), 31>, id: Option<u64>, weight: 
     }
 }
 
-/// The columns that have a positive weight.
-fn weights_from(ids: &[Option<u64>; 32], shares: &[i128; 32], n: usize) -> ArrayVec<(u64, i128), 31>
+/// The columns that have a positive weight, by their reduced weights.
+fn weights_from(
+    ids: &[Option<u64>; 32],
+    reduced: &[i128; 32],
+    n: usize,
+) -> ArrayVec<(u64, i128), 31>
     requires { n ≤ 31 }
-    ensures { result.items ≡ listed ids.now (weight_at shares.now) n }
+    ensures { result.items ≡ listed ids.now (weight_at reduced.now) n }
 {
     let mut weights = ArrayVec::new();
     for k in 0..n {
-        add_weight(&mut weights, ids[k], shares[k]);
+        add_weight(&mut weights, ids[k], reduced[k]);
     }
     weights
 }
@@ -87,15 +91,14 @@ pub(crate) fn answer_of(work: &State, multipliers: Multipliers) -> Optimal
     requires rows { work.now.rows ≤ 31 }
     requires positive { pos 0 <ℤ work.now.den }
     requires small { unsigned_abs work.now.den ≤ limit }
-    ensures weights { AreReduced work.now.rows work.now.ids work.now.tracked work.now.den result.weights.items
-        result.weight_den }
+    ensures weights { AreReduced work.now result.weights.items result.weight_den }
     ensures multipliers { result.multipliers ≡ multipliers }
 {
     let common = common_of(&work.tracked, work.rows, work.den);
-    let shares = shares_of(&work.tracked, work.rows, work.den, common);
+    let reduced = reduced_weights(&work.tracked, work.rows, work.den, common);
     Optimal {
-        weights: weights_from(&work.ids, &shares, work.rows),
-        weight_den: share(work.den, common),
+        weights: weights_from(&work.ids, &reduced, work.rows),
+        weight_den: reduced_number(work.den, common),
         multipliers,
     }
 }

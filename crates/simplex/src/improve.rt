@@ -11,7 +11,7 @@
 
 ghost use Rattle.std.specs.Prelude.{◌≡◌, MatchOption};
 ghost use Rattle.definitions.specs.Programs.{Bounds};
-ghost use Rattle.simplex.specs.Improving.{AreMultipliers, HasDirection, IsImproving};
+ghost use Rattle.simplex.specs.Improving.{AreMultipliersOf, HasDirection, IsImproving};
 ghost use Rattle.simplex.specs.Program.{priced};
 
 use crate::columns::{Columns, load_column, price_of};
@@ -27,15 +27,13 @@ pub(crate) fn improve<C: Columns>(
     columns: &mut C,
     with_costs: bool,
 ) -> Option<Multipliers>
-    requires { IsImproving (C.program columns.old) with_costs
-        work.old.rows work.old.ids work.old.inverse work.old.tracked work.old.den work.old.costs }
+    requires { IsImproving (C.program columns.old) with_costs work.old }
     ensures same { C.program columns.new ≡ C.program columns.old }
     ensures same_players { C.players columns.new ≡ C.players columns.old }
-    ensures state { IsImproving (C.program columns.new) with_costs
-        work.new.rows work.new.ids work.new.inverse work.new.tracked work.new.den work.new.costs }
+    ensures state { IsImproving (C.program columns.new) with_costs work.new }
     ensures answer { MatchOption result
-        (HasDirection (C.program columns.new) with_costs work.new.inverse work.new.den work.new.costs)
-        (λ m. AreMultipliers work.new.inverse work.new.costs work.new.rows work.new.den m.num.items m.den
+        (HasDirection (C.program columns.new) with_costs work.new)
+        (λ m. AreMultipliersOf work.new m.num.items m.den
         × Bounds (priced (C.program columns.new) with_costs) m.num.items m.den) }
 {
     loop {

@@ -23,10 +23,8 @@ fn right_weights(tracked: &[i128; 1024], n: usize) -> [i128; 32]
 
 /// Takes the basis as the reference columns, and the columns' own costs.
 pub(crate) fn restart<C: Columns>(work: &mut State, columns: &C)
-    requires { IsBetween (C.program columns.now)
-        work.old.rows work.old.ids work.old.inverse work.old.tracked work.old.den work.old.rows }
-    ensures { IsImproving (C.program columns.now) true
-        work.new.rows work.new.ids work.new.inverse work.new.tracked work.new.den work.new.costs }
+    requires { IsBetween (C.program columns.now) work.old work.old.rows }
+    ensures { IsImproving (C.program columns.now) true work.new }
 {
     let n = work.rows;
     let right = right_weights(&work.tracked, n);

@@ -5,6 +5,6 @@ use Rattle.simplex.proofs.answer.weights_from.Given as goal
 
 abbrev pub invariant-loop-k : goal.invariant-loop-k
 invariant-loop-k l = record {
-  items : l.weights.items ≡ listed l.ids (weight_at l.shares) l.k;
+  items : l.weights.items ≡ listed l.ids (weight_at l.reduced) l.k;
   count : length l.weights.items ≤ l.k;
 }

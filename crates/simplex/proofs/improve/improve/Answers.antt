@@ -1,13 +1,15 @@
-use Rattle.std.proofs.Common.{rules, [], refl, ◌≡◌, length, ◌∙◌, FitsSigned}
+use Rattle.std.proofs.Common.{rules, refl, ◌∙◌, FitsSigned}
 use mir.Syntax.{w128}
 use Rattle.std.proofs.lemmas.Int.{to_z-of_z}
-use Rattle.simplex.specs.Improving.{AreMultipliers}
+use Rattle.simplex.specs.Improving.{AreMultipliersOf, IsImproving, HasDirection}
 use Rattle.simplex.proofs.Minors.{tame_of}
 use Rattle.simplex.proofs.Rows.{few_rows, within_32}
+use Rattle.simplex.proofs.Replaced
+use Rattle.simplex.proofs.States.{holds_after_use}
 use Rattle.simplex.proofs.Steps
 use Rattle.simplex.proofs.Entered
 use Rattle.simplex.proofs.improve.improve.Given.{Over}
-use Rattle.simplex.proofs.improve.improve.Goals.{After-multipliers_of-m, In-Some-least_ratio}
+use Rattle.simplex.proofs.improve.improve.Goals.{After-multipliers_of-m, In-Some-least_ratio, After-replace}
 use Rattle.simplex.proofs.improve.improve.Goals as goal
 
 pub loop-id-init : goal.loop-id-init
@@ -28,16 +30,14 @@ invariant_of-work g c = record { ids_count = c.loop-id.work.ids_count; costs_cou
 
 pub multipliers_of-m-requires-clause-small : goal.multipliers_of-m-requires-clause-small
 multipliers_of-m-requires-clause-small g c =
-    let w = c.loop-id.work in
-    Steps.inverse_small (g.C.Columns.program c.loop-id.columns) c.args.with_costs w.rows w.ids w.inverse w.tracked
-    w.den w.costs (tame_of (g.C.Columns.program c.loop-id.columns) (g.met.C.Columns.lawful c.loop-id.columns))
+    Steps.inverse_small (g.C.Columns.program c.loop-id.columns) c.args.with_costs c.loop-id.work
+    (tame_of (g.C.Columns.program c.loop-id.columns) (g.met.C.Columns.lawful c.loop-id.columns))
     c.loop-id.invariant.state
 
 pub multipliers_of-m-requires-clause-costs_small : goal.multipliers_of-m-requires-clause-costs_small
 multipliers_of-m-requires-clause-costs_small g c =
-    let w = c.loop-id.work in
-    Steps.costs_small (g.C.Columns.program c.loop-id.columns) c.args.with_costs w.rows w.ids w.inverse w.tracked
-    w.den w.costs (tame_of (g.C.Columns.program c.loop-id.columns) (g.met.C.Columns.lawful c.loop-id.columns))
+    Steps.costs_small (g.C.Columns.program c.loop-id.columns) c.args.with_costs c.loop-id.work
+    (tame_of (g.C.Columns.program c.loop-id.columns) (g.met.C.Columns.lawful c.loop-id.columns))
     c.loop-id.invariant.state
 
 pub multipliers_of-m-requires-clause-den_small : goal.multipliers_of-m-requires-clause-den_small
@@ -45,8 +45,8 @@ multipliers_of-m-requires-clause-den_small g c =
     let w = c.loop-id.work in
     let fd : FitsSigned w128 w.den = search rules in
     simp to_z-of_z
-    (Steps.den_small (g.C.Columns.program c.loop-id.columns) c.args.with_costs w.rows w.ids w.inverse w.tracked
-    w.den w.costs (tame_of (g.C.Columns.program c.loop-id.columns) (g.met.C.Columns.lawful c.loop-id.columns))
+    (Steps.den_small (g.C.Columns.program c.loop-id.columns) c.args.with_costs w
+    (tame_of (g.C.Columns.program c.loop-id.columns) (g.met.C.Columns.lawful c.loop-id.columns))
     c.loop-id.invariant.state)
 
 pub rising-requires : goal.rising-requires
@@ -60,16 +60,16 @@ returns-in_default-clause-same_players g c = c.rising.ensures.same_players ∙ c
 
 pub returns-in_default-clause-state : goal.returns-in_default-clause-state
 returns-in_default-clause-state g c =
-    let w = c.loop-id.work in
-    Entered.state_of (g.C.Columns.program c.loop-id.columns) (g.C.Columns.program c.rising.new.self)
-    c.args.with_costs c.rising.ensures.same w.rows w.ids w.inverse w.tracked w.den w.costs
-    c.loop-id.invariant.state
+    let P = g.C.Columns.program c.loop-id.columns in
+    let Q = g.C.Columns.program c.rising.new.self in
+    holds_after_use (IsImproving Q c.args.with_costs) c.loop-id.work _ _
+    (Entered.state_of P Q c.args.with_costs c.rising.ensures.same c.loop-id.work c.loop-id.invariant.state)
 
 pub load_column-column-requires-clause-column : goal.load_column-column-requires-clause-column
 load_column-column-requires-clause-column g c =
-    Entered.column_of (g.C.Columns.program c.loop-id.columns) (g.C.Columns.program c.rising.new.self)
+    (Entered.rising_of (g.C.Columns.program c.loop-id.columns) (g.C.Columns.program c.rising.new.self)
     c.args.with_costs (c.in-Some.ensures {u = tt}).same c.multipliers_of-m.result.num.items
-    c.multipliers_of-m.result.den c.in-Some.id (c.in-Some.ensures {u = tt}).answer
+    c.multipliers_of-m.result.den c.in-Some.id (c.in-Some.ensures {u = tt}).answer).is_column
 
 pub load_column-column-requires-clause-rows : goal.load_column-column-requires-clause-rows
 load_column-column-requires-clause-rows g c =
@@ -89,9 +89,8 @@ invariant_of-work-in-loop-id g c =
 
 pub weights_of-weights-requires-clause-small : goal.weights_of-weights-requires-clause-small
 weights_of-weights-requires-clause-small g c =
-    let w = c.loop-id.work in
-    Steps.inverse_small (g.C.Columns.program c.loop-id.columns) c.args.with_costs w.rows w.ids w.inverse w.tracked
-    w.den w.costs (tame_of (g.C.Columns.program c.loop-id.columns) (g.met.C.Columns.lawful c.loop-id.columns))
+    Steps.inverse_small (g.C.Columns.program c.loop-id.columns) c.args.with_costs c.loop-id.work
+    (tame_of (g.C.Columns.program c.loop-id.columns) (g.met.C.Columns.lawful c.loop-id.columns))
     c.loop-id.invariant.state
 
 pub least_ratio-requires-clause-rows : goal.least_ratio-requires-clause-rows
@@ -105,14 +104,12 @@ invariant_of-work-in-loop-id-2 g c =
 
 pub least_ratio-requires-clause-small : goal.least_ratio-requires-clause-small
 least_ratio-requires-clause-small g c =
-    let w = c.loop-id.work in
-    Steps.tracked_small (g.C.Columns.program c.loop-id.columns) c.args.with_costs w.rows w.ids w.inverse w.tracked
-    w.den w.costs (tame_of (g.C.Columns.program c.loop-id.columns) (g.met.C.Columns.lawful c.loop-id.columns))
+    Steps.tracked_small (g.C.Columns.program c.loop-id.columns) c.args.with_costs c.loop-id.work
+    (tame_of (g.C.Columns.program c.loop-id.columns) (g.met.C.Columns.lawful c.loop-id.columns))
     c.loop-id.invariant.state
 
 multipliers : (g : Over) (c : After-multipliers_of-m g)
-    → AreMultipliers c.loop-id.work.inverse c.loop-id.work.costs c.loop-id.work.rows c.loop-id.work.den
-    c.multipliers_of-m.result.num.items c.multipliers_of-m.result.den
+    → AreMultipliersOf c.loop-id.work c.multipliers_of-m.result.num.items c.multipliers_of-m.result.den
 multipliers g c =
     let fd : FitsSigned w128 c.loop-id.work.den = search rules in
     simp to_z-of_z at c.multipliers_of-m.ensures
@@ -127,29 +124,30 @@ returns-in_default-clause-answer g c =
 
 pub weights_of-weights-requires-clause-column_small : goal.weights_of-weights-requires-clause-column_small
 weights_of-weights-requires-clause-column_small g c =
+    let P = g.C.Columns.program c.loop-id.columns in
+    let Q = g.C.Columns.program c.rising.new.self in
     let w = c.loop-id.work in
     let m = c.multipliers_of-m.result in
     let enter = c.in-Some.ensures {u = tt} in
-    Steps.loaded_small (g.C.Columns.program c.loop-id.columns) (g.C.Columns.program c.rising.new.self)
-    c.args.with_costs w.rows w.ids w.inverse w.tracked w.den w.costs c.load_column-column.result [] m.num.items
-    m.den c.in-Some.id enter.same
-    (tame_of (g.C.Columns.program c.rising.new.self) (g.met.C.Columns.lawful c.rising.new.self))
-    c.loop-id.invariant.state
-    (multipliers g (goal.at.weights_of-weights-requires-clause-column_small g c).After-multipliers_of-m)
-    enter.answer c.load_column-column.ensures
+    Steps.loaded_small Q c.args.with_costs w (tame_of Q (g.met.C.Columns.lawful c.rising.new.self))
+    (Entered.state_of P Q c.args.with_costs enter.same w c.loop-id.invariant.state) m.num.items m.den
+    (multipliers g (goal.at.weights_of-weights-requires-clause-column_small g c).After-multipliers_of-m) c.in-Some.id
+    (Entered.rising_of P Q c.args.with_costs enter.same m.num.items m.den c.in-Some.id enter.answer)
+    c.load_column-column.result c.load_column-column.ensures
 
 pub least_ratio-requires-clause-weights_small : goal.least_ratio-requires-clause-weights_small
 least_ratio-requires-clause-weights_small g c =
+    let P = g.C.Columns.program c.loop-id.columns in
+    let Q = g.C.Columns.program c.rising.new.self in
     let w = c.loop-id.work in
     let m = c.multipliers_of-m.result in
     let enter = c.in-Some.ensures {u = tt} in
-    Steps.ratio_small (g.C.Columns.program c.loop-id.columns) (g.C.Columns.program c.rising.new.self)
-    c.args.with_costs w.rows w.ids w.inverse w.tracked w.den w.costs c.load_column-column.result
-    c.weights_of-weights.result m.num.items m.den c.in-Some.id enter.same
-    (tame_of (g.C.Columns.program c.rising.new.self) (g.met.C.Columns.lawful c.rising.new.self))
-    c.loop-id.invariant.state
-    (multipliers g (goal.at.least_ratio-requires-clause-weights_small g c).After-multipliers_of-m) enter.answer
-    c.load_column-column.ensures c.weights_of-weights.ensures
+    Steps.ratio_small Q c.args.with_costs w (tame_of Q (g.met.C.Columns.lawful c.rising.new.self))
+    (Entered.state_of P Q c.args.with_costs enter.same w c.loop-id.invariant.state) m.num.items m.den
+    (multipliers g (goal.at.least_ratio-requires-clause-weights_small g c).After-multipliers_of-m) c.in-Some.id
+    (Entered.rising_of P Q c.args.with_costs enter.same m.num.items m.den c.in-Some.id enter.answer)
+    c.load_column-column.result c.load_column-column.ensures
+    c.weights_of-weights.result c.weights_of-weights.ensures
 
 pub returns-in_default-least_ratio-clause-same : goal.returns-in_default-least_ratio-clause-same
 returns-in_default-least_ratio-clause-same g c = c.rising.ensures.same ∙ c.loop-id.invariant.same
@@ -160,50 +158,51 @@ returns-in_default-least_ratio-clause-same_players g c =
 
 pub returns-in_default-least_ratio-clause-state : goal.returns-in_default-least_ratio-clause-state
 returns-in_default-least_ratio-clause-state g c =
-    let w = c.loop-id.work in
-    Entered.state_of (g.C.Columns.program c.loop-id.columns) (g.C.Columns.program c.rising.new.self)
-    c.args.with_costs c.rising.ensures.same w.rows w.ids w.inverse w.tracked w.den w.costs
-    c.loop-id.invariant.state
+    let P = g.C.Columns.program c.loop-id.columns in
+    let Q = g.C.Columns.program c.rising.new.self in
+    holds_after_use (IsImproving Q c.args.with_costs) c.loop-id.work _ _
+    (Entered.state_of P Q c.args.with_costs c.rising.ensures.same c.loop-id.work c.loop-id.invariant.state)
 
 pub returns-in_default-least_ratio-clause-answer : goal.returns-in_default-least_ratio-clause-answer
 returns-in_default-least_ratio-clause-answer g c =
+    let P = g.C.Columns.program c.loop-id.columns in
+    let Q = g.C.Columns.program c.rising.new.self in
     let w = c.loop-id.work in
     let m = c.multipliers_of-m.result in
     let enter = c.in-Some.ensures {u = tt} in
-    Steps.endless (g.C.Columns.program c.loop-id.columns) (g.C.Columns.program c.rising.new.self) c.args.with_costs
-    w.rows w.ids w.inverse w.tracked w.den w.costs c.load_column-column.result c.weights_of-weights.result
-    m.num.items m.den c.in-Some.id enter.same
-    (tame_of (g.C.Columns.program c.rising.new.self) (g.met.C.Columns.lawful c.rising.new.self))
-    c.loop-id.invariant.state
-    (multipliers g (goal.at.returns-in_default-least_ratio-clause-answer g c).After-multipliers_of-m) enter.answer
-    c.load_column-column.ensures c.weights_of-weights.ensures (c.in_default-least_ratio.ensures {u = tt})
+    holds_after_use (HasDirection Q c.args.with_costs) w _ _
+    (Steps.endless Q c.args.with_costs w (tame_of Q (g.met.C.Columns.lawful c.rising.new.self))
+    (Entered.state_of P Q c.args.with_costs enter.same w c.loop-id.invariant.state) m.num.items m.den
+    (multipliers g (goal.at.returns-in_default-least_ratio-clause-answer g c).After-multipliers_of-m) c.in-Some.id
+    (Entered.rising_of P Q c.args.with_costs enter.same m.num.items m.den c.in-Some.id enter.answer)
+    c.load_column-column.result c.load_column-column.ensures
+    c.weights_of-weights.result c.weights_of-weights.ensures (c.in_default-least_ratio.ensures {u = tt}))
 
 -- the facts of a step
-step : (g : Over) (c : In-Some-least_ratio g)
-    → let w = c.loop-id.work in
-    Steps.Step (g.C.Columns.program c.rising.new.self) c.args.with_costs w.rows w.ids w.inverse w.tracked w.den
-    w.costs c.weights_of-weights.result c.in-Some.id c.in-Some-least_ratio.p
-step g c =
-    let w = c.loop-id.work in
-    let fd : FitsSigned w128 w.den = search rules in
-    let m = c.multipliers_of-m.result in
+facts : (g : Over) (c : In-Some-least_ratio g)
+    → Steps.Step (g.C.Columns.program c.rising.new.self) c.args.with_costs c.loop-id.work c.weights_of-weights.result
+    c.in-Some-least_ratio.p c.in-Some.id
+facts g c =
+    let fd : FitsSigned w128 c.loop-id.work.den = search rules in
     let are = simp to_z-of_z at c.multipliers_of-m.ensures in
+    let P = g.C.Columns.program c.loop-id.columns in
+    let Q = g.C.Columns.program c.rising.new.self in
+    let w = c.loop-id.work in
+    let m = c.multipliers_of-m.result in
     let enter = c.in-Some.ensures {u = tt} in
-    let len_ids : length w.ids ≡ 32 = w.ids_count in
-    let len_costs : length w.costs ≡ 32 = w.costs_count in
-    let p = c.in-Some-least_ratio.p in
-    Steps.step_of (g.C.Columns.program c.loop-id.columns) (g.C.Columns.program c.rising.new.self) c.args.with_costs
-    w.rows w.ids w.inverse w.tracked w.den w.costs c.load_column-column.result c.weights_of-weights.result
-    m.num.items m.den c.in-Some.id enter.same
-    (tame_of (g.C.Columns.program c.rising.new.self) (g.met.C.Columns.lawful c.rising.new.self))
-    c.loop-id.invariant.state are enter.answer c.load_column-column.ensures c.weights_of-weights.ensures p
-    (c.in-Some-least_ratio.ensures {u = tt}) len_ids len_costs
+    Steps.step_of Q c.args.with_costs w (tame_of Q (g.met.C.Columns.lawful c.rising.new.self))
+    (Entered.state_of P Q c.args.with_costs enter.same w c.loop-id.invariant.state) m.num.items m.den
+    are c.in-Some.id
+    (Entered.rising_of P Q c.args.with_costs enter.same m.num.items m.den c.in-Some.id enter.answer)
+    c.load_column-column.result c.load_column-column.ensures
+    c.weights_of-weights.result c.weights_of-weights.ensures c.in-Some-least_ratio.p
+    (c.in-Some-least_ratio.ensures {u = tt})
 
 pub price_of-cost-requires : goal.price_of-cost-requires
 price_of-cost-requires g c =
-    Entered.column_of (g.C.Columns.program c.loop-id.columns) (g.C.Columns.program c.rising.new.self)
+    (Entered.rising_of (g.C.Columns.program c.loop-id.columns) (g.C.Columns.program c.rising.new.self)
     c.args.with_costs (c.in-Some.ensures {u = tt}).same c.multipliers_of-m.result.num.items
-    c.multipliers_of-m.result.den c.in-Some.id (c.in-Some.ensures {u = tt}).answer
+    c.multipliers_of-m.result.den c.in-Some.id (c.in-Some.ensures {u = tt}).answer).is_column
 
 pub replace-requires-clause-few : goal.replace-requires-clause-few
 replace-requires-clause-few g c =
@@ -218,40 +217,41 @@ replace-requires-clause-apart g c = c.loop-id.invariant.state.table.inverse.basi
 
 pub replace-requires-clause-can : goal.replace-requires-clause-can
 replace-requires-clause-can g c =
-    Steps.can _ _ _ _ _ _ _ _ _ _ _ (step g (goal.at.replace-requires-clause-can g c).In-Some-least_ratio)
+    Replaced.can _ _ _ _ _ (facts g (goal.at.replace-requires-clause-can g c).In-Some-least_ratio).can
 
 pub replace-requires-clause-can_track : goal.replace-requires-clause-can_track
 replace-requires-clause-can_track g c =
-    Steps.can_track _ _ _ _ _ _ _ _ _ _ _
-    (step g (goal.at.replace-requires-clause-can_track g c).In-Some-least_ratio)
+    Replaced.can_track _ _ _ _ _ (facts g (goal.at.replace-requires-clause-can_track g c).In-Some-least_ratio).can
+
+-- what `replace` made of the state
+replaced : (g : Over) (c : After-replace g)
+    → Replaced.IsReplaced c.loop-id.work c.weights_of-weights.result c.in-Some-least_ratio.p c.in-Some.id
+    c.price_of-cost.result c.replace.new.self
+replaced g c =
+    let fc : FitsSigned w128 c.price_of-cost.result = search rules in
+    let r = simp to_z-of_z at c.replace.ensures in
+    record {
+      rows = r.rows;
+      inverse = r.inverse;
+      tracked = r.tracked;
+      den = r.den;
+      ids = r.ids;
+      costs = r.costs;
+    }
 
 pub loop-id-smaller : goal.loop-id-smaller
 loop-id-smaller g c =
-    let w = c.loop-id.work in
-    let v = c.replace.new.self in
-    let fc : FitsSigned w128 c.price_of-cost.result = search rules in
-    let r = simp to_z-of_z at c.replace.ensures in
-    Steps.replaced_room w.rows v.rows v.tracked v.den w.costs v.costs c.weights_of-weights.result _
-    c.price_of-cost.result _ r.rows r.den r.costs
-    (Steps.smaller _ _ _ _ _ _ _ _ _ _ _ (step g (goal.at.loop-id-smaller g c).In-Some-least_ratio) v.inverse
-    v.tracked c.price_of-cost.result c.price_of-cost.ensures r.inverse r.tracked)
+    let at = goal.at.loop-id-smaller g c in
+    Steps.smaller _ _ _ _ _ _ (facts g at.In-Some-least_ratio) _ _ c.price_of-cost.ensures
+    (replaced g at.After-replace)
 
 pub loop-id-preserved : goal.loop-id-preserved
 loop-id-preserved g c =
-    let w = c.loop-id.work in
-    let p = c.in-Some-least_ratio.p in
-    let s = step g (goal.at.loop-id-preserved g c).In-Some-least_ratio in
-    let fc : FitsSigned w128 c.price_of-cost.result = search rules in
-    let r = simp to_z-of_z at c.replace.ensures in
-    let v = c.replace.new.self in
+    let at = goal.at.loop-id-preserved g c in
     record {
       same = (c.in-Some.ensures {u = tt}).same ∙ c.loop-id.invariant.same;
       same_players = (c.in-Some.ensures {u = tt}).same_players ∙ c.loop-id.invariant.same_players;
       state =
-          Steps.replaced_state (g.C.Columns.program c.rising.new.self) c.args.with_costs w.rows v.rows w.ids v.ids
-          v.inverse v.tracked v.den w.costs v.costs c.weights_of-weights.result c.in-Some.id p
-          c.price_of-cost.result r.rows r.ids r.den r.costs
-          (Steps.next_state (g.C.Columns.program c.rising.new.self) c.args.with_costs w.rows w.ids w.inverse
-          w.tracked w.den w.costs c.weights_of-weights.result c.in-Some.id p s v.inverse v.tracked
-          c.price_of-cost.result c.price_of-cost.ensures r.inverse r.tracked);
+          Steps.next_state _ _ _ _ _ _ (facts g at.In-Some-least_ratio) _ _ c.price_of-cost.ensures
+          (replaced g at.After-replace);
     }

@@ -7,8 +7,7 @@ abbrev pub invariant-loop-id : goal.invariant-loop-id
 invariant-loop-id g l = record {
   same : g.C.Columns.program l.columns ≡ g.C.Columns.program l.fn.columns;
   same_players : g.C.Columns.players l.columns ≡ g.C.Columns.players l.fn.columns;
-  state : IsImproving (g.C.Columns.program l.columns) l.with_costs l.work.rows l.work.ids l.work.inverse
-      l.work.tracked l.work.den l.work.costs;
+  state : IsImproving (g.C.Columns.program l.columns) l.with_costs l.work;
 }
 
 abbrev pub decreases-loop-id : goal.decreases-loop-id

@@ -11,19 +11,16 @@ use Rattle.simplex.proofs.solving.solve_in.Goals as goal
 
 pub unreachable-requires : goal.unreachable-requires
 unreachable-requires g c =
-    let w = c.improve.new.work in
     let e = c.in_default.ensures {u = tt} in
-    Ends.no_first_direction (g.C.Columns.program c.improve.new.columns) w.rows w.ids w.inverse w.tracked w.den
-    w.costs e.state e.answer
+    Ends.no_first_direction (g.C.Columns.program c.improve.new.columns) c.improve.new.work e.state e.answer
 
 pub returns-then-has_added_weight-clause-answer : goal.returns-then-has_added_weight-clause-answer
 returns-then-has_added_weight-clause-answer g c =
-    let w = c.improve.new.work in
     let m = c.in-Some._bounds in
     let e = c.in-Some.ensures {u = tt} in
     subst HasNoSolution e.same
-    (Ends.no_solution (g.C.Columns.program c.improve.new.columns) w.rows w.ids w.inverse w.tracked w.den w.costs
-    m.num.items m.den e.state e.answer.0 e.answer.1 (c.if-has_added_weight.ensures {u = tt}))
+    (Ends.no_solution (g.C.Columns.program c.improve.new.columns) c.improve.new.work m.num.items m.den e.state
+    e.answer.0 e.answer.1 (c.if-has_added_weight.ensures {u = tt}))
 
 pub returns-in_default-improve-clause-answer : goal.returns-in_default-improve-clause-answer
 returns-in_default-improve-clause-answer g c =
@@ -31,8 +28,8 @@ returns-in_default-improve-clause-answer g c =
     let w = c.improve-2.new.work in
     let e = c.in_default-improve.ensures {u = tt} in
     let same = e.same ∙ c.loop-k.invariant.same in (
-      subst HasSolution same (Solutions.has_solution P w.rows w.ids w.inverse w.tracked w.den w.costs e.state),
-      subst HasRay same (Solutions.has_ray P w.rows w.ids w.inverse w.tracked w.den w.costs e.state e.answer),
+      subst HasSolution same (Solutions.has_solution P w e.state),
+      subst HasRay same (Solutions.has_ray P w e.state e.answer),
     )
 
 pub answer_of-requires-clause-small : goal.answer_of-requires-clause-small
@@ -55,6 +52,6 @@ returns-clause-answer g c =
     (λ (m : Multipliers). IsAnswer (g.C.Columns.program c.args.columns.now) o.weights.items o.weight_den
     m.num.items m.den) (sym c.answer_of.ensures.multipliers)
     (subst (λ (Q : Program). IsAnswer Q o.weights.items o.weight_den m.num.items m.den) same
-    (is_answer P w.rows w.ids w.inverse w.tracked w.den w.costs m.num.items m.den o.weights.items o.weight_den
+    (is_answer P w m.num.items m.den o.weights.items o.weight_den
     e.state e.answer.0 e.answer.1 c.answer_of.ensures.weights
     (tame_of P (g.met.C.Columns.lawful c.improve-2.new.columns))))

@@ -7,6 +7,5 @@ invariant-loop-k g l = record {
   rows : l.work.rows ≡ l.n;
   same : g.C.Columns.program l.columns ≡ g.C.Columns.program l.fn.columns;
   same_players : g.C.Columns.players l.columns ≡ g.C.Columns.players l.fn.columns;
-  state : IsBetween (g.C.Columns.program l.columns) l.work.rows l.work.ids l.work.inverse l.work.tracked l.work.den
-      l.k;
+  state : IsBetween (g.C.Columns.program l.columns) l.work l.k;
 }

@@ -1,9 +1,9 @@
 use Rattle.std.proofs.Common.{◌≡◌, ◌<◌, ℕ, length, ◌*ℤ◌}
 use Rattle.determinants.specs.Matrix.{entry_at, weight_at}
-use Rattle.simplex.proofs.answer.shares_of.Given as goal
+use Rattle.simplex.proofs.answer.reduced_weights.Given as goal
 
 abbrev pub invariant-loop-k : goal.invariant-loop-k
 invariant-loop-k l = record {
-  len : length l.shares ≡ 32;
-  done : (k : ℕ) → k < l.k → l.fn.common *ℤ weight_at l.shares k ≡ entry_at 32 l.tracked k 0;
+  len : length l.weights ≡ 32;
+  done : (k : ℕ) → k < l.k → l.fn.common *ℤ weight_at l.weights k ≡ entry_at 32 l.tracked k 0;
 }

@@ -2,11 +2,11 @@ use Rattle.std.proofs.Common.{rules, arith, ◌*◌, ◌<◌, ℕ, pos, length, 
 use Rattle.std.proofs.Common.{subst, ◌∙◌, FitsSigned, slice_index_or}
 use mir.Syntax.{w128}
 use Rattle.std.proofs.lemmas.Int.{to_z-of_z}
-use Rattle.simplex.proofs.CommonDivisors.{next_share, is_multiple}
-use Rattle.simplex.proofs.answer.shares_of.Goals as goal
+use Rattle.simplex.proofs.CommonDivisors.{next_reduced, is_multiple}
+use Rattle.simplex.proofs.answer.reduced_weights.Goals as goal
 
-pub share-requires-clause-divides : goal.share-requires-clause-divides
-share-requires-clause-divides c =
+pub reduced_number-requires-clause-divides : goal.reduced_number-requires-clause-divides
+reduced_number-requires-clause-divides c =
     let fc = c.ranges.common in
     let f : FitsSigned w128 (slice_index_or c.args.tracked.now (32 * c.loop-k.k) (pos 0)) = search rules in
     simp to_z-of_z
@@ -17,12 +17,12 @@ pub loop-k-preserved : goal.loop-k-preserved
 loop-k-preserved c =
     let fc = c.ranges.common in
     let f : FitsSigned w128 (slice_index_or c.args.tracked.now (32 * c.loop-k.k) (pos 0)) = search rules in
-    let fs : FitsSigned w128 c.share.result = search rules in
-    let e = simp to_z-of_z at c.share.ensures in
+    let fs : FitsSigned w128 c.reduced_number.result = search rules in
+    let e = simp to_z-of_z at c.reduced_number.ensures in
     let done = simp to_z-of_z at c.loop-k.invariant.done in
     let k = c.loop-k.k in
-    let len : k < length c.loop-k.shares = subst (λ (t : ℕ). k < t) (sym c.loop-k.invariant.len) (omega arith) in
+    let len : k < length c.loop-k.weights = subst (λ (t : ℕ). k < t) (sym c.loop-k.invariant.len) (omega arith) in
     simp to_z-of_z (record {
-      len = length-set c.loop-k.shares k c.share.result ∙ c.loop-k.invariant.len;
-      done = next_share c.args.tracked.now c.loop-k.shares c.args.common k c.share.result len e done;
+      len = length-set c.loop-k.weights k c.reduced_number.result ∙ c.loop-k.invariant.len;
+      done = next_reduced c.args.tracked.now c.loop-k.weights c.args.common k c.reduced_number.result len e done;
     })
