@@ -5,6 +5,7 @@ pub mod Laws
 pub mod Answer
 pub mod Matrix
 pub mod Ratio
+pub mod Replacing
 pub mod Tableau
 pub mod Measure
 pub mod Improving

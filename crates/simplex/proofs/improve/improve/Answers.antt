@@ -4,7 +4,8 @@ use Rattle.std.proofs.lemmas.Int.{to_z-of_z}
 use Rattle.simplex.specs.Improving.{AreMultipliersOf, IsImproving, HasDirection}
 use Rattle.simplex.proofs.Minors.{tame_of}
 use Rattle.simplex.proofs.Rows.{few_rows, within_32}
-use Rattle.simplex.proofs.Replaced
+use Rattle.simplex.specs.Replacing.{IsReplaced}
+use Rattle.simplex.proofs.Replaced.{can_replace}
 use Rattle.simplex.proofs.States.{holds_after_use}
 use Rattle.simplex.proofs.Steps
 use Rattle.simplex.proofs.Entered
@@ -217,15 +218,13 @@ replace-requires-clause-apart g c = c.loop-id.invariant.state.table.inverse.basi
 
 pub replace-requires-clause-can : goal.replace-requires-clause-can
 replace-requires-clause-can g c =
-    Replaced.can _ _ _ _ _ (facts g (goal.at.replace-requires-clause-can g c).In-Some-least_ratio).can
-
-pub replace-requires-clause-can_track : goal.replace-requires-clause-can_track
-replace-requires-clause-can_track g c =
-    Replaced.can_track _ _ _ _ _ (facts g (goal.at.replace-requires-clause-can_track g c).In-Some-least_ratio).can
+    let can =
+    can_replace _ _ _ _ _ (facts g (goal.at.replace-requires-clause-can g c).In-Some-least_ratio).enters in
+    record { inverse = can.inverse; tracked = can.tracked }
 
 -- what `replace` made of the state
 replaced : (g : Over) (c : After-replace g)
-    → Replaced.IsReplaced c.loop-id.work c.weights_of-weights.result c.in-Some-least_ratio.p c.in-Some.id
+    → IsReplaced c.loop-id.work c.weights_of-weights.result c.in-Some-least_ratio.p c.in-Some.id
     c.price_of-cost.result c.replace.new.self
 replaced g c =
     let fc : FitsSigned w128 c.price_of-cost.result = search rules in
