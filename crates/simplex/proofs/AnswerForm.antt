@@ -1,5 +1,5 @@
 -- The weights of the last basis in lowest terms: they and its multipliers are an answer.
-use Rattle.std.proofs.Common.{◌≡◌, ℕ, zero, suc, ◌*◌, ◌^◌, ◌<◌, ◌≤◌, true, IsTrue, List, length}
+use Rattle.std.proofs.Common.{◌≡◌, ℕ, zero, suc, ◌*◌, ◌^◌, ◌<◌, ◌≤◌, IsTrue, List, length}
 use Rattle.std.proofs.Common.{map, nat_eq, arith, sym, ap, subst, ◌∙◌, ℤ, pos, negsuc}
 use Rattle.std.proofs.Common.{◌+ℤ◌, ◌*ℤ◌, ◌<ℤ◌, ◌≤ℤ◌, unsigned_abs, mul_comm}
 use Prim.Native.Nat.{◌∣◌}
@@ -15,6 +15,7 @@ use Rattle.definitions.proofs.Cancel.{cancel}
 use Rattle.determinants.specs.Basis.{dot}
 use Rattle.determinants.specs.Matrix.{entry_at}
 use Rattle.simplex.specs.Answer.{AreInForm, IsAnswer}
+use Rattle.simplex.specs.declared.part.Part.TheVariants.{Second}
 use Rattle.simplex.specs.declared.state.State.{State}
 use Rattle.simplex.specs.Improving.{AreMultipliersOf, IsImproving}
 use Rattle.simplex.specs.Reduced.{listed, AreReduced}
@@ -56,7 +57,7 @@ second_factor_first : (c d v : ℤ) → (c *ℤ d) *ℤ v ≡ d *ℤ (c *ℤ v)
 second_factor_first c d v = simp ring_laws
 
 module _ (P : Program) (s : State) (num : List ℤ) (mden : ℤ) (ws : List (ℕ × ℤ)) (den : ℤ)
-    (st : IsImproving P true s) (m : AreMultipliersOf s num mden) (b : Bounds P num mden)
+    (st : IsImproving P Second s) (m : AreMultipliersOf s num mden) (b : Bounds P num mden)
     (r : AreReduced s ws den) where
   pub reduced_at : (k : ℕ) → k < P.rows → r.common *ℤ r.reduced k ≡ entry_at 32 s.tracked k 0
   reduced_at k lt = r.reduced_are k (subst (λ (t : ℕ). k < t) (sym st.rows_is) lt)
@@ -131,7 +132,7 @@ suc_positive : (u : ℕ) → pos 1 ≤ℤ pos (suc u)
 suc_positive u = omega (arith, ints)
 
 module _ (P : Program) (s : State) (num : List ℤ) (mden : ℤ) (ws : List (ℕ × ℤ)) (den : ℤ)
-    (st : IsImproving P true s) (m : AreMultipliersOf s num mden) (b : Bounds P num mden)
+    (st : IsImproving P Second s) (m : AreMultipliersOf s num mden) (b : Bounds P num mden)
     (r : AreReduced s ws den) (tame : IsTame P) where
   weight_small : (k : ℕ) → k < P.rows → unsigned_abs (entry_at 32 s.tracked k 0) ≤ 2 ^ 58
   weight_small k lt =

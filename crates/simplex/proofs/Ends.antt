@@ -1,5 +1,5 @@
 -- What the end of the first part means, and that no ray stands beside bounds.
-use Rattle.std.proofs.Common.{◌≡◌, ◌⊎◌, inl, inr, ℕ, zero, suc, ◌<◌, Bool, false, List, [], ◌∷◌}
+use Rattle.std.proofs.Common.{◌≡◌, ◌⊎◌, inl, inr, ℕ, zero, suc, ◌<◌, false, List, [], ◌∷◌}
 use Rattle.std.proofs.Common.{Option, Some, None, slice_index_or, arith, refl, sym, ap, subst, ◌∙◌}
 use Rattle.std.proofs.Common.{ℤ, pos, negsuc, ◌+ℤ◌, ◌*ℤ◌, neg_ℤ, ◌<ℤ◌, ◌≤ℤ◌}
 use Rattle.std.proofs.lemmas.Int.{ints}
@@ -13,6 +13,8 @@ use Rattle.determinants.proofs.Objective.{objective}
 use Rattle.determinants.specs.Basis.{dot}
 use Rattle.determinants.specs.Matrix.{entry_at, weight_at}
 use Rattle.simplex.specs.Between.{HasAddedWeight}
+use Rattle.simplex.specs.declared.part.Part.{Part}
+use Rattle.simplex.specs.declared.part.Part.TheVariants.{First}
 use Rattle.simplex.specs.declared.state.State.{State}
 use Rattle.simplex.specs.Improving.{part_cost, AreMultipliersOf, IsImproving, HasDirection}
 use Rattle.simplex.specs.Program.{column, right_side, price, priced}
@@ -68,7 +70,7 @@ dot_negative (suc n) a b j lt h p = elim (last_or_less j n lt) [
 ]
 
 -- ---- the first part is never without an end
-part_nonpos : (P : Program) (o : Option ℕ) → part_cost P false o ≤ℤ pos 0
+part_nonpos : (P : Program) (o : Option ℕ) → part_cost P First o ≤ℤ pos 0
 part_nonpos P None = omega (arith, ints)
 part_nonpos P (Some id) = omega (arith, linear)
 
@@ -78,7 +80,7 @@ not_both z d h k = below z h (subst (λ (t : ℤ). z <ℤ t) (mul-zeroℤ d) k)
     below : (z : ℤ) → pos 0 ≤ℤ z → z <ℤ pos 0 → ⊥
     below z h k = omega (arith, linear)
 
-pub no_first_direction : (P : Program) (s : State) → IsImproving P false s → HasDirection P false s → ⊥
+pub no_first_direction : (P : Program) (s : State) → IsImproving P First s → HasDirection P First s → ⊥
 no_first_direction P s st r =
     not_both _ s.den
     (dot_nonneg P.rows (weight_at s.costs) (λ k. dot P.rows (entry_at 32 s.inverse k) (column P r.id))
@@ -136,32 +138,32 @@ pub lex_first : {A : Type 0} (z : ℤ) → (pos 0 <ℤ z) ⊎ ((z ≡ pos 0) × 
 lex_first z (inl h) = omega (arith, linear)
 lex_first z (inr h) = subst (λ (t : ℤ). pos 0 ≤ℤ t) (sym h.0) (omega (arith, linear))
 
-part_times : (P : Program) (o : Option ℕ) (w : ℤ) → pos 0 ≤ℤ w → (part_cost P false o *ℤ w) ≤ℤ pos 0
+part_times : (P : Program) (o : Option ℕ) (w : ℤ) → pos 0 ≤ℤ w → (part_cost P First o *ℤ w) ≤ℤ pos 0
 part_times P None w h = omega (arith, ints)
 part_times P (Some id) w h = omega (arith, ints)
 
-part_below : (P : Program) (o : Option ℕ) (w : ℤ) → o ≡ None → pos 0 <ℤ w → (part_cost P false o *ℤ w) <ℤ pos 0
-part_below P o w e h = subst (λ (t : Option ℕ). (part_cost P false t *ℤ w) <ℤ pos 0) (sym e) (below w h)
+part_below : (P : Program) (o : Option ℕ) (w : ℤ) → o ≡ None → pos 0 <ℤ w → (part_cost P First o *ℤ w) <ℤ pos 0
+part_below P o w e h = subst (λ (t : Option ℕ). (part_cost P First t *ℤ w) <ℤ pos 0) (sym e) (below w h)
   where
     below : (w : ℤ) → pos 0 <ℤ w → (negsuc 0 *ℤ w) <ℤ pos 0
     below w h = omega (arith, ints)
 
 -- the objective of the right sides is what the tracked weights give
-pub objective_right : (P : Program) (w : Bool) (s : State) → IsImproving P w s
+pub objective_right : (P : Program) (part : Part) (s : State) → IsImproving P part s
     → objective P.rows (weight_at s.costs) (entry_at 32 s.inverse) (right_side P)
     ≡ dot P.rows (weight_at s.costs) (λ k. entry_at 32 s.tracked k 0)
-objective_right P w s st =
+objective_right P part s st =
     dot_cong P.rows (weight_at s.costs) (weight_at s.costs) (λ k. dot P.rows (entry_at 32 s.inverse k) (right_side P))
     (λ k. entry_at 32 s.tracked k 0) (λ k lt. refl) (λ k lt. sym (st.table.tracked.tracked k 0 lt (omega arith)))
 
-pub no_solution : (P : Program) (s : State) (num : List ℤ) (den : ℤ) → IsImproving P false s
+pub no_solution : (P : Program) (s : State) (num : List ℤ) (den : ℤ) → IsImproving P First s
     → AreMultipliersOf s num den → Bounds (priced P false) num den → HasAddedWeight s → HasNoSolution P
 no_solution P s num den st m b a =
     let place = subst (λ (t : ℕ). a.position < t) st.rows_is a.place in
     contradicts P num den b
     (subst (λ (z : ℤ). z <ℤ pos 0)
     (sym
-    (value_is P s.inverse s.costs num s.rows s.den den P.right st.rows_is m ∙ objective_right P false s st))
+    (value_is P s.inverse s.costs num s.rows s.den den P.right st.rows_is m ∙ objective_right P First s st))
     (dot_negative P.rows (weight_at s.costs) (λ k. entry_at 32 s.tracked k 0) a.position place
     (λ k lt. subst (λ (z : ℤ). (z *ℤ entry_at 32 s.tracked k 0) ≤ℤ pos 0) (sym (st.costs_are k lt))
     (part_times P (id_at s.ids k) (entry_at 32 s.tracked k 0)

@@ -1,5 +1,5 @@
 -- The weights of a basis solve the program, and a direction of its second part is a ray.
-use Rattle.std.proofs.Common.{◌≡◌, ◌≢◌, ℕ, zero, suc, ◌-◌, ◌<◌, true, false, IsTrue, List, ◌∷◌}
+use Rattle.std.proofs.Common.{◌≡◌, ◌≢◌, ℕ, zero, suc, ◌-◌, ◌<◌, false, IsTrue, List, ◌∷◌}
 use Rattle.std.proofs.Common.{nat_eq, Option, Some, None, arith, refl, sym, ap, subst, ◌∙◌, ℤ}
 use Rattle.std.proofs.Common.{pos, ◌+ℤ◌, ◌-ℤ◌, ◌*ℤ◌, neg_ℤ, ◌<ℤ◌, ◌≤ℤ◌}
 use Rattle.std.specs.List.{AllByRecursion, IsDistinct}
@@ -13,6 +13,7 @@ use Rattle.determinants.specs.Determinant.{Column}
 use Rattle.determinants.specs.Matrix.{entry_at, weight_at}
 use Rattle.determinants.specs.Weighted.{weigh}
 use Rattle.simplex.specs.Answer.{HasSolution}
+use Rattle.simplex.specs.declared.part.Part.TheVariants.{Second}
 use Rattle.simplex.specs.declared.state.State.{State}
 use Rattle.simplex.specs.Improving.{part_cost, AreMultipliersOf, IsImproving, HasDirection}
 use Rattle.simplex.specs.Laws.{first_columns}
@@ -111,11 +112,11 @@ above_by_one a b h = omega (arith, linear)
 pub suc_nonneg : (u : ℕ) → pos 0 ≤ℤ pos (suc u)
 suc_nonneg u = omega (arith, ints)
 
-on_id-cost : (P : Program) (o : Option ℕ) → on_id P.cost o ≡ part_cost P true o
+on_id-cost : (P : Program) (o : Option ℕ) → on_id P.cost o ≡ part_cost P Second o
 on_id-cost P None = refl
 on_id-cost P (Some id) = refl
 
-module _ (P : Program) (s : State) (st : IsImproving P true s) where
+module _ (P : Program) (s : State) (st : IsImproving P Second s) where
   pub right_clear : (k : ℕ) → k < P.rows → id_at s.ids k ≡ None → entry_at 32 s.tracked k 0 ≡ pos 0
   right_clear k lt h = (st.silent refl k lt h).right
 
@@ -163,14 +164,14 @@ module _ (P : Program) (s : State) (st : IsImproving P true s) where
       ∙ dot_comm P.rows w (weight_at s.costs)
 
   -- the column of a direction isn't in the basis
-  direction_new : (r : HasDirection P true s) (j id : ℕ) → j < P.rows → id_at s.ids j ≡ Some id → r.id ≢ id
+  direction_new : (r : HasDirection P Second s) (j id : ℕ) → j < P.rows → id_at s.ids j ≡ Some id → r.id ≢ id
   direction_new r j id lt e same =
       positive_weight s.den (dot P.rows (entry_at 32 s.inverse j) (column P r.id)) (unit j j)
       (ap (λ (t : ℕ). dot P.rows (entry_at 32 s.inverse j) (column P t)) same
       ∙ own_weight P s.ids s.inverse s.den id j j st.table.inverse lt lt e) (unit_same j) st.table.positive
       (r.lowers j lt)
 
-  pub has_ray : HasDirection P true s → HasRay P
+  pub has_ray : HasDirection P Second s → HasRay P
   unfolding IsDistinct
   has_ray r =
       let entering = column P r.id in
@@ -210,5 +211,5 @@ module _ (P : Program) (s : State) (st : IsImproving P true s) where
   pub value_right : (num : List ℤ) (den : ℤ) → AreMultipliersOf s num den
       → value_of P num P.right ≡ dot P.rows (λ k. entry_at 32 s.tracked k 0) (λ k. on_id P.cost (id_at s.ids k))
   value_right num den m =
-      value_is P s.inverse s.costs num s.rows s.den den P.right st.rows_is m ∙ objective_right P true s st
+      value_is P s.inverse s.costs num s.rows s.den den P.right st.rows_is m ∙ objective_right P Second s st
       ∙ sym (cost_sum (λ k. entry_at 32 s.tracked k 0))

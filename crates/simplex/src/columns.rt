@@ -1,16 +1,17 @@
 //! Programs, as the simplex reads them.
 
-ghost use Rattle.std.specs.Prelude.{◌≡◌, ◌<◌, ℕ, IsTrue, MatchOption, true};
+ghost use Rattle.std.specs.Prelude.{◌≡◌, ◌<◌, ℕ, IsTrue, MatchOption};
 ghost use Rattle.arrayvec.specs.ArrayVec.{array_vec_len};
 ghost use Rattle.definitions.specs.Programs.{Program, Bounds};
 ghost use Rattle.determinants.specs.Matrix.{weight_at};
 ghost use Rattle.simplex.specs.Entering.{IsEntering, IsRising};
-ghost use Rattle.simplex.specs.Improving.{part_cost};
+ghost use Rattle.simplex.specs.Improving.{counts_costs, part_cost};
 ghost use Rattle.simplex.specs.Laws.{IsLawful};
 ghost use Rattle.simplex.specs.Program.{column, price, priced, right_side};
 ghost use Rattle.simplex.specs.Tableau.{IsId};
 
 use crate::multipliers::Multipliers;
+use crate::part::Part;
 
 /// A linear program in standard form, known by its rows and columns. A row has a right side; a column has a cost, and
 /// an entry in each row. Sought are nonnegative weights of the columns that meet every right side, at the greatest
@@ -103,25 +104,39 @@ pub(crate) fn load_right<C: Columns>(columns: &C, n: usize) -> [i128; 32]
     entries
 }
 
-/// The cost of a column, or 0 where costs don't count.
-pub(crate) fn price_of<C: Columns>(columns: &C, id: u64, with_costs: bool) -> i128
-    requires { IsTrue ((C.program columns.now).is_column id) }
-    ensures { result ≡ price (C.program columns.now) with_costs id }
+/// A column that rises in a part.
+pub(crate) fn rising_in<C: Columns>(columns: &mut C, m: &Multipliers, part: Part) -> Option<u64>
+    requires { array_vec_len m.now.num ≡ (C.program columns.old).rows }
+    ensures same { C.program columns.new ≡ C.program columns.old }
+    ensures same_players { C.players columns.new ≡ C.players columns.old }
+    ensures answer { MatchOption result
+        (Bounds (priced (C.program columns.old) (counts_costs part)) m.now.num.items m.now.den)
+        (λ id. IsRising (priced (C.program columns.old) (counts_costs part)) m.now.num.items m.now.den id) }
 {
-    if with_costs {
-        i128::from(columns.cost(id))
-    } else {
-        0
+    match part {
+        Part::First => columns.rising(m, false),
+        Part::Second => columns.rising(m, true),
+    }
+}
+
+/// The cost of a column in a part.
+pub(crate) fn price_of<C: Columns>(columns: &C, id: u64, part: Part) -> i128
+    requires { IsTrue ((C.program columns.now).is_column id) }
+    ensures { result ≡ price (C.program columns.now) (counts_costs part) id }
+{
+    match part {
+        Part::First => 0,
+        Part::Second => i128::from(columns.cost(id)),
     }
 }
 
 /// The cost of what stands at a position in the second part, where an added unit costs nothing.
 pub(crate) fn cost_at<C: Columns>(columns: &C, id: Option<u64>) -> i128
     requires { IsId (C.program columns.now) id }
-    ensures { result ≡ part_cost (C.program columns.now) true id }
+    ensures { result ≡ part_cost (C.program columns.now) Part.Second id }
 {
     match id {
-        Some(id) => price_of(columns, id, true),
+        Some(id) => i128::from(columns.cost(id)),
         None => 0,
     }
 }

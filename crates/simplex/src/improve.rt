@@ -11,11 +11,12 @@
 
 ghost use Rattle.std.specs.Prelude.{◌≡◌, MatchOption};
 ghost use Rattle.definitions.specs.Programs.{Bounds};
-ghost use Rattle.simplex.specs.Improving.{AreMultipliersOf, HasDirection, IsImproving};
+ghost use Rattle.simplex.specs.Improving.{AreMultipliersOf, HasDirection, IsImproving, counts_costs};
 ghost use Rattle.simplex.specs.Program.{priced};
 
-use crate::columns::{Columns, load_column, price_of};
+use crate::columns::{Columns, load_column, price_of, rising_in};
 use crate::multipliers::{Multipliers, multipliers_of};
+use crate::part::Part;
 use crate::ratio::least_ratio;
 use crate::state::State;
 use crate::weights::weights_of;
@@ -25,20 +26,20 @@ use crate::weights::weights_of;
 pub(crate) fn improve<C: Columns>(
     work: &mut State,
     columns: &mut C,
-    with_costs: bool,
+    part: Part,
 ) -> Option<Multipliers>
-    requires { IsImproving (C.program columns.old) with_costs work.old }
+    requires { IsImproving (C.program columns.old) part work.old }
     ensures same { C.program columns.new ≡ C.program columns.old }
     ensures same_players { C.players columns.new ≡ C.players columns.old }
-    ensures state { IsImproving (C.program columns.new) with_costs work.new }
+    ensures state { IsImproving (C.program columns.new) part work.new }
     ensures answer { MatchOption result
-        (HasDirection (C.program columns.new) with_costs work.new)
+        (HasDirection (C.program columns.new) part work.new)
         (λ m. AreMultipliersOf work.new m.num.items m.den
-        × Bounds (priced (C.program columns.new) with_costs) m.num.items m.den) }
+        × Bounds (priced (C.program columns.new) (counts_costs part)) m.num.items m.den) }
 {
     loop {
         let m = multipliers_of(&work.inverse, &work.costs, work.rows, work.den);
-        let Some(id) = columns.rising(&m, with_costs) else {
+        let Some(id) = rising_in(columns, &m, part) else {
             return Some(m);
         };
         let column = load_column(columns, id, work.rows);
@@ -46,7 +47,7 @@ pub(crate) fn improve<C: Columns>(
         let Some(p) = least_ratio(&work.tracked, &weights, work.rows) else {
             return None;
         };
-        let cost = price_of(columns, id, with_costs);
+        let cost = price_of(columns, id, part);
         work.replace(&weights, p, id, cost);
     }
 }

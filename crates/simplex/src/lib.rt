@@ -15,6 +15,7 @@ mod between;
 mod columns;
 mod improve;
 mod multipliers;
+mod part;
 mod ratio;
 mod restart;
 mod solving;

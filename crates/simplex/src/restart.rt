@@ -1,11 +1,12 @@
 //! The start of the second part: the basis that the first part found is its own reference.
 
-ghost use Rattle.std.specs.Prelude.{◌≡◌, ◌≤◌, ◌<◌, ℕ, true};
+ghost use Rattle.std.specs.Prelude.{◌≡◌, ◌≤◌, ◌<◌, ℕ};
 ghost use Rattle.determinants.specs.Matrix.{entry_at, weight_at};
 ghost use Rattle.simplex.specs.Between.{IsBetween};
 ghost use Rattle.simplex.specs.Improving.{IsImproving};
 
 use crate::columns::{Columns, cost_at};
+use crate::part::Part;
 use crate::start::write_tracked;
 use crate::state::State;
 
@@ -24,7 +25,7 @@ fn right_weights(tracked: &[i128; 1024], n: usize) -> [i128; 32]
 /// Takes the basis as the reference columns, and the columns' own costs.
 pub(crate) fn restart<C: Columns>(work: &mut State, columns: &C)
     requires { IsBetween (C.program columns.now) work.old work.old.rows }
-    ensures { IsImproving (C.program columns.now) true work.new }
+    ensures { IsImproving (C.program columns.now) Part.Second work.new }
 {
     let n = work.rows;
     let right = right_weights(&work.tracked, n);

@@ -8,6 +8,7 @@ use crate::answer::{Optimal, answer_of};
 use crate::between::{drive_out, has_added_weight};
 use crate::columns::Columns;
 use crate::improve::improve;
+use crate::part::Part;
 use crate::restart::restart;
 use crate::start::start;
 use crate::state::State;
@@ -62,7 +63,7 @@ fn solve_in<C: Columns>(work: &mut State, columns: &mut C) -> Result<Optimal, Lp
         (λ fault. IsFault (C.program columns.old) fault) }
 {
     start(work, columns);
-    let Some(_bounds) = improve(work, columns, false) else {
+    let Some(_bounds) = improve(work, columns, Part::First) else {
         unreachable!();
     };
     if has_added_weight(work) {
@@ -73,7 +74,7 @@ fn solve_in<C: Columns>(work: &mut State, columns: &mut C) -> Result<Optimal, Lp
         drive_out(work, columns, k);
     }
     restart(work, columns);
-    let Some(multipliers) = improve(work, columns, true) else {
+    let Some(multipliers) = improve(work, columns, Part::Second) else {
         return Err(LpFault::Unbounded);
     };
     Ok(answer_of(work, multipliers))

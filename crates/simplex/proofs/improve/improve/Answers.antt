@@ -31,13 +31,13 @@ invariant_of-work g c = record { ids_count = c.loop-id.work.ids_count; costs_cou
 
 pub multipliers_of-m-requires-clause-small : goal.multipliers_of-m-requires-clause-small
 multipliers_of-m-requires-clause-small g c =
-    Steps.inverse_small (g.C.Columns.program c.loop-id.columns) c.args.with_costs c.loop-id.work
+    Steps.inverse_small (g.C.Columns.program c.loop-id.columns) c.args.part c.loop-id.work
     (tame_of (g.C.Columns.program c.loop-id.columns) (g.met.C.Columns.lawful c.loop-id.columns))
     c.loop-id.invariant.state
 
 pub multipliers_of-m-requires-clause-costs_small : goal.multipliers_of-m-requires-clause-costs_small
 multipliers_of-m-requires-clause-costs_small g c =
-    Steps.costs_small (g.C.Columns.program c.loop-id.columns) c.args.with_costs c.loop-id.work
+    Steps.costs_small (g.C.Columns.program c.loop-id.columns) c.args.part c.loop-id.work
     (tame_of (g.C.Columns.program c.loop-id.columns) (g.met.C.Columns.lawful c.loop-id.columns))
     c.loop-id.invariant.state
 
@@ -46,37 +46,37 @@ multipliers_of-m-requires-clause-den_small g c =
     let w = c.loop-id.work in
     let fd : FitsSigned w128 w.den = search rules in
     simp to_z-of_z
-    (Steps.den_small (g.C.Columns.program c.loop-id.columns) c.args.with_costs w
+    (Steps.den_small (g.C.Columns.program c.loop-id.columns) c.args.part w
     (tame_of (g.C.Columns.program c.loop-id.columns) (g.met.C.Columns.lawful c.loop-id.columns))
     c.loop-id.invariant.state)
 
-pub rising-requires : goal.rising-requires
-rising-requires g c = c.multipliers_of-m.ensures.count ∙ c.loop-id.invariant.state.rows_is
+pub rising_in-requires : goal.rising_in-requires
+rising_in-requires g c = c.multipliers_of-m.ensures.count ∙ c.loop-id.invariant.state.rows_is
 
 pub returns-in_default-clause-same : goal.returns-in_default-clause-same
-returns-in_default-clause-same g c = c.rising.ensures.same ∙ c.loop-id.invariant.same
+returns-in_default-clause-same g c = c.rising_in.ensures.same ∙ c.loop-id.invariant.same
 
 pub returns-in_default-clause-same_players : goal.returns-in_default-clause-same_players
-returns-in_default-clause-same_players g c = c.rising.ensures.same_players ∙ c.loop-id.invariant.same_players
+returns-in_default-clause-same_players g c = c.rising_in.ensures.same_players ∙ c.loop-id.invariant.same_players
 
 pub returns-in_default-clause-state : goal.returns-in_default-clause-state
 returns-in_default-clause-state g c =
     let P = g.C.Columns.program c.loop-id.columns in
-    let Q = g.C.Columns.program c.rising.new.self in
-    holds_after_use (IsImproving Q c.args.with_costs) c.loop-id.work _ _
-    (Entered.state_of P Q c.args.with_costs c.rising.ensures.same c.loop-id.work c.loop-id.invariant.state)
+    let Q = g.C.Columns.program c.rising_in.new.columns in
+    holds_after_use (IsImproving Q c.args.part) c.loop-id.work _ _
+    (Entered.state_of P Q c.args.part c.rising_in.ensures.same c.loop-id.work c.loop-id.invariant.state)
 
 pub load_column-column-requires-clause-column : goal.load_column-column-requires-clause-column
 load_column-column-requires-clause-column g c =
-    (Entered.rising_of (g.C.Columns.program c.loop-id.columns) (g.C.Columns.program c.rising.new.self)
-    c.args.with_costs (c.in-Some.ensures {u = tt}).same c.multipliers_of-m.result.num.items
+    (Entered.rising_of (g.C.Columns.program c.loop-id.columns) (g.C.Columns.program c.rising_in.new.columns)
+    c.args.part (c.in-Some.ensures {u = tt}).same c.multipliers_of-m.result.num.items
     c.multipliers_of-m.result.den c.in-Some.id (c.in-Some.ensures {u = tt}).answer).is_column
 
 pub load_column-column-requires-clause-rows : goal.load_column-column-requires-clause-rows
 load_column-column-requires-clause-rows g c =
-    Entered.rows_of (g.C.Columns.program c.loop-id.columns) (g.C.Columns.program c.rising.new.self)
-    c.args.with_costs
-    c.rising.ensures.same c.loop-id.work.rows c.loop-id.invariant.state.rows_is
+    Entered.rows_of (g.C.Columns.program c.loop-id.columns) (g.C.Columns.program c.rising_in.new.columns)
+    c.args.part
+    c.rising_in.ensures.same c.loop-id.work.rows c.loop-id.invariant.state.rows_is
 
 pub weights_of-weights-requires-clause-rows : goal.weights_of-weights-requires-clause-rows
 weights_of-weights-requires-clause-rows g c =
@@ -90,7 +90,7 @@ invariant_of-work-in-loop-id g c =
 
 pub weights_of-weights-requires-clause-small : goal.weights_of-weights-requires-clause-small
 weights_of-weights-requires-clause-small g c =
-    Steps.inverse_small (g.C.Columns.program c.loop-id.columns) c.args.with_costs c.loop-id.work
+    Steps.inverse_small (g.C.Columns.program c.loop-id.columns) c.args.part c.loop-id.work
     (tame_of (g.C.Columns.program c.loop-id.columns) (g.met.C.Columns.lawful c.loop-id.columns))
     c.loop-id.invariant.state
 
@@ -105,7 +105,7 @@ invariant_of-work-in-loop-id-2 g c =
 
 pub least_ratio-requires-clause-small : goal.least_ratio-requires-clause-small
 least_ratio-requires-clause-small g c =
-    Steps.tracked_small (g.C.Columns.program c.loop-id.columns) c.args.with_costs c.loop-id.work
+    Steps.tracked_small (g.C.Columns.program c.loop-id.columns) c.args.part c.loop-id.work
     (tame_of (g.C.Columns.program c.loop-id.columns) (g.met.C.Columns.lawful c.loop-id.columns))
     c.loop-id.invariant.state
 
@@ -119,90 +119,90 @@ pub returns-in_default-clause-answer : goal.returns-in_default-clause-answer
 returns-in_default-clause-answer g c =
     let m = c.multipliers_of-m.result in (
       multipliers g (goal.at.returns-in_default-clause-answer g c).After-multipliers_of-m,
-      Entered.bounds_of (g.C.Columns.program c.loop-id.columns) (g.C.Columns.program c.rising.new.self)
-          c.args.with_costs c.rising.ensures.same m.num.items m.den (c.in_default.ensures {u = tt}).answer,
+      Entered.bounds_of (g.C.Columns.program c.loop-id.columns) (g.C.Columns.program c.rising_in.new.columns)
+          c.args.part c.rising_in.ensures.same m.num.items m.den (c.in_default.ensures {u = tt}).answer,
     )
 
 pub weights_of-weights-requires-clause-column_small : goal.weights_of-weights-requires-clause-column_small
 weights_of-weights-requires-clause-column_small g c =
     let P = g.C.Columns.program c.loop-id.columns in
-    let Q = g.C.Columns.program c.rising.new.self in
+    let Q = g.C.Columns.program c.rising_in.new.columns in
     let w = c.loop-id.work in
     let m = c.multipliers_of-m.result in
     let enter = c.in-Some.ensures {u = tt} in
-    Steps.loaded_small Q c.args.with_costs w (tame_of Q (g.met.C.Columns.lawful c.rising.new.self))
-    (Entered.state_of P Q c.args.with_costs enter.same w c.loop-id.invariant.state) m.num.items m.den
+    Steps.loaded_small Q c.args.part w (tame_of Q (g.met.C.Columns.lawful c.rising_in.new.columns))
+    (Entered.state_of P Q c.args.part enter.same w c.loop-id.invariant.state) m.num.items m.den
     (multipliers g (goal.at.weights_of-weights-requires-clause-column_small g c).After-multipliers_of-m) c.in-Some.id
-    (Entered.rising_of P Q c.args.with_costs enter.same m.num.items m.den c.in-Some.id enter.answer)
+    (Entered.rising_of P Q c.args.part enter.same m.num.items m.den c.in-Some.id enter.answer)
     c.load_column-column.result c.load_column-column.ensures
 
 pub least_ratio-requires-clause-weights_small : goal.least_ratio-requires-clause-weights_small
 least_ratio-requires-clause-weights_small g c =
     let P = g.C.Columns.program c.loop-id.columns in
-    let Q = g.C.Columns.program c.rising.new.self in
+    let Q = g.C.Columns.program c.rising_in.new.columns in
     let w = c.loop-id.work in
     let m = c.multipliers_of-m.result in
     let enter = c.in-Some.ensures {u = tt} in
-    Steps.ratio_small Q c.args.with_costs w (tame_of Q (g.met.C.Columns.lawful c.rising.new.self))
-    (Entered.state_of P Q c.args.with_costs enter.same w c.loop-id.invariant.state) m.num.items m.den
+    Steps.ratio_small Q c.args.part w (tame_of Q (g.met.C.Columns.lawful c.rising_in.new.columns))
+    (Entered.state_of P Q c.args.part enter.same w c.loop-id.invariant.state) m.num.items m.den
     (multipliers g (goal.at.least_ratio-requires-clause-weights_small g c).After-multipliers_of-m) c.in-Some.id
-    (Entered.rising_of P Q c.args.with_costs enter.same m.num.items m.den c.in-Some.id enter.answer)
+    (Entered.rising_of P Q c.args.part enter.same m.num.items m.den c.in-Some.id enter.answer)
     c.load_column-column.result c.load_column-column.ensures
     c.weights_of-weights.result c.weights_of-weights.ensures
 
 pub returns-in_default-least_ratio-clause-same : goal.returns-in_default-least_ratio-clause-same
-returns-in_default-least_ratio-clause-same g c = c.rising.ensures.same ∙ c.loop-id.invariant.same
+returns-in_default-least_ratio-clause-same g c = c.rising_in.ensures.same ∙ c.loop-id.invariant.same
 
 pub returns-in_default-least_ratio-clause-same_players : goal.returns-in_default-least_ratio-clause-same_players
 returns-in_default-least_ratio-clause-same_players g c =
-    c.rising.ensures.same_players ∙ c.loop-id.invariant.same_players
+    c.rising_in.ensures.same_players ∙ c.loop-id.invariant.same_players
 
 pub returns-in_default-least_ratio-clause-state : goal.returns-in_default-least_ratio-clause-state
 returns-in_default-least_ratio-clause-state g c =
     let P = g.C.Columns.program c.loop-id.columns in
-    let Q = g.C.Columns.program c.rising.new.self in
-    holds_after_use (IsImproving Q c.args.with_costs) c.loop-id.work _ _
-    (Entered.state_of P Q c.args.with_costs c.rising.ensures.same c.loop-id.work c.loop-id.invariant.state)
+    let Q = g.C.Columns.program c.rising_in.new.columns in
+    holds_after_use (IsImproving Q c.args.part) c.loop-id.work _ _
+    (Entered.state_of P Q c.args.part c.rising_in.ensures.same c.loop-id.work c.loop-id.invariant.state)
 
 pub returns-in_default-least_ratio-clause-answer : goal.returns-in_default-least_ratio-clause-answer
 returns-in_default-least_ratio-clause-answer g c =
     let P = g.C.Columns.program c.loop-id.columns in
-    let Q = g.C.Columns.program c.rising.new.self in
+    let Q = g.C.Columns.program c.rising_in.new.columns in
     let w = c.loop-id.work in
     let m = c.multipliers_of-m.result in
     let enter = c.in-Some.ensures {u = tt} in
-    holds_after_use (HasDirection Q c.args.with_costs) w _ _
-    (Steps.endless Q c.args.with_costs w (tame_of Q (g.met.C.Columns.lawful c.rising.new.self))
-    (Entered.state_of P Q c.args.with_costs enter.same w c.loop-id.invariant.state) m.num.items m.den
+    holds_after_use (HasDirection Q c.args.part) w _ _
+    (Steps.endless Q c.args.part w (tame_of Q (g.met.C.Columns.lawful c.rising_in.new.columns))
+    (Entered.state_of P Q c.args.part enter.same w c.loop-id.invariant.state) m.num.items m.den
     (multipliers g (goal.at.returns-in_default-least_ratio-clause-answer g c).After-multipliers_of-m) c.in-Some.id
-    (Entered.rising_of P Q c.args.with_costs enter.same m.num.items m.den c.in-Some.id enter.answer)
+    (Entered.rising_of P Q c.args.part enter.same m.num.items m.den c.in-Some.id enter.answer)
     c.load_column-column.result c.load_column-column.ensures
     c.weights_of-weights.result c.weights_of-weights.ensures (c.in_default-least_ratio.ensures {u = tt}))
 
 -- the facts of a step
 facts : (g : Over) (c : In-Some-least_ratio g)
-    → Steps.Step (g.C.Columns.program c.rising.new.self) c.args.with_costs c.loop-id.work c.weights_of-weights.result
+    → Steps.Step (g.C.Columns.program c.rising_in.new.columns) c.args.part c.loop-id.work c.weights_of-weights.result
     c.in-Some-least_ratio.p c.in-Some.id
 facts g c =
     let fd : FitsSigned w128 c.loop-id.work.den = search rules in
     let are = simp to_z-of_z at c.multipliers_of-m.ensures in
     let P = g.C.Columns.program c.loop-id.columns in
-    let Q = g.C.Columns.program c.rising.new.self in
+    let Q = g.C.Columns.program c.rising_in.new.columns in
     let w = c.loop-id.work in
     let m = c.multipliers_of-m.result in
     let enter = c.in-Some.ensures {u = tt} in
-    Steps.step_of Q c.args.with_costs w (tame_of Q (g.met.C.Columns.lawful c.rising.new.self))
-    (Entered.state_of P Q c.args.with_costs enter.same w c.loop-id.invariant.state) m.num.items m.den
+    Steps.step_of Q c.args.part w (tame_of Q (g.met.C.Columns.lawful c.rising_in.new.columns))
+    (Entered.state_of P Q c.args.part enter.same w c.loop-id.invariant.state) m.num.items m.den
     are c.in-Some.id
-    (Entered.rising_of P Q c.args.with_costs enter.same m.num.items m.den c.in-Some.id enter.answer)
+    (Entered.rising_of P Q c.args.part enter.same m.num.items m.den c.in-Some.id enter.answer)
     c.load_column-column.result c.load_column-column.ensures
     c.weights_of-weights.result c.weights_of-weights.ensures c.in-Some-least_ratio.p
     (c.in-Some-least_ratio.ensures {u = tt})
 
 pub price_of-cost-requires : goal.price_of-cost-requires
 price_of-cost-requires g c =
-    (Entered.rising_of (g.C.Columns.program c.loop-id.columns) (g.C.Columns.program c.rising.new.self)
-    c.args.with_costs (c.in-Some.ensures {u = tt}).same c.multipliers_of-m.result.num.items
+    (Entered.rising_of (g.C.Columns.program c.loop-id.columns) (g.C.Columns.program c.rising_in.new.columns)
+    c.args.part (c.in-Some.ensures {u = tt}).same c.multipliers_of-m.result.num.items
     c.multipliers_of-m.result.den c.in-Some.id (c.in-Some.ensures {u = tt}).answer).is_column
 
 pub replace-requires-clause-few : goal.replace-requires-clause-few

@@ -7,7 +7,7 @@ abbrev pub invariant-loop-id : goal.invariant-loop-id
 invariant-loop-id g l = record {
   same : g.C.Columns.program l.columns ≡ g.C.Columns.program l.fn.columns;
   same_players : g.C.Columns.players l.columns ≡ g.C.Columns.players l.fn.columns;
-  state : IsImproving (g.C.Columns.program l.columns) l.with_costs l.work;
+  state : IsImproving (g.C.Columns.program l.columns) l.part l.work;
 }
 
 abbrev pub decreases-loop-id : goal.decreases-loop-id
