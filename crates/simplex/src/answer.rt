@@ -5,6 +5,7 @@ ghost use Rattle.arrayvec.specs.ArrayVec.{array_vec_len};
 ghost use Rattle.determinants.specs.Matrix.{limit, entry_at, weight_at};
 ghost use Rattle.simplex.specs.Reduced.{AreReduced, IsCommon, IsMultiple, listed, with_weight};
 
+use crate::arrays::{Matrix, Numbers, STRIDE};
 use crate::multipliers::Multipliers;
 use crate::state::State;
 use arrayvec::ArrayVec;
@@ -23,7 +24,7 @@ pub struct Optimal {
 }
 
 /// The greatest common divisor of the denominator and the weights of the right sides.
-fn common_of(tracked: &[i128; 1024], n: usize, den: i128) -> i128
+fn common_of(tracked: &Matrix, n: usize, den: i128) -> i128
     requires rows { n ≤ 31 }
     requires positive { pos 0 <ℤ den }
     requires small { unsigned_abs den ≤ limit }
@@ -31,7 +32,7 @@ fn common_of(tracked: &[i128; 1024], n: usize, den: i128) -> i128
 {
     let mut common = den.unsigned_abs();
     for k in 0..n {
-        common = gcd(common, tracked[32 * k].unsigned_abs());
+        common = gcd(common, tracked[STRIDE * k].unsigned_abs());
     }
     common as i128
 }
@@ -46,14 +47,14 @@ fn reduced_number(number: i128, common: i128) -> i128
 }
 
 /// The reduced weights of the right sides: over their common divisor with the denominator.
-fn reduced_weights(tracked: &[i128; 1024], n: usize, den: i128, common: i128) -> [i128; 32]
+fn reduced_weights(tracked: &Matrix, n: usize, den: i128, common: i128) -> Numbers
     requires rows { n ≤ 31 }
     requires common { IsCommon tracked.now n den common }
     ensures { (k : ℕ) → k < n → common *ℤ weight_at result k ≡ entry_at 32 tracked.now k 0 }
 {
-    let mut weights = [0; 32];
+    let mut weights = [0; STRIDE];
     for k in 0..n {
-        weights[k] = reduced_number(tracked[32 * k], common);
+        weights[k] = reduced_number(tracked[STRIDE * k], common);
     }
     weights
 }
@@ -72,8 +73,8 @@ fn add_weight(weights: &mut ArrayVec<(u64, i128), 31>, id: Option<u64>, weight: 
 
 /// The columns that have a positive weight, by their reduced weights.
 fn weights_from(
-    ids: &[Option<u64>; 32],
-    reduced: &[i128; 32],
+    ids: &[Option<u64>; STRIDE],
+    reduced: &Numbers,
     n: usize,
 ) -> ArrayVec<(u64, i128), 31>
     requires { n ≤ 31 }

@@ -10,6 +10,7 @@ ghost use Rattle.simplex.specs.Laws.{IsLawful};
 ghost use Rattle.simplex.specs.Program.{column, price, priced, right_side};
 ghost use Rattle.simplex.specs.Tableau.{IsId};
 
+use crate::arrays::{Numbers, STRIDE};
 use crate::multipliers::Multipliers;
 use crate::part::Part;
 
@@ -80,12 +81,12 @@ pub trait Columns {
 }
 
 /// A column of the program, from its last row: so the level rows come first.
-pub(crate) fn load_column<C: Columns>(columns: &C, id: u64, n: usize) -> [i128; 32]
+pub(crate) fn load_column<C: Columns>(columns: &C, id: u64, n: usize) -> Numbers
     requires column { IsTrue ((C.program columns.now).is_column id) }
     requires rows { n ≡ (C.program columns.now).rows }
     ensures { (i : ℕ) → i < n → weight_at result i ≡ column (C.program columns.now) id i }
 {
-    let mut entries = [0; 32];
+    let mut entries = [0; STRIDE];
     for i in 0..n {
         entries[i] = i128::from(columns.entry(id, (n - 1 - i) as u32));
     }
@@ -93,11 +94,11 @@ pub(crate) fn load_column<C: Columns>(columns: &C, id: u64, n: usize) -> [i128; 
 }
 
 /// The right sides, from the last row.
-pub(crate) fn load_right<C: Columns>(columns: &C, n: usize) -> [i128; 32]
+pub(crate) fn load_right<C: Columns>(columns: &C, n: usize) -> Numbers
     requires { n ≡ (C.program columns.now).rows }
     ensures { (i : ℕ) → i < n → weight_at result i ≡ right_side (C.program columns.now) i }
 {
-    let mut entries = [0; 32];
+    let mut entries = [0; STRIDE];
     for i in 0..n {
         entries[i] = i128::from(columns.right((n - 1 - i) as u32));
     }

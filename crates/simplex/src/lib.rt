@@ -11,6 +11,7 @@
 #![tactic(auto)]
 
 mod answer;
+mod arrays;
 mod between;
 mod columns;
 mod improve;

@@ -10,10 +10,11 @@ ghost use Rattle.determinants.specs.Matrix.{limit};
 ghost use Rattle.simplex.specs.Matrix.{AreSmall, IsSmall};
 ghost use Rattle.simplex.specs.Ratio.{IsChoice, ratio_gap};
 
+use crate::arrays::{Matrix, Numbers, STRIDE};
 use determinants::product;
 
 /// Whether the ratio of row `k` is less than that of row `p`.
-fn goes_before(tracked: &[i128; 1024], weights: &[i128; 32], n: usize, k: usize, p: usize) -> bool
+fn goes_before(tracked: &Matrix, weights: &Numbers, n: usize, k: usize, p: usize) -> bool
     requires rows { n ≤ 31 }
     requires place { k < n }
     requires other { p < n }
@@ -24,8 +25,8 @@ fn goes_before(tracked: &[i128; 1024], weights: &[i128; 32], n: usize, k: usize,
         (IsLexNonnegative (suc n) (ratio_gap tracked.now weights.now k p)) }
 {
     for j in 0..n + 1 {
-        let here = product(weights[p], tracked[32 * k + j]);
-        let there = product(weights[k], tracked[32 * p + j]);
+        let here = product(weights[p], tracked[STRIDE * k + j]);
+        let there = product(weights[k], tracked[STRIDE * p + j]);
         if here < there {
             return true;
         }
@@ -38,8 +39,8 @@ fn goes_before(tracked: &[i128; 1024], weights: &[i128; 32], n: usize, k: usize,
 
 /// The better of `best` and position `k`.
 fn chosen(
-    tracked: &[i128; 1024],
-    weights: &[i128; 32],
+    tracked: &Matrix,
+    weights: &Numbers,
     n: usize,
     best: Option<usize>,
     k: usize,
@@ -65,7 +66,7 @@ fn chosen(
 }
 
 /// The position with a positive weight and the least ratio, if a weight is positive.
-pub(crate) fn least_ratio(tracked: &[i128; 1024], weights: &[i128; 32], n: usize) -> Option<usize>
+pub(crate) fn least_ratio(tracked: &Matrix, weights: &Numbers, n: usize) -> Option<usize>
     requires rows { n ≤ 31 }
     requires small { AreSmall tracked.now n (suc n) }
     requires weights_small { IsSmall weights.now n limit }

@@ -5,19 +5,20 @@ ghost use Rattle.determinants.specs.Matrix.{entry_at, weight_at};
 ghost use Rattle.simplex.specs.Between.{IsBetween};
 ghost use Rattle.simplex.specs.Improving.{IsImproving};
 
+use crate::arrays::{Matrix, Numbers, STRIDE};
 use crate::columns::{Columns, cost_at};
 use crate::part::Part;
 use crate::start::write_tracked;
 use crate::state::State;
 
 /// The weights of the right sides.
-fn right_weights(tracked: &[i128; 1024], n: usize) -> [i128; 32]
+fn right_weights(tracked: &Matrix, n: usize) -> Numbers
     requires { n ≤ 31 }
     ensures { (k : ℕ) → k < n → weight_at result k ≡ entry_at 32 tracked.now k 0 }
 {
-    let mut weights = [0; 32];
+    let mut weights = [0; STRIDE];
     for k in 0..n {
-        weights[k] = tracked[32 * k];
+        weights[k] = tracked[STRIDE * k];
     }
     weights
 }
