@@ -1,14 +1,14 @@
 -- The weights of the last basis in lowest terms: they and its multipliers are an answer.
 use Rattle.std.proofs.Common.{◌≡◌, ℕ, zero, suc, ◌*◌, ◌^◌, ◌<◌, ◌≤◌, IsTrue, List, length}
-use Rattle.std.proofs.Common.{map, nat_eq, arith, sym, ap, subst, ◌∙◌, ℤ, pos, negsuc}
-use Rattle.std.proofs.Common.{◌+ℤ◌, ◌*ℤ◌, ◌<ℤ◌, ◌≤ℤ◌, unsigned_abs, mul_comm}
+use Rattle.std.proofs.Common.{map, nat_eq, arith, refl, sym, ap, subst, ◌∙◌, ℤ, pos, negsuc}
+use Rattle.std.proofs.Common.{◌*ℤ◌, ◌<ℤ◌, ◌≤ℤ◌, unsigned_abs, mul_comm}
 use Prim.Native.Nat.{◌∣◌}
 use native.Mathlib.Nat.{pos_of_dvd_of_pos, le_of_dvd}
 use lib.IntN.{*ℤ_comm}
 use Rattle.std.specs.List.{AllByRecursion, IsDistinct}
 use Rattle.std.proofs.Math.Nat.{mul-dvd-mul_right}
 use Rattle.std.proofs.lemmas.Int.{ints, unsigned_abs-mul}
-use Rattle.definitions.proofs.Ring.{ring_laws, unit_laws, mul-zeroℤ, mul_assocℤ}
+use Rattle.definitions.proofs.Ring.{mul-zeroℤ, mul_assocℤ, mul_left_commℤ}
 use Rattle.definitions.specs.Programs.{Program, value_of, Bounds, IsOptimal}
 use Rattle.definitions.specs.Sums.{weighted_sum}
 use Rattle.definitions.proofs.Cancel.{cancel}
@@ -20,6 +20,8 @@ use Rattle.simplex.specs.declared.state.State.{State}
 use Rattle.simplex.specs.Improving.{AreMultipliersOf, IsImproving}
 use Rattle.simplex.specs.Reduced.{listed, AreReduced}
 use Rattle.simplex.specs.Tableau.{IsTame, id_at}
+use Rattle.determinants.proofs.DotProducts.{dot_cong}
+use Rattle.simplex.proofs.DotProducts.{dot_scaled}
 use Rattle.simplex.proofs.Ends.{no_ray}
 use Rattle.simplex.proofs.ListedWeights.{listed_all, listed_sum, listed_count}
 use Rattle.simplex.proofs.ListedWeights.{listed_distinct, listed_divisible, on_id}
@@ -43,18 +45,10 @@ quotient_positive (pos zero) (negsuc w) z p e h = absurd (omega (arith, ints))
 quotient_positive (pos (suc c)) (negsuc w) z p e h = absurd (omega (arith, ints))
 quotient_positive (negsuc c) (negsuc w) z p e h = absurd (omega (arith, ints))
 
-times_dot : (n : ℕ) (c : ℤ) (w v s : ℕ → ℤ) → ((k : ℕ) → k < n → c *ℤ w k ≡ v k) → c *ℤ dot n w s ≡ dot n v s
-times_dot zero c w v s h = simp unit_laws
-times_dot (suc n) c w v s h =
-    split c (dot n w s) (w n) (s n)
-    ∙ ap (λ (z : ℤ). z +ℤ (c *ℤ w n) *ℤ s n) (times_dot n c w v s (λ k lt. h k (omega arith)))
-    ∙ ap (λ (z : ℤ). dot n v s +ℤ z *ℤ s n) (h n (omega arith))
-  where
-    split : (c a w s : ℤ) → c *ℤ (a +ℤ w *ℤ s) ≡ c *ℤ a +ℤ (c *ℤ w) *ℤ s
-    split c a w s = simp ring_laws
-
-second_factor_first : (c d v : ℤ) → (c *ℤ d) *ℤ v ≡ d *ℤ (c *ℤ v)
-second_factor_first c d v = simp ring_laws
+dot_multiplied : (n : ℕ) (c : ℤ) (w v s : ℕ → ℤ) → ((k : ℕ) → k < n → c *ℤ w k ≡ v k)
+    → c *ℤ dot n w s ≡ dot n v s
+dot_multiplied n c w v s h =
+    sym (dot_scaled n c w s) ∙ dot_cong n (λ k. c *ℤ w k) v s s h (λ k lt. refl)
 
 module _ (P : Program) (s : State) (num : List ℤ) (mden : ℤ) (ws : List (ℕ × ℤ)) (den : ℤ)
     (st : IsImproving P Second s) (m : AreMultipliersOf s num mden) (b : Bounds P num mden)
@@ -70,12 +64,13 @@ module _ (P : Program) (s : State) (num : List ℤ) (mden : ℤ) (ws : List (ℕ
   pub list_is : ws ≡ listed s.ids r.reduced P.rows
   list_is = r.weights_are ∙ ap (listed s.ids r.reduced) st.rows_is
 
-  sums : (f : ℕ → ℤ)
+  reduced_sum : (f : ℕ → ℤ)
       → r.common *ℤ weighted_sum f ws ≡ dot P.rows (λ k. entry_at 32 s.tracked k 0) (λ k. on_id f (id_at s.ids k))
-  sums f =
+  reduced_sum f =
       ap (λ (l : List (ℕ × ℤ)). r.common *ℤ weighted_sum f l) list_is
       ∙ ap (λ (z : ℤ). r.common *ℤ z) (listed_sum f s.ids r.reduced P.rows reduced_nonneg)
-      ∙ times_dot P.rows r.common r.reduced (λ k. entry_at 32 s.tracked k 0) (λ k. on_id f (id_at s.ids k)) reduced_at
+      ∙ dot_multiplied P.rows r.common r.reduced (λ k. entry_at 32 s.tracked k 0) (λ k. on_id f (id_at s.ids k))
+      reduced_at
 
   pub is_optimal : IsOptimal P ws den num mden
   is_optimal = (
@@ -90,13 +85,13 @@ module _ (P : Program) (s : State) (num : List ℤ) (mden : ℤ) (ws : List (ℕ
       at_least_one den (quotient_positive r.common den s.den r.is_common.positive r.den_is st.table.positive),
       λ i lt. cancel r.common (weighted_sum (λ id. P.entry id i) ws) (den *ℤ P.right i)
           (positive_apart r.common r.is_common.positive)
-          (sums (λ id. P.entry id i) ∙ right_rows P s st i lt
+          (reduced_sum (λ id. P.entry id i) ∙ right_rows P s st i lt
           ∙ ap (λ (z : ℤ). z *ℤ P.right i) (sym r.den_is) ∙ mul_assocℤ r.common den (P.right i)),
     ),
     b,
     *ℤ_comm (weighted_sum P.cost ws) mden ∙ ap (λ (z : ℤ). z *ℤ weighted_sum P.cost ws) (m.den_is ∙ sym r.den_is)
-        ∙ second_factor_first r.common den (weighted_sum P.cost ws)
-        ∙ ap (λ (z : ℤ). den *ℤ z) (sums P.cost ∙ sym (value_right P s st num mden m))
+        ∙ mul_assocℤ r.common den (weighted_sum P.cost ws) ∙ mul_left_commℤ r.common den (weighted_sum P.cost ws)
+        ∙ ap (λ (z : ℤ). den *ℤ z) (reduced_sum P.cost ∙ sym (value_right P s st num mden m))
         ∙ *ℤ_comm den (value_of P num P.right),
   )
 
@@ -104,11 +99,11 @@ module _ (P : Program) (s : State) (num : List ℤ) (mden : ℤ) (ws : List (ℕ
 factor_le : (c w z : ℤ) → pos 0 <ℤ c → c *ℤ w ≡ z → unsigned_abs w ≤ unsigned_abs z
 factor_le c w z p e =
     subst (λ (t : ℕ). unsigned_abs w ≤ t) (sym (unsigned_abs-mul c w) ∙ ap unsigned_abs e)
-    (grows (unsigned_abs c) (unsigned_abs w) (size_positive c p))
+    (times_at_least (unsigned_abs c) (unsigned_abs w) (size_positive c p))
   where
-    grows : (a b : ℕ) → 0 < a → b ≤ a * b
-    grows zero b h = absurd (omega arith)
-    grows (suc a) b h = omega arith
+    times_at_least : (a b : ℕ) → 0 < a → b ≤ a * b
+    times_at_least zero b h = absurd (omega arith)
+    times_at_least (suc a) b h = omega arith
 
 below_62 : (a b : ℕ) → a ≤ b → b ≤ 2 ^ 58 → a < 2 ^ 62
 below_62 a b h k = omega arith
@@ -173,8 +168,8 @@ module _ (P : Program) (s : State) (num : List ℤ) (mden : ℤ) (ws : List (ℕ
       (size_positive den (quotient_positive r.common den s.den r.is_common.positive r.den_is st.table.positive)))
       (le_of_dvd cp whole)
 
-  form : AreInForm P.rows ws den
-  form = record {
+  in_form : AreInForm P.rows ws den
+  in_form = record {
     count = subst (λ (l : List (ℕ × ℤ)). length l ≤ P.rows) (sym listed_is) (listed_count s.ids r.reduced P.rows);
     positive =
         subst (AllByRecursion (λ w. pos 1 ≤ℤ w.1)) (sym listed_is)
@@ -192,7 +187,7 @@ module _ (P : Program) (s : State) (num : List ℤ) (mden : ℤ) (ws : List (ℕ
   pub is_answer : IsAnswer P ws den num mden
   is_answer = record {
     optimal = is_optimal P s num mden ws den st m b r;
-    form = form;
+    form = in_form;
     count = m.count ∙ st.rows_is;
     bounded = no_ray P num mden b;
   }

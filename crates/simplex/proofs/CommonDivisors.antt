@@ -7,11 +7,11 @@ use Rattle.std.specs.Int.{IsGcd}
 use Rattle.std.proofs.lemmas.Int.{ints}
 use Rattle.std.proofs.lemmas.Nat.Gcd.{dvd_refl, dvd_trans}
 use native.Mathlib.Nat.{pos_of_dvd_of_pos, le_of_dvd, mul-div_cancel'}
-use Rattle.definitions.proofs.Ring.{ring_laws}
+use Rattle.definitions.proofs.Ring.{mul-negℤ}
 use Rattle.definitions.proofs.Cancel.{quot_exact}
 use Rattle.determinants.specs.Matrix.{entry_at, weight_at}
 use Rattle.simplex.specs.Reduced.{IsCommon, IsMultiple}
-use Rattle.simplex.proofs.Signs.{positive_apart}
+use Rattle.simplex.proofs.Signs.{positive_apart, size_of_positive}
 use Rattle.definitions.proofs.Cases.{last_or_less_of}
 
 pub record CommonSoFar (d : ℕ) (ts : List ℤ) (k c : ℕ) : Type 0 where
@@ -61,21 +61,17 @@ common_end d ts n k c z e le ge s = subst (IsCommon ts n d) (sym e) (record {
 })
 
 -- ---- division by a common divisor
-of_size : (c : ℤ) → pos 0 <ℤ c → c ≡ pos (unsigned_abs c)
-of_size c h = omega (arith, ints)
-
 product_of : (k : ℕ) (z : ℤ) → k ∣ unsigned_abs z → (q : ℤ) × (z ≡ pos k *ℤ q)
 product_of k (pos m) h = (pos (m / k), ap pos (sym (mul-div_cancel' k h)))
-product_of k (negsuc m) h =
-    (neg_ℤ (pos (suc m / k)), ap neg_ℤ (ap pos (sym (mul-div_cancel' k h))) ∙ step (pos k) (pos (suc m / k)))
-  where
-    step : (a b : ℤ) → neg_ℤ (a *ℤ b) ≡ a *ℤ neg_ℤ b
-    step a b = simp ring_laws
+product_of k (negsuc m) h = (
+  neg_ℤ (pos (suc m / k)),
+  ap neg_ℤ (ap pos (sym (mul-div_cancel' k h))) ∙ sym (mul-negℤ (pos k) (pos (suc m / k))),
+)
 
 pub quotient_is : (c z : ℤ) → pos 0 <ℤ c → unsigned_abs c ∣ unsigned_abs z → c *ℤ int_div z c ≡ z
 quotient_is c z p h =
     let q = product_of (unsigned_abs c) z h in
-    let e : z ≡ c *ℤ q.0 = q.1 ∙ ap (λ (t : ℤ). t *ℤ q.0) (sym (of_size c p)) in
+    let e : z ≡ c *ℤ q.0 = q.1 ∙ ap (λ (t : ℤ). t *ℤ q.0) (sym (size_of_positive c p)) in
     ap (λ (t : ℤ). c *ℤ t) (quot_exact z c q.0 e (positive_apart c p)) ∙ sym e
 
 -- ---- the reduced weights, one by one

@@ -3,7 +3,7 @@ use Rattle.std.proofs.Common.{◌≡◌, ◌⊎◌, inl, inr, ℕ, zero, suc, �
 use Rattle.std.proofs.Common.{refl, sym, ap, subst, ◌∙◌, ℤ, pos, ◌+ℤ◌, ◌-ℤ◌, ◌*ℤ◌, unsigned_abs}
 use Rattle.std.proofs.lemmas.Bool.Decides.{nat_tests}
 use Rattle.definitions.proofs.Ring.{ring_laws, unit_laws, linear}
-use Rattle.determinants.proofs.DotProducts.{backwards, dot_backwards, dot_cong, zero_row}
+use Rattle.determinants.proofs.DotProducts.{backwards, dot_backwards, dot_cong, zero_row, dot_times}
 use Rattle.determinants.specs.Determinant.{Column}
 use Rattle.determinants.specs.Basis.{dot, IsWithin}
 use Rattle.determinants.specs.Lexicographic.{IsLexPositive, IsLexNonnegative}
@@ -17,6 +17,10 @@ dot_comm zero a b = refl
 dot_comm (suc n) a b =
     ap (λ (z : ℤ). z +ℤ a n *ℤ b n) (dot_comm n a b) ∙ ap (λ (z : ℤ). dot n b a +ℤ z) (*ℤ_comm (a n) (b n))
 
+pub dot_scaled : (n : ℕ) (s : ℤ) (a w : ℕ → ℤ) → dot n (λ i. s *ℤ a i) w ≡ s *ℤ dot n a w
+dot_scaled n s a w =
+    dot_comm n (λ i. s *ℤ a i) w ∙ sym (dot_times n w s a) ∙ ap (λ (z : ℤ). s *ℤ z) (dot_comm n w a)
+
 -- the sum of products, as the definitions write it
 pub sum_dot : (n : ℕ) (a f : ℕ → ℤ) → sum_below n (λ r. a r *ℤ f r) ≡ dot n a f
 sum_dot zero a f = refl
@@ -26,10 +30,10 @@ dot_add : (n : ℕ) (c a b : ℕ → ℤ) (t : ℤ) → dot n c (λ k. a k +ℤ 
 dot_add zero c a b t = simp unit_laws
 dot_add (suc n) c a b t =
     ap (λ (z : ℤ). z +ℤ c n *ℤ (a n +ℤ b n *ℤ t)) (dot_add n c a b t)
-    ∙ step (dot n c a) (dot n c b) (c n) (a n) (b n) t
+    ∙ terms_by_factor (dot n c a) (dot n c b) (c n) (a n) (b n) t
   where
-    step : (p q c a b t : ℤ) → (p +ℤ q *ℤ t) +ℤ c *ℤ (a +ℤ b *ℤ t) ≡ (p +ℤ c *ℤ a) +ℤ (q +ℤ c *ℤ b) *ℤ t
-    step p q c a b t = simp ring_laws (omega (arith, linear))
+    terms_by_factor : (p q c a b t : ℤ) → (p +ℤ q *ℤ t) +ℤ c *ℤ (a +ℤ b *ℤ t) ≡ (p +ℤ c *ℤ a) +ℤ (q +ℤ c *ℤ b) *ℤ t
+    terms_by_factor p q c a b t = simp ring_laws (omega (arith, linear))
 
 -- the two orders of a double sum
 pub dot_swap : (n m : ℕ) (c : ℕ → ℤ) (x : ℕ → ℕ → ℤ) (s : Column)

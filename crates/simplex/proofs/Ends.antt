@@ -4,7 +4,7 @@ use Rattle.std.proofs.Common.{Option, Some, None, slice_index_or, arith, refl, s
 use Rattle.std.proofs.Common.{ℤ, pos, negsuc, ◌+ℤ◌, ◌*ℤ◌, neg_ℤ, ◌<ℤ◌, ◌≤ℤ◌}
 use Rattle.std.proofs.lemmas.Int.{ints}
 use Rattle.definitions.proofs.Members.{sum_below-zero}
-use Rattle.definitions.proofs.Ring.{ring_laws, unit_laws, linear, mul-leℤ, mul-zeroℤ, one-mulℤ}
+use Rattle.definitions.proofs.Ring.{ring_laws, unit_laws, linear, mul-nonnegativeℤ, mul-zeroℤ, one-mulℤ}
 use Rattle.definitions.specs.Programs.{Program, value_of, Bounds, HasNoSolution, HasRay}
 use Rattle.definitions.specs.Sums.{weighted_sum}
 use Rattle.definitions.proofs.Cases.{last_or_less}
@@ -23,9 +23,6 @@ use Rattle.simplex.proofs.Steps.{value_is}
 use Rattle.determinants.proofs.DotProducts.{dot_cong}
 
 -- ---- signs of products and of sums
-times_nonneg : (a b : ℤ) → pos 0 ≤ℤ a → pos 0 ≤ℤ b → pos 0 ≤ℤ (a *ℤ b)
-times_nonneg a b h k = subst (λ (z : ℤ). z ≤ℤ (a *ℤ b)) (mul-zeroℤ a) (mul-leℤ a (pos 0) b h k)
-
 pub neg_le : (a : ℤ) → a ≤ℤ pos 0 → pos 0 ≤ℤ neg_ℤ a
 neg_le a h = omega (arith, linear)
 
@@ -34,7 +31,7 @@ both_neg a b = simp ring_laws
 
 times_neg : (a b : ℤ) → a ≤ℤ pos 0 → b ≤ℤ pos 0 → pos 0 ≤ℤ (a *ℤ b)
 times_neg a b h k =
-    subst (λ (z : ℤ). pos 0 ≤ℤ z) (both_neg a b) (times_nonneg (neg_ℤ a) (neg_ℤ b) (neg_le a h) (neg_le b k))
+    subst (λ (z : ℤ). pos 0 ≤ℤ z) (both_neg a b) (mul-nonnegativeℤ (neg_ℤ a) (neg_ℤ b) (neg_le a h) (neg_le b k))
 
 sum_nonneg : (a b : ℤ) → pos 0 ≤ℤ a → pos 0 ≤ℤ b → pos 0 ≤ℤ (a +ℤ b)
 sum_nonneg a b h k = omega (arith, linear)
@@ -52,40 +49,40 @@ dot_nonpos zero a b h = omega (arith, linear)
 dot_nonpos (suc n) a b h =
     sum_nonpos (dot n a b) (a n *ℤ b n) (dot_nonpos n a b (λ k lt. h k (omega arith))) (h n (omega arith))
 
-sum_first : (a b : ℤ) → a ≤ℤ pos 0 → b <ℤ pos 0 → (a +ℤ b) <ℤ pos 0
-sum_first a b h k = omega (arith, linear)
+sum_negative_right : (a b : ℤ) → a ≤ℤ pos 0 → b <ℤ pos 0 → (a +ℤ b) <ℤ pos 0
+sum_negative_right a b h k = omega (arith, linear)
 
-sum_second : (a b : ℤ) → a <ℤ pos 0 → b ≤ℤ pos 0 → (a +ℤ b) <ℤ pos 0
-sum_second a b h k = omega (arith, linear)
+sum_negative_left : (a b : ℤ) → a <ℤ pos 0 → b ≤ℤ pos 0 → (a +ℤ b) <ℤ pos 0
+sum_negative_left a b h k = omega (arith, linear)
 
 -- a sum without a positive part and with a negative one
 dot_negative : (n : ℕ) (a b : ℕ → ℤ) (j : ℕ) → j < n → ((k : ℕ) → k < n → (a k *ℤ b k) ≤ℤ pos 0)
     → (a j *ℤ b j) <ℤ pos 0 → dot n a b <ℤ pos 0
 dot_negative zero a b j lt h p = absurd (omega arith)
 dot_negative (suc n) a b j lt h p = elim (last_or_less j n lt) [
-  | inl e ↦ sum_first (dot n a b) (a n *ℤ b n) (dot_nonpos n a b (λ k l. h k (omega arith)))
+  | inl e ↦ sum_negative_right (dot n a b) (a n *ℤ b n) (dot_nonpos n a b (λ k l. h k (omega arith)))
       (subst (λ (t : ℕ). (a t *ℤ b t) <ℤ pos 0) e p)
-  | inr l ↦ sum_second (dot n a b) (a n *ℤ b n) (dot_negative n a b j l (λ k q. h k (omega arith)) p)
+  | inr l ↦ sum_negative_left (dot n a b) (a n *ℤ b n) (dot_negative n a b j l (λ k q. h k (omega arith)) p)
       (h n (omega arith))
 ]
 
 -- ---- the first part is never without an end
-part_nonpos : (P : Program) (o : Option ℕ) → part_cost P First o ≤ℤ pos 0
-part_nonpos P None = omega (arith, ints)
-part_nonpos P (Some id) = omega (arith, linear)
+part_cost_nonpos : (P : Program) (o : Option ℕ) → part_cost P First o ≤ℤ pos 0
+part_cost_nonpos P None = omega (arith, ints)
+part_cost_nonpos P (Some id) = omega (arith, linear)
 
-not_both : (z : ℤ) (d : ℤ) → pos 0 ≤ℤ z → z <ℤ (d *ℤ pos 0) → ⊥
-not_both z d h k = below z h (subst (λ (t : ℤ). z <ℤ t) (mul-zeroℤ d) k)
-  where
-    below : (z : ℤ) → pos 0 ≤ℤ z → z <ℤ pos 0 → ⊥
-    below z h k = omega (arith, linear)
+negative_nonneg : (z : ℤ) → pos 0 ≤ℤ z → z <ℤ pos 0 → ⊥
+negative_nonneg z h k = omega (arith, linear)
+
+nonneg_below_none : (z : ℤ) (d : ℤ) → pos 0 ≤ℤ z → z <ℤ (d *ℤ pos 0) → ⊥
+nonneg_below_none z d h k = negative_nonneg z h (subst (λ (t : ℤ). z <ℤ t) (mul-zeroℤ d) k)
 
 pub no_first_direction : (P : Program) (s : State) → IsImproving P First s → HasDirection P First s → ⊥
 no_first_direction P s st r =
-    not_both _ s.den
+    nonneg_below_none _ s.den
     (dot_nonneg P.rows (weight_at s.costs) (λ k. dot P.rows (entry_at 32 s.inverse k) (column P r.id))
     (λ k lt. times_neg (weight_at s.costs k) (dot P.rows (entry_at 32 s.inverse k) (column P r.id))
-    (subst (λ (z : ℤ). z ≤ℤ pos 0) (sym (st.costs_are k lt)) (part_nonpos P (id_at s.ids k))) (r.lowers k lt)))
+    (subst (λ (z : ℤ). z ≤ℤ pos 0) (sym (st.costs_are k lt)) (part_cost_nonpos P (id_at s.ids k))) (r.lowers k lt)))
     r.above
 
 -- ---- no solution
@@ -124,29 +121,31 @@ homogeneous P =
 pub no_ray : (P : Program) (num : List ℤ) (den : ℤ) → Bounds P num den → HasRay P → ⊥
 no_ray P num den b r =
     positive_product den (weighted_sum P.cost r.0) b.0 r.3
-    (subst (λ (z : ℤ). (den *ℤ weighted_sum P.cost r.0) ≤ℤ z) none
+    (subst (λ (z : ℤ). (den *ℤ weighted_sum P.cost r.0) ≤ℤ z) no_value
     (weak_duality (homogeneous P) num den r.0 (pos 1) b
     (r.1, omega (arith, ints), λ i lt. r.2 i lt ∙ sym (mul-zeroℤ (pos 1)))))
   where
-    none : pos 1 *ℤ value_of (homogeneous P) num (λ i. pos 0) ≡ pos 0
-    none =
+    no_value : pos 1 *ℤ value_of (homogeneous P) num (λ i. pos 0) ≡ pos 0
+    no_value =
         one-mulℤ (value_of (homogeneous P) num (λ i. pos 0))
         ∙ sum_below-zero P.rows (λ i. slice_index_or num i (pos 0) *ℤ pos 0)
         (λ i lt. mul-zeroℤ (slice_index_or num i (pos 0)))
 
-pub lex_first : {A : Type 0} (z : ℤ) → (pos 0 <ℤ z) ⊎ ((z ≡ pos 0) × A) → pos 0 ≤ℤ z
-lex_first z (inl h) = omega (arith, linear)
-lex_first z (inr h) = subst (λ (t : ℤ). pos 0 ≤ℤ t) (sym h.0) (omega (arith, linear))
+pub first_nonneg : {A : Type 0} (z : ℤ) → (pos 0 <ℤ z) ⊎ ((z ≡ pos 0) × A) → pos 0 ≤ℤ z
+first_nonneg z (inl h) = omega (arith, linear)
+first_nonneg z (inr h) = subst (λ (t : ℤ). pos 0 ≤ℤ t) (sym h.0) (omega (arith, linear))
 
-part_times : (P : Program) (o : Option ℕ) (w : ℤ) → pos 0 ≤ℤ w → (part_cost P First o *ℤ w) ≤ℤ pos 0
-part_times P None w h = omega (arith, ints)
-part_times P (Some id) w h = omega (arith, ints)
+part_value_nonpos : (P : Program) (o : Option ℕ) (w : ℤ) → pos 0 ≤ℤ w → (part_cost P First o *ℤ w) ≤ℤ pos 0
+part_value_nonpos P None w h = omega (arith, ints)
+part_value_nonpos P (Some id) w h = omega (arith, ints)
 
-part_below : (P : Program) (o : Option ℕ) (w : ℤ) → o ≡ None → pos 0 <ℤ w → (part_cost P First o *ℤ w) <ℤ pos 0
-part_below P o w e h = subst (λ (t : Option ℕ). (part_cost P First t *ℤ w) <ℤ pos 0) (sym e) (below w h)
+part_value_negative : (P : Program) (o : Option ℕ) (w : ℤ) → o ≡ None → pos 0 <ℤ w
+    → (part_cost P First o *ℤ w) <ℤ pos 0
+part_value_negative P o w e h =
+    subst (λ (t : Option ℕ). (part_cost P First t *ℤ w) <ℤ pos 0) (sym e) (unit_cost_negative w h)
   where
-    below : (w : ℤ) → pos 0 <ℤ w → (negsuc 0 *ℤ w) <ℤ pos 0
-    below w h = omega (arith, ints)
+    unit_cost_negative : (w : ℤ) → pos 0 <ℤ w → (negsuc 0 *ℤ w) <ℤ pos 0
+    unit_cost_negative w h = omega (arith, ints)
 
 -- the objective of the right sides is what the tracked weights give
 pub objective_right : (P : Program) (part : Part) (s : State) → IsImproving P part s
@@ -166,7 +165,7 @@ no_solution P s num den st m b a =
     (value_is P s.inverse s.costs num s.rows s.den den P.right st.rows_is m ∙ objective_right P First s st))
     (dot_negative P.rows (weight_at s.costs) (λ k. entry_at 32 s.tracked k 0) a.position place
     (λ k lt. subst (λ (z : ℤ). (z *ℤ entry_at 32 s.tracked k 0) ≤ℤ pos 0) (sym (st.costs_are k lt))
-    (part_times P (id_at s.ids k) (entry_at 32 s.tracked k 0)
-    (lex_first (entry_at 32 s.tracked k 0) (st.nonneg.rows k lt))))
+    (part_value_nonpos P (id_at s.ids k) (entry_at 32 s.tracked k 0)
+    (first_nonneg (entry_at 32 s.tracked k 0) (st.nonneg.rows k lt))))
     (subst (λ (z : ℤ). (z *ℤ entry_at 32 s.tracked a.position 0) <ℤ pos 0) (sym (st.costs_are a.position place))
-    (part_below P (id_at s.ids a.position) (entry_at 32 s.tracked a.position 0) a.added a.positive))))
+    (part_value_negative P (id_at s.ids a.position) (entry_at 32 s.tracked a.position 0) a.added a.positive))))

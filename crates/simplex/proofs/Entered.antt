@@ -12,7 +12,8 @@ module _ (P Q : Program) (part : Part) (same : Q ≡ P) where
       → IsRising (priced Q (counts_costs part)) num den id
   rising_of num den id h = subst (λ (p : Program). IsRising (priced p (counts_costs part)) num den id) (sym same) h
 
-  pub bounds_of : (num : List ℤ) (den : ℤ) → Bounds (priced P (counts_costs part)) num den → Bounds (priced Q (counts_costs part)) num den
+  pub bounds_of : (num : List ℤ) (den : ℤ) → Bounds (priced P (counts_costs part)) num den
+      → Bounds (priced Q (counts_costs part)) num den
   bounds_of num den h = subst (λ (p : Program). Bounds (priced p (counts_costs part)) num den) (sym same) h
 
   pub rows_of : (n : ℕ) → n ≡ P.rows → n ≡ Q.rows

@@ -57,21 +57,22 @@ weigh_append : (f : ℕ → ℤ) (ws : List (ℕ × ℤ)) (id : ℕ) (w : ℤ)
     → weighted_sum f (ws ++ (id, w) ∷ []) ≡ weighted_sum f ws +ℤ w *ℤ f id
 weigh_append f [] id w = omega (arith, linear)
 weigh_append f (v ∷ ws) id w =
-    ap (λ (z : ℤ). v.1 *ℤ f v.0 +ℤ z) (weigh_append f ws id w) ∙ step (v.1 *ℤ f v.0) (weighted_sum f ws) (w *ℤ f id)
+    ap (λ (z : ℤ). v.1 *ℤ f v.0 +ℤ z) (weigh_append f ws id w)
+    ∙ last_into_sum (v.1 *ℤ f v.0) (weighted_sum f ws) (w *ℤ f id)
   where
-    step : (a b c : ℤ) → a +ℤ (b +ℤ c) ≡ (a +ℤ b) +ℤ c
-    step a b c = omega (arith, linear)
+    last_into_sum : (a b c : ℤ) → a +ℤ (b +ℤ c) ≡ (a +ℤ b) +ℤ c
+    last_into_sum a b c = omega (arith, linear)
 
-nothing : (a b : ℤ) → a ≡ a +ℤ pos 0 *ℤ b
-nothing a b = simp unit_laws
+plus_none_times : (a b : ℤ) → a ≡ a +ℤ pos 0 *ℤ b
+plus_none_times a b = simp unit_laws
 
-none_more : (a w : ℤ) → a ≡ a +ℤ w *ℤ pos 0
-none_more a w = simp unit_laws
+plus_times_none : (a w : ℤ) → a ≡ a +ℤ w *ℤ pos 0
+plus_times_none a w = simp unit_laws
 
 with_sum : (f : ℕ → ℤ) (o : Option ℕ) (w : ℤ) (ws : List (ℕ × ℤ)) → pos 0 ≤ℤ w
     → weighted_sum f (with_weight o w ws) ≡ weighted_sum f ws +ℤ w *ℤ on_id f o
-with_sum f None w ws h = none_more (weighted_sum f ws) w
-with_sum f (Some id) (pos zero) ws h = nothing (weighted_sum f ws) (f id)
+with_sum f None w ws h = plus_times_none (weighted_sum f ws) w
+with_sum f (Some id) (pos zero) ws h = plus_none_times (weighted_sum f ws) (f id)
 with_sum f (Some id) (pos (suc w)) ws h = weigh_append f ws id (pos (suc w))
 with_sum f (Some id) (negsuc w) ws h = absurd (omega (arith, ints))
 

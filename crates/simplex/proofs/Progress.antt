@@ -19,7 +19,7 @@ use Rattle.simplex.specs.Laws.{first_columns}
 use Rattle.simplex.specs.Tableau.{target, IsTracked, AreNonneg}
 use Rattle.simplex.specs.Measure.{cut, objective_at, objective_room}
 use Rattle.simplex.proofs.DotProducts.{cut_in, cut_out, nonneg_same, positive_same}
-use Rattle.simplex.proofs.Signs.{positive_is, positive_apart}
+use Rattle.simplex.proofs.Signs.{positive_is, positive_apart, size_of_positive}
 use Rattle.definitions.proofs.Cases.{below_or_above}
 use Rattle.determinants.proofs.DotProducts.{dot_cong}
 use Rattle.determinants.proofs.BasisPivots.{pivoted_same}
@@ -58,11 +58,12 @@ module _ (P : Program) (xs ts ys : List ℤ) (d : ℤ) (t : IsTracked P xs ts) (
       ≡ dot P.rows (entry_at 32 xs p) s *ℤ dot P.rows (entry_at 32 xs k) (target P t.refs j)
       -ℤ dot P.rows (entry_at 32 xs k) s *ℤ dot P.rows (entry_at 32 xs p) (target P t.refs j)
   gap_same k j kn jn =
-      step _ _ _ _ _ _ _ _ (ys_is p least.place) (ys_is k kn) (t.tracked k j kn jn) (t.tracked p j least.place jn)
+      ratio_gap_cong _ _ _ _ _ _ _ _ (ys_is p least.place) (ys_is k kn) (t.tracked k j kn jn)
+      (t.tracked p j least.place jn)
     where
-      step : (yp yk tk tp yp' yk' tk' tp' : ℤ) → yp ≡ yp' → yk ≡ yk' → tk ≡ tk' → tp ≡ tp'
+      ratio_gap_cong : (yp yk tk tp yp' yk' tk' tp' : ℤ) → yp ≡ yp' → yk ≡ yk' → tk ≡ tk' → tp ≡ tp'
           → yp *ℤ tk -ℤ yk *ℤ tp ≡ yp' *ℤ tk' -ℤ yk' *ℤ tp'
-      step yp yk tk tp yp' yk' tk' tp' e f g h = simp (e, f, g, h)
+      ratio_gap_cong yp yk tk tp yp' yk' tk' tp' e f g h = simp (e, f, g, h)
 
   pub next_rows : (xs' ts' : List ℤ) → pos 0 <ℤ d → IsPivoted 32 xs ys d P.rows P.rows p xs'
       → ((k j : ℕ) → k < P.rows → j < suc P.rows
@@ -90,61 +91,58 @@ sum_small : (n : ℕ) (a b : ℕ → ℤ) → ((k : ℕ) → k < n → unsigned_
     → ((k : ℕ) → k < n → unsigned_abs (b k) ≤ limit) → unsigned_abs (dot n a b) ≤ n * 2 ^ 104
 sum_small zero a b h k = omega arith
 sum_small (suc n) a b h k =
-    step n (dot n a b) (a n *ℤ b n) (sum_small n a b (λ i lt. h i (omega arith)) (λ i lt. k i (omega arith)))
+    one_term_more n (dot n a b) (a n *ℤ b n) (sum_small n a b (λ i lt. h i (omega arith)) (λ i lt. k i (omega arith)))
     (subst (λ (t : ℕ). t ≤ 2 ^ 46 * limit) (sym (unsigned_abs-mul (a n) (b n)))
     (mul-le-mul (h n (omega arith)) (k n (omega arith))))
   where
-    step : (n : ℕ) (s z : ℤ) → unsigned_abs s ≤ n * 2 ^ 104 → unsigned_abs z ≤ 2 ^ 46 * 2 ^ 58
+    one_term_more : (n : ℕ) (s z : ℤ) → unsigned_abs s ≤ n * 2 ^ 104 → unsigned_abs z ≤ 2 ^ 46 * 2 ^ 58
         → unsigned_abs (s +ℤ z) ≤ suc n * 2 ^ 104
-    step n s z h k = omega (arith, ints)
+    one_term_more n s z h k = omega (arith, ints)
 
 pub objective_small : (n : ℕ) (costs ts : List ℤ) (j : ℕ) → n ≤ 31 → IsSmall costs n (2 ^ 46)
     → AreSmall ts n (suc n) → unsigned_abs (cut (suc n) (objective_at n costs ts) j) ≤ 2 ^ 110
 objective_small n costs ts j le h k = elim (below_or_above j (suc n)) [
   | inl lt ↦ subst (λ (z : ℤ). unsigned_abs z ≤ 2 ^ 110) (sym (cut_in (suc n) (objective_at n costs ts) j lt))
-      (large n _ le
+      (below_110 n _ le
       (sum_small n (weight_at costs) (λ k. entry_at 32 ts k j) h.entries (λ i il. k.entries i j il lt)))
   | inr ge ↦ subst (λ (z : ℤ). unsigned_abs z ≤ 2 ^ 110) (sym (cut_out (suc n) (objective_at n costs ts) j ge))
       (omega arith)
 ]
   where
-    large : (n z : ℕ) → n ≤ 31 → z ≤ n * 2 ^ 104 → z ≤ 2 ^ 110
-    large n z le h = omega arith
+    below_110 : (n z : ℕ) → n ≤ 31 → z ≤ n * 2 ^ 104 → z ≤ 2 ^ 110
+    below_110 n z le h = omega arith
 
-zeros : (d e r : ℤ) → d *ℤ pos 0 ≡ e *ℤ pos 0 +ℤ r *ℤ pos 0
-zeros d e r = simp unit_laws
+zero_terms : (d e r : ℤ) → d *ℤ pos 0 ≡ e *ℤ pos 0 +ℤ r *ℤ pos 0
+zero_terms d e r = simp unit_laws
 
-step_at : (n : ℕ) (d e r : ℤ) (z z' a : ℕ → ℤ) → ((j : ℕ) → j < n → d *ℤ z' j ≡ e *ℤ z j +ℤ r *ℤ a j) → (j : ℕ)
+cut_terms : (n : ℕ) (d e r : ℤ) (z z' a : ℕ → ℤ) → ((j : ℕ) → j < n → d *ℤ z' j ≡ e *ℤ z j +ℤ r *ℤ a j) → (j : ℕ)
     → d *ℤ cut n z' j ≡ e *ℤ cut n z j +ℤ r *ℤ cut n a j
-step_at n d e r z z' a h j = elim (below_or_above j n) [
+cut_terms n d e r z z' a h j = elim (below_or_above j n) [
   | inl lt ↦ ap (λ (t : ℤ). d *ℤ t) (cut_in n z' j lt) ∙ h j lt
       ∙ sym
       (ap (λ (t : ℤ). e *ℤ t +ℤ r *ℤ cut n a j) (cut_in n z j lt)
       ∙ ap (λ (t : ℤ). e *ℤ z j +ℤ r *ℤ t) (cut_in n a j lt))
-  | inr ge ↦ ap (λ (t : ℤ). d *ℤ t) (cut_out n z' j ge) ∙ zeros d e r
+  | inr ge ↦ ap (λ (t : ℤ). d *ℤ t) (cut_out n z' j ge) ∙ zero_terms d e r
       ∙ sym
       (ap (λ (t : ℤ). e *ℤ t +ℤ r *ℤ cut n a j) (cut_out n z j ge)
       ∙ ap (λ (t : ℤ). e *ℤ pos 0 +ℤ r *ℤ t) (cut_out n a j ge))
 ]
 
-of_size : (r : ℤ) → pos 0 <ℤ r → r ≡ pos (unsigned_abs r)
-of_size r h = omega (arith, ints)
-
 -- what a step of the objective needs to be a fall of the measure
-pub falls : (n : ℕ) (costs costs' ts ts' : List ℤ) (d d' r : ℤ) (a : ℕ → ℤ) → n ≤ 31 → IsSmall costs n (2 ^ 46)
+pub room_falls : (n : ℕ) (costs costs' ts ts' : List ℤ) (d d' r : ℤ) (a : ℕ → ℤ) → n ≤ 31 → IsSmall costs n (2 ^ 46)
     → IsSmall costs' n (2 ^ 46) → AreSmall ts n (suc n) → AreSmall ts' n (suc n)
     → pos 0 <ℤ d → pos 0 <ℤ d' → pos 0 <ℤ r → unsigned_abs d ≤ 2 ^ 58 → unsigned_abs d' ≤ 2 ^ 58
     → ((j : ℕ) → j < suc n → d *ℤ objective_at n costs' ts' j ≡ d' *ℤ objective_at n costs ts j +ℤ r *ℤ a j)
     → IsLexPositive (suc n) a
     → objective_room n costs' ts' d' < objective_room n costs ts d
 unfolding objective_room
-falls n costs costs' ts ts' d d' r a le hc hc' ht ht' dp d'p rp sd sd' h lex =
+room_falls n costs costs' ts ts' d d' r a le hc hc' ht ht' dp d'p rp sd sd' h lex =
     room_left_falls (suc n) (unsigned_abs r) d d' (cut (suc n) (objective_at n costs ts))
     (cut (suc n) (objective_at n costs' ts')) (cut (suc n) a) dp d'p sd sd'
     (λ j. objective_small n costs ts j le hc ht) (λ j. objective_small n costs' ts' j le hc' ht')
     (size_positive r rp)
-    (λ j. step_at (suc n) d d' r (objective_at n costs ts) (objective_at n costs' ts') a h j
-    ∙ ap (λ (z : ℤ). d' *ℤ cut (suc n) (objective_at n costs ts) j +ℤ z *ℤ cut (suc n) a j) (of_size r rp))
+    (λ j. cut_terms (suc n) d d' r (objective_at n costs ts) (objective_at n costs' ts') a h j
+    ∙ ap (λ (z : ℤ). d' *ℤ cut (suc n) (objective_at n costs ts) j +ℤ z *ℤ cut (suc n) a j) (size_of_positive r rp))
     (positive_same (suc n) a (cut (suc n) a) (λ j lt. sym (cut_in (suc n) a j lt)) lex)
 
 -- the objective after a pivot
@@ -166,7 +164,8 @@ objective_step P costs costs' xs xs' ts ts' ys d s refs p j pn ys_is q same tk t
     (λ k. dot n (entry_at 32 xs' k) (target P refs j)) (λ i lt. refl) tk')
     ∙ objective_pivoted n p d (entry_at 32 xs) (entry_at 32 xs') (weight_at costs) (weight_at costs') s
     (target P refs j) pn
-    (λ k i kn jn. q.entries k i kn jn ∙ step _ _ _ _ _ _ _ (ys_is p pn) (ys_is k kn)) (λ k kn ne. same k ne)
+    (λ k i kn jn. q.entries k i kn jn ∙ pivot_term_cong _ _ _ _ _ _ _ (ys_is p pn) (ys_is k kn))
+    (λ k kn ne. same k ne)
     ∙ sym (ap (λ (z : ℤ). z *ℤ objective_at n costs ts j +ℤ r *ℤ entry_at 32 ts p j) (ys_is p pn)
     ∙ ap (λ (z : ℤ). dot n (entry_at 32 xs p) s *ℤ z +ℤ r *ℤ entry_at 32 ts p j)
     (dot_cong n (weight_at costs) (weight_at costs) (λ k. entry_at 32 ts k j)
@@ -175,5 +174,6 @@ objective_step P costs costs' xs xs' ts ts' ys d s refs p j pn ys_is q same tk t
     (λ (z : ℤ). dot n (entry_at 32 xs p) s *ℤ objective n (weight_at costs) (entry_at 32 xs) (target P refs j)
     +ℤ r *ℤ z) (tk p pn))
   where
-    step : (yp yk yp' yk' a b c : ℤ) → yp ≡ yp' → yk ≡ yk' → (yp *ℤ a -ℤ yk *ℤ b) +ℤ c ≡ (yp' *ℤ a -ℤ yk' *ℤ b) +ℤ c
-    step yp yk yp' yk' a b c e f = simp (e, f)
+    pivot_term_cong : (yp yk yp' yk' a b c : ℤ) → yp ≡ yp' → yk ≡ yk'
+        → (yp *ℤ a -ℤ yk *ℤ b) +ℤ c ≡ (yp' *ℤ a -ℤ yk' *ℤ b) +ℤ c
+    pivot_term_cong yp yk yp' yk' a b c e f = simp (e, f)

@@ -33,24 +33,24 @@ gap_less a b h = omega (arith, linear)
 gap_turned : (a b : ℤ) → a -ℤ b ≡ pos 0 → b -ℤ a ≡ pos 0
 gap_turned a b e = omega (arith, linear)
 
-pub before : (ts ys : List ℤ) (n k p j : ℕ) → j < suc n → ((i : ℕ) → i < j → ratio_gap ts ys k p i ≡ pos 0)
+pub ratio_before : (ts ys : List ℤ) (n k p j : ℕ) → j < suc n → ((i : ℕ) → i < j → ratio_gap ts ys k p i ≡ pos 0)
     → (weight_at ys p *ℤ entry_at 32 ts k j) <ℤ (weight_at ys k *ℤ entry_at 32 ts p j)
     → IsLexPositive (suc n) (ratio_gap ts ys p k)
-before ts ys n k p j lt h l =
+ratio_before ts ys n k p j lt h l =
     positive_at (suc n) j (ratio_gap ts ys p k) lt
     (λ i il. gap_turned (weight_at ys p *ℤ entry_at 32 ts k i) (weight_at ys k *ℤ entry_at 32 ts p i) (h i il))
     (gap_less (weight_at ys p *ℤ entry_at 32 ts k j) (weight_at ys k *ℤ entry_at 32 ts p j) l)
 
-pub not_before : (ts ys : List ℤ) (n k p j : ℕ) → j < suc n → ((i : ℕ) → i < j → ratio_gap ts ys k p i ≡ pos 0)
+pub ratio_not_before : (ts ys : List ℤ) (n k p j : ℕ) → j < suc n → ((i : ℕ) → i < j → ratio_gap ts ys k p i ≡ pos 0)
     → (weight_at ys k *ℤ entry_at 32 ts p j) <ℤ (weight_at ys p *ℤ entry_at 32 ts k j)
     → IsLexNonnegative (suc n) (ratio_gap ts ys k p)
-not_before ts ys n k p j lt h l =
+ratio_not_before ts ys n k p j lt h l =
     nonneg_of (suc n) (ratio_gap ts ys k p)
     (positive_at (suc n) j (ratio_gap ts ys k p) lt h
     (gap_less (weight_at ys k *ℤ entry_at 32 ts p j) (weight_at ys p *ℤ entry_at 32 ts k j) l))
 
-between : (a b : ℤ) → b ≤ℤ a → a ≤ℤ b → a ≡ b
-between a b h k = omega (arith, ints)
+equal_both_ways : (a b : ℤ) → b ≤ℤ a → a ≤ℤ b → a ≡ b
+equal_both_ways a b h k = omega (arith, ints)
 
 pub same_so_far : (ts ys : List ℤ) (k p j : ℕ) → ((i : ℕ) → i < j → ratio_gap ts ys k p i ≡ pos 0)
     → (weight_at ys k *ℤ entry_at 32 ts p j) ≤ℤ (weight_at ys p *ℤ entry_at 32 ts k j)
@@ -58,45 +58,46 @@ pub same_so_far : (ts ys : List ℤ) (k p j : ℕ) → ((i : ℕ) → i < j → 
     → ratio_gap ts ys k p i ≡ pos 0
 same_so_far ts ys k p j h e f i lt = elim (last_or_less_of i j lt) [
   | inl same ↦ ap (ratio_gap ts ys k p) same
-      ∙ gap_of (weight_at ys p *ℤ entry_at 32 ts k j) (weight_at ys k *ℤ entry_at 32 ts p j) (between _ _ e f)
+      ∙ gap_of (weight_at ys p *ℤ entry_at 32 ts k j) (weight_at ys k *ℤ entry_at 32 ts p j) (equal_both_ways _ _ e f)
   | inr less ↦ h i less
 ]
 
 -- ---- the least ratio
-ring_step : (yj yk yp tj tk tp : ℤ)
+ratio_identity : (yj yk yp tj tk tp : ℤ)
     → yp *ℤ (yk *ℤ tj -ℤ yj *ℤ tk) ≡ yk *ℤ (yp *ℤ tj -ℤ yj *ℤ tp) +ℤ yj *ℤ (yk *ℤ tp -ℤ yp *ℤ tk)
-ring_step yj yk yp tj tk tp = simp ring_laws (omega (arith, linear))
+ratio_identity yj yk yp tj tk tp = simp ring_laws (omega (arith, linear))
 
-through : (ts ys : List ℤ) (n j k p : ℕ) → pos 0 <ℤ weight_at ys j → pos 0 <ℤ weight_at ys k
+ratios_transitive : (ts ys : List ℤ) (n j k p : ℕ) → pos 0 <ℤ weight_at ys j → pos 0 <ℤ weight_at ys k
     → pos 0 <ℤ weight_at ys p → IsLexNonnegative (suc n) (ratio_gap ts ys j p)
     → IsLexNonnegative (suc n) (ratio_gap ts ys p k) → IsLexNonnegative (suc n) (ratio_gap ts ys j k)
-through ts ys n j k p hj hk hp a b =
+ratios_transitive ts ys n j k p hj hk hp a b =
     let uj = positive_is (weight_at ys j) hj in
     let uk = positive_is (weight_at ys k) hk in
     let up = positive_is (weight_at ys p) hp in
     joined_nonnegative (suc n) up.0 uk.0 uj.0 (ratio_gap ts ys j k) (ratio_gap ts ys j p) (ratio_gap ts ys p k) up.2
     uk.2 uj.2
-    (λ i. step (weight_at ys j) (weight_at ys k) (weight_at ys p) (entry_at 32 ts j i) (entry_at 32 ts k i)
+    (λ i. ratio_identity_at (weight_at ys j) (weight_at ys k) (weight_at ys p) (entry_at 32 ts j i)
+    (entry_at 32 ts k i)
     (entry_at 32 ts p i) (pos uj.0) (pos uk.0) (pos up.0) uj.1 uk.1 up.1) a b
   where
-    step : (yj yk yp tj tk tp uj uk up : ℤ) → yj ≡ uj → yk ≡ uk → yp ≡ up
+    ratio_identity_at : (yj yk yp tj tk tp uj uk up : ℤ) → yj ≡ uj → yk ≡ uk → yp ≡ up
         → up *ℤ (yk *ℤ tj -ℤ yj *ℤ tk) ≡ uk *ℤ (yp *ℤ tj -ℤ yj *ℤ tp) +ℤ uj *ℤ (yk *ℤ tp -ℤ yp *ℤ tk)
-    step yj yk yp tj tk tp uj uk up e f g =
+    ratio_identity_at yj yk yp tj tk tp uj uk up e f g =
         subst (λ (z : ℤ). z *ℤ (yk *ℤ tj -ℤ yj *ℤ tk) ≡ uk *ℤ (yp *ℤ tj -ℤ yj *ℤ tp) +ℤ uj *ℤ (yk *ℤ tp -ℤ yp *ℤ tk))
         g
         (subst
         (λ (z : ℤ). yp *ℤ (yk *ℤ tj -ℤ yj *ℤ tk) ≡ z *ℤ (yp *ℤ tj -ℤ yj *ℤ tp) +ℤ uj *ℤ (yk *ℤ tp -ℤ yp *ℤ tk)) f
         (subst
         (λ (z : ℤ). yp *ℤ (yk *ℤ tj -ℤ yj *ℤ tk) ≡ yk *ℤ (yp *ℤ tj -ℤ yj *ℤ tp) +ℤ z *ℤ (yk *ℤ tp -ℤ yp *ℤ tk)) e
-        (ring_step yj yk yp tj tk tp)))
+        (ratio_identity yj yk yp tj tk tp)))
 
-itself : (ts ys : List ℤ) (n k : ℕ) → IsLexNonnegative (suc n) (ratio_gap ts ys k k)
-itself ts ys n k =
+ratio_itself : (ts ys : List ℤ) (n k : ℕ) → IsLexNonnegative (suc n) (ratio_gap ts ys k k)
+ratio_itself ts ys n k =
     nonneg_zero (suc n) (ratio_gap ts ys k k) (λ i lt. gap_of _ (weight_at ys k *ℤ entry_at 32 ts k i) refl)
 
 -- a position without a positive weight changes nothing
-pub none_more : (ys : List ℤ) (k : ℕ) → weight_at ys k ≤ℤ pos 0 → NonePositive ys k → NonePositive ys (k + 1)
-none_more ys k z h = record {
+pub none_positive_next : (ys : List ℤ) (k : ℕ) → weight_at ys k ≤ℤ pos 0 → NonePositive ys k → NonePositive ys (k + 1)
+none_positive_next ys k z h = record {
   none = λ j lt p. elim (last_or_less_of j k lt) [
     | inl e ↦ not_both (weight_at ys j) (subst (λ (t : ℕ). weight_at ys t ≤ℤ pos 0) (sym e) z) p
     | inr l ↦ h.none j l p
@@ -122,7 +123,7 @@ least_first ts ys n k lt pk h = record {
   place = lt;
   positive = pk;
   least = λ j lj pj. elim (last_or_less_of j k lj) [
-    | inl e ↦ subst (λ (t : ℕ). IsLexNonnegative (suc n) (ratio_gap ts ys t k)) (sym e) (itself ts ys n k)
+    | inl e ↦ subst (λ (t : ℕ). IsLexNonnegative (suc n) (ratio_gap ts ys t k)) (sym e) (ratio_itself ts ys n k)
     | inr l ↦ absurd (h.none j l pj)
   ];
 }
@@ -133,12 +134,13 @@ least_next ts ys n k p lt pk less h = record {
   place = lt;
   positive = pk;
   least = λ j lj pj. elim (last_or_less_of j k lj) [
-    | inl e ↦ subst (λ (t : ℕ). IsLexNonnegative (suc n) (ratio_gap ts ys t k)) (sym e) (itself ts ys n k)
-    | inr l ↦ through ts ys n j k p pj pk h.positive (h.least j l pj) (nonneg_of (suc n) (ratio_gap ts ys p k) less)
+    | inl e ↦ subst (λ (t : ℕ). IsLexNonnegative (suc n) (ratio_gap ts ys t k)) (sym e) (ratio_itself ts ys n k)
+    | inr l ↦ ratios_transitive ts ys n j k p pj pk h.positive (h.least j l pj)
+        (nonneg_of (suc n) (ratio_gap ts ys p k) less)
   ];
 }
 
 pub choice_more : (ts ys : List ℤ) (n k : ℕ) (best : Option ℕ) → weight_at ys k ≤ℤ pos 0 → IsChoice ts ys n k best
     → IsChoice ts ys n (k + 1) best
-choice_more ts ys n k None z h = none_more ys k z h
+choice_more ts ys n k None z h = none_positive_next ys k z h
 choice_more ts ys n k (Some p) z h = least_more ts ys n k p (λ pk. absurd (not_both (weight_at ys k) z pk)) h

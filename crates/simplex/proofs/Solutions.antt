@@ -21,12 +21,12 @@ use Rattle.simplex.specs.Program.{column, right_side}
 use Rattle.simplex.specs.Reduced.{listed}
 use Rattle.simplex.specs.Tableau.{id_at, IsId, place, placed, IsInverse}
 use Rattle.simplex.proofs.DotProducts.{flipped_at, flipped_within, dot_comm}
-use Rattle.simplex.proofs.Ends.{lex_first, neg_le, objective_right}
+use Rattle.simplex.proofs.Ends.{first_nonneg, neg_le, objective_right}
 use Rattle.simplex.proofs.FreshRows.{dot_negated, own_at}
 use Rattle.simplex.proofs.ListedWeights.{listed_all, listed_sum, listed_distinct, on_id, all_new}
 use Rattle.simplex.proofs.Steps.{value_is}
 use Rattle.simplex.proofs.Tableaus.{of_within, place_of}
-use Rattle.simplex.proofs.Signs.{turned_below, at_least_one, not_both}
+use Rattle.simplex.proofs.Signs.{flipped_below, at_least_one, not_both}
 use Rattle.determinants.proofs.DotProducts.{dot_front, dot_cong}
 use Rattle.definitions.proofs.Cases.{nat_eq-other}
 use Rattle.determinants.proofs.LexicographicSigns.{less_le}
@@ -45,8 +45,8 @@ weigh_cols (suc n) f w i =
     ap (λ (z : ℤ). w 0 *ℤ f 0 i +ℤ z) (weigh_cols n (λ k. f (suc k)) (λ k. w (suc k)) i)
     ∙ sym (dot_front n w (λ k. f k i))
 
-turn : (n i : ℕ) → i < n → n - 1 - (n - 1 - i) ≡ i
-turn n i lt = omega arith
+flipped_twice : (n i : ℕ) → i < n → n - 1 - (n - 1 - i) ≡ i
+flipped_twice n i lt = omega arith
 
 both_zero : (a b c : ℤ) → a ≡ pos 0 → a *ℤ b ≡ a *ℤ c
 both_zero a b c e = simp (e, unit_laws)
@@ -56,8 +56,8 @@ on_place : (P : Program) (k : ℕ) (o : Option ℕ) (w : ℤ) (i : ℕ) → i < 
 on_place P k None w i lt h = both_zero w _ _ (h refl)
 on_place P k (Some id) w i lt h =
     ap (λ (z : ℤ). w *ℤ z)
-    (flipped_at P.rows (P.entry id) (P.rows - 1 - i) (turned_below P.rows i lt)
-    ∙ ap (P.entry id) (turn P.rows i lt))
+    (flipped_at P.rows (P.entry id) (P.rows - 1 - i) (flipped_below P.rows i lt)
+    ∙ ap (P.entry id) (flipped_twice P.rows i lt))
 
 -- d times an entry of a column is the sum of the basis's entries with the column's weights, if the added units have
 -- weight 0
@@ -128,10 +128,11 @@ module _ (P : Program) (s : State) (st : IsImproving P Second s) where
       (flipped_within P.rows P.right)
       (λ k l. st.table.tracked.tracked k 0 l (omega arith)) right_clear i lt
       ∙ ap (λ (z : ℤ). s.den *ℤ z)
-      (flipped_at P.rows P.right (P.rows - 1 - i) (turned_below P.rows i lt) ∙ ap P.right (turn P.rows i lt))
+      (flipped_at P.rows P.right (P.rows - 1 - i) (flipped_below P.rows i lt)
+      ∙ ap P.right (flipped_twice P.rows i lt))
 
   pub right_nonneg : (k : ℕ) → k < P.rows → pos 0 ≤ℤ entry_at 32 s.tracked k 0
-  right_nonneg k lt = lex_first (entry_at 32 s.tracked k 0) (st.nonneg.rows k lt)
+  right_nonneg k lt = first_nonneg (entry_at 32 s.tracked k 0) (st.nonneg.rows k lt)
 
   listed_weights : (w : ℕ → ℤ)
       → AllByRecursion (λ v. IsTrue (P.is_column v.0) × (pos 0 ≤ℤ v.1)) (listed s.ids w P.rows)
@@ -197,8 +198,8 @@ module _ (P : Program) (s : State) (st : IsImproving P Second s) where
             (λ k l. refl)
             (λ k l h. (st.silent refl k l h).columns r.id r.is_column) i lt
             ∙ ap (λ (z : ℤ). s.den *ℤ z)
-            (flipped_at P.rows (P.entry r.id) (P.rows - 1 - i) (turned_below P.rows i lt)
-            ∙ ap (P.entry r.id) (turn P.rows i lt)))),
+            (flipped_at P.rows (P.entry r.id) (P.rows - 1 - i) (flipped_below P.rows i lt)
+            ∙ ap (P.entry r.id) (flipped_twice P.rows i lt)))),
         subst (λ (z : ℤ). pos 1 ≤ℤ z)
             (sym
             (ap (λ (z : ℤ). s.den *ℤ P.cost r.id +ℤ z)

@@ -179,11 +179,11 @@ returns-in_default-least_ratio-clause-answer g c =
     c.load_column-column.result c.load_column-column.ensures
     c.weights_of-weights.result c.weights_of-weights.ensures (c.in_default-least_ratio.ensures {u = tt}))
 
--- the facts of a step
-facts : (g : Over) (c : In-Some-least_ratio g)
+-- the step_facts of a step
+step_facts : (g : Over) (c : In-Some-least_ratio g)
     → Steps.Step (g.C.Columns.program c.rising_in.new.columns) c.args.part c.loop-id.work c.weights_of-weights.result
     c.in-Some-least_ratio.p c.in-Some.id
-facts g c =
+step_facts g c =
     let fd : FitsSigned w128 c.loop-id.work.den = search rules in
     let are = simp to_z-of_z at c.multipliers_of-m.ensures in
     let P = g.C.Columns.program c.loop-id.columns in
@@ -219,7 +219,7 @@ replace-requires-clause-apart g c = c.loop-id.invariant.state.table.inverse.basi
 pub replace-requires-clause-can : goal.replace-requires-clause-can
 replace-requires-clause-can g c =
     let can =
-    can_replace _ _ _ _ _ (facts g (goal.at.replace-requires-clause-can g c).In-Some-least_ratio).enters in
+    can_replace _ _ _ _ _ (step_facts g (goal.at.replace-requires-clause-can g c).In-Some-least_ratio).enters in
     record { inverse = can.inverse; tracked = can.tracked }
 
 -- what `replace` made of the state
@@ -241,7 +241,7 @@ replaced g c =
 pub loop-id-smaller : goal.loop-id-smaller
 loop-id-smaller g c =
     let at = goal.at.loop-id-smaller g c in
-    Steps.smaller _ _ _ _ _ _ (facts g at.In-Some-least_ratio) _ _ c.price_of-cost.ensures
+    Steps.smaller _ _ _ _ _ _ (step_facts g at.In-Some-least_ratio) _ _ c.price_of-cost.ensures
     (replaced g at.After-replace)
 
 pub loop-id-preserved : goal.loop-id-preserved
@@ -251,6 +251,6 @@ loop-id-preserved g c =
       same = (c.in-Some.ensures {u = tt}).same ∙ c.loop-id.invariant.same;
       same_players = (c.in-Some.ensures {u = tt}).same_players ∙ c.loop-id.invariant.same_players;
       state =
-          Steps.next_state _ _ _ _ _ _ (facts g at.In-Some-least_ratio) _ _ c.price_of-cost.ensures
+          Steps.next_state _ _ _ _ _ _ (step_facts g at.In-Some-least_ratio) _ _ c.price_of-cost.ensures
           (replaced g at.After-replace);
     }

@@ -4,7 +4,7 @@ use mir.Syntax.{w128}
 use Rattle.std.proofs.lemmas.Int.{to_z-of_z}
 use Rattle.determinants.specs.Matrix.{weight_at, entry_at}
 use Rattle.simplex.specs.Ratio.{ratio_gap}
-use Rattle.simplex.proofs.Ratios.{before, not_before, same_so_far, nonneg_zero}
+use Rattle.simplex.proofs.Ratios.{ratio_before, ratio_not_before, same_so_far, nonneg_zero}
 use Rattle.simplex.proofs.Sizes.{less_is, not_less}
 use Rattle.simplex.proofs.ratio.goes_before.Goals.{After-product-there}
 use Rattle.simplex.proofs.ratio.goes_before.Goals as goal
@@ -56,7 +56,7 @@ returns-then-here-there c =
     let g1 : FitsSigned w128 c.product-here.result = search rules in
     let g2 : FitsSigned w128 c.product-there.result = search rules in
     let less = less_is c.product-here.result c.product-there.result (simp to_z-of_z at c.if-here-there.true) in
-    before c.args.tracked.now c.args.weights.now c.args.n c.args.k c.args.p c.loop-j.j (omega arith)
+    ratio_before c.args.tracked.now c.args.weights.now c.args.n c.args.k c.args.p c.loop-j.j (omega arith)
     c.loop-j.invariant (subst₂ (λ (a b : ℤ). a <ℤ b) e.0 e.1 less)
 
 pub returns-then-there-here : goal.returns-then-there-here
@@ -65,7 +65,7 @@ returns-then-there-here c =
     let g1 : FitsSigned w128 c.product-here.result = search rules in
     let g2 : FitsSigned w128 c.product-there.result = search rules in
     let less = less_is c.product-there.result c.product-here.result (simp to_z-of_z at c.if-there-here.true) in
-    not_before c.args.tracked.now c.args.weights.now c.args.n c.args.k c.args.p c.loop-j.j (omega arith)
+    ratio_not_before c.args.tracked.now c.args.weights.now c.args.n c.args.k c.args.p c.loop-j.j (omega arith)
     c.loop-j.invariant (subst₂ (λ (a b : ℤ). a <ℤ b) e.1 e.0 less)
 
 pub loop-j-preserved : goal.loop-j-preserved
