@@ -78,9 +78,9 @@ module _ (P : Program) (s : State) (num : List ℤ) (mden : ℤ) (ws : List (ℕ
       (
         subst (AllByRecursion (λ w. IsTrue (P.is_column w.0) × (pos 0 ≤ℤ w.1))) (sym list_is)
             (listed_all (λ w. IsTrue (P.is_column w.0) × (pos 0 ≤ℤ w.1)) s.ids r.reduced P.rows
-            (λ j id u lt e f. (is_column_at P s.ids s.inverse s.den st.table.inverse j id lt e, suc_nonneg u))),
+            (λ j id u lt e f. (is_column_at P s st.table.inverse j id lt e, suc_nonneg u))),
         subst (λ (l : List (ℕ × ℤ)). IsDistinct nat_eq (map (λ (w : ℕ × ℤ). w.0) l)) (sym list_is)
-            (listed_distinct s.ids r.reduced P.rows (ids_apart P s.ids s.inverse s.den st.table.inverse)),
+            (listed_distinct s.ids r.reduced P.rows (ids_apart P s st.table.inverse)),
       ),
       at_least_one den (quotient_positive r.common den s.den r.is_common.positive r.den_is st.table.positive),
       λ i lt. cancel r.common (weighted_sum (λ id. P.entry id i) ws) (den *ℤ P.right i)
@@ -132,7 +132,7 @@ module _ (P : Program) (s : State) (num : List ℤ) (mden : ℤ) (ws : List (ℕ
   weight_small : (k : ℕ) → k < P.rows → unsigned_abs (entry_at 32 s.tracked k 0) ≤ 2 ^ 58
   weight_small k lt =
       subst (λ (z : ℤ). unsigned_abs z ≤ 2 ^ 58) (sym (st.table.tracked.tracked k 0 lt (omega arith)))
-      (right_small P s.ids s.inverse s.den tame st.table.inverse k lt)
+      (right_small P s tame st.table.inverse k lt)
 
   reduced_small : (k : ℕ) → k < P.rows → unsigned_abs (r.reduced k) < 2 ^ 62
   reduced_small k lt =
@@ -180,7 +180,7 @@ module _ (P : Program) (s : State) (num : List ℤ) (mden : ℤ) (ws : List (ℕ
         (λ j id u lt e f. subst (λ (z : ℤ). unsigned_abs z < 2 ^ 62) f (reduced_small j lt)));
     den_small =
         below_62 (unsigned_abs den) (unsigned_abs s.den) (factor_le r.common den s.den r.is_common.positive r.den_is)
-        (den_small P s.ids s.inverse s.den tame st.table.inverse);
+        (den_small P s tame st.table.inverse);
     lowest = lowest_terms;
   }
 

@@ -16,6 +16,7 @@ use Rattle.simplex.specs.Matrix.{AreSmall, IsSmall}
 use Rattle.simplex.specs.Ratio.{ratio_gap, IsLeast}
 use Rattle.definitions.specs.Programs.{Program}
 use Rattle.simplex.specs.Laws.{first_columns}
+use Rattle.simplex.specs.declared.state.State.{State}
 use Rattle.simplex.specs.Tableau.{target, IsTracked, AreNonneg}
 use Rattle.simplex.specs.Measure.{cut, objective_at, objective_room}
 use Rattle.simplex.proofs.DotProducts.{cut_in, cut_out, nonneg_same, positive_same}
@@ -30,33 +31,35 @@ all_zero n a zero f h = tt
 all_zero n a (suc m) f h = (h 0 (omega arith), all_zero n a m (λ k. f (suc k)) (λ j lt. h (suc j) (omega arith)))
 
 -- ---- the rows
-module _ (P : Program) (xs ts ys : List ℤ) (d : ℤ) (t : IsTracked P xs ts) (s : Column) (within : IsWithin P.rows s)
-    (ys_is : (k : ℕ) → k < P.rows → weight_at ys k ≡ dot P.rows (entry_at 32 xs k) s) (rows : AreNonneg P ts)
-    (p : ℕ) (least : IsLeast ts ys P.rows P.rows p) where
+module _ (P : Program) (s : State) (ys : List ℤ) (t : IsTracked P s) (c : Column) (within : IsWithin P.rows c)
+    (ys_is : (k : ℕ) → k < P.rows → weight_at ys k ≡ dot P.rows (entry_at 32 s.inverse k) c)
+    (rows : AreNonneg P s.tracked) (p : ℕ) (least : IsLeast s.tracked ys P.rows P.rows p) where
   tracked_row : (k : ℕ) → k < P.rows
-      → IsLexNonnegative (suc P.rows) (λ j. dot P.rows (entry_at 32 xs k) (target P t.refs j))
+      → IsLexNonnegative (suc P.rows) (λ j. dot P.rows (entry_at 32 s.inverse k) (target P t.refs j))
   tracked_row k kn =
-      nonneg_same (suc P.rows) (entry_at 32 ts k) (λ j. dot P.rows (entry_at 32 xs k) (target P t.refs j))
+      nonneg_same (suc P.rows) (entry_at 32 s.tracked k)
+      (λ j. dot P.rows (entry_at 32 s.inverse k) (target P t.refs j))
       (λ j lt. t.tracked k j kn lt) (rows.rows k kn)
 
-  y_positive : pos 0 <ℤ dot P.rows (entry_at 32 xs p) s
+  y_positive : pos 0 <ℤ dot P.rows (entry_at 32 s.inverse p) c
   y_positive = subst (λ (z : ℤ). pos 0 <ℤ z) (ys_is p least.place) least.positive
 
   -- the row of the pivot isn't 0
-  pub row_positive : IsLexPositive (suc P.rows) (entry_at 32 ts p)
-  row_positive = elim (positive_or_zero (suc P.rows) (entry_at 32 ts p) (rows.rows p least.place)) [
+  pub row_positive : IsLexPositive (suc P.rows) (entry_at 32 s.tracked p)
+  row_positive = elim (positive_or_zero (suc P.rows) (entry_at 32 s.tracked p) (rows.rows p least.place)) [
     | inl h ↦ h
-    | inr z ↦ absurd (positive_apart (dot P.rows (entry_at 32 xs p) s) y_positive
-        (none_at_basis P.rows t.refs_sign (first_columns P.rows t.refs) t.refs_den t.refs_inverse (entry_at 32 xs p)
-        s t.refs_basis within
-        (all_zero P.rows (entry_at 32 xs p) P.rows t.refs
+    | inr z ↦ absurd (positive_apart (dot P.rows (entry_at 32 s.inverse p) c) y_positive
+        (none_at_basis P.rows t.refs_sign (first_columns P.rows t.refs) t.refs_den t.refs_inverse
+        (entry_at 32 s.inverse p)
+        c t.refs_basis within
+        (all_zero P.rows (entry_at 32 s.inverse p) P.rows t.refs
         (λ j lt. sym (t.tracked p (suc j) least.place (omega arith)) ∙ z (suc j) (omega arith)))))
   ]
 
   gap_same : (k j : ℕ) → k < P.rows → j < suc P.rows
-      → ratio_gap ts ys k p j
-      ≡ dot P.rows (entry_at 32 xs p) s *ℤ dot P.rows (entry_at 32 xs k) (target P t.refs j)
-      -ℤ dot P.rows (entry_at 32 xs k) s *ℤ dot P.rows (entry_at 32 xs p) (target P t.refs j)
+      → ratio_gap s.tracked ys k p j
+      ≡ dot P.rows (entry_at 32 s.inverse p) c *ℤ dot P.rows (entry_at 32 s.inverse k) (target P t.refs j)
+      -ℤ dot P.rows (entry_at 32 s.inverse k) c *ℤ dot P.rows (entry_at 32 s.inverse p) (target P t.refs j)
   gap_same k j kn jn =
       ratio_gap_cong _ _ _ _ _ _ _ _ (ys_is p least.place) (ys_is k kn) (t.tracked k j kn jn)
       (t.tracked p j least.place jn)
@@ -65,23 +68,26 @@ module _ (P : Program) (xs ts ys : List ℤ) (d : ℤ) (t : IsTracked P xs ts) (
           → yp *ℤ tk -ℤ yk *ℤ tp ≡ yp' *ℤ tk' -ℤ yk' *ℤ tp'
       ratio_gap_cong yp yk tk tp yp' yk' tk' tp' e f g h = simp (e, f, g, h)
 
-  pub next_rows : (xs' ts' : List ℤ) → pos 0 <ℤ d → IsPivoted 32 xs ys d P.rows P.rows p xs'
+  pub next_rows : (v : State) → pos 0 <ℤ s.den → IsPivoted 32 s.inverse ys s.den P.rows P.rows p v.inverse
       → ((k j : ℕ) → k < P.rows → j < suc P.rows
-      → entry_at 32 ts' k j ≡ dot P.rows (entry_at 32 xs' k) (target P t.refs j)) → AreNonneg P ts'
-  next_rows xs' ts' dp q tracked' =
-      let du = positive_is d dp in
-      let yu = positive_is (dot P.rows (entry_at 32 xs p) s) y_positive in
+      → entry_at 32 v.tracked k j ≡ dot P.rows (entry_at 32 v.inverse k) (target P t.refs j)) → AreNonneg P v.tracked
+  next_rows v dp q tracked' =
+      let du = positive_is s.den dp in
+      let yu = positive_is (dot P.rows (entry_at 32 s.inverse p) c) y_positive in
       record {
-        rows = λ k kn. nonneg_same (suc P.rows) (λ j. dot P.rows (entry_at 32 xs' k) (target P t.refs j))
-            (entry_at 32 ts' k) (λ j lt. sym (tracked' k j kn lt))
-            (rows_stay P.rows (suc P.rows) p du.0 yu.0 (entry_at 32 xs) (entry_at 32 xs') s (target P t.refs) du.2
+        rows = λ k kn. nonneg_same (suc P.rows) (λ j. dot P.rows (entry_at 32 v.inverse k) (target P t.refs j))
+            (entry_at 32 v.tracked k) (λ j lt. sym (tracked' k j kn lt))
+            (rows_stay P.rows (suc P.rows) p du.0 yu.0 (entry_at 32 s.inverse) (entry_at 32 v.inverse) c
+            (target P t.refs) du.2
             yu.2 yu.1
-            (λ k i kn jn. ap (λ (z : ℤ). z *ℤ entry_at 32 xs' k i) (sym du.1) ∙ q.entries k i kn jn
-            ∙ pivoted_same d (entry_at 32 xs) p (weight_at ys) (λ k. dot P.rows (entry_at 32 xs k) s) k i
+            (λ k i kn jn. ap (λ (z : ℤ). z *ℤ entry_at 32 v.inverse k i) (sym du.1) ∙ q.entries k i kn jn
+            ∙ pivoted_same s.den (entry_at 32 s.inverse) p (weight_at ys)
+            (λ k. dot P.rows (entry_at 32 s.inverse k) c) k i
             (ys_is p least.place) (ys_is k kn)
-            ∙ ap (λ (z : ℤ). pivoted z (entry_at 32 xs) p (λ k. dot P.rows (entry_at 32 xs k) s) k i) du.1)
+            ∙ ap (λ (z : ℤ). pivoted z (entry_at 32 s.inverse) p (λ k. dot P.rows (entry_at 32 s.inverse k) c) k i)
+            du.1)
             least.place tracked_row
-            (λ k kn pk. nonneg_same (suc P.rows) (ratio_gap ts ys k p) _ (λ j lt. gap_same k j kn lt)
+            (λ k kn pk. nonneg_same (suc P.rows) (ratio_gap s.tracked ys k p) _ (λ j lt. gap_same k j kn lt)
             (least.least k kn (subst (λ (z : ℤ). pos 0 <ℤ z) (sym (ys_is k kn)) pk)))
             k kn);
       }
@@ -146,32 +152,35 @@ room_falls n costs costs' ts ts' d d' r a le hc hc' ht ht' dp d'p rp sd sd' h le
     (positive_same (suc n) a (cut (suc n) a) (λ j lt. sym (cut_in (suc n) a j lt)) lex)
 
 -- the objective after a pivot
-pub objective_step : (P : Program) (costs costs' xs xs' ts ts' ys : List ℤ) (d : ℤ) (s : Column) (refs : ℕ → Column)
+pub objective_step : (P : Program) (s v : State) (ys : List ℤ) (c : Column) (refs : ℕ → Column)
     (p j : ℕ) → p < P.rows
-    → ((k : ℕ) → k < P.rows → weight_at ys k ≡ dot P.rows (entry_at 32 xs k) s)
-    → IsPivoted 32 xs ys d P.rows P.rows p xs'
-    → ((k : ℕ) → k ≢ p → weight_at costs' k ≡ weight_at costs k)
-    → ((k : ℕ) → k < P.rows → entry_at 32 ts k j ≡ dot P.rows (entry_at 32 xs k) (target P refs j))
-    → ((k : ℕ) → k < P.rows → entry_at 32 ts' k j ≡ dot P.rows (entry_at 32 xs' k) (target P refs j))
-    → d *ℤ objective_at P.rows costs' ts' j
-    ≡ weight_at ys p *ℤ objective_at P.rows costs ts j
-    +ℤ (d *ℤ weight_at costs' p -ℤ objective P.rows (weight_at costs) (entry_at 32 xs) s) *ℤ entry_at 32 ts p j
-objective_step P costs costs' xs xs' ts ts' ys d s refs p j pn ys_is q same tk tk' =
+    → ((k : ℕ) → k < P.rows → weight_at ys k ≡ dot P.rows (entry_at 32 s.inverse k) c)
+    → IsPivoted 32 s.inverse ys s.den P.rows P.rows p v.inverse
+    → ((k : ℕ) → k ≢ p → weight_at v.costs k ≡ weight_at s.costs k)
+    → ((k : ℕ) → k < P.rows → entry_at 32 s.tracked k j ≡ dot P.rows (entry_at 32 s.inverse k) (target P refs j))
+    → ((k : ℕ) → k < P.rows → entry_at 32 v.tracked k j ≡ dot P.rows (entry_at 32 v.inverse k) (target P refs j))
+    → s.den *ℤ objective_at P.rows v.costs v.tracked j
+    ≡ weight_at ys p *ℤ objective_at P.rows s.costs s.tracked j
+    +ℤ (s.den *ℤ weight_at v.costs p -ℤ objective P.rows (weight_at s.costs) (entry_at 32 s.inverse) c)
+    *ℤ entry_at 32 s.tracked p j
+objective_step P s v ys c refs p j pn ys_is q same tk tk' =
     let n = P.rows in
-    let r = d *ℤ weight_at costs' p -ℤ objective n (weight_at costs) (entry_at 32 xs) s in
-    ap (λ (z : ℤ). d *ℤ z)
-    (dot_cong n (weight_at costs') (weight_at costs') (λ k. entry_at 32 ts' k j)
-    (λ k. dot n (entry_at 32 xs' k) (target P refs j)) (λ i lt. refl) tk')
-    ∙ objective_pivoted n p d (entry_at 32 xs) (entry_at 32 xs') (weight_at costs) (weight_at costs') s
+    let r = s.den *ℤ weight_at v.costs p -ℤ objective n (weight_at s.costs) (entry_at 32 s.inverse) c in
+    ap (λ (z : ℤ). s.den *ℤ z)
+    (dot_cong n (weight_at v.costs) (weight_at v.costs) (λ k. entry_at 32 v.tracked k j)
+    (λ k. dot n (entry_at 32 v.inverse k) (target P refs j)) (λ i lt. refl) tk')
+    ∙ objective_pivoted n p s.den (entry_at 32 s.inverse) (entry_at 32 v.inverse) (weight_at s.costs)
+    (weight_at v.costs) c
     (target P refs j) pn
     (λ k i kn jn. q.entries k i kn jn ∙ pivot_term_cong _ _ _ _ _ _ _ (ys_is p pn) (ys_is k kn))
     (λ k kn ne. same k ne)
-    ∙ sym (ap (λ (z : ℤ). z *ℤ objective_at n costs ts j +ℤ r *ℤ entry_at 32 ts p j) (ys_is p pn)
-    ∙ ap (λ (z : ℤ). dot n (entry_at 32 xs p) s *ℤ z +ℤ r *ℤ entry_at 32 ts p j)
-    (dot_cong n (weight_at costs) (weight_at costs) (λ k. entry_at 32 ts k j)
-    (λ k. dot n (entry_at 32 xs k) (target P refs j)) (λ i lt. refl) tk)
+    ∙ sym (ap (λ (z : ℤ). z *ℤ objective_at n s.costs s.tracked j +ℤ r *ℤ entry_at 32 s.tracked p j) (ys_is p pn)
+    ∙ ap (λ (z : ℤ). dot n (entry_at 32 s.inverse p) c *ℤ z +ℤ r *ℤ entry_at 32 s.tracked p j)
+    (dot_cong n (weight_at s.costs) (weight_at s.costs) (λ k. entry_at 32 s.tracked k j)
+    (λ k. dot n (entry_at 32 s.inverse k) (target P refs j)) (λ i lt. refl) tk)
     ∙ ap
-    (λ (z : ℤ). dot n (entry_at 32 xs p) s *ℤ objective n (weight_at costs) (entry_at 32 xs) (target P refs j)
+    (λ (z : ℤ). dot n (entry_at 32 s.inverse p) c
+    *ℤ objective n (weight_at s.costs) (entry_at 32 s.inverse) (target P refs j)
     +ℤ r *ℤ z) (tk p pn))
   where
     pivot_term_cong : (yp yk yp' yk' a b c : ℤ) → yp ≡ yp' → yk ≡ yk'

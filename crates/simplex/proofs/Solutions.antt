@@ -61,19 +61,21 @@ on_place P k (Some id) w i lt h =
 
 -- d times an entry of a column is the sum of the basis's entries with the column's weights, if the added units have
 -- weight 0
-pub spread : (P : Program) (ids : List (Option ℕ)) (xs : List ℤ) (d : ℤ) (s : Column) (w : ℕ → ℤ)
-    → IsInverse P ids xs d → IsWithin P.rows s → ((k : ℕ) → k < P.rows → w k ≡ dot P.rows (entry_at 32 xs k) s)
-    → ((k : ℕ) → k < P.rows → id_at ids k ≡ None → w k ≡ pos 0)
-    → (i : ℕ) → i < P.rows → dot P.rows w (λ k. on_id (λ id. P.entry id i) (id_at ids k)) ≡ d *ℤ s (P.rows - 1 - i)
-spread P ids xs d s w h within w_is none i lt =
+pub spread : (P : Program) (s : State) (c : Column) (w : ℕ → ℤ)
+    → IsInverse P s → IsWithin P.rows c → ((k : ℕ) → k < P.rows → w k ≡ dot P.rows (entry_at 32 s.inverse k) c)
+    → ((k : ℕ) → k < P.rows → id_at s.ids k ≡ None → w k ≡ pos 0)
+    → (i : ℕ) → i < P.rows
+    → dot P.rows w (λ k. on_id (λ id. P.entry id i) (id_at s.ids k)) ≡ s.den *ℤ c (P.rows - 1 - i)
+spread P s c w h within w_is none i lt =
     sym
-    (weights P.rows h.sign (first_columns P.rows (placed P ids)) d (entry_at 32 xs) s h.basis within
+    (weights P.rows h.sign (first_columns P.rows (placed P s.ids)) s.den (entry_at 32 s.inverse) c h.basis within
     (P.rows - 1 - i)
-    ∙ weigh_cols P.rows (placed P ids) (λ k. dot P.rows (entry_at 32 xs k) s) (P.rows - 1 - i)
-    ∙ dot_cong P.rows (λ k. dot P.rows (entry_at 32 xs k) s) w (λ k. placed P ids k (P.rows - 1 - i))
-    (λ k. placed P ids k (P.rows - 1 - i)) (λ k l. sym (w_is k l)) (λ k l. refl)
-    ∙ dot_products P.rows w w (λ k. placed P ids k (P.rows - 1 - i)) (λ k. on_id (λ id. P.entry id i) (id_at ids k))
-    (λ k l. on_place P k (id_at ids k) (w k) i lt (none k l)))
+    ∙ weigh_cols P.rows (placed P s.ids) (λ k. dot P.rows (entry_at 32 s.inverse k) c) (P.rows - 1 - i)
+    ∙ dot_cong P.rows (λ k. dot P.rows (entry_at 32 s.inverse k) c) w (λ k. placed P s.ids k (P.rows - 1 - i))
+    (λ k. placed P s.ids k (P.rows - 1 - i)) (λ k l. sym (w_is k l)) (λ k l. refl)
+    ∙ dot_products P.rows w w (λ k. placed P s.ids k (P.rows - 1 - i))
+    (λ k. on_id (λ id. P.entry id i) (id_at s.ids k))
+    (λ k l. on_place P k (id_at s.ids k) (w k) i lt (none k l)))
 
 -- ---- no column stands at two positions of a basis
 -- d times u and d times v, where u is 1 and v is 0
@@ -82,24 +84,25 @@ both_ways d a u v e f p q =
     sym (mul-oneℤ d) ∙ ap (λ (z : ℤ). d *ℤ z) (sym p) ∙ sym e ∙ f ∙ ap (λ (z : ℤ). d *ℤ z) q ∙ mul-zeroℤ d
 
 -- the weight at position k of the column at position j
-own_weight : (P : Program) (ids : List (Option ℕ)) (xs : List ℤ) (d : ℤ) (id j k : ℕ) → IsInverse P ids xs d
-    → j < P.rows → k < P.rows → id_at ids j ≡ Some id → dot P.rows (entry_at 32 xs k) (column P id) ≡ d *ℤ unit j k
-own_weight P ids xs d id j k h jn kn e =
-    sym (ap (λ (o : Option ℕ). dot P.rows (entry_at 32 xs k) (place P j o)) e)
-    ∙ own_at P.rows h.sign (placed P ids) d (entry_at 32 xs) k j h.basis
-    (of_within P (placed P ids j) (place_of P j (id_at ids j) (h.ids_of j jn) jn)) kn jn
+own_weight : (P : Program) (s : State) (id j k : ℕ) → IsInverse P s
+    → j < P.rows → k < P.rows → id_at s.ids j ≡ Some id
+    → dot P.rows (entry_at 32 s.inverse k) (column P id) ≡ s.den *ℤ unit j k
+own_weight P s id j k h jn kn e =
+    sym (ap (λ (o : Option ℕ). dot P.rows (entry_at 32 s.inverse k) (place P j o)) e)
+    ∙ own_at P.rows h.sign (placed P s.ids) s.den (entry_at 32 s.inverse) k j h.basis
+    (of_within P (placed P s.ids j) (place_of P j (id_at s.ids j) (h.ids_of j jn) jn)) kn jn
 
-pub ids_apart : (P : Program) (ids : List (Option ℕ)) (xs : List ℤ) (d : ℤ) → IsInverse P ids xs d → (j k id : ℕ)
-    → j < P.rows → k < P.rows → j ≢ k → id_at ids j ≡ Some id → id_at ids k ≡ Some id → ⊥
-ids_apart P ids xs d h j k id jn kn ne e f =
+pub ids_apart : (P : Program) (s : State) → IsInverse P s → (j k id : ℕ)
+    → j < P.rows → k < P.rows → j ≢ k → id_at s.ids j ≡ Some id → id_at s.ids k ≡ Some id → ⊥
+ids_apart P s h j k id jn kn ne e f =
     h.basis.apart
-    (both_ways d (dot P.rows (entry_at 32 xs k) (column P id)) (unit k k) (unit j k)
-    (own_weight P ids xs d id k k h kn kn f) (own_weight P ids xs d id j k h jn kn e) (unit_same k)
+    (both_ways s.den (dot P.rows (entry_at 32 s.inverse k) (column P id)) (unit k k) (unit j k)
+    (own_weight P s id k k h kn kn f) (own_weight P s id j k h jn kn e) (unit_same k)
     (unit_other j k ne))
 
-pub is_column_at : (P : Program) (ids : List (Option ℕ)) (xs : List ℤ) (d : ℤ) → IsInverse P ids xs d → (j id : ℕ)
-    → j < P.rows → id_at ids j ≡ Some id → IsTrue (P.is_column id)
-is_column_at P ids xs d h j id lt e = subst (IsId P) e (h.ids_of j lt)
+pub is_column_at : (P : Program) (s : State) → IsInverse P s → (j id : ℕ)
+    → j < P.rows → id_at s.ids j ≡ Some id → IsTrue (P.is_column id)
+is_column_at P s h j id lt e = subst (IsId P) e (h.ids_of j lt)
 
 -- a column of the basis has a positive weight at its own position
 positive_weight : (d a u : ℤ) → a ≡ d *ℤ u → u ≡ pos 1 → pos 0 <ℤ d → a ≤ℤ pos 0 → ⊥
@@ -124,7 +127,7 @@ module _ (P : Program) (s : State) (st : IsImproving P Second s) where
       → dot P.rows (λ k. entry_at 32 s.tracked k 0) (λ k. on_id (λ id. P.entry id i) (id_at s.ids k))
       ≡ s.den *ℤ P.right i
   right_rows i lt =
-      spread P s.ids s.inverse s.den (right_side P) (λ k. entry_at 32 s.tracked k 0) st.table.inverse
+      spread P s (right_side P) (λ k. entry_at 32 s.tracked k 0) st.table.inverse
       (flipped_within P.rows P.right)
       (λ k l. st.table.tracked.tracked k 0 l (omega arith)) right_clear i lt
       ∙ ap (λ (z : ℤ). s.den *ℤ z)
@@ -138,7 +141,7 @@ module _ (P : Program) (s : State) (st : IsImproving P Second s) where
       → AllByRecursion (λ v. IsTrue (P.is_column v.0) × (pos 0 ≤ℤ v.1)) (listed s.ids w P.rows)
   listed_weights w =
       listed_all (λ v. IsTrue (P.is_column v.0) × (pos 0 ≤ℤ v.1)) s.ids w P.rows
-      (λ j id u lt e f. (is_column_at P s.ids s.inverse s.den st.table.inverse j id lt e, suc_nonneg u))
+      (λ j id u lt e f. (is_column_at P s st.table.inverse j id lt e, suc_nonneg u))
 
   pub has_solution : HasSolution P
   has_solution = record {
@@ -148,7 +151,7 @@ module _ (P : Program) (s : State) (st : IsImproving P Second s) where
       (
         listed_weights (λ k. entry_at 32 s.tracked k 0),
         listed_distinct s.ids (λ k. entry_at 32 s.tracked k 0) P.rows
-            (ids_apart P s.ids s.inverse s.den st.table.inverse),
+            (ids_apart P s st.table.inverse),
       ),
       at_least_one s.den st.table.positive,
       λ i lt. listed_sum (λ id. P.entry id i) s.ids (λ k. entry_at 32 s.tracked k 0) P.rows right_nonneg
@@ -169,7 +172,7 @@ module _ (P : Program) (s : State) (st : IsImproving P Second s) where
   direction_new r j id lt e same =
       positive_weight s.den (dot P.rows (entry_at 32 s.inverse j) (column P r.id)) (unit j j)
       (ap (λ (t : ℕ). dot P.rows (entry_at 32 s.inverse j) (column P t)) same
-      ∙ own_weight P s.ids s.inverse s.den id j j st.table.inverse lt lt e) (unit_same j) st.table.positive
+      ∙ own_weight P s id j j st.table.inverse lt lt e) (unit_same j) st.table.positive
       (r.lowers j lt)
 
   pub has_ray : HasDirection P Second s → HasRay P
@@ -186,7 +189,7 @@ module _ (P : Program) (s : State) (st : IsImproving P Second s) where
             all_new r.id (listed s.ids m P.rows)
                 (listed_all (λ v. nat_eq r.id v.0 ≡ false) s.ids m P.rows
                 (λ j id u lt e f. nat_eq-other r.id id (direction_new r j id lt e))),
-            listed_distinct s.ids m P.rows (ids_apart P s.ids s.inverse s.den st.table.inverse),
+            listed_distinct s.ids m P.rows (ids_apart P s st.table.inverse),
           ),
         ),
         λ i lt. ap (λ (z : ℤ). s.den *ℤ P.entry r.id i +ℤ z)
@@ -194,7 +197,7 @@ module _ (P : Program) (s : State) (st : IsImproving P Second s) where
             ∙ dot_negated P.rows y m (λ k. on_id (λ id. P.entry id i) (id_at s.ids k)) (λ k l. refl))
             ∙ gap_of (s.den *ℤ P.entry r.id i) (dot P.rows y (λ k. on_id (λ id. P.entry id i) (id_at s.ids k)))
             (sym
-            (spread P s.ids s.inverse s.den entering y st.table.inverse (flipped_within P.rows (P.entry r.id))
+            (spread P s entering y st.table.inverse (flipped_within P.rows (P.entry r.id))
             (λ k l. refl)
             (λ k l h. (st.silent refl k l h).columns r.id r.is_column) i lt
             ∙ ap (λ (z : ℤ). s.den *ℤ z)

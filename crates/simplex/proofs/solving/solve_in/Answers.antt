@@ -36,7 +36,7 @@ pub answer_of-requires-clause-small : goal.answer_of-requires-clause-small
 answer_of-requires-clause-small g c =
     let w = c.improve-2.new.work in
     let e = c.in-Some-improve.ensures {u = tt} in
-    Tableaus.den_small (g.C.Columns.program c.improve-2.new.columns) w.ids w.inverse w.den
+    Tableaus.den_small (g.C.Columns.program c.improve-2.new.columns) w
     (tame_of (g.C.Columns.program c.improve-2.new.columns) (g.met.C.Columns.lawful c.improve-2.new.columns))
     e.state.table.inverse
 
