@@ -162,7 +162,7 @@ no_solution P s num den st m b a =
     contradicts P num den b
     (subst (λ (z : ℤ). z <ℤ pos 0)
     (sym
-    (value_is P s.inverse s.costs num s.rows s.den den P.right st.rows_is m ∙ objective_right P First s st))
+    (value_is P s s.costs num den P.right st.rows_is m ∙ objective_right P First s st))
     (dot_negative P.rows (weight_at s.costs) (λ k. entry_at 32 s.tracked k 0) a.position place
     (λ k lt. subst (λ (z : ℤ). (z *ℤ entry_at 32 s.tracked k 0) ≤ℤ pos 0) (sym (st.costs_are k lt))
     (part_value_nonpos P (id_at s.ids k) (entry_at 32 s.tracked k 0)

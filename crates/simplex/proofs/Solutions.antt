@@ -215,5 +215,5 @@ module _ (P : Program) (s : State) (st : IsImproving P Second s) where
   pub value_right : (num : List ℤ) (den : ℤ) → AreMultipliersOf s num den
       → value_of P num P.right ≡ dot P.rows (λ k. entry_at 32 s.tracked k 0) (λ k. on_id P.cost (id_at s.ids k))
   value_right num den m =
-      value_is P s.inverse s.costs num s.rows s.den den P.right st.rows_is m ∙ objective_right P Second s st
+      value_is P s s.costs num den P.right st.rows_is m ∙ objective_right P Second s st
       ∙ sym (cost_sum (λ k. entry_at 32 s.tracked k 0))

@@ -179,7 +179,7 @@ returns-in_default-least_ratio-clause-answer g c =
     c.load_column-column.result c.load_column-column.ensures
     c.weights_of-weights.result c.weights_of-weights.ensures (c.in_default-least_ratio.ensures {u = tt}))
 
--- the step_facts of a step
+-- the facts of a step
 step_facts : (g : Over) (c : In-Some-least_ratio g)
     → Steps.Step (g.C.Columns.program c.rising_in.new.columns) c.args.part c.loop-id.work c.weights_of-weights.result
     c.in-Some-least_ratio.p c.in-Some.id
