@@ -1,6 +1,6 @@
--- Marks of coalitions, word by word, and the two tables of a place.
+-- Marks of coalitions, word by word and bit by bit.
 use Rattle.std.proofs.Common.{◌≡◌, ◌≢◌, ◌⊎◌, ℕ, zero, suc, replicate, ◌+◌, ◌-◌, ◌*◌, ◌/◌, ◌%◌, ◌^◌, ◌<◌, ◌≤◌, Bool}
-use Rattle.std.proofs.Common.{true, false, cond, not, ◌&&◌, nat_eq, List, length, length-set, set, get_or, min}
+use Rattle.std.proofs.Common.{true, false, cond, not, ◌&&◌, ◌||◌, nat_eq, List, length, length-set, set, get_or, min}
 use Rattle.std.proofs.Common.{get_or-set_same, get_or-set_other, ℤ, pos, ◌+ℤ◌, ◌*ℤ◌, slice_index_or, unsigned_abs}
 use Rattle.std.proofs.Common.{IsTrue, bit_and, refl, sym, ap, subst, ◌∙◌, arith, inl, inr}
 use Rattle.std.proofs.lemmas.Bool.{false≢true}
@@ -13,15 +13,20 @@ use Rattle.std.specs.Bool.{Decides}
 use Rattle.std.proofs.Math.Nat.{pow-le-pow_right}
 use Rattle.std.specs.Int.{bit_at, bit_not}
 use mir.Syntax.{w64}
-use Rattle.definitions.specs.Coalitions.{has_player}
+use Rattle.definitions.specs.Coalitions.{has_player, grand_coalition}
 use Rattle.definitions.specs.Certificates.{InSpan}
 use Rattle.definitions.proofs.Ring.{linear, unit_laws}
 use Rattle.determinants.specs.Basis.{dot}
 use Rattle.determinants.specs.Matrix.{entry_at}
 use Rattle.spans.specs.Span.{vector, flag, IsKept, IsSpan}
-use Rattle.spans.specs.Outside.{is_marked, two_sums, IsTable, HasNoWeight}
+use Rattle.spans.specs.Outside.{is_marked, IsProperWord, HasNoWeight}
+use Rattle.spans.specs.Sums.{two_sums}
 use Rattle.spans.proofs.Inside.{inside_from_zeros, zero_from_inside}
-use Rattle.definitions.proofs.Cases.{last_or_less_of, below_or_above}
+use Rattle.definitions.proofs.Cases.{last_or_less_of, below_or_above, same_or_other, not_true, and_right, or_false}
+use Rattle.definitions.proofs.Cases.{nat_eq-same, nat_eq-other, nat_eq-equal, and_parts, and_both, from_not}
+use Rattle.definitions.proofs.Members.{has_player-grand_coalition}
+use Rattle.definitions.proofs.Parts.{more-is, has_player-past}
+use Rattle.std.proofs.lemmas.Nat.{pow_pos}
 
 -- ---- words
 
@@ -33,11 +38,6 @@ IsSilent low high p w v =
 -- v has the bits of w that u doesn't have
 abbrev pub IsWithout : ℕ → ℕ → ℕ → Type 0
 IsWithout w u v = (j : ℕ) → j < 64 → has_player v j ≡ (has_player w j && not (has_player u j))
-
--- z is the weight at place k of a times step, and small
-pub record IsWeight (n : ℕ) (entries : List ℤ) (k step a : ℕ) (z : ℤ) : Type 0 where
-  pub value : z ≡ dot n (entry_at 16 entries k) (vector (a * step))
-  pub small : unsigned_abs z ≤ 2 ^ 49
 
 -- one more word is done
 pub words_more : (P : ℕ → ℕ → Type 0) (ws : List ℕ) (p v : ℕ) → p < length ws → P p v
@@ -84,99 +84,206 @@ without_bits a b j fits lt =
     pick : (r x y : ℕ) → x < 2 → y < 2 → r ≡ min x (1 - y) → nat_eq r 1 ≡ (nat_eq x 1 && not (nat_eq y 1))
     pick r x y hx hy e = grind (arith, nat_tests)
 
--- ---- the two tables of a place
+-- nothing is marked past the last word
+past : (ws : List ℕ) (s : ℕ) → length ws ≡ 1024 → 2 ^ 16 ≤ s → is_marked ws s ≡ false
+past ws s len le =
+    let z = bit_at-zero (s % 64) in
+    let none : slice_index_or ws (s / 64) 0 ≡ 0 = get_or_past ws (s / 64) 0 (omega (arith, len, le)) in
+    ap (λ (w : ℕ). has_player w (s % 64)) none ∙ (grind (arith, nat_tests, z))
 
-bits_split : (s i : ℕ) → bit_at (s % 256) i + bit_at (s / 256 * 256) i ≡ bit_at s i
-bits_split s i = elim (either i) [
-  | inl low ↦
-      let a = bit_at_cat_low (s / 256) 8 (s % 256) i low in
-      let b = bit_at_cat_low (s / 256) 8 0 i low in
-      let c = bit_at-zero i in
-      let d = ap (λ (t : ℕ). bit_at t i) whole in
-      let e = ap (λ (t : ℕ). bit_at t i) shifted in
-      omega (arith, a, b, c, d, e)
-  | inr high ↦
-      let a = bit_at_cat_high (s / 256) 8 (s % 256) i (omega arith) high in
-      let b = bit_at_cat_high (s / 256) 8 0 i (omega arith) high in
-      let c = bit_at_above (s % 256) 8 i (omega arith) high in
-      let d = ap (λ (t : ℕ). bit_at t i) whole in
-      let e = ap (λ (t : ℕ). bit_at t i) shifted in
-      omega (arith, a, b, c, d, e)
+-- ---- bit by bit
+
+-- of the bits of a word that are left no more, those are found that have a property
+pub record IsSearched (P : ℕ → Type 0) (word rest found : ℕ) : Type 0 where
+  pub within : (i : ℕ) → IsTrue (has_player rest i) → IsTrue (has_player word i)
+  pub found_is : (i : ℕ) → i < 64
+      → Decides (has_player found i) (IsTrue (has_player word i) × ((has_player rest i ≡ false) × P i))
+
+no_bits : (i : ℕ) → has_player 0 i ≡ false
+no_bits i = let z = bit_at-zero i in grind (arith, nat_tests, z)
+
+pub nothing_searched : (P : ℕ → Type 0) (word : ℕ) → IsSearched P word word 0
+nothing_searched P word = record {
+  within = λ i e. e;
+  found_is = λ i lt.
+      (λ e. absurd (false≢true (sym (no_bits i) ∙ e)), λ q. absurd (false≢true (sym q.1.0 ∙ q.0)));
+}
+
+pub all_searched : (P : ℕ → Type 0) (word rest found : ℕ) → rest ≡ 0 → IsSearched P word rest found
+    → (i : ℕ) → i < 64 → Decides (has_player found i) (IsTrue (has_player word i) × P i)
+all_searched P word rest found e h i lt =
+    let d = h.found_is i lt in
+    let none : has_player rest i ≡ false = ap (λ (t : ℕ). has_player t i) e ∙ no_bits i in
+    (λ on. let q = d.0 on in (q.0, q.1.1), λ q. d.1 (q.0, (none, q.1)))
+
+module _ (P : ℕ → Type 0) (word rest rest' found found' j : ℕ) (here : Bool) (lt : j < 64)
+    (set : has_player rest j ≡ true)
+    (less : (i : ℕ) → has_player rest' i ≡ (not (nat_eq i j) && has_player rest i))
+    (more : (i : ℕ) → has_player found' i ≡ ((nat_eq i j && here) || has_player found i))
+    (decides : Decides here (P j)) (before : IsSearched P word rest found) where
+  lacking : has_player found j ≡ false
+  lacking =
+      not_true (has_player found j) (λ e. false≢true (sym ((before.found_is j lt).0 e).1.0 ∙ set))
+
+  gone : has_player rest' j ≡ false
+  gone = less j ∙ ap (λ (b : Bool). not b && has_player rest j) (nat_eq-same j)
+
+  at_j : has_player found' j ≡ here
+  at_j =
+      more j ∙ ap (λ (b : Bool). (b && here) || has_player found j) (nat_eq-same j)
+      ∙ ap (λ (b : Bool). here || b) lacking ∙ or_false here
+
+  rest_as_before : (i : ℕ) → i ≢ j → has_player rest' i ≡ has_player rest i
+  rest_as_before i other = less i ∙ ap (λ (b : Bool). not b && has_player rest i) (nat_eq-other i j other)
+
+  found_as_before : (i : ℕ) → i ≢ j → has_player found' i ≡ has_player found i
+  found_as_before i other =
+      more i ∙ ap (λ (b : Bool). (b && here) || has_player found i) (nat_eq-other i j other)
+
+  pub one_searched : IsSearched P word rest' found'
+  one_searched = record {
+    within = λ i e. before.within i (and_right (not (nat_eq i j)) (has_player rest i) (sym (less i) ∙ e));
+    found_is = λ i low. elim (same_or_other i j) [
+      | inl same ↦ subst
+          (λ (t : ℕ). Decides (has_player found' t)
+          (IsTrue (has_player word t) × ((has_player rest' t ≡ false) × P t))) (sym same)
+          (λ e. (before.within j set, (gone, decides.0 (sym at_j ∙ e))), λ q. at_j ∙ decides.1 q.1.1)
+      | inr other ↦
+          let d = before.found_is i low in (
+            λ e.
+                let q = d.0 (sym (found_as_before i other) ∙ e) in
+                (q.0, (rest_as_before i other ∙ q.1.0, q.1.1)),
+            λ q. found_as_before i other ∙ d.1 (q.0, (sym (rest_as_before i other) ∙ q.1.0, q.1.1)),
+          )
+    ];
+  }
+
+-- a word without one of its bits is less
+pub without_less : (s j r : ℕ) → has_player s j ≡ true
+    → ((i : ℕ) → has_player r i ≡ (not (nat_eq i j) && has_player s i)) → r < s
+without_less s j r set h =
+    let whole : s ≡ r + 2 ^ j = more-is r j s lacks back in
+    let some = pow_pos j in
+    omega (arith, whole, some)
+  where
+    lacks : has_player r j ≡ false
+    lacks = h j ∙ ap (λ (b : Bool). not b && has_player s j) (nat_eq-same j)
+
+    back : (i : ℕ) → has_player s i ≡ (nat_eq i j || has_player r i)
+    back i = elim (same_or_other i j) [
+      | inl same ↦ ap (has_player s) same ∙ set
+          ∙ sym (ap (λ (b : Bool). b || has_player r i) (nat_eq-equal i j same))
+      | inr other ↦ sym (ap (λ (b : Bool). b || has_player r i) (nat_eq-other i j other) ∙ h i
+          ∙ ap (λ (b : Bool). not b && has_player s i) (nat_eq-other i j other))
+    ]
+
+-- ---- all but the empty one and that of all
+
+pub all_decides : (count j : ℕ) → Decides (has_player (grand_coalition count) j) (j < count)
+all_decides count j = elim (below_or_above j count) [
+  | inl lt ↦ (λ e. lt, λ q. has_player-grand_coalition count j lt)
+  | inr le ↦
+      let below : grand_coalition count < 2 ^ count = (let p = pow_pos count in omega (arith, p)) in (
+        λ e. absurd (false≢true (sym (has_player-past count (grand_coalition count) j below le) ∙ e)),
+        λ q. absurd (omega (arith, q, le)),
+      )
 ]
+
+-- the first `count` bits are those of the coalitions before that of all
+pub later_word : (n p count word j : ℕ) → 0 < p → (j < count → 64 * p + j < grand_coalition n)
+    → (64 * p + j < grand_coalition n → j < count) → has_player word j ≡ has_player (grand_coalition count) j
+    → Decides (has_player word j) ((0 < 64 * p + j) × (64 * p + j < grand_coalition n))
+later_word n p count word j some up down is =
+    let d = all_decides count j in
+    (λ e. (omega (arith, some), up (d.0 (sym is ∙ e))), λ q. is ∙ d.1 (down q.1))
+
+pub first_word : (n p count word j : ℕ) → p ≡ 0 → (j < count → 64 * p + j < grand_coalition n)
+    → (64 * p + j < grand_coalition n → j < count)
+    → has_player word j ≡ (not (nat_eq j 0) && has_player (grand_coalition count) j)
+    → Decides (has_player word j) ((0 < 64 * p + j) × (64 * p + j < grand_coalition n))
+first_word n p count word j first up down is =
+    let d = all_decides count j in (
+      λ e.
+          let q = and_parts (not (nat_eq j 0)) (has_player (grand_coalition count) j) (sym is ∙ e) in
+          (some (from_not (nat_eq j 0) q.0), up (d.0 q.1)),
+      λ q. is
+          ∙ and_both (not (nat_eq j 0)) (has_player (grand_coalition count) j)
+          (ap not (nat_eq-other j 0 (let h = q.0 in omega (arith, h, first)))) (d.1 (down q.1)),
+    )
   where
-    either : (i : ℕ) → (i < 8) ⊎ (8 ≤ i)
-    either i = grind arith
+    some : nat_eq j 0 ≡ false → 0 < 64 * p + j
+    some e = elim (same_or_other j 0) [
+      | inl same ↦ absurd (false≢true (sym e ∙ nat_eq-equal j 0 same))
+      | inr other ↦ omega (arith, other)
+    ]
 
-    whole : s / 256 * 2 ^ 8 + s % 256 ≡ s
-    whole = omega arith
-
-    shifted : s / 256 * 2 ^ 8 + 0 ≡ s / 256 * 256
-    shifted = omega arith
-
-vector_split : (s i : ℕ) → vector (s % 256) i +ℤ vector (s / 256 * 256) i ≡ vector s i
-vector_split s i =
-    pick (bit_at (s % 256) i) (bit_at (s / 256 * 256) i) (bit_at s i) (bit_at-lt s i) (bits_split s i)
-  where
-    number : (b : ℕ) → b < 2 → cond (nat_eq b 1) (pos 1) (pos 0) ≡ pos b
-    number zero h = refl
-    number (suc zero) h = refl
-    number (suc (suc b)) h = absurd (omega arith)
-
-    pick : (x y z : ℕ) → z < 2 → x + y ≡ z
-        → cond (nat_eq x 1) (pos 1) (pos 0) +ℤ cond (nat_eq y 1) (pos 1) (pos 0) ≡ cond (nat_eq z 1) (pos 1) (pos 0)
-    pick x y z h e = rw (number x (omega arith), number y (omega arith), number z h) (omega (arith, ints))
-
-dot_split : (n : ℕ) (x : ℕ → ℤ) (s : ℕ)
-    → dot n x (vector (s % 256)) +ℤ dot n x (vector (s / 256 * 256)) ≡ dot n x (vector s)
-dot_split zero x s = refl
-dot_split (suc n) x s = step _ _ _ (x n) _ _ _ (dot_split n x s) (vector_split s n)
-  where
-    step : (a b c y u v w : ℤ) → a +ℤ b ≡ c → u +ℤ v ≡ w → (a +ℤ y *ℤ u) +ℤ (b +ℤ y *ℤ v) ≡ c +ℤ y *ℤ w
-    step a b c y u v w e f =
-        rw (sym e, sym f) (omega (arith, linear, Rattle.definitions.proofs.Ring.mul-addℤ y u v))
-
-pub two_sums-is : (n : ℕ) (entries : List ℤ) (k s : ℕ) (low high : List ℤ) → IsTable n entries k 1 low
-    → IsTable n entries k 256 high → s < 2 ^ 16 → two_sums low high s ≡ dot n (entry_at 16 entries k) (vector s)
-two_sums-is n entries k s low high a b lt =
-    let one : s % 256 * 1 ≡ s % 256 = omega arith in
-    added _ _ _ _ (a.value (s % 256) (omega arith) ∙ ap (λ (t : ℕ). dot n (entry_at 16 entries k) (vector t)) one)
-    (b.value (s / 256) (omega arith)) ∙ dot_split n (entry_at 16 entries k) s
-  where
-    added : (p q u v : ℤ) → p ≡ u → q ≡ v → p +ℤ q ≡ u +ℤ v
-    added p q u v e f = rw (e, f) refl
+-- words that are done, seen as marks
+pub marks_proper : (n : ℕ) (words : List ℕ) → n ≤ 16 → length words ≡ 1024
+    → ((p : ℕ) → p < 1024 → IsProperWord n p (slice_index_or words p 0)) → (s : ℕ)
+    → Decides (is_marked words s) ((0 < s) × (s < grand_coalition n))
+marks_proper n words few len h s = elim (below_or_above s (2 ^ 16)) [
+  | inl lt ↦ subst (λ (t : ℕ). Decides (is_marked words s) ((0 < t) × (t < grand_coalition n))) (place_of s)
+      (h (s / 64) (omega (arith, lt)) (s % 64) (omega arith))
+  | inr le ↦
+      let few_coalitions = pow-le-pow_right {n = 2} (omega arith) {i = n} {j = 16} few in (
+        λ e. absurd (false≢true (sym (past words s len le) ∙ e)),
+        λ q. absurd (omega (arith, q.1, le, few_coalitions)),
+      )
+]
 
 -- ---- what a span holds
 
+-- of the coalitions of a word, what stays after the first k places: each has no weight at those of them that aren't
+-- fixed, and each without a weight at all places is there
+pub record IsSifted (n : ℕ) (fixed : List Bool) (entries : List ℤ) (k s : ℕ) (word left : Bool) : Type 0 where
+  pub none : IsTrue left → IsTrue word × HasNoWeight n fixed entries k s
+  pub stays : IsTrue word → HasNoWeight n fixed entries n s → IsTrue left
+
+-- the pass of all places together
+pub sifted_first : (n : ℕ) (fixed : List Bool) (entries : List ℤ) (s : ℕ) (word left : Bool) (z : ℤ)
+    → Decides left (IsTrue word × (z ≡ pos 0)) → (HasNoWeight n fixed entries n s → z ≡ pos 0)
+    → IsSifted n fixed entries 0 s word left
+sifted_first n fixed entries s word left z decides is_zero = record {
+  none = λ e. ((decides.0 e).0, λ j lt free. absurd (omega arith));
+  stays = λ e h. decides.1 (e, is_zero h);
+}
+
 -- one more place, which isn't fixed
-pub silent_more : (n : ℕ) (fixed : List Bool) (entries : List ℤ) (k s : ℕ) (word left next : Bool) (z : ℤ)
-    → Decides left (IsTrue word × HasNoWeight n fixed entries k s) → Decides next (IsTrue left × (z ≡ pos 0))
+pub sifted_more : (n : ℕ) (fixed : List Bool) (entries : List ℤ) (k s : ℕ) (word left next : Bool) (z : ℤ)
+    → k < n → IsSifted n fixed entries k s word left → Decides next (IsTrue left × (z ≡ pos 0))
     → z ≡ dot n (entry_at 16 entries k) (vector s) → flag fixed k ≡ false
-    → Decides next (IsTrue word × HasNoWeight n fixed entries (k + 1) s)
-silent_more n fixed entries k s word left next z old new is off = (
-  λ e.
+    → IsSifted n fixed entries (k + 1) s word next
+sifted_more n fixed entries k s word left next z below old new is off = record {
+  none = λ e.
       let p = new.0 e in
-      let q = old.0 p.0 in (
+      let q = old.none p.0 in (
         q.0,
         λ j lt free. elim (last_or_less_of j k lt) [
           | inl same ↦ ap (λ (t : ℕ). dot n (entry_at 16 entries t) (vector s)) same ∙ sym is ∙ p.1
           | inr less ↦ q.1 j less free
         ],
-      ),
-  λ q. new.1 (old.1 (q.0, λ j lt free. q.1 j (omega arith) free), is ∙ q.1 k (omega arith) off),
-)
+      );
+  stays = λ e h. new.1 (old.stays e h, is ∙ h k below off);
+}
 
 -- one more place, which is fixed
-pub silent_fixed : (n : ℕ) (fixed : List Bool) (entries : List ℤ) (k s : ℕ) (word left : Bool)
-    → Decides left (IsTrue word × HasNoWeight n fixed entries k s) → flag fixed k ≡ true
-    → Decides left (IsTrue word × HasNoWeight n fixed entries (k + 1) s)
-silent_fixed n fixed entries k s word left old on = (
-  λ e.
-      let q = old.0 e in (
+pub sifted_fixed : (n : ℕ) (fixed : List Bool) (entries : List ℤ) (k s : ℕ) (word left : Bool)
+    → IsSifted n fixed entries k s word left → flag fixed k ≡ true → IsSifted n fixed entries (k + 1) s word left
+sifted_fixed n fixed entries k s word left old on = record {
+  none = λ e.
+      let q = old.none e in (
         q.0,
         λ j lt free. elim (last_or_less_of j k lt)
             [ inl same ↦ absurd (false≢true (sym free ∙ ap (flag fixed) same ∙ on)) | inr less ↦ q.1 j less free ],
-      ),
-  λ q. old.1 (q.0, λ j lt free. q.1 j (omega arith) free),
+      );
+  stays = old.stays;
+}
+
+pub sifted_all : (n : ℕ) (fixed : List Bool) (entries : List ℤ) (k s : ℕ) (word left : Bool) → k ≡ n
+    → IsSifted n fixed entries k s word left → Decides left (IsTrue word × HasNoWeight n fixed entries n s)
+sifted_all n fixed entries k s word left end h = (
+  λ e. let q = h.none e in (q.0, λ j lt free. q.1 j (omega arith) free),
+  λ q. h.stays q.0 q.1,
 )
 
 -- all places
@@ -205,13 +312,6 @@ zeros_at : (n m : ℕ) → ◌≡◌ {A = ℕ} (slice_index_or (replicate n 0) m
 zeros_at zero m = refl
 zeros_at (suc n) zero = refl
 zeros_at (suc n) (suc m) = zeros_at n m
-
-pub marks_none : (t : ℕ) → Decides (is_marked (replicate 1024 0) t) ((0 < t) × (t < 1))
-marks_none t =
-    let z = bit_at-zero (t % 64) in
-    let off : is_marked (replicate 1024 0) t ≡ false =
-    ap (λ (w : ℕ). has_player w (t % 64)) (zeros_at 1024 (t / 64)) ∙ (grind (arith, nat_tests, z)) in
-    (λ e. absurd (false≢true (sym off ∙ e)), λ q. absurd (omega (arith, q.0, q.1)))
 
 pub below_all : (n s : ℕ) → n ≤ 16 → s < 2 ^ n → s < 2 ^ 16
 below_all n s few lt = let le = pow-le-pow_right {n = 2} (omega arith) {i = n} {j = 16} few in omega (arith, lt, le)
@@ -254,13 +354,6 @@ AreSilent-none low high olds news p e h = record {
     none_silent_as : (low high : List ℤ) (p w v : ℕ) → v ≡ w → v ≡ 0 → IsSilent low high p w v
     none_silent_as low high p w v same e =
         subst (λ (t : ℕ). IsSilent low high p t v) same (none_silent low high p v e)
-
--- nothing is marked past the last word
-past : (ws : List ℕ) (s : ℕ) → length ws ≡ 1024 → 2 ^ 16 ≤ s → is_marked ws s ≡ false
-past ws s len le =
-    let z = bit_at-zero (s % 64) in
-    let none : slice_index_or ws (s / 64) 0 ≡ 0 = get_or_past ws (s / 64) 0 (omega (arith, len, le)) in
-    ap (λ (w : ℕ). has_player w (s % 64)) none ∙ (grind (arith, nat_tests, z))
 
 pub cleared_marks : (olds held news : List ℕ) (n : ℕ) (A : ℕ → Type 0) → length olds ≡ 1024 → length news ≡ 1024
     → ((s : ℕ) → IsTrue (is_marked olds s) → s < 2 ^ n)

@@ -1,2 +1,3 @@
 pub mod Span
+pub mod Sums
 pub mod Outside

@@ -1,16 +1,19 @@
 //! The coalitions outside of a span, found all at once. A coalition's weight at a place is the sum of two numbers from
 //! tables, one for the members among the first eight players and one for those among the rest.
 
-ghost use Rattle.std.specs.Prelude.{◌≡◌, ◌&&◌, ◌||◌, not, IsTrue, slice_index_or};
-ghost use Rattle.std.specs.Prelude.{ℕ, ◌*◌, ◌+◌, ◌^◌, ◌<◌, ◌≤◌, nat_eq, pos, unsigned_abs};
+ghost use Rattle.std.specs.Prelude.{◌≡◌, ◌&&◌, ◌||◌, not, true, IsTrue, slice_index_or};
+ghost use Rattle.std.specs.Prelude.{ℕ, ◌*◌, ◌/◌, ◌+◌, ◌^◌, ◌<◌, ◌≤◌, nat_eq, pos, ◌+ℤ◌, ◌-ℤ◌, unsigned_abs};
 ghost use Rattle.std.specs.Bool.{Decides};
 ghost use Rattle.definitions.specs.Coalitions.{grand_coalition, has_player};
 ghost use Rattle.definitions.specs.Certificates.{InSpan};
+ghost use Rattle.determinants.specs.Basis.{dot};
 ghost use Rattle.determinants.specs.Matrix.{entry_at};
-ghost use Rattle.spans.specs.Span.{IsKept};
-ghost use Rattle.spans.specs.Outside.{is_marked, two_sums, IsTable, HasNoWeight};
+ghost use Rattle.spans.specs.Span.{IsKept, vector};
+ghost use Rattle.spans.specs.Outside.{is_marked, IsProperWord, HasNoWeight};
+ghost use Rattle.spans.specs.Sums.{number_at, two_sums};
 
-use crate::{Span, weight};
+use crate::player_sums::PlayerSums;
+use crate::{Span, entry};
 use coalitions::Coalition;
 use std::marker::Model;
 
@@ -28,78 +31,79 @@ impl Model for Outside {
     ghost view = { λ o. o.words };
 }
 
-/// Sets the bit of a coalition.
-fn put(words: &mut [u64; 1024], s: u64)
-    requires { s < 2 ^ 16 }
-    ensures { (t : ℕ) → is_marked words.new t ≡ (nat_eq t s || is_marked words.old t) }
-{
-    let place = (s / 64) as usize;
-    words[place] = Coalition(words[place]).with((s % 64) as u32).0;
-}
-
-/// The weights at a place of the coalitions 0, step, 2 step and so on.
-fn table(entries: &[i128; 256], n: u32, k: usize, step: u64) -> [i128; 256]
+/// The coalitions of one word, of all of `n` players but the empty one and that of all.
+fn proper_word(n: u32, place: usize) -> u64
     requires few { n ≤ 16 }
-    requires place { k < n }
-    requires step { step ≤ 256 }
-    requires small { (i : ℕ) → i < n → unsigned_abs (entry_at 16 entries.now k i) ≤ 2 ^ 45 }
-    ensures { IsTable n entries.now k step result }
-{
-    let mut sums = [0; 256];
-    for a in 0..256 {
-        sums[a] = weight(entries, n, k, Coalition(a as u64 * step));
-    }
-    sums
-}
-
-/// A word without one bit, or as it was where the bit stays.
-fn without_unless(word: u64, j: u32, stays: bool) -> u64
-    requires { j < 64 }
-    ensures { (i : ℕ) → has_player result i ≡ (has_player word i && (stays || not (nat_eq i j))) }
-{
-    if stays {
-        word
-    } else {
-        Coalition(word).without(j).0
-    }
-}
-
-/// The coalitions of one word whose two sums add to 0.
-fn silent(word: u64, place: usize, low: &[i128; 256], high: &[i128; 256]) -> u64
     requires place { place < 1024 }
-    requires small_low { (a : ℕ) → a < 256 → unsigned_abs (slice_index_or low.now a (pos 0)) ≤ 2 ^ 49 }
-    requires small_high { (a : ℕ) → a < 256 → unsigned_abs (slice_index_or high.now a (pos 0)) ≤ 2 ^ 49 }
+    ensures { IsProperWord n place result }
+{
+    let below = (1u64 << n) - 1;
+    let count = below.saturating_sub(64 * place as u64).min(64);
+    let word = Coalition::all(count as u32);
+    if place == 0 {
+        word.without(0).0
+    } else {
+        word.0
+    }
+}
+
+/// The lowest bit of a word that has one.
+fn lowest(word: u64) -> u32
+    requires { 0 < word }
+    ensures within { result < 64 }
+    ensures set { has_player word result ≡ true }
+{
+    word.trailing_zeros()
+}
+
+/// A word with one bit more, or as it was where the bit isn't to be set.
+fn with_if(word: u64, j: u32, set: bool) -> u64
+    requires { j < 64 }
+    ensures { (i : ℕ) → has_player result i ≡ ((nat_eq i j && set) || has_player word i) }
+{
+    if set { Coalition(word).with(j).0 } else { word }
+}
+
+/// Whether the two sums of a coalition of a word add to 0, where `wanted` is minus the one of them that all coalitions of
+/// the word have.
+fn is_silent(sums: &PlayerSums, wanted: i64, place: usize, j: u32) -> bool
+    requires place { place < 1024 }
+    requires within { j < 64 }
+    requires wanted { wanted ≡ pos 0 -ℤ slice_index_or sums.now.high (place / 4) (pos 0) }
+    ensures { Decides result (two_sums sums.now.low sums.now.high (64 * place + j) ≡ pos 0) }
+{
+    sums.low[place % 4 * 64 + j as usize] == wanted
+}
+
+/// The coalitions of one word whose two sums add to 0. It goes over the bits that are set alone.
+fn silent(word: u64, place: usize, sums: &PlayerSums) -> u64
+    requires place { place < 1024 }
+    requires small { (a : ℕ) → a < 256 → unsigned_abs (slice_index_or sums.now.high a (pos 0)) ≤ 2 ^ 61 }
     ensures { (j : ℕ) → j < 64
         → Decides (has_player result j)
-        (IsTrue (has_player word j) × (two_sums low.now high.now (64 * place + j) ≡ pos 0)) }
+        (IsTrue (has_player word j) × (two_sums sums.now.low sums.now.high (64 * place + j) ≡ pos 0)) }
 {
-    let mut left = word;
-    for j in 0..64u32 {
-        left = without_unless(left, j, are_silent(low, high, 64 * place + j as usize));
+    let wanted = -sums.high[place / 4];
+    let mut rest = word;
+    let mut found: u64 = 0;
+    while rest != 0 {
+        let j = lowest(rest);
+        rest = Coalition(rest).without(j).0;
+        found = with_if(found, j, is_silent(sums, wanted, place, j));
     }
-    left
-}
-
-/// Whether a coalition's two numbers add to 0.
-fn are_silent(low: &[i128; 256], high: &[i128; 256], s: usize) -> bool
-    requires within { s < 2 ^ 16 }
-    requires small_low { (a : ℕ) → a < 256 → unsigned_abs (slice_index_or low.now a (pos 0)) ≤ 2 ^ 49 }
-    requires small_high { (a : ℕ) → a < 256 → unsigned_abs (slice_index_or high.now a (pos 0)) ≤ 2 ^ 49 }
-    ensures { Decides result (two_sums low.now high.now s ≡ pos 0) }
-{
-    low[s % 256] + high[s / 256] == 0
+    found
 }
 
 /// Takes out the coalitions whose two sums don't add to 0.
-fn keep_silent(words: &mut [u64; 1024], low: &[i128; 256], high: &[i128; 256])
-    requires small_low { (a : ℕ) → a < 256 → unsigned_abs (slice_index_or low.now a (pos 0)) ≤ 2 ^ 49 }
-    requires small_high { (a : ℕ) → a < 256 → unsigned_abs (slice_index_or high.now a (pos 0)) ≤ 2 ^ 49 }
+fn keep_silent(words: &mut [u64; 1024], sums: &PlayerSums)
+    requires { (a : ℕ) → a < 256 → unsigned_abs (slice_index_or sums.now.high a (pos 0)) ≤ 2 ^ 61 }
     ensures { (s : ℕ) → s < 2 ^ 16
-        → Decides (is_marked words.new s) (IsTrue (is_marked words.old s) × (two_sums low.now high.now s ≡ pos 0)) }
+        → Decides (is_marked words.new s)
+        (IsTrue (is_marked words.old s) × (two_sums sums.now.low sums.now.high s ≡ pos 0)) }
 {
     for place in 0..1024 {
         if words[place] != 0 {
-            words[place] = silent(words[place], place, low, high);
+            words[place] = silent(words[place], place, sums);
         }
     }
 }
@@ -127,8 +131,8 @@ impl Outside {
         ensures { (s : ℕ) → Decides (is_marked result s) ((0 < s) × (s < grand_coalition n)) }
     {
         let mut words = [0; 1024];
-        for s in 1..(1u64 << n) - 1 {
-            put(&mut words, s);
+        for place in 0..1024 {
+            words[place] = proper_word(n, place);
         }
         Outside { words }
     }
@@ -153,6 +157,52 @@ impl Outside {
     }
 }
 
+/// Adds the entries of a place to numbers of the players.
+fn add_row(numbers: &mut [i64; 16], entries: &[i128; 256], n: u32, k: usize)
+    requires few { n ≤ 16 }
+    requires place { k < n }
+    requires small { (i : ℕ) → i < n → unsigned_abs (entry_at 16 entries.now k i) ≤ 2 ^ 45 }
+    requires numbers { (i : ℕ) → unsigned_abs (number_at numbers.old i) ≤ 2 ^ 50 }
+    ensures sum { (i : ℕ) → i < n → number_at numbers.new i ≡ number_at numbers.old i +ℤ entry_at 16 entries.now k i }
+    ensures rest { (i : ℕ) → n ≤ i → number_at numbers.new i ≡ number_at numbers.old i }
+{
+    for i in 0..n as usize {
+        numbers[i] += entry(entries, k, i) as i64;
+    }
+}
+
+/// The sums of the entries of a place over coalitions, which are their weights there.
+fn weight_sums(entries: &[i128; 256], n: u32, k: usize) -> PlayerSums
+    requires few { n ≤ 16 }
+    requires place { k < n }
+    requires small { (i : ℕ) → i < n → unsigned_abs (entry_at 16 entries.now k i) ≤ 2 ^ 45 }
+    ensures value { (s : ℕ) → s < 2 ^ 16
+        → two_sums result.low result.high s ≡ dot n (entry_at 16 entries.now k) (vector s) }
+    ensures small { (a : ℕ) → a < 256 → unsigned_abs (slice_index_or result.high a (pos 0)) ≤ 2 ^ 61 }
+{
+    let mut numbers = [0; 16];
+    add_row(&mut numbers, entries, n, k);
+    PlayerSums::of(&numbers)
+}
+
+/// The sums of the entries of all places that aren't fixed, added. These are 0 at each coalition without a weight
+/// there, and at few others: so one pass leaves little for the passes of the places.
+fn all_weight_sums(entries: &[i128; 256], fixed: &[bool; 16], n: u32) -> PlayerSums
+    requires few { n ≤ 16 }
+    requires small { (k i : ℕ) → k < n → i < n → unsigned_abs (entry_at 16 entries.now k i) ≤ 2 ^ 45 }
+    ensures none { (s : ℕ) → s < 2 ^ 16
+        → HasNoWeight n fixed.now entries.now n s → two_sums result.low result.high s ≡ pos 0 }
+    ensures small { (a : ℕ) → a < 256 → unsigned_abs (slice_index_or result.high a (pos 0)) ≤ 2 ^ 61 }
+{
+    let mut numbers = [0; 16];
+    for k in 0..n as usize {
+        if !fixed[k] {
+            add_row(&mut numbers, entries, n, k);
+        }
+    }
+    PlayerSums::of(&numbers)
+}
+
 /// Of some coalitions, those without a weight at a place that isn't fixed.
 fn without_weights(
     words: [u64; 1024],
@@ -166,11 +216,10 @@ fn without_weights(
         → Decides (is_marked result s) (IsTrue (is_marked words s) × HasNoWeight n fixed.now entries.now n s) }
 {
     let mut held = words;
+    keep_silent(&mut held, &all_weight_sums(entries, fixed, n));
     for k in 0..n as usize {
         if !fixed[k] {
-            let low = table(entries, n, k, 1);
-            let high = table(entries, n, k, 256);
-            keep_silent(&mut held, &low, &high);
+            keep_silent(&mut held, &weight_sums(entries, n, k));
         }
     }
     held

@@ -8,8 +8,8 @@ loop-place-init c = record { len = c.told-words; done = λ p lt. absurd (omega a
 
 pub loop-place-preserved : goal.loop-place-preserved
 loop-place-preserved c =
-    let low = c.args.low.now in
-    let high = c.args.high.now in
+    let low = c.args.sums.now.low in
+    let high = c.args.sums.now.high in
     let olds = c.args.words.now in
     let news = c.loop-place.words in
     let p = c.loop-place.place in
@@ -27,5 +27,5 @@ loop-place-preserved c =
 
 pub returns : goal.returns
 returns c =
-    marks_silent c.args.low.now c.args.high.now c.args.words.now c.loop-place.words
+    marks_silent c.args.sums.now.low c.args.sums.now.high c.args.words.now c.loop-place.words
     (λ q lt. c.loop-place.invariant.done q (omega arith))

@@ -1,9 +1,13 @@
-use Rattle.std.proofs.Common.{arith, ◌≡◌, ℕ, subst, IsTrue}
-use Rattle.std.specs.Bool.{Decides}
-use Rattle.spans.specs.Outside.{is_marked, HasNoWeight}
-use Rattle.spans.proofs.Marks.{silent_more, silent_fixed, two_sums-is}
+use Rattle.std.proofs.Common.{arith, ◌≡◌}
+use Rattle.spans.specs.Outside.{is_marked}
+use Rattle.spans.proofs.Marks.{sifted_first, sifted_more, sifted_fixed, sifted_all}
 use Rattle.spans.proofs.outside.without_weights.Goals as goal
 use Rattle.spans.proofs.outside.without_weights.Goals.{then-not-fixed-k, else-not-fixed-k}
+
+pub loop-k-init : goal.loop-k-init
+loop-k-init c = λ s lt.
+    sifted_first c.args.n c.args.fixed.now c.args.entries.now s (is_marked c.args.words s) _ _
+    (c.keep_silent.ensures s lt) (c.all_weight_sums.ensures.none s lt)
 
 pub loop-k-preserved : goal.loop-k-preserved
 loop-k-preserved c =
@@ -13,19 +17,16 @@ loop-k-preserved c =
     let entries = c.args.entries.now in
     elim c.if-not-fixed-k.branch [
       | then-not-fixed-k w ↦ rw w.held-is
-          (λ s lt. silent_more n fixed entries k s (is_marked c.args.words s) (is_marked c.loop-k.held s) _ _
-          (c.loop-k.invariant s lt) (w.keep_silent.ensures s lt)
-          (two_sums-is n entries k s w.table-low.result w.table-high.result w.table-low.ensures
-          w.table-high.ensures lt) w.if-not-fixed-k.true)
+          (λ s lt. sifted_more n fixed entries k s (is_marked c.args.words s) (is_marked c.loop-k.held s) _ _
+          c.loop-k-test.true (c.loop-k.invariant s lt) (w.keep_silent-then-not-fixed-k.ensures s lt)
+          (w.weight_sums.ensures.value s lt) w.if-not-fixed-k.true)
       | else-not-fixed-k w ↦ rw w.held-is
-          (λ s lt. silent_fixed n fixed entries k s (is_marked c.args.words s) (is_marked c.loop-k.held s)
+          (λ s lt. sifted_fixed n fixed entries k s (is_marked c.args.words s) (is_marked c.loop-k.held s)
           (c.loop-k.invariant s lt) w.if-not-fixed-k.false)
     ]
 
 pub returns : goal.returns
 returns c =
     let e : c.loop-k.k ≡ c.args.n = omega arith in
-    λ s lt. subst
-    (λ (k : ℕ). Decides (is_marked c.loop-k.held s)
-    (IsTrue (is_marked c.args.words s) × HasNoWeight c.args.n c.args.fixed.now c.args.entries.now k s)) e
-    (c.loop-k.invariant s lt)
+    λ s lt. sifted_all c.args.n c.args.fixed.now c.args.entries.now c.loop-k.k s (is_marked c.args.words s)
+    (is_marked c.loop-k.held s) e (c.loop-k.invariant s lt)

@@ -1,10 +1,9 @@
-use Rattle.std.proofs.Common.{◌≡◌, ◌⊎◌, ℕ, ◌<◌, ◌≤◌}
-use Rattle.std.specs.Bool.{Decides}
-use Rattle.spans.specs.Outside.{is_marked}
+use Rattle.std.proofs.Common.{◌≡◌, ℕ, ◌<◌, length, slice_index_or}
+use Rattle.spans.specs.Outside.{IsProperWord}
 use Rattle.spans.proofs.outside.Outside.all.Given as goal
 
-abbrev pub invariant-loop-s : goal.invariant-loop-s
-invariant-loop-s l = record {
-  place : (l.s ≡ 1) ⊎ (l.s ≤ l.s-end);
-  marks : (t : ℕ) → Decides (is_marked l.words t) ((0 < t) × (t < l.s));
+abbrev pub invariant-loop-place : goal.invariant-loop-place
+invariant-loop-place l = record {
+  len : length l.words ≡ 1024;
+  done : (p : ℕ) → p < l.place → IsProperWord l.n p (slice_index_or l.words p 0);
 }
