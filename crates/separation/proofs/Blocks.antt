@@ -5,7 +5,8 @@ use Rattle.std.specs.Option.{ForSome}
 use Rattle.definitions.proofs.Ring.{linear, one-mulℤ}
 use Rattle.definitions.specs.declared.Measure.TheVariants.{Plain}
 use Rattle.separation.specs.Fronts.{front_level, front_rows}
-use Rattle.separation.specs.Values.{AreSums, level_multiplier, column_value}
+use Rattle.separation.specs.Values.{low_of, high_of, AreSums, level_multiplier, column_value}
+use Rattle.separation.specs.declared.tables.Sums.{Sums}
 use Rattle.separation.specs.declared.front.Front.{Front}
 use Rattle.separation.proofs.Valued.{sums_at, value_is}
 
@@ -22,16 +23,18 @@ front_within (Some f) n rows len e h l is =
     inside : (x y : ℕ) → Some x ≡ Some y → x ≡ y
     inside x y e = cc
 
-pub block_value : (num : List ℤ) (n s block : ℕ) (level : Option ℕ) (low high : List ℤ) (cost base value : ℤ)
-    → n ≤ length num → ForSome level (λ l. n + l < length num) → AreSums num n low high → 256 * block ≤ s
-    → s < 256 * block + 256 → block < 256 → base ≡ slice_index_or high block (pos 0) +ℤ level_multiplier num n level
-    → value ≡ base +ℤ slice_index_or low (s % 256) (pos 0)
+pub block_value : (num : List ℤ) (n s block : ℕ) (level : Option ℕ) (sums : Sums) (cost base value : ℤ)
+    → n ≤ length num → ForSome level (λ l. n + l < length num) → AreSums num n sums → 256 * block ≤ s
+    → s < 256 * block + 256 → block < 256
+    → base ≡ slice_index_or (high_of sums) block (pos 0) +ℤ level_multiplier num n level
+    → value ≡ base +ℤ slice_index_or (low_of sums) (s % 256) (pos 0)
     → value ≡ column_value Plain num n (record { coalition = s; level = level; negated = false; cost = cost })
-block_value num n s block level low high cost base value le within sums lower upper few based valued =
+block_value num n s block level sums cost base value le within are lower upper few based valued =
     let here : s / 256 % 256 ≡ block = omega (arith, lower, upper, few) in
     let sum =
-    ap (λ (t : ℕ). slice_index_or low (s % 256) (pos 0) +ℤ slice_index_or high t (pos 0)) (sym here)
-    ∙ sums_at num n s low high sums in
+    ap (λ (t : ℕ). slice_index_or (low_of sums) (s % 256) (pos 0) +ℤ slice_index_or (high_of sums) t (pos 0))
+    (sym here)
+    ∙ sums_at num n s sums are in
     let is =
     value_is Plain num n (record { coalition = s; level = level; negated = false; cost = cost }) le within in
     added _ _ _ _ _ _ _ valued based sum (one-mulℤ (level_multiplier num n level)) ∙ sym is

@@ -1,20 +1,24 @@
 -- The sums of the coalitions of eight players, each from one before it.
 use Rattle.std.proofs.Common.{◌≡◌, ℕ, zero, suc, ◌+◌, ◌-◌, ◌*◌, ◌^◌, ◌<◌, ◌≤◌, Bool, true, false}
 use Rattle.std.proofs.Common.{cond, List, ℤ, pos, ◌+ℤ◌, sym, ap, ◌∙◌, arith, nat_lt}
-use Rattle.std.proofs.Common.{slice_index_or, unsigned_abs, to_z, of_z, subst, inl, inr}
+use Rattle.std.proofs.Common.{slice_index_or, unsigned_abs, to_z, of_z, subst, inl, inr, refl, length, length-set}
+use Rattle.std.proofs.Common.{set, replicate}
+use Rattle.std.proofs.lemmas.List.{get_or_past}
 use Rattle.std.proofs.lemmas.Int.{ints}
 use Rattle.std.proofs.Math.Pow.{pow-lt}
 use mir.Syntax.{w128}
-use Rattle.definitions.proofs.Cases.{below_or_above, same_or_other}
+use Rattle.definitions.proofs.Cases.{below_or_above, same_or_other, nat_lt-past}
 use Rattle.definitions.proofs.Casts.{cast_kept}
 use Rattle.definitions.proofs.Ring.{linear}
 use Rattle.definitions.specs.Sums.{sum_below}
 use Rattle.definitions.specs.Coalitions.{has_player}
 use Rattle.definitions.proofs.Halves.{has_player-last}
-use Rattle.definitions.proofs.Members.{has_player-empty, sum_below-zero}
-use Rattle.definitions.proofs.Parts.{sum_over-more}
-use Rattle.separation.specs.Values.{player_multiplier, member_multiplier, eight, IsEight}
+use Rattle.definitions.proofs.Members.{has_player-empty, sum_below-zero, sum_below-same}
+use Rattle.definitions.proofs.Parts.{sum_over-more, part}
+use Rattle.separation.specs.Values.{player_multiplier, member_multiplier, eight, IsEight, AreNarrow}
 use Rattle.separation.proofs.Valued.{eight-is}
+use Rattle.separation.proofs.Filled.{filled_below}
+use Rattle.spans.specs.Sums.{number_at, IsEightSum}
 
 -- the last player joins
 pub eight-more : (num : List ℤ) (n first s last : ℕ) → last < 8 → s < 2 ^ last
@@ -89,3 +93,48 @@ IsEight-next num n first s last a b small few lower upper is same b_small =
         → to_z w128 (of_z w128 (to_z w128 (of_z w128 x) +ℤ to_z w128 (of_z w128 y))) ≡ x +ℤ y
     kept_sum x y hx hy = rw (cast_kept w128 x (omega arith), cast_kept w128 y (omega arith))
         (cast_kept w128 (x +ℤ y) (omega (arith, ints)))
+
+-- the sums of multipliers that 64 bits hold
+pub IsEight-narrow : (num : List ℤ) (n first s : ℕ) (numbers : List ℤ) (z : ℤ) → AreNarrow num n numbers
+    → IsEightSum numbers first s z → IsEight num n first s z
+IsEight-narrow num n first s numbers z h sum =
+    let few = sum.small (2 ^ 56) (λ i. (h i).1) in
+    record {
+      value =
+          sum.value
+          ∙ sum_below-same 8 (part (λ i. number_at numbers (first + i)) s) (member_multiplier num n first s)
+          (λ i lt. ap (λ (y : ℤ). cond (has_player s i) y (pos 0)) (h (first + i)).0)
+          ∙ sym (eight-is num n first s);
+      small = omega (arith, few);
+    }
+
+-- ---- multipliers in 64 bits
+
+-- the first i multipliers are kept
+pub record AreNarrowBelow (num : List ℤ) (n i : ℕ) (numbers : List ℤ) : Type 0 where
+  pub len : length numbers ≡ 16
+  pub done : (j : ℕ) → j < i
+      → (number_at numbers j ≡ player_multiplier num n j) × (unsigned_abs (number_at numbers j) ≤ 2 ^ 56)
+
+pub none_narrow : (num : List ℤ) (n : ℕ) → AreNarrowBelow num n 0 (replicate 16 (pos 0))
+none_narrow num n = record { len = refl; done = λ j lt. absurd (omega arith) }
+
+pub more_narrow : (num : List ℤ) (n i : ℕ) (numbers : List ℤ) (v : ℤ) → i < 16 → v ≡ player_multiplier num n i
+    → unsigned_abs v ≤ 2 ^ 56 → AreNarrowBelow num n i numbers → AreNarrowBelow num n (i + 1) (set numbers i v)
+more_narrow num n i numbers v lt is small before = record {
+  len = length-set numbers i v ∙ before.len;
+  done =
+      filled_below (λ j z. (z ≡ player_multiplier num n j) × (unsigned_abs z ≤ 2 ^ 56)) numbers i v
+      (subst (λ (k : ℕ). i < k) (sym before.len) lt) (is, small) before.done;
+}
+
+pub all_narrow : (num : List ℤ) (n i : ℕ) (numbers : List ℤ) → n ≤ 16 → 16 ≤ i → AreNarrowBelow num n i numbers
+    → AreNarrow num n numbers
+all_narrow num n i numbers few end h j = elim (below_or_above j 16) [
+  | inl lt ↦ h.done j (omega (arith, lt, end))
+  | inr le ↦
+      let past = get_or_past numbers j (pos 0) (omega (arith, h.len, le)) in
+      let none : player_multiplier num n j ≡ pos 0 =
+      ap (λ (b : Bool). cond b (slice_index_or num j (pos 0)) (pos 0)) (nat_lt-past j n (omega (arith, few, le))) in
+      (past ∙ sym none, subst (λ (z : ℤ). unsigned_abs z ≤ 2 ^ 56) (sym past) (omega arith))
+]

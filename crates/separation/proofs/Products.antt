@@ -75,33 +75,35 @@ minus_sum_held a b m n ha hb few =
 abbrev held_in_64 : ℤ → ℤ
 held_in_64 z = to_z w64 (of_z w64 z)
 
--- a denominator times a worth less a sum of two numbers
-pub gap_held : (d w b l : ℤ) → unsigned_abs d < 2 ^ 16 → unsigned_abs w < 2 ^ 46 → unsigned_abs b ≤ 2 ^ 61
-    → unsigned_abs l ≤ 2 ^ 60
+-- a denominator times a worth less a number
+pub height_held : (d w l : ℤ) → unsigned_abs d < 2 ^ 16 → unsigned_abs w < 2 ^ 46 → unsigned_abs l ≤ 2 ^ 60
     → FitsSigned w64 (held_in_64 (held d) *ℤ held_in_64 w)
-    × (FitsSigned w64
-    (held_in_64 (held_in_64 (held d) *ℤ held_in_64 w) -ℤ held_in_64 (held_in_64 b +ℤ held_in_64 l))
-    × (held_in_64 (held_in_64 (held_in_64 (held d) *ℤ held_in_64 w) -ℤ held_in_64 (held_in_64 b +ℤ held_in_64 l))
-    ≡ d *ℤ w -ℤ (b +ℤ l)))
-gap_held d w b l hd hw hb hl =
+    × (FitsSigned w64 (held_in_64 (held_in_64 (held d) *ℤ held_in_64 w) -ℤ held_in_64 l)
+    × (held_in_64 (held_in_64 (held_in_64 (held d) *ℤ held_in_64 w) -ℤ held_in_64 l) ≡ d *ℤ w -ℤ l))
+height_held d w l hd hw hl =
     let kd : held d ≡ d = cast_kept w128 d (omega (arith, hd)) in
     let kd' : held_in_64 d ≡ d = cast_kept w64 d (omega (arith, hd)) in
     let kw : held_in_64 w ≡ w = cast_kept w64 w (omega (arith, hw)) in
-    let kb : held_in_64 b ≡ b = cast_kept w64 b (omega (arith, hb)) in
     let kl : held_in_64 l ≡ l = cast_kept w64 l (omega (arith, hl)) in
     let product : unsigned_abs (d *ℤ w) ≤ 2 ^ 62 =
     le_trans (abs_mul d w (2 ^ 16) (2 ^ 46) (le_of_lt hd) (le_of_lt hw)) (lit≤ tt) in
     let kp : held_in_64 (d *ℤ w) ≡ d *ℤ w = cast_kept w64 (d *ℤ w) (omega (arith, product)) in
-    let sum : unsigned_abs (b +ℤ l) ≤ 2 ^ 61 + 2 ^ 60 = omega (arith, ints, hb, hl) in
-    let ks : held_in_64 (b +ℤ l) ≡ b +ℤ l = cast_kept w64 (b +ℤ l) (omega (arith, sum)) in
-    let gap : unsigned_abs (d *ℤ w -ℤ (b +ℤ l)) ≤ 2 ^ 62 + (2 ^ 61 + 2 ^ 60) = omega (arith, ints, product, sum) in
-    rw (kd, kd', kw, kb, kl, kp, ks) (
+    let height : unsigned_abs (d *ℤ w -ℤ l) ≤ 2 ^ 62 + 2 ^ 60 = omega (arith, ints, product, hl) in
+    rw (kd, kd', kw, kl, kp) (
       fits_signed_from_abs w64 (d *ℤ w) (omega (arith, product)),
       (
-        fits_signed_from_abs w64 (d *ℤ w -ℤ (b +ℤ l)) (omega (arith, gap)),
-        cast_kept w64 (d *ℤ w -ℤ (b +ℤ l)) (omega (arith, gap)),
+        fits_signed_from_abs w64 (d *ℤ w -ℤ l) (omega (arith, height)),
+        cast_kept w64 (d *ℤ w -ℤ l) (omega (arith, height)),
       ),
     )
 
-pub above_zero : (z a v : ℤ) → z ≡ a -ℤ v → (pos 0 <ℤ z) ↔ (v <ℤ a)
-above_zero z a v e = (λ h. omega (arith, linear, e, h), λ h. omega (arith, linear, e, h))
+-- a height is above a base exactly where the cost is above the value
+pub above_base : (b l v a z : ℤ) → z ≡ a -ℤ l → b +ℤ l ≡ v → (b <ℤ z) ↔ (v <ℤ a)
+above_base b l v a z e f = (λ h. omega (arith, linear, e, f, h), λ h. omega (arith, linear, e, f, h))
+
+-- a number that 64 bits hold, read in 64 bits
+pub narrowed : (z : ℤ) → unsigned_abs z ≤ 2 ^ 114 → unsigned_abs (held z) ≤ 2 ^ 61 → held_in_64 (held z) ≡ z
+narrowed z wide small =
+    let kept : held z ≡ z = cast_kept w128 z (omega (arith, wide)) in
+    let few : unsigned_abs z ≤ 2 ^ 61 = subst (λ (y : ℤ). unsigned_abs y ≤ 2 ^ 61) kept small in
+    rw kept (cast_kept w64 z (omega (arith, few)))

@@ -1,10 +1,8 @@
 -- The value of a column from two tables of sums and one multiplier.
-use Rattle.std.proofs.Common.{◌≡◌, ℕ, zero, suc, ◌+◌, ◌-◌, ◌*◌, ◌/◌, ◌%◌, ◌^◌, ◌<◌, ◌≤◌, Bool, true, false, cond}
+use Rattle.std.proofs.Common.{◌≡◌, ℕ, zero, suc, ◌+◌, ◌-◌, ◌/◌, ◌%◌, ◌<◌, ◌≤◌, Bool, true, false, cond}
 use Rattle.std.proofs.Common.{List, length, ℤ, pos, ◌+ℤ◌, ◌*ℤ◌, refl, sym, ap, ◌∙◌, inl, inr, arith, nat_eq}
 use Rattle.std.proofs.Common.{nat_lt, if◌then◌else◌, slice_index_or, Option, Some, None}
 use Rattle.std.proofs.lemmas.Bool.Decides.{nat_tests}
-use Rattle.std.proofs.lemmas.Nat.Bits.{bit_at_cat_low, bit_at_cat_high}
-use Rattle.std.specs.Int.{bit_at}
 use Rattle.std.specs.Option.{ForSome}
 use Rattle.definitions.proofs.Ring.{linear, mul-zeroℤ, mul-subℤ}
 use Rattle.definitions.proofs.Members.{sum_below-same, sum_below-zero, sum_below-split, times_bit}
@@ -16,84 +14,39 @@ use lib.IntN.{*ℤ_comm}
 use Rattle.separation.specs.Stage.{signed}
 use Rattle.separation.specs.Kept.{is_level, plain_entry}
 use Rattle.separation.specs.Values.{multiplier_at, player_multiplier, member_multiplier, eight}
-use Rattle.separation.specs.Values.{AreSums, level_multiplier, column_value}
+use Rattle.separation.specs.Values.{low_of, high_of, AreSums, level_multiplier, column_value}
 use Rattle.separation.specs.declared.column.Column.{Column}
-use Rattle.definitions.proofs.Cases.{less_or_last}
+use Rattle.separation.specs.declared.tables.Sums.{Sums}
+use Rattle.spans.proofs.EightSums.{sum_by_eights, sum_within_players}
+use Rattle.definitions.proofs.Cases.{less_or_last, nat_lt-less, nat_lt-past}
+use Rattle.definitions.proofs.Parts.{part}
 
 -- ---- the tables
-
-low_bit : (s i : ℕ) → i < 8 → bit_at (s % 256) i ≡ bit_at s i
-low_bit s i h =
-    let e : s / 256 * 2 ^ 8 + s % 256 ≡ s = omega arith in
-    sym (bit_at_cat_low (s / 256) 8 (s % 256) i h) ∙ ap (λ (t : ℕ). bit_at t i) e
-
-high_bit : (s i : ℕ) → i < 8 → bit_at (s / 256 % 256) i ≡ bit_at s (8 + i)
-high_bit s i h =
-    let e : s / 256 * 2 ^ 8 + s % 256 ≡ s = omega arith in
-    let d : 8 + i - 8 ≡ i = omega arith in
-    low_bit (s / 256) i h
-    ∙ ap (λ (t : ℕ). bit_at (s / 256) t) (sym d)
-    ∙ sym (bit_at_cat_high (s / 256) 8 (s % 256) (8 + i) (omega arith) (omega arith))
-    ∙ ap (λ (t : ℕ). bit_at t (8 + i)) e
-
--- the multiplier of player i, if s has it
-abbrev at : List ℤ → ℕ → ℕ → ℕ → ℤ
-at num n s i = if has_player s i then player_multiplier num n i else pos 0
-
-low_at : (num : List ℤ) (n s i : ℕ) → i < 8 → member_multiplier num n 0 (s % 256) i ≡ at num n s i
-low_at num n s i h =
-    let e : 0 + i ≡ i = omega arith in
-    ap (λ (b : ℕ). cond (nat_eq b 1) (player_multiplier num n (0 + i)) (pos 0)) (low_bit s i h)
-    ∙ ap (λ (t : ℕ). cond (has_player s i) (player_multiplier num n t) (pos 0)) e
-
-high_at : (num : List ℤ) (n s i : ℕ) → i < 8 → member_multiplier num n 8 (s / 256 % 256) i ≡ at num n s (8 + i)
-high_at num n s i h = ap (λ (b : ℕ). cond (nat_eq b 1) (player_multiplier num n (8 + i)) (pos 0)) (high_bit s i h)
-
-players_at : (num : List ℤ) (n s i : ℕ) → i < n
-    → at num n s i ≡ (if has_player s i then multiplier_at num i else pos 0)
-players_at num n s i h =
-    let t : nat_lt i n ≡ true = grind (arith, nat_tests) in
-    ap (λ (b : Bool). cond (has_player s i) (cond b (multiplier_at num i) (pos 0)) (pos 0)) t
-
-past_at : (num : List ℤ) (n s k : ℕ) → at num n s (n + k) ≡ pos 0
-past_at num n s k =
-    let t : nat_lt (n + k) n ≡ false = grind (arith, nat_tests) in
-    ap (λ (b : Bool). cond (has_player s (n + k)) (cond b (multiplier_at num (n + k)) (pos 0)) (pos 0)) t
-    ∙ same (has_player s (n + k))
-  where
-    same : (b : Bool) → cond b (pos 0) (pos 0) ≡ pos 0
-    same true = refl
-    same false = refl
-
-all_at : (num : List ℤ) (n s : ℕ) → n ≤ 16 → sum_below 16 (at num n s) ≡ sum_over n (multiplier_at num) s
-all_at num n s few =
-    let e : 16 ≡ n + (16 - n) = omega arith in
-    let split = sum_below-split n (16 - n) (at num n s) in
-    let first =
-    sum_below-same n (at num n s) (λ i. if has_player s i then multiplier_at num i else pos 0)
-    (λ i h. players_at num n s i h) in
-    let rest = sum_below-zero (16 - n) (λ k. at num n s (n + k)) (λ k h. past_at num n s k) in
-    ap (λ (t : ℕ). sum_below t (at num n s)) e ∙ split ∙ none (sum_below n (at num n s)) _ _ first rest
-  where
-    none : (a b c : ℤ) → a ≡ b → c ≡ pos 0 → a +ℤ c ≡ b
-    none a b c e f = omega (arith, linear)
 
 pub eight-is : (num : List ℤ) (n first s : ℕ) → eight num n first s ≡ sum_below 8 (member_multiplier num n first s)
 unfolding eight
 eight-is num n first s = refl
 
-pub sums_at : (num : List ℤ) (n s : ℕ) (low high : List ℤ) → AreSums num n low high
-    → slice_index_or low (s % 256) (pos 0) +ℤ slice_index_or high (s / 256 % 256) (pos 0)
+-- the multipliers of the players alone
+all_players : (num : List ℤ) (n s : ℕ) → n ≤ 16
+    → sum_over 16 (player_multiplier num n) s ≡ sum_over n (multiplier_at num) s
+all_players num n s few =
+    sum_within_players n s (player_multiplier num n) (multiplier_at num) few
+    (λ i lt. ap (λ (b : Bool). cond b (multiplier_at num i) (pos 0)) (nat_lt-less i n lt))
+    (λ i le. ap (λ (b : Bool). cond b (multiplier_at num i) (pos 0)) (nat_lt-past i n le))
+
+pub sums_at : (num : List ℤ) (n s : ℕ) (sums : Sums) → AreSums num n sums
+    → slice_index_or (low_of sums) (s % 256) (pos 0) +ℤ slice_index_or (high_of sums) (s / 256 % 256) (pos 0)
     ≡ sum_over n (multiplier_at num) s
-sums_at num n s low high h =
-    let a =
-    (h.low_is (s % 256) (omega arith)).value ∙ eight-is num n 0 (s % 256)
-    ∙ sum_below-same 8 (member_multiplier num n 0 (s % 256)) (at num n s) (λ i lt. low_at num n s i lt) in
-    let b =
-    (h.high_is (s / 256 % 256) (omega arith)).value ∙ eight-is num n 8 (s / 256 % 256)
-    ∙ sum_below-same 8 (member_multiplier num n 8 (s / 256 % 256)) (λ i. at num n s (8 + i))
-    (λ i lt. high_at num n s i lt) in
-    added _ _ _ _ a b ∙ sym (sum_below-split 8 8 (at num n s)) ∙ all_at num n s h.few
+sums_at num n s sums h =
+    added _ _ _ _
+    ((h.low_is (s % 256) (omega arith)).value ∙ eight-is num n 0 (s % 256)
+    ∙ sum_below-same 8 (member_multiplier num n 0 (s % 256)) (part (player_multiplier num n) (s % 256))
+    (λ i lt. let e : 0 + i ≡ i = omega arith in
+    ap (λ (k : ℕ). cond (has_player (s % 256) i) (player_multiplier num n k) (pos 0)) e))
+    ((h.high_is (s / 256 % 256) (omega arith)).value ∙ eight-is num n 8 (s / 256 % 256))
+    ∙ sum_by_eights (player_multiplier num n) s
+    ∙ all_players num n s h.few
   where
     added : (p q u v : ℤ) → p ≡ u → q ≡ v → p +ℤ q ≡ u +ℤ v
     added p q u v e f = omega (arith, linear)

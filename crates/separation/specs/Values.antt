@@ -6,22 +6,27 @@
 --   member_multiplier   the multiplier of one of eight players, if the coalition has it
 --   eight               the multipliers of the members of a coalition of eight players
 --   IsEight, IsTable    a number is such a sum, and small; a table of such sums
---   AreSums             the tables of the first and the next eight players
---   IsNarrow            a number again, and at most 2^60 in size
---   AreNarrow           those of a table
+--   low_of, high_of     the tables of the first and of the next eight players
+--   HasRoom             a table in 64 bits leaves room for a search
+--   AreSums             these are the sums of the multipliers
+--   AreNarrow           the multipliers of the players in 64 bits
 --   level_multiplier    the multiplier of a column's level row
 --   column_value        the sum of multiplier times entry
 --   counted             what a cost counts for, with costs or without them
 --   Rises, IsFirst      a column's cost is above its value; the first such
 --   IsFirstBelow        the first such of so many columns
 --   IsSomeBelow         one such of so many columns
+--   IsHighest           of some numbers none rises, and the height is the base; or one is that rises
 use Rattle.std.specs.Prelude.{◌≡◌, ℕ, ◌+◌, ◌<◌, ◌≤◌, Bool, true, false, nat_lt, List, length, ℤ, pos, ◌*ℤ◌, ◌<ℤ◌}
-use Rattle.std.specs.Prelude.{if◌then◌else◌, slice_index_or, Option, Some, None, ◌^◌, unsigned_abs}
+use Rattle.std.specs.Prelude.{if◌then◌else◌, slice_index_or, Option, Some, None, ◌^◌, unsigned_abs, ◌≤ℤ◌, ⊤}
 use Rattle.definitions.specs.Sums.{sum_below}
 use Rattle.definitions.specs.Coalitions.{has_player}
 use Rattle.definitions.specs.declared.Measure.{Measure}
+use Rattle.spans.specs.Sums.{number_at}
 use Rattle.separation.specs.Kept.{column_entry, column_at}
 use Rattle.separation.specs.declared.column.Column.{Column}
+use Rattle.separation.specs.declared.tables.Sums.{Sums}
+use Rattle.separation.specs.declared.tables.Sums.TheVariants.{Narrow, Wide}
 
 abbrev pub multiplier_at : List ℤ → ℕ → ℤ
 multiplier_at num r = slice_index_or num r (pos 0)
@@ -47,21 +52,31 @@ pub record IsEight (num : List ℤ) (n first s : ℕ) (z : ℤ) : Type 0 where
 abbrev pub IsTable : List ℤ → ℕ → ℕ → List ℤ → Type 0
 IsTable num n first table = (s : ℕ) → s < 256 → IsEight num n first s (slice_index_or table s (pos 0))
 
--- those of the first eight players, and of the next eight
-pub record AreSums (num : List ℤ) (n : ℕ) (low high : List ℤ) : Type 0 where
+-- the table of the first eight players, and that of the next eight
+abbrev pub low_of : Sums → List ℤ
+low_of (Narrow t) = t.low
+low_of (Wide t) = t.low
+
+abbrev pub high_of : Sums → List ℤ
+high_of (Narrow t) = t.high
+high_of (Wide t) = t.high
+
+-- in 64 bits the sums of the first eight players are at most 2^59 in size
+abbrev pub HasRoom : Sums → Type 0
+HasRoom (Narrow t) = (k : ℕ) → k < 256 → unsigned_abs (slice_index_or t.low k (pos 0)) ≤ 2 ^ 59
+HasRoom (Wide t) = ⊤
+
+-- the sums of the multipliers of at most 16 players
+pub record AreSums (num : List ℤ) (n : ℕ) (sums : Sums) : Type 0 where
   pub few : n ≤ 16
-  pub low_is : IsTable num n 0 low
-  pub high_is : IsTable num n 8 high
+  pub low_is : IsTable num n 0 (low_of sums)
+  pub high_is : IsTable num n 8 (high_of sums)
+  pub room : HasRoom sums
 
--- a number is the other, and at most 2^60 in size
-pub record IsNarrow (wide narrow : ℤ) : Type 0 where
-  pub same : narrow ≡ wide
-  pub small : unsigned_abs narrow ≤ 2 ^ 60
-
--- a table has the numbers of another, each at most 2^60 in size
-abbrev pub AreNarrow : List ℤ → List ℤ → Type 0
-AreNarrow wide narrow =
-    (k : ℕ) → k < 256 → IsNarrow (slice_index_or wide k (pos 0)) (slice_index_or narrow k (pos 0))
+-- the multiplier of each player in 64 bits, at most 2^56 in size, and 0 past n players
+abbrev pub AreNarrow : List ℤ → ℕ → List ℤ → Type 0
+AreNarrow num n numbers =
+    (i : ℕ) → (number_at numbers i ≡ player_multiplier num n i) × (unsigned_abs (number_at numbers i) ≤ 2 ^ 56)
 
 -- the multiplier of a column's level row
 abbrev pub level_multiplier : List ℤ → ℕ → Option ℕ → ℤ
@@ -101,3 +116,10 @@ pub record IsSomeBelow (measure : Measure) (num : List ℤ) (den : ℤ) (n : ℕ
     (column : ℕ → Option Column) (count id : ℕ) : Type 0 where
   pub below : id < count
   pub rises : Rises measure num den n with_costs (column id)
+
+-- Of the numbers from a on below s and below a count, none rises, and the height is the base; or the height is above
+-- the base, and a number below the count is picked that rises.
+pub record IsHighest (R : ℕ → Type 0) (a s count : ℕ) (base height : ℤ) (picked : ℕ) : Type 0 where
+  pub low : base ≤ℤ height
+  pub none : height ≡ base → (j : ℕ) → a ≤ j → j < s → j < count → ¬ R j
+  pub found : base <ℤ height → (picked < count) × R picked

@@ -1,6 +1,7 @@
 //! The column under a number.
 
-ghost use Rattle.std.specs.Prelude.{◌≡◌, ◌<◌, ◌^◌};
+ghost use Rattle.std.specs.Prelude.{◌≡◌, ◌<◌, ◌^◌, ◌*◌, ◌+◌, ℕ};
+ghost use Rattle.definitions.specs.Coalitions.{has_player};
 ghost use Rattle.separation.specs.Kept.{column_at};
 ghost use Rattle.separation.specs.Fronts.{front_columns, front_level, has_mark, marked_column, lazy_columns};
 
@@ -39,6 +40,23 @@ impl<W: Worth> Lazy<'_, W> {
         match &self.marks {
             Some(outside) => outside.contains(s),
             None => s.0 > 0,
+        }
+    }
+
+    /// Which of the 64 coalitions from 64 * `place` on have a column, a bit for each.
+    pub(crate) fn marked_word(&self, place: u64) -> u64
+        requires { place < 1024 }
+        ensures { (j : ℕ) → j < 64 → has_player result j ≡ has_mark self.now.marks (64 * place + j) }
+    {
+        match &self.marks {
+            Some(outside) => outside.word(place as usize),
+            None => {
+                if place == 0 {
+                    Coalition::all(64).without(0).0
+                } else {
+                    Coalition::all(64).0
+                }
+            }
         }
     }
 

@@ -15,6 +15,7 @@ mod rising;
 mod shares;
 mod stage;
 mod sums;
+mod tables;
 
 pub use front::coalition_count;
 pub use lazy::Lazy;

@@ -1,10 +1,10 @@
 //! The best column of a block in 64 bits, for which nearly all multipliers leave room.
 
-ghost use Rattle.std.specs.Prelude.{◌≡◌, ◌↔◌, ℕ, ◌+◌, ◌*◌, ◌%◌, ◌<◌, ◌≤◌, ◌^◌, IfSome, MatchOption};
-ghost use Rattle.std.specs.Prelude.{pos, ◌+ℤ◌, ◌<ℤ◌, unsigned_abs, slice_index_or};
+ghost use Rattle.std.specs.Prelude.{◌≡◌, ◌⊎◌, ℕ, ◌+◌, ◌*◌, ◌%◌, ◌<◌, ◌≤◌, ◌^◌, MatchOption};
+ghost use Rattle.std.specs.Prelude.{pos, ◌+ℤ◌, ◌-ℤ◌, ◌*ℤ◌, ◌<ℤ◌, ◌≤ℤ◌, unsigned_abs, slice_index_or};
 ghost use Rattle.separation.specs.Making.{plain};
 ghost use Rattle.separation.specs.Fronts.{front_level, marked_column};
-ghost use Rattle.separation.specs.Values.{column_value, AreNarrow, Rises, IsSomeBelow};
+ghost use Rattle.separation.specs.Values.{column_value, counted, Rises, IsSomeBelow, IsHighest};
 
 use crate::lazy::Lazy;
 use crate::rising::counted_worth;
@@ -12,48 +12,88 @@ use coalitions::Coalition;
 use simplex::Multipliers;
 use worth_core::Worth;
 
-/// The numbers of a table in 64 bits, where each is at most 2^60 in size.
-pub(crate) fn narrow(table: &[i128; 256]) -> Option<[i64; 256]>
-    ensures { IfSome result (AreNarrow table.now) }
-{
-    let mut low = [0; 256];
-    for k in 0..256 {
-        if table[k].unsigned_abs() > 1 << 60 {
-            return None;
-        }
-        low[k] = table[k] as i64;
-    }
-    Some(low)
+/// The greatest height above a base so far, and the coalition that has it; the base before there is one.
+#[derive(Clone, Copy)]
+pub(crate) struct Highest {
+    base: i64,
+    height: i64,
+    coalition: u64,
 }
 
-/// By how much the cost of a coalition's column is above its value; 0 where it has no column.
-fn marked_gap<W: Worth>(
+impl Highest {
+    /// The highest so far, or another coalition where that is higher.
+    fn or(self, s: u64, height: i64) -> Highest
+        ensures { ((self.height <ℤ height) × (result ≡ record { base = self.base; height = height; coalition = s }))
+            ⊎ ((height ≤ℤ self.height) × (result ≡ self)) }
+    {
+        if self.height < height {
+            Highest {
+                base: self.base,
+                height,
+                coalition: s,
+            }
+        } else {
+            self
+        }
+    }
+}
+
+/// What the cost of a coalition's column over the multipliers' denominator is above the multipliers of the members among
+/// the first eight players. Where that is above what the block has in common, the column rises.
+fn height_of<W: Worth>(
     program: &Lazy<'_, W>,
     m: &Multipliers,
     low: &[i64; 256],
-    base: i64,
     with_costs: bool,
     s: Coalition,
 ) -> i64
     requires within { s < 2 ^ program.now.players }
     requires den { unsigned_abs m.now.den < 2 ^ 16 }
-    requires base { unsigned_abs base ≤ 2 ^ 61 }
     requires low { unsigned_abs (slice_index_or low.now (s % 256) (pos 0)) ≤ 2 ^ 60 }
-    requires value { base +ℤ slice_index_or low.now (s % 256) (pos 0)
-        ≡ column_value program.now.measure m.now.num.items program.now.players
-        (plain (W.game program.now.game.now) s (front_level program.now.front)) }
-    ensures { (pos 0 <ℤ result) ↔ Rises program.now.measure m.now.num.items m.now.den program.now.players with_costs
-        (marked_column (W.game program.now.game.now) (front_level program.now.front) program.now.marks s) }
+    ensures { result ≡ m.now.den *ℤ counted with_costs ((W.game program.now.game.now).worth s)
+        -ℤ slice_index_or low.now (s % 256) (pos 0) }
 {
-    if program.has_mark(s) {
-        let worth = counted_worth(program.game, s, with_costs);
-        m.den as i64 * worth - (base + low[(s.0 % 256) as usize])
-    } else {
-        0
-    }
+    let worth = counted_worth(program.game, s, with_costs);
+    m.den as i64 * worth - low[(s.0 % 256) as usize]
 }
 
-/// Of the 256 coalitions from 256 * `block` on, one whose cost is above its value: that of the greatest gap, which no
+/// The highest so far, or a higher one of the 64 coalitions from 64 * `place` on.
+fn highest_of_word<W: Worth>(
+    program: &Lazy<'_, W>,
+    m: &Multipliers,
+    low: &[i64; 256],
+    with_costs: bool,
+    place: u64,
+    before: Highest,
+) -> Highest
+    requires place { place < 1024 }
+    requires den { unsigned_abs m.now.den < 2 ^ 16 }
+    requires low { (k : ℕ) → k < 256 → unsigned_abs (slice_index_or low.now k (pos 0)) ≤ 2 ^ 60 }
+    requires values { (s : ℕ) → 64 * place ≤ s → s < 64 * place + 64
+        → before.base +ℤ slice_index_or low.now (s % 256) (pos 0)
+        ≡ column_value program.now.measure m.now.num.items program.now.players
+        (plain (W.game program.now.game.now) s (front_level program.now.front)) }
+    ensures base { result.base ≡ before.base }
+    ensures highest { let column = marked_column (W.game program.now.game.now) (front_level program.now.front)
+        program.now.marks in let rises = λ (j : ℕ). Rises program.now.measure m.now.num.items m.now.den
+        program.now.players with_costs (column j) in (a : ℕ)
+        → IsHighest rises a (64 * place) (2 ^ program.now.players) before.base before.height before.coalition
+        → IsHighest rises a (64 * place + 64) (2 ^ program.now.players) result.base result.height result.coalition }
+{
+    let word = Coalition(program.marked_word(place));
+    let end = (1u64 << program.players).saturating_sub(64 * place).min(64);
+    let mut best = before;
+    for j in 0..end {
+        if word.contains(j as u32) {
+            let s = 64 * place + j;
+            let height = height_of(program, m, low, with_costs, Coalition(s));
+            best = best.or(s, height);
+        }
+    }
+    best
+}
+
+/// Of the 256 coalitions from 256 * `block` on, one whose cost is above its value: that of the greatest height, which no
 /// clause says.
 pub(crate) fn best_in_64<W: Worth>(
     program: &Lazy<'_, W>,
@@ -65,7 +105,6 @@ pub(crate) fn best_in_64<W: Worth>(
 ) -> Option<u64>
     requires block { block < 256 }
     requires den { unsigned_abs m.now.den < 2 ^ 16 }
-    requires base { unsigned_abs base ≤ 2 ^ 61 }
     requires low { (k : ℕ) → k < 256 → unsigned_abs (slice_index_or low.now k (pos 0)) ≤ 2 ^ 60 }
     requires values { (s : ℕ) → 256 * block ≤ s → s < 256 * block + 256
         → base +ℤ slice_index_or low.now (s % 256) (pos 0)
@@ -78,15 +117,17 @@ pub(crate) fn best_in_64<W: Worth>(
         (IsSomeBelow program.now.measure m.now.num.items m.now.den program.now.players with_costs column
         (2 ^ program.now.players)) }
 {
-    let end = (256 * block + 256).min(1 << program.players);
-    let mut best: Option<u64> = None;
-    let mut most: i64 = 0;
-    for s in 256 * block..end {
-        let gap = marked_gap(program, m, low, base, with_costs, Coalition(s));
-        if most < gap {
-            best = Some(s);
-            most = gap;
-        }
+    let mut best = Highest {
+        base,
+        height: base,
+        coalition: 0,
+    };
+    for place in 4 * block..4 * block + 4 {
+        best = highest_of_word(program, m, low, with_costs, place, best);
     }
-    best
+    if best.base < best.height {
+        Some(best.coalition)
+    } else {
+        None
+    }
 }

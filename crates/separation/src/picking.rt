@@ -1,11 +1,11 @@
 //! A column that rises, picked so that the simplex takes few steps: of the first 256 coalitions among which one rises,
 //! that whose cost is most above its value. The search goes round, and begins where the last one ended.
 
-ghost use Rattle.std.specs.Prelude.{◌≡◌, ◌⊎◌, ℕ, ◌+◌, ◌*◌, ◌<◌, ◌≤◌, ◌^◌, length, unsigned_abs, IfSome, MatchOption};
+ghost use Rattle.std.specs.Prelude.{◌≡◌, ◌⊎◌, ℕ, ◌+◌, ◌*◌, ◌<◌, ◌≤◌, ◌^◌, length, unsigned_abs, MatchOption};
 ghost use Rattle.definitions.specs.declared.Measure.{Measure};
 ghost use Rattle.separation.specs.Kept.{column_at};
 ghost use Rattle.separation.specs.Fronts.{front_level, marked_column, lazy_columns};
-ghost use Rattle.separation.specs.Values.{AreSums, AreNarrow, Rises, IsSomeBelow};
+ghost use Rattle.separation.specs.Values.{AreSums, Rises, IsSomeBelow};
 
 use crate::lazy::Lazy;
 use crate::narrow::best_in_64;
@@ -50,7 +50,7 @@ fn best_in_128<W: Worth>(
     requires block { block < 256 }
     requires plain { program.now.measure ≡ Measure.Plain }
     requires rows { length m.now.num.items ≡ program.now.players + program.now.levels }
-    requires sums { AreSums m.now.num.items program.now.players sums.now.low sums.now.high }
+    requires sums { AreSums m.now.num.items program.now.players sums.now }
     ensures { let column = marked_column (W.game program.now.game.now) (front_level program.now.front)
         program.now.marks in MatchOption result
         ((j : ℕ) → 256 * block ≤ j → j < 256 * (block + 1) → j < 2 ^ program.now.players
@@ -75,20 +75,18 @@ fn best_in_128<W: Worth>(
 }
 
 /// Of the 256 coalitions from 256 * `block` on one that has a column whose cost is above its value with plain excess,
-/// in 64 bits where the block's numbers have room there; `low` is the table of sums in 64 bits, where it has.
+/// in 64 bits where the block's numbers have room there.
 fn best_of_block<W: Worth>(
     program: &Lazy<'_, W>,
     m: &Multipliers,
     sums: &Sums,
-    low: &Option<[i64; 256]>,
     with_costs: bool,
     block: u64,
 ) -> Option<u64>
     requires block { block < 256 }
     requires plain { program.now.measure ≡ Measure.Plain }
     requires rows { length m.now.num.items ≡ program.now.players + program.now.levels }
-    requires sums { AreSums m.now.num.items program.now.players sums.now.low sums.now.high }
-    requires low { IfSome low.now (AreNarrow sums.now.low) }
+    requires sums { AreSums m.now.num.items program.now.players sums.now }
     ensures { let column = marked_column (W.game program.now.game.now) (front_level program.now.front)
         program.now.marks in MatchOption result
         ((j : ℕ) → 256 * block ≤ j → j < 256 * (block + 1) → j < 2 ^ program.now.players
@@ -97,9 +95,9 @@ fn best_of_block<W: Worth>(
         (2 ^ program.now.players)) }
 {
     let base = sums.base(m, program.players, program.level(), block);
-    match low {
-        Some(low) if m.den < 1 << 16 && base.unsigned_abs() <= 1 << 61 => {
-            best_in_64(program, m, low, base as i64, with_costs, block)
+    match sums {
+        Sums::Narrow(narrow) if m.den < 1 << 16 && base.unsigned_abs() <= 1 << 61 => {
+            best_in_64(program, m, &narrow.low, base as i64, with_costs, block)
         }
         _ => best_in_128(program, m, sums, with_costs, block),
     }
@@ -110,7 +108,6 @@ fn best_from<W: Worth>(
     program: &Lazy<'_, W>,
     m: &Multipliers,
     sums: &Sums,
-    low: &Option<[i64; 256]>,
     with_costs: bool,
     from: u64,
     to: u64,
@@ -118,8 +115,7 @@ fn best_from<W: Worth>(
     requires to { to ≤ 256 }
     requires plain { program.now.measure ≡ Measure.Plain }
     requires rows { length m.now.num.items ≡ program.now.players + program.now.levels }
-    requires sums { AreSums m.now.num.items program.now.players sums.now.low sums.now.high }
-    requires low { IfSome low.now (AreNarrow sums.now.low) }
+    requires sums { AreSums m.now.num.items program.now.players sums.now }
     ensures { let column = marked_column (W.game program.now.game.now) (front_level program.now.front)
         program.now.marks in MatchOption result
         ((j : ℕ) → 256 * from ≤ j → j < 256 * to → j < 2 ^ program.now.players
@@ -128,7 +124,7 @@ fn best_from<W: Worth>(
         (2 ^ program.now.players)) }
 {
     for block in from..to {
-        if let Some(s) = best_of_block(program, m, sums, low, with_costs, block) {
+        if let Some(s) = best_of_block(program, m, sums, with_costs, block) {
             return Some(s);
         }
     }
@@ -144,7 +140,7 @@ fn best_around<W: Worth>(
 ) -> Option<u64>
     requires plain { program.now.measure ≡ Measure.Plain }
     requires rows { length m.now.num.items ≡ program.now.players + program.now.levels }
-    requires sums { AreSums m.now.num.items program.now.players sums.now.low sums.now.high }
+    requires sums { AreSums m.now.num.items program.now.players sums.now }
     ensures { let column = marked_column (W.game program.now.game.now) (front_level program.now.front)
         program.now.marks in MatchOption result
         ((j : ℕ) → j < 2 ^ program.now.players
@@ -152,12 +148,11 @@ fn best_around<W: Worth>(
         (IsSomeBelow program.now.measure m.now.num.items m.now.den program.now.players with_costs column
         (2 ^ program.now.players)) }
 {
-    let low = sums.narrow();
     let at = u64::from(program.at);
-    if let Some(s) = best_from(program, m, sums, &low, with_costs, at, 256) {
+    if let Some(s) = best_from(program, m, sums, with_costs, at, 256) {
         return Some(s);
     }
-    best_from(program, m, sums, &low, with_costs, 0, at)
+    best_from(program, m, sums, with_costs, 0, at)
 }
 
 /// A coalition that has a column whose cost is above its value.
@@ -168,7 +163,7 @@ fn some_marked<W: Worth>(
     with_costs: bool,
 ) -> Option<u64>
     requires rows { length m.now.num.items ≡ program.now.players + program.now.levels }
-    requires sums { AreSums m.now.num.items program.now.players sums.now.low sums.now.high }
+    requires sums { AreSums m.now.num.items program.now.players sums.now }
     ensures { let column = marked_column (W.game program.now.game.now) (front_level program.now.front)
         program.now.marks in MatchOption result
         ((j : ℕ) → j < 2 ^ program.now.players
@@ -193,7 +188,7 @@ pub(crate) fn some_found<W: Worth>(
     with_costs: bool,
 ) -> Option<u64>
     requires rows { length m.now.num.items ≡ program.now.players + program.now.levels }
-    requires sums { AreSums m.now.num.items program.now.players sums.now.low sums.now.high }
+    requires sums { AreSums m.now.num.items program.now.players sums.now }
     ensures { let columns = lazy_columns (W.game program.now.game.now) program.now.front program.now.marks in
         MatchOption result
         ((id : ℕ) → ¬ Rises program.now.measure m.now.num.items m.now.den program.now.players with_costs

@@ -22,7 +22,7 @@ pub(crate) fn first_in_front<W: Worth>(
     with_costs: bool,
 ) -> Option<u64>
     requires rows { length m.now.num.items ≡ program.now.players + program.now.levels }
-    requires sums { AreSums m.now.num.items program.now.players sums.now.low sums.now.high }
+    requires sums { AreSums m.now.num.items program.now.players sums.now }
     ensures { let column = column_at (front_columns (W.game program.now.game.now) program.now.front) in
         MatchOption result
         ((j : ℕ) → j < program.now.first
@@ -91,7 +91,7 @@ fn first_of_block<W: Worth>(
     requires block { block < 256 }
     requires plain { program.now.measure ≡ Measure.Plain }
     requires rows { length m.now.num.items ≡ program.now.players + program.now.levels }
-    requires sums { AreSums m.now.num.items program.now.players sums.now.low sums.now.high }
+    requires sums { AreSums m.now.num.items program.now.players sums.now }
     requires before { (j : ℕ) → j < 256 * block → j < 2 ^ program.now.players
         → ¬ Rises program.now.measure m.now.num.items m.now.den program.now.players with_costs
         (marked_column (W.game program.now.game.now) (front_level program.now.front) program.now.marks j) }
@@ -122,7 +122,7 @@ fn first_by_blocks<W: Worth>(
 ) -> Option<u64>
     requires plain { program.now.measure ≡ Measure.Plain }
     requires rows { length m.now.num.items ≡ program.now.players + program.now.levels }
-    requires sums { AreSums m.now.num.items program.now.players sums.now.low sums.now.high }
+    requires sums { AreSums m.now.num.items program.now.players sums.now }
     ensures { let column = marked_column (W.game program.now.game.now) (front_level program.now.front)
         program.now.marks in MatchOption result
         ((j : ℕ) → j < 2 ^ program.now.players
@@ -146,7 +146,7 @@ pub(crate) fn first_one_by_one<W: Worth>(
     with_costs: bool,
 ) -> Option<u64>
     requires rows { length m.now.num.items ≡ program.now.players + program.now.levels }
-    requires sums { AreSums m.now.num.items program.now.players sums.now.low sums.now.high }
+    requires sums { AreSums m.now.num.items program.now.players sums.now }
     ensures { let column = marked_column (W.game program.now.game.now) (front_level program.now.front)
         program.now.marks in MatchOption result
         ((j : ℕ) → j < 2 ^ program.now.players
@@ -180,7 +180,7 @@ fn first_marked<W: Worth>(
     with_costs: bool,
 ) -> Option<u64>
     requires rows { length m.now.num.items ≡ program.now.players + program.now.levels }
-    requires sums { AreSums m.now.num.items program.now.players sums.now.low sums.now.high }
+    requires sums { AreSums m.now.num.items program.now.players sums.now }
     ensures { let column = marked_column (W.game program.now.game.now) (front_level program.now.front)
         program.now.marks in MatchOption result
         ((j : ℕ) → j < 2 ^ program.now.players
@@ -202,7 +202,7 @@ pub(crate) fn first_found<W: Worth>(
     with_costs: bool,
 ) -> Option<u64>
     requires rows { length m.now.num.items ≡ program.now.players + program.now.levels }
-    requires sums { AreSums m.now.num.items program.now.players sums.now.low sums.now.high }
+    requires sums { AreSums m.now.num.items program.now.players sums.now }
     ensures { let columns = lazy_columns (W.game program.now.game.now) program.now.front program.now.marks in
         MatchOption result
         ((id : ℕ) → ¬ Rises program.now.measure m.now.num.items m.now.den program.now.players with_costs

@@ -12,12 +12,15 @@ ghost use Rattle.definitions.specs.Coalitions.{sum_over};
 ghost use Rattle.definitions.specs.Measures.{divisor};
 ghost use Rattle.separation.specs.Kept.{column_at};
 ghost use Rattle.separation.specs.Values.{multiplier_at, player_multiplier, IsEight, IsTable, AreSums};
-ghost use Rattle.separation.specs.Values.{AreNarrow, level_multiplier, column_value, counted, Rises, IsFirst};
+ghost use Rattle.separation.specs.Values.{low_of, high_of, AreNarrow, level_multiplier, column_value, counted};
+ghost use Rattle.separation.specs.Values.{Rises, IsFirst};
 
 use crate::column::{Column, level_entry};
-use crate::narrow::narrow;
+pub(crate) use crate::tables::Sums;
+use crate::tables::WideSums;
 use coalitions::Coalition;
 use simplex::Multipliers;
+use spans::PlayerSums;
 use worth_core::Measure;
 
 /// The multiplier of player `i`, and 0 past `n` players.
@@ -56,13 +59,33 @@ fn table(m: &Multipliers, n: u32, first: u32) -> [i128; 256]
     sums
 }
 
-/// The multipliers of each coalition of the first eight players, and of each coalition of the next eight.
-#[derive(Drop)]
-pub(crate) struct Sums {
-    low: [i128; 256],
-    high: [i128; 256],
-    ghost low_small: { (k : ℕ) → k < 256 → unsigned_abs (slice_index_or low k (pos 0)) ≤ 2 ^ 113 },
-    ghost high_small: { (k : ℕ) → k < 256 → unsigned_abs (slice_index_or high k (pos 0)) ≤ 2 ^ 113 },
+/// The multipliers of the players in 64 bits, and 0 past `n` players, where each is at most 2^56 in size.
+fn narrow(m: &Multipliers, n: u32) -> Option<[i64; 16]>
+    requires count { n ≤ length m.now.num.items }
+    requires few { n ≤ 16 }
+    ensures { IfSome result (AreNarrow m.now.num.items n) }
+{
+    let mut numbers = [0; 16];
+    for i in 0..16u32 {
+        let multiplier = player_multiplier(m, n, i);
+        if multiplier.unsigned_abs() > 1 << 56 {
+            return None;
+        }
+        numbers[i as usize] = multiplier as i64;
+    }
+    Some(numbers)
+}
+
+/// The sums in 128 bits.
+fn wide(m: &Multipliers, n: u32) -> WideSums
+    requires { n ≤ length m.now.num.items }
+    ensures low { IsTable m.now.num.items n 0 result.low }
+    ensures high { IsTable m.now.num.items n 8 result.high }
+{
+    WideSums {
+        low: table(m, n, 0),
+        high: table(m, n, 8),
+    }
 }
 
 impl Sums {
@@ -70,28 +93,44 @@ impl Sums {
     pub(crate) fn new(m: &Multipliers, n: u32) -> Sums
         requires count { n ≤ length m.now.num.items }
         requires few { n ≤ 16 }
-        ensures { AreSums m.now.num.items n result.low result.high }
+        ensures { AreSums m.now.num.items n result }
     {
-        Sums {
-            low: table(m, n, 0),
-            high: table(m, n, 8),
+        match narrow(m, n) {
+            Some(numbers) => Sums::Narrow(PlayerSums::of(&numbers)),
+            None => Sums::Wide(wide(m, n)),
         }
     }
 
-    /// The sums of the first eight players in 64 bits, where each is at most 2^60 in size.
-    pub(crate) fn narrow(&self) -> Option<[i64; 256]>
-        ensures { IfSome result (AreNarrow self.now.low) }
+    /// The sum over a coalition of the first eight players.
+    fn low_at(&self, s: usize) -> i128
+        requires { s < 256 }
+        ensures value { result ≡ slice_index_or (low_of self.now) s (pos 0) }
+        ensures small { unsigned_abs result ≤ 2 ^ 113 }
     {
-        narrow(&self.low)
+        match self {
+            Sums::Narrow(sums) => i128::from(sums.low[s]),
+            Sums::Wide(sums) => sums.low[s],
+        }
+    }
+
+    /// The sum over a coalition of the next eight players.
+    fn high_at(&self, s: usize) -> i128
+        requires { s < 256 }
+        ensures value { result ≡ slice_index_or (high_of self.now) s (pos 0) }
+        ensures small { unsigned_abs result ≤ 2 ^ 113 }
+    {
+        match self {
+            Sums::Narrow(sums) => i128::from(sums.high[s]),
+            Sums::Wide(sums) => sums.high[s],
+        }
     }
 
     /// The multipliers of a coalition's members, added.
     fn of(&self, s: Coalition) -> i128
-        ensures value { (num : List ℤ) (n : ℕ) → AreSums num n self.now.low self.now.high
-            → result ≡ sum_over n (multiplier_at num) s }
+        ensures value { (num : List ℤ) (n : ℕ) → AreSums num n self.now → result ≡ sum_over n (multiplier_at num) s }
         ensures small { unsigned_abs result ≤ 2 ^ 114 }
     {
-        self.low[(s.0 % 256) as usize] + self.high[(s.0 / 256 % 256) as usize]
+        self.low_at((s.0 % 256) as usize) + self.high_at((s.0 / 256 % 256) as usize)
     }
 
     /// What the 256 coalitions from 256 * `block` on have in common with plain excess: the multipliers of the members
@@ -100,19 +139,19 @@ impl Sums {
         requires block { block < 256 }
         requires few { n ≤ 16 }
         requires within { ForSome level (λ l. n + l < length m.now.num.items) }
-        ensures value { result ≡ slice_index_or self.now.high block (pos 0)
+        ensures value { result ≡ slice_index_or (high_of self.now) block (pos 0)
             +ℤ level_multiplier m.now.num.items n level }
         ensures small { unsigned_abs result ≤ 2 ^ 114 }
     {
-        self.high[block as usize] + level_multiplier(m, n, level)
+        self.high_at(block as usize) + level_multiplier(m, n, level)
     }
 
     /// The value of a coalition's column with plain excess, from what its block has in common.
     pub(crate) fn behind(&self, base: i128, s: Coalition) -> i128
         requires { unsigned_abs base ≤ 2 ^ 114 }
-        ensures { result ≡ base +ℤ slice_index_or self.now.low (s % 256) (pos 0) }
+        ensures { result ≡ base +ℤ slice_index_or (low_of self.now) (s % 256) (pos 0) }
     {
-        base + self.low[(s.0 % 256) as usize]
+        base + self.low_at((s.0 % 256) as usize)
     }
 }
 
@@ -143,7 +182,7 @@ fn level_value(m: &Multipliers, n: u32, measure: Measure, level: Option<u32>, s:
 fn value(column: Column, m: &Multipliers, measure: Measure, n: u32, sums: &Sums) -> i128
     requires within { ForSome column.level (λ l. n + l < length m.now.num.items) }
     requires players { n ≤ length m.now.num.items }
-    requires sums { AreSums m.now.num.items n sums.now.low sums.now.high }
+    requires sums { AreSums m.now.num.items n sums.now }
     ensures value { result ≡ column_value measure m.now.num.items n column }
     ensures small { unsigned_abs result ≤ 2 ^ 117 }
 {
@@ -184,7 +223,7 @@ pub(crate) fn rises(
     requires within { ForSome column (λ c. ForSome c.level (λ l. n + l < length m.now.num.items)) }
     requires small { ForSome column (λ c. unsigned_abs c.cost < 2 ^ 46) }
     requires players { n ≤ length m.now.num.items }
-    requires sums { AreSums m.now.num.items n sums.now.low sums.now.high }
+    requires sums { AreSums m.now.num.items n sums.now }
     ensures { Decides result (Rises measure m.now.num.items m.now.den n with_costs column) }
 {
     match column {
@@ -209,7 +248,7 @@ pub(crate) fn first_rising(
         (λ c. ForSome c.level (λ l. n + l < length m.now.num.items)) }
     requires small { (id : ℕ) → ForSome (column_at columns.now id) (λ c. unsigned_abs c.cost < 2 ^ 46) }
     requires players { n ≤ length m.now.num.items }
-    requires sums { AreSums m.now.num.items n sums.now.low sums.now.high }
+    requires sums { AreSums m.now.num.items n sums.now }
     ensures { MatchOption result
         ((id : ℕ) → ¬ Rises measure m.now.num.items m.now.den n with_costs (column_at columns.now id))
         (IsFirst measure m.now.num.items m.now.den n with_costs columns.now) }

@@ -64,8 +64,8 @@ fn with_if(word: u64, j: u32, set: bool) -> u64
     if set { Coalition(word).with(j).0 } else { word }
 }
 
-/// Whether the two sums of a coalition of a word add to 0, where `wanted` is minus the one of them that all coalitions of
-/// the word have.
+/// Whether the two sums of a coalition of a word add to 0, where `wanted` is minus the one of them that the word's
+/// coalitions have in common.
 fn is_silent(sums: &PlayerSums, wanted: i64, place: usize, j: u32) -> bool
     requires place { place < 1024 }
     requires within { j < 64 }
@@ -143,6 +143,14 @@ impl Outside {
         ensures { result ≡ is_marked self.now s }
     {
         Coalition(self.words[(s.0 / 64) as usize]).contains((s.0 % 64) as u32)
+    }
+
+    /// Which of the 64 coalitions from 64 * `place` on are still there, a bit for each.
+    pub fn word(&self, place: usize) -> u64
+        requires { place < 1024 }
+        ensures { (j : ℕ) → j < 64 → has_player result j ≡ is_marked self.now (64 * place + j) }
+    {
+        self.words[place]
     }
 
     /// Takes out the coalitions that a span holds.

@@ -1,5 +1,5 @@
-//! Sums over coalitions of a number for each player, in 64 bits, by two tables: one for the members among the first eight
-//! players and one for those among the next eight.
+//! Sums over coalitions of a number for each player, in 64 bits, by two tables: one for the members among the first
+//! eight players and one for those among the next eight.
 
 ghost use Rattle.std.specs.Prelude.{◌≡◌, ℕ, ◌*◌, ◌+◌, ◌^◌, ◌<◌, ◌≤◌, pos, unsigned_abs, slice_index_or};
 ghost use Rattle.spans.specs.Sums.{number_at, IsEightSum, AreEightSums};
@@ -11,8 +11,8 @@ pub struct PlayerSums {
     pub high: [i64; 256],
 }
 
-/// The sum over a coalition of the eight players from `first` on: that over the coalition without its last player, which
-/// is listed before, and the number of that player.
+/// The sum over a coalition of the eight players from `first` on: that over the coalition without its last player,
+/// which is listed before, and the number of that player.
 fn next_sum(sums: &[i64; 256], numbers: &[i64; 16], first: u32, s: usize) -> i64
     requires first { first ≤ 8 }
     requires numbers { (i : ℕ) → unsigned_abs (number_at numbers.now i) ≤ 2 ^ 58 }

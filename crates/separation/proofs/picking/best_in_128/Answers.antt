@@ -7,7 +7,7 @@ use Rattle.definitions.proofs.Casts.{cast_kept}
 use Rattle.definitions.specs.declared.Measure.{Measure}
 use Rattle.separation.specs.Making.{plain}
 use Rattle.separation.specs.Fronts.{front_level, marked_column}
-use Rattle.separation.specs.Values.{level_multiplier, column_value, Rises, IsSomeBelow}
+use Rattle.separation.specs.Values.{low_of, high_of, level_multiplier, column_value, Rises, IsSomeBelow}
 use Rattle.separation.proofs.Blocks.{front_within, block_value}
 use Rattle.separation.proofs.Balance.{masks_of}
 use Rattle.separation.proofs.Picked.{still_picked, passed_over}
@@ -19,17 +19,16 @@ marked_rises-requires-clause-value g c =
     let p = c.args.program.now in
     let game = g.W.Worth.game p.game.now in
     let num = c.args.m.now.num.items in
-    let low = c.args.sums.now.low in
-    let high = c.args.sums.now.high in
+    let sums = c.args.sums.now in
     let s = c.loop-s.s in
     let base = c.base-base.result in
     let small : unsigned_abs base ≤ 2 ^ 114 = c.base-base.ensures.small in
     let kept : to_z w128 (of_z w128 base) ≡ base = cast_kept w128 base (omega (arith, small)) in
     let based =
     c.base-base.ensures.value
-    ∙ ap (λ (l : Option ℕ). slice_index_or high c.args.block (pos 0) +ℤ level_multiplier num p.players l)
+    ∙ ap (λ (l : Option ℕ). slice_index_or (high_of sums) c.args.block (pos 0) +ℤ level_multiplier num p.players l)
     c.level.ensures in
-    let valued = c.behind-value.ensures ∙ ap (λ (z : ℤ). z +ℤ slice_index_or low (s % 256) (pos 0)) kept in
+    let valued = c.behind-value.ensures ∙ ap (λ (z : ℤ). z +ℤ slice_index_or (low_of sums) (s % 256) (pos 0)) kept in
     let le : p.players ≤ length num = omega (arith, c.requires.rows) in
     let within = front_within p.front p.players p.levels (length num) p.rows c.requires.rows in
     let upper : s < 256 * c.args.block + 256 = omega (arith, c.loop-s-test.true, c.min-end.ensures) in
@@ -38,7 +37,7 @@ marked_rises-requires-clause-value g c =
     (λ (x : Measure). to_z w128 (of_z w128 c.behind-value.result)
     ≡ column_value x num p.players (plain game s (front_level p.front))) (sym c.requires.plain)
     (whole
-    ∙ block_value num p.players s c.args.block _ low high (game.worth s) base _ le within c.requires.sums
+    ∙ block_value num p.players s c.args.block _ sums (game.worth s) base _ le within c.requires.sums
     c.loop-s.auto.s upper c.requires.block based valued)
 
 pub loop-s-preserved : goal.loop-s-preserved

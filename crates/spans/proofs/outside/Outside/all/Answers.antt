@@ -14,7 +14,9 @@ loop-place-preserved c =
     let len : p < length words = subst (λ (t : ℕ). p < t) (sym inv.len) c.loop-place-test.true in
     record {
       len = length-set words p c.proper_word.result ∙ inv.len;
-      done = words_more (λ q v. IsProperWord c.args.n q v) words p c.proper_word.result len c.proper_word.ensures inv.done;
+      done =
+          words_more (λ q v. IsProperWord c.args.n q v) words p c.proper_word.result len c.proper_word.ensures
+          inv.done;
     }
 
 pub returns : goal.returns

@@ -1,0 +1,22 @@
+use Rattle.std.proofs.Common.{◌≡◌, ℕ, ◌+◌, ◌*◌, ◌^◌, arith, subst, ◌∙◌}
+use Rattle.separation.specs.Fronts.{front_level, marked_column}
+use Rattle.separation.specs.Values.{Rises, IsHighest}
+use Rattle.separation.proofs.narrow.best_in_64.Goals as goal
+
+pub loop-place-preserved : goal.loop-place-preserved
+loop-place-preserved g c =
+    let p = c.args.program.now in
+    let m = c.args.m.now in
+    let best = c.highest_of_word-best.result in
+    let inv = c.loop-place.invariant in
+    let next : 64 * c.loop-place.place + 64 ≡ 64 * (c.loop-place.place + 1) = omega arith in
+    record {
+      base = c.highest_of_word-best.ensures.base ∙ inv.base;
+      highest =
+          subst
+          (λ (t : ℕ). IsHighest
+          (λ (j : ℕ). Rises p.measure m.num.items m.den p.players c.args.with_costs
+          (marked_column (g.W.Worth.game p.game.now) (front_level p.front) p.marks j))
+          (256 * c.args.block) t (2 ^ p.players) best.base best.height best.coalition) next
+          (c.highest_of_word-best.ensures.highest (256 * c.args.block) inv.highest);
+    }

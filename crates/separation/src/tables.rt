@@ -1,0 +1,21 @@
+//! Tables of the sums of multipliers over coalitions of eight players.
+
+ghost use Rattle.std.specs.Prelude.{ℕ, ◌<◌, ◌≤◌, ◌^◌, pos, unsigned_abs, slice_index_or};
+
+use spans::PlayerSums;
+
+/// The sums over each coalition of the first eight players, and over each coalition of the next eight.
+#[derive(Drop)]
+pub(crate) struct WideSums {
+    pub(crate) low: [i128; 256],
+    pub(crate) high: [i128; 256],
+    ghost low_small: { (k : ℕ) → k < 256 → unsigned_abs (slice_index_or low k (pos 0)) ≤ 2 ^ 113 },
+    ghost high_small: { (k : ℕ) → k < 256 → unsigned_abs (slice_index_or high k (pos 0)) ≤ 2 ^ 113 },
+}
+
+/// These sums in 64 bits, where the multipliers leave room there, as nearly all do; or else in 128.
+#[derive(Drop)]
+pub(crate) enum Sums {
+    Narrow(PlayerSums),
+    Wide(WideSums),
+}
