@@ -17,7 +17,7 @@ use Rattle.definitions.proofs.Members.{has_player-empty, sum_below-zero, sum_bel
 use Rattle.definitions.proofs.Parts.{sum_over-more, part}
 use Rattle.separation.specs.Values.{player_multiplier, member_multiplier, eight, IsEight, AreNarrow}
 use Rattle.separation.proofs.Valued.{eight-is}
-use Rattle.separation.proofs.Filled.{filled_below}
+use Rattle.spans.proofs.EightSums.{last_below_eight, filled_below}
 use Rattle.spans.specs.Sums.{number_at, IsEightSum}
 
 -- the last player joins
@@ -58,16 +58,6 @@ eight-small num n first s h =
 pub IsEight-empty : (num : List ℤ) (n first : ℕ) → IsEight num n first 0 (pos 0)
 IsEight-empty num n first = record { value = sym (eight-empty num n first); small = omega arith }
 
-pub below_eight : (last s : ℕ) → 2 ^ last ≤ s → s < 256 → last < 8
-below_eight last s le few = elim (below_or_above last 8) [
-  | inl lt ↦ lt
-  | inr ge ↦ elim (same_or_other last 8) [
-    | inl same ↦ absurd (let e = ap (λ (k : ℕ). 2 ^ k) same in omega (arith, e, le, few))
-    | inr other ↦
-        let more : 8 < last = omega (arith, ge, other) in absurd (let p = pow-lt more in omega (arith, p, le, few))
-  ]
-]
-
 -- the sum of s from that of s without its last player
 pub IsEight-next : (num : List ℤ) (n first s last : ℕ) (a b : ℤ)
     → ((k : ℕ) → unsigned_abs (slice_index_or num k (pos 0)) < 2 ^ 110) → s < 256 → 2 ^ last ≤ s → s < 2 * 2 ^ last
@@ -76,7 +66,7 @@ pub IsEight-next : (num : List ℤ) (n first s last : ℕ) (a b : ℤ)
 IsEight-next num n first s last a b small few lower upper is same b_small =
     let rest : s - 2 ^ last < 2 ^ last = omega (arith, lower, upper) in
     let whole : s - 2 ^ last + 2 ^ last ≡ s = omega (arith, lower) in
-    let more = eight-more num n first (s - 2 ^ last) last (below_eight last s lower few) rest in
+    let more = eight-more num n first (s - 2 ^ last) last (last_below_eight last s lower few) rest in
     let sum : a +ℤ b ≡ eight num n first s = added _ _ _ _ _ is.value same more ∙ ap (eight num n first) whole in
     let a_small = is.small in
     let kept : to_z w128 (of_z w128 (to_z w128 (of_z w128 a) +ℤ to_z w128 (of_z w128 b))) ≡ a +ℤ b =

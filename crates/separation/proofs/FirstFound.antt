@@ -49,15 +49,6 @@ module _ (measure : Measure) (num : List ℤ) (den : ℤ) (n : ℕ) (w : Bool) (
     ]
   ]
 
-  pub found_in_front : (id : ℕ) → IsFirstBelow measure num den n w in_front first id
-      → IsFirst measure num den n w (lazy_columns g front marks) id
-  found_in_front id h = record {
-    place = let e = length-lazy g front marks in let lt = h.below in omega (arith, e, lt);
-    rises = subst Up (sym (lazy-front g front marks id h.below)) h.rises;
-    least = λ j lt up. h.least j lt
-        (subst Up (lazy-front g front marks j (let less = h.below in omega (arith, less, lt))) up);
-  }
-
   pub found_marked : (s : ℕ) → ((j : ℕ) → j < first → ¬ Up (in_front j))
       → IsFirstBelow measure num den n w behind (2 ^ n) s
       → IsFirst measure num den n w (lazy_columns g front marks) (first + s)

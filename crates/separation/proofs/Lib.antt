@@ -1,6 +1,5 @@
 pub mod Valued
 pub mod Eights
-pub mod Filled
 pub mod Entered
 pub mod Pushed
 pub mod HeadSizes

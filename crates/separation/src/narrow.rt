@@ -38,8 +38,8 @@ impl Highest {
     }
 }
 
-/// What the cost of a coalition's column over the multipliers' denominator is above the multipliers of the members among
-/// the first eight players. Where that is above what the block has in common, the column rises.
+/// What the cost of a coalition's column over the multipliers' denominator is above the multipliers of the members
+/// among the first eight players. Where that is above what the block has in common, the column rises.
 fn height_of<W: Worth>(
     program: &Lazy<'_, W>,
     m: &Multipliers,
@@ -93,8 +93,8 @@ fn highest_of_word<W: Worth>(
     best
 }
 
-/// Of the 256 coalitions from 256 * `block` on, one whose cost is above its value: that of the greatest height, which no
-/// clause says.
+/// Of the 256 coalitions from 256 * `block` on, one whose cost is above its value: that of the greatest height, which
+/// no clause says.
 pub(crate) fn best_in_64<W: Worth>(
     program: &Lazy<'_, W>,
     m: &Multipliers,

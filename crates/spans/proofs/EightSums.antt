@@ -2,9 +2,10 @@
 use Rattle.std.proofs.Common.{◌≡◌, ℕ, zero, suc, ◌+◌, ◌-◌, ◌*◌, ◌/◌, ◌%◌, ◌^◌, ◌<◌, ◌≤◌, Bool, true, false}
 use Rattle.std.proofs.Common.{cond, List, ℤ, pos, ◌+ℤ◌, ◌*ℤ◌, refl, sym, ap, ◌∙◌, arith, nat_eq, unsigned_abs}
 use Rattle.std.proofs.Common.{to_z, of_z, FitsSigned, slice_index_or, inl, inr, ◌≢◌, length, get_or, set, subst}
-use Rattle.std.proofs.Common.{get_or-set_same, get_or-set_other, replicate}
+use Rattle.std.proofs.Common.{get_or-set_same, get_or-set_other, replicate, add-one}
 use Rattle.std.proofs.lemmas.Int.{ints, fits_signed_from_abs}
 use Rattle.std.proofs.lemmas.Nat.Bits.{bit_at_cat_low, bit_at_cat_high}
+use Rattle.std.proofs.Math.Nat.{pow-le-pow_right, pow-succ'}
 use Rattle.std.proofs.Math.Pow.{pow-lt}
 use Rattle.std.specs.Int.{bit_at}
 use mir.Syntax.{w64}
@@ -141,6 +142,12 @@ last_below_eight last s le few = elim (below_or_above last 8) [
         let more : 8 < last = omega (arith, ge, other) in absurd (let p = pow-lt more in omega (arith, p, le, few))
   ]
 ]
+
+pub twice_power : (k : ℕ) → 2 ^ (k + 1) ≡ 2 * 2 ^ k
+twice_power k = ap (λ (t : ℕ). 2 ^ t) (add-one k) ∙ pow-succ' 2 k
+
+pub size_below_256 : (k : ℕ) → k < 8 → 2 ^ k ≤ 128
+size_below_256 k lt = let le = pow-le-pow_right {n = 2} (omega arith) {i = k} {j = 7} (omega arith) in le
 
 -- the sum of s from that of s without its last player
 pub eight_sum-last : (numbers : List ℤ) (first s last : ℕ) → s < 256 → 2 ^ last ≤ s → s < 2 * 2 ^ last

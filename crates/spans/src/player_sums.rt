@@ -11,18 +11,20 @@ pub struct PlayerSums {
     pub high: [i64; 256],
 }
 
-/// The sum over a coalition of the eight players from `first` on: that over the coalition without its last player,
-/// which is listed before, and the number of that player.
-fn next_sum(sums: &[i64; 256], numbers: &[i64; 16], first: u32, s: usize) -> i64
+/// Puts the sums over the coalitions with one more of the eight players from `first` on behind those over the coalitions
+/// of the players before it.
+fn add_player(sums: &mut [i64; 256], numbers: &[i64; 16], first: u32, player: u32)
     requires first { first ≤ 8 }
+    requires player { player < 8 }
     requires numbers { (i : ℕ) → unsigned_abs (number_at numbers.now i) ≤ 2 ^ 58 }
-    requires some { 0 < s }
-    requires few { s < 256 }
-    requires before { (k : ℕ) → k < s → IsEightSum numbers.now first k (slice_index_or sums.now k (pos 0)) }
-    ensures { IsEightSum numbers.now first s result }
+    requires before { (s : ℕ) → s < 2 ^ player → IsEightSum numbers.now first s (slice_index_or sums.old s (pos 0)) }
+    ensures { (s : ℕ) → s < 2 * 2 ^ player → IsEightSum numbers.now first s (slice_index_or sums.new s (pos 0)) }
 {
-    let last = s.ilog2();
-    sums[s - (1 << last)] + numbers[(first + last) as usize]
+    let number = numbers[(first + player) as usize];
+    let size = 1usize << player;
+    for s in 0..size {
+        sums[size + s] = sums[s] + number;
+    }
 }
 
 /// The sums over each coalition of the eight players from `first` on.
@@ -32,8 +34,8 @@ fn table(numbers: &[i64; 16], first: u32) -> [i64; 256]
     ensures { (s : ℕ) → s < 256 → IsEightSum numbers.now first s (slice_index_or result s (pos 0)) }
 {
     let mut sums = [0; 256];
-    for s in 1..256 {
-        sums[s] = next_sum(&sums, numbers, first, s);
+    for player in 0..8u32 {
+        add_player(&mut sums, numbers, first, player);
     }
     sums
 }

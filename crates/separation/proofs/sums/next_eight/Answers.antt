@@ -1,7 +1,8 @@
 use Rattle.std.proofs.Common.{◌≡◌, ◌≤◌, ◌<◌, ◌*◌, ◌-◌, ◌%◌, ◌^◌, ℕ, pos, slice_index_or, subst, arith}
 use Rattle.separation.specs.Values.{IsEight}
 use Rattle.separation.proofs.Balance.{masks_of}
-use Rattle.separation.proofs.Eights.{below_eight, IsEight-next}
+use Rattle.separation.proofs.Eights.{IsEight-next}
+use Rattle.spans.proofs.EightSums.{last_below_eight}
 use Rattle.separation.proofs.sums.next_eight.Goals as goal
 
 pub returns : goal.returns
@@ -11,7 +12,7 @@ returns c =
     let last = c.ilog2-last.result in
     let lower : 2 ^ last ≤ s = c.ilog2-last.ensures.power_le in
     let upper : s < 2 * 2 ^ last = c.ilog2-last.ensures.next_power_gt in
-    let eight : last < 8 = below_eight last s lower c.requires.few in
+    let eight : last < 8 = last_below_eight last s lower c.requires.few in
     let mask : 1 * 2 ^ last % 2 ^ 64 ≡ 2 ^ last = masks_of last (omega (arith, eight)) in
     let before : s - 1 * 2 ^ last % 2 ^ 64 < s = omega (arith, mask, lower, c.requires.some) in
     let is = c.requires.before (s - 1 * 2 ^ last % 2 ^ 64) before in

@@ -2,7 +2,7 @@ use Rattle.std.proofs.Common.{◌≡◌, ◌<◌, ℕ, length, length-set, to_z,
 use mir.Syntax.{w128}
 use Rattle.separation.specs.Values.{IsEight}
 use Rattle.separation.proofs.Eights.{IsEight-empty}
-use Rattle.separation.proofs.Filled.{filled_below}
+use Rattle.spans.proofs.EightSums.{filled_below}
 use Rattle.separation.proofs.sums.table.Goals as goal
 use Rattle.definitions.proofs.Casts.{cast_kept}
 

@@ -1,9 +1,7 @@
-use Rattle.std.proofs.Common.{◌≡◌, ℕ, ◌<◌, length, pos, slice_index_or}
+use Rattle.std.proofs.Common.{◌≡◌, ℕ, ◌^◌, ◌<◌, length, pos, slice_index_or}
 use Rattle.spans.specs.Sums.{IsEightSum}
 use Rattle.spans.proofs.player_sums.table.Given as goal
 
-abbrev pub invariant-loop-s : goal.invariant-loop-s
-invariant-loop-s l = record {
-  len : length l.sums ≡ 256;
-  done : (k : ℕ) → k < l.s → IsEightSum l.numbers l.first k (slice_index_or l.sums k (pos 0));
-}
+abbrev pub invariant-loop-player : goal.invariant-loop-player
+invariant-loop-player l =
+    (s : ℕ) → s < 2 ^ l.player → IsEightSum l.numbers l.first s (slice_index_or l.sums s (pos 0))
