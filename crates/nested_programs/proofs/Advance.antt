@@ -13,13 +13,13 @@ use Rattle.definitions.specs.Measures.{divisor}
 use Rattle.definitions.specs.Games.{Game}
 use Rattle.definitions.specs.Certificates.{Level, has_bound}
 use Rattle.definitions.specs.Programs.{value_of}
-use Rattle.definitions.specs.declared.Family.{Family}
 use Rattle.definitions.specs.declared.Measure.{Measure}
 use Rattle.definitions.specs.declared.Family.TheVariants.{Imputations}
 use Rattle.separation.specs.Stage.{Column, signed, earlier_of, doubled, settled_columns, further_column}
-use Rattle.separation.specs.Stage.{no_column, column, is_imputations, is_further, stage_program}
+use Rattle.separation.specs.Stage.{no_column, column, is_imputations, is_further}
+use Rattle.nested_programs.specs.Stage.{Stage, behind, program_of}
 use Rattle.nested_programs.specs.Reading.{reached, IsReading, share_of, excess_of, nowhere}
-use Rattle.nested_programs.specs.Chain.{single_id, outer_id, HasWeight, Stage, StageHolds}
+use Rattle.nested_programs.specs.Chain.{single_id, outer_id, HasWeight, StageAnswer, Answers, after}
 use Rattle.nested_programs.proofs.Reading.{plus_value, column_value, column_value-is, Fixes, each_of, within_row}
 use Rattle.nested_programs.proofs.Reading.{imputations_of, single_value, whole_value, of_settled, reading_of}
 use Rattle.nested_programs.proofs.Slack.{rise, tight_optimal, tight_value}
@@ -37,13 +37,11 @@ last_value q y =
     (λ r h. let u : nat_eq r q ≡ false = grind (arith, nat_tests) in rw u (mul-zeroℤ (y r))) in
     rw t (omega (arith, linear, rest, mul-oneℤ (y q)))
 
-pub right_value : (family : Family) (measure : Measure) (g : Game) (front : List Level) (outside : ℕ → Bool)
-    (m : List ℤ)
-    → value_of (stage_program family measure g front outside) m (stage_program family measure g front outside).right
-    ≡ excess_of g.players m (length front)
-right_value family measure g front outside m =
-    let e : g.players + (length front + 1) ≡ suc (g.players + length front) = omega arith in
-    rw e (last_value (g.players + length front) (λ r. slice_index_or m r (pos 0)))
+pub right_value : (q : Stage) (outside : ℕ → Bool) (m : List ℤ)
+    → value_of (program_of q outside) m (program_of q outside).right ≡ excess_of q.game.players m (length q.front)
+right_value q outside m =
+    let e : q.game.players + (length q.front + 1) ≡ suc (q.game.players + length q.front) = omega arith in
+    rw e (last_value (q.game.players + length q.front) (λ r. slice_index_or m r (pos 0)))
 
 -- ---- the columns past the settled ones
 
@@ -77,45 +75,46 @@ column_single n front i h = column_further n front i ∙ kind
 abbrev pub column_rise : Measure → Game → ℕ → (ℕ → ℤ) → (ℕ → ℤ) → ℤ → Column → ℤ
 column_rise measure g j x e den c = den *ℤ signed c.minus (g.worth c.mask) -ℤ column_value measure g.players j x e c
 
-pub rise_at : (family : Family) (measure : Measure) (g : Game) (front : List Level) (outside : ℕ → Bool)
-    (m : List ℤ) (den : ℤ) (id : ℕ)
-    → rise (stage_program family measure g front outside) m den id
-    ≡ column_rise measure g (length front + 1) (share_of m) (excess_of g.players m) den
-    (column g.players front id)
-rise_at family measure g front outside m den id =
-    ap (λ z. den *ℤ (stage_program family measure g front outside).cost id -ℤ z)
-    (column_value-is family measure g front outside m id)
+pub rise_at : (q : Stage) (outside : ℕ → Bool) (m : List ℤ) (den : ℤ) (id : ℕ) → rise
+    (program_of q outside) m den id ≡ column_rise q.measure q.game (length q.front + 1) (share_of m)
+    (excess_of q.game.players m) den (column q.game.players q.front id)
+rise_at q outside m den id =
+    ap (λ z. den *ℤ (program_of q outside).cost id -ℤ z)
+    (column_value-is q outside m id)
 
-pub outer_tight : (family : Family) (measure : Measure) (g : Game) (front : List Level) (outside : ℕ → Bool)
-    (m : List ℤ) (den : ℤ) (s : ℕ)
-    → rise (stage_program family measure g front outside) m den (outer_id g.players front s) ≡ pos 0
-    → den *ℤ g.worth s ≡ reached measure g.players (share_of m) (excess_of g.players m) s (length front)
-outer_tight family measure g front outside m den s h =
+pub outer_tight : (q : Stage) (outside : ℕ → Bool) (m : List ℤ) (den : ℤ) (s : ℕ)
+    → rise (program_of q outside) m den (outer_id q.game.players q.front s) ≡ pos 0
+    → den *ℤ q.game.worth s
+    ≡ reached q.measure q.game.players (share_of m) (excess_of q.game.players m) s (length q.front)
+outer_tight q outside m den s h =
     let at =
     sym
-    (ap (column_rise measure g (length front + 1) (share_of m) (excess_of g.players m) den)
-    (column_outer g.players front s))
-    ∙ sym (rise_at family measure g front outside m den (outer_id g.players front s)) ∙ h in
+    (ap (column_rise q.measure q.game (length q.front + 1) (share_of m) (excess_of q.game.players m) den)
+    (column_outer q.game.players q.front s))
+    ∙ sym (rise_at q outside m den (outer_id q.game.players q.front s)) ∙ h in
     omega (
       arith,
       linear,
       at,
-      within_row (length front + 1) (length front) (excess_of g.players m) (pos (divisor measure s))
+      within_row (length q.front + 1) (length q.front) (excess_of q.game.players m) (pos (divisor q.measure s))
           (omega arith),
     )
 
-pub single_tight : (family : Family) (measure : Measure) (g : Game) (front : List Level) (outside : ℕ → Bool)
-    (m : List ℤ) (den : ℤ) (i : ℕ) → i < g.players
-    → rise (stage_program family measure g front outside) m den (single_id g.players front i) ≡ pos 0
-    → share_of m i ≡ den *ℤ g.worth (singleton i)
-single_tight family measure g front outside m den i lt h =
+pub single_tight : (q : Stage) (outside : ℕ → Bool) (m : List ℤ) (den : ℤ) (i : ℕ) → i < q.game.players
+    → rise (program_of q outside) m den (single_id q.game.players q.front i) ≡ pos 0
+    → share_of m i ≡ den *ℤ q.game.worth (singleton i)
+single_tight q outside m den i lt h =
     let at =
     sym
-    (ap (column_rise measure g (length front + 1) (share_of m) (excess_of g.players m) den)
-    (column_single g.players front i lt))
-    ∙ sym (rise_at family measure g front outside m den (single_id g.players front i)) ∙ h in
-    omega
-    (arith, linear, at, single_value measure g.players (length front) i (share_of m) (excess_of g.players m) lt)
+    (ap (column_rise q.measure q.game (length q.front + 1) (share_of m) (excess_of q.game.players m) den)
+    (column_single q.game.players q.front i lt))
+    ∙ sym (rise_at q outside m den (single_id q.game.players q.front i)) ∙ h in
+    omega (
+      arith,
+      linear,
+      at,
+      single_value q.measure q.game.players (length q.front) i (share_of m) (excess_of q.game.players m) lt,
+    )
 
 -- ---- lists
 
@@ -172,106 +171,105 @@ Settled_pairs measure g m den cs =
     AllByRecursion
     (λ c. den *ℤ g.worth c.0 ≡ reached measure g.players (share_of m) (excess_of g.players m) c.0 c.1) cs
 
--- multipliers that settle the levels
-abbrev pub Reads : Family → Measure → Game → List Level → List ℤ → ℤ → Type 0
-Reads family measure g levels m den =
-    IsReading family measure g levels nowhere (share_of m) (excess_of g.players m) den
+-- multipliers that settle the levels in front
+abbrev pub Reads : Stage → List ℤ → ℤ → Type 0
+Reads q m den = IsReading q nowhere (share_of m) (excess_of q.game.players m) den
 
-pub restrict : (family : Family) (measure : Measure) (g : Game) (xs ys : List Level) (m : List ℤ) (den : ℤ)
-    → Reads family measure g (xs ++ ys) m den → Reads family measure g xs m den
-restrict family measure g xs ys m den r =
+pub restrict : (q : Stage) (levels : List Level) (m : List ℤ) (den : ℤ) → Reads (behind q levels) m den
+    → Reads q m den
+restrict q levels m den r =
     record {
       positive = r.positive;
       whole = r.whole;
       settled =
-          all_left (λ c. den *ℤ g.worth c.0 ≡ reached measure g.players (share_of m) (excess_of g.players m) c.0 c.1)
-          (earlier_of 0 xs) (earlier_of (0 + length xs) ys)
-          (subst (Settled_pairs measure g m den) (earlier_of-append 0 xs ys) r.settled);
+          all_left
+          (λ c. den *ℤ q.game.worth c.0
+          ≡ reached q.measure q.game.players (share_of m) (excess_of q.game.players m) c.0 c.1)
+          (earlier_of 0 q.front) (earlier_of (0 + length q.front) levels)
+          (subst (Settled_pairs q.measure q.game m den) (earlier_of-append 0 q.front levels) r.settled);
       single = r.single;
       bound = λ f i h b. r.bound f i h
-          (any_left (λ l. list_any (λ b. nat_eq b.0 i && int_le (pos 1) b.1) l.bounds) xs ys b);
+          (any_left (λ l. list_any (λ b. nat_eq b.0 i && int_le (pos 1) b.1) l.bounds) q.front levels b);
       outer = λ s o. absurd (false≢true o);
     }
 
 -- ---- what an optimal stage settles
 
 -- the coalitions of the new level
-new_pairs : (family : Family) (measure : Measure) (g : Game) (front : List Level) (outside : ℕ → Bool) (m : List ℤ)
+new_pairs : (q : Stage) (outside : ℕ → Bool) (m : List ℤ)
     (den : ℤ) (ws cs : List (ℕ × ℤ))
     → ((id : ℕ) → HasWeight ws id
-    → IsTrue ((stage_program family measure g front outside).is_column id)
-    × (rise (stage_program family measure g front outside) m den id ≡ pos 0))
-    → AllByRecursion (λ c. (pos 1 ≤ℤ c.1) × HasWeight ws (outer_id g.players front c.0)) cs
-    → Settled_pairs measure g m den (map (λ c. (c.0, length front)) cs ++ [])
-new_pairs family measure g front outside m den ws [] tight h = tt
-new_pairs family measure g front outside m den ws (c ∷ cs) tight h = (
-  outer_tight family measure g front outside m den c.0 (tight (outer_id g.players front c.0) h.0.1).1,
-  new_pairs family measure g front outside m den ws cs tight h.1,
+    → IsTrue ((program_of q outside).is_column id)
+    × (rise (program_of q outside) m den id ≡ pos 0))
+    → AllByRecursion (λ c. (pos 1 ≤ℤ c.1) × HasWeight ws (outer_id q.game.players q.front c.0)) cs
+    → Settled_pairs q.measure q.game m den (map (λ c. (c.0, length q.front)) cs ++ [])
+new_pairs q outside m den ws [] tight h = tt
+new_pairs q outside m den ws (c ∷ cs) tight h = (
+  outer_tight q outside m den c.0 (tight (outer_id q.game.players q.front c.0) h.0.1).1,
+  new_pairs q outside m den ws cs tight h.1,
 )
 
 -- the column of a player alone stands there only for imputations
-pub single_family : (family : Family) (measure : Measure) (g : Game) (front : List Level) (outside : ℕ → Bool)
-    (i : ℕ) → i < g.players
-    → IsTrue ((stage_program family measure g front outside).is_column (single_id g.players front i))
-    → family ≡ Imputations
-single_family family measure g front outside i h is_so =
-    let len : ℕ = length (settled_columns g.players front) in
+pub single_family : (q : Stage) (outside : ℕ → Bool) (i : ℕ) → i < q.game.players
+    → IsTrue ((program_of q outside).is_column (single_id q.game.players q.front i)) → q.family ≡ Imputations
+single_family q outside i h is_so =
+    let len : ℕ = length (settled_columns q.game.players q.front) in
     let t : nat_lt (len + i) len ≡ false = grind (arith, nat_tests) in
     let v : len + i - len ≡ i = omega arith in
-    let u : nat_lt i g.players ≡ true = grind (arith, nat_tests) in
-    imputations_of family (rw u at (rw v at (rw t at is_so)))
+    let u : nat_lt i q.game.players ≡ true = grind (arith, nat_tests) in
+    imputations_of q.family (rw u at (rw v at (rw t at is_so)))
 
-abbrev pub BoundComes : Family → Game → List Level → List (ℕ × ℤ) → ℕ × ℤ → Type 0
-BoundComes family g front ws b =
-    (b.0 < g.players)
-    × (((pos 1 ≤ℤ b.1) × HasWeight ws (single_id g.players front b.0))
-    ⊎ ((family ≡ Imputations) × IsTrue (has_bound front b.0)))
+abbrev pub BoundComes : Stage → List (ℕ × ℤ) → ℕ × ℤ → Type 0
+BoundComes q ws b =
+    (b.0 < q.game.players)
+    × (((pos 1 ≤ℤ b.1) × HasWeight ws (single_id q.game.players q.front b.0))
+    ⊎ ((q.family ≡ Imputations) × IsTrue (has_bound q.front b.0)))
 
 -- a player at a bound of the new level gets its worth alone
-new_bound : (family : Family) (g : Game) (front : List Level) (ws bs : List (ℕ × ℤ)) (Tight : ℕ → Type 0)
-    → ((i : ℕ) → i < g.players → HasWeight ws (single_id g.players front i) → Tight i)
-    → ((i : ℕ) → i < g.players → IsTrue (has_bound front i) → Tight i)
-    → AllByRecursion (BoundComes family g front ws) bs → (i : ℕ)
-    → list_any (λ b. nat_eq b.0 i && int_le (pos 1) b.1) bs ≡ true → Tight i
-new_bound family g front ws [] Tight new old h i any = absurd (false≢true any)
-new_bound family g front ws (b ∷ bs) Tight new old h i any =
+new_bound : (q : Stage) (ws bs : List (ℕ × ℤ)) (Tight : ℕ → Type 0)
+    → ((i : ℕ) → i < q.game.players → HasWeight ws (single_id q.game.players q.front i) → Tight i)
+    → ((i : ℕ) → i < q.game.players → IsTrue (has_bound q.front i) → Tight i) → AllByRecursion (BoundComes q ws) bs
+    → (i : ℕ) → list_any (λ b. nat_eq b.0 i && int_le (pos 1) b.1) bs ≡ true → Tight i
+new_bound q ws [] Tight new old h i any = absurd (false≢true any)
+new_bound q ws (b ∷ bs) Tight new old h i any =
     elim (or_cases (nat_eq b.0 i && int_le (pos 1) b.1) (list_any (λ b. nat_eq b.0 i && int_le (pos 1) b.1) bs) any) [
       | inl here ↦
           let same = and_left (nat_eq b.0 i) (int_le (pos 1) b.1) here in
           let e : b.0 ≡ i = grind (arith, nat_tests) in
           subst Tight e (elim h.0.1 [ inl fresh ↦ new b.0 h.0.0 fresh.1 | inr known ↦ old b.0 h.0.0 known.1 ])
-      | inr more ↦ new_bound family g front ws bs Tight new old h.1 i more
+      | inr more ↦ new_bound q ws bs Tight new old h.1 i more
     ]
 
-pub advance : (family : Family) (measure : Measure) (g : Game) (front : List Level) (t : Stage)
-    → StageHolds family measure g front t → Reads family measure g (front ++ t.level ∷ []) t.multipliers t.den
-advance family measure g front t holds =
+pub advance : (q : Stage) (t : StageAnswer) → Answers q t → Reads (after q t) t.multipliers t.den
+advance q t holds =
     let outside : ℕ → Bool = t.outside in
     let m : List ℤ = t.multipliers in
     let den : ℤ = t.den in
     let tight =
-    tight_optimal (stage_program family measure g front outside) t.weights t.weight_den m den holds.optimal in
-    let r = reading_of family measure g front outside m den holds.optimal.1 in
+    tight_optimal (program_of q outside) t.weights t.weight_den m den holds.optimal in
+    let r = reading_of q outside m den holds.optimal.1 in
     let test : ℕ → Level → Bool = λ i l. list_any (λ b. nat_eq b.0 i && int_le (pos 1) b.1) l.bounds in
-    let pairs : Settled_pairs measure g m den
-    (earlier_of 0 front ++ (map (λ c. (c.0, length front)) t.level.coalitions ++ [])) =
-    all_join (λ c. den *ℤ g.worth c.0 ≡ reached measure g.players (share_of m) (excess_of g.players m) c.0 c.1)
-    (earlier_of 0 front) (map (λ c. (c.0, length front)) t.level.coalitions ++ []) r.settled
-    (new_pairs family measure g front outside m den t.weights t.level.coalitions tight
+    let pairs : Settled_pairs q.measure q.game m den
+    (earlier_of 0 q.front ++ (map (λ c. (c.0, length q.front)) t.level.coalitions ++ [])) =
+    all_join
+    (λ c. den *ℤ q.game.worth c.0
+    ≡ reached q.measure q.game.players (share_of m) (excess_of q.game.players m) c.0 c.1)
+    (earlier_of 0 q.front) (map (λ c. (c.0, length q.front)) t.level.coalitions ++ []) r.settled
+    (new_pairs q outside m den t.weights t.level.coalitions tight
     holds.follows.coalitions) in
-    let fresh : (i : ℕ) → i < g.players → HasWeight t.weights (single_id g.players front i)
-    → share_of m i ≡ den *ℤ g.worth (singleton i) =
-    λ i h k. single_tight family measure g front outside m den i h (tight (single_id g.players front i) k).1 in
+    let fresh : (i : ℕ) → i < q.game.players → HasWeight t.weights (single_id q.game.players q.front i)
+    → share_of m i ≡ den *ℤ q.game.worth (singleton i) =
+    λ i h k. single_tight q outside m den i h (tight (single_id q.game.players q.front i) k).1 in
     record {
       positive = r.positive;
       whole = r.whole;
-      settled = subst (Settled_pairs measure g m den) (sym (earlier_of-more front t.level)) pairs;
+      settled = subst (Settled_pairs q.measure q.game m den) (sym (earlier_of-more q.front t.level)) pairs;
       single = r.single;
-      bound = λ f i h b. elim (any_cases (test i) front (t.level ∷ []) b) [
+      bound = λ f i h b. elim (any_cases (test i) q.front (t.level ∷ []) b) [
         | inl old ↦ r.bound f i h old
         | inr new ↦ elim (or_cases (test i t.level) false new) [
-          | inl here ↦ new_bound family g front t.weights t.level.bounds
-              (λ i. share_of m i ≡ den *ℤ g.worth (singleton i)) fresh (r.bound f) holds.follows.bounds i here
+          | inl here ↦ new_bound q t.weights t.level.bounds
+              (λ i. share_of m i ≡ den *ℤ q.game.worth (singleton i)) fresh (r.bound f) holds.follows.bounds i here
           | inr none ↦ absurd (false≢true none)
         ]
       ];
@@ -297,38 +295,36 @@ tight_fixes measure g j x e den (c ∷ cs) h = (
   ),
 )
 
-further_tight : (family : Family) (measure : Measure) (g : Game) (front : List Level) (t : Stage) (m : List ℤ)
-    (den : ℤ) → StageHolds family measure g front t → Reads family measure g (front ++ t.level ∷ []) m den
-    → (i : ℕ) → is_further family g.players front t.outside i ≡ true
-    → HasWeight t.weights (length (settled_columns g.players front) + i)
-    → Tight measure g (length front + 1) (share_of m) (excess_of g.players m) den
-    (further_column g.players (length front) i)
-further_tight family measure g front t m den holds r i is_so weighs =
-    let n : ℕ = g.players in
+further_tight : (q : Stage) (t : StageAnswer) (m : List ℤ) (den : ℤ) → Answers q t → Reads (after q t) m den →
+    (i : ℕ) → is_further q.family q.game.players q.front t.outside i ≡ true → HasWeight t.weights
+    (length (settled_columns q.game.players q.front) + i) → Tight q.measure q.game (length q.front + 1) (share_of m)
+    (excess_of q.game.players m) den (further_column q.game.players (length q.front) i)
+further_tight q t m den holds r i is_so weighs =
+    let n : ℕ = q.game.players in
     let x : ℕ → ℤ = share_of m in
     let e : ℕ → ℤ = excess_of n m in
     elim (true_or_false (nat_lt i n)) [
       | inl below ↦
           let h : i < n = grind (arith, nat_tests) in
-          let f = imputations_of family (rw below at is_so) in
+          let f = imputations_of q.family (rw below at is_so) in
           let b = holds.follows.all_bounds i h weighs in
-          rw below (omega (arith, linear, r.bound f i h b, single_value measure n (length front) i x e h))
+          rw below (omega (arith, linear, r.bound f i h b, single_value q.measure n (length q.front) i x e h))
       | inr past ↦ elim (true_or_false (nat_lt i (n + n))) [
         | inl below ↦
             let h : i - n < n = grind (arith, nat_tests) in
             let y = rw below at (rw past at is_so) in
-            let f = imputations_of family (and_left (is_imputations family) (has_bound front (i - n)) y) in
+            let f = imputations_of q.family (and_left (is_imputations q.family) (has_bound q.front (i - n)) y) in
             let b =
-            any_left (λ l. list_any (λ b. nat_eq b.0 (i - n) && int_le (pos 1) b.1) l.bounds) front
-            (t.level ∷ []) (and_right (is_imputations family) (has_bound front (i - n)) y) in
+            any_left (λ l. list_any (λ b. nat_eq b.0 (i - n) && int_le (pos 1) b.1) l.bounds) q.front
+            (t.level ∷ []) (and_right (is_imputations q.family) (has_bound q.front (i - n)) y) in
             rw past
             (rw below
             (omega (
               arith,
               linear,
               r.bound f (i - n) h b,
-              single_value measure n (length front) (i - n) x e h,
-              mul-subℤ den (pos 0) (g.worth (singleton (i - n))),
+              single_value q.measure n (length q.front) (i - n) x e h,
+              mul-subℤ den (pos 0) (q.game.worth (singleton (i - n))),
               mul-zeroℤ den,
             )))
         | inr beyond ↦
@@ -336,19 +332,20 @@ further_tight family measure g front t m den holds r i is_so weighs =
             let eq : n + n + s ≡ i = grind (arith, nat_tests) in
             let listed =
             holds.follows.all_coalitions s
-            (subst (λ (z : ℕ). HasWeight t.weights (length (settled_columns n front) + z)) (sym eq) weighs) in
+            (subst (λ (z : ℕ). HasWeight t.weights (length (settled_columns n q.front) + z)) (sym eq) weighs) in
             let pairs =
-            all_right (λ c. den *ℤ g.worth c.0 ≡ reached measure n x e c.0 c.1) (earlier_of 0 front)
-            (map (λ c. (c.0, length front)) t.level.coalitions ++ [])
-            (subst (Settled_pairs measure g m den) (earlier_of-more front t.level) r.settled) in
+            all_right (λ c. den *ℤ q.game.worth c.0 ≡ reached q.measure n x e c.0 c.1) (earlier_of 0 q.front)
+            (map (λ c. (c.0, length q.front)) t.level.coalitions ++ [])
+            (subst (Settled_pairs q.measure q.game m den) (earlier_of-more q.front t.level) r.settled) in
             let mine =
-            all_left (λ c. den *ℤ g.worth c.0 ≡ reached measure n x e c.0 c.1)
-            (map (λ c. (c.0, length front)) t.level.coalitions) [] pairs in
+            all_left (λ c. den *ℤ q.game.worth c.0 ≡ reached q.measure n x e c.0 c.1)
+            (map (λ c. (c.0, length q.front)) t.level.coalitions) [] pairs in
             let any : list_any (λ c. nat_eq c.0 s) t.level.coalitions ≡ true =
             elim (or_cases (list_any (λ c. nat_eq c.0 s) t.level.coalitions) false listed)
             [ inl a ↦ a | inr b ↦ absurd (false≢true b) ] in
             let fact =
-            pair_at (λ c. den *ℤ g.worth c.0 ≡ reached measure n x e c.0 c.1) (length front) t.level.coalitions
+            pair_at (λ c. den *ℤ q.game.worth c.0 ≡ reached q.measure n x e c.0 c.1) (length q.front)
+            t.level.coalitions
             s mine any in
             rw past
             (rw beyond
@@ -356,45 +353,44 @@ further_tight family measure g front t m den holds r i is_so weighs =
               arith,
               linear,
               fact,
-              within_row (length front + 1) (length front) e (pos (divisor measure s)) (omega arith),
+              within_row (length q.front + 1) (length q.front) e (pos (divisor q.measure s)) (omega arith),
             )))
       ]
     ]
 
-pub tight_later : (family : Family) (measure : Measure) (g : Game) (front : List Level) (t : Stage) (m : List ℤ)
-    (den : ℤ) → StageHolds family measure g front t → Reads family measure g (front ++ t.level ∷ []) m den
-    → (id : ℕ) → IsTrue ((stage_program family measure g front t.outside).is_column id) → HasWeight t.weights id
-    → rise (stage_program family measure g front t.outside) m den id ≡ pos 0
-tight_later family measure g front t m den holds r id is_so weighs =
-    let n : ℕ = g.players in
+pub tight_later : (q : Stage) (t : StageAnswer) (m : List ℤ) (den : ℤ) → Answers q t → Reads (after q t) m den
+    → (id : ℕ) → IsTrue ((program_of q t.outside).is_column id) → HasWeight t.weights id
+    → rise (program_of q t.outside) m den id ≡ pos 0
+tight_later q t m den holds r id is_so weighs =
+    let n : ℕ = q.game.players in
     let x : ℕ → ℤ = share_of m in
     let e : ℕ → ℤ = excess_of n m in
-    let len : ℕ = length (settled_columns n front) in
-    let near = restrict family measure g front (t.level ∷ []) m den r in
-    let first : AllByRecursion (Tight measure g (length front + 1) x e den) (settled_columns n front) =
-    tight_fixes measure g (length front + 1) x e den
-    ((grand_coalition n, length front + 1) ∷ earlier_of 0 front) (
-      sym (whole_value measure n (length front) x e ∙ near.whole),
-      of_settled measure g front x e den near.settled,
+    let len : ℕ = length (settled_columns n q.front) in
+    let near = restrict q (t.level ∷ []) m den r in
+    let first : AllByRecursion (Tight q.measure q.game (length q.front + 1) x e den) (settled_columns n q.front) =
+    tight_fixes q.measure q.game (length q.front + 1) x e den
+    ((grand_coalition n, length q.front + 1) ∷ earlier_of 0 q.front) (
+      sym (whole_value q.measure n (length q.front) x e ∙ near.whole),
+      of_settled q.measure q.game q.front x e den near.settled,
     ) in
-    rise_at family measure g front t.outside m den id ∙ elim (true_or_false (nat_lt id len)) [
+    rise_at q t.outside m den id ∙ elim (true_or_false (nat_lt id len)) [
       | inl below ↦
           let lt : id < len = grind (arith, nat_tests) in
           rw below
-          (each_of (Tight measure g (length front + 1) x e den) no_column (settled_columns n front) first id lt)
+          (each_of (Tight q.measure q.game (length q.front + 1) x e den) no_column (settled_columns n q.front) first
+          id lt)
       | inr past ↦
           let eq : len + (id - len) ≡ id = grind (arith, nat_tests) in
           rw past
-          (further_tight family measure g front t m den holds r (id - len) (rw past at is_so)
+          (further_tight q t m den holds r (id - len) (rw past at is_so)
           (subst (HasWeight t.weights) (sym eq) weighs))
     ]
 
 -- the cost of a stage's weights, by any multipliers that settle its level too
-pub stage_value : (family : Family) (measure : Measure) (g : Game) (front : List Level) (t : Stage) (m : List ℤ)
-    (den : ℤ) → StageHolds family measure g front t → Reads family measure g (front ++ t.level ∷ []) m den
-    → den *ℤ weighted_sum (stage_program family measure g front t.outside).cost t.weights
-    ≡ t.weight_den *ℤ excess_of g.players m (length front)
-stage_value family measure g front t m den holds r =
-    tight_value (stage_program family measure g front t.outside) m den t.weights t.weight_den holds.optimal.0
-    (tight_later family measure g front t m den holds r)
-    ∙ ap (λ z. t.weight_den *ℤ z) (right_value family measure g front t.outside m)
+pub stage_value : (q : Stage) (t : StageAnswer) (m : List ℤ) (den : ℤ) → Answers q t → Reads (after q t) m den
+    → den *ℤ weighted_sum (program_of q t.outside).cost t.weights ≡ t.weight_den
+    *ℤ excess_of q.game.players m (length q.front)
+stage_value q t m den holds r =
+    tight_value (program_of q t.outside) m den t.weights t.weight_den holds.optimal.0
+    (tight_later q t m den holds r)
+    ∙ ap (λ z. t.weight_den *ℤ z) (right_value q t.outside m)

@@ -1,21 +1,19 @@
 -- The stage program behind levels that leave a player has an optimum: some weights solve it, and no ray raises its
 -- cost.
 use Rattle.std.proofs.Common.{◌≤◌, ◌≡◌, ◌≢◌, ◌⊎◌, ℕ, ◌^◌, ◌<◌, Bool, true, false, cond, List}
-use Rattle.std.proofs.Common.{[], ◌∷◌, ℤ, pos, ◌+ℤ◌, refl, inl, inr, arith}
+use Rattle.std.proofs.Common.{[], ◌∷◌, pos, ◌+ℤ◌, refl, inl, inr, arith}
 use Rattle.std.proofs.Math.Pow.{pow_pos, pow-lt}
 use Rattle.definitions.proofs.Ring.{linear}
 use Rattle.definitions.specs.Coalitions.{has_player, singleton, grand_coalition}
-use Rattle.definitions.specs.Games.{Game}
 use Rattle.definitions.specs.Certificates.{Level, InSpan, IsFixedVector, IsOutside}
 use Rattle.definitions.specs.Programs.{Program}
-use Rattle.definitions.specs.declared.Family.{Family}
-use Rattle.definitions.specs.declared.Measure.{Measure}
 use Rattle.definitions.specs.declared.Mode.TheVariants.{Span}
 use Rattle.simplex.specs.Answer.{IsAnswer, IsFault}
+use Rattle.simplex.specs.declared.answer.Optimal.{Optimal}
 use Rattle.simplex.specs.declared.solving.LpFault.{LpFault}
 use Rattle.simplex.specs.declared.solving.LpFault.TheVariants.{NoSolution, Unbounded}
-use Rattle.separation.specs.Stage.{stage_program}
 use Rattle.separation.specs.Same.{IsStage}
+use Rattle.nested_programs.specs.Stage.{Stage, program_of}
 use Rattle.nested_programs.specs.Stages.{IsLeft, IsBest, IsBounded}
 use Rattle.nested_programs.proofs.Start.{some_solution}
 use Rattle.separation.proofs.SamePrograms.{ray_same, no_solution_same, answer_same}
@@ -45,23 +43,19 @@ left_outside n levels left =
     less (inr e) = absurd (left.apart (all_spanned n levels (singleton left.player) e))
 
 -- neither fault comes
-pub no_fault : (family : Family) (measure : Measure) (g : Game) (levels : List Level) (p : Program)
-    (fault : LpFault) → g.players ≤ 16 → IsStage family measure g levels p → IsLeft g.players levels
-    → IsBounded family measure g levels → IsFault p fault → ⊥
-no_fault family measure g levels p NoSolution few stage left bounded none =
-    some_solution family measure g levels stage.outside (singleton left.player) few (λ s o. (stage.decides s).1 o)
-    (left_outside g.players levels left)
-    (no_solution_same p (stage_program family measure g levels stage.outside) stage.same none)
-no_fault family measure g levels p Unbounded few stage left bounded (solution, ray) =
-    bounded stage.outside (λ s o. (stage.decides s).0 o)
-    (ray_same p (stage_program family measure g levels stage.outside) stage.same ray)
+pub no_fault : (q : Stage) (p : Program) (fault : LpFault) → q.game.players ≤ 16
+    → IsStage q.family q.measure q.game q.front p → IsLeft q.game.players q.front → IsBounded q → IsFault p fault
+    → ⊥
+no_fault q p NoSolution few stage left bounded none =
+    some_solution q stage.outside (singleton left.player) few (λ s o. (stage.decides s).1 o)
+    (left_outside q.game.players q.front left) (no_solution_same p (program_of q stage.outside) stage.same none)
+no_fault q p Unbounded few stage left bounded (solution, ray) =
+    bounded stage.outside (λ s o. (stage.decides s).0 o) (ray_same p (program_of q stage.outside) stage.same ray)
 
-pub best_of_answer : (family : Family) (measure : Measure) (g : Game) (levels : List Level) (p : Program)
-    (ws : List (ℕ × ℤ)) (weight_den : ℤ) (m : List ℤ) (den : ℤ) → IsStage family measure g levels p
-    → IsAnswer p ws weight_den m den → IsBest family measure g levels ws weight_den m den
-best_of_answer family measure g levels p ws weight_den m den stage answer = record {
+pub best_of_answer : (q : Stage) (p : Program) (best : Optimal) → IsStage q.family q.measure q.game q.front p
+    → IsAnswer p best.weights.items best.weight_den best.multipliers.num.items best.multipliers.den → IsBest q best
+best_of_answer q p best stage answer = record {
   outside = stage.outside;
   decides = stage.decides;
-  answer =
-      answer_same p (stage_program family measure g levels stage.outside) stage.same ws weight_den m den answer;
+  answer = answer_same p (program_of q stage.outside) stage.same _ _ _ _ answer;
 }

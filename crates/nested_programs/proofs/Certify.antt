@@ -17,8 +17,9 @@ use Rattle.definitions.specs.declared.Family.TheVariants.{Imputations, Preimputa
 use Rattle.definitions.specs.declared.Mode.TheVariants.{Span}
 use Rattle.separation.specs.Stage.{earlier_of}
 use Rattle.separation.specs.Shares.{IsReadFrom}
+use Rattle.nested_programs.specs.Stage.{Stage, with_front, behind}
 use Rattle.nested_programs.specs.Reading.{reached, share_of, excess_of}
-use Rattle.nested_programs.specs.Chain.{Stage, StageHolds, levels_of, IsChain, last_of, HaveExcesses}
+use Rattle.nested_programs.specs.Chain.{StageAnswer, Answers, levels_of, IsChain, last_of, HaveExcesses, after}
 use Rattle.nested_programs.proofs.Advance.{Reads, Settled_pairs, restrict, advance}
 use Rattle.nested_programs.proofs.Advance.{append_assoc, earlier_of-more, BoundComes}
 use Rattle.nested_programs.proofs.Form.{level_balanced, level_proper}
@@ -27,16 +28,15 @@ use Rattle.nested_programs.proofs.Chain.{weighted_family, append_none, length_mo
 use Rattle.definitions.proofs.Alls.{all_left, all_right, all_weaken}
 
 -- the multipliers of the last stage settle all levels
-pub last_reads : (family : Family) (measure : Measure) (g : Game) (front : List Level) (t : Stage) (ts : List Stage)
-    → StageHolds family measure g front t → IsChain family measure g (front ++ t.level ∷ []) ts
-    → Reads family measure g ((front ++ t.level ∷ []) ++ levels_of ts) (last_of t ts).multipliers (last_of t ts).den
-last_reads family measure g front t [] holds chain =
-    subst (λ z. Reads family measure g z t.multipliers t.den) (sym (append_none (front ++ t.level ∷ [])))
-    (advance family measure g front t holds)
-last_reads family measure g front t (t' ∷ ts) holds chain =
-    subst (λ z. Reads family measure g z (last_of t' ts).multipliers (last_of t' ts).den)
-    (append_assoc (front ++ t.level ∷ []) (t'.level ∷ []) (levels_of ts))
-    (last_reads family measure g (front ++ t.level ∷ []) t' ts chain.0 chain.1)
+pub last_reads : (q : Stage) (t : StageAnswer) (ts : List StageAnswer) → Answers q t → IsChain (after q t) ts
+    → Reads (behind (after q t) (levels_of ts)) (last_of t ts).multipliers (last_of t ts).den
+last_reads q t [] holds chain =
+    subst (λ ls. Reads (with_front q ls) t.multipliers t.den) (sym (append_none (q.front ++ t.level ∷ [])))
+    (advance q t holds)
+last_reads q t (t' ∷ ts) holds chain =
+    subst (λ ls. Reads (with_front q ls) (last_of t' ts).multipliers (last_of t' ts).den)
+    (append_assoc (q.front ++ t.level ∷ []) (t'.level ∷ []) (levels_of ts))
+    (last_reads (after q t) t' ts chain.0 chain.1)
 
 -- ---- shares
 
@@ -57,25 +57,26 @@ read_alone : (g : Game) (m : List ℤ) (den : ℤ) (x : Allocation) (s : ℕ) �
     → x.den *ℤ g.worth s ≡ den *ℤ g.worth s
 read_alone g m den x s read = ap (λ z. z *ℤ g.worth s) read.common
 
-in_family : (family : Family) (measure : Measure) (g : Game) (levels : List Level) (m : List ℤ) (den : ℤ)
-    (x : Allocation) → IsReadFrom g.players m den x → Reads family measure g levels m den → InFamily family g x
-in_family family measure g levels m den x read r = by_family family r.single
+in_family : (q : Stage) (m : List ℤ) (den : ℤ) (x : Allocation) → IsReadFrom q.game.players m den x → Reads q m den
+    → InFamily q.family q.game x
+in_family q m den x read r = by_family q.family r.single
   where
-    allocation : IsAllocation g x
+    allocation : IsAllocation q.game x
     allocation = (read.players, omega (arith, linear, r.positive, read.common))
 
-    efficient : IsEfficient g x
+    efficient : IsEfficient q.game x
     efficient =
-        amount_read g m den x (grand_coalition g.players) read ∙ sum_over-grand_coalition g.players (share_of m)
-        ∙ r.whole ∙ sym (read_alone g m den x (grand_coalition g.players) read)
+        amount_read q.game m den x (grand_coalition q.game.players) read
+        ∙ sum_over-grand_coalition q.game.players (share_of m)
+        ∙ r.whole ∙ sym (read_alone q.game m den x (grand_coalition q.game.players) read)
 
     by_family : (family : Family)
-        → (family ≡ Imputations → (i : ℕ) → i < g.players → (den *ℤ g.worth (singleton i)) ≤ℤ share_of m i)
-        → InFamily family g x
+        → (family ≡ Imputations → (i : ℕ) → i < q.game.players → (den *ℤ q.game.worth (singleton i)) ≤ℤ share_of m i)
+        → InFamily family q.game x
     by_family Imputations single = (
       allocation,
       efficient,
-      λ i h. omega (arith, linear, single refl i h, read.shares i h, read_alone g m den x (singleton i) read),
+      λ i h. omega (arith, linear, single refl i h, read.shares i h, read_alone q.game m den x (singleton i) read),
     )
     by_family Preimputations single = (allocation, efficient)
 
@@ -122,87 +123,87 @@ excesses_of measure g m den x l k (c ∷ cs) has read num proper h =
       excesses_of measure g m den x l k cs has read num proper.1 h.1,
     )
 
-level_holds : (family : Family) (measure : Measure) (g : Game) (front : List Level) (t : Stage) (ts : List Stage)
-    (m : List ℤ) (den : ℤ) (x : Allocation) → IsMeasurable measure g.players → Past family measure g front
-    → StageHolds family measure g front t → IsChain family measure g (front ++ t.level ∷ []) ts
-    → Reads family measure g ((front ++ t.level ∷ []) ++ levels_of ts) m den
-    → IsAllFixed Span g.players ((front ++ t.level ∷ []) ++ levels_of ts) → IsReadFrom g.players m den x
-    → t.level.excess_num *ℤ den ≡ excess_of g.players m (length front) *ℤ t.level.excess_den
-    → pos 1 ≤ℤ t.level.excess_den → LevelHolds Span family measure g x front t.level
-level_holds family measure g front t ts m den x has past holds chain r fixed read num lden =
-    let n : ℕ = g.players in
-    let near = restrict family measure g (front ++ t.level ∷ []) (levels_of ts) m den r in
-    let far = restrict family measure g front (t.level ∷ []) m den near in
+level_holds : (q : Stage) (t : StageAnswer) (ts : List StageAnswer) (m : List ℤ) (den : ℤ) (x : Allocation)
+    → IsMeasurable q.measure q.game.players → Past q → Answers q t → IsChain (after q t) ts
+    → Reads (behind (after q t) (levels_of ts)) m den
+    → IsAllFixed Span q.game.players ((q.front ++ t.level ∷ []) ++ levels_of ts) → IsReadFrom q.game.players m den x
+    → t.level.excess_num *ℤ den ≡ excess_of q.game.players m (length q.front) *ℤ t.level.excess_den
+    → pos 1 ≤ℤ t.level.excess_den → LevelHolds Span q.family q.measure q.game x q.front t.level
+level_holds q t ts m den x has past holds chain r fixed read num lden =
+    let n : ℕ = q.game.players in
+    let near = restrict (after q t) (levels_of ts) m den r in
+    let far = restrict q (t.level ∷ []) m den near in
     let pairs =
-    all_right (λ c. den *ℤ g.worth c.0 ≡ reached measure n (share_of m) (excess_of n m) c.0 c.1)
-    (earlier_of 0 front) (map (λ c. (c.0, length front)) t.level.coalitions ++ [])
-    (subst (Settled_pairs measure g m den) (earlier_of-more front t.level) near.settled) in
+    all_right (λ c. den *ℤ q.game.worth c.0 ≡ reached q.measure n (share_of m) (excess_of n m) c.0 c.1)
+    (earlier_of 0 q.front) (map (λ c. (c.0, length q.front)) t.level.coalitions ++ [])
+    (subst (Settled_pairs q.measure q.game m den) (earlier_of-more q.front t.level) near.settled) in
     let mine =
-    all_left (λ c. den *ℤ g.worth c.0 ≡ reached measure n (share_of m) (excess_of n m) c.0 c.1)
-    (map (λ c. (c.0, length front)) t.level.coalitions) [] pairs in
-    let at : (i : ℕ) → i < n → share_of m i ≡ den *ℤ g.worth (singleton i)
-    → share x i ≡ x.den *ℤ g.worth (singleton i) =
-    λ i h e. read.shares i h ∙ e ∙ sym (read_alone g m den x (singleton i) read) in
+    all_left (λ c. den *ℤ q.game.worth c.0 ≡ reached q.measure n (share_of m) (excess_of n m) c.0 c.1)
+    (map (λ c. (c.0, length q.front)) t.level.coalitions) [] pairs in
+    let at : (i : ℕ) → i < n → share_of m i ≡ den *ℤ q.game.worth (singleton i)
+    → share x i ≡ x.den *ℤ q.game.worth (singleton i) =
+    λ i h e. read.shares i h ∙ e ∙ sym (read_alone q.game m den x (singleton i) read) in
     record {
       excesses =
-          excesses_of measure g m den x t.level (length front) t.level.coalitions has read num
-          (level_proper family measure g front t holds) mine;
+          excesses_of q.measure q.game m den x t.level (length q.front) t.level.coalitions has read num
+          (level_proper q t holds) mine;
       weights = all_weaken _ (λ c. pos 1 ≤ℤ c.1) t.level.coalitions (λ c h. h.0) holds.follows.coalitions;
       bound_weights =
-          all_weaken (BoundComes family g front t.weights) (λ b. (pos 1 ≤ℤ b.1) ⊎ IsTrue (has_bound front b.0))
+          all_weaken (BoundComes q t.weights) (λ b. (pos 1 ≤ℤ b.1) ⊎ IsTrue (has_bound q.front b.0))
           t.level.bounds (λ b h. elim h.1 [ inl fresh ↦ inl fresh.0 | inr known ↦ inr known.1 ])
           holds.follows.bounds;
-      balanced = level_balanced family measure g front t holds;
+      balanced = level_balanced q t holds;
       tight =
-          all_weaken (BoundComes family g front t.weights)
-          (λ b. (share x b.0 ≡ x.den *ℤ g.worth (singleton b.0)) × (family ≡ Imputations)) t.level.bounds
+          all_weaken (BoundComes q t.weights)
+          (λ b. (share x b.0 ≡ x.den *ℤ q.game.worth (singleton b.0)) × (q.family ≡ Imputations)) t.level.bounds
           (λ b h. elim h.1 [
             | inl fresh ↦
-                let f = weighted_family family measure g front t holds b.0 h.0 fresh.1 in
+                let f = weighted_family q t holds b.0 h.0 fresh.1 in
                 (at b.0 h.0 (near.bound f b.0 h.0 (holds.follows.all_bounds b.0 h.0 fresh.1)), f)
             | inr known ↦ (at b.0 h.0 (far.bound known.0 b.0 h.0 known.1), known.0)
           ])
           holds.follows.bounds;
       outside = λ s h o.
           (let low =
-          outside_low family measure g front t ts m den past holds chain r fixed s ((holds.decides s).1 o) in
-          let e = excess_read g m den x s read in
+          outside_low q t ts m den past holds chain r fixed s ((holds.decides s).1 o) in
+          let e = excess_read q.game m den x s read in
           let plain =
-          has_at_most (excess g x s) t.level.excess_num t.level.excess_den (excess_of n m (length front)) den
-          x.den (pos (divisor measure s)) (omega (arith, linear, low, e)) lden num read.common in
-          measured-le measure n s (excess g x s) x.den t.level.excess_num t.level.excess_den has o.0
+          has_at_most (excess q.game x s) t.level.excess_num t.level.excess_den (excess_of n m (length q.front)) den
+          x.den (pos (divisor q.measure s)) (omega (arith, linear, low, e)) lden num read.common in
+          measured-le q.measure n s (excess q.game x s) x.den t.level.excess_num t.level.excess_den has o.0
           (omega (arith, o.1)) plain);
     }
 
-levels_hold : (family : Family) (measure : Measure) (g : Game) (front : List Level) (ts : List Stage) (m : List ℤ)
-    (den : ℤ) (x : Allocation) → IsMeasurable measure g.players → Past family measure g front
-    → IsChain family measure g front ts → Reads family measure g (front ++ levels_of ts) m den
-    → IsAllFixed Span g.players (front ++ levels_of ts) → IsReadFrom g.players m den x
-    → HaveExcesses g m den (length front) (levels_of ts) → LevelsHold Span family measure g x front (levels_of ts)
-levels_hold family measure g front [] m den x has past chain r fixed read excesses =
-    subst (IsAllFixed Span g.players) (append_none front) fixed
-levels_hold family measure g front (t ∷ ts) m den x has past chain r fixed read excesses =
-    let shift : (front ++ t.level ∷ []) ++ levels_of ts ≡ front ++ t.level ∷ levels_of ts =
-    append_assoc front (t.level ∷ []) (levels_of ts) in
-    let r' = subst (λ z. Reads family measure g z m den) (sym shift) r in
-    let fixed' = subst (IsAllFixed Span g.players) (sym shift) fixed in (
-      level_holds family measure g front t ts m den x has past chain.0 chain.1 r' fixed' read excesses.0 excesses.1,
-      levels_hold family measure g (front ++ t.level ∷ []) ts m den x has
-          (past_more family measure g front t past chain.0) chain.1 r' fixed' read
-          (subst (λ (z : ℕ). HaveExcesses g m den z (levels_of ts)) (sym (length_more front t.level)) excesses.2),
+levels_hold : (q : Stage) (ts : List StageAnswer) (m : List ℤ) (den : ℤ) (x : Allocation)
+    → IsMeasurable q.measure q.game.players → Past q → IsChain q ts → Reads (behind q (levels_of ts)) m den
+    → IsAllFixed Span q.game.players (q.front ++ levels_of ts) → IsReadFrom q.game.players m den x
+    → HaveExcesses q.game m den (length q.front) (levels_of ts)
+    → LevelsHold Span q.family q.measure q.game x q.front (levels_of ts)
+levels_hold q [] m den x has past chain r fixed read excesses =
+    subst (IsAllFixed Span q.game.players) (append_none q.front) fixed
+levels_hold q (t ∷ ts) m den x has past chain r fixed read excesses =
+    let shift : (q.front ++ t.level ∷ []) ++ levels_of ts ≡ q.front ++ t.level ∷ levels_of ts =
+    append_assoc q.front (t.level ∷ []) (levels_of ts) in
+    let r' = subst (λ ls. Reads (with_front q ls) m den) (sym shift) r in
+    let fixed' = subst (IsAllFixed Span q.game.players) (sym shift) fixed in (
+      level_holds q t ts m den x has past chain.0 chain.1 r' fixed' read excesses.0 excesses.1,
+      levels_hold (after q t) ts m den x has
+          (past_more q t past chain.0) chain.1 r' fixed' read
+          (subst (λ (z : ℕ). HaveExcesses q.game m den z (levels_of ts)) (sym (length_more q.front t.level))
+          excesses.2),
     )
 
-pub chain_certified : (family : Family) (measure : Measure) (g : Game) (t : Stage) (ts : List Stage)
-    (x : Allocation) → IsMeasurable measure g.players → IsChain family measure g [] (t ∷ ts)
-    → IsAllFixed Span g.players (levels_of (t ∷ ts))
-    → IsReadFrom g.players (last_of t ts).multipliers (last_of t ts).den x
-    → HaveExcesses g (last_of t ts).multipliers (last_of t ts).den 0 (levels_of (t ∷ ts))
-    → Certifies Span family measure g x (levels_of (t ∷ ts))
-chain_certified family measure g t ts x has chain fixed read excesses =
+pub chain_certified : (q : Stage) (t : StageAnswer) (ts : List StageAnswer) (x : Allocation)
+    → IsMeasurable q.measure q.game.players → IsChain (with_front q []) (t ∷ ts)
+    → IsAllFixed Span q.game.players (levels_of (t ∷ ts))
+    → IsReadFrom q.game.players (last_of t ts).multipliers (last_of t ts).den x
+    → HaveExcesses q.game (last_of t ts).multipliers (last_of t ts).den 0 (levels_of (t ∷ ts))
+    → Certifies Span q.family q.measure q.game x (levels_of (t ∷ ts))
+chain_certified q t ts x has chain fixed read excesses =
+    let first : Stage = with_front q [] in
     let m : List ℤ = (last_of t ts).multipliers in
     let den : ℤ = (last_of t ts).den in
-    let r : Reads family measure g (levels_of (t ∷ ts)) m den =
-    last_reads family measure g [] t ts chain.0 chain.1 in (
-      in_family family measure g (levels_of (t ∷ ts)) m den x read r,
-      levels_hold family measure g [] (t ∷ ts) m den x has (past_none family measure g) chain r fixed read excesses,
+    let r : Reads (with_front q (levels_of (t ∷ ts))) m den = last_reads first t ts chain.0 chain.1 in (
+      in_family (with_front q (levels_of (t ∷ ts))) m den x read r,
+      levels_hold first (t ∷ ts) m den x has (past_none q) chain r fixed read excesses,
     )

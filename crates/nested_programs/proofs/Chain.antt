@@ -17,17 +17,15 @@ use Rattle.determinants.proofs.Duality.{weak_duality}
 use Rattle.definitions.specs.Sums.{weighted_sum}
 use Rattle.definitions.specs.Coalitions.{has_player, singleton, grand_coalition, sum_over}
 use Rattle.definitions.specs.Measures.{divisor}
-use Rattle.definitions.specs.Games.{Game}
 use Rattle.definitions.specs.Certificates.{Level, is_listed, has_bound, IsFixedVector}
 use Rattle.definitions.specs.Certificates.{InSpan, IsOutside, IsAllFixed}
 use Rattle.definitions.specs.Programs.{Program, Bounds, HasRay, value_of}
-use Rattle.definitions.specs.declared.Family.{Family}
-use Rattle.definitions.specs.declared.Measure.{Measure}
 use Rattle.definitions.specs.declared.Family.TheVariants.{Imputations}
 use Rattle.definitions.specs.declared.Mode.TheVariants.{Span}
-use Rattle.separation.specs.Stage.{earlier_of, settled_columns, stage_program}
+use Rattle.separation.specs.Stage.{earlier_of, settled_columns}
+use Rattle.nested_programs.specs.Stage.{Stage, with_front, behind, program_of}
 use Rattle.nested_programs.specs.Reading.{reached, IsReading, share_of, excess_of}
-use Rattle.nested_programs.specs.Chain.{HasWeight, Stage, StageHolds, levels_of, IsChain}
+use Rattle.nested_programs.specs.Chain.{HasWeight, StageAnswer, Answers, levels_of, IsChain, after}
 use Rattle.nested_programs.proofs.Reading.{earlier_rows, reading_of, of_reading}
 use Rattle.nested_programs.proofs.Slack.{tight_optimal}
 use Rattle.nested_programs.proofs.Advance.{Reads, restrict, advance, stage_value, right_value, any_left}
@@ -100,70 +98,65 @@ pub outside_fewer : (n : ℕ) (xs ys : List Level) (s : ℕ) → IsOutside Span 
 outside_fewer n xs ys s (low, high, apart) = (low, high, λ spanned. apart (span_more n xs ys s spanned))
 
 -- the multipliers of an optimal stage, extended, bound the next
-pub next_reading : (family : Family) (measure : Measure) (g : Game) (front : List Level) (t : Stage)
-    (outside : ℕ → Bool) → StageHolds family measure g front t
-    → ((s : ℕ) → IsTrue (outside s) → IsOutside Span g.players (front ++ t.level ∷ []) s)
-    → IsReading family measure g (front ++ t.level ∷ []) outside
-    (share_of (extended g.players (length front) t.multipliers))
-    (excess_of g.players (extended g.players (length front) t.multipliers)) t.den
-next_reading family measure g front t outside holds apart =
-    let n : ℕ = g.players in
-    let k : ℕ = length front in
+pub next_reading : (q : Stage) (t : StageAnswer) (outside : ℕ → Bool) → Answers q t
+    → ((s : ℕ) → IsTrue (outside s) → IsOutside Span q.game.players (after q t).front s) → IsReading
+    (after q t) outside (share_of (extended q.game.players (length q.front) t.multipliers))
+    (excess_of q.game.players (extended q.game.players (length q.front) t.multipliers)) t.den
+next_reading q t outside holds apart =
+    let n : ℕ = q.game.players in
+    let k : ℕ = length q.front in
     let m : List ℤ = t.multipliers in
     let m' : List ℤ = extended n k m in
-    let r = advance family measure g front t holds in
-    let near = reading_of family measure g front t.outside m t.den holds.optimal.1 in
-    let long : length (front ++ t.level ∷ []) ≡ k + 1 = length_more front t.level in
+    let r = advance q t holds in
+    let near = reading_of q t.outside m t.den holds.optimal.1 in
+    let long : length (q.front ++ t.level ∷ []) ≡ k + 1 = length_more q.front t.level in
     let shares : (i : ℕ) → i < n → share_of m' i ≡ share_of m i = λ i h. extended-at n k m i (omega arith) in
     let excesses : (j : ℕ) → j < k + 1 → excess_of n m' j ≡ excess_of n m j =
     λ j h. extended-at n k m (n + j) (omega arith) in
-    let last : excess_of n m' (length (front ++ t.level ∷ [])) ≡ excess_of n m k =
+    let last : excess_of n m' (length (q.front ++ t.level ∷ [])) ≡ excess_of n m k =
     ap (excess_of n m') long ∙ extended-last n k m in
     record {
       positive = r.positive;
       whole = sum_below-same n (share_of m') (share_of m) shares ∙ r.whole;
       settled =
-          all_with (λ c. c.1 < 0 + length (front ++ t.level ∷ []))
-          (λ c. t.den *ℤ g.worth c.0 ≡ reached measure n (share_of m) (excess_of n m) c.0 c.1)
-          (λ c. t.den *ℤ g.worth c.0 ≡ reached measure n (share_of m') (excess_of n m') c.0 c.1)
-          (earlier_of 0 (front ++ t.level ∷ []))
+          all_with (λ c. c.1 < 0 + length (q.front ++ t.level ∷ []))
+          (λ c. t.den *ℤ q.game.worth c.0 ≡ reached q.measure n (share_of m) (excess_of n m) c.0 c.1)
+          (λ c. t.den *ℤ q.game.worth c.0 ≡ reached q.measure n (share_of m') (excess_of n m') c.0 c.1)
+          (earlier_of 0 (q.front ++ t.level ∷ []))
           (λ c lt eq. omega (
             arith,
             linear,
             eq,
             sum_over-same n (share_of m') (share_of m) c.0 shares,
-            ap (λ z. z *ℤ pos (divisor measure c.0)) (excesses c.1 (omega (arith, lt, long))),
+            ap (λ z. z *ℤ pos (divisor q.measure c.0)) (excesses c.1 (omega (arith, lt, long))),
           ))
-          (earlier_rows 0 (front ++ t.level ∷ [])) r.settled;
+          (earlier_rows 0 (q.front ++ t.level ∷ [])) r.settled;
       single = λ f i h. omega (arith, linear, r.single f i h, shares i h);
       bound = λ f i h b. shares i h ∙ r.bound f i h b;
       outer = λ s o. omega (
         arith,
         linear,
-        near.outer s ((holds.decides s).1 (outside_fewer n front (t.level ∷ []) s (apart s o))),
-        ap (λ z. z *ℤ pos (divisor measure s)) last,
+        near.outer s ((holds.decides s).1 (outside_fewer n q.front (t.level ∷ []) s (apart s o))),
+        ap (λ z. z *ℤ pos (divisor q.measure s)) last,
         sum_over-same n (share_of m') (share_of m) s shares,
       );
     }
 
-pub next_bounds : (family : Family) (measure : Measure) (g : Game) (front : List Level) (t : Stage)
-    (outside : ℕ → Bool) → StageHolds family measure g front t
-    → ((s : ℕ) → IsTrue (outside s) → IsOutside Span g.players (front ++ t.level ∷ []) s)
-    → Bounds (stage_program family measure g (front ++ t.level ∷ []) outside)
-    (extended g.players (length front) t.multipliers) t.den
-next_bounds family measure g front t outside holds apart =
-    of_reading family measure g (front ++ t.level ∷ []) outside (extended g.players (length front) t.multipliers)
-    t.den (next_reading family measure g front t outside holds apart)
+pub next_bounds : (q : Stage) (t : StageAnswer) (outside : ℕ → Bool) → Answers q t
+    → ((s : ℕ) → IsTrue (outside s) → IsOutside Span q.game.players (after q t).front s)
+    → Bounds (program_of (after q t) outside) (extended q.game.players (length q.front) t.multipliers) t.den
+next_bounds q t outside holds apart =
+    of_reading (after q t) outside (extended q.game.players (length q.front) t.multipliers)
+    t.den (next_reading q t outside holds apart)
 
 -- so the stage behind an optimal one has no endless ray
-pub next_no_ray : (family : Family) (measure : Measure) (g : Game) (front : List Level) (t : Stage)
-    (outside : ℕ → Bool) → StageHolds family measure g front t
-    → ((s : ℕ) → IsTrue (outside s) → IsOutside Span g.players (front ++ t.level ∷ []) s)
-    → HasRay (stage_program family measure g (front ++ t.level ∷ []) outside) → ⊥
-next_no_ray family measure g front t outside holds apart =
-    no_ray (stage_program family measure g (front ++ t.level ∷ []) outside)
-    (extended g.players (length front) t.multipliers) t.den
-    (next_bounds family measure g front t outside holds apart)
+pub next_no_ray : (q : Stage) (t : StageAnswer) (outside : ℕ → Bool) → Answers q t
+    → ((s : ℕ) → IsTrue (outside s) → IsOutside Span q.game.players (after q t).front s)
+    → HasRay (program_of (after q t) outside) → ⊥
+next_no_ray q t outside holds apart =
+    no_ray (program_of (after q t) outside)
+    (extended q.game.players (length q.front) t.multipliers) t.den
+    (next_bounds q t outside holds apart)
 
 -- ---- the optimum of a stage
 
@@ -176,14 +169,13 @@ same_ratio w d d' c e e' one h h' =
     cross = *ℤ_comm (d *ℤ c) d' ∙ mul_left_commℤ d' d c ∙ *ℤ_comm d (d' *ℤ c)
 
 -- multipliers that settle the level of a stage have one excess there, the optimum
-pub same_value : (family : Family) (measure : Measure) (g : Game) (front : List Level) (t : Stage) (m m' : List ℤ)
-    (den den' : ℤ) → StageHolds family measure g front t → Reads family measure g (front ++ t.level ∷ []) m den
-    → Reads family measure g (front ++ t.level ∷ []) m' den'
-    → excess_of g.players m (length front) *ℤ den' ≡ excess_of g.players m' (length front) *ℤ den
-same_value family measure g front t m m' den den' holds r r' =
-    same_ratio t.weight_den den den' (weighted_sum (stage_program family measure g front t.outside).cost t.weights)
-    (excess_of g.players m (length front)) (excess_of g.players m' (length front)) holds.optimal.0.1
-    (stage_value family measure g front t m den holds r) (stage_value family measure g front t m' den' holds r')
+pub same_value : (q : Stage) (t : StageAnswer) (m m' : List ℤ) (den den' : ℤ) → Answers q t
+    → Reads (after q t) m den → Reads (after q t) m' den'
+    → excess_of q.game.players m (length q.front) *ℤ den' ≡ excess_of q.game.players m' (length q.front) *ℤ den
+same_value q t m m' den den' holds r r' =
+    same_ratio t.weight_den den den' (weighted_sum (program_of q t.outside).cost t.weights)
+    (excess_of q.game.players m (length q.front)) (excess_of q.game.players m' (length q.front)) holds.optimal.0.1
+    (stage_value q t m den holds r) (stage_value q t m' den' holds r')
 
 falls_step : (w d dk c e1 e0 f0 : ℤ) → pos 1 ≤ℤ w → pos 1 ≤ℤ d → pos 1 ≤ℤ dk → (dk *ℤ c) ≤ℤ (w *ℤ f0)
     → d *ℤ c ≡ w *ℤ e1 → e0 *ℤ dk ≡ f0 *ℤ d → e1 ≤ℤ e0
@@ -198,28 +190,27 @@ falls_step w d dk c e1 e0 f0 pw pd pk h hc he =
     (omega (arith, linear, a, left, right))
 
 -- the optima don't rise
-pub falls : (family : Family) (measure : Measure) (g : Game) (front : List Level) (t t' : Stage) (m : List ℤ)
-    (den : ℤ) → StageHolds family measure g front t → StageHolds family measure g (front ++ t.level ∷ []) t'
-    → Reads family measure g ((front ++ t.level ∷ []) ++ t'.level ∷ []) m den
-    → excess_of g.players m (length front + 1) ≤ℤ excess_of g.players m (length front)
-falls family measure g front t t' m den holds holds' r =
-    let n : ℕ = g.players in
-    let k : ℕ = length front in
-    let behind : List Level = front ++ t.level ∷ [] in
-    let p : Program = stage_program family measure g behind t'.outside in
-    let long : length behind ≡ k + 1 = length_more front t.level in
+pub falls : (q : Stage) (t t' : StageAnswer) (m : List ℤ) (den : ℤ) → Answers q t → Answers (after q t) t'
+    → Reads (after (after q t) t') m den
+    → excess_of q.game.players m (length q.front + 1) ≤ℤ excess_of q.game.players m (length q.front)
+falls q t t' m den holds holds' r =
+    let n : ℕ = q.game.players in
+    let k : ℕ = length q.front in
+    let next : Stage = after q t in
+    let p : Program = program_of next t'.outside in
+    let long : length next.front ≡ k + 1 = length_more q.front t.level in
     let weak =
     weak_duality p (extended n k t.multipliers) t.den t'.weights t'.weight_den
-    (next_bounds family measure g front t t'.outside holds (λ s o. (holds'.decides s).0 o))
+    (next_bounds q t t'.outside holds (λ s o. (holds'.decides s).0 o))
     holds'.optimal.0 in
     let right : value_of p (extended n k t.multipliers) p.right ≡ excess_of n t.multipliers k =
-    right_value family measure g behind t'.outside (extended n k t.multipliers)
+    right_value next t'.outside (extended n k t.multipliers)
     ∙ ap (excess_of n (extended n k t.multipliers)) long ∙ extended-last n k t.multipliers in
     let value : den *ℤ weighted_sum p.cost t'.weights ≡ t'.weight_den *ℤ excess_of n m (k + 1) =
-    stage_value family measure g behind t' m den holds' r ∙ ap (λ z. t'.weight_den *ℤ excess_of n m z) long in
+    stage_value next t' m den holds' r ∙ ap (λ z. t'.weight_den *ℤ excess_of n m z) long in
     let same =
-    same_value family measure g front t m t.multipliers den t.den holds
-    (restrict family measure g behind (t'.level ∷ []) m den r) (advance family measure g front t holds) in
+    same_value q t m t.multipliers den t.den holds
+    (restrict next (t'.level ∷ []) m den r) (advance q t holds) in
     falls_step t'.weight_den den t.den (weighted_sum p.cost t'.weights) (excess_of n m (k + 1)) (excess_of n m k)
     (excess_of n t.multipliers k) holds'.optimal.0.1 r.positive holds.optimal.1.0
     (subst (λ z. (t.den *ℤ weighted_sum p.cost t'.weights) ≤ℤ (t'.weight_den *ℤ z)) right weak) value same
@@ -227,50 +218,49 @@ falls family measure g front t t' m den holds holds' r =
 -- ---- what holds behind the levels in front
 
 -- multipliers that settle the levels in front have the same excesses there, and only imputations have bounds
-pub record Past (family : Family) (measure : Measure) (g : Game) (front : List Level) : Type 0 where
-  pub same : (m m' : List ℤ) (den den' : ℤ) → Reads family measure g front m den
-      → Reads family measure g front m' den' → (k : ℕ) → k < length front
-      → excess_of g.players m k *ℤ den' ≡ excess_of g.players m' k *ℤ den
-  pub bounded : (i : ℕ) → IsTrue (has_bound front i) → family ≡ Imputations
+pub record Past (q : Stage) : Type 0 where
+  pub same : (m m' : List ℤ) (den den' : ℤ) → Reads q m den
+      → Reads q m' den' → (k : ℕ) → k < length q.front
+      → excess_of q.game.players m k *ℤ den' ≡ excess_of q.game.players m' k *ℤ den
+  pub bounded : (i : ℕ) → IsTrue (has_bound q.front i) → q.family ≡ Imputations
 
-pub past_none : (family : Family) (measure : Measure) (g : Game) → Past family measure g []
-past_none family measure g =
+pub past_none : (q : Stage) → Past (with_front q [])
+past_none q =
     record { same = λ m m' den den' r r' k h. absurd (omega arith); bounded = λ i h. absurd (false≢true h) }
 
-new_family : (family : Family) (g : Game) (front : List Level) (ws bs : List (ℕ × ℤ))
-    → ((i : ℕ) → i < g.players → HasWeight ws (length (settled_columns g.players front) + i) → family ≡ Imputations)
-    → AllByRecursion (BoundComes family g front ws) bs → (i : ℕ)
-    → list_any (λ b. nat_eq b.0 i && int_le (pos 1) b.1) bs ≡ true → family ≡ Imputations
-new_family family g front ws [] single h i any = absurd (false≢true any)
-new_family family g front ws (b ∷ bs) single h i any =
+new_family : (q : Stage) (ws bs : List (ℕ × ℤ))
+    → ((i : ℕ) → i < q.game.players → HasWeight ws (length (settled_columns q.game.players q.front) + i)
+    → q.family ≡ Imputations)
+    → AllByRecursion (BoundComes q ws) bs → (i : ℕ)
+    → list_any (λ b. nat_eq b.0 i && int_le (pos 1) b.1) bs ≡ true → q.family ≡ Imputations
+new_family q ws [] single h i any = absurd (false≢true any)
+new_family q ws (b ∷ bs) single h i any =
     elim h.0.1 [ inl fresh ↦ single b.0 h.0.0 fresh.1 | inr known ↦ known.0 ]
 
-pub weighted_family : (family : Family) (measure : Measure) (g : Game) (front : List Level) (t : Stage)
-    → StageHolds family measure g front t → (i : ℕ) → i < g.players
-    → HasWeight t.weights (length (settled_columns g.players front) + i) → family ≡ Imputations
-weighted_family family measure g front t holds i h k =
-    single_family family measure g front t.outside i h
-    (tight_optimal (stage_program family measure g front t.outside) t.weights t.weight_den t.multipliers t.den
-    holds.optimal (length (settled_columns g.players front) + i) k).0
+pub weighted_family : (q : Stage) (t : StageAnswer) → Answers q t → (i : ℕ) → i < q.game.players
+    → HasWeight t.weights (length (settled_columns q.game.players q.front) + i) → q.family ≡ Imputations
+weighted_family q t holds i h k =
+    single_family q t.outside i h
+    (tight_optimal (program_of q t.outside) t.weights t.weight_den t.multipliers t.den
+    holds.optimal (length (settled_columns q.game.players q.front) + i) k).0
 
-pub past_more : (family : Family) (measure : Measure) (g : Game) (front : List Level) (t : Stage)
-    → Past family measure g front → StageHolds family measure g front t
-    → Past family measure g (front ++ t.level ∷ [])
-past_more family measure g front t past holds =
+pub past_more : (q : Stage) (t : StageAnswer) → Past q → Answers q t → Past (after q t)
+past_more q t past holds =
     let test : ℕ → Level → Bool = λ i l. list_any (λ b. nat_eq b.0 i && int_le (pos 1) b.1) l.bounds in
     record {
       same = λ m m' den den' r r' k h. elim
-          (less_or_last_of k (length front) (subst (λ (z : ℕ). k < z) (length_more front t.level) h)) [
-            | inl less ↦ past.same m m' den den' (restrict family measure g front (t.level ∷ []) m den r)
-                (restrict family measure g front (t.level ∷ []) m' den' r') k less
-            | inr here ↦ subst (λ (z : ℕ). excess_of g.players m z *ℤ den' ≡ excess_of g.players m' z *ℤ den) (sym here)
-                (same_value family measure g front t m m' den den' holds r r')
+          (less_or_last_of k (length q.front) (subst (λ (z : ℕ). k < z) (length_more q.front t.level) h)) [
+            | inl less ↦ past.same m m' den den' (restrict q (t.level ∷ []) m den r)
+                (restrict q (t.level ∷ []) m' den' r') k less
+            | inr here ↦ subst
+                (λ (z : ℕ). excess_of q.game.players m z *ℤ den' ≡ excess_of q.game.players m' z *ℤ den) (sym here)
+                (same_value q t m m' den den' holds r r')
           ];
-      bounded = λ i b. elim (any_cases (test i) front (t.level ∷ []) b) [
+      bounded = λ i b. elim (any_cases (test i) q.front (t.level ∷ []) b) [
         | inl old ↦ past.bounded i old
         | inr new ↦ elim (or_cases (test i t.level) false new) [
-          | inl here ↦ new_family family g front t.weights t.level.bounds
-              (weighted_family family measure g front t holds) holds.follows.bounds i here
+          | inl here ↦ new_family q t.weights t.level.bounds
+              (weighted_family q t holds) holds.follows.bounds i here
           | inr none ↦ absurd (false≢true none)
         ]
       ];
@@ -323,44 +313,42 @@ gap_listed d d' v x x' e e' h i i' k =
 gap_equal : (d d' v x x' : ℤ) → x ≡ d *ℤ v → x' ≡ d' *ℤ v → d' *ℤ x -ℤ d *ℤ x' ≡ pos 0
 gap_equal d d' v x x' h h' = omega (arith, linear, ap (λ z. d' *ℤ z) h, ap (λ z. d *ℤ z) h', mul_left_commℤ d' d v)
 
-pub gap_settled : (family : Family) (measure : Measure) (g : Game) (front : List Level) (m m' : List ℤ)
-    (den den' : ℤ) → Past family measure g front → Reads family measure g front m den
-    → Reads family measure g front m' den' → Settled g.players (gap m den m' den') front
-gap_settled family measure g front m m' den den' past r r' =
-    let n : ℕ = g.players in
+pub gap_settled : (q : Stage) (m m' : List ℤ) (den den' : ℤ) → Past q → Reads q m den → Reads q m' den'
+    → Settled q.game.players (gap m den m' den') q.front
+gap_settled q m m' den den' past r r' =
+    let n : ℕ = q.game.players in
     record {
       listed = λ s any.
           (let both =
-          all_with (λ c. den *ℤ g.worth c.0 ≡ reached measure n (share_of m) (excess_of n m) c.0 c.1)
-          (λ c. den' *ℤ g.worth c.0 ≡ reached measure n (share_of m') (excess_of n m') c.0 c.1)
-          (λ c. (den *ℤ g.worth c.0 ≡ reached measure n (share_of m) (excess_of n m) c.0 c.1)
-          × (den' *ℤ g.worth c.0 ≡ reached measure n (share_of m') (excess_of n m') c.0 c.1))
-          (earlier_of 0 front) (λ c a b. (a, b)) r.settled r'.settled in
+          all_with (λ c. den *ℤ q.game.worth c.0 ≡ reached q.measure n (share_of m) (excess_of n m) c.0 c.1)
+          (λ c. den' *ℤ q.game.worth c.0 ≡ reached q.measure n (share_of m') (excess_of n m') c.0 c.1)
+          (λ c. (den *ℤ q.game.worth c.0 ≡ reached q.measure n (share_of m) (excess_of n m) c.0 c.1)
+          × (den' *ℤ q.game.worth c.0 ≡ reached q.measure n (share_of m') (excess_of n m') c.0 c.1))
+          (earlier_of 0 q.front) (λ c a b. (a, b)) r.settled r'.settled in
           let found =
           listed_row
-          (λ c. (den *ℤ g.worth c.0 ≡ reached measure n (share_of m) (excess_of n m) c.0 c.1)
-          × (den' *ℤ g.worth c.0 ≡ reached measure n (share_of m') (excess_of n m') c.0 c.1)) 0 front s both
+          (λ c. (den *ℤ q.game.worth c.0 ≡ reached q.measure n (share_of m) (excess_of n m) c.0 c.1)
+          × (den' *ℤ q.game.worth c.0 ≡ reached q.measure n (share_of m') (excess_of n m') c.0 c.1)) 0 q.front s both
           any in
           sum_over-combined n (share_of m) (share_of m') den' den s
-          ∙ gap_listed den den' (g.worth s) (sum_over n (share_of m) s) (sum_over n (share_of m') s)
-          (excess_of n m found.0) (excess_of n m' found.0) (pos (divisor measure s)) found.2.0 found.2.1
+          ∙ gap_listed den den' (q.game.worth s) (sum_over n (share_of m) s) (sum_over n (share_of m') s)
+          (excess_of n m found.0) (excess_of n m' found.0) (pos (divisor q.measure s)) found.2.0 found.2.1
           (past.same m m' den den' r r' found.0 (omega (arith, found.1))));
       bounded = λ i h b.
           (let f = past.bounded i b in
-          gap_equal den den' (g.worth (singleton i)) (share_of m i) (share_of m' i) (r.bound f i h b)
+          gap_equal den den' (q.game.worth (singleton i)) (share_of m i) (share_of m' i) (r.bound f i h b)
           (r'.bound f i h b));
     }
 
-gap_whole : (family : Family) (measure : Measure) (g : Game) (front : List Level) (m m' : List ℤ) (den den' : ℤ)
-    → Reads family measure g front m den → Reads family measure g front m' den'
-    → sum_over g.players (gap m den m' den') (grand_coalition g.players) ≡ pos 0
-gap_whole family measure g front m m' den den' r r' =
-    sum_over-combined g.players (share_of m) (share_of m') den' den (grand_coalition g.players)
-    ∙ gap_equal den den' (g.worth (grand_coalition g.players))
-    (sum_over g.players (share_of m) (grand_coalition g.players))
-    (sum_over g.players (share_of m') (grand_coalition g.players))
-    (sum_over-grand_coalition g.players (share_of m) ∙ r.whole)
-    (sum_over-grand_coalition g.players (share_of m') ∙ r'.whole)
+gap_whole : (q : Stage) (m m' : List ℤ) (den den' : ℤ) → Reads q m den → Reads q m' den'
+    → sum_over q.game.players (gap m den m' den') (grand_coalition q.game.players) ≡ pos 0
+gap_whole q m m' den den' r r' =
+    sum_over-combined q.game.players (share_of m) (share_of m') den' den (grand_coalition q.game.players)
+    ∙ gap_equal den den' (q.game.worth (grand_coalition q.game.players))
+    (sum_over q.game.players (share_of m) (grand_coalition q.game.players))
+    (sum_over q.game.players (share_of m') (grand_coalition q.game.players))
+    (sum_over-grand_coalition q.game.players (share_of m) ∙ r.whole)
+    (sum_over-grand_coalition q.game.players (share_of m') ∙ r'.whole)
 
 -- ---- no coalition outside a level has more than its excess
 
@@ -381,62 +369,61 @@ inside_step d dt v x xt e f h pd pt same value low =
     ))
 
 -- where the gap to the stage's own multipliers is nothing
-inside_low : (family : Family) (measure : Measure) (g : Game) (front : List Level) (t : Stage) (m : List ℤ)
-    (den : ℤ) → StageHolds family measure g front t → Reads family measure g (front ++ t.level ∷ []) m den
-    → (s : ℕ) → IsTrue (t.outside s) → sum_over g.players (gap m den t.multipliers t.den) s ≡ pos 0
-    → (den *ℤ g.worth s) ≤ℤ reached measure g.players (share_of m) (excess_of g.players m) s (length front)
-inside_low family measure g front t m den holds r s o zero_gap =
-    let own = reading_of family measure g front t.outside t.multipliers t.den holds.optimal.1 in
-    inside_step den t.den (g.worth s) (sum_over g.players (share_of m) s)
-    (sum_over g.players (share_of t.multipliers) s) (excess_of g.players m (length front))
-    (excess_of g.players t.multipliers (length front)) (pos (divisor measure s)) r.positive own.positive
-    (sym (sum_over-combined g.players (share_of m) (share_of t.multipliers) t.den den s) ∙ zero_gap)
-    (same_value family measure g front t m t.multipliers den t.den holds r (advance family measure g front t holds))
+inside_low : (q : Stage) (t : StageAnswer) (m : List ℤ) (den : ℤ) → Answers q t → Reads (after q t) m den → (s : ℕ)
+    → IsTrue (t.outside s) → sum_over q.game.players (gap m den t.multipliers t.den) s ≡ pos 0
+    → (den *ℤ q.game.worth s)
+    ≤ℤ reached q.measure q.game.players (share_of m) (excess_of q.game.players m) s (length q.front)
+inside_low q t m den holds r s o zero_gap =
+    let own = reading_of q t.outside t.multipliers t.den holds.optimal.1 in
+    inside_step den t.den (q.game.worth s) (sum_over q.game.players (share_of m) s)
+    (sum_over q.game.players (share_of t.multipliers) s) (excess_of q.game.players m (length q.front))
+    (excess_of q.game.players t.multipliers (length q.front)) (pos (divisor q.measure s)) r.positive own.positive
+    (sym (sum_over-combined q.game.players (share_of m) (share_of t.multipliers) t.den den s) ∙ zero_gap)
+    (same_value q t m t.multipliers den t.den holds r (advance q t holds))
     (own.outer s o)
 
 pub append_none : {X : Type 0} (xs : List X) → xs ++ [] ≡ xs
 append_none [] = refl
 append_none (x ∷ xs) = ap (λ k. x ∷ k) (append_none xs)
 
-pub outside_low : (family : Family) (measure : Measure) (g : Game) (front : List Level) (t : Stage)
-    (ts : List Stage) (m : List ℤ) (den : ℤ) → Past family measure g front → StageHolds family measure g front t
-    → IsChain family measure g (front ++ t.level ∷ []) ts
-    → Reads family measure g ((front ++ t.level ∷ []) ++ levels_of ts) m den
-    → IsAllFixed Span g.players ((front ++ t.level ∷ []) ++ levels_of ts) → (s : ℕ) → IsTrue (t.outside s)
-    → (den *ℤ g.worth s) ≤ℤ reached measure g.players (share_of m) (excess_of g.players m) s (length front)
-outside_low family measure g front t [] m den past holds chain r fixed s o =
-    let behind : List Level = front ++ t.level ∷ [] in
-    let near = restrict family measure g behind [] m den r in
-    let own = advance family measure g front t holds in
+pub outside_low : (q : Stage) (t : StageAnswer) (ts : List StageAnswer) (m : List ℤ) (den : ℤ) → Past q
+    → Answers q t → IsChain (after q t) ts → Reads (behind (after q t) (levels_of ts)) m den
+    → IsAllFixed Span q.game.players ((q.front ++ t.level ∷ []) ++ levels_of ts) → (s : ℕ) → IsTrue (t.outside s)
+    → (den *ℤ q.game.worth s)
+    ≤ℤ reached q.measure q.game.players (share_of m) (excess_of q.game.players m) s (length q.front)
+outside_low q t [] m den past holds chain r fixed s o =
+    let next : Stage = after q t in
+    let near = restrict next [] m den r in
+    let own = advance q t holds in
     let settled =
-    gap_settled family measure g behind m t.multipliers den t.den
-    (past_more family measure g front t past holds) near own in
-    let whole = gap_whole family measure g behind m t.multipliers den t.den near own in
+    gap_settled next m t.multipliers den t.den
+    (past_more q t past holds) near own in
+    let whole = gap_whole next m t.multipliers den t.den near own in
     let zeros =
-    all_fixed_zero Span g.players (gap m den t.multipliers t.den) behind settled whole
-    (subst (IsAllFixed Span g.players) (append_none behind) fixed) in
-    inside_low family measure g front t m den holds near s o
-    (sum_below-zero g.players (λ i. if has_player s i then gap m den t.multipliers t.den i else pos 0)
+    all_fixed_zero Span q.game.players (gap m den t.multipliers t.den) next.front settled whole
+    (subst (IsAllFixed Span q.game.players) (append_none next.front) fixed) in
+    inside_low q t m den holds near s o
+    (sum_below-zero q.game.players (λ i. if has_player s i then gap m den t.multipliers t.den i else pos 0)
     (λ i h. zero_either (has_player s i) (gap m den t.multipliers t.den i) (zeros i h)))
-outside_low family measure g front t (t' ∷ ts) m den past holds chain r fixed s o =
-    let behind : List Level = front ++ t.level ∷ [] in
-    let near = restrict family measure g behind (t'.level ∷ levels_of ts) m den r in
-    let own = advance family measure g front t holds in
-    let past' = past_more family measure g front t past holds in
-    let shift : (behind ++ t'.level ∷ []) ++ levels_of ts ≡ behind ++ t'.level ∷ levels_of ts =
-    append_assoc behind (t'.level ∷ []) (levels_of ts) in
-    let r' = subst (λ z. Reads family measure g z m den) (sym shift) r in
-    let fixed' = subst (IsAllFixed Span g.players) (sym shift) fixed in
+outside_low q t (t' ∷ ts) m den past holds chain r fixed s o =
+    let next : Stage = after q t in
+    let near = restrict next (t'.level ∷ levels_of ts) m den r in
+    let own = advance q t holds in
+    let past' = past_more q t past holds in
+    let shift : (next.front ++ t'.level ∷ []) ++ levels_of ts ≡ next.front ++ t'.level ∷ levels_of ts =
+    append_assoc next.front (t'.level ∷ []) (levels_of ts) in
+    let r' = subst (λ ls. Reads (with_front q ls) m den) (sym shift) r in
+    let fixed' = subst (IsAllFixed Span q.game.players) (sym shift) fixed in
     elim (true_or_false (t'.outside s)) [
       | inl still ↦
-          let ih = outside_low family measure g behind t' ts m den past' chain.0 chain.1 r' fixed' s still in
+          let ih = outside_low next t' ts m den past' chain.0 chain.1 r' fixed' s still in
           let low =
-          falls family measure g front t t' m den holds chain.0
-          (restrict family measure g (behind ++ t'.level ∷ []) (levels_of ts) m den r') in
-          let d : ℤ = pos (divisor measure s) in
-          let here = ap (λ (k : ℕ). excess_of g.players m k *ℤ d) (length_more front t.level) in
+          falls q t t' m den holds chain.0
+          (restrict (after next t') (levels_of ts) m den r') in
+          let d : ℤ = pos (divisor q.measure s) in
+          let here = ap (λ (k : ℕ). excess_of q.game.players m k *ℤ d) (length_more q.front t.level) in
           let less =
-          mul-leℤ d (excess_of g.players m (length front + 1)) (excess_of g.players m (length front))
+          mul-leℤ d (excess_of q.game.players m (length q.front + 1)) (excess_of q.game.players m (length q.front))
           (omega (arith, linear)) low in
           omega (
             arith,
@@ -444,24 +431,24 @@ outside_low family measure g front t (t' ∷ ts) m den past holds chain r fixed 
             ih,
             less,
             here,
-            *ℤ_comm d (excess_of g.players m (length front + 1)),
-            *ℤ_comm d (excess_of g.players m (length front)),
+            *ℤ_comm d (excess_of q.game.players m (length q.front + 1)),
+            *ℤ_comm d (excess_of q.game.players m (length q.front)),
           )
       | inr gone ↦
           let was = (holds.decides s).0 o in
-          let settled = gap_settled family measure g behind m t.multipliers den t.den past' near own in
-          let whole = gap_whole family measure g behind m t.multipliers den t.den near own in
-          inside_low family measure g front t m den holds near s o
-          (inside_zero Span g.players (gap m den t.multipliers t.den) behind settled whole s was.0 was.1
+          let settled = gap_settled next m t.multipliers den t.den past' near own in
+          let whole = gap_whole next m t.multipliers den t.den near own in
+          inside_low q t m den holds near s o
+          (inside_zero Span q.game.players (gap m den t.multipliers t.den) next.front settled whole s was.0 was.1
           (λ out. false≢true (sym gone ∙ (chain.0.decides s).1 out)))
     ]
 
 -- ---- the same, behind any further levels
 
-pub excess_optimum : (family : Family) (measure : Measure) (g : Game) (front : List Level) (t : Stage)
-    (rest : List Level) (m : List ℤ) (den : ℤ) → StageHolds family measure g front t
-    → Reads family measure g ((front ++ t.level ∷ []) ++ rest) m den
-    → excess_of g.players m (length front) *ℤ t.den ≡ excess_of g.players t.multipliers (length front) *ℤ den
-excess_optimum family measure g front t rest m den holds r =
-    same_value family measure g front t m t.multipliers den t.den holds
-    (restrict family measure g (front ++ t.level ∷ []) rest m den r) (advance family measure g front t holds)
+pub excess_optimum : (q : Stage) (t : StageAnswer) (rest : List Level) (m : List ℤ) (den : ℤ) → Answers q t
+    → Reads (behind (after q t) rest) m den
+    → excess_of q.game.players m (length q.front) *ℤ t.den ≡ excess_of q.game.players t.multipliers (length q.front)
+    *ℤ den
+excess_optimum q t rest m den holds r =
+    same_value q t m t.multipliers den t.den holds
+    (restrict (after q t) rest m den r) (advance q t holds)

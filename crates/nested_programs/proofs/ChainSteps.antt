@@ -2,42 +2,40 @@
 use Rattle.std.proofs.Common.{◌≡◌, ℕ, ◌+◌, List, [], ◌∷◌, ◌++◌, length, pos, ◌*ℤ◌, ◌≤ℤ◌}
 use Rattle.std.proofs.Common.{Some, refl, sym, ap, subst, ◌∙◌, arith}
 use Rattle.definitions.specs.Games.{Game}
-use Rattle.definitions.specs.Certificates.{Level}
-use Rattle.definitions.specs.declared.Family.{Family}
-use Rattle.definitions.specs.declared.Measure.{Measure}
 use Rattle.simplex.specs.declared.multipliers.Multipliers.{Multipliers}
+use Rattle.nested_programs.specs.Stage.{Stage, with_front, behind}
 use Rattle.nested_programs.specs.Reading.{excess_of}
-use Rattle.nested_programs.specs.Chain.{Stage, StageHolds, IsChain, levels_of, last_of}
+use Rattle.nested_programs.specs.Chain.{StageAnswer, Answers, IsChain, levels_of, last_of, after}
 use Rattle.nested_programs.specs.Stages.{OwnExcesses, AreLast}
 use Rattle.nested_programs.proofs.Advance.{append_assoc}
 use Rattle.nested_programs.proofs.Chain.{append_none}
 
 -- a stage that holds behind the levels of a chain
-pub chain_more : (family : Family) (measure : Measure) (g : Game) (front : List Level) (ts : List Stage) (t : Stage)
-    → IsChain family measure g front ts → StageHolds family measure g (front ++ levels_of ts) t
-    → IsChain family measure g front (ts ++ t ∷ [])
-chain_more family measure g front [] t h k =
-    (subst (λ z. StageHolds family measure g z t) (append_none front) k, tt)
-chain_more family measure g front (u ∷ ts) t h k = (
+pub chain_more : (q : Stage) (ts : List StageAnswer) (t : StageAnswer) → IsChain q ts
+    → Answers (behind q (levels_of ts)) t → IsChain q (ts ++ t ∷ [])
+chain_more q [] t h k =
+    (subst (λ ls. Answers (with_front q ls) t) (append_none q.front) k, tt)
+chain_more q (u ∷ ts) t h k = (
   h.0,
-  chain_more family measure g (front ++ u.level ∷ []) ts t h.1
-      (subst (λ z. StageHolds family measure g z t) (sym (append_assoc front (u.level ∷ []) (levels_of ts))) k),
+  chain_more (after q u) ts t h.1
+      (subst (λ ls. Answers (with_front q ls) t) (sym (append_assoc q.front (u.level ∷ []) (levels_of ts))) k),
 )
 
-pub levels_more : (ts : List Stage) (t : Stage) → levels_of (ts ++ t ∷ []) ≡ levels_of ts ++ t.level ∷ []
+pub levels_more : (ts : List StageAnswer) (t : StageAnswer) → levels_of (ts ++ t ∷ []) ≡ levels_of ts ++ t.level ∷ []
 levels_more [] t = refl
 levels_more (u ∷ ts) t = ap (λ ls. u.level ∷ ls) (levels_more ts t)
 
-pub levels_count : (ts : List Stage) → length (levels_of ts) ≡ length ts
+pub levels_count : (ts : List StageAnswer) → length (levels_of ts) ≡ length ts
 levels_count [] = refl
 levels_count (t ∷ ts) = let ih = levels_count ts in omega (arith, ih)
 
-abbrev OwnExcess : Game → ℕ → Stage → Type 0
+abbrev OwnExcess : Game → ℕ → StageAnswer → Type 0
 OwnExcess g k t =
     (t.level.excess_num *ℤ t.den ≡ excess_of g.players t.multipliers k *ℤ t.level.excess_den)
     × (pos 1 ≤ℤ t.level.excess_den)
 
-pub own_more : (g : Game) (k : ℕ) (ts : List Stage) (t : Stage) → OwnExcesses g k ts → OwnExcess g (k + length ts) t
+pub own_more : (g : Game) (k : ℕ) (ts : List StageAnswer) (t : StageAnswer) → OwnExcesses g k ts
+    → OwnExcess g (k + length ts) t
     → OwnExcesses g k (ts ++ t ∷ [])
 own_more g k [] t h own =
     let e : k + 0 ≡ k = omega arith in
@@ -47,13 +45,16 @@ own_more g k (u ∷ ts) t h own =
     let e : k + length (u ∷ ts) ≡ k + 1 + length ts = omega arith in
     (h.0, h.1, own_more g (k + 1) ts t h.2 (subst (λ (j : ℕ). OwnExcess g j t) e own))
 
-last_behind : (u : Stage) (ts : List Stage) (t : Stage) → last_of u (ts ++ t ∷ []) ≡ t
+last_behind : (u : StageAnswer) (ts : List StageAnswer) (t : StageAnswer) → last_of u (ts ++ t ∷ []) ≡ t
 last_behind u [] t = refl
 last_behind u (v ∷ ts) t = last_behind v ts t
 
 -- the last stage is the new one
-pub last_more : (ts : List Stage) (t : Stage) (m : Multipliers) → t.multipliers ≡ m.num.items → t.den ≡ m.den
+pub last_more : (ts : List StageAnswer) (t : StageAnswer) (m : Multipliers) → t.multipliers ≡ m.num.items
+    → t.den ≡ m.den
     → AreLast (ts ++ t ∷ []) (Some m)
 last_more [] t m e h = (e, h)
-last_more (u ∷ ts) t m e h =
-    (ap (λ (s : Stage). s.multipliers) (last_behind u ts t) ∙ e, ap (λ (s : Stage). s.den) (last_behind u ts t) ∙ h)
+last_more (u ∷ ts) t m e h = (
+  ap (λ (s : StageAnswer). s.multipliers) (last_behind u ts t) ∙ e,
+  ap (λ (s : StageAnswer). s.den) (last_behind u ts t) ∙ h,
+)

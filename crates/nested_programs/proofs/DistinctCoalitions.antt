@@ -4,13 +4,11 @@ use Rattle.std.proofs.Common.{◌≡◌, ℕ, ◌+◌, ◌<◌, Bool, true, fals
 use Rattle.std.proofs.Common.{◌∷◌, ◌++◌, map, ℤ, inl, inr, arith}
 use Rattle.std.specs.List.{list_any, AllByRecursion, IsDistinct}
 use Rattle.kohlberg.proofs.SpanLaws.{span_of_one}
-use Rattle.definitions.specs.Games.{Game}
 use Rattle.definitions.specs.Certificates.{Level, is_listed, IsFixedVector, IsOutside, Ascends, LevelsForm}
-use Rattle.definitions.specs.declared.Family.{Family}
-use Rattle.definitions.specs.declared.Measure.{Measure}
 use Rattle.definitions.specs.declared.Mode.TheVariants.{Span}
 use Rattle.separation.specs.Stage.{earlier_of}
-use Rattle.nested_programs.specs.Chain.{Stage, levels_of, IsChain}
+use Rattle.nested_programs.specs.Stage.{Stage, with_front}
+use Rattle.nested_programs.specs.Chain.{StageAnswer, levels_of, IsChain, after}
 use Rattle.nested_programs.proofs.Advance.{any_left}
 use Rattle.nested_programs.proofs.Form.{level_outside}
 use Rattle.nested_programs.proofs.PairKeys.{all_rows}
@@ -68,43 +66,41 @@ Unlisted front s = is_listed front s ≡ true → ⊥
 outside_unlisted : (n : ℕ) (front : List Level) (s : ℕ) → IsOutside Span n front s → Unlisted front s
 outside_unlisted n front s o listed = o.2 (span_of_one n (IsFixedVector n front) s (inr (inl listed)))
 
-chain_unlisted : (family : Family) (measure : Measure) (g : Game) (front : List Level) (k : ℕ) (ts : List Stage)
-    → IsChain family measure g front ts → AllByRecursion (λ c. Unlisted front c.0) (earlier_of k (levels_of ts))
-chain_unlisted family measure g front k [] chain = tt
-chain_unlisted family measure g front k (t ∷ ts) chain =
-    all_join (λ c. Unlisted front c.0) (map (λ c. (c.0, k)) t.level.coalitions) (earlier_of (k + 1) (levels_of ts))
-    (all_rows (Unlisted front) k t.level.coalitions
-    (all_weaken (λ c. IsOutside Span g.players front c.0) (λ c. Unlisted front c.0) t.level.coalitions
-    (λ c o. outside_unlisted g.players front c.0 o) (level_outside family measure g front t chain.0)))
-    (all_weaken (λ c. Unlisted (front ++ t.level ∷ []) c.0) (λ c. Unlisted front c.0)
+chain_unlisted : (q : Stage) (k : ℕ) (ts : List StageAnswer) → IsChain q ts
+    → AllByRecursion (λ c. Unlisted q.front c.0) (earlier_of k (levels_of ts))
+chain_unlisted q k [] chain = tt
+chain_unlisted q k (t ∷ ts) chain =
+    all_join (λ c. Unlisted q.front c.0) (map (λ c. (c.0, k)) t.level.coalitions) (earlier_of (k + 1) (levels_of ts))
+    (all_rows (Unlisted q.front) k t.level.coalitions
+    (all_weaken (λ c. IsOutside Span q.game.players q.front c.0) (λ c. Unlisted q.front c.0) t.level.coalitions
+    (λ c o. outside_unlisted q.game.players q.front c.0 o) (level_outside q t chain.0)))
+    (all_weaken (λ c. Unlisted (q.front ++ t.level ∷ []) c.0) (λ c. Unlisted q.front c.0)
     (earlier_of (k + 1) (levels_of ts))
     (λ c none listed. none
-    (any_left (λ l. list_any (λ d. nat_eq d.0 c.0) l.coalitions) front (t.level ∷ []) listed))
-    (chain_unlisted family measure g (front ++ t.level ∷ []) (k + 1) ts chain.1))
+    (any_left (λ l. list_any (λ d. nat_eq d.0 c.0) l.coalitions) q.front (t.level ∷ []) listed))
+    (chain_unlisted (after q t) (k + 1) ts chain.1))
 
-chain_misses : (family : Family) (measure : Measure) (g : Game) (front : List Level) (k : ℕ) (t : Stage)
-    (ts : List Stage) → IsChain family measure g (front ++ t.level ∷ []) ts
+chain_misses : (q : Stage) (k : ℕ) (t : StageAnswer) (ts : List StageAnswer) → IsChain (after q t) ts
     → Misses t.level.coalitions (earlier_of k (levels_of ts))
-chain_misses family measure g front k t ts chain =
-    all_weaken (λ c. Unlisted (front ++ t.level ∷ []) c.0)
+chain_misses q k t ts chain =
+    all_weaken (λ c. Unlisted (q.front ++ t.level ∷ []) c.0)
     (λ c. list_any (λ d. nat_eq d.0 c.0) t.level.coalitions ≡ true → ⊥) (earlier_of k (levels_of ts))
     (λ c none here. none
-    (any_right (λ l. list_any (λ d. nat_eq d.0 c.0) l.coalitions) front (t.level ∷ [])
+    (any_right (λ l. list_any (λ d. nat_eq d.0 c.0) l.coalitions) q.front (t.level ∷ [])
     (or_left (list_any (λ d. nat_eq d.0 c.0) t.level.coalitions) false here)))
-    (chain_unlisted family measure g (front ++ t.level ∷ []) k ts chain)
+    (chain_unlisted (after q t) k ts chain)
 
-distinct_behind : (family : Family) (measure : Measure) (g : Game) (front : List Level) (k : ℕ) (ts : List Stage)
-    → IsChain family measure g front ts → LevelsForm g.players front (levels_of ts)
+distinct_behind : (q : Stage) (k : ℕ) (ts : List StageAnswer) → IsChain q ts
+    → LevelsForm q.game.players q.front (levels_of ts)
     → IsDistinct nat_eq (map (λ c. c.0) (earlier_of k (levels_of ts)))
 unfolding IsDistinct
-distinct_behind family measure g front k [] chain form = tt
-distinct_behind family measure g front k (t ∷ ts) chain form =
+distinct_behind q k [] chain form = tt
+distinct_behind q k (t ∷ ts) chain form =
     level_distinct 0 k t.level.coalitions (earlier_of (k + 1) (levels_of ts)) form.0.ascend
-    (chain_misses family measure g front (k + 1) t ts chain.1)
-    (distinct_behind family measure g (front ++ t.level ∷ []) (k + 1) ts chain.1 form.1)
+    (chain_misses q (k + 1) t ts chain.1)
+    (distinct_behind (after q t) (k + 1) ts chain.1 form.1)
 
 -- the coalitions of the levels of a chain are distinct
-pub chain_distinct : (family : Family) (measure : Measure) (g : Game) (ts : List Stage)
-    → IsChain family measure g [] ts → LevelsForm g.players [] (levels_of ts)
-    → IsDistinct nat_eq (map (λ c. c.0) (earlier_of 0 (levels_of ts)))
-chain_distinct family measure g ts chain form = distinct_behind family measure g [] 0 ts chain form
+pub chain_distinct : (q : Stage) (ts : List StageAnswer) → IsChain (with_front q []) ts
+    → LevelsForm q.game.players [] (levels_of ts) → IsDistinct nat_eq (map (λ c. c.0) (earlier_of 0 (levels_of ts)))
+chain_distinct q ts chain form = distinct_behind (with_front q []) 0 ts chain form

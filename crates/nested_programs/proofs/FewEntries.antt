@@ -11,6 +11,7 @@ use Rattle.definitions.specs.Certificates.{Level, number_at}
 use Rattle.kohlberg.specs.Pairs.{with_pair, placed_behind}
 use Rattle.kohlberg.proofs.WithPair.{length-with_pair}
 use Rattle.separation.specs.Stage.{earlier_of}
+use Rattle.simplex.specs.declared.answer.Optimal.{Optimal}
 use Rattle.nested_programs.specs.Answer.{IsShort}
 use Rattle.nested_programs.specs.Numbers.{first_single, outer_pairs, net, kept}
 use Rattle.nested_programs.specs.Numbers.{earlier_pairs, bound_pairs, IsLevelOf}
@@ -143,9 +144,10 @@ placed_length ps (q ∷ qs) =
 
 -- ---- the level
 
-pub level_entries : (n : ℕ) (front : List Level) (ws : List (ℕ × ℤ)) (m : List ℤ) (den : ℤ) (l : Level)
-    → IsLevelOf n front ws m den l → length l.coalitions + length l.earlier + length l.bounds ≤ length ws
-level_entries n front ws m den l is =
+pub level_entries : (n : ℕ) (front : List Level) (best : Optimal) (l : Level)
+    → IsLevelOf n front best l → length l.coalitions + length l.earlier + length l.bounds ≤ length best.weights.items
+level_entries n front best l is =
+    let ws : List (ℕ × ℤ) = best.weights.items in
     let first : ℕ = first_single front in
     let a = ap length is.coalitions ∙ placed_length [] (outer_pairs (first + (n + n)) ws) in
     let a' = outer_few (first + (n + n)) ws in
@@ -159,8 +161,9 @@ level_entries n front ws m den l is =
     omega (arith, a, a', b, b', c, c', ends, most)
 
 -- the level of a stage is short: each entry has a column of its own among the weights
-pub level_short : (n : ℕ) (front : List Level) (ws : List (ℕ × ℤ)) (m : List ℤ) (den : ℤ) (l : Level)
-    → IsLevelOf n front ws m den l → length ws ≤ n + (length front + 1) → length front + 2 ≤ n → IsShort n l
-level_short n front ws m den l is few low =
-    let most = level_entries n front ws m den l is in
+pub level_short : (n : ℕ) (front : List Level) (best : Optimal) (l : Level)
+    → IsLevelOf n front best l → length best.weights.items ≤ n + (length front + 1) → length front + 2 ≤ n
+    → IsShort n l
+level_short n front best l is few low =
+    let most = level_entries n front best l is in
     omega (arith, most, few, low)

@@ -9,13 +9,13 @@ use Rattle.definitions.proofs.Ring.{linear}
 use Rattle.definitions.proofs.Members.{has_player-grand_coalition, weighted_sum-add}
 use Rattle.definitions.specs.Sums.{weighted_sum}
 use Rattle.definitions.specs.Coalitions.{has_player, grand_coalition, weight_at}
-use Rattle.definitions.specs.Games.{Game}
 use Rattle.definitions.specs.Certificates.{Level, has_bound, number_at}
 use Rattle.definitions.specs.Programs.{AreWeights}
-use Rattle.definitions.specs.declared.Family.{Family}
 use Rattle.definitions.specs.declared.Measure.{Measure}
 use Rattle.definitions.specs.declared.Family.TheVariants.{Imputations}
-use Rattle.separation.specs.Stage.{entry_of, earlier_of, settled_columns, column, is_imputations, stage_program}
+use Rattle.separation.specs.Stage.{entry_of, earlier_of, settled_columns, column, is_imputations}
+use Rattle.simplex.specs.declared.answer.Optimal.{Optimal}
+use Rattle.nested_programs.specs.Stage.{Stage, program_of}
 use Rattle.nested_programs.specs.Chain.{single_id, outer_id, HasWeight, Follows}
 use Rattle.nested_programs.specs.Numbers.{AreNumbers, first_single, outer_pairs, net}
 use Rattle.nested_programs.specs.Numbers.{earlier_pairs, bound_pairs, IsLevelOf}
@@ -65,11 +65,12 @@ parts_sum n first i k cs ws h =
     )
 
 -- what the level holds of a player, less its total, is the weighted entries of the player's row
-level_sums : (measure : Measure) (n : ℕ) (front : List Level) (ws : List (ℕ × ℤ)) (m : List ℤ) (den : ℤ) (l : Level)
-    → IsLevelOf n front ws m den l → (i : ℕ) → i < n
+level_sums : (measure : Measure) (n : ℕ) (front : List Level) (best : Optimal) (l : Level)
+    → IsLevelOf n front best l → (i : ℕ) → i < n
     → weight_at l.coalitions i +ℤ weight_at l.earlier i +ℤ number_at l.bounds i -ℤ l.total
-    ≡ weighted_sum (λ id. entry_of measure n (column n front id) i) ws
-level_sums measure n front ws m den l is i h =
+    ≡ weighted_sum (λ id. entry_of measure n (column n front id) i) best.weights.items
+level_sums measure n front best l is i h =
+    let ws : List (ℕ × ℤ) = best.weights.items in
     let first : ℕ = first_single front in
     let outer = ap (λ ps. weight_at ps i) is.coalitions ∙ weight_at-placed (outer_pairs (first + (n + n)) ws) i in
     let earlier =
@@ -109,65 +110,62 @@ outer_listed n front ws s has =
 -- ---- the bounds
 
 -- the column of a player's bound negated stands there only for imputations, where a level in front has the bound
-bound_in_front : (family : Family) (measure : Measure) (g : Game) (front : List Level) (outside : ℕ → Bool) (i : ℕ)
-    → i < g.players
-    → IsTrue ((stage_program family measure g front outside).is_column (first_single front + i + g.players))
-    → (family ≡ Imputations) × IsTrue (has_bound front i)
-bound_in_front family measure g front outside i h is_so =
-    let n : ℕ = g.players in
-    let len : ℕ = length (settled_columns n front) in
-    let e = settled_length n front in
-    let same : first_single front + i + n ≡ len + (n + i) = omega (arith, e) in
-    let there = subst (λ (k : ℕ). IsTrue ((stage_program family measure g front outside).is_column k)) same is_so in
+bound_in_front : (q : Stage) (outside : ℕ → Bool) (i : ℕ) → i < q.game.players
+    → IsTrue ((program_of q outside).is_column (first_single q.front + i + q.game.players))
+    → (q.family ≡ Imputations) × IsTrue (has_bound q.front i)
+bound_in_front q outside i h is_so =
+    let n : ℕ = q.game.players in
+    let len : ℕ = length (settled_columns n q.front) in
+    let e = settled_length n q.front in
+    let same : first_single q.front + i + n ≡ len + (n + i) = omega (arith, e) in
+    let there = subst (λ (k : ℕ). IsTrue ((program_of q outside).is_column k)) same is_so in
     let t : nat_lt (len + (n + i)) len ≡ false = grind (arith, nat_tests) in
     let v : len + (n + i) - len ≡ n + i = omega arith in
     let t' : nat_lt (n + i) n ≡ false = grind (arith, nat_tests) in
     let u : nat_lt (n + i) (n + n) ≡ true = grind (arith, nat_tests) in
     let w : n + i - n ≡ i = omega arith in
     let both = rw w at (rw u at (rw t' at (rw v at (rw t at there)))) in (
-      imputations_of family (and_left (is_imputations family) (has_bound front i) both),
-      and_right (is_imputations family) (has_bound front i) both,
+      imputations_of q.family (and_left (is_imputations q.family) (has_bound q.front i) both),
+      and_right (is_imputations q.family) (has_bound q.front i) both,
     )
 
 -- a weight on the negated column of a player's bound
-front_bound : (family : Family) (measure : Measure) (g : Game) (front : List Level) (outside : ℕ → Bool)
-    (ws : List (ℕ × ℤ)) (i : ℕ) → AreWeights (stage_program family measure g front outside) ws
-    → AllByRecursion (λ w. pos 1 ≤ℤ w.1) ws → i < g.players
-    → pos 1 ≤ℤ number_at ws (first_single front + i + g.players)
-    → (family ≡ Imputations) × IsTrue (has_bound front i)
-front_bound family measure g front outside ws i are positive h some =
-    bound_in_front family measure g front outside i h
-    (on_column (stage_program family measure g front outside).is_column ws (first_single front + i + g.players)
-    are.0 (weight_of ws (first_single front + i + g.players) positive some))
+front_bound : (q : Stage) (outside : ℕ → Bool) (ws : List (ℕ × ℤ)) (i : ℕ) → AreWeights (program_of q outside) ws
+    → AllByRecursion (λ w. pos 1 ≤ℤ w.1) ws → i < q.game.players
+    → pos 1 ≤ℤ number_at ws (first_single q.front + i + q.game.players)
+    → (q.family ≡ Imputations) × IsTrue (has_bound q.front i)
+front_bound q outside ws i are positive h some =
+    bound_in_front q outside i h
+    (on_column (program_of q outside).is_column ws (first_single q.front + i + q.game.players)
+    are.0 (weight_of ws (first_single q.front + i + q.game.players) positive some))
 
 single_id-is : (n : ℕ) (front : List Level) (i : ℕ) → first_single front + i ≡ single_id n front i
 single_id-is n front i = let e = settled_length n front in omega (arith, e)
 
-bound_comes : (family : Family) (measure : Measure) (g : Game) (front : List Level) (outside : ℕ → Bool)
-    (ws : List (ℕ × ℤ)) (i : ℕ) → AreWeights (stage_program family measure g front outside) ws
-    → AllByRecursion (λ w. pos 1 ≤ℤ w.1) ws → i < g.players
-    → net ws (first_single front + i) (first_single front + i + g.players) ≢ pos 0
-    → BoundComes family g front ws (i, net ws (first_single front + i) (first_single front + i + g.players))
-bound_comes family measure g front outside ws i are positive h some =
+bound_comes : (q : Stage) (outside : ℕ → Bool) (ws : List (ℕ × ℤ)) (i : ℕ) → AreWeights (program_of q outside) ws
+    → AllByRecursion (λ w. pos 1 ≤ℤ w.1) ws → i < q.game.players
+    → net ws (first_single q.front + i) (first_single q.front + i + q.game.players) ≢ pos 0
+    → BoundComes q ws (i, net ws (first_single q.front + i) (first_single q.front + i + q.game.players))
+bound_comes q outside ws i are positive h some =
     by_lt_z (pos 0) z
     (λ up.
     let one : pos 1 ≤ℤ number_at ws (first + i) = omega (arith, linear, up, low) in (
       h,
       inl (
         omega (arith, linear, up),
-        subst (HasWeight ws) (single_id-is n front i) (weight_of ws (first + i) positive one),
+        subst (HasWeight ws) (single_id-is n q.front i) (weight_of ws (first + i) positive one),
       ),
     ))
     (λ down.
     let one : pos 1 ≤ℤ number_at ws (first + i + n) =
     below z (number_at ws (first + i)) (number_at ws (first + i + n)) refl some down low' in
-    (h, inr (front_bound family measure g front outside ws i are positive h one)))
+    (h, inr (front_bound q outside ws i are positive h one)))
   where
     n : ℕ
-    n = g.players
+    n = q.game.players
 
     first : ℕ
-    first = first_single front
+    first = first_single q.front
 
     z : ℤ
     z = net ws (first + i) (first + i + n)
@@ -188,15 +186,15 @@ at_least z h =
     elim (true_or_false (int_le (pos 1) z)) [ inl up ↦ up | inr down ↦ absurd (omega (arith, linear, h, down)) ]
 
 -- a weight on a player's column gives a bound in front or a bound of the level
-bound_known : (family : Family) (measure : Measure) (g : Game) (front : List Level) (outside : ℕ → Bool)
-    (ws : List (ℕ × ℤ)) (i : ℕ) → AreWeights (stage_program family measure g front outside) ws
-    → AllByRecursion (λ w. pos 1 ≤ℤ w.1) ws → i < g.players → HasWeight ws (single_id g.players front i)
-    → IsTrue (has_bound front i)
+bound_known : (q : Stage) (outside : ℕ → Bool)
+    (ws : List (ℕ × ℤ)) (i : ℕ) → AreWeights (program_of q outside) ws
+    → AllByRecursion (λ w. pos 1 ≤ℤ w.1) ws → i < q.game.players → HasWeight ws (single_id q.game.players q.front i)
+    → IsTrue (has_bound q.front i)
     ⊎ (list_any (λ b. nat_eq b.0 i && int_le (pos 1) b.1)
-    (bound_pairs ws (first_single front) g.players g.players) ≡ true)
-bound_known family measure g front outside ws i are positive h has =
+    (bound_pairs ws (first_single q.front) q.game.players q.game.players) ≡ true)
+bound_known q outside ws i are positive h has =
     by_lt_z (pos 0) (number_at ws (first + i + n))
-    (λ more. inl (front_bound family measure g front outside ws i are positive h (omega (arith, linear, more))).1)
+    (λ more. inl (front_bound q outside ws i are positive h (omega (arith, linear, more))).1)
     (λ none.
     let one : pos 1 ≤ℤ z = omega (arith, linear, none, plus) in
     let t : nat_eq i i ≡ true = grind (arith, nat_tests) in
@@ -204,10 +202,10 @@ bound_known family measure g front outside ws i are positive h has =
     inr (any_bound test ws first n n i h (λ e. omega (arith, linear, e, one)) (rw t u)))
   where
     n : ℕ
-    n = g.players
+    n = q.game.players
 
     first : ℕ
-    first = first_single front
+    first = first_single q.front
 
     z : ℤ
     z = net ws (first + i) (first + i + n)
@@ -216,40 +214,40 @@ bound_known family measure g front outside ws i are positive h has =
     test b = nat_eq b.0 i && int_le (pos 1) b.1
 
     plus : pos 1 ≤ℤ number_at ws (first + i)
-    plus = number_some ws (first + i) positive (subst (HasWeight ws) (sym (single_id-is n front i)) has)
+    plus = number_some ws (first + i) positive (subst (HasWeight ws) (sym (single_id-is n q.front i)) has)
 
 -- ---- all together
 
-pub followed : (family : Family) (measure : Measure) (g : Game) (front : List Level) (outside : ℕ → Bool)
-    (ws : List (ℕ × ℤ)) (m : List ℤ) (den : ℤ) (l : Level)
-    → AreWeights (stage_program family measure g front outside) ws → AreNumbers ws
-    → IsLevelOf g.players front ws m den l → Follows family measure g front ws l
-followed family measure g front outside ws m den l are numbers is =
-    let n : ℕ = g.players in
+pub followed : (q : Stage) (outside : ℕ → Bool) (best : Optimal) (l : Level)
+    → AreWeights (program_of q outside) best.weights.items → AreNumbers best.weights.items
+    → IsLevelOf q.game.players q.front best l → Follows q best.weights.items l
+followed q outside best l are numbers is =
+    let n : ℕ = q.game.players in
+    let ws : List (ℕ × ℤ) = best.weights.items in
     let positive = numbers.positive in
     record {
       coalitions =
-          subst (AllByRecursion (λ c. (pos 1 ≤ℤ c.1) × HasWeight ws (outer_id n front c.0))) (sym is.coalitions)
-          (outer_weigh n front ws positive);
+          subst (AllByRecursion (λ c. (pos 1 ≤ℤ c.1) × HasWeight ws (outer_id n q.front c.0))) (sym is.coalitions)
+          (outer_weigh n q.front ws positive);
       bounds =
-          subst (AllByRecursion (BoundComes family g front ws)) (sym is.bounds)
-          (all_bound (BoundComes family g front ws) ws (first_single front) n n
-          (λ i lt some. bound_comes family measure g front outside ws i are positive lt some));
+          subst (AllByRecursion (BoundComes q ws)) (sym is.bounds)
+          (all_bound (BoundComes q ws) ws (first_single q.front) n n
+          (λ i lt some. bound_comes q outside ws i are positive lt some));
       all_coalitions = λ s has. or_left (list_any (λ c. nat_eq c.0 s) l.coalitions) false
-          (ap (list_any (λ c. nat_eq c.0 s)) is.coalitions ∙ outer_listed n front ws s has);
+          (ap (list_any (λ c. nat_eq c.0 s)) is.coalitions ∙ outer_listed n q.front ws s has);
       all_bounds = λ i lt has. joined i
-          (elim (bound_known family measure g front outside ws i are positive lt has) [
+          (elim (bound_known q outside ws i are positive lt has) [
             | inl old ↦ inl old
             | inr new ↦ inr (ap (list_any (λ b. nat_eq b.0 i && int_le (pos 1) b.1)) is.bounds ∙ new)
           ]);
-      sums = level_sums measure n front ws m den l is;
+      sums = level_sums q.measure n q.front best l is;
     }
   where
     joined : (i : ℕ)
-        → IsTrue (has_bound front i) ⊎ (list_any (λ b. nat_eq b.0 i && int_le (pos 1) b.1) l.bounds ≡ true)
-        → IsTrue (has_bound (front ++ l ∷ []) i)
+        → IsTrue (has_bound q.front i) ⊎ (list_any (λ b. nat_eq b.0 i && int_le (pos 1) b.1) l.bounds ≡ true)
+        → IsTrue (has_bound (q.front ++ l ∷ []) i)
     joined i (inl old) =
-        any_left (λ l. list_any (λ b. nat_eq b.0 i && int_le (pos 1) b.1) l.bounds) front (l ∷ []) old
+        any_left (λ l. list_any (λ b. nat_eq b.0 i && int_le (pos 1) b.1) l.bounds) q.front (l ∷ []) old
     joined i (inr new) =
-        any_right (λ l. list_any (λ b. nat_eq b.0 i && int_le (pos 1) b.1) l.bounds) front (l ∷ [])
+        any_right (λ l. list_any (λ b. nat_eq b.0 i && int_le (pos 1) b.1) l.bounds) q.front (l ∷ [])
         (or_left (list_any (λ b. nat_eq b.0 i && int_le (pos 1) b.1) l.bounds) false new)

@@ -10,29 +10,27 @@ use Rattle.definitions.proofs.Ring.{linear, mul-zeroℤ, mul-oneℤ, zero-mulℤ
 use Rattle.definitions.specs.Sums.{weighted_sum}
 use Rattle.definitions.specs.Coalitions.{has_player, singleton, grand_coalition, weight_at}
 use Rattle.definitions.specs.Measures.{divisor}
-use Rattle.definitions.specs.Games.{Game}
 use Rattle.definitions.specs.Certificates.{Level, number_at, IsOutside}
 use Rattle.definitions.specs.Programs.{Program}
-use Rattle.definitions.specs.declared.Family.{Family}
 use Rattle.definitions.specs.declared.Measure.{Measure}
 use Rattle.separation.specs.Stage.{signed, plus_entry, entry_of, earlier_of, doubled}
-use Rattle.separation.specs.Stage.{settled_columns, no_column, column, stage_program}
+use Rattle.separation.specs.Stage.{settled_columns, no_column, column}
 use Rattle.definitions.proofs.Members.{has_player-singleton, has_player-singleton_other}
 use Rattle.definitions.specs.declared.Mode.TheVariants.{Span}
-use Rattle.nested_programs.specs.Chain.{outer_id, single_id, HasWeight, Stage, StageHolds}
+use Rattle.nested_programs.specs.Stage.{Stage, program_of}
+use Rattle.nested_programs.specs.Chain.{outer_id, single_id, HasWeight, StageAnswer, Answers}
 use Rattle.nested_programs.proofs.Reading.{each_of, earlier_rows}
 use Rattle.nested_programs.proofs.Slack.{Columns, tight_optimal}
 use Rattle.nested_programs.proofs.Advance.{BoundComes, column_outer, column_single}
 use Rattle.definitions.proofs.Cases.{same_or_other, true_or_false}
 use Rattle.definitions.proofs.Alls.{all_weaken}
 
-pub level_balanced : (family : Family) (measure : Measure) (g : Game) (front : List Level) (t : Stage)
-    → StageHolds family measure g front t → (i : ℕ) → i < g.players
+pub level_balanced : (q : Stage) (t : StageAnswer) → Answers q t → (i : ℕ) → i < q.game.players
     → weight_at t.level.coalitions i +ℤ weight_at t.level.earlier i +ℤ number_at t.level.bounds i ≡ t.level.total
-level_balanced family measure g front t holds i h =
+level_balanced q t holds i h =
     let row = holds.optimal.0.2 i (omega arith) in
-    let u : nat_eq i (g.players + length front) ≡ false = grind (arith, nat_tests) in
-    let zero_right : t.weight_den *ℤ (if nat_eq i (g.players + length front) then pos 1 else pos 0) ≡ pos 0 =
+    let u : nat_eq i (q.game.players + length q.front) ≡ false = grind (arith, nat_tests) in
+    let zero_right : t.weight_den *ℤ (if nat_eq i (q.game.players + length q.front) then pos 1 else pos 0) ≡ pos 0 =
     rw u (mul-zeroℤ t.weight_den) in
     omega (arith, linear, holds.follows.sums i h, row, zero_right)
 
@@ -129,30 +127,29 @@ some_in [] s h = absurd (false≢true h)
 some_in (c ∷ cs) s h = omega arith
 
 -- the level of an optimal stage has a coalition
-pub level_some : (family : Family) (measure : Measure) (g : Game) (front : List Level) (t : Stage)
-    → StageHolds family measure g front t → 1 ≤ length t.level.coalitions
-level_some family measure g front t holds =
+pub level_some : (q : Stage) (t : StageAnswer) → Answers q t → 1 ≤ length t.level.coalitions
+level_some q t holds =
     elim
-    (some_outer measure (stage_program family measure g front t.outside) g.players front t.weights
+    (some_outer q.measure (program_of q t.outside) q.game.players q.front t.weights
     holds.optimal.0.0.0) [
       | inl found ↦ some_in t.level.coalitions found.0 (holds.follows.all_coalitions found.0 found.1)
       | inr none ↦
-          let row = holds.optimal.0.2 (g.players + length front) (omega arith) in
-          let u : nat_eq (g.players + length front) (g.players + length front) ≡ true = grind (arith, nat_tests) in
+          let row = holds.optimal.0.2 (q.game.players + length q.front) (omega arith) in
+          let u : nat_eq (q.game.players + length q.front) (q.game.players + length q.front) ≡ true =
+          grind (arith, nat_tests) in
           let right : t.weight_den
-          *ℤ (if nat_eq (g.players + length front) (g.players + length front) then pos 1 else pos 0)
+          *ℤ (if nat_eq (q.game.players + length q.front) (q.game.players + length q.front) then pos 1 else pos 0)
           ≡ t.weight_den = rw u (mul-oneℤ t.weight_den) in
           absurd (omega (arith, linear, row, right, none, holds.optimal.0.1))
     ]
 
 -- ---- the coalitions of a level were outside
 
-outer_test : (family : Family) (measure : Measure) (g : Game) (front : List Level) (outside : ℕ → Bool) (s : ℕ)
-    → IsTrue ((stage_program family measure g front outside).is_column (outer_id g.players front s))
-    → IsTrue (outside s)
-outer_test family measure g front outside s is_so =
-    let n : ℕ = g.players in
-    let len : ℕ = length (settled_columns n front) in
+outer_test : (q : Stage) (outside : ℕ → Bool) (s : ℕ)
+    → IsTrue ((program_of q outside).is_column (outer_id q.game.players q.front s)) → IsTrue (outside s)
+outer_test q outside s is_so =
+    let n : ℕ = q.game.players in
+    let len : ℕ = length (settled_columns n q.front) in
     let t : nat_lt (len + (n + n + s)) len ≡ false = grind (arith, nat_tests) in
     let v : len + (n + n + s) - len ≡ n + n + s = omega arith in
     let t' : nat_lt (n + n + s) n ≡ false = grind (arith, nat_tests) in
@@ -161,29 +158,28 @@ outer_test family measure g front outside s is_so =
     rw w at (rw u at (rw t' at (rw v at (rw t at is_so))))
 
 -- so each stage settles more than those in front
-pub level_outside : (family : Family) (measure : Measure) (g : Game) (front : List Level) (t : Stage)
-    → StageHolds family measure g front t
-    → AllByRecursion (λ c. IsOutside Span g.players front c.0) t.level.coalitions
-level_outside family measure g front t holds =
-    all_weaken (λ c. (pos 1 ≤ℤ c.1) × HasWeight t.weights (outer_id g.players front c.0))
-    (λ c. IsOutside Span g.players front c.0) t.level.coalitions
+pub level_outside : (q : Stage) (t : StageAnswer) → Answers q t
+    → AllByRecursion (λ c. IsOutside Span q.game.players q.front c.0) t.level.coalitions
+level_outside q t holds =
+    all_weaken (λ c. (pos 1 ≤ℤ c.1) × HasWeight t.weights (outer_id q.game.players q.front c.0))
+    (λ c. IsOutside Span q.game.players q.front c.0) t.level.coalitions
     (λ c h. (holds.decides c.0).0
-    (outer_test family measure g front t.outside c.0
-    (tight_optimal (stage_program family measure g front t.outside) t.weights t.weight_den t.multipliers t.den
-    holds.optimal (outer_id g.players front c.0) h.1).0))
+    (outer_test q t.outside c.0
+    (tight_optimal (program_of q t.outside) t.weights t.weight_den t.multipliers t.den
+    holds.optimal (outer_id q.game.players q.front c.0) h.1).0))
     holds.follows.coalitions
 
-pub level_proper : (family : Family) (measure : Measure) (g : Game) (front : List Level) (t : Stage)
-    → StageHolds family measure g front t
-    → AllByRecursion (λ c. (0 < c.0) × (c.0 < grand_coalition g.players)) t.level.coalitions
-level_proper family measure g front t holds =
-    all_weaken (λ c. IsOutside Span g.players front c.0) (λ c. (0 < c.0) × (c.0 < grand_coalition g.players))
-    t.level.coalitions (λ c h. (h.0, h.1)) (level_outside family measure g front t holds)
+pub level_proper : (q : Stage) (t : StageAnswer) → Answers q t
+    → AllByRecursion (λ c. (0 < c.0) × (c.0 < grand_coalition q.game.players)) t.level.coalitions
+level_proper q t holds =
+    all_weaken (λ c. IsOutside Span q.game.players q.front c.0)
+    (λ c. (0 < c.0) × (c.0 < grand_coalition q.game.players))
+    t.level.coalitions (λ c h. (h.0, h.1)) (level_outside q t holds)
 
-pub level_players : (family : Family) (measure : Measure) (g : Game) (front : List Level) (t : Stage)
-    → StageHolds family measure g front t → AllByRecursion (λ b. b.0 < g.players) t.level.bounds
-level_players family measure g front t holds =
-    all_weaken (BoundComes family g front t.weights) (λ b. b.0 < g.players) t.level.bounds (λ b h. h.0)
+pub level_players : (q : Stage) (t : StageAnswer) → Answers q t
+    → AllByRecursion (λ b. b.0 < q.game.players) t.level.bounds
+level_players q t holds =
+    all_weaken (BoundComes q t.weights) (λ b. b.0 < q.game.players) t.level.bounds (λ b h. h.0)
     holds.follows.bounds
 
 -- ---- the entries of a column in a player's row, for the pass that adds up a level

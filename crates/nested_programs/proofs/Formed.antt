@@ -1,13 +1,13 @@
 -- The level of a stage has the form of a certificate's level, and so has a chain with one level more.
-use Rattle.std.proofs.Common.{◌≡◌, ℕ, ◌+◌, ◌*◌, ◌^◌, ◌<◌, ◌≤◌, true, IsTrue, nat_eq, List, [], ◌∷◌}
+use Rattle.std.proofs.Common.{◌≡◌, ℕ, ◌+◌, ◌*◌, ◌^◌, ◌<◌, ◌≤◌, Bool, true, IsTrue, nat_eq, List, [], ◌∷◌}
 use Rattle.std.proofs.Common.{◌++◌, length, map, ℤ, unsigned_abs, sym, subst, arith}
 use Rattle.std.specs.List.{list_any, AllByRecursion, IsDistinct}
-use Rattle.definitions.specs.Games.{Game}
 use Rattle.definitions.specs.Certificates.{Level, is_listed, Ascends, IsSmall, LevelForm, LevelsForm}
-use Rattle.definitions.specs.declared.Family.{Family}
-use Rattle.definitions.specs.declared.Measure.{Measure}
 use Rattle.separation.specs.Stage.{earlier_of}
-use Rattle.nested_programs.specs.Chain.{Stage, StageHolds}
+use Rattle.simplex.specs.declared.answer.Optimal.{Optimal}
+use Rattle.nested_programs.specs.Stage.{Stage}
+use Rattle.nested_programs.specs.Chain.{StageAnswer, Answers}
+use Rattle.nested_programs.specs.Stages.{answer_of}
 use Rattle.nested_programs.specs.Numbers.{AreNumbers, first_single, outer_pairs, net, earlier_pairs, IsLevelOf}
 use Rattle.nested_programs.proofs.Advance.{append_assoc}
 use Rattle.nested_programs.proofs.Chain.{append_none}
@@ -47,9 +47,10 @@ earlier_listed k (l ∷ levels) =
 
 -- ---- the excess, the keys and the numbers of a stage's level
 
-level_listed : (n : ℕ) (front : List Level) (ws : List (ℕ × ℤ)) (m : List ℤ) (den : ℤ) (l : Level)
-    → IsLevelOf n front ws m den l → AllByRecursion (λ c. IsTrue (is_listed front c.0)) l.earlier
-level_listed n front ws m den l is =
+level_listed : (n : ℕ) (front : List Level) (best : Optimal) (l : Level)
+    → IsLevelOf n front best l → AllByRecursion (λ c. IsTrue (is_listed front c.0)) l.earlier
+level_listed n front best l is =
+    let ws : List (ℕ × ℤ) = best.weights.items in
     subst (AllByRecursion (λ c. is_listed front c.0 ≡ true)) (sym is.earlier)
     (placed_all (λ c. is_listed front c.0 ≡ true) (earlier_pairs ws 2 (earlier_of 0 front))
     (earlier_all (λ c. is_listed front c.0 ≡ true) ws 2 (earlier_of 0 front)
@@ -59,9 +60,10 @@ level_listed n front ws m den l is =
 below_63 : (a : ℕ) → a < 2 ^ 62 → a < 2 ^ 63
 below_63 a h = omega arith
 
-coalitions_small : (n : ℕ) (front : List Level) (ws : List (ℕ × ℤ)) (m : List ℤ) (den : ℤ) (l : Level)
-    → IsLevelOf n front ws m den l → AreNumbers ws → AllByRecursion (λ p. IsSmall p.1) l.coalitions
-coalitions_small n front ws m den l is numbers =
+coalitions_small : (n : ℕ) (front : List Level) (best : Optimal) (l : Level)
+    → IsLevelOf n front best l → AreNumbers best.weights.items → AllByRecursion (λ p. IsSmall p.1) l.coalitions
+coalitions_small n front best l is numbers =
+    let ws : List (ℕ × ℤ) = best.weights.items in
     let first : ℕ = first_single front + (n + n) in
     subst (AllByRecursion (λ p. IsSmall p.1)) (sym is.coalitions)
     (placed_all (λ p. IsSmall p.1) (outer_pairs first ws)
@@ -69,17 +71,19 @@ coalitions_small n front ws m den l is numbers =
     (all_weaken (λ w. unsigned_abs w.1 < 2 ^ 62) (λ w. (s : ℕ) → IsSmall w.1) ws
     (λ w h s. below_63 (unsigned_abs w.1) h) numbers.small)))
 
-earlier_small : (n : ℕ) (front : List Level) (ws : List (ℕ × ℤ)) (m : List ℤ) (den : ℤ) (l : Level)
-    → IsLevelOf n front ws m den l → AreNumbers ws → AllByRecursion (λ p. IsSmall p.1) l.earlier
-earlier_small n front ws m den l is numbers =
+earlier_small : (n : ℕ) (front : List Level) (best : Optimal) (l : Level)
+    → IsLevelOf n front best l → AreNumbers best.weights.items → AllByRecursion (λ p. IsSmall p.1) l.earlier
+earlier_small n front best l is numbers =
+    let ws : List (ℕ × ℤ) = best.weights.items in
     subst (AllByRecursion (λ p. IsSmall p.1)) (sym is.earlier)
     (placed_all (λ p. IsSmall p.1) (earlier_pairs ws 2 (earlier_of 0 front))
     (earlier_all (λ p. IsSmall p.1) ws 2 (earlier_of 0 front)
     (all_any (λ c. (a b : ℕ) → IsSmall (net ws a b)) (earlier_of 0 front) (λ c a b. net_small ws a b numbers))))
 
-bounds_small : (n : ℕ) (front : List Level) (ws : List (ℕ × ℤ)) (m : List ℤ) (den : ℤ) (l : Level)
-    → IsLevelOf n front ws m den l → AreNumbers ws → AllByRecursion (λ p. IsSmall p.1) l.bounds
-bounds_small n front ws m den l is numbers =
+bounds_small : (n : ℕ) (front : List Level) (best : Optimal) (l : Level)
+    → IsLevelOf n front best l → AreNumbers best.weights.items → AllByRecursion (λ p. IsSmall p.1) l.bounds
+bounds_small n front best l is numbers =
+    let ws : List (ℕ × ℤ) = best.weights.items in
     subst (AllByRecursion (λ p. IsSmall p.1)) (sym is.bounds)
     (bound_all (λ p. IsSmall p.1) ws (first_single front) n n (λ k a b lt. net_small ws a b numbers))
 
@@ -89,40 +93,40 @@ fewer : (n a b c : ℕ) → a + b + c < 2 * n → n ≤ 16 → (a ≤ 65536) × 
 fewer n a b c h k = (omega arith, omega arith)
 
 -- the level of a stage has its form
-pub level_formed : (family : Family) (measure : Measure) (g : Game) (front : List Level) (t : Stage)
-    → StageHolds family measure g front t → AreNumbers t.weights
-    → IsLevelOf g.players front t.weights t.multipliers t.den t.level
-    → IsDistinct nat_eq (map (λ c. c.0) (earlier_of 0 front)) → length t.weights ≤ g.players + (length front + 1)
-    → length front + 2 ≤ g.players → g.players ≤ 16 → LevelForm g.players front t.level
-level_formed family measure g front t holds numbers is apart few low most =
-    let n : ℕ = g.players in
-    let l : Level = t.level in
-    let ws : List (ℕ × ℤ) = t.weights in
+pub level_formed : (q : Stage) (best : Optimal) (outside : ℕ → Bool) (l : Level)
+    → Answers q (answer_of l outside best) → AreNumbers best.weights.items → IsLevelOf q.game.players q.front best l
+    → IsDistinct nat_eq (map (λ c. c.0) (earlier_of 0 q.front))
+    → length best.weights.items ≤ q.game.players + (length q.front + 1) → length q.front + 2 ≤ q.game.players
+    → q.game.players ≤ 16 → LevelForm q.game.players q.front l
+level_formed q best outside l holds numbers is apart few low most =
+    let n : ℕ = q.game.players in
+    let t : StageAnswer = answer_of l outside best in
+    let ws : List (ℕ × ℤ) = best.weights.items in
     let entries =
     fewer n (length l.coalitions) (length l.earlier) (length l.bounds)
-    (level_short n front ws t.multipliers t.den l is few low) most in
+    (level_short n q.front best l is few low) most in
     record {
       fraction = is.excess.reduced.positive;
-      some = level_some family measure g front t holds;
+      some = level_some q t holds;
       few = entries.0;
       few_earlier = entries.1;
-      proper = level_proper family measure g front t holds;
-      listed = level_listed n front ws t.multipliers t.den l is;
-      players = level_players family measure g front t holds;
+      proper = level_proper q t holds;
+      listed = level_listed n q.front best l is;
+      players = level_players q t holds;
       ascend =
           subst (Ascends 0) (sym is.coalitions)
-          (placed_ascends (outer_pairs (first_single front + (n + n)) ws)
-          (outer_apart (first_single front + (n + n)) ws numbers.distinct));
+          (placed_ascends (outer_pairs (first_single q.front + (n + n)) ws)
+          (outer_apart (first_single q.front + (n + n)) ws numbers.distinct));
       earlier_ascend =
           subst (Ascends 0) (sym is.earlier)
-          (placed_ascends (earlier_pairs ws 2 (earlier_of 0 front))
-          (earlier_apart ws 2 (earlier_of 0 front) apart));
-      bounds_ascend = subst (Ascends 0) (sym is.bounds) (bound_ascends ws (first_single front) n n);
+          (placed_ascends (earlier_pairs ws 2 (earlier_of 0 q.front))
+          (earlier_apart ws 2 (earlier_of 0 q.front) apart));
+      bounds_ascend = subst (Ascends 0) (sym is.bounds) (bound_ascends ws (first_single q.front) n n);
       small = all_join (λ p. IsSmall p.1) (l.coalitions ++ l.earlier) l.bounds
           (all_join (λ p. IsSmall p.1) l.coalitions l.earlier
-          (coalitions_small n front ws t.multipliers t.den l is numbers)
-          (earlier_small n front ws t.multipliers t.den l is numbers))
-          (bounds_small n front ws t.multipliers t.den l is numbers);
+          (coalitions_small n q.front best l is numbers)
+          (earlier_small n q.front best l is numbers))
+          (bounds_small n q.front best l is numbers);
       total_small = subst IsSmall (sym is.total) (net_small ws 1 0 numbers);
     }
 

@@ -1,14 +1,11 @@
 -- The excess of each level of a chain, which is the optimum of its own stage, is what multipliers that settle all
 -- levels have in its row.
-use Rattle.std.proofs.Common.{◌≡◌, ℕ, List, [], ◌∷◌, ◌++◌, length, ℤ, pos, ◌*ℤ◌, ◌≤ℤ◌, sym, ap, subst, ◌∙◌, arith}
+use Rattle.std.proofs.Common.{◌≡◌, ℕ, List, [], ◌∷◌, length, ℤ, pos, ◌*ℤ◌, ◌≤ℤ◌, sym, ap, subst, ◌∙◌, arith}
 use Rattle.definitions.proofs.Ring.{linear, mul_left_commℤ, mul-cancelℤ}
 use lib.IntN.{*ℤ_comm}
-use Rattle.definitions.specs.Games.{Game}
-use Rattle.definitions.specs.Certificates.{Level}
-use Rattle.definitions.specs.declared.Family.{Family}
-use Rattle.definitions.specs.declared.Measure.{Measure}
+use Rattle.nested_programs.specs.Stage.{Stage, with_front, behind}
 use Rattle.nested_programs.specs.Reading.{excess_of}
-use Rattle.nested_programs.specs.Chain.{Stage, levels_of, IsChain, HaveExcesses}
+use Rattle.nested_programs.specs.Chain.{StageAnswer, levels_of, IsChain, HaveExcesses, after}
 use Rattle.nested_programs.specs.Stages.{OwnExcesses}
 use Rattle.nested_programs.proofs.Advance.{Reads, append_assoc}
 use Rattle.nested_programs.proofs.Chain.{excess_optimum, length_more}
@@ -22,20 +19,19 @@ common_value a b c d e f one h k =
     turn : (x y z : ℤ) → x *ℤ (y *ℤ z) ≡ z *ℤ (y *ℤ x)
     turn x y z = ap (λ u. x *ℤ u) (*ℤ_comm y z) ∙ mul_left_commℤ x z y ∙ ap (λ u. z *ℤ u) (*ℤ_comm x y)
 
-pub have_excesses : (family : Family) (measure : Measure) (g : Game) (front : List Level) (ts : List Stage)
-    (m : List ℤ) (den : ℤ) → IsChain family measure g front ts
-    → Reads family measure g (front ++ levels_of ts) m den → OwnExcesses g (length front) ts
-    → HaveExcesses g m den (length front) (levels_of ts)
-have_excesses family measure g front [] m den chain r own = tt
-have_excesses family measure g front (t ∷ ts) m den chain r own =
+pub have_excesses : (q : Stage) (ts : List StageAnswer) (m : List ℤ) (den : ℤ) → IsChain q ts
+    → Reads (behind q (levels_of ts)) m den → OwnExcesses q.game (length q.front) ts
+    → HaveExcesses q.game m den (length q.front) (levels_of ts)
+have_excesses q [] m den chain r own = tt
+have_excesses q (t ∷ ts) m den chain r own =
     let r' =
-    subst (λ z. Reads family measure g z m den) (sym (append_assoc front (t.level ∷ []) (levels_of ts))) r in
+    subst (λ ls. Reads (with_front q ls) m den) (sym (append_assoc q.front (t.level ∷ []) (levels_of ts))) r in
     let rest =
-    have_excesses family measure g (front ++ t.level ∷ []) ts m den chain.1 r'
-    (subst (λ (k : ℕ). OwnExcesses g k ts) (sym (length_more front t.level)) own.2) in (
-      common_value t.level.excess_num t.level.excess_den den t.den (excess_of g.players m (length front))
-          (excess_of g.players t.multipliers (length front)) chain.0.optimal.1.0 own.0
-          (excess_optimum family measure g front t (levels_of ts) m den chain.0 r'),
+    have_excesses (after q t) ts m den chain.1 r'
+    (subst (λ (k : ℕ). OwnExcesses q.game k ts) (sym (length_more q.front t.level)) own.2) in (
+      common_value t.level.excess_num t.level.excess_den den t.den (excess_of q.game.players m (length q.front))
+          (excess_of q.game.players t.multipliers (length q.front)) chain.0.optimal.1.0 own.0
+          (excess_optimum q t (levels_of ts) m den chain.0 r'),
       own.1,
-      subst (λ (k : ℕ). HaveExcesses g m den k (levels_of ts)) (length_more front t.level) rest,
+      subst (λ (k : ℕ). HaveExcesses q.game m den k (levels_of ts)) (length_more q.front t.level) rest,
     )

@@ -18,7 +18,8 @@ use Rattle.definitions.specs.declared.Family.{Family}
 use Rattle.definitions.specs.declared.Measure.{Measure}
 use Rattle.definitions.specs.declared.Family.TheVariants.{Imputations, Preimputations}
 use Rattle.separation.specs.Stage.{Column, signed, plus_entry, earlier_of, doubled, settled_columns}
-use Rattle.separation.specs.Stage.{further_column, no_column, column, is_imputations, is_further, stage_program}
+use Rattle.separation.specs.Stage.{further_column, no_column, column, is_imputations, is_further}
+use Rattle.nested_programs.specs.Stage.{Stage, program_of}
 use Rattle.nested_programs.specs.Reading.{reached, IsReading, share_of, excess_of}
 use Rattle.definitions.proofs.Cases.{less_same_or_greater, true_or_false, and_left, and_right, and_both}
 use Rattle.separation.proofs.Valued.{signed_sum}
@@ -94,17 +95,14 @@ column_value measure n j x e c = signed c.minus (plus_value measure n j x e c.ma
 abbrev pub Meets : Measure → Game → ℕ → (ℕ → ℤ) → (ℕ → ℤ) → ℤ → Column → Type 0
 Meets measure g j x e den c = (den *ℤ signed c.minus (g.worth c.mask)) ≤ℤ column_value measure g.players j x e c
 
-pub column_value-is : (family : Family) (measure : Measure) (g : Game) (front : List Level) (outside : ℕ → Bool)
-    (m : List ℤ) (id : ℕ)
-    → value_of (stage_program family measure g front outside) m
-    ((stage_program family measure g front outside).entry id)
-    ≡ column_value measure g.players (length front + 1) (share_of m) (excess_of g.players m)
-    (column g.players front id)
-column_value-is family measure g front outside m id =
-    let c : Column = column g.players front id in
-    signed_sum (g.players + (length front + 1)) (λ r. slice_index_or m r (pos 0))
-    (plus_entry measure g.players c.mask c.row) c.minus
-    ∙ ap (signed c.minus) (plus_value-is measure g.players (length front + 1) m c.mask c.row)
+pub column_value-is : (q : Stage) (outside : ℕ → Bool) (m : List ℤ) (id : ℕ) → value_of
+    (program_of q outside) m ((program_of q outside).entry id) ≡ column_value q.measure q.game.players
+    (length q.front + 1) (share_of m) (excess_of q.game.players m) (column q.game.players q.front id)
+column_value-is q outside m id =
+    let c : Column = column q.game.players q.front id in
+    signed_sum (q.game.players + (length q.front + 1)) (λ r. slice_index_or m r (pos 0))
+    (plus_entry q.measure q.game.players c.mask c.row) c.minus
+    ∙ ap (signed c.minus) (plus_value-is q.measure q.game.players (length q.front + 1) m c.mask c.row)
 
 -- ---- the columns by kind
 
@@ -179,10 +177,10 @@ imputations_of Imputations h = refl
 imputations_of Preimputations h = absurd (false≢true h)
 
 -- the columns past the settled ones meet their costs
-abbrev FurtherMeet : Family → Measure → Game → List Level → (ℕ → Bool) → (ℕ → ℤ) → (ℕ → ℤ) → ℤ → Type 0
-FurtherMeet family measure g front outside x e den =
-    (i : ℕ) → is_further family g.players front outside i ≡ true
-    → Meets measure g (length front + 1) x e den (further_column g.players (length front) i)
+abbrev FurtherMeet : Stage → (ℕ → Bool) → (ℕ → ℤ) → (ℕ → ℤ) → ℤ → Type 0
+FurtherMeet q outside x e den =
+    (i : ℕ) → is_further q.family q.game.players q.front outside i ≡ true
+    → Meets q.measure q.game (length q.front + 1) x e den (further_column q.game.players (length q.front) i)
 
 pub single_value : (measure : Measure) (n k i : ℕ) (x e : ℕ → ℤ) → i < n
     → plus_value measure n (k + 1) x e (singleton i) (k + 1) ≡ x i
@@ -194,63 +192,62 @@ single_value measure n k i x e h =
       past_row (k + 1) (k + 1) e (pos (divisor measure (singleton i))) (omega arith),
     )
 
-single_of : (family : Family) (measure : Measure) (g : Game) (front : List Level) (outside : ℕ → Bool) (x e : ℕ → ℤ)
-    (den : ℤ) → FurtherMeet family measure g front outside x e den → family ≡ Imputations → (i : ℕ)
-    → i < g.players → (den *ℤ g.worth (singleton i)) ≤ℤ x i
-single_of family measure g front outside x e den meet f i h =
-    let t : nat_lt i g.players ≡ true = grind (arith, nat_tests) in
+single_of : (q : Stage) (outside : ℕ → Bool) (x e : ℕ → ℤ) (den : ℤ) → FurtherMeet q outside x e den
+    → q.family ≡ Imputations → (i : ℕ) → i < q.game.players → (den *ℤ q.game.worth (singleton i)) ≤ℤ x i
+single_of q outside x e den meet f i h =
+    let t : nat_lt i q.game.players ≡ true = grind (arith, nat_tests) in
     let met = rw t at (meet i (rw t (ap is_imputations f))) in
-    omega (arith, linear, met, single_value measure g.players (length front) i x e h)
+    omega (arith, linear, met, single_value q.measure q.game.players (length q.front) i x e h)
 
-bound_of : (family : Family) (measure : Measure) (g : Game) (front : List Level) (outside : ℕ → Bool) (x e : ℕ → ℤ)
-    (den : ℤ) → FurtherMeet family measure g front outside x e den → family ≡ Imputations → (i : ℕ)
-    → i < g.players → IsTrue (has_bound front i) → x i ≡ den *ℤ g.worth (singleton i)
-bound_of family measure g front outside x e den meet f i h b =
-    let t : nat_lt (g.players + i) g.players ≡ false = grind (arith, nat_tests) in
-    let u : nat_lt (g.players + i) (g.players + g.players) ≡ true = grind (arith, nat_tests) in
-    let v : g.players + i - g.players ≡ i = omega arith in
-    let is_so : is_further family g.players front outside (g.players + i) ≡ true =
-    rw t (rw u (rw v (and_both (is_imputations family) (has_bound front i) (ap is_imputations f) b))) in
-    let met = rw v at (rw u at (rw t at (meet (g.players + i) is_so))) in
-    let low = single_of family measure g front outside x e den meet f i h in
-    let value = single_value measure g.players (length front) i x e h in
-    omega (arith, linear, met, low, value, mul-subℤ den (pos 0) (g.worth (singleton i)), mul-zeroℤ den)
+bound_of : (q : Stage) (outside : ℕ → Bool) (x e : ℕ → ℤ) (den : ℤ) → FurtherMeet q outside x e den
+    → q.family ≡ Imputations → (i : ℕ) → i < q.game.players → IsTrue (has_bound q.front i)
+    → x i ≡ den *ℤ q.game.worth (singleton i)
+bound_of q outside x e den meet f i h b =
+    let t : nat_lt (q.game.players + i) q.game.players ≡ false = grind (arith, nat_tests) in
+    let u : nat_lt (q.game.players + i) (q.game.players + q.game.players) ≡ true = grind (arith, nat_tests) in
+    let v : q.game.players + i - q.game.players ≡ i = omega arith in
+    let is_so : is_further q.family q.game.players q.front outside (q.game.players + i) ≡ true =
+    rw t (rw u (rw v (and_both (is_imputations q.family) (has_bound q.front i) (ap is_imputations f) b))) in
+    let met = rw v at (rw u at (rw t at (meet (q.game.players + i) is_so))) in
+    let low = single_of q outside x e den meet f i h in
+    let value = single_value q.measure q.game.players (length q.front) i x e h in
+    omega (arith, linear, met, low, value, mul-subℤ den (pos 0) (q.game.worth (singleton i)), mul-zeroℤ den)
 
-outer_of : (family : Family) (measure : Measure) (g : Game) (front : List Level) (outside : ℕ → Bool) (x e : ℕ → ℤ)
-    (den : ℤ) → FurtherMeet family measure g front outside x e den → (s : ℕ) → IsTrue (outside s)
-    → (den *ℤ g.worth s) ≤ℤ reached measure g.players x e s (length front)
-outer_of family measure g front outside x e den meet s o =
-    let t : nat_lt (g.players + g.players + s) g.players ≡ false = grind (arith, nat_tests) in
-    let u : nat_lt (g.players + g.players + s) (g.players + g.players) ≡ false = grind (arith, nat_tests) in
-    let v : g.players + g.players + s - (g.players + g.players) ≡ s = omega arith in
-    let is_so : is_further family g.players front outside (g.players + g.players + s) ≡ true =
+outer_of : (q : Stage) (outside : ℕ → Bool) (x e : ℕ → ℤ) (den : ℤ) → FurtherMeet q outside x e den → (s : ℕ)
+    → IsTrue (outside s) → (den *ℤ q.game.worth s) ≤ℤ reached q.measure q.game.players x e s (length q.front)
+outer_of q outside x e den meet s o =
+    let t : nat_lt (q.game.players + q.game.players + s) q.game.players ≡ false = grind (arith, nat_tests) in
+    let u : nat_lt (q.game.players + q.game.players + s) (q.game.players + q.game.players) ≡ false =
+    grind (arith, nat_tests) in
+    let v : q.game.players + q.game.players + s - (q.game.players + q.game.players) ≡ s = omega arith in
+    let is_so : is_further q.family q.game.players q.front outside (q.game.players + q.game.players + s) ≡ true =
     rw t (rw u (rw v o)) in
-    let met = rw v at (rw u at (rw t at (meet (g.players + g.players + s) is_so))) in
+    let met = rw v at (rw u at (rw t at (meet (q.game.players + q.game.players + s) is_so))) in
     omega
-    (arith, linear, met, within_row (length front + 1) (length front) e (pos (divisor measure s)) (omega arith))
+    (arith, linear, met, within_row (length q.front + 1) (length q.front) e (pos (divisor q.measure s)) (omega arith))
 
-further_meet : (family : Family) (measure : Measure) (g : Game) (front : List Level) (outside : ℕ → Bool)
-    (x e : ℕ → ℤ) (den : ℤ) → IsReading family measure g front outside x e den
-    → FurtherMeet family measure g front outside x e den
-further_meet family measure g front outside x e den r i is_so = elim (true_or_false (nat_lt i g.players)) [
+further_meet : (q : Stage) (outside : ℕ → Bool) (x e : ℕ → ℤ) (den : ℤ) → IsReading q outside x e den
+    → FurtherMeet q outside x e den
+further_meet q outside x e den r i is_so = elim (true_or_false (nat_lt i q.game.players)) [
   | inl t ↦
-      let h : i < g.players = grind (arith, nat_tests) in
-      let f = imputations_of family (rw t at is_so) in
-      rw t (omega (arith, linear, r.single f i h, single_value measure g.players (length front) i x e h))
-  | inr t ↦ elim (true_or_false (nat_lt i (g.players + g.players))) [
+      let h : i < q.game.players = grind (arith, nat_tests) in
+      let f = imputations_of q.family (rw t at is_so) in
+      rw t (omega (arith, linear, r.single f i h, single_value q.measure q.game.players (length q.front) i x e h))
+  | inr t ↦ elim (true_or_false (nat_lt i (q.game.players + q.game.players))) [
     | inl u ↦
-        let h : i - g.players < g.players = grind (arith, nat_tests) in
+        let h : i - q.game.players < q.game.players = grind (arith, nat_tests) in
         let y = rw u at (rw t at is_so) in
-        let f = imputations_of family (and_left (is_imputations family) (has_bound front (i - g.players)) y) in
-        let b = and_right (is_imputations family) (has_bound front (i - g.players)) y in
+        let f =
+        imputations_of q.family (and_left (is_imputations q.family) (has_bound q.front (i - q.game.players)) y) in
+        let b = and_right (is_imputations q.family) (has_bound q.front (i - q.game.players)) y in
         rw t
         (rw u
         (omega (
           arith,
           linear,
-          r.bound f (i - g.players) h b,
-          single_value measure g.players (length front) (i - g.players) x e h,
-          mul-subℤ den (pos 0) (g.worth (singleton (i - g.players))),
+          r.bound f (i - q.game.players) h b,
+          single_value q.measure q.game.players (length q.front) (i - q.game.players) x e h,
+          mul-subℤ den (pos 0) (q.game.worth (singleton (i - q.game.players))),
           mul-zeroℤ den,
         )))
     | inr u ↦
@@ -260,8 +257,9 @@ further_meet family measure g front outside x e den r i is_so = elim (true_or_fa
         (omega (
           arith,
           linear,
-          r.outer (i - (g.players + g.players)) y,
-          within_row (length front + 1) (length front) e (pos (divisor measure (i - (g.players + g.players))))
+          r.outer (i - (q.game.players + q.game.players)) y,
+          within_row (length q.front + 1) (length q.front) e
+              (pos (divisor q.measure (i - (q.game.players + q.game.players))))
               (omega arith),
         )))
   ]
@@ -300,61 +298,62 @@ whole_value measure n k x e =
 
 -- ---- both directions
 
-pub reading_of : (family : Family) (measure : Measure) (g : Game) (front : List Level) (outside : ℕ → Bool)
-    (m : List ℤ) (den : ℤ) → Bounds (stage_program family measure g front outside) m den
-    → IsReading family measure g front outside (share_of m) (excess_of g.players m) den
-reading_of family measure g front outside m den b =
-    let n : ℕ = g.players in
+pub reading_of : (q : Stage) (outside : ℕ → Bool) (m : List ℤ) (den : ℤ) → Bounds (program_of q outside) m den
+    → IsReading q outside (share_of m) (excess_of q.game.players m) den
+reading_of q outside m den b =
+    let n : ℕ = q.game.players in
     let x : ℕ → ℤ = share_of m in
     let e : ℕ → ℤ = excess_of n m in
-    let len : ℕ = length (settled_columns n front) in
-    let meets : (id : ℕ) → IsTrue ((stage_program family measure g front outside).is_column id)
-    → Meets measure g (length front + 1) x e den (column n front id) = λ id is_so.
-    subst (λ (z : ℤ). (den *ℤ (stage_program family measure g front outside).cost id) ≤ℤ z)
-    (column_value-is family measure g front outside m id) (b.1 id is_so) in
-    let first : AllByRecursion (Meets measure g (length front + 1) x e den) (settled_columns n front) =
-    all_of (Meets measure g (length front + 1) x e den) no_column (settled_columns n front)
+    let len : ℕ = length (settled_columns n q.front) in
+    let meets : (id : ℕ) → IsTrue ((program_of q outside).is_column id)
+    → Meets q.measure q.game (length q.front + 1) x e den (column n q.front id) = λ id is_so.
+    subst (λ (z : ℤ). (den *ℤ (program_of q outside).cost id) ≤ℤ z)
+    (column_value-is q outside m id) (b.1 id is_so) in
+    let first : AllByRecursion (Meets q.measure q.game (length q.front + 1) x e den) (settled_columns n q.front) =
+    all_of (Meets q.measure q.game (length q.front + 1) x e den) no_column (settled_columns n q.front)
     (λ k lt. let t : nat_lt k len ≡ true = grind (arith, nat_tests) in rw t at (meets k (rw t refl))) in
-    let further : FurtherMeet family measure g front outside x e den = λ i is_so.
+    let further : FurtherMeet q outside x e den = λ i is_so.
     (let t : nat_lt (len + i) len ≡ false = grind (arith, nat_tests) in
     let v : len + i - len ≡ i = omega arith in
     rw v at (rw t at (meets (len + i) (rw t (rw v is_so))))) in
     let fixes =
-    fixes_of measure g (length front + 1) x e den ((grand_coalition n, length front + 1) ∷ earlier_of 0 front)
+    fixes_of q.measure q.game (length q.front + 1) x e den
+    ((grand_coalition n, length q.front + 1) ∷ earlier_of 0 q.front)
     first in
     record {
       positive = b.0;
-      whole = sym (fixes.0 ∙ whole_value measure n (length front) x e);
-      settled = settled_of measure g front x e den fixes.1;
-      single = single_of family measure g front outside x e den further;
-      bound = bound_of family measure g front outside x e den further;
-      outer = outer_of family measure g front outside x e den further;
+      whole = sym (fixes.0 ∙ whole_value q.measure n (length q.front) x e);
+      settled = settled_of q.measure q.game q.front x e den fixes.1;
+      single = single_of q outside x e den further;
+      bound = bound_of q outside x e den further;
+      outer = outer_of q outside x e den further;
     }
 
-pub of_reading : (family : Family) (measure : Measure) (g : Game) (front : List Level) (outside : ℕ → Bool)
-    (m : List ℤ) (den : ℤ) → IsReading family measure g front outside (share_of m) (excess_of g.players m) den
-    → Bounds (stage_program family measure g front outside) m den
-of_reading family measure g front outside m den r =
-    let n : ℕ = g.players in
+pub of_reading : (q : Stage) (outside : ℕ → Bool) (m : List ℤ) (den : ℤ)
+    → IsReading q outside (share_of m) (excess_of q.game.players m) den → Bounds (program_of q outside) m den
+of_reading q outside m den r =
+    let n : ℕ = q.game.players in
     let x : ℕ → ℤ = share_of m in
     let e : ℕ → ℤ = excess_of n m in
-    let len : ℕ = length (settled_columns n front) in
-    let first : AllByRecursion (Meets measure g (length front + 1) x e den) (settled_columns n front) =
-    of_fixes measure g (length front + 1) x e den ((grand_coalition n, length front + 1) ∷ earlier_of 0 front) (
-      sym (whole_value measure n (length front) x e ∙ r.whole),
-      of_settled measure g front x e den r.settled,
+    let len : ℕ = length (settled_columns n q.front) in
+    let first : AllByRecursion (Meets q.measure q.game (length q.front + 1) x e den) (settled_columns n q.front) =
+    of_fixes q.measure q.game (length q.front + 1) x e den
+    ((grand_coalition n, length q.front + 1) ∷ earlier_of 0 q.front) (
+      sym (whole_value q.measure n (length q.front) x e ∙ r.whole),
+      of_settled q.measure q.game q.front x e den r.settled,
     ) in
-    let further = further_meet family measure g front outside x e den r in
-    let meets : (id : ℕ) → IsTrue ((stage_program family measure g front outside).is_column id)
-    → Meets measure g (length front + 1) x e den (column n front id) =
+    let further = further_meet q outside x e den r in
+    let meets : (id : ℕ) → IsTrue ((program_of q outside).is_column id)
+    → Meets q.measure q.game (length q.front + 1) x e den (column n q.front id) =
     λ id is_so. elim (true_or_false (nat_lt id len)) [
       | inl t ↦
           let lt : id < len = grind (arith, nat_tests) in
           rw t
-          (each_of (Meets measure g (length front + 1) x e den) no_column (settled_columns n front) first id lt)
+          (each_of (Meets q.measure q.game (length q.front + 1) x e den) no_column (settled_columns n q.front) first
+          id lt)
       | inr t ↦ rw t (further (id - len) (rw t at is_so))
     ] in (
       r.positive,
-      λ id is_so. subst (λ (z : ℤ). (den *ℤ (stage_program family measure g front outside).cost id) ≤ℤ z)
-          (sym (column_value-is family measure g front outside m id)) (meets id is_so),
+      λ id is_so. subst (λ (z : ℤ). (den *ℤ (program_of q outside).cost id) ≤ℤ z)
+          (sym (column_value-is q outside m id)) (meets id is_so),
     )

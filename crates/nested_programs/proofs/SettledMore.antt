@@ -1,28 +1,25 @@
 -- Each level of a chain settles more than the levels in front of it.
-use Rattle.std.proofs.Common.{List, [], ◌∷◌, ◌++◌, sym, subst}
-use Rattle.definitions.specs.Games.{Game}
-use Rattle.definitions.specs.Certificates.{Level, LevelsForm}
-use Rattle.definitions.specs.declared.Family.{Family}
-use Rattle.definitions.specs.declared.Measure.{Measure}
+use Rattle.std.proofs.Common.{List, [], ◌∷◌, sym, subst}
+use Rattle.definitions.specs.Certificates.{LevelsForm}
 use Rattle.simplex.specs.declared.multipliers.Multipliers.{Multipliers}
 use Rattle.std.specs.Prelude.{Option}
+use Rattle.nested_programs.specs.Stage.{Stage, with_front}
 use Rattle.nested_programs.specs.Answer.{SettleMore}
-use Rattle.nested_programs.specs.Chain.{Stage, levels_of, IsChain}
+use Rattle.nested_programs.specs.Chain.{StageAnswer, levels_of, IsChain, after}
 use Rattle.nested_programs.specs.Stages.{AreDone}
 use Rattle.nested_programs.proofs.Form.{level_outside}
 
-chain_more : (family : Family) (measure : Measure) (g : Game) (front : List Level) (ts : List Stage)
-    → IsChain family measure g front ts → LevelsForm g.players front (levels_of ts)
-    → SettleMore g.players front (levels_of ts)
-chain_more family measure g front [] chain form = tt
-chain_more family measure g front (t ∷ ts) chain form = (
-  record { some = form.0.some; outside = level_outside family measure g front t chain.0 },
-  chain_more family measure g (front ++ t.level ∷ []) ts chain.1 form.1,
+chain_settles_more : (q : Stage) (ts : List StageAnswer) → IsChain q ts
+    → LevelsForm q.game.players q.front (levels_of ts) → SettleMore q.game.players q.front (levels_of ts)
+chain_settles_more q [] chain form = tt
+chain_settles_more q (t ∷ ts) chain form = (
+  record { some = form.0.some; outside = level_outside q t chain.0 },
+  chain_settles_more (after q t) ts chain.1 form.1,
 )
 
-pub settle_more : (family : Family) (measure : Measure) (g : Game) (levels : List Level) (last : Option Multipliers)
-    → AreDone family measure g levels last → SettleMore g.players [] levels
-settle_more family measure g levels last done =
+pub settle_more : (q : Stage) (last : Option Multipliers) → AreDone q last → SettleMore q.game.players [] q.front
+settle_more q last done =
     let s = done.stages in
-    subst (SettleMore g.players []) (sym s.levels_are)
-    (chain_more family measure g [] s.stages s.chain (subst (LevelsForm g.players []) s.levels_are done.form))
+    subst (SettleMore q.game.players []) (sym s.levels_are)
+    (chain_settles_more (with_front q []) s.stages s.chain
+    (subst (LevelsForm q.game.players []) s.levels_are done.form))

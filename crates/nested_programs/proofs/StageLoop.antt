@@ -1,29 +1,27 @@
 -- What the loop over the stages knows where it begins, in a turn, and where it ends.
 use Rattle.std.proofs.Common.{◌≡◌, ℕ, suc, ◌-◌, ◌<◌, ◌≤◌, Bool, true, false, List, [], ◌∷◌, ◌++◌, length, take}
-use Rattle.std.proofs.Common.{drop, ℤ, Option, Some, None, MatchOption, is_some, refl, sym, ap, subst, ◌∙◌, arith}
+use Rattle.std.proofs.Common.{drop, Option, Some, None, MatchOption, is_some, refl, sym, ap, subst, ◌∙◌, arith}
 use Rattle.std.specs.Prelude.{⊤}
 use Rattle.std.specs.List.{AllByRecursion}
 use Rattle.std.proofs.lemmas.Bool.{false≢true}
 use Rattle.definitions.specs.Coalitions.{grand_coalition}
-use Rattle.definitions.specs.Games.{Game}
 use Rattle.definitions.specs.Certificates.{Level, LevelsForm, IsAllFixed}
 use Rattle.definitions.specs.Failures.{IsLeastUnfixed}
-use Rattle.definitions.specs.declared.Family.{Family}
-use Rattle.definitions.specs.declared.Measure.{Measure}
 use Rattle.definitions.specs.declared.Mode.TheVariants.{Span}
+use Rattle.simplex.specs.declared.answer.Optimal.{Optimal}
 use Rattle.simplex.specs.declared.multipliers.Multipliers.{Multipliers}
 use Rattle.kohlberg.specs.Extends.{Extends, IsLevelVector, IsOf}
+use Rattle.nested_programs.specs.Stage.{Stage, with_front}
 use Rattle.nested_programs.specs.Answer.{HasMember}
 use Rattle.nested_programs.specs.Numbers.{IsLevelOf}
 use Rattle.nested_programs.specs.Stages.{IsLeft, IsBest, AreUnderway, AreDone}
 use Rattle.nested_programs.proofs.StageSteps.{start}
 
-pub started : (family : Family) (measure : Measure) (g : Game) (levels : List Level) (kept : List ℕ) → levels ≡ []
-    → kept ≡ grand_coalition g.players ∷ [] → 1 ≤ g.players → g.players ≤ 16 → HasMember family g
-    → AreUnderway family measure g levels kept None
-started family measure g levels kept e f some few member =
-    subst (λ ls. AreUnderway family measure g ls kept None) (sym e)
-    (subst (λ ks. AreUnderway family measure g [] ks None) (sym f) (start family measure g some few member))
+pub started : (q : Stage) (kept : List ℕ) → q.front ≡ [] → kept ≡ grand_coalition q.game.players ∷ []
+    → 1 ≤ q.game.players → q.game.players ≤ 16 → HasMember q.family q.game → AreUnderway q kept None
+started q kept e f some few member =
+    subst (λ ls. AreUnderway (with_front q ls) kept None) (sym e)
+    (subst (λ ks. AreUnderway (with_front q []) ks None) (sym f) (start q some few member))
 
 abbrev Unspanned : ℕ → List Level → Option ℕ → Type 0
 Unspanned n levels o =
@@ -64,15 +62,14 @@ new_only xs ys x k e f =
 
 -- ---- facts of a turn, at the players of the game and the levels so far
 
-pub best_at : (family : Family) (measure : Measure) (g : Game) (shown levels : List Level) (ws : List (ℕ × ℤ))
-    (wden : ℤ) (m : List ℤ) (den : ℤ) → shown ≡ levels → IsBest family measure g shown ws wden m den
-    → IsBest family measure g levels ws wden m den
-best_at family measure g shown levels ws wden m den e h = subst (λ ls. IsBest family measure g ls ws wden m den) e h
+pub best_at : (q : Stage) (shown : List Level) (best : Optimal) → shown ≡ q.front → IsBest (with_front q shown) best
+    → IsBest q best
+best_at q shown best e h = subst (λ ls. IsBest (with_front q ls) best) e h
 
-pub level_at : (k n : ℕ) (shown levels : List Level) (ws : List (ℕ × ℤ)) (m : List ℤ) (den : ℤ) (l : Level) → k ≡ n
-    → shown ≡ levels → IsLevelOf k shown ws m den l → IsLevelOf n levels ws m den l
-level_at k n shown levels ws m den l e f h =
-    subst (λ (j : ℕ). IsLevelOf j levels ws m den l) e (subst (λ ls. IsLevelOf k ls ws m den l) f h)
+pub level_at : (k n : ℕ) (shown levels : List Level) (best : Optimal) (l : Level) → k ≡ n → shown ≡ levels
+    → IsLevelOf k shown best l → IsLevelOf n levels best l
+level_at k n shown levels best l e f h =
+    subst (λ (j : ℕ). IsLevelOf j levels best l) e (subst (λ ls. IsLevelOf k ls best l) f h)
 
 pub extends_at : (k n : ℕ) (old new : List ℕ) (shown added : List Level) → k ≡ n → shown ≡ added
     → Extends k old new (IsLevelVector k shown) → Extends n old new (IsLevelVector n added)
@@ -85,10 +82,9 @@ pub within_at : (k n : ℕ) (shown : List Level) (l : Level) → k ≡ n → sho
 within_at k n shown l e f h =
     subst (AllByRecursion (IsOf k)) (sym f) (subst (λ (j : ℕ). IsOf j l) (sym e) h, tt)
 
-pub ended : (family : Family) (measure : Measure) (g : Game) (levels : List Level) (kept : List ℕ)
-    (last : Option Multipliers) → AreUnderway family measure g levels kept last → IsAllFixed Span g.players levels
-    → AreDone family measure g levels last
-ended family measure g levels kept last h all = record {
+pub ended : (q : Stage) (kept : List ℕ) (last : Option Multipliers) → AreUnderway q kept last
+    → IsAllFixed Span q.game.players q.front → AreDone q last
+ended q kept last h all = record {
   stages = h.stages;
   form = h.form;
   short = h.short;

@@ -1,25 +1,24 @@
 -- From the levels so far to those with the next stage's level.
-use Rattle.std.proofs.Common.{◌≡◌, ℕ, ◌+◌, ◌<◌, ◌≤◌, Bool, true, false, IsTrue, nat_eq, List, []}
+use Rattle.std.proofs.Common.{◌≡◌, ℕ, ◌+◌, ◌<◌, ◌≤◌, true, false, IsTrue, nat_eq, List, []}
 use Rattle.std.proofs.Common.{◌∷◌, ◌++◌, length, length-append, map, ℤ, pos, ◌*ℤ◌, ◌≤ℤ◌, Option}
 use Rattle.std.proofs.Common.{Some, None, refl, sym, ap, subst, ◌∙◌, inl, arith}
 use Rattle.std.specs.List.{list_any, AllByRecursion, IsDistinct}
 use Rattle.std.proofs.lemmas.Bool.Decides.{nat_tests}
 use Rattle.definitions.specs.Coalitions.{grand_coalition}
-use Rattle.definitions.specs.Games.{Game}
 use Rattle.definitions.specs.Certificates.{Level, InSpan, IsOutside, LevelForm, LevelsForm, is_listed}
-use Rattle.definitions.specs.declared.Family.{Family}
-use Rattle.definitions.specs.declared.Measure.{Measure}
 use Rattle.definitions.specs.declared.Mode.TheVariants.{Span}
+use Rattle.simplex.specs.declared.answer.Optimal.{Optimal}
 use Rattle.simplex.specs.declared.multipliers.Multipliers.{Multipliers}
 use Rattle.spans.specs.Span.{IsKept}
 use Rattle.kohlberg.specs.Extends.{Extends, IsLevelVector, SpansFixed}
 use Rattle.kohlberg.proofs.SpanScan.{SpansFixed-start, SpansFixed-more}
 use Rattle.separation.specs.Stage.{earlier_of}
+use Rattle.nested_programs.specs.Stage.{Stage, with_front, behind}
 use Rattle.nested_programs.specs.Answer.{HasMember, IsShort}
 use Rattle.nested_programs.specs.Reading.{excess_of}
-use Rattle.nested_programs.specs.Chain.{Stage, StageHolds}
+use Rattle.nested_programs.specs.Chain.{StageAnswer, Answers, after}
 use Rattle.nested_programs.specs.Numbers.{AreNumbers, IsLevelOf}
-use Rattle.nested_programs.specs.Stages.{IsBest, IsBounded, AreStages, AreUnderway}
+use Rattle.nested_programs.specs.Stages.{IsBest, answer_of, IsBounded, AreStages, AreUnderway}
 use Rattle.nested_programs.proofs.Start.{first_no_ray}
 use Rattle.nested_programs.proofs.Chain.{next_no_ray, length_more, append_none}
 use Rattle.nested_programs.proofs.Form.{level_some, level_outside}
@@ -34,51 +33,41 @@ use Rattle.kohlberg.specs.Solved.{IsLowest}
 
 -- ---- the start
 
-start_bounded : (family : Family) (measure : Measure) (g : Game) → g.players ≤ 16 → HasMember family g
-    → IsBounded family measure g []
-start_bounded family measure g few member outside test =
-    first_no_ray family measure g outside member.0 few
-    (λ s o. let h = test s o in let top = grand_coalition-within g.players in (h.0, omega (arith, h.1, top)))
+start_bounded : (q : Stage) → q.game.players ≤ 16 → HasMember q.family q.game → IsBounded (with_front q [])
+start_bounded q few member outside test =
+    first_no_ray q outside member.0 few
+    (λ s o. let h = test s o in let top = grand_coalition-within q.game.players in (h.0, omega (arith, h.1, top)))
     member.1
 
-pub start : (family : Family) (measure : Measure) (g : Game) → 1 ≤ g.players → g.players ≤ 16 → HasMember family g
-    → AreUnderway family measure g [] (grand_coalition g.players ∷ []) None
-start family measure g some few member = record {
+pub start : (q : Stage) → 1 ≤ q.game.players → q.game.players ≤ 16 → HasMember q.family q.game
+    → AreUnderway (with_front q []) (grand_coalition q.game.players ∷ []) None
+start q some few member = record {
   stages = record { stages = []; levels_are = refl; chain = tt; own = tt; last_is = tt; wide = refl };
   form = tt;
   short = tt;
   lowest = tt;
-  bounded = start_bounded family measure g few member;
-  spans = SpansFixed-start g.players;
+  bounded = start_bounded q few member;
+  spans = SpansFixed-start q.game.players;
   more = omega arith;
   count = omega (arith, some);
 }
 
 -- ---- a stage
 
--- the stage of an optimum and the level that it gives
-abbrev pub stage_of : (Level) → (ℕ → Bool) → List (ℕ × ℤ) → ℤ → List ℤ → ℤ → Stage
-stage_of l outside ws wden m den =
-    record { level = l; outside = outside; weights = ws; weight_den = wden; multipliers = m; den = den }
-
-numbers : (family : Family) (measure : Measure) (g : Game) (front : List Level) (ws : List (ℕ × ℤ)) (wden : ℤ)
-    (m : List ℤ) (den : ℤ) → IsBest family measure g front ws wden m den → AreNumbers ws
-numbers family measure g front ws wden m den best = record {
-  positive = best.answer.form.positive;
-  small = best.answer.form.small;
-  distinct = best.answer.optimal.0.0.1;
+numbers : (q : Stage) (best : Optimal) → IsBest q best → AreNumbers best.weights.items
+numbers q best is_best = record {
+  positive = is_best.answer.form.positive;
+  small = is_best.answer.form.small;
+  distinct = is_best.answer.optimal.0.0.1;
 }
 
-holds : (family : Family) (measure : Measure) (g : Game) (front : List Level) (ws : List (ℕ × ℤ)) (wden : ℤ)
-    (m : List ℤ) (den : ℤ) (l : Level) (best : IsBest family measure g front ws wden m den)
-    → IsLevelOf g.players front ws m den l
-    → StageHolds family measure g front (stage_of l best.outside ws wden m den)
-holds family measure g front ws wden m den l best is = record {
-  decides = best.decides;
-  optimal = best.answer.optimal;
+answers : (q : Stage) (best : Optimal) (l : Level) (is_best : IsBest q best)
+    → IsLevelOf q.game.players q.front best l → Answers q (answer_of l is_best.outside best)
+answers q best l is_best is = record {
+  decides = is_best.decides;
+  optimal = is_best.answer.optimal;
   follows =
-      followed family measure g front best.outside ws m den l best.answer.optimal.0.0
-      (numbers family measure g front ws wden m den best) is;
+      followed q is_best.outside best l is_best.answer.optimal.0.0 (numbers q best is_best) is;
 }
 
 -- ---- what is kept grows
@@ -107,41 +96,38 @@ grown_by old new (k ∷ more) e ne =
     omega (arith, long)
 
 -- a coalition of the level was outside, so more is kept
-kept_grows : (family : Family) (measure : Measure) (g : Game) (front : List Level) (t : Stage) (old new : List ℕ)
-    → StageHolds family measure g front t → SpansFixed g.players old front
-    → Extends g.players old new (IsLevelVector g.players (t.level ∷ [])) → length old < length new
-kept_grows family measure g front t old new h spans more =
+kept_grows : (q : Stage) (t : StageAnswer) (old new : List ℕ) → Answers q t → SpansFixed q.game.players old q.front
+    → Extends q.game.players old new (IsLevelVector q.game.players (t.level ∷ [])) → length old < length new
+kept_grows q t old new h spans more =
     let s =
-    some_listed t.level.coalitions t.level (IsOutside Span g.players front) refl
-    (level_some family measure g front t h) (level_outside family measure g front t h) in
+    some_listed t.level.coalitions t.level (IsOutside Span q.game.players q.front) refl
+    (level_some q t h) (level_outside q t h) in
     grown_by old new more.more more.longer
     (λ e. s.2.2
-    (spans.inside s.0 (subst (λ (ks : List ℕ). InSpan g.players (IsKept ks) s.0) e (more.added s.0 (inl s.1)))))
+    (spans.inside s.0 (subst (λ (ks : List ℕ). InSpan q.game.players (IsKept ks) s.0) e (more.added s.0 (inl s.1)))))
 
-pub kept_grown : (family : Family) (measure : Measure) (g : Game) (front : List Level) (old new : List ℕ)
-    (ws : List (ℕ × ℤ)) (wden : ℤ) (m : List ℤ) (den : ℤ) (l : Level)
-    → IsBest family measure g front ws wden m den → IsLevelOf g.players front ws m den l
-    → SpansFixed g.players old front → Extends g.players old new (IsLevelVector g.players (l ∷ []))
-    → length old < length new
-kept_grown family measure g front old new ws wden m den l best is spans more =
-    kept_grows family measure g front (stage_of l best.outside ws wden m den) old new
-    (holds family measure g front ws wden m den l best is) spans more
+pub kept_grown : (q : Stage) (old new : List ℕ) (best : Optimal) (l : Level) → IsBest q best
+    → IsLevelOf q.game.players q.front best l → SpansFixed q.game.players old q.front
+    → Extends q.game.players old new (IsLevelVector q.game.players (l ∷ [])) → length old < length new
+kept_grown q old new best l is_best is spans more =
+    kept_grows q (answer_of l is_best.outside best) old new (answers q best l is_best is) spans more
 
 -- ---- a stage more
 
-stages_more : (family : Family) (measure : Measure) (g : Game) (levels : List Level) (last : Option Multipliers)
-    (t : Stage) (m : Multipliers) → AreStages family measure g levels last → StageHolds family measure g levels t
-    → t.level.excess_num *ℤ t.den ≡ excess_of g.players t.multipliers (length levels) *ℤ t.level.excess_den
-    → pos 1 ≤ℤ t.level.excess_den → t.multipliers ≡ m.num.items → t.den ≡ m.den → g.players ≤ length m.num.items
-    → AreStages family measure g (levels ++ t.level ∷ []) (Some m)
-stages_more family measure g levels last t m h k own positive e d wide = record {
+stages_more : (q : Stage) (last : Option Multipliers) (t : StageAnswer) (m : Multipliers) → AreStages q last
+    → Answers q t
+    → t.level.excess_num *ℤ t.den ≡ excess_of q.game.players t.multipliers (length q.front) *ℤ t.level.excess_den
+    → pos 1 ≤ℤ t.level.excess_den → t.multipliers ≡ m.num.items → t.den ≡ m.den
+    → q.game.players ≤ length m.num.items → AreStages (after q t) (Some m)
+stages_more q last t m h k own positive e d wide = record {
   stages = h.stages ++ t ∷ [];
   levels_are = ap (λ ls. ls ++ t.level ∷ []) h.levels_are ∙ sym (levels_more h.stages t);
   chain =
-      chain_more family measure g [] h.stages t h.chain (subst (λ z. StageHolds family measure g z t) h.levels_are k);
+      chain_more (with_front q []) h.stages t h.chain (subst (λ ls. Answers (with_front q ls) t) h.levels_are k);
   own =
-      own_more g 0 h.stages t h.own (
-        subst (λ (j : ℕ). t.level.excess_num *ℤ t.den ≡ excess_of g.players t.multipliers j *ℤ t.level.excess_den)
+      own_more q.game 0 h.stages t h.own (
+        subst
+            (λ (j : ℕ). t.level.excess_num *ℤ t.den ≡ excess_of q.game.players t.multipliers j *ℤ t.level.excess_den)
             count own,
         positive,
       );
@@ -149,64 +135,55 @@ stages_more family measure g levels last t m h k own positive e d wide = record 
   wide = wide;
 }
   where
-    count : length levels ≡ 0 + length h.stages
+    count : length q.front ≡ 0 + length h.stages
     count = let a = ap length h.levels_are in let b = levels_count h.stages in omega (arith, a, b)
 
-distinct : (family : Family) (measure : Measure) (g : Game) (levels : List Level) (last : Option Multipliers)
-    → AreStages family measure g levels last → LevelsForm g.players [] levels
-    → IsDistinct nat_eq (map (λ c. c.0) (earlier_of 0 levels))
-distinct family measure g levels last h form =
+distinct : (q : Stage) (last : Option Multipliers) → AreStages q last → LevelsForm q.game.players [] q.front
+    → IsDistinct nat_eq (map (λ c. c.0) (earlier_of 0 q.front))
+distinct q last h form =
     subst (λ ls. IsDistinct nat_eq (map (λ c. c.0) (earlier_of 0 ls))) (sym h.levels_are)
-    (chain_distinct family measure g h.stages h.chain (subst (LevelsForm g.players []) h.levels_are form))
+    (chain_distinct q h.stages h.chain (subst (LevelsForm q.game.players []) h.levels_are form))
 
 -- the level of the optimum of the next stage has its form
-pub next_formed : (family : Family) (measure : Measure) (g : Game) (levels : List Level) (kept : List ℕ)
-    (last : Option Multipliers) (ws : List (ℕ × ℤ)) (wden : ℤ) (m : List ℤ) (den : ℤ) (l : Level)
-    → g.players ≤ 16 → length kept < g.players → AreUnderway family measure g levels kept last
-    → IsBest family measure g levels ws wden m den → IsLevelOf g.players levels ws m den l
-    → LevelForm g.players levels l
-next_formed family measure g levels kept last ws wden m den l few room h best is =
-    level_formed family measure g levels (stage_of l best.outside ws wden m den)
-    (holds family measure g levels ws wden m den l best is) (numbers family measure g levels ws wden m den best)
-    is (distinct family measure g levels last h.stages h.form) best.answer.form.count
-    (omega (arith, h.more, room)) few
+pub next_formed : (q : Stage) (kept : List ℕ) (last : Option Multipliers) (best : Optimal) (l : Level)
+    → q.game.players ≤ 16 → length kept < q.game.players → AreUnderway q kept last → IsBest q best
+    → IsLevelOf q.game.players q.front best l → LevelForm q.game.players q.front l
+next_formed q kept last best l few room h is_best is =
+    level_formed q best is_best.outside l (answers q best l is_best is) (numbers q best is_best) is
+    (distinct q last h.stages h.form) is_best.answer.form.count (omega (arith, h.more, room)) few
 
 -- the levels with that of the optimum of the next stage
-pub underway_more : (family : Family) (measure : Measure) (g : Game) (levels : List Level) (old new : List ℕ)
-    (last : Option Multipliers) (ws : List (ℕ × ℤ)) (wden : ℤ) (m : Multipliers) (l : Level)
-    → g.players ≤ 16 → length old < g.players → AreUnderway family measure g levels old last
-    → IsBest family measure g levels ws wden m.num.items m.den → IsLevelOf g.players levels ws m.num.items m.den l
-    → IsLowest l → Extends g.players old new (IsLevelVector g.players (l ∷ []))
-    → AreUnderway family measure g (levels ++ l ∷ []) new (Some m)
-underway_more family measure g levels old new last ws wden m l few room h best is low more = record {
+pub underway_more : (q : Stage) (old new : List ℕ) (last : Option Multipliers) (best : Optimal) (l : Level)
+    → q.game.players ≤ 16 → length old < q.game.players → AreUnderway q old last → IsBest q best
+    → IsLevelOf q.game.players q.front best l → IsLowest l
+    → Extends q.game.players old new (IsLevelVector q.game.players (l ∷ []))
+    → AreUnderway (behind q (l ∷ [])) new (Some best.multipliers)
+underway_more q old new last best l few room h is_best is low more = record {
   stages =
-      stages_more family measure g levels last t m h.stages k (is.excess.same) is.excess.reduced.positive refl refl
-      wide;
-  form =
-      form_more g.players levels l h.form
-      (next_formed family measure g levels old last ws wden m.num.items m.den l few room h best is);
+      stages_more q last t best.multipliers h.stages k is.excess.same is.excess.reduced.positive refl refl wide;
+  form = form_more q.game.players q.front l h.form (next_formed q old last best l few room h is_best is);
   short =
-      all_of (IsShort g.players) levels l h.short (level_short g.players levels ws m.num.items m.den l is rows next);
-  lowest = all_of IsLowest levels l h.lowest low;
-  bounded = λ outside test. next_no_ray family measure g levels t outside k test;
-  spans = SpansFixed-more g.players old new levels (l ∷ []) h.spans more;
+      all_of (IsShort q.game.players) q.front l h.short (level_short q.game.players q.front best l is rows next);
+  lowest = all_of IsLowest q.front l h.lowest low;
+  bounded = λ outside test. next_no_ray q t outside k test;
+  spans = SpansFixed-more q.game.players old new q.front (l ∷ []) h.spans more;
   more =
-      (let grow = kept_grows family measure g levels t old new k h.spans more in
-      let long = length_more levels l in omega (arith, grow, long, h.more));
-  count = (let long = length_more levels l in omega (arith, long, h.more, room));
+      (let grow = kept_grows q t old new k h.spans more in
+      let long = length_more q.front l in omega (arith, grow, long, h.more));
+  count = (let long = length_more q.front l in omega (arith, long, h.more, room));
 }
   where
-    t : Stage
-    t = stage_of l best.outside ws wden m.num.items m.den
+    t : StageAnswer
+    t = answer_of l is_best.outside best
 
-    k : StageHolds family measure g levels t
-    k = holds family measure g levels ws wden m.num.items m.den l best is
+    k : Answers q t
+    k = answers q best l is_best is
 
-    next : length levels + 2 ≤ g.players
+    next : length q.front + 2 ≤ q.game.players
     next = omega (arith, h.more, room)
 
-    wide : g.players ≤ length m.num.items
-    wide = let e = best.answer.count in omega (arith, e)
+    wide : q.game.players ≤ length best.multipliers.num.items
+    wide = let e = is_best.answer.count in omega (arith, e)
 
-    rows : length ws ≤ g.players + (length levels + 1)
-    rows = best.answer.form.count
+    rows : length best.weights.items ≤ q.game.players + (length q.front + 1)
+    rows = is_best.answer.form.count

@@ -14,14 +14,15 @@ use Rattle.definitions.proofs.Members.{has_player-grand_coalition, has_player-co
 use Rattle.definitions.proofs.Members.{sum_below-same, sum_over-grand_coalition}
 use Rattle.definitions.specs.Coalitions.{has_player, singleton, grand_coalition, sum_over, weight_at}
 use Rattle.definitions.specs.Measures.{divisor}
-use Rattle.definitions.specs.Games.{Game, Allocation, share, amount, IsAllocation, IsEfficient, InFamily}
+use Rattle.definitions.specs.Games.{Allocation, share, amount, IsAllocation, IsEfficient, InFamily}
 use Rattle.definitions.specs.Certificates.{Level, IsFixedVector, InSpan, IsOutside}
 use Rattle.definitions.specs.Programs.{Bounds, HasRay, HasNoSolution, Solves}
 use Rattle.definitions.specs.declared.Family.{Family}
 use Rattle.definitions.specs.declared.Measure.{Measure}
 use Rattle.definitions.specs.declared.Family.TheVariants.{Imputations, Preimputations}
 use Rattle.definitions.specs.declared.Mode.TheVariants.{Span}
-use Rattle.separation.specs.Stage.{plus_entry, entry_of, settled_columns, column, is_imputations, stage_program}
+use Rattle.separation.specs.Stage.{plus_entry, entry_of, settled_columns, column, is_imputations}
+use Rattle.nested_programs.specs.Stage.{Stage, with_front, program_of}
 use Rattle.nested_programs.specs.Reading.{share_of, excess_of}
 use Rattle.nested_programs.specs.Chain.{outer_id}
 use Rattle.nested_programs.proofs.Reading.{of_reading}
@@ -111,12 +112,11 @@ pair_row measure n k s r small h = elim (true_or_false (nat_lt r n)) [
     last true d e = omega (arith, linear, mul-oneℤ (d +ℤ e))
     last false d e = omega (arith, linear, mul-zeroℤ (d +ℤ e))
 
-outer_column : (family : Family) (measure : Measure) (g : Game) (front : List Level) (outside : ℕ → Bool) (s : ℕ)
-    → IsTrue (outside s)
-    → IsTrue ((stage_program family measure g front outside).is_column (outer_id g.players front s))
-outer_column family measure g front outside s o =
-    let n : ℕ = g.players in
-    let len : ℕ = length (settled_columns n front) in
+outer_column : (q : Stage) (outside : ℕ → Bool) (s : ℕ) → IsTrue (outside s)
+    → IsTrue ((program_of q outside).is_column (outer_id q.game.players q.front s))
+outer_column q outside s o =
+    let n : ℕ = q.game.players in
+    let len : ℕ = length (settled_columns n q.front) in
     let t : nat_lt (len + (n + n + s)) len ≡ false = grind (arith, nat_tests) in
     let v : len + (n + n + s) - len ≡ n + n + s = omega arith in
     let t' : nat_lt (n + n + s) n ≡ false = grind (arith, nat_tests) in
@@ -151,23 +151,23 @@ some_bound (suc N) f =
           [ inl less ↦ ih.1 s less | inr same ↦ omega (arith, linear, low, ap f same) ],
     ))
 
-pub first_bounds : (family : Family) (measure : Measure) (g : Game) (outside : ℕ → Bool) (y : Allocation)
-    → g.players ≤ 16 → ((s : ℕ) → IsTrue (outside s) → (0 < s) × (s < 2 ^ g.players)) → InFamily family g y
-    → (m : List ℤ) × Bounds (stage_program family measure g [] outside) m y.den
-first_bounds family measure g outside y few within member = (
+pub first_bounds : (q : Stage) (outside : ℕ → Bool) (y : Allocation) → q.game.players ≤ 16
+    → ((s : ℕ) → IsTrue (outside s) → (0 < s) × (s < 2 ^ q.game.players)) → InFamily q.family q.game y
+    → (m : List ℤ) × Bounds (program_of (with_front q []) outside) m y.den
+first_bounds q outside y few within member = (
   m,
-  of_reading family measure g [] outside m y.den (record {
-    positive = (allocation family member).1;
+  of_reading (with_front q []) outside m y.den (record {
+    positive = (allocation q.family member).1;
     whole =
         sum_below-same n (share_of m) (share y) shares ∙ sym (sum_over-grand_coalition n (share y))
-        ∙ sym (at (grand_coalition n)) ∙ efficient family member;
+        ∙ sym (at (grand_coalition n)) ∙ efficient q.family member;
     settled = tt;
-    single = λ f i h. omega (arith, linear, individual family member f i h, shares i h);
+    single = λ f i h. omega (arith, linear, individual q.family member f i h, shares i h);
     bound = λ f i h b. absurd (false≢true b);
     outer = λ s o.
-        (let in_row = ap (λ z. z *ℤ pos (divisor measure s)) last in
-        let some = divisor-some measure n s (omega (arith, few)) (within s o).0 (within s o).1 in
-        let enough = mul-leℤ top (pos 1) (pos (divisor measure s)) high.0 (omega (arith, linear, some)) in
+        (let in_row = ap (λ z. z *ℤ pos (divisor q.measure s)) last in
+        let some = divisor-some q.measure n s (omega (arith, few)) (within s o).0 (within s o).1 in
+        let enough = mul-leℤ top (pos 1) (pos (divisor q.measure s)) high.0 (omega (arith, linear, some)) in
         omega (
           arith,
           linear,
@@ -181,13 +181,14 @@ first_bounds family measure g outside y few within member = (
 )
   where
     n : ℕ
-    n = g.players
+    n = q.game.players
 
-    big : (b : ℤ) × ((s : ℕ) → s < 2 ^ n → (y.den *ℤ g.worth s -ℤ sum_over n (share y) s) ≤ℤ b)
-    big = some_bound (2 ^ n) (λ s. y.den *ℤ g.worth s -ℤ sum_over n (share y) s)
+    big : (b : ℤ) × ((s : ℕ) → s < 2 ^ n → (y.den *ℤ q.game.worth s -ℤ sum_over n (share y) s) ≤ℤ b)
+    big = some_bound (2 ^ n) (λ s. y.den *ℤ q.game.worth s -ℤ sum_over n (share y) s)
 
     -- a bound that isn't negative
-    raised : (b : ℤ) × ((pos 0 ≤ℤ b) × ((s : ℕ) → s < 2 ^ n → (y.den *ℤ g.worth s -ℤ sum_over n (share y) s) ≤ℤ b))
+    raised : (b : ℤ)
+        × ((pos 0 ≤ℤ b) × ((s : ℕ) → s < 2 ^ n → (y.den *ℤ q.game.worth s -ℤ sum_over n (share y) s) ≤ℤ b))
     raised =
         by_lt_z big.0 (pos 0) (λ low. (pos 0, (omega (arith, linear), λ s h. omega (arith, linear, low, big.1 s h))))
         (λ up. (big.0, (omega (arith, linear, up), big.1)))
@@ -195,7 +196,7 @@ first_bounds family measure g outside y few within member = (
     top : ℤ
     top = raised.0
 
-    high : (pos 0 ≤ℤ top) × ((s : ℕ) → s < 2 ^ n → (y.den *ℤ g.worth s -ℤ sum_over n (share y) s) ≤ℤ top)
+    high : (pos 0 ≤ℤ top) × ((s : ℕ) → s < 2 ^ n → (y.den *ℤ q.game.worth s -ℤ sum_over n (share y) s) ≤ℤ top)
     high = raised.1
 
     f : ℕ → ℤ
@@ -216,16 +217,16 @@ first_bounds family measure g outside y few within member = (
         let t : nat_lt (n + 0) n ≡ false = grind (arith, nat_tests) in
         tabulate-at 0 (n + 1) f (n + 0) (omega arith) ∙ rw e (rw t refl)
 
-    allocation : (family : Family) → InFamily family g y → IsAllocation g y
+    allocation : (family : Family) → InFamily family q.game y → IsAllocation q.game y
     allocation Imputations h = h.0
     allocation Preimputations h = h.0
 
-    efficient : (family : Family) → InFamily family g y → IsEfficient g y
+    efficient : (family : Family) → InFamily family q.game y → IsEfficient q.game y
     efficient Imputations h = h.1
     efficient Preimputations h = h.1
 
-    individual : (family : Family) → InFamily family g y → family ≡ Imputations → (i : ℕ) → i < g.players
-        → (y.den *ℤ g.worth (singleton i)) ≤ℤ share y i
+    individual : (family : Family) → InFamily family q.game y → family ≡ Imputations → (i : ℕ) → i < q.game.players
+        → (y.den *ℤ q.game.worth (singleton i)) ≤ℤ share y i
     individual Imputations h e = h.2
     individual Preimputations h e = absurd (no e)
       where
@@ -233,15 +234,15 @@ first_bounds family measure g outside y few within member = (
         no e = false≢true (ap is_imputations e)
 
     at : (s : ℕ) → amount y s ≡ sum_over n (share y) s
-    at s = ap (λ (z : ℕ). sum_over z (share y) s) (allocation family member).0
+    at s = ap (λ (z : ℕ). sum_over z (share y) s) (allocation q.family member).0
 
 -- where the family has a member, the first stage has no endless ray
-pub first_no_ray : (family : Family) (measure : Measure) (g : Game) (outside : ℕ → Bool) (y : Allocation)
-    → g.players ≤ 16 → ((s : ℕ) → IsTrue (outside s) → (0 < s) × (s < 2 ^ g.players)) → InFamily family g y
-    → HasRay (stage_program family measure g [] outside) → ⊥
-first_no_ray family measure g outside y few within member ray =
-    let found = first_bounds family measure g outside y few within member in
-    no_ray (stage_program family measure g [] outside) found.0 y.den found.1 ray
+pub first_no_ray : (q : Stage) (outside : ℕ → Bool) (y : Allocation) → q.game.players ≤ 16
+    → ((s : ℕ) → IsTrue (outside s) → (0 < s) × (s < 2 ^ q.game.players)) → InFamily q.family q.game y
+    → HasRay (program_of (with_front q []) outside) → ⊥
+first_no_ray q outside y few within member ray =
+    let found = first_bounds q outside y few within member in
+    no_ray (program_of (with_front q []) outside) found.0 y.den found.1 ray
 
 -- ---- the solution
 
@@ -250,10 +251,9 @@ column_whole : (n : ℕ) (front : List Level)
 column_whole n front =
     let t : nat_lt 1 (length (settled_columns n front)) ≡ true = grind (arith, nat_tests) in rw t refl
 
-whole_column : (family : Family) (measure : Measure) (g : Game) (front : List Level) (outside : ℕ → Bool)
-    → IsTrue ((stage_program family measure g front outside).is_column 1)
-whole_column family measure g front outside =
-    let t : nat_lt 1 (length (settled_columns g.players front)) ≡ true = grind (arith, nat_tests) in rw t refl
+whole_column : (q : Stage) (outside : ℕ → Bool) → IsTrue ((program_of q outside).is_column 1)
+whole_column q outside =
+    let t : nat_lt 1 (length (settled_columns q.game.players q.front)) ≡ true = grind (arith, nat_tests) in rw t refl
 
 not_own_other : (n s : ℕ) → 0 < n → s < 2 ^ n → s ≢ grand_coalition n - s
 not_own_other n s some small e =
@@ -280,45 +280,45 @@ row_sum : (a b c u v w : ℤ) → a ≡ u → b ≡ v → c ≡ w
 row_sum a b c u v w h k l = omega (arith, linear, h, k, l, one-mulℤ a, one-mulℤ b, one-mulℤ c)
 
 -- the coalition and its others at one weight, and all players at minus that
-pub solution : (family : Family) (measure : Measure) (g : Game) (front : List Level) (outside : ℕ → Bool) (s : ℕ)
-    → g.players ≤ 16 → IsOutside Span g.players front s → IsTrue (outside s)
-    → IsTrue (outside (grand_coalition g.players - s))
-    → Solves (stage_program family measure g front outside) (pair_weights g.players front s)
-    (both_divisors measure g.players s)
-solution family measure g front outside s few o here others =
-    let n : ℕ = g.players in
+pub solution : (q : Stage) (outside : ℕ → Bool) (s : ℕ) → q.game.players ≤ 16
+    → IsOutside Span q.game.players q.front s → IsTrue (outside s)
+    → IsTrue (outside (grand_coalition q.game.players - s))
+    → Solves (program_of q outside) (pair_weights q.game.players q.front s) (both_divisors q.measure q.game.players s)
+solution q outside s few o here others =
+    let n : ℕ = q.game.players in
     let small : s < 2 ^ n = omega (arith, o.0, o.1) in
     let some : 0 < n = positive n (omega (arith, o.0, o.1)) in (
       (
         (
-          (whole_column family measure g front outside, omega (arith, linear)),
+          (whole_column q outside, omega (arith, linear)),
           (
-            (outer_column family measure g front outside s here, omega (arith, linear)),
+            (outer_column q outside s here, omega (arith, linear)),
             (
-              (outer_column family measure g front outside (grand_coalition n - s) others, omega (arith, linear)),
+              (outer_column q outside (grand_coalition n - s) others, omega (arith, linear)),
               tt,
             ),
           ),
         ),
-        pair_distinct n front s some small,
+        pair_distinct n q.front s some small,
       ),
-      both_some measure n s few o.0 o.1,
-      λ r h. row_sum _ _ _ (pos 0 -ℤ plus_entry measure n (grand_coalition n) (length front + 1) r)
-          (plus_entry measure n s (length front) r) (plus_entry measure n (grand_coalition n - s) (length front) r)
-          (ap (λ c. entry_of measure n c r) (column_whole n front))
-          (ap (λ c. entry_of measure n c r) (column_outer n front s))
-          (ap (λ c. entry_of measure n c r) (column_outer n front (grand_coalition n - s)))
-          ∙ pair_row measure n (length front) s r small h,
+      both_some q.measure n s few o.0 o.1,
+      λ r h. row_sum _ _ _ (pos 0 -ℤ plus_entry q.measure n (grand_coalition n) (length q.front + 1) r)
+          (plus_entry q.measure n s (length q.front) r)
+          (plus_entry q.measure n (grand_coalition n - s) (length q.front) r)
+          (ap (λ c. entry_of q.measure n c r) (column_whole n q.front))
+          (ap (λ c. entry_of q.measure n c r) (column_outer n q.front s))
+          (ap (λ c. entry_of q.measure n c r) (column_outer n q.front (grand_coalition n - s)))
+          ∙ pair_row q.measure n (length q.front) s r small h,
     )
   where
     positive : (n : ℕ) → 0 < grand_coalition n → 0 < n
     positive zero h = absurd (omega arith)
     positive (suc n) h = omega arith
 
-pub some_solution : (family : Family) (measure : Measure) (g : Game) (front : List Level) (outside : ℕ → Bool)
-    (s : ℕ) → g.players ≤ 16 → ((u : ℕ) → IsOutside Span g.players front u → IsTrue (outside u))
-    → IsOutside Span g.players front s → HasNoSolution (stage_program family measure g front outside) → ⊥
-some_solution family measure g front outside s few all o none =
-    none (pair_weights g.players front s) (both_divisors measure g.players s)
-    (solution family measure g front outside s few o (all s o)
-    (all (grand_coalition g.players - s) (others_outside g.players front s o)))
+pub some_solution : (q : Stage) (outside : ℕ → Bool) (s : ℕ) → q.game.players ≤ 16
+    → ((u : ℕ) → IsOutside Span q.game.players q.front u → IsTrue (outside u))
+    → IsOutside Span q.game.players q.front s → HasNoSolution (program_of q outside) → ⊥
+some_solution q outside s few all o none =
+    none (pair_weights q.game.players q.front s) (both_divisors q.measure q.game.players s)
+    (solution q outside s few o (all s o)
+    (all (grand_coalition q.game.players - s) (others_outside q.game.players q.front s o)))

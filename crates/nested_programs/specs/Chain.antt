@@ -1,15 +1,16 @@
 -- For the private functions of this crate.
--- Chains of stages, each optimal behind the levels that the stages in front gave.
+-- Chains of answers, each optimal for the stage behind the levels that those in front gave.
 --
 --   single_id      the number of the column of a player alone
 --   outer_id       the number of the column of an outside coalition
 --   HasWeight      a column has a weight of at least 1
 --   Follows        a level takes its coalitions and bounds from a stage's weights
---   Stage          a level, and the weights and multipliers that it came from
---   StageHolds     they are optimal behind the levels in front, and the level follows
---   levels_of      the levels of stages
---   IsChain        each stage holds behind the levels of those in front
---   last_of        the last stage
+--   StageAnswer    a level, and the weights and multipliers that it came from
+--   Answers        they are optimal for the stage, and the level follows
+--   after          the stage behind the level of an answer
+--   levels_of      the levels of answers
+--   IsChain        each answers the stage behind the levels of those in front
+--   last_of        the last answer
 --   HaveExcesses   the levels' excesses are multipliers of the level rows
 use Rattle.std.specs.Prelude.{◌≡◌, ◌⊎◌, ℕ, ◌+◌, ◌<◌, Bool, IsTrue, List, [], ◌∷◌, ◌++◌}
 use Rattle.std.specs.Prelude.{length, ℤ, pos, ◌+ℤ◌, ◌-ℤ◌, ◌*ℤ◌, ◌≤ℤ◌, Decides}
@@ -19,11 +20,10 @@ use Rattle.definitions.specs.Coalitions.{weight_at}
 use Rattle.definitions.specs.Games.{Game}
 use Rattle.definitions.specs.Certificates.{Level, is_listed, has_bound, number_at, IsOutside}
 use Rattle.definitions.specs.Programs.{IsOptimal}
-use Rattle.definitions.specs.declared.Family.{Family}
-use Rattle.definitions.specs.declared.Measure.{Measure}
 use Rattle.definitions.specs.declared.Family.TheVariants.{Imputations}
 use Rattle.definitions.specs.declared.Mode.TheVariants.{Span}
-use Rattle.separation.specs.Stage.{settled_columns, entry_of, column, stage_program}
+use Rattle.separation.specs.Stage.{settled_columns, entry_of, column}
+use Rattle.nested_programs.specs.Stage.{Stage, behind, program_of}
 use Rattle.nested_programs.specs.Reading.{excess_of}
 
 -- the number of the column of player i alone, and that of an outside coalition
@@ -40,22 +40,23 @@ HasWeight (w ∷ ws) id = ((w.0 ≡ id) × (pos 1 ≤ℤ w.1)) ⊎ HasWeight ws 
 
 -- A level takes its coalitions and bounds from weights of a stage. What it holds of each player, less its total, is
 -- what the weights sum to in the player's row.
-pub record Follows (family : Family) (measure : Measure) (g : Game) (front : List Level) (weights : List (ℕ × ℤ))
-    (l : Level) : Type 0 where
-  pub coalitions : AllByRecursion (λ c. (pos 1 ≤ℤ c.1) × HasWeight weights (outer_id g.players front c.0))
-      l.coalitions
+pub record Follows (q : Stage) (weights : List (ℕ × ℤ)) (l : Level) : Type 0 where
+  pub coalitions : AllByRecursion
+      (λ c. (pos 1 ≤ℤ c.1) × HasWeight weights (outer_id q.game.players q.front c.0)) l.coalitions
   pub bounds : AllByRecursion
-      (λ b. (b.0 < g.players)
-      × (((pos 1 ≤ℤ b.1) × HasWeight weights (single_id g.players front b.0))
-      ⊎ ((family ≡ Imputations) × IsTrue (has_bound front b.0)))) l.bounds
-  pub all_coalitions : (s : ℕ) → HasWeight weights (outer_id g.players front s) → IsTrue (is_listed (l ∷ []) s)
-  pub all_bounds : (i : ℕ) → i < g.players → HasWeight weights (single_id g.players front i)
-      → IsTrue (has_bound (front ++ l ∷ []) i)
-  pub sums : (i : ℕ) → i < g.players
+      (λ b. (b.0 < q.game.players)
+      × (((pos 1 ≤ℤ b.1) × HasWeight weights (single_id q.game.players q.front b.0))
+      ⊎ ((q.family ≡ Imputations) × IsTrue (has_bound q.front b.0)))) l.bounds
+  pub all_coalitions : (s : ℕ) → HasWeight weights (outer_id q.game.players q.front s)
+      → IsTrue (is_listed (l ∷ []) s)
+  pub all_bounds : (i : ℕ) → i < q.game.players → HasWeight weights (single_id q.game.players q.front i)
+      → IsTrue (has_bound (q.front ++ l ∷ []) i)
+  pub sums : (i : ℕ) → i < q.game.players
       → weight_at l.coalitions i +ℤ weight_at l.earlier i +ℤ number_at l.bounds i -ℤ l.total
-      ≡ weighted_sum (λ id. entry_of measure g.players (column g.players front id) i) weights
+      ≡ weighted_sum (λ id. entry_of q.measure q.game.players (column q.game.players q.front id) i) weights
 
-pub record Stage : Type 0 where
+-- what is found for a stage
+pub record StageAnswer : Type 0 where
   pub level : Level
   pub outside : ℕ → Bool
   pub weights : List (ℕ × ℤ)
@@ -63,25 +64,26 @@ pub record Stage : Type 0 where
   pub multipliers : List ℤ
   pub den : ℤ
 
-pub record StageHolds (family : Family) (measure : Measure) (g : Game) (front : List Level) (t : Stage) : Type 0
-  where
-    pub decides : (s : ℕ) → Decides (t.outside s) (IsOutside Span g.players front s)
-    pub optimal : IsOptimal (stage_program family measure g front t.outside) t.weights t.weight_den t.multipliers
-        t.den
-    pub follows : Follows family measure g front t.weights t.level
+pub record Answers (q : Stage) (t : StageAnswer) : Type 0 where
+  pub decides : (s : ℕ) → Decides (t.outside s) (IsOutside Span q.game.players q.front s)
+  pub optimal : IsOptimal (program_of q t.outside) t.weights t.weight_den t.multipliers t.den
+  pub follows : Follows q t.weights t.level
 
-abbrev pub levels_of : List Stage → List Level
+-- the stage behind the level of an answer
+abbrev pub after : Stage → StageAnswer → Stage
+after q t = behind q (t.level ∷ [])
+
+abbrev pub levels_of : List StageAnswer → List Level
 levels_of [] = []
 levels_of (t ∷ ts) = t.level ∷ levels_of ts
 
--- each stage is optimal behind the levels of those in front
-abbrev pub IsChain : Family → Measure → Game → List Level → List Stage → Type 0
-IsChain family measure g front [] = Unit {0}
-IsChain family measure g front (t ∷ ts) =
-    StageHolds family measure g front t × IsChain family measure g (front ++ t.level ∷ []) ts
+-- each answers the stage behind the levels of those in front
+abbrev pub IsChain : Stage → List StageAnswer → Type 0
+IsChain q [] = Unit {0}
+IsChain q (t ∷ ts) = Answers q t × IsChain (after q t) ts
 
--- the last of the stages t and ts
-abbrev pub last_of : Stage → List Stage → Stage
+-- the last of the answers t and ts
+abbrev pub last_of : StageAnswer → List StageAnswer → StageAnswer
 last_of t [] = t
 last_of t (t' ∷ ts) = last_of t' ts
 

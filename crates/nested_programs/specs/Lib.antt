@@ -1,5 +1,6 @@
--- To be read in this order. From Reading on they are for the private functions.
+-- To be read in this order. From Stage on they are for the private functions.
 pub mod Answer
+pub mod Stage
 pub mod Reading
 pub mod Chain
 pub mod Numbers

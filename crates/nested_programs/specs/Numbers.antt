@@ -17,6 +17,7 @@ use Rattle.definitions.specs.Certificates.{Level, number_at}
 use Rattle.fractions.specs.Fraction.{IsRatio}
 use Rattle.kohlberg.specs.Pairs.{placed}
 use Rattle.separation.specs.Stage.{earlier_of}
+use Rattle.simplex.specs.declared.answer.Optimal.{Optimal}
 
 -- weights on distinct columns, each positive and below 2^62
 pub record AreNumbers (weights : List (ℕ × ℤ)) : Type 0 where
@@ -58,12 +59,11 @@ bound_pairs weights first n zero = []
 bound_pairs weights first n (suc i) =
     bound_pairs weights first n i ++ kept i (net weights (first + i) (first + i + n))
 
--- the level that weights are behind the levels in front, with the last multiplier as excess
-pub record IsLevelOf (n : ℕ) (front : List Level) (weights : List (ℕ × ℤ)) (m : List ℤ) (den : ℤ) (l : Level) : Type
-    0 where
+-- the level that optimal weights are behind the levels in front, with the last multiplier as excess
+pub record IsLevelOf (n : ℕ) (front : List Level) (best : Optimal) (l : Level) : Type 0 where
   pub excess : IsRatio (record { num = l.excess_num; den = l.excess_den })
-      (slice_index_or m (n + length front) (pos 0)) den
-  pub coalitions : l.coalitions ≡ placed (outer_pairs (first_single front + (n + n)) weights)
-  pub earlier : l.earlier ≡ placed (earlier_pairs weights 2 (earlier_of 0 front))
-  pub bounds : l.bounds ≡ bound_pairs weights (first_single front) n n
-  pub total : l.total ≡ net weights 1 0
+      (slice_index_or best.multipliers.num.items (n + length front) (pos 0)) best.multipliers.den
+  pub coalitions : l.coalitions ≡ placed (outer_pairs (first_single front + (n + n)) best.weights.items)
+  pub earlier : l.earlier ≡ placed (earlier_pairs best.weights.items 2 (earlier_of 0 front))
+  pub bounds : l.bounds ≡ bound_pairs best.weights.items (first_single front) n n
+  pub total : l.total ≡ net best.weights.items 1 0

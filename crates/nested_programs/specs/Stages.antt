@@ -2,15 +2,16 @@
 -- The stages so far, and all of them.
 --
 --   IsLeft        some player alone isn't spanned by what the levels fix
---   IsBest        an optimum of the stage behind levels
+--   IsBest        an optimum of a stage
+--   answer_of     the answer that an optimum and its level are
 --   OwnExcesses   the excess of each level is the optimum of its stage
 --   AreLast       the last stage has these multipliers
 --   AreWide       multipliers for the players, at least
---   AreStages     levels that optimal stages gave, and the multipliers of the last stage
---   IsBounded     the stage behind the levels has no endless ray
---   AreUnderway   the levels so far, with what they fix
+--   AreStages     the levels in front are those of optimal stages, with the multipliers of the last
+--   IsBounded     a stage has no endless ray
+--   AreUnderway   the levels in front of the next stage, with what they fix
 --   AreDone       the levels of all stages
-use Rattle.std.specs.Prelude.{◌≡◌, ℕ, ◌+◌, ◌<◌, ◌≤◌, Bool, List, [], ◌∷◌, length, ℤ}
+use Rattle.std.specs.Prelude.{◌≡◌, ℕ, ◌+◌, ◌<◌, ◌≤◌, Bool, List, [], ◌∷◌, length}
 use Rattle.std.specs.Prelude.{pos, ◌*ℤ◌, ◌≤ℤ◌, IsTrue, Option, Some, None}
 use Rattle.std.specs.Bool.{Decides}
 use Rattle.std.specs.List.{AllByRecursion}
@@ -18,15 +19,14 @@ use Rattle.definitions.specs.Coalitions.{singleton}
 use Rattle.definitions.specs.Games.{Game}
 use Rattle.definitions.specs.Certificates.{Level, InSpan, IsFixedVector, IsOutside, IsAllFixed, LevelsForm}
 use Rattle.definitions.specs.Programs.{HasRay}
-use Rattle.definitions.specs.declared.Family.{Family}
-use Rattle.definitions.specs.declared.Measure.{Measure}
 use Rattle.definitions.specs.declared.Mode.TheVariants.{Span}
 use Rattle.simplex.specs.Answer.{IsAnswer}
+use Rattle.simplex.specs.declared.answer.Optimal.{Optimal}
 use Rattle.simplex.specs.declared.multipliers.Multipliers.{Multipliers}
-use Rattle.separation.specs.Stage.{stage_program}
 use Rattle.kohlberg.specs.Extends.{SpansFixed}
 use Rattle.nested_programs.specs.Reading.{excess_of}
-use Rattle.nested_programs.specs.Chain.{Stage, IsChain, levels_of, last_of}
+use Rattle.nested_programs.specs.Stage.{Stage, with_front, program_of}
+use Rattle.nested_programs.specs.Chain.{StageAnswer, IsChain, levels_of, last_of}
 use Rattle.kohlberg.specs.Solved.{IsLowest}
 use Rattle.nested_programs.specs.Answer.{IsShort}
 
@@ -36,22 +36,33 @@ pub record IsLeft (n : ℕ) (levels : List Level) : Type 0 where
   pub below : player < n
   pub apart : ¬ InSpan n (IsFixedVector n levels) (singleton player)
 
--- an optimum of the stage behind the levels, by a test that passes exactly at the coalitions outside
-pub record IsBest (family : Family) (measure : Measure) (g : Game) (front : List Level) (weights : List (ℕ × ℤ))
-    (weight_den : ℤ) (m : List ℤ) (den : ℤ) : Type 0 where
+-- an optimum of a stage, by a test that passes exactly at the coalitions outside
+pub record IsBest (q : Stage) (best : Optimal) : Type 0 where
   pub outside : ℕ → Bool
-  pub decides : (s : ℕ) → Decides (outside s) (IsOutside Span g.players front s)
-  pub answer : IsAnswer (stage_program family measure g front outside) weights weight_den m den
+  pub decides : (s : ℕ) → Decides (outside s) (IsOutside Span q.game.players q.front s)
+  pub answer : IsAnswer (program_of q outside) best.weights.items best.weight_den best.multipliers.num.items
+      best.multipliers.den
+
+-- the answer that an optimum and its level are
+abbrev pub answer_of : Level → (ℕ → Bool) → Optimal → StageAnswer
+answer_of l outside best = record {
+  level = l;
+  outside = outside;
+  weights = best.weights.items;
+  weight_den = best.weight_den;
+  multipliers = best.multipliers.num.items;
+  den = best.multipliers.den;
+}
 
 -- the excess of each level is the optimum of its stage
-abbrev pub OwnExcesses : Game → ℕ → List Stage → Type 0
+abbrev pub OwnExcesses : Game → ℕ → List StageAnswer → Type 0
 OwnExcesses g k [] = Unit {0}
 OwnExcesses g k (t ∷ ts) =
     (t.level.excess_num *ℤ t.den ≡ excess_of g.players t.multipliers k *ℤ t.level.excess_den)
     × (pos 1 ≤ℤ t.level.excess_den) × OwnExcesses g (k + 1) ts
 
 -- the last of the stages has these multipliers; without stages there are none
-abbrev pub AreLast : List Stage → Option Multipliers → Type 0
+abbrev pub AreLast : List StageAnswer → Option Multipliers → Type 0
 AreLast [] None = Unit {0}
 AreLast [] (Some m) = ⊥
 AreLast (t ∷ ts) None = ⊥
@@ -62,41 +73,39 @@ abbrev pub AreWide : ℕ → List Level → Option Multipliers → Type 0
 AreWide n levels None = levels ≡ []
 AreWide n levels (Some m) = n ≤ length m.num.items
 
--- levels that optimal stages gave, each behind those in front, and the multipliers of the last stage
-pub record AreStages (family : Family) (measure : Measure) (g : Game) (levels : List Level)
-    (last : Option Multipliers) : Type 0 where
-  pub stages : List Stage
-  pub levels_are : levels ≡ levels_of stages
-  pub chain : IsChain family measure g [] stages
-  pub own : OwnExcesses g 0 stages
+-- the levels in front of a stage are those of optimal stages, each behind those in front of it, and these are the
+-- multipliers of the last
+pub record AreStages (q : Stage) (last : Option Multipliers) : Type 0 where
+  pub stages : List StageAnswer
+  pub levels_are : q.front ≡ levels_of stages
+  pub chain : IsChain (with_front q []) stages
+  pub own : OwnExcesses q.game 0 stages
   pub last_is : AreLast stages last
-  pub wide : AreWide g.players levels last
+  pub wide : AreWide q.game.players q.front last
 
--- the stage behind the levels has no endless ray
-abbrev pub IsBounded : Family → Measure → Game → List Level → Type 0
-IsBounded family measure g levels =
-    (outside : ℕ → Bool) → ((s : ℕ) → IsTrue (outside s) → IsOutside Span g.players levels s)
-    → HasRay (stage_program family measure g levels outside) → ⊥
+-- a stage has no endless ray
+abbrev pub IsBounded : Stage → Type 0
+IsBounded q =
+    (outside : ℕ → Bool) → ((s : ℕ) → IsTrue (outside s) → IsOutside Span q.game.players q.front s)
+    → HasRay (program_of q outside) → ⊥
 
--- the levels so far: in their form, each with few entries and its excess in lowest terms; the next stage has no
--- endless ray; and the coalitions that are kept span what the levels fix, more of them than levels
-pub record AreUnderway (family : Family) (measure : Measure) (g : Game) (levels : List Level) (kept : List ℕ)
-    (last : Option Multipliers) : Type 0 where
-  pub stages : AreStages family measure g levels last
-  pub form : LevelsForm g.players [] levels
-  pub short : AllByRecursion (IsShort g.players) levels
-  pub lowest : AllByRecursion IsLowest levels
-  pub bounded : IsBounded family measure g levels
-  pub spans : SpansFixed g.players kept levels
-  pub more : length levels < length kept
-  pub count : length levels < g.players
+-- the levels in front of the next stage: in their form, each with few entries and its excess in lowest terms; the
+-- next stage has no endless ray; and the coalitions that are kept span what the levels fix, more of them than levels
+pub record AreUnderway (q : Stage) (kept : List ℕ) (last : Option Multipliers) : Type 0 where
+  pub stages : AreStages q last
+  pub form : LevelsForm q.game.players [] q.front
+  pub short : AllByRecursion (IsShort q.game.players) q.front
+  pub lowest : AllByRecursion IsLowest q.front
+  pub bounded : IsBounded q
+  pub spans : SpansFixed q.game.players kept q.front
+  pub more : length q.front < length kept
+  pub count : length q.front < q.game.players
 
 -- the levels of all stages, which fix everything
-pub record AreDone (family : Family) (measure : Measure) (g : Game) (levels : List Level)
-    (last : Option Multipliers) : Type 0 where
-  pub stages : AreStages family measure g levels last
-  pub form : LevelsForm g.players [] levels
-  pub short : AllByRecursion (IsShort g.players) levels
-  pub lowest : AllByRecursion IsLowest levels
-  pub all : IsAllFixed Span g.players levels
-  pub count : length levels < g.players
+pub record AreDone (q : Stage) (last : Option Multipliers) : Type 0 where
+  pub stages : AreStages q last
+  pub form : LevelsForm q.game.players [] q.front
+  pub short : AllByRecursion (IsShort q.game.players) q.front
+  pub lowest : AllByRecursion IsLowest q.front
+  pub all : IsAllFixed Span q.game.players q.front
+  pub count : length q.front < q.game.players

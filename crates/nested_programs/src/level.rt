@@ -114,9 +114,7 @@ pub(crate) fn level_of(
     requires weights { AreNumbers best.now.weights.items }
     requires multipliers { array_vec_len best.now.multipliers.num ≡ n + (length front.now + 1) }
     ensures lowest { IfOk result IsLowest }
-    ensures level { IfOk result
-        (λ l. IsLevelOf n front.now best.now.weights.items best.now.multipliers.num.items best.now.multipliers.den
-        l) }
+    ensures level { IfOk result (IsLevelOf n front.now best.now) }
 {
     let weights = best.weights.as_slice();
     let first = 2 + 2 * coalition_count(front);

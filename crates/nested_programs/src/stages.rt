@@ -3,6 +3,7 @@ ghost use Rattle.std.specs.Prelude.{◌≡◌, ◌≤◌, ◌+◌, [], length, I
 ghost use Rattle.definitions.specs.Certificates.{LevelsForm};
 ghost use Rattle.definitions.specs.declared.Measure.{Measure};
 ghost use Rattle.kohlberg.specs.Extends.{SpansFixed};
+ghost use Rattle.nested_programs.specs.Stage.{stage_of};
 ghost use Rattle.nested_programs.specs.Stages.{AreDone, IsBest, IsLeft, IsBounded};
 ghost use Rattle.nested_programs.specs.Answer.{HasMember};
 
@@ -30,9 +31,8 @@ fn best_of<W: Worth>(
     requires players { span.now.players ≡ (W.game game.now).players }
     requires spans { SpansFixed (W.game game.now).players span.now.kept levels.now }
     requires left { IsLeft (W.game game.now).players levels.now }
-    requires bounded { IsBounded family measure (W.game game.now) levels.now }
-    ensures { IfOk result (λ best. IsBest family measure (W.game game.now) levels.now
-        best.weights.items best.weight_den best.multipliers.num.items best.multipliers.den) }
+    requires bounded { IsBounded (stage_of family measure (W.game game.now) levels.now) }
+    ensures { IfOk result (IsBest (stage_of family measure (W.game game.now) levels.now)) }
 {
     let mut program = Lazy::stage(alloc, game, family, measure, levels, span)?;
     let mut work = Workspace::new(alloc, game.players() + levels.len() as u32 + 1)?;
@@ -52,7 +52,7 @@ pub(crate) fn all_stages<W: Worth>(
     requires few { (W.game game.now).players ≤ 16 }
     requires heads { measure ≡ Measure.PerHead → (W.game game.now).players ≤ 8 }
     requires member { HasMember family (W.game game.now) }
-    ensures { IfOk result (λ all. AreDone family measure (W.game game.now) all.0.items all.1) }
+    ensures { IfOk result (λ all. AreDone (stage_of family measure (W.game game.now) all.0.items) all.1) }
 {
     let n = game.players();
     let mut levels = Vec::new(alloc);

@@ -5,6 +5,7 @@ use Rattle.definitions.specs.Certificates.{Level, IsAllFixed}
 use Rattle.definitions.specs.declared.Mode.TheVariants.{Span}
 use Rattle.spans.specs.Span.{SpanData}
 use Rattle.kohlberg.specs.Extends.{SpansFixed}
+use Rattle.nested_programs.specs.Stage.{stage_of, with_front}
 use Rattle.nested_programs.specs.Numbers.{IsLevelOf}
 use Rattle.nested_programs.specs.Stages.{IsBest, IsLeft, IsBounded, AreUnderway}
 use Rattle.nested_programs.proofs.StageSteps.{next_formed, underway_more, kept_grown}
@@ -20,7 +21,7 @@ loop-last-init g c =
     let kept = ap (λ (v : SpanData). v.kept) c.new-span.ensures ∙ ap (λ (k : ℕ). grand_coalition k ∷ []) n in (
       n,
       ap (λ (v : SpanData). v.players) c.new-span.ensures,
-      started c.args.family c.args.measure game c.new-levels.result.items c.new-span.result.kept
+      started (stage_of c.args.family c.args.measure game c.new-levels.result.items) c.new-span.result.kept
           c.new-levels.ensures.items kept c.players-n.ensures.laws.some c.requires.few c.requires.member,
     )
 
@@ -40,7 +41,8 @@ best_of-requires-clause-left g c =
 pub best_of-requires-clause-bounded : goal.best_of-requires-clause-bounded
 best_of-requires-clause-bounded g c =
     let game = g.W.Worth.game c.args.game.now in
-    subst (IsBounded c.args.family c.args.measure game) (sym c.deref.ensures.value) c.loop-last.invariant.2.bounded
+    subst (λ (ls : List Level). IsBounded (stage_of c.args.family c.args.measure game ls)) (sym c.deref.ensures.value)
+    c.loop-last.invariant.2.bounded
 
 pub level_of-requires-clause-small : goal.level_of-requires-clause-small
 level_of-requires-clause-small g c =
@@ -51,56 +53,47 @@ level_of-requires-clause-small g c =
 
 pub add_levels-requires-clause-within : goal.add_levels-requires-clause-within
 add_levels-requires-clause-within g c =
-    let family = c.args.family in
-    let measure = c.args.measure in
     let game = g.W.Worth.game c.args.game.now in
     let n = c.loop-last.invariant.0 in
     let under = c.loop-last.invariant.2 in
     let levels = c.loop-last.levels.items in
+    let q = stage_of c.args.family c.args.measure game levels in
     let kept = c.loop-last.span.kept in
     let b = c.in_ok-best.best in
     let l = c.in_ok-level_of.field-0 in
     let room =
     room_of c.players-n.result kept c.first_unspanned.result c.is_some.result c.is_some.ensures
     c.loop-last-test.true c.first_unspanned.ensures.room in
-    let best : IsBest family measure game levels b.weights.items b.weight_den b.multipliers.num.items
-    b.multipliers.den =
-    best_at family measure game _ levels b.weights.items b.weight_den b.multipliers.num.items b.multipliers.den
-    c.deref.ensures.value (c.in_ok-best.ensures {u = tt}) in
-    let is : IsLevelOf game.players levels b.weights.items b.multipliers.num.items b.multipliers.den l =
-    level_at c.players-n.result game.players _ levels b.weights.items b.multipliers.num.items b.multipliers.den
-    l n c.deref-in-loop-last.ensures.value c.in_ok-level_of.ensures.level in
+    let best : IsBest q b = best_at q _ b c.deref.ensures.value (c.in_ok-best.ensures {u = tt}) in
+    let is : IsLevelOf game.players levels b l =
+    level_at c.players-n.result game.players _ levels b l n c.deref-in-loop-last.ensures.value
+    c.in_ok-level_of.ensures.level in
     let pushed : c.push.new.self.items ≡ levels ++ l ∷ [] = (c.in_ok-push.ensures {u = tt}).items in
     let slice =
     new_only levels c.deref-in-loop-last-2.result.now l c.len-k.result
     (c.deref-in-loop-last-2.ensures.value ∙ pushed) (c.len-k.ensures ∙ c.loop-last.levels.ok.0) in
     let form =
-    next_formed family measure game levels kept c.loop-last.last b.weights.items b.weight_den
-    b.multipliers.num.items b.multipliers.den l c.requires.few (rw n at room) under best is in
+    next_formed q kept c.loop-last.last b l c.requires.few (rw n at room) under best is in
     within_at c.loop-last.span.players game.players _ l (c.loop-last.invariant.1 ∙ n) slice
     (level_within game.players levels l form)
 
 pub loop-last-smaller : goal.loop-last-smaller
 loop-last-smaller g c =
-    let family = c.args.family in
-    let measure = c.args.measure in
     let game = g.W.Worth.game c.args.game.now in
     let n = c.loop-last.invariant.0 in
     let under = c.loop-last.invariant.2 in
     let levels = c.loop-last.levels.items in
+    let q = stage_of c.args.family c.args.measure game levels in
     let kept = c.loop-last.span.kept in
     let b = c.in_ok-best.best in
     let l = c.in_ok-level_of.field-0 in
     let room =
     room_of c.players-n.result kept c.first_unspanned.result c.is_some.result c.is_some.ensures
     c.loop-last-test.true c.first_unspanned.ensures.room in
-    let best : IsBest family measure game levels b.weights.items b.weight_den b.multipliers.num.items
-    b.multipliers.den =
-    best_at family measure game _ levels b.weights.items b.weight_den b.multipliers.num.items b.multipliers.den
-    c.deref.ensures.value (c.in_ok-best.ensures {u = tt}) in
-    let is : IsLevelOf game.players levels b.weights.items b.multipliers.num.items b.multipliers.den l =
-    level_at c.players-n.result game.players _ levels b.weights.items b.multipliers.num.items b.multipliers.den
-    l n c.deref-in-loop-last.ensures.value c.in_ok-level_of.ensures.level in
+    let best : IsBest q b = best_at q _ b c.deref.ensures.value (c.in_ok-best.ensures {u = tt}) in
+    let is : IsLevelOf game.players levels b l =
+    level_at c.players-n.result game.players _ levels b l n c.deref-in-loop-last.ensures.value
+    c.in_ok-level_of.ensures.level in
     let pushed : c.push.new.self.items ≡ levels ++ l ∷ [] = (c.in_ok-push.ensures {u = tt}).items in
     let slice =
     new_only levels c.deref-in-loop-last-2.result.now l c.len-k.result
@@ -109,31 +102,26 @@ loop-last-smaller g c =
     extends_at c.loop-last.span.players game.players kept c.add_levels.new.span.kept _ (l ∷ [])
     (c.loop-last.invariant.1 ∙ n) slice c.add_levels.ensures.extends in
     let grow =
-    kept_grown family measure game levels kept c.add_levels.new.span.kept b.weights.items b.weight_den
-    b.multipliers.num.items b.multipliers.den l best is under.spans extends in
+    kept_grown q kept c.add_levels.new.span.kept b l best is under.spans extends in
     omega (arith, room, grow)
 
 pub loop-last-preserved : goal.loop-last-preserved
 loop-last-preserved g c =
-    let family = c.args.family in
-    let measure = c.args.measure in
     let game = g.W.Worth.game c.args.game.now in
     let n = c.loop-last.invariant.0 in
     let under = c.loop-last.invariant.2 in
     let levels = c.loop-last.levels.items in
+    let q = stage_of c.args.family c.args.measure game levels in
     let kept = c.loop-last.span.kept in
     let b = c.in_ok-best.best in
     let l = c.in_ok-level_of.field-0 in
     let room =
     room_of c.players-n.result kept c.first_unspanned.result c.is_some.result c.is_some.ensures
     c.loop-last-test.true c.first_unspanned.ensures.room in
-    let best : IsBest family measure game levels b.weights.items b.weight_den b.multipliers.num.items
-    b.multipliers.den =
-    best_at family measure game _ levels b.weights.items b.weight_den b.multipliers.num.items b.multipliers.den
-    c.deref.ensures.value (c.in_ok-best.ensures {u = tt}) in
-    let is : IsLevelOf game.players levels b.weights.items b.multipliers.num.items b.multipliers.den l =
-    level_at c.players-n.result game.players _ levels b.weights.items b.multipliers.num.items b.multipliers.den
-    l n c.deref-in-loop-last.ensures.value c.in_ok-level_of.ensures.level in
+    let best : IsBest q b = best_at q _ b c.deref.ensures.value (c.in_ok-best.ensures {u = tt}) in
+    let is : IsLevelOf game.players levels b l =
+    level_at c.players-n.result game.players _ levels b l n c.deref-in-loop-last.ensures.value
+    c.in_ok-level_of.ensures.level in
     let pushed : c.push.new.self.items ≡ levels ++ l ∷ [] = (c.in_ok-push.ensures {u = tt}).items in
     let slice =
     new_only levels c.deref-in-loop-last-2.result.now l c.len-k.result
@@ -142,13 +130,11 @@ loop-last-preserved g c =
     extends_at c.loop-last.span.players game.players kept c.add_levels.new.span.kept _ (l ∷ [])
     (c.loop-last.invariant.1 ∙ n) slice c.add_levels.ensures.extends in
     let more =
-    underway_more family measure game levels kept c.add_levels.new.span.kept c.loop-last.last b.weights.items
-    b.weight_den b.multipliers l c.requires.few (rw n at room) under best is c.in_ok-level_of.ensures.lowest
-    extends in (
+    underway_more q kept c.add_levels.new.span.kept c.loop-last.last b l c.requires.few (rw n at room) under best is
+    c.in_ok-level_of.ensures.lowest extends in (
       n,
       c.add_levels.ensures.players ∙ c.loop-last.invariant.1,
-      subst (λ ls. AreUnderway family measure game ls c.add_levels.new.span.kept (Some b.multipliers)) (sym pushed)
-          more,
+      subst (λ ls. AreUnderway (with_front q ls) c.add_levels.new.span.kept (Some b.multipliers)) (sym pushed) more,
     )
 
 pub returns : goal.returns
@@ -159,7 +145,8 @@ returns g c =
     let least =
     c.first_unspanned.ensures.least levels
     (subst (λ (k : ℕ). SpansFixed k c.loop-last.span.kept levels) (sym n) c.loop-last.invariant.2.spans) in
-    ended c.args.family c.args.measure game levels c.loop-last.span.kept c.loop-last.last c.loop-last.invariant.2
+    ended (stage_of c.args.family c.args.measure game levels) c.loop-last.span.kept c.loop-last.last
+    c.loop-last.invariant.2
     (subst (λ (k : ℕ). IsAllFixed Span k levels) n
     (all_of c.players-n.result levels c.first_unspanned.result c.is_some.result c.is_some.ensures
     c.loop-last-test.false least))
