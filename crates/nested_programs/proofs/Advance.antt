@@ -3,6 +3,8 @@ use Rattle.std.proofs.Common.{◌≡◌, ◌⊎◌, ℕ, suc, ◌+◌, ◌-◌, 
 use Rattle.std.proofs.Common.{◌++◌, length, map, ℤ, pos, ◌-ℤ◌, ◌*ℤ◌, ◌≤ℤ◌, refl, sym, ap, subst, ◌∙◌, inl, inr}
 use Rattle.std.proofs.Common.{arith, nat_eq, nat_lt, int_le, if◌then◌else◌, slice_index_or}
 use Rattle.std.proofs.lemmas.Bool.{false≢true}
+use Rattle.std.proofs.lemmas.List.{append_assoc}
+use Rattle.std.proofs.lemmas.List.Folds.{list_any-append}
 use Rattle.std.proofs.lemmas.Bool.Decides.{nat_tests}
 use Rattle.std.specs.List.{list_any, AllByRecursion}
 use Rattle.definitions.proofs.Ring.{linear, mul-zeroℤ, mul-oneℤ, mul-subℤ}
@@ -119,23 +121,14 @@ single_tight q outside m den i lt h =
 -- ---- lists
 
 pub any_left : {X : Type 0} (p : X → Bool) (xs ys : List X) → list_any p xs ≡ true → list_any p (xs ++ ys) ≡ true
-any_left p [] ys h = absurd (false≢true h)
-any_left p (x ∷ xs) ys h = elim (or_cases (p x) (list_any p xs) h) [
-  | inl here ↦ or_left (p x) (list_any p (xs ++ ys)) here
-  | inr more ↦ or_right (p x) (list_any p (xs ++ ys)) (any_left p xs ys more)
-]
+any_left p xs ys h = list_any-append p xs ys ∙ or_left (list_any p xs) (list_any p ys) h
+
+pub any_right : {X : Type 0} (p : X → Bool) (xs ys : List X) → list_any p ys ≡ true → list_any p (xs ++ ys) ≡ true
+any_right p xs ys h = list_any-append p xs ys ∙ or_right (list_any p xs) (list_any p ys) h
 
 pub any_cases : {X : Type 0} (p : X → Bool) (xs ys : List X) → list_any p (xs ++ ys) ≡ true
     → (list_any p xs ≡ true) ⊎ (list_any p ys ≡ true)
-any_cases p [] ys h = inr h
-any_cases p (x ∷ xs) ys h = elim (or_cases (p x) (list_any p (xs ++ ys)) h) [
-  | inl here ↦ inl (or_left (p x) (list_any p xs) here)
-  | inr more ↦ elim (any_cases p xs ys more) [ inl a ↦ inl (or_right (p x) (list_any p xs) a) | inr b ↦ inr b ]
-]
-
-pub append_assoc : {X : Type 0} (xs ys zs : List X) → (xs ++ ys) ++ zs ≡ xs ++ (ys ++ zs)
-append_assoc [] ys zs = refl
-append_assoc (x ∷ xs) ys zs = ap (λ k. x ∷ k) (append_assoc xs ys zs)
+any_cases p xs ys h = or_cases (list_any p xs) (list_any p ys) (sym (list_any-append p xs ys) ∙ h)
 
 pub earlier_of-append : (k : ℕ) (xs ys : List Level)
     → earlier_of k (xs ++ ys) ≡ earlier_of k xs ++ earlier_of (k + length xs) ys

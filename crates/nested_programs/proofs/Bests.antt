@@ -1,11 +1,10 @@
 -- The stage program behind levels that leave a player has an optimum: some weights solve it, and no ray raises its
 -- cost.
-use Rattle.std.proofs.Common.{◌≤◌, ◌≡◌, ◌≢◌, ◌⊎◌, ℕ, ◌^◌, ◌<◌, Bool, true, false, cond, List}
-use Rattle.std.proofs.Common.{[], ◌∷◌, pos, ◌+ℤ◌, refl, inl, inr, arith}
+use Rattle.std.proofs.Common.{◌≤◌, ◌≡◌, ◌⊎◌, ℕ, ◌^◌, ◌<◌, List}
+use Rattle.std.proofs.Common.{inl, inr, arith}
 use Rattle.std.proofs.Math.Pow.{pow_pos, pow-lt}
-use Rattle.definitions.proofs.Ring.{linear}
-use Rattle.definitions.specs.Coalitions.{has_player, singleton, grand_coalition}
-use Rattle.definitions.specs.Certificates.{Level, InSpan, IsFixedVector, IsOutside}
+use Rattle.definitions.specs.Coalitions.{singleton, grand_coalition}
+use Rattle.definitions.specs.Certificates.{Level, IsFixedVector, IsOutside}
 use Rattle.definitions.specs.Programs.{Program}
 use Rattle.definitions.specs.declared.Mode.TheVariants.{Span}
 use Rattle.simplex.specs.Answer.{IsAnswer, IsFault}
@@ -16,31 +15,22 @@ use Rattle.separation.specs.Same.{IsStage}
 use Rattle.nested_programs.specs.Stage.{Stage, program_of}
 use Rattle.nested_programs.specs.Stages.{IsLeft, IsBest, IsBounded}
 use Rattle.nested_programs.proofs.Start.{some_solution}
+use Rattle.kohlberg.proofs.SpanLaws.{span_of_one}
 use Rattle.separation.proofs.SamePrograms.{ray_same, no_solution_same, answer_same}
-
-one_apart : pos 1 ≢ pos 0
-one_apart e = omega (arith, linear, e)
-
-all_spanned : (n : ℕ) (levels : List Level) (s : ℕ) → s ≡ grand_coalition n → InSpan n (IsFixedVector n levels) s
-all_spanned n levels s e = (pos 1, one_apart, (s, pos 1) ∷ [], (inl e, tt), λ i lt. alone (has_player s i))
-  where
-    alone : (b : Bool) → cond b (pos 1) (pos 0) +ℤ pos 0 ≡ cond b (pos 1) (pos 0)
-    alone true = refl
-    alone false = refl
 
 -- a player alone that isn't spanned is outside
 pub left_outside : (n : ℕ) (levels : List Level) (left : IsLeft n levels)
     → IsOutside Span n levels (singleton left.player)
 left_outside n levels left =
-    (pow_pos left.player, less (or_all (singleton left.player) (pow-lt left.below)), left.apart)
+    (pow_pos left.player, not_all (below_or_all (singleton left.player) (pow-lt left.below)), left.apart)
   where
-    or_all : (s : ℕ) → s < 2 ^ n → (s < grand_coalition n) ⊎ (s ≡ grand_coalition n)
-    or_all s lt = grind arith
+    below_or_all : (s : ℕ) → s < 2 ^ n → (s < grand_coalition n) ⊎ (s ≡ grand_coalition n)
+    below_or_all s lt = grind arith
 
-    less : (singleton left.player < grand_coalition n) ⊎ (singleton left.player ≡ grand_coalition n)
+    not_all : (singleton left.player < grand_coalition n) ⊎ (singleton left.player ≡ grand_coalition n)
         → singleton left.player < grand_coalition n
-    less (inl lt) = lt
-    less (inr e) = absurd (left.apart (all_spanned n levels (singleton left.player) e))
+    not_all (inl lt) = lt
+    not_all (inr e) = absurd (left.apart (span_of_one n (IsFixedVector n levels) (singleton left.player) (inl e)))
 
 -- neither fault comes
 pub no_fault : (q : Stage) (p : Program) (fault : LpFault) → q.game.players ≤ 16

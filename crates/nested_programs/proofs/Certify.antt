@@ -2,6 +2,7 @@
 use Rattle.std.proofs.Common.{◌≡◌, ◌⊎◌, ℕ, ◌^◌, ◌<◌, IsTrue, List, [], ◌∷◌, ◌++◌, length, map, ℤ, pos, ◌-ℤ◌}
 use Rattle.std.proofs.Common.{◌*ℤ◌, ◌≤ℤ◌, refl, sym, ap, subst, ◌∙◌, inl, inr, arith, if◌then◌else◌}
 use Rattle.std.specs.List.{AllByRecursion}
+use Rattle.std.proofs.lemmas.List.{append_assoc, append-nil, length-append}
 use Rattle.definitions.proofs.Ring.{linear, mul-leℤ, mul_assocℤ}
 use Rattle.definitions.proofs.Measured.{measured-same, measured-le}
 use lib.IntN.{*ℤ_comm}
@@ -21,17 +22,17 @@ use Rattle.nested_programs.specs.Stage.{Stage, with_front, behind}
 use Rattle.nested_programs.specs.Reading.{reached, share_of, excess_of}
 use Rattle.nested_programs.specs.Chain.{StageAnswer, Answers, levels_of, IsChain, last_of, HaveExcesses, after}
 use Rattle.nested_programs.proofs.Advance.{Reads, Settled_pairs, restrict, advance}
-use Rattle.nested_programs.proofs.Advance.{append_assoc, earlier_of-more, BoundComes}
+use Rattle.nested_programs.proofs.Advance.{earlier_of-more, BoundComes}
 use Rattle.nested_programs.proofs.Form.{level_balanced, level_proper}
 use Rattle.nested_programs.proofs.Chain.{Past, past_none, past_more, outside_low}
-use Rattle.nested_programs.proofs.Chain.{weighted_family, append_none, length_more}
+use Rattle.nested_programs.proofs.Chain.{weighted_family}
 use Rattle.definitions.proofs.Alls.{all_left, all_right, all_weaken}
 
 -- the multipliers of the last stage settle all levels
 pub last_reads : (q : Stage) (t : StageAnswer) (ts : List StageAnswer) → Answers q t → IsChain (after q t) ts
     → Reads (behind (after q t) (levels_of ts)) (last_of t ts).multipliers (last_of t ts).den
 last_reads q t [] holds chain =
-    subst (λ ls. Reads (with_front q ls) t.multipliers t.den) (sym (append_none (q.front ++ t.level ∷ [])))
+    subst (λ ls. Reads (with_front q ls) t.multipliers t.den) (sym (append-nil (q.front ++ t.level ∷ [])))
     (advance q t holds)
 last_reads q t (t' ∷ ts) holds chain =
     subst (λ ls. Reads (with_front q ls) (last_of t' ts).multipliers (last_of t' ts).den)
@@ -180,7 +181,7 @@ levels_hold : (q : Stage) (ts : List StageAnswer) (m : List ℤ) (den : ℤ) (x 
     → HaveExcesses q.game m den (length q.front) (levels_of ts)
     → LevelsHold Span q.family q.measure q.game x q.front (levels_of ts)
 levels_hold q [] m den x has past chain r fixed read excesses =
-    subst (IsAllFixed Span q.game.players) (append_none q.front) fixed
+    subst (IsAllFixed Span q.game.players) (append-nil q.front) fixed
 levels_hold q (t ∷ ts) m den x has past chain r fixed read excesses =
     let shift : (q.front ++ t.level ∷ []) ++ levels_of ts ≡ q.front ++ t.level ∷ levels_of ts =
     append_assoc q.front (t.level ∷ []) (levels_of ts) in
@@ -189,7 +190,7 @@ levels_hold q (t ∷ ts) m den x has past chain r fixed read excesses =
       level_holds q t ts m den x has past chain.0 chain.1 r' fixed' read excesses.0 excesses.1,
       levels_hold (after q t) ts m den x has
           (past_more q t past chain.0) chain.1 r' fixed' read
-          (subst (λ (z : ℕ). HaveExcesses q.game m den z (levels_of ts)) (sym (length_more q.front t.level))
+          (subst (λ (z : ℕ). HaveExcesses q.game m den z (levels_of ts)) (sym (length-append q.front (t.level ∷ [])))
           excesses.2),
     )
 

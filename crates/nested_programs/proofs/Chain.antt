@@ -6,13 +6,13 @@ use Rattle.std.proofs.Common.{arith, nat_eq, nat_lt, int_le, if◌then◌else◌
 use Rattle.std.proofs.lemmas.Bool.{false≢true}
 use Rattle.std.proofs.lemmas.Bool.Decides.{nat_tests}
 use Rattle.std.specs.List.{list_any, AllByRecursion}
+use Rattle.std.proofs.lemmas.List.{append_assoc, append-nil, length-append}
 use Rattle.definitions.proofs.Ring.{linear, mul-addℤ, mul-leℤ, mul_assocℤ, mul-cancelℤ}
 use Rattle.definitions.proofs.Ring.{mul-le_cancelℤ, mul-positiveℤ, mul_left_commℤ}
 use lib.IntN.{*ℤ_comm}
 use Rattle.definitions.proofs.SumsOver.{sum_over-same}
 use Rattle.definitions.proofs.Members.{sum_below-same, sum_below-zero, sum_over-combined}
 use Rattle.definitions.proofs.Members.{sum_over-grand_coalition, zero_either}
-use Rattle.theorems.proofs.Settled.{Settled, inside_zero, all_fixed_zero}
 use Rattle.determinants.proofs.Duality.{weak_duality}
 use Rattle.definitions.specs.Sums.{weighted_sum}
 use Rattle.definitions.specs.Coalitions.{has_player, singleton, grand_coalition, sum_over}
@@ -28,10 +28,11 @@ use Rattle.nested_programs.specs.Reading.{reached, IsReading, share_of, excess_o
 use Rattle.nested_programs.specs.Chain.{HasWeight, StageAnswer, Answers, levels_of, IsChain, after}
 use Rattle.nested_programs.proofs.Reading.{earlier_rows, reading_of, of_reading}
 use Rattle.nested_programs.proofs.Slack.{tight_optimal}
+use Rattle.nested_programs.proofs.SettledNumbers.{IsSettled, is_settled, inside_same, all_same}
 use Rattle.nested_programs.proofs.Advance.{Reads, restrict, advance, stage_value, right_value, any_left}
-use Rattle.nested_programs.proofs.Advance.{any_cases, append_assoc, pair_at, BoundComes, single_family}
+use Rattle.nested_programs.proofs.Advance.{any_cases, pair_at, BoundComes, single_family}
 use Rattle.definitions.proofs.Cases.{less_or_last_of, or_cases, true_or_false}
-use Rattle.definitions.proofs.Alls.{all_left, all_right, all_weaken, all_with}
+use Rattle.definitions.proofs.Alls.{all_both, all_left, all_right, all_weaken, all_with}
 use Rattle.simplex.proofs.Ends.{no_ray}
 
 -- ---- the next stage's bounding multipliers
@@ -72,10 +73,6 @@ extended-last n k m =
     (λ r. if nat_lt r (n + (k + 1)) then slice_index_or m r (pos 0) else slice_index_or m (n + k) (pos 0))
     (n + (k + 1)) (omega arith) ∙ rw e (rw t refl)
 
-pub length_more : {X : Type 0} (xs : List X) (x : X) → length (xs ++ x ∷ []) ≡ length xs + 1
-length_more [] x = refl
-length_more (y ∷ xs) x = let ih = length_more xs x in omega (arith, ih)
-
 -- what is outside behind more levels is outside behind fewer
 fixed_more : (n : ℕ) (xs ys : List Level) (s : ℕ) → IsFixedVector n xs s → IsFixedVector n (xs ++ ys) s
 fixed_more n xs ys s (inl e) = inl e
@@ -109,7 +106,7 @@ next_reading q t outside holds apart =
     let m' : List ℤ = extended n k m in
     let r = advance q t holds in
     let near = reading_of q t.outside m t.den holds.optimal.1 in
-    let long : length (q.front ++ t.level ∷ []) ≡ k + 1 = length_more q.front t.level in
+    let long : length (q.front ++ t.level ∷ []) ≡ k + 1 = length-append q.front (t.level ∷ []) in
     let shares : (i : ℕ) → i < n → share_of m' i ≡ share_of m i = λ i h. extended-at n k m i (omega arith) in
     let excesses : (j : ℕ) → j < k + 1 → excess_of n m' j ≡ excess_of n m j =
     λ j h. extended-at n k m (n + j) (omega arith) in
@@ -198,7 +195,7 @@ falls q t t' m den holds holds' r =
     let k : ℕ = length q.front in
     let next : Stage = after q t in
     let p : Program = program_of next t'.outside in
-    let long : length next.front ≡ k + 1 = length_more q.front t.level in
+    let long : length next.front ≡ k + 1 = length-append q.front (t.level ∷ []) in
     let weak =
     weak_duality p (extended n k t.multipliers) t.den t'.weights t'.weight_den
     (next_bounds q t t'.outside holds (λ s o. (holds'.decides s).0 o))
@@ -249,7 +246,7 @@ past_more q t past holds =
     let test : ℕ → Level → Bool = λ i l. list_any (λ b. nat_eq b.0 i && int_le (pos 1) b.1) l.bounds in
     record {
       same = λ m m' den den' r r' k h. elim
-          (less_or_last_of k (length q.front) (subst (λ (z : ℕ). k < z) (length_more q.front t.level) h)) [
+          (less_or_last_of k (length q.front) (subst (λ (z : ℕ). k < z) (length-append q.front (t.level ∷ [])) h)) [
             | inl less ↦ past.same m m' den den' (restrict q (t.level ∷ []) m den r)
                 (restrict q (t.level ∷ []) m' den' r') k less
             | inr here ↦ subst
@@ -314,31 +311,35 @@ gap_equal : (d d' v x x' : ℤ) → x ≡ d *ℤ v → x' ≡ d' *ℤ v → d' *
 gap_equal d d' v x x' h h' = omega (arith, linear, ap (λ z. d' *ℤ z) h, ap (λ z. d *ℤ z) h', mul_left_commℤ d' d v)
 
 pub gap_settled : (q : Stage) (m m' : List ℤ) (den den' : ℤ) → Past q → Reads q m den → Reads q m' den'
-    → Settled q.game.players (gap m den m' den') q.front
+    → IsSettled q.game.players (gap m den m' den') q.front
 gap_settled q m m' den den' past r r' =
-    let n : ℕ = q.game.players in
-    record {
-      listed = λ s any.
-          (let both =
-          all_with (λ c. den *ℤ q.game.worth c.0 ≡ reached q.measure n (share_of m) (excess_of n m) c.0 c.1)
-          (λ c. den' *ℤ q.game.worth c.0 ≡ reached q.measure n (share_of m') (excess_of n m') c.0 c.1)
-          (λ c. (den *ℤ q.game.worth c.0 ≡ reached q.measure n (share_of m) (excess_of n m) c.0 c.1)
-          × (den' *ℤ q.game.worth c.0 ≡ reached q.measure n (share_of m') (excess_of n m') c.0 c.1))
-          (earlier_of 0 q.front) (λ c a b. (a, b)) r.settled r'.settled in
-          let found =
-          listed_row
-          (λ c. (den *ℤ q.game.worth c.0 ≡ reached q.measure n (share_of m) (excess_of n m) c.0 c.1)
-          × (den' *ℤ q.game.worth c.0 ≡ reached q.measure n (share_of m') (excess_of n m') c.0 c.1)) 0 q.front s both
-          any in
-          sum_over-combined n (share_of m) (share_of m') den' den s
-          ∙ gap_listed den den' (q.game.worth s) (sum_over n (share_of m) s) (sum_over n (share_of m') s)
-          (excess_of n m found.0) (excess_of n m' found.0) (pos (divisor q.measure s)) found.2.0 found.2.1
-          (past.same m m' den den' r r' found.0 (omega (arith, found.1))));
-      bounded = λ i h b.
-          (let f = past.bounded i b in
-          gap_equal den den' (q.game.worth (singleton i)) (share_of m i) (share_of m' i) (r.bound f i h b)
-          (r'.bound f i h b));
-    }
+    is_settled n (gap m den m' den') q.front listed
+    (λ i h b. let f = past.bounded i b in
+    gap_equal den den' (q.game.worth (singleton i)) (share_of m i) (share_of m' i) (r.bound f i h b)
+    (r'.bound f i h b))
+  where
+    n : ℕ
+    n = q.game.players
+
+    -- the coalition and the row of its level, for both multipliers
+    Both : ℕ × ℕ → Type 0
+    Both c =
+        (den *ℤ q.game.worth c.0 ≡ reached q.measure n (share_of m) (excess_of n m) c.0 c.1)
+        × (den' *ℤ q.game.worth c.0 ≡ reached q.measure n (share_of m') (excess_of n m') c.0 c.1)
+
+    both : AllByRecursion Both (earlier_of 0 q.front)
+    both =
+        all_both (λ c. den *ℤ q.game.worth c.0 ≡ reached q.measure n (share_of m) (excess_of n m) c.0 c.1)
+        (λ c. den' *ℤ q.game.worth c.0 ≡ reached q.measure n (share_of m') (excess_of n m') c.0 c.1)
+        (earlier_of 0 q.front) r.settled r'.settled
+
+    listed : (s : ℕ) → IsTrue (is_listed q.front s) → sum_over n (gap m den m' den') s ≡ pos 0
+    listed s any =
+        let found = listed_row Both 0 q.front s both any in
+        sum_over-combined n (share_of m) (share_of m') den' den s
+        ∙ gap_listed den den' (q.game.worth s) (sum_over n (share_of m) s) (sum_over n (share_of m') s)
+        (excess_of n m found.0) (excess_of n m' found.0) (pos (divisor q.measure s)) found.2.0 found.2.1
+        (past.same m m' den den' r r' found.0 (omega (arith, found.1)))
 
 gap_whole : (q : Stage) (m m' : List ℤ) (den den' : ℤ) → Reads q m den → Reads q m' den'
     → sum_over q.game.players (gap m den m' den') (grand_coalition q.game.players) ≡ pos 0
@@ -382,10 +383,6 @@ inside_low q t m den holds r s o zero_gap =
     (same_value q t m t.multipliers den t.den holds r (advance q t holds))
     (own.outer s o)
 
-pub append_none : {X : Type 0} (xs : List X) → xs ++ [] ≡ xs
-append_none [] = refl
-append_none (x ∷ xs) = ap (λ k. x ∷ k) (append_none xs)
-
 pub outside_low : (q : Stage) (t : StageAnswer) (ts : List StageAnswer) (m : List ℤ) (den : ℤ) → Past q
     → Answers q t → IsChain (after q t) ts → Reads (behind (after q t) (levels_of ts)) m den
     → IsAllFixed Span q.game.players ((q.front ++ t.level ∷ []) ++ levels_of ts) → (s : ℕ) → IsTrue (t.outside s)
@@ -400,8 +397,8 @@ outside_low q t [] m den past holds chain r fixed s o =
     (past_more q t past holds) near own in
     let whole = gap_whole next m t.multipliers den t.den near own in
     let zeros =
-    all_fixed_zero Span q.game.players (gap m den t.multipliers t.den) next.front settled whole
-    (subst (IsAllFixed Span q.game.players) (append_none next.front) fixed) in
+    all_same q.game.players (gap m den t.multipliers t.den) next.front settled whole
+    (subst (IsAllFixed Span q.game.players) (append-nil next.front) fixed) in
     inside_low q t m den holds near s o
     (sum_below-zero q.game.players (λ i. if has_player s i then gap m den t.multipliers t.den i else pos 0)
     (λ i h. zero_either (has_player s i) (gap m den t.multipliers t.den i) (zeros i h)))
@@ -421,7 +418,7 @@ outside_low q t (t' ∷ ts) m den past holds chain r fixed s o =
           falls q t t' m den holds chain.0
           (restrict (after next t') (levels_of ts) m den r') in
           let d : ℤ = pos (divisor q.measure s) in
-          let here = ap (λ (k : ℕ). excess_of q.game.players m k *ℤ d) (length_more q.front t.level) in
+          let here = ap (λ (k : ℕ). excess_of q.game.players m k *ℤ d) (length-append q.front (t.level ∷ [])) in
           let less =
           mul-leℤ d (excess_of q.game.players m (length q.front + 1)) (excess_of q.game.players m (length q.front))
           (omega (arith, linear)) low in
@@ -439,7 +436,7 @@ outside_low q t (t' ∷ ts) m den past holds chain r fixed s o =
           let settled = gap_settled next m t.multipliers den t.den past' near own in
           let whole = gap_whole next m t.multipliers den t.den near own in
           inside_low q t m den holds near s o
-          (inside_zero Span q.game.players (gap m den t.multipliers t.den) next.front settled whole s was.0 was.1
+          (inside_same q.game.players (gap m den t.multipliers t.den) next.front settled whole s was.0 was.1
           (λ out. false≢true (sym gone ∙ (chain.0.decides s).1 out)))
     ]
 

@@ -1,20 +1,19 @@
 -- A chain of stages with one stage more behind it.
 use Rattle.std.proofs.Common.{◌≡◌, ℕ, ◌+◌, List, [], ◌∷◌, ◌++◌, length, pos, ◌*ℤ◌, ◌≤ℤ◌}
 use Rattle.std.proofs.Common.{Some, refl, sym, ap, subst, ◌∙◌, arith}
+use Rattle.std.proofs.lemmas.List.{append_assoc, append-nil}
 use Rattle.definitions.specs.Games.{Game}
 use Rattle.simplex.specs.declared.multipliers.Multipliers.{Multipliers}
 use Rattle.nested_programs.specs.Stage.{Stage, with_front, behind}
 use Rattle.nested_programs.specs.Reading.{excess_of}
 use Rattle.nested_programs.specs.Chain.{StageAnswer, Answers, IsChain, levels_of, last_of, after}
 use Rattle.nested_programs.specs.Stages.{OwnExcesses, AreLast}
-use Rattle.nested_programs.proofs.Advance.{append_assoc}
-use Rattle.nested_programs.proofs.Chain.{append_none}
 
 -- a stage that holds behind the levels of a chain
 pub chain_more : (q : Stage) (ts : List StageAnswer) (t : StageAnswer) → IsChain q ts
     → Answers (behind q (levels_of ts)) t → IsChain q (ts ++ t ∷ [])
 chain_more q [] t h k =
-    (subst (λ ls. Answers (with_front q ls) t) (append_none q.front) k, tt)
+    (subst (λ ls. Answers (with_front q ls) t) (append-nil q.front) k, tt)
 chain_more q (u ∷ ts) t h k = (
   h.0,
   chain_more (after q u) ts t h.1

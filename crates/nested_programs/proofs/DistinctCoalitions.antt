@@ -1,6 +1,6 @@
 -- The coalitions of the levels of a chain are distinct: each was outside what the levels in front fix, and within a
 -- level the masks ascend.
-use Rattle.std.proofs.Common.{◌≡◌, ℕ, ◌+◌, ◌<◌, Bool, true, false, nat_eq, List, []}
+use Rattle.std.proofs.Common.{◌≡◌, ℕ, ◌+◌, ◌<◌, true, false, nat_eq, List, []}
 use Rattle.std.proofs.Common.{◌∷◌, ◌++◌, map, ℤ, inl, inr, arith}
 use Rattle.std.specs.List.{list_any, AllByRecursion, IsDistinct}
 use Rattle.kohlberg.proofs.SpanLaws.{span_of_one}
@@ -9,17 +9,13 @@ use Rattle.definitions.specs.declared.Mode.TheVariants.{Span}
 use Rattle.separation.specs.Stage.{earlier_of}
 use Rattle.nested_programs.specs.Stage.{Stage, with_front}
 use Rattle.nested_programs.specs.Chain.{StageAnswer, levels_of, IsChain, after}
-use Rattle.nested_programs.proofs.Advance.{any_left}
+use Rattle.nested_programs.proofs.Advance.{any_left, any_right}
 use Rattle.nested_programs.proofs.Form.{level_outside}
 use Rattle.nested_programs.proofs.PairKeys.{all_rows}
 use Rattle.definitions.proofs.Cases.{or_left, or_right, not_true, nat_eq-less}
 use Rattle.definitions.proofs.Alls.{all_join, all_weaken}
 
 -- ---- lists
-
-any_right : {X : Type 0} (p : X → Bool) (xs ys : List X) → list_any p ys ≡ true → list_any p (xs ++ ys) ≡ true
-any_right p [] ys h = h
-any_right p (x ∷ xs) ys h = or_right (p x) (list_any p (xs ++ ys)) (any_right p xs ys h)
 
 -- no coalition of cs is that of a pair of ys
 abbrev Misses : List (ℕ × ℤ) → List (ℕ × ℕ) → Type 0

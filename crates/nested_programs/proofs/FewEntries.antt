@@ -8,8 +8,7 @@ use Rattle.std.proofs.lemmas.List.{length-append}
 use Rattle.std.specs.Ordering.{int_eq}
 use Rattle.definitions.proofs.Ring.{linear}
 use Rattle.definitions.specs.Certificates.{Level, number_at}
-use Rattle.kohlberg.specs.Pairs.{with_pair, placed_behind}
-use Rattle.kohlberg.proofs.WithPair.{length-with_pair}
+use Rattle.kohlberg.proofs.Placed.{length-placed}
 use Rattle.separation.specs.Stage.{earlier_of}
 use Rattle.simplex.specs.declared.answer.Optimal.{Optimal}
 use Rattle.nested_programs.specs.Answer.{IsShort}
@@ -135,13 +134,6 @@ outer_few first (w ∷ ws) =
     either_more (nat_le first w.0) (w.0 - first, w.1) (outer_pairs first ws) (count_from first ws)
     (outer_few first ws)
 
-placed_length : (ps qs : List (ℕ × ℤ)) → length (placed_behind ps qs) ≡ length ps + length qs
-placed_length ps [] = omega arith
-placed_length ps (q ∷ qs) =
-    let ih = placed_length (with_pair q.0 q.1 ps) qs in
-    let more = length-with_pair q.0 q.1 ps in
-    omega (arith, ih, more)
-
 -- ---- the level
 
 pub level_entries : (n : ℕ) (front : List Level) (best : Optimal) (l : Level)
@@ -149,9 +141,9 @@ pub level_entries : (n : ℕ) (front : List Level) (best : Optimal) (l : Level)
 level_entries n front best l is =
     let ws : List (ℕ × ℤ) = best.weights.items in
     let first : ℕ = first_single front in
-    let a = ap length is.coalitions ∙ placed_length [] (outer_pairs (first + (n + n)) ws) in
+    let a = ap length is.coalitions ∙ length-placed (outer_pairs (first + (n + n)) ws) in
     let a' = outer_few (first + (n + n)) ws in
-    let b = ap length is.earlier ∙ placed_length [] (earlier_pairs ws 2 (earlier_of 0 front)) in
+    let b = ap length is.earlier ∙ length-placed (earlier_pairs ws 2 (earlier_of 0 front)) in
     let b' = earlier_few ws 2 (earlier_of 0 front) in
     let c = ap length is.bounds in
     let c' = bound_few ws first n n in

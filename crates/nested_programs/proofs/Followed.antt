@@ -20,17 +20,17 @@ use Rattle.nested_programs.specs.Chain.{single_id, outer_id, HasWeight, Follows}
 use Rattle.nested_programs.specs.Numbers.{AreNumbers, first_single, outer_pairs, net}
 use Rattle.nested_programs.specs.Numbers.{earlier_pairs, bound_pairs, IsLevelOf}
 use Rattle.nested_programs.proofs.Reading.{imputations_of}
-use Rattle.nested_programs.proofs.Advance.{BoundComes, any_left}
+use Rattle.nested_programs.proofs.Advance.{BoundComes, any_left, any_right}
 use Rattle.nested_programs.proofs.LevelSums.{is_at, outer_part, pair_part, earlier_part, weighted-same}
 use Rattle.nested_programs.proofs.LevelSums.{net_weighted, outer_weighted, earlier_weighted, number_within}
 use Rattle.nested_programs.proofs.ColumnParts.{parts, settled_pairs, settled_length, column_parts}
 use Rattle.nested_programs.proofs.PositiveWeights.{number_low, number_some, weight_of, each_weighs, on_column}
-use Rattle.nested_programs.proofs.LevelPairs.{all_placed_behind, any_placed_behind, all_outer}
-use Rattle.nested_programs.proofs.LevelPairs.{any_outer, all_bound, any_right, any_bound}
+use Rattle.nested_programs.proofs.LevelPairs.{any_placed_behind, all_outer}
+use Rattle.nested_programs.proofs.LevelPairs.{any_outer, all_bound, any_bound}
 use Rattle.definitions.proofs.Cases.{or_left, true_or_false, and_left, and_right}
 use Rattle.definitions.proofs.Alls.{all_weaken}
 use Rattle.kohlberg.specs.Pairs.{placed}
-use Rattle.kohlberg.proofs.Placed.{weight_at-placed}
+use Rattle.kohlberg.proofs.Placed.{placed_all, weight_at-placed}
 
 -- ---- the sums at a player
 
@@ -95,7 +95,7 @@ outer_weigh n front ws h =
     let P : ℕ × ℤ → Type 0 = λ c. (pos 1 ≤ℤ c.1) × HasWeight ws (outer_id n front c.0) in
     let back : (id : ℕ) → first ≤ id → id ≡ outer_id n front (id - first) =
     λ id le. (let e = outer_id-is n front (id - first) in omega (arith, e)) in
-    all_placed_behind P [] (outer_pairs first ws) tt
+    placed_all P (outer_pairs first ws)
     (all_outer P first ws
     (all_weaken (λ w. (pos 1 ≤ℤ w.1) × HasWeight ws w.0) (λ w. first ≤ w.0 → P (w.0 - first, w.1)) ws
     (λ w k le. (k.0, subst (HasWeight ws) (back w.0 le) k.1)) (each_weighs ws h)))

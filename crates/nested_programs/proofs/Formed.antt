@@ -2,6 +2,7 @@
 use Rattle.std.proofs.Common.{◌≡◌, ℕ, ◌+◌, ◌*◌, ◌^◌, ◌<◌, ◌≤◌, Bool, true, IsTrue, nat_eq, List, [], ◌∷◌}
 use Rattle.std.proofs.Common.{◌++◌, length, map, ℤ, unsigned_abs, sym, subst, arith}
 use Rattle.std.specs.List.{list_any, AllByRecursion, IsDistinct}
+use Rattle.std.proofs.lemmas.List.{append_assoc, append-nil}
 use Rattle.definitions.specs.Certificates.{Level, is_listed, Ascends, IsSmall, LevelForm, LevelsForm}
 use Rattle.separation.specs.Stage.{earlier_of}
 use Rattle.simplex.specs.declared.answer.Optimal.{Optimal}
@@ -9,8 +10,6 @@ use Rattle.nested_programs.specs.Stage.{Stage}
 use Rattle.nested_programs.specs.Chain.{StageAnswer, Answers}
 use Rattle.nested_programs.specs.Stages.{answer_of}
 use Rattle.nested_programs.specs.Numbers.{AreNumbers, first_single, outer_pairs, net, earlier_pairs, IsLevelOf}
-use Rattle.nested_programs.proofs.Advance.{append_assoc}
-use Rattle.nested_programs.proofs.Chain.{append_none}
 use Rattle.nested_programs.proofs.Form.{level_some, level_proper, level_players}
 use Rattle.nested_programs.proofs.FewEntries.{level_short}
 use Rattle.nested_programs.proofs.PairKeys.{all_rows, outer_apart, outer_all, earlier_apart}
@@ -132,7 +131,7 @@ level_formed q best outside l holds numbers is apart few low most =
 
 form_behind : (n : ℕ) (before rest : List Level) (l : Level) → LevelsForm n before rest
     → LevelForm n (before ++ rest) l → LevelsForm n before (rest ++ l ∷ [])
-form_behind n before [] l h form = (subst (λ (ls : List Level). LevelForm n ls l) (append_none before) form, tt)
+form_behind n before [] l h form = (subst (λ (ls : List Level). LevelForm n ls l) (append-nil before) form, tt)
 form_behind n before (r ∷ rest) l h form = (
   h.0,
   form_behind n (before ++ r ∷ []) rest l h.1

@@ -1,25 +1,19 @@
 -- What holds of each pair, or of some pair, of a level made from weights.
 use Rattle.std.proofs.Common.{◌≡◌, ◌≢◌, ◌⊎◌, ℕ, zero, suc, ◌+◌, ◌-◌, ◌<◌, ◌≤◌, Bool, true, false, List, [], ◌∷◌}
-use Rattle.std.proofs.Common.{◌++◌, ℤ, pos, refl, sym, subst, ◌∙◌, inl, inr, arith, nat_eq, nat_le}
+use Rattle.std.proofs.Common.{ℤ, pos, refl, sym, subst, ◌∙◌, inl, inr, arith, nat_eq, nat_le}
 use Rattle.std.proofs.lemmas.Bool.{false≢true}
 use Rattle.std.proofs.lemmas.Bool.Decides.{nat_tests, Decides-int_eq}
 use Rattle.std.specs.Ordering.{int_eq}
 use Rattle.std.specs.List.{list_any, AllByRecursion}
 use Rattle.kohlberg.specs.Pairs.{with_pair, placed_behind}
-use Rattle.kohlberg.proofs.WithPair.{all-with_pair, any-with_pair}
+use Rattle.kohlberg.proofs.WithPair.{any-with_pair}
 use Rattle.nested_programs.specs.Chain.{HasWeight}
 use Rattle.nested_programs.specs.Numbers.{outer_pairs, net, kept, bound_pairs}
-use Rattle.nested_programs.proofs.Advance.{any_left}
+use Rattle.nested_programs.proofs.Advance.{any_left, any_right}
 use Rattle.definitions.proofs.Cases.{or_cases, or_left, or_right, true_or_false}
 use Rattle.definitions.proofs.Alls.{all_join}
 
 -- ---- the coalitions
-
-pub all_placed_behind : (P : ℕ × ℤ → Type 0) (ps qs : List (ℕ × ℤ)) → AllByRecursion P ps → AllByRecursion P qs
-    → AllByRecursion P (placed_behind ps qs)
-all_placed_behind P ps [] h k = h
-all_placed_behind P ps (q ∷ qs) h k =
-    all_placed_behind P (with_pair q.0 q.1 ps) qs (all-with_pair P q.0 q.1 ps k.0 h) k.1
 
 pub any_placed_behind : (test : ℕ × ℤ → Bool) (ps qs : List (ℕ × ℤ))
     → (list_any test ps ≡ true) ⊎ (list_any test qs ≡ true) → list_any test (placed_behind ps qs) ≡ true
@@ -71,10 +65,6 @@ all_bound P ws first n (suc j) h =
     let z : ℤ = net ws (first + j) (first + j + n) in
     all_join P (bound_pairs ws first n j) (kept j z) (all_bound P ws first n j (λ i lt. h i (omega arith)))
     (all_kept P j z (h j (omega arith)))
-
-pub any_right : {X : Type 0} (p : X → Bool) (xs ys : List X) → list_any p ys ≡ true → list_any p (xs ++ ys) ≡ true
-any_right p [] ys h = h
-any_right p (x ∷ xs) ys h = or_right (p x) (list_any p (xs ++ ys)) (any_right p xs ys h)
 
 any_kept : (test : ℕ × ℤ → Bool) (key : ℕ) (z : ℤ) → z ≢ pos 0 → test (key, z) ≡ true
     → list_any test (kept key z) ≡ true

@@ -1,8 +1,9 @@
 -- The passes that make a level from weights, step by step.
-use Rattle.std.proofs.Common.{◌≡◌, ◌≢◌, ℕ, suc, ◌+◌, ◌*◌, ◌<◌, Bool, true, false, cond, List, [], ◌∷◌, ◌++◌}
-use Rattle.std.proofs.Common.{length, map, drop, get_or, ℤ, pos, refl, sym, ap, ◌∙◌, arith}
+use Rattle.std.proofs.Common.{◌≡◌, ◌≢◌, ℕ, suc, ◌+◌, ◌*◌, ◌<◌, true, false, List, [], ◌∷◌, ◌++◌}
+use Rattle.std.proofs.Common.{length, map, take, drop, get_or, ℤ, pos, refl, sym, ap, ◌∙◌, arith}
 use Rattle.std.specs.Ordering.{int_eq}
 use Rattle.std.proofs.lemmas.Bool.Decides.{Decides-int_eq}
+use Rattle.std.proofs.lemmas.List.{append_assoc, append-nil, length-take-le, map-append, take_more}
 use Rattle.definitions.specs.Certificates.{Level}
 use Rattle.kohlberg.specs.Pairs.{with_pair, placed_behind}
 use Rattle.kohlberg.proofs.Pairs.{drop-more}
@@ -25,55 +26,6 @@ placed_append : (ps qs rs : List (ℕ × ℤ)) → placed_behind ps (qs ++ rs) �
 placed_append ps [] rs = refl
 placed_append ps (q ∷ qs) rs = placed_append (with_pair q.0 q.1 ps) qs rs
 
-abbrev keep : Bool → ℕ → ℤ → List (ℕ × ℤ)
-keep zero_test key z = cond zero_test [] ((key, z) ∷ [])
-
-zero_test : (z : ℤ) → z ≡ pos 0 → int_eq z (pos 0) ≡ true
-zero_test z e = (Decides-int_eq z (pos 0)).1 e
-
-apart_test : (z : ℤ) → z ≢ pos 0 → int_eq z (pos 0) ≡ false
-apart_test z ne = not_true (int_eq z (pos 0)) (λ t. ne ((Decides-int_eq z (pos 0)).0 t))
-
-level_first : (ws ps : List (ℕ × ℤ)) (id : ℕ) (cs : List (ℕ × ℤ)) (k : ℕ) (d : ℕ × ℤ) → k < length cs
-    → placed_behind ps (level_pairs ws id (drop k cs))
-    ≡ placed_behind (placed_behind ps (kept (get_or cs k d).0 (net ws id (id + 1))))
-    (level_pairs ws (id + 2) (drop (k + 1) cs))
-level_first ws ps id cs k d lt =
-    ap (λ us. placed_behind ps (level_pairs ws id us)) (drop-more cs k d lt)
-    ∙ placed_append ps (kept (get_or cs k d).0 (net ws id (id + 1))) (level_pairs ws (id + 2) (drop (k + 1) cs))
-
-pub level_put : (ws ps : List (ℕ × ℤ)) (id : ℕ) (cs goal : List (ℕ × ℤ)) (k : ℕ) (d : ℕ × ℤ) (z : ℤ) → k < length cs
-    → z ≡ net ws (id + 2 * k) (id + 2 * k + 1) → z ≢ pos 0
-    → placed_behind ps (level_pairs ws (id + 2 * k) (drop k cs)) ≡ goal
-    → placed_behind (with_pair (get_or cs k d).0 z ps) (level_pairs ws (id + 2 * (k + 1)) (drop (k + 1) cs)) ≡ goal
-level_put ws ps id cs goal k d z lt e t h =
-    let next : id + 2 * k + 2 ≡ id + 2 * (k + 1) = omega arith in
-    let key = (get_or cs k d).0 in
-    let one : placed_behind ps (kept key (net ws (id + 2 * k) (id + 2 * k + 1))) ≡ with_pair key z ps =
-    ap (λ u. placed_behind ps (kept key u)) (sym e)
-    ∙ ap (λ (b : Bool). placed_behind ps (keep b key z)) (apart_test z t) in
-    sym (ap (λ us. placed_behind us (level_pairs ws (id + 2 * (k + 1)) (drop (k + 1) cs))) one)
-    ∙ sym
-    (ap
-    (λ (n : ℕ). placed_behind (placed_behind ps (kept key (net ws (id + 2 * k) (id + 2 * k + 1))))
-    (level_pairs ws n (drop (k + 1) cs))) next) ∙ sym (level_first ws ps (id + 2 * k) cs k d lt) ∙ h
-
-pub level_skip : (ws ps : List (ℕ × ℤ)) (id : ℕ) (cs goal : List (ℕ × ℤ)) (k : ℕ) (d : ℕ × ℤ) (z : ℤ)
-    → k < length cs → z ≡ net ws (id + 2 * k) (id + 2 * k + 1) → z ≡ pos 0
-    → placed_behind ps (level_pairs ws (id + 2 * k) (drop k cs)) ≡ goal
-    → placed_behind ps (level_pairs ws (id + 2 * (k + 1)) (drop (k + 1) cs)) ≡ goal
-level_skip ws ps id cs goal k d z lt e t h =
-    let next : id + 2 * k + 2 ≡ id + 2 * (k + 1) = omega arith in
-    let key = (get_or cs k d).0 in
-    let one : placed_behind ps (kept key (net ws (id + 2 * k) (id + 2 * k + 1))) ≡ ps =
-    ap (λ u. placed_behind ps (kept key u)) (sym e)
-    ∙ ap (λ (b : Bool). placed_behind ps (keep b key z)) (zero_test z t) in
-    sym (ap (λ us. placed_behind us (level_pairs ws (id + 2 * (k + 1)) (drop (k + 1) cs))) one)
-    ∙ sym
-    (ap
-    (λ (n : ℕ). placed_behind (placed_behind ps (kept key (net ws (id + 2 * k) (id + 2 * k + 1))))
-    (level_pairs ws n (drop (k + 1) cs))) next) ∙ sym (level_first ws ps (id + 2 * k) cs k d lt) ∙ h
-
 -- the pairs of the levels are those of the first, and then the others
 pairs_split : (ws : List (ℕ × ℤ)) (id k : ℕ) (cs : List (ℕ × ℤ)) (rest : List (ℕ × ℕ))
     → earlier_pairs ws id (map (λ c. (c.0, k)) cs ++ rest)
@@ -87,10 +39,50 @@ pairs_split ws id k (c ∷ cs) rest =
     ∙ sym
     (append_assoc (kept c.0 (net ws id (id + 1))) (level_pairs ws (id + 2) cs)
     (earlier_pairs ws (id + 2 * suc (length cs)) rest))
-  where
-    append_assoc : (xs ys zs : List (ℕ × ℤ)) → (xs ++ ys) ++ zs ≡ xs ++ (ys ++ zs)
-    append_assoc [] ys zs = refl
-    append_assoc (x ∷ xs) ys zs = ap (λ us. x ∷ us) (append_assoc xs ys zs)
+
+-- the pairs of one coalition more
+level_more : (ws : List (ℕ × ℤ)) (id : ℕ) (cs : List (ℕ × ℤ)) (k : ℕ) (d : ℕ × ℤ) → k < length cs
+    → level_pairs ws id (take (k + 1) cs)
+    ≡ level_pairs ws id (take k cs) ++ kept (get_or cs k d).0 (net ws (id + 2 * k) (id + 2 * k + 1))
+level_more ws id cs k d lt =
+    let c : ℕ × ℤ = get_or cs k d in
+    let count = length-take-le k cs (omega arith) in
+    ap (level_pairs ws id) (take_more cs k d lt)
+    ∙ ap (earlier_pairs ws id) (map-append (λ e. (e.0, 0)) (take k cs) (c ∷ []))
+    ∙ pairs_split ws id 0 (take k cs) ((c.0, 0) ∷ [])
+    ∙ ap (λ us. level_pairs ws id (take k cs) ++ us)
+    (append-nil (kept c.0 (net ws (id + 2 * length (take k cs)) (id + 2 * length (take k cs) + 1)))
+    ∙ ap (λ (n : ℕ). kept c.0 (net ws (id + 2 * n) (id + 2 * n + 1))) count)
+
+level_step : (ws ps qs : List (ℕ × ℤ)) (id : ℕ) (cs us : List (ℕ × ℤ)) (k : ℕ) (d : ℕ × ℤ) → k < length cs
+    → qs ≡ placed_behind ps (level_pairs ws id (take k cs))
+    → kept (get_or cs k d).0 (net ws (id + 2 * k) (id + 2 * k + 1)) ≡ us
+    → placed_behind qs us ≡ placed_behind ps (level_pairs ws id (take (k + 1) cs))
+level_step ws ps qs id cs us k d lt h e =
+    ap (λ vs. placed_behind vs us) h
+    ∙ sym (placed_append ps (level_pairs ws id (take k cs)) us)
+    ∙ ap (λ vs. placed_behind ps (level_pairs ws id (take k cs) ++ vs)) (sym e)
+    ∙ ap (placed_behind ps) (sym (level_more ws id cs k d lt))
+
+pub level_put : (ws ps qs : List (ℕ × ℤ)) (id : ℕ) (cs : List (ℕ × ℤ)) (k : ℕ) (d : ℕ × ℤ) (z : ℤ) → k < length cs
+    → z ≡ net ws (id + 2 * k) (id + 2 * k + 1) → z ≢ pos 0
+    → qs ≡ placed_behind ps (level_pairs ws id (take k cs))
+    → with_pair (get_or cs k d).0 z qs ≡ placed_behind ps (level_pairs ws id (take (k + 1) cs))
+level_put ws ps qs id cs k d z lt e some h =
+    let key = (get_or cs k d).0 in
+    let none : int_eq z (pos 0) ≡ false =
+    not_true (int_eq z (pos 0)) (λ t. some ((Decides-int_eq z (pos 0)).0 t)) in
+    let one : kept key z ≡ (key, z) ∷ [] = rw none refl in
+    level_step ws ps qs id cs ((key, z) ∷ []) k d lt h (ap (kept key) (sym e) ∙ one)
+
+pub level_skip : (ws ps qs : List (ℕ × ℤ)) (id : ℕ) (cs : List (ℕ × ℤ)) (k : ℕ) (d : ℕ × ℤ) (z : ℤ)
+    → k < length cs → z ≡ net ws (id + 2 * k) (id + 2 * k + 1) → z ≡ pos 0
+    → qs ≡ placed_behind ps (level_pairs ws id (take k cs))
+    → qs ≡ placed_behind ps (level_pairs ws id (take (k + 1) cs))
+level_skip ws ps qs id cs k d z lt e none h =
+    let zero : int_eq z (pos 0) ≡ true = (Decides-int_eq z (pos 0)).1 none in
+    let nothing : kept (get_or cs k d).0 z ≡ [] = rw zero refl in
+    level_step ws ps qs id cs [] k d lt h (ap (kept (get_or cs k d).0) (sym e) ∙ nothing)
 
 pairs_shift : (ws : List (ℕ × ℤ)) (id a b : ℕ) (levels : List Level)
     → earlier_pairs ws id (earlier_of a levels) ≡ earlier_pairs ws id (earlier_of b levels)

@@ -8,12 +8,12 @@ use Rattle.std.proofs.Common.{List, [], ◌∷◌, ◌++◌, ℤ, pos, ◌+ℤ�
 use Rattle.std.proofs.Common.{inl, inr, arith, nat_eq, nat_le, if◌then◌else◌}
 use Rattle.std.proofs.lemmas.Bool.Decides.{nat_tests, Decides-int_eq}
 use Rattle.std.specs.Ordering.{int_eq}
-use Rattle.definitions.proofs.Ring.{linear, mul-zeroℤ, mul-oneℤ, mul-subℤ}
+use Rattle.definitions.proofs.Ring.{linear, mul-zeroℤ, mul-subℤ}
 use Rattle.definitions.specs.Sums.{weighted_sum}
 use Rattle.definitions.specs.Coalitions.{has_player, weight_at}
 use Rattle.definitions.specs.Certificates.{number_at}
 use Rattle.nested_programs.specs.Numbers.{outer_pairs, net, kept, earlier_pairs, bound_pairs}
-use Rattle.definitions.proofs.Members.{weighted_sum-zero, weighted_sum-add, weight_at-append}
+use Rattle.definitions.proofs.Members.{times_bit, weighted_sum-zero, weighted_sum-add, weight_at-append}
 use Rattle.definitions.proofs.Cases.{true_or_false}
 
 -- ---- weighted sums
@@ -55,13 +55,9 @@ number_at-kept key z i = elim (true_or_false (int_eq z (pos 0))) [
 abbrev pub is_at : ℕ → ℕ → ℤ
 is_at id k = if nat_eq k id then pos 1 else pos 0
 
-unit : (b : Bool) (z : ℤ) → (if b then z else pos 0) ≡ z *ℤ (if b then pos 1 else pos 0)
-unit true z = sym (mul-oneℤ z)
-unit false z = sym (mul-zeroℤ z)
-
 pub number_weighted : (id : ℕ) (ws : List (ℕ × ℤ)) → number_at ws id ≡ weighted_sum (is_at id) ws
 number_weighted id [] = refl
-number_weighted id (w ∷ ws) = omega (arith, linear, number_weighted id ws, unit (nat_eq w.0 id) w.1)
+number_weighted id (w ∷ ws) = omega (arith, linear, number_weighted id ws, times_bit (nat_eq w.0 id) w.1)
 
 pub net_weighted : (id other : ℕ) (ws : List (ℕ × ℤ))
     → net ws id other ≡ weighted_sum (λ k. is_at id k -ℤ is_at other k) ws
@@ -78,7 +74,7 @@ outer_step : (first i : ℕ) (w : ℕ × ℤ) (ws : List (ℕ × ℤ)) (b : Bool
     → weight_at (cond b ((w.0 - first, w.1) ∷ outer_pairs first ws) (outer_pairs first ws)) i
     ≡ w.1 *ℤ cond b (if has_player (w.0 - first) i then pos 1 else pos 0) (pos 0)
     +ℤ weighted_sum (outer_part first i) ws
-outer_step first i w ws true ih = omega (arith, linear, ih, unit (has_player (w.0 - first) i) w.1)
+outer_step first i w ws true ih = omega (arith, linear, ih, times_bit (has_player (w.0 - first) i) w.1)
 outer_step first i w ws false ih = omega (arith, linear, ih, mul-zeroℤ w.1)
 
 pub outer_weighted : (first i : ℕ) (ws : List (ℕ × ℤ))

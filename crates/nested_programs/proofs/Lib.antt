@@ -2,6 +2,7 @@
 mod Reading
 mod Slack
 mod Advance
+mod SettledNumbers
 mod Chain
 mod Start
 mod Form

@@ -6,8 +6,8 @@ use Rattle.std.proofs.lemmas.Bool.Decides.{nat_tests}
 use Rattle.definitions.proofs.Ring.{linear}
 use Rattle.definitions.specs.Certificates.{number_at}
 
-skipped : (p : ℕ × ℤ) (ps : List (ℕ × ℤ)) (id : ℕ) → p.0 ≢ id → number_at (p ∷ ps) id ≡ number_at ps id
-skipped p ps id ne =
+pub number_past_other : (p : ℕ × ℤ) (ps : List (ℕ × ℤ)) (id : ℕ) → p.0 ≢ id → number_at (p ∷ ps) id ≡ number_at ps id
+number_past_other p ps id ne =
     let t : nat_eq p.0 id ≡ false = grind (arith, nat_tests) in
     rw t (omega (arith, linear))
 
@@ -16,17 +16,16 @@ pub number_none : (ws : List (ℕ × ℤ)) (d : ℕ × ℤ) (id : ℕ) → ((j :
     → number_at ws id ≡ pos 0
 number_none [] d id h = refl
 number_none (w ∷ ws) d id h =
-    skipped w ws id (h 0 (omega arith)) ∙ number_none ws d id (λ j lt. h (suc j) (omega arith))
+    number_past_other w ws id (h 0 (omega arith)) ∙ number_none ws d id (λ j lt. h (suc j) (omega arith))
 
-none_same : (w : ℕ × ℤ) (ws : List (ℕ × ℤ)) → AllByRecursion (λ k. nat_eq w.0 k ≡ false) (map (λ p. p.0) ws)
-    → number_at ws w.0 ≡ pos 0
-none_same w [] h = refl
-none_same w (v ∷ ws) h =
-    let ne : v.0 ≢ w.0 = λ e. absurd_same w.0 v.0 e h.0 in
-    skipped v ws w.0 ne ∙ none_same w ws h.1
-  where
-    absurd_same : (a b : ℕ) → b ≡ a → nat_eq a b ≡ false → ⊥
-    absurd_same a b e h = grind (arith, nat_tests)
+pub other_key : (a b : ℕ) → nat_eq a b ≡ false → b ≢ a
+other_key a b h e = grind (arith, nat_tests)
+
+-- a column whose number none of the weights has
+pub number_apart : (id : ℕ) (ws : List (ℕ × ℤ)) → AllByRecursion (λ k. nat_eq id k ≡ false) (map (λ p. p.0) ws)
+    → number_at ws id ≡ pos 0
+number_apart id [] h = refl
+number_apart id (w ∷ ws) h = number_past_other w ws id (other_key id w.0 h.0) ∙ number_apart id ws h.1
 
 -- a column's number is that of its one weight
 pub number_found : (ws : List (ℕ × ℤ)) (d : ℕ × ℤ) (k id : ℕ) → IsDistinct nat_eq (map (λ p. p.0) ws)
@@ -35,16 +34,14 @@ unfolding IsDistinct
 number_found [] d k id h lt e = absurd (omega arith)
 number_found (w ∷ ws) d zero id h lt e =
     let t : nat_eq w.0 id ≡ true = grind (arith, nat_tests) in
-    let rest : number_at ws id ≡ pos 0 = ap (number_at ws) (sym e) ∙ none_same w ws h.0 in
+    let rest : number_at ws id ≡ pos 0 = ap (number_at ws) (sym e) ∙ number_apart w.0 ws h.0 in
     rw t (omega (arith, linear, rest))
 number_found (w ∷ ws) d (suc k) id h lt e =
-    skipped w ws id (λ s. apart w ws d k h.0 (omega arith) (e ∙ sym s)) ∙ number_found ws d k id h.1 (omega arith) e
+    number_past_other w ws id (λ s. later_key w ws d k h.0 (omega arith) (e ∙ sym s))
+    ∙ number_found ws d k id h.1 (omega arith) e
   where
-    apart : (w : ℕ × ℤ) (ws : List (ℕ × ℤ)) (d : ℕ × ℤ) (k : ℕ)
+    later_key : (w : ℕ × ℤ) (ws : List (ℕ × ℤ)) (d : ℕ × ℤ) (k : ℕ)
         → AllByRecursion (λ j. nat_eq w.0 j ≡ false) (map (λ p. p.0) ws) → k < length ws → (get_or ws k d).0 ≢ w.0
-    apart w [] d k h lt e = absurd (omega arith)
-    apart w (v ∷ vs) d zero h lt e = absurd_same w.0 v.0 e h.0
-      where
-        absurd_same : (a b : ℕ) → b ≡ a → nat_eq a b ≡ false → ⊥
-        absurd_same a b e h = grind (arith, nat_tests)
-    apart w (v ∷ vs) d (suc k) h lt e = apart w vs d k h.1 (omega arith) e
+    later_key w [] d k h lt e = absurd (omega arith)
+    later_key w (v ∷ vs) d zero h lt e = other_key w.0 v.0 h.0 e
+    later_key w (v ∷ vs) d (suc k) h lt e = later_key w vs d k h.1 (omega arith) e

@@ -1,14 +1,15 @@
 -- The excess of each level of a chain, which is the optimum of its own stage, is what multipliers that settle all
 -- levels have in its row.
 use Rattle.std.proofs.Common.{◌≡◌, ℕ, List, [], ◌∷◌, length, ℤ, pos, ◌*ℤ◌, ◌≤ℤ◌, sym, ap, subst, ◌∙◌, arith}
+use Rattle.std.proofs.lemmas.List.{append_assoc, length-append}
 use Rattle.definitions.proofs.Ring.{linear, mul_left_commℤ, mul-cancelℤ}
 use lib.IntN.{*ℤ_comm}
 use Rattle.nested_programs.specs.Stage.{Stage, with_front, behind}
 use Rattle.nested_programs.specs.Reading.{excess_of}
 use Rattle.nested_programs.specs.Chain.{StageAnswer, levels_of, IsChain, HaveExcesses, after}
 use Rattle.nested_programs.specs.Stages.{OwnExcesses}
-use Rattle.nested_programs.proofs.Advance.{Reads, append_assoc}
-use Rattle.nested_programs.proofs.Chain.{excess_optimum, length_more}
+use Rattle.nested_programs.proofs.Advance.{Reads}
+use Rattle.nested_programs.proofs.Chain.{excess_optimum}
 
 -- fractions a / b and e / c that are both f / d are the same
 common_value : (a b c d e f : ℤ) → pos 1 ≤ℤ d → a *ℤ d ≡ f *ℤ b → e *ℤ d ≡ f *ℤ c → a *ℤ c ≡ e *ℤ b
@@ -28,10 +29,10 @@ have_excesses q (t ∷ ts) m den chain r own =
     subst (λ ls. Reads (with_front q ls) m den) (sym (append_assoc q.front (t.level ∷ []) (levels_of ts))) r in
     let rest =
     have_excesses (after q t) ts m den chain.1 r'
-    (subst (λ (k : ℕ). OwnExcesses q.game k ts) (sym (length_more q.front t.level)) own.2) in (
+    (subst (λ (k : ℕ). OwnExcesses q.game k ts) (sym (length-append q.front (t.level ∷ []))) own.2) in (
       common_value t.level.excess_num t.level.excess_den den t.den (excess_of q.game.players m (length q.front))
           (excess_of q.game.players t.multipliers (length q.front)) chain.0.optimal.1.0 own.0
           (excess_optimum q t (levels_of ts) m den chain.0 r'),
       own.1,
-      subst (λ (k : ℕ). HaveExcesses q.game m den k (levels_of ts)) (length_more q.front t.level) rest,
+      subst (λ (k : ℕ). HaveExcesses q.game m den k (levels_of ts)) (length-append q.front (t.level ∷ [])) rest,
     )

@@ -5,6 +5,7 @@ use Rattle.std.proofs.lemmas.Bool.Decides.{nat_tests}
 use Rattle.std.specs.List.{AllByRecursion, IsDistinct}
 use Rattle.definitions.specs.Certificates.{Ascends}
 use Rattle.nested_programs.specs.Numbers.{outer_pairs, net, kept, earlier_pairs, bound_pairs}
+use Rattle.nested_programs.proofs.NumberedColumns.{other_key}
 use Rattle.nested_programs.proofs.PlacedOrder.{kept_all, kept_apart, kept_ascends}
 use Rattle.definitions.proofs.Alls.{all_join, all_weaken}
 use Rattle.definitions.proofs.Cases.{true_or_false}
@@ -53,9 +54,6 @@ earlier_all P ws id [] h = tt
 earlier_all P ws id (c ∷ cs) h =
     all_join P (kept c.0 (net ws id (id + 1))) (earlier_pairs ws (id + 2) cs)
     (kept_all P c.0 (net ws id (id + 1)) (h.0 id (id + 1))) (earlier_all P ws (id + 2) cs h.1)
-
-other_key : (a b : ℕ) → nat_eq a b ≡ false → b ≢ a
-other_key a b h e = grind (arith, nat_tests)
 
 pub all_rows : (P : ℕ → Type 0) (k : ℕ) (cs : List (ℕ × ℤ)) → AllByRecursion (λ c. P c.0) cs
     → AllByRecursion (λ (c : ℕ × ℕ). P c.0) (map (λ (c : ℕ × ℤ). (c.0, k)) cs)

@@ -1,10 +1,10 @@
 -- The keys of pairs to which one with a net number is added, unless that is 0.
 use Rattle.std.proofs.Common.{◌≢◌, ℕ, ◌+◌, ◌<◌, ◌≤◌, List, [], ◌∷◌, ◌++◌, ℤ, sym, subst, inl, inr, arith}
 use Rattle.std.specs.List.{AllByRecursion}
+use Rattle.std.proofs.lemmas.List.{append-nil}
 use Rattle.definitions.specs.Certificates.{Ascends}
 use Rattle.kohlberg.proofs.Placed.{Apart}
 use Rattle.nested_programs.specs.Numbers.{kept}
-use Rattle.nested_programs.proofs.Chain.{append_none}
 use Rattle.nested_programs.proofs.FewEntries.{kept_cases}
 
 pub kept_all : (P : ℕ × ℤ → Type 0) (key : ℕ) (z : ℤ) → P (key, z) → AllByRecursion P (kept key z)
@@ -30,7 +30,7 @@ pub kept_ascends : (key : ℕ) (z : ℤ) (ps : List (ℕ × ℤ)) → Ascends 0 
     → Ascends 0 (ps ++ kept key z)
 kept_ascends key z ps h below = elim (kept_cases key z) [
   | inl none ↦ subst (λ (qs : List (ℕ × ℤ)). Ascends 0 (ps ++ qs)) (sym none)
-      (subst (Ascends 0) (sym (append_none ps)) h)
+      (subst (Ascends 0) (sym (append-nil ps)) h)
   | inr some ↦ subst (λ (qs : List (ℕ × ℤ)). Ascends 0 (ps ++ qs)) (sym some.0)
       (ascends_last 0 key z ps (omega arith) h below)
 ]

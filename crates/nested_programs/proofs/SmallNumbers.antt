@@ -1,35 +1,20 @@
 -- Numbers of columns are 0 or one weight each, so net numbers are small.
-use Rattle.std.proofs.Common.{◌≡◌, ℕ, ◌^◌, ◌<◌, Bool, true, false, cond, nat_eq, List, [], ◌∷◌, map, ℤ, pos, ◌+ℤ◌}
-use Rattle.std.proofs.Common.{◌-ℤ◌, ◌≤ℤ◌, unsigned_abs, refl, sym, subst, ◌∙◌, inl, inr, arith}
-use Rattle.std.proofs.lemmas.Bool.{false≢true}
+use Rattle.std.proofs.Common.{◌≡◌, ◌≢◌, ℕ, ◌^◌, ◌<◌}
+use Rattle.std.proofs.Common.{nat_eq, List, [], ◌∷◌, map, ℤ, pos}
+use Rattle.std.proofs.Common.{◌-ℤ◌, ◌≤ℤ◌, unsigned_abs, sym, ap, subst, ◌∙◌, inl, inr, arith}
 use Rattle.std.proofs.lemmas.Bool.Decides.{nat_tests}
 use Rattle.std.proofs.lemmas.Int.{ints}
 use Rattle.std.specs.List.{AllByRecursion, IsDistinct}
 use Rattle.definitions.proofs.Ring.{linear}
 use Rattle.definitions.specs.Certificates.{number_at, IsSmall}
 use Rattle.nested_programs.specs.Numbers.{AreNumbers, net}
+use Rattle.nested_programs.proofs.NumberedColumns.{number_past_other, number_apart}
 use Rattle.definitions.proofs.Alls.{all_with}
 use Rattle.definitions.proofs.Cases.{true_or_false}
 
 -- at least 0, and below 2^62
 abbrev IsNumber : ℤ → Type 0
 IsNumber z = (pos 0 ≤ℤ z) × (unsigned_abs z < 2 ^ 62)
-
-without : (b : Bool) (x y : ℤ) → b ≡ false → cond b x (pos 0) +ℤ y ≡ y
-without true x y h = absurd (false≢true (sym h))
-without false x y h = omega (arith, linear)
-
-with_one : (b : Bool) (x y : ℤ) → b ≡ true → y ≡ pos 0 → cond b x (pos 0) +ℤ y ≡ x
-with_one true x y h e = omega (arith, linear, e)
-with_one false x y h e = absurd (false≢true h)
-
-turned : (a b : ℕ) → nat_eq a b ≡ false → nat_eq b a ≡ false
-turned a b h = grind (arith, nat_tests)
-
-number_none : (k : ℕ) (ws : List (ℕ × ℤ)) → AllByRecursion (λ y. nat_eq k y ≡ false) (map (λ (w : ℕ × ℤ). w.0) ws)
-    → number_at ws k ≡ pos 0
-number_none k [] h = refl
-number_none k (w ∷ ws) h = without (nat_eq w.0 k) w.1 (number_at ws k) (turned k w.0 h.0) ∙ number_none k ws h.1
 
 one_number : (w : ℤ) → pos 1 ≤ℤ w → unsigned_abs w < 2 ^ 62 → IsNumber w
 one_number w one small = (omega (arith, linear, one), small)
@@ -44,11 +29,12 @@ number_is k [] h apart = no_number
 number_is k (w ∷ ws) h apart = elim (true_or_false (nat_eq w.0 k)) [
   | inl t ↦
       let e : w.0 ≡ k = grind (arith, nat_tests) in
-      let none =
-      number_none k ws
-      (subst (λ (z : ℕ). AllByRecursion (λ y. nat_eq z y ≡ false) (map (λ (v : ℕ × ℤ). v.0) ws)) e apart.0) in
-      subst IsNumber (sym (with_one (nat_eq w.0 k) w.1 (number_at ws k) t none)) h.0
-  | inr t ↦ subst IsNumber (sym (without (nat_eq w.0 k) w.1 (number_at ws k) t)) (number_is k ws h.1 apart.1)
+      let none : number_at ws k ≡ pos 0 = ap (number_at ws) (sym e) ∙ number_apart w.0 ws apart.0 in
+      let one : number_at (w ∷ ws) k ≡ w.1 = rw t (omega (arith, linear, none)) in
+      subst IsNumber (sym one) h.0
+  | inr t ↦
+      let ne : w.0 ≢ k = grind (arith, nat_tests) in
+      subst IsNumber (sym (number_past_other w ws k ne)) (number_is k ws h.1 apart.1)
 ]
 
 are_numbers : (ws : List (ℕ × ℤ)) → AreNumbers ws → AllByRecursion (λ w. IsNumber w.1) ws

@@ -4,6 +4,7 @@ use Rattle.std.proofs.Common.{◌∷◌, ◌++◌, length, length-append, map, �
 use Rattle.std.proofs.Common.{Some, None, refl, sym, ap, subst, ◌∙◌, inl, arith}
 use Rattle.std.specs.List.{list_any, AllByRecursion, IsDistinct}
 use Rattle.std.proofs.lemmas.Bool.Decides.{nat_tests}
+use Rattle.std.proofs.lemmas.List.{append-nil}
 use Rattle.definitions.specs.Coalitions.{grand_coalition}
 use Rattle.definitions.specs.Certificates.{Level, InSpan, IsOutside, LevelForm, LevelsForm, is_listed}
 use Rattle.definitions.specs.declared.Mode.TheVariants.{Span}
@@ -20,7 +21,7 @@ use Rattle.nested_programs.specs.Chain.{StageAnswer, Answers, after}
 use Rattle.nested_programs.specs.Numbers.{AreNumbers, IsLevelOf}
 use Rattle.nested_programs.specs.Stages.{IsBest, answer_of, IsBounded, AreStages, AreUnderway}
 use Rattle.nested_programs.proofs.Start.{first_no_ray}
-use Rattle.nested_programs.proofs.Chain.{next_no_ray, length_more, append_none}
+use Rattle.nested_programs.proofs.Chain.{next_no_ray}
 use Rattle.nested_programs.proofs.Form.{level_some, level_outside}
 use Rattle.nested_programs.proofs.ChainSteps.{chain_more, levels_more, levels_count, own_more, last_more}
 use Rattle.nested_programs.proofs.Followed.{followed}
@@ -90,7 +91,7 @@ some_listed (c ∷ cs) l P e some all =
     )
 
 grown_by : (old new more : List ℕ) → new ≡ old ++ more → ¬ (new ≡ old) → length old < length new
-grown_by old new [] e ne = absurd (ne (e ∙ append_none old))
+grown_by old new [] e ne = absurd (ne (e ∙ append-nil old))
 grown_by old new (k ∷ more) e ne =
     let long = ap length e ∙ length-append old (k ∷ more) in
     omega (arith, long)
@@ -169,8 +170,8 @@ underway_more q old new last best l few room h is_best is low more = record {
   spans = SpansFixed-more q.game.players old new q.front (l ∷ []) h.spans more;
   more =
       (let grow = kept_grows q t old new k h.spans more in
-      let long = length_more q.front l in omega (arith, grow, long, h.more));
-  count = (let long = length_more q.front l in omega (arith, long, h.more, room));
+      let long = length-append q.front (l ∷ []) in omega (arith, grow, long, h.more));
+  count = (let long = length-append q.front (l ∷ []) in omega (arith, long, h.more, room));
 }
   where
     t : StageAnswer

@@ -1,5 +1,5 @@
 //! The level that optimal weights of a stage are.
-ghost use Rattle.std.specs.Prelude.{◌≡◌, ◌+◌, ◌^◌, ◌≤◌, length, IfOk, OnOk};
+ghost use Rattle.std.specs.Prelude.{◌≡◌, ℕ, ◌+◌, ◌^◌, ◌≤◌, length, take, IfOk, OnOk, OnErr};
 ghost use Rattle.std.specs.List.{AllByRecursion};
 ghost use Rattle.arrayvec.specs.ArrayVec.{array_vec_len};
 ghost use Rattle.separation.specs.Stage.{earlier_of};
@@ -35,6 +35,8 @@ fn outer_numbers(
 
 /// Puts the coalitions of a level in front whose net number isn't 0 in mask order, where `first` is the number of the
 /// column of its first.
+///
+/// Its one error is want of memory; then those of the first coalitions are put.
 fn put_level(
     earlier: &mut Vec<(Coalition, i128)>,
     weights: &[(u64, i128)],
@@ -44,8 +46,10 @@ fn put_level(
     requires weights { AreNumbers weights.now }
     requires small { first ≤ 2 ^ 32 }
     requires few { length pairs.now ≤ 65536 }
-    ensures { OnOk result
+    ensures ok { OnOk result
         (earlier.new.items ≡ placed_behind earlier.old.items (level_pairs weights.now first pairs.now)) }
+    ensures err { OnErr result ((k : ℕ) × (earlier.new.items
+        ≡ placed_behind earlier.old.items (level_pairs weights.now first (take k pairs.now)))) }
 {
     for k in 0..pairs.len() {
         let id = first + 2 * k as u64;

@@ -1,5 +1,4 @@
 pub mod SortedLemmas
-pub mod Settled
 pub mod Soundness
 pub mod OneWay
 pub mod Moves

@@ -36,7 +36,7 @@ loop-level-preserved c =
     ∙ ap (λ (v : Level). length v.coalitions) (c.level.view_is ∙ c.level-item.is) in
     let pairs = c.deref.ensures.value ∙ ap (λ (v : Level). v.coalitions) (c.level.view_is ∙ c.level-item.is) in
     let put =
-    c.in_ok-put_level.ensures {u = tt}
+    c.in_ok-put_level.ensures.ok
     ∙ ap (λ us. placed_behind c.loop-level.earlier.items (level_pairs ws c.loop-level.id us)) pairs in
     rw here (
       earlier_put ws c.loop-level.earlier.items c.put_level.new.earlier.items c.loop-level.id front _ k l lt
