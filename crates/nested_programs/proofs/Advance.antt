@@ -57,10 +57,10 @@ column_further n front i =
 
 pub column_outer : (n : ℕ) (front : List Level) (s : ℕ)
     → column n front (outer_id n front s) ≡ record { mask = s; row = length front; minus = false }
-column_outer n front s = column_further n front (n + n + s) ∙ kind
+column_outer n front s = column_further n front (n + n + s) ∙ further_is
   where
-    kind : further_column n (length front) (n + n + s) ≡ record { mask = s; row = length front; minus = false }
-    kind =
+    further_is : further_column n (length front) (n + n + s) ≡ record { mask = s; row = length front; minus = false }
+    further_is =
         let t : nat_lt (n + n + s) n ≡ false = grind (arith, nat_tests) in
         let u : nat_lt (n + n + s) (n + n) ≡ false = grind (arith, nat_tests) in
         let v : n + n + s - (n + n) ≡ s = omega arith in
@@ -68,10 +68,11 @@ column_outer n front s = column_further n front (n + n + s) ∙ kind
 
 pub column_single : (n : ℕ) (front : List Level) (i : ℕ) → i < n
     → column n front (single_id n front i) ≡ record { mask = singleton i; row = length front + 1; minus = false }
-column_single n front i h = column_further n front i ∙ kind
+column_single n front i h = column_further n front i ∙ further_is
   where
-    kind : further_column n (length front) i ≡ record { mask = singleton i; row = length front + 1; minus = false }
-    kind = let t : nat_lt i n ≡ true = grind (arith, nat_tests) in rw t refl
+    further_is : further_column n (length front) i
+        ≡ record { mask = singleton i; row = length front + 1; minus = false }
+    further_is = let t : nat_lt i n ≡ true = grind (arith, nat_tests) in rw t refl
 
 -- a column's rise, by what the column is
 abbrev pub column_rise : Measure → Game → ℕ → (ℕ → ℤ) → (ℕ → ℤ) → ℤ → Column → ℤ
@@ -233,8 +234,8 @@ new_bound q ws (b ∷ bs) Tight new old h i any =
       | inr more ↦ new_bound q ws bs Tight new old h.1 i more
     ]
 
-pub advance : (q : Stage) (t : StageAnswer) → Answers q t → Reads (after q t) t.multipliers t.den
-advance q t holds =
+pub settles_own_level : (q : Stage) (t : StageAnswer) → Answers q t → Reads (after q t) t.multipliers t.den
+settles_own_level q t holds =
     let outside : ℕ → Bool = t.outside in
     let m : List ℤ = t.multipliers in
     let den : ℤ = t.den in

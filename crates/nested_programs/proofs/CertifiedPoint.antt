@@ -14,7 +14,7 @@ use Rattle.worth_core.specs.Allocations.{allocation}
 use Rattle.nested_programs.specs.Stage.{Stage}
 use Rattle.nested_programs.specs.Answer.{IsShort, SettleMore, IsPoint}
 use Rattle.nested_programs.specs.Stages.{AreDone}
-use Rattle.nested_programs.proofs.LastStage.{certified}
+use Rattle.nested_programs.proofs.LastStage.{last_certifies}
 use Rattle.nested_programs.proofs.OnePlayer.{one_certified}
 use Rattle.nested_programs.proofs.SettledMore.{settle_more}
 use Rattle.kohlberg.specs.Solved.{HasFew, IsLowest}
@@ -36,7 +36,7 @@ all_certified q None x some has done read =
     subst (Certifies Span q.family q.measure q.game x) (sym none)
     (subst (λ (y : Allocation). Certifies Span q.family q.measure q.game y []) (sym read) one)
 all_certified q (Some m) x some has done read =
-    certified q m x has done read
+    last_certifies q m x has done read
 
 pub is_point : (q : Stage) (last : Option Multipliers) (x : Allocation) (c : CertificateData) → 1 ≤ q.game.players
     → IsMeasurable q.measure q.game.players → AreDone q last → AreRead q.game last x
@@ -46,20 +46,20 @@ is_point q last x c some has done read e = record {
     players = ap (λ (d : CertificateData). d.players) e;
     in_mode = ap (λ (d : CertificateData). d.mode) e;
     certifies =
-        subst (Certifies Span q.family q.measure q.game x) (sym same)
+        subst (Certifies Span q.family q.measure q.game x) (sym levels_are)
         (all_certified q last x some has done read);
     few =
-        subst (AllByRecursion (HasFew q.game.players)) (sym same)
+        subst (AllByRecursion (HasFew q.game.players)) (sym levels_are)
         (all_weaken (IsShort q.game.players) (HasFew q.game.players) q.front (λ l h. at_most q.game.players l h)
         done.short);
-    lowest = subst (AllByRecursion IsLowest) (sym same) done.lowest;
+    lowest = subst (AllByRecursion IsLowest) (sym levels_are) done.lowest;
   };
-  short = subst (AllByRecursion (IsShort q.game.players)) (sym same) done.short;
-  more = subst (SettleMore q.game.players []) (sym same) (settle_more q last done);
+  short = subst (AllByRecursion (IsShort q.game.players)) (sym levels_are) done.short;
+  more = subst (SettleMore q.game.players []) (sym levels_are) (settle_more q last done);
 }
   where
-    same : c.levels ≡ q.front
-    same = ap (λ (d : CertificateData). d.levels) e
+    levels_are : c.levels ≡ q.front
+    levels_are = ap (λ (d : CertificateData). d.levels) e
 
     at_most : (n : ℕ) (l : Level) → IsShort n l → HasFew n l
     at_most n l h = omega (arith, h)

@@ -21,7 +21,7 @@ use Rattle.separation.specs.Shares.{IsReadFrom}
 use Rattle.nested_programs.specs.Stage.{Stage, with_front, behind}
 use Rattle.nested_programs.specs.Reading.{reached, share_of, excess_of}
 use Rattle.nested_programs.specs.Chain.{StageAnswer, Answers, levels_of, IsChain, last_of, HaveExcesses, after}
-use Rattle.nested_programs.proofs.Advance.{Reads, Settled_pairs, restrict, advance}
+use Rattle.nested_programs.proofs.Advance.{Reads, Settled_pairs, restrict, settles_own_level}
 use Rattle.nested_programs.proofs.Advance.{earlier_of-more, BoundComes}
 use Rattle.nested_programs.proofs.Form.{level_balanced, level_proper}
 use Rattle.nested_programs.proofs.Chain.{Past, past_none, past_more, outside_low}
@@ -33,7 +33,7 @@ pub last_reads : (q : Stage) (t : StageAnswer) (ts : List StageAnswer) → Answe
     → Reads (behind (after q t) (levels_of ts)) (last_of t ts).multipliers (last_of t ts).den
 last_reads q t [] holds chain =
     subst (λ ls. Reads (with_front q ls) t.multipliers t.den) (sym (append-nil (q.front ++ t.level ∷ [])))
-    (advance q t holds)
+    (settles_own_level q t holds)
 last_reads q t (t' ∷ ts) holds chain =
     subst (λ ls. Reads (with_front q ls) (last_of t' ts).multipliers (last_of t' ts).den)
     (append_assoc (q.front ++ t.level ∷ []) (t'.level ∷ []) (levels_of ts))

@@ -29,7 +29,7 @@ use Rattle.nested_programs.specs.Chain.{HasWeight, StageAnswer, Answers, levels_
 use Rattle.nested_programs.proofs.Reading.{earlier_rows, reading_of, of_reading}
 use Rattle.nested_programs.proofs.Slack.{tight_optimal}
 use Rattle.nested_programs.proofs.SettledNumbers.{IsSettled, is_settled, inside_same, all_same}
-use Rattle.nested_programs.proofs.Advance.{Reads, restrict, advance, stage_value, right_value, any_left}
+use Rattle.nested_programs.proofs.Advance.{Reads, restrict, settles_own_level, stage_value, right_value, any_left}
 use Rattle.nested_programs.proofs.Advance.{any_cases, pair_at, BoundComes, single_family}
 use Rattle.definitions.proofs.Cases.{less_or_last_of, or_cases, true_or_false}
 use Rattle.definitions.proofs.Alls.{all_both, all_left, all_right, all_weaken, all_with}
@@ -104,7 +104,7 @@ next_reading q t outside holds apart =
     let k : ℕ = length q.front in
     let m : List ℤ = t.multipliers in
     let m' : List ℤ = extended n k m in
-    let r = advance q t holds in
+    let r = settles_own_level q t holds in
     let near = reading_of q t.outside m t.den holds.optimal.1 in
     let long : length (q.front ++ t.level ∷ []) ≡ k + 1 = length-append q.front (t.level ∷ []) in
     let shares : (i : ℕ) → i < n → share_of m' i ≡ share_of m i = λ i h. extended-at n k m i (omega arith) in
@@ -160,23 +160,23 @@ next_no_ray q t outside holds apart =
 same_ratio : (w d d' c e e' : ℤ) → pos 1 ≤ℤ w → d *ℤ c ≡ w *ℤ e → d' *ℤ c ≡ w *ℤ e' → e *ℤ d' ≡ e' *ℤ d
 same_ratio w d d' c e e' one h h' =
     mul-cancelℤ w (e *ℤ d') (e' *ℤ d) (omega (arith, linear, one))
-    (sym (mul_assocℤ w e d') ∙ ap (λ z. z *ℤ d') (sym h) ∙ cross ∙ ap (λ z. z *ℤ d) h' ∙ mul_assocℤ w e' d)
+    (sym (mul_assocℤ w e d') ∙ ap (λ z. z *ℤ d') (sym h) ∙ factors_swapped ∙ ap (λ z. z *ℤ d) h' ∙ mul_assocℤ w e' d)
   where
-    cross : (d *ℤ c) *ℤ d' ≡ (d' *ℤ c) *ℤ d
-    cross = *ℤ_comm (d *ℤ c) d' ∙ mul_left_commℤ d' d c ∙ *ℤ_comm d (d' *ℤ c)
+    factors_swapped : (d *ℤ c) *ℤ d' ≡ (d' *ℤ c) *ℤ d
+    factors_swapped = *ℤ_comm (d *ℤ c) d' ∙ mul_left_commℤ d' d c ∙ *ℤ_comm d (d' *ℤ c)
 
 -- multipliers that settle the level of a stage have one excess there, the optimum
-pub same_value : (q : Stage) (t : StageAnswer) (m m' : List ℤ) (den den' : ℤ) → Answers q t
+pub one_excess : (q : Stage) (t : StageAnswer) (m m' : List ℤ) (den den' : ℤ) → Answers q t
     → Reads (after q t) m den → Reads (after q t) m' den'
     → excess_of q.game.players m (length q.front) *ℤ den' ≡ excess_of q.game.players m' (length q.front) *ℤ den
-same_value q t m m' den den' holds r r' =
+one_excess q t m m' den den' holds r r' =
     same_ratio t.weight_den den den' (weighted_sum (program_of q t.outside).cost t.weights)
     (excess_of q.game.players m (length q.front)) (excess_of q.game.players m' (length q.front)) holds.optimal.0.1
     (stage_value q t m den holds r) (stage_value q t m' den' holds r')
 
-falls_step : (w d dk c e1 e0 f0 : ℤ) → pos 1 ≤ℤ w → pos 1 ≤ℤ d → pos 1 ≤ℤ dk → (dk *ℤ c) ≤ℤ (w *ℤ f0)
+no_greater_optimum : (w d dk c e1 e0 f0 : ℤ) → pos 1 ≤ℤ w → pos 1 ≤ℤ d → pos 1 ≤ℤ dk → (dk *ℤ c) ≤ℤ (w *ℤ f0)
     → d *ℤ c ≡ w *ℤ e1 → e0 *ℤ dk ≡ f0 *ℤ d → e1 ≤ℤ e0
-falls_step w d dk c e1 e0 f0 pw pd pk h hc he =
+no_greater_optimum w d dk c e1 e0 f0 pw pd pk h hc he =
     let a = mul-leℤ d (dk *ℤ c) (w *ℤ f0) (omega (arith, linear, pd)) h in
     let left : d *ℤ (dk *ℤ c) ≡ (dk *ℤ w) *ℤ e1 =
     mul_left_commℤ d dk c ∙ ap (λ z. dk *ℤ z) hc ∙ sym (mul_assocℤ dk w e1) in
@@ -187,10 +187,10 @@ falls_step w d dk c e1 e0 f0 pw pd pk h hc he =
     (omega (arith, linear, a, left, right))
 
 -- the optima don't rise
-pub falls : (q : Stage) (t t' : StageAnswer) (m : List ℤ) (den : ℤ) → Answers q t → Answers (after q t) t'
+pub optimum_falls : (q : Stage) (t t' : StageAnswer) (m : List ℤ) (den : ℤ) → Answers q t → Answers (after q t) t'
     → Reads (after (after q t) t') m den
     → excess_of q.game.players m (length q.front + 1) ≤ℤ excess_of q.game.players m (length q.front)
-falls q t t' m den holds holds' r =
+optimum_falls q t t' m den holds holds' r =
     let n : ℕ = q.game.players in
     let k : ℕ = length q.front in
     let next : Stage = after q t in
@@ -206,9 +206,10 @@ falls q t t' m den holds holds' r =
     let value : den *ℤ weighted_sum p.cost t'.weights ≡ t'.weight_den *ℤ excess_of n m (k + 1) =
     stage_value next t' m den holds' r ∙ ap (λ z. t'.weight_den *ℤ excess_of n m z) long in
     let same =
-    same_value q t m t.multipliers den t.den holds
-    (restrict next (t'.level ∷ []) m den r) (advance q t holds) in
-    falls_step t'.weight_den den t.den (weighted_sum p.cost t'.weights) (excess_of n m (k + 1)) (excess_of n m k)
+    one_excess q t m t.multipliers den t.den holds
+    (restrict next (t'.level ∷ []) m den r) (settles_own_level q t holds) in
+    no_greater_optimum t'.weight_den den t.den (weighted_sum p.cost t'.weights) (excess_of n m (k + 1))
+    (excess_of n m k)
     (excess_of n t.multipliers k) holds'.optimal.0.1 r.positive holds.optimal.1.0
     (subst (λ z. (t.den *ℤ weighted_sum p.cost t'.weights) ≤ℤ (t'.weight_den *ℤ z)) right weak) value same
 
@@ -251,7 +252,7 @@ past_more q t past holds =
                 (restrict q (t.level ∷ []) m' den' r') k less
             | inr here ↦ subst
                 (λ (z : ℕ). excess_of q.game.players m z *ℤ den' ≡ excess_of q.game.players m' z *ℤ den) (sym here)
-                (same_value q t m m' den den' holds r r')
+                (one_excess q t m m' den den' holds r r')
           ];
       bounded = λ i b. elim (any_cases (test i) q.front (t.level ∷ []) b) [
         | inl old ↦ past.bounded i old
@@ -353,9 +354,9 @@ gap_whole q m m' den den' r r' =
 
 -- ---- no coalition outside a level has more than its excess
 
-inside_step : (d dt v x xt e f h : ℤ) → pos 1 ≤ℤ d → pos 1 ≤ℤ dt → dt *ℤ x -ℤ d *ℤ xt ≡ pos 0 → e *ℤ dt ≡ f *ℤ d
+enough_inside : (d dt v x xt e f h : ℤ) → pos 1 ≤ℤ d → pos 1 ≤ℤ dt → dt *ℤ x -ℤ d *ℤ xt ≡ pos 0 → e *ℤ dt ≡ f *ℤ d
     → (dt *ℤ v) ≤ℤ (xt +ℤ f *ℤ h) → (d *ℤ v) ≤ℤ (x +ℤ e *ℤ h)
-inside_step d dt v x xt e f h pd pt same value low =
+enough_inside d dt v x xt e f h pd pt same value low =
     let a = mul-leℤ d (dt *ℤ v) (xt +ℤ f *ℤ h) (omega (arith, linear, pd)) low in
     mul-le_cancelℤ dt (d *ℤ v) (x +ℤ e *ℤ h) (omega (arith, linear, pt))
     (omega (
@@ -376,11 +377,11 @@ inside_low : (q : Stage) (t : StageAnswer) (m : List ℤ) (den : ℤ) → Answer
     ≤ℤ reached q.measure q.game.players (share_of m) (excess_of q.game.players m) s (length q.front)
 inside_low q t m den holds r s o zero_gap =
     let own = reading_of q t.outside t.multipliers t.den holds.optimal.1 in
-    inside_step den t.den (q.game.worth s) (sum_over q.game.players (share_of m) s)
+    enough_inside den t.den (q.game.worth s) (sum_over q.game.players (share_of m) s)
     (sum_over q.game.players (share_of t.multipliers) s) (excess_of q.game.players m (length q.front))
     (excess_of q.game.players t.multipliers (length q.front)) (pos (divisor q.measure s)) r.positive own.positive
     (sym (sum_over-combined q.game.players (share_of m) (share_of t.multipliers) t.den den s) ∙ zero_gap)
-    (same_value q t m t.multipliers den t.den holds r (advance q t holds))
+    (one_excess q t m t.multipliers den t.den holds r (settles_own_level q t holds))
     (own.outer s o)
 
 pub outside_low : (q : Stage) (t : StageAnswer) (ts : List StageAnswer) (m : List ℤ) (den : ℤ) → Past q
@@ -391,7 +392,7 @@ pub outside_low : (q : Stage) (t : StageAnswer) (ts : List StageAnswer) (m : Lis
 outside_low q t [] m den past holds chain r fixed s o =
     let next : Stage = after q t in
     let near = restrict next [] m den r in
-    let own = advance q t holds in
+    let own = settles_own_level q t holds in
     let settled =
     gap_settled next m t.multipliers den t.den
     (past_more q t past holds) near own in
@@ -405,7 +406,7 @@ outside_low q t [] m den past holds chain r fixed s o =
 outside_low q t (t' ∷ ts) m den past holds chain r fixed s o =
     let next : Stage = after q t in
     let near = restrict next (t'.level ∷ levels_of ts) m den r in
-    let own = advance q t holds in
+    let own = settles_own_level q t holds in
     let past' = past_more q t past holds in
     let shift : (next.front ++ t'.level ∷ []) ++ levels_of ts ≡ next.front ++ t'.level ∷ levels_of ts =
     append_assoc next.front (t'.level ∷ []) (levels_of ts) in
@@ -415,7 +416,7 @@ outside_low q t (t' ∷ ts) m den past holds chain r fixed s o =
       | inl still ↦
           let ih = outside_low next t' ts m den past' chain.0 chain.1 r' fixed' s still in
           let low =
-          falls q t t' m den holds chain.0
+          optimum_falls q t t' m den holds chain.0
           (restrict (after next t') (levels_of ts) m den r') in
           let d : ℤ = pos (divisor q.measure s) in
           let here = ap (λ (k : ℕ). excess_of q.game.players m k *ℤ d) (length-append q.front (t.level ∷ [])) in
@@ -447,5 +448,5 @@ pub excess_optimum : (q : Stage) (t : StageAnswer) (rest : List Level) (m : List
     → excess_of q.game.players m (length q.front) *ℤ t.den ≡ excess_of q.game.players t.multipliers (length q.front)
     *ℤ den
 excess_optimum q t rest m den holds r =
-    same_value q t m t.multipliers den t.den holds
-    (restrict (after q t) rest m den r) (advance q t holds)
+    one_excess q t m t.multipliers den t.den holds
+    (restrict (after q t) rest m den r) (settles_own_level q t holds)

@@ -31,11 +31,11 @@ settled_length n front =
 pub bound_column : (n : ℕ) (front : List Level) (p : ℕ) → p < n
     → column n front (length (settled_columns n front) + (n + p))
     ≡ record { mask = singleton p; row = length front + 1; minus = true }
-bound_column n front p h = column_further n front (n + p) ∙ kind
+bound_column n front p h = column_further n front (n + p) ∙ further_is
   where
-    kind : further_column n (length front) (n + p)
+    further_is : further_column n (length front) (n + p)
         ≡ record { mask = singleton p; row = length front + 1; minus = true }
-    kind =
+    further_is =
         let t : nat_lt (n + p) n ≡ false = grind (arith, nat_tests) in
         let u : nat_lt (n + p) (n + n) ≡ true = grind (arith, nat_tests) in
         let v : n + p - n ≡ p = omega arith in

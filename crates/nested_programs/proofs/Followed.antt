@@ -218,10 +218,10 @@ bound_known q outside ws i are positive h has =
 
 -- ---- all together
 
-pub followed : (q : Stage) (outside : ℕ → Bool) (best : Optimal) (l : Level)
+pub level_follows : (q : Stage) (outside : ℕ → Bool) (best : Optimal) (l : Level)
     → AreWeights (program_of q outside) best.weights.items → AreNumbers best.weights.items
     → IsLevelOf q.game.players q.front best l → Follows q best.weights.items l
-followed q outside best l are numbers is =
+level_follows q outside best l are numbers is =
     let n : ℕ = q.game.players in
     let ws : List (ℕ × ℤ) = best.weights.items in
     let positive = numbers.positive in

@@ -65,7 +65,7 @@ kind_of measure n front id = elim (true_or_false (nat_lt id len)) [
       let lt : id < len = grind (arith, nat_tests) in
       inr
       (rw below
-      (each_of (λ c. entry_of measure n c (n + k) ≡ pos 0) no_column (settled_columns n front) all id lt))
+      (each_of (λ c. entry_of measure n c (n + k) ≡ pos 0) no_column (settled_columns n front) no_last_entry id lt))
   | inr past ↦ elim (true_or_false (nat_lt (id - len) n)) [
     | inl below ↦ inr (rw past (rw below (other_row measure n k (singleton (id - len)) (k + 1) (λ e. omega arith))))
     | inr more ↦ elim (true_or_false (nat_lt (id - len) (n + n))) [
@@ -88,14 +88,14 @@ kind_of measure n front id = elim (true_or_false (nat_lt id len)) [
     len : ℕ
     len = length (settled_columns n front)
 
-    apart : (a : ℕ) → a < 0 + k → a ≢ k
-    apart a h e = omega arith
+    below_differs : (a : ℕ) → a < 0 + k → a ≢ k
+    below_differs a h e = omega arith
 
-    all : AllByRecursion (λ c. entry_of measure n c (n + k) ≡ pos 0) (settled_columns n front)
-    all =
+    no_last_entry : AllByRecursion (λ c. entry_of measure n c (n + k) ≡ pos 0) (settled_columns n front)
+    no_last_entry =
         settled_zero measure n k ((grand_coalition n, k + 1) ∷ earlier_of 0 front) (
           (λ e. omega arith),
-          all_weaken (λ c. c.1 < 0 + k) (λ c. c.1 ≢ k) (earlier_of 0 front) (λ c h. apart c.1 h)
+          all_weaken (λ c. c.1 < 0 + k) (λ c. c.1 ≢ k) (earlier_of 0 front) (λ c h. below_differs c.1 h)
               (earlier_rows 0 front),
         )
 

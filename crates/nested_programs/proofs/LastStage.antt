@@ -25,10 +25,10 @@ chain_end q (t ∷ ts) m x has chain own last fixed read =
     (have_excesses (with_front q []) (t ∷ ts) (last_of t ts).multipliers (last_of t ts).den chain
     (last_reads (with_front q []) t ts chain.0 chain.1) own)
 
-pub certified : (q : Stage) (m : Multipliers) (x : Allocation) → IsMeasurable q.measure q.game.players
+pub last_certifies : (q : Stage) (m : Multipliers) (x : Allocation) → IsMeasurable q.measure q.game.players
     → AreDone q (Some m) → IsReadFrom q.game.players m.num.items m.den x
     → Certifies Span q.family q.measure q.game x q.front
-certified q m x has done read =
+last_certifies q m x has done read =
     let s = done.stages in
     subst (Certifies Span q.family q.measure q.game x) (sym s.levels_are)
     (chain_end q s.stages m x has s.chain s.own s.last_is

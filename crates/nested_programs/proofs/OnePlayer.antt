@@ -70,12 +70,12 @@ module _ (g : Game) (one : g.players ≡ 1) where
       whole : (w : ℤ) → pos 0 +ℤ w ≡ pos 1 *ℤ w
       whole w = omega (arith, linear, one-mulℤ w)
 
-  alone : (i : ℕ) → i < g.players → i ≡ 0
-  alone i lt = omega (arith, lt, one)
+  only_first : (i : ℕ) → i < g.players → i ≡ 0
+  only_first i lt = omega (arith, lt, one)
 
   rational : IsIndividuallyRational g (whole_share g)
   rational i lt =
-      rw (alone i lt)
+      rw (only_first i lt)
       (enough (g.worth (singleton 0)) (g.worth (grand_coalition g.players))
       (sym (ap (λ (n : ℕ). g.worth (grand_coalition n)) one)))
     where

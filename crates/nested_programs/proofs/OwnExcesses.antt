@@ -15,10 +15,10 @@ use Rattle.nested_programs.proofs.Chain.{excess_optimum}
 common_value : (a b c d e f : ℤ) → pos 1 ≤ℤ d → a *ℤ d ≡ f *ℤ b → e *ℤ d ≡ f *ℤ c → a *ℤ c ≡ e *ℤ b
 common_value a b c d e f one h k =
     mul-cancelℤ d (a *ℤ c) (e *ℤ b) (omega (arith, linear, one))
-    (turn d a c ∙ ap (λ z. c *ℤ z) h ∙ turn c f b ∙ ap (λ z. b *ℤ z) (sym k) ∙ turn b e d)
+    (outer_swapped d a c ∙ ap (λ z. c *ℤ z) h ∙ outer_swapped c f b ∙ ap (λ z. b *ℤ z) (sym k) ∙ outer_swapped b e d)
   where
-    turn : (x y z : ℤ) → x *ℤ (y *ℤ z) ≡ z *ℤ (y *ℤ x)
-    turn x y z = ap (λ u. x *ℤ u) (*ℤ_comm y z) ∙ mul_left_commℤ x z y ∙ ap (λ u. z *ℤ u) (*ℤ_comm x y)
+    outer_swapped : (x y z : ℤ) → x *ℤ (y *ℤ z) ≡ z *ℤ (y *ℤ x)
+    outer_swapped x y z = ap (λ u. x *ℤ u) (*ℤ_comm y z) ∙ mul_left_commℤ x z y ∙ ap (λ u. z *ℤ u) (*ℤ_comm x y)
 
 pub have_excesses : (q : Stage) (ts : List StageAnswer) (m : List ℤ) (den : ℤ) → IsChain q ts
     → Reads (behind q (levels_of ts)) m den → OwnExcesses q.game (length q.front) ts

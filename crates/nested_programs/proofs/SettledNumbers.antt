@@ -16,8 +16,8 @@ use Rattle.real_shares.proofs.Settled.{over, Settled, inside_zero, all_fixed_zer
 abbrev IsLow : (ℕ → ℤ) → Type 0
 IsLow f = f 0 ≤ℤ pos 0
 
-numbers : IsCone IsLow
-numbers = record {
+low_is_cone : IsCone IsLow
+low_is_cone = record {
   none = omega (arith, linear);
   plus = λ f g a b. omega (arith, linear, a, b);
   decided = λ f. by_lt_z (pos 0) (f 0) (λ up. inr (λ low. omega (arith, linear, up, low))) (λ low. inl low);
@@ -50,7 +50,8 @@ pub inside_same : (n : ℕ) (d : ℕ → ℤ) (front : List Level) → IsSettled
     → ¬ IsOutside Span n front s → sum_over n d s ≡ pos 0
 inside_same n d front settled all s low high inside =
     zero_number (over n (columns d) s)
-    (inside_zero numbers Span n (columns d) front settled (zero_column (over n (columns d) (grand_coalition n)) all) s
+    (inside_zero low_is_cone Span n (columns d) front settled
+    (zero_column (over n (columns d) (grand_coalition n)) all) s
     low high inside)
 
 -- where everything is fixed, no player differs
@@ -58,5 +59,5 @@ pub all_same : (n : ℕ) (d : ℕ → ℤ) (front : List Level) → IsSettled n 
     → sum_over n d (grand_coalition n) ≡ pos 0 → IsAllFixed Span n front → (i : ℕ) → i < n → d i ≡ pos 0
 all_same n d front settled all fixed i h =
     zero_number (columns d i)
-    (all_fixed_zero numbers Span n (columns d) front settled
+    (all_fixed_zero low_is_cone Span n (columns d) front settled
     (zero_column (over n (columns d) (grand_coalition n)) all) fixed i h)

@@ -15,13 +15,13 @@ use Rattle.nested_programs.specs.Stage.{Stage, with_front}
 use Rattle.nested_programs.specs.Answer.{HasMember}
 use Rattle.nested_programs.specs.Numbers.{IsLevelOf}
 use Rattle.nested_programs.specs.Stages.{IsLeft, IsBest, AreUnderway, AreDone}
-use Rattle.nested_programs.proofs.StageSteps.{start}
+use Rattle.nested_programs.proofs.StageSteps.{start_underway}
 
-pub started : (q : Stage) (kept : List ℕ) → q.front ≡ [] → kept ≡ grand_coalition q.game.players ∷ []
+pub underway_at_start : (q : Stage) (kept : List ℕ) → q.front ≡ [] → kept ≡ grand_coalition q.game.players ∷ []
     → 1 ≤ q.game.players → q.game.players ≤ 16 → HasMember q.family q.game → AreUnderway q kept None
-started q kept e f some few member =
+underway_at_start q kept e f some few member =
     subst (λ ls. AreUnderway (with_front q ls) kept None) (sym e)
-    (subst (λ ks. AreUnderway (with_front q []) ks None) (sym f) (start q some few member))
+    (subst (λ ks. AreUnderway (with_front q []) ks None) (sym f) (start_underway q some few member))
 
 abbrev Unspanned : ℕ → List Level → Option ℕ → Type 0
 Unspanned n levels o =
@@ -82,9 +82,9 @@ pub within_at : (k n : ℕ) (shown : List Level) (l : Level) → k ≡ n → sho
 within_at k n shown l e f h =
     subst (AllByRecursion (IsOf k)) (sym f) (subst (λ (j : ℕ). IsOf j l) (sym e) h, tt)
 
-pub ended : (q : Stage) (kept : List ℕ) (last : Option Multipliers) → AreUnderway q kept last
+pub done_where_fixed : (q : Stage) (kept : List ℕ) (last : Option Multipliers) → AreUnderway q kept last
     → IsAllFixed Span q.game.players q.front → AreDone q last
-ended q kept last h all = record {
+done_where_fixed q kept last h all = record {
   stages = h.stages;
   form = h.form;
   short = h.short;

@@ -24,7 +24,7 @@ use Rattle.nested_programs.proofs.Start.{first_no_ray}
 use Rattle.nested_programs.proofs.Chain.{next_no_ray}
 use Rattle.nested_programs.proofs.Form.{level_some, level_outside}
 use Rattle.nested_programs.proofs.ChainSteps.{chain_more, levels_more, levels_count, own_more, last_more}
-use Rattle.nested_programs.proofs.Followed.{followed}
+use Rattle.nested_programs.proofs.Followed.{level_follows}
 use Rattle.nested_programs.proofs.FewEntries.{level_short}
 use Rattle.nested_programs.proofs.Formed.{level_formed, form_more}
 use Rattle.nested_programs.proofs.DistinctCoalitions.{chain_distinct}
@@ -40,9 +40,9 @@ start_bounded q few member outside test =
     (λ s o. let h = test s o in let top = grand_coalition-within q.game.players in (h.0, omega (arith, h.1, top)))
     member.1
 
-pub start : (q : Stage) → 1 ≤ q.game.players → q.game.players ≤ 16 → HasMember q.family q.game
+pub start_underway : (q : Stage) → 1 ≤ q.game.players → q.game.players ≤ 16 → HasMember q.family q.game
     → AreUnderway (with_front q []) (grand_coalition q.game.players ∷ []) None
-start q some few member = record {
+start_underway q some few member = record {
   stages = record { stages = []; levels_are = refl; chain = tt; own = tt; last_is = tt; wide = refl };
   form = tt;
   short = tt;
@@ -55,20 +55,20 @@ start q some few member = record {
 
 -- ---- a stage
 
-numbers : (q : Stage) (best : Optimal) → IsBest q best → AreNumbers best.weights.items
-numbers q best is_best = record {
+numbers_of_best : (q : Stage) (best : Optimal) → IsBest q best → AreNumbers best.weights.items
+numbers_of_best q best is_best = record {
   positive = is_best.answer.form.positive;
   small = is_best.answer.form.small;
   distinct = is_best.answer.optimal.0.0.1;
 }
 
-answers : (q : Stage) (best : Optimal) (l : Level) (is_best : IsBest q best)
+best_answers : (q : Stage) (best : Optimal) (l : Level) (is_best : IsBest q best)
     → IsLevelOf q.game.players q.front best l → Answers q (answer_of l is_best.outside best)
-answers q best l is_best is = record {
+best_answers q best l is_best is = record {
   decides = is_best.decides;
   optimal = is_best.answer.optimal;
   follows =
-      followed q is_best.outside best l is_best.answer.optimal.0.0 (numbers q best is_best) is;
+      level_follows q is_best.outside best l is_best.answer.optimal.0.0 (numbers_of_best q best is_best) is;
 }
 
 -- ---- what is kept grows
@@ -111,7 +111,7 @@ pub kept_grown : (q : Stage) (old new : List ℕ) (best : Optimal) (l : Level) �
     → IsLevelOf q.game.players q.front best l → SpansFixed q.game.players old q.front
     → Extends q.game.players old new (IsLevelVector q.game.players (l ∷ [])) → length old < length new
 kept_grown q old new best l is_best is spans more =
-    kept_grows q (answer_of l is_best.outside best) old new (answers q best l is_best is) spans more
+    kept_grows q (answer_of l is_best.outside best) old new (best_answers q best l is_best is) spans more
 
 -- ---- a stage more
 
@@ -139,9 +139,10 @@ stages_more q last t m h k own positive e d wide = record {
     count : length q.front ≡ 0 + length h.stages
     count = let a = ap length h.levels_are in let b = levels_count h.stages in omega (arith, a, b)
 
-distinct : (q : Stage) (last : Option Multipliers) → AreStages q last → LevelsForm q.game.players [] q.front
+coalitions_distinct : (q : Stage) (last : Option Multipliers) → AreStages q last
+    → LevelsForm q.game.players [] q.front
     → IsDistinct nat_eq (map (λ c. c.0) (earlier_of 0 q.front))
-distinct q last h form =
+coalitions_distinct q last h form =
     subst (λ ls. IsDistinct nat_eq (map (λ c. c.0) (earlier_of 0 ls))) (sym h.levels_are)
     (chain_distinct q h.stages h.chain (subst (LevelsForm q.game.players []) h.levels_are form))
 
@@ -150,8 +151,8 @@ pub next_formed : (q : Stage) (kept : List ℕ) (last : Option Multipliers) (bes
     → q.game.players ≤ 16 → length kept < q.game.players → AreUnderway q kept last → IsBest q best
     → IsLevelOf q.game.players q.front best l → LevelForm q.game.players q.front l
 next_formed q kept last best l few room h is_best is =
-    level_formed q best is_best.outside l (answers q best l is_best is) (numbers q best is_best) is
-    (distinct q last h.stages h.form) is_best.answer.form.count (omega (arith, h.more, room)) few
+    level_formed q best is_best.outside l (best_answers q best l is_best is) (numbers_of_best q best is_best) is
+    (coalitions_distinct q last h.stages h.form) is_best.answer.form.count (omega (arith, h.more, room)) few
 
 -- the levels with that of the optimum of the next stage
 pub underway_more : (q : Stage) (old new : List ℕ) (last : Option Multipliers) (best : Optimal) (l : Level)
@@ -178,7 +179,7 @@ underway_more q old new last best l few room h is_best is low more = record {
     t = answer_of l is_best.outside best
 
     k : Answers q t
-    k = answers q best l is_best is
+    k = best_answers q best l is_best is
 
     next : length q.front + 2 ≤ q.game.players
     next = omega (arith, h.more, room)

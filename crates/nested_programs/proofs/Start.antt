@@ -39,13 +39,13 @@ negated (p ∷ ps) = (p.0, pos 0 -ℤ p.1) ∷ negated ps
 
 weight_at-negated : (ps : List (ℕ × ℤ)) (i : ℕ) → weight_at (negated ps) i ≡ pos 0 -ℤ weight_at ps i
 weight_at-negated [] i = refl
-weight_at-negated (p ∷ ps) i = step (has_player p.0 i) (weight_at-negated ps i)
+weight_at-negated (p ∷ ps) i = negated_part (has_player p.0 i) (weight_at-negated ps i)
   where
-    step : (b : Bool) → weight_at (negated ps) i ≡ pos 0 -ℤ weight_at ps i
+    negated_part : (b : Bool) → weight_at (negated ps) i ≡ pos 0 -ℤ weight_at ps i
         → cond b (pos 0 -ℤ p.1) (pos 0) +ℤ weight_at (negated ps) i
         ≡ pos 0 -ℤ (cond b p.1 (pos 0) +ℤ weight_at ps i)
-    step true h = omega (arith, linear, h)
-    step false h = omega (arith, linear, h)
+    negated_part true h = omega (arith, linear, h)
+    negated_part false h = omega (arith, linear, h)
 
 all_negated : (P : ℕ → Type 0) (ps : List (ℕ × ℤ)) → AllByRecursion (λ p. P p.0) ps
     → AllByRecursion (λ p. P p.0) (negated ps)
@@ -60,13 +60,13 @@ others_spanned n front s small (k, ne, ps, fixed, sums) = (
   (grand_coalition n, k) ∷ negated ps,
   (inl refl, all_negated (IsFixedVector n front) ps fixed),
   λ i h. rw (has_player-grand_coalition n i h)
-      (step (has_player s i) (weight_at (negated ps) i) (weight_at ps i) (weight_at-negated ps i)
+      (others_weight (has_player s i) (weight_at (negated ps) i) (weight_at ps i) (weight_at-negated ps i)
       (sums i h ∙ ap (λ (b : Bool). cond b k (pos 0)) (has_player-complement n s i small h))),
 )
   where
-    step : (b : Bool) (u w : ℤ) → u ≡ pos 0 -ℤ w → w ≡ cond (not b) k (pos 0) → k +ℤ u ≡ cond b k (pos 0)
-    step true u w h e = omega (arith, linear, h, e)
-    step false u w h e = omega (arith, linear, h, e)
+    others_weight : (b : Bool) (u w : ℤ) → u ≡ pos 0 -ℤ w → w ≡ cond (not b) k (pos 0) → k +ℤ u ≡ cond b k (pos 0)
+    others_weight true u w h e = omega (arith, linear, h, e)
+    others_weight false u w h e = omega (arith, linear, h, e)
 
 pub others_outside : (n : ℕ) (front : List Level) (s : ℕ) → IsOutside Span n front s
     → IsOutside Span n front (grand_coalition n - s)
@@ -95,22 +95,22 @@ pair_row measure n k s r small h = elim (true_or_false (nat_lt r n)) [
       rw below
       (rw u
       (rw (has_player-grand_coalition n r lt)
-      (rw (has_player-complement n s r small lt) (member (has_player s r) (both_divisors measure n s)))))
+      (rw (has_player-complement n s r small lt) (player_row (has_player s r) (both_divisors measure n s)))))
   | inr past ↦
       let u : nat_eq r (n + (k + 1)) ≡ false = grind (arith, nat_tests) in
       rw past
-      (rw u (last (nat_eq r (n + k)) (pos (divisor measure s)) (pos (divisor measure (grand_coalition n - s)))))
+      (rw u (level_row (nat_eq r (n + k)) (pos (divisor measure s)) (pos (divisor measure (grand_coalition n - s)))))
 ]
   where
-    member : (b : Bool) (d : ℤ)
+    player_row : (b : Bool) (d : ℤ)
         → (pos 0 -ℤ pos 1) +ℤ (cond b (pos 1) (pos 0) +ℤ cond (not b) (pos 1) (pos 0)) ≡ d *ℤ pos 0
-    member true d = sym (mul-zeroℤ d)
-    member false d = sym (mul-zeroℤ d)
+    player_row true d = sym (mul-zeroℤ d)
+    player_row false d = sym (mul-zeroℤ d)
 
-    last : (b : Bool) (d e : ℤ)
+    level_row : (b : Bool) (d e : ℤ)
         → (pos 0 -ℤ pos 0) +ℤ (cond b d (pos 0) +ℤ cond b e (pos 0)) ≡ (d +ℤ e) *ℤ cond b (pos 1) (pos 0)
-    last true d e = omega (arith, linear, mul-oneℤ (d +ℤ e))
-    last false d e = omega (arith, linear, mul-zeroℤ (d +ℤ e))
+    level_row true d e = omega (arith, linear, mul-oneℤ (d +ℤ e))
+    level_row false d e = omega (arith, linear, mul-zeroℤ (d +ℤ e))
 
 outer_column : (q : Stage) (outside : ℕ → Bool) (s : ℕ) → IsTrue (outside s)
     → IsTrue ((program_of q outside).is_column (outer_id q.game.players q.front s))
@@ -160,12 +160,12 @@ first_bounds q outside y few within member = (
     positive = (allocation q.family member).1;
     whole =
         sum_below-same n (share_of m) (share y) shares ∙ sym (sum_over-grand_coalition n (share y))
-        ∙ sym (at (grand_coalition n)) ∙ efficient q.family member;
+        ∙ sym (amount_is (grand_coalition n)) ∙ efficient q.family member;
     settled = tt;
     single = λ f i h. omega (arith, linear, individual q.family member f i h, shares i h);
     bound = λ f i h b. absurd (false≢true b);
     outer = λ s o.
-        (let in_row = ap (λ z. z *ℤ pos (divisor q.measure s)) last in
+        (let in_row = ap (λ z. z *ℤ pos (divisor q.measure s)) last_is in
         let some = divisor-some q.measure n s (omega (arith, few)) (within s o).0 (within s o).1 in
         let enough = mul-leℤ top (pos 1) (pos (divisor q.measure s)) high.0 (omega (arith, linear, some)) in
         omega (
@@ -183,39 +183,40 @@ first_bounds q outside y few within member = (
     n : ℕ
     n = q.game.players
 
-    big : (b : ℤ) × ((s : ℕ) → s < 2 ^ n → (y.den *ℤ q.game.worth s -ℤ sum_over n (share y) s) ≤ℤ b)
-    big = some_bound (2 ^ n) (λ s. y.den *ℤ q.game.worth s -ℤ sum_over n (share y) s)
+    excess_bound : (b : ℤ) × ((s : ℕ) → s < 2 ^ n → (y.den *ℤ q.game.worth s -ℤ sum_over n (share y) s) ≤ℤ b)
+    excess_bound = some_bound (2 ^ n) (λ s. y.den *ℤ q.game.worth s -ℤ sum_over n (share y) s)
 
     -- a bound that isn't negative
-    raised : (b : ℤ)
+    bound_from_zero : (b : ℤ)
         × ((pos 0 ≤ℤ b) × ((s : ℕ) → s < 2 ^ n → (y.den *ℤ q.game.worth s -ℤ sum_over n (share y) s) ≤ℤ b))
-    raised =
-        by_lt_z big.0 (pos 0) (λ low. (pos 0, (omega (arith, linear), λ s h. omega (arith, linear, low, big.1 s h))))
-        (λ up. (big.0, (omega (arith, linear, up), big.1)))
+    bound_from_zero =
+        by_lt_z excess_bound.0 (pos 0)
+        (λ low. (pos 0, (omega (arith, linear), λ s h. omega (arith, linear, low, excess_bound.1 s h))))
+        (λ up. (excess_bound.0, (omega (arith, linear, up), excess_bound.1)))
 
     top : ℤ
-    top = raised.0
+    top = bound_from_zero.0
 
     high : (pos 0 ≤ℤ top) × ((s : ℕ) → s < 2 ^ n → (y.den *ℤ q.game.worth s -ℤ sum_over n (share y) s) ≤ℤ top)
-    high = raised.1
+    high = bound_from_zero.1
 
-    f : ℕ → ℤ
-    f r = if nat_lt r n then share y r else top
+    multiplier : ℕ → ℤ
+    multiplier r = if nat_lt r n then share y r else top
 
     m : List ℤ
-    m = tabulate 0 (n + 1) f
+    m = tabulate 0 (n + 1) multiplier
 
     shares : (i : ℕ) → i < n → share_of m i ≡ share y i
     shares i h =
         let t : nat_lt i n ≡ true = grind (arith, nat_tests) in
         let e : 0 + i ≡ i = omega arith in
-        tabulate-at 0 (n + 1) f i (omega arith) ∙ rw e (rw t refl)
+        tabulate-at 0 (n + 1) multiplier i (omega arith) ∙ rw e (rw t refl)
 
-    last : excess_of n m 0 ≡ top
-    last =
+    last_is : excess_of n m 0 ≡ top
+    last_is =
         let e : 0 + (n + 0) ≡ n + 0 = omega arith in
         let t : nat_lt (n + 0) n ≡ false = grind (arith, nat_tests) in
-        tabulate-at 0 (n + 1) f (n + 0) (omega arith) ∙ rw e (rw t refl)
+        tabulate-at 0 (n + 1) multiplier (n + 0) (omega arith) ∙ rw e (rw t refl)
 
     allocation : (family : Family) → InFamily family q.game y → IsAllocation q.game y
     allocation Imputations h = h.0
@@ -228,13 +229,13 @@ first_bounds q outside y few within member = (
     individual : (family : Family) → InFamily family q.game y → family ≡ Imputations → (i : ℕ) → i < q.game.players
         → (y.den *ℤ q.game.worth (singleton i)) ≤ℤ share y i
     individual Imputations h e = h.2
-    individual Preimputations h e = absurd (no e)
+    individual Preimputations h e = absurd (families_differ e)
       where
-        no : Preimputations ≡ Imputations → ⊥
-        no e = false≢true (ap is_imputations e)
+        families_differ : Preimputations ≡ Imputations → ⊥
+        families_differ e = false≢true (ap is_imputations e)
 
-    at : (s : ℕ) → amount y s ≡ sum_over n (share y) s
-    at s = ap (λ (z : ℕ). sum_over z (share y) s) (allocation q.family member).0
+    amount_is : (s : ℕ) → amount y s ≡ sum_over n (share y) s
+    amount_is s = ap (λ (z : ℕ). sum_over z (share y) s) (allocation q.family member).0
 
 -- where the family has a member, the first stage has no endless ray
 pub first_no_ray : (q : Stage) (outside : ℕ → Bool) (y : Allocation) → q.game.players ≤ 16
@@ -257,11 +258,11 @@ whole_column q outside =
 
 not_own_other : (n s : ℕ) → 0 < n → s < 2 ^ n → s ≢ grand_coalition n - s
 not_own_other n s some small e =
-    opposite (has_player s 0) (ap (λ (z : ℕ). has_player z 0) e ∙ has_player-complement n s 0 small some)
+    bit_differs (has_player s 0) (ap (λ (z : ℕ). has_player z 0) e ∙ has_player-complement n s 0 small some)
   where
-    opposite : (b : Bool) → b ≡ not b → ⊥
-    opposite true h = false≢true (sym h)
-    opposite false h = false≢true h
+    bit_differs : (b : Bool) → b ≡ not b → ⊥
+    bit_differs true h = false≢true (sym h)
+    bit_differs false h = false≢true h
 
 pair_distinct : (n : ℕ) (front : List Level) (s : ℕ) → 0 < n → s < 2 ^ n
     → IsDistinct nat_eq (1 ∷ (outer_id n front s ∷ (outer_id n front (grand_coalition n - s) ∷ [])))
@@ -280,11 +281,11 @@ row_sum : (a b c u v w : ℤ) → a ≡ u → b ≡ v → c ≡ w
 row_sum a b c u v w h k l = omega (arith, linear, h, k, l, one-mulℤ a, one-mulℤ b, one-mulℤ c)
 
 -- the coalition and its others at one weight, and all players at minus that
-pub solution : (q : Stage) (outside : ℕ → Bool) (s : ℕ) → q.game.players ≤ 16
+pub pair_solves : (q : Stage) (outside : ℕ → Bool) (s : ℕ) → q.game.players ≤ 16
     → IsOutside Span q.game.players q.front s → IsTrue (outside s)
     → IsTrue (outside (grand_coalition q.game.players - s))
     → Solves (program_of q outside) (pair_weights q.game.players q.front s) (both_divisors q.measure q.game.players s)
-solution q outside s few o here others =
+pair_solves q outside s few o here others =
     let n : ℕ = q.game.players in
     let small : s < 2 ^ n = omega (arith, o.0, o.1) in
     let some : 0 < n = positive n (omega (arith, o.0, o.1)) in (
@@ -320,5 +321,5 @@ pub some_solution : (q : Stage) (outside : ℕ → Bool) (s : ℕ) → q.game.pl
     → IsOutside Span q.game.players q.front s → HasNoSolution (program_of q outside) → ⊥
 some_solution q outside s few all o none =
     none (pair_weights q.game.players q.front s) (both_divisors q.measure q.game.players s)
-    (solution q outside s few o (all s o)
+    (pair_solves q outside s few o (all s o)
     (all (grand_coalition q.game.players - s) (others_outside q.game.players q.front s o)))

@@ -17,8 +17,8 @@ use Rattle.nested_programs.proofs.singles.lacks_imputation.Goals as goal
 use Rattle.nested_programs.proofs.singles.lacks_imputation.Goals.{else-eq-via-then-eq+else-sum-total}
 use Rattle.nested_programs.proofs.singles.lacks_imputation.Goals.{else-eq-via-else-eq}
 
-kept : (r : ℤ) → mag r < 2 ^ 63 → to_z w64 (of_z w64 r) ≡ r
-kept r h = to_z-of_z w64 r (sfits_lit (yes_ltb h))
+cast_same : (r : ℤ) → mag r < 2 ^ 63 → to_z w64 (of_z w64 r) ≡ r
+cast_same r h = to_z-of_z w64 r (sfits_lit (yes_ltb h))
 
 not_above : (a b s w : ℤ) → int_lt b a ≡ false → a ≡ s → b ≡ w → s ≤ℤ w
 not_above a b s w h e f = omega (arith, linear, h, e, f)
@@ -38,11 +38,11 @@ returns-else-eq g c =
     let game = g.W.Worth.game c.args.game.now in
     let laws = c.players.ensures.laws in
     let sum : to_z w64 (of_z w64 c.singles-sum.result) ≡ singles game =
-    kept c.singles-sum.result c.singles-sum.type_inv ∙ c.singles-sum.ensures in
+    cast_same c.singles-sum.result c.singles-sum.type_inv ∙ c.singles-sum.ensures in
     let all : c.all.result ≡ grand_coalition game.players =
     c.all.ensures ∙ ap grand_coalition c.players.ensures.count in
     let total : to_z w64 (of_z w64 c.worth-total.result) ≡ game.worth (grand_coalition game.players) =
-    kept c.worth-total.result c.worth-total.type_inv ∙ c.worth-total.ensures ∙ ap game.worth all in
+    cast_same c.worth-total.result c.worth-total.type_inv ∙ c.worth-total.ensures ∙ ap game.worth all in
     elim c.else-eq.branch [
       | else-eq-via-then-eq+else-sum-total w ↦ of_low c.args.family game laws.some
           (not_above _ _ (singles game) (game.worth (grand_coalition game.players)) w.if-sum-total.false sum total)

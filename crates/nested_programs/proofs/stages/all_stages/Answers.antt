@@ -9,8 +9,8 @@ use Rattle.nested_programs.specs.Stage.{stage_of, with_front}
 use Rattle.nested_programs.specs.Numbers.{IsLevelOf}
 use Rattle.nested_programs.specs.Stages.{IsBest, IsLeft, IsBounded, AreUnderway}
 use Rattle.nested_programs.proofs.StageSteps.{next_formed, underway_more, kept_grown}
-use Rattle.nested_programs.proofs.StageLoop.{started, left_of, room_of, all_of, forms_few, new_only}
-use Rattle.nested_programs.proofs.StageLoop.{best_at, level_at, extends_at, within_at, ended}
+use Rattle.nested_programs.proofs.StageLoop.{underway_at_start, left_of, room_of, all_of, forms_few, new_only}
+use Rattle.nested_programs.proofs.StageLoop.{best_at, level_at, extends_at, within_at, done_where_fixed}
 use Rattle.nested_programs.proofs.stages.all_stages.Goals as goal
 use Rattle.kohlberg.proofs.SpanScan.{level_within}
 
@@ -21,7 +21,7 @@ loop-last-init g c =
     let kept = ap (λ (v : SpanData). v.kept) c.new-span.ensures ∙ ap (λ (k : ℕ). grand_coalition k ∷ []) n in (
       n,
       ap (λ (v : SpanData). v.players) c.new-span.ensures,
-      started (stage_of c.args.family c.args.measure game c.new-levels.result.items) c.new-span.result.kept
+      underway_at_start (stage_of c.args.family c.args.measure game c.new-levels.result.items) c.new-span.result.kept
           c.new-levels.ensures.items kept c.players-n.ensures.laws.some c.requires.few c.requires.member,
     )
 
@@ -145,7 +145,7 @@ returns g c =
     let least =
     c.first_unspanned.ensures.least levels
     (subst (λ (k : ℕ). SpansFixed k c.loop-last.span.kept levels) (sym n) c.loop-last.invariant.2.spans) in
-    ended (stage_of c.args.family c.args.measure game levels) c.loop-last.span.kept c.loop-last.last
+    done_where_fixed (stage_of c.args.family c.args.measure game levels) c.loop-last.span.kept c.loop-last.last
     c.loop-last.invariant.2
     (subst (λ (k : ℕ). IsAllFixed Span k levels) n
     (all_of c.players-n.result levels c.first_unspanned.result c.is_some.result c.is_some.ensures
