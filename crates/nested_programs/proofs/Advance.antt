@@ -20,7 +20,7 @@ use Rattle.definitions.specs.declared.Family.TheVariants.{Imputations}
 use Rattle.separation.specs.Stage.{Column, signed, earlier_of, doubled, settled_columns, further_column}
 use Rattle.separation.specs.Stage.{no_column, column, is_imputations, is_further}
 use Rattle.nested_programs.specs.Stage.{Stage, behind, program_of}
-use Rattle.nested_programs.specs.Reading.{reached, IsReading, share_of, excess_of, nowhere}
+use Rattle.nested_programs.specs.Reading.{RowMultipliers, reached, IsReading, share_of, excess_of, nowhere}
 use Rattle.nested_programs.specs.Chain.{single_id, outer_id, HasWeight, StageAnswer, Answers, after}
 use Rattle.nested_programs.proofs.Reading.{plus_value, column_value, column_value-is, Fixes, each_of, within_row}
 use Rattle.nested_programs.proofs.Reading.{imputations_of, single_value, whole_value, of_settled, reading_of}
@@ -39,11 +39,12 @@ last_value q y =
     (λ r h. let u : nat_eq r q ≡ false = grind (arith, nat_tests) in rw u (mul-zeroℤ (y r))) in
     rw t (omega (arith, linear, rest, mul-oneℤ (y q)))
 
-pub right_value : (q : Stage) (outside : ℕ → Bool) (m : List ℤ)
-    → value_of (program_of q outside) m (program_of q outside).right ≡ excess_of q.game.players m (length q.front)
+pub right_value : (q : Stage) (outside : ℕ → Bool) (m : RowMultipliers)
+    → value_of (program_of q outside) m.num (program_of q outside).right
+    ≡ excess_of q.game.players m (length q.front)
 right_value q outside m =
     let e : q.game.players + (length q.front + 1) ≡ suc (q.game.players + length q.front) = omega arith in
-    rw e (last_value (q.game.players + length q.front) (λ r. slice_index_or m r (pos 0)))
+    rw e (last_value (q.game.players + length q.front) (λ r. slice_index_or m.num r (pos 0)))
 
 -- ---- the columns past the settled ones
 
@@ -78,23 +79,23 @@ column_single n front i h = column_further n front i ∙ further_is
 abbrev pub column_rise : Measure → Game → ℕ → (ℕ → ℤ) → (ℕ → ℤ) → ℤ → Column → ℤ
 column_rise measure g j x e den c = den *ℤ signed c.minus (g.worth c.mask) -ℤ column_value measure g.players j x e c
 
-pub rise_at : (q : Stage) (outside : ℕ → Bool) (m : List ℤ) (den : ℤ) (id : ℕ) → rise
-    (program_of q outside) m den id ≡ column_rise q.measure q.game (length q.front + 1) (share_of m)
-    (excess_of q.game.players m) den (column q.game.players q.front id)
-rise_at q outside m den id =
-    ap (λ z. den *ℤ (program_of q outside).cost id -ℤ z)
+pub rise_at : (q : Stage) (outside : ℕ → Bool) (m : RowMultipliers) (id : ℕ)
+    → rise (program_of q outside) m.num m.den id ≡ column_rise q.measure q.game (length q.front + 1) (share_of m)
+    (excess_of q.game.players m) m.den (column q.game.players q.front id)
+rise_at q outside m id =
+    ap (λ z. m.den *ℤ (program_of q outside).cost id -ℤ z)
     (column_value-is q outside m id)
 
-pub outer_tight : (q : Stage) (outside : ℕ → Bool) (m : List ℤ) (den : ℤ) (s : ℕ)
-    → rise (program_of q outside) m den (outer_id q.game.players q.front s) ≡ pos 0
-    → den *ℤ q.game.worth s
+pub outer_tight : (q : Stage) (outside : ℕ → Bool) (m : RowMultipliers) (s : ℕ)
+    → rise (program_of q outside) m.num m.den (outer_id q.game.players q.front s) ≡ pos 0
+    → m.den *ℤ q.game.worth s
     ≡ reached q.measure q.game.players (share_of m) (excess_of q.game.players m) s (length q.front)
-outer_tight q outside m den s h =
+outer_tight q outside m s h =
     let at =
     sym
-    (ap (column_rise q.measure q.game (length q.front + 1) (share_of m) (excess_of q.game.players m) den)
+    (ap (column_rise q.measure q.game (length q.front + 1) (share_of m) (excess_of q.game.players m) m.den)
     (column_outer q.game.players q.front s))
-    ∙ sym (rise_at q outside m den (outer_id q.game.players q.front s)) ∙ h in
+    ∙ sym (rise_at q outside m (outer_id q.game.players q.front s)) ∙ h in
     omega (
       arith,
       linear,
@@ -103,15 +104,15 @@ outer_tight q outside m den s h =
           (omega arith),
     )
 
-pub single_tight : (q : Stage) (outside : ℕ → Bool) (m : List ℤ) (den : ℤ) (i : ℕ) → i < q.game.players
-    → rise (program_of q outside) m den (single_id q.game.players q.front i) ≡ pos 0
-    → share_of m i ≡ den *ℤ q.game.worth (singleton i)
-single_tight q outside m den i lt h =
+pub single_tight : (q : Stage) (outside : ℕ → Bool) (m : RowMultipliers) (i : ℕ) → i < q.game.players
+    → rise (program_of q outside) m.num m.den (single_id q.game.players q.front i) ≡ pos 0
+    → share_of m i ≡ m.den *ℤ q.game.worth (singleton i)
+single_tight q outside m i lt h =
     let at =
     sym
-    (ap (column_rise q.measure q.game (length q.front + 1) (share_of m) (excess_of q.game.players m) den)
+    (ap (column_rise q.measure q.game (length q.front + 1) (share_of m) (excess_of q.game.players m) m.den)
     (column_single q.game.players q.front i lt))
-    ∙ sym (rise_at q outside m den (single_id q.game.players q.front i)) ∙ h in
+    ∙ sym (rise_at q outside m (single_id q.game.players q.front i)) ∙ h in
     omega (
       arith,
       linear,
@@ -160,27 +161,26 @@ pair_at P k (c ∷ cs) s h any = elim (or_cases (nat_eq c.0 s) (list_any (λ c. 
 
 -- ---- readings behind fewer levels
 
-abbrev pub Settled_pairs : Measure → Game → List ℤ → ℤ → List (ℕ × ℕ) → Type 0
-Settled_pairs measure g m den cs =
+abbrev pub Settled_pairs : Measure → Game → RowMultipliers → List (ℕ × ℕ) → Type 0
+Settled_pairs measure g m cs =
     AllByRecursion
-    (λ c. den *ℤ g.worth c.0 ≡ reached measure g.players (share_of m) (excess_of g.players m) c.0 c.1) cs
+    (λ c. m.den *ℤ g.worth c.0 ≡ reached measure g.players (share_of m) (excess_of g.players m) c.0 c.1) cs
 
 -- multipliers that settle the levels in front
-abbrev pub Reads : Stage → List ℤ → ℤ → Type 0
-Reads q m den = IsReading q nowhere (share_of m) (excess_of q.game.players m) den
+abbrev pub Reads : Stage → RowMultipliers → Type 0
+Reads q m = IsReading q nowhere (share_of m) (excess_of q.game.players m) m.den
 
-pub restrict : (q : Stage) (levels : List Level) (m : List ℤ) (den : ℤ) → Reads (behind q levels) m den
-    → Reads q m den
-restrict q levels m den r =
+pub restrict : (q : Stage) (levels : List Level) (m : RowMultipliers) → Reads (behind q levels) m → Reads q m
+restrict q levels m r =
     record {
       positive = r.positive;
       whole = r.whole;
       settled =
           all_left
-          (λ c. den *ℤ q.game.worth c.0
+          (λ c. m.den *ℤ q.game.worth c.0
           ≡ reached q.measure q.game.players (share_of m) (excess_of q.game.players m) c.0 c.1)
           (earlier_of 0 q.front) (earlier_of (0 + length q.front) levels)
-          (subst (Settled_pairs q.measure q.game m den) (earlier_of-append 0 q.front levels) r.settled);
+          (subst (Settled_pairs q.measure q.game m) (earlier_of-append 0 q.front levels) r.settled);
       single = r.single;
       bound = λ f i h b. r.bound f i h
           (any_left (λ l. list_any (λ b. nat_eq b.0 i && int_le (pos 1) b.1) l.bounds) q.front levels b);
@@ -190,17 +190,16 @@ restrict q levels m den r =
 -- ---- what an optimal stage settles
 
 -- the coalitions of the new level
-new_pairs : (q : Stage) (outside : ℕ → Bool) (m : List ℤ)
-    (den : ℤ) (ws cs : List (ℕ × ℤ))
+new_pairs : (q : Stage) (outside : ℕ → Bool) (m : RowMultipliers) (ws cs : List (ℕ × ℤ))
     → ((id : ℕ) → HasWeight ws id
     → IsTrue ((program_of q outside).is_column id)
-    × (rise (program_of q outside) m den id ≡ pos 0))
+    × (rise (program_of q outside) m.num m.den id ≡ pos 0))
     → AllByRecursion (λ c. (pos 1 ≤ℤ c.1) × HasWeight ws (outer_id q.game.players q.front c.0)) cs
-    → Settled_pairs q.measure q.game m den (map (λ c. (c.0, length q.front)) cs ++ [])
-new_pairs q outside m den ws [] tight h = tt
-new_pairs q outside m den ws (c ∷ cs) tight h = (
-  outer_tight q outside m den c.0 (tight (outer_id q.game.players q.front c.0) h.0.1).1,
-  new_pairs q outside m den ws cs tight h.1,
+    → Settled_pairs q.measure q.game m (map (λ c. (c.0, length q.front)) cs ++ [])
+new_pairs q outside m ws [] tight h = tt
+new_pairs q outside m ws (c ∷ cs) tight h = (
+  outer_tight q outside m c.0 (tight (outer_id q.game.players q.front c.0) h.0.1).1,
+  new_pairs q outside m ws cs tight h.1,
 )
 
 -- the column of a player alone stands there only for imputations
@@ -234,36 +233,35 @@ new_bound q ws (b ∷ bs) Tight new old h i any =
       | inr more ↦ new_bound q ws bs Tight new old h.1 i more
     ]
 
-pub settles_own_level : (q : Stage) (t : StageAnswer) → Answers q t → Reads (after q t) t.multipliers t.den
+pub settles_own_level : (q : Stage) (t : StageAnswer) → Answers q t → Reads (after q t) t.multipliers
 settles_own_level q t holds =
     let outside : ℕ → Bool = t.outside in
-    let m : List ℤ = t.multipliers in
-    let den : ℤ = t.den in
+    let m : RowMultipliers = t.multipliers in
     let tight =
-    tight_optimal (program_of q outside) t.weights t.weight_den m den holds.optimal in
-    let r = reading_of q outside m den holds.optimal.1 in
+    tight_optimal (program_of q outside) t.weights t.weight_den m.num m.den holds.optimal in
+    let r = reading_of q outside m holds.optimal.1 in
     let test : ℕ → Level → Bool = λ i l. list_any (λ b. nat_eq b.0 i && int_le (pos 1) b.1) l.bounds in
-    let pairs : Settled_pairs q.measure q.game m den
+    let pairs : Settled_pairs q.measure q.game m
     (earlier_of 0 q.front ++ (map (λ c. (c.0, length q.front)) t.level.coalitions ++ [])) =
     all_join
-    (λ c. den *ℤ q.game.worth c.0
+    (λ c. m.den *ℤ q.game.worth c.0
     ≡ reached q.measure q.game.players (share_of m) (excess_of q.game.players m) c.0 c.1)
     (earlier_of 0 q.front) (map (λ c. (c.0, length q.front)) t.level.coalitions ++ []) r.settled
-    (new_pairs q outside m den t.weights t.level.coalitions tight
+    (new_pairs q outside m t.weights t.level.coalitions tight
     holds.follows.coalitions) in
     let fresh : (i : ℕ) → i < q.game.players → HasWeight t.weights (single_id q.game.players q.front i)
-    → share_of m i ≡ den *ℤ q.game.worth (singleton i) =
-    λ i h k. single_tight q outside m den i h (tight (single_id q.game.players q.front i) k).1 in
+    → share_of m i ≡ m.den *ℤ q.game.worth (singleton i) =
+    λ i h k. single_tight q outside m i h (tight (single_id q.game.players q.front i) k).1 in
     record {
       positive = r.positive;
       whole = r.whole;
-      settled = subst (Settled_pairs q.measure q.game m den) (sym (earlier_of-more q.front t.level)) pairs;
+      settled = subst (Settled_pairs q.measure q.game m) (sym (earlier_of-more q.front t.level)) pairs;
       single = r.single;
       bound = λ f i h b. elim (any_cases (test i) q.front (t.level ∷ []) b) [
         | inl old ↦ r.bound f i h old
         | inr new ↦ elim (or_cases (test i t.level) false new) [
           | inl here ↦ new_bound q t.weights t.level.bounds
-              (λ i. share_of m i ≡ den *ℤ q.game.worth (singleton i)) fresh (r.bound f) holds.follows.bounds i here
+              (λ i. share_of m i ≡ m.den *ℤ q.game.worth (singleton i)) fresh (r.bound f) holds.follows.bounds i here
           | inr none ↦ absurd (false≢true none)
         ]
       ];
@@ -289,11 +287,12 @@ tight_fixes measure g j x e den (c ∷ cs) h = (
   ),
 )
 
-further_tight : (q : Stage) (t : StageAnswer) (m : List ℤ) (den : ℤ) → Answers q t → Reads (after q t) m den →
-    (i : ℕ) → is_further q.family q.game.players q.front t.outside i ≡ true → HasWeight t.weights
-    (length (settled_columns q.game.players q.front) + i) → Tight q.measure q.game (length q.front + 1) (share_of m)
-    (excess_of q.game.players m) den (further_column q.game.players (length q.front) i)
-further_tight q t m den holds r i is_so weighs =
+further_tight : (q : Stage) (t : StageAnswer) (m : RowMultipliers) → Answers q t → Reads (after q t) m → (i : ℕ)
+    → is_further q.family q.game.players q.front t.outside i ≡ true
+    → HasWeight t.weights (length (settled_columns q.game.players q.front) + i)
+    → Tight q.measure q.game (length q.front + 1) (share_of m)
+    (excess_of q.game.players m) m.den (further_column q.game.players (length q.front) i)
+further_tight q t m holds r i is_so weighs =
     let n : ℕ = q.game.players in
     let x : ℕ → ℤ = share_of m in
     let e : ℕ → ℤ = excess_of n m in
@@ -318,8 +317,8 @@ further_tight q t m den holds r i is_so weighs =
               linear,
               r.bound f (i - n) h b,
               single_value q.measure n (length q.front) (i - n) x e h,
-              mul-subℤ den (pos 0) (q.game.worth (singleton (i - n))),
-              mul-zeroℤ den,
+              mul-subℤ m.den (pos 0) (q.game.worth (singleton (i - n))),
+              mul-zeroℤ m.den,
             )))
         | inr beyond ↦
             let s : ℕ = i - (n + n) in
@@ -328,17 +327,17 @@ further_tight q t m den holds r i is_so weighs =
             holds.follows.all_coalitions s
             (subst (λ (z : ℕ). HasWeight t.weights (length (settled_columns n q.front) + z)) (sym eq) weighs) in
             let pairs =
-            all_right (λ c. den *ℤ q.game.worth c.0 ≡ reached q.measure n x e c.0 c.1) (earlier_of 0 q.front)
+            all_right (λ c. m.den *ℤ q.game.worth c.0 ≡ reached q.measure n x e c.0 c.1) (earlier_of 0 q.front)
             (map (λ c. (c.0, length q.front)) t.level.coalitions ++ [])
-            (subst (Settled_pairs q.measure q.game m den) (earlier_of-more q.front t.level) r.settled) in
+            (subst (Settled_pairs q.measure q.game m) (earlier_of-more q.front t.level) r.settled) in
             let mine =
-            all_left (λ c. den *ℤ q.game.worth c.0 ≡ reached q.measure n x e c.0 c.1)
+            all_left (λ c. m.den *ℤ q.game.worth c.0 ≡ reached q.measure n x e c.0 c.1)
             (map (λ c. (c.0, length q.front)) t.level.coalitions) [] pairs in
             let any : list_any (λ c. nat_eq c.0 s) t.level.coalitions ≡ true =
             elim (or_cases (list_any (λ c. nat_eq c.0 s) t.level.coalitions) false listed)
             [ inl a ↦ a | inr b ↦ absurd (false≢true b) ] in
             let fact =
-            pair_at (λ c. den *ℤ q.game.worth c.0 ≡ reached q.measure n x e c.0 c.1) (length q.front)
+            pair_at (λ c. m.den *ℤ q.game.worth c.0 ≡ reached q.measure n x e c.0 c.1) (length q.front)
             t.level.coalitions
             s mine any in
             rw past
@@ -352,39 +351,39 @@ further_tight q t m den holds r i is_so weighs =
       ]
     ]
 
-pub tight_later : (q : Stage) (t : StageAnswer) (m : List ℤ) (den : ℤ) → Answers q t → Reads (after q t) m den
-    → (id : ℕ) → IsTrue ((program_of q t.outside).is_column id) → HasWeight t.weights id
-    → rise (program_of q t.outside) m den id ≡ pos 0
-tight_later q t m den holds r id is_so weighs =
+pub tight_later : (q : Stage) (t : StageAnswer) (m : RowMultipliers) → Answers q t → Reads (after q t) m → (id : ℕ)
+    → IsTrue ((program_of q t.outside).is_column id) → HasWeight t.weights id
+    → rise (program_of q t.outside) m.num m.den id ≡ pos 0
+tight_later q t m holds r id is_so weighs =
     let n : ℕ = q.game.players in
     let x : ℕ → ℤ = share_of m in
     let e : ℕ → ℤ = excess_of n m in
     let len : ℕ = length (settled_columns n q.front) in
-    let near = restrict q (t.level ∷ []) m den r in
-    let first : AllByRecursion (Tight q.measure q.game (length q.front + 1) x e den) (settled_columns n q.front) =
-    tight_fixes q.measure q.game (length q.front + 1) x e den
+    let near = restrict q (t.level ∷ []) m r in
+    let first : AllByRecursion (Tight q.measure q.game (length q.front + 1) x e m.den) (settled_columns n q.front) =
+    tight_fixes q.measure q.game (length q.front + 1) x e m.den
     ((grand_coalition n, length q.front + 1) ∷ earlier_of 0 q.front) (
       sym (whole_value q.measure n (length q.front) x e ∙ near.whole),
-      of_settled q.measure q.game q.front x e den near.settled,
+      of_settled q.measure q.game q.front x e m.den near.settled,
     ) in
-    rise_at q t.outside m den id ∙ elim (true_or_false (nat_lt id len)) [
+    rise_at q t.outside m id ∙ elim (true_or_false (nat_lt id len)) [
       | inl below ↦
           let lt : id < len = grind (arith, nat_tests) in
           rw below
-          (each_of (Tight q.measure q.game (length q.front + 1) x e den) no_column (settled_columns n q.front) first
+          (each_of (Tight q.measure q.game (length q.front + 1) x e m.den) no_column (settled_columns n q.front) first
           id lt)
       | inr past ↦
           let eq : len + (id - len) ≡ id = grind (arith, nat_tests) in
           rw past
-          (further_tight q t m den holds r (id - len) (rw past at is_so)
+          (further_tight q t m holds r (id - len) (rw past at is_so)
           (subst (HasWeight t.weights) (sym eq) weighs))
     ]
 
 -- the cost of a stage's weights, by any multipliers that settle its level too
-pub stage_value : (q : Stage) (t : StageAnswer) (m : List ℤ) (den : ℤ) → Answers q t → Reads (after q t) m den
-    → den *ℤ weighted_sum (program_of q t.outside).cost t.weights ≡ t.weight_den
+pub stage_value : (q : Stage) (t : StageAnswer) (m : RowMultipliers) → Answers q t → Reads (after q t) m
+    → m.den *ℤ weighted_sum (program_of q t.outside).cost t.weights ≡ t.weight_den
     *ℤ excess_of q.game.players m (length q.front)
-stage_value q t m den holds r =
-    tight_value (program_of q t.outside) m den t.weights t.weight_den holds.optimal.0
-    (tight_later q t m den holds r)
+stage_value q t m holds r =
+    tight_value (program_of q t.outside) m.num m.den t.weights t.weight_den holds.optimal.0
+    (tight_later q t m holds r)
     ∙ ap (λ z. t.weight_den *ℤ z) (right_value q t.outside m)

@@ -19,7 +19,7 @@ use Rattle.definitions.specs.declared.Mode.TheVariants.{Span}
 use Rattle.separation.specs.Stage.{earlier_of}
 use Rattle.separation.specs.Shares.{IsReadFrom}
 use Rattle.nested_programs.specs.Stage.{Stage, with_front, behind}
-use Rattle.nested_programs.specs.Reading.{reached, share_of, excess_of}
+use Rattle.nested_programs.specs.Reading.{RowMultipliers, reached, share_of, excess_of}
 use Rattle.nested_programs.specs.Chain.{StageAnswer, Answers, levels_of, IsChain, last_of, HaveExcesses, after}
 use Rattle.nested_programs.proofs.Advance.{Reads, Settled_pairs, restrict, settles_own_level}
 use Rattle.nested_programs.proofs.Advance.{earlier_of-more, BoundComes}
@@ -30,54 +30,55 @@ use Rattle.definitions.proofs.Alls.{all_left, all_right, all_weaken}
 
 -- the multipliers of the last stage settle all levels
 pub last_reads : (q : Stage) (t : StageAnswer) (ts : List StageAnswer) → Answers q t → IsChain (after q t) ts
-    → Reads (behind (after q t) (levels_of ts)) (last_of t ts).multipliers (last_of t ts).den
+    → Reads (behind (after q t) (levels_of ts)) (last_of t ts).multipliers
 last_reads q t [] holds chain =
-    subst (λ ls. Reads (with_front q ls) t.multipliers t.den) (sym (append-nil (q.front ++ t.level ∷ [])))
+    subst (λ ls. Reads (with_front q ls) t.multipliers) (sym (append-nil (q.front ++ t.level ∷ [])))
     (settles_own_level q t holds)
 last_reads q t (t' ∷ ts) holds chain =
-    subst (λ ls. Reads (with_front q ls) (last_of t' ts).multipliers (last_of t' ts).den)
+    subst (λ ls. Reads (with_front q ls) (last_of t' ts).multipliers)
     (append_assoc (q.front ++ t.level ∷ []) (t'.level ∷ []) (levels_of ts))
     (last_reads (after q t) t' ts chain.0 chain.1)
 
 -- ---- shares
 
-pub amount_read : (g : Game) (m : List ℤ) (den : ℤ) (x : Allocation) (s : ℕ) → IsReadFrom g.players m den x
+pub amount_read : (g : Game) (m : RowMultipliers) (x : Allocation) (s : ℕ) → IsReadFrom g.players m.num m.den x
     → amount x s ≡ sum_over g.players (share_of m) s
-amount_read g m den x s read =
+amount_read g m x s read =
     ap (λ (z : ℕ). sum_over z (share x) s) read.players
     ∙ sum_below-same g.players (λ i. if has_player s i then share x i else pos 0)
     (λ i. if has_player s i then share_of m i else pos 0)
     (λ i h. ap (λ z. if has_player s i then z else pos 0) (read.shares i h))
 
-pub excess_read : (g : Game) (m : List ℤ) (den : ℤ) (x : Allocation) (s : ℕ) → IsReadFrom g.players m den x
-    → excess g x s ≡ den *ℤ g.worth s -ℤ sum_over g.players (share_of m) s
-excess_read g m den x s read =
-    omega (arith, linear, amount_read g m den x s read, ap (λ z. z *ℤ g.worth s) read.common)
+pub excess_read : (g : Game) (m : RowMultipliers) (x : Allocation) (s : ℕ) → IsReadFrom g.players m.num m.den x
+    → excess g x s ≡ m.den *ℤ g.worth s -ℤ sum_over g.players (share_of m) s
+excess_read g m x s read =
+    omega (arith, linear, amount_read g m x s read, ap (λ z. z *ℤ g.worth s) read.common)
 
-read_alone : (g : Game) (m : List ℤ) (den : ℤ) (x : Allocation) (s : ℕ) → IsReadFrom g.players m den x
-    → x.den *ℤ g.worth s ≡ den *ℤ g.worth s
-read_alone g m den x s read = ap (λ z. z *ℤ g.worth s) read.common
+read_alone : (g : Game) (m : RowMultipliers) (x : Allocation) (s : ℕ) → IsReadFrom g.players m.num m.den x
+    → x.den *ℤ g.worth s ≡ m.den *ℤ g.worth s
+read_alone g m x s read = ap (λ z. z *ℤ g.worth s) read.common
 
-in_family : (q : Stage) (m : List ℤ) (den : ℤ) (x : Allocation) → IsReadFrom q.game.players m den x → Reads q m den
+in_family : (q : Stage) (m : RowMultipliers) (x : Allocation) → IsReadFrom q.game.players m.num m.den x → Reads q m
     → InFamily q.family q.game x
-in_family q m den x read r = by_family q.family r.single
+in_family q m x read r = by_family q.family r.single
   where
     allocation : IsAllocation q.game x
     allocation = (read.players, omega (arith, linear, r.positive, read.common))
 
     efficient : IsEfficient q.game x
     efficient =
-        amount_read q.game m den x (grand_coalition q.game.players) read
+        amount_read q.game m x (grand_coalition q.game.players) read
         ∙ sum_over-grand_coalition q.game.players (share_of m)
-        ∙ r.whole ∙ sym (read_alone q.game m den x (grand_coalition q.game.players) read)
+        ∙ r.whole ∙ sym (read_alone q.game m x (grand_coalition q.game.players) read)
 
     by_family : (family : Family)
-        → (family ≡ Imputations → (i : ℕ) → i < q.game.players → (den *ℤ q.game.worth (singleton i)) ≤ℤ share_of m i)
+        → (family ≡ Imputations → (i : ℕ) → i < q.game.players
+        → (m.den *ℤ q.game.worth (singleton i)) ≤ℤ share_of m i)
         → InFamily family q.game x
     by_family Imputations single = (
       allocation,
       efficient,
-      λ i h. omega (arith, linear, single refl i h, read.shares i h, read_alone q.game m den x (singleton i) read),
+      λ i h. omega (arith, linear, single refl i h, read.shares i h, read_alone q.game m x (singleton i) read),
     )
     by_family Preimputations single = (allocation, efficient)
 
@@ -106,47 +107,48 @@ has_at_most a num lden e den xden h low one h3 h5 =
     )
 
 -- the coalitions of a level have its excess by the measure
-excesses_of : (measure : Measure) (g : Game) (m : List ℤ) (den : ℤ) (x : Allocation) (l : Level) (k : ℕ)
-    (cs : List (ℕ × ℤ)) → IsMeasurable measure g.players → IsReadFrom g.players m den x
-    → l.excess_num *ℤ den ≡ excess_of g.players m k *ℤ l.excess_den
+excesses_of : (measure : Measure) (g : Game) (m : RowMultipliers) (x : Allocation) (l : Level) (k : ℕ)
+    (cs : List (ℕ × ℤ)) → IsMeasurable measure g.players → IsReadFrom g.players m.num m.den x
+    → l.excess_num *ℤ m.den ≡ excess_of g.players m k *ℤ l.excess_den
     → AllByRecursion (λ c. (0 < c.0) × (c.0 < grand_coalition g.players)) cs
-    → Settled_pairs measure g m den (map (λ c. (c.0, k)) cs) → AllByRecursion (λ c. HasExcess measure g x l c.0) cs
-excesses_of measure g m den x l k [] has read num proper h = tt
-excesses_of measure g m den x l k (c ∷ cs) has read num proper h =
+    → Settled_pairs measure g m (map (λ c. (c.0, k)) cs) → AllByRecursion (λ c. HasExcess measure g x l c.0) cs
+excesses_of measure g m x l k [] has read num proper h = tt
+excesses_of measure g m x l k (c ∷ cs) has read num proper h =
     let d : ℤ = pos (divisor measure c.0) in
     let below : c.0 < 2 ^ g.players = (let p = proper.0.1 in omega (arith, p)) in
     let plain =
-    has_excess (excess g x c.0) (den *ℤ g.worth c.0 -ℤ sum_over g.players (share_of m) c.0) l.excess_num
-    l.excess_den (excess_of g.players m k) den x.den d (excess_read g m den x c.0 read)
+    has_excess (excess g x c.0) (m.den *ℤ g.worth c.0 -ℤ sum_over g.players (share_of m) c.0) l.excess_num
+    l.excess_den (excess_of g.players m k) m.den x.den d (excess_read g m x c.0 read)
     (omega (arith, linear, h.0)) num read.common in (
       measured-same measure g.players c.0 (excess g x c.0) x.den l.excess_num l.excess_den has proper.0.0 below
           plain,
-      excesses_of measure g m den x l k cs has read num proper.1 h.1,
+      excesses_of measure g m x l k cs has read num proper.1 h.1,
     )
 
-level_holds : (q : Stage) (t : StageAnswer) (ts : List StageAnswer) (m : List ℤ) (den : ℤ) (x : Allocation)
+level_holds : (q : Stage) (t : StageAnswer) (ts : List StageAnswer) (m : RowMultipliers) (x : Allocation)
     → IsMeasurable q.measure q.game.players → Past q → Answers q t → IsChain (after q t) ts
-    → Reads (behind (after q t) (levels_of ts)) m den
-    → IsAllFixed Span q.game.players ((q.front ++ t.level ∷ []) ++ levels_of ts) → IsReadFrom q.game.players m den x
-    → t.level.excess_num *ℤ den ≡ excess_of q.game.players m (length q.front) *ℤ t.level.excess_den
+    → Reads (behind (after q t) (levels_of ts)) m
+    → IsAllFixed Span q.game.players ((q.front ++ t.level ∷ []) ++ levels_of ts)
+    → IsReadFrom q.game.players m.num m.den x
+    → t.level.excess_num *ℤ m.den ≡ excess_of q.game.players m (length q.front) *ℤ t.level.excess_den
     → pos 1 ≤ℤ t.level.excess_den → LevelHolds Span q.family q.measure q.game x q.front t.level
-level_holds q t ts m den x has past holds chain r fixed read num lden =
+level_holds q t ts m x has past holds chain r fixed read num lden =
     let n : ℕ = q.game.players in
-    let near = restrict (after q t) (levels_of ts) m den r in
-    let far = restrict q (t.level ∷ []) m den near in
+    let near = restrict (after q t) (levels_of ts) m r in
+    let far = restrict q (t.level ∷ []) m near in
     let pairs =
-    all_right (λ c. den *ℤ q.game.worth c.0 ≡ reached q.measure n (share_of m) (excess_of n m) c.0 c.1)
+    all_right (λ c. m.den *ℤ q.game.worth c.0 ≡ reached q.measure n (share_of m) (excess_of n m) c.0 c.1)
     (earlier_of 0 q.front) (map (λ c. (c.0, length q.front)) t.level.coalitions ++ [])
-    (subst (Settled_pairs q.measure q.game m den) (earlier_of-more q.front t.level) near.settled) in
+    (subst (Settled_pairs q.measure q.game m) (earlier_of-more q.front t.level) near.settled) in
     let mine =
-    all_left (λ c. den *ℤ q.game.worth c.0 ≡ reached q.measure n (share_of m) (excess_of n m) c.0 c.1)
+    all_left (λ c. m.den *ℤ q.game.worth c.0 ≡ reached q.measure n (share_of m) (excess_of n m) c.0 c.1)
     (map (λ c. (c.0, length q.front)) t.level.coalitions) [] pairs in
-    let at : (i : ℕ) → i < n → share_of m i ≡ den *ℤ q.game.worth (singleton i)
+    let at : (i : ℕ) → i < n → share_of m i ≡ m.den *ℤ q.game.worth (singleton i)
     → share x i ≡ x.den *ℤ q.game.worth (singleton i) =
-    λ i h e. read.shares i h ∙ e ∙ sym (read_alone q.game m den x (singleton i) read) in
+    λ i h e. read.shares i h ∙ e ∙ sym (read_alone q.game m x (singleton i) read) in
     record {
       excesses =
-          excesses_of q.measure q.game m den x t.level (length q.front) t.level.coalitions has read num
+          excesses_of q.measure q.game m x t.level (length q.front) t.level.coalitions has read num
           (level_proper q t holds) mine;
       weights = all_weaken _ (λ c. pos 1 ≤ℤ c.1) t.level.coalitions (λ c h. h.0) holds.follows.coalitions;
       bound_weights =
@@ -166,45 +168,44 @@ level_holds q t ts m den x has past holds chain r fixed read num lden =
           holds.follows.bounds;
       outside = λ s h o.
           (let low =
-          outside_low q t ts m den past holds chain r fixed s ((holds.decides s).1 o) in
-          let e = excess_read q.game m den x s read in
+          outside_low q t ts m past holds chain r fixed s ((holds.decides s).1 o) in
+          let e = excess_read q.game m x s read in
           let plain =
-          has_at_most (excess q.game x s) t.level.excess_num t.level.excess_den (excess_of n m (length q.front)) den
+          has_at_most (excess q.game x s) t.level.excess_num t.level.excess_den (excess_of n m (length q.front)) m.den
           x.den (pos (divisor q.measure s)) (omega (arith, linear, low, e)) lden num read.common in
           measured-le q.measure n s (excess q.game x s) x.den t.level.excess_num t.level.excess_den has o.0
           (omega (arith, o.1)) plain);
     }
 
-levels_hold : (q : Stage) (ts : List StageAnswer) (m : List ℤ) (den : ℤ) (x : Allocation)
-    → IsMeasurable q.measure q.game.players → Past q → IsChain q ts → Reads (behind q (levels_of ts)) m den
-    → IsAllFixed Span q.game.players (q.front ++ levels_of ts) → IsReadFrom q.game.players m den x
-    → HaveExcesses q.game m den (length q.front) (levels_of ts)
+levels_hold : (q : Stage) (ts : List StageAnswer) (m : RowMultipliers) (x : Allocation)
+    → IsMeasurable q.measure q.game.players → Past q → IsChain q ts → Reads (behind q (levels_of ts)) m
+    → IsAllFixed Span q.game.players (q.front ++ levels_of ts) → IsReadFrom q.game.players m.num m.den x
+    → HaveExcesses q.game m (length q.front) (levels_of ts)
     → LevelsHold Span q.family q.measure q.game x q.front (levels_of ts)
-levels_hold q [] m den x has past chain r fixed read excesses =
+levels_hold q [] m x has past chain r fixed read excesses =
     subst (IsAllFixed Span q.game.players) (append-nil q.front) fixed
-levels_hold q (t ∷ ts) m den x has past chain r fixed read excesses =
+levels_hold q (t ∷ ts) m x has past chain r fixed read excesses =
     let shift : (q.front ++ t.level ∷ []) ++ levels_of ts ≡ q.front ++ t.level ∷ levels_of ts =
     append_assoc q.front (t.level ∷ []) (levels_of ts) in
-    let r' = subst (λ ls. Reads (with_front q ls) m den) (sym shift) r in
+    let r' = subst (λ ls. Reads (with_front q ls) m) (sym shift) r in
     let fixed' = subst (IsAllFixed Span q.game.players) (sym shift) fixed in (
-      level_holds q t ts m den x has past chain.0 chain.1 r' fixed' read excesses.0 excesses.1,
-      levels_hold (after q t) ts m den x has
+      level_holds q t ts m x has past chain.0 chain.1 r' fixed' read excesses.0 excesses.1,
+      levels_hold (after q t) ts m x has
           (past_more q t past chain.0) chain.1 r' fixed' read
-          (subst (λ (z : ℕ). HaveExcesses q.game m den z (levels_of ts)) (sym (length-append q.front (t.level ∷ [])))
+          (subst (λ (z : ℕ). HaveExcesses q.game m z (levels_of ts)) (sym (length-append q.front (t.level ∷ [])))
           excesses.2),
     )
 
 pub chain_certified : (q : Stage) (t : StageAnswer) (ts : List StageAnswer) (x : Allocation)
     → IsMeasurable q.measure q.game.players → IsChain (with_front q []) (t ∷ ts)
     → IsAllFixed Span q.game.players (levels_of (t ∷ ts))
-    → IsReadFrom q.game.players (last_of t ts).multipliers (last_of t ts).den x
-    → HaveExcesses q.game (last_of t ts).multipliers (last_of t ts).den 0 (levels_of (t ∷ ts))
+    → IsReadFrom q.game.players (last_of t ts).multipliers.num (last_of t ts).multipliers.den x
+    → HaveExcesses q.game (last_of t ts).multipliers 0 (levels_of (t ∷ ts))
     → Certifies Span q.family q.measure q.game x (levels_of (t ∷ ts))
 chain_certified q t ts x has chain fixed read excesses =
     let first : Stage = with_front q [] in
-    let m : List ℤ = (last_of t ts).multipliers in
-    let den : ℤ = (last_of t ts).den in
-    let r : Reads (with_front q (levels_of (t ∷ ts))) m den = last_reads first t ts chain.0 chain.1 in (
-      in_family (with_front q (levels_of (t ∷ ts))) m den x read r,
-      levels_hold first (t ∷ ts) m den x has (past_none q) chain r fixed read excesses,
+    let m : RowMultipliers = (last_of t ts).multipliers in
+    let r : Reads (with_front q (levels_of (t ∷ ts))) m = last_reads first t ts chain.0 chain.1 in (
+      in_family (with_front q (levels_of (t ∷ ts))) m x read r,
+      levels_hold first (t ∷ ts) m x has (past_none q) chain r fixed read excesses,
     )

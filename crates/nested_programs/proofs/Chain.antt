@@ -24,7 +24,7 @@ use Rattle.definitions.specs.declared.Family.TheVariants.{Imputations}
 use Rattle.definitions.specs.declared.Mode.TheVariants.{Span}
 use Rattle.separation.specs.Stage.{earlier_of, settled_columns}
 use Rattle.nested_programs.specs.Stage.{Stage, with_front, behind, program_of}
-use Rattle.nested_programs.specs.Reading.{reached, IsReading, share_of, excess_of}
+use Rattle.nested_programs.specs.Reading.{RowMultipliers, reached, IsReading, share_of, excess_of}
 use Rattle.nested_programs.specs.Chain.{HasWeight, StageAnswer, Answers, levels_of, IsChain, after}
 use Rattle.nested_programs.proofs.Reading.{earlier_rows, reading_of, of_reading}
 use Rattle.nested_programs.proofs.Slack.{tight_optimal}
@@ -50,27 +50,30 @@ tabulate-at from (suc n) f (suc i) h =
     rw e (tabulate-at (suc from) n f i (omega arith))
 
 -- the multipliers of n players and k + 1 levels, and the last of them once more
-abbrev pub extended : ℕ → ℕ → List ℤ → List ℤ
-extended n k m =
-    tabulate 0 (n + (k + 2))
-    (λ r. if nat_lt r (n + (k + 1)) then slice_index_or m r (pos 0) else slice_index_or m (n + k) (pos 0))
+abbrev pub extended : ℕ → ℕ → RowMultipliers → RowMultipliers
+extended n k m = record {
+  num =
+      tabulate 0 (n + (k + 2))
+      (λ r. if nat_lt r (n + (k + 1)) then slice_index_or m.num r (pos 0) else slice_index_or m.num (n + k) (pos 0));
+  den = m.den;
+}
 
-extended-at : (n k : ℕ) (m : List ℤ) (r : ℕ) → r < n + (k + 1)
-    → slice_index_or (extended n k m) r (pos 0) ≡ slice_index_or m r (pos 0)
+extended-at : (n k : ℕ) (m : RowMultipliers) (r : ℕ) → r < n + (k + 1)
+    → slice_index_or (extended n k m).num r (pos 0) ≡ slice_index_or m.num r (pos 0)
 extended-at n k m r h =
     let t : nat_lt r (n + (k + 1)) ≡ true = grind (arith, nat_tests) in
     let e : 0 + r ≡ r = omega arith in
     tabulate-at 0 (n + (k + 2))
-    (λ r. if nat_lt r (n + (k + 1)) then slice_index_or m r (pos 0) else slice_index_or m (n + k) (pos 0)) r
+    (λ r. if nat_lt r (n + (k + 1)) then slice_index_or m.num r (pos 0) else slice_index_or m.num (n + k) (pos 0)) r
     (omega arith) ∙ rw e (rw t refl)
 
-extended-last : (n k : ℕ) (m : List ℤ)
-    → slice_index_or (extended n k m) (n + (k + 1)) (pos 0) ≡ slice_index_or m (n + k) (pos 0)
+extended-last : (n k : ℕ) (m : RowMultipliers)
+    → slice_index_or (extended n k m).num (n + (k + 1)) (pos 0) ≡ slice_index_or m.num (n + k) (pos 0)
 extended-last n k m =
     let t : nat_lt (n + (k + 1)) (n + (k + 1)) ≡ false = grind (arith, nat_tests) in
     let e : 0 + (n + (k + 1)) ≡ n + (k + 1) = omega arith in
     tabulate-at 0 (n + (k + 2))
-    (λ r. if nat_lt r (n + (k + 1)) then slice_index_or m r (pos 0) else slice_index_or m (n + k) (pos 0))
+    (λ r. if nat_lt r (n + (k + 1)) then slice_index_or m.num r (pos 0) else slice_index_or m.num (n + k) (pos 0))
     (n + (k + 1)) (omega arith) ∙ rw e (rw t refl)
 
 -- what is outside behind more levels is outside behind fewer
@@ -94,18 +97,22 @@ span_more n xs ys s (k, ne, ps, fixed, sums) = (
 pub outside_fewer : (n : ℕ) (xs ys : List Level) (s : ℕ) → IsOutside Span n (xs ++ ys) s → IsOutside Span n xs s
 outside_fewer n xs ys s (low, high, apart) = (low, high, λ spanned. apart (span_more n xs ys s spanned))
 
--- the multipliers of an optimal stage, extended, bound the next
+-- the multipliers of an answer, extended for the next stage
+abbrev next_multipliers : Stage → StageAnswer → RowMultipliers
+next_multipliers q t = extended q.game.players (length q.front) t.multipliers
+
+-- they bound the next stage
 pub next_reading : (q : Stage) (t : StageAnswer) (outside : ℕ → Bool) → Answers q t
-    → ((s : ℕ) → IsTrue (outside s) → IsOutside Span q.game.players (after q t).front s) → IsReading
-    (after q t) outside (share_of (extended q.game.players (length q.front) t.multipliers))
-    (excess_of q.game.players (extended q.game.players (length q.front) t.multipliers)) t.den
+    → ((s : ℕ) → IsTrue (outside s) → IsOutside Span q.game.players (after q t).front s)
+    → IsReading (after q t) outside (share_of (next_multipliers q t))
+    (excess_of q.game.players (next_multipliers q t)) (next_multipliers q t).den
 next_reading q t outside holds apart =
     let n : ℕ = q.game.players in
     let k : ℕ = length q.front in
-    let m : List ℤ = t.multipliers in
-    let m' : List ℤ = extended n k m in
+    let m : RowMultipliers = t.multipliers in
+    let m' : RowMultipliers = next_multipliers q t in
     let r = settles_own_level q t holds in
-    let near = reading_of q t.outside m t.den holds.optimal.1 in
+    let near = reading_of q t.outside m holds.optimal.1 in
     let long : length (q.front ++ t.level ∷ []) ≡ k + 1 = length-append q.front (t.level ∷ []) in
     let shares : (i : ℕ) → i < n → share_of m' i ≡ share_of m i = λ i h. extended-at n k m i (omega arith) in
     let excesses : (j : ℕ) → j < k + 1 → excess_of n m' j ≡ excess_of n m j =
@@ -117,8 +124,8 @@ next_reading q t outside holds apart =
       whole = sum_below-same n (share_of m') (share_of m) shares ∙ r.whole;
       settled =
           all_with (λ c. c.1 < 0 + length (q.front ++ t.level ∷ []))
-          (λ c. t.den *ℤ q.game.worth c.0 ≡ reached q.measure n (share_of m) (excess_of n m) c.0 c.1)
-          (λ c. t.den *ℤ q.game.worth c.0 ≡ reached q.measure n (share_of m') (excess_of n m') c.0 c.1)
+          (λ c. m.den *ℤ q.game.worth c.0 ≡ reached q.measure n (share_of m) (excess_of n m) c.0 c.1)
+          (λ c. m.den *ℤ q.game.worth c.0 ≡ reached q.measure n (share_of m') (excess_of n m') c.0 c.1)
           (earlier_of 0 (q.front ++ t.level ∷ []))
           (λ c lt eq. omega (
             arith,
@@ -141,18 +148,16 @@ next_reading q t outside holds apart =
 
 pub next_bounds : (q : Stage) (t : StageAnswer) (outside : ℕ → Bool) → Answers q t
     → ((s : ℕ) → IsTrue (outside s) → IsOutside Span q.game.players (after q t).front s)
-    → Bounds (program_of (after q t) outside) (extended q.game.players (length q.front) t.multipliers) t.den
+    → Bounds (program_of (after q t) outside) (next_multipliers q t).num (next_multipliers q t).den
 next_bounds q t outside holds apart =
-    of_reading (after q t) outside (extended q.game.players (length q.front) t.multipliers)
-    t.den (next_reading q t outside holds apart)
+    of_reading (after q t) outside (next_multipliers q t) (next_reading q t outside holds apart)
 
 -- so the stage behind an optimal one has no endless ray
 pub next_no_ray : (q : Stage) (t : StageAnswer) (outside : ℕ → Bool) → Answers q t
     → ((s : ℕ) → IsTrue (outside s) → IsOutside Span q.game.players (after q t).front s)
     → HasRay (program_of (after q t) outside) → ⊥
 next_no_ray q t outside holds apart =
-    no_ray (program_of (after q t) outside)
-    (extended q.game.players (length q.front) t.multipliers) t.den
+    no_ray (program_of (after q t) outside) (next_multipliers q t).num (next_multipliers q t).den
     (next_bounds q t outside holds apart)
 
 -- ---- the optimum of a stage
@@ -166,13 +171,13 @@ same_ratio w d d' c e e' one h h' =
     factors_swapped = *ℤ_comm (d *ℤ c) d' ∙ mul_left_commℤ d' d c ∙ *ℤ_comm d (d' *ℤ c)
 
 -- multipliers that settle the level of a stage have one excess there, the optimum
-pub one_excess : (q : Stage) (t : StageAnswer) (m m' : List ℤ) (den den' : ℤ) → Answers q t
-    → Reads (after q t) m den → Reads (after q t) m' den'
-    → excess_of q.game.players m (length q.front) *ℤ den' ≡ excess_of q.game.players m' (length q.front) *ℤ den
-one_excess q t m m' den den' holds r r' =
-    same_ratio t.weight_den den den' (weighted_sum (program_of q t.outside).cost t.weights)
+pub one_excess : (q : Stage) (t : StageAnswer) (m m' : RowMultipliers) → Answers q t → Reads (after q t) m
+    → Reads (after q t) m'
+    → excess_of q.game.players m (length q.front) *ℤ m'.den ≡ excess_of q.game.players m' (length q.front) *ℤ m.den
+one_excess q t m m' holds r r' =
+    same_ratio t.weight_den m.den m'.den (weighted_sum (program_of q t.outside).cost t.weights)
     (excess_of q.game.players m (length q.front)) (excess_of q.game.players m' (length q.front)) holds.optimal.0.1
-    (stage_value q t m den holds r) (stage_value q t m' den' holds r')
+    (stage_value q t m holds r) (stage_value q t m' holds r')
 
 no_greater_optimum : (w d dk c e1 e0 f0 : ℤ) → pos 1 ≤ℤ w → pos 1 ≤ℤ d → pos 1 ≤ℤ dk → (dk *ℤ c) ≤ℤ (w *ℤ f0)
     → d *ℤ c ≡ w *ℤ e1 → e0 *ℤ dk ≡ f0 *ℤ d → e1 ≤ℤ e0
@@ -187,44 +192,45 @@ no_greater_optimum w d dk c e1 e0 f0 pw pd pk h hc he =
     (omega (arith, linear, a, left, right))
 
 -- the optima don't rise
-pub optimum_falls : (q : Stage) (t t' : StageAnswer) (m : List ℤ) (den : ℤ) → Answers q t → Answers (after q t) t'
-    → Reads (after (after q t) t') m den
+pub optimum_falls : (q : Stage) (t t' : StageAnswer) (m : RowMultipliers) → Answers q t → Answers (after q t) t'
+    → Reads (after (after q t) t') m
     → excess_of q.game.players m (length q.front + 1) ≤ℤ excess_of q.game.players m (length q.front)
-optimum_falls q t t' m den holds holds' r =
+optimum_falls q t t' m holds holds' r =
     let n : ℕ = q.game.players in
     let k : ℕ = length q.front in
     let next : Stage = after q t in
     let p : Program = program_of next t'.outside in
+    let next_m : RowMultipliers = next_multipliers q t in
     let long : length next.front ≡ k + 1 = length-append q.front (t.level ∷ []) in
     let weak =
-    weak_duality p (extended n k t.multipliers) t.den t'.weights t'.weight_den
+    weak_duality p next_m.num next_m.den t'.weights t'.weight_den
     (next_bounds q t t'.outside holds (λ s o. (holds'.decides s).0 o))
     holds'.optimal.0 in
-    let right : value_of p (extended n k t.multipliers) p.right ≡ excess_of n t.multipliers k =
-    right_value next t'.outside (extended n k t.multipliers)
-    ∙ ap (excess_of n (extended n k t.multipliers)) long ∙ extended-last n k t.multipliers in
-    let value : den *ℤ weighted_sum p.cost t'.weights ≡ t'.weight_den *ℤ excess_of n m (k + 1) =
-    stage_value next t' m den holds' r ∙ ap (λ z. t'.weight_den *ℤ excess_of n m z) long in
+    let right : value_of p next_m.num p.right ≡ excess_of n t.multipliers k =
+    right_value next t'.outside next_m
+    ∙ ap (excess_of n next_m) long ∙ extended-last n k t.multipliers in
+    let value : m.den *ℤ weighted_sum p.cost t'.weights ≡ t'.weight_den *ℤ excess_of n m (k + 1) =
+    stage_value next t' m holds' r ∙ ap (λ z. t'.weight_den *ℤ excess_of n m z) long in
     let same =
-    one_excess q t m t.multipliers den t.den holds
-    (restrict next (t'.level ∷ []) m den r) (settles_own_level q t holds) in
-    no_greater_optimum t'.weight_den den t.den (weighted_sum p.cost t'.weights) (excess_of n m (k + 1))
+    one_excess q t m t.multipliers holds
+    (restrict next (t'.level ∷ []) m r) (settles_own_level q t holds) in
+    no_greater_optimum t'.weight_den m.den t.multipliers.den (weighted_sum p.cost t'.weights) (excess_of n m (k + 1))
     (excess_of n m k)
     (excess_of n t.multipliers k) holds'.optimal.0.1 r.positive holds.optimal.1.0
-    (subst (λ z. (t.den *ℤ weighted_sum p.cost t'.weights) ≤ℤ (t'.weight_den *ℤ z)) right weak) value same
+    (subst (λ z. (t.multipliers.den *ℤ weighted_sum p.cost t'.weights) ≤ℤ (t'.weight_den *ℤ z)) right weak) value same
 
 -- ---- what holds behind the levels in front
 
 -- multipliers that settle the levels in front have the same excesses there, and only imputations have bounds
 pub record Past (q : Stage) : Type 0 where
-  pub same : (m m' : List ℤ) (den den' : ℤ) → Reads q m den
-      → Reads q m' den' → (k : ℕ) → k < length q.front
-      → excess_of q.game.players m k *ℤ den' ≡ excess_of q.game.players m' k *ℤ den
+  pub same : (m m' : RowMultipliers) → Reads q m
+      → Reads q m' → (k : ℕ) → k < length q.front
+      → excess_of q.game.players m k *ℤ m'.den ≡ excess_of q.game.players m' k *ℤ m.den
   pub bounded : (i : ℕ) → IsTrue (has_bound q.front i) → q.family ≡ Imputations
 
 pub past_none : (q : Stage) → Past (with_front q [])
 past_none q =
-    record { same = λ m m' den den' r r' k h. absurd (omega arith); bounded = λ i h. absurd (false≢true h) }
+    record { same = λ m m' r r' k h. absurd (omega arith); bounded = λ i h. absurd (false≢true h) }
 
 new_family : (q : Stage) (ws bs : List (ℕ × ℤ))
     → ((i : ℕ) → i < q.game.players → HasWeight ws (length (settled_columns q.game.players q.front) + i)
@@ -239,20 +245,21 @@ pub weighted_family : (q : Stage) (t : StageAnswer) → Answers q t → (i : ℕ
     → HasWeight t.weights (length (settled_columns q.game.players q.front) + i) → q.family ≡ Imputations
 weighted_family q t holds i h k =
     single_family q t.outside i h
-    (tight_optimal (program_of q t.outside) t.weights t.weight_den t.multipliers t.den
+    (tight_optimal (program_of q t.outside) t.weights t.weight_den t.multipliers.num t.multipliers.den
     holds.optimal (length (settled_columns q.game.players q.front) + i) k).0
 
 pub past_more : (q : Stage) (t : StageAnswer) → Past q → Answers q t → Past (after q t)
 past_more q t past holds =
     let test : ℕ → Level → Bool = λ i l. list_any (λ b. nat_eq b.0 i && int_le (pos 1) b.1) l.bounds in
     record {
-      same = λ m m' den den' r r' k h. elim
+      same = λ m m' r r' k h. elim
           (less_or_last_of k (length q.front) (subst (λ (z : ℕ). k < z) (length-append q.front (t.level ∷ [])) h)) [
-            | inl less ↦ past.same m m' den den' (restrict q (t.level ∷ []) m den r)
-                (restrict q (t.level ∷ []) m' den' r') k less
+            | inl less ↦ past.same m m' (restrict q (t.level ∷ []) m r)
+                (restrict q (t.level ∷ []) m' r') k less
             | inr here ↦ subst
-                (λ (z : ℕ). excess_of q.game.players m z *ℤ den' ≡ excess_of q.game.players m' z *ℤ den) (sym here)
-                (one_excess q t m m' den den' holds r r')
+                (λ (z : ℕ). excess_of q.game.players m z *ℤ m'.den ≡ excess_of q.game.players m' z *ℤ m.den)
+                (sym here)
+                (one_excess q t m m' holds r r')
           ];
       bounded = λ i b. elim (any_cases (test i) q.front (t.level ∷ []) b) [
         | inl old ↦ past.bounded i old
@@ -284,8 +291,8 @@ listed_row P k (l ∷ levels) s h any =
           (found.0, omega (arith, found.1), found.2)
     ]
 
-abbrev pub gap : List ℤ → ℤ → List ℤ → ℤ → ℕ → ℤ
-gap m den m' den' i = den' *ℤ share_of m i -ℤ den *ℤ share_of m' i
+abbrev pub gap : RowMultipliers → RowMultipliers → ℕ → ℤ
+gap m m' i = m'.den *ℤ share_of m i -ℤ m.den *ℤ share_of m' i
 
 -- equal ratios stay equal times a divisor
 scaled_ratio : (e d' e' d h : ℤ) → e *ℤ d' ≡ e' *ℤ d → d' *ℤ (e *ℤ h) ≡ d *ℤ (e' *ℤ h)
@@ -311,12 +318,12 @@ gap_listed d d' v x x' e e' h i i' k =
 gap_equal : (d d' v x x' : ℤ) → x ≡ d *ℤ v → x' ≡ d' *ℤ v → d' *ℤ x -ℤ d *ℤ x' ≡ pos 0
 gap_equal d d' v x x' h h' = omega (arith, linear, ap (λ z. d' *ℤ z) h, ap (λ z. d *ℤ z) h', mul_left_commℤ d' d v)
 
-pub gap_settled : (q : Stage) (m m' : List ℤ) (den den' : ℤ) → Past q → Reads q m den → Reads q m' den'
-    → IsSettled q.game.players (gap m den m' den') q.front
-gap_settled q m m' den den' past r r' =
-    is_settled n (gap m den m' den') q.front listed
+pub gap_settled : (q : Stage) (m m' : RowMultipliers) → Past q → Reads q m → Reads q m'
+    → IsSettled q.game.players (gap m m') q.front
+gap_settled q m m' past r r' =
+    is_settled n (gap m m') q.front listed
     (λ i h b. let f = past.bounded i b in
-    gap_equal den den' (q.game.worth (singleton i)) (share_of m i) (share_of m' i) (r.bound f i h b)
+    gap_equal m.den m'.den (q.game.worth (singleton i)) (share_of m i) (share_of m' i) (r.bound f i h b)
     (r'.bound f i h b))
   where
     n : ℕ
@@ -325,28 +332,28 @@ gap_settled q m m' den den' past r r' =
     -- the coalition and the row of its level, for both multipliers
     Both : ℕ × ℕ → Type 0
     Both c =
-        (den *ℤ q.game.worth c.0 ≡ reached q.measure n (share_of m) (excess_of n m) c.0 c.1)
-        × (den' *ℤ q.game.worth c.0 ≡ reached q.measure n (share_of m') (excess_of n m') c.0 c.1)
+        (m.den *ℤ q.game.worth c.0 ≡ reached q.measure n (share_of m) (excess_of n m) c.0 c.1)
+        × (m'.den *ℤ q.game.worth c.0 ≡ reached q.measure n (share_of m') (excess_of n m') c.0 c.1)
 
     both : AllByRecursion Both (earlier_of 0 q.front)
     both =
-        all_both (λ c. den *ℤ q.game.worth c.0 ≡ reached q.measure n (share_of m) (excess_of n m) c.0 c.1)
-        (λ c. den' *ℤ q.game.worth c.0 ≡ reached q.measure n (share_of m') (excess_of n m') c.0 c.1)
+        all_both (λ c. m.den *ℤ q.game.worth c.0 ≡ reached q.measure n (share_of m) (excess_of n m) c.0 c.1)
+        (λ c. m'.den *ℤ q.game.worth c.0 ≡ reached q.measure n (share_of m') (excess_of n m') c.0 c.1)
         (earlier_of 0 q.front) r.settled r'.settled
 
-    listed : (s : ℕ) → IsTrue (is_listed q.front s) → sum_over n (gap m den m' den') s ≡ pos 0
+    listed : (s : ℕ) → IsTrue (is_listed q.front s) → sum_over n (gap m m') s ≡ pos 0
     listed s any =
         let found = listed_row Both 0 q.front s both any in
-        sum_over-combined n (share_of m) (share_of m') den' den s
-        ∙ gap_listed den den' (q.game.worth s) (sum_over n (share_of m) s) (sum_over n (share_of m') s)
+        sum_over-combined n (share_of m) (share_of m') m'.den m.den s
+        ∙ gap_listed m.den m'.den (q.game.worth s) (sum_over n (share_of m) s) (sum_over n (share_of m') s)
         (excess_of n m found.0) (excess_of n m' found.0) (pos (divisor q.measure s)) found.2.0 found.2.1
-        (past.same m m' den den' r r' found.0 (omega (arith, found.1)))
+        (past.same m m' r r' found.0 (omega (arith, found.1)))
 
-gap_whole : (q : Stage) (m m' : List ℤ) (den den' : ℤ) → Reads q m den → Reads q m' den'
-    → sum_over q.game.players (gap m den m' den') (grand_coalition q.game.players) ≡ pos 0
-gap_whole q m m' den den' r r' =
-    sum_over-combined q.game.players (share_of m) (share_of m') den' den (grand_coalition q.game.players)
-    ∙ gap_equal den den' (q.game.worth (grand_coalition q.game.players))
+gap_whole : (q : Stage) (m m' : RowMultipliers) → Reads q m → Reads q m'
+    → sum_over q.game.players (gap m m') (grand_coalition q.game.players) ≡ pos 0
+gap_whole q m m' r r' =
+    sum_over-combined q.game.players (share_of m) (share_of m') m'.den m.den (grand_coalition q.game.players)
+    ∙ gap_equal m.den m'.den (q.game.worth (grand_coalition q.game.players))
     (sum_over q.game.players (share_of m) (grand_coalition q.game.players))
     (sum_over q.game.players (share_of m') (grand_coalition q.game.players))
     (sum_over-grand_coalition q.game.players (share_of m) ∙ r.whole)
@@ -371,53 +378,54 @@ enough_inside d dt v x xt e f h pd pt same value low =
     ))
 
 -- where the gap to the stage's own multipliers is nothing
-inside_low : (q : Stage) (t : StageAnswer) (m : List ℤ) (den : ℤ) → Answers q t → Reads (after q t) m den → (s : ℕ)
-    → IsTrue (t.outside s) → sum_over q.game.players (gap m den t.multipliers t.den) s ≡ pos 0
-    → (den *ℤ q.game.worth s)
+inside_low : (q : Stage) (t : StageAnswer) (m : RowMultipliers) → Answers q t → Reads (after q t) m → (s : ℕ)
+    → IsTrue (t.outside s) → sum_over q.game.players (gap m t.multipliers) s ≡ pos 0
+    → (m.den *ℤ q.game.worth s)
     ≤ℤ reached q.measure q.game.players (share_of m) (excess_of q.game.players m) s (length q.front)
-inside_low q t m den holds r s o zero_gap =
-    let own = reading_of q t.outside t.multipliers t.den holds.optimal.1 in
-    enough_inside den t.den (q.game.worth s) (sum_over q.game.players (share_of m) s)
+inside_low q t m holds r s o zero_gap =
+    let own = reading_of q t.outside t.multipliers holds.optimal.1 in
+    enough_inside m.den t.multipliers.den (q.game.worth s) (sum_over q.game.players (share_of m) s)
     (sum_over q.game.players (share_of t.multipliers) s) (excess_of q.game.players m (length q.front))
     (excess_of q.game.players t.multipliers (length q.front)) (pos (divisor q.measure s)) r.positive own.positive
-    (sym (sum_over-combined q.game.players (share_of m) (share_of t.multipliers) t.den den s) ∙ zero_gap)
-    (one_excess q t m t.multipliers den t.den holds r (settles_own_level q t holds))
+    (sym (sum_over-combined q.game.players (share_of m) (share_of t.multipliers) t.multipliers.den m.den s)
+    ∙ zero_gap)
+    (one_excess q t m t.multipliers holds r (settles_own_level q t holds))
     (own.outer s o)
 
-pub outside_low : (q : Stage) (t : StageAnswer) (ts : List StageAnswer) (m : List ℤ) (den : ℤ) → Past q
-    → Answers q t → IsChain (after q t) ts → Reads (behind (after q t) (levels_of ts)) m den
+pub outside_low : (q : Stage) (t : StageAnswer) (ts : List StageAnswer) (m : RowMultipliers) → Past q → Answers q t
+    → IsChain (after q t) ts → Reads (behind (after q t) (levels_of ts)) m
     → IsAllFixed Span q.game.players ((q.front ++ t.level ∷ []) ++ levels_of ts) → (s : ℕ) → IsTrue (t.outside s)
-    → (den *ℤ q.game.worth s)
+    → (m.den *ℤ q.game.worth s)
     ≤ℤ reached q.measure q.game.players (share_of m) (excess_of q.game.players m) s (length q.front)
-outside_low q t [] m den past holds chain r fixed s o =
+outside_low q t [] m past holds chain r fixed s o =
     let next : Stage = after q t in
-    let near = restrict next [] m den r in
+    let near = restrict next [] m r in
     let own = settles_own_level q t holds in
     let settled =
-    gap_settled next m t.multipliers den t.den
+    gap_settled next m t.multipliers
     (past_more q t past holds) near own in
-    let whole = gap_whole next m t.multipliers den t.den near own in
+    let whole = gap_whole next m t.multipliers near own in
     let zeros =
-    all_same q.game.players (gap m den t.multipliers t.den) next.front settled whole
+    all_same q.game.players (gap m t.multipliers) next.front settled whole
     (subst (IsAllFixed Span q.game.players) (append-nil next.front) fixed) in
-    inside_low q t m den holds near s o
-    (sum_below-zero q.game.players (λ i. if has_player s i then gap m den t.multipliers t.den i else pos 0)
-    (λ i h. zero_either (has_player s i) (gap m den t.multipliers t.den i) (zeros i h)))
-outside_low q t (t' ∷ ts) m den past holds chain r fixed s o =
+    inside_low q t m holds near s o
+    (sum_below-zero q.game.players (λ i. if has_player s i then gap m t.multipliers i else pos 0)
+    (λ i h. zero_either (has_player s i) (gap m t.multipliers i) (zeros i h)))
+outside_low q t (t' ∷ ts) m past holds chain r fixed s o =
     let next : Stage = after q t in
-    let near = restrict next (t'.level ∷ levels_of ts) m den r in
+    let near = restrict next (t'.level ∷ levels_of ts) m r in
     let own = settles_own_level q t holds in
     let past' = past_more q t past holds in
     let shift : (next.front ++ t'.level ∷ []) ++ levels_of ts ≡ next.front ++ t'.level ∷ levels_of ts =
     append_assoc next.front (t'.level ∷ []) (levels_of ts) in
-    let r' = subst (λ ls. Reads (with_front q ls) m den) (sym shift) r in
+    let r' = subst (λ ls. Reads (with_front q ls) m) (sym shift) r in
     let fixed' = subst (IsAllFixed Span q.game.players) (sym shift) fixed in
     elim (true_or_false (t'.outside s)) [
       | inl still ↦
-          let ih = outside_low next t' ts m den past' chain.0 chain.1 r' fixed' s still in
+          let ih = outside_low next t' ts m past' chain.0 chain.1 r' fixed' s still in
           let low =
-          optimum_falls q t t' m den holds chain.0
-          (restrict (after next t') (levels_of ts) m den r') in
+          optimum_falls q t t' m holds chain.0
+          (restrict (after next t') (levels_of ts) m r') in
           let d : ℤ = pos (divisor q.measure s) in
           let here = ap (λ (k : ℕ). excess_of q.game.players m k *ℤ d) (length-append q.front (t.level ∷ [])) in
           let less =
@@ -434,19 +442,19 @@ outside_low q t (t' ∷ ts) m den past holds chain r fixed s o =
           )
       | inr gone ↦
           let was = (holds.decides s).0 o in
-          let settled = gap_settled next m t.multipliers den t.den past' near own in
-          let whole = gap_whole next m t.multipliers den t.den near own in
-          inside_low q t m den holds near s o
-          (inside_same q.game.players (gap m den t.multipliers t.den) next.front settled whole s was.0 was.1
+          let settled = gap_settled next m t.multipliers past' near own in
+          let whole = gap_whole next m t.multipliers near own in
+          inside_low q t m holds near s o
+          (inside_same q.game.players (gap m t.multipliers) next.front settled whole s was.0 was.1
           (λ out. false≢true (sym gone ∙ (chain.0.decides s).1 out)))
     ]
 
 -- ---- the same, behind any further levels
 
-pub excess_optimum : (q : Stage) (t : StageAnswer) (rest : List Level) (m : List ℤ) (den : ℤ) → Answers q t
-    → Reads (behind (after q t) rest) m den
-    → excess_of q.game.players m (length q.front) *ℤ t.den ≡ excess_of q.game.players t.multipliers (length q.front)
-    *ℤ den
-excess_optimum q t rest m den holds r =
-    one_excess q t m t.multipliers den t.den holds
-    (restrict (after q t) rest m den r) (settles_own_level q t holds)
+pub excess_optimum : (q : Stage) (t : StageAnswer) (rest : List Level) (m : RowMultipliers) → Answers q t
+    → Reads (behind (after q t) rest) m
+    → excess_of q.game.players m (length q.front) *ℤ t.multipliers.den
+    ≡ excess_of q.game.players t.multipliers (length q.front) *ℤ m.den
+excess_optimum q t rest m holds r =
+    one_excess q t m t.multipliers holds
+    (restrict (after q t) rest m r) (settles_own_level q t holds)

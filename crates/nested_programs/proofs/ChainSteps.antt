@@ -7,7 +7,7 @@ use Rattle.simplex.specs.declared.multipliers.Multipliers.{Multipliers}
 use Rattle.nested_programs.specs.Stage.{Stage, with_front, behind}
 use Rattle.nested_programs.specs.Reading.{excess_of}
 use Rattle.nested_programs.specs.Chain.{StageAnswer, Answers, IsChain, levels_of, last_of, after}
-use Rattle.nested_programs.specs.Stages.{OwnExcesses, AreLast}
+use Rattle.nested_programs.specs.Stages.{rows_of, OwnExcesses, AreLast}
 
 -- a stage that holds behind the levels of a chain
 pub chain_more : (q : Stage) (ts : List StageAnswer) (t : StageAnswer) → IsChain q ts
@@ -30,7 +30,7 @@ levels_count (t ∷ ts) = let ih = levels_count ts in omega (arith, ih)
 
 abbrev OwnExcess : Game → ℕ → StageAnswer → Type 0
 OwnExcess g k t =
-    (t.level.excess_num *ℤ t.den ≡ excess_of g.players t.multipliers k *ℤ t.level.excess_den)
+    (t.level.excess_num *ℤ t.multipliers.den ≡ excess_of g.players t.multipliers k *ℤ t.level.excess_den)
     × (pos 1 ≤ℤ t.level.excess_den)
 
 pub own_more : (g : Game) (k : ℕ) (ts : List StageAnswer) (t : StageAnswer) → OwnExcesses g k ts
@@ -49,11 +49,7 @@ last_behind u [] t = refl
 last_behind u (v ∷ ts) t = last_behind v ts t
 
 -- the last stage is the new one
-pub last_more : (ts : List StageAnswer) (t : StageAnswer) (m : Multipliers) → t.multipliers ≡ m.num.items
-    → t.den ≡ m.den
+pub last_more : (ts : List StageAnswer) (t : StageAnswer) (m : Multipliers) → t.multipliers ≡ rows_of m
     → AreLast (ts ++ t ∷ []) (Some m)
-last_more [] t m e h = (e, h)
-last_more (u ∷ ts) t m e h = (
-  ap (λ (s : StageAnswer). s.multipliers) (last_behind u ts t) ∙ e,
-  ap (λ (s : StageAnswer). s.den) (last_behind u ts t) ∙ h,
-)
+last_more [] t m e = e
+last_more (u ∷ ts) t m e = ap (λ (s : StageAnswer). s.multipliers) (last_behind u ts t) ∙ e

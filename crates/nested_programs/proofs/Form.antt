@@ -165,7 +165,7 @@ level_outside q t holds =
     (λ c. IsOutside Span q.game.players q.front c.0) t.level.coalitions
     (λ c h. (holds.decides c.0).0
     (outer_test q t.outside c.0
-    (tight_optimal (program_of q t.outside) t.weights t.weight_den t.multipliers t.den
+    (tight_optimal (program_of q t.outside) t.weights t.weight_den t.multipliers.num t.multipliers.den
     holds.optimal (outer_id q.game.players q.front c.0) h.1).0))
     holds.follows.coalitions
 

@@ -1,5 +1,5 @@
 -- The levels of all stages certify shares that are the multipliers of the last stage.
-use Rattle.std.proofs.Common.{List, [], ◌∷◌, ℤ, Some, sym, subst}
+use Rattle.std.proofs.Common.{List, [], ◌∷◌, Some, sym, subst}
 use Rattle.definitions.specs.Measures.{IsMeasurable}
 use Rattle.definitions.specs.Games.{Allocation}
 use Rattle.definitions.specs.Certificates.{IsAllFixed, Certifies}
@@ -11,6 +11,7 @@ use Rattle.nested_programs.specs.Chain.{StageAnswer, levels_of, IsChain, last_of
 use Rattle.nested_programs.specs.Stages.{OwnExcesses, AreLast, AreDone}
 use Rattle.nested_programs.proofs.Certify.{last_reads, chain_certified}
 use Rattle.nested_programs.proofs.OwnExcesses.{have_excesses}
+use Rattle.nested_programs.specs.Reading.{RowMultipliers}
 
 chain_end : (q : Stage) (ts : List StageAnswer) (m : Multipliers) (x : Allocation)
     → IsMeasurable q.measure q.game.players → IsChain (with_front q []) ts → OwnExcesses q.game 0 ts
@@ -18,11 +19,9 @@ chain_end : (q : Stage) (ts : List StageAnswer) (m : Multipliers) (x : Allocatio
     → IsReadFrom q.game.players m.num.items m.den x → Certifies Span q.family q.measure q.game x (levels_of ts)
 chain_end q [] m x has chain own last fixed read = absurd last
 chain_end q (t ∷ ts) m x has chain own last fixed read =
-    let read' =
-    subst (λ (ms : List ℤ). IsReadFrom q.game.players ms (last_of t ts).den x) (sym last.0)
-    (subst (λ (d : ℤ). IsReadFrom q.game.players m.num.items d x) (sym last.1) read) in
-    chain_certified q t ts x has chain fixed read'
-    (have_excesses (with_front q []) (t ∷ ts) (last_of t ts).multipliers (last_of t ts).den chain
+    chain_certified q t ts x has chain fixed
+    (subst (λ (ms : RowMultipliers). IsReadFrom q.game.players ms.num ms.den x) (sym last) read)
+    (have_excesses (with_front q []) (t ∷ ts) (last_of t ts).multipliers chain
     (last_reads (with_front q []) t ts chain.0 chain.1) own)
 
 pub last_certifies : (q : Stage) (m : Multipliers) (x : Allocation) → IsMeasurable q.measure q.game.players

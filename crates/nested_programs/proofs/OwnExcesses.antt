@@ -5,7 +5,7 @@ use Rattle.std.proofs.lemmas.List.{append_assoc, length-append}
 use Rattle.definitions.proofs.Ring.{linear, mul_left_commℤ, mul-cancelℤ}
 use lib.IntN.{*ℤ_comm}
 use Rattle.nested_programs.specs.Stage.{Stage, with_front, behind}
-use Rattle.nested_programs.specs.Reading.{excess_of}
+use Rattle.nested_programs.specs.Reading.{RowMultipliers, excess_of}
 use Rattle.nested_programs.specs.Chain.{StageAnswer, levels_of, IsChain, HaveExcesses, after}
 use Rattle.nested_programs.specs.Stages.{OwnExcesses}
 use Rattle.nested_programs.proofs.Advance.{Reads}
@@ -20,19 +20,20 @@ common_value a b c d e f one h k =
     outer_swapped : (x y z : ℤ) → x *ℤ (y *ℤ z) ≡ z *ℤ (y *ℤ x)
     outer_swapped x y z = ap (λ u. x *ℤ u) (*ℤ_comm y z) ∙ mul_left_commℤ x z y ∙ ap (λ u. z *ℤ u) (*ℤ_comm x y)
 
-pub have_excesses : (q : Stage) (ts : List StageAnswer) (m : List ℤ) (den : ℤ) → IsChain q ts
-    → Reads (behind q (levels_of ts)) m den → OwnExcesses q.game (length q.front) ts
-    → HaveExcesses q.game m den (length q.front) (levels_of ts)
-have_excesses q [] m den chain r own = tt
-have_excesses q (t ∷ ts) m den chain r own =
+pub have_excesses : (q : Stage) (ts : List StageAnswer) (m : RowMultipliers) → IsChain q ts
+    → Reads (behind q (levels_of ts)) m → OwnExcesses q.game (length q.front) ts
+    → HaveExcesses q.game m (length q.front) (levels_of ts)
+have_excesses q [] m chain r own = tt
+have_excesses q (t ∷ ts) m chain r own =
     let r' =
-    subst (λ ls. Reads (with_front q ls) m den) (sym (append_assoc q.front (t.level ∷ []) (levels_of ts))) r in
+    subst (λ ls. Reads (with_front q ls) m) (sym (append_assoc q.front (t.level ∷ []) (levels_of ts))) r in
     let rest =
-    have_excesses (after q t) ts m den chain.1 r'
+    have_excesses (after q t) ts m chain.1 r'
     (subst (λ (k : ℕ). OwnExcesses q.game k ts) (sym (length-append q.front (t.level ∷ []))) own.2) in (
-      common_value t.level.excess_num t.level.excess_den den t.den (excess_of q.game.players m (length q.front))
+      common_value t.level.excess_num t.level.excess_den m.den t.multipliers.den
+          (excess_of q.game.players m (length q.front))
           (excess_of q.game.players t.multipliers (length q.front)) chain.0.optimal.1.0 own.0
-          (excess_optimum q t (levels_of ts) m den chain.0 r'),
+          (excess_optimum q t (levels_of ts) m chain.0 r'),
       own.1,
-      subst (λ (k : ℕ). HaveExcesses q.game m den k (levels_of ts)) (length-append q.front (t.level ∷ [])) rest,
+      subst (λ (k : ℕ). HaveExcesses q.game m k (levels_of ts)) (length-append q.front (t.level ∷ [])) rest,
     )

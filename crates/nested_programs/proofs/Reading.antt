@@ -20,7 +20,7 @@ use Rattle.definitions.specs.declared.Family.TheVariants.{Imputations, Preimputa
 use Rattle.separation.specs.Stage.{Column, signed, plus_entry, earlier_of, doubled, settled_columns}
 use Rattle.separation.specs.Stage.{further_column, no_column, column, is_imputations, is_further}
 use Rattle.nested_programs.specs.Stage.{Stage, program_of}
-use Rattle.nested_programs.specs.Reading.{reached, IsReading, share_of, excess_of}
+use Rattle.nested_programs.specs.Reading.{RowMultipliers, reached, IsReading, share_of, excess_of}
 use Rattle.definitions.proofs.Cases.{less_same_or_greater, true_or_false, and_left, and_right, and_both}
 use Rattle.separation.proofs.Valued.{signed_sum}
 use Rattle.definitions.proofs.Alls.{all_join, all_weaken, all_with}
@@ -62,11 +62,11 @@ level_sum n (suc j) row e d = elim (less_same_or_greater row j) [
 abbrev pub plus_value : Measure → ℕ → ℕ → (ℕ → ℤ) → (ℕ → ℤ) → ℕ → ℕ → ℤ
 plus_value measure n j x e mask row = sum_over n x mask +ℤ level_value j e row (pos (divisor measure mask))
 
-pub plus_value-is : (measure : Measure) (n j : ℕ) (m : List ℤ) (mask row : ℕ)
-    → sum_below (n + j) (λ r. slice_index_or m r (pos 0) *ℤ plus_entry measure n mask row r)
+pub plus_value-is : (measure : Measure) (n j : ℕ) (m : RowMultipliers) (mask row : ℕ)
+    → sum_below (n + j) (λ r. slice_index_or m.num r (pos 0) *ℤ plus_entry measure n mask row r)
     ≡ plus_value measure n j (share_of m) (excess_of n m) mask row
 plus_value-is measure n j m mask row =
-    let f : ℕ → ℤ = λ r. slice_index_or m r (pos 0) *ℤ plus_entry measure n mask row r in
+    let f : ℕ → ℤ = λ r. slice_index_or m.num r (pos 0) *ℤ plus_entry measure n mask row r in
     let split = sum_below-split n j f in
     let first = sum_below-same n f (λ i. if has_player mask i then share_of m i else pos 0) members in
     let second =
@@ -77,14 +77,14 @@ plus_value-is measure n j m mask row =
     omega (arith, linear, split, first, second, third)
   where
     members : (i : ℕ) → i < n
-        → slice_index_or m i (pos 0) *ℤ plus_entry measure n mask row i
+        → slice_index_or m.num i (pos 0) *ℤ plus_entry measure n mask row i
         ≡ (if has_player mask i then share_of m i else pos 0)
     members i h =
         let t : nat_lt i n ≡ true = grind (arith, nat_tests) in
-        rw t (times_bit (has_player mask i) (slice_index_or m i (pos 0)))
+        rw t (times_bit (has_player mask i) (slice_index_or m.num i (pos 0)))
 
     levels : (k : ℕ) → k < j
-        → slice_index_or m (n + k) (pos 0) *ℤ plus_entry measure n mask row (n + k)
+        → slice_index_or m.num (n + k) (pos 0) *ℤ plus_entry measure n mask row (n + k)
         ≡ excess_of n m k *ℤ (if nat_eq (n + k) (n + row) then pos (divisor measure mask) else pos 0)
     levels k h = let t : nat_lt (n + k) n ≡ false = grind (arith, nat_tests) in rw t refl
 
@@ -95,12 +95,13 @@ column_value measure n j x e c = signed c.minus (plus_value measure n j x e c.ma
 abbrev pub Meets : Measure → Game → ℕ → (ℕ → ℤ) → (ℕ → ℤ) → ℤ → Column → Type 0
 Meets measure g j x e den c = (den *ℤ signed c.minus (g.worth c.mask)) ≤ℤ column_value measure g.players j x e c
 
-pub column_value-is : (q : Stage) (outside : ℕ → Bool) (m : List ℤ) (id : ℕ) → value_of
-    (program_of q outside) m ((program_of q outside).entry id) ≡ column_value q.measure q.game.players
-    (length q.front + 1) (share_of m) (excess_of q.game.players m) (column q.game.players q.front id)
+pub column_value-is : (q : Stage) (outside : ℕ → Bool) (m : RowMultipliers) (id : ℕ)
+    → value_of (program_of q outside) m.num ((program_of q outside).entry id)
+    ≡ column_value q.measure q.game.players (length q.front + 1)
+    (share_of m) (excess_of q.game.players m) (column q.game.players q.front id)
 column_value-is q outside m id =
     let c : Column = column q.game.players q.front id in
-    signed_sum (q.game.players + (length q.front + 1)) (λ r. slice_index_or m r (pos 0))
+    signed_sum (q.game.players + (length q.front + 1)) (λ r. slice_index_or m.num r (pos 0))
     (plus_entry q.measure q.game.players c.mask c.row) c.minus
     ∙ ap (signed c.minus) (plus_value-is q.measure q.game.players (length q.front + 1) m c.mask c.row)
 
@@ -298,62 +299,63 @@ whole_value measure n k x e =
 
 -- ---- both directions
 
-pub reading_of : (q : Stage) (outside : ℕ → Bool) (m : List ℤ) (den : ℤ) → Bounds (program_of q outside) m den
-    → IsReading q outside (share_of m) (excess_of q.game.players m) den
-reading_of q outside m den b =
+pub reading_of : (q : Stage) (outside : ℕ → Bool) (m : RowMultipliers) → Bounds (program_of q outside) m.num m.den
+    → IsReading q outside (share_of m) (excess_of q.game.players m) m.den
+reading_of q outside m b =
     let n : ℕ = q.game.players in
     let x : ℕ → ℤ = share_of m in
     let e : ℕ → ℤ = excess_of n m in
     let len : ℕ = length (settled_columns n q.front) in
     let meets : (id : ℕ) → IsTrue ((program_of q outside).is_column id)
-    → Meets q.measure q.game (length q.front + 1) x e den (column n q.front id) = λ id is_so.
-    subst (λ (z : ℤ). (den *ℤ (program_of q outside).cost id) ≤ℤ z)
+    → Meets q.measure q.game (length q.front + 1) x e m.den (column n q.front id) = λ id is_so.
+    subst (λ (z : ℤ). (m.den *ℤ (program_of q outside).cost id) ≤ℤ z)
     (column_value-is q outside m id) (b.1 id is_so) in
-    let first : AllByRecursion (Meets q.measure q.game (length q.front + 1) x e den) (settled_columns n q.front) =
-    all_of (Meets q.measure q.game (length q.front + 1) x e den) no_column (settled_columns n q.front)
+    let first : AllByRecursion (Meets q.measure q.game (length q.front + 1) x e m.den) (settled_columns n q.front) =
+    all_of (Meets q.measure q.game (length q.front + 1) x e m.den) no_column (settled_columns n q.front)
     (λ k lt. let t : nat_lt k len ≡ true = grind (arith, nat_tests) in rw t at (meets k (rw t refl))) in
-    let further : FurtherMeet q outside x e den = λ i is_so.
+    let further : FurtherMeet q outside x e m.den = λ i is_so.
     (let t : nat_lt (len + i) len ≡ false = grind (arith, nat_tests) in
     let v : len + i - len ≡ i = omega arith in
     rw v at (rw t at (meets (len + i) (rw t (rw v is_so))))) in
     let fixes =
-    fixes_of q.measure q.game (length q.front + 1) x e den
+    fixes_of q.measure q.game (length q.front + 1) x e m.den
     ((grand_coalition n, length q.front + 1) ∷ earlier_of 0 q.front)
     first in
     record {
       positive = b.0;
       whole = sym (fixes.0 ∙ whole_value q.measure n (length q.front) x e);
-      settled = settled_of q.measure q.game q.front x e den fixes.1;
-      single = single_of q outside x e den further;
-      bound = bound_of q outside x e den further;
-      outer = outer_of q outside x e den further;
+      settled = settled_of q.measure q.game q.front x e m.den fixes.1;
+      single = single_of q outside x e m.den further;
+      bound = bound_of q outside x e m.den further;
+      outer = outer_of q outside x e m.den further;
     }
 
-pub of_reading : (q : Stage) (outside : ℕ → Bool) (m : List ℤ) (den : ℤ)
-    → IsReading q outside (share_of m) (excess_of q.game.players m) den → Bounds (program_of q outside) m den
-of_reading q outside m den r =
+pub of_reading : (q : Stage) (outside : ℕ → Bool) (m : RowMultipliers)
+    → IsReading q outside (share_of m) (excess_of q.game.players m) m.den
+    → Bounds (program_of q outside) m.num m.den
+of_reading q outside m r =
     let n : ℕ = q.game.players in
     let x : ℕ → ℤ = share_of m in
     let e : ℕ → ℤ = excess_of n m in
     let len : ℕ = length (settled_columns n q.front) in
-    let first : AllByRecursion (Meets q.measure q.game (length q.front + 1) x e den) (settled_columns n q.front) =
-    of_fixes q.measure q.game (length q.front + 1) x e den
+    let first : AllByRecursion (Meets q.measure q.game (length q.front + 1) x e m.den) (settled_columns n q.front) =
+    of_fixes q.measure q.game (length q.front + 1) x e m.den
     ((grand_coalition n, length q.front + 1) ∷ earlier_of 0 q.front) (
       sym (whole_value q.measure n (length q.front) x e ∙ r.whole),
-      of_settled q.measure q.game q.front x e den r.settled,
+      of_settled q.measure q.game q.front x e m.den r.settled,
     ) in
-    let further = further_meet q outside x e den r in
+    let further = further_meet q outside x e m.den r in
     let meets : (id : ℕ) → IsTrue ((program_of q outside).is_column id)
-    → Meets q.measure q.game (length q.front + 1) x e den (column n q.front id) =
+    → Meets q.measure q.game (length q.front + 1) x e m.den (column n q.front id) =
     λ id is_so. elim (true_or_false (nat_lt id len)) [
       | inl t ↦
           let lt : id < len = grind (arith, nat_tests) in
           rw t
-          (each_of (Meets q.measure q.game (length q.front + 1) x e den) no_column (settled_columns n q.front) first
+          (each_of (Meets q.measure q.game (length q.front + 1) x e m.den) no_column (settled_columns n q.front) first
           id lt)
       | inr t ↦ rw t (further (id - len) (rw t at is_so))
     ] in (
       r.positive,
-      λ id is_so. subst (λ (z : ℤ). (den *ℤ (program_of q outside).cost id) ≤ℤ z)
+      λ id is_so. subst (λ (z : ℤ). (m.den *ℤ (program_of q outside).cost id) ≤ℤ z)
           (sym (column_value-is q outside m id)) (meets id is_so),
     )

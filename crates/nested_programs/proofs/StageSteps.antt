@@ -19,7 +19,7 @@ use Rattle.nested_programs.specs.Answer.{HasMember, IsShort}
 use Rattle.nested_programs.specs.Reading.{excess_of}
 use Rattle.nested_programs.specs.Chain.{StageAnswer, Answers, after}
 use Rattle.nested_programs.specs.Numbers.{AreNumbers, IsLevelOf}
-use Rattle.nested_programs.specs.Stages.{IsBest, answer_of, IsBounded, AreStages, AreUnderway}
+use Rattle.nested_programs.specs.Stages.{IsBest, rows_of, answer_of, IsBounded, AreStages, AreUnderway}
 use Rattle.nested_programs.proofs.Start.{first_no_ray}
 use Rattle.nested_programs.proofs.Chain.{next_no_ray}
 use Rattle.nested_programs.proofs.Form.{level_some, level_outside}
@@ -117,10 +117,10 @@ kept_grown q old new best l is_best is spans more =
 
 stages_more : (q : Stage) (last : Option Multipliers) (t : StageAnswer) (m : Multipliers) → AreStages q last
     → Answers q t
-    → t.level.excess_num *ℤ t.den ≡ excess_of q.game.players t.multipliers (length q.front) *ℤ t.level.excess_den
-    → pos 1 ≤ℤ t.level.excess_den → t.multipliers ≡ m.num.items → t.den ≡ m.den
+    → t.level.excess_num *ℤ t.multipliers.den ≡ excess_of q.game.players t.multipliers (length q.front)
+    *ℤ t.level.excess_den → pos 1 ≤ℤ t.level.excess_den → t.multipliers ≡ rows_of m
     → q.game.players ≤ length m.num.items → AreStages (after q t) (Some m)
-stages_more q last t m h k own positive e d wide = record {
+stages_more q last t m h k own positive e wide = record {
   stages = h.stages ++ t ∷ [];
   levels_are = ap (λ ls. ls ++ t.level ∷ []) h.levels_are ∙ sym (levels_more h.stages t);
   chain =
@@ -128,11 +128,12 @@ stages_more q last t m h k own positive e d wide = record {
   own =
       own_more q.game 0 h.stages t h.own (
         subst
-            (λ (j : ℕ). t.level.excess_num *ℤ t.den ≡ excess_of q.game.players t.multipliers j *ℤ t.level.excess_den)
+            (λ (j : ℕ). t.level.excess_num *ℤ t.multipliers.den
+            ≡ excess_of q.game.players t.multipliers j *ℤ t.level.excess_den)
             count own,
         positive,
       );
-  last_is = last_more h.stages t m e d;
+  last_is = last_more h.stages t m e;
   wide = wide;
 }
   where
@@ -140,8 +141,7 @@ stages_more q last t m h k own positive e d wide = record {
     count = let a = ap length h.levels_are in let b = levels_count h.stages in omega (arith, a, b)
 
 coalitions_distinct : (q : Stage) (last : Option Multipliers) → AreStages q last
-    → LevelsForm q.game.players [] q.front
-    → IsDistinct nat_eq (map (λ c. c.0) (earlier_of 0 q.front))
+    → LevelsForm q.game.players [] q.front → IsDistinct nat_eq (map (λ c. c.0) (earlier_of 0 q.front))
 coalitions_distinct q last h form =
     subst (λ ls. IsDistinct nat_eq (map (λ c. c.0) (earlier_of 0 ls))) (sym h.levels_are)
     (chain_distinct q h.stages h.chain (subst (LevelsForm q.game.players []) h.levels_are form))
@@ -162,7 +162,7 @@ pub underway_more : (q : Stage) (old new : List ℕ) (last : Option Multipliers)
     → AreUnderway (behind q (l ∷ [])) new (Some best.multipliers)
 underway_more q old new last best l few room h is_best is low more = record {
   stages =
-      stages_more q last t best.multipliers h.stages k is.excess.same is.excess.reduced.positive refl refl wide;
+      stages_more q last t best.multipliers h.stages k is.excess.same is.excess.reduced.positive refl wide;
   form = form_more q.game.players q.front l h.form (next_formed q old last best l few room h is_best is);
   short =
       all_of (IsShort q.game.players) q.front l h.short (level_short q.game.players q.front best l is rows next);

@@ -23,7 +23,7 @@ use Rattle.definitions.specs.declared.Family.TheVariants.{Imputations, Preimputa
 use Rattle.definitions.specs.declared.Mode.TheVariants.{Span}
 use Rattle.separation.specs.Stage.{plus_entry, entry_of, settled_columns, column, is_imputations}
 use Rattle.nested_programs.specs.Stage.{Stage, with_front, program_of}
-use Rattle.nested_programs.specs.Reading.{share_of, excess_of}
+use Rattle.nested_programs.specs.Reading.{RowMultipliers, share_of, excess_of}
 use Rattle.nested_programs.specs.Chain.{outer_id}
 use Rattle.nested_programs.proofs.Reading.{of_reading}
 use Rattle.nested_programs.proofs.Advance.{column_outer}
@@ -155,8 +155,8 @@ pub first_bounds : (q : Stage) (outside : ℕ → Bool) (y : Allocation) → q.g
     → ((s : ℕ) → IsTrue (outside s) → (0 < s) × (s < 2 ^ q.game.players)) → InFamily q.family q.game y
     → (m : List ℤ) × Bounds (program_of (with_front q []) outside) m y.den
 first_bounds q outside y few within member = (
-  m,
-  of_reading (with_front q []) outside m y.den (record {
+  m.num,
+  of_reading (with_front q []) outside m (record {
     positive = (allocation q.family member).1;
     whole =
         sum_below-same n (share_of m) (share y) shares ∙ sym (sum_over-grand_coalition n (share y))
@@ -203,8 +203,8 @@ first_bounds q outside y few within member = (
     multiplier : ℕ → ℤ
     multiplier r = if nat_lt r n then share y r else top
 
-    m : List ℤ
-    m = tabulate 0 (n + 1) multiplier
+    m : RowMultipliers
+    m = record { num = tabulate 0 (n + 1) multiplier; den = y.den }
 
     shares : (i : ℕ) → i < n → share_of m i ≡ share y i
     shares i h =
@@ -284,7 +284,8 @@ row_sum a b c u v w h k l = omega (arith, linear, h, k, l, one-mulℤ a, one-mul
 pub pair_solves : (q : Stage) (outside : ℕ → Bool) (s : ℕ) → q.game.players ≤ 16
     → IsOutside Span q.game.players q.front s → IsTrue (outside s)
     → IsTrue (outside (grand_coalition q.game.players - s))
-    → Solves (program_of q outside) (pair_weights q.game.players q.front s) (both_divisors q.measure q.game.players s)
+    → Solves (program_of q outside) (pair_weights q.game.players q.front s)
+    (both_divisors q.measure q.game.players s)
 pair_solves q outside s few o here others =
     let n : ℕ = q.game.players in
     let small : s < 2 ^ n = omega (arith, o.0, o.1) in

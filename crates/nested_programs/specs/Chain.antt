@@ -24,7 +24,7 @@ use Rattle.definitions.specs.declared.Family.TheVariants.{Imputations}
 use Rattle.definitions.specs.declared.Mode.TheVariants.{Span}
 use Rattle.separation.specs.Stage.{settled_columns, entry_of, column}
 use Rattle.nested_programs.specs.Stage.{Stage, behind, program_of}
-use Rattle.nested_programs.specs.Reading.{excess_of}
+use Rattle.nested_programs.specs.Reading.{RowMultipliers, excess_of}
 
 -- the number of the column of player i alone, and that of an outside coalition
 abbrev pub single_id : ℕ → List Level → ℕ → ℕ
@@ -61,12 +61,11 @@ pub record StageAnswer : Type 0 where
   pub outside : ℕ → Bool
   pub weights : List (ℕ × ℤ)
   pub weight_den : ℤ
-  pub multipliers : List ℤ
-  pub den : ℤ
+  pub multipliers : RowMultipliers
 
 pub record Answers (q : Stage) (t : StageAnswer) : Type 0 where
   pub decides : (s : ℕ) → Decides (t.outside s) (IsOutside Span q.game.players q.front s)
-  pub optimal : IsOptimal (program_of q t.outside) t.weights t.weight_den t.multipliers t.den
+  pub optimal : IsOptimal (program_of q t.outside) t.weights t.weight_den t.multipliers.num t.multipliers.den
   pub follows : Follows q t.weights t.level
 
 -- the stage behind the level of an answer
@@ -88,8 +87,8 @@ last_of t [] = t
 last_of t (t' ∷ ts) = last_of t' ts
 
 -- the levels' excesses are the multipliers of the level rows, from row k on, as fractions
-abbrev pub HaveExcesses : Game → List ℤ → ℤ → ℕ → List Level → Type 0
-HaveExcesses g m den k [] = Unit {0}
-HaveExcesses g m den k (l ∷ levels) =
-    (l.excess_num *ℤ den ≡ excess_of g.players m k *ℤ l.excess_den) × (pos 1 ≤ℤ l.excess_den)
-    × HaveExcesses g m den (k + 1) levels
+abbrev pub HaveExcesses : Game → RowMultipliers → ℕ → List Level → Type 0
+HaveExcesses g m k [] = Unit {0}
+HaveExcesses g m k (l ∷ levels) =
+    (l.excess_num *ℤ m.den ≡ excess_of g.players m k *ℤ l.excess_den) × (pos 1 ≤ℤ l.excess_den)
+    × HaveExcesses g m (k + 1) levels

@@ -3,6 +3,7 @@
 --
 -- reached what the members of a coalition get, and the excess of a level times the coalition's divisor
 --   IsReading             shares and measured excesses of levels, over a denominator, that meet every column
+--   RowMultipliers        multipliers of the rows, over a denominator
 --   share_of, excess_of   the multipliers of a player's row and of a level's row
 --   nowhere               no coalition is outside
 use Rattle.std.specs.Prelude.{◌≡◌, ℕ, ◌+◌, ◌<◌, Bool, false, IsTrue, List, length, ℤ}
@@ -33,11 +34,16 @@ pub record IsReading (q : Stage) (outside : ℕ → Bool) (x e : ℕ → ℤ) (d
   pub outer : (s : ℕ) → IsTrue (outside s)
       → (den *ℤ q.game.worth s) ≤ℤ reached q.measure q.game.players x e s (length q.front)
 
-abbrev pub share_of : List ℤ → ℕ → ℤ
-share_of m i = slice_index_or m i (pos 0)
+-- multipliers of the rows of a stage program, over a denominator
+pub record RowMultipliers : Type 0 where
+  pub num : List ℤ
+  pub den : ℤ
 
-abbrev pub excess_of : ℕ → List ℤ → ℕ → ℤ
-excess_of n m k = slice_index_or m (n + k) (pos 0)
+abbrev pub share_of : RowMultipliers → ℕ → ℤ
+share_of m i = slice_index_or m.num i (pos 0)
+
+abbrev pub excess_of : ℕ → RowMultipliers → ℕ → ℤ
+excess_of n m k = slice_index_or m.num (n + k) (pos 0)
 
 -- no coalition is outside
 abbrev pub nowhere : ℕ → Bool

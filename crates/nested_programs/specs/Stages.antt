@@ -3,6 +3,7 @@
 --
 --   IsLeft        some player alone isn't spanned by what the levels fix
 --   IsBest        an optimum of a stage
+--   rows_of       the multipliers as numbers
 --   answer_of     the answer that an optimum and its level are
 --   OwnExcesses   the excess of each level is the optimum of its stage
 --   AreLast       the last stage has these multipliers
@@ -24,7 +25,7 @@ use Rattle.simplex.specs.Answer.{IsAnswer}
 use Rattle.simplex.specs.declared.answer.Optimal.{Optimal}
 use Rattle.simplex.specs.declared.multipliers.Multipliers.{Multipliers}
 use Rattle.kohlberg.specs.Extends.{SpansFixed}
-use Rattle.nested_programs.specs.Reading.{excess_of}
+use Rattle.nested_programs.specs.Reading.{RowMultipliers, excess_of}
 use Rattle.nested_programs.specs.Stage.{Stage, with_front, program_of}
 use Rattle.nested_programs.specs.Chain.{StageAnswer, IsChain, levels_of, last_of}
 use Rattle.kohlberg.specs.Solved.{IsLowest}
@@ -43,6 +44,10 @@ pub record IsBest (q : Stage) (best : Optimal) : Type 0 where
   pub answer : IsAnswer (program_of q outside) best.weights.items best.weight_den best.multipliers.num.items
       best.multipliers.den
 
+-- the multipliers as numbers
+abbrev pub rows_of : Multipliers → RowMultipliers
+rows_of m = record { num = m.num.items; den = m.den }
+
 -- the answer that an optimum and its level are
 abbrev pub answer_of : Level → (ℕ → Bool) → Optimal → StageAnswer
 answer_of l outside best = record {
@@ -50,15 +55,14 @@ answer_of l outside best = record {
   outside = outside;
   weights = best.weights.items;
   weight_den = best.weight_den;
-  multipliers = best.multipliers.num.items;
-  den = best.multipliers.den;
+  multipliers = rows_of best.multipliers;
 }
 
 -- the excess of each level is the optimum of its stage
 abbrev pub OwnExcesses : Game → ℕ → List StageAnswer → Type 0
 OwnExcesses g k [] = Unit {0}
 OwnExcesses g k (t ∷ ts) =
-    (t.level.excess_num *ℤ t.den ≡ excess_of g.players t.multipliers k *ℤ t.level.excess_den)
+    (t.level.excess_num *ℤ t.multipliers.den ≡ excess_of g.players t.multipliers k *ℤ t.level.excess_den)
     × (pos 1 ≤ℤ t.level.excess_den) × OwnExcesses g (k + 1) ts
 
 -- the last of the stages has these multipliers; without stages there are none
@@ -66,7 +70,7 @@ abbrev pub AreLast : List StageAnswer → Option Multipliers → Type 0
 AreLast [] None = Unit {0}
 AreLast [] (Some m) = ⊥
 AreLast (t ∷ ts) None = ⊥
-AreLast (t ∷ ts) (Some m) = ((last_of t ts).multipliers ≡ m.num.items) × ((last_of t ts).den ≡ m.den)
+AreLast (t ∷ ts) (Some m) = (last_of t ts).multipliers ≡ rows_of m
 
 -- multipliers for the players, at least; without stages there are none
 abbrev pub AreWide : ℕ → List Level → Option Multipliers → Type 0
