@@ -22,11 +22,11 @@ use Rattle.separation.specs.Stage.{no_column, column, is_imputations, is_further
 use Rattle.nested_programs.specs.Stage.{Stage, behind, program_of}
 use Rattle.nested_programs.specs.Reading.{RowMultipliers, reached, IsReading, share_of, excess_of, nowhere}
 use Rattle.nested_programs.specs.Chain.{single_id, outer_id, HasWeight, StageAnswer, Answers, after}
-use Rattle.nested_programs.proofs.Reading.{plus_value, column_value, column_value-is, Fixes, each_of, within_row}
+use Rattle.nested_programs.proofs.Reading.{plus_value, column_value, column_value-is, Fixes, within_row}
 use Rattle.nested_programs.proofs.Reading.{imputations_of, single_value, whole_value, of_settled, reading_of}
 use Rattle.nested_programs.proofs.Slack.{rise, tight_optimal, tight_value}
 use Rattle.definitions.proofs.Cases.{or_cases, or_left, or_right, true_or_false, and_left, and_right}
-use Rattle.definitions.proofs.Alls.{all_left, all_right, all_join}
+use Rattle.definitions.proofs.Alls.{all_at, all_left, all_right, all_join}
 use Rattle.definitions.proofs.Cancel.{gap_of}
 
 -- ---- the right side
@@ -370,8 +370,8 @@ tight_later q t m holds r id is_so weighs =
       | inl below ↦
           let lt : id < len = grind (arith, nat_tests) in
           rw below
-          (each_of (Tight q.measure q.game (length q.front + 1) x e m.den) no_column (settled_columns n q.front) first
-          id lt)
+          (all_at (Tight q.measure q.game (length q.front + 1) x e m.den) (settled_columns n q.front) id no_column lt
+          first)
       | inr past ↦
           let eq : len + (id - len) ≡ id = grind (arith, nat_tests) in
           rw past

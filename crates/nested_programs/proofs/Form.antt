@@ -19,11 +19,11 @@ use Rattle.definitions.proofs.Members.{has_player-singleton, has_player-singleto
 use Rattle.definitions.specs.declared.Mode.TheVariants.{Span}
 use Rattle.nested_programs.specs.Stage.{Stage, program_of}
 use Rattle.nested_programs.specs.Chain.{outer_id, single_id, HasWeight, StageAnswer, Answers}
-use Rattle.nested_programs.proofs.Reading.{each_of, earlier_rows}
+use Rattle.nested_programs.proofs.Reading.{earlier_rows}
 use Rattle.nested_programs.proofs.Slack.{Columns, tight_optimal}
 use Rattle.nested_programs.proofs.Advance.{BoundComes, column_outer, column_single}
 use Rattle.definitions.proofs.Cases.{same_or_other, true_or_false}
-use Rattle.definitions.proofs.Alls.{all_weaken}
+use Rattle.definitions.proofs.Alls.{all_at, all_weaken}
 
 pub level_balanced : (q : Stage) (t : StageAnswer) → Answers q t → (i : ℕ) → i < q.game.players
     → weight_at t.level.coalitions i +ℤ weight_at t.level.earlier i +ℤ number_at t.level.bounds i ≡ t.level.total
@@ -65,7 +65,7 @@ kind_of measure n front id = elim (true_or_false (nat_lt id len)) [
       let lt : id < len = grind (arith, nat_tests) in
       inr
       (rw below
-      (each_of (λ c. entry_of measure n c (n + k) ≡ pos 0) no_column (settled_columns n front) no_last_entry id lt))
+      (all_at (λ c. entry_of measure n c (n + k) ≡ pos 0) (settled_columns n front) id no_column lt no_last_entry))
   | inr past ↦ elim (true_or_false (nat_lt (id - len) n)) [
     | inl below ↦ inr (rw past (rw below (other_row measure n k (singleton (id - len)) (k + 1) (λ e. omega arith))))
     | inr more ↦ elim (true_or_false (nat_lt (id - len) (n + n))) [

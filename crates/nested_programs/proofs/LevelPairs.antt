@@ -51,7 +51,7 @@ any_outer first (w ∷ ws) s (inr more) = elim (true_or_false (nat_le first w.0)
 
 -- ---- the bounds
 
-all_kept : (P : ℕ × ℤ → Type 0) (key : ℕ) (z : ℤ) → (z ≢ pos 0 → P (key, z)) → AllByRecursion P (kept key z)
+pub all_kept : (P : ℕ × ℤ → Type 0) (key : ℕ) (z : ℤ) → (z ≢ pos 0 → P (key, z)) → AllByRecursion P (kept key z)
 all_kept P key z h = elim (true_or_false (int_eq z (pos 0))) [
   | inl none ↦ rw none tt
   | inr some ↦ rw some (h (λ e. false≢true (sym some ∙ (Decides-int_eq z (pos 0)).1 e)), tt)

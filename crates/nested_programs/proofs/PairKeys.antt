@@ -6,7 +6,8 @@ use Rattle.std.specs.List.{AllByRecursion, IsDistinct}
 use Rattle.definitions.specs.Certificates.{Ascends}
 use Rattle.nested_programs.specs.Numbers.{outer_pairs, net, kept, earlier_pairs, bound_pairs}
 use Rattle.nested_programs.proofs.NumberedColumns.{other_key}
-use Rattle.nested_programs.proofs.PlacedOrder.{kept_all, kept_apart, kept_ascends}
+use Rattle.nested_programs.proofs.PlacedOrder.{kept_apart, kept_ascends}
+use Rattle.nested_programs.proofs.LevelPairs.{all_outer, all_kept, all_bound}
 use Rattle.definitions.proofs.Alls.{all_join, all_weaken}
 use Rattle.definitions.proofs.Cases.{true_or_false}
 use Rattle.kohlberg.proofs.Placed.{Apart}
@@ -40,11 +41,11 @@ outer_apart first (w ∷ ws) h = elim (true_or_false (nat_le first w.0)) [
 
 pub outer_all : (P : ℕ × ℤ → Type 0) (first : ℕ) (ws : List (ℕ × ℤ)) → AllByRecursion (λ w. (s : ℕ) → P (s, w.1)) ws
     → AllByRecursion P (outer_pairs first ws)
-outer_all P first [] h = tt
-outer_all P first (w ∷ ws) h = elim (true_or_false (nat_le first w.0)) [
-  | inl t ↦ rw t (h.0 (w.0 - first), outer_all P first ws h.1)
-  | inr t ↦ rw t (outer_all P first ws h.1)
-]
+outer_all P first ws h =
+    all_outer P first ws
+    (all_weaken (λ w. (s : ℕ) → P (s, w.1)) (λ w. first ≤ w.0 → P (w.0 - first, w.1)) ws
+    (λ w each le. each (w.0 - first))
+    h)
 
 -- ---- the coalitions of the levels in front
 
@@ -53,7 +54,7 @@ pub earlier_all : (P : ℕ × ℤ → Type 0) (ws : List (ℕ × ℤ)) (id : ℕ
 earlier_all P ws id [] h = tt
 earlier_all P ws id (c ∷ cs) h =
     all_join P (kept c.0 (net ws id (id + 1))) (earlier_pairs ws (id + 2) cs)
-    (kept_all P c.0 (net ws id (id + 1)) (h.0 id (id + 1))) (earlier_all P ws (id + 2) cs h.1)
+    (all_kept P c.0 (net ws id (id + 1)) (λ some. h.0 id (id + 1))) (earlier_all P ws (id + 2) cs h.1)
 
 pub all_rows : (P : ℕ → Type 0) (k : ℕ) (cs : List (ℕ × ℤ)) → AllByRecursion (λ c. P c.0) cs
     → AllByRecursion (λ (c : ℕ × ℕ). P c.0) (map (λ (c : ℕ × ℤ). (c.0, k)) cs)
@@ -85,11 +86,7 @@ earlier_apart ws id (c ∷ cs) h =
 
 pub bound_all : (P : ℕ × ℤ → Type 0) (ws : List (ℕ × ℤ)) (first n i : ℕ) → ((k a b : ℕ) → k < i → P (k, net ws a b))
     → AllByRecursion P (bound_pairs ws first n i)
-bound_all P ws first n zero h = tt
-bound_all P ws first n (suc i) h =
-    all_join P (bound_pairs ws first n i) (kept i (net ws (first + i) (first + i + n)))
-    (bound_all P ws first n i (λ k a b lt. h k a b (omega (arith, lt))))
-    (kept_all P i (net ws (first + i) (first + i + n)) (h i (first + i) (first + i + n) (omega arith)))
+bound_all P ws first n i h = all_bound P ws first n i (λ k lt some. h k (first + k) (first + k + n) lt)
 
 pub bound_ascends : (ws : List (ℕ × ℤ)) (first n i : ℕ) → Ascends 0 (bound_pairs ws first n i)
 bound_ascends ws first n zero = tt

@@ -7,12 +7,6 @@ use Rattle.kohlberg.proofs.Placed.{Apart}
 use Rattle.nested_programs.specs.Numbers.{kept}
 use Rattle.nested_programs.proofs.FewEntries.{kept_cases}
 
-pub kept_all : (P : ℕ × ℤ → Type 0) (key : ℕ) (z : ℤ) → P (key, z) → AllByRecursion P (kept key z)
-kept_all P key z h = elim (kept_cases key z) [
-  | inl none ↦ subst (AllByRecursion P) (sym none) tt
-  | inr some ↦ subst (AllByRecursion P) (sym some.0) (h, tt)
-]
-
 pub kept_apart : (key : ℕ) (z : ℤ) (qs : List (ℕ × ℤ)) → AllByRecursion (λ p. p.0 ≢ key) qs → Apart qs
     → Apart (kept key z ++ qs)
 kept_apart key z qs new apart = elim (kept_cases key z) [

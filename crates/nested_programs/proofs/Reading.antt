@@ -23,7 +23,7 @@ use Rattle.nested_programs.specs.Stage.{Stage, program_of}
 use Rattle.nested_programs.specs.Reading.{RowMultipliers, reached, IsReading, share_of, excess_of}
 use Rattle.definitions.proofs.Cases.{less_same_or_greater, true_or_false, and_left, and_right, and_both}
 use Rattle.separation.proofs.Valued.{signed_sum}
-use Rattle.definitions.proofs.Alls.{all_join, all_weaken, all_with}
+use Rattle.definitions.proofs.Alls.{all_at, all_at_places, all_join, all_weaken, all_with}
 
 -- ---- the value of a column
 
@@ -106,17 +106,6 @@ column_value-is q outside m id =
     ∙ ap (signed c.minus) (plus_value-is q.measure q.game.players (length q.front + 1) m c.mask c.row)
 
 -- ---- the columns by kind
-
-pub all_of : {X : Type 0} (P : X → Type 0) (d : X) (xs : List X)
-    → ((k : ℕ) → k < length xs → P (slice_index_or xs k d)) → AllByRecursion P xs
-all_of P d [] h = tt
-all_of P d (x ∷ xs) h = (h 0 (omega arith), all_of P d xs (λ k lt. h (suc k) (omega arith)))
-
-pub each_of : {X : Type 0} (P : X → Type 0) (d : X) (xs : List X) → AllByRecursion P xs → (k : ℕ) → k < length xs
-    → P (slice_index_or xs k d)
-each_of P d [] h k lt = absurd (omega arith)
-each_of P d (x ∷ xs) h zero lt = h.0
-each_of P d (x ∷ xs) h (suc k) lt = each_of P d xs h.1 k (omega arith)
 
 abbrev pub Fixes : Measure → Game → ℕ → (ℕ → ℤ) → (ℕ → ℤ) → ℤ → ℕ × ℕ → Type 0
 Fixes measure g j x e den c = den *ℤ g.worth c.0 ≡ plus_value measure g.players j x e c.0 c.1
@@ -311,7 +300,7 @@ reading_of q outside m b =
     subst (λ (z : ℤ). (m.den *ℤ (program_of q outside).cost id) ≤ℤ z)
     (column_value-is q outside m id) (b.1 id is_so) in
     let first : AllByRecursion (Meets q.measure q.game (length q.front + 1) x e m.den) (settled_columns n q.front) =
-    all_of (Meets q.measure q.game (length q.front + 1) x e m.den) no_column (settled_columns n q.front)
+    all_at_places (Meets q.measure q.game (length q.front + 1) x e m.den) no_column (settled_columns n q.front)
     (λ k lt. let t : nat_lt k len ≡ true = grind (arith, nat_tests) in rw t at (meets k (rw t refl))) in
     let further : FurtherMeet q outside x e m.den = λ i is_so.
     (let t : nat_lt (len + i) len ≡ false = grind (arith, nat_tests) in
@@ -351,8 +340,8 @@ of_reading q outside m r =
       | inl t ↦
           let lt : id < len = grind (arith, nat_tests) in
           rw t
-          (each_of (Meets q.measure q.game (length q.front + 1) x e m.den) no_column (settled_columns n q.front) first
-          id lt)
+          (all_at (Meets q.measure q.game (length q.front + 1) x e m.den) (settled_columns n q.front) id no_column lt
+          first)
       | inr t ↦ rw t (further (id - len) (rw t at is_so))
     ] in (
       r.positive,

@@ -37,10 +37,10 @@ pub room_of : (n : ℕ) (kept : List ℕ) (o : Option ℕ) (b : Bool) → b ≡ 
 room_of n kept None b e t h = absurd (false≢true (sym e ∙ t))
 room_of n kept (Some i) b e t h = h
 
-pub all_of : (n : ℕ) (levels : List Level) (o : Option ℕ) (b : Bool) → b ≡ is_some o → b ≡ false
+pub all_fixed_at_end : (n : ℕ) (levels : List Level) (o : Option ℕ) (b : Bool) → b ≡ is_some o → b ≡ false
     → Unspanned n levels o → IsAllFixed Span n levels
-all_of n levels None b e t h = h
-all_of n levels (Some i) b e t h = absurd (false≢true (sym t ∙ e))
+all_fixed_at_end n levels None b e t h = h
+all_fixed_at_end n levels (Some i) b e t h = absurd (false≢true (sym t ∙ e))
 
 pub forms_few : (n : ℕ) (front levels : List Level) → LevelsForm n front levels
     → AllByRecursion (λ l. length l.coalitions ≤ 65536) levels

@@ -29,6 +29,7 @@ use Rattle.nested_programs.proofs.FewEntries.{level_short}
 use Rattle.nested_programs.proofs.Formed.{level_formed, form_more}
 use Rattle.nested_programs.proofs.DistinctCoalitions.{chain_distinct}
 use Rattle.definitions.proofs.Masks.{grand_coalition-within}
+use Rattle.definitions.proofs.Alls.{all_join}
 use Rattle.definitions.proofs.Cases.{or_left}
 use Rattle.kohlberg.specs.Solved.{IsLowest}
 
@@ -72,11 +73,6 @@ best_answers q best l is_best is = record {
 }
 
 -- ---- what is kept grows
-
-all_of : {X : Type 0} (P : X → Type 0) (xs : List X) (x : X) → AllByRecursion P xs → P x
-    → AllByRecursion P (xs ++ x ∷ [])
-all_of P [] x h p = (p, tt)
-all_of P (y ∷ ys) x h p = (h.0, all_of P ys x h.1 p)
 
 some_listed : (cs : List (ℕ × ℤ)) (l : Level) (P : ℕ → Type 0) → l.coalitions ≡ cs → 1 ≤ length cs
     → AllByRecursion (λ c. P c.0) cs → (s : ℕ) × IsTrue (is_listed (l ∷ []) s) × P s
@@ -165,8 +161,9 @@ underway_more q old new last best l few room h is_best is low more = record {
       stages_more q last t best.multipliers h.stages k is.excess.same is.excess.reduced.positive refl wide;
   form = form_more q.game.players q.front l h.form (next_formed q old last best l few room h is_best is);
   short =
-      all_of (IsShort q.game.players) q.front l h.short (level_short q.game.players q.front best l is rows next);
-  lowest = all_of IsLowest q.front l h.lowest low;
+      all_join (IsShort q.game.players) q.front (l ∷ []) h.short
+      (level_short q.game.players q.front best l is rows next, tt);
+  lowest = all_join IsLowest q.front (l ∷ []) h.lowest (low, tt);
   bounded = λ outside test. next_no_ray q t outside k test;
   spans = SpansFixed-more q.game.players old new q.front (l ∷ []) h.spans more;
   more =

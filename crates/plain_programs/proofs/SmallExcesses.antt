@@ -2,6 +2,7 @@
 use Rattle.std.proofs.Common.{◌≡◌, ℕ, zero, suc, ◌+◌, ◌-◌, ◌*◌, ◌^◌, ◌<◌, ◌≤◌, Bool, true}
 use Rattle.std.proofs.Common.{false, cond, length, All, ℤ, pos, ◌-ℤ◌, ◌*ℤ◌, ◌≤ℤ◌, unsigned_abs}
 use Rattle.std.proofs.Common.{arith, if◌then◌else◌, mul-le-mul, to_z, of_z}
+use Rattle.std.proofs.Math.Nat.{le_refl}
 use Rattle.std.proofs.lemmas.Int.{ints, unsigned_abs-mul}
 use Rattle.std.proofs.lemmas.List.Elements.{All-get_or}
 use mir.Syntax.{w128}
@@ -45,11 +46,8 @@ excess-smaller g x s worth positive few small =
     let product : unsigned_abs (x.den *ℤ g.worth s) ≤ 2 ^ 74 =
     omega (arith, unsigned_abs-mul x.den (g.worth s), mul-le-mul den low) in
     let shares = amount-small x s (2 ^ 74) small.small in
-    let all : unsigned_abs (amount x s) ≤ 2 ^ 78 = omega (arith, shares, mul-le-mul few (le_same (2 ^ 74 - 1))) in
+    let all : unsigned_abs (amount x s) ≤ 2 ^ 78 = omega (arith, shares, mul-le-mul few (le_refl (2 ^ 74 - 1))) in
     difference_small (x.den *ℤ g.worth s) (amount x s) product all
-  where
-    le_same : (k : ℕ) → k ≤ k
-    le_same k = omega arith
 
 -- a measured excess below its limit passes through 128 bits
 pub measured-fits : (measure : Measure) (e : ℤ) → unsigned_abs e < excess_limit measure

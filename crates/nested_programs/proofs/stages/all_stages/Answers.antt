@@ -9,7 +9,8 @@ use Rattle.nested_programs.specs.Stage.{stage_of, with_front}
 use Rattle.nested_programs.specs.Numbers.{IsLevelOf}
 use Rattle.nested_programs.specs.Stages.{IsBest, IsLeft, IsBounded, AreUnderway}
 use Rattle.nested_programs.proofs.StageSteps.{next_formed, underway_more, kept_grown}
-use Rattle.nested_programs.proofs.StageLoop.{underway_at_start, left_of, room_of, all_of, forms_few, new_only}
+use Rattle.nested_programs.proofs.StageLoop.{underway_at_start, left_of, room_of}
+use Rattle.nested_programs.proofs.StageLoop.{all_fixed_at_end, forms_few, new_only}
 use Rattle.nested_programs.proofs.StageLoop.{best_at, level_at, extends_at, within_at, done_where_fixed}
 use Rattle.nested_programs.proofs.stages.all_stages.Goals as goal
 use Rattle.kohlberg.proofs.SpanScan.{level_within}
@@ -148,5 +149,5 @@ returns g c =
     done_where_fixed (stage_of c.args.family c.args.measure game levels) c.loop-last.span.kept c.loop-last.last
     c.loop-last.invariant.2
     (subst (λ (k : ℕ). IsAllFixed Span k levels) n
-    (all_of c.players-n.result levels c.first_unspanned.result c.is_some.result c.is_some.ensures
+    (all_fixed_at_end c.players-n.result levels c.first_unspanned.result c.is_some.result c.is_some.ensures
     c.loop-last-test.false least))
