@@ -47,20 +47,20 @@ module _ (g : Game) (some : 1 ≤ g.players) where
       ∙ sum_over-grand_coalition g.players (share member)
       ∙ sum_below-same g.players (share member) gets share_is
       ∙ sum_below-first g.players (λ i. g.worth (singleton i)) rest some
-      ∙ whole (singles g) (g.worth (grand_coalition g.players))
+      ∙ rest_added (singles g) (g.worth (grand_coalition g.players))
     where
-      whole : (a w : ℤ) → a +ℤ (w -ℤ a) ≡ pos 1 *ℤ w
-      whole a w = omega (arith, linear, one-mulℤ w)
+      rest_added : (a w : ℤ) → a +ℤ (w -ℤ a) ≡ pos 1 *ℤ w
+      rest_added a w = omega (arith, linear, one-mulℤ w)
 
   rational : singles g ≤ℤ g.worth (grand_coalition g.players) → IsIndividuallyRational g member
   rational low i lt =
       rw (share_is i lt)
-      (enough (has_player (singleton 0) i) (g.worth (singleton i)) (singles g)
+      (at_least_alone (has_player (singleton 0) i) (g.worth (singleton i)) (singles g)
       (g.worth (grand_coalition g.players)) low)
     where
-      enough : (b : Bool) (a s w : ℤ) → s ≤ℤ w → (pos 1 *ℤ a) ≤ℤ (a +ℤ cond b (w -ℤ s) (pos 0))
-      enough true a s w h = omega (arith, linear, h, one-mulℤ a)
-      enough false a s w h = omega (arith, linear, one-mulℤ a)
+      at_least_alone : (b : Bool) (a s w : ℤ) → s ≤ℤ w → (pos 1 *ℤ a) ≤ℤ (a +ℤ cond b (w -ℤ s) (pos 0))
+      at_least_alone true a s w h = omega (arith, linear, h, one-mulℤ a)
+      at_least_alone false a s w h = omega (arith, linear, one-mulℤ a)
 
   pub imputation : singles g ≤ℤ g.worth (grand_coalition g.players) → HasMember Imputations g
   imputation low = (member, (allocates, efficient, rational low))

@@ -65,10 +65,10 @@ module _ (g : Game) (one : g.players ≡ 1) where
   efficient : IsEfficient g (whole_share g)
   efficient =
       ap (λ (n : ℕ). sum_over 1 (share (whole_share g)) (grand_coalition n)) one
-      ∙ sum_over-grand_coalition 1 (share (whole_share g)) ∙ whole (g.worth (grand_coalition g.players))
+      ∙ sum_over-grand_coalition 1 (share (whole_share g)) ∙ one_part (g.worth (grand_coalition g.players))
     where
-      whole : (w : ℤ) → pos 0 +ℤ w ≡ pos 1 *ℤ w
-      whole w = omega (arith, linear, one-mulℤ w)
+      one_part : (w : ℤ) → pos 0 +ℤ w ≡ pos 1 *ℤ w
+      one_part w = omega (arith, linear, one-mulℤ w)
 
   only_first : (i : ℕ) → i < g.players → i ≡ 0
   only_first i lt = omega (arith, lt, one)
@@ -76,11 +76,11 @@ module _ (g : Game) (one : g.players ≡ 1) where
   rational : IsIndividuallyRational g (whole_share g)
   rational i lt =
       rw (only_first i lt)
-      (enough (g.worth (singleton 0)) (g.worth (grand_coalition g.players))
+      (at_least_alone (g.worth (singleton 0)) (g.worth (grand_coalition g.players))
       (sym (ap (λ (n : ℕ). g.worth (grand_coalition n)) one)))
     where
-      enough : (a w : ℤ) → a ≡ w → (pos 1 *ℤ a) ≤ℤ w
-      enough a w e = omega (arith, linear, e, one-mulℤ a)
+      at_least_alone : (a w : ℤ) → a ≡ w → (pos 1 *ℤ a) ≤ℤ w
+      at_least_alone a w e = omega (arith, linear, e, one-mulℤ a)
 
   in_family : (family : Family) → InFamily family g (whole_share g)
   in_family Imputations = (allocates, efficient, rational)

@@ -52,13 +52,14 @@ pub new_only : (xs ys : List Level) (x : Level) (k : ℕ) → ys ≡ xs ++ x ∷
     → take (length ys - k) (drop k ys) ≡ x ∷ []
 new_only xs ys x k e f =
     ap (λ us. take (length us - k) (drop k us)) e
-    ∙ ap (λ (j : ℕ). take (length (xs ++ x ∷ []) - j) (drop j (xs ++ x ∷ []))) f ∙ behind xs
+    ∙ ap (λ (j : ℕ). take (length (xs ++ x ∷ []) - j) (drop j (xs ++ x ∷ []))) f ∙ behind_old xs
   where
-    behind : (us : List Level) → take (length (us ++ x ∷ []) - length us) (drop (length us) (us ++ x ∷ [])) ≡ x ∷ []
-    behind [] = refl
-    behind (u ∷ us) =
+    behind_old : (us : List Level)
+        → take (length (us ++ x ∷ []) - length us) (drop (length us) (us ++ x ∷ [])) ≡ x ∷ []
+    behind_old [] = refl
+    behind_old (u ∷ us) =
         let e : suc (length (us ++ x ∷ [])) - suc (length us) ≡ length (us ++ x ∷ []) - length us = omega arith in
-        rw e (behind us)
+        rw e (behind_old us)
 
 -- ---- facts of a turn, at the players of the game and the levels so far
 

@@ -28,11 +28,12 @@ amount-small : (x : Allocation) (s b : ℕ) → All (λ a. unsigned_abs a < b) x
     → unsigned_abs (amount x s) ≤ length x.shares * (b - 1)
 amount-small x s b h =
     sum_below-small (length x.shares) (b - 1) (λ i. if has_player s i then share x i else pos 0)
-    (λ i k. pick (has_player s i) (share x i) (All-get_or (λ a. unsigned_abs a < b) x.shares i (pos 0) k h))
+    (λ i k. share_or_nothing (has_player s i) (share x i)
+    (All-get_or (λ a. unsigned_abs a < b) x.shares i (pos 0) k h))
   where
-    pick : (c : Bool) (a : ℤ) → unsigned_abs a < b → unsigned_abs (cond c a (pos 0)) ≤ b - 1
-    pick true a k = omega (arith, k)
-    pick false a k = omega (arith, ints)
+    share_or_nothing : (c : Bool) (a : ℤ) → unsigned_abs a < b → unsigned_abs (cond c a (pos 0)) ≤ b - 1
+    share_or_nothing true a k = omega (arith, k)
+    share_or_nothing false a k = omega (arith, ints)
 
 difference_small : (a b : ℤ) → unsigned_abs a ≤ 2 ^ 74 → unsigned_abs b ≤ 2 ^ 78 → unsigned_abs (a -ℤ b) < 2 ^ 79
 difference_small a b h k = omega (arith, ints)

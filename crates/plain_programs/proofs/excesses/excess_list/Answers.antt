@@ -28,8 +28,8 @@ scale_fits Plain scale h = cast_kept w128 scale (omega arith)
 scale_fits PerHead scale h = cast_kept w128 scale (omega arith)
 
 -- the masks of a loop that has reached the grand coalition
-whole : (n top s : ℕ) → top ≡ 2 ^ n → 2 ≤ top → 1 ≤ s → s ≤ top - 1 → top - 1 ≤ s → s - 1 ≡ 2 ^ n - 2
-whole n top s same two low high end = omega arith
+masks_ended : (n top s : ℕ) → top ≡ 2 ^ n → 2 ≤ top → 1 ≤ s → s ≤ top - 1 → top - 1 ≤ s → s - 1 ≡ 2 ^ n - 2
+masks_ended n top s same two low high end = omega arith
 
 pub measured_excess-excess-requires : goal.measured_excess-excess-requires
 measured_excess-excess-requires c = record {
@@ -69,7 +69,7 @@ returns c =
     let laws = c.coalitions-coalition-end.ensures in
     let high : s ≤ top - 1 = omega (arith, c.loop-coalition.auto.coalition-end, laws.some) in
     let end =
-    whole c.args.table.now.players top s laws.count laws.some c.loop-coalition.auto.coalition high
+    masks_ended c.args.table.now.players top s laws.count laws.some c.loop-coalition.auto.coalition high
     c.loop-coalition-test.false in
     let kept = scale_fits c.args.measure c.args.scale c.requires.scale in
     c.loop-coalition.invariant
