@@ -1,16 +1,25 @@
 -- Arrays: what is read after one place was written, zeros, and a list with one item more.
-use Rattle.std.proofs.Common.{◌≡◌, ℕ, zero, suc, ◌+◌, ◌<◌, List, [], ◌∷◌, ◌++◌, length, get_or}
+use Rattle.std.proofs.Common.{◌≡◌, ℕ, zero, suc, ◌+◌, ◌<◌, List, [], ◌∷◌, ◌++◌, length, get_or, Option, None}
 use Rattle.std.proofs.Common.{slice_index, slice_set, replicate, refl, sym, subst, ap, ◌∙◌, arith}
 use Rattle.std.proofs.Math.ListN.{set}
-use Rattle.std.proofs.lemmas.List.{get_or_append_left, get_or_push, length_push}
+use Rattle.std.proofs.lemmas.List.{get_or-set_other, get_or-set_same, get_or_append_left, get_or_push, length_push}
 use Rattle.std.proofs.lemmas.Grind.{common_steps}
 use borrow.Author.Count.{below_more}
-use Rattle.big_assignment.specs.Prices.{IsPut}
+use Rattle.big_assignment.specs.Deals.{mates, place}
+use Rattle.big_assignment.specs.Searches.{IsPut}
 
 pub put_set : (xs : List ℕ) (k x : ℕ) → k < length xs → IsPut (slice_index xs) (slice_index (slice_set xs k x)) k x
 put_set xs k x lt = record {
   here = grind (arith, common_steps);
-  else = λ l ne. grind (arith, common_steps);
+  elsewhere = λ l ne. grind (arith, common_steps);
+}
+
+-- a row takes the column at place k
+pub taken_set : (columns : List (Option ℕ)) (i k : ℕ) (column : Option ℕ) → i < length columns → place column ≡ k
+    → IsPut (mates columns) (mates (slice_set columns i column)) i k
+taken_set columns i k column lt at = record {
+  here = ap place (get_or-set_same columns i column None lt) ∙ at;
+  elsewhere = λ l ne. ap place (get_or-set_other columns i l column None ne);
 }
 
 pub zeros : (n k : ℕ) → slice_index (replicate n 0) k ≡ 0
@@ -22,7 +31,7 @@ zeros (suc n) (suc k) = zeros n k
 pub put_below : (P : ℕ → ℕ → Type 0) (f g : ℕ → ℕ) (k x : ℕ) → IsPut f g k x → ((m : ℕ) → m < k → P m (f m)) → P k x
     → (m : ℕ) → m < k + 1 → P m (g m)
 put_below P f g k x put all here =
-    below_more (λ m. P m (g m)) k (λ m lt. subst (P m) (sym (put.else m (omega (arith, lt)))) (all m lt))
+    below_more (λ m. P m (g m)) k (λ m lt. subst (P m) (sym (put.elsewhere m (omega (arith, lt)))) (all m lt))
     (subst (P k) (sym put.here) here)
 
 -- what holds below a place and of the item that is put behind the list

@@ -8,7 +8,7 @@ use Rattle.assignment_games.specs.Values.{optimal_value}
 use Rattle.big_assignment.specs.Markets.{IsMarket, offered}
 use Rattle.assignment_games.specs.Assignments.{seller_count, assignment_game}
 use Rattle.matrices.specs.Rows.{entries_of}
-use Rattle.big_assignment.specs.Prices.{Offers}
+use Rattle.big_assignment.specs.Deals.{Offers}
 use Rattle.big_assignment.proofs.Members.{cond_zero}
 use Rattle.assignment_games.proofs.Matchings.{no_rows}
 use Rattle.assignment_games.proofs.Optimal.{same_optimal, optimal_value-few}

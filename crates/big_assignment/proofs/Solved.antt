@@ -1,5 +1,6 @@
 -- The solution of a market from its deals.
-use Rattle.std.proofs.Common.{◌≡◌, ℕ, ◌+◌, ◌-◌, ◌*◌, ◌^◌, ◌<◌, ◌≤◌, ◌&&◌, List, length, ℤ, pos, unsigned_abs}
+use Rattle.std.proofs.Common.{◌≡◌, ℕ, ◌+◌, ◌-◌, ◌*◌, ◌^◌, ◌<◌, ◌≤◌, ◌&&◌, List}
+use Rattle.std.proofs.Common.{length, ℤ, pos, slice_index, unsigned_abs}
 use Rattle.std.proofs.Common.{to_z, of_z, to_z-of_z, w64, sym, ap, subst, ◌∙◌, inl, inr, arith}
 use Rattle.std.proofs.lemmas.Int.{fits_signed_from_abs}
 use Rattle.definitions.specs.Coalitions.{has_player, grand_coalition}
@@ -12,7 +13,9 @@ use Rattle.assignment_games.specs.Assignments.{seller_count, assignment_game}
 use Rattle.matrices.specs.Rows.{entries_of}
 use Rattle.definitions.specs.Sides.{IsBestFor, IsBuyer, IsSeller}
 use Rattle.big_assignment.specs.Solutions.{IsWhole, IsOptimalMatching, player_pairs}
-use Rattle.big_assignment.specs.Prices.{Offers, IsFair, IsBelow, IsTurned, IsOutside, AreOffers}
+use Rattle.big_assignment.specs.declared.deal.Deal.{Deal}
+use Rattle.big_assignment.specs.Deals.{AreDealOffers, IsBelow, IsFair, IsOutside, IsTurned, Offers, at_prices}
+use Rattle.big_assignment.specs.Deals.{gain_of, mate_of, offer_of, price_of}
 use Rattle.definitions.proofs.Cases.{below_or_above, nat_lt-past}
 use Rattle.big_assignment.proofs.Members.{cond_zero, offered-members}
 use Rattle.matrices.proofs.Rows.{entries-outside}
@@ -57,98 +60,98 @@ all_outside m rows k h i j il jl side =
 
 -- ---- the deal with sides exchanged
 
-pub turned_deal : (m : Offers) (rows : List (List ℤ)) (r c : ℕ) (u p mate : ℕ → ℕ) (t : Offers) (v q hold : ℕ → ℕ)
-    → IsMarket rows → IsTableOfAll m rows → IsFair m (length rows) u p mate → r ≡ length rows
-    → c ≡ seller_count rows → IsTurned m r c u p mate t v q hold → IsFair t c v q hold
-turned_deal m rows r c u p mate t v q hold k h f er ec turned =
-    let g : IsTurned m (length rows) (seller_count rows) u p mate t v q hold =
-    subst (λ (z : ℕ). IsTurned m (length rows) z u p mate t v q hold) ec
-    (subst (λ (z : ℕ). IsTurned m z c u p mate t v q hold) er turned) in
-    subst (λ (z : ℕ). IsFair t z v q hold) (sym ec)
-    (turned_fair m (length rows) (seller_count rows) u p mate t v q hold k.players.1 k.players.3
-    (all_outside m rows k h) f g)
+pub turned_deal : (d : Deal) (rows : List (List ℤ)) (r c : ℕ) (t : Deal) → IsMarket rows
+    → IsTableOfAll (offer_of d) rows → IsFair d (length rows) → r ≡ length rows → c ≡ seller_count rows
+    → IsTurned d r c t → IsFair t c
+turned_deal d rows r c t k h f er ec turned =
+    let g : IsTurned d (length rows) (seller_count rows) t =
+    subst (λ (z : ℕ). IsTurned d (length rows) z t) ec (subst (λ (z : ℕ). IsTurned d z c t) er turned) in
+    subst (λ (z : ℕ). IsFair t z) (sym ec)
+    (turned_fair d (length rows) (seller_count rows) t g k.players.1 k.players.3
+    (all_outside (offer_of d) rows k h) f)
 
 -- sizes of the exchanged payoffs
-pub turned_small : (t : Offers) (r c n k : ℕ) (v q hold : ℕ → ℕ) → AreOffers t → r ≤ 32 → c ≤ 32 → n ≡ r + c
-    → IsFair t c v q hold → k < n → payoff r q v k ≤ 2 ^ 40
-turned_small t r c n k v q hold o few fc e f lt = elim (below_or_above k r) [
+pub turned_small : (t : Deal) (r c n k : ℕ) → AreDealOffers t → r ≤ 32 → c ≤ 32 → n ≡ r + c → IsFair t c → k < n
+    → payoff r (price_of t) (gain_of t) k ≤ 2 ^ 40
+turned_small t r c n k o few fc e f lt = elim (below_or_above k r) [
   | inl row ↦
-      (let a = fair_price t c v q hold o fc f k (omega arith) in
-      let b = payoff-row r q v k row in omega (arith, a, b))
-  | inr ge ↦ rw (nat_lt-past k r ge) (fair_gain t c v q hold o fc f (k - r) (omega arith))
+      (let a = fair_price t c o fc f k (omega arith) in
+      let b = payoff-row r (price_of t) (gain_of t) k row in omega (arith, a, b))
+  | inr ge ↦ rw (nat_lt-past k r ge) (fair_gain t c o fc f (k - r) (omega arith))
 ]
 
 -- ---- the ends
 
-pub buyers_end : (m : Offers) (rows : List (List ℤ)) (r n : ℕ) (u p mate v q : ℕ → ℕ) (x : Allocation)
-    → IsMarket rows → IsTableOfAll m rows → IsFair m (length rows) u p mate → r ≡ length rows
-    → n ≡ length rows + seller_count rows → IsFair m r v q mate → IsBelow m r mate q → IsWhole n x 1 (payoff r v q)
+pub buyers_end : (d : Deal) (rows : List (List ℤ)) (r n : ℕ) (v q : List ℕ) (x : Allocation) → IsMarket rows
+    → IsTableOfAll (offer_of d) rows → r ≡ length rows → n ≡ length rows + seller_count rows
+    → IsFair (at_prices d v q) r → IsBelow d r (slice_index q)
+    → IsWhole n x 1 (payoff r (slice_index v) (slice_index q))
     → IsBestFor (assignment_game rows) (IsBuyer (length rows)) x
-buyers_end m rows r n u p mate v q x k h f er en g below whole =
+buyers_end d rows r n v q x k h er en g below whole =
     let b = length rows in
     let c = seller_count rows in
-    let t = table_of_all m rows k h in
-    let fair : IsFair m b v q mate = subst (λ (z : ℕ). IsFair m z v q mate) er g in
-    let under : IsBelow m b mate q = subst (λ (z : ℕ). IsBelow m z mate q) er below in
-    let w : IsWhole (b + c) x 1 (payoff b v q) =
-    subst (λ (z : ℕ). IsWhole (b + c) x 1 (payoff z v q)) er
-    (subst (λ (z : ℕ). IsWhole z x 1 (payoff r v q)) en whole) in
-    best_for rows (IsBuyer b) x (payoff b v q) mate (fair_supports m (entries_of rows) b c v q mate t fair) w
-    (λ d y core i lt of_side.
-    (let a = buyers_best m (entries_of rows) b c d u p v q mate y t f fair under core i of_side in
-    subst (λ (z : ℕ). y i ≤ d * z) (sym (payoff-row b v q i of_side)) a))
+    let t = table_of_all (offer_of d) rows k h in
+    let fair : IsFair (at_prices d v q) b = subst (λ (z : ℕ). IsFair (at_prices d v q) z) er g in
+    let under : IsBelow d b (slice_index q) = subst (λ (z : ℕ). IsBelow d z (slice_index q)) er below in
+    let w : IsWhole (b + c) x 1 (payoff b (slice_index v) (slice_index q)) =
+    subst (λ (z : ℕ). IsWhole (b + c) x 1 (payoff z (slice_index v) (slice_index q))) er
+    (subst (λ (z : ℕ). IsWhole z x 1 (payoff r (slice_index v) (slice_index q))) en whole) in
+    best_for rows (IsBuyer b) x (payoff b (slice_index v) (slice_index q)) (mate_of d)
+    (fair_supports (at_prices d v q) (entries_of rows) b c t fair) w
+    (λ e y core i lt of_side.
+    (let a = buyers_best d (entries_of rows) b c e v q y t fair under core i of_side in
+    subst (λ (z : ℕ). y i ≤ e * z) (sym (payoff-row b (slice_index v) (slice_index q) i of_side)) a))
 
-pub sellers_end : (m : Offers) (rows : List (List ℤ)) (r c n : ℕ) (u p mate : ℕ → ℕ) (t : Offers)
-    (v q hold v' q' : ℕ → ℕ) (x : Allocation) → IsMarket rows → IsTableOfAll m rows
-    → IsFair m (length rows) u p mate → r ≡ length rows → c ≡ seller_count rows
-    → n ≡ length rows + seller_count rows → IsTurned m r c u p mate t v q hold → IsFair t c v' q' hold
-    → IsBelow t c hold q' → IsWhole n x 1 (payoff r q' v')
+pub sellers_end : (d : Deal) (rows : List (List ℤ)) (r c n : ℕ) (t : Deal) (v q : List ℕ) (x : Allocation)
+    → IsMarket rows → IsTableOfAll (offer_of d) rows → IsFair d (length rows) → r ≡ length rows
+    → c ≡ seller_count rows → n ≡ length rows + seller_count rows → IsTurned d r c t → IsFair (at_prices t v q) c
+    → IsBelow t c (slice_index q) → IsWhole n x 1 (payoff r (slice_index q) (slice_index v))
     → IsBestFor (assignment_game rows) (IsSeller (length rows)) x
-sellers_end m rows r c n u p mate t v q hold v' q' x k h f er ec en turned g below whole =
+sellers_end d rows r c n t v q x k h f er ec en turned g below whole =
     let b = length rows in
     let s = seller_count rows in
-    let tab = table_of_all m rows k h in
-    let turn : IsTurned m b s u p mate t v q hold =
-    subst (λ (z : ℕ). IsTurned m b z u p mate t v q hold) ec
-    (subst (λ (z : ℕ). IsTurned m z c u p mate t v q hold) er turned) in
-    let fair : IsFair t s v' q' hold = subst (λ (z : ℕ). IsFair t z v' q' hold) ec g in
-    let under : IsBelow t s hold q' = subst (λ (z : ℕ). IsBelow t z hold q') ec below in
-    let w : IsWhole (b + s) x 1 (payoff b q' v') =
-    subst (λ (z : ℕ). IsWhole (b + s) x 1 (payoff z q' v')) er
-    (subst (λ (z : ℕ). IsWhole z x 1 (payoff r q' v')) en whole) in
-    best_for rows (IsSeller b) x (payoff b q' v') mate
-    (turned_supports m (entries_of rows) b s u p mate t v q hold v' q' tab f turn fair) w
-    (λ d y core i lt of_side.
+    let tab = table_of_all (offer_of d) rows k h in
+    let turn : IsTurned d b s t =
+    subst (λ (z : ℕ). IsTurned d b z t) ec (subst (λ (z : ℕ). IsTurned d z c t) er turned) in
+    let fair : IsFair (at_prices t v q) s = subst (λ (z : ℕ). IsFair (at_prices t v q) z) ec g in
+    let under : IsBelow t s (slice_index q) = subst (λ (z : ℕ). IsBelow t z (slice_index q)) ec below in
+    let w : IsWhole (b + s) x 1 (payoff b (slice_index q) (slice_index v)) =
+    subst (λ (z : ℕ). IsWhole (b + s) x 1 (payoff z (slice_index q) (slice_index v))) er
+    (subst (λ (z : ℕ). IsWhole z x 1 (payoff r (slice_index q) (slice_index v))) en whole) in
+    best_for rows (IsSeller b) x (payoff b (slice_index q) (slice_index v)) (mate_of d)
+    (turned_supports d (entries_of rows) b s t v q tab f turn fair) w
+    (λ e y core i lt of_side.
     (let a =
-    sellers_best m (entries_of rows) b s d u p mate t v q hold v' q' y tab (all_outside m rows k h) turn fair
-    under core (i - b) (omega arith) in
-    let e : b + (i - b) ≡ i = omega arith in
-    let o = payoff-column b q' v' (i - b) in
-    subst (λ (z : ℕ). y z ≤ d * payoff b q' v' z) e (subst (λ (z : ℕ). y (b + (i - b)) ≤ d * z) (sym o) a)))
+    sellers_best d (entries_of rows) b s e t y tab (all_outside (offer_of d) rows k h) turn core v q fair under
+    (i - b) (omega arith) in
+    let back : b + (i - b) ≡ i = omega arith in
+    let o = payoff-column b (slice_index q) (slice_index v) (i - b) in
+    subst (λ (z : ℕ). y z ≤ e * payoff b (slice_index q) (slice_index v) z) back
+    (subst (λ (z : ℕ). y (b + (i - b)) ≤ e * z) (sym o) a)))
 
 -- ---- the pairs
 
-pub pairs_end : (m : Offers) (rows : List (List ℤ)) (r c : ℕ) (u p mate : ℕ → ℕ) (pairs : List (ℕ × ℕ)) (value : ℤ)
-    → IsMarket rows → IsTableOfAll m rows → IsFair m (length rows) u p mate → r ≡ length rows
-    → c ≡ seller_count rows → pairs ≡ player_pairs r (pairs_from mate c 0 r)
+pub pairs_end : (d : Deal) (rows : List (List ℤ)) (r c : ℕ) (pairs : List (ℕ × ℕ)) (value : ℤ) → IsMarket rows
+    → IsTableOfAll (offer_of d) rows → IsFair d (length rows) → r ≡ length rows → c ≡ seller_count rows
+    → pairs ≡ player_pairs r (pairs_from (mate_of d) c 0 r)
     → value ≡ (assignment_game rows).worth (grand_coalition (length rows + seller_count rows))
     → IsOptimalMatching rows pairs value
-pairs_end m rows r c u p mate pairs value k h f er ec e worth =
+pairs_end d rows r c pairs value k h f er ec e worth =
     let b = length rows in
     let s = seller_count rows in
-    let n = b + s in
-    let sup = fair_supports m (entries_of rows) b s u p mate (table_of_all m rows k h) f in
-    let both = support_pairs (entries_of rows) b s (payoff b u p) mate sup in
+    let x = payoff b (gain_of d) (price_of d) in
+    let sup = fair_supports d (entries_of rows) b s (table_of_all (offer_of d) rows k h) f in
+    let both = support_pairs (entries_of rows) b s x (mate_of d) sup in
     let best =
-    grand_optimal rows (matching_value (entries_of rows) (pairs_from mate s 0 b))
-    (support_optimal (entries_of rows) b s (payoff b u p) mate sup) in
+    grand_optimal rows (matching_value (entries_of rows) (pairs_from (mate_of d) s 0 b))
+    (support_optimal (entries_of rows) b s x (mate_of d) sup) in
     record {
-      matched = pairs_from mate s 0 b;
+      matched = pairs_from (mate_of d) s 0 b;
       same =
-          subst (λ (z : ℕ). pairs ≡ player_pairs b (pairs_from mate z 0 b)) ec
-          (subst (λ (z : ℕ). pairs ≡ player_pairs z (pairs_from mate c 0 z)) er e);
+          subst (λ (z : ℕ). pairs ≡ player_pairs b (pairs_from (mate_of d) z 0 b)) ec
+          (subst (λ (z : ℕ). pairs ≡ player_pairs z (pairs_from (mate_of d) c 0 z)) er e);
       matching = both.0;
-      ascending = pairs_ascend mate s 0 b 0 (omega arith);
+      ascending = pairs_ascend (mate_of d) s 0 b 0 (omega arith);
       worth = worth ∙ ap pos best;
       best = worth;
     }

@@ -1,5 +1,5 @@
 -- What a pair of sides gets: fair prices support a matching, and so they bound every other, and are in the core.
-use Rattle.std.proofs.Common.{◌≡◌, ◌≢◌, ◌⊎◌, ℕ, ◌+◌, ◌*◌, ◌-◌, ◌<◌, ◌≤◌, Bool, refl}
+use Rattle.std.proofs.Common.{◌≡◌, ◌≢◌, ◌⊎◌, ℕ, ◌+◌, ◌*◌, ◌-◌, ◌<◌, ◌≤◌, Bool, List, slice_index, refl}
 use Rattle.std.proofs.Common.{sym, ap, subst, ◌∙◌, inl, inr, arith}
 use Rattle.definitions.specs.Coalitions.{has_player, grand_coalition}
 use Rattle.definitions.specs.Classes.{Matrix, IsMatching, matching_value, entry}
@@ -9,7 +9,9 @@ use Rattle.assignment_games.proofs.Table.{member_below}
 use Rattle.big_assignment.specs.Supports.{IsSingle}
 use Rattle.assignment_games.specs.Values.{IsOptimalAmong}
 use Rattle.big_assignment.specs.Mates.{pairs_from, payoff}
-use Rattle.big_assignment.specs.Prices.{Offers, IsFair, IsTurned}
+use Rattle.big_assignment.specs.declared.deal.Deal.{Deal}
+use Rattle.big_assignment.specs.Deals.{Holds, IsFair, IsTight, IsTurned, Offers, at_prices, gain_of, mate_of, offer_of}
+use Rattle.big_assignment.specs.Deals.{price_of}
 use Rattle.definitions.proofs.Cases.{below_or_above, nat_lt-less, nat_lt-past}
 use Rattle.big_assignment.proofs.Sums.{sum_where, PairsGet, AmongAll}
 use Rattle.big_assignment.proofs.Pairs.{Paired, pairs_match, pairs_from-all, pairs_from-each}
@@ -37,71 +39,84 @@ pub record IsTableOf (m : Offers) (matrix : Matrix) (rows columns : ℕ) : Type 
   pub inside : (i j : ℕ) → i < rows → j < columns → m i j ≡ matrix i j
   pub beside : (i j : ℕ) → i < rows → columns ≤ j → j ≤ 32 → m i j ≡ 0
 
-pub fair_supports : (m : Offers) (matrix : Matrix) (rows columns : ℕ) (u p mate : ℕ → ℕ)
-    → IsTableOf m matrix rows columns → IsFair m rows u p mate
-    → IsSupport matrix rows columns (payoff rows u p) mate
-fair_supports m matrix rows columns u p mate t f = record {
+pub fair_supports : (d : Deal) (matrix : Matrix) (rows columns : ℕ) → IsTableOf (offer_of d) matrix rows columns
+    → IsFair d rows → IsSupport matrix rows columns (payoff rows (gain_of d) (price_of d)) (mate_of d)
+fair_supports d matrix rows columns t f = record {
   covers = λ i j il jl.
       (let few = t.columns_few in
       let a = f.covers i j il (omega (arith, few)) in
       let b = t.inside i j il jl in
-      let c = payoff-row rows u p i il in let d = payoff-column rows u p j in omega (arith, a, b, c, d));
+      let c = row i il in let e = column j in omega (arith, a, b, c, e));
   tight = λ i il jl.
       (let a = f.tight i il in
-      let b = t.inside i (mate i) il jl in
-      let c = payoff-row rows u p i il in let d = payoff-column rows u p (mate i) in omega (arith, a, b, c, d));
+      let b = t.inside i (mate_of d i) il jl in
+      let c = row i il in let e = column (mate_of d i) in omega (arith, a, b, c, e));
   alone = λ i il ge.
       (let a = f.tight i il in
-      let b = t.beside i (mate i) il ge (f.within i il) in
-      let c = payoff-row rows u p i il in omega (arith, a, b, c));
+      let b = t.beside i (mate_of d i) il ge (f.within i il) in
+      let c = row i il in omega (arith, a, b, c));
   apart = λ i l il ll e lt. (let few = t.columns_few in f.apart i l il ll e (omega (arith, few)));
   sold = λ j jl. (let few = t.columns_few in elim (f.sold j (omega (arith, few))) [
-    | inl none ↦ inl (payoff-column rows u p j ∙ none)
+    | inl none ↦ inl (column j ∙ none)
     | inr held ↦ inr held
   ]);
 }
+  where
+    row : (i : ℕ) → i < rows → payoff rows (gain_of d) (price_of d) i ≡ gain_of d i
+    row = payoff-row rows (gain_of d) (price_of d)
 
--- the same of a deal with rows and columns exchanged, at other prices
-pub turned_supports : (m : Offers) (matrix : Matrix) (rows columns : ℕ) (u p mate : ℕ → ℕ) (t : Offers)
-    (v q hold v' q' : ℕ → ℕ) → IsTableOf m matrix rows columns → IsFair m rows u p mate
-    → IsTurned m rows columns u p mate t v q hold → IsFair t columns v' q' hold
-    → IsSupport matrix rows columns (payoff rows q' v') mate
-turned_supports m matrix rows columns u p mate t v q hold v' q' b f h g = record {
+    column : (j : ℕ) → payoff rows (gain_of d) (price_of d) (rows + j) ≡ price_of d j
+    column = payoff-column rows (gain_of d) (price_of d)
+
+-- the same of a deal t with rows and columns exchanged, at other prices
+pub turned_supports : (d : Deal) (matrix : Matrix) (rows columns : ℕ) (t : Deal) (v q : List ℕ)
+    → IsTableOf (offer_of d) matrix rows columns → IsFair d rows → IsTurned d rows columns t
+    → IsFair (at_prices t v q) columns
+    → IsSupport matrix rows columns (payoff rows (slice_index q) (slice_index v)) (mate_of d)
+turned_supports d matrix rows columns t v q b f h g = record {
   covers = λ i j il jl. (let fr = b.rows_few in let fc = b.columns_few in
       let a = g.covers j i jl (omega (arith, fr)) in
       let e = h.offers j i (omega (arith, fc)) (omega (arith, fr)) in let k = b.inside i j il jl in
-      let c = payoff-row rows q' v' i il in let d = payoff-column rows q' v' j in omega (arith, a, e, k, c, d));
+      let c = row i il in let o = column j in omega (arith, a, e, k, c, o));
   tight = λ i il jl. (let fr = b.rows_few in let fc = b.columns_few in
-      let back = hold_back m rows columns u p mate t v q hold fc f h i il jl in
-      let a = subst (λ (z : ℕ). t (mate i) z ≡ v' (mate i) + q' z) back (g.tight (mate i) jl) in
-      let e = h.offers (mate i) i (omega (arith, fc)) (omega (arith, fr)) in let k = b.inside i (mate i) il jl in
-      let c = payoff-row rows q' v' i il in
-      let d = payoff-column rows q' v' (mate i) in omega (arith, a, e, k, c, d));
-  alone =
-      λ i il ge. (let fr = b.rows_few in payoff-row rows q' v' i il ∙ unsold i ge (g.sold i (omega (arith, fr))) il);
+      let back = hold_back d rows columns t h fc f i il jl in
+      let a =
+      subst (λ (z : ℕ). IsTight (at_prices t v q) (mate_of d i) z) back (g.tight (mate_of d i) jl) in
+      let e = h.offers (mate_of d i) i (omega (arith, fc)) (omega (arith, fr)) in
+      let k = b.inside i (mate_of d i) il jl in
+      let c = row i il in
+      let o = column (mate_of d i) in omega (arith, a, e, k, c, o));
+  alone = λ i il ge. (let fr = b.rows_few in row i il ∙ unsold i ge (g.sold i (omega (arith, fr))) il);
   apart = λ i l il ll e lt. (let few = b.columns_few in f.apart i l il ll e (omega (arith, few)));
   sold = λ j jl. elim (h.holds j jl) [
-    | inl held ↦ inr (hold j, held.0, held.1)
-    | inr none ↦ inl (payoff-column rows q' v' j ∙ gains_none j jl none.0)
+    | inl held ↦ inr (mate_of t j, held.0, held.1)
+    | inr none ↦ inl (column j ∙ gains_none j jl none.0)
   ];
 }
   where
-    unsold : (i : ℕ) → columns ≤ mate i → (q' i ≡ 0) ⊎ ((j : ℕ) × (j < columns) × (hold j ≡ i)) → i < rows
-        → q' i ≡ 0
-    unsold i ge (inl e) il = e
-    unsold i ge (inr held) il = absurd (other held.0 held.1 held.2 (h.holds held.0 held.1))
-      where
-        other : (j : ℕ) → j < columns → hold j ≡ i
-            → ((hold j < rows) × (mate (hold j) ≡ j)) ⊎ ((hold j ≡ 32) × ((l : ℕ) → l < rows → mate l ≢ j)) → ⊥
-        other j jl e (inl a) = (let same = ap mate e in let back = a.1 in omega (arith, same, back, ge, jl))
-        other j jl e (inr a) = (let none = a.0 in let fr = b.rows_few in omega (arith, none, e, fr, il))
+    row : (i : ℕ) → i < rows → payoff rows (slice_index q) (slice_index v) i ≡ slice_index q i
+    row = payoff-row rows (slice_index q) (slice_index v)
 
-    gains_none : (j : ℕ) → j < columns → hold j ≡ 32 → v' j ≡ 0
+    column : (j : ℕ) → payoff rows (slice_index q) (slice_index v) (rows + j) ≡ slice_index v j
+    column = payoff-column rows (slice_index q) (slice_index v)
+
+    unsold : (i : ℕ) → columns ≤ mate_of d i
+        → (slice_index q i ≡ 0) ⊎ ((j : ℕ) × (j < columns) × (mate_of t j ≡ i)) → i < rows → slice_index q i ≡ 0
+    unsold i ge (inl e) il = e
+    unsold i ge (inr held) il = absurd (no_holder held.0 held.1 held.2 (h.holds held.0 held.1))
+      where
+        no_holder : (j : ℕ) → j < columns → mate_of t j ≡ i → Holds d rows j (mate_of t j) → ⊥
+        no_holder j jl e (inl a) =
+            (let same = ap (mate_of d) e in let back = a.1 in omega (arith, same, back, ge, jl))
+        no_holder j jl e (inr a) = (let none = a.0 in let fr = b.rows_few in omega (arith, none, e, fr, il))
+
+    gains_none : (j : ℕ) → j < columns → mate_of t j ≡ 32 → slice_index v j ≡ 0
     gains_none j jl e =
         let fc = b.columns_few in
-        let a = subst (λ (z : ℕ). t j z ≡ v' j + q' z) e (g.tight j jl) in
+        let a = subst (λ (z : ℕ). IsTight (at_prices t v q) j z) e (g.tight j jl) in
+        let free = g.free in
         let c = h.none j (omega (arith, fc)) in
-        omega (arith, a, c)
+        omega (arith, a, c, free)
 
 -- everybody
 abbrev pub all_of : ℕ → ℕ → Bool

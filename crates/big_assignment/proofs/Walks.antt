@@ -1,17 +1,18 @@
 -- A free column is handed from parent to parent: each row takes the column and gives up its own, until the row in
 -- hand takes one.
-use Rattle.std.proofs.Common.{◌≡◌, ◌≢◌, ℕ, ◌+◌, ◌<◌, ◌≤◌, sym, ap, subst, ◌∙◌, inl, inr, arith}
-use Rattle.big_assignment.specs.Prices.{Offers, IsFair, IsReached, IsSearch, IsOpen, IsPut}
+use Rattle.std.proofs.Common.{◌≡◌, ◌≢◌, ℕ, ◌+◌, ◌<◌, ◌≤◌, List, Option, sym, ap, subst, ◌∙◌, inl, inr, arith}
+use Rattle.big_assignment.specs.declared.deal.Deal.{Deal}
+use Rattle.big_assignment.specs.declared.deal.Search.{Search}
+use Rattle.big_assignment.specs.Deals.{IsFair, IsTight, mates, mate_of, with_columns}
+use Rattle.big_assignment.specs.Searches.{IsOpen, IsPut, IsSearch, parent_of, rank_of}
 use Rattle.definitions.proofs.Cases.{same_or_other}
-use Rattle.big_assignment.proofs.Searches.{mark_joined, search_covers}
+use Rattle.big_assignment.proofs.Searches.{IsMarked, mark_joined, search_covers}
 
 -- a free column is reached
-pub walk_start : (m : Offers) (n : ℕ) (u p mate ranks parents ranks' parents' : ℕ → ℕ) (count i k : ℕ)
-    → IsSearch m n u p mate ranks parents count → IsReached n mate ranks i → k ≤ 32 → ranks k ≡ 0
-    → m i k ≡ u i + p k → ((l : ℕ) → l < n → mate l ≡ k → k < 32 → ⊥) → IsPut ranks ranks' k (count + 1)
-    → IsPut parents parents' k i → IsOpen m n u p mate ranks' parents' k
-walk_start m n u p mate ranks parents ranks' parents' count i k h reached kl none tight unheld r s = record {
-  covers = search_covers m n u p mate ranks parents count h;
+pub walk_start : (d : Deal) (s t : Search) (n i k : ℕ) → IsSearch d s n → IsMarked d s t n i k → k ≤ 32
+    → ((l : ℕ) → l < n → mate_of d l ≡ k → k < 32 → ⊥) → IsOpen d t n k
+walk_start d s t n i k h m kl unheld = record {
+  covers = search_covers d s n h;
   tight = h.fair.tight;
   within = h.fair.within;
   apart = h.fair.apart;
@@ -19,101 +20,109 @@ walk_start m n u p mate ranks parents ranks' parents' count i k h reached kl non
   open_column = unheld;
   free = h.fair.free;
   column = kl;
-  ranked = (let e = r.here in omega (arith, e));
-  joined = λ l ll some le. mark_joined m n u p mate ranks parents ranks' parents' count i k h reached none tight r s
-      l ll some;
+  ranked = (let e = m.ranks.here in omega (arith, e));
+  joined = λ l ll some le. mark_joined d s t n i k h m l ll some;
 }
 
+-- what holds of the columns once row r has taken column j, which no row had
+module _ (d : Deal) (s : Search) (n j r : ℕ) (columns : List (Option ℕ)) (h : IsOpen d s n j)
+    (put : IsPut (mate_of d) (mates columns) r j) where
+  taken_tight : IsTight d r j → (i : ℕ) → (i ≢ r → i < n) → IsTight d i (mates columns i)
+  taken_tight tight i il = elim (same_or_other i r) [
+    | inl same ↦ subst (λ (g : ℕ). IsTight d g (mates columns g)) (sym same)
+        (subst (λ (c : ℕ). IsTight d r c) (sym put.here) tight)
+    | inr other ↦ subst (λ (c : ℕ). IsTight d i c) (sym (put.elsewhere i other)) (h.tight i (il other))
+  ]
+
+  taken_within : (i : ℕ) → (i ≢ r → i < n) → mates columns i ≤ 32
+  taken_within i il = elim (same_or_other i r) [
+    | inl same ↦ (let e = ap (mates columns) same ∙ put.here in let c = h.column in omega (arith, e, c))
+    | inr other ↦ (let e = put.elsewhere i other in let c = h.within i (il other) in omega (arith, e, c))
+  ]
+
+  taken_apart : (i l : ℕ) → (i ≢ r → i < n) → (l ≢ r → l < n) → mates columns i ≡ mates columns l
+      → mates columns i < 32 → i ≡ l
+  taken_apart i l il ll e small = elim (same_or_other i r) [
+    | inl a ↦ elim (same_or_other l r) [
+      | inl b ↦ a ∙ sym b
+      | inr b ↦ absurd
+          (let f = sym (put.elsewhere l b) ∙ (sym e ∙ ap (mates columns) a ∙ put.here) in
+          h.open_column l (ll b) f (let g = ap (mates columns) a ∙ put.here in omega (arith, g, small)))
+    ]
+    | inr a ↦ elim (same_or_other l r) [
+      | inl b ↦ absurd
+          (let f = sym (put.elsewhere i a) ∙ (e ∙ ap (mates columns) b ∙ put.here) in
+          h.open_column i (il a) f (let g = e ∙ ap (mates columns) b ∙ put.here in omega (arith, g, small)))
+      | inr b ↦ h.apart i l (il a) (ll b) (sym (put.elsewhere i a) ∙ e ∙ put.elsewhere l b)
+          (let g = put.elsewhere i a in omega (arith, g, small))
+    ]
+  ]
+
 -- the parent, which has a column, takes column j
-pub walk_on : (m : Offers) (n : ℕ) (u p mate mate' ranks parents : ℕ → ℕ) (j : ℕ)
-    → IsOpen m n u p mate ranks parents j → parents j ≢ n → IsPut mate mate' (parents j) j
-    → IsOpen m n u p mate' ranks parents (mate (parents j)) × (ranks (mate (parents j)) < ranks j) × (parents j < n)
-walk_on m n u p mate mate' ranks parents j h ne put = elim (h.joined j h.column h.ranked (omega arith)).earlier [
+pub walk_on : (d : Deal) (s : Search) (n j : ℕ) (columns : List (Option ℕ)) → IsOpen d s n j → parent_of s j ≢ n
+    → IsPut (mate_of d) (mates columns) (parent_of s j) j
+    → IsOpen (with_columns d columns) s n (mate_of d (parent_of s j))
+    × (rank_of s (mate_of d (parent_of s j)) < rank_of s j) × (parent_of s j < n)
+walk_on d s n j columns h ne put = elim (h.joined j h.column h.ranked (omega arith)).earlier [
   | inl e ↦ absurd (ne e)
   | inr e ↦ (go e.0 e.1 e.2, e.2, e.0)
 ]
   where
-    go : parents j < n → 1 ≤ ranks (mate (parents j)) → ranks (mate (parents j)) < ranks j
-        → IsOpen m n u p mate' ranks parents (mate (parents j))
+    go : parent_of s j < n → 1 ≤ rank_of s (mate_of d (parent_of s j))
+        → rank_of s (mate_of d (parent_of s j)) < rank_of s j
+        → IsOpen (with_columns d columns) s n (mate_of d (parent_of s j))
     go lt some below = record {
       covers = h.covers;
-      tight = λ i il. elim (same_or_other i (parents j)) [
-        | inl same ↦ subst (λ (g : ℕ). m g (mate' g) ≡ u g + p (mate' g)) (sym same)
-            (subst (λ (c : ℕ). m (parents j) c ≡ u (parents j) + p c) (sym put.here)
-            (h.joined j h.column h.ranked (omega arith)).tight)
-        | inr other ↦ subst (λ (c : ℕ). m i c ≡ u i + p c) (sym (put.else i other)) (h.tight i il)
-      ];
-      within = λ i il. elim (same_or_other i (parents j)) [
-        | inl same ↦ (let e = ap mate' same ∙ put.here in let c = h.column in omega (arith, e, c))
-        | inr other ↦ (let e = put.else i other in let c = h.within i il in omega (arith, e, c))
-      ];
-      apart = apart;
+      tight = λ i il. taken_tight d s n j (parent_of s j) columns h put
+          (h.joined j h.column h.ranked (omega arith)).tight i (λ other. il);
+      within = λ i il. taken_within d s n j (parent_of s j) columns h put i (λ other. il);
+      apart = λ i l il ll. taken_apart d s n j (parent_of s j) columns h put i l (λ other. il) (λ other. ll);
       sold = λ k kl other. elim (same_or_other k j) [
-        | inl same ↦ inr (parents j, lt, put.here ∙ sym same)
+        | inl same ↦ inr (parent_of s j, lt, put.here ∙ sym same)
         | inr ne ↦ elim (h.sold k kl ne) [
           | inl none ↦ inl none
-          | inr held ↦ inr (held.0, held.1, put.else held.0 (λ e. other (sym held.2 ∙ ap mate e)) ∙ held.2)
+          | inr held ↦ inr
+              (held.0, held.1, put.elsewhere held.0 (λ e. other (sym held.2 ∙ ap (mate_of d) e)) ∙ held.2)
         ]
       ];
-      open_column = λ i il e small. elim (same_or_other i (parents j)) [
-        | inl same ↦ (let f = ap ranks (sym e ∙ ap mate' same ∙ put.here) in omega (arith, f, below))
+      open_column = λ i il e small. elim (same_or_other i (parent_of s j)) [
+        | inl same ↦ (let f = ap (rank_of s) (sym e ∙ ap (mates columns) same ∙ put.here) in omega (arith, f, below))
         | inr other ↦ other
-            (h.apart i (parents j) il lt (sym (put.else i other) ∙ e)
-            (let f = sym (put.else i other) ∙ e in omega (arith, f, small)))
+            (h.apart i (parent_of s j) il lt (sym (put.elsewhere i other) ∙ e)
+            (let f = sym (put.elsewhere i other) ∙ e in omega (arith, f, small)))
       ];
       free = h.free;
-      column = h.within (parents j) lt;
+      column = h.within (parent_of s j) lt;
       ranked = some;
       joined = λ k kl ranked le. (let a = h.joined k kl ranked (omega arith) in record {
         tight = a.tight;
         earlier = elim a.earlier [
           | inl e ↦ inl e
-          | inr e ↦ (let q = kept (parents k) k e.1 e.2 le in inr (e.0, q.0, q.1))
+          | inr e ↦ (let q = kept (parent_of s k) k e.1 e.2 le in inr (e.0, q.0, q.1))
         ];
       });
     }
       where
-        kept : (g k : ℕ) → 1 ≤ ranks (mate g) → ranks (mate g) < ranks k → ranks k ≤ ranks (mate (parents j))
-            → (1 ≤ ranks (mate' g)) × (ranks (mate' g) < ranks k)
+        kept : (g k : ℕ) → 1 ≤ rank_of s (mate_of d g) → rank_of s (mate_of d g) < rank_of s k
+            → rank_of s k ≤ rank_of s (mate_of d (parent_of s j))
+            → (1 ≤ rank_of s (mates columns g)) × (rank_of s (mates columns g) < rank_of s k)
         kept g k some less le =
             let same =
-            ap ranks
-            (put.else g (λ e. (let f = ap (λ (z : ℕ). ranks (mate z)) e in omega (arith, f, less, le)))) in
+            ap (rank_of s)
+            (put.elsewhere g (λ e. (let f = ap (λ (z : ℕ). rank_of s (mate_of d z)) e in omega (arith, f, less, le))))
+            in
             (omega (arith, same, some), omega (arith, same, less))
 
-        apart : (i l : ℕ) → i < n → l < n → mate' i ≡ mate' l → mate' i < 32 → i ≡ l
-        apart i l il ll e small = elim (same_or_other i (parents j)) [
-          | inl a ↦ elim (same_or_other l (parents j)) [
-            | inl b ↦ a ∙ sym b
-            | inr b ↦ absurd
-                (let f = sym (put.else l b) ∙ (sym e ∙ ap mate' a ∙ put.here) in
-                h.open_column l ll f (let g = ap mate' a ∙ put.here in omega (arith, g, small)))
-          ]
-          | inr a ↦ elim (same_or_other l (parents j)) [
-            | inl b ↦ absurd
-                (let f = sym (put.else i a) ∙ (e ∙ ap mate' b ∙ put.here) in
-                h.open_column i il f (let g = e ∙ ap mate' b ∙ put.here in omega (arith, g, small)))
-            | inr b ↦ h.apart i l il ll (sym (put.else i a) ∙ e ∙ put.else l b)
-                (let g = put.else i a in omega (arith, g, small))
-          ]
-        ]
-
 -- the row in hand takes column j
-pub walk_end : (m : Offers) (n : ℕ) (u p mate mate' ranks parents : ℕ → ℕ) (j : ℕ)
-    → IsOpen m n u p mate ranks parents j → parents j ≡ n → IsPut mate mate' n j → IsFair m (n + 1) u p mate'
-walk_end m n u p mate mate' ranks parents j h e put = record {
+pub walk_end : (d : Deal) (s : Search) (n j : ℕ) (columns : List (Option ℕ)) → IsOpen d s n j → parent_of s j ≡ n
+    → IsPut (mate_of d) (mates columns) n j → IsFair (with_columns d columns) (n + 1)
+walk_end d s n j columns h e put = record {
   covers = λ i k il kl. h.covers i k (omega arith) kl;
-  tight = λ i il. elim (same_or_other i n) [
-    | inl same ↦ subst (λ (g : ℕ). m g (mate' g) ≡ u g + p (mate' g)) (sym same)
-        (subst (λ (c : ℕ). m n c ≡ u n + p c) (sym put.here)
-        (subst (λ (g : ℕ). m g j ≡ u g + p j) e (h.joined j h.column h.ranked (omega arith)).tight))
-    | inr other ↦ subst (λ (c : ℕ). m i c ≡ u i + p c) (sym (put.else i other)) (h.tight i (omega arith))
-  ];
-  within = λ i il. elim (same_or_other i n) [
-    | inl same ↦ (let f = ap mate' same ∙ put.here in let c = h.column in omega (arith, f, c))
-    | inr other ↦ (let f = put.else i other in let c = h.within i (omega arith) in omega (arith, f, c))
-  ];
-  apart = apart;
+  tight = λ i il. taken_tight d s n j n columns h put
+      (subst (λ (g : ℕ). IsTight d g j) e (h.joined j h.column h.ranked (omega arith)).tight) i
+      (λ other. omega arith);
+  within = λ i il. taken_within d s n j n columns h put i (λ other. omega arith);
+  apart = λ i l il ll. taken_apart d s n j n columns h put i l (λ other. omega arith) (λ other. omega arith);
   sold = λ k kl. elim (same_or_other k j) [
     | inl same ↦ inr (n, omega arith, put.here ∙ sym same)
     | inr ne ↦ elim (h.sold k kl ne) [
@@ -121,26 +130,9 @@ walk_end m n u p mate mate' ranks parents j h e put = record {
       | inr held ↦ inr (
         held.0,
         (let a = held.1 in omega (arith, a)),
-        put.else held.0 (λ e. (let a = held.1 in omega (arith, a, e))) ∙ held.2,
+        put.elsewhere held.0 (λ e. (let a = held.1 in omega (arith, a, e))) ∙ held.2,
       )
     ]
   ];
   free = h.free;
 }
-  where
-    apart : (i l : ℕ) → i < n + 1 → l < n + 1 → mate' i ≡ mate' l → mate' i < 32 → i ≡ l
-    apart i l il ll e small = elim (same_or_other i n) [
-      | inl a ↦ elim (same_or_other l n) [
-        | inl b ↦ a ∙ sym b
-        | inr b ↦ absurd
-            (let f = sym (put.else l b) ∙ (sym e ∙ ap mate' a ∙ put.here) in
-            h.open_column l (omega arith) f (let g = ap mate' a ∙ put.here in omega (arith, g, small)))
-      ]
-      | inr a ↦ elim (same_or_other l n) [
-        | inl b ↦ absurd
-            (let f = sym (put.else i a) ∙ (e ∙ ap mate' b ∙ put.here) in
-            h.open_column i (omega arith) f (let g = e ∙ ap mate' b ∙ put.here in omega (arith, g, small)))
-        | inr b ↦ h.apart i l (omega arith) (omega arith) (sym (put.else i a) ∙ e ∙ put.else l b)
-            (let g = put.else i a in omega (arith, g, small))
-      ]
-    ]

@@ -4,5 +4,5 @@ pub mod Supports
 pub mod Theorems
 pub mod Mates
 pub mod Solutions
-pub mod Prices
 pub mod Deals
+pub mod Searches

@@ -1,12 +1,12 @@
 //! The game of a market.
 ghost use Rattle.std.specs.Prelude.{◌≡◌, ℕ, ◌+◌, ◌<◌, ◌≤◌, ◌^◌, length, map, MatchResult};
 ghost use Rattle.definitions.specs.Classes.{IsAssignmentGame};
-ghost use Rattle.big_assignment.specs.Deals.{offers, AreDealOffers, IsFairDeal, IsDealOfAll};
+ghost use Rattle.big_assignment.specs.Deals.{offers, AreDealOffers, IsFair, IsDealOfAll};
 ghost use Rattle.big_assignment.specs.Markets.{IsMarket, IsRefused, everybody, offered};
 ghost use Rattle.assignment_games.specs.Assignments.{seller_count, assignment_game};
 ghost use Rattle.matrices.specs.Rows.{entries_of};
 
-use crate::deal::Deal;
+use crate::deal::{Deal, OFFERS, PLACES, SIDE};
 use crate::payoffs::total;
 use crate::search::add_row;
 use coalitions::Coalition;
@@ -56,11 +56,11 @@ impl MarketGame {
             (IsRefused rows) }
     {
         let buyers = matrix.len();
-        if buyers < 1 || buyers > 32 {
+        if buyers < 1 || buyers > SIDE {
             return Err(MarketFault::Players);
         }
         let sellers = matrix[0].len();
-        if sellers < 1 || sellers > 32 {
+        if sellers < 1 || sellers > SIDE {
             return Err(MarketFault::Players);
         }
         if !have_entries(&matrix) {
@@ -110,15 +110,15 @@ impl MarketGame {
         }
     }
 
-    /// What the members offer each other, in a table of 32 rows of 33 numbers.
-    pub(crate) fn table(&self, s: Coalition) -> [u64; 1056]
+    /// What the members offer each other, for each row and each place.
+    pub(crate) fn table(&self, s: Coalition) -> [u64; OFFERS]
         ensures offers { (i j : ℕ) → i < 32 → j ≤ 32
             → offers result i j ≡ offered (entries_of self.now) (length self.now) s i j }
         ensures small { (i j : ℕ) → i < 32 → j ≤ 32 → offers result i j < 2 ^ 40 }
     {
-        let mut table = [0; 1056];
-        for place in 0..1056usize {
-            table[place] = self.offer_within(s, place / 33, place % 33);
+        let mut table = [0; OFFERS];
+        for place in 0..OFFERS {
+            table[place] = self.offer_within(s, place / PLACES, place % PLACES);
         }
         table
     }
@@ -128,7 +128,7 @@ impl MarketGame {
         ensures table { (i j : ℕ) → i < 32 → j ≤ 32
             → offers result.table i j ≡ offered (entries_of self.now) (length self.now) s i j }
         ensures offers { AreDealOffers result }
-        ensures fair { IsFairDeal result (length self.now) }
+        ensures fair { IsFair result (length self.now) }
     {
         let mut deal = Deal::new(self.table(s));
         for n in 0..self.buyers() as usize {

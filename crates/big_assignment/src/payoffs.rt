@@ -2,8 +2,10 @@
 ghost use Rattle.std.specs.Prelude.{◌≡◌, ℕ, ◌+◌, ◌*◌, ◌^◌, ◌<◌, ◌≤◌, slice_index};
 ghost use Rattle.big_assignment.specs.Mates.{payoff, total_below};
 
+use crate::deal::PLACES;
+
 /// What player `k` gets: the rows come first.
-pub(crate) fn payoff_of(rows: u32, gains: &[u64; 33], prices: &[u64; 33], k: u32) -> u64
+pub(crate) fn payoff_of(rows: u32, gains: &[u64; PLACES], prices: &[u64; PLACES], k: u32) -> u64
     requires rows { rows ≤ 32 }
     requires player { k < rows + 32 }
     ensures { result ≡ payoff rows (slice_index gains.now) (slice_index prices.now) k }
@@ -16,7 +18,7 @@ pub(crate) fn payoff_of(rows: u32, gains: &[u64; 33], prices: &[u64; 33], k: u32
 }
 
 /// What all players get.
-pub(crate) fn total(rows: u32, players: u32, gains: &[u64; 33], prices: &[u64; 33]) -> u64
+pub(crate) fn total(rows: u32, players: u32, gains: &[u64; PLACES], prices: &[u64; PLACES]) -> u64
     requires rows { rows ≤ 32 }
     requires players { players ≤ rows + 32 }
     requires small { (k : ℕ) → k < players → payoff rows (slice_index gains.now) (slice_index prices.now) k ≤ 2 ^ 40 }

@@ -6,7 +6,7 @@ ghost use Rattle.big_assignment.specs.Mates.{payoff};
 ghost use Rattle.big_assignment.specs.Solutions.{IsWhole};
 ghost use Rattle.big_assignment.specs.Deals.{IsDealOfAll};
 
-use crate::deal::Deal;
+use crate::deal::{Deal, PLACES};
 use crate::least::cheapest;
 use crate::market_game::MarketGame;
 use crate::payoffs::payoff_of;
@@ -20,8 +20,8 @@ fn shares_of(
     alloc: Global,
     rows: u32,
     players: u32,
-    gains: &[u64; 33],
-    prices: &[u64; 33],
+    gains: &[u64; PLACES],
+    prices: &[u64; PLACES],
 ) -> Result<Shares, OutOfMemory>
     requires rows { rows ≤ 32 }
     requires some { 1 ≤ players }

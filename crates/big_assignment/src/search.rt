@@ -1,20 +1,20 @@
 //! One row more: columns are reached from it, and prices rise, until a free column is reached.
-ghost use Rattle.std.specs.Prelude.{◌≡◌, ℕ, ◌+◌, ◌<◌, ◌≤◌, ◌^◌, true, false, slice_index};
+ghost use Rattle.std.specs.Prelude.{◌≡◌, ℕ, ◌+◌, ◌^◌, ◌<◌, ◌≤◌, true, false, slice_index, Option};
 ghost use Rattle.std.specs.Bool.{Decides};
-ghost use Rattle.big_assignment.specs.Prices.{IsFair};
-ghost use Rattle.big_assignment.specs.Deals.{offers, AreDealOffers, IsFairDeal, IsCoveredDeal, IsTight, AreColumns};
-ghost use Rattle.big_assignment.specs.Deals.{IsReachedIn, IsNearestIn, IsImprovedIn, IsOpenIn, IsSearchIn, unreached};
+ghost use Rattle.big_assignment.specs.Deals.{AreColumns, AreDealOffers, IsCovered, IsFair, IsTight, gain_of};
+ghost use Rattle.big_assignment.specs.Deals.{mate_of, price_of, with_columns};
+ghost use Rattle.big_assignment.specs.Searches.{IsImproved, IsNearest, IsOpen, IsReached, IsSearch, rank_of, unreached};
 
-use crate::deal::{Deal, NONE, Search};
+use crate::deal::{Deal, PLACES, Search, column_at, place_of};
 
 /// Whether row `i` is reached.
 fn is_reached(deal: &Deal, search: &Search, n: usize, i: usize) -> bool
     requires rows { n < 32 }
     requires row { i ≤ n }
     requires columns { AreColumns deal.now n }
-    ensures { Decides result (IsReachedIn deal.now search.now n i) }
+    ensures { Decides result (IsReached deal.now search.now n i) }
 {
-    i == n || search.ranks[deal.columns[i]] > 0
+    i == n || search.ranks[deal.mate(i)] > 0
 }
 
 /// Of a pair and those of row `i` with columns that are not reached, the first with the least slack.
@@ -26,15 +26,15 @@ fn nearest_in_row(
     best: (usize, usize),
 ) -> (usize, usize)
     requires rows { n < 32 }
-    requires covered { IsCoveredDeal deal.now n }
+    requires covered { IsCovered deal.now n }
     requires row { i ≤ n }
     requires best_row { best.0 ≤ n }
     requires best_column { best.1 ≤ 32 }
-    requires best_unreached { slice_index search.now.ranks best.1 ≡ 0 }
-    ensures { IsImprovedIn deal.now search.now n i best result }
+    requires best_unreached { rank_of search.now best.1 ≡ 0 }
+    ensures { IsImproved deal.now search.now i best result }
 {
     let mut nearest = best;
-    for k in 0..33 {
+    for k in 0..PLACES {
         if search.ranks[k] == 0 && deal.slack(n, i, k) < deal.slack(n, nearest.0, nearest.1) {
             nearest = (i, k);
         }
@@ -45,12 +45,12 @@ fn nearest_in_row(
 /// Of the reached rows and the columns that are not reached, the first pair with the least slack.
 fn nearest(deal: &Deal, search: &Search, n: usize) -> (usize, usize)
     requires rows { n < 32 }
-    requires covered { IsCoveredDeal deal.now n }
+    requires covered { IsCovered deal.now n }
     requires columns { AreColumns deal.now n }
-    requires free { slice_index search.now.ranks 32 ≡ 0 }
-    ensures { IsNearestIn deal.now search.now n result.0 result.1 }
+    requires free { rank_of search.now 32 ≡ 0 }
+    ensures { IsNearest deal.now search.now n result.0 result.1 }
 {
-    let mut best = (n, NONE);
+    let mut best = (n, place_of(None));
     for i in 0..n + 1 {
         if is_reached(deal, search, n, i) {
             best = nearest_in_row(deal, search, n, i, best);
@@ -60,14 +60,14 @@ fn nearest(deal: &Deal, search: &Search, n: usize) -> (usize, usize)
 }
 
 /// The gains where the reached rows give up some of theirs.
-fn lowered(deal: &Deal, search: &Search, n: usize, by: u64) -> [u64; 33]
+fn lowered(deal: &Deal, search: &Search, n: usize, by: u64) -> [u64; PLACES]
     requires rows { n < 32 }
     requires columns { AreColumns deal.now n }
-    requires enough { (i : ℕ) → i ≤ n → IsReachedIn deal.now search.now n i → by ≤ slice_index deal.now.gains i }
-    ensures reached { (i : ℕ) → i ≤ n → IsReachedIn deal.now search.now n i
-        → slice_index result i + by ≡ slice_index deal.now.gains i }
-    ensures rest { (i : ℕ) → i < n → slice_index search.now.ranks (slice_index deal.now.columns i) ≡ 0
-        → slice_index result i ≡ slice_index deal.now.gains i }
+    requires enough { (i : ℕ) → i ≤ n → IsReached deal.now search.now n i → by ≤ gain_of deal.now i }
+    ensures reached { (i : ℕ) → i ≤ n → IsReached deal.now search.now n i
+        → slice_index result i + by ≡ gain_of deal.now i }
+    ensures rest { (i : ℕ) → i < n → rank_of search.now (mate_of deal.now i) ≡ 0
+        → slice_index result i ≡ gain_of deal.now i }
 {
     let mut gains = deal.gains;
     for i in 0..n + 1 {
@@ -79,15 +79,15 @@ fn lowered(deal: &Deal, search: &Search, n: usize, by: u64) -> [u64; 33]
 }
 
 /// The prices where those of the reached columns rise.
-fn raised(deal: &Deal, search: &Search, by: u64) -> [u64; 33]
-    requires small { (k : ℕ) → k ≤ 32 → slice_index deal.now.prices k + by < 2 ^ 64 }
-    ensures reached { (k : ℕ) → k ≤ 32 → 1 ≤ slice_index search.now.ranks k
-        → slice_index result k ≡ slice_index deal.now.prices k + by }
-    ensures rest { (k : ℕ) → k ≤ 32 → slice_index search.now.ranks k ≡ 0
-        → slice_index result k ≡ slice_index deal.now.prices k }
+fn raised(deal: &Deal, search: &Search, by: u64) -> [u64; PLACES]
+    requires small { (k : ℕ) → k ≤ 32 → price_of deal.now k + by < 2 ^ 64 }
+    ensures reached { (k : ℕ) → k ≤ 32 → 1 ≤ rank_of search.now k
+        → slice_index result k ≡ price_of deal.now k + by }
+    ensures rest { (k : ℕ) → k ≤ 32 → rank_of search.now k ≡ 0
+        → slice_index result k ≡ price_of deal.now k }
 {
     let mut prices = deal.prices;
-    for k in 0..33 {
+    for k in 0..PLACES {
         if search.ranks[k] > 0 {
             prices[k] += by;
         }
@@ -95,18 +95,18 @@ fn raised(deal: &Deal, search: &Search, by: u64) -> [u64; 33]
     prices
 }
 
-/// Whether one of the rows below `n` has column `k`; nobody has column 32.
+/// Whether one of the rows below `n` has column `k`; many may have none.
 fn is_held(deal: &Deal, n: usize, k: usize) -> bool
     requires rows { n < 32 }
     requires column { k ≤ 32 }
-    ensures held { result ≡ true → (k < 32) × ((i : ℕ) × (i < n) × (slice_index deal.now.columns i ≡ k)) }
-    ensures free { result ≡ false → (i : ℕ) → i < n → slice_index deal.now.columns i ≡ k → k < 32 → ⊥ }
+    ensures held { result ≡ true → (k < 32) × ((i : ℕ) × (i < n) × (mate_of deal.now i ≡ k)) }
+    ensures free { result ≡ false → (i : ℕ) → i < n → mate_of deal.now i ≡ k → k < 32 → ⊥ }
 {
-    if k == NONE {
+    if k == place_of(None) {
         return false;
     }
     for i in 0..n {
-        if deal.columns[i] == k {
+        if deal.mate(i) == k {
             return true;
         }
     }
@@ -117,12 +117,12 @@ fn is_held(deal: &Deal, n: usize, k: usize) -> bool
 fn approach(deal: &mut Deal, search: &Search, n: usize) -> (usize, usize)
     requires rows { n < 32 }
     requires offers { AreDealOffers deal.old }
-    requires search { IsSearchIn deal.old search.now n }
+    requires search { IsSearch deal.old search.now n }
     ensures table { deal.new.table ≡ deal.old.table }
-    ensures search { IsSearchIn deal.new search.now n }
-    ensures row { IsReachedIn deal.new search.now n result.0 }
+    ensures search { IsSearch deal.new search.now n }
+    ensures row { IsReached deal.new search.now n result.0 }
     ensures column { result.1 ≤ 32 }
-    ensures unreached { slice_index search.now.ranks result.1 ≡ 0 }
+    ensures unreached { rank_of search.now result.1 ≡ 0 }
     ensures tight { IsTight deal.new result.0 result.1 }
 {
     let (i, k) = nearest(deal, search, n);
@@ -135,22 +135,21 @@ fn approach(deal: &mut Deal, search: &Search, n: usize) -> (usize, usize)
 
 /// The columns where a free one is handed to its parent, which gives up its own to the parent of that, until row `n`
 /// has one.
-fn hand_over(deal: &Deal, search: &Search, n: usize, last: usize) -> [usize; 33]
+fn hand_over(deal: &Deal, search: &Search, n: usize, last: usize) -> [Option<usize>; PLACES]
     requires rows { n < 32 }
-    requires open { IsOpenIn deal.now search.now n last }
-    ensures { IsFair (offers deal.now.table) (n + 1) (slice_index deal.now.gains) (slice_index deal.now.prices)
-        (slice_index result) }
+    requires open { IsOpen deal.now search.now n last }
+    ensures { IsFair (with_columns deal.now result) (n + 1) }
 {
     let mut columns = deal.columns;
     let mut k = last;
     loop {
         let i = search.parents[k];
         if i == n {
-            columns[n] = k;
+            columns[n] = column_at(k);
             return columns;
         }
-        let freed = columns[i];
-        columns[i] = k;
+        let freed = place_of(columns[i]);
+        columns[i] = column_at(k);
         k = freed;
     }
 }
@@ -159,10 +158,10 @@ fn hand_over(deal: &Deal, search: &Search, n: usize, last: usize) -> [usize; 33]
 fn advance(deal: &mut Deal, search: &mut Search, n: usize) -> bool
     requires rows { n < 32 }
     requires offers { AreDealOffers deal.old }
-    requires search { IsSearchIn deal.old search.old n }
+    requires search { IsSearch deal.old search.old n }
     ensures table { deal.new.table ≡ deal.old.table }
-    ensures found { result ≡ true → IsFairDeal deal.new (n + 1) }
-    ensures more { result ≡ false → IsSearchIn deal.new search.new n }
+    ensures found { result ≡ true → IsFair deal.new (n + 1) }
+    ensures more { result ≡ false → IsSearch deal.new search.new n }
     ensures fewer { unreached search.new.ranks < unreached search.old.ranks }
 {
     let (i, k) = approach(deal, search, n);
@@ -178,9 +177,9 @@ fn advance(deal: &mut Deal, search: &mut Search, n: usize) -> bool
 pub(crate) fn add_row(deal: &mut Deal, n: usize)
     requires rows { n < 32 }
     requires offers { AreDealOffers deal.old }
-    requires fair { IsFairDeal deal.old n }
+    requires fair { IsFair deal.old n }
     ensures table { deal.new.table ≡ deal.old.table }
-    ensures fair { IsFairDeal deal.new (n + 1) }
+    ensures fair { IsFair deal.new (n + 1) }
 {
     deal.gains[n] = 1 << 40;
     let mut search = Search::new();

@@ -1,9 +1,9 @@
 //! A market's solution: an optimal matching, and the two ends of the core.
-ghost use Rattle.std.specs.Prelude.{◌≡◌, ◌+◌, ◌<◌, ◌≤◌, pos, length, slice_index, IfOk};
+ghost use Rattle.std.specs.Prelude.{◌≡◌, ◌+◌, ◌<◌, ◌≤◌, pos, length, IfOk};
 ghost use Rattle.big_assignment.specs.Mates.{pairs_from};
 ghost use Rattle.assignment_games.specs.Assignments.{assignment_game};
 ghost use Rattle.definitions.specs.Sides.{IsBestFor, IsBuyer, IsSeller};
-ghost use Rattle.big_assignment.specs.Deals.{AreColumns};
+ghost use Rattle.big_assignment.specs.Deals.{AreColumns, mate_of};
 ghost use Rattle.big_assignment.specs.Solutions.{IsOptimalMatching, player_pairs};
 
 use crate::deal::Deal;
@@ -38,11 +38,11 @@ fn pairs_of(
     requires few { columns ≤ 32 }
     requires columns { AreColumns deal.now rows }
     ensures { IfOk result
-        (λ pairs. pairs.items ≡ player_pairs rows (pairs_from (slice_index deal.now.columns) columns 0 rows)) }
+        (λ pairs. pairs.items ≡ player_pairs rows (pairs_from (mate_of deal.now) columns 0 rows)) }
 {
     let mut pairs = Vec::new(alloc);
     for i in 0..rows {
-        let column = deal.columns[i as usize] as u32;
+        let column = deal.mate(i as usize) as u32;
         if column < columns {
             pairs.push((i, rows + column))?;
         }

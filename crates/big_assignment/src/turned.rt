@@ -1,70 +1,69 @@
 //! Rows and columns change their parts.
-ghost use Rattle.std.specs.Prelude.{◌≡◌, ℕ, ◌<◌, ◌≤◌, ◌/◌, ◌%◌, slice_index};
-ghost use Rattle.big_assignment.specs.Prices.{Holds, IsTurned};
-ghost use Rattle.big_assignment.specs.Deals.{offers, AreColumns};
+ghost use Rattle.std.specs.Prelude.{◌≡◌, ℕ, ◌<◌, ◌≤◌, ◌/◌, ◌%◌, slice_index, Option};
+ghost use Rattle.big_assignment.specs.Deals.{AreColumns, Holds, IsTurned, gain_of, mates, offer_of, offers, place};
 
-use crate::deal::{Deal, NONE};
+use crate::deal::{Deal, OFFERS, PLACES, SIDE};
 
-/// The row that has column `k`, or 32.
-fn holder(deal: &Deal, rows: usize, k: usize) -> usize
+/// The row that has column `k`.
+fn holder(deal: &Deal, rows: usize, k: usize) -> Option<usize>
     requires rows { rows ≤ 32 }
     requires columns { AreColumns deal.now rows }
-    ensures { Holds rows (slice_index deal.now.columns) k result }
+    ensures { Holds deal.now rows k (place result) }
 {
     for i in 0..rows {
-        if deal.columns[i] == k {
-            return i;
+        if deal.mate(i) == k {
+            return Some(i);
         }
     }
-    NONE
+    None
 }
 
-/// The row that has each column, or 32.
-fn holders(deal: &Deal, rows: usize, columns: usize) -> [usize; 33]
+/// The row that has each column.
+fn holders(deal: &Deal, rows: usize, columns: usize) -> [Option<usize>; PLACES]
     requires rows { rows ≤ 32 }
     requires few { columns ≤ 32 }
     requires columns { AreColumns deal.now rows }
-    ensures { (k : ℕ) → k < columns → Holds rows (slice_index deal.now.columns) k (slice_index result k) }
+    ensures { (k : ℕ) → k < columns → Holds deal.now rows k (mates result k) }
 {
-    let mut held = [NONE; 33];
+    let mut held = [None; PLACES];
     for k in 0..columns {
         held[k] = holder(deal, rows, k);
     }
     held
 }
 
-/// What column `place / 33` asks of row `place % 33`.
+/// What goes to one place of the table that has a row for each column: what the column is offered by a row.
 fn turned_offer(deal: &Deal, place: usize) -> u64
     requires { place < 1056 }
-    ensures row { place % 33 < 32 → result ≡ offers deal.now.table (place % 33) (place / 33) }
+    ensures row { place % 33 < 32 → result ≡ offer_of deal.now (place % 33) (place / 33) }
     ensures none { 32 ≤ place % 33 → result ≡ 0 }
 {
-    if place % 33 < 32 {
-        deal.offer(place % 33, place / 33)
+    if place % PLACES < SIDE {
+        deal.offer(place % PLACES, place / PLACES)
     } else {
         0
     }
 }
 
 /// The table with rows and columns exchanged.
-fn turned_table(deal: &Deal) -> [u64; 1056]
-    ensures offers { (k i : ℕ) → k < 32 → i < 32 → offers result k i ≡ offers deal.now.table i k }
+fn turned_table(deal: &Deal) -> [u64; OFFERS]
+    ensures offers { (k i : ℕ) → k < 32 → i < 32 → offers result k i ≡ offer_of deal.now i k }
     ensures none { (k : ℕ) → k < 32 → offers result k 32 ≡ 0 }
 {
-    let mut table = [0; 1056];
-    for place in 0..1056usize {
+    let mut table = [0; OFFERS];
+    for place in 0..OFFERS {
         table[place] = turned_offer(deal, place);
     }
     table
 }
 
 /// The gains of the rows, and 0 beside them.
-fn gains_alone(deal: &Deal, rows: usize) -> [u64; 33]
+fn gains_alone(deal: &Deal, rows: usize) -> [u64; PLACES]
     requires { rows ≤ 32 }
-    ensures gains { (i : ℕ) → i < rows → slice_index result i ≡ slice_index deal.now.gains i }
+    ensures gains { (i : ℕ) → i < rows → slice_index result i ≡ gain_of deal.now i }
     ensures none { (i : ℕ) → rows ≤ i → slice_index result i ≡ 0 }
 {
-    let mut gains = [0; 33];
+    let mut gains = [0; PLACES];
     for i in 0..rows {
         gains[i] = deal.gains[i];
     }
@@ -76,9 +75,7 @@ pub(crate) fn exchanged(deal: &Deal, rows: usize, columns: usize) -> Deal
     requires rows { rows ≤ 32 }
     requires few { columns ≤ 32 }
     requires columns { AreColumns deal.now rows }
-    ensures { IsTurned (offers deal.now.table) rows columns
-        (slice_index deal.now.gains) (slice_index deal.now.prices) (slice_index deal.now.columns)
-        (offers result.table) (slice_index result.gains) (slice_index result.prices) (slice_index result.columns) }
+    ensures { IsTurned deal.now rows columns result }
 {
     Deal {
         table: turned_table(deal),

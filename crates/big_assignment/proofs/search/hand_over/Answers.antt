@@ -1,34 +1,37 @@
-use Rattle.std.proofs.Common.{◌<◌, slice_index, slice_set, arith, inl, inr, ◌∙◌}
-use Rattle.big_assignment.specs.Deals.{offers}
+use Rattle.std.proofs.Common.{ℕ, ◌<◌, slice_set, arith, inl, inr, ◌∙◌, subst, sym}
 use Rattle.std.proofs.lemmas.List.{length-set}
-use Rattle.big_assignment.proofs.Arrays.{put_set}
+use Rattle.big_assignment.specs.Deals.{with_columns}
+use Rattle.big_assignment.specs.Searches.{IsOpen, parent_of}
+use Rattle.big_assignment.proofs.Arrays.{taken_set}
 use Rattle.big_assignment.proofs.Walks.{walk_on, walk_end}
 use Rattle.big_assignment.proofs.search.hand_over.Goals as goal
 
 pub returns-then-i-n : goal.returns-then-i-n
 returns-then-i-n c =
-    let d = c.args.deal.now in
-    let s = c.args.search.now in
     let l = c.loop-columns in
     let n = c.args.n in
-    walk_end (offers d.table) n (slice_index d.gains) (slice_index d.prices) (slice_index l.columns)
-    (slice_index (slice_set l.columns n l.k)) (slice_index s.ranks) (slice_index s.parents) l.k l.invariant.1
-    c.if-i-n.true
-    (put_set l.columns n l.k (let few = c.requires.rows in let size = l.invariant.0 in omega (arith, few, size)))
+    walk_end (with_columns c.args.deal.now l.columns) c.args.search.now n l.k
+    (slice_set l.columns n c.column_at.result) l.invariant.1 c.if-i-n.true
+    (taken_set l.columns n l.k c.column_at.result
+    (let few = c.requires.rows in let size = l.invariant.0 in omega (arith, few, size)) c.column_at.ensures)
 
 pub loop-columns-preserved : goal.loop-columns-preserved
 loop-columns-preserved c =
-    let d = c.args.deal.now in
     let s = c.args.search.now in
     let l = c.loop-columns in
     let n = c.args.n in
-    let i = slice_index s.parents l.k in
+    let i = parent_of s l.k in
     let joined = (l.invariant.1.joined l.k l.invariant.1.column l.invariant.1.ranked (omega arith)).earlier in
     let few = c.requires.rows in
     let size = l.invariant.0 in
     let lt : i < n = (elim joined [ inl e ↦ absurd (c.if-i-n.false e) | inr e ↦ e.0 ]) in
-    let step =
-    walk_on (offers d.table) n (slice_index d.gains) (slice_index d.prices) (slice_index l.columns)
-    (slice_index (slice_set l.columns i l.k)) (slice_index s.ranks) (slice_index s.parents) l.k l.invariant.1
-    c.if-i-n.false (put_set l.columns i l.k (omega (arith, lt, few, size))) in
-    (length-set l.columns i l.k ∙ size, step.0)
+    let on =
+    walk_on (with_columns c.args.deal.now l.columns) s n l.k
+    (slice_set l.columns i c.column_at-in-loop-columns.result)
+    l.invariant.1 c.if-i-n.false
+    (taken_set l.columns i l.k c.column_at-in-loop-columns.result (omega (arith, lt, few, size))
+    c.column_at-in-loop-columns.ensures) in
+    let columns = slice_set l.columns i c.column_at-in-loop-columns.result in (
+      length-set l.columns i c.column_at-in-loop-columns.result ∙ size,
+      subst (λ (k : ℕ). IsOpen (with_columns c.args.deal.now columns) s n k) (sym c.place_of-freed.ensures) on.0,
+    )

@@ -1,5 +1,6 @@
-use Rattle.std.proofs.Common.{◌≢◌, ℕ, ◌<◌, slice_index}
+use Rattle.std.proofs.Common.{◌≢◌, ℕ, ◌<◌}
+use Rattle.big_assignment.specs.Deals.{mate_of}
 use Rattle.big_assignment.proofs.search.is_held.Given as goal
 
 abbrev pub invariant-loop-i : goal.invariant-loop-i
-invariant-loop-i l = (j : ℕ) → j < l.i → slice_index l.deal.columns j ≢ l.k
+invariant-loop-i l = (j : ℕ) → j < l.i → mate_of l.deal j ≢ l.k

@@ -1,8 +1,7 @@
 use Rattle.std.proofs.Common.{◌≡◌, ℕ, List, length, sym, subst}
 use Rattle.matrices.specs.Rows.{entries_of}
 use Rattle.big_assignment.specs.Markets.{offered}
-use Rattle.big_assignment.specs.Deals.{offers}
-use Rattle.big_assignment.specs.Prices.{AreOffers}
+use Rattle.big_assignment.specs.Deals.{AreOffers, offers}
 use Rattle.big_assignment.proofs.market_game.MarketGame.deal.Goals as goal
 
 pub add_row-requires-clause-offers : goal.add_row-requires-clause-offers

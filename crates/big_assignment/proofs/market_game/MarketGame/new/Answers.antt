@@ -38,20 +38,20 @@ returns-then-buyers-lt1 c =
 pub returns-then-sellers-lt1 : goal.returns-then-sellers-lt1
 returns-then-sellers-lt1 c =
     no_sellers (λ row. row.items) c.args.matrix.items c.len-buyers.result (search rules) c.index.result.now
-    c.len-sellers.result c.if-buyers-lt1.false c.if-buyers-gt32.false c.index.ensures (search rules)
+    c.len-sellers.result c.if-buyers-lt1.false c.if-buyers-gt-SIDE.false c.index.ensures (search rules)
     c.then-sellers-lt1.either
 
 pub returns-then-not-have_entries : goal.returns-then-not-have_entries
 returns-then-not-have_entries c =
     no_entries (λ row. row.items) c.args.matrix.items c.len-buyers.result (search rules) c.index.result.now
-    c.len-sellers.result c.if-buyers-lt1.false c.if-buyers-gt32.false c.index.ensures (search rules)
-    c.if-sellers-lt1.false c.if-sellers-gt32.false c.have_entries.result c.deref.result.now c.deref.ensures.value
+    c.len-sellers.result c.if-buyers-lt1.false c.if-buyers-gt-SIDE.false c.index.ensures (search rules)
+    c.if-sellers-lt1.false c.if-sellers-gt-SIDE.false c.have_entries.result c.deref.result.now c.deref.ensures.value
     c.if-not-have_entries.true c.have_entries.ensures.1
 
 pub returns-then-not-have_length : goal.returns-then-not-have_length
 returns-then-not-have_length c =
     uneven (λ row. row.items) c.args.matrix.items c.len-buyers.result (search rules) c.index.result.now
-    c.len-sellers.result c.if-buyers-lt1.false c.if-buyers-gt32.false c.index.ensures (search rules)
-    c.if-sellers-lt1.false c.if-sellers-gt32.false c.have_entries.result c.have_length.result c.deref.result.now
+    c.len-sellers.result c.if-buyers-lt1.false c.if-buyers-gt-SIDE.false c.index.ensures (search rules)
+    c.if-sellers-lt1.false c.if-sellers-gt-SIDE.false c.have_entries.result c.have_length.result c.deref.result.now
     c.deref-2.result.now c.deref.ensures.value c.if-not-have_entries.false c.have_entries.ensures.0
     c.deref-2.ensures.value c.if-not-have_length.true c.have_length.ensures.1

@@ -4,49 +4,41 @@ use Rattle.definitions.specs.Sides.{IsBestFor, IsSeller}
 use Rattle.assignment_games.specs.Assignments.{assignment_game}
 use Rattle.big_assignment.specs.Mates.{payoff}
 use Rattle.big_assignment.specs.Solutions.{IsWhole}
-use Rattle.big_assignment.specs.Deals.{offers}
+use Rattle.big_assignment.specs.Deals.{at_prices}
 use Rattle.big_assignment.proofs.Turns.{turned_offers}
 use Rattle.big_assignment.proofs.Solved.{turned_deal, turned_small, sellers_end}
 use Rattle.big_assignment.proofs.market_game.MarketGame.sellers_end.Goals as goal
 
 pub cheapest-high-requires-clause-fair : goal.cheapest-high-requires-clause-fair
 cheapest-high-requires-clause-fair c =
-    let d = c.args.deal.now in
-    let t = c.exchanged-turned.result in
-    turned_deal (offers d.table) c.args.self.now c.buyers-rows.result c.sellers-columns.result (slice_index d.gains)
-    (slice_index d.prices) (slice_index d.columns) (offers t.table) (slice_index t.gains) (slice_index t.prices)
-    (slice_index t.columns) c.buyers-rows.ensures.laws c.requires.table c.requires.fair
+    turned_deal c.args.deal.now c.args.self.now c.buyers-rows.result c.sellers-columns.result
+    c.exchanged-turned.result c.buyers-rows.ensures.laws c.requires.table c.requires.fair
     c.buyers-rows.ensures.count c.sellers-columns.ensures.count c.exchanged-turned.ensures
 
 pub shares_of-requires-clause-small : goal.shares_of-requires-clause-small
 shares_of-requires-clause-small c =
-    let d = c.args.deal.now in
     let t = c.exchanged-turned.result in
     let h = c.cheapest-high.result in
     let n = c.players.ensures.count in
     let e = c.buyers-rows.ensures.count in
     let s = c.sellers-columns.ensures.count in
     let p = c.buyers-rows.ensures.laws.players in
-    λ k lt. turned_small (offers t.table) c.buyers-rows.result c.sellers-columns.result c.players.result k
-    (slice_index h.gains) (slice_index h.prices) (slice_index t.columns)
-    (turned_offers (offers d.table) c.buyers-rows.result c.sellers-columns.result (slice_index d.gains)
-    (slice_index d.prices) (slice_index d.columns) (offers t.table) (slice_index t.gains) (slice_index t.prices)
-    (slice_index t.columns) c.requires.offers_small c.exchanged-turned.ensures)
+    λ k lt. turned_small (at_prices t h.gains h.prices) c.buyers-rows.result c.sellers-columns.result c.players.result
+    k
+    (turned_offers c.args.deal.now c.buyers-rows.result c.sellers-columns.result t c.exchanged-turned.ensures
+    c.requires.offers_small)
     (omega (arith, e, p.1)) (omega (arith, s, p.3)) (omega (arith, n, e, s)) c.cheapest-high.ensures.fair lt
 
 pub returns-clause-best : goal.returns-clause-best
 returns-clause-best c =
-    let d = c.args.deal.now in
-    let t = c.exchanged-turned.result in
     let h = c.cheapest-high.result in
     let rows = c.args.self.now in
     IfOk-weaker c.shares_of.result
     (λ x. IsWhole c.players.result x 1 (payoff c.buyers-rows.result (slice_index h.prices) (slice_index h.gains)))
     (IsBestFor (assignment_game rows) (IsSeller (length rows)))
-    (λ x whole. sellers_end (offers d.table) rows c.buyers-rows.result c.sellers-columns.result c.players.result
-    (slice_index d.gains) (slice_index d.prices) (slice_index d.columns) (offers t.table) (slice_index t.gains)
-    (slice_index t.prices) (slice_index t.columns) (slice_index h.gains) (slice_index h.prices) x
-    c.buyers-rows.ensures.laws c.requires.table c.requires.fair c.buyers-rows.ensures.count
+    (λ x whole. sellers_end c.args.deal.now rows c.buyers-rows.result c.sellers-columns.result c.players.result
+    c.exchanged-turned.result h.gains h.prices x c.buyers-rows.ensures.laws c.requires.table c.requires.fair
+    c.buyers-rows.ensures.count
     c.sellers-columns.ensures.count c.players.ensures.count c.exchanged-turned.ensures
     c.cheapest-high.ensures.fair c.cheapest-high.ensures.below whole)
     c.shares_of.ensures

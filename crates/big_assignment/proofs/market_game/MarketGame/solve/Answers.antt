@@ -1,5 +1,3 @@
-use Rattle.std.proofs.Common.{slice_index}
-use Rattle.big_assignment.specs.Deals.{offers}
 use Rattle.big_assignment.proofs.Solved.{value_kept, pairs_end}
 use Rattle.big_assignment.proofs.market_game.MarketGame.solve.Goals as goal
 
@@ -8,7 +6,6 @@ returns-clause-pairs c =
     let d = c.deal_of_all-deal.result in
     let h = c.deal_of_all-deal.ensures in
     let rows = c.args.self.now in
-    pairs_end (offers d.table) rows c.buyers.result c.sellers.result (slice_index d.gains) (slice_index d.prices)
-    (slice_index d.columns) c.in_ok-pairs.pairs.items _ c.buyers.ensures.laws h.table h.fair
-    c.buyers.ensures.count c.sellers.ensures.count c.in_ok-pairs.ensures
+    pairs_end d rows c.buyers.result c.sellers.result c.in_ok-pairs.pairs.items _ c.buyers.ensures.laws h.table
+    h.fair c.buyers.ensures.count c.sellers.ensures.count c.in_ok-pairs.ensures
     (value_kept rows c.everybody.result c.worth.result c.buyers.ensures.laws c.everybody.ensures c.worth.ensures)

@@ -1,7 +1,6 @@
 use Rattle.std.proofs.Common.{ℕ, ◌^◌, ◌≤◌, length, pos, w64, slice_index, subst, sym, ap, ◌∙◌, arith}
 use Rattle.std.proofs.lemmas.Int.{to_z_pos}
 use Rattle.big_assignment.specs.Mates.{payoff, total_below}
-use Rattle.big_assignment.specs.Deals.{offers}
 use Rattle.big_assignment.proofs.Worths.{worth_total, payoff_small}
 use Rattle.big_assignment.proofs.market_game.MarketGameWorth.worth.Goals as goal
 
@@ -12,8 +11,8 @@ total-requires-clause-small c =
     let n = c.players.ensures.count in
     let p = b.laws.players in
     λ k lt. subst (λ (r : ℕ). payoff r (slice_index d.gains) (slice_index d.prices) k ≤ 2 ^ 40) (sym b.count)
-    (payoff_small (offers d.table) (length c.args.self.now) k (slice_index d.gains) (slice_index d.prices)
-    (slice_index d.columns) c.deal-deal.ensures.offers p.1 c.deal-deal.ensures.fair (omega (arith, lt, n, p.3)))
+    (payoff_small d (length c.args.self.now) k c.deal-deal.ensures.offers p.1 c.deal-deal.ensures.fair
+    (omega (arith, lt, n, p.3)))
 
 pub returns : goal.returns
 returns c =
@@ -26,5 +25,4 @@ returns c =
     ∙ ap pos (c.total.ensures.value
     ∙ ap (λ (r : ℕ). total_below c.players.result (payoff r (slice_index d.gains) (slice_index d.prices))) b.count
     ∙ ap (λ (k : ℕ). total_below k (payoff (length c.args.self.now) (slice_index d.gains) (slice_index d.prices))) n
-    ∙ worth_total (offers d.table) c.args.self.now c.args.s (slice_index d.gains) (slice_index d.prices)
-    (slice_index d.columns) b.laws c.requires c.deal-deal.ensures.table c.deal-deal.ensures.fair)
+    ∙ worth_total d c.args.self.now c.args.s b.laws c.requires c.deal-deal.ensures.table c.deal-deal.ensures.fair)
