@@ -11,11 +11,11 @@ abbrev pub Same : (ℕ → Bool) → (ℕ → Bool) → Type 0
 Same a b = (j : ℕ) → a j ≡ b j
 
 pub joined-within : (a b : ℕ → Bool) (p : ℕ) → Within a b → Within (joined a p) (joined b p)
-joined-within a b p h j = step (nat_eq j p) (a j) (b j) (h j)
+joined-within a b p h j = or_within (nat_eq j p) (a j) (b j) (h j)
   where
-    step : (t x y : Bool) → (x ≡ true → y ≡ true) → (t || x) ≡ true → (t || y) ≡ true
-    step true x y k e = refl
-    step false x y k e = k e
+    or_within : (t x y : Bool) → (x ≡ true → y ≡ true) → (t || x) ≡ true → (t || y) ≡ true
+    or_within true x y k e = refl
+    or_within false x y k e = k e
 
 pub removed-same : (a b : ℕ → Bool) (p : ℕ) → Same a b → Same (removed a p) (removed b p)
 removed-same a b p h j = ap (λ x. not (nat_eq j p) && x) (h j)

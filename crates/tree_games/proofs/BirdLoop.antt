@@ -124,7 +124,7 @@ bird_start t num waiting h len made e = record {
       ap (λ (w : ℕ → Bool). count w (length t)) points
       ∙ ap (λ (k : ℕ). count (is_point_of (grand_coalition (length t - 1))) k) whole
       ∙ count-all (is_point_of (grand_coalition (length t - 1))) (length t - 1) refl
-      (λ i lt. has_player-grand_coalition (length t - 1) i lt) ∙ less;
+      (λ i lt. has_player-grand_coalition (length t - 1) i lt) ∙ less_nothing;
   source = refl;
   near = λ b cb. alone b (ap (λ (c : ℕ → Bool). c b) (sym source_alone) ∙ cb);
   far = λ j wj. within j
@@ -142,8 +142,8 @@ bird_start t num waiting h len made e = record {
     whole : length t ≡ suc (length t - 1)
     whole = let some = h.points.0 in omega (arith, some)
 
-    less : length t - 1 ≡ length t - 1 - 0
-    less = omega arith
+    less_nothing : length t - 1 ≡ length t - 1 - 0
+    less_nothing = omega arith
 
     alone : (b : ℕ) → is_source b ≡ true → b < length t
     alone b e = let z = from_nat_eq b 0 e in let some = h.points.0 in omega (arith, z, some)
@@ -197,11 +197,11 @@ bird_takes t k num next edges after connected joint waiting less end p v cost tr
             taken.0,
             taken.1,
             taken.2,
-            subst (λ (c : ℕ → Bool). IsBirdFrom (entries_of t) c (removed (has_player waiting) p) rest) more
+            subst (λ (c : ℕ → Bool). IsBirdFrom (entries_of t) c (removed (has_player waiting) p) rest) joint_is
                 (subst (λ (w : ℕ → Bool). IsBirdFrom (entries_of t) (has_player joint) w rest) fewer b),
           ));
       left =
-          (let a = count-removed (has_player waiting) (length t) p low.1 taken.1 in
+          (let a = count-removed (has_player waiting) (length t) p point_range.1 taken.1 in
           let b = ap (λ (w : ℕ → Bool). count w (length t)) fewer in let c = h.left in omega (arith, a, b, c));
       source = joins 0 ∙ or_right (nat_eq 0 p) (has_player connected 0) h.source;
       near = λ b cb. in_joint b (nat_eq b p) (has_player connected b) (from_nat_eq b p) (h.near b) (sym (joins b) ∙ cb);
@@ -216,8 +216,8 @@ bird_takes t k num next edges after connected joint waiting less end p v cost tr
       small = λ i lt. small_at i (same_or_other i (p - 1)) (h.small i lt);
     }
   where
-    more : has_player joint ≡ joined (has_player connected) p
-    more = fun_ext joins
+    joint_is : has_player joint ≡ joined (has_player connected) p
+    joint_is = fun_ext joins
 
     fewer : has_player less ≡ removed (has_player waiting) p
     fewer = fun_ext leaves
@@ -225,29 +225,29 @@ bird_takes t k num next edges after connected joint waiting less end p v cost tr
     plan : plan_of after ≡ plan_of edges ++ (end, p) ∷ []
     plan = ap plan_of pushed ∙ map-append (λ (e : ℕ × ℕ × ℤ). (e.0, e.1)) edges ((end, p, cost) ∷ [])
 
-    low : (1 ≤ p) × (p < length t)
-    low = h.far p taken.1
+    point_range : (1 ≤ p) × (p < length t)
+    point_range = h.far p taken.1
 
     cheap : (z : ℤ) → z ≡ pos (entries_of t end p) → IsNumber z
     cheap z e = let k = entries-small t end p tree.entries in rw e (omega (arith, ints, k), omega (arith, ints, k))
 
     edge : IsEdge t (end, p, cost)
-    edge = record { end = h.near end taken.0; player = low; cost = price; small = cheap cost price }
+    edge = record { end = h.near end taken.0; player = point_range; cost = price; small = cheap cost price }
 
     in_num : p - 1 < length num
-    in_num = let a = low.0 in let b = low.1 in let c = h.len in omega (arith, a, b, c)
+    in_num = let a = point_range.0 in let b = point_range.1 in let c = h.len in omega (arith, a, b, c)
 
     paid : Paid t next less (end, p)
     paid = (
       leaves p ∙ ap (λ b. not b && has_player waiting p) (nat_eq-same p),
-      low.0,
+      point_range.0,
       ap (λ (l : List ℤ). get_or l (p - 1) (pos 0)) write ∙ get_or-set_same num (p - 1) v (pos 0) in_num
           ∙ value,
     )
 
     in_joint : (b : ℕ) (x y : Bool) → (x ≡ true → b ≡ p) → (y ≡ true → b < length t) → (x || y) ≡ true
         → b < length t
-    in_joint b true y f g e = let z = f refl in let u = low.1 in omega (arith, z, u)
+    in_joint b true y f g e = let z = f refl in let u = point_range.1 in omega (arith, z, u)
     in_joint b false y f g e = g e
 
     still : (x : ℕ × ℕ) → Paid t num waiting x → Paid t next less x
@@ -261,7 +261,7 @@ bird_takes t k num next edges after connected joint waiting less end p v cost tr
     )
       where
         apart : (j : ℕ) → 1 ≤ j → (j ≡ p → ⊥) → j - 1 ≢ p - 1
-        apart j some ne e = ne (let a = low.0 in omega (arith, a, e))
+        apart j some ne e = ne (let a = point_range.0 in omega (arith, a, e))
 
     small_at : (i : ℕ) → (i ≡ p - 1) ⊎ (i ≢ p - 1) → IsNumber (neg_ℤ (get_or num i (pos 0)))
         → IsNumber (neg_ℤ (get_or next i (pos 0)))
@@ -270,10 +270,10 @@ bird_takes t k num next edges after connected joint waiting less end p v cost tr
         ap (λ (l : List ℤ). get_or l i (pos 0)) write
         ∙ ap (λ (j : ℕ). get_or (set num (p - 1) v) j (pos 0)) same
         ∙ get_or-set_same num (p - 1) v (pos 0) in_num in
-        rw at (cheap (neg_ℤ v) (turned v (entries_of t end p) value))
+        rw at (cheap (neg_ℤ v) (negated v (entries_of t end p) value))
       where
-        turned : (v : ℤ) (k : ℕ) → v ≡ neg_ℤ (pos k) → neg_ℤ v ≡ pos k
-        turned v k e = omega (arith, ints)
+        negated : (v : ℤ) (k : ℕ) → v ≡ neg_ℤ (pos k) → neg_ℤ v ≡ pos k
+        negated v k e = omega (arith, ints)
     small_at i (inr other) k =
         let at : get_or next i (pos 0) ≡ get_or num i (pos 0) =
         ap (λ (l : List ℤ). get_or l i (pos 0)) write ∙ get_or-set_other num (p - 1) i v (pos 0) other in
@@ -314,10 +314,10 @@ bird_end t k num edges connected waiting tree h end = record {
 }
   where
     nobody : (j : ℕ) → has_player waiting j ≡ false
-    nobody j = not_true (has_player waiting j) (λ e. false≢true (sym (none j e) ∙ e))
+    nobody j = not_true (has_player waiting j) (λ e. false≢true (sym (none_waits j e) ∙ e))
       where
-        none : (j : ℕ) → has_player waiting j ≡ true → has_player waiting j ≡ false
-        none j e =
+        none_waits : (j : ℕ) → has_player waiting j ≡ true → has_player waiting j ≡ false
+        none_waits j e =
             let left = h.left in count-none (has_player waiting) (length t) j (omega (arith, left, end)) (h.far j e).1
 
     bird : IsBirdPlan (entries_of t) (grand_coalition (length t - 1)) (plan_of edges)

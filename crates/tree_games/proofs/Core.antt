@@ -54,56 +54,58 @@ paid matrix s (p ∷ plan) = (if s p.1 then entry matrix p.0 p.1 else 0) + paid 
 paid-outside : (matrix : Matrix) (s : ℕ → Bool) (plan : List (ℕ × ℕ))
     → paid matrix s plan + plan_cost matrix (outside s plan) ≡ plan_cost matrix plan
 paid-outside matrix s [] = refl
-paid-outside matrix s (p ∷ plan) = step (s p.1) (paid-outside matrix s plan)
+paid-outside matrix s (p ∷ plan) = paid_or_outside (s p.1) (paid-outside matrix s plan)
   where
-    step : (b : Bool) → paid matrix s plan + plan_cost matrix (outside s plan) ≡ plan_cost matrix plan
+    paid_or_outside : (b : Bool) → paid matrix s plan + plan_cost matrix (outside s plan) ≡ plan_cost matrix plan
         → cond b (entry matrix p.0 p.1) 0 + paid matrix s plan
         + plan_cost matrix (cond b (outside s plan) (p ∷ outside s plan))
         ≡ entry matrix p.0 p.1 + plan_cost matrix plan
-    step true ih = omega (arith, ih)
-    step false ih = omega (arith, ih)
+    paid_or_outside true ih = omega (arith, ih)
+    paid_or_outside false ih = omega (arith, ih)
 
 outside-attaches : (s c w d u : ℕ → Bool) (plan : List (ℕ × ℕ)) → Within c d → Within (λ j. w j && s j) d
     → Same u (λ j. w j && not (s j)) → IsAttachment c w plan → IsAttachment d u (outside s plan)
 outside-attaches s c w d u [] h k e a = λ j. e j ∙ ap (λ b. b && not (s j)) (a j)
 outside-attaches s c w d u (p ∷ plan) h k e a =
     cases (s p.1) refl
-    (λ inside. outside-attaches s (joined c p.1) (removed w p.1) d u plan (from_joined inside) less
+    (λ inside. outside-attaches s (joined c p.1) (removed w p.1) d u plan (from_joined inside) fewer_within
     (same_inside inside) a.2)
     (λ out. outside-attaches s (joined c p.1) (removed w p.1) (joined d p.1) (removed u p.1) plan
-    (joined-within c d p.1 h) (λ j t. to_joined j (less j t)) same_outside a.2)
+    (joined-within c d p.1 h) (λ j t. to_joined j (fewer_within j t)) same_outside a.2)
   where
     from_joined : s p.1 ≡ true → Within (joined c p.1) d
     from_joined inside j t =
-        step (nat_eq j p.1) (c j) (λ f. ap d (from_nat_eq j p.1 f) ∙ k p.1 (rw (a.1, inside) refl)) (h j) t
+        either_within (nat_eq j p.1) (c j) (λ f. ap d (from_nat_eq j p.1 f) ∙ k p.1 (rw (a.1, inside) refl)) (h j) t
       where
-        step : (b x : Bool) → (b ≡ true → d j ≡ true) → (x ≡ true → d j ≡ true) → (b || x) ≡ true → d j ≡ true
-        step true x f g e = f refl
-        step false x f g e = g e
+        either_within : (b x : Bool) → (b ≡ true → d j ≡ true) → (x ≡ true → d j ≡ true) → (b || x) ≡ true
+            → d j ≡ true
+        either_within true x f g e = f refl
+        either_within false x f g e = g e
 
-    less : Within (λ j. removed w p.1 j && s j) d
-    less j t = k j (step (not (nat_eq j p.1)) (w j) (s j) t)
+    fewer_within : Within (λ j. removed w p.1 j && s j) d
+    fewer_within j t = k j (last_two (not (nat_eq j p.1)) (w j) (s j) t)
       where
-        step : (x y z : Bool) → ((x && y) && z) ≡ true → (y && z) ≡ true
-        step true y z e = e
-        step false y z e = absurd (false≢true e)
+        last_two : (x y z : Bool) → ((x && y) && z) ≡ true → (y && z) ≡ true
+        last_two true y z e = e
+        last_two false y z e = absurd (false≢true e)
 
     to_joined : (j : ℕ) → d j ≡ true → joined d p.1 j ≡ true
     to_joined j e = or_right (nat_eq j p.1) (d j) e
 
     same_inside : s p.1 ≡ true → Same u (λ j. removed w p.1 j && not (s j))
-    same_inside inside j = e j ∙ step (nat_eq j p.1) (w j) (s j) (λ t. ap s (from_nat_eq j p.1 t) ∙ inside)
+    same_inside inside j =
+        e j ∙ outside_is_removed (nat_eq j p.1) (w j) (s j) (λ t. ap s (from_nat_eq j p.1 t) ∙ inside)
       where
-        step : (b y z : Bool) → (b ≡ true → z ≡ true) → (y && not z) ≡ ((not b && y) && not z)
-        step true y z f = rw (f refl) (and_false y)
-        step false y z f = refl
+        outside_is_removed : (b y z : Bool) → (b ≡ true → z ≡ true) → (y && not z) ≡ ((not b && y) && not z)
+        outside_is_removed true y z f = rw (f refl) (and_false y)
+        outside_is_removed false y z f = refl
 
     same_outside : Same (removed u p.1) (λ j. removed w p.1 j && not (s j))
-    same_outside j = ap (λ b. not (nat_eq j p.1) && b) (e j) ∙ step (not (nat_eq j p.1)) (w j) (not (s j))
+    same_outside j = ap (λ b. not (nat_eq j p.1) && b) (e j) ∙ and_grouped (not (nat_eq j p.1)) (w j) (not (s j))
       where
-        step : (x y z : Bool) → (x && (y && z)) ≡ ((x && y) && z)
-        step true y z = refl
-        step false y z = refl
+        and_grouped : (x y z : Bool) → (x && (y && z)) ≡ ((x && y) && z)
+        and_grouped true y z = refl
+        and_grouped false y z = refl
 
     cases : (b : Bool) → s p.1 ≡ b → (s p.1 ≡ true → IsAttachment d u (outside s plan))
         → (s p.1 ≡ false → IsAttachment (joined d p.1) (removed u p.1) (outside s plan))
@@ -117,33 +119,33 @@ attachment-append : (c w u v : ℕ → Bool) (plan rest : List (ℕ × ℕ)) →
     → ((j : ℕ) → w j ≡ true → u j ≡ false) → IsAttachment c w plan → IsAttachment (λ j. c j || w j) u rest
     → IsAttachment c v (plan ++ rest)
 attachment-append c w u v [] rest same apart a b =
-    attachment-more (λ j. c j || w j) c u v rest (λ j t. step (c j) (w j) (a j) t)
+    attachment-more (λ j. c j || w j) c u v rest (λ j t. first_of_or (c j) (w j) (a j) t)
     (λ j. sym (same j ∙ ap (λ x. x || u j) (a j))) b
   where
-    step : (x y : Bool) → y ≡ false → (x || y) ≡ true → x ≡ true
-    step true y e t = refl
-    step false y e t = absurd (false≢true (sym e ∙ t))
+    first_of_or : (x y : Bool) → y ≡ false → (x || y) ≡ true → x ≡ true
+    first_of_or true y e t = refl
+    first_of_or false y e t = absurd (false≢true (sym e ∙ t))
 attachment-append c w u v (p ∷ plan) rest same apart a b = (
   a.0,
   same p.1 ∙ rw a.1 refl,
   attachment-append (joined c p.1) (removed w p.1) u (removed v p.1) plan rest onward
       (λ j t. apart j (and_right (not (nat_eq j p.1)) (w j) t)) a.2
       (attachment-more (λ j. c j || w j) (λ j. joined c p.1 j || removed w p.1 j) u u rest
-      (λ j. more (nat_eq j p.1) (c j) (w j)) (λ j. refl) b),
+      (λ j. or_joined (nat_eq j p.1) (c j) (w j)) (λ j. refl) b),
 )
   where
-    more : (b x y : Bool) → (x || y) ≡ true → ((b || x) || (not b && y)) ≡ true
-    more true x y e = refl
-    more false x y e = e
+    or_joined : (b x y : Bool) → (x || y) ≡ true → ((b || x) || (not b && y)) ≡ true
+    or_joined true x y e = refl
+    or_joined false x y e = e
 
     onward : Same (removed v p.1) (λ j. removed w p.1 j || u j)
     onward j =
         ap (λ x. not (nat_eq j p.1) && x) (same j)
-        ∙ step (nat_eq j p.1) (w j) (u j) (λ t. ap u (from_nat_eq j p.1 t) ∙ apart p.1 a.1)
+        ∙ apart_or (nat_eq j p.1) (w j) (u j) (λ t. ap u (from_nat_eq j p.1 t) ∙ apart p.1 a.1)
       where
-        step : (b x y : Bool) → (b ≡ true → y ≡ false) → (not b && (x || y)) ≡ ((not b && x) || y)
-        step true x y f = sym (f refl)
-        step false x y f = refl
+        apart_or : (b x y : Bool) → (b ≡ true → y ≡ false) → (not b && (x || y)) ≡ ((not b && x) || y)
+        apart_or true x y f = sym (f refl)
+        apart_or false x y f = refl
 
 -- ---- what a coalition pays is at most the cost of its own plans
 
@@ -154,7 +156,7 @@ paid-least matrix symmetric c w s plan own within prim a =
     outside-attaches s c w (λ j. c j || s j) (λ j. w j && not (s j)) plan (λ j. or_left (c j) (s j))
     (λ j. second (c j) (w j) (s j)) (λ j. refl) (prim-attaches matrix c w plan prim) in
     let whole =
-    attachment-append c s (λ j. w j && not (s j)) w own (outside s plan) (λ j. both (w j) (s j) (within j))
+    attachment-append c s (λ j. w j && not (s j)) w own (outside s plan) (λ j. own_or_rest (w j) (s j) (within j))
     (λ j. apart (w j) (s j)) a rest in
     let least = prim-least matrix symmetric c w plan (own ++ outside s plan) prim whole in
     omega (arith, least, plan_cost-append matrix own (outside s plan), paid-outside matrix s plan)
@@ -164,11 +166,11 @@ paid-least matrix symmetric c w s plan own within prim a =
     second false true z e = e
     second false false z e = absurd (false≢true e)
 
-    both : (x y : Bool) → (y ≡ true → x ≡ true) → x ≡ (y || (x && not y))
-    both true true f = refl
-    both true false f = refl
-    both false true f = absurd (false≢true (f refl))
-    both false false f = refl
+    own_or_rest : (x y : Bool) → (y ≡ true → x ≡ true) → x ≡ (y || (x && not y))
+    own_or_rest true true f = refl
+    own_or_rest true false f = refl
+    own_or_rest false true f = absurd (false≢true (f refl))
+    own_or_rest false false f = refl
 
     apart : (x y : Bool) → y ≡ true → (x && not y) ≡ false
     apart true true e = refl
@@ -210,12 +212,12 @@ share-paid matrix n a s c w (p ∷ plan) range att shares =
     let take =
     sum_points-take n w (λ j. if s j then a (j - 1) else pos 0) p.1 (range p.1 att.1).0 (range p.1 att.1).1
     att.1 in
-    let one = step (s p.1) (a (p.1 - 1)) (entry matrix p.0 p.1) shares.0 in
+    let one = minus_of_cond (s p.1) (a (p.1 - 1)) (entry matrix p.0 p.1) shares.0 in
     omega (arith, linear, ih, take, one)
   where
-    step : (b : Bool) (x : ℤ) (k : ℕ) → x ≡ neg_ℤ (pos k) → cond b x (pos 0) ≡ neg_ℤ (pos (cond b k 0))
-    step true x k e = e
-    step false x k e = refl
+    minus_of_cond : (b : Bool) (x : ℤ) (k : ℕ) → x ≡ neg_ℤ (pos k) → cond b x (pos 0) ≡ neg_ℤ (pos (cond b k 0))
+    minus_of_cond true x k e = e
+    minus_of_cond false x k e = refl
 
 -- ---- the core
 
@@ -248,14 +250,14 @@ amount-paid matrix n s x plan len a shares =
     ∙ share-paid matrix n (share x) (is_point_of s) is_source (is_point_of (grand_coalition n)) plan range a
     shares.1
   where
-    pred : (i : ℕ) → suc i - 1 ≡ i
-    pred i = omega arith
+    suc_less_one : (i : ℕ) → suc i - 1 ≡ i
+    suc_less_one i = omega arith
 
     each : (i : ℕ) → i < n
         → (if has_player s i then share x i else pos 0)
         ≡ (if has_player (grand_coalition n) i then (if has_player s i then share x (suc i - 1) else pos 0)
         else pos 0)
-    each i lt = rw (has_player-grand_coalition n i lt, pred i) refl
+    each i lt = rw (has_player-grand_coalition n i lt, suc_less_one i) refl
 
     range : (j : ℕ) → is_point_of (grand_coalition n) j ≡ true → (1 ≤ j) × (j ≤ n)
     range j e = point_in n (grand_coalition n) j (grand_coalition-within n) e
@@ -288,7 +290,7 @@ pub bird_in_core : (matrix : Matrix) (g : Game) (plan : List (ℕ × ℕ)) (x : 
     → IsTreeGame matrix g → IsBirdPlan matrix (grand_coalition g.players) plan → length x.shares ≡ g.players
     → IsBirdShares matrix plan x → InCore g x
 bird_in_core matrix g plan x symmetric tree bird len shares =
-    ((len, positive), efficient, λ s lt blocks. unblocked s lt blocks)
+    ((len, den_positive), efficient, λ s lt blocks. unblocked s lt blocks)
   where
     prim : IsPrimFrom matrix is_source (is_point_of (grand_coalition g.players)) plan
     prim = bird-prim matrix is_source (is_point_of (grand_coalition g.players)) plan bird
@@ -296,8 +298,8 @@ bird_in_core matrix g plan x symmetric tree bird len shares =
     attaches : IsPlan (grand_coalition g.players) plan
     attaches = prim-attaches matrix is_source (is_point_of (grand_coalition g.players)) plan prim
 
-    positive : pos 1 ≤ℤ x.den
-    positive = let e = shares.0 in omega (arith, ints, e)
+    den_positive : pos 1 ≤ℤ x.den
+    den_positive = let e = shares.0 in omega (arith, ints, e)
 
     paid_by : (s : ℕ) → amount x s ≡ neg_ℤ (pos (paid matrix (is_point_of s) plan))
     paid_by s = amount-paid matrix g.players s x plan len attaches shares

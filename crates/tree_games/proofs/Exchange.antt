@@ -50,22 +50,22 @@ abbrev passed : (ℕ → Bool) → (ℕ → Bool) → (ℕ → Bool) → ℕ →
 passed c w l j = c j || (w j && not (l j))
 
 passed-joined : (c w l : ℕ → Bool) (p : ℕ) → Within (passed c w l) (passed (joined c p) (removed w p) l)
-passed-joined c w l p j = step (nat_eq j p) (c j) (w j) (l j)
+passed-joined c w l p j = passed_later (nat_eq j p) (c j) (w j) (l j)
   where
-    step : (b x y z : Bool) → (x || (y && not z)) ≡ true → ((b || x) || ((not b && y) && not z)) ≡ true
-    step true x y z e = refl
-    step false x y z e = e
+    passed_later : (b x y z : Bool) → (x || (y && not z)) ≡ true → ((b || x) || ((not b && y) && not z)) ≡ true
+    passed_later true x y z e = refl
+    passed_later false x y z e = e
 
 chain-attaches : (f : ℕ) (c w : ℕ → Bool) (path : List (ℕ × ℕ)) (t : ℕ) (l : ℕ → Bool) (rest : List (ℕ × ℕ))
     → c f ≡ true → IsChain f w path t l → IsAttachment (passed c w l) l rest → IsAttachment c w (path ++ rest)
 chain-attaches f c w [] t l rest e h a =
-    attachment-more (passed c w l) c l w rest (λ j. here (c j) (w j) (l j) (h.1 j)) (λ j. sym (h.1 j)) a
+    attachment-more (passed c w l) c l w rest (λ j. only_connected (c j) (w j) (l j) (h.1 j)) (λ j. sym (h.1 j)) a
   where
-    here : (x y z : Bool) → y ≡ z → (x || (y && not z)) ≡ true → x ≡ true
-    here true y z e k = refl
-    here false true true e k = k
-    here false true false e k = absurd (false≢true (sym e))
-    here false false z e k = k
+    only_connected : (x y z : Bool) → y ≡ z → (x || (y && not z)) ≡ true → x ≡ true
+    only_connected true y z e k = refl
+    only_connected false true true e k = k
+    only_connected false true false e k = absurd (false≢true (sym e))
+    only_connected false false z e k = k
 chain-attaches f c w (q ∷ path) t l rest e h a = (
   ap c h.0 ∙ e,
   h.1,
@@ -100,16 +100,17 @@ turned_here matrix c w p b plan cb wp a = record {
   chain = (refl, λ j. refl);
   attaches =
       attachment-more (joined c p) (passed c w (removed w p)) (removed w p) (removed w p) plan
-      (λ j. step (nat_eq j p) (c j) (w j) (λ t. ap w (from_nat_eq j p t) ∙ wp)) (λ j. refl) a;
+      (λ j. joined_or_passed (nat_eq j p) (c j) (w j) (λ t. ap w (from_nat_eq j p t) ∙ wp)) (λ j. refl) a;
   costs = omega arith;
 }
   where
-    step : (b x y : Bool) → (b ≡ true → y ≡ true) → (b || x) ≡ true → (x || (y && not (not b && y))) ≡ true
-    step true true y k e = refl
-    step true false true k e = refl
-    step true false false k e = k refl
-    step false true y k e = refl
-    step false false y k e = absurd (false≢true e)
+    joined_or_passed : (b x y : Bool) → (b ≡ true → y ≡ true) → (b || x) ≡ true
+        → (x || (y && not (not b && y))) ≡ true
+    joined_or_passed true true y k e = refl
+    joined_or_passed true false true k e = refl
+    joined_or_passed true false false k e = k refl
+    joined_or_passed false true y k e = refl
+    joined_or_passed false false y k e = absurd (false≢true e)
 
 -- another point a is attached first, to b
 turned_later : (matrix : Matrix) → IsSymmetric matrix → (c w : ℕ → Bool) (p b a : ℕ) (plan : List (ℕ × ℕ))
@@ -128,7 +129,7 @@ turned_later matrix symmetric c w p b a plan cb wa ne r = elim (same_or_other r.
     attaches =
         attachment-more (passed (joined c a) (removed w a) r.left) (passed c w (removed (joined r.left a) a)) r.left
         (removed (joined r.left a) a) r.rest
-        (λ j. first (nat_eq j a) (c j) (w j) (r.left j) (λ t. ap w (from_nat_eq j a t) ∙ wa)) back r.attaches;
+        (λ j. passed_before (nat_eq j a) (c j) (w j) (r.left j) (λ t. ap w (from_nat_eq j a t) ∙ wa)) back r.attaches;
     costs =
         let known = r.costs in
         let swapped = symmetric r.end a in
@@ -148,7 +149,8 @@ turned_later matrix symmetric c w p b a plan cb wa ne r = elim (same_or_other r.
       or_left (c b) (w b && not (joined r.left a b)) cb,
       rw (nat_eq-same a) refl,
       attachment-more (passed (joined c a) (removed w a) r.left) (joined (passed c w (joined r.left a)) a) r.left
-          (removed (joined r.left a) a) r.rest (λ j. later (nat_eq j a) (c j) (w j) (r.left j)) back r.attaches,
+          (removed (joined r.left a) a) r.rest (λ j. passed_beside (nat_eq j a) (c j) (w j) (r.left j)) back
+          r.attaches,
     );
     costs = let known = r.costs in omega (arith, known);
   }
@@ -158,17 +160,17 @@ turned_later matrix symmetric c w p b a plan cb wa ne r = elim (same_or_other r.
     other_first true y e k = absurd (false≢true (sym e))
     other_first false y e k = k
 
-    first : (b x y z : Bool) → (b ≡ true → y ≡ true) → ((b || x) || ((not b && y) && not z)) ≡ true
+    passed_before : (b x y z : Bool) → (b ≡ true → y ≡ true) → ((b || x) || ((not b && y) && not z)) ≡ true
         → (x || (y && not (not b && (b || z)))) ≡ true
-    first true true y z k e = refl
-    first true false true z k e = refl
-    first true false false z k e = k refl
-    first false x y z k e = e
+    passed_before true true y z k e = refl
+    passed_before true false true z k e = refl
+    passed_before true false false z k e = k refl
+    passed_before false x y z k e = e
 
-    later : (b x y z : Bool) → ((b || x) || ((not b && y) && not z)) ≡ true
+    passed_beside : (b x y z : Bool) → ((b || x) || ((not b && y) && not z)) ≡ true
         → (b || (x || (y && not (b || z)))) ≡ true
-    later true x y z e = refl
-    later false x y z e = e
+    passed_beside true x y z e = refl
+    passed_beside false x y z e = e
 
     out : removed (removed w a) p a ≡ false
     out = rw (nat_eq-other a p ne, nat_eq-same a) refl
@@ -193,11 +195,12 @@ turned_later matrix symmetric c w p b a plan cb wa ne r = elim (same_or_other r.
       | inr there ↦ rw (nat_eq-other j a there) refl
     ]
 
-turned : (matrix : Matrix) → IsSymmetric matrix → (c w : ℕ → Bool) (p : ℕ) (plan : List (ℕ × ℕ)) → w p ≡ true
+turned_plan : (matrix : Matrix) → IsSymmetric matrix → (c w : ℕ → Bool) (p : ℕ) (plan : List (ℕ × ℕ)) → w p ≡ true
     → IsAttachment c w plan → Turned matrix c w p (plan_cost matrix plan)
-turned matrix symmetric c w p [] e a = absurd (false≢true (sym (a p) ∙ e))
-turned matrix symmetric c w p (q ∷ plan) e a =
-    cases (same_or_other q.1 p) (λ ne. turned matrix symmetric (joined c q.1) (removed w q.1) p plan (still ne) a.2)
+turned_plan matrix symmetric c w p [] e a = absurd (false≢true (sym (a p) ∙ e))
+turned_plan matrix symmetric c w p (q ∷ plan) e a =
+    cases (same_or_other q.1 p)
+    (λ ne. turned_plan matrix symmetric (joined c q.1) (removed w q.1) p plan (still ne) a.2)
   where
     still : q.1 ≢ p → removed w q.1 p ≡ true
     still ne = rw (nat_eq-other p q.1 (λ k. ne (sym k))) e
@@ -218,7 +221,7 @@ pub exchange : (matrix : Matrix) → IsSymmetric matrix → (c w : ℕ → Bool)
     → (q : List (ℕ × ℕ)) × IsAttachment (joined c p) (removed w p) q
     × (least + plan_cost matrix q ≤ plan_cost matrix plan)
 exchange matrix symmetric c w p least plan e low a =
-    let r = turned matrix symmetric c w p plan e a in
+    let r = turned_plan matrix symmetric c w p plan e a in
     let joins = plan_cost-append matrix r.path r.rest in
     let costs = r.costs in
     let le = low r.begin r.end r.begins r.ends in (

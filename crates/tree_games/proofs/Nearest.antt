@@ -1,7 +1,7 @@
 -- What the least entries and the closest point are, and that the steps give a least plan.
 use Rattle.std.proofs.Common.{◌≡◌, ◌⊎◌, ℕ, zero, suc, ◌+◌, ◌-◌, ◌<◌, ◌≤◌, Bool, true, false, not, cond}
 use Rattle.std.proofs.Common.{◌&&◌, ◌||◌, nat_eq, nat_lt, List, [], ◌∷◌, length, ℤ, refl, sym, ap, subst}
-use Rattle.std.proofs.Common.{◌∙◌, inl, inr, arith, if◌then◌else◌, min, add-one}
+use Rattle.std.proofs.Common.{◌∙◌, inl, inr, arith, if◌then◌else◌, min}
 use Rattle.std.proofs.lemmas.Bool.{false≢true}
 use Rattle.definitions.proofs.Cases.{nat_eq-same, nat_eq-other, from_nat_eq, and_right, or_right}
 use Rattle.definitions.proofs.Cases.{from_nat_lt, from_not_nat_lt, less_or_last, not_true}
@@ -18,18 +18,18 @@ use Rattle.tree_games.proofs.Core.{point_in}
 near-low : (matrix : Matrix) (c : ℕ → Bool) (m b t : ℕ) → b < m → c b ≡ true → near matrix c m t ≤ entry matrix b t
 near-low matrix c zero b t lt e = absurd (omega arith)
 near-low matrix c (suc m) b t lt e = elim (less_or_last b m lt) [
-  | inl less ↦ step (c m) (near matrix c m t) (entry matrix m t) (near-low matrix c m b t less e)
-  | inr same ↦ last (c m) (near matrix c m t) (ap c (sym same) ∙ e) (ap (λ (k : ℕ). entry matrix k t) same)
+  | inl less ↦ no_more_than_entry (c m) (near matrix c m t) (entry matrix m t) (near-low matrix c m b t less e)
+  | inr same ↦ last_entry (c m) (near matrix c m t) (ap c (sym same) ∙ e) (ap (λ (k : ℕ). entry matrix k t) same)
 ]
   where
-    step : (q : Bool) (x y : ℕ) → x ≤ entry matrix b t → cond q (min x y) x ≤ entry matrix b t
-    step true x y h = omega arith
-    step false x y h = h
+    no_more_than_entry : (q : Bool) (x y : ℕ) → x ≤ entry matrix b t → cond q (min x y) x ≤ entry matrix b t
+    no_more_than_entry true x y h = omega arith
+    no_more_than_entry false x y h = h
 
-    last : (q : Bool) (x : ℕ) → q ≡ true → entry matrix b t ≡ entry matrix m t
+    last_entry : (q : Bool) (x : ℕ) → q ≡ true → entry matrix b t ≡ entry matrix m t
         → cond q (min x (entry matrix m t)) x ≤ entry matrix b t
-    last true x f g = omega arith
-    last false x f g = absurd (false≢true f)
+    last_entry true x f g = omega arith
+    last_entry false x f g = absurd (false≢true f)
 
 near-reached : (matrix : Matrix) (c : ℕ → Bool) (m t : ℕ) → c 0 ≡ true
     → (b : ℕ) × (c b ≡ true) × (near matrix c m t ≡ entry matrix b t)
@@ -57,21 +57,23 @@ near-joined matrix c zero p t h = absurd (omega arith)
 near-joined matrix c (suc m) p t h = elim (less_or_last p m h) [
   | inl less ↦
       rw (nat_eq-other m p (λ e. omega arith), near-joined matrix c m p t less)
-      (step (c m) (near matrix c m t) (entry matrix m t) (entry matrix p t))
+      (min_of_all (c m) (near matrix c m t) (entry matrix m t) (entry matrix p t))
   | inr same ↦ subst
       (λ (k : ℕ). near matrix (joined c k) (suc m) t ≡ min (near matrix c (suc m) t) (entry matrix k t)) (sym same)
-      (here (nat_eq m m) (c m) (near matrix (joined c m) m t) (near matrix c m t) (entry matrix m t) (nat_eq-same m)
+      (min_with_joined (nat_eq m m) (c m) (near matrix (joined c m) m t) (near matrix c m t) (entry matrix m t)
+      (nat_eq-same m)
       (near-apart matrix c m m t (omega arith)))
 ]
   where
-    step : (q : Bool) (x y z : ℕ) → cond q (min (min x z) y) (min x z) ≡ min (cond q (min x y) x) z
-    step true x y z = omega arith
-    step false x y z = refl
+    min_of_all : (q : Bool) (x y z : ℕ) → cond q (min (min x z) y) (min x z) ≡ min (cond q (min x y) x) z
+    min_of_all true x y z = omega arith
+    min_of_all false x y z = refl
 
-    here : (b q : Bool) (z x y : ℕ) → b ≡ true → z ≡ x → cond (b || q) (min z y) z ≡ min (cond q (min x y) x) y
-    here true true z x y e f = omega arith
-    here true false z x y e f = omega arith
-    here false q z x y e f = absurd (false≢true e)
+    min_with_joined : (b q : Bool) (z x y : ℕ) → b ≡ true → z ≡ x
+        → cond (b || q) (min z y) z ≡ min (cond q (min x y) x) y
+    min_with_joined true true z x y e f = omega arith
+    min_with_joined true false z x y e f = omega arith
+    min_with_joined false q z x y e f = absurd (false≢true e)
 
 pub near-source : (matrix : Matrix) (m t : ℕ) → near matrix is_source m t ≡ entry matrix 0 t
 near-source matrix zero t = refl
@@ -86,28 +88,29 @@ pub near-small : (matrix : Matrix) (c : ℕ → Bool) (m t bound : ℕ) → entr
     → near matrix c m t < bound
 near-small matrix c zero t bound h = h
 near-small matrix c (suc m) t bound h =
-    step (c m) (near matrix c m t) (entry matrix m t) (near-small matrix c m t bound h)
+    less_than_bound (c m) (near matrix c m t) (entry matrix m t) (near-small matrix c m t bound h)
   where
-    step : (q : Bool) (x y : ℕ) → x < bound → cond q (min x y) x < bound
-    step true x y h = omega arith
-    step false x y h = h
+    less_than_bound : (q : Bool) (x y : ℕ) → x < bound → cond q (min x y) x < bound
+    less_than_bound true x y h = omega arith
+    less_than_bound false x y h = h
 
 -- ---- the closest point
 
 pub closest-below : (best : ℕ → ℕ) (w : ℕ → Bool) (m : ℕ) → 1 ≤ m → closest best w m < m
 closest-below best w zero h = absurd (omega arith)
-closest-below best w (suc zero) h = step (w 0 && (not (w 0) || nat_lt (best 0) (best 0)))
+closest-below best w (suc zero) h = zero_below_one (w 0 && (not (w 0) || nat_lt (best 0) (best 0)))
   where
-    step : (q : Bool) → cond q 0 0 < 1
-    step true = omega arith
-    step false = omega arith
+    zero_below_one : (q : Bool) → cond q 0 0 < 1
+    zero_below_one true = omega arith
+    zero_below_one false = omega arith
 closest-below best w (suc (suc m)) h =
-    step (w (suc m) && (not (w (closest best w (suc m))) || nat_lt (best (suc m)) (best (closest best w (suc m)))))
+    last_or_before
+    (w (suc m) && (not (w (closest best w (suc m))) || nat_lt (best (suc m)) (best (closest best w (suc m)))))
     (closest best w (suc m)) (closest-below best w (suc m) (omega arith))
   where
-    step : (q : Bool) (k : ℕ) → k < suc m → cond q (suc m) k < suc (suc m)
-    step true k h = omega arith
-    step false k h = omega arith
+    last_or_before : (q : Bool) (k : ℕ) → k < suc m → cond q (suc m) k < suc (suc m)
+    last_or_before true k h = omega arith
+    last_or_before false k h = omega arith
 
 -- where some point waits, the closest waits, and no other is nearer
 pub closest-least : (best : ℕ → ℕ) (w : ℕ → Bool) (m t : ℕ) → t < m → w t ≡ true
@@ -115,7 +118,7 @@ pub closest-least : (best : ℕ → ℕ) (w : ℕ → Bool) (m t : ℕ) → t < 
 closest-least best w zero t lt e = absurd (omega arith)
 closest-least best w (suc m) t lt e = elim (less_or_last t m lt) [
   | inl less ↦ earlier (w m) (closest-least best w m t less e) refl
-  | inr same ↦ last (w m) (w (closest best w m)) (ap w (sym same) ∙ e) refl (ap best same)
+  | inr same ↦ last_is_least (w m) (w (closest best w m)) (ap w (sym same) ∙ e) refl (ap best same)
 ]
   where
     chosen : (q : Bool) (k : ℕ) → k ≡ closest best w m → nat_lt (best m) (best k) ≡ q → w m ≡ true → w k ≡ true
@@ -139,16 +142,16 @@ closest-least best w (suc m) t lt e = elim (less_or_last t m lt) [
     at_last true k f wm wk g = (wm, omega arith)
     at_last false k f wm wk g = let le = from_not_nat_lt (best m) (best k) f in (wk, omega arith)
 
-    last : (q r : Bool) → w m ≡ true → w (closest best w m) ≡ r → best t ≡ best m
+    last_is_least : (q r : Bool) → w m ≡ true → w (closest best w m) ≡ r → best t ≡ best m
         → (w
         (cond (w m && (not (w (closest best w m)) || nat_lt (best m) (best (closest best w m)))) m
         (closest best w m)) ≡ true)
         × (best
         (cond (w m && (not (w (closest best w m)) || nat_lt (best m) (best (closest best w m)))) m
         (closest best w m)) ≤ best t)
-    last q true wm wk g =
+    last_is_least q true wm wk g =
         rw (wm, wk) (at_last (nat_lt (best m) (best (closest best w m))) (closest best w m) refl wm wk g)
-    last q false wm wk g = rw (wm, wk) (wm, omega arith)
+    last_is_least q false wm wk g = rw (wm, wk) (wm, omega arith)
 
 -- of those that are as near, the first is taken
 pub closest-first : (best : ℕ → ℕ) (w : ℕ → Bool) (m t : ℕ) → t < m → w t ≡ true → best (closest best w m) ≡ best t
@@ -159,16 +162,17 @@ closest-first best w (suc m) t lt e tie = elim (less_or_last t m lt) [
       let known = closest-least best w m t less e in
       earlier (w m) (nat_lt (best m) (best (closest best w m))) known.0 known.1 refl
       (closest-first best w m t less e) tie
-  | inr same ↦ last (w m && (not (w (closest best w m)) || nat_lt (best m) (best (closest best w m)))) (low m) same
+  | inr same ↦ no_later_than_last (w m && (not (w (closest best w m)) || nat_lt (best m) (best (closest best w m))))
+      (closest-at_most m) same
 ]
   where
-    low : (m : ℕ) → closest best w m ≤ m
-    low zero = omega arith
-    low (suc m) = let b = closest-below best w (suc m) (omega arith) in omega arith
+    closest-at_most : (m : ℕ) → closest best w m ≤ m
+    closest-at_most zero = omega arith
+    closest-at_most (suc m) = let b = closest-below best w (suc m) (omega arith) in omega arith
 
-    last : (q : Bool) → closest best w m ≤ m → t ≡ m → cond q m (closest best w m) ≤ t
-    last true h k = omega arith
-    last false h k = omega arith
+    no_later_than_last : (q : Bool) → closest best w m ≤ m → t ≡ m → cond q m (closest best w m) ≤ t
+    no_later_than_last true h k = omega arith
+    no_later_than_last false h k = omega arith
 
     chosen : (q s : Bool) → nat_lt (best m) (best (closest best w m)) ≡ s → best (closest best w m) ≤ best t
         → (best (closest best w m) ≡ best t → closest best w m ≤ t)
@@ -189,37 +193,12 @@ closest-same f g w m zero h same = refl
 closest-same f g w m (suc k) h same =
     let ih = closest-same f g w m k (omega arith) same in
     let here = same k (omega arith) in
-    let there = same (closest g w k) (below k (omega arith)) in
+    let there = same (closest g w k) (closest-before k (omega arith)) in
     rw (ih, here, there) refl
   where
-    below : (k : ℕ) → suc k ≤ m → closest g w k < m
-    below zero h = omega arith
-    below (suc k) h = let b = closest-below g w (suc k) (omega arith) in omega arith
-
-pub closest_takes : (best : ℕ → ℕ) (w : ℕ → Bool) (t q : ℕ) → q ≡ closest best w t
-    → (w t && (not (w q) || nat_lt (best t) (best q))) ≡ true → t ≡ closest best w (t + 1)
-closest_takes best w t q e f =
-    rw add-one
-    (sym
-    (step (w t && (not (w (closest best w t)) || nat_lt (best t) (best (closest best w t))))
-    (ap (λ (k : ℕ). w t && (not (w k) || nat_lt (best t) (best k))) (sym e) ∙ f)))
-  where
-    step : (b : Bool) → b ≡ true → cond b t (closest best w t) ≡ t
-    step true h = refl
-    step false h = absurd (false≢true h)
-
-pub closest_keeps : (best : ℕ → ℕ) (w : ℕ → Bool) (t q : ℕ) → q ≡ closest best w t
-    → (w t && (not (w q) || nat_lt (best t) (best q))) ≡ false → q ≡ closest best w (t + 1)
-closest_keeps best w t q e f =
-    rw add-one
-    (e
-    ∙ sym
-    (step (w t && (not (w (closest best w t)) || nat_lt (best t) (best (closest best w t))))
-    (ap (λ (k : ℕ). w t && (not (w k) || nat_lt (best t) (best k))) (sym e) ∙ f)))
-  where
-    step : (b : Bool) → b ≡ false → cond b t (closest best w t) ≡ closest best w t
-    step true h = absurd (false≢true (sym h))
-    step false h = refl
+    closest-before : (k : ℕ) → suc k ≤ m → closest g w k < m
+    closest-before zero h = omega arith
+    closest-before (suc k) h = let b = closest-below g w (suc k) (omega arith) in omega arith
 
 -- ---- how many wait
 
@@ -231,16 +210,16 @@ pub count-none : (w : ℕ → Bool) (m j : ℕ) → count w m ≡ 0 → j < m �
 count-none w zero j e lt = absurd (omega arith)
 count-none w (suc m) j e lt = elim (less_or_last j m lt) [
   | inl less ↦ count-none w m j (rest (w m) (count w m) e) less
-  | inr same ↦ ap w same ∙ here (w m) (count w m) e
+  | inr same ↦ ap w same ∙ last_is_out (w m) (count w m) e
 ]
   where
     rest : (q : Bool) (k : ℕ) → cond q (suc k) k ≡ 0 → k ≡ 0
     rest true k e = absurd (omega arith)
     rest false k e = e
 
-    here : (q : Bool) (k : ℕ) → cond q (suc k) k ≡ 0 → q ≡ false
-    here true k e = absurd (omega arith)
-    here false k e = refl
+    last_is_out : (q : Bool) (k : ℕ) → cond q (suc k) k ≡ 0 → q ≡ false
+    last_is_out true k e = absurd (omega arith)
+    last_is_out false k e = refl
 
 count-apart : (w : ℕ → Bool) (m p : ℕ) → m ≤ p → count (removed w p) m ≡ count w m
 count-apart w zero p h = refl
@@ -250,29 +229,30 @@ pub count-removed : (w : ℕ → Bool) (m p : ℕ) → p < m → w p ≡ true �
 count-removed w zero p h e = absurd (omega arith)
 count-removed w (suc m) p h e = elim (less_or_last p m h) [
   | inl less ↦
-      rw (nat_eq-other m p (λ k. omega arith), count-removed w m p less e) (step (w m) (count (removed w p) m))
+      rw (nat_eq-other m p (λ k. omega arith), count-removed w m p less e)
+      (suc_of_count (w m) (count (removed w p) m))
   | inr same ↦ subst (λ (k : ℕ). count w (suc m) ≡ suc (count (removed w k) (suc m))) (sym same)
-      (here (w m) (nat_eq m m) (count w m) (count (removed w m) m) (ap w (sym same) ∙ e) (nat_eq-same m)
+      (count_of_last (w m) (nat_eq m m) (count w m) (count (removed w m) m) (ap w (sym same) ∙ e) (nat_eq-same m)
       (count-apart w m m (omega arith)))
 ]
   where
-    here : (q b : Bool) (x y : ℕ) → q ≡ true → b ≡ true → y ≡ x
+    count_of_last : (q b : Bool) (x y : ℕ) → q ≡ true → b ≡ true → y ≡ x
         → cond q (suc x) x ≡ suc (cond (not b && q) (suc y) y)
-    here true true x y e f g = ap suc (sym g)
-    here true false x y e f g = absurd (false≢true f)
-    here false b x y e f g = absurd (false≢true e)
+    count_of_last true true x y e f g = ap suc (sym g)
+    count_of_last true false x y e f g = absurd (false≢true f)
+    count_of_last false b x y e f g = absurd (false≢true e)
 
-    step : (q : Bool) (k : ℕ) → cond q (suc (suc k)) (suc k) ≡ suc (cond q (suc k) k)
-    step true k = refl
-    step false k = refl
+    suc_of_count : (q : Bool) (k : ℕ) → cond q (suc (suc k)) (suc k) ≡ suc (cond q (suc k) k)
+    suc_of_count true k = refl
+    suc_of_count false k = refl
 
 count-few : (w : ℕ → Bool) (m : ℕ) → w 0 ≡ false → count w (suc m) ≤ m
 count-few w zero e = rw e (omega arith)
-count-few w (suc m) e = step (w (suc m)) (count w (suc m)) (count-few w m e)
+count-few w (suc m) e = count_at_most (w (suc m)) (count w (suc m)) (count-few w m e)
   where
-    step : (q : Bool) (k : ℕ) → k ≤ m → cond q (suc k) k ≤ suc m
-    step true k h = omega arith
-    step false k h = omega arith
+    count_at_most : (q : Bool) (k : ℕ) → k ≤ m → cond q (suc k) k ≤ suc m
+    count_at_most true k h = omega arith
+    count_at_most false k h = omega arith
 
 -- ---- the steps
 
@@ -323,11 +303,11 @@ prim-found matrix m (suc k) c w source cm wm few =
 
     below_joined : (p b : ℕ) → w p ≡ true → joined c p b ≡ true → b < m
     below_joined p b e =
-        step (nat_eq b p) (c b) (λ t. subst (λ (k : ℕ). k < m) (sym (from_nat_eq b p t)) (wm p e)) (cm b)
+        either_below (nat_eq b p) (c b) (λ t. subst (λ (k : ℕ). k < m) (sym (from_nat_eq b p t)) (wm p e)) (cm b)
       where
-        step : (x y : Bool) → (x ≡ true → b < m) → (y ≡ true → b < m) → (x || y) ≡ true → b < m
-        step true y f g e = f refl
-        step false y f g e = g e
+        either_below : (x y : Bool) → (x ≡ true → b < m) → (y ≡ true → b < m) → (x || y) ≡ true → b < m
+        either_below true y f g e = f refl
+        either_below false y f g e = g e
 
     fewer : (p : ℕ) → w p ≡ true → count (removed w p) m ≤ k
     fewer p e = let r = count-removed w m p (wm p e) e in omega (arith, r)

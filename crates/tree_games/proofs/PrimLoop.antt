@@ -38,10 +38,10 @@ pub points_of : (s : ℕ) → has_player (2 * s) ≡ is_point_of s
 points_of s = fun_ext each
   where
     each : (j : ℕ) → has_player (2 * s) j ≡ is_point_of s j
-    each zero = let a = bit_at_lowest (2 * s) in low (bit_at (2 * s) 0) (a ∙ omega arith)
+    each zero = let a = bit_at_lowest (2 * s) in zero_is_not_one (bit_at (2 * s) 0) (a ∙ omega arith)
       where
-        low : (b : ℕ) → b ≡ 0 → nat_eq b 1 ≡ false
-        low b e = grind (arith, nat_tests)
+        zero_is_not_one : (b : ℕ) → b ≡ 0 → nat_eq b 1 ≡ false
+        zero_is_not_one b e = grind (arith, nat_tests)
     each (suc j) =
         let half : 2 * s / 2 ≡ s = omega arith in
         ap (λ (b : ℕ). nat_eq b 1) (bit_at-suc (2 * s) j ∙ ap (λ (m : ℕ). bit_at m j) half)
@@ -118,13 +118,13 @@ prim_takes t s k best next connected joint waiting less total p h lt e below wai
       len = len;
       nears = λ j k. nexts j k ∙ ap (λ (x : ℕ). min x (entries_of t p j)) (h.nears j k)
           ∙ sym (near-joined (entries_of t) (has_player connected) (length t) p j below)
-          ∙ ap (λ (c : ℕ → Bool). near (entries_of t) c (length t) j) (sym more);
+          ∙ ap (λ (c : ℕ → Bool). near (entries_of t) c (length t) j) (sym joint_is);
       rest = (let a = taken in let b = now in let c = h.nears p below in let d = h.rest in omega (arith, a, b, c, d));
       small = (let few = h.small in omega (arith, few, cheap));
     }
   where
-    more : has_player joint ≡ joined (has_player connected) p
-    more = fun_ext joins
+    joint_is : has_player joint ≡ joined (has_player connected) p
+    joint_is = fun_ext joins
 
     fewer : has_player less ≡ removed (has_player waiting) p
     fewer = fun_ext leaves
@@ -144,20 +144,10 @@ prim_takes t s k best next connected joint waiting less total p h lt e below wai
         (removed (has_player waiting) p)
     now =
         ap (λ (c : ℕ → Bool). prim_cost (entries_of t) (length t) ((length t) - 1 - (k + 1)) c (has_player less))
-        more
+        joint_is
         ∙ ap
         (λ (w : ℕ → Bool). prim_cost (entries_of t) (length t) ((length t) - 1 - (k + 1))
         (joined (has_player connected) p) w) fewer
-
-pub prim_end : (t : List (List ℤ)) (s k : ℕ) (best : List ℕ) (connected waiting total : ℕ)
-    → PrimState t s k best connected waiting total → k ≡ (length t) - 1
-    → total ≡ prim_cost (entries_of t) (length t) ((length t) - 1) is_source (is_point_of s)
-prim_end t s k best connected waiting total h e =
-    let none : (length t) - 1 - k ≡ 0 = omega arith in
-    let zero_rest =
-    ap (λ (r : ℕ). prim_cost (entries_of t) (length t) r (has_player connected) (has_player waiting)) none in
-    let rest = h.rest in
-    omega (arith, zero_rest, rest)
 
 -- ---- how large entries and costs are
 
@@ -171,15 +161,15 @@ prim_cost-small : (matrix : Matrix) → ((i j : ℕ) → entry matrix i j < 2 ^ 
     → prim_cost matrix m k c w ≤ k * 2 ^ 40
 prim_cost-small matrix h m zero c w = omega arith
 prim_cost-small matrix h m (suc k) c w =
-    step (w (closest (near matrix c m) w m)) (near matrix c m (closest (near matrix c m) w m))
+    one_more_small (w (closest (near matrix c m) w m)) (near matrix c m (closest (near matrix c m) w m))
     (prim_cost matrix m k (joined c (closest (near matrix c m) w m)) (removed w (closest (near matrix c m) w m)))
     (near-small matrix c m (closest (near matrix c m) w m) (2 ^ 40) (h 0 (closest (near matrix c m) w m)))
     (prim_cost-small matrix h m k (joined c (closest (near matrix c m) w m))
     (removed w (closest (near matrix c m) w m)))
   where
-    step : (q : Bool) (x y : ℕ) → x < 2 ^ 40 → y ≤ k * 2 ^ 40 → cond q (x + y) 0 ≤ suc k * 2 ^ 40
-    step true x y e f = omega arith
-    step false x y e f = omega arith
+    one_more_small : (q : Bool) (x y : ℕ) → x < 2 ^ 40 → y ≤ k * 2 ^ 40 → cond q (x + y) 0 ≤ suc k * 2 ^ 40
+    one_more_small true x y e f = omega arith
+    one_more_small false x y e f = omega arith
 
 pub tree_laws : (t : List (List ℤ)) → IsTree t → IsGame (tree_game t)
 tree_laws t h =

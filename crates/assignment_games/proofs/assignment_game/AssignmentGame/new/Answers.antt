@@ -18,7 +18,8 @@ invariant_of-result c =
     let columns : q ≡ length c.index.result.now.items = search rules in
     let tested =
     rows_tested AreFew (λ row. row.items) xs p rows some c.index.result.now q c.index.ensures columns
-    (few_players p q some (search rules) (search rules) (search rules)) c.have_entries.result c.have_length.result c.deref.result.now c.deref-2.result.now
+    (few_players p q some (search rules) (search rules) (search rules)) c.have_entries.result c.have_length.result
+      c.deref.result.now c.deref-2.result.now
     c.deref.ensures.value c.if-not-have_entries.false c.have_entries.ensures.0 c.deref-2.ensures.value
     c.if-not-have_length.false c.have_length.ensures.0 in
     let sides = sides_made (map (λ row. row.items) xs) p q tested in (
@@ -37,7 +38,8 @@ returns c =
     let columns : q ≡ length c.index.result.now.items = search rules in
     let tested =
     rows_tested AreFew (λ row. row.items) xs p rows some c.index.result.now q c.index.ensures columns
-    (few_players p q some (search rules) (search rules) (search rules)) c.have_entries.result c.have_length.result c.deref.result.now c.deref-2.result.now
+    (few_players p q some (search rules) (search rules) (search rules)) c.have_entries.result c.have_length.result
+      c.deref.result.now c.deref-2.result.now
     c.deref.ensures.value c.if-not-have_entries.false c.have_entries.ensures.0 c.deref-2.ensures.value
     c.if-not-have_length.false c.have_length.ensures.0 in
     (refl, (sides_made (map (λ row. row.items) xs) p q tested).game, assignment_is_game (map (λ row. row.items) xs))
@@ -56,14 +58,16 @@ returns-then-sellers-lt1 c =
       | then-sellers-lt1-via-else-sellers-lt1+then-sellers-buyers w ↦ inr
           (w.if-sellers-lt1.false, w.if-sellers-buyers.true)
     ] in
-    no_sellers AreFew (λ row. row.items) c.args.matrix.items p (search rules) c.if-buyers-lt1.false c.index.result.now q
+    no_sellers AreFew (λ row. row.items) c.args.matrix.items p (search rules) c.if-buyers-lt1.false c.index.result.now
+      q
     c.index.ensures (search rules) (sellers_fail p q c.if-buyers-gt15.false fails)
 
 pub returns-then-not-have_entries : goal.returns-then-not-have_entries
 returns-then-not-have_entries c =
     let p = c.len-buyers.result in
     let q = c.len-sellers.result in
-    no_entries AreFew (λ row. row.items) c.args.matrix.items p (search rules) c.if-buyers-lt1.false c.index.result.now q
+    no_entries AreFew (λ row. row.items) c.args.matrix.items p (search rules) c.if-buyers-lt1.false c.index.result.now
+      q
     c.index.ensures (search rules)
     (few_players p q c.if-buyers-lt1.false c.if-buyers-gt15.false c.if-sellers-lt1.false c.if-sellers-buyers.false)
     c.have_entries.result c.deref.result.now c.deref.ensures.value c.if-not-have_entries.true
@@ -90,7 +94,8 @@ returns-in_default c =
     let columns : q ≡ length c.index.result.now.items = search rules in
     let tested =
     rows_tested AreFew (λ row. row.items) xs p rows some c.index.result.now q c.index.ensures columns
-    (few_players p q some c.if-buyers-gt15.false c.if-sellers-lt1.false c.if-sellers-buyers.false) c.have_entries.result c.have_length.result c.deref.result.now c.deref-2.result.now
+    (few_players p q some c.if-buyers-gt15.false c.if-sellers-lt1.false c.if-sellers-buyers.false)
+      c.have_entries.result c.have_length.result c.deref.result.now c.deref-2.result.now
     c.deref.ensures.value c.if-not-have_entries.false c.have_entries.ensures.0 c.deref-2.ensures.value
     c.if-not-have_length.false c.have_length.ensures.0 in
     (sides_made (map (λ row. row.items) xs) p q tested).game

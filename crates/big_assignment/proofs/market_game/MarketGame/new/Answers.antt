@@ -14,7 +14,8 @@ invariant_of-result c =
     let columns : q ≡ length c.index.result.now.items = search rules in
     let tested =
     rows_tested AreFew (λ row. row.items) xs p rows some c.index.result.now q c.index.ensures columns
-    (some, search rules, search rules, search rules) c.have_entries.result c.have_length.result c.deref.result.now c.deref-2.result.now
+    (some, search rules, search rules, search rules) c.have_entries.result c.have_length.result c.deref.result.now
+      c.deref-2.result.now
     c.deref.ensures.value c.if-not-have_entries.false c.have_entries.ensures.0 c.deref-2.ensures.value
     c.if-not-have_length.false c.have_length.ensures.0 in
     market_made (map (λ row. row.items) xs) p q tested
@@ -29,7 +30,8 @@ returns c =
     let columns : q ≡ length c.index.result.now.items = search rules in
     let tested =
     rows_tested AreFew (λ row. row.items) xs p rows some c.index.result.now q c.index.ensures columns
-    (some, search rules, search rules, search rules) c.have_entries.result c.have_length.result c.deref.result.now c.deref-2.result.now
+    (some, search rules, search rules, search rules) c.have_entries.result c.have_length.result c.deref.result.now
+      c.deref-2.result.now
     c.deref.ensures.value c.if-not-have_entries.false c.have_entries.ensures.0 c.deref-2.ensures.value
     c.if-not-have_length.false c.have_length.ensures.0 in
     (refl, market_made (map (λ row. row.items) xs) p q tested, assignment_is_game (map (λ row. row.items) xs))
@@ -43,7 +45,8 @@ pub returns-then-sellers-lt1 : goal.returns-then-sellers-lt1
 returns-then-sellers-lt1 c =
     let p = c.len-buyers.result in
     let q = c.len-sellers.result in
-    no_sellers AreFew (λ row. row.items) c.args.matrix.items p (search rules) c.if-buyers-lt1.false c.index.result.now q
+    no_sellers AreFew (λ row. row.items) c.args.matrix.items p (search rules) c.if-buyers-lt1.false c.index.result.now
+      q
     c.index.ensures (search rules) (sellers_fail p q c.then-sellers-lt1.either)
 
 pub returns-then-not-have_entries : goal.returns-then-not-have_entries
