@@ -108,10 +108,10 @@ whole_pair rows y i j core il jl =
     (subst (λ (z : ℤ). (y.den *ℤ pos (worth_of rows t)) ≤ℤ (pos (whole_share y i) +ℤ z)) sj
     (subst (λ (z : ℤ). (y.den *ℤ pos (worth_of rows t)) ≤ℤ (z +ℤ share y (b + j))) si
     (subst (λ (z : ℤ). (y.den *ℤ pos (worth_of rows t)) ≤ℤ z) e g))) in
-    natural (den_of y) (entries_of rows i j) (worth_of rows t) (whole_share y i) (whole_share y (b + j)) p.2 h
+    times_at_most (den_of y) (entries_of rows i j) (worth_of rows t) (whole_share y i) (whole_share y (b + j)) p.2 h
   where
-    natural : (d m v a b : ℕ) → m ≤ v → (pos d *ℤ pos v) ≤ℤ (pos a +ℤ pos b) → d * m ≤ a + b
-    natural d m v a b le h =
+    times_at_most : (d m v a b : ℕ) → m ≤ v → (pos d *ℤ pos v) ≤ℤ (pos a +ℤ pos b) → d * m ≤ a + b
+    times_at_most d m v a b le h =
         let k : d * m ≤ d * v = mul-le-mul (omega arith) le in
         let f : pos (d * v) ≤ℤ (pos a +ℤ pos b) = h in
         let z : d * v ≤ a + b = omega (arith, linear, f) in
@@ -180,18 +180,18 @@ core_at rows f mate y s core =
 pub whole_less : (n d e k : ℕ) (x y : Allocation) (f g : ℕ → ℕ) → IsWhole n x d f → IsWhole n y e g → k < n
     → g k * d ≤ f k * e → (share y k *ℤ x.den) ≤ℤ (share x k *ℤ y.den)
 whole_less n d e k x y f g a b lt le =
-    rw (a.den, b.den, a.shares k lt, b.shares k lt) (natural (g k * d) (f k * e) le)
+    rw (a.den, b.den, a.shares k lt, b.shares k lt) (pos-le (g k * d) (f k * e) le)
   where
-    natural : (v w : ℕ) → v ≤ w → pos v ≤ℤ pos w
-    natural v w le = omega (arith, linear, le)
+    pos-le : (v w : ℕ) → v ≤ w → pos v ≤ℤ pos w
+    pos-le v w le = omega (arith, linear, le)
 
 pub less_whole : (n d e k : ℕ) (x y : Allocation) (f g : ℕ → ℕ) → IsWhole n x d f → IsWhole n y e g → k < n
     → (share y k *ℤ x.den) ≤ℤ (share x k *ℤ y.den) → g k * d ≤ f k * e
 less_whole n d e k x y f g a b lt le =
-    natural (g k * d) (f k * e) (rw (a.den, b.den, a.shares k lt, b.shares k lt) at le)
+    le_from_pos (g k * d) (f k * e) (rw (a.den, b.den, a.shares k lt, b.shares k lt) at le)
   where
-    natural : (v w : ℕ) → pos v ≤ℤ pos w → v ≤ w
-    natural v w le = omega (arith, linear, le)
+    le_from_pos : (v w : ℕ) → pos v ≤ℤ pos w → v ≤ w
+    le_from_pos v w le = omega (arith, linear, le)
 
 -- ---- best for a side
 

@@ -1,5 +1,5 @@
 -- Rows that make a market: 1 to 32 buyers, and 1 to 32 sellers.
-use Rattle.std.proofs.Common.{◌≡◌, ℕ, ◌≤◌, ◌⊎◌, ◌<◌, List, ℤ, inl, inr, arith}
+use Rattle.std.proofs.Common.{ℕ, ◌≤◌, ◌⊎◌, ◌<◌, List, ℤ, inl, inr, arith}
 use Rattle.assignment_games.proofs.Evenness.{AreTested}
 use Rattle.big_assignment.specs.Markets.{IsMarket}
 

@@ -21,13 +21,13 @@ pub below_raised : (deal : Deal) (n : ℕ) (p p' : ℕ → ℕ) (i k x : ℕ) �
     → mate_of deal i ≤ 32 → x + offer_of deal i (mate_of deal i) ≡ offer_of deal i k + p (mate_of deal i)
     → IsPut p p' k x → IsBelow deal n p'
 below_raised deal n p p' i k x h il kl within e put d q meets l ll = elim (same_or_other l k) [
-  | inl same ↦ subst (λ (z : ℕ). d * p' z ≤ q z) (sym same) here
+  | inl same ↦ subst (λ (z : ℕ). d * p' z ≤ q z) (sym same) raised_below
   | inr other ↦
       (let f = ap (λ (z : ℕ). d * z) (put.elsewhere l other) in let g = h d q meets l ll in omega (arith, f, g))
 ]
   where
-    here : d * p' k ≤ q k
-    here =
+    raised_below : d * p' k ≤ q k
+    raised_below =
         let a = meets i k il kl in
         let b = h d q meets (mate_of deal i) within in
         let c = ap (λ (z : ℕ). d * z) e in

@@ -16,27 +16,27 @@ use Rattle.big_assignment.proofs.Sums.{sum_where}
 use Rattle.big_assignment.proofs.Pairs.{Paired, pairs_match}
 use Rattle.big_assignment.proofs.Supports.{IsSupport, all_of, support_pairs, support_optimal}
 
-both : (a b : Bool) (x : ℕ) → a ≡ true → b ≡ true → cond (a && b) x 0 ≡ x
-both true true x p q = refl
-both true false x p q = absurd (false≢true q)
-both false b x p q = absurd (false≢true p)
+cond-both : (a b : Bool) (x : ℕ) → a ≡ true → b ≡ true → cond (a && b) x 0 ≡ x
+cond-both true true x p q = refl
+cond-both true false x p q = absurd (false≢true q)
+cond-both false b x p q = absurd (false≢true p)
 
 pub offered-members : (matrix : Matrix) (rows s i j : ℕ) → has_player s i ≡ true → has_player s (rows + j) ≡ true
     → offered matrix rows s i j ≡ matrix i j
-offered-members matrix rows s i j p q = both (has_player s i) (has_player s (rows + j)) (matrix i j) p q
+offered-members matrix rows s i j p q = cond-both (has_player s i) (has_player s (rows + j)) (matrix i j) p q
 
 pub cond_zero : (c : Bool) (x : ℕ) → x ≡ 0 → cond c x 0 ≡ 0
 cond_zero true x e = e
 cond_zero false x e = refl
 
 -- a matching of members has the same value in the table
-same_value : (matrix : Matrix) (rows s : ℕ) (w : ℕ → Bool) (ps : List (ℕ × ℕ)) → Within w (has_player s)
+value_of_members : (matrix : Matrix) (rows s : ℕ) (w : ℕ → Bool) (ps : List (ℕ × ℕ)) → Within w (has_player s)
     → IsMatching rows w ps → matching_value (offered matrix rows s) ps ≡ matching_value matrix ps
-same_value matrix rows s w [] h m = refl
-same_value matrix rows s w (p ∷ ps) h m =
+value_of_members matrix rows s w [] h m = refl
+value_of_members matrix rows s w (p ∷ ps) h m =
     let here = offered-members matrix rows s p.0 p.1 (h p.0 m.1) (h (rows + p.1) m.2) in
     let ih =
-    same_value matrix rows s (removed (removed w p.0) (rows + p.1)) ps
+    value_of_members matrix rows s (removed (removed w p.0) (rows + p.1)) ps
     (λ j e. h j (removed-out w p.0 j (removed-out (removed w p.0) (rows + p.1) j e).0).0) m.3 in
     omega (arith, here, ih)
 
@@ -134,9 +134,10 @@ members_optimal matrix rows columns s x mate small h =
         pairs_from mates columns 0 rows,
         matches,
         sym pairs.1
-            ∙ same_value matrix rows s (has_player s) (pairs_from mates columns 0 rows) (λ j e. e) matches,
+            ∙ value_of_members matrix rows s (has_player s) (pairs_from mates columns 0 rows) (λ j e. e) matches,
       );
       greatest = λ ps m.
           (let a = most.greatest ps (matching-more rows (has_player s) (all_of n) ps within m) in
-          let e = same_value matrix rows s (has_player s) ps (λ j e. e) m in let b = own.1 in omega (arith, a, e, b));
+          let e = value_of_members matrix rows s (has_player s) ps (λ j e. e) m in
+          let b = own.1 in omega (arith, a, e, b));
     }

@@ -133,8 +133,8 @@ pub record IsMarked (d : Deal) (s t : Search) (n i k : ℕ) : Type 0 where
 pub mark_joined : (d : Deal) (s t : Search) (n i k : ℕ) → IsSearch d s n → IsMarked d s t n i k → (l : ℕ) → l ≤ 32
     → 1 ≤ rank_of t l → IsJoined d t n l
 mark_joined d s t n i k h m l ll some = elim (same_or_other l k) [
-  | inl same ↦ subst (λ (j : ℕ). IsJoined d t n j) (sym same) here
-  | inr other ↦ old (subst (λ (j : ℕ). 1 ≤ j) (m.ranks.elsewhere l other) some) other
+  | inl same ↦ subst (λ (j : ℕ). IsJoined d t n j) (sym same) place_joined
+  | inr other ↦ still_joined (subst (λ (j : ℕ). 1 ≤ j) (m.ranks.elsewhere l other) some) other
 ]
   where
     -- a row that was reached before has the same rank
@@ -147,29 +147,29 @@ mark_joined d s t n i k h m l ll some = elim (same_or_other l k) [
     earlier_of (inr e) =
         let same = same_rank i e.1 in
         let b = h.bounded (mate_of d i) (h.fair.within i e.0) in
-        let here = m.ranks.here in
-        inr (e.0, (let lt = e.1 in omega (arith, same, lt)), omega (arith, same, b, here))
+        let rank = m.ranks.here in
+        inr (e.0, (let lt = e.1 in omega (arith, same, lt)), omega (arith, same, b, rank))
 
-    here : IsJoined d t n k
-    here = record {
+    place_joined : IsJoined d t n k
+    place_joined = record {
       tight = subst (λ (g : ℕ). IsTight d g k) (sym m.parents.here) m.tight;
       earlier = subst (λ (g : ℕ). IsEarlier d t n g k) (sym m.parents.here) (earlier_of m.reached);
     }
 
-    kept : (g : ℕ) → rank_of t l ≡ rank_of s l → IsEarlier d s n g l → IsEarlier d t n g l
-    kept g e (inl a) = inl a
-    kept g e (inr a) =
+    still_earlier : (g : ℕ) → rank_of t l ≡ rank_of s l → IsEarlier d s n g l → IsEarlier d t n g l
+    still_earlier g e (inl a) = inl a
+    still_earlier g e (inr a) =
         let same = same_rank g a.1 in
         inr (a.0, (let lt = a.1 in omega (arith, same, lt)), (let lt = a.2 in omega (arith, same, lt, e)))
 
-    old : 1 ≤ rank_of s l → l ≢ k → IsJoined d t n l
-    old some other =
+    still_joined : 1 ≤ rank_of s l → l ≢ k → IsJoined d t n l
+    still_joined some other =
         let j = h.joined l ll some in
         record {
           tight = subst (λ (g : ℕ). IsTight d g l) (sym (m.parents.elsewhere l other)) j.tight;
           earlier =
               subst (λ (g : ℕ). IsEarlier d t n g l) (sym (m.parents.elsewhere l other))
-              (kept (parent_of s l) (m.ranks.elsewhere l other) j.earlier);
+              (still_earlier (parent_of s l) (m.ranks.elsewhere l other) j.earlier);
         }
 
 -- a column that is held is reached

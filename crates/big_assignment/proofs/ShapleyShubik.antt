@@ -20,10 +20,10 @@ use Rattle.big_assignment.proofs.Ends.{den_of, whole_share, whole_of, not_negati
 use Rattle.big_assignment.proofs.Ends.{core_whole, core_gets, core_paid}
 
 some_den : (z : ℤ) → pos 1 ≤ℤ z → 1 ≤ unsigned_abs z
-some_den z h = natural (unsigned_abs z) (subst (λ (y : ℤ). pos 1 ≤ℤ y) (whole_of z (omega (arith, linear, h))) h)
+some_den z h = one_at_least (unsigned_abs z) (subst (λ (y : ℤ). pos 1 ≤ℤ y) (whole_of z (omega (arith, linear, h))) h)
   where
-    natural : (m : ℕ) → pos 1 ≤ℤ pos m → 1 ≤ m
-    natural m h = omega (arith, linear, h)
+    one_at_least : (m : ℕ) → pos 1 ≤ℤ pos m → 1 ≤ m
+    one_at_least m h = omega (arith, linear, h)
 
 supports_whole : (rows : List (List ℤ)) (ps : List (ℕ × ℕ)) (x : Allocation) → Supports rows ps x
     → IsWhole (count_of rows) x (den_of x) (whole_share x)
@@ -36,31 +36,31 @@ supports_whole rows ps x h = record {
 -- what a pair gets, in natural numbers
 pair_enough : (n d i j m : ℕ) (x : Allocation) (f : ℕ → ℕ) → IsWhole n x d f → i < n → j < n
     → (x.den *ℤ pos m) ≤ℤ (share x i +ℤ share x j) → d * m ≤ f i + f j
-pair_enough n d i j m x f h il jl le = natural (d * m) (f i) (f j) (rw (h.den, h.shares i il, h.shares j jl) at le)
+pair_enough n d i j m x f h il jl le = at_most_sum (d * m) (f i) (f j) (rw (h.den, h.shares i il, h.shares j jl) at le)
   where
-    natural : (v a b : ℕ) → pos v ≤ℤ (pos a +ℤ pos b) → v ≤ a + b
-    natural v a b le = omega (arith, linear, le)
+    at_most_sum : (v a b : ℕ) → pos v ≤ℤ (pos a +ℤ pos b) → v ≤ a + b
+    at_most_sum v a b le = omega (arith, linear, le)
 
 pair_exact : (n d i j m : ℕ) (x : Allocation) (f : ℕ → ℕ) → IsWhole n x d f → i < n → j < n
     → x.den *ℤ pos m ≡ share x i +ℤ share x j → d * m ≡ f i + f j
-pair_exact n d i j m x f h il jl e = natural (d * m) (f i) (f j) (rw (h.den, h.shares i il, h.shares j jl) at e)
+pair_exact n d i j m x f h il jl e = is_sum (d * m) (f i) (f j) (rw (h.den, h.shares i il, h.shares j jl) at e)
   where
-    natural : (v a b : ℕ) → pos v ≡ pos a +ℤ pos b → v ≡ a + b
-    natural v a b e = omega (arith, linear, e)
+    is_sum : (v a b : ℕ) → pos v ≡ pos a +ℤ pos b → v ≡ a + b
+    is_sum v a b e = omega (arith, linear, e)
 
 enough_pair : (n d i j m : ℕ) (x : Allocation) (f : ℕ → ℕ) → IsWhole n x d f → i < n → j < n → d * m ≤ f i + f j
     → (x.den *ℤ pos m) ≤ℤ (share x i +ℤ share x j)
-enough_pair n d i j m x f h il jl le = rw (h.den, h.shares i il, h.shares j jl) (natural (d * m) (f i) (f j) le)
+enough_pair n d i j m x f h il jl le = rw (h.den, h.shares i il, h.shares j jl) (pos-at_most_sum (d * m) (f i) (f j) le)
   where
-    natural : (v a b : ℕ) → v ≤ a + b → pos v ≤ℤ (pos a +ℤ pos b)
-    natural v a b le = omega (arith, linear, le)
+    pos-at_most_sum : (v a b : ℕ) → v ≤ a + b → pos v ≤ℤ (pos a +ℤ pos b)
+    pos-at_most_sum v a b le = omega (arith, linear, le)
 
 exact_pair : (n d i j m : ℕ) (x : Allocation) (f : ℕ → ℕ) → IsWhole n x d f → i < n → j < n → d * m ≡ f i + f j
     → x.den *ℤ pos m ≡ share x i +ℤ share x j
-exact_pair n d i j m x f h il jl e = rw (h.den, h.shares i il, h.shares j jl) (natural (d * m) (f i) (f j) e)
+exact_pair n d i j m x f h il jl e = rw (h.den, h.shares i il, h.shares j jl) (pos-is_sum (d * m) (f i) (f j) e)
   where
-    natural : (v a b : ℕ) → v ≡ a + b → pos v ≡ pos a +ℤ pos b
-    natural v a b e = omega (arith, linear, e)
+    pos-is_sum : (v a b : ℕ) → v ≡ a + b → pos v ≡ pos a +ℤ pos b
+    pos-is_sum v a b e = omega (arith, linear, e)
 
 supports_gets : (rows : List (List ℤ)) (ps : List (ℕ × ℕ)) (x : Allocation) → Supports rows ps x
     → PairsGet (entries_of rows) (length rows) (seller_count rows) (den_of x) (whole_share x)

@@ -30,11 +30,11 @@ pub sum_where-zero : (n : ℕ) (w : ℕ → Bool) (f : ℕ → ℕ) → ((k : �
     → sum_where n w f ≡ 0
 sum_where-zero zero w f h = refl
 sum_where-zero (suc n) w f h =
-    let ih = sum_where-zero n w f (λ k lt e. h k (omega arith) e) in step (w n) (f n) (h n (omega arith)) ih
+    let ih = sum_where-zero n w f (λ k lt e. h k (omega arith) e) in nothing_more (w n) (f n) (h n (omega arith)) ih
   where
-    step : (b : Bool) (x : ℕ) → (b ≡ true → x ≡ 0) → sum_where n w f ≡ 0 → sum_where n w f + cond b x 0 ≡ 0
-    step true x g ih = let e = g refl in omega arith
-    step false x g ih = omega arith
+    nothing_more : (b : Bool) (x : ℕ) → (b ≡ true → x ≡ 0) → sum_where n w f ≡ 0 → sum_where n w f + cond b x 0 ≡ 0
+    nothing_more true x g ih = let e = g refl in omega arith
+    nothing_more false x g ih = omega arith
 
 -- one of the members has no more than all
 pub sum_where-member : (n k : ℕ) (w : ℕ → Bool) (f : ℕ → ℕ) → k < n → w k ≡ true → f k ≤ sum_where n w f

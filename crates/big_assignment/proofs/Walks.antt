@@ -65,13 +65,13 @@ pub walk_on : (d : Deal) (s : Search) (n j : ℕ) (columns : List (Option ℕ)) 
     × (rank_of s (mate_of d (parent_of s j)) < rank_of s j) × (parent_of s j < n)
 walk_on d s n j columns h ne put = elim (h.joined j h.column h.ranked (omega arith)).earlier [
   | inl e ↦ absurd (ne e)
-  | inr e ↦ (go e.0 e.1 e.2, e.2, e.0)
+  | inr e ↦ (open_before e.0 e.1 e.2, e.2, e.0)
 ]
   where
-    go : parent_of s j < n → 1 ≤ rank_of s (mate_of d (parent_of s j))
+    open_before : parent_of s j < n → 1 ≤ rank_of s (mate_of d (parent_of s j))
         → rank_of s (mate_of d (parent_of s j)) < rank_of s j
         → IsOpen (with_columns d columns) s n (mate_of d (parent_of s j))
-    go lt some below = record {
+    open_before lt some below = record {
       covers = h.covers;
       tight = λ i il. taken_tight d s n j (parent_of s j) columns h put
           (h.joined j h.column h.ranked (omega arith)).tight i (λ other. il);
@@ -98,15 +98,15 @@ walk_on d s n j columns h ne put = elim (h.joined j h.column h.ranked (omega ari
         tight = a.tight;
         earlier = elim a.earlier [
           | inl e ↦ inl e
-          | inr e ↦ (let q = kept (parent_of s k) k e.1 e.2 le in inr (e.0, q.0, q.1))
+          | inr e ↦ (let q = same_ranks (parent_of s k) k e.1 e.2 le in inr (e.0, q.0, q.1))
         ];
       });
     }
       where
-        kept : (g k : ℕ) → 1 ≤ rank_of s (mate_of d g) → rank_of s (mate_of d g) < rank_of s k
+        same_ranks : (g k : ℕ) → 1 ≤ rank_of s (mate_of d g) → rank_of s (mate_of d g) < rank_of s k
             → rank_of s k ≤ rank_of s (mate_of d (parent_of s j))
             → (1 ≤ rank_of s (mates columns g)) × (rank_of s (mates columns g) < rank_of s k)
-        kept g k some less le =
+        same_ranks g k some less le =
             let same =
             ap (rank_of s)
             (put.elsewhere g (λ e. (let f = ap (λ (z : ℕ). rank_of s (mate_of d z)) e in omega (arith, f, less, le))))

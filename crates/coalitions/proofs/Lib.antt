@@ -2,3 +2,4 @@ pub mod Bits
 pub mod Count
 pub mod Masks
 pub mod GrayOrder
+pub mod LastPlayer

@@ -4,6 +4,7 @@ use Rattle.std.proofs.Common.{◌<ℤ◌, int_lt, Option, None, Some, refl, sym,
 use Rattle.std.proofs.lemmas.Bool.Decides.{nat_tests, Decides-int_eq}
 use Rattle.std.proofs.lemmas.Int.{ints}
 use Rattle.std.specs.Ordering.{int_eq}
+use Rattle.definitions.proofs.Cases.{from_not_nat_lt}
 use Rattle.definitions.proofs.Ring.{linear}
 use Rattle.voting.specs.declared.candidate.Candidate.{Candidate}
 use Rattle.voting.specs.Candidates.{is_behind, better, joined, raised, IsBestOf, IsBest}
@@ -20,28 +21,25 @@ Precedes c d = (d.sum <ℤ c.sum) ⊎ ((d.sum ≡ c.sum) × (c.coalition ≤ d.c
 
 behind_cases : (m k : ℤ) (a b : ℕ) → (t : Bool) → (int_lt m k || (int_eq m k && nat_lt b a)) ≡ t
     → ((t ≡ true) × ((m <ℤ k) ⊎ ((m ≡ k) × (b ≤ a)))) ⊎ ((t ≡ false) × ((k <ℤ m) ⊎ ((k ≡ m) × (a ≤ b))))
-behind_cases m k a b = decide (int_lt m k) refl
+behind_cases m k a b = by_sums (int_lt m k) refl
   where
     lesser : (e : m ≡ k) → (c : Bool) → nat_lt b a ≡ c → (t : Bool) → c ≡ t
         → ((t ≡ true) × ((m <ℤ k) ⊎ ((m ≡ k) × (b ≤ a)))) ⊎ ((t ≡ false) × ((k <ℤ m) ⊎ ((k ≡ m) × (a ≤ b))))
-    lesser e true h t f = inl (sym f, inr (e, low b a h))
+    lesser e true h t f = inl (sym f, inr (e, at_most_from_nat_lt b a h))
       where
-        low : (b a : ℕ) → nat_lt b a ≡ true → b ≤ a
-        low b a h = grind (arith, nat_tests)
-    lesser e false h t f = inr (sym f, inr (sym e, high b a h))
-      where
-        high : (b a : ℕ) → nat_lt b a ≡ false → a ≤ b
-        high b a h = grind (arith, nat_tests)
+        at_most_from_nat_lt : (b a : ℕ) → nat_lt b a ≡ true → b ≤ a
+        at_most_from_nat_lt b a h = grind (arith, nat_tests)
+    lesser e false h t f = inr (sym f, inr (sym e, from_not_nat_lt b a h))
 
     level : (c : Bool) → int_lt m k ≡ false → int_eq m k ≡ c → (t : Bool) → (c && nat_lt b a) ≡ t
         → ((t ≡ true) × ((m <ℤ k) ⊎ ((m ≡ k) × (b ≤ a)))) ⊎ ((t ≡ false) × ((k <ℤ m) ⊎ ((k ≡ m) × (a ≤ b))))
     level true h e t f = lesser (grind (arith, ints, Decides-int_eq m k)) (nat_lt b a) refl t f
     level false h e t f = inr (sym f, inl (grind (arith, ints, Decides-int_eq m k)))
 
-    decide : (c : Bool) → int_lt m k ≡ c → (t : Bool) → (c || (int_eq m k && nat_lt b a)) ≡ t
+    by_sums : (c : Bool) → int_lt m k ≡ c → (t : Bool) → (c || (int_eq m k && nat_lt b a)) ≡ t
         → ((t ≡ true) × ((m <ℤ k) ⊎ ((m ≡ k) × (b ≤ a)))) ⊎ ((t ≡ false) × ((k <ℤ m) ⊎ ((k ≡ m) × (a ≤ b))))
-    decide true h t f = inl (sym f, inl (omega (arith, ints)))
-    decide false h t f = level (int_eq m k) h refl t f
+    by_sums true h t f = inl (sym f, inl (omega (arith, ints)))
+    by_sums false h t f = level (int_eq m k) h refl t f
 
 -- ---- the better of two
 
@@ -52,17 +50,18 @@ precedes P Q R v c d hc hd cases left p = record {
   value = hc.value;
   greatest = λ t r. elim (cases t r) [ inl q ↦ hc.greatest t q | inr q ↦ at_most t (hd.greatest t q) p ];
   least =
-      λ t r lt. elim (cases t r) [ inl q ↦ hc.least t q lt | inr q ↦ below t lt (hd.greatest t q) (hd.least t q) p ];
+      λ t r lt. elim (cases t r)
+      [ inl q ↦ hc.least t q lt | inr q ↦ less_than_sum t lt (hd.greatest t q) (hd.least t q) p ];
 }
   where
     at_most : (t : ℕ) → v t ≤ℤ d.sum → Precedes c d → v t ≤ℤ c.sum
     at_most t le (inl less) = omega (arith, linear)
     at_most t le (inr same) = omega (arith, linear, same.0)
 
-    below : (t : ℕ) → t < c.coalition → v t ≤ℤ d.sum → (t < d.coalition → v t <ℤ d.sum) → Precedes c d
+    less_than_sum : (t : ℕ) → t < c.coalition → v t ≤ℤ d.sum → (t < d.coalition → v t <ℤ d.sum) → Precedes c d
         → v t <ℤ c.sum
-    below t lt le less (inl far) = omega (arith, linear)
-    below t lt le less (inr same) = let l = less (omega (arith, same.1)) in omega (arith, linear, same.0, l)
+    less_than_sum t lt le less (inl far) = omega (arith, linear)
+    less_than_sum t lt le less (inr same) = let l = less (omega (arith, same.1)) in omega (arith, linear, same.0, l)
 
 pub IsBest-better : (P Q R : ℕ → Type 0) (v : ℕ → ℤ) (x y : Option Candidate) → IsBest P v x → IsBest Q v y
     → IsUnion P Q R → IsBest R v (better x y)
@@ -95,18 +94,18 @@ IsBest-joined Q v i w None hy more = λ s r. hy r.0 r.1
 IsBest-joined Q v i w (Some c) hy more = record {
   of_kind = (c.coalition, hy.of_kind, refl);
   value = sym (more c.coalition hy.of_kind ∙ ap (λ (z : ℤ). z +ℤ w) (sym hy.value));
-  greatest = λ s r. bounded s r.0 r.2 (more r.0 r.1) (hy.greatest r.0 r.1);
-  least = λ s r lt. below s r.0 r.2 (more r.0 r.1) (hy.least r.0 r.1 (lower s r.0 r.2 lt));
+  greatest = λ s r. at_most_joined s r.0 r.2 (more r.0 r.1) (hy.greatest r.0 r.1);
+  least = λ s r lt. less_than_joined s r.0 r.2 (more r.0 r.1) (hy.least r.0 r.1 (lower s r.0 r.2 lt));
 }
   where
-    bounded : (s t : ℕ) → s ≡ t + 2 ^ i → v (t + 2 ^ i) ≡ v t +ℤ w → v t ≤ℤ c.sum → v s ≤ℤ (c.sum +ℤ w)
-    bounded s t same e le = rw (ap v same, e) (omega (arith, linear))
+    at_most_joined : (s t : ℕ) → s ≡ t + 2 ^ i → v (t + 2 ^ i) ≡ v t +ℤ w → v t ≤ℤ c.sum → v s ≤ℤ (c.sum +ℤ w)
+    at_most_joined s t same e le = rw (ap v same, e) (omega (arith, linear))
 
     lower : (s t : ℕ) → s ≡ t + 2 ^ i → s < c.coalition + 2 ^ i → t < c.coalition
     lower s t same lt = omega arith
 
-    below : (s t : ℕ) → s ≡ t + 2 ^ i → v (t + 2 ^ i) ≡ v t +ℤ w → v t <ℤ c.sum → v s <ℤ (c.sum +ℤ w)
-    below s t same e le = rw (ap v same, e) (omega (arith, linear))
+    less_than_joined : (s t : ℕ) → s ≡ t + 2 ^ i → v (t + 2 ^ i) ≡ v t +ℤ w → v t <ℤ c.sum → v s <ℤ (c.sum +ℤ w)
+    less_than_joined s t same e le = rw (ap v same, e) (omega (arith, linear))
 
 -- every set of the kind has so much more
 pub IsBest-raised : (P : ℕ → Type 0) (v u : ℕ → ℤ) (k : ℤ) (x : Option Candidate) → IsBest P v x

@@ -34,14 +34,14 @@ sum_over-neg : (n s : ℕ) (a : ℕ → ℤ) → sum_over n (λ i. neg_ℤ (a i)
 sum_over-neg zero s a = refl
 sum_over-neg (suc n) s a =
     let ih = sum_over-neg n s a in
-    let step : (b : Bool)
+    let with_last : (b : Bool)
     → sum_over n (λ i. neg_ℤ (a i)) s +ℤ cond b (neg_ℤ (a n)) (pos 0)
     ≡ neg_ℤ (sum_over n a s +ℤ cond b (a n) (pos 0)) =
     elim [ true ↦ omega (arith, linear, ih) | false ↦ omega (arith, linear, ih) ] in
-    step (has_player s n)
+    with_last (has_player s n)
 
 pub same_test : (q w : ℕ) → int_le (pos q) (pos w) ≡ nat_le q w
-same_test q w = decide (int_le (pos q) (pos w)) (nat_le q w) refl refl
+same_test q w = same_answer (int_le (pos q) (pos w)) (nat_le q w) refl refl
   where
     at_most : nat_le q w ≡ true → q ≤ w
     at_most e = grind (arith, nat_tests)
@@ -49,11 +49,11 @@ same_test q w = decide (int_le (pos q) (pos w)) (nat_le q w) refl refl
     above : nat_le q w ≡ false → w < q
     above e = grind (arith, nat_tests)
 
-    decide : (b c : Bool) → int_le (pos q) (pos w) ≡ b → nat_le q w ≡ c → b ≡ c
-    decide true true e f = refl
-    decide false false e f = refl
-    decide true false e f = let gt = above f in absurd (omega (arith, ints))
-    decide false true e f = let le = at_most f in absurd (omega (arith, ints))
+    same_answer : (b c : Bool) → int_le (pos q) (pos w) ≡ b → nat_le q w ≡ c → b ≡ c
+    same_answer true true e f = refl
+    same_answer false false e f = refl
+    same_answer true false e f = let gt = above f in absurd (omega (arith, ints))
+    same_answer false true e f = let le = at_most f in absurd (omega (arith, ints))
 
 scaled : (d : ℤ) (b : Bool) → d *ℤ cond b (pos 1) (pos 0) ≡ cond b d (pos 0)
 scaled d true = mul-oneℤ d
@@ -104,12 +104,12 @@ pub blocker-best : (g : Game) (x : Allocation) (c : Option Candidate) (r : Optio
     → IsBest (λ s. s < 2 ^ g.players) (excess g x) c → r ≡ chosen_of c
     → MatchOption r ((t : ℕ) → t < 2 ^ g.players → ¬ Blocks g x t) (IsChosenBlocker g x)
 blocker-best g x None r h e = absurd (h 0 (pow_pos g.players))
-blocker-best g x (Some c) r h e = decide (int_lt (pos 0) c.sum) refl
+blocker-best g x (Some c) r h e = by_sign (int_lt (pos 0) c.sum) refl
   where
-    decide : (b : Bool) → int_lt (pos 0) c.sum ≡ b
+    by_sign : (b : Bool) → int_lt (pos 0) c.sum ≡ b
         → MatchOption r ((t : ℕ) → t < 2 ^ g.players → ¬ Blocks g x t) (IsChosenBlocker g x)
-    decide true f = rw (e, f) (chosen g x c h (omega (arith, ints)))
-    decide false f = rw (e, f) (none_blocks g x c h (omega (arith, ints)))
+    by_sign true f = rw (e, f) (chosen g x c h (omega (arith, ints)))
+    by_sign false f = rw (e, f) (none_blocks g x c h (omega (arith, ints)))
 
 -- ---- the split bound
 

@@ -1,6 +1,6 @@
 -- The coalitions without a player, counted by size and weight.
 use Rattle.std.proofs.Common.{◌≡◌, ◌≢◌, ℕ, zero, suc, ◌+◌, ◌-◌, ◌^◌, ◌<◌, ◌≤◌, Bool, true, false, cond, ◌&&◌}
-use Rattle.std.proofs.Common.{nat_eq, nat_le, nat_lt, ℤ, pos, ◌+ℤ◌, ◌*ℤ◌, refl, sym, ap, ◌∙◌, arith}
+use Rattle.std.proofs.Common.{nat_eq, nat_le, nat_lt, ℤ, pos, ◌+ℤ◌, ◌*ℤ◌, refl, sym, ap, ap₂, ◌∙◌, arith}
 use Rattle.std.proofs.lemmas.Bool.Decides.{nat_tests}
 use Rattle.definitions.proofs.Ring.{linear, mul-zeroℤ}
 use Rattle.definitions.proofs.Members.{has_player-empty, sum_below-same, sum_below-add, sum_below-times}
@@ -31,11 +31,11 @@ pub pos-weigh : (weight : ℕ → ℕ) (n s : ℕ) → pos (weigh weight n s) �
 pos-weigh weight zero s = refl
 pos-weigh weight (suc n) s =
     let ih = pos-weigh weight n s in
-    let step : (b : Bool)
+    let with_last : (b : Bool)
     → pos (weigh weight n s + cond b (weight n) 0)
     ≡ sum_over n (λ i. pos (weight i)) s +ℤ cond b (pos (weight n)) (pos 0) =
     elim [ true ↦ omega (arith, linear, ih) | false ↦ omega (arith, linear, ih) ] in
-    step (has_player s n)
+    with_last (has_player s n)
 
 weigh-upper : (weight : ℕ → ℕ) (n s m : ℕ) → m ≤ n → weigh weight m (2 ^ n + s) ≡ weigh weight m s
 weigh-upper weight n s zero h = refl
@@ -67,10 +67,10 @@ four = elim [
   | false ↦ λ q r s. refl
 ]
 
-moved : (k w a b c : ℕ)
+mark-with_player : (k w a b c : ℕ)
     → mark (nat_eq k (suc a) && nat_eq w (b + c))
     ≡ cond (nat_le 1 k && nat_le c w) (mark (nat_eq (k - 1) a && nat_eq (w - c) b)) (pos 0)
-moved k w a b c =
+mark-with_player k w a b c =
     rw (one_more_size k a, one_more_weight w b c)
     (four (nat_le 1 k) (nat_eq (k - 1) a) (nat_le c w) (nat_eq (w - c) b))
 
@@ -85,25 +85,23 @@ counted-with weight i j k w s lt ne =
     let same : has_player (2 ^ j + s) i ≡ has_player s i =
     ap (λ (m : ℕ). has_player m i) (swap (2 ^ j) s) ∙ has_player-more_other s j i (has_player-last j s lt) ne in
     rw (same, size_below-with j s lt, weigh-with weight j s lt)
-    (step (has_player s i) (nat_le 1 k && nat_le (weight j) w) _ _
-    (moved k w (size_below j s) (weigh weight j s) (weight j)))
+    (cond_swapped (has_player s i) (nat_le 1 k && nat_le (weight j) w) _ _
+    (mark-with_player k w (size_below j s) (weigh weight j s) (weight j)))
   where
     swap : (a b : ℕ) → a + b ≡ b + a
     swap a b = omega arith
 
-    step : (b t : Bool) (x y : ℤ) → x ≡ cond t y (pos 0) → cond b (pos 0) x ≡ cond t (cond b (pos 0) y) (pos 0)
-    step true true x y e = refl
-    step true false x y e = refl
-    step false t x y e = e
+    cond_swapped : (b t : Bool) (x y : ℤ) → x ≡ cond t y (pos 0)
+        → cond b (pos 0) x ≡ cond t (cond b (pos 0) y) (pos 0)
+    cond_swapped true true x y e = refl
+    cond_swapped true false x y e = refl
+    cond_swapped false t x y e = e
 
 counted-self : (weight : ℕ → ℕ) (i j k w s : ℕ) → j ≡ i → s < 2 ^ j
     → counted weight i (suc j) k w (2 ^ j + s) ≡ pos 0
 counted-self weight i j k w s e lt =
     let held : has_player (2 ^ j + s) i ≡ true = ap (has_player (2 ^ j + s)) (sym e) ∙ has_player-upper j s lt in
     rw held refl
-
-sums : (x y a b : ℤ) → x ≡ a → y ≡ b → x +ℤ y ≡ a +ℤ b
-sums x y a b e f = cc
 
 more_ways : (t : Bool) (m n : ℕ) (y z u : ℤ) → pos m ≡ y → pos n ≡ z → u ≡ cond t z (pos 0)
     → pos (m + cond t n 0) ≡ y +ℤ u
@@ -123,23 +121,23 @@ sum_below-cond n false f = zeros n
 pub ways-count : (weight : ℕ → ℕ) (i j k w : ℕ)
     → pos (ways weight i j k w) ≡ sum_below (2 ^ j) (counted weight i j k w)
 unfolding ways
-ways-count weight i zero k w = rw (has_player-empty i, size_below-zero 0) (step (nat_eq k 0 && nat_eq w 0))
+ways-count weight i zero k w = rw (has_player-empty i, size_below-zero 0) (mark_of_test (nat_eq k 0 && nat_eq w 0))
   where
-    step : (b : Bool) → pos (cond b 1 0) ≡ pos 0 +ℤ mark b
-    step true = refl
-    step false = refl
+    mark_of_test : (b : Bool) → pos (cond b 1 0) ≡ pos 0 +ℤ mark b
+    mark_of_test true = refl
+    mark_of_test false = refl
 ways-count weight i (suc j) k w =
-    step (nat_eq j i) refl (ways-count weight i j k w) (ways-count weight i j (k - 1) (w - weight j))
+    one_player_more (nat_eq j i) refl (ways-count weight i j k w) (ways-count weight i j (k - 1) (w - weight j))
   where
     halves : sum_below (2 ^ suc j) (counted weight i (suc j) k w)
         ≡ sum_below (2 ^ j) (λ s. counted weight i (suc j) k w s +ℤ counted weight i (suc j) k w (2 ^ j + s))
     halves = sum_below-halves j (counted weight i (suc j) k w)
 
-    same : nat_eq j i ≡ true → j ≡ i
-    same e = grind (arith, nat_tests)
+    is_last : nat_eq j i ≡ true → j ≡ i
+    is_last e = grind (arith, nat_tests)
 
-    other : nat_eq j i ≡ false → i ≢ j
-    other e = grind (arith, nat_tests)
+    is_other : nat_eq j i ≡ false → i ≢ j
+    is_other e = grind (arith, nat_tests)
 
     self : (s : ℕ) → j ≡ i → s < 2 ^ j
         → counted weight i (suc j) k w s +ℤ counted weight i (suc j) k w (2 ^ j + s) ≡ counted weight i j k w s
@@ -148,7 +146,8 @@ ways-count weight i (suc j) k w =
         let b = counted-self weight i j k w s e lt in
         omega (arith, linear, a, b)
 
-    step : (b : Bool) → nat_eq j i ≡ b → pos (ways weight i j k w) ≡ sum_below (2 ^ j) (counted weight i j k w)
+    one_player_more : (b : Bool) → nat_eq j i ≡ b
+        → pos (ways weight i j k w) ≡ sum_below (2 ^ j) (counted weight i j k w)
         → pos (ways weight i j (k - 1) (w - weight j))
         ≡ sum_below (2 ^ j) (counted weight i j (k - 1) (w - weight j))
         → pos
@@ -156,22 +155,22 @@ ways-count weight i (suc j) k w =
         (ways weight i j k w
         + cond (nat_le 1 k && nat_le (weight j) w) (ways weight i j (k - 1) (w - weight j)) 0))
         ≡ sum_below (2 ^ suc j) (counted weight i (suc j) k w)
-    step true e ih before =
+    one_player_more true e ih before =
         ih
         ∙ sym
         (halves
         ∙ sum_below-same (2 ^ j)
         (λ s. counted weight i (suc j) k w s +ℤ counted weight i (suc j) k w (2 ^ j + s))
-        (counted weight i j k w) (λ s lt. self s (same e) lt))
-    step false e ih before =
+        (counted weight i j k w) (λ s lt. self s (is_last e) lt))
+    one_player_more false e ih before =
         let t = nat_le 1 k && nat_le (weight j) w in
         let old = counted weight i j k w in
         let fewer = counted weight i j (k - 1) (w - weight j) in
         let parts =
         sum_below-same (2 ^ j) (λ s. counted weight i (suc j) k w s +ℤ counted weight i (suc j) k w (2 ^ j + s))
         (λ s. old s +ℤ cond t (fewer s) (pos 0))
-        (λ s lt. sums _ _ _ _ (counted-without weight i j k w s lt)
-        (counted-with weight i j k w s lt (other e))) in
+        (λ s lt. ap₂ (λ (x y : ℤ). x +ℤ y) (counted-without weight i j k w s lt)
+        (counted-with weight i j k w s lt (is_other e))) in
         let added = sum_below-add (2 ^ j) old (λ s. cond t (fewer s) (pos 0)) in
         let moved = sum_below-cond (2 ^ j) t fewer in
         more_ways t _ _ _ _ _ ih before moved ∙ sym (halves ∙ parts ∙ added)
@@ -189,34 +188,35 @@ in_row weight i n k low high s =
 range_more : (low h b : ℕ) (e : Bool)
     → mark (e && in_range low (suc h) b)
     ≡ mark (e && in_range low h b) +ℤ cond (nat_le low h) (mark (e && nat_eq h b)) (pos 0)
-range_more low h b false = step (nat_le low h)
+range_more low h b false = none_and_nothing (nat_le low h)
   where
-    step : (t : Bool) → pos 0 ≡ pos 0 +ℤ cond t (pos 0) (pos 0)
-    step true = refl
-    step false = refl
+    none_and_nothing : (t : Bool) → pos 0 ≡ pos 0 +ℤ cond t (pos 0) (pos 0)
+    none_and_nothing true = refl
+    none_and_nothing false = refl
 range_more low h b true =
-    step (nat_le low b) (nat_lt b (suc h)) (nat_lt b h) (nat_le low h) (nat_eq h b) refl refl refl refl refl
+    one_weight_more (nat_le low b) (nat_lt b (suc h)) (nat_lt b h) (nat_le low h) (nat_eq h b) refl refl refl refl
+    refl
   where
-    step : (p q r t u : Bool) → nat_le low b ≡ p → nat_lt b (suc h) ≡ q → nat_lt b h ≡ r → nat_le low h ≡ t
+    one_weight_more : (p q r t u : Bool) → nat_le low b ≡ p → nat_lt b (suc h) ≡ q → nat_lt b h ≡ r → nat_le low h ≡ t
         → nat_eq h b ≡ u → mark (p && q) ≡ mark (p && r) +ℤ cond t (mark u) (pos 0)
-    step true true true t false e f g i j = same t
+    one_weight_more true true true t false e f g i j = one_and_nothing t
       where
-        same : (t : Bool) → pos 1 ≡ pos 1 +ℤ cond t (pos 0) (pos 0)
-        same true = refl
-        same false = refl
-    step true true false true true e f g i j = refl
-    step true false false t false e f g i j = same t
+        one_and_nothing : (t : Bool) → pos 1 ≡ pos 1 +ℤ cond t (pos 0) (pos 0)
+        one_and_nothing true = refl
+        one_and_nothing false = refl
+    one_weight_more true true false true true e f g i j = refl
+    one_weight_more true false false t false e f g i j = none_and_nothing t
       where
-        same : (t : Bool) → pos 0 ≡ pos 0 +ℤ cond t (pos 0) (pos 0)
-        same true = refl
-        same false = refl
-    step false q r t false e f g i j = same t
+        none_and_nothing : (t : Bool) → pos 0 ≡ pos 0 +ℤ cond t (pos 0) (pos 0)
+        none_and_nothing true = refl
+        none_and_nothing false = refl
+    one_weight_more false q r t false e f g i j = none_and_nothing t
       where
-        same : (t : Bool) → pos 0 ≡ pos 0 +ℤ cond t (pos 0) (pos 0)
-        same true = refl
-        same false = refl
-    step false q r false true e f g i j = refl
-    step p q r t u e f g i j = absurd (grind (arith, nat_tests))
+        none_and_nothing : (t : Bool) → pos 0 ≡ pos 0 +ℤ cond t (pos 0) (pos 0)
+        none_and_nothing true = refl
+        none_and_nothing false = refl
+    one_weight_more false q r false true e f g i j = refl
+    one_weight_more p q r t u e f g i j = absurd (grind (arith, nat_tests))
 
 -- the counts of a row are those of the coalitions
 pub row-count : (weight : ℕ → ℕ) (i n k low high : ℕ)
@@ -225,13 +225,13 @@ row-count weight i n k low zero = sym (zeros (2 ^ n))
   where
     nothing : (b e p : Bool) (c : ℕ) → cond b (pos 0) (mark (e && (p && nat_lt c 0))) ≡ pos 0
     nothing true e p c = refl
-    nothing false e p c = rw (none c) (step e p)
+    nothing false e p c = rw (not_below_zero c) (mark_of_neither e p)
       where
-        none : (c : ℕ) → nat_lt c 0 ≡ false
-        none c = grind (arith, nat_tests)
+        not_below_zero : (c : ℕ) → nat_lt c 0 ≡ false
+        not_below_zero c = grind (arith, nat_tests)
 
-        step : (e p : Bool) → mark (e && (p && false)) ≡ pos 0
-        step = elim [ true ↦ elim [ true ↦ refl | false ↦ refl ] | false ↦ λ p. refl ]
+        mark_of_neither : (e p : Bool) → mark (e && (p && false)) ≡ pos 0
+        mark_of_neither = elim [ true ↦ elim [ true ↦ refl | false ↦ refl ] | false ↦ λ p. refl ]
 
     zeros : (m : ℕ) → sum_below m (in_row weight i n k low zero) ≡ pos 0
     zeros zero = refl
@@ -254,19 +254,19 @@ row-count weight i n k low (suc high) =
     (λ s. cond (nat_le low high) (counted weight i n k high s) (pos 0)))
     ∙ sum_below-same (2 ^ n)
     (λ s. in_row weight i n k low high s +ℤ cond (nat_le low high) (counted weight i n k high s) (pos 0))
-    (in_row weight i n k low (suc high)) (λ s lt. here s)
+    (in_row weight i n k low (suc high)) (λ s lt. in_row-more s)
   where
-    step : (b t : Bool) (x y z : ℤ) → z ≡ x +ℤ cond t y (pos 0)
+    cond_of_sum : (b t : Bool) (x y z : ℤ) → z ≡ x +ℤ cond t y (pos 0)
         → cond b (pos 0) x +ℤ cond t (cond b (pos 0) y) (pos 0) ≡ cond b (pos 0) z
-    step true true x y z e = refl
-    step true false x y z e = refl
-    step false t x y z e = sym e
+    cond_of_sum true true x y z e = refl
+    cond_of_sum true false x y z e = refl
+    cond_of_sum false t x y z e = sym e
 
-    here : (s : ℕ)
+    in_row-more : (s : ℕ)
         → in_row weight i n k low high s +ℤ cond (nat_le low high) (counted weight i n k high s) (pos 0)
         ≡ in_row weight i n k low (suc high) s
-    here s =
-        step (has_player s i) (nat_le low high) _ _ _
+    in_row-more s =
+        cond_of_sum (has_player s i) (nat_le low high) _ _ _
         (range_more low high (weigh weight n s) (nat_eq k (size_below n s)))
 
 -- ---- the sizes, each with a number
@@ -280,16 +280,16 @@ at_size c weight i n low high m s =
 size_more : (c : ℕ → ℤ) (m a : ℕ) (r : Bool)
     → cond (nat_lt a (suc m)) (c a *ℤ mark r) (pos 0)
     ≡ cond (nat_lt a m) (c a *ℤ mark r) (pos 0) +ℤ c m *ℤ mark (nat_eq m a && r)
-size_more c m a r = step (nat_lt a (suc m)) (nat_lt a m) (nat_eq m a) refl refl refl
+size_more c m a r = size_cases (nat_lt a (suc m)) (nat_lt a m) (nat_eq m a) refl refl refl
   where
-    step : (p q u : Bool) → nat_lt a (suc m) ≡ p → nat_lt a m ≡ q → nat_eq m a ≡ u
+    size_cases : (p q u : Bool) → nat_lt a (suc m) ≡ p → nat_lt a m ≡ q → nat_eq m a ≡ u
         → cond p (c a *ℤ mark r) (pos 0) ≡ cond q (c a *ℤ mark r) (pos 0) +ℤ c m *ℤ mark (u && r)
-    step true true false e f g = omega (arith, linear, mul-zeroℤ (c m))
-    step true false true e f g =
+    size_cases true true false e f g = omega (arith, linear, mul-zeroℤ (c m))
+    size_cases true false true e f g =
         let same : m ≡ a = grind (arith, nat_tests) in
         rw (ap c same) (omega (arith, linear))
-    step false false false e f g = omega (arith, linear, mul-zeroℤ (c m))
-    step p q u e f g = absurd (grind (arith, nat_tests))
+    size_cases false false false e f g = omega (arith, linear, mul-zeroℤ (c m))
+    size_cases p q u e f g = absurd (grind (arith, nat_tests))
 
 pub sizes-count : (c : ℕ → ℤ) (weight : ℕ → ℕ) (i n low high m : ℕ)
     → sum_below m (λ k. c k *ℤ row_total weight i n k low high)
@@ -298,10 +298,10 @@ sizes-count c weight i n low high zero = sym (zeros (2 ^ n))
   where
     nothing : (b : Bool) (a : ℕ) (z : ℤ) → cond b (pos 0) (cond (nat_lt a 0) z (pos 0)) ≡ pos 0
     nothing true a z = refl
-    nothing false a z = rw (none a) refl
+    nothing false a z = rw (not_below_zero a) refl
       where
-        none : (c : ℕ) → nat_lt c 0 ≡ false
-        none c = grind (arith, nat_tests)
+        not_below_zero : (c : ℕ) → nat_lt c 0 ≡ false
+        not_below_zero c = grind (arith, nat_tests)
 
     zeros : (m : ℕ) → sum_below m (at_size c weight i n low high zero) ≡ pos 0
     zeros zero = refl
@@ -321,14 +321,16 @@ sizes-count c weight i n low high (suc m) =
     (sym (sum_below-times (2 ^ n) (in_row weight i n m low high) (c m)))
     ∙ sym (sum_below-add (2 ^ n) (at_size c weight i n low high m) (λ s. c m *ℤ in_row weight i n m low high s))
     ∙ sum_below-same (2 ^ n) (λ s. at_size c weight i n low high m s +ℤ c m *ℤ in_row weight i n m low high s)
-    (at_size c weight i n low high (suc m)) (λ s lt. here s)
+    (at_size c weight i n low high (suc m)) (λ s lt. at_size-more s)
   where
-    step : (b : Bool) (x y z w : ℤ) → z ≡ x +ℤ w *ℤ y → cond b (pos 0) x +ℤ w *ℤ cond b (pos 0) y ≡ cond b (pos 0) z
-    step true x y z w e = omega (arith, linear, mul-zeroℤ w)
-    step false x y z w e = sym e
+    cond_of_product : (b : Bool) (x y z w : ℤ) → z ≡ x +ℤ w *ℤ y
+        → cond b (pos 0) x +ℤ w *ℤ cond b (pos 0) y ≡ cond b (pos 0) z
+    cond_of_product true x y z w e = omega (arith, linear, mul-zeroℤ w)
+    cond_of_product false x y z w e = sym e
 
-    here : (s : ℕ)
+    at_size-more : (s : ℕ)
         → at_size c weight i n low high m s +ℤ c m *ℤ in_row weight i n m low high s
         ≡ at_size c weight i n low high (suc m) s
-    here s =
-        step (has_player s i) _ _ _ (c m) (size_more c m (size_below n s) (in_range low high (weigh weight n s)))
+    at_size-more s =
+        cond_of_product (has_player s i) _ _ _ (c m)
+        (size_more c m (size_below n s) (in_range low high (weigh weight n s)))

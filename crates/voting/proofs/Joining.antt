@@ -10,7 +10,7 @@ use Rattle.definitions.proofs.Casts.{cast_kept}
 use Rattle.voting.specs.declared.candidate.Candidate.{Candidate}
 use Rattle.voting.specs.declared.layer.Layer.{Layer}
 use Rattle.voting.specs.Candidates.{is_behind, better, joined, raised, at_weight, best_below, IsSmallCandidate}
-use Rattle.voting.proofs.SetKinds.{next_pow}
+use Rattle.coalitions.proofs.LastPlayer.{next_pow}
 use mir.Syntax.{w128}
 
 -- ---- the sum
@@ -45,11 +45,11 @@ pub small_better : (i : ℕ) (x y : Option Candidate) → IfSome x (IsSmallCandi
     → IfSome (better x y) (IsSmallCandidate i)
 small_better i None y hx hy = hy
 small_better i (Some c) None hx hy = hx
-small_better i (Some c) (Some d) hx hy = step (is_behind c d)
+small_better i (Some c) (Some d) hx hy = either_small (is_behind c d)
   where
-    step : (b : Bool) → IfSome (Some (cond b d c)) (IsSmallCandidate i)
-    step true = hy
-    step false = hx
+    either_small : (b : Bool) → IfSome (Some (cond b d c)) (IsSmallCandidate i)
+    either_small true = hy
+    either_small false = hx
 
 pub best_below-none : (more : ℤ) (quota : ℕ) (l : Layer) → best_below more quota l 0 ≡ None
 unfolding best_below

@@ -8,7 +8,7 @@ use Rattle.definitions.specs.Coalitions.{has_player, sum_over}
 use Rattle.definitions.specs.Games.{IsGame}
 use Rattle.orders.proofs.ListSums.{number_of, sum-sum_below}
 use Rattle.voting.specs.Voting.{Voting, IsVoting, voting_game}
-use Rattle.voting.proofs.SetKinds.{sum_over-empty}
+use Rattle.voting.proofs.SetKinds.{natural-nonnegative, sum_over-empty}
 
 -- a coalition weighs no more than all
 pub sum_over-most : (n s : ℕ) (a : ℕ → ℤ) → ((i : ℕ) → pos 0 ≤ℤ a i) → sum_over n a s ≤ℤ sum_below n a
@@ -16,16 +16,14 @@ sum_over-most zero s a low = omega (arith, linear)
 sum_over-most (suc n) s a low =
     let ih = sum_over-most n s a low in
     let here = low n in
-    let step : (b : Bool) → (sum_over n a s +ℤ cond b (a n) (pos 0)) ≤ℤ (sum_below n a +ℤ a n) =
+    let with_last : (b : Bool) → (sum_over n a s +ℤ cond b (a n) (pos 0)) ≤ℤ (sum_below n a +ℤ a n) =
     elim [ true ↦ omega (arith, linear) | false ↦ omega (arith, linear) ] in
-    step (has_player s n)
-
-natural : (k : ℕ) → pos 0 ≤ℤ pos k
-natural k = omega (arith, ints)
+    with_last (has_player s n)
 
 pub weight_few : (g : Voting) (s : ℕ) → IsVoting g → sum_over (length g.weights) (number_of g.weights) s <ℤ pos 1001
 weight_few g s h =
-    let most = sum_over-most (length g.weights) s (number_of g.weights) (λ i. natural (get_or g.weights i 0)) in
+    let most =
+    sum_over-most (length g.weights) s (number_of g.weights) (λ i. natural-nonnegative (get_or g.weights i 0)) in
     let all = sum-sum_below g.weights in
     let light = h.light in
     few (sum g.weights) _ _ all most light
@@ -38,18 +36,18 @@ IsGame-voting g h = record {
   some = h.some;
   few = let few = h.few in omega arith;
   nobody = rw (sum_over-empty (length g.weights) (number_of g.weights)) (nobody g.quota h.positive);
-  small = λ s lt. small (int_le (pos g.quota) (sum_over (length g.weights) (number_of g.weights) s));
+  small = λ s lt. worth_small (int_le (pos g.quota) (sum_over (length g.weights) (number_of g.weights) s));
 }
   where
-    decide : (q : ℕ) → 1 ≤ q → (b : Bool) → int_le (pos q) (pos 0) ≡ b → cond b (pos 1) (pos 0) ≡ pos 0
-    decide q le true e = absurd (omega (arith, ints))
-    decide q le false e = refl
+    by_test : (q : ℕ) → 1 ≤ q → (b : Bool) → int_le (pos q) (pos 0) ≡ b → cond b (pos 1) (pos 0) ≡ pos 0
+    by_test q le true e = absurd (omega (arith, ints))
+    by_test q le false e = refl
 
     nobody : (q : ℕ) → 1 ≤ q → cond (int_le (pos q) (pos 0)) (pos 1) (pos 0) ≡ pos 0
-    nobody q le = decide q le (int_le (pos q) (pos 0)) refl
+    nobody q le = by_test q le (int_le (pos q) (pos 0)) refl
 
-    small : (b : Bool) → unsigned_abs (cond b (pos 1) (pos 0)) < 2 ^ 46
-    small true = omega arith
-    small false = omega arith
+    worth_small : (b : Bool) → unsigned_abs (cond b (pos 1) (pos 0)) < 2 ^ 46
+    worth_small true = omega arith
+    worth_small false = omega arith
 
 pub ruleset game_laws = (IsGame-voting)

@@ -12,6 +12,7 @@ use Rattle.voting.specs.Candidates.{better, joined, raised, at_weight, joined_at
 use Rattle.voting.specs.SetKinds.{Numbers, passes, weights, IsOfKind, IsOfWeight, IsLayer}
 use Rattle.voting.proofs.Best.{IsUnion, IsBest-better, IsBest-joined, IsBest-raised}
 use Rattle.voting.proofs.SetKinds.{IsOfKind-without, IsOfKind-with, IsOfKind-cases, sum_over-last, sum_over-empty}
+use Rattle.voting.proofs.SetKinds.{natural-nonnegative}
 
 -- ---- one player more
 
@@ -24,11 +25,8 @@ Grown m h l f i w s = (t : ℕ) × Old m h l f i w t × (s ≡ t + 2 ^ i)
 abbrev IsFree : ℕ → ℕ → Bool
 IsFree f i = not (has_player f i)
 
-natural : (k : ℕ) → pos 0 ≤ℤ pos k
-natural k = omega (arith, linear)
-
 weight_low : (m : Numbers) (t : ℕ) → pos 0 ≤ℤ sum_over m.players (weights m) t
-weight_low m t = sum_over-nonnegative m.players t (weights m) (λ i h. natural (m.weight i))
+weight_low m t = sum_over-nonnegative m.players t (weights m) (λ i h. natural-nonnegative (m.weight i))
 
 -- the weights of a set with player i and without
 weight-less : (w k : ℕ) (u z : ℤ) → z ≡ pos w → z ≡ u +ℤ pos k → pos 0 ≤ℤ u → (k ≤ w) × (u ≡ pos (w - k))
@@ -43,22 +41,22 @@ union-some : (m : Numbers) (h l : Bool) (f i w : ℕ) → i < m.players → m.we
     (Old m h l f (i + 1) w)
 union-some m h l f i w lt le = record {
   cases = λ s k. elim (IsOfKind-cases h l f i s k.0)
-      [ inl old ↦ inl (old, k.1) | inr (t, old, e) ↦ inr (t, (old, (less s t k.1 old.0 e).1), e) ];
+      [ inl old ↦ inl (old, k.1) | inr (t, old, e) ↦ inr (t, (old, (weight_before s t k.1 old.0 e).1), e) ];
   left = λ s k. (IsOfKind-without h l f i s k.0, k.1);
   right = λ s (t, k, e). subst (λ (u : ℕ). Old m h l f (i + 1) w u) (sym e)
-      (IsOfKind-with h l f i t k.0, more t k.0.0 k.1);
+      (IsOfKind-with h l f i t k.0, weight_after t k.0.0 k.1);
 }
   where
-    less : (s t : ℕ) → sum_over m.players (weights m) s ≡ pos w → t < 2 ^ i → s ≡ t + 2 ^ i
+    weight_before : (s t : ℕ) → sum_over m.players (weights m) s ≡ pos w → t < 2 ^ i → s ≡ t + 2 ^ i
         → (m.weight i ≤ w) × (sum_over m.players (weights m) t ≡ pos (w - m.weight i))
-    less s t e low same =
+    weight_before s t e low same =
         weight-less w (m.weight i) (sum_over m.players (weights m) t) (sum_over m.players (weights m) s) e
         (ap (sum_over m.players (weights m)) same ∙ sum_over-last m.players i t (weights m) lt low)
         (weight_low m t)
 
-    more : (t : ℕ) → t < 2 ^ i → sum_over m.players (weights m) t ≡ pos (w - m.weight i)
+    weight_after : (t : ℕ) → t < 2 ^ i → sum_over m.players (weights m) t ≡ pos (w - m.weight i)
         → sum_over m.players (weights m) (t + 2 ^ i) ≡ pos w
-    more t low e =
+    weight_after t low e =
         weight-more w (m.weight i) (sum_over m.players (weights m) t) (sum_over m.players (weights m) (t + 2 ^ i))
         le e (sum_over-last m.players i t (weights m) lt low)
 
@@ -89,13 +87,13 @@ pub IsLayer-more : (m : Numbers) (h l : Bool) (f i : ℕ) (without others next :
     → ((w : ℕ) → w < 1001 → at_weight next w ≡ joined_at without others i (m.weight i) (m.number i) w)
     → IsLayer m h l f (i + 1) next
 IsLayer-more m h l f i without others next lt hw ho entries = record {
-  each = λ w few. rw (entries w few) (here w few (nat_le (m.weight i) w) refl);
+  each = λ w few. rw (entries w few) (best_at w few (nat_le (m.weight i) w) refl);
 }
   where
-    here : (w : ℕ) → w < 1001 → (b : Bool) → nat_le (m.weight i) w ≡ b
+    best_at : (w : ℕ) → w < 1001 → (b : Bool) → nat_le (m.weight i) w ≡ b
         → IsBest (Old m h l f (i + 1) w) (sum_over m.players m.number)
         (better (at_weight without w) (cond b (joined (at_weight others (w - m.weight i)) i (m.number i)) None))
-    here w few true e =
+    best_at w few true e =
         let le : m.weight i ≤ w = at_most (m.weight i) w e in
         IsBest-better (Old m h (l && IsFree f i) f i w) (Grown m (h && IsFree f i) l f i (w - m.weight i))
         (Old m h l f (i + 1) w) (sum_over m.players m.number) (at_weight without w)
@@ -107,7 +105,7 @@ IsLayer-more m h l f i without others next lt hw ho entries = record {
       where
         at_most : (k w : ℕ) → nat_le k w ≡ true → k ≤ w
         at_most k w e = grind (arith, nat_tests)
-    here w few false e =
+    best_at w few false e =
         IsBest-better (Old m h (l && IsFree f i) f i w) (λ s. ⊥) (Old m h l f (i + 1) w)
         (sum_over m.players m.number) (at_weight without w) None (hw.each w few)
         (nobody (sum_over m.players m.number)) (union-none m h l f i w lt (above (m.weight i) w e))
@@ -138,19 +136,20 @@ union-weights : (m : Numbers) (h l : Bool) (f k : ℕ)
     → IsUnion (IsBelow m h l f k) (Old m h l f m.players k) (IsBelow m h l f (suc k))
 union-weights m h l f k = record {
   cases =
-      λ s r. elim (last (sum_over m.players (weights m) s) r.1) [ inl less ↦ inl (r.0, less) | inr e ↦ inr (r.0, e) ];
-  left = λ s r. (r.0, more (sum_over m.players (weights m) s) r.1);
-  right = λ s r. (r.0, same (sum_over m.players (weights m) s) r.1);
+      λ s r. elim (less_or_equal (sum_over m.players (weights m) s) r.1)
+      [ inl less ↦ inl (r.0, less) | inr e ↦ inr (r.0, e) ];
+  left = λ s r. (r.0, still_less (sum_over m.players (weights m) s) r.1);
+  right = λ s r. (r.0, equal_is_less (sum_over m.players (weights m) s) r.1);
 }
   where
-    last : (z : ℤ) → z <ℤ pos (suc k) → (z <ℤ pos k) ⊎ (z ≡ pos k)
-    last z h = grind (arith, linear)
+    less_or_equal : (z : ℤ) → z <ℤ pos (suc k) → (z <ℤ pos k) ⊎ (z ≡ pos k)
+    less_or_equal z h = grind (arith, linear)
 
-    more : (z : ℤ) → z <ℤ pos k → z <ℤ pos (suc k)
-    more z h = omega (arith, linear)
+    still_less : (z : ℤ) → z <ℤ pos k → z <ℤ pos (suc k)
+    still_less z h = omega (arith, linear)
 
-    same : (z : ℤ) → z ≡ pos k → z <ℤ pos (suc k)
-    same z h = omega (arith, linear)
+    equal_is_less : (z : ℤ) → z ≡ pos k → z <ℤ pos (suc k)
+    equal_is_less z h = omega (arith, linear)
 
 -- where a set's value is its sum and the bonus of its weight
 pub IsBest-below : (m : Numbers) (h l : Bool) (f : ℕ) (layer : Layer) (more : ℤ) (quota : ℕ) (value : ℕ → ℤ)
@@ -178,7 +177,7 @@ IsBest-below m h l f layer more quota value hl e (suc k) le =
 pub IsLayer-nobody : (m : Numbers) (f : ℕ) (l : Layer)
     → at_weight l 0 ≡ Some (record { sum = pos 0; coalition = 0 }) → ((w : ℕ) → 0 < w → at_weight l w ≡ None)
     → IsLayer m false false f 0 l
-IsLayer-nobody m f l first others = record { each = λ w few. here w }
+IsLayer-nobody m f l first others = record { each = λ w few. best_of_empty w }
   where
     only : (s : ℕ) → s < 2 ^ 0 → s ≡ 0
     only s lt = omega arith
@@ -193,14 +192,14 @@ IsLayer-nobody m f l first others = record { each = λ w few. here w }
     at_most t lt =
         rw (ap (sum_over m.players m.number) (only t lt), sum_over-empty m.players m.number) (omega (arith, linear))
 
-    here : (w : ℕ) → IsBest (IsOfWeight m false false f 0 w) (sum_over m.players m.number) (at_weight l w)
-    here zero = rw first (record {
+    best_of_empty : (w : ℕ) → IsBest (IsOfWeight m false false f 0 w) (sum_over m.players m.number) (at_weight l w)
+    best_of_empty zero = rw first (record {
       of_kind = ((omega arith, refl, refl), sum_over-empty m.players (weights m));
       value = sym (sum_over-empty m.players m.number);
       greatest = λ t k. at_most t k.0.0;
       least = λ t k lt. absurd (omega arith);
     })
-    here (suc w) = rw (others (suc w) (omega arith)) (λ s k. heavy w s k.0.0 k.1)
+    best_of_empty (suc w) = rw (others (suc w) (omega arith)) (λ s k. heavy w s k.0.0 k.1)
 
 -- nobody holds some of f, or lacks some
 pub IsLayer-none : (m : Numbers) (h l : Bool) (f : ℕ) (layer : Layer) → ((h ≡ true) ⊎ (l ≡ true))

@@ -1,6 +1,5 @@
 -- Arrays of one value.
-use Rattle.std.proofs.Common.{◌≡◌, ℕ, ◌&&◌, nat_eq, cond, inl}
-use Rattle.std.proofs.Common.{inr, None}
+use Rattle.std.proofs.Common.{◌≡◌, ℕ, inl, inr, None}
 use Rattle.std.proofs.Math.ListN.{replicate}
 use Rattle.std.proofs.lemmas.List.{get_or-replicate, get_or_past, length-replicate}
 use Rattle.definitions.proofs.Cases.{below_or_above}
@@ -18,7 +17,3 @@ way_none w = elim (below_or_above w 1001) [
   | inl low ↦ get_or-replicate 1001 w 0 0 low
   | inr high ↦ get_or_past (replicate 1001 0) w 0 (rw (length-replicate 1001) high)
 ]
-
--- the counts of nobody
-abbrev nobody : ℕ → ℕ → ℕ
-nobody k w = cond (nat_eq k 0 && nat_eq w 0) 1 0

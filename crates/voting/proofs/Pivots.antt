@@ -2,6 +2,7 @@
 use Rattle.std.proofs.Common.{◌≡◌, ℕ, ◌+◌, ◌-◌, ◌*◌, ◌^◌, ◌<◌, ◌≤◌, Bool, true, false, cond, ◌&&◌, nat_le, nat_lt}
 use Rattle.std.proofs.Common.{List, length, get_or, ℤ, pos, ◌-ℤ◌, ◌*ℤ◌, int_le, refl, sym, ap, ◌∙◌, arith}
 use Rattle.std.proofs.lemmas.Bool.Decides.{nat_tests}
+use Rattle.definitions.proofs.Cases.{nat_lt-less}
 use Rattle.definitions.proofs.Ring.{linear, mul-zeroℤ, mul_assocℤ}
 use Rattle.definitions.proofs.Members.{sum_below-same, sum_below-times}
 use Rattle.definitions.proofs.Parts.{sum_over-more}
@@ -24,14 +25,15 @@ weight_of weights i = get_or weights i 0
 
 -- what a player of weight c adds to a coalition of weight b
 marginal_mark : (q b c : ℕ) → mark (nat_le q (b + c)) -ℤ mark (nat_le q b) ≡ mark (in_range (q - c) q b)
-marginal_mark q b c = step (nat_le q (b + c)) (nat_le q b) (nat_le (q - c) b) (nat_lt b q) refl refl refl refl
+marginal_mark q b c =
+    mark_difference (nat_le q (b + c)) (nat_le q b) (nat_le (q - c) b) (nat_lt b q) refl refl refl refl
   where
-    step : (p r s t : Bool) → nat_le q (b + c) ≡ p → nat_le q b ≡ r → nat_le (q - c) b ≡ s → nat_lt b q ≡ t
+    mark_difference : (p r s t : Bool) → nat_le q (b + c) ≡ p → nat_le q b ≡ r → nat_le (q - c) b ≡ s → nat_lt b q ≡ t
         → mark p -ℤ mark r ≡ mark (s && t)
-    step true true true false e f g h = refl
-    step true false true true e f g h = refl
-    step false false false true e f g h = refl
-    step p r s t e f g h = absurd (grind (arith, nat_tests))
+    mark_difference true true true false e f g h = refl
+    mark_difference true false true true e f g h = refl
+    mark_difference false false false true e f g h = refl
+    mark_difference p r s t e f g h = absurd (grind (arith, nat_tests))
 
 worth-weigh : (g : Voting) (s : ℕ)
     → voting_worth g.quota g.weights s ≡ mark (nat_le g.quota (weigh (weight_of g.weights) (length g.weights) s))
@@ -72,21 +74,18 @@ term : (g : Voting) (i s : ℕ) → length g.weights ≤ 32 → i < length g.wei
     ≡ pos (factorial (length g.weights))
     *ℤ at_size (λ k. pos (share_unit (length g.weights) k)) (weight_of g.weights) i (length g.weights)
     (g.quota - weight_of g.weights i) g.quota (length g.weights) s
-term g i s few lt = decide (has_player s i) refl
+term g i s few lt = by_membership (has_player s i) refl
   where
-    below : (a n : ℕ) → a < n → nat_lt a n ≡ true
-    below a n h = grind (arith, nat_tests)
-
-    decide : (b : Bool) → has_player s i ≡ b
+    by_membership : (b : Bool) → has_player s i ≡ b
         → pos common *ℤ subset_term (voting_worth g.quota g.weights) (length g.weights) i s
         ≡ pos (factorial (length g.weights))
         *ℤ at_size (λ k. pos (share_unit (length g.weights) k)) (weight_of g.weights) i (length g.weights)
         (g.quota - weight_of g.weights i) g.quota (length g.weights) s
-    decide true e = rw e (mul-zeroℤ (pos common) ∙ sym (mul-zeroℤ (pos (factorial (length g.weights)))))
-    decide false e =
+    by_membership true e = rw e (mul-zeroℤ (pos common) ∙ sym (mul-zeroℤ (pos (factorial (length g.weights)))))
+    by_membership false e =
         let n = length g.weights in
         let k = size_below n s in
-        rw (e, below k n (size_below-less n i s lt e), adds g i s lt e)
+        rw (e, nat_lt-less k n (size_below-less n i s lt e), adds g i s lt e)
         (scaled (factorial n) (share_unit n k) common (orders_with n k) _
         (unit-whole n k few (size_below-less n i s lt e)))
 

@@ -1,26 +1,14 @@
 -- The sets of a kind with one player more.
-use Rattle.std.proofs.Common.{◌≡◌, ◌≢◌, ◌⊎◌, ℕ, ◌+◌, ◌-◌, ◌^◌, ◌<◌, ◌≤◌, Bool, true, false, cond, not, ◌&&◌, ◌||◌}
-use Rattle.std.proofs.Common.{ℤ, pos, ◌+ℤ◌, refl, sym, ap, subst, ◌∙◌, inl, inr, arith, add-one}
-use Rattle.std.proofs.Math.Nat.{pow-suc}
+use Rattle.std.proofs.Common.{◌≡◌, ◌≢◌, ◌⊎◌, ℕ, ◌+◌, ◌^◌, ◌<◌, Bool, true, false, cond, not, ◌&&◌, ◌||◌}
+use Rattle.std.proofs.Common.{ℤ, pos, ◌+ℤ◌, ◌≤ℤ◌, refl, sym, ap, subst, ◌∙◌, inl, inr, arith, add-one}
 use Rattle.definitions.proofs.Members.{has_player-empty, sum_below-zero}
-use Rattle.definitions.proofs.Cases.{below_or_above}
+use Rattle.definitions.proofs.Ring.{linear}
 use Rattle.definitions.proofs.Splits.{some_below-same}
 use Rattle.definitions.proofs.Halves.{has_player-last}
 use Rattle.definitions.proofs.Parts.{has_player-more_same, has_player-more_other, sum_over-more}
 use Rattle.definitions.specs.Coalitions.{has_player, sum_over}
+use Rattle.coalitions.proofs.LastPlayer.{low_or_high, next_pow}
 use Rattle.voting.specs.SetKinds.{passes, holds_one_of, lacks_one_of, IsOfKind}
-
--- ---- masks of one player more
-
-pub next_pow : (i : ℕ) → 2 ^ (i + 1) ≡ 2 ^ i + 2 ^ i
-next_pow i = let p = pow-suc 2 i in rw (add-one i) (omega arith)
-
-low_or_high : (i t : ℕ) → t < 2 ^ (i + 1) → (t < 2 ^ i) ⊎ ((u : ℕ) × (u < 2 ^ i) × (t ≡ u + 2 ^ i))
-low_or_high i t h = decide (below_or_above t (2 ^ i))
-  where
-    decide : (t < 2 ^ i) ⊎ (2 ^ i ≤ t) → (t < 2 ^ i) ⊎ ((u : ℕ) × (u < 2 ^ i) × (t ≡ u + 2 ^ i))
-    decide (inl low) = inl low
-    decide (inr high) = let p = next_pow i in inr (t - 2 ^ i, omega arith, omega arith)
 
 -- ---- what a set holds and lacks
 
@@ -121,6 +109,9 @@ IsOfKind-cases h l f i s k = elim (low_or_high i s k.0) [
 ]
 
 -- ---- weights
+
+pub natural-nonnegative : (k : ℕ) → pos 0 ≤ℤ pos k
+natural-nonnegative k = omega (arith, linear)
 
 pub sum_over-last : (n i t : ℕ) (a : ℕ → ℤ) → i < n → t < 2 ^ i → sum_over n a (t + 2 ^ i) ≡ sum_over n a t +ℤ a i
 sum_over-last n i t a lt low = sum_over-more n t i a lt (has_player-last i t low)

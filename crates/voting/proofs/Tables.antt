@@ -22,20 +22,20 @@ use Rattle.voting.proofs.Pivots.{weight_of, pivots-total}
 
 ways-small : (weight : ℕ → ℕ) (i j k w : ℕ) → ways weight i j k w ≤ 2 ^ j
 unfolding ways
-ways-small weight i zero k w = step (nat_eq k 0 && nat_eq w 0)
+ways-small weight i zero k w = one_or_none (nat_eq k 0 && nat_eq w 0)
   where
-    step : (b : Bool) → cond b 1 0 ≤ 2 ^ 0
-    step true = omega arith
-    step false = omega arith
+    one_or_none : (b : Bool) → cond b 1 0 ≤ 2 ^ 0
+    one_or_none true = omega arith
+    one_or_none false = omega arith
 ways-small weight i (suc j) k w =
     let p = pow-suc 2 j in
-    step (2 ^ suc j) (2 ^ j) (omega arith) (nat_eq j i) (nat_le 1 k && nat_le (weight j) w) _ _
+    both_halves (2 ^ suc j) (2 ^ j) (omega arith) (nat_eq j i) (nat_le 1 k && nat_le (weight j) w) _ _
     (ways-small weight i j k w) (ways-small weight i j (k - 1) (w - weight j))
   where
-    step : (q p : ℕ) → p + p ≤ q → (b t : Bool) (m n : ℕ) → m ≤ p → n ≤ p → cond b m (m + cond t n 0) ≤ q
-    step q p le true t m n e f = omega arith
-    step q p le false true m n e f = omega arith
-    step q p le false false m n e f = omega arith
+    both_halves : (q p : ℕ) → p + p ≤ q → (b t : Bool) (m n : ℕ) → m ≤ p → n ≤ p → cond b m (m + cond t n 0) ≤ q
+    both_halves q p le true t m n e f = omega arith
+    both_halves q p le false true m n e f = omega arith
+    both_halves q p le false false m n e f = omega arith
 
 pub table_small : (weight : ℕ → ℕ) (i j : ℕ) (t : Table) → j ≤ 32 → IsTable weight i j t → IsSmallTable t
 table_small weight i j t few h = λ k lt w less.
@@ -65,18 +65,18 @@ table_more weight i j heavy t r ne same h more = record {
       more k w lt less
       ∙ sym
       (rw (add-one j, nat_eq-other j i ne, same)
-      (sums (h.each k w lt less) (new k w lt less (nat_le 1 k) (nat_le heavy w))));
+      (sums_turned (h.each k w lt less) (smaller_is k w lt less (nat_le 1 k) (nat_le heavy w))));
 }
   where
-    sums : {a b c d : ℕ} → a ≡ b → c ≡ d → b + d ≡ a + c
-    sums e f = cc
+    sums_turned : {a b c d : ℕ} → a ≡ b → c ≡ d → b + d ≡ a + c
+    sums_turned e f = cc
 
-    new : (k w : ℕ) → k < 32 → w < 1001 → (a b : Bool)
+    smaller_is : (k w : ℕ) → k < 32 → w < 1001 → (a b : Bool)
         → cond a (cond b (way_at (row_at t (k - 1)) (w - heavy)) 0) 0
         ≡ cond (a && b) (ways weight i j (k - 1) (w - heavy)) 0
-    new k w lt less true true = h.each (k - 1) (w - heavy) (omega arith) (omega arith)
-    new k w lt less true false = refl
-    new k w lt less false b = refl
+    smaller_is k w lt less true true = h.each (k - 1) (w - heavy) (omega arith) (omega arith)
+    smaller_is k w lt less true false = refl
+    smaller_is k w lt less false b = refl
 
 -- ---- a row's counts in a range
 

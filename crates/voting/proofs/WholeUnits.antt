@@ -68,12 +68,12 @@ unit n k few lt =
       small = at_most (share_unit n k) common two.0;
       first = from_nat_eq (common / n) (share_unit n 0) three.0;
       next = λ less. from_nat_eq (share_unit n k * (k + 1) / (n - 1 - k)) (share_unit n (k + 1))
-          (other (nat_eq (k + 1) n) _ (nat_eq-less (k + 1) n less) three.1);
+          (second_of_or (nat_eq (k + 1) n) _ (nat_eq-less (k + 1) n less) three.1);
     }
   where
-    other : (a b : Bool) → a ≡ false → (a || b) ≡ true → b ≡ true
-    other true b e f = absurd (cc)
-    other false b e f = f
+    second_of_or : (a b : Bool) → a ≡ false → (a || b) ≡ true → b ≡ true
+    second_of_or true b e f = absurd (cc)
+    second_of_or false b e f = f
 
 pub unit-small : (n k : ℕ) → n ≤ 32 → k < n → share_unit n k ≤ common
 unit-small n k few lt = (unit n k few lt).small

@@ -15,7 +15,7 @@ invariant_of-result c =
     let tested =
     rows_tested AreFew (λ row. row.items) xs p rows some c.index.result.now q c.index.ensures columns
     (some, search rules, search rules, search rules) c.have_entries.result c.have_length.result c.deref.result.now
-      c.deref-2.result.now
+    c.deref-2.result.now
     c.deref.ensures.value c.if-not-have_entries.false c.have_entries.ensures.0 c.deref-2.ensures.value
     c.if-not-have_length.false c.have_length.ensures.0 in
     market_made (map (λ row. row.items) xs) p q tested
@@ -31,7 +31,7 @@ returns c =
     let tested =
     rows_tested AreFew (λ row. row.items) xs p rows some c.index.result.now q c.index.ensures columns
     (some, search rules, search rules, search rules) c.have_entries.result c.have_length.result c.deref.result.now
-      c.deref-2.result.now
+    c.deref-2.result.now
     c.deref.ensures.value c.if-not-have_entries.false c.have_entries.ensures.0 c.deref-2.ensures.value
     c.if-not-have_length.false c.have_length.ensures.0 in
     (refl, market_made (map (λ row. row.items) xs) p q tested, assignment_is_game (map (λ row. row.items) xs))
@@ -46,7 +46,7 @@ returns-then-sellers-lt1 c =
     let p = c.len-buyers.result in
     let q = c.len-sellers.result in
     no_sellers AreFew (λ row. row.items) c.args.matrix.items p (search rules) c.if-buyers-lt1.false c.index.result.now
-      q
+    q
     c.index.ensures (search rules) (sellers_fail p q c.then-sellers-lt1.either)
 
 pub returns-then-not-have_entries : goal.returns-then-not-have_entries
