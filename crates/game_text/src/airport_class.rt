@@ -2,6 +2,7 @@
 ghost use Rattle.std.specs.Prelude.{◌≡◌, codes, IfOk, Some};
 ghost use Rattle.serde_json.specs.View.{view};
 ghost use Rattle.document_parts.specs.Scales.{scale_of};
+ghost use Rattle.document_parts.specs.Sizes.{is_list_size};
 ghost use Rattle.document_parts.specs.ScaledNumbers.{costs_at};
 ghost use Rattle.game_text.specs.Shape.{class_of};
 ghost use Rattle.game_text.specs.AirportClass.{is_airport_shaped, airport_players, has_airport_numbers};
@@ -9,14 +10,14 @@ ghost use Rattle.game_text.specs.Readings.{HasSizes};
 ghost use Rattle.game_text.specs.declared.class.Class.TheVariants.{Airport};
 
 use airport::{AirportFault, AirportGame};
-use document_parts::{SmallCost, has_texts, numbers_at};
+use document_parts::{SmallCost, has_texts, is_list_size, numbers_at};
 use fractions::OutOfMemory;
 use json_trees::{ArrayOf, Numeric, each_at, has, has_only_keys, parts_at};
 use serde_json::Value;
 use std::alloc::Global;
 
 /// Whether it has the keys and kinds of an airport game.
-pub(crate) fn is_airport_shaped(game: &Value) -> bool
+pub(crate) fn is_shaped(game: &Value) -> bool
     ensures { result ≡ is_airport_shaped (view game.now) }
 {
     let texts = has_texts(game);
@@ -25,14 +26,21 @@ pub(crate) fn is_airport_shaped(game: &Value) -> bool
 }
 
 /// The number of players: one for each cost.
-pub(crate) fn airport_players(game: &Value) -> usize
+pub(crate) fn players(game: &Value) -> usize
     ensures { result ≡ airport_players (view game.now) }
 {
     parts_at(game, "costs").len()
 }
 
+/// Whether there are 1 to 64 players.
+pub(crate) fn has_players(game: &Value) -> bool
+    ensures { result ≡ is_list_size (airport_players (view game.now)) }
+{
+    is_list_size(players(game))
+}
+
 /// Whether each cost times the scale is within its limits.
-pub(crate) fn has_airport_numbers(game: &Value, scale: u32) -> bool
+pub(crate) fn has_numbers(game: &Value, scale: u32) -> bool
     ensures { result ≡ has_airport_numbers scale (view game.now) }
 {
     each_at(game, "costs", &SmallCost(scale))

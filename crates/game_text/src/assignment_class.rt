@@ -8,6 +8,7 @@ ghost use Rattle.game_text.specs.AssignmentClass.{sellers_at, assignment_players
 ghost use Rattle.game_text.specs.Readings.{HasSizes};
 ghost use Rattle.game_text.specs.declared.class.Class.TheVariants.{Assignment};
 
+pub(crate) use crate::matrix_class::{has_numbers, is_shaped};
 use assignment_games::{AssignmentFault, AssignmentGame};
 use document_parts::rows_at;
 use fractions::OutOfMemory;
@@ -27,19 +28,19 @@ pub(crate) fn sellers_at(game: &Value) -> usize
 }
 
 /// The number of players: one for each row and one for each item of the first row.
-pub(crate) fn assignment_players(game: &Value) -> usize
+pub(crate) fn players(game: &Value) -> usize
     ensures { result ≡ assignment_players (view game.now) }
 {
     parts_at(game, "matrix").len() + sellers_at(game)
 }
 
 /// Whether there are buyers and sellers, at most 16 together.
-pub(crate) fn has_assignment_players(game: &Value) -> bool
+pub(crate) fn has_players(game: &Value) -> bool
     ensures { result ≡ has_assignment_players (view game.now) }
 {
     let buyers = parts_at(game, "matrix").len();
     let sellers = sellers_at(game);
-    1 <= buyers && 1 <= sellers && assignment_players(game) <= 16
+    1 <= buyers && 1 <= sellers && players(game) <= 16
 }
 
 /// The game that is described, its numbers times the scale. None where the rows differ in length.

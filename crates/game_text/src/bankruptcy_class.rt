@@ -3,6 +3,7 @@ ghost use Rattle.std.specs.Prelude.{◌≡◌, codes, IfOk, Some, None, unsigned
 ghost use Rattle.serde_json.specs.View.{view};
 ghost use Rattle.bankruptcy.specs.Bankruptcy.{bankruptcy};
 ghost use Rattle.document_parts.specs.Scales.{scale_of};
+ghost use Rattle.document_parts.specs.Sizes.{is_list_size};
 ghost use Rattle.document_parts.specs.ScaledNumbers.{number_at, costs_at};
 ghost use Rattle.game_text.specs.Shape.{class_of};
 ghost use Rattle.game_text.specs.BankruptcyClass.{is_bankruptcy_shaped, bankruptcy_players};
@@ -11,14 +12,14 @@ ghost use Rattle.game_text.specs.Readings.{HasSizes};
 ghost use Rattle.game_text.specs.declared.class.Class.TheVariants.{Bankruptcy};
 
 use bankruptcy::{BankruptcyFault, BankruptcyGame};
-use document_parts::{SmallCost, has_texts, number_at, numbers_at};
+use document_parts::{SmallCost, has_texts, is_list_size, number_at, numbers_at};
 use fractions::OutOfMemory;
 use json_trees::{ArrayOf, Numeric, each_at, has, has_only_keys, parts_at};
 use serde_json::Value;
 use std::alloc::Global;
 
 /// Whether it has the keys and kinds of a bankruptcy game.
-pub(crate) fn is_bankruptcy_shaped(game: &Value) -> bool
+pub(crate) fn is_shaped(game: &Value) -> bool
     ensures { result ≡ is_bankruptcy_shaped (view game.now) }
 {
     let texts = has_texts(game);
@@ -30,14 +31,21 @@ pub(crate) fn is_bankruptcy_shaped(game: &Value) -> bool
 }
 
 /// The number of players: one for each claim.
-pub(crate) fn bankruptcy_players(game: &Value) -> usize
+pub(crate) fn players(game: &Value) -> usize
     ensures { result ≡ bankruptcy_players (view game.now) }
 {
     parts_at(game, "claims").len()
 }
 
+/// Whether there are 1 to 64 players.
+pub(crate) fn has_players(game: &Value) -> bool
+    ensures { result ≡ is_list_size (bankruptcy_players (view game.now)) }
+{
+    is_list_size(players(game))
+}
+
 /// Whether the estate and each claim, times the scale, are within their limits.
-pub(crate) fn has_bankruptcy_numbers(game: &Value, scale: u32) -> bool
+pub(crate) fn has_numbers(game: &Value, scale: u32) -> bool
     ensures { result ≡ has_bankruptcy_numbers scale (view game.now) }
 {
     has(game, "estate", &SmallCost(scale)) && each_at(game, "claims", &SmallCost(scale))

@@ -28,6 +28,17 @@ use serde_json::Value;
 use std::alloc::Global;
 use worth_tables::CostGame;
 
+/// The game that was made of a tree, or the refusal of its class where its own test failed.
+macro_rules! built {
+    ($made:expr, $inner:ident => $game:expr, $refusal:ident) => {
+        match $made {
+            Ok(Some($inner)) => Ok($game),
+            Ok(None) => Err(TextFault::Refused(Refusal::$refusal)),
+            Err(OutOfMemory) => Err(TextFault::Memory),
+        }
+    };
+}
+
 /// The game that a tree describes, its numbers times the scale, or the refusal of its coalitions, of its estate, of its
 /// quota or of its matrix.
 pub(crate) fn game_of(
@@ -43,45 +54,29 @@ pub(crate) fn game_of(
     ensures { MatchResult result (IsBuilt (view game.now)) (IsBuildFault (view game.now)) }
 {
     match class_of(game) {
-        Some(Class::Table) => match table_of(alloc, game, names, scale) {
-            Ok(Some(table)) => Ok(Game::Table(table)),
-            Ok(None) => Err(TextFault::Refused(Refusal::Coalition)),
-            Err(OutOfMemory) => Err(TextFault::Memory),
-        },
-        Some(Class::CostTable) => match table_of(alloc, game, names, scale) {
-            Ok(Some(costs)) => Ok(Game::Cost(CostGame::new(costs))),
-            Ok(None) => Err(TextFault::Refused(Refusal::Coalition)),
-            Err(OutOfMemory) => Err(TextFault::Memory),
-        },
+        Some(Class::Table) => {
+            built!(table_of(alloc, game, names, scale), table => Game::Table(table), Coalition)
+        }
+        Some(Class::CostTable) => {
+            built!(table_of(alloc, game, names, scale), costs => Game::Cost(CostGame::new(costs)), Coalition)
+        }
         Some(Class::Airport) => match airport_of(alloc, game, scale) {
             Ok(costs) => Ok(Game::Airport(costs)),
             Err(OutOfMemory) => Err(TextFault::Memory),
         },
-        Some(Class::Bankruptcy) => match bankruptcy_of(alloc, game, scale) {
-            Ok(Some(claims)) => Ok(Game::Bankruptcy(claims)),
-            Ok(None) => Err(TextFault::Refused(Refusal::Estate)),
-            Err(OutOfMemory) => Err(TextFault::Memory),
-        },
-        Some(Class::Tree) => match tree_of(alloc, game, scale) {
-            Ok(Some(links)) => Ok(Game::Tree(links)),
-            Ok(None) => Err(TextFault::Refused(Refusal::Matrix)),
-            Err(OutOfMemory) => Err(TextFault::Memory),
-        },
-        Some(Class::Assignment) => match assignment_of(alloc, game, scale) {
-            Ok(Some(values)) => Ok(Game::Assignment(values)),
-            Ok(None) => Err(TextFault::Refused(Refusal::Matrix)),
-            Err(OutOfMemory) => Err(TextFault::Memory),
-        },
-        Some(Class::Market) => match market_of(alloc, game, scale) {
-            Ok(Some(market)) => Ok(Game::Market(market)),
-            Ok(None) => Err(TextFault::Refused(Refusal::Matrix)),
-            Err(OutOfMemory) => Err(TextFault::Memory),
-        },
-        Some(Class::Voting) => match voting_of(alloc, game) {
-            Ok(Some(votes)) => Ok(Game::Voting(votes)),
-            Ok(None) => Err(TextFault::Refused(Refusal::Quota)),
-            Err(OutOfMemory) => Err(TextFault::Memory),
-        },
+        Some(Class::Bankruptcy) => {
+            built!(bankruptcy_of(alloc, game, scale), claims => Game::Bankruptcy(claims), Estate)
+        }
+        Some(Class::Tree) => {
+            built!(tree_of(alloc, game, scale), links => Game::Tree(links), Matrix)
+        }
+        Some(Class::Assignment) => {
+            built!(assignment_of(alloc, game, scale), values => Game::Assignment(values), Matrix)
+        }
+        Some(Class::Market) => {
+            built!(market_of(alloc, game, scale), market => Game::Market(market), Matrix)
+        }
+        Some(Class::Voting) => built!(voting_of(alloc, game), votes => Game::Voting(votes), Quota),
         None => unreachable!(),
     }
 }

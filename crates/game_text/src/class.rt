@@ -20,3 +20,24 @@ pub enum Class {
     /// A quota and the weight of each player.
     Voting,
 }
+
+/// The function of this name in the module of the class. The module of each class has `is_shaped`, `has_players`,
+/// `players` and `has_numbers`; both tables share theirs.
+macro_rules! by_class {
+    ($class:expr, $function:ident($($argument:expr),*), none: $none:expr) => {
+        match $class {
+            Some($crate::class::Class::Table | $crate::class::Class::CostTable) => {
+                $crate::table_class::$function($($argument),*)
+            }
+            Some($crate::class::Class::Airport) => $crate::airport_class::$function($($argument),*),
+            Some($crate::class::Class::Bankruptcy) => $crate::bankruptcy_class::$function($($argument),*),
+            Some($crate::class::Class::Tree) => $crate::tree_class::$function($($argument),*),
+            Some($crate::class::Class::Assignment) => $crate::assignment_class::$function($($argument),*),
+            Some($crate::class::Class::Market) => $crate::market_class::$function($($argument),*),
+            Some($crate::class::Class::Voting) => $crate::voting_class::$function($($argument),*),
+            None => $none,
+        }
+    };
+}
+
+pub(crate) use by_class;

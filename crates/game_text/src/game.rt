@@ -30,6 +30,22 @@ pub enum Game {
     Voting(VotingGame),
 }
 
+/// The body, in which the name stands for the game of the class.
+macro_rules! of_its_class {
+    ($game:expr, $inner:ident => $body:expr) => {
+        match $game {
+            Game::Table($inner) => $body,
+            Game::Cost($inner) => $body,
+            Game::Airport($inner) => $body,
+            Game::Bankruptcy($inner) => $body,
+            Game::Tree($inner) => $body,
+            Game::Assignment($inner) => $body,
+            Game::Market($inner) => $body,
+            Game::Voting($inner) => $body,
+        }
+    };
+}
+
 impl Game {
     ghost use Rattle.std.specs.Prelude.{◌≡◌};
     ghost use Rattle.game_text.specs.Descriptions.{is_cost};
@@ -57,54 +73,18 @@ impl Worth for Game {
     ghost game = { λ g. game_of (description_in g) };
 
     fn players(&self) -> u32 {
-        match self {
-            Game::Table(game) => game.players(),
-            Game::Cost(game) => game.players(),
-            Game::Airport(game) => game.players(),
-            Game::Bankruptcy(game) => game.players(),
-            Game::Tree(game) => game.players(),
-            Game::Assignment(game) => game.players(),
-            Game::Market(game) => game.players(),
-            Game::Voting(game) => game.players(),
-        }
+        of_its_class!(self, game => game.players())
     }
 
     fn worth(&self, s: Coalition) -> i64 {
-        match self {
-            Game::Table(game) => game.worth(s),
-            Game::Cost(game) => game.worth(s),
-            Game::Airport(game) => game.worth(s),
-            Game::Bankruptcy(game) => game.worth(s),
-            Game::Tree(game) => game.worth(s),
-            Game::Assignment(game) => game.worth(s),
-            Game::Market(game) => game.worth(s),
-            Game::Voting(game) => game.worth(s),
-        }
+        of_its_class!(self, game => game.worth(s))
     }
 
     fn blocker(&self, x: &Shares) -> Option<Coalition> {
-        match self {
-            Game::Table(game) => game.blocker(x),
-            Game::Cost(game) => game.blocker(x),
-            Game::Airport(game) => game.blocker(x),
-            Game::Bankruptcy(game) => game.blocker(x),
-            Game::Tree(game) => game.blocker(x),
-            Game::Assignment(game) => game.blocker(x),
-            Game::Market(game) => game.blocker(x),
-            Game::Voting(game) => game.blocker(x),
-        }
+        of_its_class!(self, game => game.blocker(x))
     }
 
     fn split_bound(&self, x: &Shares, free: Coalition) -> i128 {
-        match self {
-            Game::Table(game) => game.split_bound(x, free),
-            Game::Cost(game) => game.split_bound(x, free),
-            Game::Airport(game) => game.split_bound(x, free),
-            Game::Bankruptcy(game) => game.split_bound(x, free),
-            Game::Tree(game) => game.split_bound(x, free),
-            Game::Assignment(game) => game.split_bound(x, free),
-            Game::Market(game) => game.split_bound(x, free),
-            Game::Voting(game) => game.split_bound(x, free),
-        }
+        of_its_class!(self, game => game.split_bound(x, free))
     }
 }

@@ -9,7 +9,9 @@ ghost use Rattle.game_text.specs.MarketClass.{has_market_players};
 ghost use Rattle.game_text.specs.Readings.{HasSizes};
 ghost use Rattle.game_text.specs.declared.class.Class.TheVariants.{Market};
 
+pub(crate) use crate::assignment_class::players;
 use crate::assignment_class::sellers_at;
+pub(crate) use crate::matrix_class::{has_numbers, is_shaped};
 use big_assignment::{MarketFault, MarketGame};
 use document_parts::{is_short_list_size, rows_at};
 use fractions::OutOfMemory;
@@ -18,7 +20,7 @@ use serde_json::Value;
 use std::alloc::Global;
 
 /// Whether there are 1 to 32 buyers, and 1 to 32 sellers.
-pub(crate) fn has_market_players(game: &Value) -> bool
+pub(crate) fn has_players(game: &Value) -> bool
     ensures { result ≡ has_market_players (view game.now) }
 {
     is_short_list_size(parts_at(game, "matrix").len()) && is_short_list_size(sellers_at(game))

@@ -17,7 +17,7 @@ fn has_rows(game: &Value, texts: bool) -> bool
 }
 
 /// Whether it has the keys and kinds of a game by its matrix.
-pub(crate) fn is_matrix_shaped(game: &Value) -> bool
+pub(crate) fn is_shaped(game: &Value) -> bool
     ensures { result ≡ is_matrix_shaped (view game.now) }
 {
     let texts = has_texts(game);
@@ -25,7 +25,7 @@ pub(crate) fn is_matrix_shaped(game: &Value) -> bool
 }
 
 /// Whether each entry times the scale is within its limits.
-pub(crate) fn has_matrix_numbers(game: &Value, scale: u32) -> bool
+pub(crate) fn has_numbers(game: &Value, scale: u32) -> bool
     ensures { result ≡ has_matrix_numbers scale (view game.now) }
 {
     each_at(game, "matrix", &ArrayOf(SmallCost(scale)))

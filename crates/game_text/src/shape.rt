@@ -3,19 +3,10 @@ ghost use Rattle.std.specs.Prelude.{◌≡◌, codes, Some, None, if◌then◌el
 ghost use Rattle.std.specs.Str.{bytes_eq};
 ghost use Rattle.serde_json.specs.View.{view};
 ghost use Rattle.game_text.specs.Shape.{class_named, class_of, is_shaped_as, has_shares, has_needed, is_shaped};
-ghost use Rattle.game_text.specs.TableClass.{is_table_shaped};
-ghost use Rattle.game_text.specs.BankruptcyClass.{is_bankruptcy_shaped};
-ghost use Rattle.game_text.specs.MatrixClass.{is_matrix_shaped};
-ghost use Rattle.game_text.specs.VotingClass.{is_voting_shaped};
 ghost use Rattle.game_text.specs.declared.class.Class.TheVariants.{Tree, Assignment, Market, Voting};
 
-use crate::airport_class::is_airport_shaped;
-use crate::bankruptcy_class::is_bankruptcy_shaped;
-use crate::class::Class;
+use crate::class::{Class, by_class};
 use crate::command::Command;
-use crate::matrix_class::is_matrix_shaped;
-use crate::table_class::is_table_shaped;
-use crate::voting_class::is_voting_shaped;
 use certificate_texts::{CertificateShape, family_of};
 use document_parts::{MeasureWord, VersionNumber};
 use json_trees::{ArrayOf, Form, Member, Text, has, has_if_there, has_only_keys};
@@ -68,14 +59,7 @@ pub(crate) fn class_of(game: &Value) -> Option<Class>
 fn is_shaped_as(class: Option<Class>, game: &Value) -> bool
     ensures { result ≡ is_shaped_as class (view game.now) }
 {
-    match class {
-        Some(Class::Table | Class::CostTable) => is_table_shaped(game),
-        Some(Class::Airport) => is_airport_shaped(game),
-        Some(Class::Bankruptcy) => is_bankruptcy_shaped(game),
-        Some(Class::Tree | Class::Assignment | Class::Market) => is_matrix_shaped(game),
-        Some(Class::Voting) => is_voting_shaped(game),
-        None => false,
-    }
+    by_class!(class, is_shaped(game), none: false)
 }
 
 /// A game with the keys and kinds of its class.

@@ -1,6 +1,6 @@
 //! Tables of worths and of costs: a number for each coalition, all listed or some in pairs.
 ghost use Rattle.std.specs.Prelude.{◌≡◌, Some, None, IfOk, IfSome, if◌then◌else◌};
-ghost use Rattle.std.specs.Prelude.{◌^◌, ◌<◌, ◌≤◌, codes, length};
+ghost use Rattle.std.specs.Prelude.{◌^◌, ◌<◌, ◌≤◌, codes, length, unwrap_or};
 ghost use Rattle.serde_json.specs.Find.{get};
 ghost use Rattle.serde_json.specs.View.{view};
 ghost use Rattle.json_trees.specs.Trees.{passes, is_array_of};
@@ -17,7 +17,7 @@ ghost use Rattle.game_text.specs.TableClass.{is_table_shaped, is_sparse_pair, li
 ghost use Rattle.game_text.specs.TableClass.{players_at, table_players, has_items, has_worths_for};
 ghost use Rattle.game_text.specs.TableClass.{has_table_players, has_table_numbers};
 
-use crate::limits::players;
+use crate::limits;
 use document_parts::{Names, has_texts, small_number, table_numbers};
 use fractions::OutOfMemory;
 use json_trees::{
@@ -58,7 +58,7 @@ fn lists_coalitions(game: &Value) -> bool
 }
 
 /// Whether it has the keys and kinds of a table.
-pub(crate) fn is_table_shaped(game: &Value) -> bool
+pub(crate) fn is_shaped(game: &Value) -> bool
     ensures { result ≡ is_table_shaped (view game.now) }
 {
     has_only_keys(
@@ -83,12 +83,19 @@ fn table_players(n: i64) -> Option<u32>
 }
 
 /// The number of players that a table says it has, where it is 1 to 16.
-pub(crate) fn players_at(game: &Value) -> Option<u32>
+fn players_at(game: &Value) -> Option<u32>
     ensures value { result ≡ players_at (view game.now) }
     ensures range { IfSome result (λ n. (0 < n) × (n ≤ 16)) }
 {
     let n = game.get("players").and_then(|v| integer(v))?;
     table_players(n)
+}
+
+/// The number of players of a table that has as many as it may.
+pub(crate) fn players(game: &Value) -> usize
+    ensures { result ≡ unwrap_or (players_at (view game.now)) 0 }
+{
+    players_at(game).unwrap_or(0) as usize
 }
 
 fn has_items(value: &Value, n: usize) -> bool
@@ -112,7 +119,7 @@ fn has_worths_for(game: &Value, players: Option<u32>) -> bool
 }
 
 /// Whether there are 1 to 16 players, and a number for each coalition where all are listed.
-pub(crate) fn has_table_players(game: &Value) -> bool
+pub(crate) fn has_players(game: &Value) -> bool
     ensures { result ≡ has_table_players (view game.now) }
 {
     let players = players_at(game);
@@ -134,7 +141,7 @@ impl Form for SmallWorth {
 }
 
 /// Whether each number of a table, times the scale, is within its limits.
-pub(crate) fn has_table_numbers(game: &Value, scale: u32) -> bool
+pub(crate) fn has_numbers(game: &Value, scale: u32) -> bool
     ensures { result ≡ has_table_numbers scale (view game.now) }
 {
     each_at(game, "worths", &SmallWorth(scale))
@@ -157,7 +164,7 @@ pub(crate) fn table_of(
     ensures { IfOk result (λ o. o ≡ (if are_coalitions (masks (view game.now))
         then Some (table (players (view game.now)) (table_numbers scale (view game.now))) else None)) }
 {
-    let count = players(game) as u32;
+    let count = limits::players(game) as u32;
     let Some(worths) = table_numbers(alloc, game, count, names, scale)? else {
         return Ok(None);
     };

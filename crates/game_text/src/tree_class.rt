@@ -8,6 +8,7 @@ ghost use Rattle.game_text.specs.TreeClass.{tree_players, has_tree_players, are_
 ghost use Rattle.game_text.specs.Readings.{HasSizes};
 ghost use Rattle.game_text.specs.declared.class.Class.TheVariants.{Tree};
 
+pub(crate) use crate::matrix_class::{has_numbers, is_shaped};
 use document_parts::rows_at;
 use fractions::OutOfMemory;
 use json_trees::parts_at;
@@ -16,14 +17,14 @@ use std::alloc::Global;
 use tree_games::{TreeFault, TreeGame};
 
 /// The number of players: one for each row but that of the source.
-pub(crate) fn tree_players(game: &Value) -> usize
+pub(crate) fn players(game: &Value) -> usize
     ensures { result ≡ tree_players (view game.now) }
 {
     parts_at(game, "matrix").len().saturating_sub(1)
 }
 
 /// Whether there is the source with 1 to 16 players.
-pub(crate) fn has_tree_players(game: &Value) -> bool
+pub(crate) fn has_players(game: &Value) -> bool
     ensures { result ≡ has_tree_players (view game.now) }
 {
     let rows = parts_at(game, "matrix").len();

@@ -3,12 +3,13 @@ ghost use Rattle.std.specs.Prelude.{◌≡◌, codes, IfOk, Some, None, unsigned
 ghost use Rattle.serde_json.specs.View.{view};
 ghost use Rattle.voting.specs.Voting.{voting};
 ghost use Rattle.document_parts.specs.ScaledNumbers.{number_at, costs_at};
+ghost use Rattle.document_parts.specs.Sizes.{is_short_list_size};
 ghost use Rattle.game_text.specs.Shape.{class_of};
 ghost use Rattle.game_text.specs.VotingClass.{is_voting_shaped, voting_players, has_voting_numbers, is_quota};
 ghost use Rattle.game_text.specs.Readings.{HasSizes};
 ghost use Rattle.game_text.specs.declared.class.Class.TheVariants.{Voting};
 
-use document_parts::{SmallCost, number_at, numbers_at};
+use document_parts::{SmallCost, is_short_list_size, number_at, numbers_at};
 use fractions::OutOfMemory;
 use json_trees::{ArrayOf, Number, each_at, has, has_only_keys, parts_at};
 use serde_json::Value;
@@ -16,7 +17,7 @@ use std::alloc::Global;
 use voting::{VotingFault, VotingGame};
 
 /// Whether it has the keys and kinds of a voting game.
-pub(crate) fn is_voting_shaped(game: &Value) -> bool
+pub(crate) fn is_shaped(game: &Value) -> bool
     ensures { result ≡ is_voting_shaped (view game.now) }
 {
     has_only_keys(
@@ -27,14 +28,21 @@ pub(crate) fn is_voting_shaped(game: &Value) -> bool
 }
 
 /// The number of players: one for each weight.
-pub(crate) fn voting_players(game: &Value) -> usize
+pub(crate) fn players(game: &Value) -> usize
     ensures { result ≡ voting_players (view game.now) }
 {
     parts_at(game, "weights").len()
 }
 
-/// Whether the quota and each weight are integers within their limits.
-pub(crate) fn has_voting_numbers(game: &Value) -> bool
+/// Whether there are 1 to 32 players.
+pub(crate) fn has_players(game: &Value) -> bool
+    ensures { result ≡ is_short_list_size (voting_players (view game.now)) }
+{
+    is_short_list_size(players(game))
+}
+
+/// Whether the quota and each weight are integers within their limits, whatever the scale.
+pub(crate) fn has_numbers(game: &Value, _: u32) -> bool
     ensures { result ≡ has_voting_numbers (view game.now) }
 {
     has(game, "quota", &SmallCost(1)) && each_at(game, "weights", &SmallCost(1))

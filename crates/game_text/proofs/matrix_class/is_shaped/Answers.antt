@@ -5,7 +5,7 @@ use Rattle.json_trees.specs.Keys.{has_only_keys}
 use Rattle.json_trees.specs.Trees.{passes, is_array_of, is_numeric}
 use Rattle.game_text.specs.MatrixClass.{matrix_keys}
 use Rattle.document_parts.specs.Version.{has_texts}
-use Rattle.game_text.proofs.matrix_class.is_matrix_shaped.Goals as goal
+use Rattle.game_text.proofs.matrix_class.is_shaped.Goals as goal
 
 pub returns-then-has_only_keys : goal.returns-then-has_only_keys
 returns-then-has_only_keys c =
