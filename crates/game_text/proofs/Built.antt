@@ -1,60 +1,48 @@
 -- The game that is built of a class, and its refusal.
-use Rattle.std.proofs.Common.{◌≡◌, ℕ, Bool, Option, Some, None, if◌then◌else◌, sym, ap, ◌∙◌, subst}
+use Rattle.std.proofs.Common.{◌≡◌, ℕ, Bool, true, false, Option, Some, None, if◌then◌else◌, sym, ap, ◌∙◌}
 use Rattle.serde_json.specs.Data.{Data}
 use Rattle.document_parts.specs.Scales.{scale_of}
 use Rattle.game_text.specs.Shape.{class_of}
-use Rattle.game_text.specs.Coalitions.{has_coalitions_as}
-use Rattle.game_text.specs.Descriptions.{description_as}
+use Rattle.game_text.specs.OwnTests.{own_as, own_test}
+use Rattle.game_text.specs.Descriptions.{description_as, description_of}
 use Rattle.game_text.specs.Games.{description_in}
 use Rattle.game_text.specs.Readings.{IsBuilt}
-use Rattle.game_text.specs.Refusals.{unless, is_covered, has_quota, has_matrix}
-use Rattle.game_text.specs.Steps.{coalition_refusal}
+use Rattle.game_text.specs.Refusals.{unless}
+use Rattle.game_text.specs.Steps.{own_refusal}
 use Rattle.game_text.specs.declared.class.Class.{Class}
 use Rattle.game_text.specs.declared.game.Game.{Game}
 use Rattle.kinds.specs.declared.refusal.Refusal.{Refusal}
-use Rattle.kinds.specs.declared.refusal.Refusal.TheVariants.{Coalition, Estate, Matrix, Quota}
 use Rattle.game_text.proofs.Choices.{passed_if, failed_if}
 
--- the tests of the coalitions, the estate, the quota and the matrix at a class and a scale, and then the rest
-abbrev pub refusal_as : Option Class → ℕ → Data → Option Refusal → Option Refusal
-refusal_as c k game rest =
-    unless (has_coalitions_as c game) Coalition (
-    unless (is_covered (description_as k c game)) Estate (
-    unless (has_quota (description_as k c game)) Quota (
-    unless (has_matrix (description_as k c game)) Matrix rest)))
-
-abbrev IsBuiltAs : Option Class → ℕ → Data → Game → Type 0
-IsBuiltAs c k game g =
-    ((rest : Option Refusal) → refusal_as c k game rest ≡ rest) × (description_in g ≡ description_as k c game)
-
-abbrev IsRefusedAs : Option Class → ℕ → Data → Refusal → Type 0
-IsRefusedAs c k game r = (rest : Option Refusal) → refusal_as c k game rest ≡ Some r
-
+-- a game of the class c, with the scale k
 module _ (c : Option Class) (k : ℕ) (game : Data) (is : class_of game ≡ c) (over : k ≡ scale_of game) where
-  pub built : (g : Game) → IsBuiltAs c k game g → IsBuilt game g
-  built g h =
-      let at : IsBuiltAs (class_of game) (scale_of game) game g =
-      subst (λ (d : Option Class). IsBuiltAs d (scale_of game) game g) (sym is)
-      (subst (λ (j : ℕ). IsBuiltAs c j game g) over h) in
-      record { passed = at.0; same = at.1 }
+  own_test_as : own_test game ≡ own_as k c game
+  own_test_as = ap (λ d. own_as (scale_of game) d game) is ∙ ap (λ j. own_as j c game) (sym over)
 
-  refused : (r : Refusal) → IsRefusedAs c k game r → (rest : Option Refusal) → coalition_refusal game rest ≡ Some r
-  refused r h =
-      subst (λ (d : Option Class). IsRefusedAs d (scale_of game) game r) (sym is)
-      (subst (λ (j : ℕ). IsRefusedAs c j game r) over h)
+  description_of_as : description_of game ≡ description_as k c game
+  description_of_as =
+      ap (λ d. description_as (scale_of game) d game) is ∙ ap (λ j. description_as j c game) (sym over)
 
-  -- the one test of the class passed, and gave what the game is made of
-  pub built_if : {A : Type 0} (make : A → Game) (r : Refusal) (b : Bool) (x y : A)
-      → Some y ≡ (if b then Some x else None)
-      → ((rest : Option Refusal) → refusal_as c k game rest ≡ unless b r rest)
+  -- what the test of the class says decides
+  refusal_by : (b : Bool) → (own_as k c game).1 ≡ b → (rest : Option Refusal)
+      → own_refusal game rest ≡ unless b (own_as k c game).0 rest
+  refusal_by b e rest =
+      ap (λ (t : Refusal × Bool). unless t.1 t.0 rest) own_test_as
+      ∙ ap (λ t. unless t (own_as k c game).0 rest) e
+
+  -- the test passed, and this was made
+  pub built : (g : Game) → (own_as k c game).1 ≡ true → description_in g ≡ description_as k c game → IsBuilt game g
+  built g passed same = record { passed = refusal_by true passed; same = same ∙ sym description_of_as }
+
+  -- the test passed, and gave what the game is made of
+  pub built_if : {A : Type 0} (make : A → Game) (x y : A)
+      → Some y ≡ (if (own_as k c game).1 then Some x else None)
       → description_in (make x) ≡ description_as k c game → IsBuilt game (make y)
-  built_if make r b x y e one same =
-      let h = passed_if b x y e in
-      built (make y)
-      (λ rest. one rest ∙ ap (λ t. unless t r rest) h.0, ap (λ z. description_in (make z)) h.1 ∙ same)
+  built_if make x y e same =
+      let h = passed_if (own_as k c game).1 x y e in
+      built (make y) h.0 (ap (λ z. description_in (make z)) h.1 ∙ same)
 
   -- it failed
-  pub refused_if : {A : Type 0} (r : Refusal) (b : Bool) (x : A) → None ≡ (if b then Some x else None)
-      → ((rest : Option Refusal) → refusal_as c k game rest ≡ unless b r rest)
-      → (rest : Option Refusal) → coalition_refusal game rest ≡ Some r
-  refused_if r b x e one = refused r (λ rest. one rest ∙ ap (λ t. unless t r rest) (failed_if b x e))
+  pub refused_if : {A : Type 0} (x : A) → None ≡ (if (own_as k c game).1 then Some x else None)
+      → (rest : Option Refusal) → own_refusal game rest ≡ Some (own_as k c game).0
+  refused_if x e = refusal_by false (failed_if (own_as k c game).1 x e)

@@ -1,20 +1,19 @@
 -- What reading the tree says of the bytes.
 use Rattle.std.proofs.Common.{◌≡◌, ◌≤◌, ◌&&◌, ℕ, List, length, Bool, true, false, Option, Some}
 use Rattle.std.proofs.Common.{None, Result, Ok, Err, MatchResult, ap, ◌∙◌, subst}
-use Rattle.std.specs.Prelude.{⊤}
 use Rattle.std.proofs.lemmas.Bool.{and_from}
 use Rattle.serde_json.specs.Data.{Data}
+use Rattle.document_parts.specs.Scales.{scale_of}
 use Rattle.game_text.specs.Text.{document_limit, IsTextOf}
-use Rattle.game_text.specs.Shape.{is_shaped}
+use Rattle.game_text.specs.Shape.{class_of, is_shaped}
 use Rattle.game_text.specs.Limits.{has_players, has_numbers}
 use Rattle.game_text.specs.Names.{has_names}
-use Rattle.game_text.specs.Coalitions.{has_coalitions}
-use Rattle.game_text.specs.Descriptions.{description_of}
+use Rattle.game_text.specs.OwnTests.{own_test}
 use Rattle.game_text.specs.Documents.{game_tree}
-use Rattle.game_text.specs.Refusals.{unless, is_covered, has_quota, has_matrix, has_needed_numbers}
+use Rattle.game_text.specs.Refusals.{unless, has_needed_numbers}
 use Rattle.game_text.specs.Refusals.{has_needed_shares, has_needed_form, IsRefused}
 use Rattle.game_text.specs.Denominators.{needed_keep_limits, contents_of, tree_refusal}
-use Rattle.game_text.specs.Steps.{coalition_refusal, game_refusal, share_refusal}
+use Rattle.game_text.specs.Steps.{own_refusal, game_refusal, share_refusal}
 use Rattle.game_text.specs.Steps.{certificate_refusal, needed_refusal, late_refusal}
 use Rattle.game_text.specs.Readings.{IsBuilt, IsBuildFault, IsGameReading, IsGameFault, IsTreeReading, IsTreeFault}
 use Rattle.game_text.specs.Readings.{IsLateReading, IsLateFault, IsReading, IsFault, contents_in}
@@ -28,13 +27,7 @@ use Rattle.kinds.specs.declared.refusal.Refusal.TheVariants.{TooLong, NotJson, S
 use Rattle.kinds.specs.declared.refusal.Refusal.TheVariants.{Names, Coalition, Estate, Matrix, Proposal}
 use Rattle.kinds.specs.declared.refusal.Refusal.TheVariants.{TooFine, Certificate, Quota}
 use Rattle.game_text.proofs.Computed.{document_from, refused_from}
-
--- a refusal of the tree is behind the first two
-abbrev IsOfTree : Option Refusal → Type 0
-IsOfTree None = ⊤
-IsOfTree (Some TooLong) = ⊥
-IsOfTree (Some NotJson) = ⊥
-IsOfTree (Some r) = ⊤
+use Rattle.game_text.proofs.Laws.{IsOfTree, laws_of}
 
 choose : (b : Bool) (r : Refusal) (x : Option Refusal) → IsOfTree x → IsOfTree (Some r) → IsOfTree (unless b r x)
 choose true r x p q = p
@@ -56,14 +49,8 @@ needed_of_tree command game tree =
 
 game_of_tree : (game : Data) (rest : Option Refusal) → IsOfTree rest → IsOfTree (game_refusal game rest)
 game_of_tree game rest p =
-    let matrix = unless (has_matrix (description_of game)) Matrix rest in
-    let quota = unless (has_quota (description_of game)) Quota matrix in
-    let estate = unless (is_covered (description_of game)) Estate quota in
-    choose (has_names game) Names (unless (has_coalitions game) Coalition estate)
-    (choose (has_coalitions game) Coalition estate
-    (choose (is_covered (description_of game)) Estate quota
-    (choose (has_quota (description_of game)) Quota matrix
-    (choose (has_matrix (description_of game)) Matrix rest p tt) tt) tt) tt) tt
+    choose (has_names game) Names (own_refusal game rest)
+    (choose (own_test game).1 (own_test game).0 rest p ((laws_of (class_of game)).of_tree (scale_of game) game)) tt
 
 of_tree : (command : Command) (tree : Data) → IsOfTree (tree_refusal command tree)
 of_tree command tree =
@@ -121,17 +108,17 @@ from_tree command bytes tree h text (Err e) m = fault_at command bytes tree h te
 -- ---- behind the test of the names
 
 fault_behind : (game : Data) → has_names game ≡ true → (e : TextFault) → IsBuildFault game e → IsGameFault game e
-fault_behind game h (Refused r) e = λ rest. ap (λ b. unless b Names (coalition_refusal game rest)) h ∙ e rest
+fault_behind game h (Refused r) e = λ rest. ap (λ b. unless b Names (own_refusal game rest)) h ∙ e rest
 fault_behind game h Memory e = tt
 
 pub behind_names : (game : Data) → has_names game ≡ true → (r : Result Game TextFault)
     → MatchResult r (IsBuilt game) (IsBuildFault game) → MatchResult r (IsGameReading game) (IsGameFault game)
 behind_names game h (Ok g) m = record
-    { passed = λ rest. ap (λ b. unless b Names (coalition_refusal game rest)) h ∙ m.passed rest; same = m.same }
+    { passed = λ rest. ap (λ b. unless b Names (own_refusal game rest)) h ∙ m.passed rest; same = m.same }
 behind_names game h (Err e) m = fault_behind game h e m
 
 pub refused_by_names : (game : Data) → has_names game ≡ false → IsGameFault game (Refused Names)
-refused_by_names game h = λ rest. ap (λ b. unless b Names (coalition_refusal game rest)) h
+refused_by_names game h = λ rest. ap (λ b. unless b Names (own_refusal game rest)) h
 
 -- ---- behind the tests of the shape, the players and the numbers
 

@@ -1,7 +1,7 @@
 -- A document has a share for each player of its game, and a certificate for its players.
-use Rattle.std.proofs.Common.{◌≡◌, ℕ, ◌+◌, ◌-◌, List, length, map, Bool, true, false, pos, neg_ℤ}
+use Rattle.std.proofs.Common.{◌≡◌, List, length, Bool, true, false, pos, neg_ℤ, codes}
 use Rattle.std.proofs.Common.{Option, Some, None, Result, Ok, Err, MatchResult, IfOk, IfSome}
-use Rattle.std.proofs.Common.{unsigned_abs, codes, refl, sym, ap, ap₂, ◌∙◌, subst}
+use Rattle.std.proofs.Common.{refl, sym, ap, ◌∙◌, subst}
 use Rattle.std.proofs.lemmas.Bool.{eqb-true}
 use Rattle.std.proofs.lemmas.List.{length-map}
 use Rattle.serde_json.specs.Data.{Data}
@@ -9,10 +9,9 @@ use Rattle.fractions.specs.Fraction.{Fraction}
 use Rattle.worth_core.specs.LeastDenominators.{numerator_over}
 use Rattle.json_trees.specs.Trees.{parts_at}
 use Rattle.game_text.specs.Shape.{class_of}
-use Rattle.game_text.specs.Limits.{players, players_as}
-use Rattle.game_text.specs.Descriptions.{game_of, is_cost, description_as, description_of}
+use Rattle.game_text.specs.Limits.{players}
+use Rattle.game_text.specs.Descriptions.{game_of, is_cost, description_of}
 use Rattle.document_parts.specs.Scales.{scale_of}
-use Rattle.document_parts.specs.ScaledNumbers.{number_or_zero, numbers_at}
 use Rattle.document_parts.specs.CommonMultiples.{least_denominator}
 use Rattle.document_parts.specs.Denominators.{over_least, keep_limits}
 use Rattle.game_text.specs.Denominators.{shares_of}
@@ -22,11 +21,8 @@ use Rattle.game_text.specs.Games.{description_in}
 use Rattle.game_text.specs.Refusals.{unless}
 use Rattle.game_text.specs.Steps.{proposal_refusal, certificate_refusal, needed_refusal}
 use Rattle.game_text.specs.Readings.{IsTreeReading, IsTreeFault}
-use Rattle.game_text.proofs.MatrixRows.{row_count, seller_count_of}
+use Rattle.game_text.proofs.Laws.{laws_of}
 use Rattle.game_text.proofs.Passed.{IsPassed, behind, passed_tests}
-use Rattle.game_text.specs.declared.class.Class.{Class}
-use Rattle.game_text.specs.declared.class.Class.TheVariants.{Table, CostTable, Airport, Bankruptcy, Tree}
-use Rattle.game_text.specs.declared.class.Class.TheVariants.{Assignment, Market, Voting}
 use Rattle.game_text.specs.declared.command.Command.{Command}
 use Rattle.game_text.specs.declared.command.Command.TheVariants.{Nucleolus, Prenucleolus, Propose, Core, Check}
 use Rattle.game_text.specs.declared.command.Command.TheVariants.{Shapley, Bird, Convex, Kernel, Matching}
@@ -35,22 +31,9 @@ use Rattle.game_text.specs.declared.fault.TextFault.{TextFault}
 use Rattle.kinds.specs.declared.refusal.Refusal.{Refusal}
 use Rattle.kinds.specs.declared.refusal.Refusal.TheVariants.{Proposal, TooFine}
 
-pub costs_length : (k : ℕ) (key : List ℕ) (game : Data)
-    → length (map unsigned_abs (numbers_at k key game)) ≡ length (parts_at key game)
-costs_length k key game =
-    length-map (numbers_at k key game) unsigned_abs ∙ length-map (parts_at key game) (number_or_zero k)
-
-pub players_described : (k : ℕ) (game : Data) (c : Option Class) → c ≡ class_of game
-    → (game_of (description_as k c game)).players ≡ players_as c game
-players_described k game None e = refl
-players_described k game (Some Table) e = ap (λ o. players_as o game) (sym e)
-players_described k game (Some CostTable) e = ap (λ o. players_as o game) (sym e)
-players_described k game (Some Airport) e = costs_length k (codes "costs") game
-players_described k game (Some Bankruptcy) e = costs_length k (codes "claims") game
-players_described k game (Some Tree) e = ap (λ n. n - 1) (row_count k game)
-players_described k game (Some Assignment) e = ap₂ (λ p q. p + q) (row_count k game) (seller_count_of k game)
-players_described k game (Some Market) e = ap₂ (λ p q. p + q) (row_count k game) (seller_count_of k game)
-players_described k game (Some Voting) e = costs_length 1 (codes "weights") game
+-- the game that is described has the players of the tree
+pub players_described : (game : Data) → (game_of (description_of game)).players ≡ players game
+players_described game = (laws_of (class_of game)).described (scale_of game) game refl
 
 length_over : (fs : List Fraction) → length (over_least fs).shares ≡ length fs
 length_over fs = length-map fs (numerator_over (pos (least_denominator fs)))
@@ -67,7 +50,7 @@ shares_each : (game tree : Data) → has_shares_for (players game) tree ≡ true
 shares_each game tree h =
     length_as_worth (is_cost (description_of game)) (scaled_shares (scale_of game) tree)
     ∙ length-map (parts_at (codes "shares") tree) (scaled_share (scale_of game)) ∙ eqb-true _ _ h
-    ∙ sym (players_described (scale_of game) game (class_of game) refl)
+    ∙ sym (players_described game)
 
 -- ---- the test of the number of shares passed
 
@@ -136,8 +119,7 @@ has_its_players Check tree d m =
     let certificate : d.certificate ≡ certificate_for Check (game_tree tree) tree =
     ap (λ c. c.certificate) m.says in
     subst (λ o. IfSome o (λ c. c.players ≡ (game_of (description_in d.game)).players)) (sym certificate)
-    (sym (players_described (scale_of (game_tree tree)) (game_tree tree) (class_of (game_tree tree)) refl)
-    ∙ ap (λ k. (game_of k).players) (sym (described Check tree d m)))
+    (sym (players_described (game_tree tree)) ∙ ap (λ k. (game_of k).players) (sym (described Check tree d m)))
 has_its_players Shapley tree d m = no_certificate d (ap (λ c. c.certificate) m.says)
 has_its_players Bird tree d m = no_certificate d (ap (λ c. c.certificate) m.says)
 has_its_players Convex tree d m = no_certificate d (ap (λ c. c.certificate) m.says)

@@ -1,5 +1,5 @@
 -- The tree of a game that isn't refused holds no float and is nested at most 8 deep.
-use Rattle.std.proofs.Common.{◌≡◌, ℕ, ◌+◌, ◌≤◌, ℤ, pos, nat_le, codes, List, [], ◌∷◌, map, Bool}
+use Rattle.std.proofs.Common.{◌≡◌, ℕ, ◌+◌, ◌≤◌, ℤ, pos, codes, List, [], ◌∷◌, map, Bool}
 use Rattle.std.proofs.Common.{true, not, ◌&&◌, ◌||◌, Option, Some, None, is_some, is_none}
 use Rattle.std.proofs.Common.{option_map, option_and_then, refl, ap, subst, arith}
 use Rattle.std.specs.List.{list_all, list_any, AllByRecursion}
@@ -17,7 +17,6 @@ use Rattle.std.specs.Ordering.{int_eq}
 use Rattle.fractions.specs.Fraction.{Fraction}
 use Rattle.worth_core.specs.LeastDenominators.{numerator_over}
 use Rattle.json_trees.specs.Fractions.{whole_fraction, fraction_of}
-use Rattle.document_parts.specs.Scales.{scale_of}
 use Rattle.document_parts.specs.ScaledNumbers.{if_small, small_number}
 use Rattle.document_parts.specs.Version.{is_version, has_texts}
 use Rattle.document_parts.specs.Excess.{is_measure}
@@ -28,15 +27,14 @@ use Rattle.game_text.specs.TableClass.{has_worth, has_table_numbers, is_worth}
 use Rattle.game_text.specs.BankruptcyClass.{bankruptcy_keys}
 use Rattle.game_text.specs.VotingClass.{voting_keys}
 use Rattle.game_text.specs.MatrixClass.{matrix_keys, is_matrix_shaped, has_matrix_numbers}
-use Rattle.game_text.specs.Limits.{players, has_players_as, has_players, has_numbers_as, has_numbers}
+use Rattle.game_text.specs.Limits.{players, has_numbers_as}
 use Rattle.document_parts.specs.Sizes.{if_integer, is_small_cost, is_cost}
 use Rattle.document_parts.specs.Names.{names_of}
-use Rattle.game_text.specs.Coalitions.{masks, has_coalitions_as, has_coalitions}
+use Rattle.game_text.specs.Coalitions.{masks}
 use Rattle.document_parts.specs.Members.{player_of, join, joined, mask_of, is_mask, are_coalitions}
 use Rattle.json_trees.specs.Players.{numbered_player}
 use Rattle.game_text.specs.declared.class.Class.{Class}
-use Rattle.game_text.specs.declared.class.Class.TheVariants.{Table, CostTable, Airport, Bankruptcy, Tree}
-use Rattle.game_text.specs.declared.class.Class.TheVariants.{Assignment, Market, Voting}
+use Rattle.game_text.specs.declared.class.Class.TheVariants.{Airport, Bankruptcy, Voting}
 use Rattle.game_text.proofs.PlainTrees.{IsPlain, plain_text, plain_integer, plain_array, all_plain}
 use Rattle.game_text.proofs.PlainTrees.{plain_known, has_members, IsPlainAt, either}
 
@@ -270,7 +268,7 @@ plain_version : (m : ℕ) (d : Data) → passes_if_there is_version (get (codes 
 plain_version m d h e g =
     plain_integer m e (integer_of_version (integer e) (at_if_there is_version (codes "version") d e h g))
 
-shaped_as : (game : Data) (c : Class) → class_of game ≡ Some c → is_game_shaped game ≡ true
+pub shaped_as : (game : Data) (c : Class) → class_of game ≡ Some c → is_game_shaped game ≡ true
     → is_shaped_as (Some c) game ≡ true
 shaped_as game c e h = subst (λ o. is_shaped_as o game ≡ true) e (front_shaped game h).1
 
@@ -280,7 +278,7 @@ deeper m k d h p = record { whole = p.whole; integers = p.integers; shallow = om
 at_deeper : (m k : ℕ) (key : List ℕ) (d : Data) → m ≤ k → IsPlainAt m key d → IsPlainAt k key d
 at_deeper m k key d h p e g = deeper m k e h (p e g)
 
-plain_airport : (k : ℕ) (game : Data) → IsOrdered game → class_of game ≡ Some Airport → is_game_shaped game ≡ true
+pub plain_airport : (k : ℕ) (game : Data) → IsOrdered game → class_of game ≡ Some Airport → is_game_shaped game ≡ true
     → has_numbers_as k (Some Airport) game ≡ true → IsPlain 4 game
 plain_airport k game o c h w =
     let shape =
@@ -299,7 +297,7 @@ plain_airport k game o c h w =
       ),
     )
 
-plain_bankruptcy : (k : ℕ) (game : Data) → IsOrdered game → class_of game ≡ Some Bankruptcy
+pub plain_bankruptcy : (k : ℕ) (game : Data) → IsOrdered game → class_of game ≡ Some Bankruptcy
     → is_game_shaped game ≡ true → has_numbers_as k (Some Bankruptcy) game ≡ true → IsPlain 4 game
 plain_bankruptcy k game o c h w =
     let shape =
@@ -329,7 +327,7 @@ plain_bankruptcy k game o c h w =
       ),
     )
 
-plain_voting : (k : ℕ) (game : Data) → IsOrdered game → class_of game ≡ Some Voting → is_game_shaped game ≡ true
+pub plain_voting : (k : ℕ) (game : Data) → IsOrdered game → class_of game ≡ Some Voting → is_game_shaped game ≡ true
     → has_numbers_as k (Some Voting) game ≡ true → IsPlain 4 game
 plain_voting k game o c h w =
     let shape =
@@ -377,7 +375,7 @@ plain_rows kind k d h w e g =
     (all_plain 1 (is_array_of (is_cost k)) (plain_row k) (parts e)
     (subst (λ l. list_all (is_array_of (is_cost k)) l ≡ true) (parts_there (codes "matrix") d e g) w))
 
-plain_matrix : (k : ℕ) (game : Data) (c : Class) → IsOrdered game → class_of game ≡ Some c
+pub plain_matrix : (k : ℕ) (game : Data) (c : Class) → IsOrdered game → class_of game ≡ Some c
     → is_game_shaped game ≡ true → is_matrix_shaped game ≡ true → has_matrix_numbers k game ≡ true → IsPlain 4 game
 plain_matrix k game c o e h s w =
     let shape =
@@ -474,7 +472,7 @@ plain_sparse k game h w m e g =
     (subst (λ l. are_coalitions (map (λ pair. mask_of (players game) (names_of game) (pair_members pair)) l) ≡ true)
     there m)))
 
-plain_table : (k : ℕ) (game : Data) (c : Class) → IsOrdered game → class_of game ≡ Some c
+pub plain_table : (k : ℕ) (game : Data) (c : Class) → IsOrdered game → class_of game ≡ Some c
     → is_game_shaped game ≡ true → is_table_shaped game ≡ true → has_worths_for game (players_at game) ≡ true
     → has_table_numbers k game ≡ true
     → are_coalitions (masks game) ≡ true → IsPlain 4 game
@@ -513,27 +511,3 @@ plain_table k game c o e h t n w m =
         ),
       ),
     )
-
--- ---- all classes
-
-plain_as : (k : ℕ) (game : Data) (c : Option Class) → IsOrdered game → class_of game ≡ c
-    → is_game_shaped game ≡ true → has_players_as c game ≡ true → has_numbers_as k c game ≡ true
-    → has_coalitions_as c game ≡ true → IsPlain 4 game
-plain_as k game None o e h n w m = absurd (false≢true n)
-plain_as k game (Some Table) o e h n w m = plain_table k game Table o e h (shaped_as game Table e h) n w m
-plain_as k game (Some CostTable) o e h n w m =
-    plain_table k game CostTable o e h (shaped_as game CostTable e h) n w m
-plain_as k game (Some Airport) o e h n w m = plain_airport k game o e h w
-plain_as k game (Some Bankruptcy) o e h n w m = plain_bankruptcy k game o e h w
-plain_as k game (Some Tree) o e h n w m = plain_matrix k game Tree o e h (shaped_as game Tree e h) w
-plain_as k game (Some Assignment) o e h n w m =
-    plain_matrix k game Assignment o e h (shaped_as game Assignment e h) w
-plain_as k game (Some Market) o e h n w m = plain_matrix k game Market o e h (shaped_as game Market e h) w
-plain_as k game (Some Voting) o e h n w m = plain_voting k game o e h w
-
--- the tree of a game of any class holds no float and is nested at most 4 deep
-pub plain_game : (game : Data) → IsOrdered game → is_game_shaped game ≡ true → has_players game ≡ true
-    → has_numbers game ≡ true → has_coalitions game ≡ true → IsPlain 4 game
-plain_game game o h n w m =
-    plain_as (scale_of game) game (class_of game) o refl h n
-    (and_parts (nat_le (scale_of game) 65536) (has_numbers_as (scale_of game) (class_of game) game) w).1 m

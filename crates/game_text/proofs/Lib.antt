@@ -4,6 +4,9 @@ pub mod PlayerCounts
 pub mod MatrixRows
 pub mod MarketRows
 pub mod Votes
+pub mod PlainTrees
+pub mod GameTrees
+pub mod Laws
 pub mod Built
 pub mod Computed
 pub mod Chain
@@ -11,6 +14,4 @@ pub mod Passed
 pub mod OfClass
 pub mod ScalesKept
 pub mod Counts
-pub mod PlainTrees
-pub mod GameTrees
 pub mod KeptTrees

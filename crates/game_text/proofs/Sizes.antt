@@ -2,7 +2,7 @@
 use Rattle.std.proofs.Common.{◌≡◌, ℕ, ◌+◌, ◌-◌, ◌<◌, ◌≤◌, ◌^◌, List, [], ◌∷◌, length, map, Bool, true, false}
 use Rattle.std.proofs.Common.{nat_lt, nat_le, ◌&&◌, ◌||◌, if◌then◌else◌, ℤ, pos, negsuc, Option, Some, None}
 use Rattle.std.proofs.Common.{is_none, All, IfSome, option_map, option_and_then, unwrap_or, unsigned_abs}
-use Rattle.std.proofs.Common.{slice_index_or, codes, refl, sym, ap, ap₂, ◌∙◌, subst, arith}
+use Rattle.std.proofs.Common.{slice_index_or, codes, inl, inr, refl, sym, ap, ap₂, ◌∙◌, subst, arith}
 use Rattle.std.specs.List.{list_all, range_with_len}
 use Rattle.std.proofs.lemmas.Bool.{false≢true, and_parts, ltb-true, leb-true, eqb-true, le-leb}
 use Rattle.std.proofs.lemmas.Int.{ints}
@@ -37,8 +37,7 @@ use Rattle.document_parts.specs.Members.{is_mask, mask_of, are_coalitions}
 use Rattle.game_text.specs.Descriptions.{table_numbers}
 use Rattle.game_text.specs.Readings.{HasSizes, IsTableClass}
 use Rattle.game_text.specs.declared.class.Class.{Class}
-use Rattle.game_text.specs.declared.class.Class.TheVariants.{Table, CostTable, Airport, Bankruptcy, Tree}
-use Rattle.game_text.specs.declared.class.Class.TheVariants.{Assignment, Market, Voting}
+use Rattle.game_text.specs.declared.class.Class.TheVariants.{Table, CostTable, Airport, Bankruptcy}
 
 pub all_map : {X Y : Type 0} (P : Y → Type 0) (f : X → Y) (test : X → Bool) → ((x : X) → test x ≡ true → P (f x))
     → (xs : List X) → list_all test xs ≡ true → All P (map f xs)
@@ -158,22 +157,25 @@ table_by k game (Some n) r s p =
       small = small_numbers k game n (names_of game) (get (codes "sparse") game);
     }
 
+-- what holds of both classes of tables holds of a class of tables
+pub of_both_tables : (P : Option Class → Type 0) → P (Some Table) → P (Some CostTable) → (c : Option Class)
+    → IsTableClass c → P c
+of_both_tables P table costs c (inl e) = subst P (sym e) table
+of_both_tables P table costs c (inr e) = subst P (sym e) costs
+
 table_as : (k : ℕ) (game : Data) (c : Option Class) → IsTableClass c → is_shaped_as c game ≡ true
     → has_players_as c game ≡ true
     → IsTable
     (table (players_as c game)
     (numbers_by k (get (codes "sparse") game) (players_as c game) (names_of game) game))
-table_as k game None t s p = absurd t
-table_as k game (Some Table) t s p =
-    table_by k game (players_at game) (players_range (option_and_then integer (get (codes "players") game))) s p
-table_as k game (Some CostTable) t s p =
-    table_by k game (players_at game) (players_range (option_and_then integer (get (codes "players") game))) s p
-table_as k game (Some Airport) t s p = absurd t
-table_as k game (Some Bankruptcy) t s p = absurd t
-table_as k game (Some Tree) t s p = absurd t
-table_as k game (Some Assignment) t s p = absurd t
-table_as k game (Some Market) t s p = absurd t
-table_as k game (Some Voting) t s p = absurd t
+table_as k game c t s p =
+    of_both_tables
+    (λ c. is_shaped_as c game ≡ true → has_players_as c game ≡ true
+    → IsTable
+    (table (players_as c game)
+    (numbers_by k (get (codes "sparse") game) (players_as c game) (names_of game) game)))
+    (table_by k game (players_at game) (players_range (option_and_then integer (get (codes "players") game))))
+    (table_by k game (players_at game) (players_range (option_and_then integer (get (codes "players") game)))) c t s p
 
 pub table_sizes : (k : ℕ) (game : Data) → IsTableClass (class_of game) → HasSizes game
     → IsTable (table (players game) (table_numbers k game))

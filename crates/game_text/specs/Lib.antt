@@ -12,6 +12,7 @@ pub mod Shape
 pub mod Limits
 pub mod Names
 pub mod Coalitions
+pub mod OwnTests
 pub mod Descriptions
 pub mod OfClass
 pub mod Documents

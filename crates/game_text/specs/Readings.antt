@@ -2,8 +2,8 @@
 --
 --   HasSizes                                   the game passed the tests of its shape, players and numbers
 --   IsTableClass                               a class that a table describes
---   IsBuilt, IsBuildFault                      the described game; a refusal of its coalitions, estate, quota or matrix
---   IsGameReading, IsGameFault                 the same behind the test of the names; a refusal of these too
+--   IsBuilt, IsBuildFault                      the described game; the refusal of its class
+--   IsGameReading, IsGameFault                 the same behind the test of the names; the refusal of these too
 --   IsProposal, IsProposalFault                the shares that are proposed; their refusal
 --   IsShareReading, IsShareFault               the shares that a command needs; their refusal
 --   IsCertificateReading, IsCertificateFault   the certificate that a command needs; its refusal
@@ -11,7 +11,7 @@
 --   IsLateReading, IsLateFault                 the document of a game with its sizes; the first refusal then
 --   IsTreeReading, IsTreeFault                 the document of a tree; the first refusal of a tree
 --   IsReading, IsFault                         the document of the bytes; the first refusal of the bytes
-use Rattle.std.specs.Prelude.{◌≡◌, ⊤, true, ℕ, pos, List, Option, Some, None}
+use Rattle.std.specs.Prelude.{◌≡◌, ◌⊎◌, ⊤, true, ℕ, pos, List, Option, Some, None}
 use Rattle.serde_json.specs.Data.{Data}
 use Rattle.serde_json.specs.View.{view}
 use Rattle.definitions.specs.Games.{Allocation}
@@ -25,11 +25,10 @@ use Rattle.game_text.specs.Games.{description_in}
 use Rattle.game_text.specs.Denominators.{shares_of, shares_for, contents_of, tree_refusal}
 use Rattle.game_text.specs.Documents.{Contents, family_for, certificate_for}
 use Rattle.game_text.specs.Refusals.{IsRefused, IsDocument}
-use Rattle.game_text.specs.Steps.{coalition_refusal, game_refusal, proposal_refusal}
+use Rattle.game_text.specs.Steps.{own_refusal, game_refusal, proposal_refusal}
 use Rattle.game_text.specs.Steps.{share_refusal, certificate_refusal, late_refusal}
 use Rattle.game_text.specs.declared.class.Class.{Class}
-use Rattle.game_text.specs.declared.class.Class.TheVariants.{Table, CostTable, Airport, Bankruptcy, Tree}
-use Rattle.game_text.specs.declared.class.Class.TheVariants.{Assignment, Market, Voting}
+use Rattle.game_text.specs.declared.class.Class.TheVariants.{Table, CostTable}
 use Rattle.game_text.specs.declared.command.Command.{Command}
 use Rattle.game_text.specs.declared.document.Document.{Document}
 use Rattle.game_text.specs.declared.fault.TextFault.{TextFault}
@@ -45,34 +44,24 @@ pub record HasSizes (game : Data) : Type 0 where
 
 -- a class that a table describes
 abbrev pub IsTableClass : Option Class → Type 0
-IsTableClass None = ⊥
-IsTableClass (Some Table) = ⊤
-IsTableClass (Some CostTable) = ⊤
-IsTableClass (Some Airport) = ⊥
-IsTableClass (Some Bankruptcy) = ⊥
-IsTableClass (Some Tree) = ⊥
-IsTableClass (Some Assignment) = ⊥
-IsTableClass (Some Market) = ⊥
-IsTableClass (Some Voting) = ⊥
+IsTableClass c = (c ≡ Some Table) ⊎ (c ≡ Some CostTable)
 
--- the tests of the coalitions, of the estate, of the quota and of the matrix pass, and this is the game that is
--- described
+-- the test of the class passes, and this is the game that is described
 pub record IsBuilt (game : Data) (g : Game) : Type 0 where
-  pub passed : (rest : Option Refusal) → coalition_refusal game rest ≡ rest
+  pub passed : (rest : Option Refusal) → own_refusal game rest ≡ rest
   pub same : description_in g ≡ description_of game
 
--- the tests of the coalitions, of the estate, of the quota and of the matrix refuse it so; want of memory is free
+-- the test of the class refuses it so; want of memory is free
 abbrev pub IsBuildFault : Data → TextFault → Type 0
-IsBuildFault game (Refused r) = (rest : Option Refusal) → coalition_refusal game rest ≡ Some r
+IsBuildFault game (Refused r) = (rest : Option Refusal) → own_refusal game rest ≡ Some r
 IsBuildFault game Memory = ⊤
 
--- the tests of the names, the coalitions, the estate, the quota and the matrix pass, and this is the game that is
--- described
+-- the tests of the names and of the class pass, and this is the game that is described
 pub record IsGameReading (game : Data) (g : Game) : Type 0 where
   pub passed : (rest : Option Refusal) → game_refusal game rest ≡ rest
   pub same : description_in g ≡ description_of game
 
--- the tests of the names, the coalitions, the estate, the quota and the matrix refuse it so; want of memory is free
+-- the tests of the names and of the class refuse it so; want of memory is free
 abbrev pub IsGameFault : Data → TextFault → Type 0
 IsGameFault game (Refused r) = (rest : Option Refusal) → game_refusal game rest ≡ Some r
 IsGameFault game Memory = ⊤

@@ -1,8 +1,5 @@
 -- The first refusal that applies, and the document that isn't refused.
 --
---   is_covered           an estate is at most the sum of the claims
---   has_matrix           the rows are those of links, or have one length, as the class asks
---   has_quota            the weights sum to at most 1,000, and the quota is from 1 to their sum
 --   unless               a refusal, unless its test passes
 --   first_failed         the first of some tests that isn't passed
 --   has_needed_numbers   each share that a command needs is an integer or a fraction text
@@ -20,16 +17,10 @@ use Rattle.serde_json.specs.Data.{Data}
 use Rattle.serde_json.specs.Find.{get}
 use Rattle.json_trees.specs.Trees.{passes}
 use Rattle.game_text.specs.Text.{document_limit, IsTextOf, IsNotJson}
-use Rattle.game_text.specs.BankruptcyClass.{claims_cover}
-use Rattle.game_text.specs.TreeClass.{are_links}
-use Rattle.game_text.specs.AssignmentClass.{are_even}
-use Rattle.game_text.specs.VotingClass.{is_quota}
 use Rattle.game_text.specs.Shape.{is_shaped}
 use Rattle.game_text.specs.Limits.{players, has_players, has_numbers}
 use Rattle.game_text.specs.Names.{has_names}
-use Rattle.game_text.specs.Coalitions.{has_coalitions}
-use Rattle.game_text.specs.Descriptions.{Description, table, cost_table, airport, bankruptcy, network}
-use Rattle.game_text.specs.Descriptions.{assignment, market, voting, description_of}
+use Rattle.game_text.specs.OwnTests.{own_test}
 use Rattle.document_parts.specs.Scales.{scale_of}
 use Rattle.document_parts.specs.Shares.{has_share_numbers, has_shares_for, scaled_shares}
 use Rattle.document_parts.specs.Shares.{has_small_terms, IsDenominatorOf}
@@ -39,41 +30,7 @@ use Rattle.game_text.specs.declared.command.Command.{Command}
 use Rattle.game_text.specs.Needs.{needs, if_needed}
 use Rattle.kinds.specs.declared.refusal.Refusal.{Refusal}
 use Rattle.kinds.specs.declared.refusal.Refusal.TheVariants.{TooLong, NotJson, Shape, Players, Number}
-use Rattle.kinds.specs.declared.refusal.Refusal.TheVariants.{Names, Coalition, Estate, Matrix, Proposal}
-use Rattle.kinds.specs.declared.refusal.Refusal.TheVariants.{TooFine, Certificate, Quota}
-
--- an estate is at most the sum of the claims
-abbrev pub is_covered : Description → Bool
-is_covered (table n worths) = true
-is_covered (cost_table n costs) = true
-is_covered (airport costs) = true
-is_covered (bankruptcy estate claims) = claims_cover estate claims
-is_covered (network rows) = true
-is_covered (assignment rows) = true
-is_covered (market rows) = true
-is_covered (voting quota weights) = true
-
--- the rows of a tree game are those of links, and the rows of an assignment game or a market have one length
-abbrev pub has_matrix : Description → Bool
-has_matrix (table n worths) = true
-has_matrix (cost_table n costs) = true
-has_matrix (airport costs) = true
-has_matrix (bankruptcy estate claims) = true
-has_matrix (network rows) = are_links rows
-has_matrix (assignment rows) = are_even rows
-has_matrix (market rows) = are_even rows
-has_matrix (voting quota weights) = true
-
--- the weights of a voting game sum to at most 1,000, and its quota is from 1 to their sum
-abbrev pub has_quota : Description → Bool
-has_quota (table n worths) = true
-has_quota (cost_table n costs) = true
-has_quota (airport costs) = true
-has_quota (bankruptcy estate claims) = true
-has_quota (network rows) = true
-has_quota (assignment rows) = true
-has_quota (market rows) = true
-has_quota (voting quota weights) = is_quota quota weights
+use Rattle.kinds.specs.declared.refusal.Refusal.TheVariants.{Names, Proposal, TooFine, Certificate}
 
 -- this refusal, unless the test passes; then the rest decides
 abbrev pub unless : Bool → Refusal → Option Refusal → Option Refusal
@@ -106,17 +63,15 @@ has_needed_form command game tree =
     (passes (has_form (scale_of game) (players game)) (get (codes "certificate") tree))
 
 -- the tests of a tree, in the order of the numbers of their refusals but for Quota, where d is the denominator of the
--- shares
+-- shares; a class makes at most one test of its own, and those of Coalition, Estate, Quota and Matrix are of different
+-- classes
 abbrev pub tree_tests : ℕ → Command → Data → Data → List (Refusal × Bool)
 tree_tests d command game tree =
     (Shape, is_shaped command tree)
     ∷ (Players, has_players game)
     ∷ (Number, has_numbers game && has_needed_numbers command tree)
     ∷ (Names, has_names game)
-    ∷ (Coalition, has_coalitions game)
-    ∷ (Estate, is_covered (description_of game))
-    ∷ (Quota, has_quota (description_of game))
-    ∷ (Matrix, has_matrix (description_of game))
+    ∷ own_test game
     ∷ (Proposal, has_needed_shares command game tree)
     ∷ (TooFine, has_needed_terms d command game tree)
     ∷ (Certificate, has_needed_form command game tree)

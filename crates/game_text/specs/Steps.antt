@@ -1,7 +1,7 @@
 -- The tests of a tree from one of them on, as the steps of reading go through them.
 --
---   coalition_refusal     the tests of the coalitions, the estate, the quota and the matrix, and then the rest
---   game_refusal          that of the names in front of these
+--   own_refusal           the test of its own that the class of the game makes, and then the rest
+--   game_refusal          that of the names in front of it
 --   proposal_refusal      as many shares as players, over a denominator that isn't too large, and then the rest
 --   share_refusal         the tests of the shares that a command needs, and then the rest
 --   certificate_refusal   the test of the certificate that a command needs
@@ -10,30 +10,24 @@
 use Rattle.std.specs.Prelude.{Option, None}
 use Rattle.serde_json.specs.Data.{Data}
 use Rattle.game_text.specs.Names.{has_names}
-use Rattle.game_text.specs.Coalitions.{has_coalitions}
-use Rattle.game_text.specs.Descriptions.{description_of}
+use Rattle.game_text.specs.OwnTests.{own_test}
 use Rattle.game_text.specs.Limits.{players}
 use Rattle.document_parts.specs.Scales.{scale_of}
 use Rattle.document_parts.specs.Shares.{has_shares_for, scaled_shares}
 use Rattle.document_parts.specs.Denominators.{keep_limits}
 use Rattle.game_text.specs.Denominators.{needed_keep_limits}
-use Rattle.game_text.specs.Refusals.{unless, is_covered, has_quota, has_matrix, has_needed_shares, has_needed_form}
+use Rattle.game_text.specs.Refusals.{unless, has_needed_shares, has_needed_form}
 use Rattle.game_text.specs.declared.command.Command.{Command}
 use Rattle.kinds.specs.declared.refusal.Refusal.{Refusal}
-use Rattle.kinds.specs.declared.refusal.Refusal.TheVariants.{Names, Coalition, Estate, Matrix, Proposal}
-use Rattle.kinds.specs.declared.refusal.Refusal.TheVariants.{TooFine, Certificate, Quota}
+use Rattle.kinds.specs.declared.refusal.Refusal.TheVariants.{Names, Proposal, TooFine, Certificate}
 
--- the tests of the coalitions, of the estate, of the quota and of the matrix, and then the rest
-abbrev pub coalition_refusal : Data → Option Refusal → Option Refusal
-coalition_refusal game rest =
-    unless (has_coalitions game) Coalition (
-    unless (is_covered (description_of game)) Estate (
-    unless (has_quota (description_of game)) Quota (
-    unless (has_matrix (description_of game)) Matrix rest)))
+-- the test of its own that the class of the game makes, and then the rest
+abbrev pub own_refusal : Data → Option Refusal → Option Refusal
+own_refusal game rest = unless (own_test game).1 (own_test game).0 rest
 
--- the tests of the names, the coalitions, the estate, the quota and the matrix, and then the rest
+-- the test of the names and that of the class, and then the rest
 abbrev pub game_refusal : Data → Option Refusal → Option Refusal
-game_refusal game rest = unless (has_names game) Names (coalition_refusal game rest)
+game_refusal game rest = unless (has_names game) Names (own_refusal game rest)
 
 -- as many shares as players, over a denominator that isn't too large, and then the rest
 abbrev pub proposal_refusal : Data → Data → Option Refusal → Option Refusal

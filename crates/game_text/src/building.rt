@@ -39,8 +39,7 @@ macro_rules! built {
     };
 }
 
-/// The game that a tree describes, its numbers times the scale, or the refusal of its coalitions, of its estate, of its
-/// quota or of its matrix.
+/// The game that a tree describes, its numbers times the scale, or the refusal of its class.
 pub(crate) fn game_of(
     alloc: Global,
     game: &Value,

@@ -189,7 +189,7 @@ fn game_out_of(tree: Value) -> Value
     }
 }
 
-/// The game, where its names, its coalitions and its estate are right.
+/// The game, where its names are right, and what its class tests of it.
 fn right_game(alloc: Global, game: &Value, scale: u32) -> Result<Game, TextFault>
     requires sizes { HasSizes (view game.now) }
     requires scale { scale ≡ scale_of (view game.now) }

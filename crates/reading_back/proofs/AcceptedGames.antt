@@ -1,5 +1,5 @@
 -- The game of a document that isn't refused passes each test of a game.
-use Rattle.std.proofs.Common.{◌≡◌, true, ◌&&◌, nat_le, pos, None, codes, refl, arith}
+use Rattle.std.proofs.Common.{◌≡◌, true, ◌&&◌, nat_le, pos, None, codes, arith}
 use Rattle.std.proofs.lemmas.Bool.{and_parts, leb-true}
 use Rattle.std.proofs.lemmas.Int.{ints}
 use Rattle.serde_json.specs.Data.{Data}
@@ -8,12 +8,11 @@ use Rattle.json_trees.specs.Keys.{has_only_keys}
 use Rattle.json_trees.specs.Trees.{passes}
 use Rattle.game_text.specs.Shape.{class_of, document_keys, is_game_shaped, has_needed, is_shaped}
 use Rattle.document_parts.specs.Scales.{game_numbers, game_fractions, scale_of}
-use Rattle.game_text.specs.Limits.{players, has_players, has_numbers, has_numbers_as}
+use Rattle.game_text.specs.Limits.{has_players, has_numbers, has_numbers_as}
 use Rattle.game_text.specs.Names.{has_names}
-use Rattle.game_text.specs.Coalitions.{has_coalitions}
-use Rattle.game_text.specs.Descriptions.{game_of, description_of}
+use Rattle.game_text.specs.OwnTests.{own_test}
 use Rattle.game_text.specs.Documents.{game_tree}
-use Rattle.game_text.specs.Refusals.{is_covered, has_quota, has_matrix, has_needed_numbers}
+use Rattle.game_text.specs.Refusals.{has_needed_numbers}
 use Rattle.game_text.specs.Denominators.{tree_refusal}
 use Rattle.document_parts.proofs.LeastDenominators.{least_denominator_is}
 use Rattle.game_text.proofs.Passed.{passed_tests}
@@ -21,7 +20,6 @@ use Rattle.json_trees.proofs.Fractions.{written_reduced}
 use Rattle.report.specs.Limits.{IsScale}
 use Rattle.game_text.specs.declared.command.Command.{Command}
 use Rattle.game_text.proofs.KeptTrees.{passes_there}
-use Rattle.game_text.proofs.Counts.{players_described as players_described_as}
 
 -- each test of a game passes
 pub record IsAccepted (game : Data) : Type 0 where
@@ -29,10 +27,7 @@ pub record IsAccepted (game : Data) : Type 0 where
   pub players : has_players game ≡ true
   pub numbers : has_numbers game ≡ true
   pub names : has_names game ≡ true
-  pub coalitions : has_coalitions game ≡ true
-  pub covered : is_covered (description_of game) ≡ true
-  pub quota : has_quota (description_of game) ≡ true
-  pub matrix : has_matrix (description_of game) ≡ true
+  pub own : (own_test game).1 ≡ true
 
 game_shaped : (command : Command) (tree : Data) → is_shaped command tree ≡ true
     → is_game_shaped (game_tree tree) ≡ true
@@ -51,10 +46,7 @@ accepted command tree e =
       players = passes.players;
       numbers = (and_parts (has_numbers (game_tree tree)) (has_needed_numbers command tree) passes.numbers).0;
       names = passes.names;
-      coalitions = passes.coalitions;
-      covered = passes.covered;
-      quota = passes.quota;
-      matrix = passes.matrix;
+      own = passes.own;
     }
 
 -- ---- its scale can be printed over
@@ -66,8 +58,3 @@ accepted_scale game h =
     (and_parts (nat_le (scale_of game) 65536) (has_numbers_as (scale_of game) (class_of game) game) h).0 in
     let least = least_denominator_is (game_fractions game) (written_reduced (game_numbers game)) in
     (least.positive, omega (arith, ints, few))
-
--- ---- the game that is described has the players of the tree
-
-pub players_described : (game : Data) → (game_of (description_of game)).players ≡ players game
-players_described game = players_described_as (scale_of game) game (class_of game) refl

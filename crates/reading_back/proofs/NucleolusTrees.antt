@@ -15,7 +15,7 @@ use Rattle.certificate_texts.specs.Shape.{family_of, is_certificate}
 use Rattle.game_text.specs.Shape.{document_keys, is_game_shaped, has_shares, has_needed, is_shaped}
 use Rattle.game_text.specs.Limits.{players, has_players, has_numbers}
 use Rattle.game_text.specs.Names.{has_names}
-use Rattle.game_text.specs.Coalitions.{has_coalitions}
+use Rattle.game_text.specs.OwnTests.{own_test}
 use Rattle.game_text.specs.Descriptions.{game_of, is_cost, description_of}
 use Rattle.document_parts.specs.Scales.{scale_of}
 use Rattle.document_parts.specs.Shares.{has_share_numbers, has_shares_for, scaled_shares, as_worth}
@@ -23,13 +23,13 @@ use Rattle.document_parts.specs.Denominators.{keep_limits, over_least}
 use Rattle.game_text.specs.Denominators.{shares_of, contents_of, tree_refusal}
 use Rattle.certificate_texts.specs.Certificates.{has_form, certificate_of}
 use Rattle.game_text.specs.Documents.{game_tree}
-use Rattle.game_text.specs.Refusals.{unless, is_covered, has_quota, has_matrix}
-use Rattle.game_text.specs.Steps.{certificate_refusal, needed_refusal, late_refusal}
+use Rattle.game_text.specs.Refusals.{unless}
+use Rattle.game_text.specs.Steps.{own_refusal, certificate_refusal, needed_refusal, late_refusal}
 use Rattle.game_text.specs.declared.command.Command.{Command}
 use Rattle.game_text.specs.declared.command.Command.TheVariants.{Check}
 use Rattle.kinds.specs.declared.refusal.Refusal.{Refusal}
-use Rattle.kinds.specs.declared.refusal.Refusal.TheVariants.{Shape, Players, Number, Names, Coalition, Estate}
-use Rattle.kinds.specs.declared.refusal.Refusal.TheVariants.{Matrix, Proposal, TooFine, Certificate, Quota}
+use Rattle.kinds.specs.declared.refusal.Refusal.TheVariants.{Shape, Players, Number, Names}
+use Rattle.kinds.specs.declared.refusal.Refusal.TheVariants.{Proposal, TooFine, Certificate}
 use Rattle.report.specs.Certificates.{certificate_tree}
 use Rattle.report.specs.ShareLists.{share_data}
 use Rattle.report.specs.Lines.{nucleolus_tree}
@@ -40,7 +40,8 @@ use Rattle.json_trees.proofs.Values.{listed-items_of}
 use Rattle.reading_back.proofs.ShareTexts.{listed_members}
 use Rattle.reading_back.proofs.Again.{are_read_back}
 use Rattle.reading_back.proofs.CertificateTrees.{certificate_read}
-use Rattle.reading_back.proofs.AcceptedGames.{IsAccepted, accepted, accepted_scale, players_described}
+use Rattle.game_text.proofs.Counts.{players_described}
+use Rattle.reading_back.proofs.AcceptedGames.{IsAccepted, accepted, accepted_scale}
 
 go_on : (b : Bool) (r : Refusal) (rest : Option Refusal) → b ≡ true → rest ≡ None → unless b r rest ≡ None
 go_on b r rest e h = ap (λ t. unless t r rest) e ∙ h
@@ -93,14 +94,8 @@ module _ (family : Family) (game : Data) (b : Bool) (x : Allocation) (c : Certif
     late : late_refusal Check game printed ≡ None
     late =
         let rest = needed_refusal Check game printed in
-        let matrix = unless (has_matrix (description_of game)) Matrix rest in
-        let quota = unless (has_quota (description_of game)) Quota matrix in
-        let estate = unless (is_covered (description_of game)) Estate quota in
-        go_on (has_names game) Names (unless (has_coalitions game) Coalition estate) accept.names
-        (go_on (has_coalitions game) Coalition estate accept.coalitions
-        (go_on (is_covered (description_of game)) Estate quota accept.covered
-        (go_on (has_quota (description_of game)) Quota matrix accept.quota
-        (go_on (has_matrix (description_of game)) Matrix rest accept.matrix proposed))))
+        go_on (has_names game) Names (own_refusal game rest) accept.names
+        (go_on (own_test game).1 (own_test game).0 rest accept.own proposed)
 
     pub not_refused : tree_refusal Check printed ≡ None
     not_refused =

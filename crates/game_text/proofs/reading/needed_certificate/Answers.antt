@@ -1,7 +1,7 @@
 use Rattle.std.proofs.Common.{arith}
 use Rattle.serde_json.specs.View.{view}
 use Rattle.game_text.specs.Shape.{class_of}
-use Rattle.game_text.proofs.PlayerCounts.{counted}
+use Rattle.game_text.proofs.Laws.{laws_of}
 use Rattle.game_text.proofs.reading.needed_certificate.Goals as goal
 
 pub overflow_cast-players : goal.overflow_cast-players
@@ -9,7 +9,7 @@ overflow_cast-players c =
     omega (
       arith,
       c.players.ensures,
-      (counted (class_of (view c.args.game.now)) (view c.args.game.now) c.requires.sizes.players).1,
+      ((laws_of (class_of (view c.args.game.now))).counted (view c.args.game.now) c.requires.sizes.players).1,
     )
 
 pub right_certificate-requires-clause-some : goal.right_certificate-requires-clause-some
@@ -17,7 +17,7 @@ right_certificate-requires-clause-some c =
     omega (
       arith,
       c.players.ensures,
-      (counted (class_of (view c.args.game.now)) (view c.args.game.now) c.requires.sizes.players).0,
+      ((laws_of (class_of (view c.args.game.now))).counted (view c.args.game.now) c.requires.sizes.players).0,
     )
 
 pub right_certificate-requires-clause-few : goal.right_certificate-requires-clause-few
@@ -25,5 +25,5 @@ right_certificate-requires-clause-few c =
     omega (
       arith,
       c.players.ensures,
-      (counted (class_of (view c.args.game.now)) (view c.args.game.now) c.requires.sizes.players).1,
+      ((laws_of (class_of (view c.args.game.now))).counted (view c.args.game.now) c.requires.sizes.players).1,
     )
