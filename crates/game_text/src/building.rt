@@ -1,13 +1,10 @@
 //! The game that a tree describes, once it has passed the tests of its shape, players, numbers and names.
-ghost use Rattle.std.specs.Prelude.{◌≡◌, ◌≤◌, length, MatchResult, Some, None};
+ghost use Rattle.std.specs.Prelude.{◌≡◌, ◌≤◌, length, MatchResult};
 ghost use Rattle.serde_json.specs.View.{view};
-ghost use Rattle.worth_tables.specs.Tables.{table};
 ghost use Rattle.document_parts.specs.Scales.{scale_of};
-ghost use Rattle.game_text.specs.Shape.{class_of};
 ghost use Rattle.game_text.specs.Limits.{players};
 ghost use Rattle.document_parts.specs.Names.{names_of};
 ghost use Rattle.game_text.specs.Readings.{HasSizes, IsBuilt, IsBuildFault};
-ghost use Rattle.game_text.specs.declared.class.Class.TheVariants.{Bankruptcy};
 
 use crate::airport_class::airport_of;
 use crate::assignment_class::assignment_of;

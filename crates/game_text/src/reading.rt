@@ -105,78 +105,19 @@ fn document_of(alloc: Global, command: Command, tree: Value) -> Result<Document,
     if !has_numbers(game, scale) || !has_needed_numbers(command, &tree) {
         return Err(TextFault::Refused(Refusal::Number));
     }
-    document_of_numbers(alloc, command, tree, scale)
+    Reading {
+        alloc,
+        command,
+        tree,
+        scale,
+    }
+    .document()
 }
 
 fn has_needed_numbers(command: Command, tree: &Value) -> bool
     ensures { result ≡ has_needed_numbers command (view tree.now) }
 {
     !command.needs().shares || has_share_numbers(tree)
-}
-
-/// The document, behind the tests of the shape, the players and the numbers.
-fn document_of_numbers(
-    alloc: Global,
-    command: Command,
-    tree: Value,
-    scale: u32,
-) -> Result<Document, TextFault>
-    requires sizes { HasSizes (game_tree (view tree)) }
-    requires scale { scale ≡ scale_of (game_tree (view tree)) }
-    ensures { MatchResult result
-        (IsLateReading command (game_tree (view tree)) (view tree))
-        (IsLateFault command (game_tree (view tree)) (view tree)) }
-{
-    match right_game(alloc, game_in(&tree), scale) {
-        Ok(described) => document_of_game(alloc, command, tree, scale, described),
-        Err(e) => Err(e),
-    }
-}
-
-/// The document of a game that is right, where what the command needs beside it is right too.
-fn document_of_game(
-    alloc: Global,
-    command: Command,
-    tree: Value,
-    scale: u32,
-    described: Game,
-) -> Result<Document, TextFault>
-    requires sizes { HasSizes (game_tree (view tree)) }
-    requires scale { scale ≡ scale_of (game_tree (view tree)) }
-    requires described { IsGameReading (game_tree (view tree)) described }
-    ensures { MatchResult result
-        (IsLateReading command (game_tree (view tree)) (view tree))
-        (IsLateFault command (game_tree (view tree)) (view tree)) }
-{
-    let game = game_in(&tree);
-    let shares = match needed_shares(alloc, command, game, &tree, scale, described.is_cost()) {
-        Ok(shares) => shares,
-        Err(e) => return Err(e),
-    };
-    let certificate = match needed_certificate(alloc, command, game, &tree, scale) {
-        Ok(certificate) => certificate,
-        Err(e) => return Err(e),
-    };
-    Ok(Document {
-        measure: measure_of(game),
-        family: needed_family(command, &tree),
-        game: described,
-        tree: game_out_of(tree),
-        scale: i64::from(scale),
-        shares,
-        certificate,
-    })
-}
-
-/// The tree of the game, in the tree of a document that has one.
-fn game_in(tree: &Value) -> &Value
-    requires { HasSizes (game_tree (view tree.now)) }
-    ensures { view result.now ≡ game_tree (view tree.now) }
-{
-    match tree.get("game") {
-        Some(game) => game,
-        None => unreachable!(),
-    }
 }
 
 /// The tree of the game, taken out of the tree of a document, so that none of it is copied.
@@ -226,89 +167,150 @@ fn needed_family(command: Command, tree: &Value) -> Option<Family>
     }
 }
 
-/// The proposed shares, where there is one for each player and their denominator isn't too large.
-fn right_shares(
-    alloc: Global,
-    game: &Value,
-    tree: &Value,
-    scale: u32,
-    are_payments: bool,
-) -> Result<Shares, TextFault>
-    requires sizes { HasSizes (view game.now) }
-    requires scale { scale ≡ scale_of (view game.now) }
-    requires sign { are_payments ≡ is_cost (description_of (view game.now)) }
-    ensures { MatchResult result (IsProposal (view game.now) (view tree.now))
-        (IsProposalFault (view game.now) (view tree.now)) }
-{
-    if !has_shares_for(players(game), tree) {
-        return Err(TextFault::Refused(Refusal::Proposal));
-    }
-    let Some(shares) = shares_as_worth(alloc, tree, scale, are_payments)? else {
-        return Err(TextFault::Refused(Refusal::TooFine));
-    };
-    Ok(shares)
-}
-
-/// The shares that a command needs.
-fn needed_shares(
+/// A document behind the tests of its shape, its players and its numbers, and what the rest of it is read with.
+#[derive(Drop)]
+struct Reading {
     alloc: Global,
     command: Command,
-    game: &Value,
-    tree: &Value,
+    /// The tree of the document.
+    tree: Value,
+    /// The scale of its game.
     scale: u32,
-    are_payments: bool,
-) -> Result<Option<Shares>, TextFault>
-    requires sizes { HasSizes (view game.now) }
-    requires scale { scale ≡ scale_of (view game.now) }
-    requires sign { are_payments ≡ is_cost (description_of (view game.now)) }
-    ensures { MatchResult result (IsShareReading command (view game.now) (view tree.now))
-        (IsShareFault command (view game.now) (view tree.now)) }
-{
-    if !command.needs().shares {
-        return Ok(None);
-    }
-    match right_shares(alloc, game, tree, scale, are_payments) {
-        Ok(shares) => Ok(Some(shares)),
-        Err(e) => Err(e),
-    }
 }
 
-/// The certificate for `players` players, where it has its form.
-fn right_certificate(
-    alloc: Global,
-    players: u32,
-    tree: &Value,
-    scale: u32,
-) -> Result<Option<Certificate>, OutOfMemory>
-    requires some { 1 ≤ players }
-    requires few { players ≤ 64 }
-    ensures { IfOk result (λ o. o ≡ (if passes (has_form scale players) (get (codes "certificate") (view tree.now))
-        then Some (certificate_of scale players (certificate_tree (view tree.now))) else None)) }
-{
-    match tree.get("certificate") {
-        Some(certificate) => certificate_of(alloc, players, certificate, scale),
-        None => Ok(None),
+impl Reading {
+    /// The tree of the game.
+    fn game(&self) -> &Value
+        requires { HasSizes (game_tree (view self.now.tree)) }
+        ensures { view result.now ≡ game_tree (view self.now.tree) }
+    {
+        match self.tree.get("game") {
+            Some(game) => game,
+            None => unreachable!(),
+        }
     }
-}
 
-/// The certificate that a command needs, where it has its form.
-fn needed_certificate(
-    alloc: Global,
-    command: Command,
-    game: &Value,
-    tree: &Value,
-    scale: u32,
-) -> Result<Option<Certificate>, TextFault>
-    requires sizes { HasSizes (view game.now) }
-    requires scale { scale ≡ scale_of (view game.now) }
-    ensures { MatchResult result (IsCertificateReading command (view game.now) (view tree.now))
-        (IsCertificateFault command (view game.now) (view tree.now)) }
-{
-    if !command.needs().certificate {
-        return Ok(None);
+    /// The number of players of the game.
+    fn players(&self) -> usize
+        requires sizes { HasSizes (game_tree (view self.now.tree)) }
+        ensures value { result ≡ players (game_tree (view self.now.tree)) }
+        ensures some { 1 ≤ result }
+        ensures few { result ≤ 64 }
+    {
+        players(self.game())
     }
-    let Some(certificate) = right_certificate(alloc, players(game) as u32, tree, scale)? else {
-        return Err(TextFault::Refused(Refusal::Certificate));
-    };
-    Ok(Some(certificate))
+
+    /// The document.
+    fn document(self) -> Result<Document, TextFault>
+        requires sizes { HasSizes (game_tree (view self.tree)) }
+        requires scale { self.scale ≡ scale_of (game_tree (view self.tree)) }
+        ensures { MatchResult result
+            (IsLateReading self.command (game_tree (view self.tree)) (view self.tree))
+            (IsLateFault self.command (game_tree (view self.tree)) (view self.tree)) }
+    {
+        match right_game(self.alloc, self.game(), self.scale) {
+            Ok(described) => self.document_of_game(described),
+            Err(e) => Err(e),
+        }
+    }
+
+    /// The document of a game that is right, where what the command needs beside it is right too.
+    fn document_of_game(self, described: Game) -> Result<Document, TextFault>
+        requires sizes { HasSizes (game_tree (view self.tree)) }
+        requires scale { self.scale ≡ scale_of (game_tree (view self.tree)) }
+        requires described { IsGameReading (game_tree (view self.tree)) described }
+        ensures { MatchResult result
+            (IsLateReading self.command (game_tree (view self.tree)) (view self.tree))
+            (IsLateFault self.command (game_tree (view self.tree)) (view self.tree)) }
+    {
+        let shares = match self.needed_shares(described.is_cost()) {
+            Ok(shares) => shares,
+            Err(e) => return Err(e),
+        };
+        let certificate = match self.needed_certificate() {
+            Ok(certificate) => certificate,
+            Err(e) => return Err(e),
+        };
+        Ok(Document {
+            measure: measure_of(self.game()),
+            family: needed_family(self.command, &self.tree),
+            game: described,
+            tree: game_out_of(self.tree),
+            scale: i64::from(self.scale),
+            shares,
+            certificate,
+        })
+    }
+
+    /// The proposed shares, where there is one for each player and their denominator isn't too large.
+    fn right_shares(&self, are_payments: bool) -> Result<Shares, TextFault>
+        requires sizes { HasSizes (game_tree (view self.now.tree)) }
+        requires scale { self.now.scale ≡ scale_of (game_tree (view self.now.tree)) }
+        requires sign { are_payments ≡ is_cost (description_of (game_tree (view self.now.tree))) }
+        ensures { MatchResult result (IsProposal (game_tree (view self.now.tree)) (view self.now.tree))
+            (IsProposalFault (game_tree (view self.now.tree)) (view self.now.tree)) }
+    {
+        if !has_shares_for(self.players(), &self.tree) {
+            return Err(TextFault::Refused(Refusal::Proposal));
+        }
+        let Some(shares) = shares_as_worth(self.alloc, &self.tree, self.scale, are_payments)? else {
+            return Err(TextFault::Refused(Refusal::TooFine));
+        };
+        Ok(shares)
+    }
+
+    /// The shares that the command needs.
+    fn needed_shares(&self, are_payments: bool) -> Result<Option<Shares>, TextFault>
+        requires sizes { HasSizes (game_tree (view self.now.tree)) }
+        requires scale { self.now.scale ≡ scale_of (game_tree (view self.now.tree)) }
+        requires sign { are_payments ≡ is_cost (description_of (game_tree (view self.now.tree))) }
+        ensures { MatchResult result
+            (IsShareReading self.now.command (game_tree (view self.now.tree)) (view self.now.tree))
+            (IsShareFault self.now.command (game_tree (view self.now.tree)) (view self.now.tree)) }
+    {
+        if !self.command.needs().shares {
+            return Ok(None);
+        }
+        match self.right_shares(are_payments) {
+            Ok(shares) => Ok(Some(shares)),
+            Err(e) => Err(e),
+        }
+    }
+
+    /// The certificate for the players of the game, where it has its form.
+    fn right_certificate(&self) -> Result<Option<Certificate>, OutOfMemory>
+        requires sizes { HasSizes (game_tree (view self.now.tree)) }
+        ensures { IfOk result (λ o. o
+            ≡ (if passes (has_form self.now.scale (players (game_tree (view self.now.tree))))
+            (get (codes "certificate") (view self.now.tree))
+            then Some (certificate_of self.now.scale (players (game_tree (view self.now.tree)))
+            (certificate_tree (view self.now.tree))) else None)) }
+    {
+        match self.tree.get("certificate") {
+            Some(certificate) => certificate_of(
+                self.alloc,
+                self.players() as u32,
+                certificate,
+                self.scale,
+            ),
+            None => Ok(None),
+        }
+    }
+
+    /// The certificate that the command needs, where it has its form.
+    fn needed_certificate(&self) -> Result<Option<Certificate>, TextFault>
+        requires sizes { HasSizes (game_tree (view self.now.tree)) }
+        requires scale { self.now.scale ≡ scale_of (game_tree (view self.now.tree)) }
+        ensures { MatchResult result
+            (IsCertificateReading self.now.command (game_tree (view self.now.tree)) (view self.now.tree))
+            (IsCertificateFault self.now.command (game_tree (view self.now.tree)) (view self.now.tree)) }
+    {
+        if !self.command.needs().certificate {
+            return Ok(None);
+        }
+        let Some(certificate) = self.right_certificate()? else {
+            return Err(TextFault::Refused(Refusal::Certificate));
+        };
+        Ok(Some(certificate))
+    }
 }

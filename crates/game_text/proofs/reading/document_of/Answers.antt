@@ -76,5 +76,5 @@ returns c =
     (sym c.is_shaped-shaped.ensures ∙ c.if-not-shaped.false)
     (subst (λ g. has_players g ≡ true) its (sym c.has_players.ensures ∙ c.if-not-has_players.false))
     (subst (λ g. has_numbers g ≡ true) its numbers)
-    (sym c.has_needed_numbers.ensures ∙ c.if-not-has_needed_numbers.false) c.document_of_numbers.result
-    c.document_of_numbers.ensures
+    (sym c.has_needed_numbers.ensures ∙ c.if-not-has_needed_numbers.false) c.document.result
+    c.document.ensures
