@@ -21,7 +21,7 @@ use Rattle.report.specs.Lines.{nucleolus_tree, line}
 use Rattle.report.specs.ReadingBack.{ExcessesAreReadBack}
 use Rattle.report.specs.declared.answer.Answer.TheVariants.{Nucleolus}
 use Rattle.report.specs.Limits.{IsScale}
-use Rattle.report.proofs.Readers.{scaled, short}
+use Rattle.report.proofs.Readers.{scaled_fractions_read_back, nucleoli_short}
 use Rattle.reading_back.proofs.AcceptedGames.{accepted as accepted_game, accepted_scale}
 use Rattle.document_parts.specs.Scales.{scale_of}
 use Rattle.report.specs.Limits.{IsFine}
@@ -51,7 +51,7 @@ all_lowest (l ∷ ls) h fine = (record { reduced = h.0.0; fits = h.0.1; fine = f
 all_read_back : (k : ℕ) → IsScale (pos k) → (ls : List Level) → AreInLowestTerms ls → ExcessesAreReadBack k ls
 all_read_back k s [] h = tt
 all_read_back k s (l ∷ ls) h =
-    ((scaled k (excess_of l) s h.0.reduced h.0.fits.0 h.0.fine).0, all_read_back k s ls h.1)
+    ((scaled_fractions_read_back k (excess_of l) s h.0.reduced h.0.fits.0 h.0.fine).0, all_read_back k s ls h.1)
 
 all_few : (n : ℕ) → n ≤ 64 → (ls : List Level) → AllByRecursion (HasFew n) ls
     → AllByRecursion (λ l. length l.coalitions + length l.earlier + length l.bounds ≤ 128) ls
@@ -96,12 +96,13 @@ module _ (family : Family) (d : Contents) (value : Value) (are_costs : Bool) (x 
       × IsReadOf family g x c (contents_of command.Check (nucleolus_tree (scale_of g) family g b x c))
 
   -- the excesses are in lowest terms, over denominators that can be printed over a scale
-  lowest : AreInLowestTerms c.levels
-  lowest = all_lowest c.levels found.lowest (fine_levels c.mode family d.measure (game_of d.game) x c s h found)
+  in_lowest_terms : AreInLowestTerms c.levels
+  in_lowest_terms =
+      all_lowest c.levels found.lowest (fine_levels c.mode family d.measure (game_of d.game) x c s h found)
 
   -- the scale that the line is printed over
-  scale : IsScale (pos (scale_of (view value)))
-  scale =
+  printed_scale : IsScale (pos (scale_of (view value)))
+  printed_scale =
       subst (λ (g : Data). IsScale (pos (scale_of g))) printed_game
       (accepted_scale (game_tree accepted.document)
       (accepted_game accepted.command accepted.document accepted.passed).numbers)
@@ -114,7 +115,7 @@ module _ (family : Family) (d : Contents) (value : Value) (are_costs : Bool) (x 
       let counted = ap (λ e. (game_of e).players) accepted.described in
       let first : Reads (game_tree accepted.document) (is_cost (description_of (game_tree accepted.document))) =
       printed_is_read accepted.command accepted.document family x c accepted.passed s (allocation.0 ∙ counted) h
-      (found.players ∙ counted) lowest in
+      (found.players ∙ counted) in_lowest_terms in
       let second : Reads (view value) (is_cost (description_of (game_tree accepted.document))) =
       subst (λ (g : Data). Reads g (is_cost (description_of (game_tree accepted.document)))) printed_game
       first in
@@ -126,8 +127,8 @@ module _ (family : Family) (d : Contents) (value : Value) (are_costs : Bool) (x 
   is_short =
       let players = found.players in
       let text =
-      short (scale_of (view value)) family (view value) are_costs x c scale s h
-      (all_read_back (scale_of (view value)) scale c.levels lowest)
+      nucleoli_short (scale_of (view value)) family (view value) are_costs x c printed_scale s h
+      (all_read_back (scale_of (view value)) printed_scale c.levels in_lowest_terms)
       (all_few (game_of d.game).players (omega (arith, players, h.few)) c.levels found.few) in
       let game =
       subst (λ (t : Data). length (compact_text t) ≤ document_limit command.Nucleolus) (sym same)
@@ -140,8 +141,8 @@ module _ (family : Family) (d : Contents) (value : Value) (are_costs : Bool) (x 
             (10 ∷ []),
       )
 
-  says : (e : Contents) → IsReadOf family (view value) x c e → SaysSame family (view value) x c e
-  says e of =
+  says_the_same : (e : Contents) → IsReadOf family (view value) x c e → SaysSame family (view value) x c e
+  says_the_same e of =
       let again = of.shares.2 in
       let games : d.game ≡ e.game = accepted.described ∙ ap description_of printed_game ∙ sym of.game in
       let measures : d.measure ≡ e.measure = accepted.measured ∙ ap measure_of printed_game ∙ sym of.measure in
@@ -171,4 +172,4 @@ module _ (family : Family) (d : Contents) (value : Value) (are_costs : Bool) (x 
   can_be_checked =
       subst (λ (k : ℤ). CanBeChecked k (Nucleolus family value are_costs x c) family (view value) x c)
       (sym scale_said)
-      (record { short = is_short; passed = is_read.0; says = says _ is_read.1 })
+      (record { short = is_short; passed = is_read.0; says = says_the_same _ is_read.1 })

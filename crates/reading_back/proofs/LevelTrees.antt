@@ -19,7 +19,7 @@ use Rattle.certificate_texts.specs.Certificates.{is_written, lists_coalition, li
 use Rattle.report.specs.Certificates.{coalition_pair, bound_pair, excess_of, level_tree}
 use Rattle.report.specs.Limits.{IsScale}
 use Rattle.report.specs.Values.{scaled_data}
-use Rattle.report.proofs.Readers.{scaled}
+use Rattle.report.proofs.Readers.{scaled_fractions_read_back}
 use Rattle.reading_back.specs.CertificatesReadBack.{HasLowestExcess}
 use Rattle.reading_back.proofs.WeightTexts.{IsWeighted, IsBound, weight_read, coalition_pair_read}
 use Rattle.reading_back.proofs.WeightTexts.{coalition_pair_listed, coalition_pair_shaped, bound_pair_read}
@@ -36,7 +36,7 @@ pub record IsReadable (n : ℕ) (l : Level) : Type 0 where
 excess_read : (k : ℕ) (l : Level) → IsScale (pos k) → HasLowestExcess l
     → scaled_of k (scaled_data k (excess_of l)) ≡ Some (excess_of l)
 excess_read k l s h =
-    let back = scaled k (excess_of l) s h.reduced h.fits.0 h.fine in
+    let back = scaled_fractions_read_back k (excess_of l) s h.reduced h.fits.0 h.fine in
     ap (option_and_then (if_scaled k)) back.0
     ∙ sym (chosen_some k (over_scale (pos k) (excess_of l)) (excess_of l) (sym back.1) h.fits.0)
 

@@ -20,10 +20,10 @@ use Rattle.json_trees.specs.LowestTerms.{times_scale}
 use Rattle.json_trees.proofs.LowestTerms.{lowest_ratio, is_lowest, times_ratio}
 use Rattle.document_parts.specs.Shares.{scaled_share}
 use Rattle.report.specs.Limits.{IsScale}
-use Rattle.report.proofs.LowestTexts.{scaled_low, scaled_high}
+use Rattle.report.proofs.LowestTexts.{scaled_high}
 use Rattle.reading_back.specs.ReadBack.{kept_share}
 use Rattle.reading_back.proofs.OverLeast.{size_positive, no_greater}
-use Rattle.fractions.proofs.Ratios.{apart, ratio_of_same, denominator_divides}
+use Rattle.fractions.proofs.Ratios.{apart, ratio_of_same, denominator_divides, product_positive}
 use Rattle.report.proofs.Readers.{size_as_printed}
 
 -- ---- one share
@@ -33,7 +33,7 @@ kept_ratio b d z p = lowest_ratio (as_printed b z) d p
 
 printed_ratio : (k : ℕ) (b : Bool) (d z : ℤ) → IsScale (pos k) → pos 1 ≤ℤ d
     → IsRatio (printed_share k b d z) (as_printed b z) (d *ℤ pos k)
-printed_ratio k b d z s p = lowest_ratio (as_printed b z) (d *ℤ pos k) (scaled_low d (pos k) p s.0)
+printed_ratio k b d z s p = lowest_ratio (as_printed b z) (d *ℤ pos k) (product_positive d (pos k) p s.0)
 
 -- what is printed over the scale is, times the scale, as it was kept
 printed_times : (k : ℕ) (b : Bool) (d z : ℤ) → IsScale (pos k) → pos 1 ≤ℤ d
@@ -73,7 +73,7 @@ share_read k b d z s p q h =
     let r = printed_ratio k b d z s p in
     let bound = scaled_high d (pos k) (pos (2 ^ 63)) p s.0 q s.1 in
     read_back (printed_share k b d z) r.reduced
-    (has_form (printed_share k b d z) (as_printed b z) (d *ℤ pos k) r (scaled_low d (pos k) p s.0)
+    (has_form (printed_share k b d z) (as_printed b z) (d *ℤ pos k) r (product_positive d (pos k) p s.0)
     (omega (arith, ints, bound)) (subst (λ (n : ℕ). n < 2 ^ 110) (sym (size_as_printed b z)) h))
 
 share_scaled : (k : ℕ) (b : Bool) (d z : ℤ) → IsScale (pos k) → pos 1 ≤ℤ d → d ≤ℤ pos (2 ^ 63)

@@ -21,19 +21,20 @@ denominator_ascii : (d : ℤ) (b : Bool) → is_i128 d ≡ true → IsAscii (con
 denominator_ascii d true h = IsAscii-nil
 denominator_ascii d false h = IsAscii-cons 47 _ (omega arith) (signed_ascii d h)
 
-fits : (a b c : Bool) (f g : Fraction) → b ≡ is_i128 f.num → c ≡ is_i128 f.den
+read_numbers_fit : (a b c : Bool) (f g : Fraction) → b ≡ is_i128 f.num → c ≡ is_i128 f.den
     → cond (a && b && c) (Some f) None ≡ Some g → (is_i128 g.num ≡ true) × (is_i128 g.den ≡ true)
-fits true true true f g num den e =
+read_numbers_fit true true true f g num den e =
     let same : f ≡ g = cc in
     (subst (λ h. is_i128 h.num ≡ true) same (cc), subst (λ h. is_i128 h.den ≡ true) same (cc))
-fits true true false f g num den e = absurd (cc)
-fits true false c f g num den e = absurd (cc)
-fits false b c f g num den e = absurd (cc)
+read_numbers_fit true true false f g num den e = absurd (cc)
+read_numbers_fit true false c f g num den e = absurd (cc)
+read_numbers_fit false b c f g num den e = absurd (cc)
 
 -- both numbers of a fraction that was read have a form of 128 bits
 pub numbers_fit : (s : List ℕ) (f : Fraction) → parsed s ≡ Some f → (is_i128 f.num ≡ true) × (is_i128 f.den ≡ true)
 numbers_fit s f e =
-    fits (is_fraction_text s) (is_i128 (text_fraction s).num) (is_i128 (text_fraction s).den) (text_fraction s) f refl
+    read_numbers_fit (is_fraction_text s) (is_i128 (text_fraction s).num) (is_i128 (text_fraction s).den)
+    (text_fraction s) f refl
     refl e
 
 pub fraction_text_ascii : (s : List ℕ) (f : Fraction) → parsed s ≡ Some f → IsAscii (fraction_text f)

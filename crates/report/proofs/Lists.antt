@@ -26,16 +26,16 @@ mapped_more v f xs zs i d z lt before here =
 abbrev AreBelow : ℕ → List ℕ → Type 0
 AreBelow n is = AllByRecursion (λ i. i < n) is × (length is ≤ n)
 
-one_more : (n s : ℕ) (b : Bool) → has_player s n ≡ b → AreBelow n (members n s)
+members_below_more : (n s : ℕ) (b : Bool) → has_player s n ≡ b → AreBelow n (members n s)
     → AreBelow (n + 1) (members (n + 1) s)
-one_more n s true e h =
+members_below_more n s true e h =
     let here : AreBelow (n + 1) (members n s ++ n ∷ []) = (
       all_join (λ i. i < n + 1) (members n s) (n ∷ [])
           (all_weaken (λ i. i < n) (λ i. i < n + 1) (members n s) (λ i lt. omega arith) h.0) (omega arith, tt),
       omega (arith, h.1, length-append (members n s) (n ∷ [])),
     ) in
     subst (λ (is : List ℕ). AreBelow (n + 1) is) (sym (members-more_yes n s e)) here
-one_more n s false e h =
+members_below_more n s false e h =
     let here : AreBelow (n + 1) (members n s) =
     (all_weaken (λ i. i < n) (λ i. i < n + 1) (members n s) (λ i lt. omega arith) h.0, omega (arith, h.1)) in
     subst (λ (is : List ℕ). AreBelow (n + 1) is) (sym (members-more_no n s e)) here
@@ -43,4 +43,4 @@ one_more n s false e h =
 -- the members below n are below n, and there are at most n
 pub members_below : (n s : ℕ) → AllByRecursion (λ i. i < n) (members n s) × (length (members n s) ≤ n)
 members_below zero s = subst (λ (is : List ℕ). AreBelow 0 is) (sym (members-zero s)) (tt, omega arith)
-members_below (suc n) s = rw (← add-one) (one_more n s (has_player s n) refl (members_below n s))
+members_below (suc n) s = rw (← add-one) (members_below_more n s (has_player s n) refl (members_below n s))

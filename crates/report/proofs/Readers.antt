@@ -15,7 +15,8 @@ use Rattle.report.specs.ReadingBack.{NucleoliAreReadBack, NucleoliAreShort, Scal
 use Rattle.report.specs.Lines.{nucleolus_tree}
 use Rattle.report.proofs.PrintableLevels.{small_level}
 use Rattle.json_trees.proofs.LowestTerms.{times_over}
-use Rattle.report.proofs.LowestTexts.{lowest_read_back, scaled_low, scaled_high, over_read_back}
+use Rattle.fractions.proofs.Ratios.{product_positive}
+use Rattle.report.proofs.LowestTexts.{lowest_read_back, scaled_high, over_read_back}
 use Rattle.report.proofs.CertificateDepths.{nucleolus_depth}
 use Rattle.report.proofs.ExactTrees.{IsPrintableLevel, nucleolus_exact}
 use Rattle.report.proofs.CertificateLengths.{IsShortLevel, nucleolus_length}
@@ -42,7 +43,8 @@ share_read_back k is_cost d z s low high h =
     let bound = scaled_high d (pos k) (pos (2 ^ 63)) low s.0 high s.1 in
     let small : unsigned_abs (as_printed is_cost z) < 2 ^ 110 =
     subst (λ (n : ℕ). n < 2 ^ 110) (sym (size_as_printed is_cost z)) h in
-    lowest_read_back (as_printed is_cost z) (d *ℤ pos k) (scaled_low d (pos k) low s.0) (omega (arith, ints, bound))
+    lowest_read_back (as_printed is_cost z) (d *ℤ pos k) (product_positive d (pos k) low s.0)
+    (omega (arith, ints, bound))
     (fits_signed_from_abs w128 (as_printed is_cost z) (omega (arith, small)))
 
 shares_read_back : (k : ℕ) (is_cost : Bool) (x : Allocation) → IsScale (pos k) → IsShares x
@@ -52,8 +54,8 @@ shares_read_back k is_cost x s h =
     (λ z small. share_read_back k is_cost x.den z s h.positive h.common small)
     (all_at_places (λ z. unsigned_abs z < 2 ^ 110) (pos 0) x.shares h.small)
 
-pub says : WrittenIsReadBack → NucleoliAreReadBack
-says back k family game is_cost x c scale shares certificate exact shallow =
+pub nucleoli_read_back : WrittenIsReadBack → NucleoliAreReadBack
+nucleoli_read_back back k family game is_cost x c scale shares certificate exact shallow =
     let tree = nucleolus_tree k family game is_cost x c in
     let tree_exact : IsExact tree =
     nucleolus_exact k family game is_cost x c
@@ -78,14 +80,15 @@ short_levels k [] h r few = tt
 short_levels k (l ∷ levels) h r few =
     (record { printable = h.0; excess = r.0; few = few.0 }, short_levels k levels h.1 r.1 few.1)
 
-pub short : NucleoliAreShort
-short k family game is_cost x c scale shares certificate excesses few =
+pub nucleoli_short : NucleoliAreShort
+nucleoli_short k family game is_cost x c scale shares certificate excesses few =
     nucleolus_length k family game is_cost x c (omega (arith, certificate.form.few, certificate.few)) shares.few
     (short_levels k c.levels (printable_levels c.players [] c.levels certificate.few certificate.form.each) excesses
     few) (shares_read_back k is_cost x scale shares)
 
-pub scaled : ScaledFractionsAreReadBack
-scaled k f s r fits fine = (over_read_back (pos k) f s fine fits, times_over k f (some k s.0) r)
+pub scaled_fractions_read_back : ScaledFractionsAreReadBack
+scaled_fractions_read_back k f s r fits fine =
+    (over_read_back (pos k) f s fine fits, times_over k f (scale_positive k s.0) r)
   where
-    some : (k : ℕ) → pos 1 ≤ℤ pos k → 0 < k
-    some k h = omega (arith, ints, h)
+    scale_positive : (k : ℕ) → pos 1 ≤ℤ pos k → 0 < k
+    scale_positive k h = omega (arith, ints, h)

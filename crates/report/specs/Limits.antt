@@ -18,8 +18,10 @@ use Rattle.serde_json.specs.Written.{has_float}
 use Rattle.definitions.specs.Certificates.{Level, IsSmall}
 use Rattle.balanced_collections.specs.Collections.{CollectionData}
 use Rattle.report.specs.declared.answer.Answer.{Answer}
-use Rattle.report.specs.declared.answer.Answer.TheVariants.{Nucleolus, NotEfficient, Blocked, EmptyCore}
-use Rattle.report.specs.declared.answer.Answer.TheVariants.{NotPrekernel, Verdict, Summary}
+use Rattle.report.specs.declared.answer.Answer.TheVariants.{Nucleolus, NoImputation, InCore, NotEfficient}
+use Rattle.report.specs.declared.answer.Answer.TheVariants.{Blocked, CorePoint, EmptyCore, Shapley, Bird, Convex}
+use Rattle.report.specs.declared.answer.Answer.TheVariants.{Prekernel, NotPrekernel, Matching, Verdict}
+use Rattle.report.specs.declared.answer.Answer.TheVariants.{Usage, Refused, Summary}
 use Rattle.kohlberg.specs.declared.verdicts.Verdict.{Verdict as CheckVerdict}
 use Rattle.kohlberg.specs.declared.verdicts.Verdict.TheVariants.{No}
 use Rattle.kohlberg.specs.declared.verdicts.Reason.TheVariants.{OutsideAbove}
@@ -43,16 +45,26 @@ abbrev pub IsFineIfThere : Option Fraction → Type 0
 IsFineIfThere None = ⊤
 IsFineIfThere (Some f) = IsFine f.den
 
--- each fraction in an answer has a denominator below 2^100
+-- each fraction in an answer has a denominator below 2^100; those of shares have one by their type
 abbrev pub HasFineNumbers : Answer → Type 0
 HasFineNumbers (Nucleolus family tree is_cost shares certificate) =
     AllByRecursion (λ l. IsFine l.excess_den) certificate.levels
+HasFineNumbers (NoImputation singles total) = ⊤
+HasFineNumbers InCore = ⊤
 HasFineNumbers (NotEfficient sum total) = IsFine sum.den
 HasFineNumbers (Blocked s e) = IsFine e.den
+HasFineNumbers (CorePoint is_cost shares) = ⊤
+HasFineNumbers (EmptyCore c value against) = ⊤
+HasFineNumbers (Shapley is_cost shares) = ⊤
+HasFineNumbers (Bird shares edges) = ⊤
+HasFineNumbers (Convex is_cost answer) = ⊤
+HasFineNumbers Prekernel = ⊤
 HasFineNumbers (NotPrekernel i j ij ji) = IsFine ij.den × IsFine ji.den
+HasFineNumbers (Matching solution) = ⊤
 HasFineNumbers (Verdict v) = IsFineVerdict v
+HasFineNumbers (Usage kind) = ⊤
+HasFineNumbers (Refused refusal) = ⊤
 HasFineNumbers (Summary s) = IsFineIfThere s.greatest
-HasFineNumbers _ = ⊤
 
 -- no number but integers, and nested at most 8 deep
 abbrev pub IsGameTree : Data → Type 0
@@ -66,8 +78,22 @@ pub record HasSmallNumbers (c : CollectionData) : Type 0 where
 -- a game that is printed has such a tree, and a collection small numbers
 abbrev pub HasPrintableForm : Answer → Type 0
 HasPrintableForm (Nucleolus family tree is_cost shares certificate) = IsGameTree (view tree)
+HasPrintableForm (NoImputation singles total) = ⊤
+HasPrintableForm InCore = ⊤
+HasPrintableForm (NotEfficient sum total) = ⊤
+HasPrintableForm (Blocked s e) = ⊤
+HasPrintableForm (CorePoint is_cost shares) = ⊤
 HasPrintableForm (EmptyCore c value against) = HasSmallNumbers c
-HasPrintableForm _ = ⊤
+HasPrintableForm (Shapley is_cost shares) = ⊤
+HasPrintableForm (Bird shares edges) = ⊤
+HasPrintableForm (Convex is_cost answer) = ⊤
+HasPrintableForm Prekernel = ⊤
+HasPrintableForm (NotPrekernel i j ij ji) = ⊤
+HasPrintableForm (Matching solution) = ⊤
+HasPrintableForm (Verdict v) = ⊤
+HasPrintableForm (Usage kind) = ⊤
+HasPrintableForm (Refused refusal) = ⊤
+HasPrintableForm (Summary s) = ⊤
 
 -- the answer can be printed over a scale
 pub record IsPrintable (answer : Answer) : Type 0 where

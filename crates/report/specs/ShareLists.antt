@@ -1,16 +1,21 @@
 -- Lists of shares.
 --
+--   IsNumerator     a numerator of a share, which is below 2^110 in size
 --   as_printed      a numerator as it is printed
 --   printed_share   a share as it is printed, over the scale
 --   share_data      its text
 --   share_list      the shares of all players
-use Rattle.std.specs.Prelude.{ℕ, ℤ, pos, neg_ℤ, ◌*ℤ◌, map, Bool, if◌then◌else◌}
+use Rattle.std.specs.Prelude.{◌^◌, ◌<◌, ℕ, ℤ, pos, neg_ℤ, ◌*ℤ◌, unsigned_abs, map, Bool, if◌then◌else◌}
 use Rattle.serde_json.specs.Data.{Data, array}
 use Rattle.serde_json.specs.View.{items_of}
 use Rattle.definitions.specs.Games.{Allocation}
 use Rattle.fractions.specs.Fraction.{Fraction}
 use Rattle.json_trees.specs.LowestTerms.{in_lowest_terms}
 use Rattle.report.specs.Values.{fraction_data}
+
+-- a numerator of a share
+abbrev pub IsNumerator : ℤ → Type 0
+IsNumerator z = unsigned_abs z < 2 ^ 110
 
 -- a numerator as it is printed: where the game is one of costs, that of a payment
 abbrev pub as_printed : Bool → ℤ → ℤ

@@ -12,7 +12,7 @@ use tree_games::Tree;
 use worth_core::{Family, Shares};
 
 /// Why a command has no other answer: for its words, or for the class and the players of its document.
-#[derive(Clone, Copy, Debug, PartialEq, Eq)]
+#[derive(Clone, Copy, PartialEq, Eq)]
 pub enum UsageKind {
     /// They name no command; or, behind `gen`, no kind with a number of players that it has and a seed.
     Words,
@@ -23,7 +23,7 @@ pub enum UsageKind {
 }
 
 /// What is answered.
-#[derive(Debug, Drop)]
+#[derive(Drop)]
 pub enum Answer {
     /// The nucleolus or prenucleolus of the game with this JSON tree: the shares as worth, printed as payments where
     /// `is_cost`, and their certificate.

@@ -1,8 +1,8 @@
 //! Lists of shares.
-ghost use Rattle.std.specs.Prelude.{◌≡◌, ◌^◌, ◌<◌, pos, ◌≤ℤ◌, unsigned_abs, map, IfOk};
+ghost use Rattle.std.specs.Prelude.{◌≡◌, ◌^◌, pos, ◌≤ℤ◌, map, IfOk};
 ghost use Rattle.serde_json.specs.View.{view};
 ghost use Rattle.report.specs.Limits.{IsScale};
-ghost use Rattle.report.specs.ShareLists.{as_printed, share_data};
+ghost use Rattle.report.specs.ShareLists.{IsNumerator, as_printed, share_data};
 
 use crate::fraction::text_of;
 use fractions::OutOfMemory;
@@ -40,7 +40,7 @@ pub(crate) fn share_text(
     requires scale { IsScale (pos scale) }
     requires positive { pos 1 ≤ℤ den }
     requires common { den ≤ℤ pos (2 ^ 63) }
-    requires small { unsigned_abs num < 2 ^ 110 }
+    requires small { IsNumerator num }
     ensures { IfOk result (λ v. view v ≡ share_data scale is_cost den num) }
 {
     let share = ratio(as_printed(num, is_cost), den * i128::from(scale));
@@ -49,9 +49,9 @@ pub(crate) fn share_text(
 }
 
 fn as_printed(num: i128, is_cost: bool) -> i128
-    requires { unsigned_abs num < 2 ^ 110 }
+    requires { IsNumerator num }
     ensures value { result ≡ as_printed is_cost num }
-    ensures small { unsigned_abs result < 2 ^ 110 }
+    ensures small { IsNumerator result }
 {
     if is_cost { -num } else { num }
 }

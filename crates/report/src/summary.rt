@@ -18,7 +18,7 @@ use std::alloc::Global;
 use worth_core::Shares;
 
 /// What is said of a generated game, whose certificate the checker has said yes to.
-#[derive(Debug, Drop)]
+#[derive(Drop)]
 pub struct Summary {
     /// The kind of the game.
     pub kind: Kind,
@@ -77,7 +77,7 @@ fn common_value(alloc: Global, shares: &Shares, scale: u32) -> Result<Value, Out
     ensures { IfOk result (λ v. view v ≡ integer_data scale (least_denominator shares.now)) }
 {
     let common = shares.least_den();
-    shares.den();
+    shares.den(); // It is at most 2^63, by its type.
     integer_value(alloc, common, scale)
 }
 

@@ -4,8 +4,9 @@ use mir.Syntax.{w128}
 use Rattle.fractions.specs.Fraction.{IsRatio}
 use Rattle.json_trees.specs.LowestTerms.{in_lowest_terms, over_scale}
 use Rattle.json_trees.proofs.LowestTerms.{is_lowest}
+use Rattle.fractions.proofs.Ratios.{product_positive}
 use Rattle.report.specs.Limits.{IsScale, IsFine}
-use Rattle.report.proofs.LowestTexts.{scaled_low, scaled_fits}
+use Rattle.report.proofs.LowestTexts.{scaled_fits}
 use Rattle.report.proofs.fraction.over.Goals as goal
 
 pub overflow_mul-den : goal.overflow_mul-den
@@ -29,7 +30,7 @@ ratio-requires c =
       to_z-of_z w128 c.from.result fk,
       to_z-of_z w128 (c.den.result *ℤ c.from.result) (scaled_fits c.den.result c.from.result fine scale),
     )
-    (scaled_low c.den.result c.from.result fine.0 scale.0)
+    (product_positive c.den.result c.from.result fine.0 scale.0)
 
 pub returns : goal.returns
 unfolding over_scale
@@ -51,6 +52,6 @@ returns c =
     c.ratio.ensures in
     let lowest =
     is_lowest c.ratio.result c.num.result (c.den.result *ℤ c.from.result)
-    (scaled_low c.den.result c.from.result fine.0 scale.0) ratio in
+    (product_positive c.den.result c.from.result fine.0 scale.0) ratio in
     let same = ap₂ in_lowest_terms c.num.ensures (ap₂ (λ (x y : ℤ). x *ℤ y) c.den.ensures.value from) in
     lowest ∙ same

@@ -1,5 +1,5 @@
-use Rattle.report.proofs.Readers.{says}
+use Rattle.report.proofs.Readers.{nucleoli_read_back}
 use Rattle.report.proofs.laws.nucleoli_are_read_back.Goals as goal
 
 pub returns : goal.returns
-returns c = says c.written_is_read_back.ensures
+returns c = nucleoli_read_back c.written_is_read_back.ensures

@@ -6,8 +6,9 @@ use Rattle.fractions.specs.FractionTexts.{fraction_text}
 use Rattle.json_trees.specs.LowestTerms.{in_lowest_terms}
 use Rattle.json_trees.proofs.LowestTerms.{is_lowest}
 use Rattle.kohlberg.proofs.Kept.{kept}
+use Rattle.fractions.proofs.Ratios.{product_positive}
 use Rattle.report.specs.Limits.{IsScale}
-use Rattle.report.proofs.LowestTexts.{scaled_low, scaled_fits, fine_of_shares}
+use Rattle.report.proofs.LowestTexts.{scaled_fits, fine_of_shares}
 use Rattle.serde_json.specs.Data.{string}
 use Rattle.definitions.proofs.Casts.{cast_kept}
 use Rattle.report.proofs.TextViews.{view_text}
@@ -35,7 +36,7 @@ ratio-share-requires c =
       to_z-of_z w128 c.from.result fk,
       to_z-of_z w128 (c.args.den *ℤ c.from.result) (scaled_fits c.args.den c.from.result fine scale),
     )
-    (scaled_low c.args.den c.from.result fine.0 scale.0)
+    (product_positive c.args.den c.from.result fine.0 scale.0)
 
 pub returns : goal.returns
 returns c =
@@ -54,7 +55,7 @@ returns c =
     c.ratio-share.ensures in
     let lowest =
     is_lowest c.ratio-share.result c.as_printed.result (c.args.den *ℤ c.from.result)
-    (scaled_low c.args.den c.from.result fine.0 scale.0) ratio in
+    (product_positive c.args.den c.from.result fine.0 scale.0) ratio in
     let same = ap (λ (k : ℤ). in_lowest_terms c.as_printed.result (c.args.den *ℤ k)) from in
     view_text c.in_ok-text.text
     ∙ ap (λ (s : List ℕ). string s)
