@@ -1,5 +1,6 @@
 -- The right judgement on what a document proposes.
 --
+--   IsAmount        a sum of worths, which is below 2^117 in size
 --   printed         a number as it is printed: costs and payments are negative worth
 --   IsInefficient   the shares add to something else than the worth of all, with both sums
 --   IsBlockedBy     they add to it, and this coalition blocks them
@@ -7,7 +8,7 @@
 --   Judges          the answer is right for an allocation of a game
 --   JudgesAll       the answer is right for the game and the shares of a document
 --   HasShares       there is a share for each player
-use Rattle.std.specs.Prelude.{◌≡◌, ℕ, ℤ, neg_ℤ, Bool, Some, length, if◌then◌else◌}
+use Rattle.std.specs.Prelude.{◌≡◌, ◌^◌, ◌<◌, ℕ, ℤ, neg_ℤ, unsigned_abs, Bool, Some, length, if◌then◌else◌}
 use Rattle.definitions.specs.Coalitions.{grand_coalition}
 use Rattle.definitions.specs.Games.{Game, Allocation, amount, excess, IsEfficient, IsChosenBlocker, InCore}
 use Rattle.real_shares.specs.Claims.{InCoreForReals}
@@ -16,6 +17,10 @@ use Rattle.game_text.specs.Descriptions.{game_of, is_cost}
 use Rattle.game_text.specs.Documents.{Contents}
 use Rattle.report.specs.declared.answer.Answer.{Answer}
 use Rattle.report.specs.declared.answer.Answer.TheVariants.{InCore as Core, NotEfficient, Blocked}
+
+-- a sum of worths, as the shares of a coalition add to
+abbrev pub IsAmount : ℤ → Type 0
+IsAmount z = unsigned_abs z < 2 ^ 117
 
 -- a number of worth as it is printed: its sign is turned where the numbers of the game are costs
 abbrev pub printed : Bool → ℤ → ℤ
@@ -27,7 +32,8 @@ pub record IsInefficient (are_costs : Bool) (g : Game) (x : Allocation) (sum : F
   pub adds : IsRatio sum (printed are_costs (amount x (grand_coalition g.players))) x.den
   pub worth_of_all : total ≡ printed are_costs (g.worth (grand_coalition g.players))
 
--- the shares add to the worth of all, this coalition is chosen of those that block, and e is its excess in lowest terms
+-- the shares add to the worth of all, this coalition is chosen of those that block, and e is its excess in lowest
+-- terms
 abbrev pub IsBlockedBy : Game → Allocation → ℕ → Fraction → Type 0
 IsBlockedBy g x s e = IsEfficient g x × IsChosenBlocker g x s × IsRatio e (excess g x s) x.den
 

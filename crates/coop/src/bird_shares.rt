@@ -20,17 +20,9 @@ pub(crate) fn bird_document(alloc: Global, document: &Document) -> Result<Answer
     ensures printable { IfOk result IsPrintable }
     ensures readable { IfOk result IsNoNucleolus }
 {
-    match &document.game {
-        Game::Tree(game) => {
-            let (shares, tree) = game.bird(alloc)?;
-            Ok(Answer::Bird { shares, tree })
-        }
-        Game::Table(_)
-        | Game::Cost(_)
-        | Game::Airport(_)
-        | Game::Bankruptcy(_)
-        | Game::Assignment(_)
-        | Game::Market(_)
-        | Game::Voting(_) => unreachable!(),
-    }
+    let Game::Tree(game) = &document.game else {
+        unreachable!()
+    };
+    let (shares, tree) = game.bird(alloc)?;
+    Ok(Answer::Bird { shares, tree })
 }

@@ -62,20 +62,12 @@ fn verdict_on(
     ensures { IfOk result (IsVerdict certificate.now.mode family measure (game_of (description_in game.now))
         shares.now certificate.now.levels) }
 {
-    match game {
-        Game::Tree(game) => {
-            game.points(); // There are at most 17, by its type.
-            let kept = KeptWorths::new(alloc, game)?;
-            Ok(check(&kept, family, measure, shares, certificate))
-        }
-        Game::Table(_)
-        | Game::Cost(_)
-        | Game::Airport(_)
-        | Game::Bankruptcy(_)
-        | Game::Assignment(_)
-        | Game::Market(_)
-        | Game::Voting(_) => Ok(check(game, family, measure, shares, certificate)),
+    if let Game::Tree(game) = game {
+        game.points(); // There are at most 17, by its type.
+        let kept = KeptWorths::new(alloc, game)?;
+        return Ok(check(&kept, family, measure, shares, certificate));
     }
+    Ok(check(game, family, measure, shares, certificate))
 }
 
 // The excess that a verdict carries is in lowest terms by its type; this call says so.

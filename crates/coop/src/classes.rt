@@ -27,44 +27,17 @@ pub(crate) fn serves_class(command: Command, game: &Game) -> bool
 fn is_market(game: &Game) -> bool
     ensures { result ≡ is_market (description_in game.now) }
 {
-    match game {
-        Game::Market(_) => true,
-        Game::Table(_)
-        | Game::Cost(_)
-        | Game::Airport(_)
-        | Game::Bankruptcy(_)
-        | Game::Tree(_)
-        | Game::Assignment(_)
-        | Game::Voting(_) => false,
-    }
+    matches!(game, Game::Market(_))
 }
 
 fn is_tree(game: &Game) -> bool
     ensures { result ≡ is_tree (description_in game.now) }
 {
-    match game {
-        Game::Tree(_) => true,
-        Game::Table(_)
-        | Game::Cost(_)
-        | Game::Airport(_)
-        | Game::Bankruptcy(_)
-        | Game::Assignment(_)
-        | Game::Market(_)
-        | Game::Voting(_) => false,
-    }
+    matches!(game, Game::Tree(_))
 }
 
 fn is_no_market(game: &Game) -> bool
     ensures { result ≡ is_no_market (description_in game.now) }
 {
-    match game {
-        Game::Table(_)
-        | Game::Cost(_)
-        | Game::Airport(_)
-        | Game::Bankruptcy(_)
-        | Game::Tree(_)
-        | Game::Assignment(_)
-        | Game::Voting(_) => true,
-        Game::Market(_) => false,
-    }
+    !matches!(game, Game::Market(_))
 }

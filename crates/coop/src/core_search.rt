@@ -15,7 +15,7 @@ ghost use Rattle.coop.specs.ReadBack.{IsNoNucleolus};
 ghost use Rattle.coop.specs.Finding.{HasFewPlayers};
 
 use crate::judge::printed_amount;
-use crate::limits::core_limit;
+use crate::limits::{FEW_PLAYERS, core_limit};
 use crate::solve::keep_their_limits;
 use balanced::{Collection, CoreAnswer, CoreFault, core_of};
 use fractions::OutOfMemory;
@@ -70,12 +70,12 @@ fn said_of(alloc: Global, game: &Game) -> Result<CoreAnswer, OutOfMemory>
     match game {
         Game::Airport(game) => Ok(point(airport_scheme::solve(alloc, game)?)),
         Game::Bankruptcy(game) => Ok(point(talmud::solve(alloc, game)?)),
-        Game::Table(game) => by_program(alloc, game),
-        Game::Cost(game) => by_program(alloc, game),
         Game::Tree(game) => Ok(CoreAnswer::Point(game.bird(alloc)?.0)),
-        Game::Assignment(game) => by_program(alloc, game),
+        Game::Table(_) | Game::Cost(_) | Game::Assignment(_) | Game::Voting(_) => {
+            // Each worth is asked for many times.
+            by_program(alloc, &KeptWorths::new(alloc, game)?)
+        }
         Game::Market(_) => unreachable!(),
-        Game::Voting(game) => by_program(alloc, &KeptWorths::new(alloc, game)?),
     }
 }
 
@@ -90,7 +90,7 @@ fn point(solution: (Shares, Certificate)) -> CoreAnswer
 
 // What the balanced program says of a game of few players.
 fn by_program<W: Worth>(alloc: Global, game: &W) -> Result<CoreAnswer, OutOfMemory>
-    requires { (W.game game.now).players ≤ 16 }
+    requires { (W.game game.now).players ≤ FEW_PLAYERS }
     ensures { IfOk result (IsFound (W.game game.now)) }
 {
     match core_of(alloc, game) {

@@ -58,23 +58,13 @@ fn solved(alloc: Global, game: &Game) -> Result<(Shares, Option<Frac>), OutOfMem
     ensures greatest { IfOk result (λ s. IsGreatestExcess (game_of (description_in game.now)) s.0 s.1) }
     ensures fine { IfOk result (λ s. IsFineIfThere s.1) }
 {
-    match game {
-        Game::Tree(game) => {
-            let kept = KeptWorths::new(alloc, game)?;
-            let found = by_programs(alloc, &kept, Family::Imputations, Measure::Plain)?;
-            Ok(checked(&kept, found))
-        }
-        Game::Table(_)
-        | Game::Cost(_)
-        | Game::Airport(_)
-        | Game::Bankruptcy(_)
-        | Game::Assignment(_)
-        | Game::Market(_)
-        | Game::Voting(_) => {
-            let found = found_plainly(alloc, game, Family::Imputations)?;
-            Ok(checked(game, found))
-        }
+    if let Game::Tree(game) = game {
+        let kept = KeptWorths::new(alloc, game)?;
+        let found = by_programs(alloc, &kept, Family::Imputations, Measure::Plain)?;
+        return Ok(checked(&kept, found));
     }
+    let found = found_plainly(alloc, game, Family::Imputations)?;
+    Ok(checked(game, found))
 }
 
 // The shares that were found, whose certificate the checker says yes to, and their greatest excess.

@@ -3,7 +3,7 @@ ghost use Rattle.std.specs.Prelude.{◌≡◌, ◌<◌, ◌^◌, length, pos, �
 ghost use Rattle.fractions.specs.Fraction.{IsRatio};
 ghost use Rattle.game_text.specs.Readings.{contents_in};
 ghost use Rattle.report.specs.Limits.{IsPrintable};
-ghost use Rattle.coop.specs.Judgement.{printed, Judges, JudgesAll, HasShares};
+ghost use Rattle.coop.specs.Judgement.{IsAmount, printed, Judges, JudgesAll, HasShares};
 ghost use Rattle.coop.specs.ReadBack.{IsNoNucleolus};
 
 use coalitions::Coalition;
@@ -61,9 +61,9 @@ fn over(num: i128, den: i128) -> Frac
 
 /// A sum of worths as it is printed.
 pub(crate) fn printed_amount(amount: i128, are_costs: bool) -> i128
-    requires { unsigned_abs amount < 2 ^ 117 }
+    requires { IsAmount amount }
     ensures value { result ≡ printed are_costs amount }
-    ensures small { unsigned_abs result < 2 ^ 117 }
+    ensures small { IsAmount result }
 {
     if are_costs { -amount } else { amount }
 }

@@ -6,23 +6,24 @@ ghost use Rattle.coop.specs.Limits.{nucleolus_limit, check_limit, core_limit};
 use game_text::Game;
 use worth_core::Measure;
 
+/// The most players of a game whose coalitions are all looked at.
+pub(crate) const FEW_PLAYERS: u32 = 16;
+
+/// The most players of a game that the nested programs solve with excess per head.
+pub(crate) const FEW_PER_HEAD: u32 = 8;
+
+/// The most players of any game.
+const MANY_PLAYERS: u32 = 64;
+
 /// The most players of a game whose nucleolus is answered: 8 with excess per head. With plain excess they are 64 for an
 /// airport or bankruptcy game, which has a scheme of its own, and 16 for another.
 pub(crate) fn nucleolus_limit(measure: Measure, game: &Game) -> u32
     ensures { result ≡ nucleolus_limit measure (description_in game.now) }
 {
     match (measure, game) {
-        (Measure::PerHead, _) => 8,
-        (Measure::Plain, Game::Airport(_) | Game::Bankruptcy(_)) => 64,
-        (
-            Measure::Plain,
-            Game::Table(_)
-            | Game::Cost(_)
-            | Game::Tree(_)
-            | Game::Assignment(_)
-            | Game::Market(_)
-            | Game::Voting(_),
-        ) => 16,
+        (Measure::PerHead, _) => FEW_PER_HEAD,
+        (Measure::Plain, Game::Airport(_) | Game::Bankruptcy(_)) => MANY_PLAYERS,
+        (Measure::Plain, _) => FEW_PLAYERS,
     }
 }
 
@@ -31,8 +32,8 @@ pub(crate) fn check_limit(measure: Measure) -> u32
     ensures { result ≡ check_limit measure }
 {
     match measure {
-        Measure::Plain => 64,
-        Measure::PerHead => 16,
+        Measure::Plain => MANY_PLAYERS,
+        Measure::PerHead => FEW_PLAYERS,
     }
 }
 
@@ -40,14 +41,9 @@ pub(crate) fn check_limit(measure: Measure) -> u32
 pub(crate) fn core_limit(game: &Game) -> u32
     ensures { result ≡ core_limit (description_in game.now) }
 {
-    match game {
-        Game::Voting(_) => 16,
-        Game::Table(_)
-        | Game::Cost(_)
-        | Game::Airport(_)
-        | Game::Bankruptcy(_)
-        | Game::Tree(_)
-        | Game::Assignment(_)
-        | Game::Market(_) => 64,
+    if matches!(game, Game::Voting(_)) {
+        FEW_PLAYERS
+    } else {
+        MANY_PLAYERS
     }
 }

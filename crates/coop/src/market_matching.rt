@@ -21,17 +21,9 @@ pub(crate) fn matching_document(alloc: Global, document: &Document) -> Result<An
     ensures printable { IfOk result IsPrintable }
     ensures readable { IfOk result IsNoNucleolus }
 {
-    match &document.game {
-        Game::Market(game) => {
-            let solution = game.solve(alloc)?;
-            Ok(Answer::Matching(solution))
-        }
-        Game::Table(_)
-        | Game::Cost(_)
-        | Game::Airport(_)
-        | Game::Bankruptcy(_)
-        | Game::Tree(_)
-        | Game::Assignment(_)
-        | Game::Voting(_) => unreachable!(),
-    }
+    let Game::Market(game) = &document.game else {
+        unreachable!()
+    };
+    let solution = game.solve(alloc)?;
+    Ok(Answer::Matching(solution))
 }

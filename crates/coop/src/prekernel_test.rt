@@ -8,13 +8,11 @@ ghost use Rattle.coop.specs.KernelClaims.{Balances, SaysOfKernel};
 ghost use Rattle.coop.specs.ReadBack.{IsNoNucleolus};
 
 use crate::judge::judge;
+use crate::limits::FEW_PLAYERS;
 use game_text::Document;
 use kernel_test::{KernelAnswer, prekernel};
 use report::{Answer, UsageKind};
 use worth_core::{Family, Measure, Shares, Worth};
-
-/// The most players of a game whose prekernel is tested.
-const MOST: u32 = 16;
 
 /// Whether the shares of a document are in the prekernel of its game, or the first two players that aren't balanced; or
 /// that the game has more than 16 players.
@@ -25,7 +23,7 @@ pub(crate) fn kernel_document(document: &Document) -> Answer
     ensures printable { IsPrintable result }
     ensures readable { IsNoNucleolus result }
 {
-    if document.game.players() > MOST {
+    if document.game.players() > FEW_PLAYERS {
         return Answer::Usage(UsageKind::Players);
     }
     let Some(shares) = &document.shares else {
@@ -36,7 +34,7 @@ pub(crate) fn kernel_document(document: &Document) -> Answer
 
 // Whether the shares are in the prekernel. Of those that aren't efficient the judgement says both sums.
 fn balance<W: Worth>(game: &W, shares: &Shares, are_costs: bool) -> Answer
-    requires few { (W.game game.now).players ≤ 16 }
+    requires few { (W.game game.now).players ≤ FEW_PLAYERS }
     requires each { length shares.now.shares ≡ (W.game game.now).players }
     ensures balances { Balances are_costs (W.game game.now) shares.now result }
     ensures prenucleolus { IsNucleolus Family.Preimputations Measure.Plain (W.game game.now) shares.now

@@ -2,7 +2,7 @@
 use report::Answer;
 
 /// An answer, and the scale that its line is printed over: that of the document, and 1 where there is none.
-#[derive(Debug, Drop)]
+#[derive(Drop)]
 pub struct Reply {
     /// The answer, to the game times the scale.
     pub answer: Answer,

@@ -1,11 +1,10 @@
 //! The Shapley shares of the game of a document.
-ghost use Rattle.std.specs.Prelude.{◌≡◌, ◌<◌, ◌≤◌, ◌↔◌, true, IfOk, IsErrOf};
+ghost use Rattle.std.specs.Prelude.{◌<◌, ◌≤◌, ◌↔◌, IfOk, IsErrOf};
 ghost use Rattle.definitions.specs.Shapley.{IsShapley};
 ghost use Rattle.game_text.specs.Descriptions.{game_of};
 ghost use Rattle.game_text.specs.Games.{description_in};
 ghost use Rattle.game_text.specs.Readings.{contents_in};
 ghost use Rattle.report.specs.Limits.{IsPrintable};
-ghost use Rattle.coop.specs.Classes.{is_no_market};
 ghost use Rattle.coop.specs.ReadBack.{IsNoNucleolus};
 ghost use Rattle.voting.specs.Voting.{voting_game};
 ghost use Rattle.coop.specs.ShapleyClaims.{shapley_limit, SaysOfShapley};
@@ -22,7 +21,6 @@ use worth_core::Shares;
 /// voting game, and 16 for another.
 #[inline(never)]
 pub(crate) fn shapley_document(alloc: Global, document: &Document) -> Result<Answer, OutOfMemory>
-    requires { is_no_market (description_in document.now.game) ≡ true }
     ensures says { IfOk result (SaysOfShapley (contents_in document.now)) }
     ensures printable { IfOk result IsPrintable }
     ensures readable { IfOk result IsNoNucleolus }
@@ -38,30 +36,27 @@ pub(crate) fn shapley_document(alloc: Global, document: &Document) -> Result<Ans
 // The shares of an airport game by the steps of its costs, those of a voting game by its sums of weights, and those of
 // another by its coalitions.
 fn shares_of(alloc: Global, game: &Game) -> Result<Shares, ShapleyFault>
-    requires { is_no_market (description_in game.now) ≡ true }
     ensures value { IfOk result (IsShapley (game_of (description_in game.now))) }
     ensures too_many { IsErrOf result ShapleyFault.TooMany
         ↔ (shapley_limit (description_in game.now) < (game_of (description_in game.now)).players) }
 {
     match game {
         Game::Airport(game) => airport_shapley(alloc, game),
-        Game::Table(game) => shapley(alloc, game),
-        Game::Cost(game) => shapley(alloc, game),
-        Game::Bankruptcy(game) => shapley(alloc, game),
-        Game::Tree(game) => shapley(alloc, game),
-        Game::Assignment(game) => shapley(alloc, game),
-        Game::Market(_) => unreachable!(),
         Game::Voting(game) => votes_of(alloc, game),
+        _ => shapley(alloc, game),
     }
 }
+
+// The most players of a voting game.
+const MOST_VOTERS: u32 = 32;
 
 // The shares of a voting game, which never has too many players.
 fn votes_of(alloc: Global, game: &VotingGame) -> Result<Shares, ShapleyFault>
     ensures value { IfOk result (IsShapley (voting_game game.now)) }
     ensures few { ¬ (IsErrOf result ShapleyFault.TooMany) }
-    ensures players { (voting_game game.now).players ≤ 32 }
+    ensures players { (voting_game game.now).players ≤ MOST_VOTERS }
 {
-    game.len();
+    game.len(); // There are at most 32, by its type.
     match voting_shapley(alloc, game) {
         Ok(shares) => Ok(shares),
         Err(_) => Err(ShapleyFault::Memory),

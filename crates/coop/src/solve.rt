@@ -15,7 +15,7 @@ ghost use Rattle.coop.specs.Finding.{HasFewPlayers, IsFoundFor, IsChosenFound};
 ghost use Rattle.coop.specs.Headline.{Solves};
 
 use crate::judge::printed_worth;
-use crate::limits::nucleolus_limit;
+use crate::limits::{FEW_PER_HEAD, FEW_PLAYERS, nucleolus_limit};
 use fractions::OutOfMemory;
 use game_text::{Document, Game};
 use kohlberg::Certificate;
@@ -101,22 +101,12 @@ pub(crate) fn found_plainly(
             let solution = talmud::solve(alloc, game)?;
             Ok(point(solution))
         }
-        Game::Table(game) => by_programs(alloc, game, family, Measure::Plain),
-        Game::Cost(game) => by_programs(alloc, game, family, Measure::Plain),
-        Game::Tree(game) => by_programs(
-            alloc,
-            &KeptWorths::new(alloc, game)?,
-            family,
-            Measure::Plain,
-        ),
-        Game::Assignment(game) => by_programs(alloc, game, family, Measure::Plain),
+        Game::Table(_) | Game::Cost(_) | Game::Tree(_) | Game::Assignment(_) | Game::Voting(_) => {
+            // Each worth is asked for many times.
+            let kept = KeptWorths::new(alloc, game)?;
+            by_programs(alloc, &kept, family, Measure::Plain)
+        }
         Game::Market(_) => unreachable!(),
-        Game::Voting(game) => by_programs(
-            alloc,
-            &KeptWorths::new(alloc, game)?,
-            family,
-            Measure::Plain,
-        ),
     }
 }
 
@@ -135,8 +125,8 @@ pub(crate) fn by_programs<W: Worth>(
     family: Family,
     measure: Measure,
 ) -> Result<Found, OutOfMemory>
-    requires few { (W.game game.now).players ≤ 16 }
-    requires heads { measure ≡ Measure.PerHead → (W.game game.now).players ≤ 8 }
+    requires few { (W.game game.now).players ≤ FEW_PLAYERS }
+    requires heads { measure ≡ Measure.PerHead → (W.game game.now).players ≤ FEW_PER_HEAD }
     ensures { IfOk result (IsFoundFor family measure (W.game game.now)) }
 {
     match nested_programs::solve(alloc, game, family, measure) {
@@ -146,7 +136,8 @@ pub(crate) fn by_programs<W: Worth>(
     }
 }
 
-/// Shares and certificates are within their limits by their types; these calls say so.
+/// Shares and certificates are within their limits by their types. This does nothing but to call what says so, for the
+/// proofs of those that print them.
 pub(crate) fn keep_their_limits(shares: &Shares, certificate: &Certificate)
     ensures shares { IsShares shares.now }
     ensures certificate { IsCertificate certificate.now }

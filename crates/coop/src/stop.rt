@@ -1,7 +1,7 @@
 use std::alloc::AllocError;
 
 /// Why an answer isn't found.
-#[derive(Clone, Copy, Debug, PartialEq, Eq)]
+#[derive(Clone, Copy)]
 pub enum Stop {
     /// A read failed.
     Fault,

@@ -14,7 +14,7 @@ use game_text::{Command, Kind};
 use report::{Answer, UsageKind};
 
 /// What the words of a command line ask for.
-#[derive(Clone, Copy, Debug, PartialEq, Eq)]
+#[derive(Clone, Copy)]
 pub enum Request {
     /// To answer a command on the document of the input.
     Read(Command),
