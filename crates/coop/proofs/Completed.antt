@@ -24,32 +24,33 @@ use Rattle.coop.proofs.Requests.{one_command}
 use Rattle.coop.proofs.OneAnswer.{same_document, not_refused}
 
 -- a document whose class and players are served is answered with no usage
-none_said : (given : Command) (d : Contents) (kind : UsageKind) → ServesPlayers given d → Says given d (Usage kind)
+no_usage_said : (given : Command) (d : Contents) (kind : UsageKind) → ServesPlayers given d
+    → Says given d (Usage kind)
     → ⊥
-none_said command.Nucleolus d Players serves h = omega (arith, serves, h)
-none_said command.Prenucleolus d Players serves h = omega (arith, serves, h)
-none_said command.Check d Players serves h = omega (arith, serves, h)
-none_said command.Core d Players serves h = omega (arith, serves, h)
-none_said command.Core d Words serves h = h.1
-none_said command.Core d Class serves h = h.1
-none_said command.Shapley d Players serves h = omega (arith, serves, h)
-none_said command.Convex d Players serves h = omega (arith, serves, h)
-none_said command.Kernel d Players serves h = omega (arith, serves, h)
-none_said command.Kernel d Words serves h = h.says
-none_said command.Kernel d Class serves h = h.says
-none_said command.Propose d kind serves h = h.2
-none_said given d kind serves h = h
+no_usage_said command.Nucleolus d Players serves h = omega (arith, serves, h)
+no_usage_said command.Prenucleolus d Players serves h = omega (arith, serves, h)
+no_usage_said command.Check d Players serves h = omega (arith, serves, h)
+no_usage_said command.Core d Players serves h = omega (arith, serves, h)
+no_usage_said command.Core d Words serves h = h.1
+no_usage_said command.Core d Class serves h = h.1
+no_usage_said command.Shapley d Players serves h = omega (arith, serves, h)
+no_usage_said command.Convex d Players serves h = omega (arith, serves, h)
+no_usage_said command.Kernel d Players serves h = omega (arith, serves, h)
+no_usage_said command.Kernel d Words serves h = h.says
+no_usage_said command.Kernel d Class serves h = h.says
+no_usage_said command.Propose d kind serves h = h.2
+no_usage_said given d kind serves h = h
 
 no_usage : (given : Command) (d : Contents) (kind : UsageKind) → Serves given d → AnswersTo given d (Usage kind) → ⊥
-no_usage given d Words serves h = none_said given d Words serves.1 h.1
+no_usage given d Words serves h = no_usage_said given d Words serves.1 h.1
 no_usage given d Class serves h = true≢false (sym serves.0 ∙ h)
-no_usage given d Players serves h = none_said given d Players serves.1 h.1
+no_usage given d Players serves h = no_usage_said given d Players serves.1 h.1
 
 module _ (words : List (List ℕ)) (given : Command) (bytes : List ℕ) (d : Contents) (said : IsCommand words given)
     (document : IsDocument given bytes d) (serves : Serves given d) where
   -- what is right for the words and the bytes is right for the document
-  served : (k : ℤ) (a : Answer) → IsAnsweredFor words bytes k a → AnswersTo given d a
-  served k a h =
+  right_for_document : (k : ℤ) (a : Answer) → IsAnsweredFor words bytes k a → AnswersTo given d a
+  right_for_document k a h =
       let same = one_command given h.0 (sym said ∙ h.1.0) in
       let here : IsDocument given bytes h.1.1.0 × AnswersTo given h.1.1.0 a =
       subst (λ (k : Command). IsDocument k bytes h.1.1.0 × AnswersTo k h.1.1.0 a) (sym same)
@@ -57,8 +58,8 @@ module _ (words : List (List ℕ)) (given : Command) (bytes : List ℕ) (d : Con
       subst (λ (e : Contents). AnswersTo given e a) (sym (same_document given bytes d document h.1.1.0 here.0))
       here.1
 
-  none_refused : (r : _) → IsRefusedFor words bytes r → ⊥
-  none_refused r h =
+  never_refused : (r : _) → IsRefusedFor words bytes r → ⊥
+  never_refused r h =
       let same = one_command given h.0 (sym said ∙ h.1.0) in
       not_refused given bytes d document r (subst (λ (k : Command). IsRefused k bytes r) (sym same) h.1.1)
 
@@ -72,18 +73,18 @@ module _ (words : List (List ℕ)) (given : Command) (bytes : List ℕ) (d : Con
     positive_or_negative k (Usage Class) right =
         absurd
         (no_usage given d Class serves
-        (served k (Usage Class)
+        (right_for_document k (Usage Class)
         (subst (λ (b : List ℕ). IsAnsweredFor words b k (Usage Class)) (same_bytes right.bytes right.left)
         right.answers)))
     positive_or_negative k (Usage Players) right =
         absurd
         (no_usage given d Players serves
-        (served k (Usage Players)
+        (right_for_document k (Usage Players)
         (subst (λ (b : List ℕ). IsAnsweredFor words b k (Usage Players)) (same_bytes right.bytes right.left)
         right.answers)))
     positive_or_negative k (Refused r) right =
         absurd
-        (none_refused r
+        (never_refused r
         (subst (λ (b : List ℕ). IsRefusedFor words b r) (same_bytes right.bytes right.left) right.answers.1))
     positive_or_negative k (Nucleolus family tree are_costs x c) right = inl refl
     positive_or_negative k (NoImputation singles total) right = inr refl
@@ -104,7 +105,7 @@ module _ (words : List (List ℕ)) (given : Command) (bytes : List ℕ) (d : Con
     positive_or_negative k (Summary s) right = inl refl
 
 -- the status of such an answer
-pub answered : {s t : Status} → s ≡ t → (t ≡ status.Done) ⊎ (t ≡ status.Negative)
+pub status_of_answered : {s t : Status} → s ≡ t → (t ≡ status.Done) ⊎ (t ≡ status.Negative)
     → (s ≡ status.Done) ⊎ (s ≡ status.Negative) ⊎ (s ≡ status.OutOfMemory)
-answered e (inl done) = inl (e ∙ done)
-answered e (inr negative) = inr (inl (e ∙ negative))
+status_of_answered e (inl done) = inl (e ∙ done)
+status_of_answered e (inr negative) = inr (inl (e ∙ negative))

@@ -61,12 +61,13 @@ pub small_numbers : (n : ℕ) (c : CollectionData) → HasSmallParts n c → Has
 small_numbers n c h = record { weights = small_weights c.weights h.weights; k = omega (arith, h.k) }
 
 -- what is found for a game that hasn't too many players is right for the document
-of_few : (d : Contents) → (game_of d.game).players ≤ core_limit d.game → (a : Answer) → FindsCore d a
+right_of_few : (d : Contents) → (game_of d.game).players ≤ core_limit d.game → (a : Answer) → FindsCore d a
     → SaysOfCore d a
-of_few d taken (Usage too_many) h = absurd h
-of_few d taken a h = (taken, h)
+right_of_few d taken (Usage too_many) h = absurd h
+right_of_few d taken a h = (taken, h)
 
-pub all_of_few : {E : Type 0} (d : Contents) → (game_of d.game).players ≤ core_limit d.game → (r : Result Answer E)
+pub right_where_ok : {E : Type 0} (d : Contents) → (game_of d.game).players ≤ core_limit d.game
+    → (r : Result Answer E)
     → IfOk r (FindsCore d) → IfOk r (SaysOfCore d)
-all_of_few d taken (Ok a) h = of_few d taken a h
-all_of_few d taken (Err e) h = tt
+right_where_ok d taken (Ok a) h = right_of_few d taken a h
+right_where_ok d taken (Err e) h = tt

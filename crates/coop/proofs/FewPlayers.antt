@@ -16,15 +16,13 @@ use Rattle.game_text.specs.Denominators.{tree_refusal}
 use Rattle.game_text.proofs.MatrixRows.{points_in, players_in}
 use Rattle.game_text.proofs.Passed.{passed_tests}
 use Rattle.game_text.specs.declared.command.Command.{Command}
-use Rattle.game_text.specs.Descriptions.{Description, table, cost_table, airport, bankruptcy, network, assignment}
-use Rattle.game_text.specs.Descriptions.{market, voting, game_of, description_as, description_of}
+use Rattle.game_text.specs.Descriptions.{game_of, description_as, description_of}
 use Rattle.game_text.specs.declared.class.Class.{Class}
 use Rattle.game_text.specs.declared.class.Class.TheVariants.{Table, CostTable, Airport, Bankruptcy, Tree}
 use Rattle.game_text.specs.declared.class.Class.TheVariants.{Assignment, Market, Voting}
 use Rattle.coop.specs.Classes.{is_no_market}
 use Rattle.coop.specs.Finding.{HasFewPlayers}
-use Rattle.coop.specs.Limits.{nucleolus_limit, core_limit}
-use Rattle.definitions.specs.declared.Measure.TheVariants.{Plain}
+use Rattle.coop.specs.Limits.{core_limit}
 
 few_if : (b c : Bool) (n : ℕ) → (c ≡ true → n ≤ 16) → unwrap_or (if b && c then Some n else None) 0 ≤ 16
 few_if true true n h = h refl
@@ -60,15 +58,3 @@ pub few_players : (command : Command) (document : Data) → tree_refusal command
 few_players command document passed served taken =
     few_as (scale_of (game_tree document)) (class_of (game_tree document)) (game_tree document) refl
     (passed_tests command document passed).players served taken
-
--- within the limit of plain excess there are few players
-pub few_within : (d : Description) → is_no_market d ≡ true → (game_of d).players ≤ nucleolus_limit Plain d
-    → HasFewPlayers d
-few_within (table n worths) k h = h
-few_within (cost_table n costs) k h = h
-few_within (airport costs) k h = tt
-few_within (bankruptcy estate claims) k h = tt
-few_within (network rows) k h = h
-few_within (assignment rows) k h = h
-few_within (market rows) k h = absurd (false≢true k)
-few_within (voting quota weights) k h = h

@@ -19,9 +19,10 @@ use Rattle.report.specs.Certificates.{excess_of}
 use Rattle.report.specs.Limits.{IsFine}
 
 -- a fraction in lowest terms of a value over a denominator has no greater one
-pub fine : (f : Fraction) (e d : ℤ) → IsReduced f → pos 1 ≤ℤ d → unsigned_abs d < 2 ^ 100 → e *ℤ f.den ≡ f.num *ℤ d
+pub reduced_is_fine : (f : Fraction) (e d : ℤ) → IsReduced f → pos 1 ≤ℤ d → unsigned_abs d < 2 ^ 100
+    → e *ℤ f.den ≡ f.num *ℤ d
     → IsFine f.den
-fine f e d r p small same =
+reduced_is_fine f e d r p small same =
     let ratio : IsRatio f e d = record { divisor = apart d p; reduced = r; same = sym same } in
     let some : 0 < unsigned_abs d = omega (arith, ints, p) in
     let le = le_of_dvd some (denominator_divides f e d ratio) in
@@ -29,41 +30,42 @@ fine f e d r p small same =
     (low, omega (arith, ints, low, le, small))
 
 -- likewise of a fraction over the denominator of shares
-pub fine_ratio : (f : Fraction) (n d : ℤ) → IsRatio f n d → pos 1 ≤ℤ d → d ≤ℤ pos (2 ^ 63) → IsFine f.den
-fine_ratio f n d r p h = fine f n d r.reduced p (omega (arith, ints, p, h)) (sym r.same)
+pub ratio_is_fine : (f : Fraction) (n d : ℤ) → IsRatio f n d → pos 1 ≤ℤ d → d ≤ℤ pos (2 ^ 63) → IsFine f.den
+ratio_is_fine f n d r p h = reduced_is_fine f n d r.reduced p (omega (arith, ints, p, h)) (sym r.same)
 
 -- the denominator of measured excesses
-pub den_positive : (measure : Measure) (q : ℤ) → pos 1 ≤ℤ q → pos 1 ≤ℤ measured_den measure q
-den_positive Plain q p = p
-den_positive PerHead q p = omega (arith, ints, p)
+pub measured_den_positive : (measure : Measure) (q : ℤ) → pos 1 ≤ℤ q → pos 1 ≤ℤ measured_den measure q
+measured_den_positive Plain q p = p
+measured_den_positive PerHead q p = omega (arith, ints, p)
 
-pub den_small : (measure : Measure) (q : ℤ) → pos 1 ≤ℤ q → q ≤ℤ pos (2 ^ 63)
+pub measured_den_small : (measure : Measure) (q : ℤ) → pos 1 ≤ℤ q → q ≤ℤ pos (2 ^ 63)
     → unsigned_abs (measured_den measure q) < 2 ^ 100
-den_small Plain q p h = omega (arith, ints, p, h)
-den_small PerHead q p h = omega (arith, ints, p, h)
+measured_den_small Plain q p h = omega (arith, ints, p, h)
+measured_den_small PerHead q p h = omega (arith, ints, p, h)
 
 -- a level has a coalition, whose excess it has
-first : (measure : Measure) (g : Game) (x : Allocation) (l : Level) (cs : List (ℕ × ℤ)) → 1 ≤ length cs
+some_coalition_has_it : (measure : Measure) (g : Game) (x : Allocation) (l : Level) (cs : List (ℕ × ℤ))
+    → 1 ≤ length cs
     → AllByRecursion (λ c. HasExcess measure g x l c.0) cs → (s : ℕ) × HasExcess measure g x l s
-first measure g x l [] some h = absurd (omega (arith, some))
-first measure g x l (c ∷ cs) some h = (c.0, h.0)
+some_coalition_has_it measure g x l [] some h = absurd (omega (arith, some))
+some_coalition_has_it measure g x l (c ∷ cs) some h = (c.0, h.0)
 
 module _ (mode : Mode) (family : Family) (measure : Measure) (g : Game) (x : Allocation) (n : ℕ)
     (p : pos 1 ≤ℤ x.den) (q : x.den ≤ℤ pos (2 ^ 63)) where
-  all_fine : (front levels : List Level) → LevelsForm n front levels
+  levels_are_fine : (front levels : List Level) → LevelsForm n front levels
       → LevelsHold mode family measure g x front levels → AllByRecursion IsLowest levels
       → AllByRecursion (λ l. IsFine l.excess_den) levels
-  all_fine front [] form holds low = tt
-  all_fine front (l ∷ levels) form holds low =
-      let one = first measure g x l l.coalitions form.0.some holds.0.excesses in (
-        fine (excess_of l) (measured_excess measure g x one.0) (measured_den measure x.den) low.0.0
-            (den_positive measure x.den p) (den_small measure x.den p q) one.1,
-        all_fine (front ++ l ∷ []) levels form.1 holds.1 low.1,
+  levels_are_fine front [] form holds low = tt
+  levels_are_fine front (l ∷ levels) form holds low =
+      let one = some_coalition_has_it measure g x l l.coalitions form.0.some holds.0.excesses in (
+        reduced_is_fine (excess_of l) (measured_excess measure g x one.0) (measured_den measure x.den) low.0.0
+            (measured_den_positive measure x.den p) (measured_den_small measure x.den p q) one.1,
+        levels_are_fine (front ++ l ∷ []) levels form.1 holds.1 low.1,
       )
 
 pub fine_levels : (mode : Mode) (family : Family) (measure : Measure) (g : Game) (x : Allocation)
     (c : CertificateData) → IsShares x → IsCertificate c → IsSolved mode family measure g x c
     → AllByRecursion (λ l. IsFine l.excess_den) c.levels
 fine_levels mode family measure g x c s h found =
-    all_fine mode family measure g x c.players s.positive s.common [] c.levels h.form.each found.certifies.1
+    levels_are_fine mode family measure g x c.players s.positive s.common [] c.levels h.form.each found.certifies.1
     found.lowest

@@ -10,17 +10,13 @@ use Rattle.coop.specs.declared.stop.Stop.TheVariants.{Memory}
 use Rattle.coop.specs.declared.words.Request.{Request}
 use Rattle.coop.specs.declared.words.Request.TheVariants.{Read, Generate}
 
--- words that ask for a game are those of a command
-pub asks_for_something : (words : List (List ℕ)) → IsNoCommand words → AsksForGame words → ⊥
-asks_for_something words none asks = none.makes asks.0 asks.1.0 asks.1.1.0 asks.1.1.1
-
--- where they ask for a game, what is answered is what is answered for a game
-pub made : (words : List (List ℕ)) (r : Request) (old new : Option (List ℕ)) (a : Result Reply Stop)
+-- where the words ask for a game, what is answered is what is answered for a game
+pub ends_as_made : (words : List (List ℕ)) (r : Request) (old new : Option (List ℕ)) (a : Result Reply Stop)
     → IsRequest words r → AsksForGame words → IsMadeFor r old new a
     → (new ≡ old) × MatchResult a (λ x. status_of x.answer ≡ status.Done) (λ e. e ≡ Memory)
-made words (Read command) old new a reads asks h =
+ends_as_made words (Read command) old new a reads asks h =
     absurd (omega (arith, ap (λ (l : List (List ℕ)). length l) (sym reads ∙ asks.1.1.1.said)))
-made words (Generate kind n seed) old new a makes asks h = h
+ends_as_made words (Generate kind n seed) old new a makes asks h = h
 
 -- words that ask for something are those of a command
 pub asks_for_nothing : (words : List (List ℕ)) (r : Request) → IsRequest words r → IsNoCommand words → ⊥

@@ -11,6 +11,6 @@ pub mod OneAnswer
 pub mod ReadLines
 pub mod Ended
 pub mod Requests
-pub mod GeneratedGames
+pub mod TwoPlayers
 pub mod GeneratorEnds
 pub mod Completed

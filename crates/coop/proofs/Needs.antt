@@ -15,13 +15,13 @@ use Rattle.coop.specs.Checks.{IsComplete}
 use Rattle.coop.specs.Needs.{IsAccepted, HasNeeded}
 
 -- the value that there is keeps to what is said of it
-kept : {T : Type 0} (P : T → Type 0) (o : Option T) (t : T) → o ≡ Some t → IfSome o P → P t
-kept P o t e h = subst (λ o. IfSome o P) e h
+holds_of_some : {T : Type 0} (P : T → Type 0) (o : Option T) (t : T) → o ≡ Some t → IfSome o P → P t
+holds_of_some P o t e h = subst (λ o. IfSome o P) e h
 
 module _ (bytes : List ℕ) (d : Contents) where
   has_shares : (x : Allocation) → d.shares ≡ Some x
       → IfSome d.shares (λ (x : Allocation). length x.shares ≡ (game_of d.game).players) → HasShares d
-  has_shares x given fit = (x, given, kept _ _ _ given fit)
+  has_shares x given fit = (x, given, holds_of_some _ _ _ given fit)
 
   is_complete : IsDocument command.Check bytes d
       → IfSome d.shares (λ (x : Allocation). length x.shares ≡ (game_of d.game).players)
@@ -36,8 +36,8 @@ module _ (bytes : List ℕ) (d : Contents) where
         shares = _;
         certificate = _;
         evidence = record { family = family; shares = shares; certificate = certificate };
-        share_each = kept _ _ _ shares fit;
-        players = kept _ _ _ certificate certified;
+        share_each = holds_of_some _ _ _ shares fit;
+        players = holds_of_some _ _ _ certificate certified;
       }
 
   -- no test refused the document, and what was read can be printed again

@@ -40,26 +40,26 @@ only_check : (given : Command) → word_of command.Check ∷ [] ≡ word_of give
 only_check given e = sym (one_command command.Check given e)
 
 module _ (given : Command) (bytes : List ℕ) (d : Contents) (document : IsDocument given bytes d) where
-  this : IsReadAs given bytes d
-  this = document_as given bytes d document
+  as_read : IsReadAs given bytes d
+  as_read = document_as given bytes d document
 
-  same_tree : (tree : Data) → IsTextOf bytes tree → this.tree ≡ tree
-  same_tree tree text = same_Some this.tree tree (sym this.text.1 ∙ text.1)
+  one_tree : (tree : Data) → IsTextOf bytes tree → as_read.tree ≡ tree
+  one_tree tree text = same_Some as_read.tree tree (sym as_read.text.1 ∙ text.1)
 
   pub same_document : (e : Contents) → IsDocument given bytes e → d ≡ e
   same_document e document =
       let other = document_as given bytes e document in
-      this.says ∙ ap (contents_of given) (same_tree other.tree other.text) ∙ sym other.says
+      as_read.says ∙ ap (contents_of given) (one_tree other.tree other.text) ∙ sym other.says
 
-  not_refused_so : (r : Refusal) → IsTreeRefused given bytes r → ⊥
-  not_refused_so r h =
+  tree_not_refused : (r : Refusal) → IsTreeRefused given bytes r → ⊥
+  tree_not_refused r h =
       let other = refused_as given bytes r h in
-      none-some r (sym this.passed ∙ ap (tree_refusal given) (same_tree other.tree other.text) ∙ other.refused)
+      none-some r (sym as_read.passed ∙ ap (tree_refusal given) (one_tree other.tree other.text) ∙ other.refused)
 
   pub not_refused : (r : Refusal) → IsRefused given bytes r → ⊥
   not_refused refusal.TooLong long = omega (arith, document.0, long)
-  not_refused refusal.NotJson refused = none-some this.tree (sym (refused.1 this.text.0) ∙ this.text.1)
-  not_refused r refused = not_refused_so r refused
+  not_refused refusal.NotJson refused = none-some as_read.tree (sym (refused.1 as_read.text.0) ∙ as_read.text.1)
+  not_refused r refused = tree_not_refused r refused
 
 -- ---- one verdict
 
@@ -95,11 +95,11 @@ one_word : (word : List ℕ) (first : List ℕ) {second : List ℕ} {words : Lis
 one_word word first e = absurd (omega (arith, ap (λ (l : List (List ℕ)). length l) e))
 
 -- the class is served
-only_said : (d : Contents) → serves_class command.Check d.game ≡ true
+only_answer : (d : Contents) → serves_class command.Check d.game ≡ true
     → ((answer : Answer) → Checks d answer → answer ≡ Verdict Yes) → (answer : Answer)
     → AnswersTo command.Check d answer → answer ≡ Verdict Yes
-only_said d served only (Usage Class) h = absurd (true≢false (sym served ∙ h))
-only_said d served only answer h = only answer h.1
+only_answer d served only (Usage Class) h = absurd (true≢false (sym served ∙ h))
+only_answer d served only answer h = only answer h.1
 
 module _ (bytes : List ℕ) (d : Contents) (document : IsDocument command.Check bytes d)
     (served : serves_class command.Check d.game ≡ true)
@@ -110,7 +110,7 @@ module _ (bytes : List ℕ) (d : Contents) (document : IsDocument command.Check 
       let here : IsDocument command.Check bytes h.1.1.0 × AnswersTo command.Check h.1.1.0 answer =
       subst (λ (k : Command). IsDocument k bytes h.1.1.0 × AnswersTo k h.1.1.0 answer) (only_check h.0 h.1.0)
       (h.1.1.1.0, h.1.1.1.3) in
-      only_said d served only answer
+      only_answer d served only answer
       (subst (λ (e : Contents). AnswersTo command.Check e answer)
       (sym (same_document command.Check bytes d document h.1.1.0 here.0)) here.1)
 

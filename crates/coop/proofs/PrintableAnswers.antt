@@ -20,7 +20,7 @@ use Rattle.kernel_test.specs.declared.KernelAnswer.TheVariants.{Balanced, Differ
 use Rattle.report.specs.Limits.{IsFine, IsFineVerdict}
 use Rattle.worth_core.specs.Measured.{IsValueOf}
 use Rattle.coop.specs.Checks.{HasLowestExcess}
-use Rattle.coop.proofs.FineLevels.{fine, fine_ratio, den_positive, den_small}
+use Rattle.coop.proofs.FineLevels.{reduced_is_fine, ratio_is_fine, measured_den_positive, measured_den_small}
 
 -- two players that aren't balanced are no balance
 abbrev IsDiffers : KernelAnswer → Type 0
@@ -33,13 +33,14 @@ differs_not_balanced i j ij ji e = subst IsDiffers e tt
 -- the surplus of a player against another
 pub surplus_fine : (g : Game) (x : Allocation) (i j : ℕ) (f : Fraction) → pos 1 ≤ℤ x.den → x.den ≤ℤ pos (2 ^ 63)
     → IsSurplusFraction g x i j f → IsFine f.den
-surplus_fine g x i j f p q h = fine_ratio f h.0 x.den h.2 p q
+surplus_fine g x i j f p q h = ratio_is_fine f h.0 x.den h.2 p q
 
 -- the value of a measured excess, in lowest terms
 pub value_fine : (measure : Measure) (x : Allocation) (m : ℤ) (f : Fraction) → IsReduced f → pos 1 ≤ℤ x.den
     → x.den ≤ℤ pos (2 ^ 63) → IsValueOf measure x m f → IsFine f.den
 value_fine measure x m f r p q h =
-    fine f m (measured_den measure x.den) r (den_positive measure x.den p) (den_small measure x.den p q) (sym h)
+    reduced_is_fine f m (measured_den measure x.den) r (measured_den_positive measure x.den p)
+    (measured_den_small measure x.den p q) (sym h)
 
 -- the excess of a verdict
 pub verdict_fine : (mode : Mode) (family : Family) (measure : Measure) (g : Game) (x : Allocation)

@@ -1,19 +1,19 @@
 -- What words ask for: the parts of a generated game are told from its words, and other words are those of no command.
-use Rattle.std.proofs.Common.{◌≡◌, ◌≢◌, ◌^◌, ◌<◌, ℕ, zero, suc, pos, List, [], ◌∷◌, length, codes, nat_eq}
-use Rattle.std.proofs.Common.{slice_index, if◌then◌else◌, ℤ, None, Some, refl, sym, ap, ap₂, ◌∙◌, subst, arith}
+use Rattle.std.proofs.Common.{◌≡◌, ◌≢◌, ◌^◌, ◌<◌, ℕ, zero, suc, pos, List, [], ◌∷◌, length, nat_eq}
+use Rattle.std.proofs.Common.{slice_index, if◌then◌else◌, unsigned_abs, None, Some, refl, sym, ap, ◌∙◌, subst, arith}
 use Rattle.std.proofs.lemmas.Int.{ints}
 use Rattle.std.proofs.lemmas.Option.{none-some, same_Some}
 use Rattle.fractions.specs.Fraction.{Fraction}
-use Rattle.fractions.specs.FractionTexts.{parsed, fraction_text}
+use Rattle.fractions.specs.FractionTexts.{parsed}
 use Rattle.fractions.proofs.Divisors.{gcd_of_one}
-use Rattle.fractions.proofs.WrittenFractions.{read_back, read_text_is_written}
+use Rattle.fractions.proofs.WrittenFractions.{read_back}
 use Rattle.game_text.specs.declared.command.Command.{Command}
 use Rattle.game_text.specs.declared.command.Command.TheVariants as command
 use Rattle.kinds.specs.declared.kind.Kind.{Kind}
 use Rattle.kinds.specs.declared.kind.Kind.TheVariants.{Table, Airport, Bankruptcy, Tree, Assignment}
 use Rattle.coop_gen.specs.Generated.{HasKindSize}
 use Rattle.report.specs.Words.{kind_word}
-use Rattle.coop.specs.Words.{word_of, number_text, IsGeneration, IsNoCommand, IsRequest, IsFit}
+use Rattle.coop.specs.Words.{word_of, number_text, IsNoCommand, IsRequest, IsFit}
 use Rattle.coop.specs.declared.words.Request.{Request}
 use Rattle.coop.specs.declared.words.Request.TheVariants.{Read, Generate}
 
@@ -83,18 +83,15 @@ one_kind k l e = sym (kind_read k) ∙ ap kind_in e ∙ kind_read l
 abbrev whole : ℕ → Fraction
 whole n = record { num = pos n; den = pos 1 }
 
-pub number_read : (n : ℕ) → n < 2 ^ 32 → parsed (number_text n) ≡ Some (record { num = pos n; den = pos 1 })
+pub number_read : (n : ℕ) → n < 2 ^ 32 → parsed (number_text n) ≡ Some (whole n)
 number_read n h =
-    read_back (record { num = pos n; den = pos 1 }) (record { positive = omega arith; lowest = gcd_of_one n })
+    read_back (whole n) (record { positive = omega arith; lowest = gcd_of_one n })
     (omega (arith, ints, h), omega arith)
-
-same_pos : (m n : ℕ) → pos m ≡ pos n → m ≡ n
-same_pos m n e = cc
 
 pub one_number : (m n : ℕ) → m < 2 ^ 32 → n < 2 ^ 32 → number_text m ≡ number_text n → m ≡ n
 one_number m n h k e =
-    same_pos m n
-    (ap (λ (f : Fraction). f.num) (same_Some _ _ (sym (number_read m h) ∙ ap parsed e ∙ number_read n k)))
+    ap (λ (f : Fraction). unsigned_abs f.num)
+    (same_Some _ _ (sym (number_read m h) ∙ ap parsed e ∙ number_read n k))
 
 -- a word that is no fraction's is no number's
 pub no_number : (word : List ℕ) → None ≡ parsed word → (n : ℕ) → n < 2 ^ 32 → number_text n ≢ word
@@ -102,14 +99,8 @@ no_number word none n h e = none-some _ (none ∙ sym (ap parsed e) ∙ number_r
 
 -- a number's word is read as that number
 pub read_as_whole : (word : List ℕ) (f : Fraction) → Some f ≡ parsed word → (n : ℕ) → n < 2 ^ 32
-    → number_text n ≡ word → f ≡ record { num = pos n; den = pos 1 }
+    → number_text n ≡ word → f ≡ whole n
 read_as_whole word f read n h e = same_Some _ _ (read ∙ sym (ap parsed e) ∙ number_read n h)
-
--- a word that is read as a whole number is that number's
-pub is_number_text : (word : List ℕ) (f : Fraction) → Some f ≡ parsed word → (n : ℕ) → f.num ≡ pos n → f.den ≡ pos 1
-    → word ≡ number_text n
-is_number_text word f read n num den =
-    sym (read_text_is_written word f read) ∙ ap₂ (λ (a b : ℤ). fraction_text (record { num = a; den = b })) num den
 
 -- ---- other words
 
@@ -123,50 +114,16 @@ few_fit Assignment n h = omega (arith, h.1)
 seed_fits : (seed : ℕ) → seed < 2 ^ 31 → seed < 2 ^ 32
 seed_fits seed h = omega (arith, h)
 
--- one word that isn't that of a command
-pub one_word_is_none : (word : List ℕ) → ((command : Command) → word_of command ≢ word) → IsNoCommand (word ∷ [])
-one_word_is_none word h = record {
-  reads = λ command e. h command (sym (ap (word_at 0) e));
-  makes = λ kind n seed g. absurd (omega (arith, ap (λ (l : List (List ℕ)). length l) g.said));
-}
-
--- neither one word nor four
-pub other_count_is_none : (words : List (List ℕ)) → length words ≢ 1 → length words ≢ 4 → IsNoCommand words
-other_count_is_none words one four = record {
-  reads = λ command e. one (ap (λ (l : List (List ℕ)). length l) e);
-  makes = λ kind n seed g. four (ap (λ (l : List (List ℕ)). length l) g.said);
-}
-
 module _ (first second third fourth : List ℕ) where
-  not_one : (command : Command) → ¬ (first ∷ second ∷ third ∷ fourth ∷ [] ≡ word_of command ∷ [])
-  not_one command e = absurd (omega (arith, ap (λ (l : List (List ℕ)). length l) e))
-
-  -- four words of which the first isn't `gen`
-  pub first_is_none : first ≢ codes "gen" → IsNoCommand (first ∷ second ∷ third ∷ fourth ∷ [])
-  first_is_none h = record { reads = not_one; makes = λ kind n seed g. h (ap (word_at 0) g.said) }
-
-  -- the second is that of no kind
-  pub kind_is_none : ((kind : Kind) → kind_word kind ≢ second) → IsNoCommand (first ∷ second ∷ third ∷ fourth ∷ [])
-  kind_is_none h = record { reads = not_one; makes = λ kind n seed g. h kind (sym (ap (word_at 1) g.said)) }
-
-  -- the third is no number
-  pub players_is_none : ((n : ℕ) → n < 2 ^ 32 → number_text n ≢ third)
-      → IsNoCommand (first ∷ second ∷ third ∷ fourth ∷ [])
-  players_is_none h =
-      record { reads = not_one; makes = λ kind n seed g. h n (few_fit kind n g.size) (sym (ap (word_at 2) g.said)) }
-
-  -- the fourth is no number
-  pub seed_is_none : ((n : ℕ) → n < 2 ^ 32 → number_text n ≢ fourth)
-      → IsNoCommand (first ∷ second ∷ third ∷ fourth ∷ [])
-  seed_is_none h = record
-      { reads = not_one; makes = λ kind n seed g. h seed (seed_fits seed g.small) (sym (ap (word_at 3) g.said)) }
+  four_are_not_one : (command : Command) → ¬ (first ∷ second ∷ third ∷ fourth ∷ [] ≡ word_of command ∷ [])
+  four_are_not_one command e = absurd (omega (arith, ap (λ (l : List (List ℕ)). length l) e))
 
   -- the kind has no games of so many players, or the seed is too great
   pub size_is_none : (kind : Kind) (n seed : ℕ) → second ≡ kind_word kind → third ≡ number_text n
       → fourth ≡ number_text seed → n < 2 ^ 32 → seed < 2 ^ 32 → ¬ (HasKindSize kind n × (seed < 2 ^ 31))
       → IsNoCommand (first ∷ second ∷ third ∷ fourth ∷ [])
   size_is_none kind n seed second_is third_is fourth_is small few misfit = record {
-    reads = not_one;
+    reads = four_are_not_one;
     makes = λ kind' n' seed' g.
         let kinds : kind' ≡ kind = one_kind kind' kind (sym (ap (word_at 1) g.said) ∙ second_is) in
         let numbers : n' ≡ n =
@@ -178,13 +135,6 @@ module _ (first second third fourth : List ℕ) where
           subst (λ (m : ℕ). m < 2 ^ 31) seeds g.small,
         );
   }
-
-  -- and where all fit, they are the words of a generated game
-  pub generation_is : (kind : Kind) (n seed : ℕ) → first ≡ codes "gen" → second ≡ kind_word kind
-      → third ≡ number_text n → fourth ≡ number_text seed → HasKindSize kind n → seed < 2 ^ 31
-      → IsGeneration (first ∷ second ∷ third ∷ fourth ∷ []) kind n seed
-  generation_is kind n seed first_is second_is third_is fourth_is size small =
-      record { said = cc; size = size; small = small }
 
 -- what words ask for can be answered
 pub is_fit : (words : List (List ℕ)) (r : Request) → IsRequest words r → IsFit r

@@ -76,15 +76,16 @@ no_class command.Core d h = h.1
 no_class given d h = h
 
 -- what is right for a document of a class that is served is right for the document
-pub of_class : (given : Command) (d : Contents) → serves_class given d.game ≡ true → (a : Answer) → Says given d a
+pub right_of_served : (given : Command) (d : Contents) → serves_class given d.game ≡ true → (a : Answer)
+    → Says given d a
     → AnswersTo given d a
-of_class given d served (Usage Class) h = absurd (no_class given d h)
-of_class given d served a h = (served, h)
+right_of_served given d served (Usage Class) h = absurd (no_class given d h)
+right_of_served given d served a h = (served, h)
 
-pub all_of_class : {E : Type 0} (given : Command) (d : Contents) → serves_class given d.game ≡ true
+pub right_where_served : {E : Type 0} (given : Command) (d : Contents) → serves_class given d.game ≡ true
     → (r : Result Answer E) → IfOk r (Says given d) → IfOk r (AnswersTo given d)
-all_of_class given d served (Ok a) h = of_class given d served a h
-all_of_class given d served (Err e) h = tt
+right_where_served given d served (Ok a) h = right_of_served given d served a h
+right_where_served given d served (Err e) h = tt
 
 -- no document is answered with the usage of words
 no_usage : (given : Command) (d : Contents) → AnswersTo given d (Usage Words) → ⊥
@@ -110,20 +111,21 @@ no_refusal given d r h = h.1
 module _ (given : Command) (old new : Option (List ℕ)) (input : List ℕ) (p : Consumes old new input)
     (end : length input ≤ document_limit given → IsAtEnd new) (d : Contents) (document : IsDocument given input d)
   where
-    left : IsLeft old input
-    left = IsLeft-all old new input p (end document.0)
+    all_was_left : IsLeft old input
+    all_was_left = IsLeft-all old new input p (end document.0)
 
-    read : ReadsAll old new
-    read = ((input, p), end document.0)
+    all_was_read : ReadsAll old new
+    all_was_read = ((input, p), end document.0)
 
-    served : (a : Answer) → AnswersTo given d a → IsAnsweredFor (word_of given ∷ []) input d.scale a
-    served a right = (given, (refl, (d, (document, document_of_class given input d document, refl, right))))
+    answered_for : (a : Answer) → AnswersTo given d a → IsAnsweredFor (word_of given ∷ []) input d.scale a
+    answered_for a right = (given, (refl, (d, (document, document_of_class given input d document, refl, right))))
 
     pub right_answer : (a : Answer) → AnswersTo given d a → IsRight (word_of given ∷ []) old new d.scale a
     right_answer (Usage Words) right = absurd (no_usage given d right)
     right_answer (Refused r) right = absurd (no_refusal given d r right)
     right_answer (Summary s) right = absurd (no_summary given d s right)
-    right_answer a right = record { bytes = input; left = left; answers = served a right; reads = read }
+    right_answer a right =
+        record { bytes = input; left = all_was_left; answers = answered_for a right; reads = all_was_read }
 
 -- ---- other words
 

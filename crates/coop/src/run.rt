@@ -10,7 +10,7 @@ ghost use Rattle.coop.specs.Needs.{HasNeeded};
 ghost use Rattle.coop.specs.GeneratorRuns.{AsksForGame, EndsMade, IsMadeFor};
 ghost use Rattle.coop.specs.Completeness.{IsComplete};
 ghost use Rattle.coop.specs.Outcome.{IsRight, Ends, IsCauseOf};
-ghost use Rattle.coop.specs.ReadBack.{CanBeRead, IsNoNucleolus};
+ghost use Rattle.coop.specs.ReadBack.{CanBeRead};
 ghost use Rattle.coop.specs.Stops.{IsFaultOf};
 ghost use Rattle.coop.specs.Words.{word_of, IsFit, IsRequest, IsNoCommand};
 
@@ -70,7 +70,7 @@ pub fn run<S: Source, K: Sink>(
             Err(_) => Status::WriteFault,
         };
     };
-    let reply = match reply_to(alloc, request, source) {
+    let reply = match reply_to_request(alloc, request, source) {
         Ok(reply) => reply,
         Err(Stop::Fault) => return Status::ReadFault,
         Err(Stop::Memory) => return Status::OutOfMemory,
@@ -86,7 +86,11 @@ pub fn run<S: Source, K: Sink>(
 }
 
 // The answer to what the words ask for, with its scale.
-fn reply_to<S: Source>(alloc: Global, request: Request, source: &mut S) -> Result<Reply, Stop>
+fn reply_to_request<S: Source>(
+    alloc: Global,
+    request: Request,
+    source: &mut S,
+) -> Result<Reply, Stop>
     requires { IsFit request }
     ensures right { IfOk result (λ r. (words : List (List ℕ)) → IsRequest words request
         → IsRight words (S.left source.old) (S.left source.new) r.scale r.answer) }
@@ -97,7 +101,7 @@ fn reply_to<S: Source>(alloc: Global, request: Request, source: &mut S) -> Resul
     ensures made { IsMadeFor request (S.left source.old) (S.left source.new) result }
 {
     match request {
-        Request::Read(command) => answer_on(alloc, command, source),
+        Request::Read(command) => reply_to_input(alloc, command, source),
         Request::Generate {
             kind,
             players,
@@ -113,7 +117,7 @@ fn reply_to<S: Source>(alloc: Global, request: Request, source: &mut S) -> Resul
 }
 
 // The answer to the command on the input of the source, with its scale.
-fn answer_on<S: Source>(alloc: Global, command: Command, source: &mut S) -> Result<Reply, Stop>
+fn reply_to_input<S: Source>(alloc: Global, command: Command, source: &mut S) -> Result<Reply, Stop>
     ensures right { IfOk result
         (λ r. IsRight (word_of command ∷ []) (S.left source.old) (S.left source.new) r.scale r.answer) }
     ensures scale { IfOk result (λ r. IsScale r.scale) }
@@ -133,14 +137,14 @@ fn answer_on<S: Source>(alloc: Global, command: Command, source: &mut S) -> Resu
         Err(TextFault::Memory) => return Err(Stop::Memory),
     };
     let scale = document.scale;
-    let Ok(answer) = answer_to(alloc, command, &mut document) else {
+    let Ok(answer) = answer_to_document(alloc, command, &mut document) else {
         return Err(Stop::Memory);
     };
     Ok(Reply { answer, scale })
 }
 
 // The answer to the command on its document.
-fn answer_to(
+fn answer_to_document(
     alloc: Global,
     command: Command,
     document: &mut Document,
@@ -153,12 +157,17 @@ fn answer_to(
     if !serves_class(command, &document.game) {
         return Ok(Answer::Usage(UsageKind::Class));
     }
-    said_to(alloc, command, document)
+    answer_where_served(alloc, command, document)
 }
 
-// The answer to the command on its document, whose class it serves. A nucleolus takes the document's tree over.
-#[tactic(auto, using(crate::proofs::ReadLines::readable_where_ok))]
-fn said_to(alloc: Global, command: Command, document: &mut Document) -> Result<Answer, OutOfMemory>
+// The answer to the command on its document, whose class it serves. A nucleolus takes the document's tree over. Each
+// other command is a call that isn't inlined, so that a run takes the stack of its own command alone.
+#[tactic(auto, using(crate::proofs::ReadLines::readable_anyway, crate::proofs::ReadLines::readable_where_ok))]
+fn answer_where_served(
+    alloc: Global,
+    command: Command,
+    document: &mut Document,
+) -> Result<Answer, OutOfMemory>
     requires needed { HasNeeded command (contents_in document.old) }
     requires class { serves_class command (description_in document.old.game) ≡ true }
     ensures says { IfOk result (Says command (contents_in document.old)) }
@@ -168,23 +177,6 @@ fn said_to(alloc: Global, command: Command, document: &mut Document) -> Result<A
     match command {
         Command::Nucleolus => solve_document(alloc, document, Family::Imputations),
         Command::Prenucleolus => solve_document(alloc, document, Family::Preimputations),
-        _ => said_of(alloc, command, document),
-    }
-}
-
-// The answer to a command that leaves the document as it is. Each command is a call that isn't inlined, so that a run
-// takes the stack of its own command alone.
-fn said_of(alloc: Global, command: Command, document: &Document) -> Result<Answer, OutOfMemory>
-    requires needed { HasNeeded command (contents_in document.now) }
-    requires class { serves_class command (description_in document.now.game) ≡ true }
-    requires imputations { ¬ (command ≡ Command.Nucleolus) }
-    requires preimputations { ¬ (command ≡ Command.Prenucleolus) }
-    ensures says { IfOk result (Says command (contents_in document.now)) }
-    ensures printable { IfOk result IsPrintable }
-    ensures readable { IfOk result IsNoNucleolus }
-{
-    match command {
-        Command::Nucleolus | Command::Prenucleolus => unreachable!(),
         Command::Propose => Ok(judge_document(document)),
         Command::Core => core_document(alloc, document),
         Command::Check => check_document(alloc, document),

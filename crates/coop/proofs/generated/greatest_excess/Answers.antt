@@ -1,7 +1,7 @@
 use Rattle.std.proofs.Common.{◌≤◌, ◌^◌, ℕ, ℤ, pos, ◌≤ℤ◌, sym, ap, subst, ◌∙◌}
 use Rattle.definitions.specs.Coalitions.{grand_coalition}
 use Rattle.definitions.specs.Games.{HasTwo}
-use Rattle.coop.proofs.GeneratedGames.{all_have_two, more_than_one}
+use Rattle.coop.proofs.TwoPlayers.{all_have_two, more_than_one}
 use Rattle.definitions.specs.declared.Measure.TheVariants.{Plain}
 use Rattle.coop.proofs.PrintableAnswers.{value_fine}
 use Rattle.coop.proofs.generated.greatest_excess.Goals as goal

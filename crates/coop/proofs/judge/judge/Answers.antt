@@ -7,7 +7,7 @@ use Rattle.definitions.specs.Games.{amount, InCore}
 use Rattle.real_shares.proofs.ForReals.{core_point_for_reals}
 use Rattle.fractions.specs.Fraction.{IsRatio}
 use Rattle.coop.specs.Judgement.{printed}
-use Rattle.coop.proofs.FineLevels.{fine_ratio}
+use Rattle.coop.proofs.FineLevels.{ratio_is_fine}
 use Rattle.coop.proofs.judge.judge.Goals as goal
 use Rattle.definitions.proofs.Casts.{cast_kept}
 
@@ -61,7 +61,7 @@ returns-then-sum-scaled-clause-printable g c =
     let ratio : IsRatio c.over.result _ c.den-then-sum-scaled.result = rw den_kept at c.over.ensures in
     record {
       fine =
-          fine_ratio c.over.result _ c.den-then-sum-scaled.result ratio c.den-then-sum-scaled.ensures.positive
+          ratio_is_fine c.over.result _ c.den-then-sum-scaled.result ratio c.den-then-sum-scaled.ensures.positive
           c.den-then-sum-scaled.ensures.common;
       form = tt;
     }
@@ -74,7 +74,7 @@ returns-in-Some-clause-printable g c =
     let ratio : IsRatio c.over-in-Some.result _ c.den-in-Some.result = rw den_kept at c.over-in-Some.ensures in
     record {
       fine =
-          fine_ratio c.over-in-Some.result _ c.den-in-Some.result ratio c.den-in-Some.ensures.positive
+          ratio_is_fine c.over-in-Some.result _ c.den-in-Some.result ratio c.den-in-Some.ensures.positive
           c.den-in-Some.ensures.common;
       form = tt;
     }

@@ -4,7 +4,7 @@ use Rattle.coop.specs.Outcome.{IsRight}
 use Rattle.coop.specs.Words.{word_of}
 use Rattle.coop.proofs.Right.{right_refusal, right_answer}
 use Rattle.coop.proofs.Needs.{has_needed}
-use Rattle.coop.proofs.run.answer_on.Goals as goal
+use Rattle.coop.proofs.run.reply_to_input.Goals as goal
 
 pub returns-in-Err-Refused-clause-right : goal.returns-in-Err-Refused-clause-right
 returns-in-Err-Refused-clause-right g c =
@@ -17,8 +17,8 @@ returns-in-Err-Refused-clause-right g c =
     c.in-Err-Refused.refusal refused in
     rw c.in-Err-Refused.refusal-is right
 
-pub answer_to-requires : goal.answer_to-requires
-answer_to-requires g c =
+pub answer_to_document-requires : goal.answer_to_document-requires
+answer_to_document-requires g c =
     let e = rw c.deref.ensures.value at c.in-Ok.ensures in
     has_needed c.in_ok-input.input.items (contents_in c.in-Ok.document) c.args.command e.reading e.count e.players
     e.kept
@@ -31,7 +31,8 @@ returns-clause-right g c =
     let right =
     right_answer c.args.command _ _ input.items c.in_ok-input.ensures.bytes
     (λ h. c.in_ok-input.ensures.end (omega (arith, input.ok.0, c.document_limit.ensures.value)))
-    (contents_in c.in-Ok.document) e.reading c.in-Ok-answer_to.answer c.in-Ok-answer_to.ensures.right in
+    (contents_in c.in-Ok.document) e.reading c.in-Ok-answer_to_document.answer
+    c.in-Ok-answer_to_document.ensures.right in
     subst
     (λ (k : ℤ). IsRight (word_of c.args.command ∷ []) (g.S.Source.left c.args.source.now)
-    (g.S.Source.left c.read_input.new.source) k c.in-Ok-answer_to.answer) (sym kept) right
+    (g.S.Source.left c.read_input.new.source) k c.in-Ok-answer_to_document.answer) (sym kept) right
