@@ -2,4 +2,3 @@ pub mod Bits
 pub mod Count
 pub mod Masks
 pub mod GrayOrder
-pub mod LastPlayer

@@ -10,7 +10,7 @@ use Rattle.definitions.proofs.Casts.{cast_kept}
 use Rattle.voting.specs.declared.candidate.Candidate.{Candidate}
 use Rattle.voting.specs.declared.layer.Layer.{Layer}
 use Rattle.voting.specs.Candidates.{is_behind, better, joined, raised, at_weight, best_below, IsSmallCandidate}
-use Rattle.coalitions.proofs.LastPlayer.{next_pow}
+use Rattle.definitions.proofs.Masks.{masks-double}
 use mir.Syntax.{w128}
 
 -- ---- the sum
@@ -32,14 +32,14 @@ joined_value c i number z r e f = rw (e, f) refl
 pub joined_small : (i a r : ℕ) (z m k : ℤ) → r ≡ a + 2 ^ i → z ≡ m +ℤ k → a < 2 ^ i → unsigned_abs m ≤ i * 2 ^ 110
     → unsigned_abs k < 2 ^ 110 → (r < 2 ^ (i + 1)) × (unsigned_abs z ≤ (i + 1) * 2 ^ 110)
 joined_small i a r z m k e f low small number =
-    rw (e, f) (let p = next_pow i in (omega arith, sum_small m k i small number))
+    rw (e, f) (let p = masks-double i in (omega arith, sum_small m k i small number))
 
 -- ---- layers
 
 pub small_more : (i : ℕ) (x : Option Candidate) → IfSome x (IsSmallCandidate i)
     → IfSome x (IsSmallCandidate (i + 1))
 small_more i None h = tt
-small_more i (Some c) h = let p = next_pow i in (omega (arith, h.0), omega (arith, h.1))
+small_more i (Some c) h = let p = masks-double i in (omega (arith, h.0), omega (arith, h.1))
 
 pub small_better : (i : ℕ) (x y : Option Candidate) → IfSome x (IsSmallCandidate i) → IfSome y (IsSmallCandidate i)
     → IfSome (better x y) (IsSmallCandidate i)

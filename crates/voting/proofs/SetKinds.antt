@@ -7,7 +7,7 @@ use Rattle.definitions.proofs.Splits.{some_below-same}
 use Rattle.definitions.proofs.Halves.{has_player-last}
 use Rattle.definitions.proofs.Parts.{has_player-more_same, has_player-more_other, sum_over-more}
 use Rattle.definitions.specs.Coalitions.{has_player, sum_over}
-use Rattle.coalitions.proofs.LastPlayer.{low_or_high, next_pow}
+use Rattle.definitions.proofs.Masks.{low_or_high, masks-double}
 use Rattle.voting.specs.SetKinds.{passes, holds_one_of, lacks_one_of, IsOfKind}
 
 -- ---- what a set holds and lacks
@@ -70,7 +70,7 @@ needed-less = elim [
 pub IsOfKind-without : (h l : Bool) (f i s : ℕ) → IsOfKind h (l && not (has_player f i)) f i s
     → IsOfKind h l f (i + 1) s
 IsOfKind-without h l f i s k =
-    let p = next_pow i in (
+    let p = masks-double i in (
       omega (arith, k.0),
       ap (passes h) (holds-without f i s k.0) ∙ k.1,
       ap (passes l) (lacks-without f i s k.0) ∙ needed-less l (has_player f i) (lacks_one_of f i s) ∙ k.2,
@@ -79,7 +79,7 @@ IsOfKind-without h l f i s k =
 pub IsOfKind-with : (h l : Bool) (f i s : ℕ) → IsOfKind (h && not (has_player f i)) l f i s
     → IsOfKind h l f (i + 1) (s + 2 ^ i)
 IsOfKind-with h l f i s k =
-    let p = next_pow i in (
+    let p = masks-double i in (
       omega (arith, k.0),
       ap (passes h) (holds-with f i s k.0) ∙ needed-less h (has_player f i) (holds_one_of f i s) ∙ k.1,
       ap (passes l) (lacks-with f i s k.0) ∙ k.2,
