@@ -23,7 +23,6 @@ pub record Airport : Type 0 where
 abbrev pub airport : List ℕ → List ℕ → Airport
 airport costs order = record { costs = costs; order = order }
 
--- 1 to 64 costs below 2 ^ 40, and the players in order
 abbrev pub IsAirport : Airport → Type 0
 IsAirport a = IsOrdered (ordered_numbers a.costs a.order)
 

@@ -16,11 +16,9 @@ use Rattle.definitions.specs.Games.{Allocation, share}
 use Rattle.orders.specs.Orders.{IsOrder}
 use Rattle.airport.specs.Airport.{Airport, place}
 
--- the cost at place k
 abbrev pub cost_at : Airport → ℕ → ℕ
 cost_at a k = slice_index a.costs (place a k)
 
--- the payment at place k
 abbrev pub pay_at : List ℤ → ℕ → ℤ
 pay_at pay k = slice_index_or pay k (pos 0)
 
@@ -35,7 +33,6 @@ pub record IsScheme (n : ℕ) (c : ℕ → ℕ) (pay : ℕ → ℤ) (den : ℤ) 
   pub tight : (k : ℕ) → suc k < n → pay k <ℤ pay (suc k) → sum_below (suc k) pay +ℤ pay k ≡ den *ℤ pos (c k)
   pub all : (k : ℕ) → suc k ≡ n → sum_below n pay ≡ den *ℤ pos (c k)
 
--- shares that give each player minus the payment of its place
 pub record IsPaid (costs : List ℕ) (at : ℕ → ℕ) (pay : ℕ → ℤ) (x : Allocation) : Type 0 where
   pub order : IsOrder (length costs) (slice_index costs) at
   pub players : length x.shares ≡ length costs

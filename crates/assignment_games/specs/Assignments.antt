@@ -19,15 +19,12 @@ use Rattle.assignment_games.specs.declared.assignment_game.AssignmentFault.{Assi
 use Rattle.assignment_games.specs.declared.assignment_game.AssignmentFault.TheVariants.{Players, Number}
 use Rattle.assignment_games.specs.declared.assignment_game.AssignmentFault.TheVariants.{Matrix as Uneven, Memory}
 
--- the sellers: the length of the first row
 abbrev pub seller_count : List (List ℤ) → ℕ
 seller_count rows = length (slice_index_or rows 0 [])
 
--- a buyer and a seller at least, and at most 16 players
 abbrev pub HavePlayers : List (List ℤ) → Type 0
 HavePlayers rows = (1 ≤ length rows) × (1 ≤ seller_count rows) × (length rows + seller_count rows ≤ 16)
 
--- each row is as long as the first
 abbrev pub IsEven : List (List ℤ) → Type 0
 IsEven rows = HaveLength (seller_count rows) rows
 
@@ -44,7 +41,6 @@ IsRefused rows Number = HavePlayers rows × (¬ HaveEntries rows)
 IsRefused rows Uneven = HavePlayers rows × HaveEntries rows × (¬ IsEven rows)
 IsRefused rows Memory = IsAssignment rows
 
--- each worth is the value of an optimal matching of the members
 abbrev pub assignment_game : List (List ℤ) → Game
 assignment_game rows =
     record {

@@ -12,7 +12,6 @@ pub record IsOptimalAmong (matrix : Matrix) (rows : ℕ) (member : ℕ → Bool)
   pub reached : (ps : List (ℕ × ℕ)) × IsMatching rows member ps × (value ≡ matching_value matrix ps)
   pub greatest : (ps : List (ℕ × ℕ)) → IsMatching rows member ps → matching_value matrix ps ≤ value
 
--- the greatest of f 0 .. f (n - 1), 0 for none
 abbrev pub greatest_below : ℕ → (ℕ → ℕ) → ℕ
 greatest_below zero f = 0
 greatest_below (suc n) f = max (greatest_below n f) (f n)

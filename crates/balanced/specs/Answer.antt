@@ -10,12 +10,10 @@ use Rattle.balanced.specs.declared.CoreAnswer.TheVariants.{Point, Empty}
 use Rattle.balanced.specs.declared.CoreFault.{CoreFault}
 use Rattle.balanced.specs.declared.CoreFault.TheVariants.{TooMany, Memory}
 
--- what an answer says
 abbrev pub IsFound : Game → CoreAnswer → Type 0
 IsFound g (Point x) = InCore g x
 IsFound g (Empty c) = ShowsEmpty g c
 
--- what a refusal says
 abbrev pub IsFault : Game → CoreFault → Type 0
 IsFault g TooMany = 16 < g.players
 IsFault g Memory = ⊤

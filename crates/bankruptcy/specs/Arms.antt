@@ -17,7 +17,6 @@ use Rattle.bankruptcy.specs.Bankruptcy.{Bankruptcy}
 abbrev pub arm_number : ℤ → Bankruptcy → Allocation → ℕ → ℤ
 arm_number factor b x i = factor *ℤ pos (slice_index b.claims i) -ℤ share x i
 
--- the estate less all claims
 abbrev pub estate_less_claims : Bankruptcy → ℤ
 estate_less_claims b =
     pos b.estate -ℤ sum_below (length b.claims) (λ i. pos (slice_index b.claims i))

@@ -21,7 +21,6 @@ pub record Bankruptcy : Type 0 where
   pub estate : ℕ
   pub claims : List ℕ
 
--- these parts together
 abbrev pub bankruptcy : ℕ → List ℕ → Bankruptcy
 bankruptcy estate claims = record { estate = estate; claims = claims }
 
@@ -33,13 +32,11 @@ pub record IsBankruptcy (b : Bankruptcy) : Type 0 where
   pub estate_small : b.estate < 2 ^ 40
   pub enough : b.estate ≤ sum b.claims
 
--- the game of an estate and claims
 abbrev pub bankruptcy_game : Bankruptcy → Game
 bankruptcy_game b = record { players = length b.claims; worth = bankruptcy_worth b.estate b.claims }
 
 -- ---- what the constructor refuses
 
--- there are 1 to 64 claims
 abbrev pub HavePlayers : List ℤ → Type 0
 HavePlayers claims = (1 ≤ length claims) × (length claims ≤ 64)
 
@@ -47,7 +44,6 @@ HavePlayers claims = (1 ≤ length claims) × (length claims ≤ 64)
 abbrev pub AreNumbers : ℤ → List ℤ → Type 0
 AreNumbers estate claims = IsNumber estate × All IsNumber claims
 
--- the estate is above the sum of the claims
 abbrev pub IsAboveClaims : ℤ → List ℤ → Type 0
 IsAboveClaims estate claims = pos (sum_by unsigned_abs claims) <ℤ estate
 

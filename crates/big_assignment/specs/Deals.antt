@@ -37,7 +37,6 @@ use Rattle.big_assignment.specs.declared.deal.Deal.{Deal}
 abbrev pub place : Option ℕ → ℕ
 place column = unwrap_or column 32
 
--- the place of the column that each row has
 abbrev pub mates : List (Option ℕ) → ℕ → ℕ
 mates columns i = place (slice_index_or columns i None)
 
@@ -67,7 +66,6 @@ at_prices deal gains prices = record deal { gains = gains; prices = prices }
 abbrev pub with_columns : Deal → List (Option ℕ) → Deal
 with_columns deal columns = record deal { columns = columns }
 
--- offers are below 2 ^ 40, and nothing is offered for no column
 pub record AreOffers (m : Offers) : Type 0 where
   pub small : (i k : ℕ) → i < 32 → k ≤ 32 → m i k < 2 ^ 40
   pub nothing : (i : ℕ) → i < 32 → m i 32 ≡ 0
@@ -113,11 +111,9 @@ Meets deal n d q =
     (i k : ℕ) → i < n → k ≤ 32
     → d * offer_of deal i k + q (mate_of deal i) ≤ d * offer_of deal i (mate_of deal i) + q k
 
--- no such prices are lower anywhere
 abbrev pub IsBelow : Deal → ℕ → (ℕ → ℕ) → Type 0
 IsBelow deal n p = (d : ℕ) (q : ℕ → ℕ) → Meets deal n d q → (k : ℕ) → k ≤ 32 → d * p k ≤ q k
 
--- what each row gains at its column's price
 pub record IsGain (deal : Deal) (n : ℕ) (p v : ℕ → ℕ) : Type 0 where
   pub adds : (i : ℕ) → i < n → v i + p (mate_of deal i) ≡ offer_of deal i (mate_of deal i)
 
@@ -139,7 +135,6 @@ abbrev pub Holds : Deal → ℕ → ℕ → ℕ → Type 0
 Holds deal rows k i =
     ((i < rows) × (mate_of deal i ≡ k)) ⊎ ((i ≡ 32) × ((l : ℕ) → l < rows → mate_of deal l ≢ k))
 
--- nothing is offered outside of so many rows and columns
 abbrev pub IsOutside : Offers → ℕ → ℕ → Type 0
 IsOutside m rows columns = (i k : ℕ) → i < 32 → k ≤ 32 → (rows ≤ i) ⊎ (columns ≤ k) → m i k ≡ 0
 

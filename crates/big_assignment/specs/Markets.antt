@@ -16,7 +16,6 @@ use Rattle.big_assignment.specs.declared.market_game.MarketFault.{MarketFault}
 use Rattle.big_assignment.specs.declared.market_game.MarketFault.TheVariants.{Players, Number}
 use Rattle.big_assignment.specs.declared.market_game.MarketFault.TheVariants.{Matrix as Uneven, Memory}
 
--- 1 to 32 buyers, and 1 to 32 sellers
 abbrev pub HavePlayers : List (List ℤ) → Type 0
 HavePlayers rows = (1 ≤ length rows) × (length rows ≤ 32) × (1 ≤ seller_count rows) × (seller_count rows ≤ 32)
 
@@ -33,10 +32,8 @@ IsRefused rows Number = HavePlayers rows × (¬ HaveEntries rows)
 IsRefused rows Uneven = HavePlayers rows × HaveEntries rows × (¬ IsEven rows)
 IsRefused rows Memory = ⊥
 
--- the coalition of all players
 abbrev pub everybody : List (List ℤ) → ℕ
 everybody rows = grand_coalition (length rows + seller_count rows)
 
--- what the members of s are worth to each other, 0 for other players
 abbrev pub offered : Matrix → ℕ → ℕ → Matrix
 offered matrix rows s i j = if has_player s i && has_player s (rows + j) then matrix i j else 0

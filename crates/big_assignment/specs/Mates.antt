@@ -6,14 +6,12 @@
 --   total_below n f               what all of n players get
 use Rattle.std.specs.Prelude.{ℕ, zero, suc, ◌+◌, ◌-◌, ◌≤◌, List, [], ◌∷◌, nat_lt, if◌then◌else◌}
 
--- the pairs of the k rows from i on, each with its column where that is below columns
 abbrev pub pairs_from : (ℕ → ℕ) → ℕ → ℕ → ℕ → List (ℕ × ℕ)
 pairs_from mate columns i zero = []
 pairs_from mate columns i (suc k) =
     if nat_lt (mate i) columns then (i, mate i) ∷ pairs_from mate columns (suc i) k
     else pairs_from mate columns (suc i) k
 
--- the first of each pair is at least i, and each greater than the one before
 abbrev pub AreAscending : ℕ → List (ℕ × ℕ) → Type 0
 AreAscending i [] = Unit {0}
 AreAscending i (p ∷ ps) = (i ≤ p.0) × AreAscending (suc p.0) ps
@@ -22,7 +20,6 @@ AreAscending i (p ∷ ps) = (i ≤ p.0) × AreAscending (suc p.0) ps
 abbrev pub payoff : ℕ → (ℕ → ℕ) → (ℕ → ℕ) → ℕ → ℕ
 payoff rows u p k = if nat_lt k rows then u k else p (k - rows)
 
--- what all of n players get
 abbrev pub total_below : ℕ → (ℕ → ℕ) → ℕ
 total_below zero f = 0
 total_below (suc n) f = total_below n f + f n

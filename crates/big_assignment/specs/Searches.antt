@@ -26,7 +26,6 @@ rank_of search k = slice_index search.ranks k
 abbrev pub parent_of : Search → ℕ → ℕ
 parent_of search k = slice_index search.parents k
 
--- how many places are not reached
 abbrev pub unreached : List ℕ → ℕ
 unreached ranks = sum_by (λ r. if nat_eq r 0 then 1 else 0) ranks
 
@@ -45,7 +44,6 @@ pub record IsJoined (deal : Deal) (search : Search) (n k : ℕ) : Type 0 where
   pub tight : IsTight deal (parent_of search k) k
   pub earlier : IsEarlier deal search n (parent_of search k) k
 
--- the places that were reached from row n, in their order
 pub record IsSearch (deal : Deal) (search : Search) (n : ℕ) : Type 0 where
   pub fair : IsFair deal n
   pub gain : gain_of deal n ≤ 2 ^ 40
@@ -96,7 +94,6 @@ pub record IsShifted (deal : Deal) (search : Search) (n d : ℕ) (gains prices :
   pub in_column : (k : ℕ) → k ≤ 32 → 1 ≤ rank_of search k → slice_index prices k ≡ price_of deal k + d
   pub out_column : (k : ℕ) → k ≤ 32 → rank_of search k ≡ 0 → slice_index prices k ≡ price_of deal k
 
--- one function is the other, but for one place
 pub record IsPut (f g : ℕ → ℕ) (k x : ℕ) : Type 0 where
   pub here : g k ≡ x
   pub elsewhere : (l : ℕ) → l ≢ k → g l ≡ f l

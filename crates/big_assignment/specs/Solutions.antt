@@ -12,11 +12,9 @@ use Rattle.assignment_games.specs.Assignments.{assignment_game}
 use Rattle.big_assignment.specs.Markets.{everybody}
 use Rattle.matrices.specs.Rows.{entries_of}
 
--- the pairs with the seller's number as a player: sellers stand past the buyers
 abbrev pub player_pairs : ℕ → List (ℕ × ℕ) → List (ℕ × ℕ)
 player_pairs buyers ps = map (λ p. (p.0, buyers + p.1)) ps
 
--- a matching of all players, its rows ascending, whose value is the worth of all
 pub record IsOptimalMatching (rows : List (List ℤ)) (pairs : List (ℕ × ℕ)) (value : ℤ) : Type 0 where
   pub matched : List (ℕ × ℕ)
   pub same : pairs ≡ player_pairs (length rows) matched
@@ -25,7 +23,6 @@ pub record IsOptimalMatching (rows : List (List ℤ)) (pairs : List (ℕ × ℕ)
   pub worth : value ≡ pos (matching_value (entries_of rows) matched)
   pub best : value ≡ (assignment_game rows).worth (everybody rows)
 
--- the allocation gives player k the number f k, over d
 pub record IsWhole (n : ℕ) (y : Allocation) (d : ℕ) (f : ℕ → ℕ) : Type 0 where
   pub length_is : length y.shares ≡ n
   pub den : y.den ≡ pos d

@@ -10,7 +10,6 @@ use Rattle.definitions.specs.Games.{Game, Allocation, IsAllocation, InCore, shar
 use Rattle.matrices.specs.Rows.{entries_of}
 use Rattle.assignment_games.specs.Assignments.{seller_count, assignment_game}
 
--- player k is in no pair of the matching
 abbrev pub IsSingle : ℕ → List (ℕ × ℕ) → ℕ → Type 0
 IsSingle rows ps k = AllByRecursion (λ p. (k ≢ p.0) × (k ≢ rows + p.1)) ps
 

@@ -26,7 +26,6 @@ use Rattle.json_trees.specs.ScaledFractions.{is_scaled}
 use Rattle.certificate_texts.specs.Shape.{mode_of}
 use Rattle.certificate_texts.specs.Levels.{coalition_of, first_player, level_of}
 
--- the trees of the levels
 abbrev pub level_trees : Data → List Data
 level_trees certificate = parts_at (codes "levels") certificate
 
@@ -41,13 +40,11 @@ certificate_of k n certificate =
 
 -- ---- the form
 
--- the mode is players, or there are at most 16 players
 abbrev pub allows_mode : ℕ → Option Mode → Bool
 allows_mode n None = false
 allows_mode n (Some Players) = true
 allows_mode n (Some Span) = nat_le n 16
 
--- there are fewer levels than players
 abbrev pub has_few_levels : ℕ → Data → Bool
 has_few_levels n certificate = nat_lt (length (level_trees certificate)) n
 

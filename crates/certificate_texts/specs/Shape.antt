@@ -22,38 +22,30 @@ use Rattle.definitions.specs.declared.Mode.TheVariants.{Players, Span}
 use Rattle.json_trees.specs.Keys.{has_only_keys}
 use Rattle.json_trees.specs.Trees.{passes, is_number, is_text, is_array_of, is_pair_of}
 
--- the family that a word names
 abbrev pub family_named : List ℕ → Option Family
 family_named s =
     if bytes_eq s (codes "nucleolus") then Some Imputations
     else (if bytes_eq s (codes "prenucleolus") then Some Preimputations else None)
 
--- the family that the answer of a document names
 abbrev pub family_of : Data → Option Family
 family_of tree = option_and_then family_named (option_and_then as_str (get (codes "answer") tree))
 
--- the mode that a word names
 abbrev pub mode_named : List ℕ → Option Mode
 mode_named s =
     if bytes_eq s (codes "players") then Some Players else (if bytes_eq s (codes "span") then Some Span else None)
 
--- the mode that a certificate names
 abbrev pub mode_of : Data → Option Mode
 mode_of certificate = option_and_then mode_named (option_and_then as_str (get (codes "mode") certificate))
 
--- the keys of a certificate
 abbrev pub certificate_keys : List (List ℕ)
 certificate_keys = codes "levels" ∷ codes "mode" ∷ []
 
--- the keys of a level
 abbrev pub level_keys : List (List ℕ)
 level_keys = codes "bounds" ∷ codes "coalitions" ∷ codes "earlier" ∷ codes "excess" ∷ codes "total" ∷ []
 
--- the numbers of the players of a coalition, and a weight
 abbrev pub is_weighted_coalition : Data → Bool
 is_weighted_coalition d = is_pair_of (is_array_of is_number) is_number d
 
--- the number of a player, and a weight
 abbrev pub is_weighted_player : Data → Bool
 is_weighted_player d = is_pair_of is_number is_number d
 

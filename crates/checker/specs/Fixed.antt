@@ -26,12 +26,10 @@ pub record IsFreeSet (n : ℕ) (levels : List Level) (f : ℕ) : Type 0 where
 abbrev pub AreOfPlayers : ℕ → List ℕ → Type 0
 AreOfPlayers n words = (s : ℕ) → IsTrue (is_marked words s) → (0 < s) × (s < 2 ^ n)
 
--- the mode in which levels fix
 abbrev pub mode_of : Fixed → Mode
 mode_of (FreePlayers f) = Players
 mode_of (Vectors span outside) = Span
 
--- what is carried is of n players
 abbrev pub IsOver : ℕ → Fixed → Type 0
 IsOver n (FreePlayers f) = f < 2 ^ n
 IsOver n (Vectors span outside) = (span.players ≡ n) × (n ≤ 16) × AreOfPlayers n outside

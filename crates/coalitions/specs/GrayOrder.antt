@@ -14,7 +14,6 @@ use mir.Syntax.{w64}
 use Rattle.definitions.specs.Coalitions.{has_player}
 use Rattle.coalitions.specs.declared.gray.GrayStep.{GrayStep}
 
--- the coalition of step k
 abbrev pub gray_mask : ℕ → ℕ
 gray_mask k = bit_xor k (k / 2)
 
@@ -25,11 +24,9 @@ gray_step k = record {
   flipped = if nat_eq k 0 then None else Some (trailing_zeros w64 k);
 }
 
--- the steps of n players from step k on
 abbrev pub steps_from : ℕ → ℕ → List GrayStep
 steps_from n k = map gray_step (range_with_len k (2 ^ n - k))
 
--- all steps of n players
 abbrev pub gray_steps : ℕ → List GrayStep
 gray_steps n = map gray_step (range_with_len 0 (2 ^ n))
 

@@ -16,7 +16,6 @@ abbrev pub IsBirdOf : Description → Allocation → List (ℕ × ℕ × ℤ) �
 IsBirdOf (network rows) x edges = IsBird rows x edges
 IsBirdOf _ x edges = ⊥
 
--- the answer is right for the game of a document
 abbrev pub SaysOfBird : Contents → Answer → Type 0
 SaysOfBird d (Bird x edges) = IsBirdOf d.game x edges
 SaysOfBird d _ = ⊥

@@ -17,7 +17,6 @@ abbrev pub is_tree : Description → Bool
 is_tree (network rows) = true
 is_tree _ = false
 
--- the game is of another class than a market
 abbrev pub is_no_market : Description → Bool
 is_no_market (market rows) = false
 is_no_market _ = true

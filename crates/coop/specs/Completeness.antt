@@ -21,7 +21,6 @@ use Rattle.coop.specs.KernelClaims.{kernel_limit}
 use Rattle.coop.specs.declared.status.Status.{Status}
 use Rattle.coop.specs.declared.status.Status.TheVariants as status
 
--- the command answers games of so many players
 abbrev pub ServesPlayers : Command → Contents → Type 0
 ServesPlayers Nucleolus d = IsTaken d
 ServesPlayers Prenucleolus d = IsTaken d
@@ -34,7 +33,6 @@ ServesPlayers Convex d = (game_of d.game).players ≤ convex_limit
 ServesPlayers Kernel d = (game_of d.game).players ≤ kernel_limit
 ServesPlayers Matching d = ⊤
 
--- the command answers games of this class, and of so many players
 abbrev pub Serves : Command → Contents → Type 0
 Serves command d = (serves_class command d.game ≡ true) × ServesPlayers command d
 

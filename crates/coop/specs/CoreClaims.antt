@@ -45,7 +45,6 @@ IsSchemePoint (assignment rows) x = ⊤
 IsSchemePoint (market rows) x = ⊤
 IsSchemePoint (voting quota weights) x = ⊤
 
--- what a solver says of the core
 abbrev pub IsSaidOf : Description → CoreAnswer → Type 0
 IsSaidOf d (Point x) = InCore (game_of d) x × IsSchemePoint d x
 IsSaidOf d (Empty c) = ShowsEmpty (game_of d) c
@@ -68,7 +67,6 @@ pub record IsEmptyCore (are_costs : Bool) (g : Game) (c : CollectionData) (value
   pub value_is : value ≡ printed are_costs (weighted_sum g.worth c.weights)
   pub against_is : against ≡ printed are_costs (c.k *ℤ g.worth (grand_coalition g.players))
 
--- the answer is such a collection
 abbrev pub IsShown : Bool → Game → Answer → Type 0
 IsShown are_costs g (EmptyCore c value against) = IsEmptyCore are_costs g c value against
 IsShown are_costs g _ = ⊥
@@ -79,7 +77,6 @@ FindsCore d (CorePoint are_costs x) = IsCorePoint d are_costs x
 FindsCore d (EmptyCore c value against) = IsEmptyCore (is_cost d.game) (game_of d.game) c value against
 FindsCore d _ = ⊥
 
--- the answer is right for the game of a document
 abbrev pub SaysOfCore : Contents → Answer → Type 0
 SaysOfCore d (Usage Players) = core_limit d.game < (game_of d.game).players
 SaysOfCore d answer = ((game_of d.game).players ≤ core_limit d.game) × FindsCore d answer

@@ -15,16 +15,13 @@ use Rattle.coop.specs.declared.stop.Stop.TheVariants.{Memory}
 use Rattle.coop.specs.declared.words.Request.{Request}
 use Rattle.coop.specs.declared.words.Request.TheVariants.{Read, Generate}
 
--- the words ask for a generated game
 abbrev pub AsksForGame : List (List ℕ) → Type 0
 AsksForGame words = (kind : Kind) × ((n : ℕ) × ((seed : ℕ) × IsGeneration words kind n seed))
 
--- for a generated game nothing is read, and the answer is positive, or memory wasn't found
 abbrev pub IsMadeFor : Request → Option (List ℕ) → Option (List ℕ) → Result Reply Stop → Type 0
 IsMadeFor (Read command) old new r = ⊤
 IsMadeFor (Generate kind n seed) old new r =
     (new ≡ old) × MatchResult r (λ a. status_of a.answer ≡ status.Done) (λ e. e ≡ Memory)
 
--- nothing was read, and the status is Done, or says that memory wasn't found or that a write failed
 abbrev pub EndsMade : Option (List ℕ) → Option (List ℕ) → Status → Type 0
 EndsMade old new s = (new ≡ old) × ((s ≡ status.Done) ⊎ (s ≡ status.OutOfMemory) ⊎ (s ≡ status.WriteFault))

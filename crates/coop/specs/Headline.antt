@@ -71,7 +71,6 @@ use Rattle.coop.specs.ConvexClaims.{SaysOfConvex}
 use Rattle.coop.specs.KernelClaims.{SaysOfKernel}
 use Rattle.coop.specs.MatchingClaims.{SaysOfMatching}
 
--- the game has no more players than are answered by its measure
 abbrev pub IsTaken : Contents → Type 0
 IsTaken d = (game_of d.game).players ≤ nucleolus_limit d.measure d.game
 
@@ -112,7 +111,6 @@ Solves family d (NoImputation alone total) =
 Solves family d (Usage Players) = nucleolus_limit d.measure d.game < (game_of d.game).players
 Solves family d _ = ⊥
 
--- the answer is right for a command and a document of a class that it serves
 abbrev pub Says : Command → Contents → Answer → Type 0
 Says NucleolusWord d answer = Solves Imputations d answer
 Says PrenucleolusWord d answer = Solves Preimputations d answer
@@ -138,7 +136,6 @@ IsAnsweredFor words bytes k answer =
     (command : Command) × (IsCommand words command × ((d : Contents)
     × (IsDocument command bytes d × IsOfClass d.game × (k ≡ d.scale) × AnswersTo command d answer)))
 
--- the words are a command, and this is the first refusal that applies to the bytes
 abbrev pub IsRefusedFor : List (List ℕ) → List ℕ → Refusal → Type 0
 IsRefusedFor words bytes r = (command : Command) × (IsCommand words command × IsRefused command bytes r)
 

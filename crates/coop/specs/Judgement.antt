@@ -52,6 +52,5 @@ Judges are_costs g x _ = ⊥
 abbrev pub JudgesAll : Contents → Answer → Type 0
 JudgesAll c answer = (x : Allocation) × (c.shares ≡ Some x) × Judges (is_cost c.game) (game_of c.game) x answer
 
--- there is a share for each player
 abbrev pub HasShares : Contents → Type 0
 HasShares c = (x : Allocation) × (c.shares ≡ Some x) × (length x.shares ≡ (game_of c.game).players)

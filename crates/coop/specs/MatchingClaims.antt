@@ -25,7 +25,6 @@ abbrev pub IsSolutionOf : Description → Solution → Type 0
 IsSolutionOf (market rows) solution = IsMarketSolution rows solution
 IsSolutionOf _ solution = ⊥
 
--- the answer is right for the game of a document
 abbrev pub SaysOfMatching : Contents → Answer → Type 0
 SaysOfMatching d (Matching solution) = IsSolutionOf d.game solution
 SaysOfMatching d _ = ⊥

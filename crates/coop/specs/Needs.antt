@@ -33,7 +33,6 @@ pub record IsAccepted (d : Contents) : Type 0 where
   pub shallow : depth d.tree ≤ 8
   pub short : length (compact_text d.tree) ≤ document_limit Nucleolus
 
--- what the command needs
 abbrev pub HasNeeded : Command → Contents → Type 0
 HasNeeded Nucleolus d = IsAccepted d
 HasNeeded Prenucleolus d = IsAccepted d

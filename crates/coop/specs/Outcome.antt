@@ -121,7 +121,6 @@ CutShort words old new taken_old taken_new =
     (k : ℤ) × ((answer : Answer) × IsRight words old new k answer
     × ((n : ℕ) × (n < length (line k answer)) × Appends taken_old taken_new (take n (line k answer))))
 
--- what stands after each status
 abbrev pub Ends : List (List ℕ) → Option (List ℕ) → Option (List ℕ)
     → Option (List ℕ) → Option (List ℕ) → Status → Type 0
 Ends words old new taken_old taken_new status.Done = Answered words old new taken_old taken_new status.Done

@@ -56,7 +56,6 @@ pub record IsNoCommand (words : List (List ℕ)) : Type 0 where
   pub reads : (command : Command) → ¬ IsCommand words command
   pub makes : (kind : Kind) (n seed : ℕ) → ¬ IsGeneration words kind n seed
 
--- what the words ask for
 abbrev pub IsRequest : List (List ℕ) → Request → Type 0
 IsRequest words (Read command) = IsCommand words command
 IsRequest words (Generate kind n seed) = IsGeneration words kind n seed
@@ -66,7 +65,6 @@ abbrev pub IsFit : Request → Type 0
 IsFit (Read command) = ⊤
 IsFit (Generate kind n seed) = HasKindSize kind n × (seed < 2 ^ 31)
 
--- what the words ask for, or that they are those of no command
 abbrev pub Names : List (List ℕ) → Option Request → Type 0
 Names words None = IsNoCommand words
 Names words (Some request) = IsRequest words request

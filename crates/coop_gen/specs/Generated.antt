@@ -17,7 +17,6 @@ HasKindSize Bankruptcy n = (1 ≤ n) × (n ≤ 64)
 HasKindSize Tree n = (1 ≤ n) × (n ≤ 16)
 HasKindSize Assignment n = (2 ≤ n) × (n ≤ 16)
 
--- the description of the game
 abbrev pub generated : Kind → ℕ → ℕ → Description
 generated Table n seed = table n (table_numbers seed n)
 generated Airport n seed = airport (long_draws seed n)

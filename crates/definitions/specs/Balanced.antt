@@ -10,7 +10,6 @@ use Rattle.definitions.specs.Sums.{weighted_sum}
 use Rattle.definitions.specs.Coalitions.{grand_coalition, weight_at}
 use Rattle.definitions.specs.Games.{Game}
 
--- the masks ascend strictly, from above low
 abbrev pub AscendsFrom : ℕ → List (ℕ × ℤ) → Type 0
 AscendsFrom low [] = Unit {0}
 AscendsFrom low (p ∷ ps) = (low < p.0) × AscendsFrom p.0 ps

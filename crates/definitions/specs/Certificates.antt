@@ -82,7 +82,6 @@ abbrev pub IsOutside : Mode → ℕ → List Level → ℕ → Type 0
 IsOutside Players n levels s = IsTrue (splits n (is_free n levels) s)
 IsOutside Span n levels s = (0 < s) × (s < grand_coalition n) × ¬ InSpan n (IsFixedVector n levels) s
 
--- the levels fix everything
 abbrev pub IsAllFixed : Mode → ℕ → List Level → Type 0
 IsAllFixed Players n levels =
     (i j : ℕ) → i < n → j < n → IsTrue (is_free n levels i) → IsTrue (is_free n levels j) → i ≡ j
@@ -142,11 +141,9 @@ abbrev pub HasAtMostExcess : Measure → Game → Allocation → Level → ℕ �
 HasAtMostExcess measure g x l s =
     (measured_excess measure g x s *ℤ l.excess_den) ≤ℤ (l.excess_num *ℤ measured_den measure x.den)
 
--- each coalition of the level has its excess
 abbrev pub Excesses : Measure → Game → Allocation → Level → Type 0
 Excesses measure g x l = AllByRecursion (λ c. HasExcess measure g x l c.0) l.coalitions
 
--- each weight on a coalition is at least 1
 abbrev pub Weights : Level → Type 0
 Weights l = AllByRecursion (λ c. pos 1 ≤ℤ c.1) l.coalitions
 
@@ -171,7 +168,6 @@ IsTight family g x b = (share x b.0 ≡ x.den *ℤ g.worth (singleton b.0)) × (
 abbrev pub AreTight : Family → Game → Allocation → Level → Type 0
 AreTight family g x l = AllByRecursion (IsTight family g x) l.bounds
 
--- no coalition outside has more than the excess of the level
 abbrev pub OutsideIsLow : Mode → Measure → Game → Allocation → List Level → Level → Type 0
 OutsideIsLow mode measure g x front l =
     (s : ℕ) → s < 2 ^ g.players → IsOutside mode g.players front s → HasAtMostExcess measure g x l s
@@ -186,7 +182,6 @@ pub record LevelHolds (mode : Mode) (family : Family) (measure : Measure) (g : G
   pub tight : AreTight family g x l
   pub outside : OutsideIsLow mode measure g x front l
 
--- each level meets its conditions, and all together fix everything
 abbrev pub LevelsHold : Mode → Family → Measure → Game → Allocation → List Level → List Level → Type 0
 LevelsHold mode family measure g x front [] = IsAllFixed mode g.players front
 LevelsHold mode family measure g x front (l ∷ levels) =

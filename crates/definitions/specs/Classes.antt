@@ -116,7 +116,6 @@ IsNoLater matrix p r =
     (entry matrix p.0 p.1 < entry matrix r.0 r.1)
     ⊎ ((entry matrix p.0 p.1 ≡ entry matrix r.0 r.1) × ((p.0 < r.0) ⊎ ((p.0 ≡ r.0) × (p.1 ≤ r.1))))
 
--- each pair is the least of those that lead from a connected point to a waiting one
 abbrev pub IsBirdFrom : Matrix → (ℕ → Bool) → (ℕ → Bool) → List (ℕ × ℕ) → Type 0
 IsBirdFrom matrix connected waiting [] = (j : ℕ) → waiting j ≡ false
 IsBirdFrom matrix connected waiting (p ∷ plan) =
@@ -138,14 +137,12 @@ IsBirdShares matrix plan x =
 abbrev pub IsSymmetric : Matrix → Type 0
 IsSymmetric matrix = (i j : ℕ) → entry matrix i j ≡ entry matrix j i
 
--- each worth is minus the least cost of an attachment plan
 abbrev pub IsTreeGame : Matrix → Game → Type 0
 IsTreeGame matrix g =
     (s : ℕ) → s < 2 ^ g.players → (cost : ℕ) × (g.worth s ≡ neg_ℤ (pos cost)) × IsLeastCost matrix s cost
 
 -- ---- assignments (Shapley and Shubik 1971): row i is player i, and column j is player rows + j
 
--- pairs of a row and a column whose players are members, no member twice
 abbrev pub IsMatching : ℕ → (ℕ → Bool) → List (ℕ × ℕ) → Type 0
 IsMatching rows member [] = Unit {0}
 IsMatching rows member (p ∷ ps) =
@@ -162,7 +159,6 @@ pub record IsGreatestValue (matrix : Matrix) (rows : ℕ) (s : ℕ) (value : ℕ
   pub reached : (ps : List (ℕ × ℕ)) × IsMatching rows (has_player s) ps × (value ≡ matching_value matrix ps)
   pub greatest : (ps : List (ℕ × ℕ)) → IsMatching rows (has_player s) ps → matching_value matrix ps ≤ value
 
--- each worth is the greatest value of a matching
 abbrev pub IsAssignmentGame : Matrix → ℕ → Game → Type 0
 IsAssignmentGame matrix rows g =
     (s : ℕ) → s < 2 ^ g.players → (value : ℕ) × (g.worth s ≡ pos value) × IsGreatestValue matrix rows s value

@@ -34,16 +34,13 @@ grand_coalition n = 2 ^ n - 1
 abbrev pub proper_coalitions : ℕ → List ℕ
 proper_coalitions n = range_with_len 1 (2 ^ n - 2)
 
--- the sum of the members' numbers
 abbrev pub sum_over : ℕ → (ℕ → ℤ) → ℕ → ℤ
 sum_over n a s = sum_below n (λ i. if has_player s i then a i else pos 0)
 
--- the weights of the coalitions that hold player i, added
 abbrev pub weight_at : List (ℕ × ℤ) → ℕ → ℤ
 weight_at [] i = pos 0
 weight_at (p ∷ ps) i = (if has_player p.0 i then p.1 else pos 0) +ℤ weight_at ps i
 
--- the test passes at some number below n
 abbrev pub some_below : ℕ → (ℕ → Bool) → Bool
 some_below zero test = false
 some_below (suc n) test = test n || some_below n test

@@ -11,7 +11,6 @@ use Rattle.definitions.specs.Coalitions.{has_player, singleton}
 use Rattle.definitions.specs.Games.{Game, Allocation, share, IsAllocation}
 use Rattle.definitions.specs.Shapley.{marginal_worth}
 
--- two different players outside the coalition s
 abbrev pub AreOutside : ℕ → ℕ → ℕ → ℕ → Type 0
 AreOutside n s i j =
     (s < 2 ^ n) × (i < n) × (j < n) × (¬ (i ≡ j)) × (has_player s i ≡ false) × (has_player s j ≡ false)

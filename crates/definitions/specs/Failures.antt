@@ -76,7 +76,6 @@ IsLeastUnfixed Players n levels i =
     (i < n) × IsTrue (is_free n levels i) × ((j : ℕ) → j < i → ¬ IsTrue (is_free n levels j))
 IsLeastUnfixed Span n levels i = IsLeastFailing n (λ i. InSpan n (IsFixedVector n levels) (singleton i)) i
 
--- after the last level something is left, and the reason names the least player of it
 abbrev pub NotAllFixed : Mode → Game → List Level → Reason → Type 0
 NotAllFixed mode g levels (not_all i) = ¬ IsAllFixed mode g.players levels × IsLeastUnfixed mode g.players levels i
 NotAllFixed mode g levels _ = ⊥

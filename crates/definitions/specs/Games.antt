@@ -42,11 +42,9 @@ pub record Allocation : Type 0 where
   pub shares : List ℤ
   pub den : ℤ
 
--- the share of player i, over the denominator
 abbrev pub share : Allocation → ℕ → ℤ
 share x i = slice_index_or x.shares i (pos 0)
 
--- what the members of s get together, over the denominator
 abbrev pub amount : Allocation → ℕ → ℤ
 amount x s = sum_over (length x.shares) (share x) s
 
@@ -119,7 +117,6 @@ abbrev pub IsSplitMaximum : Game → Allocation → ℕ → ℤ → Type 0
 IsSplitMaximum g x f m =
     IsGreatest (λ s. (s < 2 ^ g.players) × IsTrue (splits g.players (has_player f) s)) (excess g x) m
 
--- the greatest measured excess over these coalitions
 abbrev pub IsMeasuredMaximum : Measure → Game → Allocation → ℕ → ℤ → Type 0
 IsMeasuredMaximum measure g x f m =
     IsGreatest (λ s. (s < 2 ^ g.players) × IsTrue (splits g.players (has_player f) s)) (measured_excess measure g x)

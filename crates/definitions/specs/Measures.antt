@@ -9,7 +9,6 @@ use Rattle.definitions.specs.Coalitions.{size}
 use Rattle.definitions.specs.declared.Measure.{Measure}
 use Rattle.definitions.specs.declared.Measure.TheVariants.{Plain, PerHead}
 
--- what the excess of s is divided by
 abbrev pub divisor : Measure → ℕ → ℕ
 divisor Plain s = 1
 divisor PerHead s = size s
@@ -19,11 +18,9 @@ abbrev pub measured : Measure → ℕ → ℤ → ℤ
 measured Plain s e = e
 measured PerHead s e = pos (720720 / size s) *ℤ e
 
--- the denominator of measured excesses, where q is that of the excesses
 abbrev pub measured_den : Measure → ℤ → ℤ
 measured_den Plain q = q
 measured_den PerHead q = pos 720720 *ℤ q
 
--- excesses of games of n players have the measure
 abbrev pub IsMeasurable : Measure → ℕ → Type 0
 IsMeasurable measure n = (measure ≡ Plain) ⊎ (n ≤ 16)

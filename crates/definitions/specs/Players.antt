@@ -11,13 +11,11 @@ use Rattle.std.specs.Prelude.{◌≡◌, ℕ, ◌+◌, ◌^◌, ◌<◌, false, 
 use Rattle.definitions.specs.Coalitions.{has_player, singleton}
 use Rattle.definitions.specs.Games.{Game}
 
--- player i adds its worth alone to each coalition without it
 abbrev pub IsDummy : Game → ℕ → Type 0
 IsDummy g i =
     (s : ℕ) → s < 2 ^ g.players → has_player s i ≡ false →
     g.worth (s + singleton i) ≡ g.worth s +ℤ g.worth (singleton i)
 
--- player i adds nothing to each coalition without it
 abbrev pub AddsNothing : Game → ℕ → Type 0
 AddsNothing g i =
     (s : ℕ) → s < 2 ^ g.players → has_player s i ≡ false → g.worth (s + singleton i) ≡ g.worth s

@@ -22,11 +22,9 @@ pub record Program : Type 0 where
   pub entry : ℕ → ℕ → ℤ
   pub cost : ℕ → ℤ
 
--- the weighted entries of a row
 abbrev pub row_value : Program → List (ℕ × ℤ) → ℕ → ℤ
 row_value p weights r = weighted_sum (λ id. p.entry id r) weights
 
--- weights on columns, each once and at least 0
 abbrev pub AreWeights : Program → List (ℕ × ℤ) → Type 0
 AreWeights p weights =
     AllByRecursion (λ w. IsTrue (p.is_column w.0) × (pos 0 ≤ℤ w.1)) weights
@@ -54,7 +52,6 @@ IsOptimal p weights weight_den multipliers den =
     × Bounds p multipliers den
     × (weighted_sum p.cost weights *ℤ den ≡ value_of p multipliers p.right *ℤ weight_den)
 
--- no weights solve it
 abbrev pub HasNoSolution : Program → Type 0
 HasNoSolution p = (weights : List (ℕ × ℤ)) (den : ℤ) → ¬ Solves p weights den
 

@@ -47,7 +47,6 @@ times k x = record { shares = map (λ a. k *ℤ a) x.shares; den = x.den }
 abbrev pub excess_over : ℤ → Game → Allocation → ℕ → ℤ
 excess_over k g x s = x.den *ℤ g.worth s -ℤ k *ℤ amount x s
 
--- the shares add to the worth of all
 abbrev pub IsEfficientOver : ℤ → Game → Allocation → Type 0
 IsEfficientOver k g x = k *ℤ amount x (grand_coalition g.players) ≡ x.den *ℤ g.worth (grand_coalition g.players)
 

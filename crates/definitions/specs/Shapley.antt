@@ -14,7 +14,6 @@ use Rattle.std.specs.Prelude.{pos, ◌+ℤ◌, ◌-ℤ◌, ◌*ℤ◌, if◌then
 use Rattle.std.specs.List.{flat_map, AllByRecursion}
 use Rattle.definitions.specs.Games.{Game, Allocation, share, IsAllocation}
 
--- no number stands twice
 abbrev pub AllDiffer : List ℕ → Type 0
 AllDiffer [] = Unit {0}
 AllDiffer (x ∷ xs) = AllByRecursion (λ y. nat_eq x y ≡ false) xs × AllDiffer xs
@@ -50,7 +49,6 @@ total_over v i (order ∷ orders) = marginal_worth v i 0 order +ℤ total_over v
 abbrev pub shapley_total : Game → ℕ → ℤ
 shapley_total g i = total_over g.worth i (orders g.players)
 
--- 1 * 2 * .. * n
 abbrev pub factorial : ℕ → ℕ
 factorial zero = 1
 factorial (suc n) = suc n * factorial n

@@ -12,12 +12,10 @@ use Rattle.serde_json.specs.Find.{get, as_str}
 use Rattle.definitions.specs.declared.Measure.{Measure}
 use Rattle.definitions.specs.declared.Measure.TheVariants.{Plain, PerHead}
 
--- the measure that a word names
 abbrev pub measure_named : List ℕ → Option Measure
 measure_named s =
     if bytes_eq s (codes "plain") then Some Plain else (if bytes_eq s (codes "per-head") then Some PerHead else None)
 
--- the measure that a text names
 abbrev pub measure_in : Data → Option Measure
 measure_in d = option_and_then measure_named (as_str d)
 

@@ -22,7 +22,6 @@ abbrev pub player_by : ℕ → List (List ℕ) → Data → Option (List ℕ) �
 player_by n names d None = option_and_then (numbered_player n) (integer d)
 player_by n names d (Some s) = position (bytes_eq s) names
 
--- the player that a member names
 abbrev pub player_of : ℕ → List (List ℕ) → Data → Option ℕ
 player_of n names d = player_by n names d (as_str d)
 

@@ -18,24 +18,19 @@ use Rattle.serde_json.specs.declared.value.Value.{Value}
 use Rattle.json_trees.specs.Trees.{parts_at, pair_members, text_of}
 use Rattle.json_trees.specs.Keys.{is_among}
 
--- the names of the players, in their order
 abbrev pub names_of : Data → List (List ℕ)
 names_of game = map text_of (parts_at (codes "names") game)
 
--- the texts of values in memory
 abbrev pub texts : List Value → List (List ℕ)
 texts vs = map (λ v. text_of (view v)) vs
 
--- a name has 1 to 64 bytes
 abbrev pub is_name : List ℕ → Bool
 is_name s = nat_lt 0 (length s) && nat_le (length s) 64
 
--- no two are alike
 abbrev pub are_distinct : List (List ℕ) → Bool
 are_distinct [] = true
 are_distinct (s ∷ names) = not (is_among names s) && are_distinct names
 
--- each is a name, and no two are alike
 abbrev pub good_names : List (List ℕ) → Bool
 good_names names = list_all is_name names && are_distinct names
 
@@ -44,7 +39,6 @@ abbrev pub are_names : ℕ → Option Data → List (List ℕ) → Bool
 are_names n None names = true
 are_names n (Some d) names = (length names == n) && good_names names
 
--- a member that is a text is among the names
 abbrev pub is_known : List (List ℕ) → Option (List ℕ) → Bool
 is_known names None = true
 is_known names (Some s) = is_among names s

@@ -18,11 +18,9 @@ use Rattle.worth_core.specs.LeastDenominators.{numerator_over}
 use Rattle.json_trees.specs.Fractions.{fraction_of}
 use Rattle.json_trees.specs.Trees.{parts, parts_at}
 
--- below 2^40 in size
 abbrev pub is_small : ℤ → Bool
 is_small z = nat_lt (unsigned_abs z) (2 ^ 40)
 
--- a number, where it is below 2^40 in size
 abbrev pub if_small : Option ℤ → Option ℤ
 if_small None = None
 if_small (Some z) = if is_small z then Some z else None
@@ -31,7 +29,6 @@ if_small (Some z) = if is_small z then Some z else None
 abbrev pub small_number : ℕ → Data → Option ℤ
 small_number k d = if_small (option_map (numerator_over (pos k)) (fraction_of d))
 
--- the same, and 0 where there is none
 abbrev pub number_or_zero : ℕ → Data → ℤ
 number_or_zero k d = unwrap_or (small_number k d) (pos 0)
 
@@ -39,7 +36,6 @@ number_or_zero k d = unwrap_or (small_number k d) (pos 0)
 abbrev pub number_at : ℕ → List ℕ → Data → ℤ
 number_at k key d = unwrap_or (option_and_then (small_number k) (get key d)) (pos 0)
 
--- the numbers of the array at a key
 abbrev pub numbers_at : ℕ → List ℕ → Data → List ℤ
 numbers_at k key d = map (number_or_zero k) (parts_at key d)
 
@@ -47,15 +43,12 @@ numbers_at k key d = map (number_or_zero k) (parts_at key d)
 abbrev pub costs_at : ℕ → List ℕ → Data → List ℕ
 costs_at k key d = map unsigned_abs (numbers_at k key d)
 
--- the numbers of the items of an array
 abbrev pub numbers_of : ℕ → Data → List ℤ
 numbers_of k d = map (number_or_zero k) (parts d)
 
--- the numbers of each array in the array at a key
 abbrev pub rows_at : ℕ → List ℕ → Data → List (List ℤ)
 rows_at k key d = map (numbers_of k) (parts_at key d)
 
--- the number of the second of two items
 abbrev pub second_number : ℕ → List Data → ℤ
 second_number k (x ∷ y ∷ []) = number_or_zero k y
 second_number k _ = pos 0

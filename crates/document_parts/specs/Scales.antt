@@ -27,17 +27,14 @@ use Rattle.document_parts.specs.CommonMultiples.{lcm, least_denominator}
 
 -- ---- the numbers of a game
 
--- what is there
 abbrev pub if_there : Option Data → List Data
 if_there None = []
 if_there (Some d) = d ∷ []
 
--- the second of two items
 abbrev pub second_part : List Data → List Data
 second_part (x ∷ y ∷ []) = y ∷ []
 second_part _ = []
 
--- the number of a pair of a coalition and a number
 abbrev pub pair_number : Data → List Data
 pair_number pair = second_part (parts pair)
 
@@ -52,7 +49,6 @@ table_numbers_in game =
     parts_at (codes "worths") game
     ++ (all_parts pair_number (parts_at (codes "sparse") game) ++ if_there (get (codes "default") game))
 
--- costs, an estate and claims
 abbrev pub player_numbers_in : Data → List Data
 player_numbers_in game =
     parts_at (codes "costs") game ++ (if_there (get (codes "estate") game) ++ parts_at (codes "claims") game)
@@ -79,7 +75,6 @@ scale_of game = least_denominator (game_fractions game)
 abbrev pub IsScaleOf : Data → ℤ → Type 0
 IsScaleOf game k = IsLeastDenominator (game_fractions game) k
 
--- a scale, where it is at most 65,536
 abbrev pub if_scale : ℕ → Option ℕ
 if_scale k = if nat_le k 65536 then Some k else None
 

@@ -20,7 +20,6 @@ use Rattle.json_trees.specs.LowestTerms.{times_scale}
 use Rattle.worth_core.specs.LeastDenominators.{IsLeastDenominator, numerator_over}
 use Rattle.json_trees.specs.Trees.{parts_at}
 
--- each share is an integer or a fraction text
 abbrev pub has_share_numbers : Data → Bool
 has_share_numbers tree = list_all is_fraction (parts_at (codes "shares") tree)
 

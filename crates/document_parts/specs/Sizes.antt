@@ -9,15 +9,12 @@ use Rattle.std.specs.Prelude.{◌^◌, ℕ, ℤ, pos, negsuc, Bool, false, ◌&&
 use Rattle.serde_json.specs.Data.{Data}
 use Rattle.document_parts.specs.ScaledNumbers.{small_number}
 
--- a number of players from 1 to 64
 abbrev pub is_list_size : ℕ → Bool
 is_list_size n = nat_lt 0 n && nat_le n 64
 
--- a number of players, or of those of one side, from 1 to 32
 abbrev pub is_short_list_size : ℕ → Bool
 is_short_list_size n = nat_lt 0 n && nat_le n 32
 
--- at least 0, and below 2^40
 abbrev pub is_small_cost : ℤ → Bool
 is_small_cost (pos n) = nat_lt n (2 ^ 40)
 is_small_cost (negsuc n) = false

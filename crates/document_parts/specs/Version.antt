@@ -9,7 +9,6 @@ use Rattle.serde_json.specs.Find.{get}
 use Rattle.json_trees.specs.Integers.{integer_or_zero}
 use Rattle.json_trees.specs.Trees.{passes}
 
--- the integer 1 or 2
 abbrev pub is_version : Data → Bool
 is_version d = int_eq (integer_or_zero d) (pos 1) || int_eq (integer_or_zero d) (pos 2)
 

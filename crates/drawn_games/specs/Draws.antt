@@ -8,11 +8,9 @@
 --   short_draw seed k     draw k, counted from 0, as a short one
 use Rattle.std.specs.Prelude.{ℕ, zero, suc, ◌+◌, ◌*◌, ◌/◌, ◌%◌, ◌^◌}
 
--- the state after a draw
 abbrev pub next_state : ℕ → ℕ
 next_state state = (state * 1103515245 + 12345) % 2 ^ 31
 
--- the state after k draws
 abbrev pub state : ℕ → ℕ → ℕ
 state seed zero = seed
 state seed (suc k) = next_state (state seed k)
@@ -25,10 +23,8 @@ long_of state = state / 2048
 abbrev pub short_of : ℕ → ℕ
 short_of state = long_of state / 16
 
--- draw k, counted from 0, as a long one
 abbrev pub long_draw : ℕ → ℕ → ℕ
 long_draw seed k = long_of (state seed (suc k))
 
--- draw k, counted from 0, as a short one
 abbrev pub short_draw : ℕ → ℕ → ℕ
 short_draw seed k = short_of (state seed (suc k))

@@ -42,7 +42,6 @@ long_draws seed n = map (long_draw seed) (range_with_len 0 n)
 
 -- ---- matrices
 
--- rows and columns of numbers by their places
 abbrev pub rows_of : ℕ → ℕ → (ℕ → ℕ → ℕ) → List (List ℤ)
 rows_of rows columns number =
     map (λ i. map (λ j. pos (number i j)) (range_with_len 0 columns)) (range_with_len 0 rows)
@@ -52,7 +51,6 @@ abbrev pub links_before : ℕ → ℕ → ℕ
 links_before n zero = 0
 links_before n (suc i) = links_before n i + (n - i)
 
--- the pairs of points in front of i and j, where i is the lesser one
 abbrev pub link_place : ℕ → ℕ → ℕ → ℕ
 link_place n i j = links_before n i + (j - i - 1)
 

@@ -20,13 +20,11 @@ NucleoliExist =
     (family : Family) (measure : Measure) (g : Game) (y : Allocation) →
     IsMeasurable measure g.players → InFamily family g y → (x : Allocation) × IsNucleolus family measure g x
 
--- every game with a player has a prenucleolus
 abbrev pub PrenucleoliExist : Type 0
 PrenucleoliExist =
     (measure : Measure) (g : Game) → IsMeasurable measure g.players → 1 ≤ g.players →
     (x : Allocation) × IsNucleolus Preimputations measure g x
 
--- the worths of the players alone add to at most the worth of all
 abbrev pub CoversSingles : Game → Type 0
 CoversSingles g = sum_below g.players (λ i. g.worth (singleton i)) ≤ℤ g.worth (grand_coalition g.players)
 

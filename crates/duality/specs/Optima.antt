@@ -6,7 +6,6 @@ use Rattle.std.specs.Prelude.{ℕ, ℤ, ◌*ℤ◌, ◌≤ℤ◌}
 use Rattle.definitions.specs.Sums.{sum_below}
 use Rattle.duality.specs.Farkas.{MeetsAll}
 
--- the sum of coefficients times numbers
 abbrev pub linear_value : ℕ → (ℕ → ℤ) → (ℕ → ℤ) → ℤ
 linear_value n c x = sum_below n (λ i. c i *ℤ x i)
 

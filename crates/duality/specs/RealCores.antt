@@ -9,7 +9,6 @@ use Rattle.real_shares.specs.Numbers.{Numbers}
 use Rattle.real_shares.specs.Shares.{InCoreOver}
 use Rattle.real_shares.specs.Reals.{Real, AreReals}
 
--- some real shares lie in the core
 abbrev pub HasRealCorePoint : Numbers Real → Game → Type 0
 HasRealCorePoint N g = (y : List Real) × InCoreOver N g y
 

@@ -16,7 +16,6 @@ use Rattle.std.specs.Prelude.{◌≤ℤ◌, unsigned_abs, int_div, FitsSigned}
 use Rattle.std.specs.Int.{w128}
 use Rattle.fractions.specs.Divisors.{gcd}
 
--- a numerator over a denominator
 pub record Fraction : Type 0 where
   pub num : ℤ
   pub den : ℤ
@@ -32,15 +31,12 @@ pub record IsRatio (f : Fraction) (n d : ℤ) : Type 0 where
   pub reduced : IsReduced f
   pub same : f.num *ℤ d ≡ n *ℤ f.den
 
--- both numbers have a form of 128 bits
 abbrev pub HasForm : Fraction → Type 0
 HasForm f = FitsSigned w128 f.num × FitsSigned w128 f.den
 
--- no pair of 128-bit numbers is n/d in lowest terms
 abbrev pub HasNoForm : ℤ → ℤ → Type 0
 HasNoForm n d = (f : Fraction) → IsRatio f n d → ¬ HasForm f
 
--- the greatest common divisor of two denominators
 abbrev pub common_divisor : Fraction → Fraction → ℤ
 common_divisor x y = pos (gcd (unsigned_abs x.den) (unsigned_abs y.den))
 

@@ -25,7 +25,6 @@ use Rattle.std.specs.Fmt.{signed_decimal}
 use Rattle.fractions.specs.Divisors.{gcd}
 use Rattle.fractions.specs.Fraction.{Fraction}
 
--- decimal digits without a leading zero, but for 0 itself
 abbrev pub is_numeral : List ℕ → Bool
 is_numeral s = nat_lt 0 (length s) && list_all is_ascii_digit s && ((length s == 1) || not (slice_index s 0 == 48))
 
@@ -49,7 +48,6 @@ numerator s = digits_value 10 (numerator_text s)
 abbrev pub denominator : List ℕ → ℕ
 denominator s = if has_slash s then digits_value 10 (denominator_text s) else 1
 
--- no slash, or a numeral above 1 behind it
 abbrev pub has_denominator : List ℕ → Bool
 has_denominator s = not (has_slash s) || (is_numeral (denominator_text s) && nat_lt 1 (denominator s))
 
@@ -64,7 +62,6 @@ has_minus s = slice_index s 0 == 45
 abbrev pub without_minus : List ℕ → List ℕ
 without_minus s = if has_minus s then drop 1 s else s
 
--- a sign and an unsigned text; -0 is none
 abbrev pub is_signed_fraction : Bool → List ℕ → Bool
 is_signed_fraction minus s = is_unsigned_fraction s && not (minus && (numerator s == 0))
 
@@ -81,7 +78,6 @@ signed_fraction minus s = record {
 abbrev pub text_fraction : List ℕ → Fraction
 text_fraction s = signed_fraction (has_minus s) (without_minus s)
 
--- a number that has a form of 128 bits
 abbrev pub is_i128 : ℤ → Bool
 is_i128 (pos n) = nat_lt n (2 ^ 127)
 is_i128 (negsuc n) = nat_lt n (2 ^ 127)
@@ -92,6 +88,5 @@ parsed s =
     if is_fraction_text s && is_i128 (text_fraction s).num && is_i128 (text_fraction s).den
     then Some (text_fraction s) else None
 
--- the text of a fraction
 abbrev pub fraction_text : Fraction → List ℕ
 fraction_text f = signed_decimal f.num ++ (if int_eq f.den (pos 1) then [] else 47 ∷ signed_decimal f.den)

@@ -34,6 +34,5 @@ abbrev pub has_bankruptcy_numbers : ℕ → Data → Bool
 has_bankruptcy_numbers k game =
     passes (is_cost k) (get (codes "estate") game) && list_all (is_cost k) (parts_at (codes "claims") game)
 
--- the estate is at most the sum of the claims
 abbrev pub claims_cover : ℕ → List ℕ → Bool
 claims_cover estate claims = nat_le estate (sum claims)

@@ -19,19 +19,15 @@ use Rattle.game_text.specs.Refusals.{has_needed_terms, refusal_over}
 use Rattle.game_text.specs.declared.command.Command.{Command}
 use Rattle.kinds.specs.declared.refusal.Refusal.{Refusal}
 
--- the least common denominator of the shares that are written, times the scale of the game
 abbrev pub share_denominator : Data → Data → ℕ
 share_denominator game tree = least_denominator (scaled_shares (scale_of game) tree)
 
--- over it, the shares that a command needs keep within the limits of shares
 abbrev pub needed_keep_limits : Command → Data → Data → Bool
 needed_keep_limits command game tree = has_needed_terms (share_denominator game tree) command game tree
 
--- the proposed shares as worth
 abbrev pub shares_of : Data → Data → Allocation
 shares_of game tree = shares_over (share_denominator game tree) game tree
 
--- the shares that a command needs
 abbrev pub shares_for : Command → Data → Data → Option Allocation
 shares_for command game tree = proposed_over (share_denominator game tree) command game tree
 
@@ -39,6 +35,5 @@ shares_for command game tree = proposed_over (share_denominator game tree) comma
 abbrev pub contents_of : Command → Data → Contents
 contents_of command tree = contents_over (share_denominator (game_tree tree) tree) command tree
 
--- the first test that a tree doesn't pass
 abbrev pub tree_refusal : Command → Data → Option Refusal
 tree_refusal command tree = refusal_over (share_denominator (game_tree tree) tree) command tree

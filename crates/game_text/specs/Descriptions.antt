@@ -35,7 +35,6 @@ pub data Description : Type 0 where
   market : List (List ℤ) → Description
   voting : ℕ → List ℕ → Description
 
--- the game that is described
 abbrev pub game_of : Description → Game
 game_of (table n worths) = record { players = n; worth = table_worth worths }
 game_of (cost_table n costs) = record { players = n; worth = negated_worth (table_worth costs) }

@@ -39,15 +39,12 @@ pub record Contents : Type 0 where
   pub shares : Option Allocation
   pub certificate : Option CertificateData
 
--- the tree of the game
 abbrev pub game_tree : Data → Data
 game_tree tree = unwrap_or (get (codes "game") tree) null
 
--- the tree of the certificate
 abbrev pub certificate_tree : Data → Data
 certificate_tree tree = unwrap_or (get (codes "certificate") tree) null
 
--- the family that a command needs
 abbrev pub family_for : Command → Data → Option Family
 family_for command tree = given (needs command).answer (unwrap_or (family_of tree) Imputations)
 
@@ -60,7 +57,6 @@ shares_over d game tree =
 abbrev pub proposed_over : ℕ → Command → Data → Data → Option Allocation
 proposed_over d command game tree = given (needs command).shares (shares_over d game tree)
 
--- the certificate that a command needs
 abbrev pub certificate_for : Command → Data → Data → Option CertificateData
 certificate_for command game tree =
     given (needs command).certificate (certificate_of (scale_of game) (players game) (certificate_tree tree))

@@ -36,13 +36,11 @@ use Rattle.game_text.specs.declared.fault.TextFault.TheVariants.{Refused, Memory
 use Rattle.game_text.specs.declared.game.Game.{Game}
 use Rattle.kinds.specs.declared.refusal.Refusal.{Refusal}
 
--- the game passed the tests of its shape, players and numbers
 pub record HasSizes (game : Data) : Type 0 where
   pub shaped : is_game_shaped game ≡ true
   pub players : has_players game ≡ true
   pub numbers : has_numbers game ≡ true
 
--- a class that a table describes
 abbrev pub IsTableClass : Option Class → Type 0
 IsTableClass c = (c ≡ Some Table) ⊎ (c ≡ Some CostTable)
 
@@ -97,7 +95,6 @@ abbrev pub IsCertificateFault : Command → Data → Data → TextFault → Type
 IsCertificateFault command game tree (Refused r) = certificate_refusal command game tree ≡ Some r
 IsCertificateFault command game tree Memory = ⊤
 
--- what a document in memory says
 abbrev pub contents_in : Document → Contents
 contents_in d = record {
   game = description_in d.game;

@@ -42,11 +42,9 @@ abbrev pub first_failed : List (Refusal × Bool) → Option Refusal
 first_failed [] = None
 first_failed (t ∷ tests) = unless t.1 t.0 (first_failed tests)
 
--- each share that a command needs is an integer or a fraction text
 abbrev pub has_needed_numbers : Command → Data → Bool
 has_needed_numbers command tree = if_needed (needs command).shares (has_share_numbers tree)
 
--- there is a share for each player, where a command needs shares
 abbrev pub has_needed_shares : Command → Data → Data → Bool
 has_needed_shares command game tree = if_needed (needs command).shares (has_shares_for (players game) tree)
 
@@ -56,7 +54,6 @@ abbrev pub has_needed_terms : ℕ → Command → Data → Data → Bool
 has_needed_terms d command game tree =
     if_needed (needs command).shares (has_small_terms d (scaled_shares (scale_of game) tree))
 
--- the certificate that a command needs has its form
 abbrev pub has_needed_form : Command → Data → Data → Bool
 has_needed_form command game tree =
     if_needed (needs command).certificate

@@ -29,11 +29,9 @@ use Rattle.game_text.specs.declared.class.Class.TheVariants.{Assignment, Market,
 use Rattle.game_text.specs.declared.command.Command.{Command}
 use Rattle.game_text.specs.Needs.{needs, if_needed}
 
--- the keys of a document
 abbrev pub document_keys : List (List ℕ)
 document_keys = codes "answer" ∷ codes "certificate" ∷ codes "game" ∷ codes "shares" ∷ []
 
--- the class that a word names
 abbrev pub class_named : List ℕ → Option Class
 class_named s =
     if bytes_eq s (codes "table") then Some Table
@@ -45,7 +43,6 @@ class_named s =
     else (if bytes_eq s (codes "market") then Some Market
     else (if bytes_eq s (codes "voting") then Some Voting else None)))))))
 
--- the class that a game names
 abbrev pub class_of : Data → Option Class
 class_of game = option_and_then class_named (option_and_then as_str (get (codes "class") game))
 
@@ -69,7 +66,6 @@ is_game_shaped game =
     && passes_if_there is_measure (get (codes "excess") game)
     && passes_if_there is_version (get (codes "version") game) && is_shaped_as (class_of game) game
 
--- shares are numbers and texts
 abbrev pub has_shares : Data → Bool
 has_shares tree = passes (is_array_of is_member) (get (codes "shares") tree)
 

@@ -21,7 +21,6 @@ use Rattle.game_text.specs.declared.command.Command.{Command}
 use Rattle.kinds.specs.declared.refusal.Refusal.{Refusal}
 use Rattle.kinds.specs.declared.refusal.Refusal.TheVariants.{Names, Proposal, TooFine, Certificate}
 
--- the test of its own that the class of the game makes, and then the rest
 abbrev pub own_refusal : Data → Option Refusal → Option Refusal
 own_refusal game rest = unless (own_test game).1 (own_test game).0 rest
 
@@ -29,26 +28,21 @@ own_refusal game rest = unless (own_test game).1 (own_test game).0 rest
 abbrev pub game_refusal : Data → Option Refusal → Option Refusal
 game_refusal game rest = unless (has_names game) Names (own_refusal game rest)
 
--- as many shares as players, over a denominator that isn't too large, and then the rest
 abbrev pub proposal_refusal : Data → Data → Option Refusal → Option Refusal
 proposal_refusal game tree rest =
     unless (has_shares_for (players game) tree) Proposal (
     unless (keep_limits (scaled_shares (scale_of game) tree)) TooFine rest)
 
--- the tests of the shares that a command needs, and then the rest
 abbrev pub share_refusal : Command → Data → Data → Option Refusal → Option Refusal
 share_refusal command game tree rest =
     unless (has_needed_shares command game tree) Proposal (
     unless (needed_keep_limits command game tree) TooFine rest)
 
--- the test of the certificate that a command needs
 abbrev pub certificate_refusal : Command → Data → Data → Option Refusal
 certificate_refusal command game tree = unless (has_needed_form command game tree) Certificate None
 
--- the tests of what a command needs beside the game
 abbrev pub needed_refusal : Command → Data → Data → Option Refusal
 needed_refusal command game tree = share_refusal command game tree (certificate_refusal command game tree)
 
--- the tests behind those of the shape, the players and the numbers
 abbrev pub late_refusal : Command → Data → Data → Option Refusal
 late_refusal command game tree = game_refusal game (needed_refusal command game tree)

@@ -10,7 +10,6 @@ use Rattle.json_texts.specs.Newlines.{without_newline}
 use Rattle.game_text.specs.declared.command.Command.{Command}
 use Rattle.game_text.specs.Needs.{needs}
 
--- the most bytes that a document for a command may have
 abbrev pub document_limit : Command → ℕ
 document_limit command = (needs command).limit
 

@@ -34,6 +34,5 @@ abbrev pub has_voting_numbers : Data → Bool
 has_voting_numbers game =
     passes (is_cost 1) (get (codes "quota") game) && list_all (is_cost 1) (parts_at (codes "weights") game)
 
--- the weights sum to at most 1,000, and the quota is from 1 to their sum
 abbrev pub is_quota : ℕ → List ℕ → Bool
 is_quota quota weights = nat_le (sum weights) 1000 && nat_lt 0 quota && nat_le quota (sum weights)

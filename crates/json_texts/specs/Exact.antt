@@ -21,7 +21,6 @@ use Rattle.serde_json.specs.Find.{get, is_float}
 use Rattle.serde_json.specs.Read.{read, max_depth}
 use Rattle.serde_json.specs.Written.{compact_text, has_float}
 
--- an integer of 64 bits, in its one form
 abbrev pub IsExactNumber : Num → Type 0
 IsExactNumber (unsigned n) = n < 2 ^ 64
 IsExactNumber (negative (pos n)) = ⊥
@@ -77,7 +76,6 @@ WrittenIsReadBack = (d : Data) → IsExact d → depth d ≤ max_depth → read 
 abbrev pub ReadIsOrdered : Type 0
 ReadIsOrdered = (text : List ℕ) (d : Data) → read text ≡ Some d → IsOrdered d × (depth d ≤ max_depth)
 
--- an ordered tree without a float is exact
 abbrev pub OrderedIsExact : Type 0
 OrderedIsExact = (d : Data) → IsOrdered d → has_float d ≡ false → IsExact d
 

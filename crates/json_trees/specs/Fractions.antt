@@ -25,7 +25,6 @@ written_fraction d (Some text) = parsed text
 abbrev pub fraction_of : Data → Option Fraction
 fraction_of d = written_fraction d (as_str d)
 
--- an integer, or a fraction text
 abbrev pub is_fraction : Data → Bool
 is_fraction d = is_some (fraction_of d)
 

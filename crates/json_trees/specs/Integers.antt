@@ -9,11 +9,9 @@ use Rattle.serde_json.specs.Data.{Data}
 use Rattle.serde_json.specs.Find.{get}
 use Rattle.json_trees.specs.Trees.{integer}
 
--- an integer
 abbrev pub is_integer : Data → Bool
 is_integer d = is_some (integer d)
 
--- the integer that a number is, and 0 for anything else
 abbrev pub integer_or_zero : Data → ℤ
 integer_or_zero d = unwrap_or (integer d) (pos 0)
 
@@ -21,7 +19,6 @@ integer_or_zero d = unwrap_or (integer d) (pos 0)
 abbrev pub integer_at : List ℕ → Data → ℤ
 integer_at key d = unwrap_or (option_and_then integer (get key d)) (pos 0)
 
--- the integer of the second of two items
 abbrev pub second_integer : List Data → ℤ
 second_integer (x ∷ y ∷ []) = integer_or_zero y
 second_integer _ = pos 0

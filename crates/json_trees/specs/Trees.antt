@@ -25,21 +25,17 @@ use Rattle.std.specs.List.{list_all}
 use Rattle.serde_json.specs.Data.{Data, Items, no_items, item, Members, no_members, member}
 use Rattle.serde_json.specs.Find.{get, as_number, as_i64, as_str, as_array, as_object}
 
--- the items of an array, as a list
 abbrev pub listed : Items → List Data
 listed no_items = []
 listed (item d ds) = d ∷ listed ds
 
--- the items of an array, and none of anything else
 abbrev pub parts : Data → List Data
 parts d = unwrap_or (option_map listed (as_array d)) []
 
--- the keys of the members, as a list
 abbrev pub keys_of : Members → List (List ℕ)
 keys_of no_members = []
 keys_of (member k d ms) = k ∷ keys_of ms
 
--- the keys of an object, and none of anything else
 abbrev pub keys : Data → List (List ℕ)
 keys d = unwrap_or (option_map keys_of (as_object d)) []
 
@@ -53,11 +49,9 @@ abbrev pub passes_if_there : (Data → Bool) → Option Data → Bool
 passes_if_there test None = true
 passes_if_there test (Some d) = test d
 
--- a number of any kind
 abbrev pub is_number : Data → Bool
 is_number d = is_some (as_number d)
 
--- a text
 abbrev pub is_text : Data → Bool
 is_text d = is_some (as_str d)
 
@@ -86,7 +80,6 @@ text_of d = unwrap_or (as_str d) []
 abbrev pub parts_at : List ℕ → Data → List Data
 parts_at key d = unwrap_or (option_map parts (get key d)) []
 
--- the items of the first item
 abbrev pub first_parts : List Data → List Data
 first_parts [] = []
 first_parts (x ∷ xs) = parts x
@@ -100,7 +93,6 @@ abbrev pub second_passes : (Data → Bool) → List Data → Bool
 second_passes test (x ∷ y ∷ []) = test y
 second_passes test _ = false
 
--- a number or a text
 abbrev pub is_member : Data → Bool
 is_member d = is_number d || is_text d
 

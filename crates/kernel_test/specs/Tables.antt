@@ -19,7 +19,6 @@ use Rattle.definitions.specs.Games.{Game, Allocation}
 use Rattle.definitions.specs.Prekernel.{IsSurplus}
 use Rattle.worth_core.specs.Greatest.{max_so_far}
 
--- the number in row i and column j
 abbrev pub number_at : List (Option ℤ) → ℕ → ℕ → Option ℤ
 number_at table i j = slice_index_or table (16 * i + j) None
 
@@ -27,11 +26,9 @@ number_at table i j = slice_index_or table (16 * i + j) None
 abbrev pub raised_where : Bool → Option ℤ → ℤ → Option ℤ
 raised_where test most e = if test then Some (max_so_far most e) else most
 
--- the floor of row i
 abbrev pub floor_of : List (Option ℤ) → ℕ → Option ℤ
 floor_of least i = slice_index_or least i None
 
--- the least so far is below a number, or isn't known
 abbrev pub is_less_so_far : Option ℤ → ℤ → Bool
 is_less_so_far None e = true
 is_less_so_far (Some m) e = int_lt m e
@@ -63,7 +60,6 @@ AreFloors table least = (i : ℕ) → i < 16 → IsFloor table i 16 (floor_of le
 abbrev pub AreThere : ℕ → List (Option ℤ) → Type 0
 AreThere n table = (i j : ℕ) → i < n → j < n → i ≢ j → IsSome (number_at table i j)
 
--- each number is the surplus of the row's player against the column's
 abbrev pub AreSurpluses : Game → Allocation → List (Option ℤ) → Type 0
 AreSurpluses g x table =
     (i j : ℕ) → i < g.players → j < g.players → i ≢ j

@@ -34,7 +34,6 @@ abbrev pub IsLevelVector : ℕ → List Level → ℕ → Type 0
 IsLevelVector n levels t =
     IsTrue (is_listed levels t) ⊎ ((i : ℕ) × (i < n) × (t ≡ singleton i) × IsTrue (has_bound levels i))
 
--- coalitions span exactly what levels fix
 pub record SpansFixed (n : ℕ) (kept : List ℕ) (levels : List Level) : Type 0 where
   pub inside : (s : ℕ) → InSpan n (IsKept kept) s → InSpan n (IsFixedVector n levels) s
   pub outside : (s : ℕ) → InSpan n (IsFixedVector n levels) s → InSpan n (IsKept kept) s

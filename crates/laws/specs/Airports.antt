@@ -45,7 +45,6 @@ WhoNeedsMorePaysNoLessByShapley =
 
 -- ---- Littlechild's payments
 
--- what player i pays, over the denominator
 abbrev pub pays : Allocation → ℕ → ℤ
 pays x i = neg_ℤ (share x i)
 

@@ -67,7 +67,6 @@ EstateTimes =
     (k estate : ℕ) (claims : List ℕ) (s : ℕ) →
     bankruptcy_worth (k * estate) (map (λ c. k * c) claims) s ≡ pos k *ℤ bankruptcy_worth estate claims s
 
--- each entry times k
 abbrev pub matrix_times : ℕ → Matrix → Matrix
 matrix_times k matrix i j = k * matrix i j
 

@@ -10,15 +10,12 @@ use Rattle.definitions.specs.Games.{Game, Allocation, share, IsAllocation, IsEff
 use Rattle.definitions.specs.Players.{AddsNothing, AreInterchangeable}
 use Rattle.definitions.specs.Shapley.{IsShapley}
 
--- a game of n players in which the empty coalition is worth nothing
 abbrev pub IsGameOf : ℕ → Game → Type 0
 IsGameOf n g = (g.players ≡ n) × (g.worth 0 ≡ pos 0)
 
--- each coalition is worth in the game g what it is in a and b together
 abbrev pub IsSum : Game → Game → Game → Type 0
 IsSum a b g = (s : ℕ) → s < 2 ^ g.players → g.worth s ≡ a.worth s +ℤ b.worth s
 
--- the share of player i in x is the sum of those in a and b
 abbrev pub HasSum : Allocation → Allocation → Allocation → ℕ → Type 0
 HasSum a b x i =
     share x i *ℤ (a.den *ℤ b.den) ≡ x.den *ℤ (share a i *ℤ b.den +ℤ share b i *ℤ a.den)

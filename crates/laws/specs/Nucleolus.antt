@@ -56,7 +56,6 @@ WhoAddsNoLessGetsNoLess =
     (family : Family) (measure : Measure) (g : Game) (x : Allocation) (i j : ℕ) → IsMeasurable measure g.players →
     IsNucleolus family measure g x → i < g.players → j < g.players → AddsNoLess g i j → share x j ≤ℤ share x i
 
--- players that the game doesn't tell apart get the same
 abbrev pub AlikePlayersGetAlike : Type 0
 AlikePlayersGetAlike =
     (family : Family) (measure : Measure) (g : Game) (x : Allocation) (i j : ℕ) → IsMeasurable measure g.players →

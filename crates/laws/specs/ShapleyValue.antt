@@ -18,7 +18,6 @@ use Rattle.definitions.specs.Scales.{times}
 use Rattle.definitions.specs.Shapley.{shapley_total, IsShapley}
 use Rattle.laws.specs.StrategicEquivalence.{scaled_game}
 
--- each game has shares that are its Shapley value
 abbrev pub ShapleyValuesExist : Type 0
 ShapleyValuesExist = (g : Game) → (x : Allocation) × IsShapley g x
 
@@ -26,11 +25,9 @@ ShapleyValuesExist = (g : Game) → (x : Allocation) × IsShapley g x
 abbrev pub SharesAddToAll : Type 0
 SharesAddToAll = (g : Game) (x : Allocation) → g.worth 0 ≡ pos 0 → IsShapley g x → IsEfficient g x
 
--- the game in which each coalition is worth what it is in both together
 abbrev pub sum_game : Game → Game → Game
 sum_game g h = record { players = g.players; worth = λ s. g.worth s +ℤ h.worth s }
 
--- the total in the sum of two games is the sum of the totals
 abbrev pub TotalsAdd : Type 0
 TotalsAdd =
     (g h : Game) (i : ℕ) → g.players ≡ h.players →
@@ -46,7 +43,6 @@ WhoAddsNoLessGetsNoLess =
     (g : Game) (x : Allocation) (i j : ℕ) →
     IsShapley g x → i < g.players → j < g.players → AddsNoLess g i j → share x j ≤ℤ share x i
 
--- players that the game doesn't tell apart get the same
 abbrev pub AlikePlayersGetAlike : Type 0
 AlikePlayersGetAlike =
     (g : Game) (x : Allocation) (i j : ℕ) →

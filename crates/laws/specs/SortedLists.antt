@@ -24,7 +24,6 @@ abbrev pub times_in : ℤ → List ℤ → ℕ
 times_in z [] = 0
 times_in z (x ∷ xs) = (if int_eq x z then 1 else 0) + times_in z xs
 
--- no number is greater than one in front of it
 abbrev pub Falls : List ℤ → Type 0
 Falls [] = Unit {0}
 Falls (x ∷ xs) = AllByRecursion (λ y. y ≤ℤ x) xs × Falls xs

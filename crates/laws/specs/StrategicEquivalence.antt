@@ -29,7 +29,6 @@ abbrev pub shifted : (ℕ → ℤ) → Allocation → Allocation
 shifted b x =
     record { shares = map (λ i. share x i +ℤ x.den *ℤ b i) (range_with_len 0 (length x.shares)); den = x.den }
 
--- what the shares are in the game, the moved shares are in the moved game
 pub record AreShiftedAlike (b : ℕ → ℤ) (g : Game) (x : Allocation) : Type 0 where
   pub excess : (s : ℕ) → excess (shifted_game b g) (shifted b x) s ≡ excess g x s
   pub family : (f : Family) → InFamily f g x ↔ InFamily f (shifted_game b g) (shifted b x)
@@ -52,15 +51,12 @@ ShiftsChangeNothing = (b : ℕ → ℤ) (g : Game) (x : Allocation) → IsAlloca
 abbrev pub scaled_game : ℤ → Game → Game
 scaled_game k g = record { players = g.players; worth = λ s. k *ℤ g.worth s }
 
--- k times the game, moved by a number of each player
 abbrev pub equivalent_game : ℤ → (ℕ → ℤ) → Game → Game
 equivalent_game k b g = shifted_game b (scaled_game k g)
 
--- the same done to shares
 abbrev pub equivalent_shares : ℤ → (ℕ → ℤ) → Allocation → Allocation
 equivalent_shares k b x = shifted b (times k x)
 
--- what the shares are in the game, those made of them are in the game made of it
 pub record AreEquivalent (k : ℤ) (b : ℕ → ℤ) (g : Game) (x : Allocation) : Type 0 where
   pub excess : (s : ℕ) → excess (equivalent_game k b g) (equivalent_shares k b x) s ≡ k *ℤ excess g x s
   pub family : (f : Family) → InFamily f g x ↔ InFamily f (equivalent_game k b g) (equivalent_shares k b x)

@@ -55,7 +55,6 @@ pub record IsConsistent (estate : ℕ) (claims : List ℕ) (x : Allocation) : Ty
   pub each_two : (i j : ℕ) → i < length claims → j < length claims → i ≢ j
       → IsGarment (claimed claims x i) (claimed claims x j) (share x i) (share x j)
 
--- the rule's shares are the only ones of this kind
 abbrev pub NoOtherIsConsistent : Type 0
 NoOtherIsConsistent =
     (estate : ℕ) (claims : List ℕ) (x y : Allocation) → IsTalmud estate claims x → IsConsistent estate claims y →
@@ -63,7 +62,6 @@ NoOtherIsConsistent =
 
 -- ---- that there are such shares
 
--- each estate of at most the claims has shares of the rule
 abbrev pub TalmudSharesExist : Type 0
 TalmudSharesExist =
     (estate : ℕ) (claims : List ℕ) → pos estate ≤ℤ sum_below (length claims) (λ k. pos (slice_index claims k)) →
@@ -102,13 +100,11 @@ MoreEstate =
     IsTalmud estate claims x → IsTalmud more claims y →
     i < length claims → (share x i *ℤ y.den) ≤ℤ (share y i *ℤ x.den)
 
--- nobody gets more than the claim, nor less than nothing
 abbrev pub NobodyGetsMore : Type 0
 NobodyGetsMore =
     (estate : ℕ) (claims : List ℕ) (x : Allocation) (i : ℕ) → IsTalmud estate claims x →
     i < length claims → (pos 0 ≤ℤ share x i) × (share x i ≤ℤ claimed claims x i)
 
--- who claims no less gets no less, and loses no less
 abbrev pub WhoClaimsMore : Type 0
 WhoClaimsMore =
     (estate : ℕ) (claims : List ℕ) (x : Allocation) (i j : ℕ) → IsTalmud estate claims x →

@@ -8,7 +8,6 @@ use Rattle.std.specs.Prelude.{◌≡◌, ℕ, List, [], length, All, ℤ, pos, u
 use Rattle.definitions.specs.Classes.{Matrix}
 use Rattle.orders.specs.Numbers.{IsNumber}
 
--- the number of row i and column j, 0 outside
 abbrev pub number_at : List (List ℤ) → ℕ → ℕ → ℤ
 number_at rows i j = slice_index_or (slice_index_or rows i []) j (pos 0)
 
@@ -20,6 +19,5 @@ entries_of rows i j = unsigned_abs (number_at rows i j)
 abbrev pub HaveEntries : List (List ℤ) → Type 0
 HaveEntries rows = All (All IsNumber) rows
 
--- each row has n numbers
 abbrev pub HaveLength : ℕ → List (List ℤ) → Type 0
 HaveLength n rows = All (λ (row : List ℤ). length row ≡ n) rows

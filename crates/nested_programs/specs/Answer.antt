@@ -26,11 +26,9 @@ use Rattle.nested_programs.specs.declared.found.Found.TheVariants.{Point, NoImpu
 use Rattle.nested_programs.specs.declared.found.NestedFault.{NestedFault}
 use Rattle.nested_programs.specs.declared.found.NestedFault.TheVariants.{TooMany, Memory}
 
--- the worths of the players alone, added
 abbrev pub singles : Game → ℤ
 singles g = sum_below g.players (λ i. g.worth (singleton i))
 
--- the family of the game has a member
 abbrev pub HasMember : Family → Game → Type 0
 HasMember family g = (y : Allocation) × InFamily family g y
 
@@ -63,12 +61,10 @@ pub record IsPoint (family : Family) (measure : Measure) (g : Game) (x : Allocat
     pub short : AllByRecursion (IsShort g.players) c.levels
     pub more : SettleMore g.players [] c.levels
 
--- what an answer says
 abbrev pub IsFound : Family → Measure → Game → Found → Type 0
 IsFound family measure g (Point x c) = IsPoint family measure g x c
 IsFound family measure g (NoImputation alone total) = LacksImputation family g alone total
 
--- what a refusal says
 abbrev pub IsFault : Game → NestedFault → Type 0
 IsFault g TooMany = 16 < g.players
 IsFault g Memory = ⊤

@@ -33,7 +33,6 @@ single_id n front i = length (settled_columns n front) + i
 abbrev pub outer_id : ℕ → List Level → ℕ → ℕ
 outer_id n front s = length (settled_columns n front) + (n + n + s)
 
--- a column has a weight of at least 1
 abbrev pub HasWeight : List (ℕ × ℤ) → ℕ → Type 0
 HasWeight [] id = ⊥
 HasWeight (w ∷ ws) id = ((w.0 ≡ id) × (pos 1 ≤ℤ w.1)) ⊎ HasWeight ws id
@@ -68,7 +67,6 @@ pub record Answers (q : Stage) (t : StageAnswer) : Type 0 where
   pub optimal : IsOptimal (program_of q t.outside) t.weights t.weight_den t.multipliers.num t.multipliers.den
   pub follows : Follows q t.weights t.level
 
--- the stage behind the level of an answer
 abbrev pub after : Stage → StageAnswer → Stage
 after q t = behind q (t.level ∷ [])
 
@@ -76,7 +74,6 @@ abbrev pub levels_of : List StageAnswer → List Level
 levels_of [] = []
 levels_of (t ∷ ts) = t.level ∷ levels_of ts
 
--- each answers the stage behind the levels of those in front
 abbrev pub IsChain : Stage → List StageAnswer → Type 0
 IsChain q [] = Unit {0}
 IsChain q (t ∷ ts) = Answers q t × IsChain (after q t) ts

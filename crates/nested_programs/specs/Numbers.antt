@@ -19,7 +19,6 @@ use Rattle.kohlberg.specs.Pairs.{placed}
 use Rattle.separation.specs.Stage.{earlier_of}
 use Rattle.simplex.specs.declared.answer.Optimal.{Optimal}
 
--- weights on distinct columns, each positive and below 2^62
 pub record AreNumbers (weights : List (ℕ × ℤ)) : Type 0 where
   pub positive : AllByRecursion (λ w. pos 1 ≤ℤ w.1) weights
   pub small : AllByRecursion (λ w. unsigned_abs w.1 < 2 ^ 62) weights
@@ -49,7 +48,6 @@ abbrev pub earlier_pairs : List (ℕ × ℤ) → ℕ → List (ℕ × ℕ) → L
 earlier_pairs weights id [] = []
 earlier_pairs weights id (c ∷ cs) = kept c.0 (net weights id (id + 1)) ++ earlier_pairs weights (id + 2) cs
 
--- those of one level
 abbrev pub level_pairs : List (ℕ × ℤ) → ℕ → List (ℕ × ℤ) → List (ℕ × ℤ)
 level_pairs weights id pairs = earlier_pairs weights id (map (λ c. (c.0, 0)) pairs)
 

@@ -1,7 +1,7 @@
 -- For the private functions of this crate.
 -- What multipliers of a stage program say of shares and excesses.
 --
--- reached what the members of a coalition get, and the excess of a level times the coalition's divisor
+--   reached               what a coalition gets, and the excess of a level times what the coalition's is divided by
 --   IsReading             shares and measured excesses of levels, over a denominator, that meet every column
 --   RowMultipliers        multipliers of the rows, over a denominator
 --   share_of, excess_of   the multipliers of a player's row and of a level's row
@@ -45,6 +45,5 @@ share_of m i = slice_index_or m.num i (pos 0)
 abbrev pub excess_of : ℕ → RowMultipliers → ℕ → ℤ
 excess_of n m k = slice_index_or m.num (n + k) (pos 0)
 
--- no coalition is outside
 abbrev pub nowhere : ℕ → Bool
 nowhere s = false

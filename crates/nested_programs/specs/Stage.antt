@@ -25,11 +25,9 @@ pub record Stage : Type 0 where
 abbrev pub stage_of : Family → Measure → Game → List Level → Stage
 stage_of family measure g front = record { family = family; measure = measure; game = g; front = front }
 
--- the same with other levels in front
 abbrev pub with_front : Stage → List Level → Stage
 with_front q levels = stage_of q.family q.measure q.game levels
 
--- the stage behind further levels
 abbrev pub behind : Stage → List Level → Stage
 behind q levels = with_front q (q.front ++ levels)
 

@@ -44,11 +44,9 @@ pub record IsBest (q : Stage) (best : Optimal) : Type 0 where
   pub answer : IsAnswer (program_of q outside) best.weights.items best.weight_den best.multipliers.num.items
       best.multipliers.den
 
--- the multipliers as numbers
 abbrev pub rows_of : Multipliers → RowMultipliers
 rows_of m = record { num = m.num.items; den = m.den }
 
--- the answer that an optimum and its level are
 abbrev pub answer_of : Level → (ℕ → Bool) → Optimal → StageAnswer
 answer_of l outside best = record {
   level = l;
@@ -58,7 +56,6 @@ answer_of l outside best = record {
   multipliers = rows_of best.multipliers;
 }
 
--- the excess of each level is the optimum of its stage
 abbrev pub OwnExcesses : Game → ℕ → List StageAnswer → Type 0
 OwnExcesses g k [] = Unit {0}
 OwnExcesses g k (t ∷ ts) =
@@ -87,7 +84,6 @@ pub record AreStages (q : Stage) (last : Option Multipliers) : Type 0 where
   pub last_is : AreLast stages last
   pub wide : AreWide q.game.players q.front last
 
--- a stage has no endless ray
 abbrev pub IsBounded : Stage → Type 0
 IsBounded q =
     (outside : ℕ → Bool) → ((s : ℕ) → IsTrue (outside s) → IsOutside Span q.game.players q.front s)

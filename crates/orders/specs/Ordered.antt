@@ -13,7 +13,6 @@ pub record OrderedNumbers : Type 0 where
   pub numbers : List ℕ
   pub order : List ℕ
 
--- these parts together
 abbrev pub ordered_numbers : List ℕ → List ℕ → OrderedNumbers
 ordered_numbers numbers order = record { numbers = numbers; order = order }
 

@@ -22,7 +22,6 @@ pub record WorthTable : Type 0 where
   pub players : ℕ
   pub worths : List ℤ
 
--- the game of the listed worths
 abbrev pub game_of : WorthTable → Game
 game_of t = record { players = t.players; worth = table_worth t.worths }
 
@@ -50,7 +49,6 @@ abbrev pub Fits : Measure → Allocation → Type 0
 Fits Plain x = Unit {0}
 Fits PerHead x = IsSmallerPoint x
 
--- the greatest size of a scale
 abbrev pub scale_limit : Measure → ℕ
 scale_limit Plain = 2 ^ 38
 scale_limit PerHead = 2 ^ 28

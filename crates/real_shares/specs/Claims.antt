@@ -34,6 +34,5 @@ abbrev pub InPrekernelForReals : Game → Allocation → Type 0
 InPrekernelForReals g x =
     (N : Numbers Real) → AreReals N → (y : List Real) × IsWrittenAs N g x y × InPrekernelOver N g y
 
--- no real shares lie in the core
 abbrev pub HasNoCoreForReals : Game → Type 0
 HasNoCoreForReals g = (N : Numbers Real) → AreReals N → (y : List Real) → ¬ InCoreOver N g y

@@ -55,12 +55,10 @@ abbrev pub times : {C : Type 0} → Numbers C → ℤ → C → C
 times N (pos k) a = multiple N k a
 times N (negsuc k) a = N.minus (multiple N (suc k) a)
 
--- f 0 + .. + f (n - 1)
 abbrev pub total_below : {C : Type 0} → Numbers C → ℕ → (ℕ → C) → C
 total_below N zero f = N.zero
 total_below N (suc n) f = N.plus (total_below N n f) (f n)
 
--- the sum of the members' numbers
 abbrev pub total_over : {C : Type 0} → Numbers C → ℕ → (ℕ → C) → ℕ → C
 total_over N n a s = total_below N n (λ i. if has_player s i then a i else N.zero)
 

@@ -34,11 +34,9 @@ use Rattle.real_shares.specs.Numbers.{Numbers, AtMost, Equal, times, total_over,
 
 -- ---- shares
 
--- the share of player i
 abbrev pub number_of : {C : Type 0} → Numbers C → List C → ℕ → C
 number_of N y i = slice_index_or y i N.zero
 
--- what the members of s get together
 abbrev pub amount_of : {C : Type 0} → Numbers C → List C → ℕ → C
 amount_of N y s = total_over N (length y) (number_of N y) s
 
@@ -46,7 +44,6 @@ amount_of N y s = total_over N (length y) (number_of N y) s
 abbrev pub excess_of : {C : Type 0} → Numbers C → Game → List C → ℕ → C
 excess_of N g y s = N.plus (times N (g.worth s) N.unit) (N.minus (amount_of N y s))
 
--- the shares add to the worth of all
 abbrev pub IsEfficientOver : {C : Type 0} → Numbers C → Game → List C → Type 0
 IsEfficientOver N g y =
     Equal N (amount_of N y (grand_coalition g.players)) (times N (g.worth (grand_coalition g.players)) N.unit)
@@ -120,7 +117,6 @@ IsNucleolusOver {C} N family measure g x =
 
 -- ---- the core
 
--- efficient, and no coalition is worth more than its members get
 abbrev pub InCoreOver : {C : Type 0} → Numbers C → Game → List C → Type 0
 InCoreOver N g y =
     (length y ≡ g.players) × IsEfficientOver N g y

@@ -33,7 +33,6 @@ use Rattle.real_shares.specs.Reals.{Real, IsAtMost, AreReals}
 use Rattle.real_shares.specs.Claims.{IsNucleolusOverGroups, IsNucleolusForReals, InCoreForReals}
 use Rattle.real_shares.specs.Claims.{InPrekernelForReals, HasNoCoreForReals}
 
--- a certificate that meets its conditions certifies the nucleolus over every such group
 abbrev pub SoundOverGroups : Type 0
 SoundOverGroups =
     (mode : Mode) (family : Family) (measure : Measure) (g : Game) (x : Allocation) (levels : List Level)
@@ -47,7 +46,6 @@ SoundForReals =
     → IsMeasurable measure g.players → HasForm mode g.players levels → Certifies mode family measure g x levels
     → IsNucleolusForReals family measure g x
 
--- the real numbers are a linearly ordered abelian group with a unit above zero
 abbrev pub RealsAreOrdered : Type 0
 RealsAreOrdered = (N : Numbers Real) → AreReals N → IsOrderedGroup N
 
@@ -56,7 +54,6 @@ abbrev pub RealsAreThere : Type 0
 RealsAreThere =
     ((a b : Real) → (¬ IsAtMost a b) ⊎ (¬ (¬ IsAtMost a b))) → (N : Numbers Real) × AreReals N
 
--- the fractions over q, by their numerators
 abbrev pub fractions_over : ℤ → Numbers ℤ
 fractions_over q =
     record { zero = pos 0; unit = q; plus = λ a b. a +ℤ b; minus = λ a. pos 0 -ℤ a; at_most = int_le }
@@ -88,18 +85,15 @@ PairsAreOrdered =
     IsOrderedGroup pairs
     × ((k : ℕ) → Less pairs (times pairs (pos k) pairs.unit) (λ i. if nat_eq i 0 then pos 1 else pos 0))
 
--- no core point over a group stands beside a balanced collection of excess worth
 abbrev pub CollectionsBlockOverGroups : Type 0
 CollectionsBlockOverGroups =
     (g : Game) (ps : List (ℕ × ℤ)) (k : ℤ) → IsBalancedOfExcessWorth g ps k
     → (N : Numbers (ℕ → ℤ)) → IsOrderedGroup N → (y : List (ℕ → ℤ)) → ¬ InCoreOver N g y
 
--- and none in real shares
 abbrev pub CollectionsBlockForReals : Type 0
 CollectionsBlockForReals =
     (g : Game) (ps : List (ℕ × ℤ)) (k : ℤ) → IsBalancedOfExcessWorth g ps k → HasNoCoreForReals g
 
--- a core point in fractions, written as real numbers, is a core point in real shares
 abbrev pub CorePointsForReals : Type 0
 CorePointsForReals = (g : Game) (x : Allocation) → InCore g x → InCoreForReals g x
 
@@ -107,13 +101,11 @@ CorePointsForReals = (g : Game) (x : Allocation) → InCore g x → InCoreForRea
 abbrev pub PrekernelForReals : Type 0
 PrekernelForReals = (g : Game) (x : Allocation) → InPrekernel g x → InPrekernelForReals g x
 
--- a game has at most one nucleolus among real shares
 abbrev pub OneAmongReals : Type 0
 OneAmongReals =
     (N : Numbers Real) → AreReals N → (family : Family) (measure : Measure) (g : Game) (y z : List Real)
     → IsNucleolusAmong N family measure g y → IsNucleolusAmong N family measure g z → HaveSameShares N g y z
 
--- a member of the family over a group that the nucleolus doesn't beat has its shares
 abbrev pub UnbeatenIsSame : Type 0
 UnbeatenIsSame =
     (N : Numbers (ℕ → ℤ)) (family : Family) (measure : Measure) (g : Game) (x : Allocation) (y : List (ℕ → ℤ))

@@ -25,7 +25,6 @@ edge_cost k z = edge_cost_by (nat_eq k 1) k z
 abbrev pub edge_tree : ℕ → ℕ × ℕ × ℤ → Data
 edge_tree k e = array (item (count_data e.0) (item (count_data e.1) (item (edge_cost k e.2) no_items)))
 
--- the edges in the order of connection
 abbrev pub edge_list : ℕ → List (ℕ × ℕ × ℤ) → Data
 edge_list k edges = array (items_of (map (edge_tree k) edges))
 

@@ -19,31 +19,24 @@ use Rattle.kohlberg.specs.Certificate.{CertificateData}
 use Rattle.report.specs.Values.{scaled_data, player_data, player_numbers}
 use Rattle.report.specs.Words.{mode_word}
 
--- a weight, or a total
 abbrev pub weight_data : ℤ → Data
 weight_data z = number (of_integer z)
 
--- what has a weight, and its weight
 abbrev pub weight_pair : {K : Type 0} → (K → Data) → K × ℤ → Data
 weight_pair data_of p = array (item (data_of p.0) (item (weight_data p.1) no_items))
 
--- a coalition and its weight
 abbrev pub coalition_pair : ℕ × ℤ → Data
 coalition_pair = weight_pair player_numbers
 
--- a player and the weight of its bound
 abbrev pub bound_pair : ℕ × ℤ → Data
 bound_pair = weight_pair player_data
 
--- coalitions and their weights
 abbrev pub coalition_pairs : List (ℕ × ℤ) → Data
 coalition_pairs ps = array (items_of (map coalition_pair ps))
 
--- players and the weights of their bounds
 abbrev pub bound_pairs : List (ℕ × ℤ) → Data
 bound_pairs ps = array (items_of (map bound_pair ps))
 
--- the excess of a level, as a fraction
 abbrev pub excess_of : Level → Fraction
 excess_of l = record { num = l.excess_num; den = l.excess_den }
 

@@ -10,7 +10,6 @@ use Rattle.report.specs.Values.{integer_data}
 use Rattle.report.specs.Certificates.{weight_data, coalition_pairs}
 use Rattle.report.specs.ShareLists.{share_list}
 
--- a point of the core
 abbrev pub core_point_tree : ℕ → Bool → Allocation → Data
 core_point_tree k is_cost x =
     object

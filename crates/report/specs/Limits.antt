@@ -70,7 +70,6 @@ HasFineNumbers (Summary s) = IsFineIfThere s.greatest
 abbrev pub IsGameTree : Data → Type 0
 IsGameTree d = (has_float d ≡ false) × (depth d ≤ 8)
 
--- the weights and the k of a collection are below 2^63 in size
 pub record HasSmallNumbers (c : CollectionData) : Type 0 where
   pub weights : AllByRecursion (λ p. IsSmall p.1) c.weights
   pub k : IsSmall c.k
@@ -100,7 +99,6 @@ pub record IsPrintable (answer : Answer) : Type 0 where
   pub fine : HasFineNumbers answer
   pub form : HasPrintableForm answer
 
--- the weights and the total of a level are below 2^63 in size
 pub record HasSmallWeights (l : Level) : Type 0 where
   pub coalitions : AllByRecursion (λ p. IsSmall p.1) l.coalitions
   pub earlier : AllByRecursion (λ p. IsSmall p.1) l.earlier

@@ -14,7 +14,6 @@ use Rattle.report.specs.ShareLists.{share_list}
 abbrev pub pair_tree : ℕ × ℕ → Data
 pair_tree p = array (item (player_data p.0) (item (player_data p.1) no_items))
 
--- all pairs, the buyers ascending
 abbrev pub pair_list : List (ℕ × ℕ) → Data
 pair_list pairs = array (items_of (map pair_tree pairs))
 

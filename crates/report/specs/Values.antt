@@ -14,7 +14,6 @@ use Rattle.fractions.specs.Fraction.{Fraction}
 use Rattle.fractions.specs.FractionTexts.{fraction_text}
 use Rattle.json_trees.specs.LowestTerms.{over_scale}
 
--- the text of a fraction
 abbrev pub fraction_data : Fraction → Data
 fraction_data f = string (fraction_text f)
 
@@ -26,11 +25,9 @@ scaled_data k f = fraction_data (over_scale (pos k) f)
 abbrev pub integer_data : ℕ → ℤ → Data
 integer_data k z = scaled_data k (record { num = z; den = pos 1 })
 
--- a level, or the number of a refusal or a reason
 abbrev pub count_data : ℕ → Data
 count_data n = number (unsigned n)
 
--- a player, from 1
 abbrev pub player_data : ℕ → Data
 player_data i = number (unsigned (i + 1))
 

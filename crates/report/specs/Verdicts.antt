@@ -20,19 +20,16 @@ use Rattle.kohlberg.specs.declared.verdicts.Reason.TheVariants.{WeightSign, Unba
 use Rattle.kohlberg.specs.declared.verdicts.Reason.TheVariants.{NotAll}
 use Rattle.report.specs.Values.{scaled_data, count_data, player_data, player_numbers}
 
--- a reason without a place
 abbrev pub no_alone : ℕ → Data
 no_alone reason =
     object (member (codes "answer") (string (codes "no")) (member (codes "reason") (count_data reason) no_members))
 
--- a reason with a player
 abbrev pub no_at_player : ℕ → ℕ → Data
 no_at_player reason i =
     object
     (member (codes "answer") (string (codes "no"))
     (member (codes "player") (player_data i) (member (codes "reason") (count_data reason) no_members)))
 
--- a reason with a level and a coalition
 abbrev pub no_at_coalition : ℕ → ℕ → ℕ → Data
 no_at_coalition reason j s =
     object
@@ -40,7 +37,6 @@ no_at_coalition reason j s =
     (member (codes "coalition") (player_numbers s)
     (member (codes "level") (count_data j) (member (codes "reason") (count_data reason) no_members))))
 
--- a reason with a level and a player
 abbrev pub no_at_level : ℕ → ℕ → ℕ → Data
 no_at_level reason j i =
     object
@@ -56,7 +52,6 @@ no_above k reason j e =
     (member (codes "excess") (scaled_data k e)
     (member (codes "level") (count_data j) (member (codes "reason") (count_data reason) no_members))))
 
--- the first condition that fails
 abbrev pub reason_tree : ℕ → Reason → Data
 reason_tree k NotEfficient = no_alone 1
 reason_tree k (NotIndividual i) = no_at_player 2 i
@@ -68,7 +63,6 @@ reason_tree k (BoundNotTight j i) = no_at_level 6 j i
 reason_tree k (OutsideAbove j e) = no_above k 7 j e
 reason_tree k (NotAll i) = no_at_player 8 i
 
--- yes, or no and why
 abbrev pub verdict_tree : ℕ → Verdict → Data
 verdict_tree k Yes = object (member (codes "answer") (string (codes "yes")) no_members)
 verdict_tree k (No r) = reason_tree k r

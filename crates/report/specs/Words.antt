@@ -19,7 +19,6 @@ use Rattle.kinds.specs.declared.refusal.Refusal.TheVariants.{TooFine, Certificat
 use Rattle.report.specs.declared.answer.UsageKind.{UsageKind}
 use Rattle.report.specs.declared.answer.UsageKind.TheVariants as usage
 
--- the name of a refusal
 abbrev pub refusal_name : Refusal → List ℕ
 refusal_name TooLong = codes "TooLong"
 refusal_name NotJson = codes "NotJson"

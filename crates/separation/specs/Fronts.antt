@@ -29,7 +29,6 @@ abbrev pub front_level : Option Front → Option ℕ
 front_level None = None
 front_level (Some f) = Some (length f.levels.now)
 
--- the number of level rows
 abbrev pub front_rows : Option Front → ℕ
 front_rows None = 0
 front_rows (Some f) = length f.levels.now + 1

@@ -33,11 +33,9 @@ plain_entry measure n s level r =
     if nat_lt r n then (if has_player s r then pos 1 else pos 0)
     else (if is_level level (r - n) then pos (divisor measure s) else pos 0)
 
--- the entry of a column in a row
 abbrev pub column_entry : Measure → ℕ → Column → ℕ → ℤ
 column_entry measure n c r = signed c.negated (plain_entry measure n c.coalition c.level r)
 
--- the column under a number
 abbrev pub column_at : List (Option Column) → ℕ → Option Column
 column_at columns id = slice_index_or columns id None
 
@@ -70,7 +68,6 @@ pub record AreSmall (levels : ℕ) (columns : List (Option Column)) : Type 0 whe
   pub costs : (id : ℕ) → ForSome (column_at columns id) (λ c. unsigned_abs c.cost < 2 ^ 46)
   pub rows : (id : ℕ) → ForSome (column_at columns id) (λ c. ForSome c.level (λ l. l < levels))
 
--- per head, few rows and columns with a small sum of sizes
 abbrev pub AreShort : Measure → ℕ → ℕ → List (Option Column) → Type 0
 AreShort measure players levels columns =
     measure ≡ PerHead → IsInBandB (kept_program measure players levels columns)

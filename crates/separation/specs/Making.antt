@@ -41,7 +41,6 @@ abbrev pub earlier_columns : Game → List (ℕ × ℕ) → List (Option Column)
 earlier_columns g [] = []
 earlier_columns g (c ∷ cs) = Some (plain g c.0 (Some c.1)) ∷ (Some (minus g c.0 (Some c.1)) ∷ earlier_columns g cs)
 
--- both columns of all players
 abbrev pub whole_columns : Game → ℕ → List (Option Column)
 whole_columns g s = Some (plain g s None) ∷ (Some (minus g s None) ∷ [])
 
@@ -64,7 +63,6 @@ pub record AreOuter (g : Game) (front : List Level) (n : ℕ) (columns : List (O
   pub count : length columns ≡ n
   pub outer : (s : ℕ) → s < n → IsOuter g front s (column_at columns s)
 
--- columns, and behind them those of the coalitions outside
 pub record EndsOuter (g : Game) (front : List Level) (n : ℕ) (columns longer : List (Option Column)) : Type 0 where
   pub outers : List (Option Column)
   pub are : AreOuter g front n outers
@@ -80,6 +78,5 @@ inner_columns family g front =
 abbrev pub balanced_column : Game → ℕ → Option Column
 balanced_column g s = if nat_lt 0 s then Some (plain g s None) else None
 
--- the coalitions of a level are of n players
 pub record AreWithin (n : ℕ) (l : Level) : Type 0 where
   pub coalitions : AllByRecursion (λ c. c.0 < 2 ^ n) l.coalitions

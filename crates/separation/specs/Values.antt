@@ -78,16 +78,13 @@ abbrev pub AreNarrow : List ℤ → ℕ → List ℤ → Type 0
 AreNarrow num n numbers =
     (i : ℕ) → (number_at numbers i ≡ player_multiplier num n i) × (unsigned_abs (number_at numbers i) ≤ 2 ^ 56)
 
--- the multiplier of a column's level row
 abbrev pub level_multiplier : List ℤ → ℕ → Option ℕ → ℤ
 level_multiplier num n None = pos 0
 level_multiplier num n (Some l) = multiplier_at num (n + l)
 
--- the sum of multiplier times entry
 abbrev pub column_value : Measure → List ℤ → ℕ → Column → ℤ
 column_value measure num n c = sum_below (length num) (λ r. multiplier_at num r *ℤ column_entry measure n c r)
 
--- what a cost counts for, with costs or without them
 abbrev pub counted : Bool → ℤ → ℤ
 counted true cost = cost
 counted false cost = pos 0

@@ -8,7 +8,6 @@
 use Rattle.std.specs.Prelude.{ℕ, zero, suc, ◌/◌, Bool, List, length, nat_lt, ℤ, pos, slice_index, if◌then◌else◌}
 use Rattle.definitions.specs.Sums.{sum_below}
 
--- the least common multiple of 1 to 32
 abbrev pub common : ℕ
 common = 144403552893600
 
@@ -16,12 +15,10 @@ common = 144403552893600
 abbrev pub above : (ℕ → ℕ) → ℕ → ℕ → Bool
 above cost u j = nat_lt u (cost j)
 
--- how many players below n are in the set
 abbrev pub count : (ℕ → Bool) → ℕ → ℕ
 count m zero = 0
 count m (suc n) = if m n then suc (count m n) else count m n
 
--- a part of l for each player whose cost is above u
 abbrev pub unit_share : List ℕ → ℕ → ℕ → ℤ
 unit_share costs l u = pos (l / count (above (slice_index costs) u) (length costs))
 

@@ -13,7 +13,6 @@ use Rattle.shapley.specs.Subsets.{subset_total}
 abbrev pub OrdersSumToSubsets : Type 0
 OrdersSumToSubsets = (g : Game) (i : ℕ) → i < g.players → shapley_total g i ≡ subset_total g.worth g.players i
 
--- the list of orders has orders alone, and each one exactly once
 abbrev pub OrdersAreAll : Type 0
 OrdersAreAll =
     (n : ℕ) → AllByRecursion (IsOrder n) (orders n) × ((o : List ℕ) → IsOrder n o → times o (orders n) ≡ 1)

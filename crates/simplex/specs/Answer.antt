@@ -28,7 +28,6 @@ pub record IsAnswer (p : Program) (weights : List (ℕ × ℤ)) (weight_den : �
   pub count : length multipliers ≡ p.rows
   pub bounded : ¬ HasRay p
 
--- some weights solve the program
 pub record HasSolution (p : Program) : Type 0 where
   pub weights : List (ℕ × ℤ)
   pub den : ℤ

@@ -55,7 +55,6 @@ first_columns (suc n) f = f 0 ∷ first_columns n (λ k. f (suc k))
 abbrev pub put : (ℕ → Column) → ℕ → Column → ℕ → Column
 put f k s i = cond (nat_eq i k) s (f i)
 
--- each determinant of columns, units and at most one right side is below 2^58
 pub record AreMinorsSmall (p : Program) : Type 0 where
   pub plain : (f : ℕ → Column) → ((k : ℕ) → k < p.rows → IsOf p (f k))
       → unsigned_abs (det p.rows (first_columns p.rows f)) < 2 ^ 58

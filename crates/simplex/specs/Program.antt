@@ -12,12 +12,10 @@ use Rattle.definitions.specs.Programs.{Program}
 use Rattle.determinants.specs.Determinant.{Column}
 use Rattle.determinants.specs.Basis.{unit}
 
--- the cost of a column, or 0 where costs don't count
 abbrev pub price : Program → Bool → ℕ → ℤ
 price p true id = p.cost id
 price p false id = pos 0
 
--- the program, or the program whose costs are all 0
 abbrev pub priced : Program → Bool → Program
 priced p with_costs =
     record { rows = p.rows; right = p.right; is_column = p.is_column; entry = p.entry; cost = price p with_costs }
@@ -26,14 +24,11 @@ priced p with_costs =
 unfoldable pub flipped : ℕ → (ℕ → ℤ) → Column
 flipped n a i = cond (nat_lt i n) (a (n - 1 - i)) (pos 0)
 
--- a column of the program, from its last row
 abbrev pub column : Program → ℕ → Column
 column p id = flipped p.rows (p.entry id)
 
--- the right sides, from the last row
 abbrev pub right_side : Program → Column
 right_side p = flipped p.rows p.right
 
--- a column of the program, or the unit of one of its rows
 abbrev pub IsOf : Program → Column → Type 0
 IsOf p c = ((id : ℕ) × IsTrue (p.is_column id) × (c ≡ column p id)) ⊎ ((i : ℕ) × (i < p.rows) × (c ≡ unit i))

@@ -14,7 +14,6 @@ use Rattle.definitions.specs.Coalitions.{sum_over}
 abbrev pub number_at : List ℤ → ℕ → ℤ
 number_at numbers i = slice_index_or numbers i (pos 0)
 
--- the sum over a coalition of the eight players from `first` on
 abbrev pub eight_sum : List ℤ → ℕ → ℕ → ℤ
 eight_sum numbers first s = sum_over 8 (λ i. number_at numbers (first + i)) s
 
@@ -23,7 +22,6 @@ pub record IsEightSum (numbers : List ℤ) (first s : ℕ) (z : ℤ) : Type 0 wh
   pub value : z ≡ eight_sum numbers first s
   pub small : (b : ℕ) → ((i : ℕ) → unsigned_abs (number_at numbers i) ≤ b) → unsigned_abs z ≤ 8 * b
 
--- the tables of the first eight players and of the next eight
 pub record AreEightSums (numbers low high : List ℤ) : Type 0 where
   pub low_is : (s : ℕ) → s < 256 → IsEightSum numbers 0 s (slice_index_or low s (pos 0))
   pub high_is : (s : ℕ) → s < 256 → IsEightSum numbers 8 s (slice_index_or high s (pos 0))

@@ -11,8 +11,8 @@ pub struct PlayerSums {
     pub high: [i64; 256],
 }
 
-/// Puts the sums over the coalitions with one more of the eight players from `first` on behind those over the coalitions
-/// of the players before it.
+/// Puts the sums over the coalitions with one more of the eight players from `first` on behind those over the
+/// coalitions of the players before it.
 fn add_player(sums: &mut [i64; 256], numbers: &[i64; 16], first: u32, player: u32)
     requires first { first ≤ 8 }
     requires player { player < 8 }

@@ -12,11 +12,9 @@ use Rattle.std.specs.Prelude.{◌+ℤ◌, ◌-ℤ◌, ◌*ℤ◌, ◌<ℤ◌, �
 use Rattle.definitions.specs.Sums.{sum_below}
 use Rattle.orders.specs.Ordered.{OrderedNumbers, number_at}
 
--- the sum of the claims
 abbrev pub claim_sum : OrderedNumbers → ℤ
 claim_sum c = sum_below (length c.numbers) (λ i. pos (slice_index c.numbers i))
 
--- what is divided by halves: the estate, or what the claims are above it
 abbrev pub divided : ℕ → OrderedNumbers → Bool → ℤ
 divided estate c gain = if gain then pos estate else claim_sum c -ℤ pos estate
 
@@ -28,7 +26,6 @@ pub record IsSplit (n : ℕ) (claim : ℕ → ℕ) (double m left : ℕ) : Type 
   pub most : left ≤ double
   pub under : (j : ℕ) → j < m → claim j * (n - m) ≤ left
 
--- whether the estate is at most half of the claims
 pub record IsSide (estate : ℕ) (c : OrderedNumbers) (gain : Bool) : Type 0 where
   pub little : gain ≡ true → (pos estate +ℤ pos estate) ≤ℤ claim_sum c
   pub much : gain ≡ false → claim_sum c <ℤ (pos estate +ℤ pos estate)

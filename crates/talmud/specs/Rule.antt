@@ -13,7 +13,6 @@ use Rattle.std.specs.Int.{int_min}
 use Rattle.definitions.specs.Sums.{sum_below}
 use Rattle.definitions.specs.Games.{Allocation, share}
 
--- the claims, each cut to the estate
 abbrev pub cut_claims : ℕ → List ℕ → List ℕ
 cut_claims estate claims = map (λ c. min c estate) claims
 
@@ -29,7 +28,6 @@ cut_sum estate claims = sum_below (length claims) (λ i. pos (cut estate claims 
 abbrev pub loss : ℕ → List ℕ → Allocation → ℕ → ℤ
 loss estate claims x i = x.den *ℤ pos (cut estate claims i) -ℤ share x i
 
--- the estate is at most half of the cut claims
 abbrev pub is_little : ℕ → List ℕ → Bool
 is_little estate claims = int_le (pos estate +ℤ pos estate) (cut_sum estate claims)
 

@@ -49,7 +49,6 @@ prim_cost matrix points (suc k) connected waiting =
 abbrev pub nearest : Matrix → ℕ → (ℕ → Bool) → ℕ → ℕ
 nearest matrix points waiting b = closest (entry matrix b) waiting points
 
--- that entry
 abbrev pub reach : Matrix → ℕ → (ℕ → Bool) → ℕ → ℕ
 reach matrix points waiting b = entry matrix b (nearest matrix points waiting b)
 

@@ -21,11 +21,9 @@ use Rattle.tree_games.specs.Steps.{prim_cost}
 use Rattle.tree_games.specs.declared.tree_game.TreeFault.{TreeFault}
 use Rattle.tree_games.specs.declared.tree_game.TreeFault.TheVariants.{Players, Number, Matrix as Unlinked, Memory}
 
--- 2 to 17 rows: a source and 1 to 16 players
 abbrev pub HavePoints : List (List ℤ) → Type 0
 HavePoints rows = (2 ≤ length rows) × (length rows ≤ 17)
 
--- square, the same in both directions, and 0 from a point to itself
 pub record AreLinks (rows : List (List ℤ)) : Type 0 where
   pub square : HaveLength (length rows) rows
   pub symmetric : IsSymmetric (entries_of rows)

@@ -22,27 +22,22 @@ use Rattle.std.specs.Ordering.{int_eq}
 use Rattle.voting.specs.declared.candidate.Candidate.{Candidate}
 use Rattle.voting.specs.declared.layer.Layer.{Layer}
 
--- d has a greater sum, or the same and a lesser mask
 abbrev pub is_behind : Candidate → Candidate → Bool
 is_behind c d = int_lt c.sum d.sum || (int_eq c.sum d.sum && nat_lt d.coalition c.coalition)
 
--- the one of the two that isn't behind, where there are any
 abbrev pub better : Option Candidate → Option Candidate → Option Candidate
 better None d = d
 better (Some c) None = Some c
 better (Some c) (Some d) = Some (if is_behind c d then d else c)
 
--- the candidate with player i, whose number that is
 abbrev pub joined : Option Candidate → ℕ → ℤ → Option Candidate
 joined None i number = None
 joined (Some c) i number = Some (record { sum = c.sum +ℤ number; coalition = c.coalition + 2 ^ i })
 
--- the candidate with a number added to its sum
 abbrev pub raised : Option Candidate → ℤ → Option Candidate
 raised None number = None
 raised (Some c) number = Some (record { sum = c.sum +ℤ number; coalition = c.coalition })
 
--- the candidate of weight w
 abbrev pub at_weight : Layer → ℕ → Option Candidate
 at_weight l w = slice_index_or l.entries w None
 
@@ -61,7 +56,6 @@ best_below more quota l zero = None
 best_below more quota l (suc w) =
     better (best_below more quota l w) (raised (at_weight l w) (if nat_le quota w then more else pos 0))
 
--- the coalition of a candidate whose sum is positive
 abbrev pub chosen_of : Option Candidate → Option ℕ
 chosen_of None = None
 chosen_of (Some c) = if int_lt (pos 0) c.sum then Some c.coalition else None

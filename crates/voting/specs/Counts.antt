@@ -25,23 +25,18 @@ use Rattle.shapley.specs.Layers.{common}
 use Rattle.voting.specs.declared.counts.Row.{Row}
 use Rattle.voting.specs.declared.counts.Table.{Table}
 
--- the count of weight w in a row
 abbrev pub way_at : Row → ℕ → ℕ
 way_at r w = slice_index r.ways w
 
--- the row of a size
 abbrev pub row_at : Table → ℕ → Row
 row_at t size = slice_index_or t.rows.items size (record { ways = [] })
 
--- the count of that size and weight in a table
 abbrev pub ways_at : Table → ℕ → ℕ → ℕ
 ways_at t size w = way_at (row_at t size) w
 
--- what one more player of that weight brings from a row to weight w
 abbrev pub lighter : Row → ℕ → ℕ → ℕ
 lighter r weight w = if nat_le weight w then way_at r (w - weight) else 0
 
--- the same from the row of the size that is one less
 abbrev pub smaller : Table → ℕ → ℕ → ℕ → ℕ
 smaller t size weight w = if nat_le 1 size then lighter (row_at t (size - 1)) weight w else 0
 
@@ -64,7 +59,6 @@ ways weight i (suc j) size w =
     else ways weight i j size w
     + (if nat_le 1 size && nat_le (weight j) w then ways weight i j (size - 1) (w - weight j) else 0)
 
--- the table of these counts
 pub record IsTable (weight : ℕ → ℕ) (i j : ℕ) (t : Table) : Type 0 where
   pub each : (size w : ℕ) → size < 32 → w < 1001 → ways_at t size w ≡ ways weight i j size w
 
@@ -72,7 +66,6 @@ pub record IsTable (weight : ℕ → ℕ) (i j : ℕ) (t : Table) : Type 0 where
 abbrev pub range_total : Row → ℕ → ℕ → ℤ
 range_total r low high = sum_below high (λ w. if nat_le low w then pos (way_at r w) else pos 0)
 
--- the same of all coalitions of a size without player i
 abbrev pub row_total : (ℕ → ℕ) → ℕ → ℕ → ℕ → ℕ → ℕ → ℤ
 row_total weight i n size low high =
     sum_below high (λ w. if nat_le low w then pos (ways weight i n size w) else pos 0)

@@ -18,15 +18,12 @@ use Rattle.voting.specs.declared.layer.Layer.{Layer}
 use Rattle.voting.specs.declared.split_layers.SplitLayers.{SplitLayers}
 use Rattle.voting.specs.Candidates.{at_weight, IsBest, AreSmall}
 
--- the answer is yes where it is needed
 abbrev pub passes : Bool → Bool → Bool
 passes needed answer = if needed then answer else true
 
--- s holds some of the first players of f
 abbrev pub holds_one_of : ℕ → ℕ → ℕ → Bool
 holds_one_of f count s = some_below count (λ i. has_player f i && has_player s i)
 
--- s lacks some of the first players of f
 abbrev pub lacks_one_of : ℕ → ℕ → ℕ → Bool
 lacks_one_of f count s = some_below count (λ i. has_player f i && not (has_player s i))
 
@@ -46,7 +43,6 @@ pub record Numbers : Type 0 where
 abbrev pub weights : Numbers → ℕ → ℤ
 weights m i = pos (m.weight i)
 
--- one of the kind, of that weight
 abbrev pub IsOfWeight : Numbers → Bool → Bool → ℕ → ℕ → ℕ → ℕ → Type 0
 IsOfWeight m holding lacking f count w s =
     IsOfKind holding lacking f count s × (sum_over m.players (weights m) s ≡ pos w)

@@ -21,7 +21,6 @@ pub record Voting : Type 0 where
   pub quota : ℕ
   pub weights : List ℕ
 
--- these parts together
 abbrev pub voting : ℕ → List ℕ → Voting
 voting quota weights = record { quota = quota; weights = weights }
 
@@ -34,13 +33,11 @@ pub record IsVoting (g : Voting) : Type 0 where
   pub positive : 1 ≤ g.quota
   pub reached : g.quota ≤ sum g.weights
 
--- the game of a quota and weights
 abbrev pub voting_game : Voting → Game
 voting_game g = record { players = length g.weights; worth = voting_worth g.quota g.weights }
 
 -- ---- what the constructor refuses
 
--- there are 1 to 32 weights
 abbrev pub HavePlayers : List ℤ → Type 0
 HavePlayers weights = (1 ≤ length weights) × (length weights ≤ 32)
 
@@ -48,7 +45,6 @@ HavePlayers weights = (1 ≤ length weights) × (length weights ≤ 32)
 abbrev pub AreNumbers : ℤ → List ℤ → Type 0
 AreNumbers quota weights = IsNumber quota × All IsNumber weights
 
--- the weights sum to at most 1,000, and the quota is from 1 to their sum
 pub record IsQuota (quota : ℤ) (weights : List ℤ) : Type 0 where
   pub light : sum_by unsigned_abs weights ≤ 1000
   pub positive : pos 1 ≤ℤ quota

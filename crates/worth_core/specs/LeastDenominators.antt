@@ -21,7 +21,6 @@ pub record IsLeastDenominator (fs : List Fraction) (d : ℤ) : Type 0 where
   pub common : All (IsWholeTimes (unsigned_abs d)) fs
   pub least : (m : ℕ) → All (IsWholeTimes m) fs → unsigned_abs d ∣ m
 
--- the shares of an allocation as fractions
 abbrev pub as_fractions : Allocation → List Fraction
 as_fractions x = map (λ z. record { num = z; den = x.den }) x.shares
 

@@ -18,7 +18,6 @@ pub record Divided : Type 0 where
   pub excess : ℤ
   pub divisor : ℕ
 
--- an excess below 2 ^ 118 in size, divided by 1 to 64
 pub record IsSmallDivided (d : Divided) : Type 0 where
   pub small : unsigned_abs d.excess < 2 ^ 118
   pub some : 1 ≤ d.divisor
@@ -34,7 +33,6 @@ IsGreatestDivided measure g x P d =
     (t : ℕ) × (t < 2 ^ g.players) × (0 < t) × P t × IsDivided measure g x t d
     × ((u : ℕ) → u < 2 ^ g.players → P u → measured_excess measure g x u ≤ℤ measured_excess measure g x t)
 
--- the first over its divisor is less than the second over its own
 abbrev pub is_below : Divided → Divided → Bool
 is_below d e = int_lt (d.excess *ℤ pos e.divisor) (e.excess *ℤ pos d.divisor)
 

@@ -17,11 +17,9 @@ use Rattle.std.specs.Int.{int_max}
 use Rattle.definitions.specs.Sums.{IsGreatest}
 use Rattle.definitions.specs.Coalitions.{has_player, some_below, sum_over}
 
--- s holds some player of f
 abbrev pub holds_some : ℕ → ℕ → ℕ → Bool
 holds_some n f s = some_below n (λ i. has_player f i && has_player s i)
 
--- s lacks some player of f that is seen
 abbrev pub lacks_some : ℕ → ℕ → ℕ → ℕ → Bool
 lacks_some n f seen s = some_below n (λ i. (has_player f i && has_player seen i) && not (has_player s i))
 
@@ -37,7 +35,6 @@ IsGreatestSum n a f seen test sum =
     MatchOption sum ((s : ℕ) → ¬ IsSeenSet n f seen test s)
     (λ m. IsGreatest (IsSeenSet n f seen test) (sum_over n a) m)
 
--- a sum for each kind of sets, and the number of players seen
 pub record Sums : Type 0 where
   pub neither : Option ℤ
   pub holding : Option ℤ
@@ -75,13 +72,11 @@ pub record AreSmallSums (sums : Sums) : Type 0 where
 
 -- ---- sums that may be missing
 
--- the greater of two sums, where there are any
 abbrev pub greater_sum : Option ℤ → Option ℤ → Option ℤ
 greater_sum None k = k
 greater_sum (Some m) None = Some m
 greater_sum (Some m) (Some k) = Some (int_max m k)
 
--- a sum and one more number
 abbrev pub longer_sum : Option ℤ → ℤ → Option ℤ
 longer_sum None weight = None
 longer_sum (Some m) weight = Some (m +ℤ weight)

@@ -23,13 +23,11 @@ pub record Table : Type 0 where
 abbrev pub table : ℕ → List ℤ → Table
 table n worths = record { players = n; worths = worths }
 
--- 1 to 16 players, and one worth for each coalition but the empty one
 pub record HasEachOnce (t : Table) : Type 0 where
   pub some : 1 ≤ t.players
   pub few : t.players ≤ 16
   pub each_once : length t.worths + 1 ≡ 2 ^ t.players
 
--- each worth is below 2 ^ 40 in size
 abbrev pub AreSmall : List ℤ → Type 0
 AreSmall worths = All (λ w. unsigned_abs w < 2 ^ 40) worths
 
@@ -48,6 +46,5 @@ IsRefused t Memory = ⊥
 abbrev pub table_game : Table → Game
 table_game t = record { players = t.players; worth = table_worth t.worths }
 
--- the game with minus the worths of another
 abbrev pub cost_game : Game → Game
 cost_game g = record { players = g.players; worth = negated_worth g.worth }
