@@ -50,52 +50,6 @@ dot_multiplied : (n : ℕ) (c : ℤ) (w v s : ℕ → ℤ) → ((k : ℕ) → k 
 dot_multiplied n c w v s h =
     sym (dot_scaled n c w s) ∙ dot_cong n (λ k. c *ℤ w k) v s s h (λ k lt. refl)
 
-module _ (P : Program) (s : State) (num : List ℤ) (mden : ℤ) (ws : List (ℕ × ℤ)) (den : ℤ)
-    (st : IsImproving P Second s) (m : AreMultipliersOf s num mden) (b : Bounds P num mden)
-    (r : AreReduced s ws den) where
-  pub reduced_at : (k : ℕ) → k < P.rows → r.common *ℤ r.reduced k ≡ entry_at 32 s.tracked k 0
-  reduced_at k lt = r.reduced_are k (subst (λ (t : ℕ). k < t) (sym st.rows_is) lt)
-
-  pub reduced_nonneg : (k : ℕ) → k < P.rows → pos 0 ≤ℤ r.reduced k
-  reduced_nonneg k lt =
-      quotient_nonneg r.common (r.reduced k) (entry_at 32 s.tracked k 0) r.is_common.positive (reduced_at k lt)
-      (right_nonneg P s st k lt)
-
-  pub list_is : ws ≡ listed s.ids r.reduced P.rows
-  list_is = r.weights_are ∙ ap (listed s.ids r.reduced) st.rows_is
-
-  reduced_sum : (f : ℕ → ℤ)
-      → r.common *ℤ weighted_sum f ws ≡ dot P.rows (λ k. entry_at 32 s.tracked k 0) (λ k. on_id f (id_at s.ids k))
-  reduced_sum f =
-      ap (λ (l : List (ℕ × ℤ)). r.common *ℤ weighted_sum f l) list_is
-      ∙ ap (λ (z : ℤ). r.common *ℤ z) (listed_sum f s.ids r.reduced P.rows reduced_nonneg)
-      ∙ dot_multiplied P.rows r.common r.reduced (λ k. entry_at 32 s.tracked k 0) (λ k. on_id f (id_at s.ids k))
-      reduced_at
-
-  pub is_optimal : IsOptimal P ws den num mden
-  is_optimal = (
-    (
-      (
-        subst (AllByRecursion (λ w. IsTrue (P.is_column w.0) × (pos 0 ≤ℤ w.1))) (sym list_is)
-            (listed_all (λ w. IsTrue (P.is_column w.0) × (pos 0 ≤ℤ w.1)) s.ids r.reduced P.rows
-            (λ j id u lt e f. (is_column_at P s st.table.inverse j id lt e, suc_nonneg u))),
-        subst (λ (l : List (ℕ × ℤ)). IsDistinct nat_eq (map (λ (w : ℕ × ℤ). w.0) l)) (sym list_is)
-            (listed_distinct s.ids r.reduced P.rows (ids_apart P s st.table.inverse)),
-      ),
-      at_least_one den (quotient_positive r.common den s.den r.is_common.positive r.den_is st.table.positive),
-      λ i lt. cancel r.common (weighted_sum (λ id. P.entry id i) ws) (den *ℤ P.right i)
-          (positive_apart r.common r.is_common.positive)
-          (reduced_sum (λ id. P.entry id i) ∙ right_rows P s st i lt
-          ∙ ap (λ (z : ℤ). z *ℤ P.right i) (sym r.den_is) ∙ mul_assocℤ r.common den (P.right i)),
-    ),
-    b,
-    *ℤ_comm (weighted_sum P.cost ws) mden ∙ ap (λ (z : ℤ). z *ℤ weighted_sum P.cost ws) (m.den_is ∙ sym r.den_is)
-        ∙ mul_assocℤ r.common den (weighted_sum P.cost ws) ∙ mul_left_commℤ r.common den (weighted_sum P.cost ws)
-        ∙ ap (λ (z : ℤ). den *ℤ z) (reduced_sum P.cost ∙ sym (value_right P s st num mden m))
-        ∙ *ℤ_comm den (value_of P num P.right),
-  )
-
--- ---- its form
 factor_le : (c w z : ℤ) → pos 0 <ℤ c → c *ℤ w ≡ z → unsigned_abs w ≤ unsigned_abs z
 factor_le c w z p e =
     subst (λ (t : ℕ). unsigned_abs w ≤ t) (sym (unsigned_abs-mul c w) ∙ ap unsigned_abs e)
@@ -126,9 +80,53 @@ zero_quotient c w z p e h = cancel c w (pos 0) (positive_apart c p) (e ∙ h ∙
 suc_positive : (u : ℕ) → pos 1 ≤ℤ pos (suc u)
 suc_positive u = omega (arith, ints)
 
+-- ---- the answer
 module _ (P : Program) (s : State) (num : List ℤ) (mden : ℤ) (ws : List (ℕ × ℤ)) (den : ℤ)
     (st : IsImproving P Second s) (m : AreMultipliersOf s num mden) (b : Bounds P num mden)
     (r : AreReduced s ws den) (tame : IsTame P) where
+  reduced_at : (k : ℕ) → k < P.rows → r.common *ℤ r.reduced k ≡ entry_at 32 s.tracked k 0
+  reduced_at k lt = r.reduced_are k (subst (λ (t : ℕ). k < t) (sym st.rows_is) lt)
+
+  reduced_nonneg : (k : ℕ) → k < P.rows → pos 0 ≤ℤ r.reduced k
+  reduced_nonneg k lt =
+      quotient_nonneg r.common (r.reduced k) (entry_at 32 s.tracked k 0) r.is_common.positive (reduced_at k lt)
+      (right_nonneg P s st k lt)
+
+  list_is : ws ≡ listed s.ids r.reduced P.rows
+  list_is = r.weights_are ∙ ap (listed s.ids r.reduced) st.rows_is
+
+  reduced_sum : (f : ℕ → ℤ)
+      → r.common *ℤ weighted_sum f ws ≡ dot P.rows (λ k. entry_at 32 s.tracked k 0) (λ k. on_id f (id_at s.ids k))
+  reduced_sum f =
+      ap (λ (l : List (ℕ × ℤ)). r.common *ℤ weighted_sum f l) list_is
+      ∙ ap (λ (z : ℤ). r.common *ℤ z) (listed_sum f s.ids r.reduced P.rows reduced_nonneg)
+      ∙ dot_multiplied P.rows r.common r.reduced (λ k. entry_at 32 s.tracked k 0) (λ k. on_id f (id_at s.ids k))
+      reduced_at
+
+  is_optimal : IsOptimal P ws den num mden
+  is_optimal = (
+    (
+      (
+        subst (AllByRecursion (λ w. IsTrue (P.is_column w.0) × (pos 0 ≤ℤ w.1))) (sym list_is)
+            (listed_all (λ w. IsTrue (P.is_column w.0) × (pos 0 ≤ℤ w.1)) s.ids r.reduced P.rows
+            (λ j id u lt e f. (is_column_at P s st.table.inverse j id lt e, suc_nonneg u))),
+        subst (λ (l : List (ℕ × ℤ)). IsDistinct nat_eq (map (λ (w : ℕ × ℤ). w.0) l)) (sym list_is)
+            (listed_distinct s.ids r.reduced P.rows (ids_apart P s st.table.inverse)),
+      ),
+      at_least_one den (quotient_positive r.common den s.den r.is_common.positive r.den_is st.table.positive),
+      λ i lt. cancel r.common (weighted_sum (λ id. P.entry id i) ws) (den *ℤ P.right i)
+          (positive_apart r.common r.is_common.positive)
+          (reduced_sum (λ id. P.entry id i) ∙ right_rows P s st i lt
+          ∙ ap (λ (z : ℤ). z *ℤ P.right i) (sym r.den_is) ∙ mul_assocℤ r.common den (P.right i)),
+    ),
+    b,
+    *ℤ_comm (weighted_sum P.cost ws) mden ∙ ap (λ (z : ℤ). z *ℤ weighted_sum P.cost ws) (m.den_is ∙ sym r.den_is)
+        ∙ mul_assocℤ r.common den (weighted_sum P.cost ws) ∙ mul_left_commℤ r.common den (weighted_sum P.cost ws)
+        ∙ ap (λ (z : ℤ). den *ℤ z) (reduced_sum P.cost ∙ sym (value_right P s st num mden m))
+        ∙ *ℤ_comm den (value_of P num P.right),
+  )
+
+  -- its form
   weight_small : (k : ℕ) → k < P.rows → unsigned_abs (entry_at 32 s.tracked k 0) ≤ 2 ^ 58
   weight_small k lt =
       subst (λ (z : ℤ). unsigned_abs z ≤ 2 ^ 58) (sym (st.table.tracked.tracked k 0 lt (omega arith)))
@@ -138,21 +136,18 @@ module _ (P : Program) (s : State) (num : List ℤ) (mden : ℤ) (ws : List (ℕ
   reduced_small k lt =
       below_62 (unsigned_abs (r.reduced k)) (unsigned_abs (entry_at 32 s.tracked k 0))
       (factor_le r.common (r.reduced k) (entry_at 32 s.tracked k 0) r.is_common.positive
-      (reduced_at P s num mden ws den st m b r k lt))
+      (reduced_at k lt))
       (weight_small k lt)
-
-  listed_is : ws ≡ listed s.ids r.reduced P.rows
-  listed_is = list_is P s num mden ws den st m b r
 
   -- what divides the denominator and all weights divides the numbers that they come from
   reduced_divisible : (g : ℕ) → AllByRecursion (λ w. g ∣ unsigned_abs w.1) ws → (k : ℕ) → k < P.rows
       → g ∣ unsigned_abs (r.reduced k)
   reduced_divisible g h =
-      listed_divisible g s.ids r.reduced P.rows (reduced_nonneg P s num mden ws den st m b r)
+      listed_divisible g s.ids r.reduced P.rows reduced_nonneg
       (λ k lt none. zero_quotient r.common (r.reduced k) (entry_at 32 s.tracked k 0) r.is_common.positive
-      (reduced_at P s num mden ws den st m b r k lt)
+      (reduced_at k lt)
       (right_clear P s st k lt none))
-      (subst (AllByRecursion (λ w. g ∣ unsigned_abs w.1)) listed_is h)
+      (subst (AllByRecursion (λ w. g ∣ unsigned_abs w.1)) list_is h)
 
   lowest_terms : (g : ℕ) → g ∣ unsigned_abs den → AllByRecursion (λ w. g ∣ unsigned_abs w.1) ws → g ≡ 1
   lowest_terms g h k =
@@ -160,7 +155,7 @@ module _ (P : Program) (s : State) (num : List ℤ) (mden : ℤ) (ws : List (ℕ
       (λ j jl.
       let lt' = subst (λ (t : ℕ). j < t) st.rows_is jl in
       times_both (pos g) r.common (r.reduced j) (entry_at 32 s.tracked j 0)
-      (reduced_at P s num mden ws den st m b r j lt')
+      (reduced_at j lt')
       (reduced_divisible g k j lt')) in
       let cp = size_positive r.common r.is_common.positive in
       one_of g (unsigned_abs r.common) cp
@@ -170,12 +165,12 @@ module _ (P : Program) (s : State) (num : List ℤ) (mden : ℤ) (ws : List (ℕ
 
   in_form : AreInForm P.rows ws den
   in_form = record {
-    count = subst (λ (l : List (ℕ × ℤ)). length l ≤ P.rows) (sym listed_is) (listed_count s.ids r.reduced P.rows);
+    count = subst (λ (l : List (ℕ × ℤ)). length l ≤ P.rows) (sym list_is) (listed_count s.ids r.reduced P.rows);
     positive =
-        subst (AllByRecursion (λ w. pos 1 ≤ℤ w.1)) (sym listed_is)
+        subst (AllByRecursion (λ w. pos 1 ≤ℤ w.1)) (sym list_is)
         (listed_all (λ w. pos 1 ≤ℤ w.1) s.ids r.reduced P.rows (λ j id u lt e f. suc_positive u));
     small =
-        subst (AllByRecursion (λ w. unsigned_abs w.1 < 2 ^ 62)) (sym listed_is)
+        subst (AllByRecursion (λ w. unsigned_abs w.1 < 2 ^ 62)) (sym list_is)
         (listed_all (λ w. unsigned_abs w.1 < 2 ^ 62) s.ids r.reduced P.rows
         (λ j id u lt e f. subst (λ (z : ℤ). unsigned_abs z < 2 ^ 62) f (reduced_small j lt)));
     den_small =
@@ -186,7 +181,7 @@ module _ (P : Program) (s : State) (num : List ℤ) (mden : ℤ) (ws : List (ℕ
 
   pub is_answer : IsAnswer P ws den num mden
   is_answer = record {
-    optimal = is_optimal P s num mden ws den st m b r;
+    optimal = is_optimal;
     form = in_form;
     count = m.count ∙ st.rows_is;
     bounded = no_ray P num mden b;

@@ -7,7 +7,7 @@ use Rattle.determinants.proofs.LexicographicSigns.{joined_nonnegative}
 use Rattle.determinants.specs.Lexicographic.{IsLexPositive, IsLexNonnegative}
 use Rattle.determinants.specs.Matrix.{entry_at, weight_at}
 use Rattle.simplex.specs.Ratio.{ratio_gap, IsLeast, NonePositive, IsChoice}
-use Rattle.simplex.proofs.Signs.{positive_is, not_both}
+use Rattle.simplex.proofs.Signs.{positive_is, not_both, gap_positive}
 use Rattle.definitions.proofs.Cases.{last_or_less_of}
 use Rattle.definitions.proofs.Cancel.{gap_of}
 
@@ -27,9 +27,6 @@ pub nonneg_zero : (m : ℕ) (a : ℕ → ℤ) → ((i : ℕ) → i < m → a i �
 nonneg_zero zero a h = tt
 nonneg_zero (suc m) a h = inr (h 0 (omega arith), nonneg_zero m (λ i. a (suc i)) (λ i l. h (suc i) (omega arith)))
 
-gap_less : (a b : ℤ) → a <ℤ b → pos 0 <ℤ (b -ℤ a)
-gap_less a b h = omega (arith, linear)
-
 gap_turned : (a b : ℤ) → a -ℤ b ≡ pos 0 → b -ℤ a ≡ pos 0
 gap_turned a b e = omega (arith, linear)
 
@@ -39,7 +36,7 @@ pub ratio_before : (ts ys : List ℤ) (n k p j : ℕ) → j < suc n → ((i : �
 ratio_before ts ys n k p j lt h l =
     positive_at (suc n) j (ratio_gap ts ys p k) lt
     (λ i il. gap_turned (weight_at ys p *ℤ entry_at 32 ts k i) (weight_at ys k *ℤ entry_at 32 ts p i) (h i il))
-    (gap_less (weight_at ys p *ℤ entry_at 32 ts k j) (weight_at ys k *ℤ entry_at 32 ts p j) l)
+    (gap_positive (weight_at ys p *ℤ entry_at 32 ts k j) (weight_at ys k *ℤ entry_at 32 ts p j) l)
 
 pub ratio_not_before : (ts ys : List ℤ) (n k p j : ℕ) → j < suc n → ((i : ℕ) → i < j → ratio_gap ts ys k p i ≡ pos 0)
     → (weight_at ys k *ℤ entry_at 32 ts p j) <ℤ (weight_at ys p *ℤ entry_at 32 ts k j)
@@ -47,7 +44,7 @@ pub ratio_not_before : (ts ys : List ℤ) (n k p j : ℕ) → j < suc n → ((i 
 ratio_not_before ts ys n k p j lt h l =
     nonneg_of (suc n) (ratio_gap ts ys k p)
     (positive_at (suc n) j (ratio_gap ts ys k p) lt h
-    (gap_less (weight_at ys k *ℤ entry_at 32 ts p j) (weight_at ys p *ℤ entry_at 32 ts k j) l))
+    (gap_positive (weight_at ys k *ℤ entry_at 32 ts p j) (weight_at ys p *ℤ entry_at 32 ts k j) l))
 
 equal_both_ways : (a b : ℤ) → b ≤ℤ a → a ≤ℤ b → a ≡ b
 equal_both_ways a b h k = omega (arith, ints)

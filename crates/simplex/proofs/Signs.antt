@@ -1,6 +1,6 @@
 -- Cases of numbers, and what a sign says.
 use Rattle.std.proofs.Common.{◌≡◌, ◌≢◌, ℕ, ◌-◌, ◌<◌, Some, None, arith, refl, ℤ, pos, negsuc, ◌<ℤ◌, ◌≤ℤ◌}
-use Rattle.std.proofs.Common.{unsigned_abs}
+use Rattle.std.proofs.Common.{unsigned_abs, ◌-ℤ◌}
 use Rattle.std.proofs.lemmas.Int.{ints}
 use Rattle.definitions.proofs.Ring.{linear}
 
@@ -19,6 +19,9 @@ size_of_positive z h = omega (arith, ints)
 
 pub positive_apart : (z : ℤ) → pos 0 <ℤ z → z ≢ pos 0
 positive_apart z h e = omega (arith, ints)
+
+pub gap_positive : (a b : ℤ) → a <ℤ b → pos 0 <ℤ (b -ℤ a)
+gap_positive a b h = omega (arith, linear)
 
 pub at_least_one : (z : ℤ) → pos 0 <ℤ z → pos 1 ≤ℤ z
 at_least_one z h = omega (arith, linear)
