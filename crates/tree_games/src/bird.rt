@@ -7,6 +7,7 @@ ghost use Rattle.tree_games.specs.Trees.{IsBird};
 
 use crate::TreeGame;
 use crate::prim::closest;
+use crate::tree_game::POINTS;
 use coalitions::Coalition;
 use fractions::OutOfMemory;
 use std::alloc::Global;
@@ -83,12 +84,12 @@ impl TreeGame {
     }
 
     /// What the link of each point to the waiting one nearest to it costs.
-    fn reaches(&self, waiting: Coalition) -> [u64; 17]
+    fn reaches(&self, waiting: Coalition) -> [u64; POINTS]
         ensures len { length result ≡ 17 }
         ensures value { (b : ℕ) → b < length self.now
             → slice_index result b ≡ reach (entries_of self.now) (length self.now) (has_player waiting) b }
     {
-        let mut reaches = [0u64; 17];
+        let mut reaches = [0u64; POINTS];
         for b in 0..self.points() {
             reaches[b as usize] = self.cost(b, self.nearest(b, waiting));
         }

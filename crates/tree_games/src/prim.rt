@@ -6,6 +6,7 @@ ghost use Rattle.matrices.specs.Rows.{entries_of};
 ghost use Rattle.tree_games.specs.Steps.{closest, prim_cost};
 
 use crate::TreeGame;
+use crate::tree_game::POINTS;
 use coalitions::Coalition;
 
 impl TreeGame {
@@ -34,12 +35,12 @@ impl TreeGame {
     }
 
     /// What the link of point `p` to each point costs.
-    pub(crate) fn links_of(&self, p: u32) -> [u64; 17]
+    pub(crate) fn links_of(&self, p: u32) -> [u64; POINTS]
         requires { p < length self.now }
         ensures len { length result ≡ 17 }
         ensures value { (j : ℕ) → j < length self.now → slice_index result j ≡ entries_of self.now p j }
     {
-        let mut links = [0u64; 17];
+        let mut links = [0u64; POINTS];
         for j in 0..self.points() {
             links[j as usize] = self.cost(p, j);
         }
@@ -47,7 +48,7 @@ impl TreeGame {
     }
 
     /// The lesser of what it cost to connect each point and of the cost of its link to point `p`.
-    fn relax(&self, best: &mut [u64; 17], p: u32)
+    fn relax(&self, best: &mut [u64; POINTS], p: u32)
         requires { p < length self.now }
         ensures len { length best.new ≡ 17 }
         ensures value { (j : ℕ) → j < length self.now
@@ -63,7 +64,7 @@ impl TreeGame {
 }
 
 /// The first of the given points whose number is least, 0 where there is none.
-pub(crate) fn closest(numbers: &[u64; 17], points: u32, given: Coalition) -> u32
+pub(crate) fn closest(numbers: &[u64; POINTS], points: u32, given: Coalition) -> u32
     requires some { 1 ≤ points }
     requires few { points ≤ 17 }
     ensures value { result ≡ closest (slice_index numbers.now) (has_player given) points }

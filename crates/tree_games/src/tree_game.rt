@@ -11,6 +11,9 @@ use std::alloc::Global;
 use std::marker::Model;
 use worth_core::Worth;
 
+/// The most points: 16 players and the source.
+pub(crate) const POINTS: usize = 17;
+
 /// Why a matrix makes no tree game. Where several causes apply, the first of them is answered.
 #[derive(Clone, Copy, Debug, PartialEq, Eq)]
 pub enum TreeFault {
@@ -52,7 +55,7 @@ impl TreeGame {
             (λ game. (game ≡ rows) × IsTree rows × IsTreeGame (entries_of rows) (tree_game rows))
             (IsRefused rows) }
     {
-        if matrix.len() < 2 || matrix.len() > 17 {
+        if matrix.len() < 2 || matrix.len() > POINTS {
             return Err(TreeFault::Players);
         }
         if !have_entries(&matrix) {
