@@ -4,13 +4,14 @@ ghost use Rattle.std.specs.Prelude.{ℕ, ◌+◌, ◌*◌, ◌^◌, ◌<◌, ◌
 ghost use Rattle.voting.specs.Counts.{way_at, row_at, ways_at, lighter, smaller, IsSmallRow};
 ghost use Rattle.voting.specs.Counts.{IsSmallTable, HasRows, range_total};
 
+use crate::layer::WEIGHTS;
 use fractions::OutOfMemory;
 use std::alloc::Global;
 
 /// How many coalitions of one size there are of each weight from 0 to 1,000.
 #[derive(Clone, Copy, Debug, Drop)]
 pub(crate) struct Row {
-    ways: [u64; 1001],
+    ways: [u64; WEIGHTS],
 }
 
 impl Row {
@@ -18,7 +19,7 @@ impl Row {
     fn none() -> Row
         ensures { (w : ℕ) → way_at result w ≡ 0 }
     {
-        Row { ways: [0; 1001] }
+        Row { ways: [0; WEIGHTS] }
     }
 
     /// The coalition of nobody.
@@ -37,7 +38,7 @@ impl Row {
         requires fewer { IsSmallRow fewer.now }
         ensures { (w : ℕ) → w < 1001 → way_at self.new w ≡ way_at self.old w + lighter fewer.now weight w }
     {
-        for w in weight..1001 {
+        for w in weight..WEIGHTS {
             self.ways[w] += fewer.ways[w - weight];
         }
     }

@@ -7,7 +7,7 @@ ghost use Rattle.voting.specs.Voting.{AreNumbers};
 
 use crate::candidate::{chosen, sum_of};
 use crate::counts::Table;
-use crate::layer::Layer;
+use crate::layer::{HEAVIEST, Layer};
 use crate::split_layers::SplitLayers;
 use crate::units::{product, share_unit};
 use coalitions::Coalition;
@@ -63,7 +63,7 @@ impl VotingGame {
             return Err(VotingFault::Number);
         }
         let total = orders::total(&weights);
-        if total > 1000 || quota < 1 || total < quota as u64 {
+        if total > HEAVIEST as u64 || quota < 1 || total < quota as u64 {
             return Err(VotingFault::Quota);
         }
         let Ok(weights) = orders::naturals(alloc, &weights) else {

@@ -6,10 +6,16 @@ ghost use Rattle.voting.specs.Candidates.{at_weight, joined, joined_at, raised, 
 use crate::candidate::{Candidate, better_of, plus, with_player};
 use coalitions::Coalition;
 
+/// The most that all players weigh.
+pub(crate) const HEAVIEST: usize = 1000;
+
+/// Each weight from 0 to the most.
+pub(crate) const WEIGHTS: usize = HEAVIEST + 1;
+
 /// A candidate for each weight from 0 to 1,000, and none where no set of that weight is of the kind.
 #[derive(Clone, Copy)]
 pub(crate) struct Layer {
-    entries: [Option<Candidate>; 1001],
+    entries: [Option<Candidate>; WEIGHTS],
 }
 
 impl Layer {
@@ -19,7 +25,7 @@ impl Layer {
         ensures small { AreSmall 0 result }
     {
         Layer {
-            entries: [None; 1001],
+            entries: [None; WEIGHTS],
         }
     }
 
@@ -45,8 +51,8 @@ impl Layer {
         ensures entries { (w : ℕ) → w < 1001 → at_weight self.new w ≡ joined_at self.old self.old i weight number w }
         ensures small { AreSmall (i + 1) self.new }
     {
-        for fewer in 0..1001usize {
-            let w = 1000 - fewer;
+        for fewer in 0..WEIGHTS {
+            let w = HEAVIEST - fewer;
             let with = with_lighter(&self.entries, i, weight, number, w);
             self.entries[w] = better_of(self.entries[w], with);
         }
@@ -61,8 +67,8 @@ impl Layer {
         ensures entries { (w : ℕ) → w < 1001 → at_weight self.new w ≡ joined_at self.old others.now i weight number w }
         ensures small { AreSmall (i + 1) self.new }
     {
-        for fewer in 0..1001usize {
-            let w = 1000 - fewer;
+        for fewer in 0..WEIGHTS {
+            let w = HEAVIEST - fewer;
             let with = with_lighter(&others.entries, i, weight, number, w);
             self.entries[w] = better_of(self.entries[w], with);
         }
@@ -77,8 +83,8 @@ impl Layer {
         ensures entries { (w : ℕ) → w < 1001 → at_weight self.new w ≡ joined_at others.now self.old i weight number w }
         ensures small { AreSmall (i + 1) self.new }
     {
-        for fewer in 0..1001usize {
-            let w = 1000 - fewer;
+        for fewer in 0..WEIGHTS {
+            let w = HEAVIEST - fewer;
             let with = with_lighter(&self.entries, i, weight, number, w);
             self.entries[w] = better_of(others.entries[w], with);
         }
@@ -101,8 +107,8 @@ impl Layer {
         ensures entries { (w : ℕ) → w < 1001 → at_weight self.new w ≡ joined_at without.now with.now i weight number w }
         ensures small { AreSmall (i + 1) self.new }
     {
-        for fewer in 0..1001usize {
-            let w = 1000 - fewer;
+        for fewer in 0..WEIGHTS {
+            let w = HEAVIEST - fewer;
             let with = with_lighter(&with.entries, i, weight, number, w);
             self.entries[w] = better_of(without.entries[w], with);
         }
@@ -115,7 +121,7 @@ impl Layer {
         ensures { result ≡ best_below more quota self.now 1001 }
     {
         let mut best = None;
-        for w in 0..1001 {
+        for w in 0..WEIGHTS {
             best = better_of(best, self.excess_at(quota, w, more));
         }
         best
@@ -141,7 +147,7 @@ fn from_quota(quota: usize, weight: usize, number: i128) -> i128
 
 /// The candidate of weight `w` that player `i` of this weight and number makes of a lighter one.
 fn with_lighter(
-    entries: &[Option<Candidate>; 1001],
+    entries: &[Option<Candidate>; WEIGHTS],
     i: u32,
     weight: usize,
     number: i128,

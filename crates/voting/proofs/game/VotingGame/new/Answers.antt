@@ -7,13 +7,13 @@ use Rattle.voting.specs.Voting.{AreNumbers, IsQuota}
 use Rattle.voting.proofs.Quotas.{have_players, same_quota, is_quota, is_voting, too_heavy, too_low, too_high}
 use Rattle.voting.proofs.game.VotingGame.new.Goals as goal
 use Rattle.voting.proofs.game.VotingGame.new.Goals.{
-  then-total-gt1000-via-then-total-gt1000,
-  then-total-gt1000-via-else-total-gt1000+then-quota-lt1,
-  then-total-gt1000-via-else-total-gt1000+else-quota-lt1+then-total-quota,
+  then-total-via-then-total,
+  then-total-via-else-total+then-quota-lt1,
+  then-total-via-else-total+else-quota-lt1+then-total-quota,
 }
 
-pub returns-then-total-gt1000 : goal.returns-then-total-gt1000
-returns-then-total-gt1000 c =
+pub returns-then-total : goal.returns-then-total
+returns-then-total c =
     let ws = c.args.weights in
     let quota = c.args.quota in
     let z = to_z w64 (of_z w64 quota) in
@@ -24,12 +24,12 @@ returns-then-total-gt1000 c =
     c.len.ensures c.if-len-gt32.false in
     let numbers : AreNumbers quota ws.items =
     rw (kept, c.deref.ensures.value) at (c.are_numbers.ensures.0 c.if-not-are_numbers.false) in
-    let none : ¬ IsQuota quota ws.items = elim c.then-total-gt1000.branch [
-      | then-total-gt1000-via-then-total-gt1000 w ↦ too_heavy quota z ws.items c.total-total.result kept sums
-          w.if-total-gt1000.true
-      | then-total-gt1000-via-else-total-gt1000+then-quota-lt1 w ↦ too_low quota z ws.items c.total-total.result
+    let none : ¬ IsQuota quota ws.items = elim c.then-total.branch [
+      | then-total-via-then-total w ↦ too_heavy quota z ws.items c.total-total.result kept sums
+          w.if-total.true
+      | then-total-via-else-total+then-quota-lt1 w ↦ too_low quota z ws.items c.total-total.result
           kept sums w.if-quota-lt1.true
-      | then-total-gt1000-via-else-total-gt1000+else-quota-lt1+then-total-quota w ↦ too_high quota z ws.items
+      | then-total-via-else-total+else-quota-lt1+then-total-quota w ↦ too_high quota z ws.items
           c.total-total.result kept sums w.if-total-quota.true
     ] in
     (players, numbers, none)
@@ -48,7 +48,7 @@ returns-in_default c =
     rw (kept, c.deref.ensures.value) at (c.are_numbers.ensures.0 c.if-not-are_numbers.false) in (
       players,
       numbers,
-      is_quota quota z ws.items c.total-total.result kept sums c.if-total-gt1000.false c.if-quota-lt1.false
+      is_quota quota z ws.items c.total-total.result kept sums c.if-total.false c.if-quota-lt1.false
           c.if-total-quota.false,
     )
 
@@ -63,7 +63,7 @@ invariant_of-result c =
     have_players ws.items ws.len c.len.result c.is_empty.result ws.ok.0 c.is_empty.ensures c.if-is_empty.false
     c.len.ensures c.if-len-gt32.false in
     let quotas =
-    is_quota quota z ws.items c.total-total.result kept sums c.if-total-gt1000.false c.if-quota-lt1.false
+    is_quota quota z ws.items c.total-total.result kept sums c.if-total.false c.if-quota-lt1.false
     c.if-total-quota.false in
     is_voting quota z ws.items c.in-Ok.weights.items kept (c.in-Ok.ensures.0 ∙ c.deref-3.ensures.value)
     c.in-Ok.ensures.1 players quotas
