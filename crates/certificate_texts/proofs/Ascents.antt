@@ -1,7 +1,7 @@
 -- Masks of coalitions that are listed by ascending numbers.
 use Rattle.std.proofs.Common.{◌≡◌, ℕ, zero, suc, ◌+◌, ◌-◌, ◌^◌, ◌<◌, ◌≤◌, List, ◌∷◌, length, get_or, Option}
-use Rattle.std.proofs.Common.{Some, None, option_map, option_and_then, refl, sym, ap, ◌∙◌, arith}
-use Rattle.std.proofs.Math.Nat.{add_assoc, pow-le-pow_right, two-pow-succ}
+use Rattle.std.proofs.Common.{None, option_map, option_and_then, sym, ap, ◌∙◌, arith}
+use Rattle.std.proofs.Math.Nat.{pow-le-pow_right, two-pow-succ}
 use Rattle.serde_json.specs.View.{view}
 use Rattle.serde_json.specs.declared.value.Value.{Value}
 use Rattle.certificate_texts.specs.Levels.{number_above, numbers_above, mask_by_numbers}
@@ -11,10 +11,6 @@ use Rattle.json_trees.proofs.Values.{rest, rest_step}
 
 abbrev pub summed : ℕ → Option (List ℕ) → Option ℕ
 summed s o = option_map (λ ks. s + mask_by_numbers ks) o
-
-one_number : (s k : ℕ) (o : Option (List ℕ)) → summed s (option_map (λ ks. k ∷ ks) o) ≡ summed (s + 2 ^ (k - 1)) o
-one_number s k None = refl
-one_number s k (Some ks) = ap Some (sym (add_assoc s (2 ^ (k - 1)) (mask_by_numbers ks)))
 
 module _ (n : ℕ) (whole : Option ℕ) (vs : List Value) (i s low : ℕ) (v : Value) (h : i < length vs)
     (at : v ≡ get_or vs i v) (goes : whole ≡ summed s (numbers_above low n (rest vs i))) where
@@ -31,15 +27,6 @@ module _ (n : ℕ) (whole : Option ℕ) (vs : List Value) (i s low : ℕ) (v : V
       ∙ ap
       (λ o. summed s (option_and_then (λ k. option_map (λ ks. k ∷ ks) (numbers_above k n (rest vs (i + 1)))) o))
       (sym e))
-
-  pub number_more : (k : ℕ) → Some k ≡ number_above low n (view v)
-      → whole ≡ summed (s + 2 ^ (k - 1)) (numbers_above k n (rest vs (i + 1)))
-  number_more k e =
-      turn
-      ∙ ap
-      (λ o. summed s (option_and_then (λ k. option_map (λ ks. k ∷ ks) (numbers_above k n (rest vs (i + 1)))) o))
-      (sym e)
-      ∙ one_number s k (numbers_above k n (rest vs (i + 1)))
 
 -- ---- a bit above all that are there
 

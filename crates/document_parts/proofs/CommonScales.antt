@@ -109,15 +109,16 @@ no_text_keeps_scale k d p h e = some_below k h ∙ ap if_scale (sym (ap (lcm k) 
 
 -- ---- all numbers
 
-step : (k : ℕ) (d : Data) (ds : List Data) (b : Bool) → 0 < k → nat_le (lcm k (den d)) 65536 ≡ b
+-- the first number and then the rest: b is whether the first keeps within the limit
+first_and_rest : (k : ℕ) (d : Data) (ds : List Data) (b : Bool) → 0 < k → nat_le (lcm k (den d)) 65536 ≡ b
     → ((m : ℕ) → 0 < m → m ≤ 65536 → with_numbers m ds ≡ if_scale (lcm m (least ds)))
     → option_and_then (λ m. with_numbers m ds) (if b then Some (lcm k (den d)) else None)
     ≡ if_scale (lcm k (lcm (den d) (least ds)))
-step k d ds true p e ih =
+first_and_rest k d ds true p e ih =
     let one = lcm_is k (den d) p (den_positive d) in
     ih (lcm k (den d)) one.positive (leb-true (lcm k (den d)) 65536 e)
     ∙ ap if_scale (lcm_assoc k (den d) (least ds) p (den_positive d) (least_positive ds))
-step k d ds false p e ih =
+first_and_rest k d ds false p e ih =
     let above = leb-false (lcm k (den d)) 65536 e in
     let one = lcm_is k (den d) p (den_positive d) in
     let all = lcm_is (lcm k (den d)) (least ds) one.positive (least_positive ds) in
@@ -127,7 +128,8 @@ step k d ds false p e ih =
 
 numbers_are : (k : ℕ) (ds : List Data) → 0 < k → k ≤ 65536 → with_numbers k ds ≡ if_scale (lcm k (least ds))
 numbers_are k [] p h = some_below k h ∙ ap if_scale (sym (with_one k p))
-numbers_are k (d ∷ ds) p h = step k d ds (nat_le (lcm k (den d)) 65536) p refl (λ m q r. numbers_are m ds q r)
+numbers_are k (d ∷ ds) p h =
+    first_and_rest k d ds (nat_le (lcm k (den d)) 65536) p refl (λ m q r. numbers_are m ds q r)
 
 pub scale_is : (game : Data) → with_numbers 1 (game_numbers game) ≡ if_scale (scale_of game)
 scale_is game =
@@ -156,18 +158,6 @@ pub some_front : (k m : ℕ) (ds es : List Data) → Some m ≡ with_numbers k d
 some_front k m ds es e = sym (with_append k ds es ∙ ap (option_and_then (λ n. with_numbers n es)) (sym e))
 
 -- ---- turn by turn
-
--- one number more
-module _ (whole : Option ℕ) (vs : List Value) (i s : ℕ) (v : Value) (h : i < length vs) (at : v ≡ get_or vs i v)
-    (goes : whole ≡ with_numbers s (rest vs i)) where
-  turn : whole ≡ option_and_then (λ m. with_numbers m (rest vs (i + 1))) (with_number s (view v))
-  turn = goes ∙ ap (with_numbers s) (rest_step vs i v h at)
-
-  pub no_scale : None ≡ with_number s (view v) → None ≡ whole
-  no_scale e = sym (turn ∙ ap (option_and_then (λ m. with_numbers m (rest vs (i + 1)))) (sym e))
-
-  pub scale_more : (m : ℕ) → Some m ≡ with_number s (view v) → whole ≡ with_numbers m (rest vs (i + 1))
-  scale_more m e = turn ∙ ap (option_and_then (λ m. with_numbers m (rest vs (i + 1)))) (sym e)
 
 -- the numbers of one pair, or of one row, more
 module _ (f : Data → List Data) (whole : Option ℕ) (vs : List Value) (i s : ℕ) (v : Value) (h : i < length vs)

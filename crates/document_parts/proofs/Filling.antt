@@ -1,5 +1,5 @@
 -- A sparse table, filled pair by pair.
-use Rattle.std.proofs.Common.{◌≡◌, ℕ, zero, suc, ◌+◌, ◌-◌, ◌<◌, ◌≤◌, ◌^◌, List, [], ◌∷◌, ◌++◌, length, take, drop}
+use Rattle.std.proofs.Common.{◌≡◌, ℕ, suc, ◌+◌, ◌-◌, ◌<◌, ◌≤◌, ◌^◌, List, [], ◌∷◌, ◌++◌, length, take, drop}
 use Rattle.std.proofs.Common.{get_or, set, map, Bool, true, false, not, nat_eq, ◌&&◌, ◌||◌, if◌then◌else◌, ℤ}
 use Rattle.std.proofs.Common.{Option, Some, None, is_some, refl, sym, ap, ap₂, ◌∙◌, subst, arith, inl, inr}
 use Rattle.std.specs.Prelude.{unwrap_or}
@@ -8,6 +8,7 @@ use Rattle.std.proofs.lemmas.Bool.{true≢false, eq-eqb, ne_eqb, cases_eq}
 use Rattle.std.proofs.lemmas.List.{take_more, take-append-drop, map-append, take_all}
 use Rattle.std.proofs.lemmas.List.{get_or-set_same, get_or-set_other, length-set, length-drop}
 use Rattle.std.proofs.lemmas.List.Folds.{list_any-append}
+use Rattle.std.proofs.lemmas.Nat.{pow_pos}
 use Rattle.serde_json.specs.Data.{Data}
 use Rattle.serde_json.specs.View.{view}
 use Rattle.serde_json.specs.declared.value.Value.{Value}
@@ -151,10 +152,6 @@ module _ (k n : ℕ) (names : List (List ℕ)) (vs : List Value) where
       ap masks (slots_more i v h at)
       ∙ map-append (λ p. p.0) (slots k n names (take i vs)) (slot_of k n names (view v) ∷ [])
 
-  pub IsFilled-start : (table : List (Option ℤ)) → length table ≡ 2 ^ n
-      → ((s : ℕ) → s < 2 ^ n → get_or table s None ≡ None) → IsFilled k n names vs 0 table
-  IsFilled-start table size none = record { size = size; numbers = none; good = refl }
-
   module _ (i : ℕ) (v : Value) (h : i < length vs) (at : v ≡ get_or vs i v) (table : List (Option ℤ))
       (filled : IsFilled k n names vs i table) where
     spoilt : fresh (masks (slots k n names (take i vs))) (mask_of n names (pair_members (view v))) ≡ false
@@ -269,10 +266,6 @@ pub masks_are : (k n : ℕ) (names : List (List ℕ)) (vs : List Value)
 masks_are k n names [] = refl
 masks_are k n names (v ∷ vs) = ap (λ l. mask_of n names (pair_members (view v)) ∷ l) (masks_are k n names vs)
 
-pub pow_some : (n : ℕ) → 0 < 2 ^ n
-pow_some zero = omega arith
-pow_some (suc n) = omega (arith, pow_some n)
-
 pub whole_tail : (xs : List (Option ℤ)) → take (length xs - 1) (drop 1 xs) ≡ drop 1 xs
 whole_tail xs = take_all (length xs - 1) (drop 1 xs) (omega (arith, length-drop 1 xs))
 
@@ -280,7 +273,7 @@ pub HasNumbers-over : (k n : ℕ) (names : List (List ℕ)) (vs : List Value) (i
     → length vs ≤ i → IsFilled k n names vs i table → HasNumbers k n names (map view vs) table
 HasNumbers-over k n names vs i table h filled =
     let all = IsFilled-over k n names vs i table h filled in
-    let some = pow_some n in
+    let some = pow_pos n in
     let size : length table ≡ 2 ^ n - 1 + 1 = omega (arith, filled.size) in
     record {
       good = ap are_coalitions (sym (masks_are k n names vs)) ∙ all.0;

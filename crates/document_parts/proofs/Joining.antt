@@ -1,8 +1,7 @@
 -- Masks, joined player by player.
-use Rattle.std.proofs.Common.{◌≡◌, ℕ, zero, suc, ◌+◌, ◌/◌, ◌^◌, ◌<◌, ◌≤◌, List, length, get_or, map}
-use Rattle.std.proofs.Common.{false, Option, Some, None, option_and_then, sym, ap, ◌∙◌, arith}
+use Rattle.std.proofs.Common.{◌≡◌, ℕ, zero, suc, ◌+◌, ◌/◌, ◌^◌, ◌<◌, List, length, get_or}
+use Rattle.std.proofs.Common.{false, Option, Some, option_and_then, sym, ap, ◌∙◌, arith}
 use Rattle.std.proofs.lemmas.Bool.{eqb-false}
-use Rattle.std.proofs.lemmas.List.{drop_all}
 use Rattle.std.proofs.lemmas.Nat.Bits.{bit_at-suc, bit_at-lt, bit_at_lowest}
 use Rattle.std.specs.Int.{bit_at}
 use Rattle.serde_json.specs.View.{view}
@@ -33,21 +32,8 @@ module _ (n : ℕ) (names : List (List ℕ)) (whole : Option ℕ) (vs : List Val
       (option_and_then (join s) (player_of n names (view v)))
   turn = goes ∙ ap (joined n names s) (rest_step vs i v h at)
 
-  pub no_player : None ≡ player_of n names (view v) → whole ≡ None
-  no_player e =
-      turn ∙ ap (λ o. option_and_then (λ t. joined n names t (rest vs (i + 1))) (option_and_then (join s) o)) (sym e)
-
-  pub no_join : (k : ℕ) → Some k ≡ player_of n names (view v) → None ≡ join s k → whole ≡ None
-  no_join k e f =
-      turn ∙ ap (λ o. option_and_then (λ t. joined n names t (rest vs (i + 1))) (option_and_then (join s) o)) (sym e)
-      ∙ ap (option_and_then (λ t. joined n names t (rest vs (i + 1)))) (sym f)
-
   pub one_more : (k t : ℕ) → Some k ≡ player_of n names (view v) → Some t ≡ join s k
       → whole ≡ joined n names t (rest vs (i + 1))
   one_more k t e f =
       turn ∙ ap (λ o. option_and_then (λ t. joined n names t (rest vs (i + 1))) (option_and_then (join s) o)) (sym e)
       ∙ ap (option_and_then (λ t. joined n names t (rest vs (i + 1)))) (sym f)
-
-pub all_joined : (n : ℕ) (names : List (List ℕ)) (whole : Option ℕ) (vs : List Value) (i s : ℕ) → length vs ≤ i
-    → whole ≡ joined n names s (rest vs i) → whole ≡ Some s
-all_joined n names whole vs i s h goes = goes ∙ ap (λ l. joined n names s (map view l)) (drop_all i vs h)

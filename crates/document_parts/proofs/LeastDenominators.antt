@@ -126,7 +126,7 @@ to_shares fs some few positive h =
           (ltb-true _ _ (small i (record { num = pos 0; den = pos 1 }) place));
     }
 
-if_true : {A : Type 0} (b : Bool) (x y : A) → b ≡ true → x ≡ (if b then x else y)
+pub if_true : {A : Type 0} (b : Bool) (x y : A) → b ≡ true → x ≡ (if b then x else y)
 if_true true x y h = refl
 if_true false x y h = absurd (false≢true h)
 

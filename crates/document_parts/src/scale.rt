@@ -15,6 +15,20 @@ use serde_json::Value;
 /// The most that the scale of a game may be.
 const GREATEST: u128 = 65_536;
 
+/// The scale with what each of the values has, one after another, while it is within the limit.
+macro_rules! with_each {
+    ($scale:expr, $values:expr, $value:ident => $with:ident) => {{
+        let mut common = $scale;
+        for $value in $values {
+            let Some(next) = $with(common, $value) else {
+                return None;
+            };
+            common = next;
+        }
+        Some(common)
+    }};
+}
+
 /// The least common multiple of a scale and a denominator, where it is within the limit.
 fn common_scale(scale: u32, den: i128) -> Option<u32>
     requires some { 0 < scale }
@@ -60,14 +74,7 @@ fn with_numbers(scale: u32, values: &[Value]) -> Option<u32>
     ensures value { result ≡ with_numbers scale (map view values.now) }
     ensures range { IfSome result (λ k. (0 < k) × (k ≤ 65536)) }
 {
-    let mut common = scale;
-    for value in values {
-        let Some(next) = with_number(common, value) else {
-            return None;
-        };
-        common = next;
-    }
-    Some(common)
+    with_each!(scale, values, value => with_number)
 }
 
 /// The same with the number at a key, where one is there.
@@ -103,14 +110,7 @@ fn with_pairs(scale: u32, pairs: &[Value]) -> Option<u32>
     ensures value { result ≡ with_numbers scale (all_parts pair_number (map view pairs.now)) }
     ensures range { IfSome result (λ k. (0 < k) × (k ≤ 65536)) }
 {
-    let mut common = scale;
-    for pair in pairs {
-        let Some(next) = with_pair(common, pair) else {
-            return None;
-        };
-        common = next;
-    }
-    Some(common)
+    with_each!(scale, pairs, pair => with_pair)
 }
 
 /// The same with the numbers of a row.
@@ -130,14 +130,7 @@ fn with_rows(scale: u32, rows: &[Value]) -> Option<u32>
     ensures value { result ≡ with_numbers scale (all_parts parts (map view rows.now)) }
     ensures range { IfSome result (λ k. (0 < k) × (k ≤ 65536)) }
 {
-    let mut common = scale;
-    for row in rows {
-        let Some(next) = with_row(common, row) else {
-            return None;
-        };
-        common = next;
-    }
-    Some(common)
+    with_each!(scale, rows, row => with_row)
 }
 
 /// The same with the numbers of a table.

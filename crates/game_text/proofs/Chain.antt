@@ -29,19 +29,20 @@ use Rattle.kinds.specs.declared.refusal.Refusal.TheVariants.{TooFine, Certificat
 use Rattle.game_text.proofs.Computed.{document_from, refused_from}
 use Rattle.game_text.proofs.Laws.{IsOfTree, laws_of}
 
-choose : (b : Bool) (r : Refusal) (x : Option Refusal) → IsOfTree x → IsOfTree (Some r) → IsOfTree (unless b r x)
-choose true r x p q = p
-choose false r x p q = q
+unless_of_tree : (b : Bool) (r : Refusal) (x : Option Refusal) → IsOfTree x → IsOfTree (Some r)
+    → IsOfTree (unless b r x)
+unless_of_tree true r x p q = p
+unless_of_tree false r x p q = q
 
 certificate_of_tree : (command : Command) (game tree : Data) → IsOfTree (certificate_refusal command game tree)
-certificate_of_tree command game tree = choose (has_needed_form command game tree) Certificate None tt tt
+certificate_of_tree command game tree = unless_of_tree (has_needed_form command game tree) Certificate None tt tt
 
 share_of_tree : (command : Command) (game tree : Data) (rest : Option Refusal) → IsOfTree rest
     → IsOfTree (share_refusal command game tree rest)
 share_of_tree command game tree rest p =
-    choose (has_needed_shares command game tree) Proposal
+    unless_of_tree (has_needed_shares command game tree) Proposal
     (unless (needed_keep_limits command game tree) TooFine rest)
-    (choose (needed_keep_limits command game tree) TooFine rest p tt) tt
+    (unless_of_tree (needed_keep_limits command game tree) TooFine rest p tt) tt
 
 needed_of_tree : (command : Command) (game tree : Data) → IsOfTree (needed_refusal command game tree)
 needed_of_tree command game tree =
@@ -49,8 +50,9 @@ needed_of_tree command game tree =
 
 game_of_tree : (game : Data) (rest : Option Refusal) → IsOfTree rest → IsOfTree (game_refusal game rest)
 game_of_tree game rest p =
-    choose (has_names game) Names (own_refusal game rest)
-    (choose (own_test game).1 (own_test game).0 rest p ((laws_of (class_of game)).of_tree (scale_of game) game)) tt
+    unless_of_tree (has_names game) Names (own_refusal game rest)
+    (unless_of_tree (own_test game).1 (own_test game).0 rest p
+    ((laws_of (class_of game)).of_tree (scale_of game) game)) tt
 
 of_tree : (command : Command) (tree : Data) → IsOfTree (tree_refusal command tree)
 of_tree command tree =
@@ -58,9 +60,9 @@ of_tree command tree =
     let late = late_refusal command game tree in
     let numbers = has_numbers game && has_needed_numbers command tree in
     let number = unless numbers Number late in
-    choose (is_shaped command tree) Shape (unless (has_players game) Players number)
-    (choose (has_players game) Players number
-    (choose numbers Number late
+    unless_of_tree (is_shaped command tree) Shape (unless (has_players game) Players number)
+    (unless_of_tree (has_players game) Players number
+    (unless_of_tree numbers Number late
     (game_of_tree game (needed_refusal command game tree) (needed_of_tree command game tree)) tt) tt) tt
 
 refused_at : (command : Command) (bytes : List ℕ) (tree : Data) → length bytes ≤ document_limit command

@@ -7,6 +7,7 @@ use Rattle.std.specs.List.{list_all, range_with_len}
 use Rattle.std.proofs.lemmas.Bool.{false≢true, and_parts, ltb-true, leb-true, eqb-true, le-leb}
 use Rattle.std.proofs.lemmas.Int.{ints}
 use Rattle.std.proofs.lemmas.List.{length-map}
+use Rattle.std.proofs.lemmas.Nat.{pow_pos}
 use Rattle.std.proofs.lemmas.List.Elements.{All-map}
 use Rattle.std.proofs.lemmas.List.FromFn.{length-map-range_with_len}
 use Rattle.std.proofs.lemmas.List.Sums.{AllPass-from_list_all}
@@ -16,7 +17,7 @@ use Rattle.airport.specs.Costs.{IsCost}
 use Rattle.std.specs.Prelude.{sum}
 use Rattle.bankruptcy.specs.Bankruptcy.{Bankruptcy as Claims, bankruptcy}
 use Rattle.worth_tables.specs.Tables.{table, IsTable, AreSmall}
-use Rattle.document_parts.proofs.Filling.{pow_some}
+use Rattle.document_parts.proofs.LeastDenominators.{if_true}
 use Rattle.json_trees.specs.Trees.{parts, parts_at, passes, passes_if_there, is_numeric}
 use Rattle.json_trees.specs.Trees.{is_array_of, integer, pair_members}
 use Rattle.game_text.specs.Shape.{class_of, is_shaped_as}
@@ -123,7 +124,7 @@ numbers_length k game n names (Some d) h =
     length-map-range_with_len
     (λ s. sparse_number k n names (number_at k (codes "default") game) s (parts_at (codes "sparse") game)) 1
     (2 ^ n - 1) in
-    omega (arith, pow_some n)
+    omega (arith, pow_pos n)
 
 abbrev pub IsPlayers : ℕ → Type 0
 IsPlayers n = (1 ≤ n) × (n ≤ 16)
@@ -271,10 +272,6 @@ sizes_of (n ∷ ns) = ap (λ l. n ∷ l) (sizes_of ns)
 
 pub kept_sizes : (ns : List ℕ) (zs : List ℤ) → map pos ns ≡ zs → ns ≡ map unsigned_abs zs
 kept_sizes ns zs e = sym (sizes_of ns) ∙ ap (map unsigned_abs) e
-
-pub if_true : {A : Type 0} (b : Bool) (x y : A) → b ≡ true → x ≡ (if b then x else y)
-if_true true x y h = refl
-if_true false x y h = absurd (false≢true h)
 
 pub claims_made : (b : Claims) (estate : ℤ) (claims : List ℤ) → pos b.estate ≡ estate → map pos b.claims ≡ claims
     → b.estate ≤ sum b.claims

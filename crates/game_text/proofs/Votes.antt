@@ -21,7 +21,8 @@ use Rattle.document_parts.specs.Scales.{scale_of}
 use Rattle.game_text.specs.VotingClass.{is_quota}
 use Rattle.game_text.specs.Readings.{HasSizes}
 use Rattle.game_text.specs.declared.class.Class.TheVariants.{Voting}
-use Rattle.game_text.proofs.Sizes.{all_map, cost, estate_cost, kept_sizes, if_true, numbers_within}
+use Rattle.document_parts.proofs.LeastDenominators.{if_true}
+use Rattle.game_text.proofs.Sizes.{all_map, cost, estate_cost, kept_sizes, numbers_within}
 use Rattle.game_text.proofs.MatrixRows.{none_if}
 
 -- a quota and weights in their limits

@@ -7,7 +7,7 @@ use Rattle.std.proofs.lemmas.Bool.{ltb-true, lt-ltb}
 use Rattle.std.proofs.lemmas.Int.{ints, fits_signed_from_abs}
 use Rattle.std.proofs.lemmas.Nat.Gcd.{le_of_dvd}
 use mir.Syntax.{w128}
-use Rattle.definitions.proofs.Cancel.{cancel, quot_exact}
+use Rattle.definitions.proofs.Cancel.{cancel, quot_exact, size_positive}
 use Rattle.definitions.proofs.Ring.{ring_laws, mul-oneℤ}
 use Rattle.fractions.specs.FractionTexts.{is_i128}
 use Rattle.fractions.specs.Divisors.{gcd}
@@ -83,13 +83,15 @@ pub times_unmade : (k : ℕ) (f : Fraction) → pos 1 ≤ℤ f.den → unsigned_
     → HasNoForm (f.num *ℤ pos k) (f.den *ℤ pos 1) → FitsSigned w128 (times_scale k f).num → ⊥
 times_unmade k f h small none fits =
     let r = times_ratio k f h in
-    let le = le_of_dvd (above f.den h) (denominator_divides (times_scale k f) (f.num *ℤ pos k) f.den r) in
+    let le =
+    le_of_dvd (size_positive f.den (apart f.den h))
+    (denominator_divides (times_scale k f) (f.num *ℤ pos k) f.den r) in
     none (times_scale k f)
     (subst (λ (d : ℤ). IsRatio (times_scale k f) (f.num *ℤ pos k) d) (sym (mul-oneℤ f.den)) r)
     (fits, fits_signed_from_abs w128 (times_scale k f).den (omega (arith, le, small)))
-  where
-    above : (d : ℤ) → pos 1 ≤ℤ d → 0 < unsigned_abs d
-    above d h = omega (arith, ints, h)
+
+pub last_factors_swapped : (a k d : ℤ) → (a *ℤ k) *ℤ d ≡ a *ℤ (d *ℤ k)
+last_factors_swapped a k d = simp ring_laws
 
 -- what is over a scale is, times the scale, as before
 pub times_over : (k : ℕ) (f : Fraction) → 0 < k → IsReduced f → times_scale k (over_scale (pos k) f) ≡ f
@@ -100,27 +102,8 @@ times_over k f p r =
     let back = times_ratio k g over.reduced.positive in
     one_ratio (times_scale k g) f f.num f.den
     (ratio_of_same (times_scale k g) (g.num *ℤ pos k) g.den f.num f.den (apart f.den r.positive)
-    (turned g.num (pos k) f.den ∙ over.same) back)
+    (last_factors_swapped g.num (pos k) f.den ∙ over.same) back)
     (record { divisor = apart f.den r.positive; reduced = r; same = refl })
-  where
-    turned : (a k d : ℤ) → (a *ℤ k) *ℤ d ≡ a *ℤ (d *ℤ k)
-    turned a k d = simp ring_laws
-
--- what is times a scale is, over the scale, as before
-pub over_times : (k : ℕ) (f : Fraction) → 0 < k → IsReduced f → over_scale (pos k) (times_scale k f) ≡ f
-over_times k f p r =
-    let g = times_scale k f in
-    let one : pos 1 ≤ℤ pos k = omega (arith, ints) in
-    let times = times_ratio k f r.positive in
-    let back = over_ratio (pos k) g one times.reduced.positive in
-    let h = over_scale (pos k) g in
-    one_ratio h f f.num f.den
-    (ratio_of_same h g.num (g.den *ℤ pos k) f.num f.den (apart f.den r.positive)
-    (times.same ∙ turned f.num (pos k) g.den) back)
-    (record { divisor = apart f.den r.positive; reduced = r; same = refl })
-  where
-    turned : (a k d : ℤ) → (a *ℤ k) *ℤ d ≡ a *ℤ (d *ℤ k)
-    turned a k d = simp ring_laws
 
 -- ---- whether there is a form of 128 bits
 

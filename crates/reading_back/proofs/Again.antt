@@ -74,8 +74,8 @@ again_length b x =
 
 -- ---- as worth
 
-turned : (b : Bool) (y d z m : ℤ) → y *ℤ d ≡ as_printed b z *ℤ m → z *ℤ m ≡ as_printed b y *ℤ d
-turned b y d z m e =
+sign_across : (b : Bool) (y d z m : ℤ) → y *ℤ d ≡ as_printed b z *ℤ m → z *ℤ m ≡ as_printed b y *ℤ d
+sign_across b y d z m e =
     sym (printed_times b y d ∙ ap (as_printed b) (e ∙ printed_times b z m) ∙ printed_twice b (z *ℤ m))
 
 read : Bool → Allocation → Allocation
@@ -88,7 +88,7 @@ worth_value b x i p l =
     let y = over_least (printed b x) in
     let here = worth_share b y i (omega (arith, l, again_length b x)) ∙ ap (as_printed b) (again_share b x i l) in
     ap (λ (z : ℤ). share x i *ℤ z) (worth_denominator b y)
-    ∙ turned b (numerator_over (pos (least_denominator (printed b x))) (kept_share b x.den (share x i))) x.den
+    ∙ sign_across b (numerator_over (pos (least_denominator (printed b x))) (kept_share b x.den (share x i))) x.den
     (share x i) (pos (least_denominator (printed b x))) (again_value b x.den x.shares i p l)
     ∙ ap (λ (z : ℤ). z *ℤ x.den) (sym here)
 

@@ -11,7 +11,7 @@ use Rattle.std.proofs.lemmas.List.Elements.{All-map}
 use Rattle.std.proofs.lemmas.Nat.Gcd.{le_of_dvd}
 use Rattle.definitions.proofs.Ring.{ring_laws, mul_left_commℤ, mul_assocℤ}
 use Rattle.fractions.specs.Fraction.{Fraction, IsReduced, IsRatio}
-use Rattle.definitions.proofs.Cancel.{cancel, quot_exact}
+use Rattle.definitions.proofs.Cancel.{cancel, quot_exact, size_positive}
 use Rattle.fractions.proofs.Divisors.{times_quotient}
 use Rattle.worth_core.specs.LeastDenominators.{IsWholeTimes, numerator_over}
 use Rattle.worth_core.proofs.LeastMultiples.{denominator_divides}
@@ -23,9 +23,6 @@ use Rattle.fractions.proofs.Ratios.{apart, size_of, denominator_divides as divid
 
 pub whole_times : (f : Fraction) (m : ℕ) → unsigned_abs f.den ∣ m → IsWholeTimes m f
 whole_times f m h = dvd-mul_right_of_dvd (unsigned_abs f.den) h (unsigned_abs f.num)
-
-pub size_positive : (d : ℤ) → pos 1 ≤ℤ d → 0 < unsigned_abs d
-size_positive d h = omega (arith, ints)
 
 pub over_value : (f : Fraction) (m : ℕ) → pos 1 ≤ℤ f.den → unsigned_abs f.den ∣ m
     → f.den *ℤ numerator_over (pos m) f ≡ f.num *ℤ pos m
@@ -40,13 +37,11 @@ over_value f m p h =
 
 joined : (b y d a m n : ℤ) → b *ℤ y ≡ a *ℤ m → a *ℤ d ≡ n *ℤ b → b *ℤ (y *ℤ d) ≡ b *ℤ (n *ℤ m)
 joined b y d a m n e f =
-    sym (mul_assocℤ b y d) ∙ ap (λ (z : ℤ). z *ℤ d) e ∙ turned a m d ∙ ap (λ (z : ℤ). z *ℤ m) f ∙ moved n b m
+    sym (mul_assocℤ b y d) ∙ ap (λ (z : ℤ). z *ℤ d) e ∙ mul_right_commℤ a m d ∙ ap (λ (z : ℤ). z *ℤ m) f
+    ∙ mul_assocℤ n b m ∙ mul_left_commℤ n b m
   where
-    turned : (a m d : ℤ) → (a *ℤ m) *ℤ d ≡ (a *ℤ d) *ℤ m
-    turned a m d = simp ring_laws
-
-    moved : (n b m : ℤ) → (n *ℤ b) *ℤ m ≡ b *ℤ (n *ℤ m)
-    moved n b m = simp ring_laws
+    mul_right_commℤ : (a m d : ℤ) → (a *ℤ m) *ℤ d ≡ (a *ℤ d) *ℤ m
+    mul_right_commℤ a m d = simp ring_laws
 
 -- over m, the fraction is still n over d
 pub same_value : (f : Fraction) (n d : ℤ) (m : ℕ) → IsRatio f n d → unsigned_abs f.den ∣ m
@@ -62,7 +57,8 @@ no_greater y d n m p le e = le_of_mul-le-mul_right (subst (λ (k : ℕ). k ≤ n
 pub no_larger : (f : Fraction) (n d : ℤ) (m : ℕ) → IsRatio f n d → pos 1 ≤ℤ d → m ≤ unsigned_abs d
     → unsigned_abs f.den ∣ m → unsigned_abs (numerator_over (pos m) f) ≤ unsigned_abs n
 no_larger f n d m r p le h =
-    no_greater (unsigned_abs (numerator_over (pos m) f)) (unsigned_abs d) (unsigned_abs n) m (size_positive d p) le
+    no_greater (unsigned_abs (numerator_over (pos m) f)) (unsigned_abs d) (unsigned_abs n) m
+    (size_positive d (apart d p)) le
     (sym (unsigned_abs-mul (numerator_over (pos m) f) d) ∙ ap unsigned_abs (same_value f n d m r h)
     ∙ unsigned_abs-mul n (pos m))
 
@@ -77,7 +73,8 @@ pub least_below : (F : ℤ → Fraction) (P : ℤ → ℤ) (d : ℤ) → ((z : �
     → (zs : List ℤ) → least_denominator (map F zs) ≤ unsigned_abs d
 least_below F P d h p zs =
     let is = least_denominator_is (map F zs) (all_reduced F P d h zs) in
-    le_of_dvd (size_positive d p) (is.least (unsigned_abs d) (All-map (IsWholeTimes (unsigned_abs d)) F zs (λ k e l.
+    le_of_dvd (size_positive d (apart d p))
+    (is.least (unsigned_abs d) (All-map (IsWholeTimes (unsigned_abs d)) F zs (λ k e l.
     whole_times (F (get_or zs k e)) (unsigned_abs d)
     (divides (F (get_or zs k e)) (P (get_or zs k e)) d (h (get_or zs k e))))))
 

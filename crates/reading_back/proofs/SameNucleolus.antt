@@ -30,10 +30,10 @@ beats measure g x y z h b =
 carried : (a b c p q r : ℤ) → q *ℤ a ≡ p *ℤ b → a *ℤ r ≡ c *ℤ p → p *ℤ (b *ℤ r) ≡ p *ℤ (c *ℤ q)
 carried a b c p q r e f =
     sym (mul_assocℤ p b r) ∙ ap (λ (k : ℤ). k *ℤ r) (sym e) ∙ mul_assocℤ q a r ∙ ap (λ (k : ℤ). q *ℤ k) f
-    ∙ turned q c p
+    ∙ outer_factors_swapped q c p
   where
-    turned : (q c p : ℤ) → q *ℤ (c *ℤ p) ≡ p *ℤ (c *ℤ q)
-    turned q c p = simp ring_laws
+    outer_factors_swapped : (q c p : ℤ) → q *ℤ (c *ℤ p) ≡ p *ℤ (c *ℤ q)
+    outer_factors_swapped q c p = simp ring_laws
 
 same_as : (g : Game) (x y z : Allocation) → AreSame g x y → IsSame g x z → IsSame g y z
 same_as g x y z h s = λ i lt.

@@ -15,14 +15,14 @@ use Rattle.json_trees.specs.Trees.{is_member, listed}
 use Rattle.json_trees.specs.Fractions.{fraction_of, is_fraction}
 use Rattle.json_trees.proofs.Values.{listed-items_of}
 use Rattle.report.specs.ShareLists.{as_printed, printed_share, share_data}
-use Rattle.definitions.proofs.Ring.{ring_laws}
+use Rattle.definitions.proofs.Cancel.{size_positive}
 use Rattle.json_trees.specs.LowestTerms.{times_scale}
-use Rattle.json_trees.proofs.LowestTerms.{lowest_ratio, is_lowest, times_ratio}
+use Rattle.json_trees.proofs.LowestTerms.{lowest_ratio, is_lowest, times_ratio, last_factors_swapped}
 use Rattle.document_parts.specs.Shares.{scaled_share}
 use Rattle.report.specs.Limits.{IsScale}
 use Rattle.report.proofs.LowestTexts.{scaled_high}
 use Rattle.reading_back.specs.ReadBack.{kept_share}
-use Rattle.reading_back.proofs.OverLeast.{size_positive, no_greater}
+use Rattle.reading_back.proofs.OverLeast.{no_greater}
 use Rattle.fractions.proofs.Ratios.{apart, ratio_of_same, denominator_divides, product_positive}
 use Rattle.report.proofs.Readers.{size_as_printed}
 
@@ -43,17 +43,15 @@ printed_times k b d z s p =
     let r = printed_ratio k b d z s p in
     is_lowest (times_scale k f) (as_printed b z) d p
     (ratio_of_same (times_scale k f) (f.num *ℤ pos k) f.den (as_printed b z) d (apart d p)
-    (turned f.num (pos k) d ∙ r.same) (times_ratio k f r.reduced.positive))
-  where
-    turned : (a k d : ℤ) → (a *ℤ k) *ℤ d ≡ a *ℤ (d *ℤ k)
-    turned a k d = simp ring_laws
+    (last_factors_swapped f.num (pos k) d ∙ r.same) (times_ratio k f r.reduced.positive))
 
 -- a fraction in lowest terms has no greater numbers
 small_numbers : (f : Fraction) (n d : ℤ) → IsRatio f n d → pos 1 ≤ℤ d
     → (unsigned_abs f.num ≤ unsigned_abs n) × (unsigned_abs f.den ≤ unsigned_abs d)
 small_numbers f n d r p =
-    let le = le_of_dvd (size_positive d p) (denominator_divides f n d r) in (
-      no_greater (unsigned_abs f.num) (unsigned_abs d) (unsigned_abs n) (unsigned_abs f.den) (size_positive d p) le
+    let le = le_of_dvd (size_positive d (apart d p)) (denominator_divides f n d r) in (
+      no_greater (unsigned_abs f.num) (unsigned_abs d) (unsigned_abs n) (unsigned_abs f.den)
+          (size_positive d (apart d p)) le
           (sym (unsigned_abs-mul f.num d) ∙ ap unsigned_abs r.same ∙ unsigned_abs-mul n f.den),
       le,
     )

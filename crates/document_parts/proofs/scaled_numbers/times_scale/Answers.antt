@@ -8,11 +8,11 @@ use Rattle.worth_core.specs.LeastDenominators.{numerator_over}
 use Rattle.document_parts.specs.ScaledNumbers.{if_small}
 use Rattle.document_parts.proofs.scaled_numbers.times_scale.Goals as goal
 
-large : (z : ℤ) → 2 ^ 40 ≤ unsigned_abs z → None ≡ if_small (Some z)
-large z h = sym (ap (λ b. if b then Some z else None) (le-ltb (unsigned_abs z) (2 ^ 40) h))
+none_if_large : (z : ℤ) → 2 ^ 40 ≤ unsigned_abs z → None ≡ if_small (Some z)
+none_if_large z h = sym (ap (λ b. if b then Some z else None) (le-ltb (unsigned_abs z) (2 ^ 40) h))
 
-small : (z : ℤ) → unsigned_abs z < 2 ^ 40 → Some z ≡ if_small (Some z)
-small z h = sym (ap (λ b. if b then Some z else None) (lt-ltb (unsigned_abs z) (2 ^ 40) h))
+some_if_small : (z : ℤ) → unsigned_abs z < 2 ^ 40 → Some z ≡ if_small (Some z)
+some_if_small z h = sym (ap (λ b. if b then Some z else None) (lt-ltb (unsigned_abs z) (2 ^ 40) h))
 
 pub overflow_cast-result : goal.overflow_cast-result
 overflow_cast-result c = fits_signed_from_abs w64 _ (omega (arith, c.unsigned_abs.ensures.value))
@@ -35,7 +35,7 @@ returns-then-unsigned_abs c =
     let is : to_z w128 (of_z w128 c.in_ok-num.num) ≡ numerator_over (pos c.args.scale) f = kept ∙ value in
     let size : c.unsigned_abs.result ≡ unsigned_abs (numerator_over (pos c.args.scale) f) =
     c.unsigned_abs.ensures.value ∙ ap unsigned_abs is in
-    large (numerator_over (pos c.args.scale) f) (subst (λ (n : ℕ). 2 ^ 40 ≤ n) size c.if-unsigned_abs.true)
+    none_if_large (numerator_over (pos c.args.scale) f) (subst (λ (n : ℕ). 2 ^ 40 ≤ n) size c.if-unsigned_abs.true)
 
 pub returns : goal.returns
 returns c =
@@ -61,4 +61,4 @@ returns c =
     fits_signed_from_abs w64 (to_z w128 (of_z w128 c.in_ok-num.num))
     (omega (arith, below, ap unsigned_abs is)) in
     ap Some (to_z-of_z w64 (to_z w128 (of_z w128 c.in_ok-num.num)) fits ∙ is)
-    ∙ small (numerator_over (pos c.args.scale) f) below
+    ∙ some_if_small (numerator_over (pos c.args.scale) f) below

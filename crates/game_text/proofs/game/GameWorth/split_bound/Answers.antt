@@ -12,10 +12,10 @@ abbrev count : Game → ℕ
 count g = (game_of (description_in g)).players
 
 -- what the game of the class gives is what the game gives
-given : (g h : Game) (x : Allocation) (f : ℕ) (r : ℤ) → g ≡ h → to_z w128 (of_z w128 r) ≡ r
+same_split_maximum : (g h : Game) (x : Allocation) (f : ℕ) (r : ℤ) → g ≡ h → to_z w128 (of_z w128 r) ≡ r
     → IsSplitMaximum (game_of (description_in h)) x f r
     → IsSplitMaximum (game_of (description_in g)) x f (to_z w128 (of_z w128 r))
-given g h x f r is kept m =
+same_split_maximum g h x f r is kept m =
     subst (λ (z : ℤ). IsSplitMaximum (game_of (description_in g)) x f z) (sym kept)
     (subst (λ (k : Game). IsSplitMaximum (game_of (description_in k)) x f r) (sym is) m)
 
@@ -32,7 +32,8 @@ split_bound-requires-clause-two c = subst (λ (n : ℕ). HasTwo n c.args.free) (
 pub returns-in-Table : goal.returns-in-Table
 returns-in-Table c =
     let kept = to_z-of_z w128 c.split_bound.result (record { sfits = c.split_bound.type_inv }) in
-    given c.args.self.now _ c.args.x.now c.args.free c.split_bound.result c.in-Table.is kept c.split_bound.ensures
+    same_split_maximum c.args.self.now _ c.args.x.now c.args.free c.split_bound.result c.in-Table.is kept
+    c.split_bound.ensures
 
 pub split_bound-requires-in-Cost-clause-shares : goal.split_bound-requires-in-Cost-clause-shares
 split_bound-requires-in-Cost-clause-shares c = c.requires.shares ∙ ap count c.in-Cost.is
@@ -48,7 +49,7 @@ split_bound-requires-in-Cost-clause-two c =
 pub returns-in-Cost : goal.returns-in-Cost
 returns-in-Cost c =
     let kept = to_z-of_z w128 c.split_bound-in-Cost.result (record { sfits = c.split_bound-in-Cost.type_inv }) in
-    given c.args.self.now _ c.args.x.now c.args.free c.split_bound-in-Cost.result c.in-Cost.is kept
+    same_split_maximum c.args.self.now _ c.args.x.now c.args.free c.split_bound-in-Cost.result c.in-Cost.is kept
     c.split_bound-in-Cost.ensures
 
 pub split_bound-requires-in-Airport-clause-shares : goal.split_bound-requires-in-Airport-clause-shares
@@ -66,7 +67,7 @@ pub returns-in-Airport : goal.returns-in-Airport
 returns-in-Airport c =
     let kept =
     to_z-of_z w128 c.split_bound-in-Airport.result (record { sfits = c.split_bound-in-Airport.type_inv }) in
-    given c.args.self.now _ c.args.x.now c.args.free c.split_bound-in-Airport.result c.in-Airport.is kept
+    same_split_maximum c.args.self.now _ c.args.x.now c.args.free c.split_bound-in-Airport.result c.in-Airport.is kept
     c.split_bound-in-Airport.ensures
 
 pub split_bound-requires-in-Bankruptcy-clause-shares : goal.split_bound-requires-in-Bankruptcy-clause-shares
@@ -85,7 +86,8 @@ returns-in-Bankruptcy c =
     let kept =
     to_z-of_z w128 c.split_bound-in-Bankruptcy.result
     (record { sfits = c.split_bound-in-Bankruptcy.type_inv }) in
-    given c.args.self.now _ c.args.x.now c.args.free c.split_bound-in-Bankruptcy.result c.in-Bankruptcy.is kept
+    same_split_maximum c.args.self.now _ c.args.x.now c.args.free c.split_bound-in-Bankruptcy.result
+    c.in-Bankruptcy.is kept
     c.split_bound-in-Bankruptcy.ensures
 
 pub split_bound-requires-in-Tree-clause-shares : goal.split_bound-requires-in-Tree-clause-shares
@@ -102,7 +104,7 @@ split_bound-requires-in-Tree-clause-two c =
 pub returns-in-Tree : goal.returns-in-Tree
 returns-in-Tree c =
     let kept = to_z-of_z w128 c.split_bound-in-Tree.result (record { sfits = c.split_bound-in-Tree.type_inv }) in
-    given c.args.self.now _ c.args.x.now c.args.free c.split_bound-in-Tree.result c.in-Tree.is kept
+    same_split_maximum c.args.self.now _ c.args.x.now c.args.free c.split_bound-in-Tree.result c.in-Tree.is kept
     c.split_bound-in-Tree.ensures
 
 pub split_bound-requires-in-Assignment-clause-shares : goal.split_bound-requires-in-Assignment-clause-shares
@@ -121,7 +123,8 @@ returns-in-Assignment c =
     let kept =
     to_z-of_z w128 c.split_bound-in-Assignment.result
     (record { sfits = c.split_bound-in-Assignment.type_inv }) in
-    given c.args.self.now _ c.args.x.now c.args.free c.split_bound-in-Assignment.result c.in-Assignment.is kept
+    same_split_maximum c.args.self.now _ c.args.x.now c.args.free c.split_bound-in-Assignment.result
+    c.in-Assignment.is kept
     c.split_bound-in-Assignment.ensures
 
 pub split_bound-requires-in-Market-clause-shares : goal.split_bound-requires-in-Market-clause-shares
@@ -139,7 +142,7 @@ pub returns-in-Market : goal.returns-in-Market
 returns-in-Market c =
     let kept =
     to_z-of_z w128 c.split_bound-in-Market.result (record { sfits = c.split_bound-in-Market.type_inv }) in
-    given c.args.self.now _ c.args.x.now c.args.free c.split_bound-in-Market.result c.in-Market.is kept
+    same_split_maximum c.args.self.now _ c.args.x.now c.args.free c.split_bound-in-Market.result c.in-Market.is kept
     c.split_bound-in-Market.ensures
 
 pub split_bound-requires-in-Voting-clause-shares : goal.split_bound-requires-in-Voting-clause-shares
@@ -157,5 +160,5 @@ pub returns-in-Voting : goal.returns-in-Voting
 returns-in-Voting c =
     let kept =
     to_z-of_z w128 c.split_bound-in-Voting.result (record { sfits = c.split_bound-in-Voting.type_inv }) in
-    given c.args.self.now _ c.args.x.now c.args.free c.split_bound-in-Voting.result c.in-Voting.is kept
+    same_split_maximum c.args.self.now _ c.args.x.now c.args.free c.split_bound-in-Voting.result c.in-Voting.is kept
     c.split_bound-in-Voting.ensures
