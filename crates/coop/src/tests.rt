@@ -16,7 +16,6 @@ mod refusals;
 mod shapley_shares;
 mod statuses;
 mod tables;
-mod two_refusals;
 mod votes;
 
 use crate::run::run;
@@ -80,19 +79,6 @@ fn expect_run(
     Ok(())
 }
 
-// Runs of one command, each on its input with its line and its status.
-fn expect_runs(
-    rt: &impl Abort,
-    alloc: Global,
-    command: &str,
-    rows: &[(&str, &str, Status)],
-) -> Result<(), Fail> {
-    for &(input, line, status) in rows {
-        expect_run(rt, alloc, command, input, line, status)?;
-    }
-    Ok(())
-}
-
 // Runs of one command that end with one status, each on its input with its line.
 fn expect_lines(
     rt: &impl Abort,
@@ -102,48 +88,6 @@ fn expect_lines(
     rows: &[(&str, &str)],
 ) -> Result<(), Fail> {
     for &(input, line) in rows {
-        expect_run(rt, alloc, command, input, line, status)?;
-    }
-    Ok(())
-}
-
-// Runs of one command that end with one status and one line, on each of these inputs.
-fn expect_line(
-    rt: &impl Abort,
-    alloc: Global,
-    command: &str,
-    status: Status,
-    line: &str,
-    inputs: &[&str],
-) -> Result<(), Fail> {
-    for input in inputs {
-        expect_run(rt, alloc, command, *input, line, status)?;
-    }
-    Ok(())
-}
-
-// Runs of these commands on one input that end with one status and one line.
-fn expect_commands(
-    rt: &impl Abort,
-    alloc: Global,
-    commands: &[&str],
-    input: &str,
-    line: &str,
-    status: Status,
-) -> Result<(), Fail> {
-    for command in commands {
-        expect_run(rt, alloc, *command, input, line, status)?;
-    }
-    Ok(())
-}
-
-// Runs, each of its command on its input with its line and its status.
-fn expect_answers(
-    rt: &impl Abort,
-    alloc: Global,
-    rows: &[(&str, &str, &str, Status)],
-) -> Result<(), Fail> {
-    for &(command, input, line, status) in rows {
         expect_run(rt, alloc, command, input, line, status)?;
     }
     Ok(())

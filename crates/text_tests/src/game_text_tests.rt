@@ -4,6 +4,7 @@ mod checks;
 mod limits;
 mod matrix_games;
 pub(crate) mod proposals;
+mod two_refusals;
 mod versions;
 mod votes;
 
@@ -105,90 +106,6 @@ fn other_kinds_keys_and_words_are_refused(rt: HostRuntime) {
             "on {text}"
         );
     }
-}
-
-#[test]
-fn of_two_refusals_the_first_is_given(rt: HostRuntime) -> Result<(), Fail> {
-    for &(game, shares, refusal) in &[
-        (
-            r#"{"class":"airport","cost":[],"costs":[]}"#,
-            "[1]",
-            Refusal::Shape,
-        ),
-        (
-            r#"{"class":"table","players":0,"sparse":[[[1],1,1]]}"#,
-            r#"["2/4"]"#,
-            Refusal::Shape,
-        ),
-        (
-            r#"{"class":"airport","costs":[]}"#,
-            r#"["2/4"]"#,
-            Refusal::Players,
-        ),
-        (
-            r#"{"class":"table","players":2,"worths":[0.5]}"#,
-            "[1]",
-            Refusal::Players,
-        ),
-        (
-            r#"{"class":"airport","costs":[-1],"names":[]}"#,
-            "[1]",
-            Refusal::Number,
-        ),
-        (
-            r#"{"class":"table","players":3,"sparse":[[[],1.5]]}"#,
-            "[1]",
-            Refusal::Number,
-        ),
-        (
-            r#"{"class":"airport","costs":[1],"names":[]}"#,
-            "[1.5,1]",
-            Refusal::Number,
-        ),
-        (
-            r#"{"claims":[1],"class":"bankruptcy","estate":2}"#,
-            r#"["+1"]"#,
-            Refusal::Number,
-        ),
-        (
-            r#"{"class":"table","names":["a"],"players":3,"sparse":[[[],1]]}"#,
-            "[1]",
-            Refusal::Names,
-        ),
-        (
-            r#"{"class":"table","players":3,"sparse":[[[1,1],1],[["a"],1]]}"#,
-            "[1,2,3]",
-            Refusal::Names,
-        ),
-        (
-            r#"{"claims":[1],"class":"bankruptcy","estate":2,"names":[""]}"#,
-            "[1]",
-            Refusal::Names,
-        ),
-        (
-            r#"{"class":"table","players":3,"sparse":[[[1,2],6],[[3,2,1],12],[[2,1],6]]}"#,
-            "[1,2]",
-            Refusal::Coalition,
-        ),
-        (
-            r#"{"claims":[100,200,300],"class":"bankruptcy","estate":601}"#,
-            "[1,2]",
-            Refusal::Estate,
-        ),
-        (
-            r#"{"claims":[100,200,300],"class":"bankruptcy","estate":601}"#,
-            r#"["1/9223372036854775809",0,0]"#,
-            Refusal::Estate,
-        ),
-        (
-            r#"{"class":"airport","costs":[2,4,6]}"#,
-            r#"["1/9223372036854775809",0]"#,
-            Refusal::Proposal,
-        ),
-    ] {
-        expect_fault(&rt, rt.alloc(), game, shares, Some(refusal))?;
-    }
-    Ok(())
 }
 
 #[test]

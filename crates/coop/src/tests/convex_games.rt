@@ -1,5 +1,5 @@
 //! Games that are convex and games that aren't, and games that have too many players to be tested.
-use super::{expect_line, expect_lines};
+use super::{expect_lines, expect_run};
 use crate::status::Status;
 use std::test::Fail;
 
@@ -73,5 +73,8 @@ fn games_of_17_have_too_many_players_to_be_tested(rt: HostRuntime) -> Result<(),
         r#"{"game":{"class":"airport","costs":[1,1,1,1,1,1,1,1,1,1,1,1,1,1,1,1,1]}}"#,
         r#"{"game":{"claims":[1,1,1,1,1,1,1,1,1,1,1,1,1,1,1,1,1],"class":"bankruptcy","estate":17}}"#,
     ];
-    expect_line(&rt, rt.alloc(), "convex", Status::Usage, line, inputs)
+    for input in inputs {
+        expect_run(&rt, rt.alloc(), "convex", *input, line, Status::Usage)?;
+    }
+    Ok(())
 }

@@ -1,6 +1,6 @@
 //! Games of version 2, whose numbers may be fraction texts.
 use super::nucleolus::is_checked;
-use super::{ended, expect_answers, started};
+use super::{ended, expect_run, started};
 use crate::status::Status;
 use std::alloc::Global;
 use std::test::Fail;
@@ -139,7 +139,10 @@ fn other_answers_are_over_the_scale(rt: HostRuntime) -> Result<(), Fail> {
             Status::Negative,
         ),
     ];
-    expect_answers(&rt, rt.alloc(), rows)
+    for &(command, input, line, status) in rows {
+        expect_run(&rt, rt.alloc(), command, input, line, status)?;
+    }
+    Ok(())
 }
 
 #[test]
@@ -186,5 +189,8 @@ fn matchings_deficits_and_surpluses_are_over_the_scale(rt: HostRuntime) -> Resul
             Status::Refused,
         ),
     ];
-    expect_answers(&rt, rt.alloc(), rows)
+    for &(command, input, line, status) in rows {
+        expect_run(&rt, rt.alloc(), command, input, line, status)?;
+    }
+    Ok(())
 }

@@ -1,5 +1,5 @@
 //! Markets and their matchings, and what other commands say of a market.
-use super::{expect_commands, expect_line, expect_lines, expect_run};
+use super::{expect_lines, expect_run};
 use crate::status::Status;
 use std::alloc::Global;
 use std::test::Fail;
@@ -118,7 +118,10 @@ fn matching_is_for_markets_alone(rt: HostRuntime) -> Result<(), Fail> {
         r#"{"game":{"class":"assignment","matrix":[[9]]}}"#,
         r#"{"game":{"class":"voting","quota":5,"weights":[4,2,1]}}"#,
     ];
-    expect_line(&rt, rt.alloc(), "matching", Status::Usage, line, inputs)
+    for input in inputs {
+        expect_run(&rt, rt.alloc(), "matching", *input, line, Status::Usage)?;
+    }
+    Ok(())
 }
 
 #[test]
@@ -139,5 +142,8 @@ fn markets_are_for_matching_alone(rt: HostRuntime) -> Result<(), Fail> {
         "convex",
         "kernel",
     ];
-    expect_commands(&rt, rt.alloc(), commands, input, line, Status::Usage)
+    for command in commands {
+        expect_run(&rt, rt.alloc(), *command, input, line, Status::Usage)?;
+    }
+    Ok(())
 }

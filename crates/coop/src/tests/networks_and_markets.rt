@@ -1,6 +1,6 @@
 //! Games of trees and assignments.
 use super::nucleolus::is_checked;
-use super::{ended, expect_answers, expect_line, expect_runs, printed};
+use super::{ended, expect_run, printed};
 use crate::status::Status;
 use std::alloc::Global;
 use std::test::Fail;
@@ -34,7 +34,10 @@ fn the_later_player_of_a_network_links_to_the_nearer(rt: HostRuntime) -> Result<
             Status::Done,
         ),
     ];
-    expect_answers(&rt, rt.alloc(), rows)
+    for &(command, input, line, status) in rows {
+        expect_run(&rt, rt.alloc(), command, input, line, status)?;
+    }
+    Ok(())
 }
 
 // Whether two runs of `nucleolus` on this input print the same line.
@@ -96,7 +99,10 @@ fn certificates_of_a_market_are_judged(rt: HostRuntime) -> Result<(), Fail> {
             Status::Negative,
         ),
     ];
-    expect_runs(&rt, rt.alloc(), "check", rows)
+    for &(input, line, status) in rows {
+        expect_run(&rt, rt.alloc(), "check", input, line, status)?;
+    }
+    Ok(())
 }
 
 #[test]
@@ -129,7 +135,10 @@ fn proposals_for_networks_and_markets_are_judged(rt: HostRuntime) -> Result<(), 
             Status::Done,
         ),
     ];
-    expect_runs(&rt, rt.alloc(), "propose", rows)
+    for &(input, line, status) in rows {
+        expect_run(&rt, rt.alloc(), "propose", input, line, status)?;
+    }
+    Ok(())
 }
 
 #[test]
@@ -139,7 +148,10 @@ fn matrices_that_fit_no_class_are_refused(rt: HostRuntime) -> Result<(), Fail> {
         r#"{"game":{"class":"tree","matrix":[[0,1],[2,0]]}}"#,
         r#"{"game":{"class":"assignment","matrix":[[5,8],[7]]}}"#,
     ];
-    expect_line(&rt, rt.alloc(), "nucleolus", Status::Refused, line, inputs)
+    for input in inputs {
+        expect_run(&rt, rt.alloc(), "nucleolus", *input, line, Status::Refused)?;
+    }
+    Ok(())
 }
 
 #[test]
@@ -150,5 +162,8 @@ fn bird_is_for_trees_alone(rt: HostRuntime) -> Result<(), Fail> {
         r#"{"game":{"class":"table","players":1,"worths":[5]}}"#,
         MARKET,
     ];
-    expect_line(&rt, rt.alloc(), "bird", Status::Usage, line, inputs)
+    for input in inputs {
+        expect_run(&rt, rt.alloc(), "bird", *input, line, Status::Usage)?;
+    }
+    Ok(())
 }

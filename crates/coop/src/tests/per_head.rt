@@ -1,6 +1,6 @@
 //! Excess per head.
 use super::nucleolus::is_checked;
-use super::{ended, expect_answers, expect_commands, expect_runs, started};
+use super::{ended, expect_run, started};
 use crate::status::Status;
 use std::test::Fail;
 
@@ -75,14 +75,20 @@ fn certificates_are_checked_per_head(rt: HostRuntime) -> Result<(), Fail> {
             Status::Usage,
         ),
     ];
-    expect_runs(&rt, rt.alloc(), "check", rows)
+    for &(input, line, status) in rows {
+        expect_run(&rt, rt.alloc(), "check", input, line, status)?;
+    }
+    Ok(())
 }
 
 #[test]
 fn nine_players_are_too_many_per_head(rt: HostRuntime) -> Result<(), Fail> {
     let line = concat!(r#"{"usage":"players"}"#, "\n");
     let commands = &["nucleolus", "prenucleolus"];
-    expect_commands(&rt, rt.alloc(), commands, NINE, line, Status::Usage)
+    for command in commands {
+        expect_run(&rt, rt.alloc(), *command, NINE, line, Status::Usage)?;
+    }
+    Ok(())
 }
 
 #[test]
@@ -128,5 +134,8 @@ fn the_other_commands_go_by_plain_excess(rt: HostRuntime) -> Result<(), Fail> {
             Status::Refused,
         ),
     ];
-    expect_answers(&rt, rt.alloc(), rows)
+    for &(command, input, line, status) in rows {
+        expect_run(&rt, rt.alloc(), command, input, line, status)?;
+    }
+    Ok(())
 }

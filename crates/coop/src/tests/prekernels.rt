@@ -1,5 +1,5 @@
 //! Shares in and outside of the prekernel.
-use super::{expect_line, expect_lines, expect_run};
+use super::{expect_lines, expect_run};
 use crate::status::Status;
 use std::test::Fail;
 
@@ -13,7 +13,10 @@ fn balanced_shares_are_in_the_prekernel(rt: HostRuntime) -> Result<(), Fail> {
         r#"{"game":{"class":"airport","costs":[2,4,6]},"shares":[1,"3/2","7/2"]}"#,
         r#"{"game":{"class":"table","players":1,"worths":[5]},"shares":[5]}"#,
     ];
-    expect_line(&rt, rt.alloc(), "kernel", Status::Done, line, inputs)
+    for input in inputs {
+        expect_run(&rt, rt.alloc(), "kernel", *input, line, Status::Done)?;
+    }
+    Ok(())
 }
 
 #[test]

@@ -1,5 +1,5 @@
 //! Proposals that are judged.
-use super::{BLOCKED, CORE, expect_runs};
+use super::{BLOCKED, CORE, expect_run};
 use crate::status::Status;
 use std::test::Fail;
 
@@ -29,7 +29,10 @@ fn judges_the_worked_documents(rt: HostRuntime) -> Result<(), Fail> {
             Status::Done,
         ),
     ];
-    expect_runs(&rt, rt.alloc(), "propose", rows)
+    for &(input, line, status) in rows {
+        expect_run(&rt, rt.alloc(), "propose", input, line, status)?;
+    }
+    Ok(())
 }
 
 #[test]
@@ -106,5 +109,8 @@ fn judges_fractions_costs_and_named_players(rt: HostRuntime) -> Result<(), Fail>
             Status::Done,
         ),
     ];
-    expect_runs(&rt, rt.alloc(), "propose", rows)
+    for &(input, line, status) in rows {
+        expect_run(&rt, rt.alloc(), "propose", input, line, status)?;
+    }
+    Ok(())
 }

@@ -1,5 +1,5 @@
 //! Shapley shares, and games that have too many players for them.
-use super::{expect_line, expect_lines};
+use super::{expect_lines, expect_run};
 use crate::status::Status;
 use std::test::Fail;
 
@@ -53,5 +53,8 @@ fn airports_of_33_and_estates_of_17_have_too_many_players(rt: HostRuntime) -> Re
         ),
         r#"{"game":{"claims":[1,1,1,1,1,1,1,1,1,1,1,1,1,1,1,1,1],"class":"bankruptcy","estate":17}}"#,
     ];
-    expect_line(&rt, rt.alloc(), "shapley", Status::Usage, line, inputs)
+    for input in inputs {
+        expect_run(&rt, rt.alloc(), "shapley", *input, line, Status::Usage)?;
+    }
+    Ok(())
 }

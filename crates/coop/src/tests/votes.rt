@@ -1,6 +1,6 @@
 //! Weighted voting games.
 use super::nucleolus::is_checked;
-use super::{ended, expect_commands, expect_lines, expect_run, expect_runs};
+use super::{ended, expect_lines, expect_run};
 use crate::status::Status;
 use std::test::Fail;
 
@@ -98,7 +98,10 @@ fn proposals_to_voters_are_judged(rt: HostRuntime) -> Result<(), Fail> {
             Status::Negative,
         ),
     ];
-    expect_runs(&rt, rt.alloc(), "propose", rows)
+    for &(input, line, status) in rows {
+        expect_run(&rt, rt.alloc(), "propose", input, line, status)?;
+    }
+    Ok(())
 }
 
 #[test]
@@ -130,7 +133,9 @@ fn certificates_of_32_voters_are_checked(rt: HostRuntime) -> Result<(), Fail> {
 fn seventeen_voters_are_too_many_for_coalitions(rt: HostRuntime) -> Result<(), Fail> {
     let line = concat!(r#"{"usage":"players"}"#, "\n");
     let commands = &["nucleolus", "prenucleolus", "core", "convex", "kernel"];
-    expect_commands(&rt, rt.alloc(), commands, SEVENTEEN, line, Status::Usage)?;
+    for command in commands {
+        expect_run(&rt, rt.alloc(), *command, SEVENTEEN, line, Status::Usage)?;
+    }
     let line = concat!(r#"{"usage":"class"}"#, "\n");
     expect_run(&rt, rt.alloc(), "bird", &SEVENTEEN, line, Status::Usage)
 }
