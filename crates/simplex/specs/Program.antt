@@ -1,5 +1,4 @@
--- A program with its costs or without them, and its columns as the simplex reads them: from the last row to the
--- first.
+-- A program with its costs or without them, and its columns as the simplex reads them: from the last row to the first.
 --
 --   price        the cost of a column, or 0 where costs don't count
 --   priced       the program, or the program whose costs are all 0
