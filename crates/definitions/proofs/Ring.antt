@@ -136,9 +136,6 @@ pub ruleset linear = (
 pub mul-subℤ : (a b c : ℤ) → a *ℤ (b -ℤ c) ≡ a *ℤ b -ℤ a *ℤ c
 mul-subℤ a b c = omega (arith, linear, mul-addℤ a b (neg_ℤ c), mul-negℤ a c)
 
-pub sub-mulℤ : (a b c : ℤ) → (a -ℤ b) *ℤ c ≡ a *ℤ c -ℤ b *ℤ c
-sub-mulℤ a b c = omega (arith, linear, add-mulℤ a (neg_ℤ b) c, neg-mulℤ b c)
-
 pub negsuc-mulℤ : (m : ℕ) (a : ℤ) → negsuc m *ℤ a ≡ pos 0 -ℤ pos (suc m) *ℤ a
 negsuc-mulℤ m a =
     let opposite : negsuc m ≡ neg_ℤ (pos (suc m)) = omega (arith, ints) in
