@@ -18,7 +18,7 @@ use Rattle.game_text.proofs.Passed.{passed_tests}
 use Rattle.game_text.specs.declared.command.Command.{Command}
 use Rattle.game_text.specs.Descriptions.{game_of, description_as, description_of}
 use Rattle.game_text.specs.declared.class.Class.{Class}
-use Rattle.game_text.specs.declared.class.Class.TheVariants.{Table, CostTable, Airport, Bankruptcy, Tree}
+use Rattle.game_text.specs.declared.class.Class.TheVariants.{Table, Cost, Airport, Bankruptcy, Tree}
 use Rattle.game_text.specs.declared.class.Class.TheVariants.{Assignment, Market, Voting}
 use Rattle.coop.specs.Classes.{is_no_market}
 use Rattle.coop.specs.Finding.{HasFewPlayers}
@@ -43,7 +43,7 @@ few_as : (k : ℕ) (c : Option Class) (game : Data) → class_of game ≡ c → 
     → HasFewPlayers (description_as k c game)
 few_as k None game e h s t = omega arith
 few_as k (Some Table) game e h s t = rw e (few_at (option_and_then integer (get (codes "players") game)))
-few_as k (Some CostTable) game e h s t = rw e (few_at (option_and_then integer (get (codes "players") game)))
+few_as k (Some Cost) game e h s t = rw e (few_at (option_and_then integer (get (codes "players") game)))
 few_as k (Some Airport) game e h s t = tt
 few_as k (Some Bankruptcy) game e h s t = tt
 few_as k (Some Tree) game e h s t = few_points (length (rows_of k game)) (points_in k game h).1

@@ -10,7 +10,7 @@ use Rattle.definitions.specs.Games.{Allocation, IsAllocation, IsShares}
 use Rattle.definitions.specs.Certificates.{Level, Certifies}
 use Rattle.definitions.specs.declared.Family.{Family}
 use Rattle.kohlberg.specs.Certificate.{CertificateData, IsCertificate}
-use Rattle.game_text.specs.Descriptions.{Description, table, cost_table, airport, bankruptcy, network}
+use Rattle.game_text.specs.Descriptions.{Description, table, cost, airport, bankruptcy, tree}
 use Rattle.game_text.specs.Descriptions.{assignment, market, voting, description_of, game_of, is_cost}
 use Rattle.game_text.specs.Documents.{Contents, game_tree}
 use Rattle.game_text.specs.Denominators.{contents_of, tree_refusal}
@@ -63,10 +63,10 @@ all_few n few (l ∷ ls) h = (omega (arith, h.0), all_few n few ls h.1)
 within_check : (measure : Measure) (d : Description) → nucleolus_limit measure d ≤ check_limit measure
 within_check PerHead d = omega arith
 within_check Plain (table n worths) = omega arith
-within_check Plain (cost_table n costs) = omega arith
+within_check Plain (cost n costs) = omega arith
 within_check Plain (airport costs) = omega arith
 within_check Plain (bankruptcy estate claims) = omega arith
-within_check Plain (network rows) = omega arith
+within_check Plain (tree rows) = omega arith
 within_check Plain (assignment rows) = omega arith
 within_check Plain (market rows) = omega arith
 within_check Plain (voting quota weights) = omega arith

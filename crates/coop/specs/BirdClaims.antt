@@ -5,7 +5,7 @@
 use Rattle.std.specs.Prelude.{ℕ, ℤ, List}
 use Rattle.definitions.specs.Games.{Allocation}
 use Rattle.tree_games.specs.Trees.{IsBird}
-use Rattle.game_text.specs.Descriptions.{Description, network}
+use Rattle.game_text.specs.Descriptions.{Description, tree}
 use Rattle.game_text.specs.Documents.{Contents}
 use Rattle.report.specs.declared.answer.Answer.{Answer}
 use Rattle.report.specs.declared.answer.Answer.TheVariants.{Bird}
@@ -13,7 +13,7 @@ use Rattle.report.specs.declared.answer.Answer.TheVariants.{Bird}
 -- the edges are the Bird plan of a tree game, which costs least, each player pays for its own, and these shares lie in
 -- the core
 abbrev pub IsBirdOf : Description → Allocation → List (ℕ × ℕ × ℤ) → Type 0
-IsBirdOf (network rows) x edges = IsBird rows x edges
+IsBirdOf (tree rows) x edges = IsBird rows x edges
 IsBirdOf _ x edges = ⊥
 
 abbrev pub SaysOfBird : Contents → Answer → Type 0

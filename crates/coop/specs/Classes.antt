@@ -5,7 +5,7 @@
 --   is_no_market         the game is of another class than a market
 --   serves_class         the command serves the class of the game
 use Rattle.std.specs.Prelude.{Bool, true, false}
-use Rattle.game_text.specs.Descriptions.{Description, network, market}
+use Rattle.game_text.specs.Descriptions.{Description, tree, market}
 use Rattle.game_text.specs.declared.command.Command.{Command}
 use Rattle.game_text.specs.declared.command.Command.TheVariants.{Bird, Matching}
 
@@ -14,7 +14,7 @@ is_market (market rows) = true
 is_market _ = false
 
 abbrev pub is_tree : Description → Bool
-is_tree (network rows) = true
+is_tree (tree rows) = true
 is_tree _ = false
 
 abbrev pub is_no_market : Description → Bool

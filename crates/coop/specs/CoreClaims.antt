@@ -24,7 +24,7 @@ use Rattle.real_shares.specs.Claims.{InCoreForReals, HasNoCoreForReals}
 use Rattle.balanced.specs.declared.CoreAnswer.{CoreAnswer}
 use Rattle.balanced.specs.declared.CoreAnswer.TheVariants.{Point, Empty}
 use Rattle.tree_games.specs.Trees.{IsBird}
-use Rattle.game_text.specs.Descriptions.{Description, table, cost_table, airport, bankruptcy, network}
+use Rattle.game_text.specs.Descriptions.{Description, table, cost, airport, bankruptcy, tree}
 use Rattle.game_text.specs.Descriptions.{assignment, market, voting, game_of, is_cost}
 use Rattle.game_text.specs.Documents.{Contents}
 use Rattle.report.specs.declared.answer.Answer.{Answer}
@@ -37,10 +37,10 @@ use Rattle.coop.specs.Limits.{core_limit}
 -- another may be any
 abbrev pub IsSchemePoint : Description → Allocation → Type 0
 IsSchemePoint (table n worths) x = ⊤
-IsSchemePoint (cost_table n costs) x = ⊤
+IsSchemePoint (cost n costs) x = ⊤
 IsSchemePoint (airport costs) x = IsNucleolus Imputations Plain (game_of (airport costs)) x
 IsSchemePoint (bankruptcy estate claims) x = IsNucleolus Imputations Plain (game_of (bankruptcy estate claims)) x
-IsSchemePoint (network rows) x = (edges : List (ℕ × ℕ × ℤ)) × IsBird rows x edges
+IsSchemePoint (tree rows) x = (edges : List (ℕ × ℕ × ℤ)) × IsBird rows x edges
 IsSchemePoint (assignment rows) x = ⊤
 IsSchemePoint (market rows) x = ⊤
 IsSchemePoint (voting quota weights) x = ⊤

@@ -11,7 +11,7 @@ use Rattle.definitions.specs.declared.Measure.{Measure}
 use Rattle.tree_games.specs.Trees.{tree_game}
 use Rattle.assignment_games.specs.Assignments.{assignment_game}
 use Rattle.kohlberg.specs.Solved.{IsSolved}
-use Rattle.game_text.specs.Descriptions.{Description, table, cost_table, airport, bankruptcy, network}
+use Rattle.game_text.specs.Descriptions.{Description, table, cost, airport, bankruptcy, tree}
 use Rattle.game_text.specs.Descriptions.{assignment, market, voting}
 use Rattle.nested_programs.specs.Answer.{LacksImputation}
 use Rattle.nested_programs.specs.declared.found.Found.{Found}
@@ -31,10 +31,10 @@ IsChosenFound measure d (found.NoImputation alone total) = ⊤
 -- a game without a scheme of its own has at most 16 players, and is no market
 abbrev pub HasFewPlayers : Description → Type 0
 HasFewPlayers (table n worths) = n ≤ 16
-HasFewPlayers (cost_table n costs) = n ≤ 16
+HasFewPlayers (cost n costs) = n ≤ 16
 HasFewPlayers (airport costs) = ⊤
 HasFewPlayers (bankruptcy estate claims) = ⊤
-HasFewPlayers (network rows) = (tree_game rows).players ≤ 16
+HasFewPlayers (tree rows) = (tree_game rows).players ≤ 16
 HasFewPlayers (assignment rows) = (assignment_game rows).players ≤ 16
 HasFewPlayers (market rows) = ⊥
 HasFewPlayers (voting quota weights) = length weights ≤ 16

@@ -6,18 +6,18 @@
 use Rattle.std.specs.Prelude.{ℕ}
 use Rattle.definitions.specs.declared.Measure.{Measure}
 use Rattle.definitions.specs.declared.Measure.TheVariants.{Plain, PerHead}
-use Rattle.game_text.specs.Descriptions.{Description, table, cost_table, airport, bankruptcy}
-use Rattle.game_text.specs.Descriptions.{network, assignment, market, voting}
+use Rattle.game_text.specs.Descriptions.{Description, table, cost, airport, bankruptcy}
+use Rattle.game_text.specs.Descriptions.{tree, assignment, market, voting}
 
 -- the most players of a game whose nucleolus is answered: the programs per head are those of few players, and with
 -- plain excess airport and bankruptcy games have schemes of their own
 abbrev pub nucleolus_limit : Measure → Description → ℕ
 nucleolus_limit PerHead d = 8
 nucleolus_limit Plain (table n worths) = 16
-nucleolus_limit Plain (cost_table n costs) = 16
+nucleolus_limit Plain (cost n costs) = 16
 nucleolus_limit Plain (airport costs) = 64
 nucleolus_limit Plain (bankruptcy estate claims) = 64
-nucleolus_limit Plain (network rows) = 16
+nucleolus_limit Plain (tree rows) = 16
 nucleolus_limit Plain (assignment rows) = 16
 nucleolus_limit Plain (market rows) = 16
 nucleolus_limit Plain (voting quota weights) = 16

@@ -6,7 +6,7 @@
 use Rattle.std.specs.Prelude.{◌≡◌, ◌<◌, ◌≤◌, ℕ, Bool}
 use Rattle.definitions.specs.Games.{Allocation}
 use Rattle.definitions.specs.Shapley.{IsShapley}
-use Rattle.game_text.specs.Descriptions.{Description, table, cost_table, airport, bankruptcy, network}
+use Rattle.game_text.specs.Descriptions.{Description, table, cost, airport, bankruptcy, tree}
 use Rattle.game_text.specs.Descriptions.{assignment, market, voting, game_of, is_cost}
 use Rattle.game_text.specs.Documents.{Contents}
 use Rattle.report.specs.declared.answer.Answer.{Answer}
@@ -17,10 +17,10 @@ use Rattle.report.specs.declared.answer.UsageKind.TheVariants.{Players}
 -- are few, and the coalitions of another game many
 abbrev pub shapley_limit : Description → ℕ
 shapley_limit (table n worths) = 16
-shapley_limit (cost_table n costs) = 16
+shapley_limit (cost n costs) = 16
 shapley_limit (airport costs) = 32
 shapley_limit (bankruptcy estate claims) = 16
-shapley_limit (network rows) = 16
+shapley_limit (tree rows) = 16
 shapley_limit (assignment rows) = 16
 shapley_limit (market rows) = 16
 shapley_limit (voting quota weights) = 32

@@ -3,7 +3,7 @@
 --   HasKindSize kind n     the kind has games of n players
 --   generated kind n seed  the description of the game
 use Rattle.std.specs.Prelude.{ℕ, ◌+◌, ◌-◌, ◌/◌, ◌≤◌, sum}
-use Rattle.game_text.specs.Descriptions.{Description, table, airport, bankruptcy, network, assignment}
+use Rattle.game_text.specs.Descriptions.{Description, table, airport, bankruptcy, tree, assignment}
 use Rattle.kinds.specs.declared.kind.Kind.{Kind}
 use Rattle.kinds.specs.declared.kind.Kind.TheVariants.{Table, Airport, Bankruptcy, Tree, Assignment}
 use Rattle.drawn_games.specs.Draws.{short_draw}
@@ -21,5 +21,5 @@ abbrev pub generated : Kind → ℕ → ℕ → Description
 generated Table n seed = table n (table_numbers seed n)
 generated Airport n seed = airport (long_draws seed n)
 generated Bankruptcy n seed = bankruptcy (sum (long_draws seed n) / 2) (long_draws seed n)
-generated Tree n seed = network (rows_of (n + 1) (n + 1) (link (short_draw seed) n))
+generated Tree n seed = tree (rows_of (n + 1) (n + 1) (link (short_draw seed) n))
 generated Assignment n seed = assignment (rows_of (n / 2) (n - n / 2) (pair_value (short_draw seed) (n - n / 2)))

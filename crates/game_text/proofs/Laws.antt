@@ -23,7 +23,7 @@ use Rattle.game_text.specs.OwnTests.{own_as}
 use Rattle.game_text.specs.Descriptions.{game_of, description_as}
 use Rattle.game_text.specs.OfClass.{IsOfClass}
 use Rattle.game_text.specs.declared.class.Class.{Class}
-use Rattle.game_text.specs.declared.class.Class.TheVariants.{Table, CostTable, Airport, Bankruptcy, Tree}
+use Rattle.game_text.specs.declared.class.Class.TheVariants.{Table, Cost, Airport, Bankruptcy, Tree}
 use Rattle.game_text.specs.declared.class.Class.TheVariants.{Assignment, Market, Voting}
 use Rattle.kinds.specs.declared.refusal.Refusal.{Refusal}
 use Rattle.kinds.specs.declared.refusal.Refusal.TheVariants.{TooLong, NotJson}
@@ -77,13 +77,13 @@ table_laws = record {
   plain = λ k game o e h p n m. plain_table k game Table o e h (shaped_as game Table e h) p n m;
 }
 
-cost_table_laws : Laws (Some CostTable)
-cost_table_laws = record {
+cost_laws : Laws (Some Cost)
+cost_laws = record {
   counted = λ game h. of_table (unwrap_or (players_at game) 0) (table_range game h);
   described = λ k game e. ap (λ o. players_as o game) (sym e);
   of_class = λ k game p n m. tt;
   of_tree = λ k game. tt;
-  plain = λ k game o e h p n m. plain_table k game CostTable o e h (shaped_as game CostTable e h) p n m;
+  plain = λ k game o e h p n m. plain_table k game Cost o e h (shaped_as game Cost e h) p n m;
 }
 
 airport_laws : Laws (Some Airport)
@@ -150,7 +150,7 @@ voting_laws = record {
 pub laws_of : (c : Option Class) → Laws c
 laws_of None = no_laws
 laws_of (Some Table) = table_laws
-laws_of (Some CostTable) = cost_table_laws
+laws_of (Some Cost) = cost_laws
 laws_of (Some Airport) = airport_laws
 laws_of (Some Bankruptcy) = bankruptcy_laws
 laws_of (Some Tree) = tree_laws

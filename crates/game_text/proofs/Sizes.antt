@@ -38,7 +38,7 @@ use Rattle.document_parts.specs.Members.{is_mask, mask_of, are_coalitions}
 use Rattle.game_text.specs.Descriptions.{table_numbers}
 use Rattle.game_text.specs.Readings.{HasSizes, IsTableClass}
 use Rattle.game_text.specs.declared.class.Class.{Class}
-use Rattle.game_text.specs.declared.class.Class.TheVariants.{Table, CostTable, Airport, Bankruptcy}
+use Rattle.game_text.specs.declared.class.Class.TheVariants.{Table, Cost, Airport, Bankruptcy}
 
 pub all_map : {X Y : Type 0} (P : Y → Type 0) (f : X → Y) (test : X → Bool) → ((x : X) → test x ≡ true → P (f x))
     → (xs : List X) → list_all test xs ≡ true → All P (map f xs)
@@ -159,7 +159,7 @@ table_by k game (Some n) r s p =
     }
 
 -- what holds of both classes of tables holds of a class of tables
-pub of_both_tables : (P : Option Class → Type 0) → P (Some Table) → P (Some CostTable) → (c : Option Class)
+pub of_both_tables : (P : Option Class → Type 0) → P (Some Table) → P (Some Cost) → (c : Option Class)
     → IsTableClass c → P c
 of_both_tables P table costs c (inl e) = subst P (sym e) table
 of_both_tables P table costs c (inr e) = subst P (sym e) costs

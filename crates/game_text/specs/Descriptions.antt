@@ -21,26 +21,26 @@ use Rattle.document_parts.specs.Names.{names_of}
 use Rattle.document_parts.specs.TableNumbers.{numbers_by}
 use Rattle.game_text.specs.MatrixClass.{rows_of}
 use Rattle.game_text.specs.declared.class.Class.{Class}
-use Rattle.game_text.specs.declared.class.Class.TheVariants.{Table, CostTable, Airport, Bankruptcy, Tree}
+use Rattle.game_text.specs.declared.class.Class.TheVariants.{Table, Cost, Airport, Bankruptcy, Tree}
 use Rattle.game_text.specs.declared.class.Class.TheVariants.{Assignment, Market, Voting}
 
 -- the class of a game, and its numbers: by coalition in mask order from 1, by player, or by the rows of a matrix
 pub data Description : Type 0 where
   table : ℕ → List ℤ → Description
-  cost_table : ℕ → List ℤ → Description
+  cost : ℕ → List ℤ → Description
   airport : List ℕ → Description
   bankruptcy : ℕ → List ℕ → Description
-  network : List (List ℤ) → Description
+  tree : List (List ℤ) → Description
   assignment : List (List ℤ) → Description
   market : List (List ℤ) → Description
   voting : ℕ → List ℕ → Description
 
 abbrev pub game_of : Description → Game
 game_of (table n worths) = record { players = n; worth = table_worth worths }
-game_of (cost_table n costs) = record { players = n; worth = negated_worth (table_worth costs) }
+game_of (cost n costs) = record { players = n; worth = negated_worth (table_worth costs) }
 game_of (airport costs) = record { players = length costs; worth = airport_worth costs }
 game_of (bankruptcy estate claims) = record { players = length claims; worth = bankruptcy_worth estate claims }
-game_of (network rows) = tree_game rows
+game_of (tree rows) = tree_game rows
 game_of (assignment rows) = assignment_game rows
 game_of (market rows) = assignment_game rows
 game_of (voting quota weights) = record { players = length weights; worth = voting_worth quota weights }
@@ -48,10 +48,10 @@ game_of (voting quota weights) = record { players = length weights; worth = voti
 -- the numbers are costs, and shares are payments
 abbrev pub is_cost : Description → Bool
 is_cost (table n worths) = false
-is_cost (cost_table n costs) = true
+is_cost (cost n costs) = true
 is_cost (airport costs) = true
 is_cost (bankruptcy estate claims) = false
-is_cost (network rows) = true
+is_cost (tree rows) = true
 is_cost (assignment rows) = false
 is_cost (market rows) = false
 is_cost (voting quota weights) = false
@@ -68,11 +68,11 @@ table_numbers k game = numbers_by k (get (codes "sparse") game) (players game) (
 abbrev pub description_as : ℕ → Option Class → Data → Description
 description_as k None game = table 0 []
 description_as k (Some Table) game = table (players game) (table_numbers k game)
-description_as k (Some CostTable) game = cost_table (players game) (table_numbers k game)
+description_as k (Some Cost) game = cost (players game) (table_numbers k game)
 description_as k (Some Airport) game = airport (costs_at k (codes "costs") game)
 description_as k (Some Bankruptcy) game =
     bankruptcy (unsigned_abs (number_at k (codes "estate") game)) (costs_at k (codes "claims") game)
-description_as k (Some Tree) game = network (rows_of k game)
+description_as k (Some Tree) game = tree (rows_of k game)
 description_as k (Some Assignment) game = assignment (rows_of k game)
 description_as k (Some Market) game = market (rows_of k game)
 description_as k (Some Voting) game =

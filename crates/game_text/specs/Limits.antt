@@ -20,7 +20,7 @@ use Rattle.game_text.specs.VotingClass.{voting_players, has_voting_numbers}
 use Rattle.document_parts.specs.Scales.{scale_of}
 use Rattle.game_text.specs.Shape.{class_of}
 use Rattle.game_text.specs.declared.class.Class.{Class}
-use Rattle.game_text.specs.declared.class.Class.TheVariants.{Table, CostTable, Airport, Bankruptcy, Tree}
+use Rattle.game_text.specs.declared.class.Class.TheVariants.{Table, Cost, Airport, Bankruptcy, Tree}
 use Rattle.game_text.specs.declared.class.Class.TheVariants.{Assignment, Market, Voting}
 
 -- ---- players
@@ -29,7 +29,7 @@ use Rattle.game_text.specs.declared.class.Class.TheVariants.{Assignment, Market,
 abbrev pub has_players_as : Option Class → Data → Bool
 has_players_as None game = false
 has_players_as (Some Table) game = has_table_players game
-has_players_as (Some CostTable) game = has_table_players game
+has_players_as (Some Cost) game = has_table_players game
 has_players_as (Some Airport) game = is_list_size (airport_players game)
 has_players_as (Some Bankruptcy) game = is_list_size (bankruptcy_players game)
 has_players_as (Some Tree) game = has_tree_players game
@@ -45,7 +45,7 @@ has_players game = has_players_as (class_of game) game
 abbrev pub players_as : Option Class → Data → ℕ
 players_as None game = 0
 players_as (Some Table) game = unwrap_or (players_at game) 0
-players_as (Some CostTable) game = unwrap_or (players_at game) 0
+players_as (Some Cost) game = unwrap_or (players_at game) 0
 players_as (Some Airport) game = airport_players game
 players_as (Some Bankruptcy) game = bankruptcy_players game
 players_as (Some Tree) game = tree_players game
@@ -63,7 +63,7 @@ players game = players_as (class_of game) game
 abbrev pub has_numbers_as : ℕ → Option Class → Data → Bool
 has_numbers_as k None game = false
 has_numbers_as k (Some Table) game = has_table_numbers k game
-has_numbers_as k (Some CostTable) game = has_table_numbers k game
+has_numbers_as k (Some Cost) game = has_table_numbers k game
 has_numbers_as k (Some Airport) game = has_airport_numbers k game
 has_numbers_as k (Some Bankruptcy) game = has_bankruptcy_numbers k game
 has_numbers_as k (Some Tree) game = has_matrix_numbers k game

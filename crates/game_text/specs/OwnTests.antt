@@ -16,7 +16,7 @@ use Rattle.game_text.specs.VotingClass.{is_quota}
 use Rattle.game_text.specs.Coalitions.{masks}
 use Rattle.game_text.specs.Shape.{class_of}
 use Rattle.game_text.specs.declared.class.Class.{Class}
-use Rattle.game_text.specs.declared.class.Class.TheVariants.{Table, CostTable, Airport, Bankruptcy, Tree}
+use Rattle.game_text.specs.declared.class.Class.TheVariants.{Table, Cost, Airport, Bankruptcy, Tree}
 use Rattle.game_text.specs.declared.class.Class.TheVariants.{Assignment, Market, Voting}
 use Rattle.kinds.specs.declared.refusal.Refusal.{Refusal}
 use Rattle.kinds.specs.declared.refusal.Refusal.TheVariants.{Shape, Coalition, Estate, Matrix, Quota}
@@ -32,7 +32,7 @@ no_test = (Shape, true)
 abbrev pub own_as : ℕ → Option Class → Data → Refusal × Bool
 own_as k None game = (Coalition, false)
 own_as k (Some Table) game = (Coalition, are_coalitions (masks game))
-own_as k (Some CostTable) game = (Coalition, are_coalitions (masks game))
+own_as k (Some Cost) game = (Coalition, are_coalitions (masks game))
 own_as k (Some Airport) game = no_test
 own_as k (Some Bankruptcy) game = (
   Estate,

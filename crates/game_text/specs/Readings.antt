@@ -28,7 +28,7 @@ use Rattle.game_text.specs.Refusals.{IsRefused, IsDocument}
 use Rattle.game_text.specs.Steps.{own_refusal, game_refusal, proposal_refusal}
 use Rattle.game_text.specs.Steps.{share_refusal, certificate_refusal, late_refusal}
 use Rattle.game_text.specs.declared.class.Class.{Class}
-use Rattle.game_text.specs.declared.class.Class.TheVariants.{Table, CostTable}
+use Rattle.game_text.specs.declared.class.Class.TheVariants.{Table, Cost}
 use Rattle.game_text.specs.declared.command.Command.{Command}
 use Rattle.game_text.specs.declared.document.Document.{Document}
 use Rattle.game_text.specs.declared.fault.TextFault.{TextFault}
@@ -42,7 +42,7 @@ pub record HasSizes (game : Data) : Type 0 where
   pub numbers : has_numbers game ≡ true
 
 abbrev pub IsTableClass : Option Class → Type 0
-IsTableClass c = (c ≡ Some Table) ⊎ (c ≡ Some CostTable)
+IsTableClass c = (c ≡ Some Table) ⊎ (c ≡ Some Cost)
 
 -- the test of the class passes, and this is the game that is described
 pub record IsBuilt (game : Data) (g : Game) : Type 0 where

@@ -24,7 +24,7 @@ use Rattle.game_text.specs.BankruptcyClass.{is_bankruptcy_shaped}
 use Rattle.game_text.specs.MatrixClass.{is_matrix_shaped}
 use Rattle.game_text.specs.VotingClass.{is_voting_shaped}
 use Rattle.game_text.specs.declared.class.Class.{Class}
-use Rattle.game_text.specs.declared.class.Class.TheVariants.{Table, CostTable, Airport, Bankruptcy, Tree}
+use Rattle.game_text.specs.declared.class.Class.TheVariants.{Table, Cost, Airport, Bankruptcy, Tree}
 use Rattle.game_text.specs.declared.class.Class.TheVariants.{Assignment, Market, Voting}
 use Rattle.game_text.specs.declared.command.Command.{Command}
 use Rattle.game_text.specs.Needs.{needs, if_needed}
@@ -35,7 +35,7 @@ document_keys = codes "answer" ∷ codes "certificate" ∷ codes "game" ∷ code
 abbrev pub class_named : List ℕ → Option Class
 class_named s =
     if bytes_eq s (codes "table") then Some Table
-    else (if bytes_eq s (codes "cost-table") then Some CostTable
+    else (if bytes_eq s (codes "cost-table") then Some Cost
     else (if bytes_eq s (codes "airport") then Some Airport
     else (if bytes_eq s (codes "bankruptcy") then Some Bankruptcy
     else (if bytes_eq s (codes "tree") then Some Tree
@@ -50,7 +50,7 @@ class_of game = option_and_then class_named (option_and_then as_str (get (codes 
 abbrev pub is_shaped_as : Option Class → Data → Bool
 is_shaped_as None game = false
 is_shaped_as (Some Table) game = is_table_shaped game
-is_shaped_as (Some CostTable) game = is_table_shaped game
+is_shaped_as (Some Cost) game = is_table_shaped game
 is_shaped_as (Some Airport) game = is_airport_shaped game
 is_shaped_as (Some Bankruptcy) game = is_bankruptcy_shaped game
 is_shaped_as (Some Tree) game = is_matrix_shaped game

@@ -53,7 +53,7 @@ pub(crate) fn game_of(
         Some(Class::Table) => {
             built!(table_of(alloc, game, names, scale), table => Game::Table(table), Coalition)
         }
-        Some(Class::CostTable) => {
+        Some(Class::Cost) => {
             built!(table_of(alloc, game, names, scale), costs => Game::Cost(CostGame::new(costs)), Coalition)
         }
         Some(Class::Airport) => match airport_of(alloc, game, scale) {

@@ -6,7 +6,7 @@ pub enum Class {
     /// The worth of each coalition.
     Table,
     /// The cost of each coalition.
-    CostTable,
+    Cost,
     /// The cost of each player.
     Airport,
     /// An estate and the claim of each player.
@@ -26,7 +26,7 @@ pub enum Class {
 macro_rules! by_class {
     ($class:expr, $function:ident($($argument:expr),*), none: $none:expr) => {
         match $class {
-            Some($crate::class::Class::Table | $crate::class::Class::CostTable) => {
+            Some($crate::class::Class::Table | $crate::class::Class::Cost) => {
                 $crate::table_class::$function($($argument),*)
             }
             Some($crate::class::Class::Airport) => $crate::airport_class::$function($($argument),*),

@@ -38,7 +38,7 @@ fn class_named(word: &str) -> Option<Class>
     if word == "table" {
         Some(Class::Table)
     } else if word == "cost-table" {
-        Some(Class::CostTable)
+        Some(Class::Cost)
     } else if word == "airport" {
         Some(Class::Airport)
     } else if word == "bankruptcy" {

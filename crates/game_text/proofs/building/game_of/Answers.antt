@@ -34,33 +34,33 @@ returns-in-Ok-None c =
     (sym c.class_of.ensures ∙ c.in-Some-Table.is ∙ ap Some c.in-Some-Table.field-0-is) c.requires.scale _
     (sym c.in-Ok-None.field-0-is ∙ c.in-Ok-None.ensures)
 
-pub table_of-requires-in-Some-CostTable-clause-class : goal.table_of-requires-in-Some-CostTable-clause-class
-table_of-requires-in-Some-CostTable-clause-class c =
-    inr (sym c.class_of.ensures ∙ c.in-Some-CostTable.is ∙ ap Some c.in-Some-CostTable.field-0-is)
+pub table_of-requires-in-Some-Cost-clause-class : goal.table_of-requires-in-Some-Cost-clause-class
+table_of-requires-in-Some-Cost-clause-class c =
+    inr (sym c.class_of.ensures ∙ c.in-Some-Cost.is ∙ ap Some c.in-Some-Cost.field-0-is)
 
-pub table_of-requires-in-Some-CostTable-clause-named : goal.table_of-requires-in-Some-CostTable-clause-named
-table_of-requires-in-Some-CostTable-clause-named c = c.requires.named
+pub table_of-requires-in-Some-Cost-clause-named : goal.table_of-requires-in-Some-Cost-clause-named
+table_of-requires-in-Some-Cost-clause-named c = c.requires.named
 
-pub table_of-requires-in-Some-CostTable-clause-names : goal.table_of-requires-in-Some-CostTable-clause-names
-table_of-requires-in-Some-CostTable-clause-names c = c.requires.names
+pub table_of-requires-in-Some-Cost-clause-names : goal.table_of-requires-in-Some-Cost-clause-names
+table_of-requires-in-Some-Cost-clause-names c = c.requires.names
 
-pub table_of-requires-in-Some-CostTable-clause-sizes : goal.table_of-requires-in-Some-CostTable-clause-sizes
-table_of-requires-in-Some-CostTable-clause-sizes c = c.requires.sizes
+pub table_of-requires-in-Some-Cost-clause-sizes : goal.table_of-requires-in-Some-Cost-clause-sizes
+table_of-requires-in-Some-Cost-clause-sizes c = c.requires.sizes
 
-pub table_of-requires-in-Some-CostTable-clause-scale : goal.table_of-requires-in-Some-CostTable-clause-scale
-table_of-requires-in-Some-CostTable-clause-scale c = c.requires.scale
+pub table_of-requires-in-Some-Cost-clause-scale : goal.table_of-requires-in-Some-Cost-clause-scale
+table_of-requires-in-Some-Cost-clause-scale c = c.requires.scale
 
 pub returns-in-Ok-Some-table_of : goal.returns-in-Ok-Some-table_of
 returns-in-Ok-Some-table_of c =
-    built_if (Some class.CostTable) c.args.scale (view c.args.game.now)
-    (sym c.class_of.ensures ∙ c.in-Some-CostTable.is ∙ ap Some c.in-Some-CostTable.field-0-is) c.requires.scale
+    built_if (Some class.Cost) c.args.scale (view c.args.game.now)
+    (sym c.class_of.ensures ∙ c.in-Some-Cost.is ∙ ap Some c.in-Some-Cost.field-0-is) c.requires.scale
     games.Cost _ c.new.result
     (ap Some c.new.ensures ∙ sym c.in-Ok-Some-table_of.field-0-is ∙ c.in-Ok-Some-table_of.ensures) refl
 
 pub returns-in-Ok-None-table_of : goal.returns-in-Ok-None-table_of
 returns-in-Ok-None-table_of c =
-    refused_if (Some class.CostTable) c.args.scale (view c.args.game.now)
-    (sym c.class_of.ensures ∙ c.in-Some-CostTable.is ∙ ap Some c.in-Some-CostTable.field-0-is) c.requires.scale _
+    refused_if (Some class.Cost) c.args.scale (view c.args.game.now)
+    (sym c.class_of.ensures ∙ c.in-Some-Cost.is ∙ ap Some c.in-Some-Cost.field-0-is) c.requires.scale _
     (sym c.in-Ok-None-table_of.field-0-is ∙ c.in-Ok-None-table_of.ensures)
 
 pub airport_of-requires-clause-class : goal.airport_of-requires-clause-class
