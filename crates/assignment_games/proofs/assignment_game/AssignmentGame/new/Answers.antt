@@ -19,7 +19,7 @@ invariant_of-result c =
     let tested =
     rows_tested AreFew (λ row. row.items) xs p rows some c.index.result.now q c.index.ensures columns
     (few_players p q some (search rules) (search rules) (search rules)) c.have_entries.result c.have_length.result
-      c.deref.result.now c.deref-2.result.now
+    c.deref.result.now c.deref-2.result.now
     c.deref.ensures.value c.if-not-have_entries.false c.have_entries.ensures.0 c.deref-2.ensures.value
     c.if-not-have_length.false c.have_length.ensures.0 in
     let sides = sides_made (map (λ row. row.items) xs) p q tested in (
@@ -39,7 +39,7 @@ returns c =
     let tested =
     rows_tested AreFew (λ row. row.items) xs p rows some c.index.result.now q c.index.ensures columns
     (few_players p q some (search rules) (search rules) (search rules)) c.have_entries.result c.have_length.result
-      c.deref.result.now c.deref-2.result.now
+    c.deref.result.now c.deref-2.result.now
     c.deref.ensures.value c.if-not-have_entries.false c.have_entries.ensures.0 c.deref-2.ensures.value
     c.if-not-have_length.false c.have_length.ensures.0 in
     (refl, (sides_made (map (λ row. row.items) xs) p q tested).game, assignment_is_game (map (λ row. row.items) xs))
@@ -59,7 +59,7 @@ returns-then-sellers-lt1 c =
           (w.if-sellers-lt1.false, w.if-sellers-buyers.true)
     ] in
     no_sellers AreFew (λ row. row.items) c.args.matrix.items p (search rules) c.if-buyers-lt1.false c.index.result.now
-      q
+    q
     c.index.ensures (search rules) (sellers_fail p q c.if-buyers-gt15.false fails)
 
 pub returns-then-not-have_entries : goal.returns-then-not-have_entries
@@ -67,7 +67,7 @@ returns-then-not-have_entries c =
     let p = c.len-buyers.result in
     let q = c.len-sellers.result in
     no_entries AreFew (λ row. row.items) c.args.matrix.items p (search rules) c.if-buyers-lt1.false c.index.result.now
-      q
+    q
     c.index.ensures (search rules)
     (few_players p q c.if-buyers-lt1.false c.if-buyers-gt15.false c.if-sellers-lt1.false c.if-sellers-buyers.false)
     c.have_entries.result c.deref.result.now c.deref.ensures.value c.if-not-have_entries.true
@@ -95,7 +95,7 @@ returns-in_default c =
     let tested =
     rows_tested AreFew (λ row. row.items) xs p rows some c.index.result.now q c.index.ensures columns
     (few_players p q some c.if-buyers-gt15.false c.if-sellers-lt1.false c.if-sellers-buyers.false)
-      c.have_entries.result c.have_length.result c.deref.result.now c.deref-2.result.now
+    c.have_entries.result c.have_length.result c.deref.result.now c.deref-2.result.now
     c.deref.ensures.value c.if-not-have_entries.false c.have_entries.ensures.0 c.deref-2.ensures.value
     c.if-not-have_length.false c.have_length.ensures.0 in
     (sides_made (map (λ row. row.items) xs) p q tested).game
