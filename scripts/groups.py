@@ -50,13 +50,12 @@ class Namer:
             return "all but " + self.players(out)
         return self.players(ids) + " together"
 
-    def in_a_sum(self, group, is_only):
+    def in_a_sum(self, group):
         """A group that is counted with others."""
         name = self.group(group)
         if is_alone(group):
             return name[: -len(" alone")]
-        name = name[: -len(" together")] if name.endswith(" together") else name
-        return name if is_only else f"({name})"
+        return "the group of " + (name[: -len(" together")] if name.endswith(" together") else name)
 
     def groups(self, groups):
         """Several groups; of many, those of one player and those without one player are put together."""

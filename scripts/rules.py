@@ -100,30 +100,34 @@ def greatest_part(claims, amount):
 
 
 def estate_rule(game, shares, namer):
-    claims, total, estate = game.amounts, sum(game.amounts), game.single
+    estate = game.single
+    claims = [min(claim, estate) for claim in game.amounts]
+    total = sum(claims)
     lacking = 2 * estate > total
     amount = total - estate if lacking else estate
     t = greatest_part(claims, amount)
-    cut = [min(claim / 2, t) for claim in claims]
-    if shares != ([claim - part for claim, part in zip(claims, cut)] if lacking else cut):
+    parts = [min(claim / 2, t) for claim in claims]
+    if shares != ([claim - part for claim, part in zip(claims, parts)] if lacking else parts):
         return []
     verb = "loses" if lacking else "gets"
     halves = [i for i in range(game.n) if claims[i] / 2 <= t]
     capped = [i for i in range(game.n) if claims[i] / 2 > t]
     first = (
-        f"The rule (the Talmud's; Aumann and Maschler). The claims add to {total}, half of which is {total / 2}; the "
-        f"estate of {estate} is {'more' if lacking else 'no more'} than that. So each {verb} half of its claim"
+        "The rule (the Talmud's; Aumann and Maschler). "
+        + f"A claim above the estate counts as the estate, {estate}. " * (claims != game.amounts)
+        + f"The claims add to {total}, half of which is {total / 2}; the estate of {estate} is "
+        + f"{'more' if lacking else 'no more'} than that. So each {verb} half of its claim"
         + f", but at most {t}" * bool(capped)
         + f": together {f'the {amount} that the estate lacks' if lacking else amount}."
     )
     items = [first]
     for ids, what in ((halves, f"{verb} half"), (capped, f"{verb} {t}, as half of the claim is more")):
         if ids:
-            claimants = [claimant(claims, shares, namer, i, lacking) for i in ids]
+            claimants = [claimant(namer.names[i], claims[i], parts[i], lacking) for i in ids]
             items.append(f"{what}: {'; '.join(claimants)}.")
     return items
 
 
-def claimant(claims, shares, namer, i, lacking):
-    left = f", so {shares[i]} is left" * lacking
-    return f"{namer.names[i]} ({claims[i]} / 2 = {claims[i] / 2}{left})"
+def claimant(name, claim, part, lacking):
+    left = f", and {claim} - {part} = {claim - part} is left" * lacking
+    return f"{name} (half of {claim} is {claim / 2}{left})"
