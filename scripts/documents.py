@@ -105,7 +105,7 @@ def number(tree, what):
     """The value of an integer or a fraction text."""
     if type(tree) is int or type(tree) is str and re.fullmatch("-?[0-9]{1,39}(/0*[1-9][0-9]{0,38})?", tree):
         return Fraction(tree)
-    raise BadInput(f"{what}: {json.dumps(tree)[:40]} is no integer or fraction text")
+    raise BadInput(f"{what}: {json.dumps(tree)[:40]} is no integer, nor, with \"version\":2, a fraction text")
 
 
 def numbers(tree, what):
