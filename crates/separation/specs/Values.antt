@@ -54,16 +54,16 @@ IsTable num n first table = (s : ℕ) → s < 256 → IsEight num n first s (sli
 
 -- the table of the first eight players, and that of the next eight
 abbrev pub low_of : Sums → List ℤ
-low_of (Narrow t) = t.low
-low_of (Wide t) = t.low
+low_of (Narrow t) = t.low.now
+low_of (Wide t) = t.now.low
 
 abbrev pub high_of : Sums → List ℤ
-high_of (Narrow t) = t.high
-high_of (Wide t) = t.high
+high_of (Narrow t) = t.high.now
+high_of (Wide t) = t.now.high
 
 -- in 64 bits the sums of the first eight players are at most 2^59 in size
 abbrev pub HasRoom : Sums → Type 0
-HasRoom (Narrow t) = (k : ℕ) → k < 256 → unsigned_abs (slice_index_or t.low k (pos 0)) ≤ 2 ^ 59
+HasRoom (Narrow t) = (k : ℕ) → k < 256 → unsigned_abs (slice_index_or t.low.now k (pos 0)) ≤ 2 ^ 59
 HasRoom (Wide t) = ⊤
 
 -- the sums of the multipliers of at most 16 players

@@ -14,7 +14,8 @@ use crate::front::Front;
 use crate::marks::outside_of;
 use crate::picking::{block_of, some_found};
 use crate::rising::first_found;
-use crate::sums::Sums;
+use crate::sums::wide;
+use crate::tables::Sums;
 use fractions::OutOfMemory;
 use kohlberg::{Family, Level, Outside, Span};
 use simplex::{Columns, Multipliers};
@@ -158,13 +159,12 @@ impl<W: Worth> Columns for Lazy<'_, W> {
     }
 
     fn entering(&mut self, m: &Multipliers, with_costs: bool) -> Option<u64> {
-        let sums = Sums::new(m, self.players);
-        first_found(self, m, &sums, with_costs)
+        let tables = wide(m, self.players);
+        first_found(self, m, &Sums::Wide(&tables), with_costs)
     }
 
     fn rising(&mut self, m: &Multipliers, with_costs: bool) -> Option<u64> {
-        let sums = Sums::new(m, self.players);
-        let found = some_found(self, m, &sums, with_costs);
+        let found = some_found(self, m, with_costs);
         self.at = block_of(found, self.first);
         found
     }

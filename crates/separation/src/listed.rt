@@ -4,7 +4,8 @@ ghost use Rattle.std.specs.Prelude.{◌≡◌, ◌≤◌};
 ghost use Rattle.separation.specs.Kept.{column_at, kept_program, AreSmall, AreShort};
 
 use crate::column::Column;
-use crate::sums::{Sums, first_rising};
+use crate::sums::{first_rising, wide};
+use crate::tables::Sums;
 use simplex::{Columns, Multipliers};
 use worth_core::Measure;
 
@@ -99,13 +100,13 @@ impl Columns for Listed {
     }
 
     fn entering(&mut self, m: &Multipliers, with_costs: bool) -> Option<u64> {
-        let sums = Sums::new(m, self.players);
+        let tables = wide(m, self.players);
         first_rising(
             &self.columns,
             m,
             self.measure,
             self.players,
-            &sums,
+            &Sums::Wide(&tables),
             with_costs,
         )
     }

@@ -5,14 +5,16 @@ ghost use Rattle.std.specs.Prelude.{◌≡◌, ◌⊎◌, ℕ, ◌+◌, ◌*◌,
 ghost use Rattle.definitions.specs.declared.Measure.{Measure};
 ghost use Rattle.separation.specs.Kept.{column_at};
 ghost use Rattle.separation.specs.Fronts.{front_level, marked_column, lazy_columns};
-ghost use Rattle.separation.specs.Values.{AreSums, Rises, IsSomeBelow};
+ghost use Rattle.separation.specs.Values.{AreNarrow, AreSums, Rises, IsSomeBelow};
 
 use crate::lazy::Lazy;
 use crate::narrow::best_in_64;
 use crate::rising::{counted_worth, first_in_front, first_one_by_one, marked_rises};
-use crate::sums::{Sums, bar};
+use crate::sums::{bar, narrow, wide};
+use crate::tables::{NarrowSums, Sums};
 use coalitions::Coalition;
 use simplex::Multipliers;
+use spans::fill_sums;
 use worth_core::{Measure, Worth};
 
 /// By how much the cost of a coalition's column is above a value. No answer rests on this number.
@@ -43,7 +45,7 @@ fn greater(best: Option<(u64, i128)>, s: u64, gap: i128) -> (u64, i128)
 fn best_in_128<W: Worth>(
     program: &Lazy<'_, W>,
     m: &Multipliers,
-    sums: &Sums,
+    sums: &Sums<'_>,
     with_costs: bool,
     block: u64,
 ) -> Option<u64>
@@ -79,7 +81,7 @@ fn best_in_128<W: Worth>(
 fn best_of_block<W: Worth>(
     program: &Lazy<'_, W>,
     m: &Multipliers,
-    sums: &Sums,
+    sums: &Sums<'_>,
     with_costs: bool,
     block: u64,
 ) -> Option<u64>
@@ -97,7 +99,7 @@ fn best_of_block<W: Worth>(
     let base = sums.base(m, program.players, program.level(), block);
     match sums {
         Sums::Narrow(narrow) if m.den < 1 << 16 && base.unsigned_abs() <= 1 << 61 => {
-            best_in_64(program, m, &narrow.low, base as i64, with_costs, block)
+            best_in_64(program, m, narrow.low, base as i64, with_costs, block)
         }
         _ => best_in_128(program, m, sums, with_costs, block),
     }
@@ -107,7 +109,7 @@ fn best_of_block<W: Worth>(
 fn best_from<W: Worth>(
     program: &Lazy<'_, W>,
     m: &Multipliers,
-    sums: &Sums,
+    sums: &Sums<'_>,
     with_costs: bool,
     from: u64,
     to: u64,
@@ -135,7 +137,7 @@ fn best_from<W: Worth>(
 fn best_around<W: Worth>(
     program: &Lazy<'_, W>,
     m: &Multipliers,
-    sums: &Sums,
+    sums: &Sums<'_>,
     with_costs: bool,
 ) -> Option<u64>
     requires plain { program.now.measure ≡ Measure.Plain }
@@ -159,7 +161,7 @@ fn best_around<W: Worth>(
 fn some_marked<W: Worth>(
     program: &Lazy<'_, W>,
     m: &Multipliers,
-    sums: &Sums,
+    sums: &Sums<'_>,
     with_costs: bool,
 ) -> Option<u64>
     requires rows { length m.now.num.items ≡ program.now.players + program.now.levels }
@@ -180,11 +182,11 @@ fn some_marked<W: Worth>(
     }
 }
 
-/// The number of a column whose cost is above its value, without costs as if each were 0.
-pub(crate) fn some_found<W: Worth>(
+/// The number of a column whose cost is above its value, by the sums of the multipliers.
+fn some_by_sums<W: Worth>(
     program: &Lazy<'_, W>,
     m: &Multipliers,
-    sums: &Sums,
+    sums: &Sums<'_>,
     with_costs: bool,
 ) -> Option<u64>
     requires rows { length m.now.num.items ≡ program.now.players + program.now.levels }
@@ -202,6 +204,73 @@ pub(crate) fn some_found<W: Worth>(
     match some_marked(program, m, sums, with_costs) {
         Some(s) => Some(program.first + s),
         None => None,
+    }
+}
+
+/// The number of such a column, by tables in 64 bits of the players' multipliers there.
+fn some_in_64<W: Worth>(
+    program: &Lazy<'_, W>,
+    m: &Multipliers,
+    numbers: &[i64; 16],
+    with_costs: bool,
+) -> Option<u64>
+    requires rows { length m.now.num.items ≡ program.now.players + program.now.levels }
+    requires numbers { AreNarrow m.now.num.items program.now.players numbers.now }
+    ensures { let columns = lazy_columns (W.game program.now.game.now) program.now.front program.now.marks in
+        MatchOption result
+        ((id : ℕ) → ¬ Rises program.now.measure m.now.num.items m.now.den program.now.players with_costs
+        (column_at columns id))
+        (λ id. Rises program.now.measure m.now.num.items m.now.den program.now.players with_costs
+        (column_at columns id)) }
+{
+    let mut low = [0; 256];
+    let mut high = [0; 256];
+    fill_sums(&mut low, numbers, 0);
+    fill_sums(&mut high, numbers, 8);
+    let tables = NarrowSums {
+        low: &low,
+        high: &high,
+    };
+    some_by_sums(program, m, &Sums::Narrow(tables), with_costs)
+}
+
+/// The number of such a column, by tables in 128 bits. It is a function of its own, since its tables are large and
+/// seldom made.
+#[inline(never)]
+fn some_in_128<W: Worth>(
+    program: &Lazy<'_, W>,
+    m: &Multipliers,
+    with_costs: bool,
+) -> Option<u64>
+    requires rows { length m.now.num.items ≡ program.now.players + program.now.levels }
+    ensures { let columns = lazy_columns (W.game program.now.game.now) program.now.front program.now.marks in
+        MatchOption result
+        ((id : ℕ) → ¬ Rises program.now.measure m.now.num.items m.now.den program.now.players with_costs
+        (column_at columns id))
+        (λ id. Rises program.now.measure m.now.num.items m.now.den program.now.players with_costs
+        (column_at columns id)) }
+{
+    let tables = wide(m, program.players);
+    some_by_sums(program, m, &Sums::Wide(&tables), with_costs)
+}
+
+/// The number of a column whose cost is above its value, without costs as if each were 0.
+pub(crate) fn some_found<W: Worth>(
+    program: &Lazy<'_, W>,
+    m: &Multipliers,
+    with_costs: bool,
+) -> Option<u64>
+    requires rows { length m.now.num.items ≡ program.now.players + program.now.levels }
+    ensures { let columns = lazy_columns (W.game program.now.game.now) program.now.front program.now.marks in
+        MatchOption result
+        ((id : ℕ) → ¬ Rises program.now.measure m.now.num.items m.now.den program.now.players with_costs
+        (column_at columns id))
+        (λ id. Rises program.now.measure m.now.num.items m.now.den program.now.players with_costs
+        (column_at columns id)) }
+{
+    match narrow(m, program.players) {
+        Some(numbers) => some_in_64(program, m, &numbers, with_costs),
+        None => some_in_128(program, m, with_costs),
     }
 }
 

@@ -9,7 +9,8 @@ ghost use Rattle.separation.specs.Fronts.{front_columns, front_level, marked_col
 ghost use Rattle.separation.specs.Values.{AreSums, column_value, counted, Rises, IsFirst, IsFirstBelow};
 
 use crate::lazy::Lazy;
-use crate::sums::{Sums, is_below, rises};
+use crate::sums::{is_below, rises};
+use crate::tables::Sums;
 use coalitions::Coalition;
 use simplex::Multipliers;
 use worth_core::{Measure, Worth};
@@ -18,7 +19,7 @@ use worth_core::{Measure, Worth};
 pub(crate) fn first_in_front<W: Worth>(
     program: &Lazy<'_, W>,
     m: &Multipliers,
-    sums: &Sums,
+    sums: &Sums<'_>,
     with_costs: bool,
 ) -> Option<u64>
     requires rows { length m.now.num.items ≡ program.now.players + program.now.levels }
@@ -84,7 +85,7 @@ pub(crate) fn marked_rises<W: Worth>(
 fn first_of_block<W: Worth>(
     program: &Lazy<'_, W>,
     m: &Multipliers,
-    sums: &Sums,
+    sums: &Sums<'_>,
     with_costs: bool,
     block: u64,
 ) -> Option<u64>
@@ -117,7 +118,7 @@ fn first_of_block<W: Worth>(
 fn first_by_blocks<W: Worth>(
     program: &Lazy<'_, W>,
     m: &Multipliers,
-    sums: &Sums,
+    sums: &Sums<'_>,
     with_costs: bool,
 ) -> Option<u64>
     requires plain { program.now.measure ≡ Measure.Plain }
@@ -142,7 +143,7 @@ fn first_by_blocks<W: Worth>(
 pub(crate) fn first_one_by_one<W: Worth>(
     program: &Lazy<'_, W>,
     m: &Multipliers,
-    sums: &Sums,
+    sums: &Sums<'_>,
     with_costs: bool,
 ) -> Option<u64>
     requires rows { length m.now.num.items ≡ program.now.players + program.now.levels }
@@ -176,7 +177,7 @@ pub(crate) fn first_one_by_one<W: Worth>(
 fn first_marked<W: Worth>(
     program: &Lazy<'_, W>,
     m: &Multipliers,
-    sums: &Sums,
+    sums: &Sums<'_>,
     with_costs: bool,
 ) -> Option<u64>
     requires rows { length m.now.num.items ≡ program.now.players + program.now.levels }
@@ -198,7 +199,7 @@ fn first_marked<W: Worth>(
 pub(crate) fn first_found<W: Worth>(
     program: &Lazy<'_, W>,
     m: &Multipliers,
-    sums: &Sums,
+    sums: &Sums<'_>,
     with_costs: bool,
 ) -> Option<u64>
     requires rows { length m.now.num.items ≡ program.now.players + program.now.levels }

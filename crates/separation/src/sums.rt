@@ -16,11 +16,9 @@ ghost use Rattle.separation.specs.Values.{low_of, high_of, AreNarrow, level_mult
 ghost use Rattle.separation.specs.Values.{Rises, IsFirst};
 
 use crate::column::{Column, level_entry};
-pub(crate) use crate::tables::Sums;
-use crate::tables::WideSums;
+use crate::tables::{Sums, WideSums};
 use coalitions::Coalition;
 use simplex::Multipliers;
-use spans::PlayerSums;
 use worth_core::Measure;
 
 /// The multiplier of player `i`, and 0 past `n` players.
@@ -60,7 +58,7 @@ fn table(m: &Multipliers, n: u32, first: u32) -> [i128; 256]
 }
 
 /// The multipliers of the players in 64 bits, and 0 past `n` players, where each is at most 2^56 in size.
-fn narrow(m: &Multipliers, n: u32) -> Option<[i64; 16]>
+pub(crate) fn narrow(m: &Multipliers, n: u32) -> Option<[i64; 16]>
     requires count { n ≤ length m.now.num.items }
     requires few { n ≤ 16 }
     ensures { IfSome result (AreNarrow m.now.num.items n) }
@@ -77,7 +75,7 @@ fn narrow(m: &Multipliers, n: u32) -> Option<[i64; 16]>
 }
 
 /// The sums in 128 bits.
-fn wide(m: &Multipliers, n: u32) -> WideSums
+pub(crate) fn wide(m: &Multipliers, n: u32) -> WideSums
     requires { n ≤ length m.now.num.items }
     ensures low { IsTable m.now.num.items n 0 result.low }
     ensures high { IsTable m.now.num.items n 8 result.high }
@@ -88,19 +86,7 @@ fn wide(m: &Multipliers, n: u32) -> WideSums
     }
 }
 
-impl Sums {
-    /// The sums of the multipliers of at most 16 players.
-    pub(crate) fn new(m: &Multipliers, n: u32) -> Sums
-        requires count { n ≤ length m.now.num.items }
-        requires few { n ≤ 16 }
-        ensures { AreSums m.now.num.items n result }
-    {
-        match narrow(m, n) {
-            Some(numbers) => Sums::Narrow(PlayerSums::of(&numbers)),
-            None => Sums::Wide(wide(m, n)),
-        }
-    }
-
+impl Sums<'_> {
     /// The sum over a coalition of the first eight players.
     fn low_at(&self, s: usize) -> i128
         requires { s < 256 }
@@ -179,7 +165,7 @@ fn level_value(m: &Multipliers, n: u32, measure: Measure, level: Option<u32>, s:
 }
 
 /// The sum of multiplier times entry of a column.
-fn value(column: Column, m: &Multipliers, measure: Measure, n: u32, sums: &Sums) -> i128
+fn value(column: Column, m: &Multipliers, measure: Measure, n: u32, sums: &Sums<'_>) -> i128
     requires within { ForSome column.level (λ l. n + l < length m.now.num.items) }
     requires players { n ≤ length m.now.num.items }
     requires sums { AreSums m.now.num.items n sums.now }
@@ -217,7 +203,7 @@ pub(crate) fn rises(
     m: &Multipliers,
     measure: Measure,
     n: u32,
-    sums: &Sums,
+    sums: &Sums<'_>,
     with_costs: bool,
 ) -> bool
     requires within { ForSome column (λ c. ForSome c.level (λ l. n + l < length m.now.num.items)) }
@@ -241,7 +227,7 @@ pub(crate) fn first_rising(
     m: &Multipliers,
     measure: Measure,
     n: u32,
-    sums: &Sums,
+    sums: &Sums<'_>,
     with_costs: bool,
 ) -> Option<u64>
     requires within { (id : ℕ) → ForSome (column_at columns.now id)

@@ -2,8 +2,6 @@
 
 ghost use Rattle.std.specs.Prelude.{ℕ, ◌<◌, ◌≤◌, ◌^◌, pos, unsigned_abs, slice_index_or};
 
-use spans::PlayerSums;
-
 /// The sums over each coalition of the first eight players, and over each coalition of the next eight.
 #[derive(Drop)]
 pub(crate) struct WideSums {
@@ -13,9 +11,16 @@ pub(crate) struct WideSums {
     ghost high_small: { (k : ℕ) → k < 256 → unsigned_abs (slice_index_or high k (pos 0)) ≤ 2 ^ 113 },
 }
 
-/// These sums in 64 bits, where the multipliers leave room there, as nearly all do; or else in 128.
-#[derive(Drop)]
-pub(crate) enum Sums {
-    Narrow(PlayerSums),
-    Wide(WideSums),
+/// These sums in 64 bits, where the multipliers leave room there, as nearly all do.
+#[derive(Clone, Copy)]
+pub(crate) struct NarrowSums<'a> {
+    pub(crate) low: &'a [i64; 256],
+    pub(crate) high: &'a [i64; 256],
+}
+
+/// The sums in 64 bits or in 128. The tables stand elsewhere, so that none is moved.
+#[derive(Clone, Copy)]
+pub(crate) enum Sums<'a> {
+    Narrow(NarrowSums<'a>),
+    Wide(&'a WideSums),
 }

@@ -27,17 +27,16 @@ fn add_player(sums: &mut [i64; 256], numbers: &[i64; 16], first: u32, player: u3
     }
 }
 
-/// The sums over each coalition of the eight players from `first` on.
-fn table(numbers: &[i64; 16], first: u32) -> [i64; 256]
+/// Fills a table with the sums over each coalition of the eight players from `first` on.
+pub fn fill_sums(sums: &mut [i64; 256], numbers: &[i64; 16], first: u32)
     requires first { first ≤ 8 }
     requires numbers { (i : ℕ) → unsigned_abs (number_at numbers.now i) ≤ 2 ^ 58 }
-    ensures { (s : ℕ) → s < 256 → IsEightSum numbers.now first s (slice_index_or result s (pos 0)) }
+    ensures { (s : ℕ) → s < 256 → IsEightSum numbers.now first s (slice_index_or sums.new s (pos 0)) }
 {
-    let mut sums = [0; 256];
+    sums[0] = 0;
     for player in 0..8u32 {
-        add_player(&mut sums, numbers, first, player);
+        add_player(sums, numbers, first, player);
     }
-    sums
 }
 
 impl PlayerSums {
@@ -46,9 +45,12 @@ impl PlayerSums {
         requires { (i : ℕ) → unsigned_abs (number_at numbers.now i) ≤ 2 ^ 58 }
         ensures { AreEightSums numbers.now result.low result.high }
     {
-        PlayerSums {
-            low: table(numbers, 0),
-            high: table(numbers, 8),
-        }
+        let mut sums = PlayerSums {
+            low: [0; 256],
+            high: [0; 256],
+        };
+        fill_sums(&mut sums.low, numbers, 0);
+        fill_sums(&mut sums.high, numbers, 8);
+        sums
     }
 }

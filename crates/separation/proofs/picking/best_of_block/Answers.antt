@@ -25,13 +25,13 @@ best_in_64-requires-clause-values g c s lower upper =
     ∙ ap (λ (l : Option ℕ). slice_index_or (high_of sums) c.args.block (pos 0) +ℤ level_multiplier num p.players l)
     c.level.ensures in
     let valued =
-    ap (λ (z : ℤ). z +ℤ slice_index_or c.in-Narrow.narrow.low (s % 256) (pos 0)) kept
+    ap (λ (z : ℤ). z +ℤ slice_index_or c.in-Narrow.narrow.low.now (s % 256) (pos 0)) kept
     ∙ ap (λ (t : Sums). base +ℤ slice_index_or (low_of t) (s % 256) (pos 0)) (sym c.in-Narrow.is) in
     let le : p.players ≤ length num = omega (arith, c.requires.rows) in
     let within = front_within p.front p.players p.levels (length num) p.rows c.requires.rows in
     subst
     (λ (x : Measure). to_z w64 (of_z w64 (to_z w128 (of_z w128 base)))
-    +ℤ slice_index_or c.in-Narrow.narrow.low (s % 256) (pos 0)
+    +ℤ slice_index_or c.in-Narrow.narrow.low.now (s % 256) (pos 0)
     ≡ column_value x num p.players (plain game s (front_level p.front))) (sym c.requires.plain)
     (block_value num p.players s c.args.block _ sums (game.worth s) base _ le within c.requires.sums
     lower upper c.requires.block based valued)

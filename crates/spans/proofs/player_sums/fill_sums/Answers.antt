@@ -1,10 +1,14 @@
-use Rattle.std.proofs.Common.{◌≡◌, ◌<◌, ◌+◌, ◌*◌, ◌^◌, ℕ, arith, sym, subst, ap}
+use Rattle.std.proofs.Common.{◌≡◌, ◌<◌, ◌+◌, ◌*◌, ◌^◌, ℕ, arith, subst, length, pos, rules}
+use Rattle.std.proofs.Common.{get_or-set_same}
 use Rattle.spans.proofs.EightSums.{IsEightSum-empty, twice_power}
-use Rattle.spans.proofs.player_sums.table.Goals as goal
+use Rattle.spans.proofs.player_sums.fill_sums.Goals as goal
 
 pub loop-player-init : goal.loop-player-init
 loop-player-init c = λ s lt.
-    let first : s ≡ 0 = omega arith in rw first (IsEightSum-empty c.args.numbers.now c.args.first)
+    let first : s ≡ 0 = omega arith in
+    let some : 0 < length c.args.sums.now = search rules in
+    rw (first, get_or-set_same c.args.sums.now 0 (pos 0) (pos 0) some)
+    (IsEightSum-empty c.args.numbers.now c.args.first)
 
 pub loop-player-preserved : goal.loop-player-preserved
 loop-player-preserved c = λ s lt.

@@ -1,6 +1,6 @@
 use Rattle.std.proofs.Common.{◌≡◌, ℕ, ◌^◌, ◌<◌, length, pos, slice_index_or}
 use Rattle.spans.specs.Sums.{IsEightSum}
-use Rattle.spans.proofs.player_sums.table.Given as goal
+use Rattle.spans.proofs.player_sums.fill_sums.Given as goal
 
 abbrev pub invariant-loop-player : goal.invariant-loop-player
 invariant-loop-player l =

@@ -3,7 +3,7 @@ use Rattle.separation.specs.Kept.{column_at}
 use Rattle.separation.specs.Fronts.{lazy_columns}
 use Rattle.separation.specs.Values.{Rises}
 use Rattle.separation.proofs.FirstFound.{some_rises, none_found}
-use Rattle.separation.proofs.picking.some_found.Goals as goal
+use Rattle.separation.proofs.picking.some_by_sums.Goals as goal
 
 pub returns-in-None : goal.returns-in-None
 returns-in-None g c =

@@ -1,0 +1,17 @@
+use Rattle.std.proofs.Common.{◌^◌, le_trans}
+use lib.Dec.{lit≤}
+use Rattle.separation.proofs.Eights.{IsEight-narrow}
+use Rattle.separation.proofs.picking.some_in_64.Goals as goal
+
+pub some_by_sums-requires-clause-sums : goal.some_by_sums-requires-clause-sums
+some_by_sums-requires-clause-sums g c =
+    let p = c.args.program.now in
+    let num = c.args.m.now.num.items in
+    let numbers = c.args.numbers.now in
+    let narrow = c.requires.numbers in
+    record {
+      few = p.few;
+      low_is = λ s lt. IsEight-narrow num p.players 0 s numbers _ narrow (c.fill_sums.ensures s lt);
+      high_is = λ s lt. IsEight-narrow num p.players 8 s numbers _ narrow (c.fill_sums-2.ensures s lt);
+      room = λ k lt. le_trans ((c.fill_sums.ensures k lt).small (2 ^ 56) (λ i. (narrow i).1)) (lit≤ tt);
+    }
