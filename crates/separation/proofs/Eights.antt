@@ -5,9 +5,8 @@ use Rattle.std.proofs.Common.{slice_index_or, unsigned_abs, to_z, of_z, subst, i
 use Rattle.std.proofs.Common.{set, replicate}
 use Rattle.std.proofs.lemmas.List.{get_or_past}
 use Rattle.std.proofs.lemmas.Int.{ints}
-use Rattle.std.proofs.Math.Pow.{pow-lt}
 use mir.Syntax.{w128}
-use Rattle.definitions.proofs.Cases.{below_or_above, same_or_other, nat_lt-past}
+use Rattle.definitions.proofs.Cases.{below_or_above, nat_lt-past}
 use Rattle.definitions.proofs.Casts.{cast_kept}
 use Rattle.definitions.proofs.Ring.{linear}
 use Rattle.definitions.specs.Sums.{sum_below}

@@ -1,7 +1,7 @@
 -- A search for the best column that rises, number by number.
 use Rattle.std.proofs.Common.{◌≡◌, ◌↔◌, ◌⊎◌, inl, inr, ℕ, ◌+◌, ◌<◌, ◌≤◌, ℤ, ◌≤ℤ◌, ◌<ℤ◌}
 use Rattle.std.proofs.Common.{Option, Some, None, MatchOption, sym, subst, arith}
-use Rattle.definitions.proofs.Cases.{last_or_less_of}
+use Rattle.definitions.proofs.Cases.{last_or_less_of, below_or_above}
 use Rattle.definitions.proofs.Ring.{linear}
 use Rattle.separation.specs.Values.{IsHighest}
 
@@ -64,6 +64,18 @@ module _ (R : ℕ → Type 0) (a s count : ℕ) (base height : ℤ) (picked : �
     none = λ e j low lt within. elim end [
       | inl same ↦ h.none e j low (subst (λ (k : ℕ). j < k) (sym same) lt) within
       | inr le ↦ h.none e j low (omega (arith, le, within)) within
+    ];
+    found = h.found;
+  }
+
+  -- a stretch of which none rises where the height is the base
+  pub highest_skipped : (t : ℕ) → ((j : ℕ) → s ≤ j → j < t → j < count → R j → base <ℤ height)
+      → IsHighest R a s count base height picked → IsHighest R a t count base height picked
+  highest_skipped t above h = record {
+    low = h.low;
+    none = λ e j low lt within. elim (below_or_above j s) [
+      | inl before ↦ h.none e j low before within
+      | inr past ↦ λ r. let up = above j past lt within r in absurd (omega (arith, linear, e, up))
     ];
     found = h.found;
   }

@@ -1,6 +1,6 @@
 -- Products and sums of small numbers, as the machine computes them.
 use Rattle.std.proofs.Common.{◌≡◌, ℕ, ◌+◌, ◌*◌, ◌^◌, ◌<◌, ◌≤◌, ℤ, pos, ◌+ℤ◌, ◌-ℤ◌, ◌*ℤ◌, unsigned_abs, arith}
-use Rattle.std.proofs.Common.{◌↔◌, ◌<ℤ◌}
+use Rattle.std.proofs.Common.{◌↔◌, ◌<ℤ◌, ◌≤ℤ◌}
 use Rattle.definitions.proofs.Ring.{linear}
 use Rattle.std.proofs.Common.{FitsSigned, to_z, of_z, sym, subst, ◌∙◌, le_trans, lt_of_le_of_lt, le_of_lt}
 use Rattle.std.proofs.Common.{mul-le-mul}
@@ -100,6 +100,15 @@ height_held d w l hd hw hl =
 -- a height is above a base exactly where the cost is above the value
 pub above_base : (b l v a z : ℤ) → z ≡ a -ℤ l → b +ℤ l ≡ v → (b <ℤ z) ↔ (v <ℤ a)
 above_base b l v a z e f = (λ h. omega (arith, linear, e, f, h), λ h. omega (arith, linear, e, f, h))
+
+-- where the cost is above the value, the base is below each number that no height is above
+pub below_bound : (b l v a least bound height : ℤ) → b +ℤ l ≡ v → v <ℤ a → least ≤ℤ l → (a -ℤ least) ≤ℤ bound
+    → bound ≤ℤ height → b <ℤ height
+below_bound b l v a least bound height e f g h i = omega (arith, linear, e, f, g, h, i)
+
+-- less a number
+pub less_a_number : (a b l : ℤ) → a ≤ℤ b → (a -ℤ l) ≤ℤ (b -ℤ l)
+less_a_number a b l h = omega (arith, linear, h)
 
 -- a number that 64 bits hold, read in 64 bits
 pub narrowed : (z : ℤ) → unsigned_abs z ≤ 2 ^ 114 → unsigned_abs (held z) ≤ 2 ^ 61 → held_in_64 (held z) ≡ z

@@ -8,10 +8,12 @@ ghost use Rattle.definitions.specs.Certificates.{HasForm};
 ghost use Rattle.definitions.specs.declared.Measure.{Measure};
 ghost use Rattle.definitions.specs.declared.Mode.{Mode};
 ghost use Rattle.separation.specs.Kept.{kept_program, AreSmall, AreShort};
+ghost use Rattle.separation.specs.Peaks.{ArePeaks};
 ghost use Rattle.separation.specs.Fronts.{front_columns, front_rows, lazy_columns, IsSmallLevel};
 
 use crate::front::Front;
 use crate::marks::outside_of;
+use crate::peaks::peaks_of;
 use crate::picking::{block_of, some_found};
 use crate::rising::first_found;
 use crate::sums::wide;
@@ -36,6 +38,8 @@ pub struct Lazy<'a, W: Worth> {
     pub(crate) first: u64,
     /// The coalitions that have a column; without marks these are all but the empty one.
     pub(crate) marks: Option<Outside>,
+    /// The greatest worth of each block of 256 coalitions, or 0 where that is more.
+    pub(crate) peaks: [i64; 256],
     /// The block of 256 coalitions in which the column that entered last was found; the next search begins there.
     pub(crate) at: u8,
     ghost count: { players ≡ (W.game game.now).players },
@@ -47,6 +51,7 @@ pub struct Lazy<'a, W: Worth> {
         (λ f. AllByRecursion (IsSmallLevel players) f.levels.now) } by { Prim.hlevel props },
     ghost first_is: { first ≡ length (front_columns (W.game game.now) front) },
     ghost first_small: { first ≤ 2 ^ 32 },
+    ghost peaks_are: { ArePeaks (W.game game.now) peaks },
     ghost small: { AreSmall levels (lazy_columns (W.game game.now) front marks) },
     ghost short: { AreShort measure players levels (lazy_columns (W.game game.now) front marks) },
 }
@@ -89,6 +94,7 @@ impl<'a, W: Worth> Lazy<'a, W> {
             front: Some(front),
             first: front.count(game),
             marks: Some(outside_of(span, players)),
+            peaks: peaks_of(game, players),
             at: 0,
         })
     }
@@ -112,6 +118,7 @@ impl<'a, W: Worth> Lazy<'a, W> {
             front: None,
             first: 0,
             marks: None,
+            peaks: peaks_of(game, players),
             at: 0,
         })
     }

@@ -10,6 +10,7 @@ mod lazy;
 mod listed;
 mod marks;
 mod narrow;
+mod peaks;
 mod picking;
 mod rising;
 mod shares;

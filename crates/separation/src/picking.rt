@@ -99,7 +99,7 @@ fn best_of_block<W: Worth>(
     let base = sums.base(m, program.players, program.level(), block);
     match sums {
         Sums::Narrow(narrow) if m.den < 1 << 16 && base.unsigned_abs() <= 1 << 61 => {
-            best_in_64(program, m, narrow.low, base as i64, with_costs, block)
+            best_in_64(program, m, narrow, base as i64, with_costs, block)
         }
         _ => best_in_128(program, m, sums, with_costs, block),
     }
@@ -227,21 +227,14 @@ fn some_in_64<W: Worth>(
     let mut high = [0; 256];
     fill_sums(&mut low, numbers, 0);
     fill_sums(&mut high, numbers, 8);
-    let tables = NarrowSums {
-        low: &low,
-        high: &high,
-    };
+    let tables = NarrowSums::new(&low, &high);
     some_by_sums(program, m, &Sums::Narrow(tables), with_costs)
 }
 
 /// The number of such a column, by tables in 128 bits. It is a function of its own, since its tables are large and
 /// seldom made.
 #[inline(never)]
-fn some_in_128<W: Worth>(
-    program: &Lazy<'_, W>,
-    m: &Multipliers,
-    with_costs: bool,
-) -> Option<u64>
+fn some_in_128<W: Worth>(program: &Lazy<'_, W>, m: &Multipliers, with_costs: bool) -> Option<u64>
     requires rows { length m.now.num.items ≡ program.now.players + program.now.levels }
     ensures { let columns = lazy_columns (W.game program.now.game.now) program.now.front program.now.marks in
         MatchOption result

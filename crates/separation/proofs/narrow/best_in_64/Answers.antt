@@ -1,4 +1,7 @@
-use Rattle.std.proofs.Common.{◌≡◌, ℕ, ◌+◌, ◌*◌, ◌^◌, arith, subst, ◌∙◌}
+use Rattle.std.proofs.Common.{◌≡◌, ℕ, ◌+◌, ◌*◌, ◌%◌, ◌^◌, arith, sym, subst, ◌∙◌, pos, slice_index_or}
+use mir.Syntax.{w64}
+use Rattle.definitions.proofs.Casts.{cast_kept}
+use Rattle.separation.specs.Peaks.{IsLeast}
 use Rattle.separation.specs.Fronts.{front_level, marked_column}
 use Rattle.separation.specs.Values.{Rises, IsHighest}
 use Rattle.separation.proofs.narrow.best_in_64.Goals as goal
@@ -20,3 +23,11 @@ loop-place-preserved g c =
           (256 * c.args.block) t (2 ^ p.players) best.base best.height best.coalition) next
           (c.highest_of_word-best.ensures.highest (256 * c.args.block) inv.highest);
     }
+
+pub highest_of_word-best-requires-clause-least : goal.highest_of_word-best-requires-clause-least
+highest_of_word-best-requires-clause-least g c =
+    let q = c.loop-place.place % 4 in
+    let is = c.args.sums.now.least_is q (omega arith) in
+    let small = is.small (2 ^ 60) c.requires.low in
+    subst (IsLeast c.args.sums.now.low.now q)
+    (sym (cast_kept w64 (slice_index_or c.args.sums.now.least q (pos 0)) (omega (arith, small)))) is

@@ -1,130 +1,63 @@
-use Rattle.std.proofs.Common.{◌≡◌, ◌⊎◌, ◌↔◌, ◌≤◌, ◌<◌, ℕ, ℤ, ◌+◌, ◌*◌, ◌%◌, ◌^◌, pos}
-use Rattle.std.proofs.Common.{◌+ℤ◌, ◌*ℤ◌, ◌<ℤ◌, Bool, true, false}
-use Rattle.std.proofs.Common.{if◌then◌else◌, Some, None, slice_index_or, to_z, of_z, inl, inr, refl, arith, rules}
-use Rattle.std.proofs.Common.{ap, sym, subst, ◌∙◌}
+use Rattle.std.proofs.Common.{◌≡◌, ◌≤◌, ◌+◌, ◌*◌, ◌%◌, ◌^◌, ℕ, Bool, true, false, ℤ, pos, ◌*ℤ◌, ◌<ℤ◌}
+use Rattle.std.proofs.Common.{if◌then◌else◌, Some, None, slice_index_or, arith, sym, subst}
+use Rattle.std.proofs.Common.{unsigned_abs, to_z, of_z, ◌-ℤ◌, ◌≤ℤ◌, rules}
 use mir.Syntax.{w64}
-use Rattle.definitions.proofs.Cases.{same_or_other}
+use Rattle.definitions.proofs.Casts.{cast_kept}
+use Rattle.definitions.specs.declared.Measure.{Measure}
+use Rattle.std.specs.Prelude.{List}
 use Rattle.separation.specs.Making.{plain}
 use Rattle.separation.specs.Fronts.{front_level, has_mark, marked_column}
-use Rattle.separation.specs.Values.{column_value, counted, Rises, IsHighest}
-use Rattle.separation.specs.declared.narrow.Highest.{Highest}
-use Rattle.separation.proofs.Balance.{masks_of}
-use Rattle.separation.proofs.Picked.{highest_more, highest_passed, highest_kept, highest_past}
-use Rattle.separation.proofs.Products.{above_base}
+use Rattle.separation.specs.Values.{column_value, counted, Rises}
+use Rattle.separation.specs.declared.column.Column.{Column}
+use Rattle.simplex.proofs.Sizes.{at_most_is}
+use Rattle.separation.proofs.Picked.{highest_skipped}
+use Rattle.separation.proofs.Products.{below_bound}
 use Rattle.separation.proofs.narrow.highest_of_word.Goals as goal
-use Rattle.separation.proofs.narrow.highest_of_word.Goals.{then-contains, else-contains}
 
-pub loop-j-init : goal.loop-j-init
-loop-j-init g c =
-    let p = c.args.program.now in
-    let m = c.args.m.now in
-    let start : 64 * c.args.place ≡ 64 * c.args.place + 0 = omega arith in
-    record {
-      base = refl;
-      highest = λ a h.
-          highest_past
-          (λ (j : ℕ). Rises p.measure m.num.items m.den p.players c.args.with_costs
-          (marked_column (g.W.Worth.game p.game.now) (front_level p.front) p.marks j))
-          a (64 * c.args.place) (2 ^ p.players) c.args.before.base c.args.before.height c.args.before.coalition
-          (64 * c.args.place + 0) (inl start) h;
-    }
+-- a column that rises is there
+there : (measure : Measure) (num : List ℤ) (den : ℤ) (n : ℕ) (costs : Bool) (column : Column) (b : Bool)
+    → Rises measure num den n costs (if b then Some column else None)
+    → column_value measure num n column <ℤ (den *ℤ counted costs column.cost)
+there measure num den n costs column true r = r
+there measure num den n costs column false r = absurd r
 
-pub loop-j-preserved : goal.loop-j-preserved
-loop-j-preserved g c =
+-- a least number as it is kept
+least_kept : (z : ℤ) → unsigned_abs z ≤ 2 ^ 60 → to_z w64 (of_z w64 z) ≡ z
+least_kept z small = cast_kept w64 z (omega (arith, small))
+
+pub height_bound-requires-clause-least : goal.height_bound-requires-clause-least
+height_bound-requires-clause-least g c =
+    let small = c.requires.least.small (2 ^ 60) c.requires.low in
+    subst (λ (z : ℤ). unsigned_abs z ≤ 2 ^ 60) (sym (least_kept c.args.least small)) small
+
+pub returns-then-height_bound-before-clause-highest : goal.returns-then-height_bound-before-clause-highest
+returns-then-height_bound-before-clause-highest g c = λ a h.
     let p = c.args.program.now in
     let m = c.args.m.now in
     let game = g.W.Worth.game p.game.now in
     let low = c.args.low.now in
+    let place = c.args.place in
+    let before = c.args.before in
     let R = λ (j : ℕ). Rises p.measure m.num.items m.den p.players c.args.with_costs
     (marked_column game (front_level p.front) p.marks j) in
-    let s = 64 * c.args.place + c.loop-j.j in
-    let best = c.loop-j.best in
-    let inv = c.loop-j.invariant in
-    let mask = masks_of p.players p.few in
-    let bit : c.loop-j.j < 64 = omega (arith, c.loop-j-test.true, c.min-end.ensures) in
-    let within : s < 2 ^ p.players =
-    omega (arith, mask, c.loop-j-test.true, c.min-end.ensures, c.saturating_sub.ensures) in
-    let next : s + 1 ≡ 64 * c.args.place + (c.loop-j.j + 1) = omega arith in
-    let mark : c.contains.result ≡ has_mark p.marks s = c.contains.ensures ∙ c.marked_word.ensures c.loop-j.j bit in
-    let column = plain game s (front_level p.front) in
-    elim c.if-contains.branch [
-      | then-contains w ↦
-          let on : has_mark p.marks s ≡ true = sym mark ∙ w.if-contains.true in
-          let z = to_z w64 (of_z w64 w.height_of-height.result) in
-          let whole : z ≡ w.height_of-height.result = search rules in
-          let value =
-          ap (λ (b : ℤ). b +ℤ slice_index_or low (s % 256) (pos 0)) inv.base
-          ∙ c.requires.values s (omega arith) (omega (arith, bit)) in
-          let up : (best.base <ℤ z) ↔ R s =
-          subst
-          (λ (b : Bool). (best.base <ℤ z)
-          ↔ Rises p.measure m.num.items m.den p.players c.args.with_costs (if b then Some column else None)) (sym on)
-          (above_base best.base (slice_index_or low (s % 256) (pos 0))
-          (column_value p.measure m.num.items p.players column) (m.den *ℤ counted c.args.with_costs (game.worth s))
-          z (whole ∙ w.height_of-height.ensures) value) in
-          elim w.or-best.ensures [
-            | inl higher ↦ record {
-              base = ap (λ (x : Highest). x.base) (w.best-is ∙ higher.1) ∙ inv.base;
-              highest = λ a h.
-                  subst
-                  (λ (x : Highest). IsHighest R a (64 * c.args.place + (c.loop-j.j + 1)) (2 ^ p.players) x.base
-                  x.height x.coalition) (sym (w.best-is ∙ higher.1))
-                  (subst (λ (t : ℕ). IsHighest R a t (2 ^ p.players) best.base z s) next
-                  (highest_more R a s (2 ^ p.players) best.base best.height best.coalition z within up higher.0
-                  (inv.highest a h)));
-            }
-            | inr kept ↦ record {
-              base = ap (λ (x : Highest). x.base) (w.best-is ∙ kept.1) ∙ inv.base;
-              highest = λ a h.
-                  subst
-                  (λ (x : Highest). IsHighest R a (64 * c.args.place + (c.loop-j.j + 1)) (2 ^ p.players) x.base
-                  x.height x.coalition) (sym (w.best-is ∙ kept.1))
-                  (subst (λ (t : ℕ). IsHighest R a t (2 ^ p.players) best.base best.height best.coalition) next
-                  (highest_kept R a s (2 ^ p.players) best.base best.height best.coalition z up kept.0
-                  (inv.highest a h)));
-            }
-          ]
-      | else-contains w ↦
-          let off : has_mark p.marks s ≡ false = sym mark ∙ w.if-contains.false in
-          let low_still =
-          λ (r : R s). subst
-          (λ (b : Bool). Rises p.measure m.num.items m.den p.players c.args.with_costs
-          (if b then Some column else None)) off r in
-          record {
-            base = ap (λ (x : Highest). x.base) w.best-is ∙ inv.base;
-            highest = λ a h.
-                subst
-                (λ (x : Highest). IsHighest R a (64 * c.args.place + (c.loop-j.j + 1)) (2 ^ p.players) x.base x.height
-                x.coalition) (sym w.best-is)
-                (subst (λ (t : ℕ). IsHighest R a t (2 ^ p.players) best.base best.height best.coalition) next
-                (highest_passed R a s (2 ^ p.players) best.base best.height best.coalition low_still
-                (inv.highest a h)));
-          }
-    ]
-
-pub returns-clause-highest : goal.returns-clause-highest
-returns-clause-highest g c = λ a h.
-    let p = c.args.program.now in
-    let m = c.args.m.now in
-    let best = c.loop-j.best in
-    let s = 64 * c.args.place + c.loop-j.j in
-    let mask = masks_of p.players p.few in
-    let end : (s ≡ 64 * c.args.place + 64) ⊎ (2 ^ p.players ≤ s) =
-    elim (same_or_other c.loop-j.j 64) [
-      | inl same ↦ inl (omega (arith, same))
-      | inr other ↦ inr
-          (omega (
-            arith,
-            mask,
-            other,
-            c.loop-j-test.false,
-            c.loop-j.auto.j-end,
-            c.min-end.ensures,
-            c.saturating_sub.ensures,
-          ))
-    ] in
-    highest_past
-    (λ (j : ℕ). Rises p.measure m.num.items m.den p.players c.args.with_costs
-    (marked_column (g.W.Worth.game p.game.now) (front_level p.front) p.marks j))
-    a s (2 ^ p.players) best.base best.height best.coalition (64 * c.args.place + 64) end
-    (c.loop-j.invariant.highest a h)
+    let bound = c.height_bound.result in
+    let kept : to_z w64 (of_z w64 bound) ≡ bound = search rules in
+    let kept_height : to_z w64 (of_z w64 before.height) ≡ before.height = search rules in
+    let le : bound ≤ℤ before.height =
+    subst (λ (z : ℤ). bound ≤ℤ z) kept_height
+    (subst (λ (z : ℤ). z ≤ℤ to_z w64 (of_z w64 before.height)) kept
+    (at_most_is _ _ c.if-height_bound-before.true)) in
+    highest_skipped R a (64 * place) (2 ^ p.players) before.base before.height before.coalition (64 * place + 64)
+    (λ j lower upper within r.
+    let column = plain game j (front_level p.front) in
+    below_bound before.base (slice_index_or low (j % 256) (pos 0))
+    (column_value p.measure m.num.items p.players column) (m.den *ℤ counted c.args.with_costs (game.worth j))
+    c.args.least c.height_bound.result before.height (c.requires.values j lower upper)
+    (there p.measure m.num.items m.den p.players c.args.with_costs column (has_mark p.marks j) r)
+    (c.requires.least.least (j % 256) (omega (arith, lower, upper)) (omega (arith, lower, upper)))
+    (subst
+    (λ (z : ℤ). ((m.den *ℤ counted c.args.with_costs (game.worth j)) -ℤ z) ≤ℤ c.height_bound.result)
+    (least_kept c.args.least (c.requires.least.small (2 ^ 60) c.requires.low))
+    (c.height_bound.ensures j (omega (arith, lower, upper)) (omega (arith, lower, upper)) within))
+    le)
+    h

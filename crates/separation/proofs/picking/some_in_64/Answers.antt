@@ -1,5 +1,6 @@
-use Rattle.std.proofs.Common.{◌^◌, le_trans}
+use Rattle.std.proofs.Common.{◌≤◌, ◌<◌, ◌^◌, ℕ, ℤ, List, pos, le_trans, sym, subst, slice_index_or, unsigned_abs}
 use lib.Dec.{lit≤}
+use Rattle.separation.specs.Values.{IsTable}
 use Rattle.separation.proofs.Eights.{IsEight-narrow}
 use Rattle.separation.proofs.picking.some_in_64.Goals as goal
 
@@ -9,9 +10,17 @@ some_by_sums-requires-clause-sums g c =
     let num = c.args.m.now.num.items in
     let numbers = c.args.numbers.now in
     let narrow = c.requires.numbers in
+    let tables = c.new-tables.ensures in
     record {
       few = p.few;
-      low_is = λ s lt. IsEight-narrow num p.players 0 s numbers _ narrow (c.fill_sums.ensures s lt);
-      high_is = λ s lt. IsEight-narrow num p.players 8 s numbers _ narrow (c.fill_sums-2.ensures s lt);
-      room = λ k lt. le_trans ((c.fill_sums.ensures k lt).small (2 ^ 56) (λ i. (narrow i).1)) (lit≤ tt);
+      low_is =
+          subst (IsTable num p.players 0) (sym tables.low)
+          (λ s lt. IsEight-narrow num p.players 0 s numbers _ narrow (c.fill_sums.ensures s lt));
+      high_is =
+          subst (IsTable num p.players 8) (sym tables.high)
+          (λ s lt. IsEight-narrow num p.players 8 s numbers _ narrow (c.fill_sums-2.ensures s lt));
+      room =
+          subst (λ (t : List ℤ). (k : ℕ) → k < 256 → unsigned_abs (slice_index_or t k (pos 0)) ≤ 2 ^ 59)
+          (sym tables.low)
+          (λ k lt. le_trans ((c.fill_sums.ensures k lt).small (2 ^ 56) (λ i. (narrow i).1)) (lit≤ tt));
     }

@@ -1,7 +1,7 @@
 use Rattle.std.proofs.Common.{◌≡◌, ℕ, ◌*◌, ◌+◌, ◌^◌}
 use Rattle.separation.specs.Fronts.{front_level, marked_column}
 use Rattle.separation.specs.Values.{Rises, IsHighest}
-use Rattle.separation.proofs.narrow.highest_of_word.Given as goal
+use Rattle.separation.proofs.narrow.highest_of_each.Given as goal
 
 abbrev pub invariant-loop-j : goal.invariant-loop-j
 invariant-loop-j g l =

@@ -1,0 +1,57 @@
+use Rattle.std.proofs.Common.{◌≡◌, ◌⊎◌, ◌<◌, ◌≤◌, ◌*◌, ℕ, ℤ, pos, ◌≤ℤ◌, inl, inr, sym, subst, arith}
+use Rattle.std.proofs.Common.{unsigned_abs, slice_index_or, to_z, of_z, rules}
+use mir.Syntax.{w64}
+use Rattle.definitions.proofs.Cases.{last_or_less_of}
+use Rattle.definitions.proofs.Ring.{linear}
+use Rattle.separation.proofs.tables.least_of.Goals as goal
+
+-- either of two small numbers is small
+either_small : (a b z : ℤ) (n : ℕ) → unsigned_abs a ≤ n → unsigned_abs b ≤ n → (z ≡ a) ⊎ (z ≡ b)
+    → unsigned_abs z ≤ n
+either_small a b z n ha hb e = elim e [
+  | inl first ↦ subst (λ (y : ℤ). unsigned_abs y ≤ n) (sym first) ha
+  | inr second ↦ subst (λ (y : ℤ). unsigned_abs y ≤ n) (sym second) hb
+]
+
+pub loop-k-init : goal.loop-k-init
+loop-k-init c =
+    let first = slice_index_or c.args.low.now (64 * c.args.quarter) (pos 0) in
+    let whole : to_z w64 (of_z w64 first) ≡ first = search rules in
+    record {
+      least = λ j lower upper. absurd (omega (arith, lower, upper));
+      small = λ b h.
+          subst (λ (z : ℤ). unsigned_abs z ≤ b) (sym whole)
+          (h (64 * c.args.quarter) (let few = c.requires in omega (arith, few)));
+    }
+
+pub loop-k-preserved : goal.loop-k-preserved
+loop-k-preserved c =
+    let low = c.args.low.now in
+    let inv = c.loop-k.invariant in
+    let less = c.lesser-least.ensures in
+    let first = less.first in
+    let here = slice_index_or low c.loop-k.k (pos 0) in
+    let whole : to_z w64 (of_z w64 here) ≡ here = search rules in
+    let kept : to_z w64 (of_z w64 c.lesser-least.result) ≡ c.lesser-least.result = search rules in
+    let second = subst (λ (z : ℤ). c.lesser-least.result ≤ℤ z) whole less.second in
+    let either =
+    subst (λ (z : ℤ). (c.lesser-least.result ≡ to_z w64 c.loop-k.least-bits) ⊎ (c.lesser-least.result ≡ z)) whole
+    less.either in
+    let upper : c.loop-k.k < 256 = let few = c.requires in omega (arith, few, c.loop-k-test.true) in
+    rw kept (record {
+      least = λ j lower lt. elim (last_or_less_of j c.loop-k.k lt) [
+        | inl same ↦ subst (λ (t : ℕ). c.lesser-least.result ≤ℤ slice_index_or low t (pos 0)) (sym same) second
+        | inr before ↦
+            let older = inv.least j lower before in
+            omega (arith, linear, older, first)
+      ];
+      small = λ b h. either_small _ _ _ b (inv.small b h) (h c.loop-k.k upper) either;
+    })
+
+pub returns : goal.returns
+returns c =
+    let inv = c.loop-k.invariant in
+    record {
+      least = λ j lower upper. inv.least j lower (omega (arith, upper, c.loop-k-test.false));
+      small = inv.small;
+    }
