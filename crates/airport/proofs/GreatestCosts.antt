@@ -1,6 +1,8 @@
 -- The greatest cost among members.
-use Rattle.std.proofs.Common.{◌≡◌, ℕ, zero, suc, ◌+◌, ◌-◌, ◌^◌, ◌<◌, ◌≤◌, Bool, true, false, cond, length, get_or}
-use Rattle.std.proofs.Common.{pos, refl, sym, ap, ◌∙◌, inl, inr, arith, max, unsigned_abs, neg_ℤ}
+use Rattle.std.proofs.Common.{◌≡◌, ℕ, zero, suc, ◌+◌, ◌-◌, ◌^◌, ◌<◌, ◌≤◌, Bool}
+use Rattle.std.proofs.Common.{true, false, cond, length, get_or}
+use Rattle.std.proofs.Common.{pos, refl, sym, ap, ◌∙◌, inl, inr, arith, max, unsigned_abs}
+use Rattle.std.proofs.Common.{neg_ℤ}
 use Rattle.std.proofs.lemmas.Bool.{false≢true}
 use Rattle.std.proofs.lemmas.Int.{ints}
 use Rattle.definitions.proofs.Members.{has_player-empty}

@@ -1,6 +1,7 @@
 -- A scan over the players from the least cost keeps a bound of the excesses of the splitting coalitions of the
 -- players seen, which some coalition reaches.
-use Rattle.std.proofs.Common.{◌≡◌, ℕ, zero, suc, ◌+◌, ◌^◌, ◌<◌, Bool, true, false, not, ◌&&◌, ◌||◌}
+use Rattle.std.proofs.Common.{◌≡◌, ℕ, zero, suc, ◌+◌, ◌^◌, ◌<◌, Bool, true, false}
+use Rattle.std.proofs.Common.{not, ◌&&◌, ◌||◌}
 use Rattle.std.proofs.Common.{cond, nat_eq, IsSome, ℤ, ◌-ℤ◌, ◌≤ℤ◌, Option, Some, None, MatchOption}
 use Rattle.std.proofs.Common.{int_lt, refl, sym, ap, ◌∙◌, inl, inr, arith}
 use Rattle.std.proofs.lemmas.Bool.{false≢true}

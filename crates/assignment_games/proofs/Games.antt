@@ -1,5 +1,6 @@
 -- The game of the values in the table.
-use Rattle.std.proofs.Common.{◌≡◌, ℕ, ◌+◌, ◌^◌, ◌<◌, ◌≤◌, List, ℤ, pos, unsigned_abs, length}
+use Rattle.std.proofs.Common.{◌≡◌, ℕ, ◌+◌, ◌^◌, ◌<◌, ◌≤◌, List, ℤ, pos, unsigned_abs}
+use Rattle.std.proofs.Common.{length}
 use Rattle.std.proofs.Common.{refl, ap, ◌∙◌, arith, slice_index, get_or, to_z}
 use Rattle.std.proofs.lemmas.Int.{ints, to_z_pos}
 use Rattle.std.proofs.lemmas.List.{get_or_read}

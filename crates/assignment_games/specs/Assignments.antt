@@ -9,7 +9,8 @@
 --   assignment_game rows   each worth is the value of an optimal matching of the members
 --   HasSides rows p q      p buyers and q sellers
 --   IsFilled               the value of an optimal matching for each mask below a bound
-use Rattle.std.specs.Prelude.{◌≡◌, ℕ, ◌+◌, ◌<◌, ◌≤◌, List, [], length, ℤ, pos, slice_index, slice_index_or}
+use Rattle.std.specs.Prelude.{◌≡◌, ℕ, ◌+◌, ◌<◌, ◌≤◌, List, [], length, ℤ, pos}
+use Rattle.std.specs.Prelude.{slice_index, slice_index_or}
 use Rattle.definitions.specs.Coalitions.{has_player}
 use Rattle.definitions.specs.Games.{Game}
 use Rattle.definitions.specs.Classes.{Matrix}

@@ -1,5 +1,6 @@
 -- One more coalition in a weighted sum of worths.
-use Rattle.std.proofs.Common.{◌≡◌, ℕ, ◌+◌, ◌*◌, ◌^◌, ◌<◌, ◌≤◌, List, ◌∷◌, length, drop, get_or, add-one, ℤ}
+use Rattle.std.proofs.Common.{◌≡◌, ℕ, ◌+◌, ◌*◌, ◌^◌, ◌<◌, ◌≤◌, List, ◌∷◌, length}
+use Rattle.std.proofs.Common.{drop, get_or, add-one, ℤ}
 use Rattle.std.proofs.Common.{◌+ℤ◌, ◌*ℤ◌, unsigned_abs, to_z, of_z, ap, subst, ◌∙◌, arith}
 use Rattle.std.proofs.Math.Seq.{drop-cons}
 use Rattle.std.proofs.lemmas.Int.{ints}

@@ -1,5 +1,6 @@
 -- What an estate and claims are tested for.
-use Rattle.std.proofs.Common.{◌≡◌, ℕ, ◌<◌, ◌≤◌, ◌^◌, eqb, Bool, false, List, length, map, sum, All}
+use Rattle.std.proofs.Common.{◌≡◌, ℕ, ◌<◌, ◌≤◌, ◌^◌, eqb, Bool, false, List, length}
+use Rattle.std.proofs.Common.{map, sum, All}
 use Rattle.std.proofs.Common.{ℤ, pos, nat_abs, unsigned_abs, sym, ap, ◌∙◌, arith}
 use Rattle.std.specs.List.{sum_by}
 use Rattle.std.proofs.lemmas.List.{length-map}

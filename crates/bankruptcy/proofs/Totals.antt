@@ -1,5 +1,6 @@
 -- The estate less all claims.
-use Rattle.std.proofs.Common.{◌≡◌, ℕ, ◌^◌, ◌<◌, List, length, pos, ◌-ℤ◌, to_z, of_z, ◌∙◌, arith}
+use Rattle.std.proofs.Common.{◌≡◌, ℕ, ◌^◌, ◌<◌, List, length, pos, ◌-ℤ◌, to_z, of_z}
+use Rattle.std.proofs.Common.{◌∙◌, arith}
 use Rattle.std.proofs.lemmas.Int.{ints, to_z_pos}
 use Rattle.definitions.proofs.Members.{sum_over-grand_coalition}
 use Rattle.definitions.specs.Sums.{sum_below}

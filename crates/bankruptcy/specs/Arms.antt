@@ -7,7 +7,8 @@
 --   arm_at factor b x s       an arm at the coalition s
 --   IsLeastGreatest           a greatest number, and the least mask that has it
 --   IsSplitGreatest           a greatest number over the coalitions that split some players
-use Rattle.std.specs.Prelude.{◌≡◌, ℕ, ◌^◌, ◌<◌, length, IsTrue, ℤ, pos, ◌+ℤ◌, ◌-ℤ◌, ◌*ℤ◌, ◌<ℤ◌, ◌≤ℤ◌, slice_index}
+use Rattle.std.specs.Prelude.{◌≡◌, ℕ, ◌^◌, ◌<◌, length, IsTrue, ℤ, pos, ◌+ℤ◌, ◌-ℤ◌}
+use Rattle.std.specs.Prelude.{◌*ℤ◌, ◌<ℤ◌, ◌≤ℤ◌, slice_index}
 use Rattle.definitions.specs.Sums.{sum_below, IsGreatest}
 use Rattle.definitions.specs.Coalitions.{has_player, sum_over, splits}
 use Rattle.definitions.specs.Games.{Allocation, share}

@@ -8,7 +8,8 @@
 --   AreNumbers        the estate and each claim are in range
 --   IsAboveClaims     the estate is above the sum of the claims
 --   IsRefused         why an estate and claims make no game
-use Rattle.std.specs.Prelude.{ℕ, ◌^◌, ◌<◌, ◌≤◌, List, length, All, ℤ, pos, ◌<ℤ◌, sum, unsigned_abs}
+use Rattle.std.specs.Prelude.{ℕ, ◌^◌, ◌<◌, ◌≤◌, List, length, All, ℤ, pos, ◌<ℤ◌}
+use Rattle.std.specs.Prelude.{sum, unsigned_abs}
 use Rattle.std.specs.List.{sum_by}
 use Rattle.definitions.specs.Games.{Game}
 use Rattle.definitions.specs.Classes.{bankruptcy_worth}

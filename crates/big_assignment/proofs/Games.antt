@@ -1,5 +1,6 @@
 -- The game of a market is a game of the toolbox.
-use Rattle.std.proofs.Common.{◌≡◌, ℕ, ◌+◌, ◌^◌, ◌<◌, ◌≤◌, List, length, ℤ, pos, ◌&&◌, ap, ◌∙◌, inr, arith}
+use Rattle.std.proofs.Common.{◌≡◌, ℕ, ◌+◌, ◌^◌, ◌<◌, ◌≤◌, List, length, ℤ, pos}
+use Rattle.std.proofs.Common.{◌&&◌, ap, ◌∙◌, inr, arith}
 use Rattle.std.proofs.lemmas.Nat.{pow_pos}
 use Rattle.definitions.specs.Coalitions.{has_player}
 use Rattle.definitions.specs.Games.{IsGame}

@@ -1,6 +1,7 @@
 -- Least prices: raised only where a row would rather have another column, they stay below all others that leave
 -- each row content.
-use Rattle.std.proofs.Common.{◌≡◌, ℕ, ◌+◌, ◌*◌, ◌^◌, ◌<◌, ◌≤◌, List, slice_index, sym, ap, subst, inl, inr, arith}
+use Rattle.std.proofs.Common.{◌≡◌, ℕ, ◌+◌, ◌*◌, ◌^◌, ◌<◌, ◌≤◌, List, slice_index, sym}
+use Rattle.std.proofs.Common.{ap, subst, inl, inr, arith}
 use Rattle.big_assignment.specs.declared.deal.Deal.{Deal}
 use Rattle.big_assignment.specs.Deals.{AreDealOffers, IsBelow, IsFair, IsGain, IsWanted, Meets, NoneWanted, at_prices}
 use Rattle.big_assignment.specs.Deals.{mate_of, offer_of, price_of}

@@ -1,6 +1,7 @@
 -- The members of a coalition, in a table of what they offer each other: the greatest value for all of that table is
 -- the greatest for the coalition.
-use Rattle.std.proofs.Common.{◌≡◌, ◌⊎◌, ℕ, ◌+◌, ◌^◌, ◌<◌, Bool, true, false, cond, ◌&&◌, List, [], ◌∷◌}
+use Rattle.std.proofs.Common.{◌≡◌, ◌⊎◌, ℕ, ◌+◌, ◌^◌, ◌<◌, Bool, true, false, cond}
+use Rattle.std.proofs.Common.{◌&&◌, List, [], ◌∷◌}
 use Rattle.std.proofs.Common.{refl, sym, ap, subst, ◌∙◌, inl, inr, arith, if◌then◌else◌}
 use Rattle.std.proofs.lemmas.Bool.{false≢true}
 use Rattle.definitions.specs.Classes.{Matrix, removed, IsMatching, matching_value}

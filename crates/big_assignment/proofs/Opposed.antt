@@ -1,6 +1,7 @@
 -- What is best for one side of a market is least for the other (Shapley and Shubik 1971): at two core points each
 -- pair of an optimal matching shares out the same worth.
-use Rattle.std.proofs.Common.{◌≡◌, ◌⊎◌, ℕ, ◌+◌, ◌*◌, ◌<◌, ◌≤◌, Bool, List, length, ℤ}
+use Rattle.std.proofs.Common.{◌≡◌, ◌⊎◌, ℕ, ◌+◌, ◌*◌, ◌<◌, ◌≤◌, Bool, List, length}
+use Rattle.std.proofs.Common.{ℤ}
 use Rattle.std.proofs.Common.{◌*ℤ◌, ◌≤ℤ◌, ap, subst, inl, inr, arith}
 use Rattle.std.specs.List.{AllByRecursion}
 use Rattle.definitions.specs.Coalitions.{grand_coalition}

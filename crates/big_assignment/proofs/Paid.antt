@@ -1,7 +1,8 @@
 -- What the pairs of a matching get, and those who are in none: where each pair gets exactly its worth and the
 -- others nothing, all get what the matching is worth, and no matching is worth more; and where all get no more than
 -- a matching is worth, it is so.
-use Rattle.std.proofs.Common.{◌≡◌, ◌⊎◌, ℕ, ◌+◌, ◌*◌, ◌<◌, ◌≤◌, Bool, true, List, []}
+use Rattle.std.proofs.Common.{◌≡◌, ◌⊎◌, ℕ, ◌+◌, ◌*◌, ◌<◌, ◌≤◌, Bool, true, List}
+use Rattle.std.proofs.Common.{[]}
 use Rattle.std.proofs.Common.{◌∷◌, refl, inl, inr, arith, mul-le-mul}
 use Rattle.std.specs.List.{AllByRecursion}
 use Rattle.definitions.specs.Classes.{Matrix, removed, IsMatching, matching_value, entry}

@@ -1,6 +1,7 @@
 -- The pairs of mates, row by row: they are a matching, with their rows ascending, and what is said of all pairs is
 -- said of each row with a mate.
-use Rattle.std.proofs.Common.{◌≡◌, ℕ, zero, suc, ◌+◌, ◌<◌, ◌≤◌, Bool, true, sym, ap, subst, inl, inr, arith}
+use Rattle.std.proofs.Common.{◌≡◌, ℕ, zero, suc, ◌+◌, ◌<◌, ◌≤◌, Bool, true, sym}
+use Rattle.std.proofs.Common.{ap, subst, inl, inr, arith}
 use Rattle.std.specs.List.{AllByRecursion}
 use Rattle.definitions.specs.Classes.{removed, IsMatching}
 use Rattle.big_assignment.specs.Mates.{pairs_from, AreAscending}

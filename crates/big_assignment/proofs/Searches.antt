@@ -1,5 +1,6 @@
 -- The search keeps fair prices: the reached rows give up the least slack, and a place is reached.
-use Rattle.std.proofs.Common.{◌≡◌, ◌≢◌, ◌⊎◌, ℕ, ◌+◌, ◌^◌, ◌<◌, ◌≤◌, List, refl, sym, ap, subst, ◌∙◌, inl, inr, arith}
+use Rattle.std.proofs.Common.{◌≡◌, ◌≢◌, ◌⊎◌, ℕ, ◌+◌, ◌^◌, ◌<◌, ◌≤◌, List, refl}
+use Rattle.std.proofs.Common.{sym, ap, subst, ◌∙◌, inl, inr, arith}
 use Rattle.big_assignment.specs.declared.deal.Deal.{Deal}
 use Rattle.big_assignment.specs.declared.deal.Search.{Search}
 use Rattle.big_assignment.specs.Deals.{AreDealOffers, IsCovered, IsFair, IsTight, at_prices, gain_of, mate_of, offer_of}

@@ -1,5 +1,6 @@
 -- What supports a matching is the core (Shapley and Shubik 1971).
-use Rattle.std.proofs.Common.{◌≡◌, ℕ, ◌+◌, ◌*◌, ◌<◌, ◌≤◌, List, length, ℤ, pos, ◌+ℤ◌, ◌*ℤ◌}
+use Rattle.std.proofs.Common.{◌≡◌, ℕ, ◌+◌, ◌*◌, ◌<◌, ◌≤◌, List, length, ℤ, pos}
+use Rattle.std.proofs.Common.{◌+ℤ◌, ◌*ℤ◌}
 use Rattle.std.proofs.Common.{◌≤ℤ◌, unsigned_abs, ap, subst, ◌∙◌, arith}
 use Rattle.definitions.specs.Games.{Allocation, share, InCore}
 use Rattle.definitions.specs.Classes.{IsMatching, matching_value, entry}

@@ -1,6 +1,7 @@
 -- Best for one side: what a core point gives the columns, over its denominator, leaves each row content with its
 -- mate, so the least such prices are no higher, and each row gets the most.
-use Rattle.std.proofs.Common.{◌≡◌, ◌≢◌, ℕ, ◌+◌, ◌*◌, ◌<◌, ◌≤◌, nat_lt, List, slice_index, refl, ap}
+use Rattle.std.proofs.Common.{◌≡◌, ◌≢◌, ℕ, ◌+◌, ◌*◌, ◌<◌, ◌≤◌, nat_lt, List, slice_index}
+use Rattle.std.proofs.Common.{refl, ap}
 use Rattle.std.proofs.Common.{subst, ◌∙◌, inl, inr, arith, if◌then◌else◌}
 use Rattle.definitions.specs.Classes.{Matrix}
 use Rattle.big_assignment.specs.declared.deal.Deal.{Deal}

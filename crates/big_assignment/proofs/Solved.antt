@@ -1,7 +1,8 @@
 -- The solution of a market from its deals.
 use Rattle.std.proofs.Common.{◌≡◌, ℕ, ◌+◌, ◌-◌, ◌*◌, ◌^◌, ◌<◌, ◌≤◌, ◌&&◌, List}
 use Rattle.std.proofs.Common.{length, ℤ, pos, slice_index, unsigned_abs}
-use Rattle.std.proofs.Common.{to_z, of_z, to_z-of_z, w64, sym, ap, subst, ◌∙◌, inl, inr, arith}
+use Rattle.std.proofs.Common.{to_z, of_z, to_z-of_z, w64, sym, ap, subst, ◌∙◌, inl, inr}
+use Rattle.std.proofs.Common.{arith}
 use Rattle.std.proofs.lemmas.Int.{fits_signed_from_abs}
 use Rattle.definitions.specs.Coalitions.{has_player, grand_coalition}
 use Rattle.definitions.specs.Classes.{matching_value}

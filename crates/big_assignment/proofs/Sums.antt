@@ -1,6 +1,7 @@
 -- Sums over those that pass a test, and the bound that prices give: where each pair gets together at least what it
 -- is worth, no matching is worth more than its members get.
-use Rattle.std.proofs.Common.{◌≡◌, ◌≢◌, ℕ, zero, suc, ◌+◌, ◌*◌, ◌<◌, ◌≤◌, Bool, true, false, cond, List, []}
+use Rattle.std.proofs.Common.{◌≡◌, ◌≢◌, ℕ, zero, suc, ◌+◌, ◌*◌, ◌<◌, ◌≤◌, Bool}
+use Rattle.std.proofs.Common.{true, false, cond, List, []}
 use Rattle.std.proofs.Common.{◌∷◌, refl, sym, ap, subst, ◌∙◌, inl, inr, arith, if◌then◌else◌}
 use Rattle.definitions.specs.Classes.{Matrix, removed, IsMatching, matching_value, entry}
 use Rattle.definitions.proofs.Cases.{same_or_other, nat_eq-same, nat_eq-other}

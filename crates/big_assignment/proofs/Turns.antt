@@ -1,5 +1,6 @@
 -- The deal with rows and columns exchanged is fair.
-use Rattle.std.proofs.Common.{◌≡◌, ◌≢◌, ℕ, ◌<◌, ◌≤◌, refl, sym, ap, subst, ◌∙◌, inl, inr, arith}
+use Rattle.std.proofs.Common.{◌≡◌, ◌≢◌, ℕ, ◌<◌, ◌≤◌, refl, sym, ap, subst, ◌∙◌}
+use Rattle.std.proofs.Common.{inl, inr, arith}
 use Rattle.big_assignment.specs.declared.deal.Deal.{Deal}
 use Rattle.big_assignment.specs.Deals.{AreDealOffers, IsFair, IsOutside, IsTight, IsTurned}
 use Rattle.big_assignment.specs.Deals.{gain_of, mate_of, offer_of, price_of}

@@ -1,6 +1,7 @@
 -- A free column is handed from parent to parent: each row takes the column and gives up its own, until the row in
 -- hand takes one.
-use Rattle.std.proofs.Common.{◌≡◌, ◌≢◌, ℕ, ◌+◌, ◌<◌, ◌≤◌, List, Option, sym, ap, subst, ◌∙◌, inl, inr, arith}
+use Rattle.std.proofs.Common.{◌≡◌, ◌≢◌, ℕ, ◌+◌, ◌<◌, ◌≤◌, List, Option, sym, ap}
+use Rattle.std.proofs.Common.{subst, ◌∙◌, inl, inr, arith}
 use Rattle.big_assignment.specs.declared.deal.Deal.{Deal}
 use Rattle.big_assignment.specs.declared.deal.Search.{Search}
 use Rattle.big_assignment.specs.Deals.{IsFair, IsTight, mates, mate_of, with_columns}

@@ -1,5 +1,6 @@
 -- The worth of a coalition is what all players of its members' market get.
-use Rattle.std.proofs.Common.{◌≡◌, ℕ, zero, suc, ◌+◌, ◌-◌, ◌^◌, ◌<◌, ◌≤◌, Bool, true, List}
+use Rattle.std.proofs.Common.{◌≡◌, ℕ, zero, suc, ◌+◌, ◌-◌, ◌^◌, ◌<◌, ◌≤◌, Bool}
+use Rattle.std.proofs.Common.{true, List}
 use Rattle.std.proofs.Common.{length, ℤ, refl, sym, ◌∙◌, inl, inr, arith}
 use Rattle.definitions.specs.Coalitions.{has_player}
 use Rattle.assignment_games.specs.Values.{optimal_value}

@@ -27,7 +27,8 @@
 --   Holds          the row that has a column, or 32 where none has
 --   IsOutside      nothing is offered outside of so many rows and columns
 --   IsTurned       rows and columns exchanged
-use Rattle.std.specs.Prelude.{◌≡◌, ◌≢◌, ◌⊎◌, ℕ, ◌+◌, ◌*◌, ◌^◌, ◌<◌, ◌≤◌, List, length, ℤ, Option, None}
+use Rattle.std.specs.Prelude.{◌≡◌, ◌≢◌, ◌⊎◌, ℕ, ◌+◌, ◌*◌, ◌^◌, ◌<◌, ◌≤◌, List}
+use Rattle.std.specs.Prelude.{length, ℤ, Option, None}
 use Rattle.std.specs.Prelude.{slice_index, slice_index_or, unwrap_or}
 use Rattle.matrices.specs.Rows.{entries_of}
 use Rattle.big_assignment.specs.Markets.{everybody, offered}

@@ -4,7 +4,8 @@
 --   AreAscending i ps             the first of each pair is at least i, and each greater than the one before
 --   payoff rows u p k             what each player gets: u of a row, and p of a column
 --   total_below n f               what all of n players get
-use Rattle.std.specs.Prelude.{ℕ, zero, suc, ◌+◌, ◌-◌, ◌≤◌, List, [], ◌∷◌, nat_lt, if◌then◌else◌}
+use Rattle.std.specs.Prelude.{ℕ, zero, suc, ◌+◌, ◌-◌, ◌≤◌, List, [], ◌∷◌, nat_lt}
+use Rattle.std.specs.Prelude.{if◌then◌else◌}
 
 abbrev pub pairs_from : (ℕ → ℕ) → ℕ → ℕ → ℕ → List (ℕ × ℕ)
 pairs_from mate columns i zero = []

@@ -4,7 +4,8 @@
 --   Supports rows ps x    each pair of the matching gets its worth, the other players nothing, and no two players less
 --                         than they are worth
 --   IsWorstFor g side x   in the core, and no core point gives a player of the side less
-use Rattle.std.specs.Prelude.{◌≡◌, ◌≢◌, ℕ, ◌+◌, ◌<◌, List, length, ℤ, pos, ◌+ℤ◌, ◌*ℤ◌, ◌≤ℤ◌}
+use Rattle.std.specs.Prelude.{◌≡◌, ◌≢◌, ℕ, ◌+◌, ◌<◌, List, length, ℤ, pos, ◌+ℤ◌}
+use Rattle.std.specs.Prelude.{◌*ℤ◌, ◌≤ℤ◌}
 use Rattle.std.specs.List.{AllByRecursion}
 use Rattle.definitions.specs.Games.{Game, Allocation, IsAllocation, InCore, share}
 use Rattle.matrices.specs.Rows.{entries_of}

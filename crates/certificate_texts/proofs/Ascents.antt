@@ -1,5 +1,6 @@
 -- Masks of coalitions that are listed by ascending numbers.
-use Rattle.std.proofs.Common.{◌≡◌, ℕ, zero, suc, ◌+◌, ◌-◌, ◌^◌, ◌<◌, ◌≤◌, List, ◌∷◌, length, get_or, Option}
+use Rattle.std.proofs.Common.{◌≡◌, ℕ, zero, suc, ◌+◌, ◌-◌, ◌^◌, ◌<◌, ◌≤◌, List}
+use Rattle.std.proofs.Common.{◌∷◌, length, get_or, Option}
 use Rattle.std.proofs.Common.{None, option_map, option_and_then, sym, ap, ◌∙◌, arith}
 use Rattle.std.proofs.Math.Nat.{pow-le-pow_right, two-pow-succ}
 use Rattle.serde_json.specs.View.{view}

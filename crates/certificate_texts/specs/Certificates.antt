@@ -10,7 +10,8 @@
 --   is_written        the excess, the pairs and the total of a level can be read
 --   have_form         each level has its form behind those in front
 --   has_form          the form of a certificate for n players
-use Rattle.std.specs.Prelude.{ℕ, codes, List, [], ◌∷◌, ◌++◌, length, map, Bool, true, false, ◌&&◌}
+use Rattle.std.specs.Prelude.{ℕ, codes, List, [], ◌∷◌, ◌++◌, length, map, Bool, true}
+use Rattle.std.specs.Prelude.{false, ◌&&◌}
 use Rattle.std.specs.Prelude.{Option, Some, None, is_some, unwrap_or, nat_lt, nat_le}
 use Rattle.std.specs.List.{list_all}
 use Rattle.serde_json.specs.Data.{Data}

@@ -9,7 +9,8 @@
 --   first_player         the player that the first of two items names
 --   weighted_player      a player and its weight
 --   level_of             what the tree of a level describes, its excess times the scale, where no test refuses it
-use Rattle.std.specs.Prelude.{◌+◌, ◌-◌, ◌^◌, ℕ, ℤ, pos, negsuc, codes, List, [], ◌∷◌, map, ◌&&◌, Option, Some, None}
+use Rattle.std.specs.Prelude.{◌+◌, ◌-◌, ◌^◌, ℕ, ℤ, pos, negsuc, codes, List, []}
+use Rattle.std.specs.Prelude.{◌∷◌, map, ◌&&◌, Option, Some, None}
 use Rattle.std.specs.Prelude.{option_and_then, option_map, unwrap_or, nat_lt, nat_le, if◌then◌else◌}
 use Rattle.serde_json.specs.Data.{Data}
 use Rattle.definitions.specs.Certificates.{Level}

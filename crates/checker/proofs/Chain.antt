@@ -1,5 +1,6 @@
 -- The levels from one on, behind those in front, decide all levels.
-use Rattle.std.proofs.Common.{◌≡◌, ℕ, ◌+◌, ◌-◌, ◌<◌, ◌≤◌, List, [], ◌∷◌, ◌++◌, length, take}
+use Rattle.std.proofs.Common.{◌≡◌, ℕ, ◌+◌, ◌-◌, ◌<◌, ◌≤◌, List, [], ◌∷◌, ◌++◌}
+use Rattle.std.proofs.Common.{length, take}
 use Rattle.std.proofs.Common.{drop, get_or, sym, ap, subst, ◌∙◌, arith, inl, inr}
 use Rattle.definitions.specs.Games.{Game, Allocation}
 use Rattle.std.proofs.lemmas.List.{drop_all}

@@ -1,5 +1,6 @@
 -- The free players as a mask.
-use Rattle.std.proofs.Common.{◌≡◌, ℕ, ◌+◌, ◌*◌, ◌/◌, ◌%◌, ◌^◌, ◌<◌, ◌≤◌, Bool, true, false, not, ◌&&◌}
+use Rattle.std.proofs.Common.{◌≡◌, ℕ, ◌+◌, ◌*◌, ◌/◌, ◌%◌, ◌^◌, ◌<◌, ◌≤◌, Bool}
+use Rattle.std.proofs.Common.{true, false, not, ◌&&◌}
 use Rattle.std.proofs.Common.{nat_lt, IsTrue, Option, Some, None, MatchOption, ℤ, List, arith, refl}
 use Rattle.std.proofs.Common.{sym, ap, subst, ◌∙◌, inl, inr, div-add-mod', mod-lt}
 use Rattle.std.specs.Int.{bit_at}

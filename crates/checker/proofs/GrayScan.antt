@@ -1,5 +1,6 @@
 -- What a scan in Gray order knows at its end of the greatest measured excess of the marked coalitions.
-use Rattle.std.proofs.Common.{ℕ, ◌^◌, ◌<◌, List, pos, ◌*ℤ◌, ◌≤ℤ◌, Some, None, IsTrue, arith, refl, ap, subst, ◌∙◌}
+use Rattle.std.proofs.Common.{ℕ, ◌^◌, ◌<◌, List, pos, ◌*ℤ◌, ◌≤ℤ◌, Some, None, IsTrue}
+use Rattle.std.proofs.Common.{arith, refl, ap, subst, ◌∙◌}
 use Rattle.std.specs.Bool.{Decides}
 use Rattle.fractions.specs.Fraction.{Fraction, IsRatio}
 use Rattle.definitions.specs.Coalitions.{grand_coalition}

@@ -1,6 +1,8 @@
 -- Failures and verdicts.
-use Rattle.std.proofs.Common.{◌≡◌, ℕ, ◌+◌, true, false, List, [], ◌∷◌, ◌++◌, Option, Some}
-use Rattle.std.proofs.Common.{None, MatchOption, is_some, ℤ, pos, ◌*ℤ◌, ◌<ℤ◌, ◌≤ℤ◌, sym, ap, ◌∙◌, arith, inl, inr}
+use Rattle.std.proofs.Common.{◌≡◌, ℕ, ◌+◌, true, false, List, [], ◌∷◌, ◌++◌, Option}
+use Rattle.std.proofs.Common.{Some}
+use Rattle.std.proofs.Common.{None, MatchOption, is_some, ℤ, pos, ◌*ℤ◌, ◌<ℤ◌, ◌≤ℤ◌, sym, ap}
+use Rattle.std.proofs.Common.{◌∙◌, arith, inl, inr}
 use Rattle.std.proofs.lemmas.Bool.{false≢true}
 use Rattle.std.proofs.lemmas.Int.{by_lt_z}
 use Rattle.definitions.proofs.Ring.{linear, mul-leℤ, mul-ltℤ, mul-le_cancelℤ}

@@ -6,7 +6,8 @@
 --   gray_steps n     all steps of n players
 --   IsFlip k         what that player is
 --   IsOnce n s       s comes at one step of n players, and at no other
-use Rattle.std.specs.Prelude.{◌≡◌, ℕ, ◌-◌, ◌/◌, ◌^◌, ◌<◌, not, nat_eq, List, map, Some}
+use Rattle.std.specs.Prelude.{◌≡◌, ℕ, ◌-◌, ◌/◌, ◌^◌, ◌<◌, not, nat_eq, List, map}
+use Rattle.std.specs.Prelude.{Some}
 use Rattle.std.specs.Prelude.{None, MatchOption, if◌then◌else◌, bit_xor}
 use Rattle.std.specs.Int.{trailing_zeros}
 use Rattle.std.specs.List.{range_with_len}

@@ -1,5 +1,6 @@
 -- Steps of the search for the first coalition and players at which a game isn't convex.
-use Rattle.std.proofs.Common.{◌≡◌, ◌⊎◌, ℕ, ◌+◌, ◌^◌, ◌<◌, true, false, ◌||◌, nat_eq, ℤ}
+use Rattle.std.proofs.Common.{◌≡◌, ◌⊎◌, ℕ, ◌+◌, ◌^◌, ◌<◌, true, false, ◌||◌, nat_eq}
+use Rattle.std.proofs.Common.{ℤ}
 use Rattle.std.proofs.Common.{pos, ◌-ℤ◌, ◌≤ℤ◌, sym, ap, ◌∙◌, inl, inr, arith}
 use Rattle.std.proofs.lemmas.Bool.{false≢true}
 use Rattle.definitions.proofs.Ring.{linear}

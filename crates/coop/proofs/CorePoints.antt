@@ -1,6 +1,7 @@
 -- What is said of the core is what is printed: a scheme's point is its nucleolus, and a collection's numbers are
 -- small.
-use Rattle.std.proofs.Common.{◌≡◌, ℕ, ◌^◌, ◌<◌, ◌≤◌, Result, Ok, Err, IfOk, Bool, List, [], ◌∷◌, ℤ}
+use Rattle.std.proofs.Common.{◌≡◌, ℕ, ◌^◌, ◌<◌, ◌≤◌, Result, Ok, Err, IfOk, Bool}
+use Rattle.std.proofs.Common.{List, [], ◌∷◌, ℤ}
 use Rattle.std.proofs.Common.{unsigned_abs, to_z, of_z, ap, subst, ◌∙◌, arith, refl, inl}
 use mir.Syntax.{w128}
 use Rattle.std.specs.List.{AllByRecursion}

@@ -1,5 +1,6 @@
 -- A game that a document describes, and that is no market and has no scheme of its own, has at most 16 players.
-use Rattle.std.proofs.Common.{◌-◌, ◌≤◌, ℕ, ℤ, pos, negsuc, Bool, true, false, ◌&&◌, length, Option, Some, None}
+use Rattle.std.proofs.Common.{◌-◌, ◌≤◌, ℕ, ℤ, pos, negsuc, Bool, true, false, ◌&&◌}
+use Rattle.std.proofs.Common.{length, Option, Some, None}
 use Rattle.std.proofs.Common.{if◌then◌else◌, codes, nat_lt, nat_le, unwrap_or, option_and_then, refl, arith}
 use Rattle.std.specs.Prelude.{◌≡◌}
 use Rattle.std.proofs.lemmas.Bool.{false≢true, leb-true}

@@ -1,5 +1,6 @@
 -- The excesses of a certificate that a solver found stand over denominators that can be printed over any scale.
-use Rattle.std.proofs.Common.{◌≡◌, ◌<◌, ◌≤◌, ◌^◌, ℕ, List, [], ◌∷◌, ◌++◌, length, ℤ}
+use Rattle.std.proofs.Common.{◌≡◌, ◌<◌, ◌≤◌, ◌^◌, ℕ, List, [], ◌∷◌, ◌++◌, length}
+use Rattle.std.proofs.Common.{ℤ}
 use Rattle.std.proofs.Common.{pos, ◌≤ℤ◌, ◌*ℤ◌, unsigned_abs, sym, arith}
 use Rattle.std.specs.List.{AllByRecursion}
 use Rattle.std.proofs.lemmas.Int.{ints}

@@ -1,5 +1,6 @@
 -- A run whose words ask for a generated game ends as it has to.
-use Rattle.std.proofs.Common.{◌≡◌, ℕ, List, length, Option, Result, MatchResult, sym, ap, ◌∙◌, arith}
+use Rattle.std.proofs.Common.{◌≡◌, ℕ, List, length, Option, Result, MatchResult, sym, ap, ◌∙◌}
+use Rattle.std.proofs.Common.{arith}
 use Rattle.coop.specs.declared.reply.Reply.{Reply}
 use Rattle.coop.specs.Words.{IsRequest, IsNoCommand}
 use Rattle.coop.specs.Outcome.{status_of}

@@ -1,5 +1,6 @@
 -- A document gives what its command needs.
-use Rattle.std.proofs.Common.{◌≡◌, ℕ, List, length, Option, Some, IfSome, subst, ap, ◌≤◌, arith}
+use Rattle.std.proofs.Common.{◌≡◌, ℕ, List, length, Option, Some, IfSome, subst, ap, ◌≤◌}
+use Rattle.std.proofs.Common.{arith}
 use Rattle.definitions.specs.Games.{Allocation}
 use Rattle.game_text.specs.Descriptions.{game_of}
 use Rattle.game_text.specs.Documents.{Contents}

@@ -1,5 +1,6 @@
 -- Where the players alone are worth more than all, there is no imputation.
-use Rattle.std.proofs.Common.{◌≡◌, ℕ, ℤ, pos, ◌*ℤ◌, ◌<ℤ◌, ◌≤ℤ◌, sym, subst, ◌∙◌, arith}
+use Rattle.std.proofs.Common.{◌≡◌, ℕ, ℤ, pos, ◌*ℤ◌, ◌<ℤ◌, ◌≤ℤ◌, sym, subst, ◌∙◌}
+use Rattle.std.proofs.Common.{arith}
 use Rattle.definitions.specs.Sums.{sum_below}
 use Rattle.definitions.specs.Coalitions.{singleton, grand_coalition, sum_over}
 use Rattle.definitions.specs.Games.{Game, Allocation, share, InFamily}

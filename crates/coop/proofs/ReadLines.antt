@@ -1,5 +1,6 @@
 -- The line of an answer that can be read is read back.
-use Rattle.std.proofs.Common.{◌≡◌, ℕ, ℤ, unsigned_abs, List, Some, Result, Ok, Err, IfOk, refl, subst, IsUtf8}
+use Rattle.std.proofs.Common.{◌≡◌, ℕ, ℤ, unsigned_abs, List, Some, Result, Ok, Err, IfOk}
+use Rattle.std.proofs.Common.{refl, subst, IsUtf8}
 use Rattle.serde_json.specs.Read.{read}
 use Rattle.serde_json.specs.View.{view}
 use Rattle.game_text.specs.Denominators.{contents_of}

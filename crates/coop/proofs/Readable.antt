@@ -1,5 +1,6 @@
 -- The line of what a solver found can be checked.
-use Rattle.std.proofs.Common.{◌≡◌, ℕ, ℤ, pos, ◌+◌, ◌≤◌, List, [], ◌∷◌, length, Bool, true}
+use Rattle.std.proofs.Common.{◌≡◌, ℕ, ℤ, pos, ◌+◌, ◌≤◌, List, [], ◌∷◌, length}
+use Rattle.std.proofs.Common.{Bool, true}
 use Rattle.std.proofs.Common.{None, sym, ap, subst, ◌∙◌, length-append, arith}
 use Rattle.std.specs.List.{AllByRecursion}
 use Rattle.serde_json.specs.Data.{Data}

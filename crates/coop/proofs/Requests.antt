@@ -1,6 +1,8 @@
 -- What words ask for: the parts of a generated game are told from its words, and other words are those of no command.
-use Rattle.std.proofs.Common.{◌≡◌, ◌≢◌, ◌^◌, ◌<◌, ℕ, zero, suc, pos, List, [], ◌∷◌, length, nat_eq}
-use Rattle.std.proofs.Common.{slice_index, if◌then◌else◌, unsigned_abs, None, Some, refl, sym, ap, ◌∙◌, subst, arith}
+use Rattle.std.proofs.Common.{◌≡◌, ◌≢◌, ◌^◌, ◌<◌, ℕ, zero, suc, pos, List, []}
+use Rattle.std.proofs.Common.{◌∷◌, length, nat_eq}
+use Rattle.std.proofs.Common.{slice_index, if◌then◌else◌, unsigned_abs, None, Some, refl, sym, ap, ◌∙◌, subst}
+use Rattle.std.proofs.Common.{arith}
 use Rattle.std.proofs.lemmas.Int.{ints}
 use Rattle.std.proofs.lemmas.Option.{none-some, same_Some}
 use Rattle.fractions.specs.Fraction.{Fraction}

@@ -33,7 +33,8 @@
 --
 -- No answer that isn't named is right, and the answers exclude one another: a nucleolus is an imputation, which gives
 -- each player at least what it is worth alone, so it can't come where the players alone are worth more than all.
-use Rattle.std.specs.Prelude.{◌≡◌, ◌<◌, ◌≤◌, ℕ, List, Bool, true, false, ℤ, pos, ◌<ℤ◌}
+use Rattle.std.specs.Prelude.{◌≡◌, ◌<◌, ◌≤◌, ℕ, List, Bool, true, false, ℤ, pos}
+use Rattle.std.specs.Prelude.{◌<ℤ◌}
 use Rattle.serde_json.specs.Data.{Data}
 use Rattle.serde_json.specs.View.{view}
 use Rattle.definitions.specs.Coalitions.{grand_coalition}

@@ -8,7 +8,8 @@
 --   Judges          the answer is right for an allocation of a game
 --   JudgesAll       the answer is right for the game and the shares of a document
 --   HasShares       there is a share for each player
-use Rattle.std.specs.Prelude.{◌≡◌, ◌^◌, ◌<◌, ℕ, ℤ, neg_ℤ, unsigned_abs, Bool, Some, length, if◌then◌else◌}
+use Rattle.std.specs.Prelude.{◌≡◌, ◌^◌, ◌<◌, ℕ, ℤ, neg_ℤ, unsigned_abs, Bool, Some, length}
+use Rattle.std.specs.Prelude.{if◌then◌else◌}
 use Rattle.definitions.specs.Coalitions.{grand_coalition}
 use Rattle.definitions.specs.Games.{Game, Allocation, amount, excess, IsEfficient, IsChosenBlocker, InCore}
 use Rattle.real_shares.specs.Claims.{InCoreForReals}

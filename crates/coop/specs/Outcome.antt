@@ -10,7 +10,8 @@
 --   Answered, CutShort           its line was printed, or a proper front of it
 --   Ends                         what stands after each status
 --   IsCauseOf                    which count of failures rose, and that the first failure was the last call
-use Rattle.std.specs.Prelude.{◌≡◌, ◌≢◌, ◌<◌, ◌+◌, ℕ, ℤ, Bool, true, List, length, take, Option, Some, None, ⊤}
+use Rattle.std.specs.Prelude.{◌≡◌, ◌≢◌, ◌<◌, ◌+◌, ℕ, ℤ, Bool, true, List, length}
+use Rattle.std.specs.Prelude.{take, Option, Some, None, ⊤}
 use Rattle.std.specs.Io.KnownBytes.{Appends, Consumes, IsAtEnd}
 use Rattle.ports.specs.Causes.{CountRose}
 use Rattle.coop.specs.Headline.{Answers}

@@ -6,7 +6,8 @@
 --   IsNoNucleolus   the answer is no nucleolus
 --   CheckSaysYes    yes is the one right answer to bytes that are checked
 --   IsReadBack      the line of an answer is a document to check, says the same, and gets yes
-use Rattle.std.specs.Prelude.{◌≡◌, ◌≤◌, ⊤, ℕ, ℤ, pos, List, [], ◌∷◌, length, true, None, unsigned_abs}
+use Rattle.std.specs.Prelude.{◌≡◌, ◌≤◌, ⊤, ℕ, ℤ, pos, List, [], ◌∷◌, length}
+use Rattle.std.specs.Prelude.{true, None, unsigned_abs}
 use Rattle.serde_json.specs.Data.{Data}
 use Rattle.serde_json.specs.View.{view}
 use Rattle.definitions.specs.Games.{Allocation, IsSame}

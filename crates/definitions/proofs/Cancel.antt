@@ -1,5 +1,6 @@
 -- A factor that isn't 0 cancels, and so does a division that leaves no rest.
-use Rattle.std.proofs.Common.{◌≡◌, ◌≢◌, ℕ, zero, suc, ◌*◌, ◌<◌, arith, refl, sym, ap, subst, ◌∙◌, ℤ}
+use Rattle.std.proofs.Common.{◌≡◌, ◌≢◌, ℕ, zero, suc, ◌*◌, ◌<◌, arith, refl, sym}
+use Rattle.std.proofs.Common.{ap, subst, ◌∙◌, ℤ}
 use Rattle.std.proofs.Common.{pos, ◌+ℤ◌, ◌-ℤ◌, ◌*ℤ◌, unsigned_abs, int_div, int_rem}
 use Rattle.std.proofs.lemmas.Int.{ints, unsigned_abs-mul, quot-rem, rem_below}
 use Rattle.definitions.proofs.Ring.{ring_laws, linear}

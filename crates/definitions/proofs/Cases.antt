@@ -1,8 +1,10 @@
 -- Cases of an order and of truth values, and what tests of numbers say.
 --
 -- Lemmas are named by what they give; the statement of each is one line.
-use Rattle.std.proofs.Common.{◌≡◌, ◌≢◌, ◌⊎◌, ℕ, suc, ◌+◌, ◌-◌, ◌<◌, ◌≤◌, Bool, true, false, ◌&&◌, ◌||◌, not}
-use Rattle.std.proofs.Common.{nat_eq, nat_lt, ℤ, ◌≤ℤ◌, int_lt, cond, refl, sym, inl, inr, arith}
+use Rattle.std.proofs.Common.{◌≡◌, ◌≢◌, ◌⊎◌, ℕ, suc, ◌+◌, ◌-◌, ◌<◌, ◌≤◌, Bool}
+use Rattle.std.proofs.Common.{true, false, ◌&&◌, ◌||◌, not}
+use Rattle.std.proofs.Common.{nat_eq, nat_lt, ℤ, ◌≤ℤ◌, int_lt, cond, refl, sym, inl, inr}
+use Rattle.std.proofs.Common.{arith}
 use Rattle.std.proofs.lemmas.Bool.{false≢true}
 use Rattle.std.proofs.lemmas.Bool.Decides.{nat_tests}
 use Rattle.std.proofs.lemmas.Int.{ints}

@@ -1,5 +1,6 @@
 -- Casts that lose nothing.
-use Rattle.std.proofs.Common.{◌≡◌, ℕ, ◌*◌, ◌^◌, ◌<◌, ◌≤◌, ℤ, ◌-◌, ◌-ℤ◌, ◌*ℤ◌, unsigned_abs}
+use Rattle.std.proofs.Common.{◌≡◌, ℕ, ◌*◌, ◌^◌, ◌<◌, ◌≤◌, ℤ, ◌-◌, ◌-ℤ◌, ◌*ℤ◌}
+use Rattle.std.proofs.Common.{unsigned_abs}
 use Rattle.std.proofs.Common.{to_z, of_z, to_z-of_z, arith, mul-le-mul}
 use Rattle.std.proofs.lemmas.Int.{ints, fits_signed_from_abs, unsigned_abs-mul}
 use mir.Syntax.{w128, Width}

@@ -1,5 +1,6 @@
 -- What is given wherever a fact holds is given here.
-use Rattle.std.proofs.Common.{Option, Some, None, MatchOption, IsSome, Result, Ok, Err, MatchResult, IsOk, refl}
+use Rattle.std.proofs.Common.{Option, Some, None, MatchOption, IsSome, Result, Ok, Err, MatchResult, IsOk}
+use Rattle.std.proofs.Common.{refl}
 
 pub is_some : {X : Type 0} (A : Type 0) (P : X → Type 0) (o : Option X) → MatchOption o (A → ⊥) P → A → IsSome o
 is_some A P None h a = absurd (h a)

@@ -1,5 +1,6 @@
 -- The form of levels: how many keys ascend below a bound, and that a player is free or fixed.
-use Rattle.std.proofs.Common.{◌≡◌, ◌⊎◌, ℕ, ◌+◌, ◌-◌, ◌<◌, ◌≤◌, Bool, true, false, not, List, [], ◌∷◌, length, ℤ}
+use Rattle.std.proofs.Common.{◌≡◌, ◌⊎◌, ℕ, ◌+◌, ◌-◌, ◌<◌, ◌≤◌, Bool, true, false}
+use Rattle.std.proofs.Common.{not, List, [], ◌∷◌, length, ℤ}
 use Rattle.std.proofs.Common.{refl, inl, inr, arith}
 use Rattle.std.specs.List.{AllByRecursion}
 use Rattle.definitions.specs.Certificates.{Level, Ascends, is_fixed, is_free}

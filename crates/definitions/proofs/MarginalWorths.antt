@@ -1,5 +1,6 @@
 -- What a player adds in an order.
-use Rattle.std.proofs.Common.{◌≡◌, ℕ, ◌+◌, ◌^◌, false, nat_eq, List, [], ◌∷◌, ℤ, pos, refl}
+use Rattle.std.proofs.Common.{◌≡◌, ℕ, ◌+◌, ◌^◌, false, nat_eq, List, [], ◌∷◌, ℤ}
+use Rattle.std.proofs.Common.{pos, refl}
 use Rattle.std.specs.List.{AllByRecursion}
 use Rattle.definitions.proofs.Cases.{nat_eq-turned}
 use Rattle.definitions.specs.Shapley.{marginal_worth}

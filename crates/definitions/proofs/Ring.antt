@@ -3,10 +3,12 @@
 -- An identity of sums and products: simp ring_laws (omega (arith, linear)).
 -- A step where some summand is 0 or some factor is 1: simp unit_laws, or both sets.
 -- An order or an equation by linear arithmetic over products as they stand: omega (arith, linear, facts).
-use Rattle.std.proofs.Common.{◌≡◌, ℕ, zero, suc, ◌*◌, ℤ, pos, negsuc, ◌+ℤ◌, ◌-ℤ◌, ◌*ℤ◌}
+use Rattle.std.proofs.Common.{◌≡◌, ℕ, zero, suc, ◌*◌, ℤ, pos, negsuc, ◌+ℤ◌, ◌-ℤ◌}
+use Rattle.std.proofs.Common.{◌*ℤ◌}
 use Rattle.std.proofs.Common.{neg_ℤ, ◌<ℤ◌, ◌≤ℤ◌, refl, sym, ap, ◌∙◌, arith}
 use Rattle.std.proofs.lemmas.Int.{ints, by_lt_z}
-use borrow.Author.Differences.{up, down, fits_out, same_out, Apart-out, lt_out, le_out, lt_T, le_T, lt_not, le_not}
+use borrow.Author.Differences.{up, down, fits_out, same_out, Apart-out, lt_out, le_out, lt_T, le_T, lt_not}
+use borrow.Author.Differences.{le_not}
 use borrow.Author.Differences.{lt-true, lt-false, le-true, le-false, true-lt, false-lt, true-le, false-le}
 use borrow.Author.Differences.{not_negative_out, fits_in, same_in, lt_in, le_in, below_in, at_most_in}
 use borrow.Author.Differences.{not_negative_in, true_is_lt, false_is_lt, true_is_le, false_is_le, sum_is_lem}

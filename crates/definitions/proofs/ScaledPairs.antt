@@ -1,7 +1,8 @@
 -- Weights on coalitions, each times an integer.
 --
 --   scaled_pairs c ps   the pairs with each weight times c
-use Rattle.std.proofs.Common.{◌≡◌, ℕ, Bool, true, false, cond, List, [], ◌∷◌, ℤ, pos, ◌+ℤ◌, ◌*ℤ◌, sym, arith}
+use Rattle.std.proofs.Common.{◌≡◌, ℕ, Bool, true, false, cond, List, [], ◌∷◌, ℤ}
+use Rattle.std.proofs.Common.{pos, ◌+ℤ◌, ◌*ℤ◌, sym, arith}
 use Rattle.std.specs.List.{AllByRecursion}
 use Rattle.definitions.proofs.Ring.{linear, mul-addℤ, mul-zeroℤ}
 use Rattle.definitions.specs.Coalitions.{has_player, weight_at}

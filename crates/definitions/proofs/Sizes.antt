@@ -1,6 +1,8 @@
 -- How many members a coalition has.
-use Rattle.std.proofs.Common.{◌≡◌, ℕ, zero, suc, ◌+◌, ◌-◌, ◌^◌, ◌<◌, ◌≤◌, Bool, true, false, [], ◌∷◌}
-use Rattle.std.proofs.Common.{length, length-append, add-one, refl, sym, ap, subst, ◌∙◌, inl, inr, arith}
+use Rattle.std.proofs.Common.{◌≡◌, ℕ, zero, suc, ◌+◌, ◌-◌, ◌^◌, ◌<◌, ◌≤◌, Bool}
+use Rattle.std.proofs.Common.{true, false, [], ◌∷◌}
+use Rattle.std.proofs.Common.{length, length-append, add-one, refl, sym, ap, subst, ◌∙◌, inl, inr}
+use Rattle.std.proofs.Common.{arith}
 use Rattle.std.proofs.lemmas.Nat.Bits.{bit_at-zero, bit_at-lt, bit_at_above, same_from_bits}
 use Rattle.std.specs.Int.{bit_at}
 use Rattle.definitions.proofs.Members.{members-zero, members-more_yes, members-more_no}

@@ -1,5 +1,6 @@
 -- A coalition that isn't empty has a member, and one that isn't that of all has a player outside.
-use Rattle.std.proofs.Common.{◌≡◌, ◌≢◌, ℕ, ◌-◌, ◌^◌, ◌<◌, true, false, sym, ◌∙◌, inl, inr, arith}
+use Rattle.std.proofs.Common.{◌≡◌, ◌≢◌, ℕ, ◌-◌, ◌^◌, ◌<◌, true, false, sym, ◌∙◌}
+use Rattle.std.proofs.Common.{inl, inr, arith}
 use Rattle.definitions.proofs.Cases.{below_or_above, true_or_false, from_not}
 use Rattle.definitions.proofs.Members.{has_player-empty, has_player-complement}
 use Rattle.definitions.proofs.Parts.{has_player-past, same_coalition}

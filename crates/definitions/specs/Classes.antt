@@ -23,8 +23,10 @@
 --   IsMatching                         pairs of a row and a column whose players are members, no member twice
 --   matching_value, IsGreatestValue    the entries of the pairs, added; the greatest value of a matching
 --   IsAssignmentGame matrix rows g     each worth is the greatest value of a matching
-use Rattle.std.specs.Prelude.{◌≡◌, ◌⊎◌, ℕ, zero, suc, ◌+◌, ◌-◌, ◌^◌, ◌<◌, ◌≤◌, IsTrue, Bool, false, not}
-use Rattle.std.specs.Prelude.{◌&&◌, ◌||◌, nat_eq, List, [], ◌∷◌, length, ℤ, pos, ◌-ℤ◌, neg_ℤ}
+use Rattle.std.specs.Prelude.{◌≡◌, ◌⊎◌, ℕ, zero, suc, ◌+◌, ◌-◌, ◌^◌, ◌<◌, ◌≤◌}
+use Rattle.std.specs.Prelude.{IsTrue, Bool, false, not}
+use Rattle.std.specs.Prelude.{◌&&◌, ◌||◌, nat_eq, List, [], ◌∷◌, length, ℤ, pos, ◌-ℤ◌}
+use Rattle.std.specs.Prelude.{neg_ℤ}
 use Rattle.std.specs.Prelude.{slice_index, slice_index_or, if◌then◌else◌, max, int_le}
 use Rattle.std.specs.List.{AllByRecursion}
 use Rattle.std.specs.Int.{int_max}

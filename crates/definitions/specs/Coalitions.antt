@@ -12,7 +12,8 @@
 --   splits n test s       s holds some but not all of the players that pass the test
 --   members n s           the members below n, in ascending order
 --   size s                the number of members
-use Rattle.std.specs.Prelude.{ℕ, zero, suc, ◌-◌, ◌^◌, Bool, false, ◌&&◌, ◌||◌, not, nat_eq, List}
+use Rattle.std.specs.Prelude.{ℕ, zero, suc, ◌-◌, ◌^◌, Bool, false, ◌&&◌, ◌||◌, not}
+use Rattle.std.specs.Prelude.{nat_eq, List}
 use Rattle.std.specs.Prelude.{[], ◌∷◌, length, ℤ, pos, ◌+ℤ◌, if◌then◌else◌, ◌++◌}
 use Rattle.std.specs.Int.{bit_at}
 use Rattle.std.specs.List.{range_with_len}

@@ -6,7 +6,8 @@
 --   ComesEarlier                    triples compare by mask, then by the first player, then by the second
 --   IsFirstNonconvexity g s i j d   the first coalition and the first two players at which this fails, and by how much
 --   IsMarginal g order x            each player gets what it adds to the worth of those in front of it
-use Rattle.std.specs.Prelude.{◌≡◌, ◌⊎◌, ℕ, ◌+◌, ◌^◌, ◌<◌, false, List, ℤ, ◌+ℤ◌, ◌-ℤ◌, ◌*ℤ◌, ◌<ℤ◌, ◌≤ℤ◌}
+use Rattle.std.specs.Prelude.{◌≡◌, ◌⊎◌, ℕ, ◌+◌, ◌^◌, ◌<◌, false, List, ℤ, ◌+ℤ◌}
+use Rattle.std.specs.Prelude.{◌-ℤ◌, ◌*ℤ◌, ◌<ℤ◌, ◌≤ℤ◌}
 use Rattle.definitions.specs.Coalitions.{has_player, singleton}
 use Rattle.definitions.specs.Games.{Game, Allocation, share, IsAllocation}
 use Rattle.definitions.specs.Shapley.{marginal_worth}

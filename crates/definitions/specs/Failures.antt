@@ -9,7 +9,8 @@
 --   NotAllFixed      after the last level something is left, and the reason names the least player of it
 --   LevelsFail       the first failure among the levels, and of what they fix
 --   IsFirstFailure   the reason is the first failed condition of the certificate
-use Rattle.std.specs.Prelude.{◌≡◌, ◌⊎◌, ℕ, ◌+◌, ◌^◌, ◌<◌, IsTrue, List, [], ◌∷◌, ◌++◌, ℤ, pos, ◌*ℤ◌, ◌≤ℤ◌}
+use Rattle.std.specs.Prelude.{◌≡◌, ◌⊎◌, ℕ, ◌+◌, ◌^◌, ◌<◌, IsTrue, List, [], ◌∷◌}
+use Rattle.std.specs.Prelude.{◌++◌, ℤ, pos, ◌*ℤ◌, ◌≤ℤ◌}
 use Rattle.definitions.specs.Sums.{IsGreatest}
 use Rattle.definitions.specs.Coalitions.{singleton}
 use Rattle.definitions.specs.Games.{Game, Allocation, share, measured_excess, IsEfficient, InFamily}

@@ -21,7 +21,8 @@
 --   IsMeasuredMaximum        the greatest measured excess over these coalitions
 --   HasTwo                   a coalition has at least two players
 --   IsGame, IsShares         the limits of the toolbox
-use Rattle.std.specs.Prelude.{◌≡◌, ℕ, ◌^◌, ◌<◌, ◌≤◌, List, length, map, IsTrue, ℤ, pos, ◌-ℤ◌}
+use Rattle.std.specs.Prelude.{◌≡◌, ℕ, ◌^◌, ◌<◌, ◌≤◌, List, length, map, IsTrue, ℤ}
+use Rattle.std.specs.Prelude.{pos, ◌-ℤ◌}
 use Rattle.std.specs.Prelude.{◌*ℤ◌, ◌<ℤ◌, ◌≤ℤ◌, slice_index_or, unsigned_abs}
 use Rattle.definitions.specs.Sums.{IsGreatest}
 use Rattle.definitions.specs.Coalitions.{has_player, singleton, grand_coalition}

@@ -8,7 +8,8 @@
 --   InPrekernel g x         efficient, and every two players are balanced
 --   IsEarlierPair a b i j   pairs compare by the first player and then by the second
 --   IsFirstUnbalanced       the first pair of players that aren't balanced
-use Rattle.std.specs.Prelude.{◌≡◌, ◌≢◌, ◌⊎◌, ℕ, ◌^◌, ◌<◌, Bool, ◌&&◌, not, IsTrue, ℤ}
+use Rattle.std.specs.Prelude.{◌≡◌, ◌≢◌, ◌⊎◌, ℕ, ◌^◌, ◌<◌, Bool, ◌&&◌, not, IsTrue}
+use Rattle.std.specs.Prelude.{ℤ}
 use Rattle.definitions.specs.Sums.{IsGreatest}
 use Rattle.definitions.specs.Coalitions.{has_player}
 use Rattle.definitions.specs.Games.{Game, Allocation, excess, IsAllocation, IsEfficient}

@@ -10,7 +10,8 @@
 --   IsOptimal       weights that solve, multipliers that bound, and equal values
 --   HasNoSolution   no weights solve it
 --   HasRay          weights that sum to 0 in each row, of positive cost
-use Rattle.std.specs.Prelude.{◌≡◌, ℕ, ◌<◌, Bool, IsTrue, nat_eq, List, map, ℤ, pos, ◌*ℤ◌, ◌≤ℤ◌, slice_index_or}
+use Rattle.std.specs.Prelude.{◌≡◌, ℕ, ◌<◌, Bool, IsTrue, nat_eq, List, map, ℤ, pos}
+use Rattle.std.specs.Prelude.{◌*ℤ◌, ◌≤ℤ◌, slice_index_or}
 use Rattle.std.specs.List.{AllByRecursion, IsDistinct}
 use Rattle.definitions.specs.Sums.{sum_below, weighted_sum}
 

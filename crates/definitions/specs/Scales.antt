@@ -25,7 +25,8 @@
 --                                                 game of whole worths
 --   ScalesChangeNothing                           in the game of whole worths the shares times k are what the shares
 --                                                 are in the game of fractions
-use Rattle.std.specs.Prelude.{◌≡◌, ◌↔◌, ℕ, ◌^◌, ◌<◌, List, [], ◌∷◌, ◌++◌, map, ℤ, pos, ◌-ℤ◌, ◌*ℤ◌, ◌<ℤ◌, ◌≤ℤ◌}
+use Rattle.std.specs.Prelude.{◌≡◌, ◌↔◌, ℕ, ◌^◌, ◌<◌, List, [], ◌∷◌, ◌++◌, map}
+use Rattle.std.specs.Prelude.{ℤ, pos, ◌-ℤ◌, ◌*ℤ◌, ◌<ℤ◌, ◌≤ℤ◌}
 use Rattle.std.specs.List.{AllByRecursion}
 use Rattle.definitions.specs.Coalitions.{singleton, grand_coalition, proper_coalitions}
 use Rattle.definitions.specs.Measures.{measured, measured_den}

@@ -9,7 +9,8 @@
 --   shapley_total g i   the sum of what player i adds, over all orders
 --   factorial n         1 * 2 * .. * n
 --   IsShapley g x       each share is the player's total over n!
-use Rattle.std.specs.Prelude.{ℕ, zero, suc, ◌≡◌, ◌+◌, ◌*◌, ◌^◌, ◌<◌, List, [], ◌∷◌, map, nat_eq, ℤ}
+use Rattle.std.specs.Prelude.{ℕ, zero, suc, ◌≡◌, ◌+◌, ◌*◌, ◌^◌, ◌<◌, List, []}
+use Rattle.std.specs.Prelude.{◌∷◌, map, nat_eq, ℤ}
 use Rattle.std.specs.Prelude.{pos, ◌+ℤ◌, ◌-ℤ◌, ◌*ℤ◌, if◌then◌else◌, length, false}
 use Rattle.std.specs.List.{flat_map, AllByRecursion}
 use Rattle.definitions.specs.Games.{Game, Allocation, share, IsAllocation}

@@ -3,7 +3,8 @@
 --   sum_below n f        f 0 + .. + f (n - 1)
 --   weighted_sum f ps    the sum of weight times f, over pairs of a key and a weight
 --   IsGreatest P f m     m is the greatest of the numbers f k, over the k that P holds of
-use Rattle.std.specs.Prelude.{◌≡◌, ℕ, zero, suc, List, [], ◌∷◌, ℤ, pos, ◌+ℤ◌, ◌*ℤ◌, ◌≤ℤ◌}
+use Rattle.std.specs.Prelude.{◌≡◌, ℕ, zero, suc, List, [], ◌∷◌, ℤ, pos, ◌+ℤ◌}
+use Rattle.std.specs.Prelude.{◌*ℤ◌, ◌≤ℤ◌}
 
 abbrev pub sum_below : ℕ → (ℕ → ℤ) → ℤ
 sum_below zero f = pos 0

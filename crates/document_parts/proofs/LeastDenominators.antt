@@ -1,7 +1,10 @@
 -- The least common denominator of fractions in lowest terms is the least common multiple of their denominators.
-use Rattle.std.proofs.Common.{◌≡◌, ℕ, zero, suc, ◌+◌, ◌*◌, ◌/◌, ◌*ℤ◌, int_div, ◌≤ℤ◌, ℤ, FitsSigned, slice_index_or}
-use Rattle.std.proofs.Common.{◌<◌, ◌≤◌, ◌^◌, List, [], ◌∷◌, length, map, get_or, Bool, true, false, nat_le}
-use Rattle.std.proofs.Common.{if◌then◌else◌, pos, unsigned_abs, All, Some, None, codes, refl, sym, ap, ◌∙◌, subst}
+use Rattle.std.proofs.Common.{◌≡◌, ℕ, zero, suc, ◌+◌, ◌*◌, ◌/◌, ◌*ℤ◌, int_div, ◌≤ℤ◌}
+use Rattle.std.proofs.Common.{ℤ, FitsSigned, slice_index_or}
+use Rattle.std.proofs.Common.{◌<◌, ◌≤◌, ◌^◌, List, [], ◌∷◌, length, map, get_or, Bool}
+use Rattle.std.proofs.Common.{true, false, nat_le}
+use Rattle.std.proofs.Common.{if◌then◌else◌, pos, unsigned_abs, All, Some, None, codes, refl, sym, ap}
+use Rattle.std.proofs.Common.{◌∙◌, subst}
 use Rattle.std.proofs.Common.{arith}
 use Rattle.std.specs.List.{list_all}
 use Prim.Native.Nat.{◌∣◌}

@@ -7,7 +7,8 @@
 --   mask_of          the mask of the coalition that members name
 --   is_mask          there is a mask, and it is s
 --   are_coalitions   each is a coalition, and no two are the same
-use Rattle.std.specs.Prelude.{◌+◌, ◌^◌, ℕ, List, [], ◌∷◌, Bool, true, false, not, ◌&&◌, Option, Some}
+use Rattle.std.specs.Prelude.{◌+◌, ◌^◌, ℕ, List, [], ◌∷◌, Bool, true, false, not}
+use Rattle.std.specs.Prelude.{◌&&◌, Option, Some}
 use Rattle.std.specs.Prelude.{None, option_and_then, position, nat_eq, if◌then◌else◌}
 use Rattle.std.specs.List.{list_any}
 use Rattle.std.specs.Str.{bytes_eq}

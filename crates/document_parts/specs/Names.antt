@@ -8,7 +8,8 @@
 --   are_names      one name for each player, where there are any
 --   is_known       a member that is a text is among the names
 --   are_known      each such member of a pair is
-use Rattle.std.specs.Prelude.{◌==◌, ℕ, codes, List, [], ◌∷◌, length, map, Bool, true, not}
+use Rattle.std.specs.Prelude.{◌==◌, ℕ, codes, List, [], ◌∷◌, length, map, Bool, true}
+use Rattle.std.specs.Prelude.{not}
 use Rattle.std.specs.Prelude.{◌&&◌, Option, Some, None, nat_lt, nat_le}
 use Rattle.std.specs.List.{list_all}
 use Rattle.serde_json.specs.Data.{Data}

@@ -10,7 +10,8 @@
 --   numbers_of       the numbers of the items of an array
 --   rows_at          the numbers of each array in the array at a key
 --   second_number    the number of the second of two items
-use Rattle.std.specs.Prelude.{◌^◌, ℕ, ℤ, pos, List, [], ◌∷◌, map, Bool, Option, Some, None, option_map}
+use Rattle.std.specs.Prelude.{◌^◌, ℕ, ℤ, pos, List, [], ◌∷◌, map, Bool, Option}
+use Rattle.std.specs.Prelude.{Some, None, option_map}
 use Rattle.std.specs.Prelude.{option_and_then, unwrap_or, nat_lt, unsigned_abs, if◌then◌else◌}
 use Rattle.serde_json.specs.Data.{Data}
 use Rattle.serde_json.specs.Find.{get}

@@ -5,7 +5,8 @@
 --   is_small_cost        at least 0, and below 2^40
 --   if_integer           an integer that passes a test
 --   is_cost              a number from 0 that times the scale is below 2^40
-use Rattle.std.specs.Prelude.{◌^◌, ℕ, ℤ, pos, negsuc, Bool, false, ◌&&◌, Option, Some, None, nat_lt, nat_le}
+use Rattle.std.specs.Prelude.{◌^◌, ℕ, ℤ, pos, negsuc, Bool, false, ◌&&◌, Option, Some}
+use Rattle.std.specs.Prelude.{None, nat_lt, nat_le}
 use Rattle.serde_json.specs.Data.{Data}
 use Rattle.document_parts.specs.ScaledNumbers.{small_number}
 

@@ -1,5 +1,6 @@
 -- The slots of a sparse table, one for each mask.
-use Rattle.std.specs.Prelude.{◌≡◌, ◌-◌, ◌^◌, ℕ, ℤ, List, length, map, drop, true, Option, unwrap_or}
+use Rattle.std.specs.Prelude.{◌≡◌, ◌-◌, ◌^◌, ℕ, ℤ, List, length, map, drop, true}
+use Rattle.std.specs.Prelude.{Option, unwrap_or}
 use Rattle.std.specs.List.{range_with_len}
 use Rattle.serde_json.specs.Data.{Data}
 use Rattle.json_trees.specs.Trees.{pair_members}

@@ -4,7 +4,8 @@
 --   sparse_number    the number of a coalition, by the pairs
 --   sparse_numbers   the number of each coalition, by the pairs
 --   numbers_by       the number of each coalition
-use Rattle.std.specs.Prelude.{◌-◌, ◌^◌, ℕ, ℤ, List, [], ◌∷◌, map, codes, Option, Some, None, if◌then◌else◌}
+use Rattle.std.specs.Prelude.{◌-◌, ◌^◌, ℕ, ℤ, List, [], ◌∷◌, map, codes, Option}
+use Rattle.std.specs.Prelude.{Some, None, if◌then◌else◌}
 use Rattle.std.specs.List.{range_with_len}
 use Rattle.serde_json.specs.Data.{Data}
 use Rattle.json_trees.specs.Trees.{parts, parts_at, pair_members}

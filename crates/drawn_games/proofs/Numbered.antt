@@ -1,5 +1,6 @@
 -- The places of pairs among the draws.
-use Rattle.std.proofs.Common.{◌≡◌, ℕ, zero, suc, ◌+◌, ◌*◌, ◌<◌, ◌≤◌, Bool, true, false, cond, ◌||◌, nat_eq}
+use Rattle.std.proofs.Common.{◌≡◌, ℕ, zero, suc, ◌+◌, ◌*◌, ◌<◌, ◌≤◌, Bool, true}
+use Rattle.std.proofs.Common.{false, cond, ◌||◌, nat_eq}
 use Rattle.std.proofs.Common.{nat_lt, pos, refl, sym, ap, inl, inr, arith, add-one, mul-le-mul}
 use Rattle.std.proofs.lemmas.Bool.{false≢true}
 use Rattle.definitions.proofs.Cases.{less_or_last, from_nat_lt, nat_eq-some}

@@ -1,6 +1,8 @@
 -- Generated numbers are within the limits of their kinds.
-use Rattle.std.proofs.Common.{◌≡◌, ℕ, zero, suc, ◌+◌, ◌-◌, ◌*◌, ◌/◌, ◌^◌, ◌<◌, ◌≤◌, Bool, true, false}
-use Rattle.std.proofs.Common.{cond, nat_lt, List, [], ◌∷◌, length, map, sum, All, ℤ, pos, unsigned_abs}
+use Rattle.std.proofs.Common.{◌≡◌, ℕ, zero, suc, ◌+◌, ◌-◌, ◌*◌, ◌/◌, ◌^◌, ◌<◌}
+use Rattle.std.proofs.Common.{◌≤◌, Bool, true, false}
+use Rattle.std.proofs.Common.{cond, nat_lt, List, [], ◌∷◌, length, map, sum, All, ℤ}
+use Rattle.std.proofs.Common.{pos, unsigned_abs}
 use Rattle.std.proofs.Common.{slice_index_or, get_or, refl, sym, ap, subst, ◌∙◌, arith}
 use Rattle.std.specs.List.{range_with_len, sum_by}
 use Rattle.std.proofs.lemmas.Bool.{false≢true}

@@ -1,7 +1,9 @@
 -- Every game has a core point or a balanced collection of excess worth, by Farkas's lemma: the shares are the unknowns,
 -- each coalition asks for its worth, and that of all asks for no more. The factors of a contradiction are the weights.
-use Rattle.std.proofs.Common.{◌≡◌, ℕ, zero, suc, ◌+◌, ◌-◌, ◌^◌, ◌<◌, ◌≤◌, Bool, true, false}
-use Rattle.std.proofs.Common.{cond, List, [], ◌∷◌, length, slice_index_or, ℤ, pos, neg_ℤ, ◌+ℤ◌, ◌*ℤ◌, ◌<ℤ◌, ◌≤ℤ◌}
+use Rattle.std.proofs.Common.{◌≡◌, ℕ, zero, suc, ◌+◌, ◌-◌, ◌^◌, ◌<◌, ◌≤◌, Bool}
+use Rattle.std.proofs.Common.{true, false}
+use Rattle.std.proofs.Common.{cond, List, [], ◌∷◌, length, slice_index_or, ℤ, pos, neg_ℤ, ◌+ℤ◌}
+use Rattle.std.proofs.Common.{◌*ℤ◌, ◌<ℤ◌, ◌≤ℤ◌}
 use Rattle.std.proofs.Common.{int_lt, refl, sym, ap, ◌∙◌, inl, inr, arith, nat_eq, if◌then◌else◌}
 use Rattle.std.specs.List.{AllByRecursion}
 use Rattle.std.proofs.lemmas.Int.{ints, by_lt_z}

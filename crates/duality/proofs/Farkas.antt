@@ -1,6 +1,8 @@
 -- Either fractions meet all inequalities, or factors contradict them, and never both (Farkas 1902).
-use Rattle.std.proofs.Common.{◌≡◌, ◌≢◌, ℕ, zero, suc, ◌<◌, ◌≤◌, Bool, true, false, cond, List, [], ◌∷◌, ℤ, pos}
-use Rattle.std.proofs.Common.{neg_ℤ, ◌*ℤ◌, ◌≤ℤ◌, refl, sym, ap, ◌∙◌, inl, inr, arith, nat_eq, if◌then◌else◌}
+use Rattle.std.proofs.Common.{◌≡◌, ◌≢◌, ℕ, zero, suc, ◌<◌, ◌≤◌, Bool, true, false}
+use Rattle.std.proofs.Common.{cond, List, [], ◌∷◌, ℤ, pos}
+use Rattle.std.proofs.Common.{neg_ℤ, ◌*ℤ◌, ◌≤ℤ◌, refl, sym, ap, ◌∙◌, inl, inr, arith}
+use Rattle.std.proofs.Common.{nat_eq, if◌then◌else◌}
 use Rattle.std.specs.List.{AllByRecursion}
 use Rattle.definitions.proofs.Ring.{linear, mul-zeroℤ, zero-mulℤ, one-mulℤ, neg-mulℤ, mul-negℤ}
 use Rattle.definitions.proofs.Ring.{mul_left_commℤ, mul_assocℤ, mul-leℤ, mul-nonnegativeℤ, mul-positiveℤ}

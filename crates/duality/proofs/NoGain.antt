@@ -1,7 +1,9 @@
 -- At a nucleolus no transfer raises what each of the coalitions of the greatest excess gets, and leaves the others as
 -- they are or takes from those of less excess: a small part of it would make shares that come before.
-use Rattle.std.proofs.Common.{◌≡◌, ◌⊎◌, ℕ, zero, suc, ◌-◌, ◌^◌, ◌<◌, Bool, true, false, ◌&&◌, ℤ, pos, neg_ℤ, ◌+ℤ◌}
-use Rattle.std.proofs.Common.{◌*ℤ◌, ◌<ℤ◌, ◌≤ℤ◌, int_le, refl, sym, ap, ◌∙◌, inl, inr, arith}
+use Rattle.std.proofs.Common.{◌≡◌, ◌⊎◌, ℕ, zero, suc, ◌-◌, ◌^◌, ◌<◌, Bool, true}
+use Rattle.std.proofs.Common.{false, ◌&&◌, ℤ, pos, neg_ℤ, ◌+ℤ◌}
+use Rattle.std.proofs.Common.{◌*ℤ◌, ◌<ℤ◌, ◌≤ℤ◌, int_le, refl, sym, ap, ◌∙◌, inl, inr}
+use Rattle.std.proofs.Common.{arith}
 use Rattle.std.proofs.lemmas.Bool.{false≢true}
 use Rattle.std.proofs.lemmas.Int.{by_lt_z, ints}
 use Rattle.definitions.proofs.Ring.{linear, ring_laws, mul-addℤ, add-mulℤ, mul-zeroℤ, zero-mulℤ, mul-oneℤ}

@@ -1,6 +1,7 @@
 -- Levels in the form without limits of size, of at most 16 players and with weights within the limits, have the form of
 -- a certificate: their coalitions ascend, so they aren't too many.
-use Rattle.std.proofs.Common.{◌≡◌, ℕ, ◌^◌, ◌<◌, ◌≤◌, true, List, [], ◌∷◌, ◌++◌, length, ℤ}
+use Rattle.std.proofs.Common.{◌≡◌, ℕ, ◌^◌, ◌<◌, ◌≤◌, true, List, [], ◌∷◌, ◌++◌}
+use Rattle.std.proofs.Common.{length, ℤ}
 use Rattle.std.proofs.Common.{IsTrue, inl, inr, arith}
 use Rattle.std.specs.List.{AllByRecursion}
 use Rattle.std.proofs.lemmas.Bool.{false≢true}

@@ -7,7 +7,8 @@
 --   AreSmall                  the weights and totals of levels are within these limits
 --   KohlbergTheorem           the nucleoli are just the allocations with a certificate that meets the conditions
 --   SmallShapesAreForms       of at most 16 players, and within the limits, it has the form of a certificate
-use Rattle.std.specs.Prelude.{◌↔◌, ℕ, ◌-◌, ◌<◌, ◌≤◌, IsTrue, List, [], ◌∷◌, ◌++◌, length, pos, ◌≤ℤ◌}
+use Rattle.std.specs.Prelude.{◌↔◌, ℕ, ◌-◌, ◌<◌, ◌≤◌, IsTrue, List, [], ◌∷◌, ◌++◌}
+use Rattle.std.specs.Prelude.{length, pos, ◌≤ℤ◌}
 use Rattle.std.specs.List.{AllByRecursion}
 use Rattle.definitions.specs.Coalitions.{grand_coalition}
 use Rattle.definitions.specs.Measures.{IsMeasurable}

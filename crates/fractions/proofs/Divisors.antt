@@ -1,6 +1,7 @@
 -- The greatest common divisor: what it divides, how it scales, and when a product has no divisor in common with
 -- another number.
-use Rattle.std.proofs.Common.{◌≡◌, inl, inr, ℕ, zero, suc, ◌+◌, ◌*◌, ◌/◌, ◌%◌, ◌<◌, ◌≤◌, arith, refl, sym}
+use Rattle.std.proofs.Common.{◌≡◌, inl, inr, ℕ, zero, suc, ◌+◌, ◌*◌, ◌/◌, ◌%◌}
+use Rattle.std.proofs.Common.{◌<◌, ◌≤◌, arith, refl, sym}
 use Rattle.std.proofs.Common.{ap, subst, ◌∙◌, Bool, true, false, cond, eqb, mod-lt}
 use Rattle.std.proofs.Common.{mul-lt-mul_of_pos_right, eq-zero-or-pos, div-add-mod', mul_comm, le_refl}
 use Prim.Native.Nat.{◌∣◌}

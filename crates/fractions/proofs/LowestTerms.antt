@@ -1,5 +1,6 @@
 -- A ratio in lowest terms, by its sign and the sizes over their greatest common divisor.
-use Rattle.std.proofs.Common.{◌≡◌, ◌≢◌, ℕ, zero, suc, ◌*◌, ◌/◌, ◌<◌, Bool, true, false, cond, arith, refl, sym, ap}
+use Rattle.std.proofs.Common.{◌≡◌, ◌≢◌, ℕ, zero, suc, ◌*◌, ◌/◌, ◌<◌, Bool, true}
+use Rattle.std.proofs.Common.{false, cond, arith, refl, sym, ap}
 use Rattle.std.proofs.Common.{subst, ◌∙◌, ℤ, pos, negsuc, ◌*ℤ◌, neg_ℤ, ◌≤ℤ◌, unsigned_abs, FitsSigned}
 use mathlib.Core.Bool.{not, beq}
 use lib.Signed.{lt_z}

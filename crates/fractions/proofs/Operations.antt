@@ -1,6 +1,8 @@
 -- Sums, differences, products and quotients of two fractions in lowest terms.
-use Rattle.std.proofs.Common.{◌≡◌, Bool, true, false, ◌≢◌, ℕ, zero, suc, ◌*◌, ◌/◌, ◌<◌, arith, refl, sym}
-use Rattle.std.proofs.Common.{ap, subst, ◌∙◌, ℤ, pos, negsuc, ◌+ℤ◌, ◌-ℤ◌, ◌*ℤ◌, ◌≤ℤ◌, ◌^◌, unsigned_abs}
+use Rattle.std.proofs.Common.{◌≡◌, Bool, true, false, ◌≢◌, ℕ, zero, suc, ◌*◌, ◌/◌}
+use Rattle.std.proofs.Common.{◌<◌, arith, refl, sym}
+use Rattle.std.proofs.Common.{ap, subst, ◌∙◌, ℤ, pos, negsuc, ◌+ℤ◌, ◌-ℤ◌, ◌*ℤ◌, ◌≤ℤ◌}
+use Rattle.std.proofs.Common.{◌^◌, unsigned_abs}
 use Rattle.std.proofs.Common.{int_div, FitsSigned, Result, Ok, Err, MatchResult}
 use lib.IntN.{*ℤ_comm}
 use mir.Syntax.{w128}

@@ -1,5 +1,6 @@
 -- The order of two fractions by whole parts and remainders.
-use Rattle.std.proofs.Common.{◌≡◌, ◌⊎◌, inl, inr, ℕ, zero, suc, ◌+◌, ◌*◌, ◌/◌, ◌%◌, ◌<◌, ◌≤◌, arith, refl, sym, ap}
+use Rattle.std.proofs.Common.{◌≡◌, ◌⊎◌, inl, inr, ℕ, zero, suc, ◌+◌, ◌*◌, ◌/◌}
+use Rattle.std.proofs.Common.{◌%◌, ◌<◌, ◌≤◌, arith, refl, sym, ap}
 use Rattle.std.proofs.Common.{subst, subst₂, ◌∙◌, Ordering, Less, Equal, Greater, nat_cmp, mod-lt, div-add-mod'}
 use Rattle.std.proofs.Common.{mul-lt-mul_of_pos_right, mul-le-mul_right, mul-le-mul_left}
 

@@ -1,7 +1,10 @@
 -- What is written of a fraction is read as that fraction, and no other text is.
-use Rattle.std.proofs.Common.{◌≡◌, ◌≢◌, ◌⊎◌, inl, inr, ℕ, zero, suc, ◌^◌, ◌<◌, Bool, true, false, cond, not, eqb}
-use Rattle.std.proofs.Common.{ltb, ◌&&◌, ◌||◌, List, [], ◌∷◌, ◌++◌, length, drop, Option, Some, None, ℤ, pos}
-use Rattle.std.proofs.Common.{negsuc, neg_ℤ, unsigned_abs, FitsSigned, decimal, sym, refl, ap, subst, ◌∙◌, arith}
+use Rattle.std.proofs.Common.{◌≡◌, ◌≢◌, ◌⊎◌, inl, inr, ℕ, zero, suc, ◌^◌, ◌<◌}
+use Rattle.std.proofs.Common.{Bool, true, false, cond, not, eqb}
+use Rattle.std.proofs.Common.{ltb, ◌&&◌, ◌||◌, List, [], ◌∷◌, ◌++◌, length, drop, Option}
+use Rattle.std.proofs.Common.{Some, None, ℤ, pos}
+use Rattle.std.proofs.Common.{negsuc, neg_ℤ, unsigned_abs, FitsSigned, decimal, sym, refl, ap, subst, ◌∙◌}
+use Rattle.std.proofs.Common.{arith}
 use mir.Syntax.{w128}
 use Rattle.std.specs.Ordering.{int_eq}
 use Rattle.std.specs.List.{list_all}

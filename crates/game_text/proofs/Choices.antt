@@ -1,5 +1,6 @@
 -- What a choice by a test gave says of the test: where it is something, the test passed.
-use Rattle.std.proofs.Common.{◌≡◌, Bool, true, false, Option, Some, None, if◌then◌else◌, refl, sym, ap, subst}
+use Rattle.std.proofs.Common.{◌≡◌, Bool, true, false, Option, Some, None, if◌then◌else◌, refl, sym}
+use Rattle.std.proofs.Common.{ap, subst}
 use Rattle.std.specs.Prelude.{⊤}
 
 abbrev or_else : {A : Type 0} → A → Option A → A

@@ -1,5 +1,6 @@
 -- The tree of a game that isn't refused holds no float and is nested at most 8 deep.
-use Rattle.std.proofs.Common.{◌≡◌, ℕ, ◌+◌, ◌≤◌, ℤ, pos, codes, List, [], ◌∷◌, map, Bool}
+use Rattle.std.proofs.Common.{◌≡◌, ℕ, ◌+◌, ◌≤◌, ℤ, pos, codes, List, [], ◌∷◌}
+use Rattle.std.proofs.Common.{map, Bool}
 use Rattle.std.proofs.Common.{true, not, ◌&&◌, ◌||◌, Option, Some, None, is_some, is_none}
 use Rattle.std.proofs.Common.{option_map, option_and_then, refl, ap, subst, arith}
 use Rattle.std.specs.List.{list_all, list_any, AllByRecursion}

@@ -1,5 +1,6 @@
 -- The tree that a document keeps is exact, and written in no more bytes than were read.
-use Rattle.std.proofs.Common.{◌≡◌, ℕ, ◌≤◌, codes, List, length, take, Bool, true, false, ◌&&◌, if◌then◌else◌}
+use Rattle.std.proofs.Common.{◌≡◌, ℕ, ◌≤◌, codes, List, length, take, Bool, true, false}
+use Rattle.std.proofs.Common.{◌&&◌, if◌then◌else◌}
 use Rattle.std.proofs.Common.{Option, Some, None, Result, Ok, Err, MatchResult, IfOk, nat_le}
 use Rattle.std.proofs.Common.{refl, sym, ap, subst, arith}
 use Rattle.std.specs.Prelude.{unwrap_or}

@@ -1,5 +1,6 @@
 -- The rows of a market in a document, and what the tests of them say.
-use Rattle.std.proofs.Common.{◌≡◌, ℕ, ℤ, List, length, codes, true, nat_lt, nat_le, Some, subst, arith}
+use Rattle.std.proofs.Common.{◌≡◌, ℕ, ℤ, List, length, codes, true, nat_lt, nat_le, Some}
+use Rattle.std.proofs.Common.{subst, arith}
 use Rattle.std.proofs.lemmas.Bool.{and_parts, ltb-true, leb-true}
 use Rattle.serde_json.specs.Data.{Data}
 use Rattle.matrices.specs.Rows.{HaveEntries}

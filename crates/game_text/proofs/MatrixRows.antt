@@ -1,5 +1,6 @@
 -- The rows of a matrix in a document, and what the tests of them say.
-use Rattle.std.proofs.Common.{◌≡◌, ◌==◌, ℕ, ◌<◌, ℤ, List, [], ◌∷◌, length, map, get_or, codes}
+use Rattle.std.proofs.Common.{◌≡◌, ◌==◌, ℕ, ◌<◌, ℤ, List, [], ◌∷◌, length, map}
+use Rattle.std.proofs.Common.{get_or, codes}
 use Rattle.std.proofs.Common.{Bool, true, false, ◌&&◌, nat_le, Some, None, is_some}
 use Rattle.std.proofs.Common.{if◌then◌else◌, All, refl, sym, ap, subst, ◌∙◌, arith}
 use Rattle.std.specs.List.{list_all, range_with_len, AllPass}

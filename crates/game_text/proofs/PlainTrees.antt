@@ -1,5 +1,6 @@
 -- Trees without floats that are nested at most so deep, built up from their parts.
-use Rattle.std.proofs.Common.{◌≡◌, ℕ, ◌+◌, ◌≤◌, List, [], ◌∷◌, Bool, true, false, ◌||◌, Some, None, Ordering}
+use Rattle.std.proofs.Common.{◌≡◌, ℕ, ◌+◌, ◌≤◌, List, [], ◌∷◌, Bool, true, false}
+use Rattle.std.proofs.Common.{◌||◌, Some, None, Ordering}
 use Rattle.std.proofs.Common.{Less, Equal, Greater, is_some, refl, sym, ap, ap₂, ◌∙◌, arith}
 use Rattle.std.specs.List.{list_all, AllByRecursion}
 use Rattle.std.specs.Ordering.{nat_cmp, match_ordering, ordering_reverse}

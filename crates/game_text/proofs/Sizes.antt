@@ -1,8 +1,11 @@
 -- A game that passed the tests of its shape, players and numbers has the sizes that its class asks for.
-use Rattle.std.proofs.Common.{◌≡◌, ℕ, ◌+◌, ◌-◌, ◌<◌, ◌≤◌, ◌^◌, List, [], ◌∷◌, length, map, Bool, true, false}
-use Rattle.std.proofs.Common.{nat_lt, nat_le, ◌&&◌, ◌||◌, if◌then◌else◌, ℤ, pos, negsuc, Option, Some, None}
+use Rattle.std.proofs.Common.{◌≡◌, ℕ, ◌+◌, ◌-◌, ◌<◌, ◌≤◌, ◌^◌, List, [], ◌∷◌}
+use Rattle.std.proofs.Common.{length, map, Bool, true, false}
+use Rattle.std.proofs.Common.{nat_lt, nat_le, ◌&&◌, ◌||◌, if◌then◌else◌, ℤ, pos, negsuc, Option, Some}
+use Rattle.std.proofs.Common.{None}
 use Rattle.std.proofs.Common.{is_none, All, IfSome, option_map, option_and_then, unwrap_or, unsigned_abs}
-use Rattle.std.proofs.Common.{slice_index_or, codes, inl, inr, refl, sym, ap, ap₂, ◌∙◌, subst, arith}
+use Rattle.std.proofs.Common.{slice_index_or, codes, inl, inr, refl, sym, ap, ap₂, ◌∙◌, subst}
+use Rattle.std.proofs.Common.{arith}
 use Rattle.std.specs.List.{list_all, range_with_len}
 use Rattle.std.proofs.lemmas.Bool.{false≢true, and_parts, ltb-true, leb-true, eqb-true, le-leb}
 use Rattle.std.proofs.lemmas.Int.{ints}

@@ -1,5 +1,6 @@
 -- The quota and the weights of a voting game in a document, and what the tests of them say.
-use Rattle.std.proofs.Common.{◌≡◌, ◌&&◌, ℕ, ◌+◌, List, [], ◌∷◌, length, map, codes, true, nat_lt}
+use Rattle.std.proofs.Common.{◌≡◌, ◌&&◌, ℕ, ◌+◌, List, [], ◌∷◌, length, map, codes}
+use Rattle.std.proofs.Common.{true, nat_lt}
 use Rattle.std.proofs.Common.{nat_le, if◌then◌else◌, ℤ, pos, negsuc, Some, None, unsigned_abs}
 use Rattle.std.proofs.Common.{sum_by, refl, sym, ap, ◌∙◌, subst, arith}
 use Rattle.std.specs.Prelude.{sum}

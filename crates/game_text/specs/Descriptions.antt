@@ -6,7 +6,8 @@
 --   table_numbers    the number of each coalition of a table, times a scale
 --   description_as   what the tree of a game of a class describes, its numbers times a scale
 --   description_of   what the tree of a game describes, its numbers times its scale, where no test refuses it
-use Rattle.std.specs.Prelude.{ℕ, ℤ, codes, Bool, true, false, List, [], length, Option, Some, None, unsigned_abs}
+use Rattle.std.specs.Prelude.{ℕ, ℤ, codes, Bool, true, false, List, [], length, Option}
+use Rattle.std.specs.Prelude.{Some, None, unsigned_abs}
 use Rattle.serde_json.specs.Data.{Data}
 use Rattle.serde_json.specs.Find.{get}
 use Rattle.definitions.specs.Games.{Game}

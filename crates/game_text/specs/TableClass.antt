@@ -13,7 +13,8 @@
 --   is_worth            a number that times the scale is below 2^40 in size
 --   has_worth           the number of a pair is such a number
 --   has_table_numbers   each number is within its limits
-use Rattle.std.specs.Prelude.{◌==◌, ◌+◌, ◌^◌, ℕ, ℤ, pos, negsuc, List, [], ◌∷◌, length, codes}
+use Rattle.std.specs.Prelude.{◌==◌, ◌+◌, ◌^◌, ℕ, ℤ, pos, negsuc, List, [], ◌∷◌}
+use Rattle.std.specs.Prelude.{length, codes}
 use Rattle.std.specs.Prelude.{Bool, false, ◌&&◌, ◌||◌, Option, Some, None, is_some, is_none}
 use Rattle.std.specs.Prelude.{option_and_then, nat_lt, nat_le, if◌then◌else◌}
 use Rattle.std.specs.List.{list_all}

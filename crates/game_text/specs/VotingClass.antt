@@ -6,7 +6,8 @@
 --   voting_players       the number of players
 --   has_voting_numbers   each number is within its limits
 --   is_quota             the weights sum to at most 1,000, and the quota is from 1 to their sum
-use Rattle.std.specs.Prelude.{ℕ, List, [], ◌∷◌, length, codes, Bool, ◌&&◌, nat_lt, nat_le, sum}
+use Rattle.std.specs.Prelude.{ℕ, List, [], ◌∷◌, length, codes, Bool, ◌&&◌, nat_lt, nat_le}
+use Rattle.std.specs.Prelude.{sum}
 use Rattle.std.specs.List.{list_all}
 use Rattle.serde_json.specs.Data.{Data}
 use Rattle.serde_json.specs.Find.{get}

@@ -1,5 +1,6 @@
 -- What is written for an exact tree is read back, and what was read is exact.
-use Rattle.std.proofs.Common.{◌≡◌, ℕ, suc, ◌≤◌, false, pos, negsuc, List, [], Option, Some, None}
+use Rattle.std.proofs.Common.{◌≡◌, ℕ, suc, ◌≤◌, false, pos, negsuc, List, [], Option}
+use Rattle.std.proofs.Common.{Some, None}
 use Rattle.std.proofs.Common.{option_map, option_and_then, Ordering, Less, Equal, Greater, refl}
 use Rattle.std.proofs.Common.{sym, ap, ◌∙◌, subst, arith, append-nil}
 use Rattle.std.specs.Prelude.{⊤}

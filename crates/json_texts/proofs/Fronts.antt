@@ -1,5 +1,6 @@
 -- What follows the number at the front of a text is an end of the text.
-use Rattle.std.proofs.Common.{◌≡◌, ℕ, ◌+◌, ◌-◌, min, Bool, true, false, cond, ◌||◌, ◌==◌, List, ◌++◌, length, take}
+use Rattle.std.proofs.Common.{◌≡◌, ℕ, ◌+◌, ◌-◌, min, Bool, true, false, cond, ◌||◌}
+use Rattle.std.proofs.Common.{◌==◌, List, ◌++◌, length, take}
 use Rattle.std.proofs.Common.{drop, Option, Some, None, option_and_then, refl, sym, ap, ◌∙◌, arith}
 use Rattle.std.proofs.lemmas.List.{drop-drop, drop_min, length-drop, take-append-drop}
 use Rattle.std.specs.Prelude.{⊤}

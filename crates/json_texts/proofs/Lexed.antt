@@ -1,6 +1,8 @@
 -- The tokens of a text are printed in no more bytes than they were read from.
-use Rattle.std.proofs.Common.{◌≡◌, ℕ, zero, suc, ◌+◌, ◌-◌, ◌<◌, ◌≤◌, Bool, true, false, cond, ◌==◌}
-use Rattle.std.proofs.Common.{nat_eq, List, [], ◌∷◌, ◌++◌, length, take, drop, Option, Some, None}
+use Rattle.std.proofs.Common.{◌≡◌, ℕ, zero, suc, ◌+◌, ◌-◌, ◌<◌, ◌≤◌, Bool, true}
+use Rattle.std.proofs.Common.{false, cond, ◌==◌}
+use Rattle.std.proofs.Common.{nat_eq, List, [], ◌∷◌, ◌++◌, length, take, drop, Option, Some}
+use Rattle.std.proofs.Common.{None}
 use Rattle.std.proofs.Common.{refl, sym, ap, ◌∙◌, subst, arith, length-append}
 use Rattle.std.proofs.lemmas.Bool.{and_parts}
 use Rattle.std.specs.Prelude.{⊤}
@@ -8,7 +10,8 @@ use Rattle.std.specs.List.{starts_with}
 use Rattle.json.specs.Token.{Token}
 use Rattle.json.specs.Text.{plain, content}
 use Rattle.json.specs.Word.{ends_word, after_number, literal, number_before, word}
-use Rattle.json.specs.Lex.{Lexeme, token, comma, colon, Class, quote, backslash, operator, space, other, class}
+use Rattle.json.specs.Lex.{Lexeme, token, comma, colon, Class, quote, backslash, operator, space, other}
+use Rattle.json.specs.Lex.{class}
 use Rattle.json.specs.Lex.{Mode, between, in_word, in_string, in_escape, operator_lexeme, string_token, lex}
 use Rattle.json.specs.Lex.{lex_byte, Place, fresh, after_value, after_comma, after_key, begins_colon, may_begin}
 use Rattle.json.specs.Lex.{may_close, if_allowed, place_token, punctuate, tokens}

@@ -1,5 +1,6 @@
 -- How long the printed tokens of a value are.
-use Rattle.std.proofs.Common.{◌≡◌, ℕ, ◌+◌, max, Bool, true, false, cond, List, [], ◌∷◌, ◌++◌, length}
+use Rattle.std.proofs.Common.{◌≡◌, ℕ, ◌+◌, max, Bool, true, false, cond, List, []}
+use Rattle.std.proofs.Common.{◌∷◌, ◌++◌, length}
 use Rattle.std.proofs.Common.{sym, ap, ◌∙◌, arith, append_assoc, append-nil, length-append}
 use Rattle.json.specs.Token.{Token}
 use Rattle.json.specs.Json.{Json, null, boolean, number, string, array, object, Items}

@@ -11,7 +11,8 @@
 --   WrittenIsNoLonger   the text that is written for a tree has no more bytes than the text that it was read from
 --   IsPartOf            ordered, less deep than the whole, and written in fewer bytes
 --   MembersKeep         a member of an ordered object is such a part
-use Rattle.std.specs.Prelude.{◌≡◌, ◌<◌, ◌≤◌, ◌^◌, ℕ, pos, negsuc, List, length, false, Some}
+use Rattle.std.specs.Prelude.{◌≡◌, ◌<◌, ◌≤◌, ◌^◌, ℕ, pos, negsuc, List, length, false}
+use Rattle.std.specs.Prelude.{Some}
 use Rattle.std.specs.Ordering.{nat_cmp}
 use Rattle.std.specs.declared.cmp.Ordering.TheVariants.{Less}
 use Rattle.std.specs.Cmp.Lexicographic.{slice_cmp}

@@ -1,5 +1,6 @@
 -- What is written is in lowest terms.
-use Rattle.std.proofs.Common.{◌≡◌, ℕ, List, map, ℤ, pos, All, Option, Some, None, slice_index_or, refl}
+use Rattle.std.proofs.Common.{◌≡◌, ℕ, List, map, ℤ, pos, All, Option, Some, None}
+use Rattle.std.proofs.Common.{slice_index_or, refl}
 use Rattle.std.specs.Prelude.{unwrap_or, option_map, option_and_then}
 use Rattle.std.proofs.lemmas.List.Elements.{All-map}
 use Rattle.serde_json.specs.Data.{Data}

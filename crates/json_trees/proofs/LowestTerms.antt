@@ -1,5 +1,6 @@
 -- The fraction in lowest terms, times a scale and over it.
-use Rattle.std.proofs.Common.{◌≡◌, ◌≢◌, ℕ, ◌*◌, ◌/◌, ◌^◌, FitsSigned, ◌<◌, arith, refl, sym, ap}
+use Rattle.std.proofs.Common.{◌≡◌, ◌≢◌, ℕ, ◌*◌, ◌/◌, ◌^◌, FitsSigned, ◌<◌, arith, refl}
+use Rattle.std.proofs.Common.{sym, ap}
 use Rattle.std.proofs.Common.{subst, ◌∙◌, Bool, true, false, Some, None, if◌then◌else◌, ℤ, pos}
 use Rattle.std.proofs.Common.{negsuc, ◌*ℤ◌, ◌≤ℤ◌, unsigned_abs, int_div}
 use Rattle.std.specs.Prelude.{unwrap_or}

@@ -1,6 +1,8 @@
 -- Values and their trees.
-use Rattle.std.proofs.Common.{◌≡◌, ℕ, suc, nat_lt, not, length, if◌then◌else◌, ap₂, List, [], ◌∷◌, map}
-use Rattle.std.proofs.Common.{drop, get_or, ◌<◌, sym, add-one, Bool, cond, ◌||◌, ◌+◌, Some, None}
+use Rattle.std.proofs.Common.{◌≡◌, ℕ, suc, nat_lt, not, length, if◌then◌else◌, ap₂, List, []}
+use Rattle.std.proofs.Common.{◌∷◌, map}
+use Rattle.std.proofs.Common.{drop, get_or, ◌<◌, sym, add-one, Bool, cond, ◌||◌, ◌+◌, Some}
+use Rattle.std.proofs.Common.{None}
 use Rattle.std.proofs.Common.{position, Bor, String, Global, string_bytes, refl, ap, ◌∙◌}
 use Rattle.std.specs.Map.{keys_of}
 use Rattle.std.specs.List.{list_all, list_any, prefix_len}

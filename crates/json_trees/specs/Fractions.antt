@@ -5,7 +5,8 @@
 --   fraction_of        the fraction that a number or a text writes
 --   is_fraction        an integer, or a fraction text
 --   fraction_or_zero   that fraction, and 0 where none is written
-use Rattle.std.specs.Prelude.{ℕ, ℤ, pos, List, Bool, Option, Some, None, is_some, option_map, unwrap_or}
+use Rattle.std.specs.Prelude.{ℕ, ℤ, pos, List, Bool, Option, Some, None, is_some, option_map}
+use Rattle.std.specs.Prelude.{unwrap_or}
 use Rattle.serde_json.specs.Data.{Data}
 use Rattle.serde_json.specs.Find.{as_str}
 use Rattle.fractions.specs.Fraction.{Fraction}

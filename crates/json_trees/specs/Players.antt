@@ -1,5 +1,6 @@
 -- The players that integers name.
-use Rattle.std.specs.Prelude.{◌-◌, ℕ, ℤ, pos, negsuc, ◌&&◌, Option, Some, None, nat_lt, nat_le, if◌then◌else◌}
+use Rattle.std.specs.Prelude.{◌-◌, ℕ, ℤ, pos, negsuc, ◌&&◌, Option, Some, None, nat_lt}
+use Rattle.std.specs.Prelude.{nat_le, if◌then◌else◌}
 
 -- the player that a number from 1 to n names
 abbrev pub numbered_player : ℕ → ℤ → Option ℕ

@@ -19,7 +19,8 @@
 --   second_passes     the second of two items passes a test
 --   is_member         a number or a text
 --   is_numeric        a number, or a text where texts are allowed
-use Rattle.std.specs.Prelude.{◌&&◌, ◌||◌, ℕ, ℤ, List, [], ◌∷◌, Bool, true, false, Option, Some}
+use Rattle.std.specs.Prelude.{◌&&◌, ◌||◌, ℕ, ℤ, List, [], ◌∷◌, Bool, true, false}
+use Rattle.std.specs.Prelude.{Option, Some}
 use Rattle.std.specs.Prelude.{None, is_some, option_map, option_and_then, unwrap_or}
 use Rattle.std.specs.List.{list_all}
 use Rattle.serde_json.specs.Data.{Data, Items, no_items, item, Members, no_members, member}

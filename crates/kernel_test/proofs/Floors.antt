@@ -1,5 +1,6 @@
 -- The floor of a table's row, found column by column.
-use Rattle.std.proofs.Common.{◌≡◌, ◌≢◌, ℕ, ◌+◌, ◌<◌, Bool, true, false, not, nat_eq, List, ℤ, ◌≤ℤ◌}
+use Rattle.std.proofs.Common.{◌≡◌, ◌≢◌, ℕ, ◌+◌, ◌<◌, Bool, true, false, not, nat_eq}
+use Rattle.std.proofs.Common.{List, ℤ, ◌≤ℤ◌}
 use Rattle.std.proofs.Common.{int_lt, Option, Some, None, arith, refl, ◌∙◌, inl, inr, cond}
 use Rattle.std.proofs.lemmas.Int.{ints}
 use Rattle.definitions.proofs.Cases.{same_or_other, less_or_last_of, nat_eq-equal, nat_eq-other}

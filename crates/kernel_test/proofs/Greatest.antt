@@ -1,6 +1,8 @@
 -- What a scan over the masks in ascending order knows of the greatest number of those behind it that pass a test.
-use Rattle.std.proofs.Common.{◌≡◌, ◌≢◌, ℕ, ◌+◌, ◌^◌, ◌<◌, Bool, true, false, cond, ℤ, ◌≤ℤ◌, Option, Some, None}
-use Rattle.std.proofs.Common.{IsSome, MatchOption, subst, arith, refl, sym, ap, ◌∙◌, inl, inr, int_lt}
+use Rattle.std.proofs.Common.{◌≡◌, ◌≢◌, ℕ, ◌+◌, ◌^◌, ◌<◌, Bool, true, false, cond}
+use Rattle.std.proofs.Common.{ℤ, ◌≤ℤ◌, Option, Some, None}
+use Rattle.std.proofs.Common.{IsSome, MatchOption, subst, arith, refl, sym, ap, ◌∙◌, inl, inr}
+use Rattle.std.proofs.Common.{int_lt}
 use Rattle.std.proofs.lemmas.Int.{ints}
 use Rattle.std.proofs.lemmas.Bool.{false≢true}
 use Rattle.std.proofs.Math.Pow.{pow-lt}

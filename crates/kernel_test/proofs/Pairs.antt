@@ -1,5 +1,6 @@
 -- What a table of surpluses says of the balance of two players.
-use Rattle.std.proofs.Common.{◌≡◌, ◌≢◌, ℕ, ◌^◌, ◌<◌, true, ℤ, List, Option, Some, IsSome}
+use Rattle.std.proofs.Common.{◌≡◌, ◌≢◌, ℕ, ◌^◌, ◌<◌, true, ℤ, List, Option, Some}
+use Rattle.std.proofs.Common.{IsSome}
 use Rattle.std.proofs.Common.{arith, refl, sym, ap, subst, ◌∙◌, inl, inr}
 use Rattle.definitions.proofs.Cases.{less_or_greater}
 use Rattle.definitions.proofs.Scans.{IsGreatest-unique}

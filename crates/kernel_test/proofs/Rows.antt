@@ -1,6 +1,8 @@
 -- What a table has whose rows below one are raised, one row further on.
-use Rattle.std.proofs.Common.{◌≡◌, ℕ, ◌+◌, ◌*◌, ◌<◌, true, false, ◌&&◌, not, nat_eq, nat_lt, ℤ, Option}
-use Rattle.std.proofs.Common.{None, List, length, set, arith, refl, sym, ap, ◌∙◌, inl, inr}
+use Rattle.std.proofs.Common.{◌≡◌, ℕ, ◌+◌, ◌*◌, ◌<◌, true, false, ◌&&◌, not, nat_eq}
+use Rattle.std.proofs.Common.{nat_lt, ℤ, Option}
+use Rattle.std.proofs.Common.{None, List, length, set, arith, refl, sym, ap, ◌∙◌, inl}
+use Rattle.std.proofs.Common.{inr}
 use Rattle.std.proofs.lemmas.List.{get_or-set_same, get_or-set_other}
 use Rattle.definitions.proofs.Cases.{less_same_or_greater, same_or_other, nat_eq-less}
 use Rattle.definitions.proofs.Cases.{nat_eq-other, nat_eq-equal, nat_lt-less, nat_lt-past}

@@ -13,7 +13,8 @@
 --   AreFloors table least    no number of a row is below the row's floor, where that is there
 --   AreThere n table         there is a number for each two of n players
 --   AreSurpluses g x table   each number is the surplus of the row's player against the column's
-use Rattle.std.specs.Prelude.{◌≡◌, ◌≢◌, ℕ, ◌+◌, ◌*◌, ◌<◌, Bool, true, List, ℤ, ◌≤ℤ◌, int_lt}
+use Rattle.std.specs.Prelude.{◌≡◌, ◌≢◌, ℕ, ◌+◌, ◌*◌, ◌<◌, Bool, true, List, ℤ}
+use Rattle.std.specs.Prelude.{◌≤ℤ◌, int_lt}
 use Rattle.std.specs.Prelude.{Option, Some, None, IsSome, slice_index_or, if◌then◌else◌}
 use Rattle.definitions.specs.Games.{Game, Allocation}
 use Rattle.definitions.specs.Prekernel.{IsSurplus}

@@ -1,5 +1,6 @@
 -- The form of all levels is the form of those that are left behind those in front.
-use Rattle.std.proofs.Common.{◌≡◌, ℕ, ◌+◌, ◌<◌, List, [], ◌∷◌, ◌++◌, length, take, drop, get_or, add-one}
+use Rattle.std.proofs.Common.{◌≡◌, ℕ, ◌+◌, ◌<◌, List, [], ◌∷◌, ◌++◌, length, take}
+use Rattle.std.proofs.Common.{drop, get_or, add-one}
 use Rattle.std.proofs.Math.Seq.{take-suc}
 use Rattle.definitions.specs.Certificates.{Level, LevelsForm}
 

@@ -1,6 +1,7 @@
 -- Players alone, inside and outside of a span of what levels fix; and answers of a span, read for other names of
 -- the same numbers.
-use Rattle.std.proofs.Common.{◌≡◌, ℕ, ◌<◌, Bool, true, false, List, length, sym, subst, ◌∙◌}
+use Rattle.std.proofs.Common.{◌≡◌, ℕ, ◌<◌, Bool, true, false, List, length, sym, subst}
+use Rattle.std.proofs.Common.{◌∙◌}
 use Rattle.std.specs.Bool.{Decides}
 use Rattle.std.proofs.lemmas.Bool.{false≢true}
 use Rattle.definitions.specs.Coalitions.{singleton}

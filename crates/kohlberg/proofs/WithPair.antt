@@ -1,6 +1,8 @@
 -- A pair put among pairs in mask order.
-use Rattle.std.proofs.Common.{◌≡◌, ◌≢◌, ◌⊎◌, ℕ, suc, ◌+◌, ◌≤◌, Bool, true, false, cond, nat_lt, List, [], ◌∷◌}
-use Rattle.std.proofs.Common.{length, ℤ, pos, ◌+ℤ◌, if◌then◌else◌, refl, ap, inl, inr, arith, ◌||◌}
+use Rattle.std.proofs.Common.{◌≡◌, ◌≢◌, ◌⊎◌, ℕ, suc, ◌+◌, ◌≤◌, Bool, true, false}
+use Rattle.std.proofs.Common.{cond, nat_lt, List, [], ◌∷◌}
+use Rattle.std.proofs.Common.{length, ℤ, pos, ◌+ℤ◌, if◌then◌else◌, refl, ap, inl, inr, arith}
+use Rattle.std.proofs.Common.{◌||◌}
 use Rattle.std.specs.List.{list_any, AllByRecursion}
 use Rattle.std.proofs.lemmas.Bool.{false≢true}
 use Rattle.std.proofs.lemmas.Bool.Decides.{nat_tests}

@@ -6,7 +6,8 @@
 --   IsLevelVector   a coalition of levels, or a player alone whose bound has such a weight there
 --   SpansFixed      coalitions span exactly what levels fix
 --   IsOf            a level is of n players
-use Rattle.std.specs.Prelude.{◌≡◌, ◌⊎◌, ℕ, ◌^◌, ◌<◌, ◌&&◌, IsTrue, nat_eq, List, ◌++◌, ℤ, pos, int_le}
+use Rattle.std.specs.Prelude.{◌≡◌, ◌⊎◌, ℕ, ◌^◌, ◌<◌, ◌&&◌, IsTrue, nat_eq, List, ◌++◌}
+use Rattle.std.specs.Prelude.{ℤ, pos, int_le}
 use Rattle.std.specs.List.{list_any, AllByRecursion}
 use Rattle.definitions.specs.Coalitions.{singleton}
 use Rattle.definitions.specs.Certificates.{Level, InSpan, IsFixedVector, is_listed, has_bound}

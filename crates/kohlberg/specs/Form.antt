@@ -1,6 +1,7 @@
 -- For the private functions of this crate.
 -- The form of a certificate as tests.
-use Rattle.std.specs.Prelude.{ℕ, ◌+◌, ◌^◌, Bool, true, ◌&&◌, nat_lt, nat_le, List, [], ◌∷◌, ℤ, unsigned_abs}
+use Rattle.std.specs.Prelude.{ℕ, ◌+◌, ◌^◌, Bool, true, ◌&&◌, nat_lt, nat_le, List, []}
+use Rattle.std.specs.Prelude.{◌∷◌, ℤ, unsigned_abs}
 
 -- the size is below 2^63
 abbrev pub is_small : ℤ → Bool

@@ -1,7 +1,8 @@
 -- At a core point of a bankruptcy game the surplus of one claimant against another is the greater of minus what the
 -- first gets and minus what the other loses. Where the two surpluses are the same, that is the contested garment
 -- (Aumann and Maschler 1985).
-use Rattle.std.proofs.Common.{◌≡◌, ◌≢◌, ℕ, ◌-◌, ◌^◌, ◌<◌, not, List, length, ℤ, pos}
+use Rattle.std.proofs.Common.{◌≡◌, ◌≢◌, ℕ, ◌-◌, ◌^◌, ◌<◌, not, List, length, ℤ}
+use Rattle.std.proofs.Common.{pos}
 use Rattle.std.proofs.Common.{◌-ℤ◌, ◌*ℤ◌, ◌≤ℤ◌, neg_ℤ, sym, ap, ◌∙◌, arith}
 use Rattle.std.specs.Int.{int_max, int_min}
 use Rattle.std.proofs.lemmas.Int.{ints, clamps, by_lt_z}

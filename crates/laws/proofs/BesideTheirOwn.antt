@@ -1,5 +1,6 @@
 -- Who adds no less than another, with a number of its own that counts beside the game, gets no less with it.
-use Rattle.std.proofs.Common.{◌≡◌, ℕ, ◌+◌, ◌^◌, ◌<◌, false, ℤ, ◌+ℤ◌, ◌*ℤ◌, ◌≤ℤ◌, arith}
+use Rattle.std.proofs.Common.{◌≡◌, ℕ, ◌+◌, ◌^◌, ◌<◌, false, ℤ, ◌+ℤ◌, ◌*ℤ◌, ◌≤ℤ◌}
+use Rattle.std.proofs.Common.{arith}
 use Rattle.definitions.proofs.Families.{allocation_of}
 use Rattle.definitions.proofs.Parts.{sum_over-more}
 use Rattle.definitions.proofs.Ring.{linear}

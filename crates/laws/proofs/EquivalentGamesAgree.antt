@@ -1,6 +1,7 @@
 -- A game and the game of k times its worths agree, for shares times k, and so do games that are strategically
 -- equivalent.
-use Rattle.std.proofs.Common.{◌≡◌, ℕ, List, map, ℤ, pos, ◌-ℤ◌, ◌*ℤ◌, ◌≤ℤ◌, sym, ap, subst, ◌∙◌, arith}
+use Rattle.std.proofs.Common.{◌≡◌, ℕ, List, map, ℤ, pos, ◌-ℤ◌, ◌*ℤ◌, ◌≤ℤ◌, sym}
+use Rattle.std.proofs.Common.{ap, subst, ◌∙◌, arith}
 use Rattle.std.proofs.lemmas.Int.{by_lt_z}
 use Rattle.std.proofs.lemmas.List.{length-map}
 use Rattle.definitions.proofs.Measured.{weight, measured-weight}

@@ -1,6 +1,7 @@
 -- Who adds nothing gets nothing. And who adds its worth alone has that times the total of the one that is worth 1
 -- with it and 0 without it, where all others add nothing.
-use Rattle.std.proofs.Common.{◌≡◌, ◌≢◌, ℕ, zero, suc, ◌+◌, ◌^◌, ◌<◌, Bool, true, false, cond, ℤ, pos}
+use Rattle.std.proofs.Common.{◌≡◌, ◌≢◌, ℕ, zero, suc, ◌+◌, ◌^◌, ◌<◌, Bool, true}
+use Rattle.std.proofs.Common.{false, cond, ℤ, pos}
 use Rattle.std.proofs.Common.{◌+ℤ◌, ◌-ℤ◌, ◌*ℤ◌, refl, sym, ap, ◌∙◌, inl, inr, arith}
 use lib.IntN.{*ℤ_comm}
 use Rattle.definitions.proofs.Cases.{less_or_last}

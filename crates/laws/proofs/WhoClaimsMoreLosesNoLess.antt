@@ -1,5 +1,6 @@
 -- Who claims more of an estate loses no less: beside minus the claims, the one with the lesser claim adds no less.
-use Rattle.std.proofs.Common.{◌≡◌, false, ◌+ℤ◌, ℕ, ◌+◌, ◌-◌, ◌^◌, ◌<◌, ◌≤◌, List, length, ℤ, pos}
+use Rattle.std.proofs.Common.{◌≡◌, false, ◌+ℤ◌, ℕ, ◌+◌, ◌-◌, ◌^◌, ◌<◌, ◌≤◌, List}
+use Rattle.std.proofs.Common.{length, ℤ, pos}
 use Rattle.std.proofs.Common.{◌-ℤ◌, ◌*ℤ◌, neg_ℤ, ◌≤ℤ◌, inl, inr, arith, slice_index}
 use Rattle.std.specs.Int.{int_max}
 use Rattle.definitions.proofs.Cases.{int_max-cases}

@@ -1,7 +1,8 @@
 -- Where some allocation is in the core, the prenucleolus is an imputation, and so the nucleolus. And the nucleolus
 -- beats each preimputation that gives somebody less than alone, since there an excess is above 0 and at a core point
 -- none is.
-use Rattle.std.proofs.Common.{◌≡◌, ◌↔◌, ℕ, ◌^◌, ◌<◌, ◌≤◌, pos, ◌*ℤ◌, ◌<ℤ◌, ap, ◌∙◌, inl, inr, arith}
+use Rattle.std.proofs.Common.{◌≡◌, ◌↔◌, ℕ, ◌^◌, ◌<◌, ◌≤◌, pos, ◌*ℤ◌, ◌<ℤ◌, ap}
+use Rattle.std.proofs.Common.{◌∙◌, inl, inr, arith}
 use Rattle.std.proofs.Math.Pow.{pow-lt}
 use Rattle.definitions.proofs.Masks.{grand_coalition-within}
 use Rattle.definitions.proofs.Members.{sum_over-singleton}

@@ -12,7 +12,8 @@
 --   matrix_times k m       each entry times k
 --   TreeTimes              a network of k times the lengths (Bird 1976)
 --   AssignmentTimes        a market of k times the gains (Shapley and Shubik 1971)
-use Rattle.std.specs.Prelude.{◌≡◌, ◌↔◌, ℕ, ◌*◌, ◌^◌, ◌<◌, List, map, ℤ, pos, ◌*ℤ◌, ◌≤ℤ◌}
+use Rattle.std.specs.Prelude.{◌≡◌, ◌↔◌, ℕ, ◌*◌, ◌^◌, ◌<◌, List, map, ℤ, pos}
+use Rattle.std.specs.Prelude.{◌*ℤ◌, ◌≤ℤ◌}
 use Rattle.definitions.specs.Classes.{table_worth, negated_worth, airport_worth}
 use Rattle.definitions.specs.Classes.{bankruptcy_worth, Matrix, IsTreeGame}
 use Rattle.definitions.specs.Classes.{IsAssignmentGame}

@@ -8,7 +8,8 @@
 --   exchanged                   two numbers exchanged, all others as they are
 --   RenumberingChangesNothing   the nucleolus of the renumbered game has the renumbered shares
 --   ExchangeChangesNothing      who exchange their numbers exchange their shares, and all others keep theirs
-use Rattle.std.specs.Prelude.{◌≡◌, ℕ, zero, suc, ◌+◌, ◌^◌, ◌<◌, Bool, nat_eq, length, map, if◌then◌else◌}
+use Rattle.std.specs.Prelude.{◌≡◌, ℕ, zero, suc, ◌+◌, ◌^◌, ◌<◌, Bool, nat_eq, length}
+use Rattle.std.specs.Prelude.{map, if◌then◌else◌}
 use Rattle.std.specs.List.{range_with_len}
 use Rattle.definitions.specs.Coalitions.{has_player}
 use Rattle.definitions.specs.Measures.{IsMeasurable}

@@ -10,7 +10,8 @@
 --   LeavingOutChangesNothing    for efficient allocations, that is the same as over the proper coalitions alone
 --   IsNucleolusAmongAll         a member of the family that beats every other member over these lists
 --   NucleolusAmongAll           that is the same as the nucleolus
-use Rattle.std.specs.Prelude.{◌≡◌, ◌↔◌, ℕ, ◌+◌, ◌^◌, List, [], ◌∷◌, map, ℤ, ◌*ℤ◌, ◌≤ℤ◌, if◌then◌else◌}
+use Rattle.std.specs.Prelude.{◌≡◌, ◌↔◌, ℕ, ◌+◌, ◌^◌, List, [], ◌∷◌, map, ℤ}
+use Rattle.std.specs.Prelude.{◌*ℤ◌, ◌≤ℤ◌, if◌then◌else◌}
 use Rattle.std.specs.List.{AllByRecursion, range_with_len}
 use Rattle.std.specs.Ordering.{int_eq}
 use Rattle.definitions.specs.Games.{Game, Allocation, measured_excess, IsAllocation, IsEfficient, InFamily, IsSame}

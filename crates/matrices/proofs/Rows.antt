@@ -1,5 +1,6 @@
 -- Rows seen through what keeps them, and entries outside of the rows.
-use Rattle.std.proofs.Common.{◌≡◌, ◌⊎◌, ℕ, ◌^◌, ◌<◌, ◌≤◌, List, [], length, map, ℤ, pos, negsuc, unsigned_abs}
+use Rattle.std.proofs.Common.{◌≡◌, ◌⊎◌, ℕ, ◌^◌, ◌<◌, ◌≤◌, List, [], length, map}
+use Rattle.std.proofs.Common.{ℤ, pos, negsuc, unsigned_abs}
 use Rattle.std.proofs.Common.{slice_index_or, get_or, All, sym, ap, subst, ◌∙◌, inl, inr, arith}
 use Rattle.std.proofs.lemmas.List.{get_or-map, length-map}
 use Rattle.std.proofs.Math.ListN.{get_or-eq_default}

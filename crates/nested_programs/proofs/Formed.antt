@@ -1,5 +1,6 @@
 -- The level of a stage has the form of a certificate's level, and so has a chain with one level more.
-use Rattle.std.proofs.Common.{◌≡◌, ℕ, ◌+◌, ◌*◌, ◌^◌, ◌<◌, ◌≤◌, Bool, true, IsTrue, nat_eq, List, [], ◌∷◌}
+use Rattle.std.proofs.Common.{◌≡◌, ℕ, ◌+◌, ◌*◌, ◌^◌, ◌<◌, ◌≤◌, Bool, true, IsTrue}
+use Rattle.std.proofs.Common.{nat_eq, List, [], ◌∷◌}
 use Rattle.std.proofs.Common.{◌++◌, length, map, ℤ, unsigned_abs, sym, subst, arith}
 use Rattle.std.specs.List.{list_any, AllByRecursion, IsDistinct}
 use Rattle.std.proofs.lemmas.List.{append_assoc, append-nil}

@@ -1,6 +1,8 @@
 -- The passes that make a level from weights, step by step.
-use Rattle.std.proofs.Common.{◌≡◌, ◌≢◌, ℕ, suc, ◌+◌, ◌*◌, ◌<◌, true, false, List, [], ◌∷◌, ◌++◌}
-use Rattle.std.proofs.Common.{length, map, take, drop, get_or, ℤ, pos, refl, sym, ap, ◌∙◌, arith}
+use Rattle.std.proofs.Common.{◌≡◌, ◌≢◌, ℕ, suc, ◌+◌, ◌*◌, ◌<◌, true, false, List}
+use Rattle.std.proofs.Common.{[], ◌∷◌, ◌++◌}
+use Rattle.std.proofs.Common.{length, map, take, drop, get_or, ℤ, pos, refl, sym, ap}
+use Rattle.std.proofs.Common.{◌∙◌, arith}
 use Rattle.std.specs.Ordering.{int_eq}
 use Rattle.std.proofs.lemmas.Bool.Decides.{Decides-int_eq}
 use Rattle.std.proofs.lemmas.List.{append_assoc, append-nil, length-take-le, map-append, take_more}

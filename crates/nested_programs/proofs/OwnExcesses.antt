@@ -1,6 +1,7 @@
 -- The excess of each level of a chain, which is the optimum of its own stage, is what multipliers that settle all
 -- levels have in its row.
-use Rattle.std.proofs.Common.{◌≡◌, ℕ, List, [], ◌∷◌, length, ℤ, pos, ◌*ℤ◌, ◌≤ℤ◌, sym, ap, subst, ◌∙◌, arith}
+use Rattle.std.proofs.Common.{◌≡◌, ℕ, List, [], ◌∷◌, length, ℤ, pos, ◌*ℤ◌, ◌≤ℤ◌}
+use Rattle.std.proofs.Common.{sym, ap, subst, ◌∙◌, arith}
 use Rattle.std.proofs.lemmas.List.{append_assoc, length-append}
 use Rattle.definitions.proofs.Ring.{linear, mul_left_commℤ, mul-cancelℤ}
 use lib.IntN.{*ℤ_comm}

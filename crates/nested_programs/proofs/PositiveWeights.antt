@@ -1,5 +1,6 @@
 -- Weights of at least 1: the number of a column is at least 1 exactly where the column has a weight.
-use Rattle.std.proofs.Common.{◌≡◌, ℕ, Bool, true, IsTrue, List, [], ◌∷◌, ℤ, pos, ◌+ℤ◌}
+use Rattle.std.proofs.Common.{◌≡◌, ℕ, Bool, true, IsTrue, List, [], ◌∷◌, ℤ, pos}
+use Rattle.std.proofs.Common.{◌+ℤ◌}
 use Rattle.std.proofs.Common.{◌≤ℤ◌, refl, subst, inl, inr, arith, nat_eq}
 use Rattle.std.proofs.lemmas.Bool.Decides.{nat_tests}
 use Rattle.std.specs.List.{AllByRecursion}

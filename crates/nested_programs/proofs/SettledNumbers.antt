@@ -3,7 +3,8 @@
 -- player: the law over ordered groups, of numbers as columns of one place.
 --
 --   IsSettled   the coalitions that are listed and the players that have a bound weight differ by nothing
-use Rattle.std.proofs.Common.{◌≡◌, ℕ, ◌<◌, IsTrue, List, ℤ, pos, ◌≤ℤ◌, inl, inr, arith}
+use Rattle.std.proofs.Common.{◌≡◌, ℕ, ◌<◌, IsTrue, List, ℤ, pos, ◌≤ℤ◌, inl, inr}
+use Rattle.std.proofs.Common.{arith}
 use Rattle.std.proofs.lemmas.Int.{by_lt_z}
 use Rattle.definitions.proofs.Ring.{linear}
 use Rattle.definitions.specs.Coalitions.{grand_coalition, sum_over}

@@ -1,5 +1,6 @@
 -- Where the columns of positive weight are tight, and what follows of the optimum.
-use Rattle.std.proofs.Common.{◌≡◌, ℕ, ◌<◌, IsTrue, List, [], ◌∷◌, ℤ, pos, ◌-ℤ◌, ◌*ℤ◌, ◌≤ℤ◌}
+use Rattle.std.proofs.Common.{◌≡◌, ℕ, ◌<◌, IsTrue, List, [], ◌∷◌, ℤ, pos, ◌-ℤ◌}
+use Rattle.std.proofs.Common.{◌*ℤ◌, ◌≤ℤ◌}
 use Rattle.std.proofs.Common.{refl, sym, ap, ◌∙◌, inl, inr, arith, slice_index_or}
 use Rattle.std.proofs.lemmas.Int.{by_lt_z}
 use Rattle.std.specs.List.{AllByRecursion}

@@ -12,7 +12,8 @@
 --   IsChain        each answers the stage behind the levels of those in front
 --   last_of        the last answer
 --   HaveExcesses   the levels' excesses are multipliers of the level rows
-use Rattle.std.specs.Prelude.{◌≡◌, ◌⊎◌, ℕ, ◌+◌, ◌<◌, Bool, IsTrue, List, [], ◌∷◌, ◌++◌}
+use Rattle.std.specs.Prelude.{◌≡◌, ◌⊎◌, ℕ, ◌+◌, ◌<◌, Bool, IsTrue, List, [], ◌∷◌}
+use Rattle.std.specs.Prelude.{◌++◌}
 use Rattle.std.specs.Prelude.{length, ℤ, pos, ◌+ℤ◌, ◌-ℤ◌, ◌*ℤ◌, ◌≤ℤ◌, Decides}
 use Rattle.std.specs.List.{AllByRecursion}
 use Rattle.definitions.specs.Sums.{weighted_sum}

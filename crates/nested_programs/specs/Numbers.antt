@@ -9,7 +9,8 @@
 --   level_pairs     those of one level
 --   bound_pairs     the players at their bound and their net numbers
 --   IsLevelOf       the level
-use Rattle.std.specs.Prelude.{◌≡◌, ℕ, zero, suc, ◌+◌, ◌-◌, ◌*◌, ◌^◌, ◌<◌, nat_eq, nat_le, List, [], ◌∷◌, ◌++◌}
+use Rattle.std.specs.Prelude.{◌≡◌, ℕ, zero, suc, ◌+◌, ◌-◌, ◌*◌, ◌^◌, ◌<◌, nat_eq}
+use Rattle.std.specs.Prelude.{nat_le, List, [], ◌∷◌, ◌++◌}
 use Rattle.std.specs.Prelude.{length, map, ℤ, pos, ◌-ℤ◌, ◌≤ℤ◌, if◌then◌else◌, unsigned_abs, slice_index_or}
 use Rattle.std.specs.List.{AllByRecursion, IsDistinct}
 use Rattle.std.specs.Ordering.{int_eq}

@@ -1,5 +1,6 @@
 -- The sum of a list of numbers is the sum of its players' numbers.
-use Rattle.std.proofs.Common.{◌≡◌, ℕ, ◌+◌, List, [], ◌∷◌, length, get_or, sum, ℤ, pos, ◌+ℤ◌, refl, arith}
+use Rattle.std.proofs.Common.{◌≡◌, ℕ, ◌+◌, List, [], ◌∷◌, length, get_or, sum, ℤ}
+use Rattle.std.proofs.Common.{pos, ◌+ℤ◌, refl, arith}
 use Rattle.std.proofs.lemmas.List.Sums.{sum_by-cons}
 use Rattle.std.proofs.lemmas.Int.{ints}
 use Rattle.definitions.proofs.Members.{sum_below-front}

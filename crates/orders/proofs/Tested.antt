@@ -1,5 +1,6 @@
 -- What tests of the players' numbers tell.
-use Rattle.std.proofs.Common.{◌≡◌, ℕ, zero, suc, ◌+◌, ◌≤◌, eqb, Bool, false, List, [], ◌∷◌, map}
+use Rattle.std.proofs.Common.{◌≡◌, ℕ, zero, suc, ◌+◌, ◌≤◌, eqb, Bool, false, List}
+use Rattle.std.proofs.Common.{[], ◌∷◌, map}
 use Rattle.std.proofs.Common.{fold, pos, unsigned_abs, refl, sym, ◌∙◌, arith}
 use Rattle.std.proofs.lemmas.Bool.{false≢true}
 

@@ -1,6 +1,7 @@
 -- Fractions in lowest terms over their least common denominator, against the numerators and the denominator that
 -- they were made from.
-use Rattle.std.proofs.Common.{◌≡◌, ℕ, ◌*◌, ◌/◌, ◌<◌, ◌≤◌, List, length, map, get_or, arith, sym, ap}
+use Rattle.std.proofs.Common.{◌≡◌, ℕ, ◌*◌, ◌/◌, ◌<◌, ◌≤◌, List, length, map, get_or}
+use Rattle.std.proofs.Common.{arith, sym, ap}
 use Rattle.std.proofs.Common.{subst, ◌∙◌, ℤ, pos, ◌*ℤ◌, ◌≤ℤ◌, unsigned_abs, int_div, All}
 use Prim.Native.Nat.{◌∣◌}
 use native.Mathlib.Nat.{dvd-mul_right_of_dvd}

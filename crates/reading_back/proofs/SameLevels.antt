@@ -1,5 +1,6 @@
 -- A certificate's levels hold for the same shares over another denominator.
-use Rattle.std.proofs.Common.{◌≡◌, ℕ, List, [], ◌∷◌, ◌++◌, ℤ, pos, ◌*ℤ◌, sym, ap, ◌∙◌, arith}
+use Rattle.std.proofs.Common.{◌≡◌, ℕ, List, [], ◌∷◌, ◌++◌, ℤ, pos, ◌*ℤ◌, sym}
+use Rattle.std.proofs.Common.{ap, ◌∙◌, arith}
 use Rattle.definitions.proofs.Ring.{linear, ring_laws, mul_assocℤ, mul-leℤ, mul-le_cancelℤ, mul-cancelℤ}
 use Rattle.definitions.specs.Coalitions.{singleton}
 use Rattle.definitions.specs.Measures.{measured_den}

@@ -1,5 +1,6 @@
 -- The same shares over another denominator: what coalitions get, and the family.
-use Rattle.std.proofs.Common.{◌≡◌, ℕ, ◌/◌, cond, ℤ, pos, ◌-ℤ◌, ◌*ℤ◌, sym, ap, ◌∙◌, inl, inr, arith}
+use Rattle.std.proofs.Common.{◌≡◌, ℕ, ◌/◌, cond, ℤ, pos, ◌-ℤ◌, ◌*ℤ◌, sym, ap}
+use Rattle.std.proofs.Common.{◌∙◌, inl, inr, arith}
 use Rattle.std.proofs.lemmas.List.{get_or_past}
 use Rattle.definitions.proofs.Ring.{linear, mul-subℤ, mul_left_commℤ, mul-leℤ}
 use Rattle.definitions.proofs.Ring.{mul-le_cancelℤ, mul-cancelℤ, mul-zeroℤ}

@@ -1,5 +1,6 @@
 -- Signs that are turned where the numbers are costs.
-use Rattle.std.proofs.Common.{◌≡◌, ℕ, ◌<◌, length, Bool, true, false, refl, ℤ, pos, ◌*ℤ◌, neg_ℤ}
+use Rattle.std.proofs.Common.{◌≡◌, ℕ, ◌<◌, length, Bool, true, false, refl, ℤ, pos}
+use Rattle.std.proofs.Common.{◌*ℤ◌, neg_ℤ}
 use Rattle.std.proofs.lemmas.List.{get_or-map, length-map}
 use Rattle.definitions.proofs.Ring.{neg-mulℤ}
 use Rattle.definitions.specs.Games.{Allocation, share}

@@ -1,6 +1,8 @@
 -- Weights, and the pairs that they stand in, are read as they were printed.
-use Rattle.std.proofs.Common.{◌≡◌, ℕ, ◌+◌, ◌-◌, ◌^◌, ◌<◌, ◌≤◌, Bool, true, List, [], ◌∷◌, map, Option, Some, None}
-use Rattle.std.proofs.Common.{option_and_then, ℤ, pos, negsuc, nat_lt, nat_le, ◌&&◌, refl, ap, ap₂, ◌∙◌, arith}
+use Rattle.std.proofs.Common.{◌≡◌, ℕ, ◌+◌, ◌-◌, ◌^◌, ◌<◌, ◌≤◌, Bool, true, List}
+use Rattle.std.proofs.Common.{[], ◌∷◌, map, Option, Some, None}
+use Rattle.std.proofs.Common.{option_and_then, ℤ, pos, negsuc, nat_lt, nat_le, ◌&&◌, refl, ap, ap₂}
+use Rattle.std.proofs.Common.{◌∙◌, arith}
 use Rattle.std.specs.Prelude.{is_some, unwrap_or}
 use Rattle.std.specs.List.{list_all, AllByRecursion}
 use Rattle.std.proofs.lemmas.Bool.{and_from, lt-ltb, le-leb}

@@ -1,5 +1,6 @@
 -- Where numbers are the shares in fractions of a certificate, they are the nucleolus among shares in numbers.
-use Rattle.std.proofs.Common.{sym, ◌∙◌, ◌≡◌, ◌≤ℤ◌, ◌⊎◌, ℕ, ◌+◌, ◌-◌, ◌^◌, ◌<◌, ◌≤◌, Bool, true, false, cond}
+use Rattle.std.proofs.Common.{sym, ◌∙◌, ◌≡◌, ◌≤ℤ◌, ◌⊎◌, ℕ, ◌+◌, ◌-◌, ◌^◌, ◌<◌}
+use Rattle.std.proofs.Common.{◌≤◌, Bool, true, false, cond}
 use Rattle.std.proofs.Common.{List, [], ℤ, pos, ◌*ℤ◌, ◌<ℤ◌, inl, inr, arith, if◌then◌else◌}
 use Rattle.std.proofs.lemmas.Int.{by_lt_z}
 use Rattle.definitions.proofs.Ring.{linear}

@@ -1,6 +1,7 @@
 -- Integer combinations of the unit and of the shares of players, by their columns: entry 0 is how often the unit is
 -- taken, and entry 1 + i how often the share of player i.
-use Rattle.std.proofs.Common.{◌≡◌, ℕ, zero, suc, ◌<◌, Bool, true, false, cond, ℤ, pos, negsuc, ◌+ℤ◌, ◌-ℤ◌}
+use Rattle.std.proofs.Common.{◌≡◌, ℕ, zero, suc, ◌<◌, Bool, true, false, cond, ℤ}
+use Rattle.std.proofs.Common.{pos, negsuc, ◌+ℤ◌, ◌-ℤ◌}
 use Rattle.std.proofs.Common.{◌*ℤ◌, sym, ap, inl, inr, arith, nat_eq, if◌then◌else◌}
 use Rattle.definitions.proofs.Ring.{zero-mulℤ, suc-mulℤ, negsuc-mulℤ}
 use Rattle.definitions.proofs.Cases.{less_or_last, nat_eq-less, nat_eq-other, nat_eq-equal}

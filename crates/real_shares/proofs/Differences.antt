@@ -1,6 +1,8 @@
 -- The difference between shares in fractions and shares in numbers, as columns, and what it does to excesses.
-use Rattle.std.proofs.Common.{◌≡◌, ℕ, zero, suc, ◌<◌, ◌≤◌, Bool, true, false, cond, List, length, ℤ, pos, ◌+ℤ◌}
-use Rattle.std.proofs.Common.{◌-ℤ◌, ◌*ℤ◌, refl, sym, ap, ◌∙◌, inl, inr, arith, nat_eq, if◌then◌else◌}
+use Rattle.std.proofs.Common.{◌≡◌, ℕ, zero, suc, ◌<◌, ◌≤◌, Bool, true, false, cond}
+use Rattle.std.proofs.Common.{List, length, ℤ, pos, ◌+ℤ◌}
+use Rattle.std.proofs.Common.{◌-ℤ◌, ◌*ℤ◌, refl, sym, ap, ◌∙◌, inl, inr, arith, nat_eq}
+use Rattle.std.proofs.Common.{if◌then◌else◌}
 use Rattle.definitions.proofs.Ring.{linear, mul-subℤ, mul-zeroℤ, mul-oneℤ, mul_left_commℤ}
 use Rattle.definitions.proofs.Cases.{less_or_last, nat_eq-same, nat_eq-other}
 use Rattle.definitions.proofs.Measured.{weight, measured-weight}

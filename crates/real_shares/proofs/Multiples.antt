@@ -1,5 +1,6 @@
 -- Sums, negatives and integer multiples in a linearly ordered abelian group.
-use Rattle.std.proofs.Common.{◌≡◌, ℕ, zero, suc, ◌+◌, ◌<◌, ℤ, pos, negsuc, ◌+ℤ◌, ◌-ℤ◌}
+use Rattle.std.proofs.Common.{◌≡◌, ℕ, zero, suc, ◌+◌, ◌<◌, ℤ, pos, negsuc, ◌+ℤ◌}
+use Rattle.std.proofs.Common.{◌-ℤ◌}
 use Rattle.std.proofs.Common.{◌≤ℤ◌, ◌<ℤ◌, refl, ap, subst, inl, inr, arith}
 use Rattle.definitions.proofs.Ring.{linear}
 use Rattle.real_shares.specs.Numbers.{Numbers, IsOrderedGroup, AtMost, Equal, multiple, times, total_below}

@@ -10,7 +10,8 @@
 --   placed, sorted_by      a list of numbers from the greatest
 --   IsLesserBy             the first list has the lesser number where the two first differ
 --   ComesBeforeBy          the two have one length, and the first is lesser
-use Rattle.std.specs.Prelude.{◌≡◌, ◌⊎◌, ℕ, zero, suc, Bool, IsTrue, List, [], ◌∷◌, length, ℤ, pos, negsuc}
+use Rattle.std.specs.Prelude.{◌≡◌, ◌⊎◌, ℕ, zero, suc, Bool, IsTrue, List, [], ◌∷◌}
+use Rattle.std.specs.Prelude.{length, ℤ, pos, negsuc}
 use Rattle.std.specs.Prelude.{if◌then◌else◌}
 use Rattle.definitions.specs.Coalitions.{has_player}
 

@@ -22,7 +22,8 @@
 --   InCoreOver             efficient, and no coalition is worth more than its members get
 --   IsSurplusOf            the most that a coalition with the one and without the other could do better by itself
 --   InPrekernelOver        efficient, and every two players have the same surplus against each other
-use Rattle.std.specs.Prelude.{◌≡◌, ◌≢◌, ℕ, ◌^◌, ◌/◌, ◌<◌, IsTrue, List, length, map, ℤ, pos, slice_index_or}
+use Rattle.std.specs.Prelude.{◌≡◌, ◌≢◌, ℕ, ◌^◌, ◌/◌, ◌<◌, IsTrue, List, length, map}
+use Rattle.std.specs.Prelude.{ℤ, pos, slice_index_or}
 use Rattle.definitions.specs.Coalitions.{singleton, grand_coalition, proper_coalitions, size}
 use Rattle.definitions.specs.Games.{Game, Allocation, share, measured_excess, InFamily}
 use Rattle.definitions.specs.Prekernel.{holds_without}

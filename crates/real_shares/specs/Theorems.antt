@@ -16,7 +16,8 @@
 --   PrekernelForReals            and so it is with the prekernel
 --   OneAmongReals                a game has at most one nucleolus among real shares
 --   UnbeatenIsSame               a member of the family over a group that the nucleolus doesn't beat has its shares
-use Rattle.std.specs.Prelude.{◌⊎◌, ◌&&◌, ◌||◌, nat_eq, if◌then◌else◌, int_lt, int_le, ℕ, ℤ, pos, ◌+ℤ◌, ◌-ℤ◌, ◌≤ℤ◌}
+use Rattle.std.specs.Prelude.{◌⊎◌, ◌&&◌, ◌||◌, nat_eq, if◌then◌else◌, int_lt, int_le, ℕ, ℤ, pos}
+use Rattle.std.specs.Prelude.{◌+ℤ◌, ◌-ℤ◌, ◌≤ℤ◌}
 use Rattle.std.specs.Prelude.{◌↔◌, List}
 use Rattle.definitions.specs.Measures.{IsMeasurable}
 use Rattle.definitions.specs.Games.{Game, Allocation, InCore, IsNucleolus}

@@ -1,5 +1,6 @@
 -- The text of a fraction of 128 bits is ASCII.
-use Rattle.std.proofs.Common.{◌≡◌, ℕ, suc, ◌^◌, Bool, true, false, cond, ◌&&◌, List, [], ◌∷◌}
+use Rattle.std.proofs.Common.{◌≡◌, ℕ, suc, ◌^◌, Bool, true, false, cond, ◌&&◌, List}
+use Rattle.std.proofs.Common.{[], ◌∷◌}
 use Rattle.std.proofs.Common.{Some, None, ℤ, pos, negsuc, refl, subst, arith}
 use Rattle.std.specs.Fmt.{signed_decimal}
 use Rattle.std.specs.Ordering.{int_eq}

@@ -1,5 +1,6 @@
 -- The edges of Bird's plan hold no float, and are nested at most two deep.
-use Rattle.std.proofs.Common.{◌≡◌, ◌≤◌, ℕ, nat_eq, List, Bool, true, false, ℤ, refl, arith}
+use Rattle.std.proofs.Common.{◌≡◌, ◌≤◌, ℕ, nat_eq, List, Bool, true, false, ℤ, refl}
+use Rattle.std.proofs.Common.{arith}
 use Rattle.serde_json.specs.Data.{depth}
 use Rattle.serde_json.specs.Written.{has_float}
 use Rattle.definitions.proofs.Alls.{all_any}

@@ -1,5 +1,6 @@
 -- The trees of certificates and shares hold no number but integers of 64 bits, and their keys ascend.
-use Rattle.std.proofs.Common.{ℕ, ◌<◌, Bool, List, [], ◌∷◌, map, refl, arith, ℤ, pos, negsuc}
+use Rattle.std.proofs.Common.{ℕ, ◌<◌, Bool, List, [], ◌∷◌, map, refl, arith, ℤ}
+use Rattle.std.proofs.Common.{pos, negsuc}
 use Rattle.std.specs.List.{AllByRecursion}
 use Rattle.serde_json.specs.Data.{Data}
 use Rattle.serde_json.specs.View.{items_of}

@@ -10,7 +10,8 @@
 --   HasPrintableForm   an answer has such a tree, or such numbers
 --   IsPrintable        an answer that can be printed over any scale
 --   HasSmallWeights    the weights and the total of a level are below 2^63 in size
-use Rattle.std.specs.Prelude.{◌≡◌, ◌≤◌, ◌^◌, ⊤, false, ℤ, pos, ◌≤ℤ◌, ◌<ℤ◌, Option, Some, None}
+use Rattle.std.specs.Prelude.{◌≡◌, ◌≤◌, ◌^◌, ⊤, false, ℤ, pos, ◌≤ℤ◌, ◌<ℤ◌, Option}
+use Rattle.std.specs.Prelude.{Some, None}
 use Rattle.std.specs.List.{AllByRecursion}
 use Rattle.serde_json.specs.Data.{Data, depth}
 use Rattle.serde_json.specs.View.{view}

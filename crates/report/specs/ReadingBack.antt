@@ -7,7 +7,8 @@
 --   NucleoliAreReadBack          the law: the tree of a nucleolus is so, and its shares are read back
 --   NucleoliAreShort             the law: its text is little longer than that of the game
 --   ScaledFractionsAreReadBack   the law: a fraction is read over a scale, and times the scale is as before
-use Rattle.std.specs.Prelude.{◌≡◌, ◌+◌, ◌^◌, ◌≤◌, ℕ, pos, List, length, Some, Bool, codes, FitsSigned}
+use Rattle.std.specs.Prelude.{◌≡◌, ◌+◌, ◌^◌, ◌≤◌, ℕ, pos, List, length, Some, Bool}
+use Rattle.std.specs.Prelude.{codes, FitsSigned}
 use Rattle.std.specs.List.{AllByRecursion}
 use Rattle.serde_json.specs.Data.{Data, string, depth}
 use Rattle.serde_json.specs.Find.{get}

@@ -5,7 +5,8 @@
 --   printed_share   a share as it is printed, over the scale
 --   share_data      its text
 --   share_list      the shares of all players
-use Rattle.std.specs.Prelude.{◌^◌, ◌<◌, ℕ, ℤ, pos, neg_ℤ, ◌*ℤ◌, unsigned_abs, map, Bool, if◌then◌else◌}
+use Rattle.std.specs.Prelude.{◌^◌, ◌<◌, ℕ, ℤ, pos, neg_ℤ, ◌*ℤ◌, unsigned_abs, map, Bool}
+use Rattle.std.specs.Prelude.{if◌then◌else◌}
 use Rattle.serde_json.specs.Data.{Data, array}
 use Rattle.serde_json.specs.View.{items_of}
 use Rattle.definitions.specs.Games.{Allocation}

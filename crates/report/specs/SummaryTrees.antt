@@ -6,7 +6,8 @@
 --   share_members       what is said of the shares
 --   greatest_data       the greatest excess, or the word that there is none
 --   summary_tree        the summary of a generated game
-use Rattle.std.specs.Prelude.{ℕ, ◌-◌, ◌/◌, ℤ, pos, List, [], ◌∷◌, length, Option, Some, None, unsigned_abs, codes}
+use Rattle.std.specs.Prelude.{ℕ, ◌-◌, ◌/◌, ℤ, pos, List, [], ◌∷◌, length, Option}
+use Rattle.std.specs.Prelude.{Some, None, unsigned_abs, codes}
 use Rattle.serde_json.specs.Data.{Data, string, object, Members, member, no_members}
 use Rattle.definitions.specs.Games.{Allocation, share}
 use Rattle.fractions.specs.Divisors.{gcd}

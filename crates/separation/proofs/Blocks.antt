@@ -1,5 +1,6 @@
 -- The values of the columns of coalitions with plain excess, 256 at a time.
-use Rattle.std.proofs.Common.{◌≡◌, ℕ, ◌+◌, ◌*◌, ◌/◌, ◌%◌, ◌<◌, ◌≤◌, List, length, ℤ, pos, ◌+ℤ◌, sym}
+use Rattle.std.proofs.Common.{◌≡◌, ℕ, ◌+◌, ◌*◌, ◌/◌, ◌%◌, ◌<◌, ◌≤◌, List, length}
+use Rattle.std.proofs.Common.{ℤ, pos, ◌+ℤ◌, sym}
 use Rattle.std.proofs.Common.{ap, ◌∙◌, arith, slice_index_or, Option, Some, None, false}
 use Rattle.std.specs.Option.{ForSome}
 use Rattle.definitions.proofs.Ring.{linear, one-mulℤ}

@@ -1,5 +1,6 @@
 -- The sums of the coalitions of eight players, each from one before it.
-use Rattle.std.proofs.Common.{◌≡◌, ℕ, zero, suc, ◌+◌, ◌-◌, ◌*◌, ◌^◌, ◌<◌, ◌≤◌, Bool, true, false}
+use Rattle.std.proofs.Common.{◌≡◌, ℕ, zero, suc, ◌+◌, ◌-◌, ◌*◌, ◌^◌, ◌<◌, ◌≤◌}
+use Rattle.std.proofs.Common.{Bool, true, false}
 use Rattle.std.proofs.Common.{cond, List, ℤ, pos, ◌+ℤ◌, sym, ap, ◌∙◌, arith, nat_lt}
 use Rattle.std.proofs.Common.{slice_index_or, unsigned_abs, to_z, of_z, subst, inl, inr, refl, length, length-set}
 use Rattle.std.proofs.Common.{set, replicate}

@@ -1,5 +1,6 @@
 -- The first column that rises, in front or else among the coalitions'.
-use Rattle.std.proofs.Common.{◌≡◌, ℕ, ◌+◌, ◌-◌, ◌<◌, ◌^◌, Bool, List, length, ℤ, sym, ap}
+use Rattle.std.proofs.Common.{◌≡◌, ℕ, ◌+◌, ◌-◌, ◌<◌, ◌^◌, Bool, List, length, ℤ}
+use Rattle.std.proofs.Common.{sym, ap}
 use Rattle.std.proofs.Common.{◌∙◌, subst, inl, inr, arith, Option, None}
 use Rattle.std.specs.Option.{ForSome}
 use Rattle.definitions.specs.Games.{Game}

@@ -1,5 +1,6 @@
 -- A search for the best column that rises, number by number.
-use Rattle.std.proofs.Common.{◌≡◌, ◌↔◌, ◌⊎◌, inl, inr, ℕ, ◌+◌, ◌<◌, ◌≤◌, ℤ, ◌≤ℤ◌, ◌<ℤ◌}
+use Rattle.std.proofs.Common.{◌≡◌, ◌↔◌, ◌⊎◌, inl, inr, ℕ, ◌+◌, ◌<◌, ◌≤◌, ℤ}
+use Rattle.std.proofs.Common.{◌≤ℤ◌, ◌<ℤ◌}
 use Rattle.std.proofs.Common.{Option, Some, None, MatchOption, sym, subst, arith}
 use Rattle.definitions.proofs.Cases.{last_or_less_of, below_or_above}
 use Rattle.definitions.proofs.Ring.{linear}

@@ -1,5 +1,6 @@
 -- The columns of a stage are proper: none of them has all players and a level row.
-use Rattle.std.proofs.Common.{◌≡◌, ℕ, zero, suc, ◌+◌, ◌<◌, ◌≤◌, ◌^◌, Bool, true, false, ◌&&◌, List, [], ◌∷◌}
+use Rattle.std.proofs.Common.{◌≡◌, ℕ, zero, suc, ◌+◌, ◌<◌, ◌≤◌, ◌^◌, Bool, true}
+use Rattle.std.proofs.Common.{false, ◌&&◌, List, [], ◌∷◌}
 use Rattle.std.proofs.Common.{◌++◌, length, map, refl, sym, subst, arith, Option, Some, None}
 use Rattle.std.proofs.Math.Pow.{pow-lt}
 use Rattle.std.specs.List.{AllByRecursion}

@@ -1,5 +1,6 @@
 -- Lists of columns that loops make, push by push.
-use Rattle.std.proofs.Common.{◌≡◌, ℕ, ◌+◌, ◌<◌, List, [], ◌∷◌, ◌++◌, length, map, take, get_or}
+use Rattle.std.proofs.Common.{◌≡◌, ℕ, ◌+◌, ◌<◌, List, [], ◌∷◌, ◌++◌, length, map}
+use Rattle.std.proofs.Common.{take, get_or}
 use Rattle.std.proofs.Common.{refl, sym, ap, ◌∙◌, arith, append_assoc, ℤ, Option, Some}
 use Rattle.std.proofs.lemmas.List.{take_more, length-take-le, append-nil}
 use Rattle.definitions.specs.Games.{Game}

@@ -1,5 +1,6 @@
 -- A search for the first column that rises, number by number.
-use Rattle.std.proofs.Common.{◌≡◌, inl, inr, ℕ, ◌+◌, ◌<◌, ◌≤◌, Bool, List, ℤ, Option, arith, sym, subst, lt_trans}
+use Rattle.std.proofs.Common.{◌≡◌, inl, inr, ℕ, ◌+◌, ◌<◌, ◌≤◌, Bool, List, ℤ}
+use Rattle.std.proofs.Common.{Option, arith, sym, subst, lt_trans}
 use Rattle.definitions.specs.declared.Measure.{Measure}
 use Rattle.definitions.proofs.Cases.{last_or_less_of}
 use Rattle.separation.specs.declared.column.Column.{Column}

@@ -9,7 +9,8 @@
 --   kept_program        the program of the columns in a list, each under its place
 --   AreSmall            costs below 2^46, and level rows that are there
 --   AreShort            per head, few rows and columns with a small sum of sizes
-use Rattle.std.specs.Prelude.{◌≡◌, ℕ, ◌+◌, ◌-◌, ◌^◌, ◌<◌, Bool, false, nat_eq, nat_lt, List, ℤ, pos}
+use Rattle.std.specs.Prelude.{◌≡◌, ℕ, ◌+◌, ◌-◌, ◌^◌, ◌<◌, Bool, false, nat_eq, nat_lt}
+use Rattle.std.specs.Prelude.{List, ℤ, pos}
 use Rattle.std.specs.Prelude.{if◌then◌else◌, slice_index_or, Option, Some, None, unsigned_abs}
 use Rattle.std.specs.Option.{ForSome, is_some}
 use Rattle.definitions.specs.Coalitions.{has_player}

@@ -2,7 +2,8 @@
 -- give. It stands here, without tactics, since such an item may cite only the definitions of its own crate.
 --
 --   kept_lawful   such a program is lawful; all others are steps of it
-use Rattle.std.specs.Prelude.{◌≡◌, ◌⊎◌, ℕ, ◌+◌, ◌-◌, ◌≤◌, ◌<◌, Bool, true, false, IsTrue, nat_eq, nat_lt, cond}
+use Rattle.std.specs.Prelude.{◌≡◌, ◌⊎◌, ℕ, ◌+◌, ◌-◌, ◌≤◌, ◌<◌, Bool, true, false}
+use Rattle.std.specs.Prelude.{IsTrue, nat_eq, nat_lt, cond}
 use Rattle.std.specs.Prelude.{List, ℤ, pos, negsuc, Option, Some, None, refl, ◌^◌, unsigned_abs}
 use Rattle.std.proofs.Common.{inl, inr, sym, ap, subst, ◌∙◌}
 use Rattle.std.proofs.lemmas.Bool.{false≢true}

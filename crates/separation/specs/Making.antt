@@ -12,7 +12,8 @@
 --   inner_columns     the columns in front of these
 --   balanced_column   a column of the balanced program
 --   AreWithin         the coalitions of a level are of n players
-use Rattle.std.specs.Prelude.{◌≡◌, ℕ, zero, suc, ◌<◌, true, false, ◌&&◌, nat_lt, ◌^◌, List, [], ◌∷◌}
+use Rattle.std.specs.Prelude.{◌≡◌, ℕ, zero, suc, ◌<◌, true, false, ◌&&◌, nat_lt, ◌^◌}
+use Rattle.std.specs.Prelude.{List, [], ◌∷◌}
 use Rattle.std.specs.Prelude.{◌++◌, length, pos, ◌-ℤ◌, if◌then◌else◌, Option, Some, None}
 use Rattle.std.specs.List.{AllByRecursion}
 use Rattle.definitions.specs.Coalitions.{singleton, grand_coalition}

@@ -5,7 +5,8 @@
 --   ArePeaks g zs       so for each number of a list
 --   IsLeast low q z     none of the 64 numbers of a table from 64 q on is less than z, which is as small as these are
 --   AreLeast low zs     so for four numbers of a list
-use Rattle.std.specs.Prelude.{ℕ, ◌+◌, ◌*◌, ◌^◌, ◌<◌, ◌≤◌, List, ℤ, pos, ◌≤ℤ◌, slice_index_or, unsigned_abs}
+use Rattle.std.specs.Prelude.{ℕ, ◌+◌, ◌*◌, ◌^◌, ◌<◌, ◌≤◌, List, ℤ, pos, ◌≤ℤ◌}
+use Rattle.std.specs.Prelude.{slice_index_or, unsigned_abs}
 use Rattle.definitions.specs.Games.{Game}
 
 pub record IsPeak (g : Game) (k : ℕ) (z : ℤ) : Type 0 where

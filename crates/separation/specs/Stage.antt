@@ -22,7 +22,8 @@
 --   is_imputations            the family is the imputations
 --   is_further                there is a column so far past b
 --   stage_program             the program of all these
-use Rattle.std.specs.Prelude.{ℕ, ◌+◌, ◌-◌, Bool, true, false, ◌&&◌, nat_eq, nat_lt, List, [], ◌∷◌, ◌++◌}
+use Rattle.std.specs.Prelude.{ℕ, ◌+◌, ◌-◌, Bool, true, false, ◌&&◌, nat_eq, nat_lt, List}
+use Rattle.std.specs.Prelude.{[], ◌∷◌, ◌++◌}
 use Rattle.std.specs.Prelude.{length, map, ℤ, pos, ◌-ℤ◌, if◌then◌else◌, slice_index_or}
 use Rattle.definitions.specs.Coalitions.{has_player, singleton, grand_coalition}
 use Rattle.definitions.specs.Measures.{divisor}

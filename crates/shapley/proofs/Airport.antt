@@ -1,7 +1,9 @@
 -- The Shapley total of an airport game (Littlechild and Owen 1973): each unit of cost is shared equally by the
 -- players whose cost is above it.
-use Rattle.std.proofs.Common.{◌≡◌, ◌⊎◌, ℕ, zero, suc, ◌+◌, ◌-◌, ◌*◌, ◌/◌, ◌^◌, ◌<◌, ◌≤◌, Bool, true, false, cond}
-use Rattle.std.proofs.Common.{not, ◌&&◌, List, length, ℤ, pos, ◌+ℤ◌, ◌-ℤ◌, ◌*ℤ◌, neg_ℤ, refl, sym, ap, ◌∙◌, inl}
+use Rattle.std.proofs.Common.{◌≡◌, ◌⊎◌, ℕ, zero, suc, ◌+◌, ◌-◌, ◌*◌, ◌/◌, ◌^◌}
+use Rattle.std.proofs.Common.{◌<◌, ◌≤◌, Bool, true, false, cond}
+use Rattle.std.proofs.Common.{not, ◌&&◌, List, length, ℤ, pos, ◌+ℤ◌, ◌-ℤ◌, ◌*ℤ◌, neg_ℤ}
+use Rattle.std.proofs.Common.{refl, sym, ap, ◌∙◌, inl}
 use Rattle.std.proofs.Common.{inr, arith, nat_lt, nat_le, slice_index, if◌then◌else◌}
 use Rattle.std.specs.Prelude.{max}
 use Rattle.std.proofs.lemmas.Bool.{false≢true}

@@ -1,5 +1,6 @@
 -- The worths of all coalitions, each counted for its members and against the others, add to the Shapley total.
-use Rattle.std.proofs.Common.{◌≡◌, ℕ, ◌+◌, ◌-◌, ◌^◌, ◌<◌, Bool, true, false, cond, ℤ, pos, ◌+ℤ◌}
+use Rattle.std.proofs.Common.{◌≡◌, ℕ, ◌+◌, ◌-◌, ◌^◌, ◌<◌, Bool, true, false, cond}
+use Rattle.std.proofs.Common.{ℤ, pos, ◌+ℤ◌}
 use Rattle.std.proofs.Common.{◌-ℤ◌, ◌*ℤ◌, neg_ℤ, refl, ap, ◌∙◌, arith, if◌then◌else◌}
 use Rattle.definitions.proofs.Ring.{linear, mul-subℤ}
 use Rattle.definitions.proofs.Members.{sum_below-same, sum_below-add}

@@ -1,5 +1,6 @@
 -- How large factorials, terms and totals are, and the masks of at most 16 players.
-use Rattle.std.proofs.Common.{◌≡◌, ℕ, zero, suc, ◌+◌, ◌-◌, ◌*◌, ◌^◌, ◌%◌, ◌<◌, ◌≤◌, ℤ, pos, ◌*ℤ◌}
+use Rattle.std.proofs.Common.{◌≡◌, ℕ, zero, suc, ◌+◌, ◌-◌, ◌*◌, ◌^◌, ◌%◌, ◌<◌}
+use Rattle.std.proofs.Common.{◌≤◌, ℤ, pos, ◌*ℤ◌}
 use Rattle.std.proofs.Common.{unsigned_abs, to_z, of_z, ap, ◌∙◌, arith, mul-le-mul}
 use Rattle.std.proofs.lemmas.Int.{ints, unsigned_abs-mul, to_z_pos}
 use Rattle.definitions.proofs.Casts.{cast_kept}

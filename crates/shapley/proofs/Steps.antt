@@ -1,6 +1,8 @@
 -- The steps of the costs, and the common denominator.
-use Rattle.std.proofs.Common.{◌≡◌, ℕ, zero, suc, ◌+◌, ◌-◌, ◌*◌, ◌/◌, ◌<◌, ◌≤◌, Bool, true, false, cond}
-use Rattle.std.proofs.Common.{List, length, ℤ, pos, ◌+ℤ◌, ◌*ℤ◌, neg_ℤ, refl, sym, ap, ◌∙◌, inl, inr, arith}
+use Rattle.std.proofs.Common.{◌≡◌, ℕ, zero, suc, ◌+◌, ◌-◌, ◌*◌, ◌/◌, ◌<◌, ◌≤◌}
+use Rattle.std.proofs.Common.{Bool, true, false, cond}
+use Rattle.std.proofs.Common.{List, length, ℤ, pos, ◌+ℤ◌, ◌*ℤ◌, neg_ℤ, refl, sym, ap}
+use Rattle.std.proofs.Common.{◌∙◌, inl, inr, arith}
 use Rattle.std.proofs.Common.{nat_eq, nat_lt, slice_index, mul-le-mul, div-le_self, [], ◌∷◌, ◌++◌, get_or}
 use Rattle.std.proofs.Common.{◌^◌, unsigned_abs, to_z, of_z, length-append}
 use Rattle.std.proofs.lemmas.Bool.Decides.{nat_tests}

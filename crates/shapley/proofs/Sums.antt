@@ -1,6 +1,8 @@
 -- The loop over all coalitions, and the vector of the totals.
-use Rattle.std.proofs.Common.{◌≡◌, ℕ, suc, ◌+◌, ◌-◌, ◌*◌, ◌^◌, ◌<◌, ◌≤◌, Bool, true, false, cond, List, length}
-use Rattle.std.proofs.Common.{get_or, replicate, ℤ, pos, ◌+ℤ◌, ◌*ℤ◌, neg_ℤ, unsigned_abs, refl, sym, ap, ◌∙◌}
+use Rattle.std.proofs.Common.{◌≡◌, ℕ, suc, ◌+◌, ◌-◌, ◌*◌, ◌^◌, ◌<◌, ◌≤◌, Bool}
+use Rattle.std.proofs.Common.{true, false, cond, List, length}
+use Rattle.std.proofs.Common.{get_or, replicate, ℤ, pos, ◌+ℤ◌, ◌*ℤ◌, neg_ℤ, unsigned_abs, refl, sym}
+use Rattle.std.proofs.Common.{ap, ◌∙◌}
 use Rattle.std.proofs.Common.{arith, add-one, if◌then◌else◌, set, to_z, of_z, inl, inr}
 use mir.Syntax.{w128}
 use Rattle.definitions.proofs.Cases.{same_or_other}

@@ -1,5 +1,6 @@
 -- How often a list stands among lists.
-use Rattle.std.specs.Prelude.{ℕ, ◌+◌, Bool, true, false, ◌&&◌, nat_eq, List, [], ◌∷◌, if◌then◌else◌}
+use Rattle.std.specs.Prelude.{ℕ, ◌+◌, Bool, true, false, ◌&&◌, nat_eq, List, [], ◌∷◌}
+use Rattle.std.specs.Prelude.{if◌then◌else◌}
 
 abbrev pub is_same : List ℕ → List ℕ → Bool
 is_same [] [] = true

@@ -5,7 +5,8 @@
 --   count m n               how many players below n are in the set
 --   unit_share costs l u    a part of l for each player whose cost is above u
 --   units_below costs l c   what a player of cost c pays of l for each unit
-use Rattle.std.specs.Prelude.{ℕ, zero, suc, ◌/◌, Bool, List, length, nat_lt, ℤ, pos, slice_index, if◌then◌else◌}
+use Rattle.std.specs.Prelude.{ℕ, zero, suc, ◌/◌, Bool, List, length, nat_lt, ℤ, pos}
+use Rattle.std.specs.Prelude.{slice_index, if◌then◌else◌}
 use Rattle.definitions.specs.Sums.{sum_below}
 
 abbrev pub common : ℕ

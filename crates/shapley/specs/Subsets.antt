@@ -4,7 +4,8 @@
 --   subset_term v n i    what player i adds to a coalition, as often as that stands in front
 --   subset_total v n i   what player i adds to the coalitions without it, each as often as it stands in front
 --   credit n s w i       what the worth w of s adds to the total of player i
-use Rattle.std.specs.Prelude.{ℕ, ◌+◌, ◌-◌, ◌*◌, ◌^◌, length, ℤ, pos, neg_ℤ, ◌-ℤ◌, ◌*ℤ◌, if◌then◌else◌}
+use Rattle.std.specs.Prelude.{ℕ, ◌+◌, ◌-◌, ◌*◌, ◌^◌, length, ℤ, pos, neg_ℤ, ◌-ℤ◌}
+use Rattle.std.specs.Prelude.{◌*ℤ◌, if◌then◌else◌}
 use Rattle.definitions.specs.Sums.{sum_below}
 use Rattle.definitions.specs.Coalitions.{has_player, members}
 use Rattle.definitions.specs.Shapley.{factorial}

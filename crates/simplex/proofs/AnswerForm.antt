@@ -1,6 +1,8 @@
 -- The weights of the last basis in lowest terms: they and its multipliers are an answer.
-use Rattle.std.proofs.Common.{◌≡◌, ℕ, zero, suc, ◌*◌, ◌^◌, ◌<◌, ◌≤◌, IsTrue, List, length}
-use Rattle.std.proofs.Common.{map, nat_eq, arith, refl, sym, ap, subst, ◌∙◌, ℤ, pos, negsuc}
+use Rattle.std.proofs.Common.{◌≡◌, ℕ, zero, suc, ◌*◌, ◌^◌, ◌<◌, ◌≤◌, IsTrue, List}
+use Rattle.std.proofs.Common.{length}
+use Rattle.std.proofs.Common.{map, nat_eq, arith, refl, sym, ap, subst, ◌∙◌, ℤ, pos}
+use Rattle.std.proofs.Common.{negsuc}
 use Rattle.std.proofs.Common.{◌*ℤ◌, ◌<ℤ◌, ◌≤ℤ◌, unsigned_abs, mul_comm}
 use Prim.Native.Nat.{◌∣◌}
 use native.Mathlib.Nat.{pos_of_dvd_of_pos, le_of_dvd}

@@ -1,6 +1,8 @@
 -- The common divisor of the denominator and the weights.
-use Rattle.std.proofs.Common.{length, set, get_or-set_same, get_or-set_other, ◌≡◌, ◌≢◌, inl, inr, ℕ, suc, ◌+◌}
-use Rattle.std.proofs.Common.{◌*◌, ◌/◌, ◌^◌, ◌<◌, ◌≤◌, List, slice_index_or, arith, sym, ap, subst, ◌∙◌, ℤ, pos}
+use Rattle.std.proofs.Common.{length, set, get_or-set_same, get_or-set_other, ◌≡◌, ◌≢◌, inl, inr, ℕ, suc}
+use Rattle.std.proofs.Common.{◌+◌}
+use Rattle.std.proofs.Common.{◌*◌, ◌/◌, ◌^◌, ◌<◌, ◌≤◌, List, slice_index_or, arith, sym, ap}
+use Rattle.std.proofs.Common.{subst, ◌∙◌, ℤ, pos}
 use Rattle.std.proofs.Common.{negsuc, ◌*ℤ◌, neg_ℤ, ◌<ℤ◌, unsigned_abs, int_div, le_trans}
 use Prim.Native.Nat.{◌∣◌}
 use Rattle.std.specs.Int.{IsGcd}

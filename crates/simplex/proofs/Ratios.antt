@@ -1,6 +1,8 @@
 -- The lexicographic comparison of ratios, and the least of them.
-use Rattle.std.proofs.Common.{◌≡◌, inl, inr, ℕ, zero, suc, ◌+◌, ◌<◌, List, arith, refl, sym, ap, subst}
-use Rattle.std.proofs.Common.{◌∙◌, ℤ, pos, ◌+ℤ◌, ◌-ℤ◌, ◌*ℤ◌, ◌<ℤ◌, ◌≤ℤ◌, Option, Some, None}
+use Rattle.std.proofs.Common.{◌≡◌, inl, inr, ℕ, zero, suc, ◌+◌, ◌<◌, List, arith}
+use Rattle.std.proofs.Common.{refl, sym, ap, subst}
+use Rattle.std.proofs.Common.{◌∙◌, ℤ, pos, ◌+ℤ◌, ◌-ℤ◌, ◌*ℤ◌, ◌<ℤ◌, ◌≤ℤ◌, Option, Some}
+use Rattle.std.proofs.Common.{None}
 use Rattle.std.proofs.lemmas.Int.{ints}
 use Rattle.definitions.proofs.Ring.{ring_laws, linear}
 use Rattle.determinants.proofs.LexicographicSigns.{joined_nonnegative}

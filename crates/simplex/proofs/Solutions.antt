@@ -1,6 +1,8 @@
 -- The weights of a basis solve the program, and a direction of its second part is a ray.
-use Rattle.std.proofs.Common.{◌≡◌, ◌≢◌, ℕ, zero, suc, ◌-◌, ◌<◌, false, IsTrue, List, ◌∷◌}
-use Rattle.std.proofs.Common.{nat_eq, Option, Some, None, arith, refl, sym, ap, subst, ◌∙◌, ℤ}
+use Rattle.std.proofs.Common.{◌≡◌, ◌≢◌, ℕ, zero, suc, ◌-◌, ◌<◌, false, IsTrue, List}
+use Rattle.std.proofs.Common.{◌∷◌}
+use Rattle.std.proofs.Common.{nat_eq, Option, Some, None, arith, refl, sym, ap, subst, ◌∙◌}
+use Rattle.std.proofs.Common.{ℤ}
 use Rattle.std.proofs.Common.{pos, ◌+ℤ◌, ◌-ℤ◌, ◌*ℤ◌, neg_ℤ, ◌<ℤ◌, ◌≤ℤ◌}
 use Rattle.std.specs.List.{AllByRecursion, IsDistinct}
 use Rattle.std.proofs.lemmas.Int.{ints}

@@ -4,7 +4,8 @@
 --   IsAnswer      optimal weights in form, optimal multipliers, and no ray
 --   HasSolution   some weights solve the program
 --   IsFault       what a refusal means
-use Rattle.std.specs.Prelude.{ℕ, ◌^◌, ◌≤◌, ◌<◌, ◌≡◌, List, length, ℤ, pos, ◌≤ℤ◌, unsigned_abs}
+use Rattle.std.specs.Prelude.{ℕ, ◌^◌, ◌≤◌, ◌<◌, ◌≡◌, List, length, ℤ, pos, ◌≤ℤ◌}
+use Rattle.std.specs.Prelude.{unsigned_abs}
 use Prim.Native.Nat.{◌∣◌}
 use Rattle.std.specs.List.{AllByRecursion}
 use Rattle.definitions.specs.Programs.{Program, Solves, IsOptimal, HasNoSolution, HasRay}

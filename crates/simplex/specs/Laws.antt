@@ -8,7 +8,8 @@
 --   first_columns    the first columns of a sequence
 --   put              the columns with another one at a place
 --   AreMinorsSmall   each determinant of columns, units and at most one right side is below 2^58
-use Rattle.std.specs.Prelude.{ℕ, zero, suc, ◌+◌, ◌^◌, ◌≤◌, ◌<◌, ◌≡◌, ◌⊎◌, IsTrue, cond}
+use Rattle.std.specs.Prelude.{ℕ, zero, suc, ◌+◌, ◌^◌, ◌≤◌, ◌<◌, ◌≡◌, ◌⊎◌, IsTrue}
+use Rattle.std.specs.Prelude.{cond}
 use Rattle.std.specs.Prelude.{nat_eq, List, [], ◌∷◌, ℤ, pos, negsuc, unsigned_abs}
 use Rattle.definitions.specs.Programs.{Program}
 use Rattle.determinants.specs.Determinant.{Column, det}

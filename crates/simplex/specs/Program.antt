@@ -6,7 +6,8 @@
 --   column       a column of the program, from its last row
 --   right_side   the right sides, from the last row
 --   IsOf         a column of the program, or the unit of one of its rows
-use Rattle.std.specs.Prelude.{ℕ, ◌-◌, ◌<◌, ◌≡◌, ◌⊎◌, Bool, true, false, IsTrue, cond, nat_lt, ℤ, pos}
+use Rattle.std.specs.Prelude.{ℕ, ◌-◌, ◌<◌, ◌≡◌, ◌⊎◌, Bool, true, false, IsTrue, cond}
+use Rattle.std.specs.Prelude.{nat_lt, ℤ, pos}
 use Rattle.definitions.specs.Programs.{Program}
 use Rattle.determinants.specs.Determinant.{Column}
 use Rattle.determinants.specs.Basis.{unit}

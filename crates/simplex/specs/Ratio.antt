@@ -5,7 +5,8 @@
 --   IsLeast        a position of positive weight with the least ratio
 --   NonePositive   no weight is positive
 --   IsChoice       the position of the least ratio, if there is one
-use Rattle.std.specs.Prelude.{ℕ, suc, ◌<◌, ℤ, pos, ◌-ℤ◌, ◌*ℤ◌, ◌<ℤ◌, List, Option, Some, None}
+use Rattle.std.specs.Prelude.{ℕ, suc, ◌<◌, ℤ, pos, ◌-ℤ◌, ◌*ℤ◌, ◌<ℤ◌, List, Option}
+use Rattle.std.specs.Prelude.{Some, None}
 use Rattle.determinants.specs.Lexicographic.{IsLexNonnegative}
 use Rattle.determinants.specs.Matrix.{entry_at, weight_at}
 

@@ -7,7 +7,8 @@
 --   IsMultiple    a number divides another
 --   IsCommon      the greatest common divisor of the denominator and the weights
 --   AreReduced    the listed weights and the denominator over their greatest common divisor
-use Rattle.std.specs.Prelude.{ℕ, zero, suc, ◌<◌, ◌≡◌, Bool, true, false, cond, ℤ, pos, negsuc, ◌*ℤ◌}
+use Rattle.std.specs.Prelude.{ℕ, zero, suc, ◌<◌, ◌≡◌, Bool, true, false, cond, ℤ}
+use Rattle.std.specs.Prelude.{pos, negsuc, ◌*ℤ◌}
 use Rattle.std.specs.Prelude.{◌<ℤ◌, List, [], ◌∷◌, ◌++◌, Option, Some, None, unsigned_abs}
 use Prim.Native.Nat.{◌∣◌}
 use Rattle.determinants.specs.Matrix.{entry_at}

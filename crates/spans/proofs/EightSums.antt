@@ -1,7 +1,10 @@
 -- Sums over coalitions of a number for each player: by two tables, within so many players, and as weights of a place.
-use Rattle.std.proofs.Common.{◌≡◌, ℕ, zero, suc, ◌+◌, ◌-◌, ◌*◌, ◌/◌, ◌%◌, ◌^◌, ◌<◌, ◌≤◌, Bool, true, false}
-use Rattle.std.proofs.Common.{cond, List, ℤ, pos, ◌+ℤ◌, ◌*ℤ◌, refl, sym, ap, ◌∙◌, arith, nat_eq, unsigned_abs}
-use Rattle.std.proofs.Common.{to_z, of_z, FitsSigned, slice_index_or, inl, inr, ◌≢◌, length, get_or, set, subst}
+use Rattle.std.proofs.Common.{◌≡◌, ℕ, zero, suc, ◌+◌, ◌-◌, ◌*◌, ◌/◌, ◌%◌, ◌^◌}
+use Rattle.std.proofs.Common.{◌<◌, ◌≤◌, Bool, true, false}
+use Rattle.std.proofs.Common.{cond, List, ℤ, pos, ◌+ℤ◌, ◌*ℤ◌, refl, sym, ap, ◌∙◌}
+use Rattle.std.proofs.Common.{arith, nat_eq, unsigned_abs}
+use Rattle.std.proofs.Common.{to_z, of_z, FitsSigned, slice_index_or, inl, inr, ◌≢◌, length, get_or, set}
+use Rattle.std.proofs.Common.{subst}
 use Rattle.std.proofs.Common.{get_or-set_same, get_or-set_other, replicate, add-one}
 use Rattle.std.proofs.lemmas.Int.{ints, fits_signed_from_abs}
 use Rattle.std.proofs.lemmas.Nat.Bits.{bit_at_cat_low, bit_at_cat_high}

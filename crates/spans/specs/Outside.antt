@@ -3,7 +3,8 @@
 --   is_marked words s      the bit of s is set: bit s % 64 of word s / 64
 --   IsProperWord           a word has the coalitions but the empty one and that of all
 --   HasNoWeight            no weight at the first places that aren't fixed
-use Rattle.std.specs.Prelude.{◌≡◌, ℕ, ◌*◌, ◌+◌, ◌/◌, ◌%◌, ◌<◌, Bool, false, List, ℤ, pos, slice_index_or}
+use Rattle.std.specs.Prelude.{◌≡◌, ℕ, ◌*◌, ◌+◌, ◌/◌, ◌%◌, ◌<◌, Bool, false, List}
+use Rattle.std.specs.Prelude.{ℤ, pos, slice_index_or}
 use Rattle.std.specs.Bool.{Decides}
 use Rattle.definitions.specs.Coalitions.{has_player, grand_coalition}
 use Rattle.determinants.specs.Basis.{dot}

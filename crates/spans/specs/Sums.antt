@@ -6,7 +6,8 @@
 --   AreEightSums           the tables of the first eight players and of the next eight
 --   two_sums low high s    the sum from the first table at the first eight players of s, and from the second at the
 --                          rest
-use Rattle.std.specs.Prelude.{◌≡◌, ℕ, ◌+◌, ◌*◌, ◌/◌, ◌%◌, ◌<◌, ◌≤◌, List, ℤ, pos, ◌+ℤ◌, slice_index_or}
+use Rattle.std.specs.Prelude.{◌≡◌, ℕ, ◌+◌, ◌*◌, ◌/◌, ◌%◌, ◌<◌, ◌≤◌, List, ℤ}
+use Rattle.std.specs.Prelude.{pos, ◌+ℤ◌, slice_index_or}
 use Rattle.std.specs.Prelude.{unsigned_abs}
 use Rattle.definitions.specs.Coalitions.{sum_over}
 

@@ -2,7 +2,8 @@
 //! tables, one for the members among the first eight players and one for those among the rest.
 
 ghost use Rattle.std.specs.Prelude.{◌≡◌, ◌&&◌, ◌||◌, not, true, IsTrue, slice_index_or};
-ghost use Rattle.std.specs.Prelude.{ℕ, ◌*◌, ◌/◌, ◌+◌, ◌^◌, ◌<◌, ◌≤◌, nat_eq, pos, ◌+ℤ◌, ◌-ℤ◌, unsigned_abs};
+ghost use Rattle.std.specs.Prelude.{ℕ, ◌*◌, ◌/◌, ◌+◌, ◌^◌, ◌<◌, ◌≤◌, nat_eq, pos, ◌+ℤ◌};
+ghost use Rattle.std.specs.Prelude.{◌-ℤ◌, unsigned_abs};
 ghost use Rattle.std.specs.Bool.{Decides};
 ghost use Rattle.definitions.specs.Coalitions.{grand_coalition, has_player};
 ghost use Rattle.definitions.specs.Certificates.{InSpan};

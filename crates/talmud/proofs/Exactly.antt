@@ -1,5 +1,6 @@
 -- The lists of the levels hold exactly the pairs of their places.
-use Rattle.std.proofs.Common.{◌≡◌, ◌⊎◌, ℕ, ◌+◌, ◌-◌, ◌<◌, ◌≤◌, Bool, true, nat_eq, List, [], ◌∷◌}
+use Rattle.std.proofs.Common.{◌≡◌, ◌⊎◌, ℕ, ◌+◌, ◌-◌, ◌<◌, ◌≤◌, Bool, true, nat_eq}
+use Rattle.std.proofs.Common.{List, [], ◌∷◌}
 use Rattle.std.proofs.Common.{◌++◌, ℤ, refl, sym, subst, append-nil, inl, inr, arith}
 use Rattle.std.specs.List.{list_any}
 use Rattle.definitions.specs.Certificates.{Level, Ascends, LevelForm, LevelsForm}

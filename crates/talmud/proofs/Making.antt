@@ -1,5 +1,6 @@
 -- The lists of coalitions and of levels grow at their end.
-use Rattle.std.proofs.Common.{◌≡◌, ◌⊎◌, ℕ, suc, ◌+◌, ◌-◌, ◌≤◌, Bool, List, [], ◌∷◌, ◌++◌, ℤ}
+use Rattle.std.proofs.Common.{◌≡◌, ◌⊎◌, ℕ, suc, ◌+◌, ◌-◌, ◌≤◌, Bool, List, []}
+use Rattle.std.proofs.Common.{◌∷◌, ◌++◌, ℤ}
 use Rattle.std.proofs.Common.{pos, refl, sym, ap, subst, ◌∙◌, inl, inr, arith}
 use Rattle.definitions.specs.Certificates.{Level}
 use Rattle.kohlberg.specs.Pairs.{with_pair}

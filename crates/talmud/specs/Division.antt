@@ -7,7 +7,8 @@
 --   IsSide       whether the estate is at most half of the claims
 --   IsDivision   who gets half, and the bound for the others
 --   award        the share of a claim
-use Rattle.std.specs.Prelude.{◌≡◌, ℕ, ◌-◌, ◌*◌, ◌<◌, ◌≤◌, Bool, true, false, length, min, ℤ, pos}
+use Rattle.std.specs.Prelude.{◌≡◌, ℕ, ◌-◌, ◌*◌, ◌<◌, ◌≤◌, Bool, true, false, length}
+use Rattle.std.specs.Prelude.{min, ℤ, pos}
 use Rattle.std.specs.Prelude.{◌+ℤ◌, ◌-ℤ◌, ◌*ℤ◌, ◌<ℤ◌, ◌≤ℤ◌, slice_index, if◌then◌else◌}
 use Rattle.definitions.specs.Sums.{sum_below}
 use Rattle.orders.specs.Ordered.{OrderedNumbers, number_at}

@@ -12,7 +12,8 @@
 --   IsOfBoth, IsOfKeys        the pairs of a level
 --   HoldsHalf, HoldHalves, HoldsRest, HoldAll   the same levels, by what their lists hold
 --   AreRuleLevels             all levels, in such an order
-use Rattle.std.specs.Prelude.{◌≡◌, ◌≢◌, ◌⊎◌, ◌++◌, ℕ, zero, suc, ◌+◌, ◌-◌, ◌<◌, ◌≤◌, Bool, List, []}
+use Rattle.std.specs.Prelude.{◌≡◌, ◌≢◌, ◌⊎◌, ◌++◌, ℕ, zero, suc, ◌+◌, ◌-◌, ◌<◌}
+use Rattle.std.specs.Prelude.{◌≤◌, Bool, List, []}
 use Rattle.std.specs.Prelude.{◌∷◌, length, ℤ, pos, ◌-ℤ◌, ◌*ℤ◌, ◌≤ℤ◌, neg_ℤ, if◌then◌else◌}
 use Rattle.definitions.specs.Coalitions.{singleton, grand_coalition}
 use Rattle.definitions.specs.Games.{Allocation, share}

@@ -7,7 +7,8 @@
 --   is_little estate claims    the estate is at most half of the cut claims
 --   part estate claims x i     what player i gets, where the estate is at most half of them, and else what it loses
 --   IsTalmud estate claims x   the shares are those of the rule
-use Rattle.std.specs.Prelude.{◌≡◌, ℕ, ◌<◌, Bool, List, length, map, min, ℤ, pos, ◌+ℤ◌, ◌-ℤ◌}
+use Rattle.std.specs.Prelude.{◌≡◌, ℕ, ◌<◌, Bool, List, length, map, min, ℤ, pos}
+use Rattle.std.specs.Prelude.{◌+ℤ◌, ◌-ℤ◌}
 use Rattle.std.specs.Prelude.{◌*ℤ◌, ◌≤ℤ◌, int_le, slice_index, if◌then◌else◌}
 use Rattle.std.specs.Int.{int_min}
 use Rattle.definitions.specs.Sums.{sum_below}

@@ -1,5 +1,6 @@
 -- A balanced collection of excess worth leaves no core point.
-use Rattle.std.proofs.Common.{◌≡◌, ℕ, ◌^◌, ◌<◌, List, [], ◌∷◌, ℤ, pos, ◌*ℤ◌, ◌≤ℤ◌, sym, ap, ◌∙◌, arith}
+use Rattle.std.proofs.Common.{◌≡◌, ℕ, ◌^◌, ◌<◌, List, [], ◌∷◌, ℤ, pos, ◌*ℤ◌}
+use Rattle.std.proofs.Common.{◌≤ℤ◌, sym, ap, ◌∙◌, arith}
 use Rattle.std.specs.List.{AllByRecursion}
 use Rattle.std.proofs.lemmas.Int.{by_lt_z}
 use Rattle.definitions.proofs.Ring.{linear, mul-addℤ, mul-leℤ, mul-ltℤ, mul_left_commℤ, mul-zeroℤ}

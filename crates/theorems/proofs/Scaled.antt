@@ -1,5 +1,6 @@
 -- A game over a scale and the game of its whole numbers: shares, excesses, families, the nucleolus and the core.
-use Rattle.std.proofs.Common.{◌≡◌, ℕ, Bool, true, false, cond, List, length, map, ℤ, pos, ◌-ℤ◌}
+use Rattle.std.proofs.Common.{◌≡◌, ℕ, Bool, true, false, cond, List, length, map, ℤ}
+use Rattle.std.proofs.Common.{pos, ◌-ℤ◌}
 use Rattle.std.proofs.Common.{◌*ℤ◌, ◌<ℤ◌, ◌≤ℤ◌, sym, ap, subst, ◌∙◌, inl, inr, arith}
 use Rattle.std.proofs.lemmas.List.{get_or_past, get_or-map, length-map}
 use Rattle.definitions.proofs.Ring.{linear, mul-subℤ, mul_assocℤ, mul_left_commℤ, mul-leℤ}

@@ -1,6 +1,8 @@
 -- Lists of numbers times a number above 0: their order, and which comes first.
-use Rattle.std.proofs.Common.{◌≡◌, ℕ, Bool, true, false, cond, List, [], ◌∷◌, length, map, ℤ, pos, ◌*ℤ◌}
-use Rattle.std.proofs.Common.{◌<ℤ◌, int_lt, refl, sym, ap, ap₂, subst, ◌∙◌, inl, inr, arith}
+use Rattle.std.proofs.Common.{◌≡◌, ℕ, Bool, true, false, cond, List, [], ◌∷◌, length}
+use Rattle.std.proofs.Common.{map, ℤ, pos, ◌*ℤ◌}
+use Rattle.std.proofs.Common.{◌<ℤ◌, int_lt, refl, sym, ap, ap₂, subst, ◌∙◌, inl, inr}
+use Rattle.std.proofs.Common.{arith}
 use Rattle.std.proofs.lemmas.List.{length-map}
 use Rattle.definitions.proofs.Ring.{linear, mul-leℤ, mul-ltℤ, mul-cancelℤ, mul-lt_cancelℤ}
 use Rattle.definitions.specs.Order.{with_number, sorted, IsLesser, ComesBefore}

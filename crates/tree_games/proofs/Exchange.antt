@@ -1,7 +1,9 @@
 -- A plan is turned round so that a waiting point comes first: the path that leads to the point runs the other way,
 -- and the pair that leads from the connected points to that path is left out.
-use Rattle.std.proofs.Common.{◌≡◌, ◌≢◌, ◌⊎◌, ℕ, ◌+◌, ◌≤◌, Bool, true, false, not, ◌&&◌, ◌||◌, nat_eq, List}
-use Rattle.std.proofs.Common.{[], ◌∷◌, ◌++◌, refl, sym, ap, subst, ◌∙◌, inl, inr, arith}
+use Rattle.std.proofs.Common.{◌≡◌, ◌≢◌, ◌⊎◌, ℕ, ◌+◌, ◌≤◌, Bool, true, false, not}
+use Rattle.std.proofs.Common.{◌&&◌, ◌||◌, nat_eq, List}
+use Rattle.std.proofs.Common.{[], ◌∷◌, ◌++◌, refl, sym, ap, subst, ◌∙◌, inl, inr}
+use Rattle.std.proofs.Common.{arith}
 use Rattle.std.proofs.lemmas.Bool.{false≢true}
 use Rattle.definitions.proofs.Cases.{same_or_other, nat_eq-same, nat_eq-other, from_nat_eq}
 use Rattle.definitions.proofs.Cases.{and_right, and_false, or_right, or_left, not_true}

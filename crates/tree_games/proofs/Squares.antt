@@ -1,5 +1,6 @@
 -- What is tested of the entries of links.
-use Rattle.std.proofs.Common.{◌≡◌, ◌⊎◌, ℕ, ◌<◌, ◌≤◌, Bool, true, List, length, map, ℤ}
+use Rattle.std.proofs.Common.{◌≡◌, ◌⊎◌, ℕ, ◌<◌, ◌≤◌, Bool, true, List, length, map}
+use Rattle.std.proofs.Common.{ℤ}
 use Rattle.std.proofs.Common.{IsTrue, sym, subst, ◌∙◌, inl, inr, arith}
 use Rattle.std.proofs.lemmas.List.{length-map}
 use Rattle.definitions.proofs.Cases.{below_or_above}

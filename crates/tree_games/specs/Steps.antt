@@ -7,7 +7,8 @@
 --   nearest                the first waiting point whose entry from a point is least
 --   reach                  that entry
 --   next_end               the first connected point of least reach
-use Rattle.std.specs.Prelude.{◌≡◌, ℕ, zero, suc, ◌+◌, ◌≤◌, Bool, false, not, ◌&&◌, ◌||◌}
+use Rattle.std.specs.Prelude.{◌≡◌, ℕ, zero, suc, ◌+◌, ◌≤◌, Bool, false, not, ◌&&◌}
+use Rattle.std.specs.Prelude.{◌||◌}
 use Rattle.std.specs.Prelude.{IsTrue, List, [], ◌∷◌, nat_lt, min, if◌then◌else◌}
 use Rattle.definitions.specs.Classes.{Matrix, entry, joined, removed}
 

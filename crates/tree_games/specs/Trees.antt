@@ -9,7 +9,8 @@
 --   plan_of edges          the pairs of the edges
 --   IsEdge rows e          an end, a player, and the cost of their link
 --   IsBird rows x edges    the Bird plan, its costs, and what each player pays in it
-use Rattle.std.specs.Prelude.{◌≡◌, ℕ, ◌-◌, ◌<◌, ◌≤◌, List, length, map, ℤ, neg_ℤ, pos}
+use Rattle.std.specs.Prelude.{◌≡◌, ℕ, ◌-◌, ◌<◌, ◌≤◌, List, length, map, ℤ, neg_ℤ}
+use Rattle.std.specs.Prelude.{pos}
 use Rattle.std.specs.List.{AllByRecursion}
 use Rattle.definitions.specs.Coalitions.{grand_coalition}
 use Rattle.definitions.specs.Games.{Game, Allocation, share, InCore}

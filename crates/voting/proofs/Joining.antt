@@ -1,5 +1,6 @@
 -- A candidate with one player more, in 128 bits, and layers that are written weight by weight.
-use Rattle.std.proofs.Common.{◌≡◌, ℕ, ◌+◌, ◌-◌, ◌*◌, ◌^◌, ◌<◌, ◌≤◌, Bool, true, false, cond, nat_le, List}
+use Rattle.std.proofs.Common.{◌≡◌, ℕ, ◌+◌, ◌-◌, ◌*◌, ◌^◌, ◌<◌, ◌≤◌, Bool, true}
+use Rattle.std.proofs.Common.{false, cond, nat_le, List}
 use Rattle.std.proofs.Common.{length, get_or, ℤ, pos, ◌+ℤ◌, Option, None, Some, IfSome, unsigned_abs}
 use Rattle.std.proofs.Common.{to_z, of_z, refl, sym, ◌∙◌, inl, inr, arith, add-one}
 use Rattle.std.proofs.lemmas.Int.{ints}

@@ -1,6 +1,8 @@
 -- The Shapley total of a voting game by the coalitions that its player makes winning.
-use Rattle.std.proofs.Common.{◌≡◌, ℕ, ◌+◌, ◌-◌, ◌*◌, ◌^◌, ◌<◌, ◌≤◌, Bool, true, false, cond, ◌&&◌, nat_le, nat_lt}
-use Rattle.std.proofs.Common.{List, length, get_or, ℤ, pos, ◌-ℤ◌, ◌*ℤ◌, int_le, refl, sym, ap, ◌∙◌, arith}
+use Rattle.std.proofs.Common.{◌≡◌, ℕ, ◌+◌, ◌-◌, ◌*◌, ◌^◌, ◌<◌, ◌≤◌, Bool, true}
+use Rattle.std.proofs.Common.{false, cond, ◌&&◌, nat_le, nat_lt}
+use Rattle.std.proofs.Common.{List, length, get_or, ℤ, pos, ◌-ℤ◌, ◌*ℤ◌, int_le, refl, sym}
+use Rattle.std.proofs.Common.{ap, ◌∙◌, arith}
 use Rattle.std.proofs.lemmas.Bool.Decides.{nat_tests}
 use Rattle.definitions.proofs.Cases.{nat_lt-less}
 use Rattle.definitions.proofs.Ring.{linear, mul-zeroℤ, mul_assocℤ}

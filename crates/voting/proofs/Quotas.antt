@@ -1,5 +1,6 @@
 -- What a quota and weights are tested for.
-use Rattle.std.proofs.Common.{◌≡◌, ℕ, ◌<◌, ◌≤◌, eqb, Bool, true, false, List, length, map, sum, All}
+use Rattle.std.proofs.Common.{◌≡◌, ℕ, ◌<◌, ◌≤◌, eqb, Bool, true, false, List, length}
+use Rattle.std.proofs.Common.{map, sum, All}
 use Rattle.std.proofs.Common.{◌^◌, ap, ℤ, pos, nat_abs, unsigned_abs, sym, ◌∙◌, arith}
 use Rattle.std.specs.List.{sum_by}
 use Rattle.std.proofs.lemmas.List.{length-map}

@@ -16,7 +16,8 @@
 --   row_total weight i n size low high   the same of all coalitions of a size without player i
 --   share_unit n k                       what a coalition of k players in front gives of the common denominator
 --   numerator weight i n low high        what player i gets over it, where it makes the weights of the range winning
-use Rattle.std.specs.Prelude.{◌≡◌, ℕ, zero, suc, ◌+◌, ◌-◌, ◌*◌, ◌/◌, ◌^◌, ◌<◌, ◌≤◌, ◌&&◌, nat_eq, nat_le, []}
+use Rattle.std.specs.Prelude.{◌≡◌, ℕ, zero, suc, ◌+◌, ◌-◌, ◌*◌, ◌/◌, ◌^◌, ◌<◌}
+use Rattle.std.specs.Prelude.{◌≤◌, ◌&&◌, nat_eq, nat_le, []}
 use Rattle.std.specs.Prelude.{length, ℤ, pos, ◌*ℤ◌, slice_index, slice_index_or, if◌then◌else◌}
 use Rattle.definitions.specs.Sums.{sum_below}
 use Rattle.definitions.specs.Shapley.{factorial}

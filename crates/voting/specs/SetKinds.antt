@@ -12,7 +12,8 @@
 --   AreSplitLayers           the layers of the four kinds
 --   AddsPlayer               the layers with one more player seen
 --   AreSmallLayers           each candidate of the four layers is one of the first players
-use Rattle.std.specs.Prelude.{◌≡◌, ℕ, ◌+◌, ◌^◌, ◌<◌, Bool, true, false, not, ◌&&◌, ℤ, pos, if◌then◌else◌}
+use Rattle.std.specs.Prelude.{◌≡◌, ℕ, ◌+◌, ◌^◌, ◌<◌, Bool, true, false, not, ◌&&◌}
+use Rattle.std.specs.Prelude.{ℤ, pos, if◌then◌else◌}
 use Rattle.definitions.specs.Coalitions.{has_player, some_below, sum_over}
 use Rattle.voting.specs.declared.layer.Layer.{Layer}
 use Rattle.voting.specs.declared.split_layers.SplitLayers.{SplitLayers}

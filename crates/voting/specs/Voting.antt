@@ -8,7 +8,8 @@
 --   AreNumbers    the quota and each weight are in range
 --   IsQuota       the weights sum to at most 1,000, and the quota is from 1 to their sum
 --   IsRefused     why a quota and weights make no game
-use Rattle.std.specs.Prelude.{ℕ, ◌^◌, ◌<◌, ◌≤◌, List, length, All, ℤ, pos, ◌≤ℤ◌, sum, unsigned_abs}
+use Rattle.std.specs.Prelude.{ℕ, ◌^◌, ◌<◌, ◌≤◌, List, length, All, ℤ, pos, ◌≤ℤ◌}
+use Rattle.std.specs.Prelude.{sum, unsigned_abs}
 use Rattle.std.specs.List.{sum_by}
 use Rattle.definitions.specs.Games.{Game}
 use Rattle.definitions.specs.Classes.{voting_worth}

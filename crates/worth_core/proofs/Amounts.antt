@@ -1,5 +1,6 @@
 -- What members get together: how large it is, and how it goes on from a coalition to that of the next mask.
-use Rattle.std.proofs.Common.{◌≡◌, ℕ, zero, suc, ◌+◌, ◌-◌, ◌*◌, ◌/◌, ◌%◌, ◌^◌, ◌<◌}
+use Rattle.std.proofs.Common.{◌≡◌, ℕ, zero, suc, ◌+◌, ◌-◌, ◌*◌, ◌/◌, ◌%◌, ◌^◌}
+use Rattle.std.proofs.Common.{◌<◌}
 use Rattle.std.proofs.Common.{◌≤◌, ◌≢◌, Bool, true, false, cond}
 use Rattle.std.proofs.Common.{nat_eq, length, ℤ, pos, ◌+ℤ◌, ◌-ℤ◌, unsigned_abs, refl}
 use Rattle.std.proofs.Common.{sym, ap, ◌∙◌, arith, inl, inr}

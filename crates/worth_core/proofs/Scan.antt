@@ -1,6 +1,8 @@
 -- What a scan over the masks in ascending order knows of the masks behind it.
-use Rattle.std.proofs.Common.{◌≡◌, ℕ, ◌+◌, ◌^◌, ◌<◌, ℤ, pos, ◌-ℤ◌, ◌*ℤ◌, ◌<ℤ◌, ◌≤ℤ◌, ◌-◌, unsigned_abs, Option}
-use Rattle.std.proofs.Common.{Some, None, MatchOption, arith, refl, sym, ap, ◌∙◌, inl, inr, subst, to_z, of_z}
+use Rattle.std.proofs.Common.{◌≡◌, ℕ, ◌+◌, ◌^◌, ◌<◌, ℤ, pos, ◌-ℤ◌, ◌*ℤ◌, ◌<ℤ◌}
+use Rattle.std.proofs.Common.{◌≤ℤ◌, ◌-◌, unsigned_abs, Option}
+use Rattle.std.proofs.Common.{Some, None, MatchOption, arith, refl, sym, ap, ◌∙◌, inl, inr}
+use Rattle.std.proofs.Common.{subst, to_z, of_z}
 use mir.Syntax.{w64, w128}
 use Rattle.std.proofs.lemmas.Int.{ints, by_lt_z}
 use Rattle.definitions.specs.Games.{Game, Allocation, amount, excess, IsGame, Blocks, IsChosenBlocker}

@@ -1,7 +1,9 @@
 -- The least common denominator of numerators over one denominator: that denominator over the greatest divisor that
 -- it has in common with all of them.
-use Rattle.std.proofs.Common.{◌≡◌, ℕ, zero, suc, ◌+◌, ◌*◌, ◌/◌, ◌<◌, ◌≤◌, arith, refl, sym, subst, ◌∙◌, List}
-use Rattle.std.proofs.Common.{length, get_or, take, map, All, ℤ, pos, ◌≤ℤ◌, negsuc, int_div, unsigned_abs, mul_comm}
+use Rattle.std.proofs.Common.{◌≡◌, ℕ, zero, suc, ◌+◌, ◌*◌, ◌/◌, ◌<◌, ◌≤◌, arith}
+use Rattle.std.proofs.Common.{refl, sym, subst, ◌∙◌, List}
+use Rattle.std.proofs.Common.{length, get_or, take, map, All, ℤ, pos, ◌≤ℤ◌, negsuc, int_div}
+use Rattle.std.proofs.Common.{unsigned_abs, mul_comm}
 use Prim.Native.Nat.{◌∣◌}
 use Rattle.std.proofs.lemmas.Int.{ints}
 use Rattle.std.proofs.lemmas.Nat.Gcd.{dvd_refl, dvd_trans, le_of_dvd}

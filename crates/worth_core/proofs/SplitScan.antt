@@ -1,6 +1,8 @@
 -- What a scan over the masks in ascending order knows of the greatest excess of the splitting masks behind it.
-use Rattle.std.proofs.Common.{◌≡◌, ℕ, ◌+◌, ◌^◌, ◌<◌, Bool, true, false, ◌&&◌, cond, ℤ, ◌≤ℤ◌, Option}
-use Rattle.std.proofs.Common.{Some, None, MatchOption, IsSome, IsTrue, arith, refl, sym, ap, ◌∙◌, inl, inr, int_lt}
+use Rattle.std.proofs.Common.{◌≡◌, ℕ, ◌+◌, ◌^◌, ◌<◌, Bool, true, false, ◌&&◌, cond}
+use Rattle.std.proofs.Common.{ℤ, ◌≤ℤ◌, Option}
+use Rattle.std.proofs.Common.{Some, None, MatchOption, IsSome, IsTrue, arith, refl, sym, ap, ◌∙◌}
+use Rattle.std.proofs.Common.{inl, inr, int_lt}
 use Rattle.std.proofs.lemmas.Int.{ints}
 use Rattle.std.proofs.lemmas.Bool.{false≢true}
 use Rattle.std.proofs.Math.Pow.{pow-lt}

@@ -1,6 +1,8 @@
 -- What a scan over masks in some order knows of the greatest measured excess, over the masks behind it that P holds of.
-use Rattle.std.proofs.Common.{◌≡◌, ◌⊎◌, ℕ, ◌+◌, ◌-◌, ◌^◌, ◌<◌, Bool, true, false, ℤ, pos, ◌*ℤ◌, ◌≤ℤ◌, Option, Some}
-use Rattle.std.proofs.Common.{None, MatchOption, IsSome, IsTrue, arith, refl, sym, subst, ◌∙◌, inl, inr}
+use Rattle.std.proofs.Common.{◌≡◌, ◌⊎◌, ℕ, ◌+◌, ◌-◌, ◌^◌, ◌<◌, Bool, true, false}
+use Rattle.std.proofs.Common.{ℤ, pos, ◌*ℤ◌, ◌≤ℤ◌, Option, Some}
+use Rattle.std.proofs.Common.{None, MatchOption, IsSome, IsTrue, arith, refl, sym, subst, ◌∙◌, inl}
+use Rattle.std.proofs.Common.{inr}
 use Rattle.std.proofs.lemmas.Bool.{false≢true}
 use Rattle.fractions.specs.Fraction.{Fraction, IsRatio}
 use Rattle.definitions.proofs.Ring.{linear}

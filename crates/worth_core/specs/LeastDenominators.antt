@@ -6,7 +6,8 @@
 --   numerator_over       a fraction's numerator over a multiple of its denominator
 --   over                 fractions over a common denominator, as an allocation
 --   AreTooFine           over the least one they are out of the limits of shares
-use Rattle.std.specs.Prelude.{ℕ, ◌*◌, List, map, All, ℤ, pos, ◌*ℤ◌, ◌≤ℤ◌, unsigned_abs, int_div}
+use Rattle.std.specs.Prelude.{ℕ, ◌*◌, List, map, All, ℤ, pos, ◌*ℤ◌, ◌≤ℤ◌, unsigned_abs}
+use Rattle.std.specs.Prelude.{int_div}
 use Prim.Native.Nat.{◌∣◌}
 use Rattle.definitions.specs.Games.{Allocation, IsShares}
 use Rattle.fractions.specs.Fraction.{Fraction}

@@ -7,7 +7,8 @@
 --   is_below            the first over its divisor is less than the second over its own
 --   IsValueOf           a fraction is a measured excess over its denominator
 --   IsMeasuredBound     a fraction is the greatest measured excess over the coalitions that split some players
-use Rattle.std.specs.Prelude.{◌≡◌, ℕ, ◌^◌, ◌<◌, ◌≤◌, Bool, ℤ, pos, ◌*ℤ◌, ◌≤ℤ◌, int_lt, unsigned_abs}
+use Rattle.std.specs.Prelude.{◌≡◌, ℕ, ◌^◌, ◌<◌, ◌≤◌, Bool, ℤ, pos, ◌*ℤ◌, ◌≤ℤ◌}
+use Rattle.std.specs.Prelude.{int_lt, unsigned_abs}
 use Rattle.fractions.specs.Fraction.{Fraction}
 use Rattle.definitions.specs.Measures.{divisor, measured_den}
 use Rattle.definitions.specs.Games.{Game, Allocation, excess, measured_excess, IsMeasuredMaximum}

@@ -11,7 +11,8 @@
 --   IsSmallSum, AreSmallSums   a sum over at most so many players; each sum is such a one
 --   greater_sum                the greater of two sums, where there are any
 --   longer_sum                 a sum and one more number
-use Rattle.std.specs.Prelude.{◌≡◌, ℕ, ◌+◌, ◌*◌, ◌^◌, ◌<◌, ◌≤◌, Bool, true, false, not, ◌&&◌, IsTrue, ℤ}
+use Rattle.std.specs.Prelude.{◌≡◌, ℕ, ◌+◌, ◌*◌, ◌^◌, ◌<◌, ◌≤◌, Bool, true, false}
+use Rattle.std.specs.Prelude.{not, ◌&&◌, IsTrue, ℤ}
 use Rattle.std.specs.Prelude.{◌+ℤ◌, Option, None, Some, IfSome, MatchOption, unsigned_abs}
 use Rattle.std.specs.Int.{int_max}
 use Rattle.definitions.specs.Sums.{IsGreatest}

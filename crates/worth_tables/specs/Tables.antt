@@ -8,7 +8,8 @@
 --   IsRefused     why a table makes no game
 --   table_game    the game of the listed worths
 --   cost_game     the game with minus the worths of another
-use Rattle.std.specs.Prelude.{◌≡◌, ℕ, ◌+◌, ◌^◌, ◌<◌, ◌≤◌, List, length, All, ℤ, unsigned_abs}
+use Rattle.std.specs.Prelude.{◌≡◌, ℕ, ◌+◌, ◌^◌, ◌<◌, ◌≤◌, List, length, All, ℤ}
+use Rattle.std.specs.Prelude.{unsigned_abs}
 use Rattle.definitions.specs.Games.{Game}
 use Rattle.definitions.specs.Classes.{table_worth, negated_worth}
 use Rattle.worth_tables.specs.declared.table_game.TableFault.{TableFault}

@@ -1,4 +1,5 @@
-use Rattle.std.proofs.Common.{◌≡◌, ◌*◌, ◌^◌, ◌<◌, ℕ, length, map, ℤ, pos, unsigned_abs, to_z, of_z, arith, ap, ◌∙◌}
+use Rattle.std.proofs.Common.{◌≡◌, ◌*◌, ◌^◌, ◌<◌, ℕ, length, map, ℤ, pos, unsigned_abs}
+use Rattle.std.proofs.Common.{to_z, of_z, arith, ap, ◌∙◌}
 use Rattle.kohlberg.proofs.Kept.{kept}
 use mir.Syntax.{w64, w128}
 use Rattle.definitions.specs.Games.{IsShares}

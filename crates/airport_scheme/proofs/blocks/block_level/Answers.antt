@@ -1,5 +1,7 @@
-use Rattle.std.proofs.Common.{◌≡◌, ◌-◌, ◌^◌, ◌<◌, ◌≤◌, length, get_or, unsigned_abs, ℤ, pos, neg_ℤ, ◌-ℤ◌, ◌*ℤ◌}
-use Rattle.std.proofs.Common.{to_z, of_z, nat_lt, arith, ℕ, List, [], ◌∷◌, negsuc, sym, ap, subst, ◌∙◌, cond}
+use Rattle.std.proofs.Common.{◌≡◌, ◌-◌, ◌^◌, ◌<◌, ◌≤◌, length, get_or, unsigned_abs, ℤ, pos}
+use Rattle.std.proofs.Common.{neg_ℤ, ◌-ℤ◌, ◌*ℤ◌}
+use Rattle.std.proofs.Common.{to_z, of_z, nat_lt, arith, ℕ, List, [], ◌∷◌, negsuc, sym}
+use Rattle.std.proofs.Common.{ap, subst, ◌∙◌, cond}
 use Rattle.std.proofs.lemmas.Int.{ints, fits_signed_from_abs, to_z_pos}
 use mir.Syntax.{w128}
 use Rattle.airport_scheme.specs.Scheme.{pay_at}

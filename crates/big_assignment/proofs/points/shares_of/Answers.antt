@@ -1,4 +1,5 @@
-use Rattle.std.proofs.Common.{◌≡◌, ℕ, ◌^◌, ◌<◌, ◌≤◌, List, length, ℤ, pos, slice_index, slice_index_or}
+use Rattle.std.proofs.Common.{◌≡◌, ℕ, ◌^◌, ◌<◌, ◌≤◌, List, length, ℤ, pos, slice_index}
+use Rattle.std.proofs.Common.{slice_index_or}
 use Rattle.std.proofs.Common.{unsigned_abs, to_z, of_z, refl, sym, ap, subst, ◌∙◌, arith, rules}
 use mir.Syntax.{w128}
 use Rattle.std.proofs.lemmas.Result.{IfOk-from_err}

@@ -1,4 +1,5 @@
-use Rattle.std.proofs.Common.{◌≡◌, to_z, of_z, w64, rules, ℤ, [], ◌∷◌, sym, subst, arith}
+use Rattle.std.proofs.Common.{◌≡◌, to_z, of_z, w64, rules, ℤ, [], ◌∷◌, sym, subst}
+use Rattle.std.proofs.Common.{arith}
 use Rattle.game_text.specs.Readings.{contents_in}
 use Rattle.coop.specs.Outcome.{IsRight}
 use Rattle.coop.specs.Words.{word_of}

@@ -1,4 +1,5 @@
-use Rattle.std.proofs.Common.{◌≡◌, to_z, of_z, w64, rules, ◌<◌, ℕ, ℤ, pos, unsigned_abs, List}
+use Rattle.std.proofs.Common.{◌≡◌, to_z, of_z, w64, rules, ◌<◌, ℕ, ℤ, pos, unsigned_abs}
+use Rattle.std.proofs.Common.{List}
 use Rattle.std.proofs.Common.{length, take, Some, refl, ap, subst, ◌∙◌, inl, inr}
 use Rattle.report.specs.Lines.{answer_tree, line}
 use Rattle.std.specs.Io.KnownBytes.{Appends}

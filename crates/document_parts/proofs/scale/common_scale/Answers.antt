@@ -1,4 +1,5 @@
-use Rattle.std.proofs.Common.{◌≡◌, refl, ◌<◌, ◌*◌, ◌/◌, ℕ, unsigned_abs, FitsSigned, subst, sym, arith, rules}
+use Rattle.std.proofs.Common.{◌≡◌, refl, ◌<◌, ◌*◌, ◌/◌, ℕ, unsigned_abs, FitsSigned, subst, sym}
+use Rattle.std.proofs.Common.{arith, rules}
 use Rattle.std.proofs.lemmas.Int.{ints, to_z-of_z}
 use mir.Syntax.{w128}
 use Rattle.fractions.proofs.Divisors.{gcd_positive}

@@ -1,4 +1,5 @@
-use Rattle.std.proofs.Common.{◌≡◌, ◌<◌, ◌≤◌, ◌^◌, ℕ, ℤ, ◌*ℤ◌, pos, unsigned_abs, to_z, of_z, Some}
+use Rattle.std.proofs.Common.{◌≡◌, ◌<◌, ◌≤◌, ◌^◌, ℕ, ℤ, ◌*ℤ◌, pos, unsigned_abs, to_z}
+use Rattle.std.proofs.Common.{of_z, Some}
 use Rattle.std.proofs.Common.{None, if◌then◌else◌, sym, ap, ap₂, ◌∙◌, subst, arith, rules}
 use Rattle.std.specs.Prelude.{int_div}
 use Rattle.std.proofs.lemmas.Bool.{lt-ltb, le-ltb}

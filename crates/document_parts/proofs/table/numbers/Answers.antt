@@ -1,4 +1,5 @@
-use Rattle.std.proofs.Common.{◌≡◌, ℤ, List, get_or, map, Option, None, to_z, of_z, ◌∙◌, subst}
+use Rattle.std.proofs.Common.{◌≡◌, ℤ, List, get_or, map, Option, None, to_z, of_z, ◌∙◌}
+use Rattle.std.proofs.Common.{subst}
 use Rattle.std.specs.Prelude.{unwrap_or}
 use Rattle.std.proofs.lemmas.Int.{to_z-of_z}
 use Rattle.std.proofs.lemmas.Result.{IfOk-from_err}

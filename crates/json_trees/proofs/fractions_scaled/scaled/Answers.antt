@@ -1,4 +1,5 @@
-use Rattle.std.proofs.Common.{◌*ℤ◌, ◌≤ℤ◌, ◌<◌, ◌^◌, ℤ, pos, unsigned_abs, FitsSigned, subst, arith, rules}
+use Rattle.std.proofs.Common.{◌*ℤ◌, ◌≤ℤ◌, ◌<◌, ◌^◌, ℤ, pos, unsigned_abs, FitsSigned, subst, arith}
+use Rattle.std.proofs.Common.{rules}
 use Rattle.std.proofs.lemmas.Int.{ints}
 use mir.Syntax.{w128}
 use Rattle.fractions.specs.Fraction.{IsRatio, HasNoForm}

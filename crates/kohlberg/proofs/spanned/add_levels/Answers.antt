@@ -1,4 +1,5 @@
-use Rattle.std.proofs.Common.{◌∙◌, ◌^◌, ◌<◌, ℕ, ℤ, List, refl, sym, ap, subst, get_or, arith}
+use Rattle.std.proofs.Common.{◌∙◌, ◌^◌, ◌<◌, ℕ, ℤ, List, refl, sym, ap, subst}
+use Rattle.std.proofs.Common.{get_or, arith}
 use Rattle.std.specs.List.{AllByRecursion}
 use Rattle.definitions.specs.Certificates.{Level}
 use Rattle.kohlberg.specs.Extends.{Extends, IsOf, IsPaired, IsBoundVector}

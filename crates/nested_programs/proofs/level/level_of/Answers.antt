@@ -1,4 +1,5 @@
-use Rattle.std.proofs.Common.{◌≡◌, ℕ, ◌+◌, ◌*◌, length, get_or, ℤ, pos, to_z, of_z, ap, subst, ◌∙◌, arith}
+use Rattle.std.proofs.Common.{◌≡◌, ℕ, ◌+◌, ◌*◌, length, get_or, ℤ, pos, to_z, of_z}
+use Rattle.std.proofs.Common.{ap, subst, ◌∙◌, arith}
 use Rattle.std.proofs.lemmas.Int.{ints}
 use mir.Syntax.{w128}
 use Rattle.fractions.specs.Fraction.{Fraction, IsRatio}

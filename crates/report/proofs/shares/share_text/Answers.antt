@@ -1,4 +1,5 @@
-use Rattle.std.proofs.Common.{◌*ℤ◌, ℤ, ℕ, List, FitsSigned, ap, sym, ◌∙◌, subst, arith, rules}
+use Rattle.std.proofs.Common.{◌*ℤ◌, ℤ, ℕ, List, FitsSigned, ap, sym, ◌∙◌, subst, arith}
+use Rattle.std.proofs.Common.{rules}
 use Rattle.std.proofs.lemmas.Int.{to_z-of_z}
 use mir.Syntax.{w128}
 use Rattle.fractions.specs.Fraction.{IsRatio}

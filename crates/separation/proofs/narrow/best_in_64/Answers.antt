@@ -1,4 +1,5 @@
-use Rattle.std.proofs.Common.{◌≡◌, ℕ, ◌+◌, ◌*◌, ◌%◌, ◌^◌, arith, sym, subst, ◌∙◌, pos, slice_index_or}
+use Rattle.std.proofs.Common.{◌≡◌, ℕ, ◌+◌, ◌*◌, ◌%◌, ◌^◌, arith, sym, subst, ◌∙◌}
+use Rattle.std.proofs.Common.{pos, slice_index_or}
 use mir.Syntax.{w64}
 use Rattle.definitions.proofs.Casts.{cast_kept}
 use Rattle.separation.specs.Peaks.{IsLeast}

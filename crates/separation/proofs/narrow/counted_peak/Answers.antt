@@ -1,4 +1,5 @@
-use Rattle.std.proofs.Common.{◌≡◌, ◌<◌, ◌^◌, ℕ, Bool, ℤ, pos, ◌≤ℤ◌, sym, subst, unsigned_abs, slice_index_or}
+use Rattle.std.proofs.Common.{◌≡◌, ◌<◌, ◌^◌, ℕ, Bool, ℤ, pos, ◌≤ℤ◌, sym, subst}
+use Rattle.std.proofs.Common.{unsigned_abs, slice_index_or}
 use Rattle.std.proofs.Common.{to_z, of_z, arith}
 use mir.Syntax.{w64}
 use Rattle.definitions.proofs.Casts.{cast_kept}

@@ -1,4 +1,5 @@
-use Rattle.std.proofs.Common.{◌%◌, ◌≤◌, ◌^◌, ℤ, pos, ◌-ℤ◌, ◌*ℤ◌, ℕ, unsigned_abs, slice_index_or, ap, sym, subst}
+use Rattle.std.proofs.Common.{◌%◌, ◌≤◌, ◌^◌, ℤ, pos, ◌-ℤ◌, ◌*ℤ◌, ℕ, unsigned_abs, slice_index_or}
+use Rattle.std.proofs.Common.{ap, sym, subst}
 use Rattle.std.proofs.Common.{◌∙◌}
 use Rattle.separation.specs.Values.{counted}
 use Rattle.separation.proofs.Products.{height_held}

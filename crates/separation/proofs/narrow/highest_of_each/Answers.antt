@@ -1,6 +1,8 @@
-use Rattle.std.proofs.Common.{◌≡◌, ◌⊎◌, ◌↔◌, ◌≤◌, ◌<◌, ℕ, ℤ, ◌+◌, ◌*◌, ◌%◌, ◌^◌, pos}
+use Rattle.std.proofs.Common.{◌≡◌, ◌⊎◌, ◌↔◌, ◌≤◌, ◌<◌, ℕ, ℤ, ◌+◌, ◌*◌, ◌%◌}
+use Rattle.std.proofs.Common.{◌^◌, pos}
 use Rattle.std.proofs.Common.{◌+ℤ◌, ◌*ℤ◌, ◌<ℤ◌, Bool, true, false}
-use Rattle.std.proofs.Common.{if◌then◌else◌, Some, None, slice_index_or, to_z, of_z, inl, inr, refl, arith, rules}
+use Rattle.std.proofs.Common.{if◌then◌else◌, Some, None, slice_index_or, to_z, of_z, inl, inr, refl, arith}
+use Rattle.std.proofs.Common.{rules}
 use Rattle.std.proofs.Common.{ap, sym, subst, ◌∙◌}
 use mir.Syntax.{w64}
 use Rattle.definitions.proofs.Cases.{same_or_other}

@@ -1,4 +1,5 @@
-use Rattle.std.proofs.Common.{◌≡◌, ◌≤◌, ◌+◌, ◌*◌, ◌%◌, ◌^◌, ℕ, Bool, true, false, ℤ, pos, ◌*ℤ◌, ◌<ℤ◌}
+use Rattle.std.proofs.Common.{◌≡◌, ◌≤◌, ◌+◌, ◌*◌, ◌%◌, ◌^◌, ℕ, Bool, true, false}
+use Rattle.std.proofs.Common.{ℤ, pos, ◌*ℤ◌, ◌<ℤ◌}
 use Rattle.std.proofs.Common.{if◌then◌else◌, Some, None, slice_index_or, arith, sym, subst}
 use Rattle.std.proofs.Common.{unsigned_abs, to_z, of_z, ◌-ℤ◌, ◌≤ℤ◌, rules}
 use mir.Syntax.{w64}

@@ -1,4 +1,5 @@
-use Rattle.std.proofs.Common.{◌≡◌, ◌⊎◌, ◌<◌, ◌^◌, ℕ, ℤ, ◌≤ℤ◌, inl, inr, sym, subst, arith}
+use Rattle.std.proofs.Common.{◌≡◌, ◌⊎◌, ◌<◌, ◌^◌, ℕ, ℤ, ◌≤ℤ◌, inl, inr, sym}
+use Rattle.std.proofs.Common.{subst, arith}
 use Rattle.std.proofs.Common.{unsigned_abs, to_z, of_z, rules}
 use mir.Syntax.{w64}
 use Rattle.definitions.proofs.Cases.{last_or_less_of}

@@ -1,4 +1,5 @@
-use Rattle.std.proofs.Common.{◌≡◌, ◌<◌, ℕ, length, length-set, sym, subst, ◌∙◌, to_z, of_z, rules}
+use Rattle.std.proofs.Common.{◌≡◌, ◌<◌, ℕ, length, length-set, sym, subst, ◌∙◌, to_z, of_z}
+use Rattle.std.proofs.Common.{rules}
 use mir.Syntax.{w64}
 use Rattle.spans.proofs.EightSums.{filled_below}
 use Rattle.separation.specs.Peaks.{IsPeak}

@@ -1,4 +1,5 @@
-use Rattle.std.proofs.Common.{◌≡◌, ◌≤◌, ◌<◌, ◌+◌, ◌*◌, ◌%◌, ◌^◌, ℕ, ℤ, pos, ◌+ℤ◌, Option}
+use Rattle.std.proofs.Common.{◌≡◌, ◌≤◌, ◌<◌, ◌+◌, ◌*◌, ◌%◌, ◌^◌, ℕ, ℤ, pos}
+use Rattle.std.proofs.Common.{◌+ℤ◌, Option}
 use Rattle.std.proofs.Common.{MatchOption, length, slice_index_or, unsigned_abs, to_z, of_z, ap}
 use Rattle.std.proofs.Common.{◌∙◌, sym, subst, inl, inr, arith, rules}
 use mir.Syntax.{w128}

@@ -1,4 +1,5 @@
-use Rattle.std.proofs.Common.{◌≤◌, ◌<◌, ◌^◌, ℕ, ℤ, List, pos, le_trans, sym, subst, slice_index_or, unsigned_abs}
+use Rattle.std.proofs.Common.{◌≤◌, ◌<◌, ◌^◌, ℕ, ℤ, List, pos, le_trans, sym, subst}
+use Rattle.std.proofs.Common.{slice_index_or, unsigned_abs}
 use lib.Dec.{lit≤}
 use Rattle.separation.specs.Values.{IsTable}
 use Rattle.separation.proofs.Eights.{IsEight-narrow}

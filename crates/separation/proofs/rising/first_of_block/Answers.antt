@@ -1,4 +1,5 @@
-use Rattle.std.proofs.Common.{◌≡◌, ◌≤◌, ◌<◌, ◌+◌, ◌*◌, ◌%◌, ◌^◌, ℕ, ℤ, pos, ◌+ℤ◌, Option, length, slice_index_or}
+use Rattle.std.proofs.Common.{◌≡◌, ◌≤◌, ◌<◌, ◌+◌, ◌*◌, ◌%◌, ◌^◌, ℕ, ℤ, pos}
+use Rattle.std.proofs.Common.{◌+ℤ◌, Option, length, slice_index_or}
 use Rattle.std.proofs.Common.{unsigned_abs, to_z, of_z, ap, ◌∙◌, sym, subst, arith, rules, refl}
 use mir.Syntax.{w128}
 use Rattle.std.proofs.lemmas.Bool.{false≢true}

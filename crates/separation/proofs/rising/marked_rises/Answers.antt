@@ -1,4 +1,5 @@
-use Rattle.std.proofs.Common.{◌≡◌, ◌<◌, ◌^◌, Bool, true, ℤ, ◌*ℤ◌, ◌<ℤ◌, if◌then◌else◌, Some, None}
+use Rattle.std.proofs.Common.{◌≡◌, ◌<◌, ◌^◌, Bool, true, ℤ, ◌*ℤ◌, ◌<ℤ◌, if◌then◌else◌, Some}
+use Rattle.std.proofs.Common.{None}
 use Rattle.std.proofs.Common.{unsigned_abs, to_z, of_z, sym, subst, ◌∙◌, arith, rules}
 use mir.Syntax.{w64, w128}
 use Rattle.definitions.proofs.Casts.{cast_kept}

@@ -1,4 +1,5 @@
-use Rattle.std.proofs.Common.{◌≡◌, ℕ, length, take, to_z, of_z, ap, sym, subst, ◌∙◌, arith}
+use Rattle.std.proofs.Common.{◌≡◌, ℕ, length, take, to_z, of_z, ap, sym, subst, ◌∙◌}
+use Rattle.std.proofs.Common.{arith}
 use mir.Syntax.{w128}
 use Rattle.std.proofs.lemmas.Result.{IfOk-from_err}
 use Rattle.definitions.specs.Games.{IsShares}

@@ -1,4 +1,5 @@
-use Rattle.std.proofs.Common.{◌≡◌, ◌≤◌, ◌<◌, ◌*◌, ◌-◌, ◌%◌, ◌^◌, ℕ, pos, slice_index_or, subst, arith}
+use Rattle.std.proofs.Common.{◌≡◌, ◌≤◌, ◌<◌, ◌*◌, ◌-◌, ◌%◌, ◌^◌, ℕ, pos, slice_index_or}
+use Rattle.std.proofs.Common.{subst, arith}
 use Rattle.separation.specs.Values.{IsEight}
 use Rattle.separation.proofs.Balance.{masks_of}
 use Rattle.separation.proofs.Eights.{IsEight-next}

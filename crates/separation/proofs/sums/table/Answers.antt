@@ -1,4 +1,5 @@
-use Rattle.std.proofs.Common.{◌≡◌, ◌<◌, ℕ, length, length-set, to_z, of_z, arith, sym, ◌∙◌, subst, refl}
+use Rattle.std.proofs.Common.{◌≡◌, ◌<◌, ℕ, length, length-set, to_z, of_z, arith, sym, ◌∙◌}
+use Rattle.std.proofs.Common.{subst, refl}
 use mir.Syntax.{w128}
 use Rattle.separation.specs.Values.{IsEight}
 use Rattle.separation.proofs.Eights.{IsEight-empty}

@@ -1,4 +1,5 @@
-use Rattle.std.proofs.Common.{◌≡◌, ◌⊎◌, ◌<◌, ◌≤◌, ◌*◌, ℕ, ℤ, pos, ◌≤ℤ◌, inl, inr, sym, subst, arith}
+use Rattle.std.proofs.Common.{◌≡◌, ◌⊎◌, ◌<◌, ◌≤◌, ◌*◌, ℕ, ℤ, pos, ◌≤ℤ◌, inl}
+use Rattle.std.proofs.Common.{inr, sym, subst, arith}
 use Rattle.std.proofs.Common.{unsigned_abs, slice_index_or, to_z, of_z, rules}
 use mir.Syntax.{w64}
 use Rattle.definitions.proofs.Cases.{last_or_less_of}

@@ -1,4 +1,5 @@
-use Rattle.std.proofs.Common.{rules, arith, ◌<◌, ◌≤◌, ◌-◌, ℕ, length, length-set, sym, ap, subst, ◌∙◌, FitsSigned}
+use Rattle.std.proofs.Common.{rules, arith, ◌<◌, ◌≤◌, ◌-◌, ℕ, length, length-set, sym, ap}
+use Rattle.std.proofs.Common.{subst, ◌∙◌, FitsSigned}
 use mir.Syntax.{w128, w32}
 use Rattle.std.proofs.lemmas.Int.{to_z-of_z}
 use Rattle.simplex.proofs.DotProducts.{flipped_at}

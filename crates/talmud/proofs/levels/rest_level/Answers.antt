@@ -1,4 +1,5 @@
-use Rattle.std.proofs.Common.{◌≡◌, ◌*◌, ◌^◌, ◌<◌, ℕ, pos, ◌-ℤ◌, neg_ℤ, to_z, of_z, unsigned_abs, arith, ◌∙◌}
+use Rattle.std.proofs.Common.{◌≡◌, ◌*◌, ◌^◌, ◌<◌, ℕ, pos, ◌-ℤ◌, neg_ℤ, to_z, of_z}
+use Rattle.std.proofs.Common.{unsigned_abs, arith, ◌∙◌}
 use Rattle.std.proofs.lemmas.Int.{ints, to_z_pos}
 use Rattle.kohlberg.proofs.Kept.{kept}
 use mir.Syntax.{w128}

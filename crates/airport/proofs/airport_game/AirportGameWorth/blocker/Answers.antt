@@ -1,4 +1,5 @@
-use Rattle.std.proofs.Common.{◌≡◌, ◌≤◌, ◌<◌, ◌+◌, ◌*◌, ◌^◌, ◌-ℤ◌, ℕ, ℤ, pos, ◌<ℤ◌, ◌≤ℤ◌, neg_ℤ, to_z}
+use Rattle.std.proofs.Common.{◌≡◌, ◌≤◌, ◌<◌, ◌+◌, ◌*◌, ◌^◌, ◌-ℤ◌, ℕ, ℤ, pos}
+use Rattle.std.proofs.Common.{◌<ℤ◌, ◌≤ℤ◌, neg_ℤ, to_z}
 use Rattle.std.proofs.Common.{Option, length, get_or, arith, sym, ap, ◌∙◌, add-one, unsigned_abs}
 use Rattle.std.proofs.lemmas.Int.{ints}
 use mir.Syntax.{w128}

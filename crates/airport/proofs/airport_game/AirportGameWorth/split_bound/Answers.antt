@@ -1,4 +1,5 @@
-use Rattle.std.proofs.Common.{◌≡◌, ◌<◌, ◌+◌, ◌^◌, ◌&&◌, ◌-ℤ◌, ℕ, ℤ, not, pos, neg_ℤ, nat_eq, to_z, of_z}
+use Rattle.std.proofs.Common.{◌≡◌, ◌<◌, ◌+◌, ◌^◌, ◌&&◌, ◌-ℤ◌, ℕ, ℤ, not, pos}
+use Rattle.std.proofs.Common.{neg_ℤ, nat_eq, to_z, of_z}
 use Rattle.std.proofs.Common.{Option, length, get_or, arith, rules, sym, ap, ◌∙◌, add-one}
 use mir.Syntax.{w128}
 use Rattle.definitions.specs.Coalitions.{has_player, splits}

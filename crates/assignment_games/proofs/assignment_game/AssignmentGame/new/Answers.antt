@@ -1,4 +1,5 @@
-use Rattle.std.proofs.Common.{rules, ◌≡◌, ◌⊎◌, ◌-◌, ◌<◌, ◌≤◌, length, map, refl, ap, inl, inr}
+use Rattle.std.proofs.Common.{rules, ◌≡◌, ◌⊎◌, ◌-◌, ◌<◌, ◌≤◌, length, map, refl, ap}
+use Rattle.std.proofs.Common.{inl, inr}
 use Rattle.assignment_games.proofs.Games.{assignment_is_game}
 use Rattle.assignment_games.proofs.Evenness.{AreFew, buyers_fail, few_players, filled_whole, no_buyers, no_entries}
 use Rattle.assignment_games.proofs.Evenness.{no_sellers, rows_tested, sellers_fail, sides_made, uneven}

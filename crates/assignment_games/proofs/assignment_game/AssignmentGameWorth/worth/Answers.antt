@@ -1,4 +1,5 @@
-use Rattle.std.proofs.Common.{ap, ◌∙◌, subst, ℕ, List, ℤ, length, get_or, pos, ◌+◌, ◌^◌}
+use Rattle.std.proofs.Common.{ap, ◌∙◌, subst, ℕ, List, ℤ, length, get_or, pos, ◌+◌}
+use Rattle.std.proofs.Common.{◌^◌}
 use Rattle.std.proofs.lemmas.Int.{fits_signed_from_abs}
 use mir.Syntax.{w64}
 use Rattle.matrices.specs.Rows.{entries_of}

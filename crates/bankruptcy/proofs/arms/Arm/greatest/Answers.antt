@@ -1,4 +1,5 @@
-use Rattle.std.proofs.Common.{◌∙◌, ◌≡◌, ℕ, ◌+◌, ◌*◌, ◌^◌, ◌<◌, ◌≤◌, true, false, length, ℤ, pos, ◌+ℤ◌}
+use Rattle.std.proofs.Common.{◌∙◌, ◌≡◌, ℕ, ◌+◌, ◌*◌, ◌^◌, ◌<◌, ◌≤◌, true, false}
+use Rattle.std.proofs.Common.{length, ℤ, pos, ◌+ℤ◌}
 use Rattle.std.proofs.Common.{◌<ℤ◌, ◌≤ℤ◌, unsigned_abs, to_z, of_z, sym, ap, arith}
 use Rattle.std.proofs.lemmas.Int.{ints}
 use Rattle.bankruptcy.specs.Arms.{arm_at, arm_base, arm_number}

@@ -1,4 +1,5 @@
-use Rattle.std.proofs.Common.{◌≡◌, ℕ, ◌^◌, ◌<◌, ◌≤◌, length, ℤ, ◌+ℤ◌, Option, Some, IfSome}
+use Rattle.std.proofs.Common.{◌≡◌, ℕ, ◌^◌, ◌<◌, ◌≤◌, length, ℤ, ◌+ℤ◌, Option, Some}
+use Rattle.std.proofs.Common.{IfSome}
 use Rattle.std.proofs.Common.{unsigned_abs, to_z, of_z, subst, refl, sym, ◌∙◌, arith}
 use Rattle.std.proofs.lemmas.Int.{ints, fits_signed_from_abs}
 use Rattle.definitions.specs.Coalitions.{grand_coalition}

@@ -1,4 +1,5 @@
-use Rattle.std.proofs.Common.{ℕ, ◌^◌, ◌≤◌, length, pos, w64, slice_index, subst, sym, ap, ◌∙◌, arith}
+use Rattle.std.proofs.Common.{ℕ, ◌^◌, ◌≤◌, length, pos, w64, slice_index, subst, sym, ap}
+use Rattle.std.proofs.Common.{◌∙◌, arith}
 use Rattle.std.proofs.lemmas.Int.{to_z_pos}
 use Rattle.big_assignment.specs.Mates.{payoff, total_below}
 use Rattle.big_assignment.proofs.Worths.{worth_total, payoff_small}

@@ -1,4 +1,5 @@
-use Rattle.std.proofs.Common.{◌≡◌, ◌∙◌, ◌+◌, ◌*◌, length, not, ap, to_z, of_z, slice_set, rules, arith}
+use Rattle.std.proofs.Common.{◌≡◌, ◌∙◌, ◌+◌, ◌*◌, length, not, ap, to_z, of_z, slice_set}
+use Rattle.std.proofs.Common.{rules, arith}
 use mir.Syntax.{w128}
 use Rattle.kernel_test.specs.Tables.{number_at, raised_where}
 use Rattle.kernel_test.proofs.Rows.{raised-column, written-elsewhere}

@@ -1,4 +1,5 @@
-use Rattle.std.proofs.Common.{◌≡◌, ◌*◌, ◌+◌, ℕ, Bool, Option, List, not, ◌&&◌, nat_eq, nat_lt, arith, ap, sym}
+use Rattle.std.proofs.Common.{◌≡◌, ◌*◌, ◌+◌, ℕ, Bool, Option, List, not, ◌&&◌, nat_eq}
+use Rattle.std.proofs.Common.{nat_lt, arith, ap, sym}
 use Rattle.std.proofs.Common.{◌∙◌, inl, inr}
 use Rattle.definitions.specs.Coalitions.{has_player}
 use Rattle.definitions.proofs.Cases.{same_or_other, nat_eq-equal, nat_eq-other, nat_lt-less, nat_lt-past, and_true}

@@ -1,4 +1,5 @@
-use Rattle.std.proofs.Common.{◌≡◌, ◌*◌, ◌+◌, ◌/◌, ◌%◌, ℕ, List, arith, ap, sym, ◌∙◌, slice_index_or}
+use Rattle.std.proofs.Common.{◌≡◌, ◌*◌, ◌+◌, ◌/◌, ◌%◌, ℕ, List, arith, ap, sym}
+use Rattle.std.proofs.Common.{◌∙◌, slice_index_or}
 use Rattle.definitions.specs.Coalitions.{has_player}
 use Rattle.spans.specs.Outside.{is_marked}
 use Rattle.spans.proofs.outside.Outside.word.Goals as goal

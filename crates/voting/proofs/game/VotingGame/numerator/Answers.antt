@@ -1,4 +1,5 @@
-use Rattle.std.proofs.Common.{◌≡◌, ◌<◌, ◌-◌, ℕ, length, slice_index, subst, sym, ap, ◌∙◌, arith}
+use Rattle.std.proofs.Common.{◌≡◌, ◌<◌, ◌-◌, ℕ, length, slice_index, subst, sym, ap, ◌∙◌}
+use Rattle.std.proofs.Common.{arith}
 use Rattle.voting.specs.Voting.{Voting, IsVoting}
 use Rattle.voting.specs.Counts.{IsSmallRow, share_unit}
 use Rattle.voting.proofs.Blocking.{weight-read}
