@@ -16,13 +16,13 @@ use Rattle.assignment_games.specs.Values.{optimal_value}
 use Rattle.assignment_games.specs.Assignments.{IsAssignment, IsFilled, seller_count, assignment_game}
 use Rattle.assignment_games.proofs.Matchings.{no_rows}
 use Rattle.assignment_games.proofs.Optimal.{IsBestPart, optimal_value-is, optimal_value-few, same_optimal}
-use Rattle.assignment_games.proofs.Table.{member_below}
+use Rattle.definitions.proofs.Parts.{has_player-within}
 
 pub worth_optimal : (matrix : Matrix) (rows columns s : ℕ) → s < 2 ^ (rows + columns)
     → IsBestPart matrix rows columns rows (has_player s)
 worth_optimal matrix rows columns s small =
     optimal_value-is matrix rows columns rows (has_player s) (omega arith)
-    (λ j e. (let a = member_below (rows + columns) s (rows + j) small e in omega (arith, a))) (λ b lt e. lt)
+    (λ j e. (let a = has_player-within (rows + columns) s (rows + j) small e in omega (arith, a))) (λ b lt e. lt)
 
 pub assignment_is_game : (rows : List (List ℤ))
     → IsAssignmentGame (entries_of rows) (length rows) (assignment_game rows)

@@ -43,12 +43,6 @@ pub least_player : (s n : ℕ) (r : Option ℕ)
 least_player s n None none = λ b lt. none b (omega arith) lt
 least_player s n (Some b) some = (some.1, some.2)
 
-pub member_below : (n s k : ℕ) → s < 2 ^ n → has_player s k ≡ true → k < n
-member_below n s k lt e = elim (below_or_above k n) [
-  | inl low ↦ low
-  | inr high ↦ absurd (false≢true (sym (has_player-past n s k lt high) ∙ e))
-]
-
 pub masks_few : (n s : ℕ) → n ≤ 16 → s < 2 ^ n → s < 65536
 masks_few n s few lt = let p : n ≤ 16 = few in let m : 2 ^ n ≤ 2 ^ 16 = pow_mono p in omega arith
 

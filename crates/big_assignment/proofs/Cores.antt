@@ -12,12 +12,12 @@ use Rattle.matrices.specs.Rows.{entries_of}
 use Rattle.assignment_games.specs.Values.{IsOptimalAmong, optimal_value}
 use Rattle.assignment_games.specs.Assignments.{seller_count, assignment_game}
 use Rattle.assignment_games.proofs.Optimal.{same_optimal}
-use Rattle.assignment_games.proofs.Table.{member_below}
 use Rattle.assignment_games.proofs.Games.{worth_optimal}
 use Rattle.big_assignment.specs.Solutions.{IsWhole}
 use Rattle.big_assignment.proofs.Sums.{sum_where, PairsGet, prices_bound}
 use Rattle.big_assignment.proofs.Paid.{IsPaid, paid_value, paid_optimal}
 use Rattle.big_assignment.proofs.Supports.{all_of, all_among}
+use Rattle.definitions.proofs.Parts.{has_player-within}
 
 abbrev pub worth_of : List (List ℤ) → ℕ → ℕ
 worth_of rows s = optimal_value (entries_of rows) (length rows) (seller_count rows) (length rows) (has_player s)
@@ -99,7 +99,7 @@ paid_core rows ps x d f some h get m paid = (
         let g = worth_optimal (entries_of rows) (length rows) (seller_count rows) t lt in
         let le =
         prices_bound (entries_of rows) (length rows) (seller_count rows) d f (has_player t) g.reached.0 get
-        (λ k e. member_below n t k lt e) g.reached.1 in
+        (λ k e. has_player-within n t k lt e) g.reached.1 in
         let e = ap (λ (v : ℕ). d * v) g.reached.2 in
         no_block (sum_where n (has_player t) f) (worth_of rows t) d x.den h.den (omega (arith, le, e))
         (subst (λ (z : ℤ). z <ℤ (x.den *ℤ pos (worth_of rows t))) (amount_whole n x d f t h) b)

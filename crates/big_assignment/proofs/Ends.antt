@@ -25,6 +25,7 @@ use Rattle.big_assignment.proofs.Supports.{IsSupport, all_of, all_among, support
 use Rattle.big_assignment.proofs.Supports.{support_optimal, support_paid}
 use Rattle.big_assignment.proofs.Cores.{worth_of, count_of, amount_whole, grand_optimal, paid_core}
 use Rattle.big_assignment.proofs.Sides.{IsCoreAt}
+use Rattle.definitions.proofs.Casts.{pos-le}
 
 pub whole_of : (z : ℤ) → pos 0 ≤ℤ z → z ≡ pos (unsigned_abs z)
 whole_of (pos n) h = refl
@@ -183,9 +184,6 @@ pub whole_less : (n d e k : ℕ) (x y : Allocation) (f g : ℕ → ℕ) → IsWh
     → g k * d ≤ f k * e → (share y k *ℤ x.den) ≤ℤ (share x k *ℤ y.den)
 whole_less n d e k x y f g a b lt le =
     rw (a.den, b.den, a.shares k lt, b.shares k lt) (pos-le (g k * d) (f k * e) le)
-  where
-    pos-le : (v w : ℕ) → v ≤ w → pos v ≤ℤ pos w
-    pos-le v w le = omega (arith, linear, le)
 
 pub less_whole : (n d e k : ℕ) (x y : Allocation) (f g : ℕ → ℕ) → IsWhole n x d f → IsWhole n y e g → k < n
     → (share y k *ℤ x.den) ≤ℤ (share x k *ℤ y.den) → g k * d ≤ f k * e

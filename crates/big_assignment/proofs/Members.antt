@@ -8,7 +8,6 @@ use Rattle.definitions.specs.Classes.{Matrix, removed, IsMatching, matching_valu
 use Rattle.definitions.specs.Coalitions.{has_player}
 use Rattle.definitions.proofs.Members.{has_player-grand_coalition}
 use Rattle.assignment_games.specs.Values.{IsOptimalAmong}
-use Rattle.assignment_games.proofs.Table.{member_below}
 use Rattle.big_assignment.specs.Markets.{offered}
 use Rattle.big_assignment.specs.Mates.{pairs_from}
 use Rattle.definitions.proofs.Cases.{below_or_above}
@@ -16,6 +15,7 @@ use Rattle.assignment_games.proofs.Matchings.{removed-out, Within, matching-more
 use Rattle.big_assignment.proofs.Sums.{sum_where}
 use Rattle.big_assignment.proofs.Pairs.{Paired, pairs_match}
 use Rattle.big_assignment.proofs.Supports.{IsSupport, all_of, support_pairs, support_optimal}
+use Rattle.definitions.proofs.Parts.{has_player-within}
 
 cond-both : (a b : Bool) (x : ℕ) → a ≡ true → b ≡ true → cond (a && b) x 0 ≡ x
 cond-both true true x p q = refl
@@ -129,7 +129,7 @@ members_optimal matrix rows columns s x mate small h =
     pairs_match rows columns mates (has_player s) 0 rows (members_paired matrix rows columns s x mate h) in
     let most = support_optimal (offered matrix rows s) rows columns x mate h in
     let within : Within (has_player s) (all_of n) =
-    λ k e. has_player-grand_coalition n k (member_below n s k small e) in
+    λ k e. has_player-grand_coalition n k (has_player-within n s k small e) in
     record {
       reached = (
         pairs_from mates columns 0 rows,

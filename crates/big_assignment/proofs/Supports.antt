@@ -6,18 +6,19 @@ use Rattle.definitions.specs.Coalitions.{has_player, grand_coalition}
 use Rattle.definitions.specs.Classes.{Matrix, IsMatching, matching_value, entry}
 use Rattle.definitions.proofs.Masks.{grand_coalition-within}
 use Rattle.definitions.proofs.Members.{has_player-grand_coalition}
-use Rattle.assignment_games.proofs.Table.{member_below}
 use Rattle.big_assignment.specs.Supports.{IsSingle}
 use Rattle.assignment_games.specs.Values.{IsOptimalAmong}
 use Rattle.big_assignment.specs.Mates.{pairs_from, payoff}
 use Rattle.big_assignment.specs.declared.deal.Deal.{Deal}
-use Rattle.big_assignment.specs.Deals.{Holds, IsFair, IsTight, IsTurned, Offers, at_prices, gain_of, mate_of, offer_of}
+use Rattle.big_assignment.specs.Deals.{Holds, IsFair, IsTight, IsTurned, Offers}
+use Rattle.big_assignment.specs.Deals.{at_prices, gain_of, mate_of, offer_of}
 use Rattle.big_assignment.specs.Deals.{price_of}
 use Rattle.definitions.proofs.Cases.{below_or_above, nat_lt-less, nat_lt-past}
 use Rattle.big_assignment.proofs.Sums.{sum_where, PairsGet, AmongAll}
 use Rattle.big_assignment.proofs.Pairs.{Paired, pairs_match, pairs_from-all, pairs_from-each}
 use Rattle.big_assignment.proofs.Paid.{IsPaid, paid_value, paid_optimal}
 use Rattle.big_assignment.proofs.Turns.{hold_back}
+use Rattle.definitions.proofs.Parts.{has_player-within}
 
 pub payoff-row : (rows : ℕ) (u p : ℕ → ℕ) (i : ℕ) → i < rows → payoff rows u p i ≡ u i
 payoff-row rows u p i lt = rw (nat_lt-less i rows lt) refl
@@ -124,7 +125,7 @@ abbrev pub all_of : ℕ → ℕ → Bool
 all_of n = has_player (grand_coalition n)
 
 pub all_among : (n : ℕ) → AmongAll n (all_of n)
-all_among n k e = member_below n (grand_coalition n) k (grand_coalition-within n) e
+all_among n k e = has_player-within n (grand_coalition n) k (grand_coalition-within n) e
 
 pub support_paired : (matrix : Matrix) (rows columns : ℕ) (x mate : ℕ → ℕ) → IsSupport matrix rows columns x mate
     → Paired rows columns mate (all_of (rows + columns)) 0 rows

@@ -1,6 +1,7 @@
--- Facts on all items of a list: of parts, of a longer list, and from one fact to another; and what is the same at each.
+-- Facts on all items of a list: of parts, of a longer list, and from one fact to another; and what is the same at
+-- each.
 use Rattle.std.proofs.Common.{◌≡◌, ℕ, zero, suc, ◌<◌, List, [], ◌∷◌, ◌++◌, length}
-use Rattle.std.proofs.Common.{map, get_or, ap, arith}
+use Rattle.std.proofs.Common.{map, get_or, ap, arith, pos, unsigned_abs, refl}
 use Rattle.std.specs.List.{AllByRecursion}
 
 pub all_any : {X : Type 0} (P : X → Type 0) (xs : List X) → ((x : X) → P x) → AllByRecursion P xs
@@ -48,3 +49,8 @@ all_at_places P d (x ∷ xs) h = (h 0 (omega arith), all_at_places P d xs (λ i 
 
 pub map_same : {X Y : Type 0} (f h : X → Y) (xs : List X) → ((x : X) → f x ≡ h x) → map f xs ≡ map h xs
 map_same f h xs e = ap (λ k. map k xs) (λ i x. e x i)
+
+-- naturals as integers and back
+pub unsigned_abs-pos_all : (ns : List ℕ) → map unsigned_abs (map pos ns) ≡ ns
+unsigned_abs-pos_all [] = refl
+unsigned_abs-pos_all (n ∷ ns) = ap (λ l. n ∷ l) (unsigned_abs-pos_all ns)

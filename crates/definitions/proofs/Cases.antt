@@ -15,6 +15,9 @@ use Rattle.std.specs.Int.{int_max, int_min}
 pub below_or_above : (i n : ℕ) → (i < n) ⊎ (n ≤ i)
 below_or_above i n = grind arith
 
+pub suc-less_one : (i : ℕ) → suc i - 1 ≡ i
+suc-less_one i = omega arith
+
 pub same_or_other : (i j : ℕ) → (i ≡ j) ⊎ (i ≢ j)
 same_or_other i j = grind arith
 
@@ -116,6 +119,10 @@ from_not false e = refl
 pub or_cases : (a b : Bool) → (a || b) ≡ true → (a ≡ true) ⊎ (b ≡ true)
 or_cases true b h = inl refl
 or_cases false b h = inr h
+
+pub or_other : (a b : Bool) → a ≡ false → (a || b) ≡ true → b ≡ true
+or_other true b e h = absurd (false≢true (sym e))
+or_other false b e h = h
 
 pub or_left : (a b : Bool) → a ≡ true → (a || b) ≡ true
 or_left true b h = refl

@@ -1,6 +1,6 @@
 -- Casts that lose nothing.
 use Rattle.std.proofs.Common.{◌≡◌, ℕ, ◌*◌, ◌^◌, ◌<◌, ◌≤◌, ℤ, ◌-◌, ◌-ℤ◌, ◌*ℤ◌}
-use Rattle.std.proofs.Common.{unsigned_abs}
+use Rattle.std.proofs.Common.{unsigned_abs, pos, neg_ℤ, ◌<ℤ◌, ◌≤ℤ◌}
 use Rattle.std.proofs.Common.{to_z, of_z, to_z-of_z, arith, mul-le-mul}
 use Rattle.std.proofs.lemmas.Int.{ints, fits_signed_from_abs, unsigned_abs-mul}
 use mir.Syntax.{w128, Width}
@@ -15,6 +15,15 @@ pub difference_kept : (a b : ℤ) → unsigned_abs a < 2 ^ 100 → unsigned_abs 
 difference_kept a b h k =
     rw (cast_kept w128 a (omega arith), cast_kept w128 b (omega arith))
     (cast_kept w128 (a -ℤ b) (omega (arith, ints)))
+
+pub unsigned_abs-neg : (z : ℤ) → unsigned_abs (neg_ℤ z) ≡ unsigned_abs z
+unsigned_abs-neg z = omega (arith, ints)
+
+pub pos-le : (m n : ℕ) → m ≤ n → pos m ≤ℤ pos n
+pos-le m n h = omega (arith, ints)
+
+pub none_below_zero : (z : ℤ) → pos 0 ≤ℤ z → z <ℤ pos 0 → ⊥
+none_below_zero z h k = omega (arith, ints)
 
 pub unsigned_abs-mul_le : (a b : ℤ) (m n : ℕ) → unsigned_abs a ≤ m → unsigned_abs b ≤ n
     → unsigned_abs (a *ℤ b) ≤ m * n

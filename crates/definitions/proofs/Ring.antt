@@ -62,6 +62,12 @@ mul_left_commℤ a b c = sym (mul_assocℤ a b c) ∙ ap (λ (k : ℤ). k *ℤ c
 pub mul_assoc_commℤ : (a b c : ℤ) → (a *ℤ b) *ℤ c ≡ b *ℤ (a *ℤ c)
 mul_assoc_commℤ a b c = mul_assocℤ a b c ∙ mul_left_commℤ a b c
 
+pub mul_ends_exchangedℤ : (a b c : ℤ) → a *ℤ (b *ℤ c) ≡ c *ℤ (b *ℤ a)
+mul_ends_exchangedℤ a b c = ap (λ u. a *ℤ u) (*ℤ_comm b c) ∙ mul_left_commℤ a c b ∙ ap (λ u. c *ℤ u) (*ℤ_comm a b)
+
+pub add-sameℤ : (p q u v : ℤ) → p ≡ u → q ≡ v → p +ℤ q ≡ u +ℤ v
+add-sameℤ p q u v e f = rw (e, f) refl
+
 pub mul_exchangeℤ : (a b c d : ℤ) → (a *ℤ b) *ℤ (c *ℤ d) ≡ (a *ℤ c) *ℤ (b *ℤ d)
 mul_exchangeℤ a b c d =
     mul_assocℤ a b (c *ℤ d) ∙ ap (λ z. a *ℤ z) (mul_left_commℤ b c d) ∙ sym (mul_assocℤ a c (b *ℤ d))

@@ -10,6 +10,7 @@ use Rattle.serde_json.specs.declared.value.Value.{Value}
 use Rattle.definitions.specs.Coalitions.{has_player}
 use Rattle.json_trees.proofs.Values.{rest, rest_step}
 use Rattle.document_parts.specs.Members.{player_of, join, joined}
+use Rattle.definitions.proofs.Parts.{bit_zero}
 
 -- a bit that isn't set may be added
 pub add_below : (i n s : ℕ) → i < n → s < 2 ^ n → bit_at s i ≡ 0 → s + 2 ^ i < 2 ^ n
@@ -20,11 +21,8 @@ add_below (suc i) (suc n) s h small e =
     let ih = add_below i n (s / 2) (omega arith) half (sym (bit_at-suc s i) ∙ e) in
     omega (arith, ih)
 
-no_bit : (s i : ℕ) → has_player s i ≡ false → bit_at s i ≡ 0
-no_bit s i h = let ne = eqb-false (bit_at s i) 1 h in omega (arith, bit_at-lt s i)
-
 pub join_below : (n s i : ℕ) → i < n → s < 2 ^ n → has_player s i ≡ false → s + 2 ^ i < 2 ^ n
-join_below n s i h small e = add_below i n s h small (no_bit s i e)
+join_below n s i h small e = add_below i n s h small (bit_zero s i e)
 
 module _ (n : ℕ) (names : List (List ℕ)) (whole : Option ℕ) (vs : List Value) (i s : ℕ) (v : Value)
     (h : i < length vs) (at : v ≡ get_or vs i v) (goes : whole ≡ joined n names s (rest vs i)) where

@@ -7,11 +7,7 @@ use Rattle.std.proofs.lemmas.List.{length-map, take_all}
 use Rattle.definitions.specs.Games.{Allocation, IsShares, share}
 use Rattle.worth_core.specs.Allocations.{allocation}
 use Rattle.document_parts.specs.Shares.{negated}
-
-turned_size : (z : ℤ) → unsigned_abs (neg_ℤ z) ≡ unsigned_abs z
-turned_size (pos zero) = refl
-turned_size (pos (suc n)) = refl
-turned_size (negsuc n) = refl
+use Rattle.definitions.proofs.Casts.{unsigned_abs-neg}
 
 negated_shares : (x : Allocation) → IsShares x → IsShares (negated x)
 negated_shares x h =
@@ -22,7 +18,7 @@ negated_shares x h =
       positive = h.positive;
       common = h.common;
       small = λ i l.
-          let same = ap unsigned_abs (get_or-map neg_ℤ x.shares i (pos 0)) ∙ turned_size (share x i) in
+          let same = ap unsigned_abs (get_or-map neg_ℤ x.shares i (pos 0)) ∙ unsigned_abs-neg (share x i) in
           subst (λ k. k < 2 ^ 110) (sym same) (h.small i (omega (arith, l, long)));
     }
 

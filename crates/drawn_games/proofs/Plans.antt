@@ -57,15 +57,12 @@ straight-cost matrix k (suc m) f h =
     straight-cost matrix (suc k) m (λ i. f (suc i))
     (λ i lt. subst (λ (j : ℕ). f (suc i) ≤ℤ neg_ℤ (pos (entry matrix 0 (suc j)))) (moved k i)
     (h (suc i) (omega arith))) in
-    let first = subst (λ (j : ℕ). f 0 ≤ℤ neg_ℤ (pos (entry matrix 0 (suc j)))) (none k) (h 0 (omega arith)) in
+    let first = subst (λ (j : ℕ). f 0 ≤ℤ neg_ℤ (pos (entry matrix 0 (suc j)))) (omega arith) (h 0 (omega arith)) in
     both (entry matrix 0 (suc k)) (plan_cost matrix (straight (suc k) m)) (f 0) (sum_below m (λ i. f (suc i)))
     (sum_below (suc m) f) front first ih
   where
     moved : (k i : ℕ) → k + suc i ≡ suc k + i
     moved k i = omega arith
-
-    none : (k : ℕ) → k + 0 ≡ k
-    none k = omega arith
 
     both : (e p : ℕ) (x y z : ℤ) → z ≡ x +ℤ y → x ≤ℤ neg_ℤ (pos e) → y ≤ℤ neg_ℤ (pos p) → z ≤ℤ neg_ℤ (pos (e + p))
     both e p x y z g h k = omega (arith, ints, g, h, k)

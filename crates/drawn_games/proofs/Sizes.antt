@@ -21,6 +21,7 @@ use Rattle.assignment_games.specs.Assignments.{IsAssignment, seller_count}
 use Rattle.drawn_games.specs.Draws.{state, next_state, long_draw, short_draw}
 use Rattle.drawn_games.specs.Numbers.{long_draws, table_number, table_numbers, is_single}
 use Rattle.drawn_games.specs.Numbers.{draws_before, rows_of, link, link_place, pair_value}
+use Rattle.definitions.proofs.Alls.{unsigned_abs-pos_all}
 
 pub long_small : (seed k : ℕ) → long_draw seed k < 2 ^ 20
 long_small seed k = below (next_state (state seed k)) (omega arith)
@@ -45,16 +46,12 @@ All-numbered {X = X} P f a n h k d lt =
 
 -- ---- costs and claims
 
-unsigned_back : (xs : List ℕ) → map unsigned_abs (map pos xs) ≡ xs
-unsigned_back [] = refl
-unsigned_back (x ∷ xs) = ap (λ (ys : List ℕ). x ∷ ys) (unsigned_back xs)
-
 -- naturals that are the same integers are the same
 pub pos-same : (xs ys : List ℕ) → map pos xs ≡ map pos ys → xs ≡ ys
-pos-same xs ys e = sym (unsigned_back xs) ∙ ap (map unsigned_abs) e ∙ unsigned_back ys
+pos-same xs ys e = sym (unsigned_abs-pos_all xs) ∙ ap (map unsigned_abs) e ∙ unsigned_abs-pos_all ys
 
 sum_by-pos : (xs : List ℕ) → sum_by unsigned_abs (map pos xs) ≡ sum xs
-sum_by-pos xs = sym (sum-map unsigned_abs (map pos xs)) ∙ ap sum (unsigned_back xs)
+sum_by-pos xs = sym (sum-map unsigned_abs (map pos xs)) ∙ ap sum (unsigned_abs-pos_all xs)
 
 length-pos : (xs : List ℕ) → length (map pos xs) ≡ length xs
 length-pos [] = refl

@@ -42,6 +42,7 @@ use Rattle.game_text.specs.Descriptions.{table_numbers}
 use Rattle.game_text.specs.Readings.{HasSizes, IsTableClass}
 use Rattle.game_text.specs.declared.class.Class.{Class}
 use Rattle.game_text.specs.declared.class.Class.TheVariants.{Table, Cost, Airport, Bankruptcy}
+use Rattle.definitions.proofs.Alls.{unsigned_abs-pos_all}
 
 pub all_map : {X Y : Type 0} (P : Y → Type 0) (f : X → Y) (test : X → Bool) → ((x : X) → test x ≡ true → P (f x))
     → (xs : List X) → list_all test xs ≡ true → All P (map f xs)
@@ -269,12 +270,8 @@ bankruptcy_sizes k game s e h =
 
 -- ---- kept as natural numbers
 
-sizes_of : (ns : List ℕ) → map unsigned_abs (map pos ns) ≡ ns
-sizes_of [] = refl
-sizes_of (n ∷ ns) = ap (λ l. n ∷ l) (sizes_of ns)
-
 pub kept_sizes : (ns : List ℕ) (zs : List ℤ) → map pos ns ≡ zs → ns ≡ map unsigned_abs zs
-kept_sizes ns zs e = sym (sizes_of ns) ∙ ap (map unsigned_abs) e
+kept_sizes ns zs e = sym (unsigned_abs-pos_all ns) ∙ ap (map unsigned_abs) e
 
 pub claims_made : (b : Claims) (estate : ℤ) (claims : List ℤ) → pos b.estate ≡ estate → map pos b.claims ≡ claims
     → b.estate ≤ sum b.claims

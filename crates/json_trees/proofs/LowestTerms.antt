@@ -17,6 +17,7 @@ use Rattle.fractions.proofs.Divisors.{gcd_positive, right_quotient}
 use Rattle.fractions.proofs.LowestTerms.{lowest, lowest_is, whole_reduced}
 use Rattle.fractions.proofs.Ratios.{apart, size_of, one_ratio, ratio_of_same, product_positive, denominator_divides}
 use Rattle.json_trees.specs.LowestTerms.{in_lowest_terms, times_scale, over_scale, if_scaled}
+use Rattle.fractions.proofs.WrittenFractions.{test_from_fits, fits_from_test}
 
 whole : (d : ℤ) (g q : ℕ) → pos 1 ≤ℤ d → g * q ≡ unsigned_abs d → d ≡ pos g *ℤ pos q
 whole d g q h e = size_of d h ∙ ap pos (sym e)
@@ -108,22 +109,14 @@ times_over k f p r =
 
 -- ---- whether there is a form of 128 bits
 
-is_form : (z : ℤ) → FitsSigned w128 z → is_i128 z ≡ true
-is_form (pos n) h = lt-ltb n (2 ^ 127) (omega (arith, ints, h))
-is_form (negsuc n) h = lt-ltb n (2 ^ 127) (omega (arith, ints, h))
-
-form_of : (z : ℤ) → is_i128 z ≡ true → FitsSigned w128 z
-form_of (pos n) h = let b = ltb-true n (2 ^ 127) h in omega (arith, ints, b)
-form_of (negsuc n) h = let b = ltb-true n (2 ^ 127) h in omega (arith, ints, b)
-
 pub chosen_some : (k : ℕ) (f g : Fraction) → g ≡ times_scale k f → FitsSigned w128 g.num → Some g ≡ if_scaled k f
 chosen_some k f g e h =
     let form : is_i128 (times_scale k f).num ≡ true =
-    is_form (times_scale k f).num (subst (λ (x : Fraction). FitsSigned w128 x.num) e h) in
+    test_from_fits (times_scale k f).num (subst (λ (x : Fraction). FitsSigned w128 x.num) e h) in
     ap (λ (x : Fraction). Some x) e ∙ ap (λ (b : Bool). if b then Some (times_scale k f) else None) (sym form)
 
 pub chosen_none : (k : ℕ) (f : Fraction) → ¬ FitsSigned w128 (times_scale k f).num → None ≡ if_scaled k f
-chosen_none k f h = choose (is_i128 (times_scale k f).num) (λ e. h (form_of (times_scale k f).num e))
+chosen_none k f h = choose (is_i128 (times_scale k f).num) (λ e. h (fits_from_test (times_scale k f).num e))
   where
     choose : (b : Bool) → (b ≡ true → ⊥) → None ≡ (if b then Some (times_scale k f) else None)
     choose true g = absurd (g refl)

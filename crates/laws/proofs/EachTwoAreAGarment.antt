@@ -15,6 +15,7 @@ use Rattle.definitions.specs.Games.{Allocation, share}
 use Rattle.talmud.specs.Rule.{cut, is_little, IsTalmud}
 use Rattle.laws.specs.TalmudRule.{unclaimed, IsGarment, claimed}
 use Rattle.talmud.proofs.Worths.{Divides}
+use Rattle.definitions.proofs.Casts.{pos-le}
 
 -- ---- numbers: y and z are shares, a and d the cut claims, t the bound
 
@@ -78,16 +79,13 @@ cut-is estate claims i lt = get_or-map (λ c. min c estate) claims i 0 0 lt
 
 -- ---- the claims as they are made
 
-natural_le : (a b : ℕ) → a ≤ b → pos a ≤ℤ pos b
-natural_le a b le = omega (arith, ints)
-
 module _ (estate : ℕ) (claims : List ℕ) (x : Allocation) (d : Divides estate claims x) where
   -- the cut claim is at most the claim
   pub less : (i : ℕ) → i < length claims → cut_claimed estate claims x i ≤ℤ claimed claims x i
   less i lt =
       mul-leℤ x.den (pos (cut estate claims i)) (pos (get_or claims i 0))
       (let positive = d.positive in omega (arith, linear))
-      (natural_le _ _ (rw (cut-is estate claims i lt) (omega arith)))
+      (pos-le _ _ (rw (cut-is estate claims i lt) (omega arith)))
 
   -- two get at most the estate together
   at_most : (i j : ℕ) → i < length claims → j < length claims → i ≢ j
@@ -184,7 +182,7 @@ module _ (estate : ℕ) (claims : List ℕ) (x : Allocation) (h : IsTalmud estat
   more i j hi hj le =
       let low =
       mul-leℤ x.den (pos (cut estate claims i)) (pos (cut estate claims j)) den_some
-      (natural_le _ _ (rw (cut-is estate claims i hi, cut-is estate claims j hj) (omega (arith, le)))) in
+      (pos-le _ _ (rw (cut-is estate claims i hi, cut-is estate claims j hj) (omega (arith, le)))) in
       let both =
       rising (is_little estate claims) (cut_claimed estate claims x i) (cut_claimed estate claims x j) bound
       (share x i) (share x j) low (of i hi) (of j hj) in

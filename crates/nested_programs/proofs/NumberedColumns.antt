@@ -6,6 +6,7 @@ use Rattle.std.specs.List.{AllByRecursion, IsDistinct}
 use Rattle.std.proofs.lemmas.Bool.Decides.{nat_tests}
 use Rattle.definitions.proofs.Ring.{linear}
 use Rattle.definitions.specs.Certificates.{number_at}
+use Rattle.definitions.proofs.Cases.{from_not_nat_eq}
 
 pub number_past_other : (p : ℕ × ℤ) (ps : List (ℕ × ℤ)) (id : ℕ) → p.0 ≢ id → number_at (p ∷ ps) id ≡ number_at ps id
 number_past_other p ps id ne =
@@ -19,14 +20,11 @@ number_none [] d id h = refl
 number_none (w ∷ ws) d id h =
     number_past_other w ws id (h 0 (omega arith)) ∙ number_none ws d id (λ j lt. h (suc j) (omega arith))
 
-pub other_key : (a b : ℕ) → nat_eq a b ≡ false → b ≢ a
-other_key a b h e = grind (arith, nat_tests)
-
 -- a column whose number none of the weights has
 pub number_apart : (id : ℕ) (ws : List (ℕ × ℤ)) → AllByRecursion (λ k. nat_eq id k ≡ false) (map (λ p. p.0) ws)
     → number_at ws id ≡ pos 0
 number_apart id [] h = refl
-number_apart id (w ∷ ws) h = number_past_other w ws id (other_key id w.0 h.0) ∙ number_apart id ws h.1
+number_apart id (w ∷ ws) h = number_past_other w ws id (from_not_nat_eq id w.0 h.0) ∙ number_apart id ws h.1
 
 -- a column's number is that of its one weight
 pub number_found : (ws : List (ℕ × ℤ)) (d : ℕ × ℤ) (k id : ℕ) → IsDistinct nat_eq (map (λ p. p.0) ws)
@@ -44,5 +42,5 @@ number_found (w ∷ ws) d (suc k) id h lt e =
     later_key : (w : ℕ × ℤ) (ws : List (ℕ × ℤ)) (d : ℕ × ℤ) (k : ℕ)
         → AllByRecursion (λ j. nat_eq w.0 j ≡ false) (map (λ p. p.0) ws) → k < length ws → (get_or ws k d).0 ≢ w.0
     later_key w [] d k h lt e = absurd (omega arith)
-    later_key w (v ∷ vs) d zero h lt e = other_key w.0 v.0 h.0 e
+    later_key w (v ∷ vs) d zero h lt e = from_not_nat_eq w.0 v.0 h.0 e
     later_key w (v ∷ vs) d (suc k) h lt e = later_key w vs d k h.1 (omega arith) e

@@ -3,7 +3,7 @@
 use Rattle.std.proofs.Common.{◌≡◌, ℕ, List, [], ◌∷◌, length, ℤ, pos, ◌*ℤ◌, ◌≤ℤ◌}
 use Rattle.std.proofs.Common.{sym, ap, subst, ◌∙◌, arith}
 use Rattle.std.proofs.lemmas.List.{append_assoc, length-append}
-use Rattle.definitions.proofs.Ring.{linear, mul_left_commℤ, mul-cancelℤ}
+use Rattle.definitions.proofs.Ring.{linear, mul_left_commℤ, mul-cancelℤ, mul_ends_exchangedℤ}
 use lib.IntN.{*ℤ_comm}
 use Rattle.nested_programs.specs.Stage.{Stage, with_front, behind}
 use Rattle.nested_programs.specs.Reading.{RowMultipliers, excess_of}
@@ -16,10 +16,8 @@ use Rattle.nested_programs.proofs.Chain.{excess_optimum}
 common_value : (a b c d e f : ℤ) → pos 1 ≤ℤ d → a *ℤ d ≡ f *ℤ b → e *ℤ d ≡ f *ℤ c → a *ℤ c ≡ e *ℤ b
 common_value a b c d e f one h k =
     mul-cancelℤ d (a *ℤ c) (e *ℤ b) (omega (arith, linear, one))
-    (outer_swapped d a c ∙ ap (λ z. c *ℤ z) h ∙ outer_swapped c f b ∙ ap (λ z. b *ℤ z) (sym k) ∙ outer_swapped b e d)
-  where
-    outer_swapped : (x y z : ℤ) → x *ℤ (y *ℤ z) ≡ z *ℤ (y *ℤ x)
-    outer_swapped x y z = ap (λ u. x *ℤ u) (*ℤ_comm y z) ∙ mul_left_commℤ x z y ∙ ap (λ u. z *ℤ u) (*ℤ_comm x y)
+    (mul_ends_exchangedℤ d a c ∙ ap (λ z. c *ℤ z) h ∙ mul_ends_exchangedℤ c f b ∙ ap (λ z. b *ℤ z) (sym k)
+      ∙ mul_ends_exchangedℤ b e d)
 
 pub have_excesses : (q : Stage) (ts : List StageAnswer) (m : RowMultipliers) → IsChain q ts
     → Reads (behind q (levels_of ts)) m → OwnExcesses q.game (length q.front) ts

@@ -6,11 +6,10 @@ use Rattle.std.proofs.lemmas.Bool.Decides.{nat_tests}
 use Rattle.std.specs.List.{AllByRecursion, IsDistinct}
 use Rattle.definitions.specs.Certificates.{Ascends}
 use Rattle.nested_programs.specs.Numbers.{outer_pairs, net, kept, earlier_pairs, bound_pairs}
-use Rattle.nested_programs.proofs.NumberedColumns.{other_key}
 use Rattle.nested_programs.proofs.PlacedOrder.{kept_apart, kept_ascends}
 use Rattle.nested_programs.proofs.LevelPairs.{all_outer, all_kept, all_bound}
 use Rattle.definitions.proofs.Alls.{all_join, all_weaken}
-use Rattle.definitions.proofs.Cases.{true_or_false}
+use Rattle.definitions.proofs.Cases.{true_or_false, from_not_nat_eq}
 use Rattle.kohlberg.proofs.Placed.{Apart}
 
 -- ---- the coalitions outside
@@ -72,7 +71,7 @@ earlier_new : (ws : List (ℕ × ℤ)) (key id : ℕ) (cs : List (ℕ × ℕ))
     → AllByRecursion (λ p. p.0 ≢ key) (earlier_pairs ws id cs)
 earlier_new ws key id cs h =
     earlier_all (λ p. p.0 ≢ key) ws id cs
-    (all_weaken (λ c. nat_eq key c.0 ≡ false) (λ c. (a b : ℕ) → c.0 ≢ key) cs (λ c ne a b. other_key key c.0 ne)
+    (all_weaken (λ c. nat_eq key c.0 ≡ false) (λ c. (a b : ℕ) → c.0 ≢ key) cs (λ c ne a b. from_not_nat_eq key c.0 ne)
     (all_keys (λ y. nat_eq key y ≡ false) cs h))
 
 pub earlier_apart : (ws : List (ℕ × ℤ)) (id : ℕ) (cs : List (ℕ × ℕ))

@@ -1,6 +1,6 @@
 -- The same shares over another denominator are the nucleolus where the first are.
 use Rattle.std.proofs.Common.{◌≡◌, ℤ, ◌*ℤ◌, sym, ap, ◌∙◌}
-use Rattle.definitions.proofs.Ring.{ring_laws, mul_assocℤ, mul_left_commℤ, mul-cancelℤ}
+use Rattle.definitions.proofs.Ring.{ring_laws, mul_assocℤ, mul_left_commℤ, mul-cancelℤ, mul_ends_exchangedℤ}
 use Rattle.definitions.specs.Coalitions.{proper_coalitions}
 use Rattle.definitions.specs.Games.{Game, Allocation, share, measured_excess, excess_list}
 use Rattle.definitions.specs.Games.{Beats, IsSame, IsAllocation, IsNucleolus}
@@ -30,10 +30,7 @@ beats measure g x y z h b =
 carried : (a b c p q r : ℤ) → q *ℤ a ≡ p *ℤ b → a *ℤ r ≡ c *ℤ p → p *ℤ (b *ℤ r) ≡ p *ℤ (c *ℤ q)
 carried a b c p q r e f =
     sym (mul_assocℤ p b r) ∙ ap (λ (k : ℤ). k *ℤ r) (sym e) ∙ mul_assocℤ q a r ∙ ap (λ (k : ℤ). q *ℤ k) f
-    ∙ outer_factors_swapped q c p
-  where
-    outer_factors_swapped : (q c p : ℤ) → q *ℤ (c *ℤ p) ≡ p *ℤ (c *ℤ q)
-    outer_factors_swapped q c p = simp ring_laws
+    ∙ mul_ends_exchangedℤ q c p
 
 same_as : (g : Game) (x y z : Allocation) → AreSame g x y → IsSame g x z → IsSame g y z
 same_as g x y z h s = λ i lt.

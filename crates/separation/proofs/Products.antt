@@ -8,7 +8,7 @@ use Rattle.std.proofs.Common.{mul-le-mul}
 use mir.Syntax.{w64, w128}
 use lib.Dec.{lit≤}
 use Rattle.std.proofs.lemmas.Int.{ints, to_z-of_z, unsigned_abs-mul, fits_signed_mul, fits_signed_from_abs}
-use Rattle.definitions.proofs.Casts.{cast_kept}
+use Rattle.definitions.proofs.Casts.{cast_kept, unsigned_abs-mul_le}
 
 -- a number as it is kept
 abbrev held : ℤ → ℤ
@@ -16,9 +16,6 @@ held z = to_z w128 (of_z w128 z)
 
 small_fits : (z : ℤ) → unsigned_abs z ≤ 2 ^ 110 → FitsSigned w128 z
 small_fits z h = fits_signed_from_abs w128 z (lt_of_le_of_lt h (lit≤ tt))
-
-abs_mul : (a b : ℤ) (m n : ℕ) → unsigned_abs a ≤ m → unsigned_abs b ≤ n → unsigned_abs (a *ℤ b) ≤ m * n
-abs_mul a b m n h k = rw (unsigned_abs-mul a b) (mul-le-mul h k)
 
 -- a denominator times a cost
 pub bar_product : (d e c : ℤ) → unsigned_abs d ≤ 2 ^ 63 → unsigned_abs c < 2 ^ 46 → FitsSigned w64 c
@@ -40,7 +37,7 @@ level_product e l n is hn hl =
     let fl : FitsSigned w128 l = small_fits l (le_of_lt hl) in
     let f : FitsSigned w128 (pos n *ℤ l) = fits_signed_mul w128 (pos n) l 64 (2 ^ 110) hn (le_of_lt hl) (lit≤ tt) in
     let size : unsigned_abs (pos n *ℤ l) ≤ 2 ^ 116 =
-    le_trans (abs_mul (pos n) l 64 (2 ^ 110) hn (le_of_lt hl)) (lit≤ tt) in
+    le_trans (unsigned_abs-mul_le (pos n) l 64 (2 ^ 110) hn (le_of_lt hl)) (lit≤ tt) in
     subst
     (λ (t : ℤ). FitsSigned w128 (held t *ℤ held l)
     × ((held (held t *ℤ held l) ≡ pos n *ℤ l) × (unsigned_abs (held (held t *ℤ held l)) ≤ 2 ^ 116))) (sym is)
@@ -87,7 +84,7 @@ height_held d w l hd hw hl =
     let kw : held_in_64 w ≡ w = cast_kept w64 w (omega (arith, hw)) in
     let kl : held_in_64 l ≡ l = cast_kept w64 l (omega (arith, hl)) in
     let product : unsigned_abs (d *ℤ w) ≤ 2 ^ 62 =
-    le_trans (abs_mul d w (2 ^ 16) (2 ^ 46) (le_of_lt hd) (le_of_lt hw)) (lit≤ tt) in
+    le_trans (unsigned_abs-mul_le d w (2 ^ 16) (2 ^ 46) (le_of_lt hd) (le_of_lt hw)) (lit≤ tt) in
     let kp : held_in_64 (d *ℤ w) ≡ d *ℤ w = cast_kept w64 (d *ℤ w) (omega (arith, product)) in
     let height : unsigned_abs (d *ℤ w -ℤ l) ≤ 2 ^ 62 + 2 ^ 60 = omega (arith, ints, product, hl) in
     rw (kd, kd', kw, kl, kp) (

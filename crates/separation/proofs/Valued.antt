@@ -6,7 +6,7 @@ use Rattle.std.proofs.Common.{inl, inr, arith, nat_eq}
 use Rattle.std.proofs.Common.{nat_lt, if◌then◌else◌, slice_index_or, Option, Some, None}
 use Rattle.std.proofs.lemmas.Bool.Decides.{nat_tests}
 use Rattle.std.specs.Option.{ForSome}
-use Rattle.definitions.proofs.Ring.{linear, mul-zeroℤ, mul-subℤ}
+use Rattle.definitions.proofs.Ring.{linear, mul-zeroℤ, mul-subℤ, add-sameℤ}
 use Rattle.definitions.proofs.Members.{sum_below-same, sum_below-zero, sum_below-split, times_bit}
 use Rattle.definitions.specs.Sums.{sum_below}
 use Rattle.definitions.specs.Coalitions.{has_player, sum_over}
@@ -41,7 +41,7 @@ pub sums_at : (num : List ℤ) (n s : ℕ) (sums : Sums) → AreSums num n sums
     → slice_index_or (low_of sums) (s % 256) (pos 0) +ℤ slice_index_or (high_of sums) (s / 256 % 256) (pos 0)
     ≡ sum_over n (multiplier_at num) s
 sums_at num n s sums h =
-    added _ _ _ _
+    add-sameℤ _ _ _ _
     ((h.low_is (s % 256) (omega arith)).value ∙ eight-is num n 0 (s % 256)
     ∙ sum_below-same 8 (member_multiplier num n 0 (s % 256)) (part (player_multiplier num n) (s % 256))
     (λ i lt. let e : 0 + i ≡ i = omega arith in
@@ -49,9 +49,6 @@ sums_at num n s sums h =
     ((h.high_is (s / 256 % 256) (omega arith)).value ∙ eight-is num n 8 (s / 256 % 256))
     ∙ sum_by_eights (player_multiplier num n) s
     ∙ all_players num n s h.few
-  where
-    added : (p q u v : ℤ) → p ≡ u → q ≡ v → p +ℤ q ≡ u +ℤ v
-    added p q u v e f = omega (arith, linear)
 
 -- ---- the rows
 

@@ -10,7 +10,8 @@ use Rattle.definitions.specs.Coalitions.{has_player}
 use Rattle.definitions.specs.Games.{Game}
 use Rattle.definitions.specs.Shapley.{shapley_total}
 use Rattle.shapley.specs.Subsets.{orders_with, subset_term, credit}
-use Rattle.shapley.proofs.Orders.{orders_are_subsets, suc_less_one}
+use Rattle.shapley.proofs.Orders.{orders_are_subsets}
+use Rattle.definitions.proofs.Cases.{suc-less_one}
 
 -- the worth of a coalition, as often as the others of it stand in front of a member
 abbrev for_member : (ℕ → ℤ) → ℕ → ℕ → ℤ
@@ -32,7 +33,7 @@ subset_term-parts v n i s h = cases (has_player s i) refl
     cases false e =
         let more =
         ap (λ (k : ℕ). pos (orders_with n (k - 1)) *ℤ v (s + 2 ^ i)) (size_below-more n i s h e)
-        ∙ ap (λ (k : ℕ). pos (orders_with n k) *ℤ v (s + 2 ^ i)) (suc_less_one (size_below n s)) in
+        ∙ ap (λ (k : ℕ). pos (orders_with n k) *ℤ v (s + 2 ^ i)) (suc-less_one (size_below n s)) in
         omega (arith, linear, more, mul-subℤ (pos (orders_with n (size_below n s))) (v (s + 2 ^ i)) (v s))
 
 credit-parts : (v : ℕ → ℤ) (n i s : ℕ) → credit n s (v s) i ≡ held (for_member v n) i s +ℤ against v n i s

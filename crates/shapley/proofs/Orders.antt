@@ -6,7 +6,7 @@ use Rattle.std.proofs.Common.{◌*ℤ◌, refl, sym}
 use Rattle.std.proofs.Common.{ap, ◌∙◌, inl, inr, arith, nat_eq, if◌then◌else◌}
 use Rattle.std.specs.List.{flat_map, AllByRecursion}
 use Rattle.std.proofs.lemmas.List.{length-map}
-use Rattle.definitions.proofs.Cases.{less_or_last, nat_eq-same, nat_eq-other, nat_eq-less}
+use Rattle.definitions.proofs.Cases.{less_or_last, nat_eq-same, nat_eq-other, nat_eq-less, suc-less_one}
 use Rattle.definitions.proofs.Alls.{all_weaken, all_join}
 use Rattle.definitions.proofs.Ring.{linear, mul-addℤ, zero-mulℤ, one-mulℤ, mul_assocℤ, suc-mulℤ}
 use Rattle.definitions.proofs.Members.{sum_below-same}
@@ -333,15 +333,12 @@ orders-below (suc n) =
 abbrev player_term : Number → ℕ → ℕ → ℕ → ℤ
 player_term h n i s = if has_player s i then pos 0 else term h (size_below n s) (lacks n s - 1) s
 
-pub suc_less_one : (r : ℕ) → suc r - 1 ≡ r
-suc_less_one r = omega arith
-
 last_step : (h : Number) (n s : ℕ) → s < 2 ^ n
     → place_term h n s ≡ player_term h (suc n) n s +ℤ player_term h (suc n) n (2 ^ n + s)
 last_step h n s lt =
     let a =
     term-at h (size_below (suc n) s) (size_below n s) (lacks (suc n) s - 1) (lacks n s) s
-    (size_below-without n s lt) (ap (λ (r : ℕ). r - 1) (lacks-without n s lt) ∙ suc_less_one (lacks n s)) in
+    (size_below-without n s lt) (ap (λ (r : ℕ). r - 1) (lacks-without n s lt) ∙ suc-less_one (lacks n s)) in
     one_of_two (has_player s n) (has_player (2 ^ n + s) n) _ _ _ (has_player-last n s lt) (has_player-upper n s lt) a
   where
     one_of_two : (b c : Bool) (x y z : ℤ) → b ≡ false → c ≡ true → y ≡ x → x ≡ cond b (pos 0) y +ℤ cond c (pos 0) z
@@ -352,7 +349,7 @@ player_step : (h : Number) (n i s : ℕ) → i < n → s < 2 ^ n
 player_step h n i s below lt =
     let a =
     term-at h (size_below (suc n) s) (size_below n s) (lacks (suc n) s - 1) (lacks n s) s
-    (size_below-without n s lt) (ap (λ (r : ℕ). r - 1) (lacks-without n s lt) ∙ suc_less_one (lacks n s)) in
+    (size_below-without n s lt) (ap (λ (r : ℕ). r - 1) (lacks-without n s lt) ∙ suc-less_one (lacks n s)) in
     let b =
     term-at h (size_below (suc n) (2 ^ n + s)) (suc (size_below n s)) (lacks (suc n) (2 ^ n + s) - 1)
     (lacks n s - 1) (2 ^ n + s) (size_below-with n s lt) (ap (λ (r : ℕ). r - 1) (lacks-with n s lt)) in
@@ -364,9 +361,9 @@ player_step h n i s below lt =
         ≡ term h (size_below n s) r s +ℤ term h (suc (size_below n s)) (r - 1) (2 ^ n + s)
     here zero some = absurd (omega arith)
     here (suc r) some =
-        let a = term-at (with_one n h) (size_below n s) (size_below n s) (suc r - 1) r s refl (suc_less_one r) in
+        let a = term-at (with_one n h) (size_below n s) (size_below n s) (suc r - 1) r s refl (suc-less_one r) in
         let b =
-        term-at h (suc (size_below n s)) (suc (size_below n s)) (suc r - 1) r (2 ^ n + s) refl (suc_less_one r) in
+        term-at h (suc (size_below n s)) (suc (size_below n s)) (suc r - 1) r (2 ^ n + s) refl (suc-less_one r) in
         let c = weigh n h (size_below n s) r s in
         omega (arith, linear, a, b, c)
 

@@ -8,7 +8,7 @@ use Prim.Native.Nat.{◌∣◌}
 use native.Mathlib.Nat.{pos_of_dvd_of_pos, le_of_dvd}
 use lib.IntN.{*ℤ_comm}
 use Rattle.std.specs.List.{AllByRecursion, IsDistinct}
-use Rattle.std.proofs.Math.Nat.{mul-dvd-mul_right}
+use Rattle.std.proofs.Math.Nat.{mul-dvd-mul_right, le-mul_of_pos_right}
 use Rattle.std.proofs.lemmas.Int.{ints, unsigned_abs-mul}
 use Rattle.definitions.proofs.Ring.{mul-zeroℤ, mul_assocℤ, mul_left_commℤ}
 use Rattle.definitions.specs.Programs.{Program, value_of, Bounds, IsOptimal}
@@ -55,11 +55,7 @@ dot_multiplied n c w v s h =
 factor_le : (c w z : ℤ) → pos 0 <ℤ c → c *ℤ w ≡ z → unsigned_abs w ≤ unsigned_abs z
 factor_le c w z p e =
     subst (λ (t : ℕ). unsigned_abs w ≤ t) (sym (unsigned_abs-mul c w) ∙ ap unsigned_abs e)
-    (times_at_least (unsigned_abs c) (unsigned_abs w) (size_positive c p))
-  where
-    times_at_least : (a b : ℕ) → 0 < a → b ≤ a * b
-    times_at_least zero b h = absurd (omega arith)
-    times_at_least (suc a) b h = omega arith
+    (omega (arith, le-mul_of_pos_right (unsigned_abs w) (size_positive c p)))
 
 below_62 : (a b : ℕ) → a ≤ b → b ≤ 2 ^ 58 → a < 2 ^ 62
 below_62 a b h k = omega arith

@@ -22,6 +22,7 @@ use Rattle.simplex.specs.Program.{column, right_side, price, priced}
 use Rattle.simplex.specs.Tableau.{id_at}
 use Rattle.simplex.proofs.Steps.{value_is}
 use Rattle.determinants.proofs.DotProducts.{dot_cong}
+use Rattle.definitions.proofs.Casts.{none_below_zero}
 
 -- ---- signs of products and of sums
 pub neg_le : (a : ℤ) → a ≤ℤ pos 0 → pos 0 ≤ℤ neg_ℤ a
@@ -72,11 +73,8 @@ part_cost_nonpos : (P : Program) (o : Option ℕ) → part_cost P First o ≤ℤ
 part_cost_nonpos P None = omega (arith, ints)
 part_cost_nonpos P (Some id) = omega (arith, linear)
 
-negative_nonneg : (z : ℤ) → pos 0 ≤ℤ z → z <ℤ pos 0 → ⊥
-negative_nonneg z h k = omega (arith, linear)
-
 nonneg_below_none : (z : ℤ) (d : ℤ) → pos 0 ≤ℤ z → z <ℤ (d *ℤ pos 0) → ⊥
-nonneg_below_none z d h k = negative_nonneg z h (subst (λ (t : ℤ). z <ℤ t) (mul-zeroℤ d) k)
+nonneg_below_none z d h k = none_below_zero z h (subst (λ (t : ℤ). z <ℤ t) (mul-zeroℤ d) k)
 
 pub no_first_direction : (P : Program) (s : State) → IsImproving P First s → HasDirection P First s → ⊥
 no_first_direction P s st r =

@@ -18,7 +18,7 @@ use Rattle.definitions.proofs.Halves.{has_player-last}
 use Rattle.definitions.proofs.Members.{sum_below-same, sum_below-zero, sum_below-split, times_bit, zero_either}
 use Rattle.definitions.proofs.Members.{has_player-empty, sum_below-add}
 use Rattle.definitions.proofs.Parts.{part, sum_over-more}
-use Rattle.definitions.proofs.Ring.{linear}
+use Rattle.definitions.proofs.Ring.{linear, add-sameℤ}
 use Rattle.definitions.specs.Coalitions.{has_player, sum_over}
 use Rattle.definitions.specs.Sums.{sum_below}
 use Rattle.determinants.proofs.Lists.{zeros_at}
@@ -27,9 +27,6 @@ use Rattle.determinants.specs.Matrix.{entry_at}
 use Rattle.spans.specs.Outside.{HasNoWeight}
 use Rattle.spans.specs.Span.{vector, flag}
 use Rattle.spans.specs.Sums.{number_at, eight_sum, IsEightSum, AreEightSums, two_sums}
-
-both_same : (p q u v : ℤ) → p ≡ u → q ≡ v → p +ℤ q ≡ u +ℤ v
-both_same p q u v e f = rw (e, f) refl
 
 -- ---- sixteen players as twice eight
 
@@ -50,7 +47,7 @@ bit_of_high_eight s i h =
 pub sum_by_eights : (f : ℕ → ℤ) (s : ℕ)
     → sum_over 8 f (s % 256) +ℤ sum_over 8 (λ i. f (8 + i)) (s / 256 % 256) ≡ sum_over 16 f s
 sum_by_eights f s =
-    both_same _ _ _ _
+    add-sameℤ _ _ _ _
     (sum_below-same 8 (part f (s % 256)) (part f s)
     (λ i lt. ap (λ (b : ℕ). cond (nat_eq b 1) (f i) (pos 0)) (bit_of_low_eight s i lt)))
     (sum_below-same 8 (part (λ i. f (8 + i)) (s / 256 % 256)) (λ i. part f s (8 + i))
@@ -79,10 +76,10 @@ pub two_sums-is : (numbers low high : List ℤ) (n s : ℕ) (g : ℕ → ℤ) �
     → s < 2 ^ 16 → two_sums low high s ≡ sum_over n g s
 two_sums-is numbers low high n s g few sums same none lt =
     let block : s / 256 % 256 ≡ s / 256 = omega (arith, lt) in
-    both_same _ _ _ _ (sums.low_is (s % 256) (omega arith)).value
+    add-sameℤ _ _ _ _ (sums.low_is (s % 256) (omega arith)).value
     ((sums.high_is (s / 256) (omega (arith, lt))).value
     ∙ ap (λ (t : ℕ). sum_over 8 (λ i. number_at numbers (8 + i)) t) (sym block))
-    ∙ both_same _ _ _ _ (from_first numbers (s % 256)) refl
+    ∙ add-sameℤ _ _ _ _ (from_first numbers (s % 256)) refl
     ∙ sum_by_eights (number_at numbers) s
     ∙ sum_within_players n s (number_at numbers) g few same none
   where
@@ -95,7 +92,7 @@ two_sums-is numbers low high n s g few sums same none lt =
 -- the weight of a coalition at a place
 pub dot-vector : (n : ℕ) (x : ℕ → ℤ) (s : ℕ) → sum_over n x s ≡ dot n x (vector s)
 dot-vector zero x s = refl
-dot-vector (suc n) x s = both_same _ _ _ _ (dot-vector n x s) (sym (times_bit (has_player s n) (x n)))
+dot-vector (suc n) x s = add-sameℤ _ _ _ _ (dot-vector n x s) (sym (times_bit (has_player s n) (x n)))
 
 -- ---- a table
 
@@ -145,9 +142,6 @@ last_below_eight last s le few = elim (below_or_above last 8) [
         let more : 8 < last = omega (arith, ge, other) in absurd (let p = pow-lt more in omega (arith, p, le, few))
   ]
 ]
-
-pub twice_power : (k : ℕ) → 2 ^ (k + 1) ≡ 2 * 2 ^ k
-twice_power k = ap (λ (t : ℕ). 2 ^ t) (add-one k) ∙ pow-succ' 2 k
 
 pub size_below_256 : (k : ℕ) → k < 8 → 2 ^ k ≤ 128
 size_below_256 k lt = let le = pow-le-pow_right {n = 2} (omega arith) {i = k} {j = 7} (omega arith) in le

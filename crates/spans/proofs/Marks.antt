@@ -26,7 +26,7 @@ use Rattle.spans.specs.Sums.{two_sums}
 use Rattle.spans.proofs.Inside.{inside_from_zeros, zero_from_inside}
 use Rattle.definitions.proofs.Cases.{last_or_less_of, below_or_above, same_or_other, not_true, and_right, or_false}
 use Rattle.definitions.proofs.Cases.{nat_eq-same, nat_eq-other, nat_eq-equal, and_parts, and_both, from_not}
-use Rattle.definitions.proofs.Members.{has_player-grand_coalition}
+use Rattle.definitions.proofs.Members.{has_player-grand_coalition, has_player-empty}
 use Rattle.definitions.proofs.Parts.{more-is, has_player-past}
 use Rattle.std.proofs.lemmas.Nat.{pow_pos}
 
@@ -101,21 +101,18 @@ pub record IsSearched (P : ℕ → Type 0) (word rest found : ℕ) : Type 0 wher
   pub found_is : (i : ℕ) → i < 64
       → Decides (has_player found i) (IsTrue (has_player word i) × ((has_player rest i ≡ false) × P i))
 
-no_bits : (i : ℕ) → has_player 0 i ≡ false
-no_bits i = let z = bit_at-zero i in grind (arith, nat_tests, z)
-
 pub nothing_searched : (P : ℕ → Type 0) (word : ℕ) → IsSearched P word word 0
 nothing_searched P word = record {
   within = λ i e. e;
   found_is = λ i lt.
-      (λ e. absurd (false≢true (sym (no_bits i) ∙ e)), λ q. absurd (false≢true (sym q.1.0 ∙ q.0)));
+      (λ e. absurd (false≢true (sym (has_player-empty i) ∙ e)), λ q. absurd (false≢true (sym q.1.0 ∙ q.0)));
 }
 
 pub all_searched : (P : ℕ → Type 0) (word rest found : ℕ) → rest ≡ 0 → IsSearched P word rest found
     → (i : ℕ) → i < 64 → Decides (has_player found i) (IsTrue (has_player word i) × P i)
 all_searched P word rest found e h i lt =
     let d = h.found_is i lt in
-    let none : has_player rest i ≡ false = ap (λ (t : ℕ). has_player t i) e ∙ no_bits i in
+    let none : has_player rest i ≡ false = ap (λ (t : ℕ). has_player t i) e ∙ has_player-empty i in
     (λ on. let q = d.0 on in (q.0, q.1.1), λ q. d.1 (q.0, (none, q.1)))
 
 module _ (P : ℕ → Type 0) (word rest rest' found found' j : ℕ) (here : Bool) (lt : j < 64)

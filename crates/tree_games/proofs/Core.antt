@@ -11,7 +11,7 @@ use Rattle.std.proofs.lemmas.Bool.Decides.{nat_tests}
 use Rattle.std.proofs.lemmas.Int.{ints}
 use Rattle.std.proofs.lemmas.Nat.Bits.{bit_at_above}
 use Rattle.std.specs.Int.{bit_at}
-use Rattle.definitions.proofs.Cases.{same_or_other, nat_eq-same, nat_eq-other, from_nat_eq}
+use Rattle.definitions.proofs.Cases.{same_or_other, nat_eq-same, nat_eq-other, from_nat_eq, suc-less_one}
 use Rattle.definitions.proofs.Cases.{and_right, or_right, or_left, below_or_above, and_false}
 use Rattle.definitions.proofs.Masks.{grand_coalition-within}
 use Rattle.definitions.proofs.Ring.{linear, one-mulℤ}
@@ -251,15 +251,12 @@ amount-paid matrix n s x plan len a shares =
     then (if is_point_of s (suc i) then share x (suc i - 1) else pos 0) else pos 0) each
     ∙ share-paid matrix n (share x) (is_point_of s) is_source (is_point_of (grand_coalition n)) plan range a
     shares.1
-  where
-    suc_less_one : (i : ℕ) → suc i - 1 ≡ i
-    suc_less_one i = omega arith
 
     each : (i : ℕ) → i < n
         → (if has_player s i then share x i else pos 0)
         ≡ (if has_player (grand_coalition n) i then (if has_player s i then share x (suc i - 1) else pos 0)
         else pos 0)
-    each i lt = rw (has_player-grand_coalition n i lt, suc_less_one i) refl
+    each i lt = rw (has_player-grand_coalition n i lt, suc-less_one i) refl
 
     range : (j : ℕ) → is_point_of (grand_coalition n) j ≡ true → (1 ≤ j) × (j ≤ n)
     range j e = point_in n (grand_coalition n) j (grand_coalition-within n) e

@@ -5,7 +5,7 @@ use Rattle.std.proofs.Common.{◌&&◌, ◌||◌, nat_eq, List}
 use Rattle.std.proofs.Common.{[], ◌∷◌, ◌++◌, refl, sym, ap, subst, ◌∙◌, inl, inr}
 use Rattle.std.proofs.Common.{arith}
 use Rattle.std.proofs.lemmas.Bool.{false≢true}
-use Rattle.definitions.proofs.Cases.{same_or_other, nat_eq-same, nat_eq-other, from_nat_eq}
+use Rattle.definitions.proofs.Cases.{same_or_other, nat_eq-same, nat_eq-other, from_nat_eq, or_other}
 use Rattle.definitions.proofs.Cases.{and_right, and_false, or_right, or_left, not_true}
 use Rattle.definitions.specs.Classes.{Matrix, joined, removed, IsAttachment, IsSymmetric}
 use Rattle.definitions.specs.Classes.{IsLeastCost, is_source, is_point_of, entry, plan_cost}
@@ -144,7 +144,7 @@ turned_later matrix symmetric c w p b a plan cb wa ne r = elim (same_or_other r.
     path = r.path;
     rest = (b, a) ∷ r.rest;
     left = joined r.left a;
-    begins = other_first (nat_eq r.begin a) (c r.begin) (nat_eq-other r.begin a there) r.begins;
+    begins = or_other (nat_eq r.begin a) (c r.begin) (nat_eq-other r.begin a there) r.begins;
     ends = and_right (not (nat_eq r.end a)) (w r.end) r.ends;
     chain = chain;
     attaches = (
@@ -157,10 +157,6 @@ turned_later matrix symmetric c w p b a plan cb wa ne r = elim (same_or_other r.
     costs = let known = r.costs in omega (arith, known);
   }
 ]
-  where
-    other_first : (x y : Bool) → x ≡ false → (x || y) ≡ true → y ≡ true
-    other_first true y e k = absurd (false≢true (sym e))
-    other_first false y e k = k
 
     passed_before : (b x y z : Bool) → (b ≡ true → y ≡ true) → ((b || x) || ((not b && y) && not z)) ≡ true
         → (x || (y && not (not b && (b || z)))) ≡ true

@@ -9,7 +9,8 @@ use Rattle.definitions.specs.Coalitions.{has_player, sum_over}
 use Rattle.definitions.specs.Games.{IsGame}
 use Rattle.orders.proofs.ListSums.{number_of, sum-sum_below}
 use Rattle.voting.specs.Voting.{Voting, IsVoting, voting_game}
-use Rattle.voting.proofs.SetKinds.{natural-nonnegative, sum_over-empty}
+use Rattle.voting.proofs.SetKinds.{natural-nonnegative}
+use Rattle.definitions.proofs.SumsOver.{sum_over-empty}
 
 -- a coalition weighs no more than all
 pub sum_over-most : (n s : ℕ) (a : ℕ → ℤ) → ((i : ℕ) → pos 0 ≤ℤ a i) → sum_over n a s ≤ℤ sum_below n a

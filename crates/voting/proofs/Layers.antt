@@ -13,8 +13,10 @@ use Rattle.voting.specs.declared.layer.Layer.{Layer}
 use Rattle.voting.specs.Candidates.{better, joined, raised, at_weight, joined_at, best_below, IsBest}
 use Rattle.voting.specs.SetKinds.{Numbers, passes, weights, IsOfKind, IsOfWeight, IsLayer}
 use Rattle.voting.proofs.Best.{IsUnion, IsBest-better, IsBest-joined, IsBest-raised}
-use Rattle.voting.proofs.SetKinds.{IsOfKind-without, IsOfKind-with, IsOfKind-cases, sum_over-last, sum_over-empty}
+use Rattle.voting.proofs.SetKinds.{IsOfKind-without, IsOfKind-with, IsOfKind-cases, sum_over-last}
 use Rattle.voting.proofs.SetKinds.{natural-nonnegative}
+use Rattle.definitions.proofs.SumsOver.{sum_over-empty}
+use Rattle.definitions.proofs.Casts.{none_below_zero}
 
 -- ---- one player more
 
@@ -161,10 +163,8 @@ pub IsBest-below : (m : Numbers) (h l : Bool) (f : ℕ) (layer : Layer) (more : 
     → (k : ℕ) → k ≤ 1001 → IsBest (IsBelow m h l f k) value (best_below more quota layer k)
 unfolding best_below
 IsBest-below m h l f layer more quota value hl e zero le =
-    λ s r. let low = weight_low m s in below_none (sum_over m.players (weights m) s) low r.1
+    λ s r. let low = weight_low m s in none_below_zero (sum_over m.players (weights m) s) low r.1
   where
-    below_none : (z : ℤ) → pos 0 ≤ℤ z → z <ℤ pos 0 → ⊥
-    below_none z low lt = omega (arith, linear)
 IsBest-below m h l f layer more quota value hl e (suc k) le =
     IsBest-better (IsBelow m h l f k) (Old m h l f m.players k) (IsBelow m h l f (suc k)) value
     (best_below more quota layer k) (raised (at_weight layer k) (bonus more quota k))

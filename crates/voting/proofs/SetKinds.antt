@@ -117,7 +117,3 @@ natural-nonnegative k = omega (arith, linear)
 
 pub sum_over-last : (n i t : ℕ) (a : ℕ → ℤ) → i < n → t < 2 ^ i → sum_over n a (t + 2 ^ i) ≡ sum_over n a t +ℤ a i
 sum_over-last n i t a lt low = sum_over-more n t i a lt (has_player-last i t low)
-
-pub sum_over-empty : (n : ℕ) (a : ℕ → ℤ) → sum_over n a 0 ≡ pos 0
-sum_over-empty n a =
-    sum_below-zero n (λ i. cond (has_player 0 i) (a i) (pos 0)) (λ i lt. rw (has_player-empty i) refl)

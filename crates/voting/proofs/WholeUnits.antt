@@ -7,7 +7,7 @@ use Rattle.definitions.specs.Shapley.{factorial}
 use Rattle.shapley.specs.Subsets.{orders_with}
 use Rattle.shapley.specs.Layers.{common}
 use Rattle.shapley.proofs.Sizes.{factorial-some}
-use Rattle.definitions.proofs.Cases.{and_parts, less_or_last, from_nat_eq, nat_eq-less}
+use Rattle.definitions.proofs.Cases.{and_parts, less_or_last, from_nat_eq, nat_eq-less, or_other}
 use Rattle.voting.specs.Counts.{share_unit}
 
 -- ---- what is tested of each unit, by computation
@@ -69,12 +69,8 @@ unit n k few lt =
       small = at_most (share_unit n k) common two.0;
       first = from_nat_eq (common / n) (share_unit n 0) three.0;
       next = λ less. from_nat_eq (share_unit n k * (k + 1) / (n - 1 - k)) (share_unit n (k + 1))
-          (second_of_or (nat_eq (k + 1) n) _ (nat_eq-less (k + 1) n less) three.1);
+          (or_other (nat_eq (k + 1) n) _ (nat_eq-less (k + 1) n less) three.1);
     }
-  where
-    second_of_or : (a b : Bool) → a ≡ false → (a || b) ≡ true → b ≡ true
-    second_of_or true b e f = absurd (cc)
-    second_of_or false b e f = f
 
 pub unit-small : (n k : ℕ) → n ≤ 32 → k < n → share_unit n k ≤ common
 unit-small n k few lt = (unit n k few lt).small

@@ -5,11 +5,12 @@ use Rattle.assignment_games.proofs.Choices.{choice_keep, choice_raise, best_choi
 use Rattle.matrices.specs.Rows.{entries_of}
 use Rattle.assignment_games.proofs.Evenness.{sides_few}
 use Rattle.assignment_games.proofs.Table.{less_mask, pair_below, rest_in_table}
-use Rattle.assignment_games.proofs.Table.{pair_in_table, member_below, masks_few}
+use Rattle.assignment_games.proofs.Table.{pair_in_table, masks_few}
 use Rattle.assignment_games.proofs.Games.{filled_few}
 use Rattle.assignment_games.proofs.values.best_with.Goals as goal
 use Rattle.assignment_games.proofs.values.best_with.Goals.{then-contains+then-value-pair}
 use Rattle.assignment_games.proofs.values.best_with.Goals.{then-contains+else-value-pair, else-contains}
+use Rattle.definitions.proofs.Parts.{has_player-within}
 
 pub offset_bounds-values-rest-inside : goal.offset_bounds-values-rest-inside
 offset_bounds-values-rest-inside c =
@@ -126,5 +127,5 @@ returns c =
     best_choice (entries_of (map (λ row. row.items) a.matrix.now)) a.buyers (has_player a.s) a.b c.loop-j.j
     c.loop-j.value c.requires.row c.requires.member
     (λ j e.
-    let k = member_below (a.buyers + a.sellers) a.s (a.buyers + j) c.requires.within e in omega (arith, k, end))
+    let k = has_player-within (a.buyers + a.sellers) a.s (a.buyers + j) c.requires.within e in omega (arith, k, end))
     c.loop-j.invariant

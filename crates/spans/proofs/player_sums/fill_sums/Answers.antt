@@ -1,8 +1,9 @@
 use Rattle.std.proofs.Common.{◌≡◌, ◌<◌, ◌+◌, ◌*◌, ◌^◌, ℕ, arith, subst, length, pos}
 use Rattle.std.proofs.Common.{rules}
 use Rattle.std.proofs.Common.{get_or-set_same}
-use Rattle.spans.proofs.EightSums.{IsEightSum-empty, twice_power}
+use Rattle.spans.proofs.EightSums.{IsEightSum-empty}
 use Rattle.spans.proofs.player_sums.fill_sums.Goals as goal
+use Rattle.definitions.proofs.Masks.{masks-double}
 
 pub loop-player-init : goal.loop-player-init
 loop-player-init c = λ s lt.
@@ -13,7 +14,7 @@ loop-player-init c = λ s lt.
 
 pub loop-player-preserved : goal.loop-player-preserved
 loop-player-preserved c = λ s lt.
-    c.add_player.ensures s (subst (λ (k : ℕ). s < k) (twice_power c.loop-player.player) lt)
+    c.add_player.ensures s (subst (λ (k : ℕ). s < k) (masks-double c.loop-player.player) lt)
 
 pub returns : goal.returns
 returns c = λ s lt.
