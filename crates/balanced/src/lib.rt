@@ -45,8 +45,8 @@ pub enum CoreFault {
 /// A point of the core of a game of at most 16 players, or a balanced collection that shows that the core is empty. So
 /// `Empty` comes exactly where it is.
 ///
-/// The collection has at most as many coalitions as there are players; its weights and its `k` are at least 1 and below
-/// 2^62, and no number above 1 divides them all. `TooMany` comes exactly where there are more than 16 players, and
+/// The collection has no more coalitions than there are players. Its weights and its `k` are positive, below 2^62, and
+/// have no common divisor but 1. `TooMany` comes exactly where there are more than 16 players, and
 /// `Memory` for want of memory.
 pub fn core_of<W: Worth>(alloc: Global, game: &W) -> Result<CoreAnswer, CoreFault>
     ensures answer { MatchResult result (IsFound (W.game game.now)) (IsFault (W.game game.now)) }

@@ -1,9 +1,10 @@
--- THE HEADLINE. Every nucleolus printed for a game that was read is an imputation whose excesses over all coalitions,
--- plain or per head as the document says, listed from the greatest, come lexicographically before those of every other
--- imputation. Its printed certificate meets written conditions, which a separate checker decides and which alone imply
--- this. And every game with an imputation is so answered: with plain excess every airport or bankruptcy game to 64
--- players, and every other of at most sixteen; with excess per head every game of at most eight; but for games of the
--- class market, which `matching` alone answers.
+-- THE HEADLINE, of every game that was read. Where a nucleolus is printed, it is an imputation; list its excesses over
+-- all coalitions from the greatest on, and those of any other imputation alike: at the first place where the lists
+-- differ, its own is the smaller. An excess is plain or per head, as the document says. The printed certificate meets
+-- conditions that stand written in `kohlberg`, that `check` decides without the solver, and that imply all this by
+-- themselves. Such an answer comes wherever there is an imputation, but for games of the class market, which `matching`
+-- alone answers: for airports and bankruptcies to 64 players with plain excess, for all other games to sixteen with it,
+-- and for all games to eight with excess per head.
 --
 -- "Every other imputation" is every other one in fractions; every other one in real shares, whose order is taken to be
 -- decided, as excluded middle has it; and every other one over any linearly ordered abelian group that comes with a

@@ -22,8 +22,7 @@ pub enum Request {
     Generate { kind: Kind, players: u32, seed: u32 },
 }
 
-/// What the words ask for: the one word of a command that reads a document, or `gen`, a kind, a number of players and a
-/// seed.
+/// What the words ask for: a command that reads a document is one word, and `gen` has three more: kind, players, seed.
 pub(crate) fn request_of(words: &[String]) -> Option<Request>
     ensures { Names (map string_bytes words.now) result }
 {

@@ -31,7 +31,7 @@ AreWeights p weights =
     AllByRecursion (λ w. IsTrue (p.is_column w.0) × (pos 0 ≤ℤ w.1)) weights
     × IsDistinct nat_eq (map (λ w. w.0) weights)
 
--- in each row the weighted entries sum to the right side
+-- every row's entries, times the weights, add up to its right side
 abbrev pub Solves : Program → List (ℕ × ℤ) → ℤ → Type 0
 Solves p weights den =
     AreWeights p weights × (pos 1 ≤ℤ den) × ((r : ℕ) → r < p.rows → row_value p weights r ≡ den *ℤ p.right r)

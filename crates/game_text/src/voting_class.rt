@@ -48,7 +48,7 @@ pub(crate) fn has_numbers(game: &Value, _: u32) -> bool
     has(game, "quota", &SmallCost(1)) && each_at(game, "weights", &SmallCost(1))
 }
 
-/// The game that is described. None where the weights sum to more than 1,000, or the quota isn't from 1 to their sum.
+/// The game that is described. None for weights of above 1,000 in all, and for a quota below 1 or above their sum.
 pub(crate) fn voting_of(alloc: Global, game: &Value) -> Result<Option<VotingGame>, OutOfMemory>
     requires class { class_of (view game.now) ≡ Some Voting }
     requires sizes { HasSizes (view game.now) }

@@ -19,7 +19,7 @@ pub fn ordered_is_exact()
     ensures { OrderedIsExact }
 {}
 
-/// A tree that was read is written in no more bytes than it was read from.
+/// Writing a tree that was read takes at most the bytes of its text.
 pub fn written_is_no_longer()
     ensures { WrittenIsNoLonger }
 {}

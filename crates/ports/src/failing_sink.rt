@@ -40,7 +40,7 @@ impl Model for FailingSink {
 impl FailingSink {
     /// An empty sink for at most `capacity` bytes, which takes at most `piece` a call; its memory is taken now.
     ///
-    /// The calls whose numbers, from 0, stand in `fails` fail and take nothing.
+    /// `fails` lists which calls fail and take nothing, counted from 0.
     pub fn new(
         alloc: Global,
         capacity: usize,

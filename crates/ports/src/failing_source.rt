@@ -41,7 +41,7 @@ impl Model for FailingSource {
 impl FailingSource {
     /// A source that gives these bytes, at most `piece` a call, and then ends.
     ///
-    /// The calls whose numbers, from 0, stand in `fails` fail and give nothing.
+    /// `fails` lists which calls fail and give nothing, counted from 0.
     pub fn new(bytes: Vec<u8>, piece: usize, fails: Vec<u64>) -> FailingSource
         requires { 1 ≤ piece }
         ensures { result ≡ record {

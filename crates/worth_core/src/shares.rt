@@ -12,7 +12,8 @@ use std::marker::Model;
 
 /// The share of each player, as worth: a numerator over the common denominator.
 ///
-/// There are 1 to 64 shares, the denominator is from 1 to 2^63, and each numerator is below 2^110 in size.
+/// A game has 1 to 64 players, so as many shares. The denominator is at least 1 and at most 2^63, and no numerator
+/// reaches 2^110 in size.
 #[derive(Debug, Drop)]
 pub struct Shares {
     num: Vec<i128>,
