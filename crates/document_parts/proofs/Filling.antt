@@ -242,10 +242,11 @@ map_range : (f : ℕ → ℤ) (other : ℤ) (table : List (Option ℤ)) (k : ℕ
     → map (λ o. unwrap_or o other) table ≡ map f (range_with_len k (length table))
 map_range f other [] k h = refl
 map_range f other (o ∷ table) k h =
-    let first : unwrap_or o other ≡ f k = h 0 (omega arith) ∙ ap f (omega arith) in
+    let same : k + 0 ≡ k = omega arith in
+    let first : unwrap_or o other ≡ f k = h 0 (omega arith) ∙ ap f same in
     let rest = map_range f other table (k + 1) (λ s below. h (suc s) (omega arith) ∙ ap f (shift k s)) in
     ap₂ (λ (a : ℤ) (l : List ℤ). a ∷ l) first rest
-
+  where
     shift : (k s : ℕ) → k + suc s ≡ k + 1 + s
     shift k s = omega arith
 

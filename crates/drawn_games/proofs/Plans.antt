@@ -57,7 +57,8 @@ straight-cost matrix k (suc m) f h =
     straight-cost matrix (suc k) m (λ i. f (suc i))
     (λ i lt. subst (λ (j : ℕ). f (suc i) ≤ℤ neg_ℤ (pos (entry matrix 0 (suc j)))) (moved k i)
     (h (suc i) (omega arith))) in
-    let first = subst (λ (j : ℕ). f 0 ≤ℤ neg_ℤ (pos (entry matrix 0 (suc j)))) (omega arith) (h 0 (omega arith)) in
+    let same : k + 0 ≡ k = omega arith in
+    let first = subst (λ (j : ℕ). f 0 ≤ℤ neg_ℤ (pos (entry matrix 0 (suc j)))) same (h 0 (omega arith)) in
     both (entry matrix 0 (suc k)) (plan_cost matrix (straight (suc k) m)) (f 0) (sum_below m (λ i. f (suc i)))
     (sum_below (suc m) f) front first ih
   where

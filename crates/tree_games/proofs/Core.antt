@@ -251,7 +251,7 @@ amount-paid matrix n s x plan len a shares =
     then (if is_point_of s (suc i) then share x (suc i - 1) else pos 0) else pos 0) each
     ∙ share-paid matrix n (share x) (is_point_of s) is_source (is_point_of (grand_coalition n)) plan range a
     shares.1
-
+  where
     each : (i : ℕ) → i < n
         → (if has_player s i then share x i else pos 0)
         ≡ (if has_player (grand_coalition n) i then (if has_player s i then share x (suc i - 1) else pos 0)

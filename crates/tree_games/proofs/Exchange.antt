@@ -157,7 +157,7 @@ turned_later matrix symmetric c w p b a plan cb wa ne r = elim (same_or_other r.
     costs = let known = r.costs in omega (arith, known);
   }
 ]
-
+  where
     passed_before : (b x y z : Bool) → (b ≡ true → y ≡ true) → ((b || x) || ((not b && y) && not z)) ≡ true
         → (x || (y && not (not b && (b || z)))) ≡ true
     passed_before true true y z k e = refl

@@ -164,7 +164,6 @@ pub IsBest-below : (m : Numbers) (h l : Bool) (f : ℕ) (layer : Layer) (more : 
 unfolding best_below
 IsBest-below m h l f layer more quota value hl e zero le =
     λ s r. let low = weight_low m s in none_below_zero (sum_over m.players (weights m) s) low r.1
-  where
 IsBest-below m h l f layer more quota value hl e (suc k) le =
     IsBest-better (IsBelow m h l f k) (Old m h l f m.players k) (IsBelow m h l f (suc k)) value
     (best_below more quota layer k) (raised (at_weight layer k) (bonus more quota k))
