@@ -3,8 +3,7 @@
 use Rattle.std.proofs.Common.{◌≡◌, ℕ, List, [], ◌∷◌, length, ℤ, pos, ◌*ℤ◌, ◌≤ℤ◌}
 use Rattle.std.proofs.Common.{sym, ap, subst, ◌∙◌, arith}
 use Rattle.std.proofs.lemmas.List.{append_assoc, length-append}
-use Rattle.definitions.proofs.Ring.{linear, mul_left_commℤ, mul-cancelℤ, mul_ends_exchangedℤ}
-use lib.IntN.{*ℤ_comm}
+use Rattle.definitions.proofs.Ring.{linear, mul-cancelℤ, mul_ends_exchangedℤ}
 use Rattle.nested_programs.specs.Stage.{Stage, with_front, behind}
 use Rattle.nested_programs.specs.Reading.{RowMultipliers, excess_of}
 use Rattle.nested_programs.specs.Chain.{StageAnswer, levels_of, IsChain, HaveExcesses, after}
@@ -17,7 +16,7 @@ common_value : (a b c d e f : ℤ) → pos 1 ≤ℤ d → a *ℤ d ≡ f *ℤ b 
 common_value a b c d e f one h k =
     mul-cancelℤ d (a *ℤ c) (e *ℤ b) (omega (arith, linear, one))
     (mul_ends_exchangedℤ d a c ∙ ap (λ z. c *ℤ z) h ∙ mul_ends_exchangedℤ c f b ∙ ap (λ z. b *ℤ z) (sym k)
-      ∙ mul_ends_exchangedℤ b e d)
+    ∙ mul_ends_exchangedℤ b e d)
 
 pub have_excesses : (q : Stage) (ts : List StageAnswer) (m : RowMultipliers) → IsChain q ts
     → Reads (behind q (levels_of ts)) m → OwnExcesses q.game (length q.front) ts

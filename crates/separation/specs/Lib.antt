@@ -1,11 +1,11 @@
--- To be read in this order. The last four are for the private functions.
+-- To be read in this order. The last three are for the private functions.
 pub mod Stage
 pub mod Balanced
 pub mod Same
 pub mod Kept
 pub mod Lawful
 pub mod Shares
+pub mod Peaks
 pub mod Values
 pub mod Making
-pub mod Peaks
 pub mod Fronts

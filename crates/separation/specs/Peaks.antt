@@ -1,4 +1,3 @@
--- For the private functions of this crate.
 -- What a search passes over: the greatest worth of each 256 coalitions, and the least sum of each 64.
 --
 --   IsPeak g k z        no coalition of the 256 from 256 k on is worth more than z, which is not negative, and small

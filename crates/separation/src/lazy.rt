@@ -84,9 +84,33 @@ impl<'a, W: Worth> Lazy<'a, W> {
         ensures program { IfOk result (λ l. (⟦<Lazy<'a, W> as Columns>⟧.players l ≡ (W.game game.now).players)
             × IsStage family measure (W.game game.now) levels.now (⟦<Lazy<'a, W> as Columns>⟧.program l)) }
     {
+        let peaks = peaks_of(game);
+        Ok(Lazy::stage_with(game, &peaks, family, measure, levels, span))
+    }
+
+    /// The same stage program, where the greatest worths of the game are known from a stage before.
+    pub fn stage_with(
+        game: &'a W,
+        peaks: &[i64; 256],
+        family: Family,
+        measure: Measure,
+        levels: &'a [Level],
+        span: &Span,
+    ) -> Lazy<'a, W>
+        requires few { (W.game game.now).players ≤ 16 }
+        requires peaks { ArePeaks (W.game game.now) peaks.now }
+        requires heads { measure ≡ Measure.PerHead → (W.game game.now).players ≤ 8 }
+        requires form { HasForm Mode.Span (W.game game.now).players levels.now }
+        requires count { length levels.now + 2 ≤ (W.game game.now).players }
+        requires players { span.now.players ≡ (W.game game.now).players }
+        requires spans { IsSpanOf (W.game game.now).players span.now.kept levels.now }
+        ensures players { ⟦<Lazy<'a, W> as Columns>⟧.players result ≡ (W.game game.now).players }
+        ensures program { IsStage family measure (W.game game.now) levels.now
+            (⟦<Lazy<'a, W> as Columns>⟧.program result) }
+    {
         let players = game.players();
         let front = Front { family, levels };
-        Ok(Lazy {
+        Lazy {
             game,
             measure,
             players,
@@ -94,9 +118,9 @@ impl<'a, W: Worth> Lazy<'a, W> {
             front: Some(front),
             first: front.count(game),
             marks: Some(outside_of(span, players)),
-            peaks: peaks_of(game, players),
+            peaks: *peaks,
             at: 0,
-        })
+        }
     }
 
     /// The balanced program of a game of at most 16 players (Bondareva 1963, Shapley 1967): the greatest worth that
@@ -118,7 +142,7 @@ impl<'a, W: Worth> Lazy<'a, W> {
             front: None,
             first: 0,
             marks: None,
-            peaks: peaks_of(game, players),
+            peaks: peaks_of(game),
             at: 0,
         })
     }

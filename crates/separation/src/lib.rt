@@ -21,4 +21,5 @@ mod tables;
 pub use front::coalition_count;
 pub use lazy::Lazy;
 pub use listed::Listed;
+pub use peaks::peaks_of;
 pub use shares::shares_of;

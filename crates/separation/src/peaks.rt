@@ -32,12 +32,12 @@ fn peak<W: Worth>(game: &W, players: u32, block: u64) -> i64
     most
 }
 
-/// The greatest worth of each 256 coalitions, or 0 where that is more.
-pub(crate) fn peaks_of<W: Worth>(game: &W, players: u32) -> [i64; 256]
-    requires players { players ≡ (W.game game.now).players }
-    requires few { players ≤ 16 }
+/// The greatest worth of each 256 coalitions of a game of at most 16 players, or 0 where that is more.
+pub fn peaks_of<W: Worth>(game: &W) -> [i64; 256]
+    requires { (W.game game.now).players ≤ 16 }
     ensures { ArePeaks (W.game game.now) result }
 {
+    let players = game.players();
     let mut peaks = [0; 256];
     for block in 0..256 {
         peaks[block] = peak(game, players, block as u64);

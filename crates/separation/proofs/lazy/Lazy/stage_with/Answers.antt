@@ -5,7 +5,7 @@ use Rattle.separation.specs.Kept.{AreShort}
 use Rattle.separation.specs.declared.front.Front.{Front}
 use Rattle.separation.proofs.LazyColumns.{small_form, stage_columns_small, marking_of, stage_kept}
 use Rattle.separation.proofs.ProperColumns.{found_short}
-use Rattle.separation.proofs.lazy.Lazy.stage.Goals as goal
+use Rattle.separation.proofs.lazy.Lazy.stage_with.Goals as goal
 
 pub count-requires-clause-small : goal.count-requires-clause-small
 count-requires-clause-small g c =
@@ -40,7 +40,7 @@ invariant_of-result-clause-short g c =
 pub returns-clause-program : goal.returns-clause-program
 returns-clause-program g c =
     let game = g.W.Worth.game c.args.game.now in
-    stage_kept (record { family = c.args.family; levels = c.args.levels }) c.args.measure game
+    (stage_kept (record { family = c.args.family; levels = c.args.levels }) c.args.measure game
     c.players-players.result c.args.span.now.kept c.outside_of.result c.players-players.ensures.count
     c.players-players.ensures.laws (small_form game.players [] c.args.levels.now c.requires.form.each)
-    c.requires.spans (c.outside_of.ensures c.args.levels.now)
+    c.requires.spans (c.outside_of.ensures c.args.levels.now)).1
