@@ -46,31 +46,46 @@ const SHORT: usize = 2_097_152;
 /// The most bytes of a document with a certificate.
 const LONG: usize = 8_388_608;
 
-fn row(limit: usize, shares: bool, answer: bool, certificate: bool) -> Inputs
-    ensures { result ≡ record { limit = limit; shares = shares; answer = answer; certificate = certificate } }
-{
-    Inputs {
-        limit,
-        shares,
-        answer,
-        certificate,
-    }
+impl Inputs {
+    /// The game alone.
+    const GAME_ALONE: Inputs = Inputs {
+        limit: SHORT,
+        shares: false,
+        answer: false,
+        certificate: false,
+    };
+
+    /// The game and shares.
+    const WITH_SHARES: Inputs = Inputs {
+        limit: SHORT,
+        shares: true,
+        answer: false,
+        certificate: false,
+    };
+
+    /// The game, shares, the answer that names the family, and a certificate.
+    const WITH_CERTIFICATE: Inputs = Inputs {
+        limit: LONG,
+        shares: true,
+        answer: true,
+        certificate: true,
+    };
 }
 
 impl Command {
-    /// What the command needs: one row for each command.
+    /// What the command needs.
     pub fn needs(self) -> Inputs
         ensures { result ≡ needs self }
     {
         match self {
-            Command::Nucleolus | Command::Prenucleolus => row(SHORT, false, false, false),
-            Command::Propose => row(SHORT, true, false, false),
-            Command::Core => row(SHORT, false, false, false),
-            Command::Check => row(LONG, true, true, true),
-            Command::Shapley | Command::Bird => row(SHORT, false, false, false),
-            Command::Convex => row(SHORT, false, false, false),
-            Command::Kernel => row(SHORT, true, false, false),
-            Command::Matching => row(SHORT, false, false, false),
+            Command::Nucleolus | Command::Prenucleolus => Inputs::GAME_ALONE,
+            Command::Propose => Inputs::WITH_SHARES,
+            Command::Core => Inputs::GAME_ALONE,
+            Command::Check => Inputs::WITH_CERTIFICATE,
+            Command::Shapley | Command::Bird => Inputs::GAME_ALONE,
+            Command::Convex => Inputs::GAME_ALONE,
+            Command::Kernel => Inputs::WITH_SHARES,
+            Command::Matching => Inputs::GAME_ALONE,
         }
     }
 }

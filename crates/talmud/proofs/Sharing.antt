@@ -5,7 +5,7 @@ use Rattle.std.proofs.Common.{min, ℤ, pos, ◌+ℤ◌, ◌*ℤ◌, ◌≤ℤ�
 use Rattle.std.proofs.Common.{inl, inr, arith, add-one, subst}
 use Rattle.std.proofs.lemmas.Int.{ints}
 use Rattle.std.proofs.Math.Nat.{mul-le-mul, le_refl}
-use Rattle.definitions.proofs.Ring.{linear, mul-addℤ, mul-zeroℤ, add-mulℤ, one-mulℤ, suc-mulℤ}
+use Rattle.definitions.proofs.Ring.{linear, mul-addℤ, mul-zeroℤ, add-mulℤ, suc-mulℤ}
 use Rattle.definitions.proofs.Members.{sum_over-grand_coalition, sum_below-same, sum_below-split}
 use Rattle.definitions.proofs.Cases.{less_or_last_of}
 use Rattle.definitions.specs.Sums.{sum_below}

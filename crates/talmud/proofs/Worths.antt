@@ -8,7 +8,7 @@ use Rattle.std.specs.Int.{int_max}
 use Rattle.std.proofs.lemmas.Int.{ints}
 use Rattle.std.proofs.Math.Pow.{pow-lt}
 use Rattle.definitions.proofs.Ring.{linear, mul-subℤ, mul-zeroℤ, mul-addℤ}
-use Rattle.definitions.proofs.Members.{has_player-empty, has_player-singleton}
+use Rattle.definitions.proofs.Members.{has_player-singleton}
 use Rattle.definitions.proofs.Members.{has_player-singleton_other, sum_over-singleton, sum_over-complement}
 use Rattle.definitions.proofs.Parts.{part, sum_below-le}
 use Rattle.definitions.specs.Sums.{sum_below}

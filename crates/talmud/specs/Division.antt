@@ -1,6 +1,7 @@
 -- For the private functions of this crate.
 -- How the estate is divided: what the code keeps.
 --
+--   is_gain      whether what players get is divided by halves, and not what they lose
 --   claim_sum    the sum of the claims
 --   divided      what is divided by halves: the estate, or what the claims are above it
 --   IsSplit      how many get half of their claims, and what is left for the others
@@ -12,6 +13,12 @@ use Rattle.std.specs.Prelude.{min, ℤ, pos}
 use Rattle.std.specs.Prelude.{◌+ℤ◌, ◌-ℤ◌, ◌*ℤ◌, ◌<ℤ◌, ◌≤ℤ◌, slice_index, if◌then◌else◌}
 use Rattle.definitions.specs.Sums.{sum_below}
 use Rattle.orders.specs.Ordered.{OrderedNumbers, number_at}
+use Rattle.talmud.specs.declared.division.Side.{Side}
+use Rattle.talmud.specs.declared.division.Side.TheVariants.{Gain, Loss}
+
+abbrev pub is_gain : Side → Bool
+is_gain Gain = true
+is_gain Loss = false
 
 abbrev pub claim_sum : OrderedNumbers → ℤ
 claim_sum c = sum_below (length c.numbers) (λ i. pos (slice_index c.numbers i))

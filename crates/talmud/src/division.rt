@@ -7,10 +7,19 @@ ghost use Rattle.std.specs.Prelude.{◌≡◌, IfOk};
 ghost use Rattle.std.specs.Prelude.{◌-◌, ◌*◌, ◌^◌, ◌<◌, ◌≤◌, pos, ◌≤ℤ◌};
 ghost use Rattle.std.specs.Prelude.{length, map, All};
 ghost use Rattle.orders.specs.Ordered.{number_at};
-ghost use Rattle.talmud.specs.Division.{IsSplit, IsSide, IsDivision, claim_sum, divided, award};
+ghost use Rattle.talmud.specs.Division.{IsSplit, IsSide, IsDivision, claim_sum, divided, award, is_gain};
 
 use crate::cut_claims::CutClaims;
 use std::alloc::{AllocError, Global};
+
+/// What is divided by halves, and so what the bound is on.
+#[derive(Clone, Copy)]
+pub(crate) enum Side {
+    /// What players get: the estate, where it is at most half of the claims.
+    Gain,
+    /// What players lose: what the claims are above the estate, where that is more than half of them.
+    Loss,
+}
 
 /// How many players get half of their claims, and what is left of twice the sum that is divided.
 #[derive(Clone, Copy)]
@@ -22,9 +31,8 @@ struct Split {
 /// The division of an estate among claims.
 #[derive(Clone, Copy)]
 pub(crate) struct Division {
-    /// Whether the estate is at most half of the claims, so that the bound is on what players get and not on what they
-    /// lose.
-    pub(crate) gain: bool,
+    /// Whether the bound is on what players get or on what they lose.
+    pub(crate) side: Side,
     /// How many players, in the order of the claims, get half of them.
     pub(crate) half: u32,
     /// Half the denominator.
@@ -42,37 +50,37 @@ impl Division {
         requires small { estate < 2 ^ 40 }
         requires cut { All (λ c. c ≤ estate) claims.now.numbers }
         requires enough { pos estate ≤ℤ claim_sum claims.now }
-        ensures { IsDivision estate claims.now result.gain result.half result.half_den result.bound }
+        ensures { IsDivision estate claims.now (is_gain result.side) result.half result.half_den result.bound }
     {
         let total = claims.total();
         if 2 * estate <= total {
-            Division::of_side(estate, claims, true, estate)
+            Division::of_side(estate, claims, Side::Gain, estate)
         } else {
-            Division::of_side(estate, claims, false, total - estate)
+            Division::of_side(estate, claims, Side::Loss, total - estate)
         }
     }
 
     /// The division where so much is got or lost by halves.
-    fn of_side(estate: u64, claims: &CutClaims, gain: bool, amount: u64) -> Division
+    fn of_side(estate: u64, claims: &CutClaims, side: Side, amount: u64) -> Division
         requires small { estate < 2 ^ 40 }
         requires cut { All (λ c. c ≤ estate) claims.now.numbers }
-        requires side { IsSide estate claims.now gain }
-        requires divided { pos amount ≡ divided estate claims.now gain }
+        requires side { IsSide estate claims.now (is_gain side) }
+        requires divided { pos amount ≡ divided estate claims.now (is_gain side) }
         requires amount { amount < 2 ^ 46 }
-        ensures { IsDivision estate claims.now result.gain result.half result.half_den result.bound }
+        ensures { IsDivision estate claims.now (is_gain result.side) result.half result.half_den result.bound }
     {
         let n = claims.len();
         let split = half_players(claims, 2 * amount);
         if split.half < n {
             Division {
-                gain,
+                side,
                 half: split.half,
                 half_den: (n - split.half) as u64,
                 bound: split.left,
             }
         } else {
             Division {
-                gain,
+                side,
                 half: n,
                 half_den: 1,
                 bound: estate,
@@ -90,7 +98,7 @@ impl Division {
     /// The share of each player, over the denominator.
     pub(crate) fn awards(self, alloc: Global, claims: &CutClaims) -> Result<Vec<i128>, AllocError>
         ensures { IfOk result
-            (λ v. v.items ≡ map (λ c. pos (award self.gain self.half_den self.bound c)) claims.now.numbers) }
+            (λ v. v.items ≡ map (λ c. pos (award (is_gain self.side) self.half_den self.bound c)) claims.now.numbers) }
     {
         let mut num = Vec::new(alloc);
         for i in 0..claims.len() {
@@ -102,12 +110,15 @@ impl Division {
     /// The share of a claim, over the denominator.
     fn award(self, claim: u64) -> u64
         requires { claim < 2 ^ 40 }
-        ensures value { result ≡ award self.gain self.half_den self.bound claim }
+        ensures value { result ≡ award (is_gain self.side) self.half_den self.bound claim }
         ensures small { result < 2 ^ 48 }
     {
         let half = claim * self.half_den;
         let part = half.min(self.bound);
-        if self.gain { part } else { 2 * half - part }
+        match self.side {
+            Side::Gain => part,
+            Side::Loss => 2 * half - part,
+        }
     }
 }
 

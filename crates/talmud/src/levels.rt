@@ -7,40 +7,45 @@ ghost use Rattle.definitions.specs.Coalitions.{singleton, grand_coalition};
 ghost use Rattle.orders.specs.Ordered.{place};
 ghost use Rattle.talmud.specs.Levels.{with_keys, with_both, key_of, IsHalfEnd, IsHalfLevel};
 ghost use Rattle.talmud.specs.Levels.{AreHalves, IsRestLevel, AreLevels};
+ghost use Rattle.talmud.specs.Division.{is_gain};
 
 use crate::cut_claims::CutClaims;
-use crate::division::Division;
+use crate::division::{Division, Side};
 use coalitions::Coalition;
 use kohlberg::{Level, put_pair, ratio};
 use std::alloc::{AllocError, Global};
 
-/// A player alone, or all of `n` but that player.
-fn key(player: u32, n: u32, alone: bool) -> Coalition
+/// A player alone where players gain, and all of `n` but that player where they lose.
+fn key(player: u32, n: u32, side: Side) -> Coalition
     requires player { player < n }
     requires few { n ≤ 64 }
-    ensures { result ≡ (if alone then singleton player else grand_coalition n - singleton player) }
+    ensures { result ≡ (if is_gain side then singleton player else grand_coalition n - singleton player) }
 {
     let single = Coalition::single(player);
-    if alone { single } else { single.complement(n) }
+    match side {
+        Side::Gain => single,
+        Side::Loss => single.complement(n),
+    }
 }
 
-/// One coalition of each place from `i` up to `k`, the player alone or all but that player.
+/// One coalition of each place from `i` up to `k`: the player alone where players gain, and all but that player where
+/// they lose.
 fn keys(
     alloc: Global,
     claims: &CutClaims,
-    alone: bool,
+    side: Side,
     i: u32,
     k: u32,
 ) -> Result<Vec<(Coalition, i128)>, AllocError>
     requires from { i ≤ k }
     requires within { k ≤ length claims.now.numbers }
     ensures { IfOk result
-        (λ v. v.items ≡ with_keys (key_of (length claims.now.numbers) (place claims.now) alone) i (k - i)) }
+        (λ v. v.items ≡ with_keys (key_of (length claims.now.numbers) (place claims.now) (is_gain side)) i (k - i)) }
 {
     let n = claims.len();
     let mut pairs = Vec::new(alloc);
     for j in i..k {
-        put_pair(&mut pairs, key(claims.place(j), n, alone), 1)?;
+        put_pair(&mut pairs, key(claims.place(j), n, side), 1)?;
     }
     Ok(pairs)
 }
@@ -59,8 +64,9 @@ fn both(
     let n = claims.len();
     let mut pairs = Vec::new(alloc);
     for j in i..k {
-        put_pair(&mut pairs, key(claims.place(j), n, true), 1)?;
-        put_pair(&mut pairs, key(claims.place(j), n, false), 1)?;
+        let single = Coalition::single(claims.place(j));
+        put_pair(&mut pairs, single, 1)?;
+        put_pair(&mut pairs, single.complement(n), 1)?;
     }
     Ok(pairs)
 }
@@ -101,30 +107,32 @@ fn half_level(alloc: Global, claims: &CutClaims, i: u32, k: u32) -> Result<Level
     })
 }
 
-/// What the weights of the last level add to: 1 where it lists players alone, and otherwise all players but one.
-fn rest_total(n: u32, alone: bool) -> i128
-    ensures { result ≡ (if alone then pos 1 else pos n -ℤ pos 1) }
+/// What the weights of the last level add to: 1 where players gain, and all players but one where they lose.
+fn rest_total(n: u32, side: Side) -> i128
+    ensures { result ≡ (if is_gain side then pos 1 else pos n -ℤ pos 1) }
 {
-    if alone { 1 } else { n as i128 - 1 }
+    match side {
+        Side::Gain => 1,
+        Side::Loss => n as i128 - 1,
+    }
 }
 
 /// The level of the players who aren't half players.
 fn rest_level(alloc: Global, claims: &CutClaims, division: Division) -> Result<Level, AllocError>
     requires { division.half + 2 ≤ length claims.now.numbers }
     ensures level { IfOk result (λ l. IsRestLevel (length claims.now.numbers) (place claims.now)
-        division.half division.gain (pos division.bound) (pos (2 * division.half_den)) l) }
+        division.half (is_gain division.side) (pos division.bound) (pos (2 * division.half_den)) l) }
     ensures lowest { IfOk result IsLowest }
 {
     let n = claims.len();
-    let gain = division.gain;
-    let coalitions = keys(alloc, claims, gain, division.half, n)?;
-    let earlier = keys(alloc, claims, gain, 0, division.half)?;
+    let coalitions = keys(alloc, claims, division.side, division.half, n)?;
+    let earlier = keys(alloc, claims, division.side, 0, division.half)?;
     Ok(Level {
         excess: ratio(-(division.bound as i128), division.den()),
         coalitions,
         earlier,
         bounds: Vec::new(alloc),
-        total: rest_total(n, gain),
+        total: rest_total(n, division.side),
     })
 }
 
@@ -156,7 +164,7 @@ pub(crate) fn all_levels(
     requires { division.half ≤ length claims.now.numbers }
     ensures levels { IfOk result
         (λ v. AreLevels (length claims.now.numbers) (slice_index claims.now.numbers) (place claims.now)
-        division.half division.gain (pos division.bound) (pos (2 * division.half_den)) v.items) }
+        division.half (is_gain division.side) (pos division.bound) (pos (2 * division.half_den)) v.items) }
     ensures lowest { IfOk result (λ v. AllByRecursion IsLowest v.items) }
 {
     let n = claims.len();

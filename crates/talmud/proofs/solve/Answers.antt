@@ -7,7 +7,7 @@ use Rattle.definitions.specs.Certificates.{HasForm}
 use Rattle.definitions.specs.declared.Mode.TheVariants.{Players}
 use Rattle.worth_core.specs.Allocations.{allocation}
 use Rattle.orders.specs.Ordered.{place}
-use Rattle.talmud.specs.Division.{award}
+use Rattle.talmud.specs.Division.{award, is_gain}
 use Rattle.talmud.proofs.Cuts.{all-cut_low, cut-enough}
 use Rattle.talmud.proofs.Awarded.{IsShares-awards, IsTalmud-rule}
 use Rattle.talmud.proofs.Chains.{InCore-rule}
@@ -34,21 +34,23 @@ new-division-requires-clause-enough c =
 pub unwrap-shares-requires : goal.unwrap-shares-requires
 unwrap-shares-requires c =
     let d = c.new-division.result in
+    let gain = is_gain d.side in
     let ordered = c.in_ok-claims.ensures.ordered in
     let den : to_z w128 (of_z w128 c.den.result) ≡ pos (2 * d.half_den) =
     kept c.den.result c.den.type_inv ∙ c.den.ensures in
     let new = rw (den, c.in_ok-num.ensures {u = tt}) at c.new-2.ensures in
     is_some
     (IsShares
-    (allocation (map (λ e. pos (award d.gain d.half_den d.bound e)) c.in_ok-claims.claims.numbers)
+    (allocation (map (λ e. pos (award gain d.half_den d.bound e)) c.in_ok-claims.claims.numbers)
     (pos (2 * d.half_den)))) _ c.new-2.result new
-    (IsShares-awards c.in_ok-claims.claims d.gain d.half_den d.bound ordered d.some d.few)
+    (IsShares-awards c.in_ok-claims.claims gain d.half_den d.bound ordered d.some d.few)
 
 pub unwrap-certificate-requires : goal.unwrap-certificate-requires
 unwrap-certificate-requires c =
     let b = c.args.game.now in
     let laws = c.estate.ensures.laws in
     let d = c.new-division.result in
+    let gain = is_gain d.side in
     let claims = c.in_ok-claims.claims in
     let ordered = c.in_ok-claims.ensures.ordered in
     let den : to_z w128 (of_z w128 c.den.result) ≡ pos (2 * d.half_den) =
@@ -58,19 +60,20 @@ unwrap-certificate-requires c =
     c.new-division.ensures in
     let levels = c.in_ok-levels.levels.items in
     let all =
-    made b claims d.gain d.half d.half_den d.bound c.unwrap-shares.result levels ordered
+    made b claims gain d.half d.half_den d.bound c.unwrap-shares.result levels ordered
     c.in_ok-claims.ensures.cuts division shares.0 (c.in_ok-levels.ensures.levels) in
     let new = rw c.players.ensures.count at c.new-3.ensures in
     is_ok (HasForm Players (length b.claims) levels)
     (λ e. (e ≡ record { players = length b.claims; mode = Players; levels = levels })
     × HasForm Players (length b.claims) levels) c.new-3.result new
-    (levels-formed b laws (place claims) d.half d.gain (pos d.bound) c.unwrap-shares.result levels all)
+    (levels-formed b laws (place claims) d.half gain (pos d.bound) c.unwrap-shares.result levels all)
 
 pub returns : goal.returns
 returns c =
     let b = c.args.game.now in
     let laws = c.estate.ensures.laws in
     let d = c.new-division.result in
+    let gain = is_gain d.side in
     let claims = c.in_ok-claims.claims in
     let ordered = c.in_ok-claims.ensures.ordered in
     let den : to_z w128 (of_z w128 c.den.result) ≡ pos (2 * d.half_den) =
@@ -80,16 +83,16 @@ returns c =
     c.new-division.ensures in
     let levels = c.in_ok-levels.levels.items in
     let all =
-    made b claims d.gain d.half d.half_den d.bound c.unwrap-shares.result levels ordered
+    made b claims gain d.half d.half_den d.bound c.unwrap-shares.result levels ordered
     c.in_ok-claims.ensures.cuts division shares.0 (c.in_ok-levels.ensures.levels) in
     let certificate = rw (c.players.ensures.count, c.unwrap-certificate.ensures) at c.new-3.ensures in
     record {
-      solved = λ family. solved family b (place claims) d.half d.gain (pos d.bound) c.unwrap-shares.result levels
+      solved = λ family. solved family b (place claims) d.half gain (pos d.bound) c.unwrap-shares.result levels
           c.unwrap-certificate.result all c.in_ok-levels.ensures.lowest certificate.0;
       core =
-          InCore-rule b.estate b.claims (place claims) d.half d.gain (pos d.bound) c.unwrap-shares.result all.rule;
+          InCore-rule b.estate b.claims (place claims) d.half gain (pos d.bound) c.unwrap-shares.result all.rule;
       rule =
-          IsTalmud-rule b.estate b.claims (place claims) d.half d.gain (pos d.bound) c.unwrap-shares.result all.rule;
+          IsTalmud-rule b.estate b.claims (place claims) d.half gain (pos d.bound) c.unwrap-shares.result all.rule;
       levels = rw certificate.0
-          (AreRuleLevels-made b laws (place claims) d.half d.gain (pos d.bound) c.unwrap-shares.result levels all);
+          (AreRuleLevels-made b laws (place claims) d.half gain (pos d.bound) c.unwrap-shares.result levels all);
     }

@@ -1,4 +1,5 @@
 use Rattle.std.proofs.Common.{arith}
+use Rattle.talmud.specs.Division.{is_gain}
 use Rattle.talmud.proofs.Sharing.{IsDivision-rest, IsDivision-all}
 use Rattle.talmud.proofs.division.Division.of_side.Goals as goal
 use Rattle.talmud.proofs.division.Division.of_side.Goals.{then-split-n, else-split-n}
@@ -28,11 +29,11 @@ returns c =
       | then-split-n w ↦
           let lt = rw count at w.if-split-n.true in
           rw (w.result-is, count)
-          (IsDivision-rest c.args.estate c.args.claims.now c.args.gain c.args.amount _ _ laws c.requires.side
+          (IsDivision-rest c.args.estate c.args.claims.now (is_gain c.args.side) c.args.amount _ _ laws c.requires.side
           c.requires.divided split lt (c.half_players-split.ensures.stop lt))
       | else-split-n w ↦
           let le = rw count at w.if-split-n.false in
           rw (w.result-is, count)
-          (IsDivision-all c.args.estate c.args.claims.now c.args.gain c.args.amount _ _ laws c.requires.cut
+          (IsDivision-all c.args.estate c.args.claims.now (is_gain c.args.side) c.args.amount _ _ laws c.requires.cut
           c.requires.side c.requires.divided split le)
     ]
