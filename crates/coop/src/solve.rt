@@ -101,8 +101,9 @@ pub(crate) fn found_plainly(
             let solution = talmud::solve(alloc, game)?;
             Ok(point(solution))
         }
-        Game::Table(_) | Game::Cost(_) | Game::Tree(_) | Game::Assignment(_) | Game::Voting(_) => {
-            // Each worth is asked for many times.
+        Game::Table(game) => by_programs(alloc, game, family, Measure::Plain),
+        Game::Cost(_) | Game::Tree(_) | Game::Assignment(_) | Game::Voting(_) => {
+            // Each worth is asked for many times, and only a table keeps them.
             let kept = KeptWorths::new(alloc, game)?;
             by_programs(alloc, &kept, family, Measure::Plain)
         }
