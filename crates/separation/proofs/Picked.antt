@@ -46,12 +46,12 @@ module _ (R : ℕ → Type 0) (a s count : ℕ) (base height : ℤ) (picked : �
     found = h.found;
   }
 
-  pub highest_kept : (z : ℤ) → ((base <ℤ z) ↔ R s) → z ≤ℤ height
+  pub highest_kept : (z : ℤ) → (R s → base <ℤ z) → z ≤ℤ height
       → IsHighest R a s count base height picked → IsHighest R a (s + 1) count base height picked
   highest_kept z rises less h = record {
     low = h.low;
     none = λ e j low lt within. elim (last_or_less_of j s lt) [
-      | inl same ↦ λ r. let up = rises.1 (subst R same r) in absurd (omega (arith, linear, e, less, up))
+      | inl same ↦ λ r. let up = rises (subst R same r) in absurd (omega (arith, linear, e, less, up))
       | inr before ↦ h.none e j low before within
     ];
     found = h.found;

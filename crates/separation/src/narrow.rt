@@ -1,6 +1,6 @@
 //! The best column of a block in 64 bits, for which nearly all multipliers leave room.
 
-ghost use Rattle.std.specs.Prelude.{◌≡◌, ◌⊎◌, ℕ, ◌+◌, ◌*◌, ◌%◌, ◌<◌, ◌≤◌, ◌^◌, MatchOption};
+ghost use Rattle.std.specs.Prelude.{◌≡◌, ℕ, ◌+◌, ◌*◌, ◌%◌, ◌<◌, ◌≤◌, ◌^◌, MatchBool, MatchOption};
 ghost use Rattle.std.specs.Prelude.{pos, ◌-ℤ◌, ◌*ℤ◌, ◌<ℤ◌, ◌≤ℤ◌, unsigned_abs, slice_index_or};
 ghost use Rattle.separation.specs.Peaks.{IsLeast};
 ghost use Rattle.separation.specs.Scanned.{NoneBetween, IsSomeRising, IsHighestIn, AreValues, worth_in};
@@ -21,19 +21,21 @@ pub(crate) struct Highest {
 }
 
 impl Highest {
-    /// The highest so far, or another coalition where that is higher.
-    fn or(self, s: u64, height: i64) -> Highest
-        ensures { ((self.height <ℤ height) × (result ≡ record { base = self.base; height = height; coalition = s }))
-            ⊎ ((height ≤ℤ self.height) × (result ≡ self)) }
+    /// Whether a height is greater.
+    fn is_below(self, height: i64) -> bool
+        ensures { MatchBool result (self.height <ℤ height) (height ≤ℤ self.height) }
     {
-        if self.height < height {
-            Highest {
-                base: self.base,
-                height,
-                coalition: s,
-            }
-        } else {
-            self
+        self.height < height
+    }
+
+    /// Another coalition, which is higher.
+    fn raised(self, coalition: u64, height: i64) -> Highest
+        ensures { result ≡ record { base = self.base; height = height; coalition = coalition } }
+    {
+        Highest {
+            base: self.base,
+            height,
+            coalition,
         }
     }
 }
@@ -72,10 +74,11 @@ fn highest_of_each<W: Worth>(
         .min(64);
     let mut best = before;
     for j in 0..end {
-        if word.contains(j as u32) {
-            let s = 64 * place + j;
-            let height = height_of(scan, low, Coalition(s));
-            best = best.or(s, height);
+        let coalition = 64 * place + j;
+        let height = height_of(scan, low, Coalition(coalition));
+        // Few are higher, so the marks of few are looked at.
+        if best.is_below(height) && word.contains(j as u32) {
+            best = best.raised(coalition, height);
         }
     }
     best

@@ -5,17 +5,19 @@ use Rattle.std.proofs.Common.{if◌then◌else◌, Some, None, slice_index_or, t
 use Rattle.std.proofs.Common.{rules}
 use Rattle.std.proofs.Common.{ap, sym, subst, ◌∙◌}
 use mir.Syntax.{w64}
-use Rattle.definitions.proofs.Cases.{same_or_other}
+use Rattle.definitions.proofs.Cases.{same_or_other, true_or_false}
 use Rattle.separation.specs.Making.{plain}
 use Rattle.separation.specs.Fronts.{front_level, has_mark}
 use Rattle.separation.specs.Values.{IsHighest}
-use Rattle.separation.specs.Scanned.{RisesIn, CoalitionRises, value_in, worth_in}
+use Rattle.separation.specs.Scanned.{RisesIn, CoalitionRises, IsHighestIn, value_in, worth_in}
 use Rattle.separation.specs.declared.narrow.Highest.{Highest}
 use Rattle.separation.proofs.Balance.{masks_of}
 use Rattle.separation.proofs.Picked.{highest_more, highest_passed, highest_kept, highest_past}
 use Rattle.separation.proofs.Products.{above_base}
 use Rattle.separation.proofs.narrow.highest_of_each.Goals as goal
-use Rattle.separation.proofs.narrow.highest_of_each.Goals.{then-contains, else-contains}
+use Rattle.separation.proofs.narrow.highest_of_each.Goals.{then-is_below+then-contains, else-is_below}
+use Rattle.separation.proofs.narrow.highest_of_each.Goals.{else-is_below-via-then-is_below+else-contains}
+use Rattle.separation.proofs.narrow.highest_of_each.Goals.{else-is_below-via-else-is_below}
 
 pub loop-j-init : goal.loop-j-init
 loop-j-init g c =
@@ -33,11 +35,10 @@ loop-j-init g c =
 
 pub loop-j-preserved : goal.loop-j-preserved
 loop-j-preserved g c =
-    let p = c.args.scan.now.program.now in
-    let m = c.args.scan.now.m.now in
-    let game = g.W.Worth.game p.game.now in
+    let x = c.args.scan.now in
+    let p = x.program.now in
     let low = c.args.low.now in
-    let R = λ (j : ℕ). CoalitionRises c.args.scan.now j in
+    let R = λ (j : ℕ). CoalitionRises x j in
     let s = 64 * c.args.place + c.loop-j.j in
     let best = c.loop-j.best in
     let inv = c.loop-j.invariant in
@@ -46,59 +47,51 @@ loop-j-preserved g c =
     let within : s < 2 ^ p.players =
     omega (arith, mask, c.loop-j-test.true, c.min-end.ensures, c.saturating_sub.ensures) in
     let next : s + 1 ≡ 64 * c.args.place + (c.loop-j.j + 1) = omega arith in
-    let mark : c.contains.result ≡ has_mark p.marks s = c.contains.ensures ∙ c.marked_word.ensures c.loop-j.j bit in
-    let column = plain game s (front_level p.front) in
-    elim c.if-contains.branch [
-      | then-contains w ↦
-          let on : has_mark p.marks s ≡ true = sym mark ∙ w.if-contains.true in
-          let z = to_z w64 (of_z w64 w.height_of-height.result) in
-          let whole : z ≡ w.height_of-height.result = search rules in
-          let value =
-          ap (λ (b : ℤ). b +ℤ slice_index_or low (s % 256) (pos 0)) inv.base
-          ∙ c.requires.values s (omega arith) (omega (arith, bit)) in
-          let up : (best.base <ℤ z) ↔ R s =
-          subst
-          (λ (b : Bool). (best.base <ℤ z)
-          ↔ RisesIn c.args.scan.now (if b then Some column else None)) (sym on)
-          (above_base best.base (slice_index_or low (s % 256) (pos 0))
-          (value_in c.args.scan.now s) (m.den *ℤ worth_in c.args.scan.now s)
-          z (whole ∙ w.height_of-height.ensures) value) in
-          elim w.or-best.ensures [
-            | inl higher ↦ record {
-              base = ap (λ (x : Highest). x.base) (w.best-is ∙ higher.1) ∙ inv.base;
-              highest = λ a h.
-                  subst
-                  (λ (x : Highest). IsHighest R a (64 * c.args.place + (c.loop-j.j + 1)) (2 ^ p.players) x.base
-                  x.height x.coalition) (sym (w.best-is ∙ higher.1))
-                  (subst (λ (t : ℕ). IsHighest R a t (2 ^ p.players) best.base z s) next
-                  (highest_more R a s (2 ^ p.players) best.base best.height best.coalition z within up higher.0
-                  (inv.highest a h)));
-            }
-            | inr kept ↦ record {
-              base = ap (λ (x : Highest). x.base) (w.best-is ∙ kept.1) ∙ inv.base;
-              highest = λ a h.
-                  subst
-                  (λ (x : Highest). IsHighest R a (64 * c.args.place + (c.loop-j.j + 1)) (2 ^ p.players) x.base
-                  x.height x.coalition) (sym (w.best-is ∙ kept.1))
-                  (subst (λ (t : ℕ). IsHighest R a t (2 ^ p.players) best.base best.height best.coalition) next
-                  (highest_kept R a s (2 ^ p.players) best.base best.height best.coalition z up kept.0
-                  (inv.highest a h)));
-            }
-          ]
-      | else-contains w ↦
-          let off : has_mark p.marks s ≡ false = sym mark ∙ w.if-contains.false in
-          let low_still =
-          λ (r : R s). subst
-          (λ (b : Bool). RisesIn c.args.scan.now (if b then Some column else None)) off r in
+    let column = plain (g.W.Worth.game p.game.now) s (front_level p.front) in
+    let rises_with = λ (b : Bool). RisesIn x (if b then Some column else None) in
+    let z = to_z w64 (of_z w64 c.height_of-height.result) in
+    let whole : z ≡ c.height_of-height.result = search rules in
+    let value =
+    ap (λ (b : ℤ). b +ℤ slice_index_or low (s % 256) (pos 0)) inv.base
+    ∙ c.requires.values s (omega arith) (omega (arith, bit)) in
+    let up : (best.base <ℤ z) ↔ rises_with true =
+    above_base best.base (slice_index_or low (s % 256) (pos 0)) (value_in x s) (x.m.now.den *ℤ worth_in x s) z
+    (whole ∙ c.height_of-height.ensures) value in
+    let up_where_marked : R s → best.base <ℤ z =
+    λ r. elim (true_or_false (has_mark p.marks s)) [
+      | inl on ↦ up.1 (subst rises_with on r)
+      | inr off ↦ absurd (subst rises_with off r)
+    ] in
+    elim c.if-is_below.branch [
+      | then-is_below+then-contains w ↦
+          let on : has_mark p.marks s ≡ true =
+          sym (w.contains.ensures ∙ c.marked_word.ensures c.loop-j.j bit) ∙ w.if-contains.true in
           record {
-            base = ap (λ (x : Highest). x.base) w.best-is ∙ inv.base;
+            base = ap (λ (y : Highest). y.base) (w.best-is ∙ w.raised-best.ensures) ∙ inv.base;
             highest = λ a h.
-                subst
-                (λ (x : Highest). IsHighest R a (64 * c.args.place + (c.loop-j.j + 1)) (2 ^ p.players) x.base x.height
-                x.coalition) (sym w.best-is)
-                (subst (λ (t : ℕ). IsHighest R a t (2 ^ p.players) best.base best.height best.coalition) next
-                (highest_passed R a s (2 ^ p.players) best.base best.height best.coalition low_still
+                subst (λ (y : Highest). IsHighestIn x a (64 * c.args.place + (c.loop-j.j + 1)) y) (sym (w.best-is ∙ w.raised-best.ensures))
+                (subst (λ (t : ℕ). IsHighest R a t (2 ^ p.players) best.base z s) next
+                (highest_more R a s (2 ^ p.players) best.base best.height best.coalition z within
+                (subst (λ (b : Bool). (best.base <ℤ z) ↔ rises_with b) (sym on) up)
+                (w.if-is_below.ensures {u = tt})
                 (inv.highest a h)));
+          }
+      | else-is_below w ↦
+          record {
+            base = ap (λ (y : Highest). y.base) w.best-is ∙ inv.base;
+            highest = λ a h.
+                subst (λ (y : Highest). IsHighestIn x a (64 * c.args.place + (c.loop-j.j + 1)) y) (sym w.best-is)
+                (subst (λ (t : ℕ). IsHighest R a t (2 ^ p.players) best.base best.height best.coalition) next
+                (elim w.else-is_below.branch [
+                  | else-is_below-via-then-is_below+else-contains v ↦
+                      let off : has_mark p.marks s ≡ false =
+                      sym (v.contains.ensures ∙ c.marked_word.ensures c.loop-j.j bit) ∙ v.if-contains.false in
+                      highest_passed R a s (2 ^ p.players) best.base best.height best.coalition
+                      (λ (r : R s). subst rises_with off r) (inv.highest a h)
+                  | else-is_below-via-else-is_below v ↦
+                      highest_kept R a s (2 ^ p.players) best.base best.height best.coalition z up_where_marked
+                      (v.if-is_below.ensures {u = tt}) (inv.highest a h)
+                ]));
           }
     ]
 
