@@ -193,7 +193,7 @@ impl<W: Worth> Columns for Lazy<'_, W> {
 
     fn rising(&mut self, m: &Multipliers, with_costs: bool) -> Option<u64> {
         let found = some_found(self, m, with_costs);
-        self.at = block_of(found, self.first);
+        self.at = block_of(found, self.first, self.at);
         found
     }
 }

@@ -190,16 +190,11 @@ pub(crate) fn some_found<'a, W: Worth>(
     }
 }
 
-/// The block of the coalition whose column has that number, where the first such column has the other; 0 without one.
-pub(crate) fn block_of(found: Option<u64>, first: u64) -> u8 {
+/// The block of the coalition whose column was found, where those of the coalitions have the numbers from `first` on;
+/// the block before, where another column was found or none.
+pub(crate) fn block_of(found: Option<u64>, first: u64, before: u8) -> u8 {
     match found {
-        Some(id) => {
-            if first <= id {
-                ((id - first) / 256 % 256) as u8
-            } else {
-                0
-            }
-        }
-        None => 0,
+        Some(id) if first <= id => ((id - first) / 256 % 256) as u8,
+        _ => before,
     }
 }
