@@ -16,6 +16,10 @@ use Rattle.definitions.proofs.Halves.{has_player-last}
 use Rattle.definitions.proofs.Members.{has_player-empty, sum_below-zero, sum_below-same}
 use Rattle.definitions.proofs.Parts.{sum_over-more, part}
 use Rattle.separation.specs.Values.{player_multiplier, member_multiplier, eight, IsEight, AreNarrow}
+use Rattle.separation.specs.Values.{low_of, HasRoom}
+use Rattle.separation.specs.declared.tables.NarrowSums.{NarrowSums}
+use Rattle.separation.specs.declared.tables.Sums.{Sums}
+use Rattle.separation.specs.declared.tables.Sums.TheVariants.{Narrow}
 use Rattle.separation.proofs.Valued.{eight-is}
 use Rattle.spans.proofs.EightSums.{last_below_eight, filled_below}
 use Rattle.spans.specs.Sums.{number_at, IsEightSum}
@@ -128,3 +132,9 @@ all_narrow num n i numbers few end h j = elim (below_or_above j 16) [
       ap (λ (b : Bool). cond b (slice_index_or num j (pos 0)) (pos 0)) (nat_lt-past j n (omega (arith, few, le))) in
       (past ∙ sym none, subst (λ (z : ℤ). unsigned_abs z ≤ 2 ^ 56) (sym past) (omega arith))
 ]
+
+-- sums in 64 bits have room where those of the first eight players are small
+pub narrow_has_room : (t : NarrowSums)
+    → ((k : ℕ) → k < 256 → unsigned_abs (slice_index_or t.low.now k (pos 0)) ≤ 2 ^ 59) → HasRoom (Narrow t)
+narrow_has_room t h u e k lt =
+    subst (λ (s : Sums). unsigned_abs (slice_index_or (low_of s) k (pos 0)) ≤ 2 ^ 59) e (h k lt)

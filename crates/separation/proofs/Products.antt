@@ -1,13 +1,12 @@
 -- Products and sums of small numbers, as the machine computes them.
-use Rattle.std.proofs.Common.{◌≡◌, ℕ, ◌+◌, ◌*◌, ◌^◌, ◌<◌, ◌≤◌, ℤ, pos, ◌+ℤ◌}
+use Rattle.std.proofs.Common.{◌≡◌, ℕ, ◌+◌, ◌^◌, ◌<◌, ◌≤◌, ℤ, pos, ◌+ℤ◌}
 use Rattle.std.proofs.Common.{◌-ℤ◌, ◌*ℤ◌, unsigned_abs, arith}
 use Rattle.std.proofs.Common.{◌↔◌, ◌<ℤ◌, ◌≤ℤ◌}
 use Rattle.definitions.proofs.Ring.{linear}
 use Rattle.std.proofs.Common.{FitsSigned, to_z, of_z, sym, subst, ◌∙◌, le_trans, lt_of_le_of_lt, le_of_lt}
-use Rattle.std.proofs.Common.{mul-le-mul}
 use mir.Syntax.{w64, w128}
 use lib.Dec.{lit≤}
-use Rattle.std.proofs.lemmas.Int.{ints, to_z-of_z, unsigned_abs-mul, fits_signed_mul, fits_signed_from_abs}
+use Rattle.std.proofs.lemmas.Int.{ints, to_z-of_z, fits_signed_mul, fits_signed_from_abs}
 use Rattle.definitions.proofs.Casts.{cast_kept, unsigned_abs-mul_le}
 
 -- a number as it is kept

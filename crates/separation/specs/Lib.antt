@@ -1,4 +1,4 @@
--- To be read in this order. The last four are for the private functions.
+-- To be read in this order. The last five are for the private functions.
 pub mod Stage
 pub mod Balanced
 pub mod Same
@@ -9,3 +9,4 @@ pub mod Values
 pub mod Making
 pub mod Peaks
 pub mod Fronts
+pub mod Scanned

@@ -19,13 +19,14 @@
 --   IsHighest           of some numbers none rises, and the height is the base; or one is that rises
 use Rattle.std.specs.Prelude.{◌≡◌, ℕ, ◌+◌, ◌<◌, ◌≤◌, Bool, true, false, nat_lt, List}
 use Rattle.std.specs.Prelude.{length, ℤ, pos, ◌*ℤ◌, ◌<ℤ◌}
-use Rattle.std.specs.Prelude.{if◌then◌else◌, slice_index_or, Option, Some, None, ◌^◌, unsigned_abs, ◌≤ℤ◌, ⊤}
+use Rattle.std.specs.Prelude.{if◌then◌else◌, slice_index_or, Option, Some, None, ◌^◌, unsigned_abs, ◌≤ℤ◌}
 use Rattle.definitions.specs.Sums.{sum_below}
 use Rattle.definitions.specs.Coalitions.{has_player}
 use Rattle.definitions.specs.declared.Measure.{Measure}
 use Rattle.spans.specs.Sums.{number_at}
 use Rattle.separation.specs.Kept.{column_entry, column_at}
 use Rattle.separation.specs.declared.column.Column.{Column}
+use Rattle.separation.specs.declared.tables.NarrowSums.{NarrowSums}
 use Rattle.separation.specs.declared.tables.Sums.{Sums}
 use Rattle.separation.specs.declared.tables.Sums.TheVariants.{Narrow, Wide}
 
@@ -64,8 +65,9 @@ high_of (Wide t) = t.now.high
 
 -- in 64 bits the sums of the first eight players are at most 2^59 in size
 abbrev pub HasRoom : Sums → Type 0
-HasRoom (Narrow t) = (k : ℕ) → k < 256 → unsigned_abs (slice_index_or t.low.now k (pos 0)) ≤ 2 ^ 59
-HasRoom (Wide t) = ⊤
+HasRoom sums =
+    (t : NarrowSums) → sums ≡ Narrow t → (k : ℕ) → k < 256
+    → unsigned_abs (slice_index_or t.low.now k (pos 0)) ≤ 2 ^ 59
 
 -- the sums of the multipliers of at most 16 players
 pub record AreSums (num : List ℤ) (n : ℕ) (sums : Sums) : Type 0 where

@@ -16,8 +16,6 @@ use crate::marks::outside_of;
 use crate::peaks::peaks_of;
 use crate::picking::{block_of, some_found};
 use crate::rising::first_found;
-use crate::sums::wide;
-use crate::tables::Sums;
 use fractions::OutOfMemory;
 use kohlberg::{Family, Level, Outside, Span};
 use simplex::{Columns, Multipliers};
@@ -166,8 +164,7 @@ impl<W: Worth> Columns for Lazy<'_, W> {
     }
 
     fn entering(&mut self, m: &Multipliers, with_costs: bool) -> Option<u64> {
-        let tables = wide(m, self.players);
-        first_found(self, m, &Sums::Wide(&tables), with_costs)
+        first_found(self, m, with_costs)
     }
 
     fn rising(&mut self, m: &Multipliers, with_costs: bool) -> Option<u64> {

@@ -13,6 +13,7 @@ mod narrow;
 mod peaks;
 mod picking;
 mod rising;
+mod scan;
 mod shares;
 mod stage;
 mod sums;

@@ -4,13 +4,13 @@
 ghost use Rattle.std.specs.Prelude.{◌≡◌, ◌⊎◌, ℕ, ◌+◌, ◌*◌, ◌<◌, ◌≤◌, ◌^◌, length, unsigned_abs};
 ghost use Rattle.std.specs.Prelude.{MatchOption};
 ghost use Rattle.definitions.specs.declared.Measure.{Measure};
-ghost use Rattle.separation.specs.Kept.{column_at};
-ghost use Rattle.separation.specs.Fronts.{front_level, marked_column, lazy_columns};
-ghost use Rattle.separation.specs.Values.{AreNarrow, AreSums, Rises, IsSomeBelow};
+ghost use Rattle.separation.specs.Values.{AreNarrow};
+ghost use Rattle.separation.specs.Scanned.{RisesAt, ColumnRises, NoneBetween, NoneRises, IsSomeRising};
 
 use crate::lazy::Lazy;
 use crate::narrow::best_in_64;
 use crate::rising::{counted_worth, first_in_front, first_one_by_one, marked_rises};
+use crate::scan::Scan;
 use crate::sums::{bar, narrow, wide};
 use crate::tables::{NarrowSums, Sums};
 use coalitions::Coalition;
@@ -19,17 +19,11 @@ use spans::fill_sums;
 use worth_core::{Measure, Worth};
 
 /// By how much the cost of a coalition's column is above a value. No answer rests on this number.
-fn gap<W: Worth>(
-    program: &Lazy<'_, W>,
-    m: &Multipliers,
-    value: i128,
-    with_costs: bool,
-    s: Coalition,
-) -> i128
-    requires { s < 2 ^ program.now.players }
+fn gap<W: Worth>(scan: &Scan<'_, W>, value: i128, s: Coalition) -> i128
+    requires { s < 2 ^ scan.now.program.now.players }
 {
-    let worth = counted_worth(program.game, s, with_costs);
-    bar(m, worth, with_costs).wrapping_sub(value)
+    let worth = counted_worth(scan.program.game, s, scan.with_costs);
+    bar(scan.m, worth, scan.with_costs).wrapping_sub(value)
 }
 
 /// The better so far, or a coalition with a greater gap.
@@ -43,31 +37,18 @@ fn greater(best: Option<(u64, i128)>, s: u64, gap: i128) -> (u64, i128)
 }
 
 /// Of the 256 coalitions from 256 * `block` on one that has a column whose cost is above its value with plain excess.
-fn best_in_128<W: Worth>(
-    program: &Lazy<'_, W>,
-    m: &Multipliers,
-    sums: &Sums<'_>,
-    with_costs: bool,
-    block: u64,
-) -> Option<u64>
+fn best_in_128<W: Worth>(scan: &Scan<'_, W>, block: u64) -> Option<u64>
     requires block { block < 256 }
-    requires plain { program.now.measure ≡ Measure.Plain }
-    requires rows { length m.now.num.items ≡ program.now.players + program.now.levels }
-    requires sums { AreSums m.now.num.items program.now.players sums.now }
-    ensures { let column = marked_column (W.game program.now.game.now) (front_level program.now.front)
-        program.now.marks in MatchOption result
-        ((j : ℕ) → 256 * block ≤ j → j < 256 * (block + 1) → j < 2 ^ program.now.players
-        → ¬ Rises program.now.measure m.now.num.items m.now.den program.now.players with_costs (column j))
-        (IsSomeBelow program.now.measure m.now.num.items m.now.den program.now.players with_costs column
-        (2 ^ program.now.players)) }
+    requires plain { scan.now.program.now.measure ≡ Measure.Plain }
+    ensures { MatchOption result (NoneBetween scan.now (256 * block) (256 * (block + 1))) (IsSomeRising scan.now) }
 {
-    let base = sums.base(m, program.players, program.level(), block);
-    let end = (256 * block + 256).min(1 << program.players);
+    let base = scan.base(block);
+    let end = (256 * block + 256).min(1 << scan.program.players);
     let mut best: Option<(u64, i128)> = None;
     for s in 256 * block..end {
-        let value = sums.behind(base, Coalition(s));
-        if marked_rises(program, m, value, with_costs, Coalition(s)) {
-            let here = gap(program, m, value, with_costs, Coalition(s));
+        let value = scan.sums.behind(base, Coalition(s));
+        if marked_rises(scan, value, Coalition(s)) {
+            let here = gap(scan, value, Coalition(s));
             best = Some(greater(best, s, here));
         }
     }
@@ -79,55 +60,28 @@ fn best_in_128<W: Worth>(
 
 /// Of the 256 coalitions from 256 * `block` on one that has a column whose cost is above its value with plain excess,
 /// in 64 bits where the block's numbers have room there.
-fn best_of_block<W: Worth>(
-    program: &Lazy<'_, W>,
-    m: &Multipliers,
-    sums: &Sums<'_>,
-    with_costs: bool,
-    block: u64,
-) -> Option<u64>
+fn best_of_block<W: Worth>(scan: &Scan<'_, W>, block: u64) -> Option<u64>
     requires block { block < 256 }
-    requires plain { program.now.measure ≡ Measure.Plain }
-    requires rows { length m.now.num.items ≡ program.now.players + program.now.levels }
-    requires sums { AreSums m.now.num.items program.now.players sums.now }
-    ensures { let column = marked_column (W.game program.now.game.now) (front_level program.now.front)
-        program.now.marks in MatchOption result
-        ((j : ℕ) → 256 * block ≤ j → j < 256 * (block + 1) → j < 2 ^ program.now.players
-        → ¬ Rises program.now.measure m.now.num.items m.now.den program.now.players with_costs (column j))
-        (IsSomeBelow program.now.measure m.now.num.items m.now.den program.now.players with_costs column
-        (2 ^ program.now.players)) }
+    requires plain { scan.now.program.now.measure ≡ Measure.Plain }
+    ensures { MatchOption result (NoneBetween scan.now (256 * block) (256 * (block + 1))) (IsSomeRising scan.now) }
 {
-    let base = sums.base(m, program.players, program.level(), block);
-    match sums {
-        Sums::Narrow(narrow) if m.den < 1 << 16 && base.unsigned_abs() <= 1 << 61 => {
-            best_in_64(program, m, narrow, base as i64, with_costs, block)
+    let base = scan.base(block);
+    match &scan.sums {
+        Sums::Narrow(narrow) if scan.m.den < 1 << 16 && base.unsigned_abs() <= 1 << 61 => {
+            best_in_64(scan, narrow, base as i64, block)
         }
-        _ => best_in_128(program, m, sums, with_costs, block),
+        _ => best_in_128(scan, block),
     }
 }
 
 /// Of the blocks from one on up to another, what is found in the first that has any.
-fn best_from<W: Worth>(
-    program: &Lazy<'_, W>,
-    m: &Multipliers,
-    sums: &Sums<'_>,
-    with_costs: bool,
-    from: u64,
-    to: u64,
-) -> Option<u64>
+fn best_from<W: Worth>(scan: &Scan<'_, W>, from: u64, to: u64) -> Option<u64>
     requires to { to ≤ 256 }
-    requires plain { program.now.measure ≡ Measure.Plain }
-    requires rows { length m.now.num.items ≡ program.now.players + program.now.levels }
-    requires sums { AreSums m.now.num.items program.now.players sums.now }
-    ensures { let column = marked_column (W.game program.now.game.now) (front_level program.now.front)
-        program.now.marks in MatchOption result
-        ((j : ℕ) → 256 * from ≤ j → j < 256 * to → j < 2 ^ program.now.players
-        → ¬ Rises program.now.measure m.now.num.items m.now.den program.now.players with_costs (column j))
-        (IsSomeBelow program.now.measure m.now.num.items m.now.den program.now.players with_costs column
-        (2 ^ program.now.players)) }
+    requires plain { scan.now.program.now.measure ≡ Measure.Plain }
+    ensures { MatchOption result (NoneBetween scan.now (256 * from) (256 * to)) (IsSomeRising scan.now) }
 {
     for block in from..to {
-        if let Some(s) = best_of_block(program, m, sums, with_costs, block) {
+        if let Some(s) = best_of_block(scan, block) {
             return Some(s);
         }
     }
@@ -135,48 +89,24 @@ fn best_from<W: Worth>(
 }
 
 /// A coalition that has a column whose cost is above its value with plain excess, sought from the last place on.
-fn best_around<W: Worth>(
-    program: &Lazy<'_, W>,
-    m: &Multipliers,
-    sums: &Sums<'_>,
-    with_costs: bool,
-) -> Option<u64>
-    requires plain { program.now.measure ≡ Measure.Plain }
-    requires rows { length m.now.num.items ≡ program.now.players + program.now.levels }
-    requires sums { AreSums m.now.num.items program.now.players sums.now }
-    ensures { let column = marked_column (W.game program.now.game.now) (front_level program.now.front)
-        program.now.marks in MatchOption result
-        ((j : ℕ) → j < 2 ^ program.now.players
-        → ¬ Rises program.now.measure m.now.num.items m.now.den program.now.players with_costs (column j))
-        (IsSomeBelow program.now.measure m.now.num.items m.now.den program.now.players with_costs column
-        (2 ^ program.now.players)) }
+fn best_around<W: Worth>(scan: &Scan<'_, W>) -> Option<u64>
+    requires plain { scan.now.program.now.measure ≡ Measure.Plain }
+    ensures { MatchOption result (NoneRises scan.now) (IsSomeRising scan.now) }
 {
-    let at = u64::from(program.at);
-    if let Some(s) = best_from(program, m, sums, with_costs, at, 256) {
+    let at = u64::from(scan.program.at);
+    if let Some(s) = best_from(scan, at, 256) {
         return Some(s);
     }
-    best_from(program, m, sums, with_costs, 0, at)
+    best_from(scan, 0, at)
 }
 
 /// A coalition that has a column whose cost is above its value.
-fn some_marked<W: Worth>(
-    program: &Lazy<'_, W>,
-    m: &Multipliers,
-    sums: &Sums<'_>,
-    with_costs: bool,
-) -> Option<u64>
-    requires rows { length m.now.num.items ≡ program.now.players + program.now.levels }
-    requires sums { AreSums m.now.num.items program.now.players sums.now }
-    ensures { let column = marked_column (W.game program.now.game.now) (front_level program.now.front)
-        program.now.marks in MatchOption result
-        ((j : ℕ) → j < 2 ^ program.now.players
-        → ¬ Rises program.now.measure m.now.num.items m.now.den program.now.players with_costs (column j))
-        (IsSomeBelow program.now.measure m.now.num.items m.now.den program.now.players with_costs column
-        (2 ^ program.now.players)) }
+fn some_marked<W: Worth>(scan: &Scan<'_, W>) -> Option<u64>
+    ensures { MatchOption result (NoneRises scan.now) (IsSomeRising scan.now) }
 {
-    match program.measure {
-        Measure::Plain => best_around(program, m, sums, with_costs),
-        Measure::PerHead => match first_one_by_one(program, m, sums, with_costs) {
+    match scan.program.measure {
+        Measure::Plain => best_around(scan),
+        Measure::PerHead => match first_one_by_one(scan) {
             Some(s) => Some(s),
             None => None,
         },
@@ -184,83 +114,75 @@ fn some_marked<W: Worth>(
 }
 
 /// The number of a column whose cost is above its value, by the sums of the multipliers.
-fn some_by_sums<W: Worth>(
-    program: &Lazy<'_, W>,
-    m: &Multipliers,
-    sums: &Sums<'_>,
-    with_costs: bool,
-) -> Option<u64>
-    requires rows { length m.now.num.items ≡ program.now.players + program.now.levels }
-    requires sums { AreSums m.now.num.items program.now.players sums.now }
-    ensures { let columns = lazy_columns (W.game program.now.game.now) program.now.front program.now.marks in
-        MatchOption result
-        ((id : ℕ) → ¬ Rises program.now.measure m.now.num.items m.now.den program.now.players with_costs
-        (column_at columns id))
-        (λ id. Rises program.now.measure m.now.num.items m.now.den program.now.players with_costs
-        (column_at columns id)) }
+fn some_by_sums<W: Worth>(scan: &Scan<'_, W>) -> Option<u64>
+    ensures { MatchOption result ((id : ℕ) → ¬ ColumnRises scan.now id) (ColumnRises scan.now) }
 {
-    if let Some(id) = first_in_front(program, m, sums, with_costs) {
+    if let Some(id) = first_in_front(scan) {
         return Some(id);
     }
-    match some_marked(program, m, sums, with_costs) {
-        Some(s) => Some(program.first + s),
+    match some_marked(scan) {
+        Some(s) => Some(scan.program.first + s),
         None => None,
     }
 }
 
 /// The number of such a column, by tables in 64 bits of the players' multipliers there.
-fn some_in_64<W: Worth>(
-    program: &Lazy<'_, W>,
-    m: &Multipliers,
+fn some_in_64<'a, W: Worth>(
+    program: &'a Lazy<'a, W>,
+    m: &'a Multipliers,
     numbers: &[i64; 16],
     with_costs: bool,
 ) -> Option<u64>
     requires rows { length m.now.num.items ≡ program.now.players + program.now.levels }
     requires numbers { AreNarrow m.now.num.items program.now.players numbers.now }
-    ensures { let columns = lazy_columns (W.game program.now.game.now) program.now.front program.now.marks in
-        MatchOption result
-        ((id : ℕ) → ¬ Rises program.now.measure m.now.num.items m.now.den program.now.players with_costs
-        (column_at columns id))
-        (λ id. Rises program.now.measure m.now.num.items m.now.den program.now.players with_costs
-        (column_at columns id)) }
+    ensures { MatchOption result ((id : ℕ) → ¬ RisesAt program.now m.now with_costs id)
+        (RisesAt program.now m.now with_costs) }
 {
     let mut low = [0; 256];
     let mut high = [0; 256];
     fill_sums(&mut low, numbers, 0);
     fill_sums(&mut high, numbers, 8);
     let tables = NarrowSums::new(&low, &high);
-    some_by_sums(program, m, &Sums::Narrow(tables), with_costs)
+    let sums = Sums::Narrow(tables);
+    some_by_sums(&Scan {
+        program,
+        m,
+        sums,
+        with_costs,
+    })
 }
 
 /// The number of such a column, by tables in 128 bits. It is a function of its own, since its tables are large and
 /// seldom made.
 #[inline(never)]
-fn some_in_128<W: Worth>(program: &Lazy<'_, W>, m: &Multipliers, with_costs: bool) -> Option<u64>
-    requires rows { length m.now.num.items ≡ program.now.players + program.now.levels }
-    ensures { let columns = lazy_columns (W.game program.now.game.now) program.now.front program.now.marks in
-        MatchOption result
-        ((id : ℕ) → ¬ Rises program.now.measure m.now.num.items m.now.den program.now.players with_costs
-        (column_at columns id))
-        (λ id. Rises program.now.measure m.now.num.items m.now.den program.now.players with_costs
-        (column_at columns id)) }
-{
-    let tables = wide(m, program.players);
-    some_by_sums(program, m, &Sums::Wide(&tables), with_costs)
-}
-
-/// The number of a column whose cost is above its value, without costs as if each were 0.
-pub(crate) fn some_found<W: Worth>(
-    program: &Lazy<'_, W>,
-    m: &Multipliers,
+fn some_in_128<'a, W: Worth>(
+    program: &'a Lazy<'a, W>,
+    m: &'a Multipliers,
     with_costs: bool,
 ) -> Option<u64>
     requires rows { length m.now.num.items ≡ program.now.players + program.now.levels }
-    ensures { let columns = lazy_columns (W.game program.now.game.now) program.now.front program.now.marks in
-        MatchOption result
-        ((id : ℕ) → ¬ Rises program.now.measure m.now.num.items m.now.den program.now.players with_costs
-        (column_at columns id))
-        (λ id. Rises program.now.measure m.now.num.items m.now.den program.now.players with_costs
-        (column_at columns id)) }
+    ensures { MatchOption result ((id : ℕ) → ¬ RisesAt program.now m.now with_costs id)
+        (RisesAt program.now m.now with_costs) }
+{
+    let tables = wide(m, program.players);
+    let sums = Sums::Wide(&tables);
+    some_by_sums(&Scan {
+        program,
+        m,
+        sums,
+        with_costs,
+    })
+}
+
+/// The number of a column whose cost is above its value, without costs as if each were 0.
+pub(crate) fn some_found<'a, W: Worth>(
+    program: &'a Lazy<'a, W>,
+    m: &'a Multipliers,
+    with_costs: bool,
+) -> Option<u64>
+    requires rows { length m.now.num.items ≡ program.now.players + program.now.levels }
+    ensures { MatchOption result ((id : ℕ) → ¬ RisesAt program.now m.now with_costs id)
+        (RisesAt program.now m.now with_costs) }
 {
     match narrow(m, program.players) {
         Some(numbers) => some_in_64(program, m, &numbers, with_costs),

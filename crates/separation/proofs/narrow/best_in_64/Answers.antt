@@ -3,25 +3,18 @@ use Rattle.std.proofs.Common.{pos, slice_index_or}
 use mir.Syntax.{w64}
 use Rattle.definitions.proofs.Casts.{cast_kept}
 use Rattle.separation.specs.Peaks.{IsLeast}
-use Rattle.separation.specs.Fronts.{front_level, marked_column}
-use Rattle.separation.specs.Values.{Rises, IsHighest}
+use Rattle.separation.specs.Scanned.{IsHighestIn}
 use Rattle.separation.proofs.narrow.best_in_64.Goals as goal
 
 pub loop-place-preserved : goal.loop-place-preserved
 loop-place-preserved g c =
-    let p = c.args.program.now in
-    let m = c.args.m.now in
-    let best = c.highest_of_word-best.result in
     let inv = c.loop-place.invariant in
     let next : 64 * c.loop-place.place + 64 ≡ 64 * (c.loop-place.place + 1) = omega arith in
     record {
       base = c.highest_of_word-best.ensures.base ∙ inv.base;
       highest =
           subst
-          (λ (t : ℕ). IsHighest
-          (λ (j : ℕ). Rises p.measure m.num.items m.den p.players c.args.with_costs
-          (marked_column (g.W.Worth.game p.game.now) (front_level p.front) p.marks j))
-          (256 * c.args.block) t (2 ^ p.players) best.base best.height best.coalition) next
+          (λ (t : ℕ). IsHighestIn c.args.scan.now (256 * c.args.block) t c.highest_of_word-best.result) next
           (c.highest_of_word-best.ensures.highest (256 * c.args.block) inv.highest);
     }
 

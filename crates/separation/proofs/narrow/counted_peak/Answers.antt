@@ -4,31 +4,32 @@ use Rattle.std.proofs.Common.{to_z, of_z, arith}
 use mir.Syntax.{w64}
 use Rattle.definitions.proofs.Casts.{cast_kept}
 use Rattle.separation.specs.Values.{counted}
+use Rattle.separation.specs.Scanned.{worth_in}
 use Rattle.separation.proofs.narrow.counted_peak.Goals as goal
 
 -- a peak as it is kept
 peak_kept : (z : ℤ) → unsigned_abs z < 2 ^ 46 → to_z w64 (of_z w64 z) ≡ z
 peak_kept z small = cast_kept w64 z (omega (arith, small))
 
-pub returns-then-with_costs-clause-greatest : goal.returns-then-with_costs-clause-greatest
-returns-then-with_costs-clause-greatest g c = λ s lower upper within.
-    let p = c.args.program.now in
+pub returns-then-scan-clause-greatest : goal.returns-then-scan-clause-greatest
+returns-then-scan-clause-greatest g c = λ s lower upper within.
+    let p = c.args.scan.now.program.now in
     let game = g.W.Worth.game p.game.now in
     let below = subst (λ (n : ℕ). s < 2 ^ n) p.count within in
     let peak = slice_index_or p.peaks c.args.block (pos 0) in
     let is = p.peaks_are c.args.block c.requires in
-    subst (λ (z : ℤ). counted c.args.with_costs (game.worth s) ≤ℤ z) (sym (peak_kept peak is.small))
-    (subst (λ (b : Bool). counted b (game.worth s) ≤ℤ peak) (sym c.if-with_costs.true)
+    subst (λ (z : ℤ). worth_in c.args.scan.now s ≤ℤ z) (sym (peak_kept peak is.small))
+    (subst (λ (b : Bool). counted b (game.worth s) ≤ℤ peak) (sym c.if-scan.true)
     (is.greatest s lower upper below))
 
-pub returns-then-with_costs-clause-small : goal.returns-then-with_costs-clause-small
-returns-then-with_costs-clause-small g c =
-    let p = c.args.program.now in
+pub returns-then-scan-clause-small : goal.returns-then-scan-clause-small
+returns-then-scan-clause-small g c =
+    let p = c.args.scan.now.program.now in
     let small = (p.peaks_are c.args.block c.requires).small in
     subst (λ (z : ℤ). unsigned_abs z < 2 ^ 46)
     (sym (peak_kept (slice_index_or p.peaks c.args.block (pos 0)) small)) small
 
-pub returns-else-with_costs-clause-greatest : goal.returns-else-with_costs-clause-greatest
-returns-else-with_costs-clause-greatest g c = λ s lower upper within.
-    let game = g.W.Worth.game c.args.program.now.game.now in
-    subst (λ (b : Bool). counted b (game.worth s) ≤ℤ pos 0) (sym c.if-with_costs.false) (omega arith)
+pub returns-else-scan-clause-greatest : goal.returns-else-scan-clause-greatest
+returns-else-scan-clause-greatest g c = λ s lower upper within.
+    let game = g.W.Worth.game c.args.scan.now.program.now.game.now in
+    subst (λ (b : Bool). counted b (game.worth s) ≤ℤ pos 0) (sym c.if-scan.false) (omega arith)

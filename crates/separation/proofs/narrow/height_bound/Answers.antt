@@ -1,26 +1,26 @@
 use Rattle.std.proofs.Common.{ℤ, ◌-ℤ◌, ◌*ℤ◌, ◌≤ℤ◌, sym, subst, arith}
 use Rattle.definitions.proofs.Ring.{linear, mul-leℤ}
-use Rattle.separation.specs.Values.{counted}
+use Rattle.separation.specs.Scanned.{worth_in}
 use Rattle.separation.proofs.Products.{height_held, less_a_number}
 use Rattle.separation.proofs.narrow.height_bound.Goals as goal
 
 pub overflow_mul-result : goal.overflow_mul-result
 overflow_mul-result g c =
-    (height_held c.args.m.now.den c.counted_peak-most.result c.args.least c.requires.den
+    (height_held c.args.scan.now.m.now.den c.counted_peak-most.result c.args.least c.requires.den
     c.counted_peak-most.ensures.small c.requires.least).0
 
 pub overflow_sub-result : goal.overflow_sub-result
 overflow_sub-result g c =
-    (height_held c.args.m.now.den c.counted_peak-most.result c.args.least c.requires.den
+    (height_held c.args.scan.now.m.now.den c.counted_peak-most.result c.args.least c.requires.den
     c.counted_peak-most.ensures.small c.requires.least).1.0
 
 pub returns : goal.returns
 returns g c = λ s lower upper within.
-    let m = c.args.m.now in
-    let game = g.W.Worth.game c.args.program.now.game.now in
+    let scan = c.args.scan.now in
+    let m = scan.m.now in
     let most = c.counted_peak-most.result in
     let some = m.den_positive in
-    let worth = counted c.args.with_costs (game.worth s) in
+    let worth = worth_in scan s in
     let product =
     mul-leℤ m.den worth most (omega (arith, linear, some)) (c.counted_peak-most.ensures.greatest s lower upper within)
     in

@@ -1,13 +1,13 @@
 use Rattle.std.proofs.Common.{◌%◌, ◌≤◌, ◌^◌, ℤ, pos, ◌-ℤ◌, ◌*ℤ◌, ℕ, unsigned_abs, slice_index_or}
 use Rattle.std.proofs.Common.{ap, sym, subst}
 use Rattle.std.proofs.Common.{◌∙◌}
-use Rattle.separation.specs.Values.{counted}
+use Rattle.separation.specs.Scanned.{worth_in}
 use Rattle.separation.proofs.Products.{height_held}
 use Rattle.separation.proofs.narrow.height_of.Goals as goal
 
 pub overflow_mul-result : goal.overflow_mul-result
 overflow_mul-result g c =
-    (height_held c.args.m.now.den c.counted_worth-worth.result
+    (height_held c.args.scan.now.m.now.den c.counted_worth-worth.result
     (slice_index_or c.args.low.now (c.args.s % 256) (pos 0)) c.requires.den c.counted_worth-worth.ensures.small
     c.requires.low).0
 
@@ -17,12 +17,13 @@ overflow_sub-result g c =
     let few =
     subst (λ (t : ℕ). unsigned_abs (slice_index_or low (t % 256) (pos 0)) ≤ 2 ^ 60) (sym c.s.view_is)
     c.requires.low in
-    (height_held c.args.m.now.den c.counted_worth-worth.result (slice_index_or low (c.s.inside.0 % 256) (pos 0))
-    c.requires.den c.counted_worth-worth.ensures.small few).1.0
+    (height_held c.args.scan.now.m.now.den c.counted_worth-worth.result
+    (slice_index_or low (c.s.inside.0 % 256) (pos 0)) c.requires.den c.counted_worth-worth.ensures.small few).1.0
 
 pub returns : goal.returns
 returns g c =
-    let m = c.args.m.now in
+    let scan = c.args.scan.now in
+    let m = scan.m.now in
     let low = c.args.low.now in
     let few =
     subst (λ (t : ℕ). unsigned_abs (slice_index_or low (t % 256) (pos 0)) ≤ 2 ^ 60) (sym c.s.view_is)
@@ -31,6 +32,4 @@ returns g c =
     c.counted_worth-worth.ensures.small few).1.1
     ∙ ap (λ (z : ℤ). m.den *ℤ z -ℤ slice_index_or low (c.s.inside.0 % 256) (pos 0))
     c.counted_worth-worth.ensures.is
-    ∙ ap
-    (λ (t : ℕ). m.den *ℤ counted c.args.with_costs ((g.W.Worth.game c.args.program.now.game.now).worth c.args.s)
-    -ℤ slice_index_or low (t % 256) (pos 0)) c.s.view_is
+    ∙ ap (λ (t : ℕ). m.den *ℤ worth_in scan c.args.s -ℤ slice_index_or low (t % 256) (pos 0)) c.s.view_is

@@ -7,8 +7,9 @@ use Rattle.std.proofs.Common.{ap, sym, subst, ◌∙◌}
 use mir.Syntax.{w64}
 use Rattle.definitions.proofs.Cases.{same_or_other}
 use Rattle.separation.specs.Making.{plain}
-use Rattle.separation.specs.Fronts.{front_level, has_mark, marked_column}
-use Rattle.separation.specs.Values.{column_value, counted, Rises, IsHighest}
+use Rattle.separation.specs.Fronts.{front_level, has_mark}
+use Rattle.separation.specs.Values.{IsHighest}
+use Rattle.separation.specs.Scanned.{RisesIn, CoalitionRises, value_in, worth_in}
 use Rattle.separation.specs.declared.narrow.Highest.{Highest}
 use Rattle.separation.proofs.Balance.{masks_of}
 use Rattle.separation.proofs.Picked.{highest_more, highest_passed, highest_kept, highest_past}
@@ -18,27 +19,25 @@ use Rattle.separation.proofs.narrow.highest_of_each.Goals.{then-contains, else-c
 
 pub loop-j-init : goal.loop-j-init
 loop-j-init g c =
-    let p = c.args.program.now in
-    let m = c.args.m.now in
+    let p = c.args.scan.now.program.now in
+    let m = c.args.scan.now.m.now in
     let start : 64 * c.args.place ≡ 64 * c.args.place + 0 = omega arith in
     record {
       base = refl;
       highest = λ a h.
           highest_past
-          (λ (j : ℕ). Rises p.measure m.num.items m.den p.players c.args.with_costs
-          (marked_column (g.W.Worth.game p.game.now) (front_level p.front) p.marks j))
+          (λ (j : ℕ). CoalitionRises c.args.scan.now j)
           a (64 * c.args.place) (2 ^ p.players) c.args.before.base c.args.before.height c.args.before.coalition
           (64 * c.args.place + 0) (inl start) h;
     }
 
 pub loop-j-preserved : goal.loop-j-preserved
 loop-j-preserved g c =
-    let p = c.args.program.now in
-    let m = c.args.m.now in
+    let p = c.args.scan.now.program.now in
+    let m = c.args.scan.now.m.now in
     let game = g.W.Worth.game p.game.now in
     let low = c.args.low.now in
-    let R = λ (j : ℕ). Rises p.measure m.num.items m.den p.players c.args.with_costs
-    (marked_column game (front_level p.front) p.marks j) in
+    let R = λ (j : ℕ). CoalitionRises c.args.scan.now j in
     let s = 64 * c.args.place + c.loop-j.j in
     let best = c.loop-j.best in
     let inv = c.loop-j.invariant in
@@ -60,9 +59,9 @@ loop-j-preserved g c =
           let up : (best.base <ℤ z) ↔ R s =
           subst
           (λ (b : Bool). (best.base <ℤ z)
-          ↔ Rises p.measure m.num.items m.den p.players c.args.with_costs (if b then Some column else None)) (sym on)
+          ↔ RisesIn c.args.scan.now (if b then Some column else None)) (sym on)
           (above_base best.base (slice_index_or low (s % 256) (pos 0))
-          (column_value p.measure m.num.items p.players column) (m.den *ℤ counted c.args.with_costs (game.worth s))
+          (value_in c.args.scan.now s) (m.den *ℤ worth_in c.args.scan.now s)
           z (whole ∙ w.height_of-height.ensures) value) in
           elim w.or-best.ensures [
             | inl higher ↦ record {
@@ -90,8 +89,7 @@ loop-j-preserved g c =
           let off : has_mark p.marks s ≡ false = sym mark ∙ w.if-contains.false in
           let low_still =
           λ (r : R s). subst
-          (λ (b : Bool). Rises p.measure m.num.items m.den p.players c.args.with_costs
-          (if b then Some column else None)) off r in
+          (λ (b : Bool). RisesIn c.args.scan.now (if b then Some column else None)) off r in
           record {
             base = ap (λ (x : Highest). x.base) w.best-is ∙ inv.base;
             highest = λ a h.
@@ -106,8 +104,8 @@ loop-j-preserved g c =
 
 pub returns-clause-highest : goal.returns-clause-highest
 returns-clause-highest g c = λ a h.
-    let p = c.args.program.now in
-    let m = c.args.m.now in
+    let p = c.args.scan.now.program.now in
+    let m = c.args.scan.now.m.now in
     let best = c.loop-j.best in
     let s = 64 * c.args.place + c.loop-j.j in
     let mask = masks_of p.players p.few in
@@ -126,7 +124,6 @@ returns-clause-highest g c = λ a h.
           ))
     ] in
     highest_past
-    (λ (j : ℕ). Rises p.measure m.num.items m.den p.players c.args.with_costs
-    (marked_column (g.W.Worth.game p.game.now) (front_level p.front) p.marks j))
+    (λ (j : ℕ). CoalitionRises c.args.scan.now j)
     a s (2 ^ p.players) best.base best.height best.coalition (64 * c.args.place + 64) end
     (c.loop-j.invariant.highest a h)

@@ -7,20 +7,21 @@ use Rattle.definitions.proofs.Casts.{cast_kept}
 use Rattle.definitions.specs.declared.Measure.{Measure}
 use Rattle.std.specs.Prelude.{List}
 use Rattle.separation.specs.Making.{plain}
-use Rattle.separation.specs.Fronts.{front_level, has_mark, marked_column}
+use Rattle.separation.specs.Fronts.{front_level, has_mark}
 use Rattle.separation.specs.Values.{column_value, counted, Rises}
+use Rattle.separation.specs.Scanned.{game_of, CoalitionRises, value_in, worth_in}
 use Rattle.separation.specs.declared.column.Column.{Column}
 use Rattle.simplex.proofs.Sizes.{at_most_is}
 use Rattle.separation.proofs.Picked.{highest_skipped}
 use Rattle.separation.proofs.Products.{below_bound}
 use Rattle.separation.proofs.narrow.highest_of_word.Goals as goal
 
--- a column that rises is there
-there : (measure : Measure) (num : List ℤ) (den : ℤ) (n : ℕ) (costs : Bool) (column : Column) (b : Bool)
+-- a column that rises is there, and its cost above its value
+rising_is_above : (measure : Measure) (num : List ℤ) (den : ℤ) (n : ℕ) (costs : Bool) (column : Column) (b : Bool)
     → Rises measure num den n costs (if b then Some column else None)
     → column_value measure num n column <ℤ (den *ℤ counted costs column.cost)
-there measure num den n costs column true r = r
-there measure num den n costs column false r = absurd r
+rising_is_above measure num den n costs column true r = r
+rising_is_above measure num den n costs column false r = absurd r
 
 -- a least number as it is kept
 least_kept : (z : ℤ) → unsigned_abs z ≤ 2 ^ 60 → to_z w64 (of_z w64 z) ≡ z
@@ -33,14 +34,12 @@ height_bound-requires-clause-least g c =
 
 pub returns-then-height_bound-before-clause-highest : goal.returns-then-height_bound-before-clause-highest
 returns-then-height_bound-before-clause-highest g c = λ a h.
-    let p = c.args.program.now in
-    let m = c.args.m.now in
-    let game = g.W.Worth.game p.game.now in
+    let scan = c.args.scan.now in
+    let p = scan.program.now in
+    let m = scan.m.now in
     let low = c.args.low.now in
     let place = c.args.place in
     let before = c.args.before in
-    let R = λ (j : ℕ). Rises p.measure m.num.items m.den p.players c.args.with_costs
-    (marked_column game (front_level p.front) p.marks j) in
     let bound = c.height_bound.result in
     let kept : to_z w64 (of_z w64 bound) ≡ bound = search rules in
     let kept_height : to_z w64 (of_z w64 before.height) ≡ before.height = search rules in
@@ -48,16 +47,15 @@ returns-then-height_bound-before-clause-highest g c = λ a h.
     subst (λ (z : ℤ). bound ≤ℤ z) kept_height
     (subst (λ (z : ℤ). z ≤ℤ to_z w64 (of_z w64 before.height)) kept
     (at_most_is _ _ c.if-height_bound-before.true)) in
-    highest_skipped R a (64 * place) (2 ^ p.players) before.base before.height before.coalition (64 * place + 64)
+    highest_skipped (λ (j : ℕ). CoalitionRises scan j) a (64 * place) (2 ^ p.players) before.base before.height
+    before.coalition (64 * place + 64)
     (λ j lower upper within r.
-    let column = plain game j (front_level p.front) in
-    below_bound before.base (slice_index_or low (j % 256) (pos 0))
-    (column_value p.measure m.num.items p.players column) (m.den *ℤ counted c.args.with_costs (game.worth j))
-    c.args.least c.height_bound.result before.height (c.requires.values j lower upper)
-    (there p.measure m.num.items m.den p.players c.args.with_costs column (has_mark p.marks j) r)
+    let column = plain (game_of scan) j (front_level p.front) in
+    below_bound before.base (slice_index_or low (j % 256) (pos 0)) (value_in scan j) (m.den *ℤ worth_in scan j)
+    c.args.least bound before.height (c.requires.values j lower upper)
+    (rising_is_above p.measure m.num.items m.den p.players scan.with_costs column (has_mark p.marks j) r)
     (c.requires.least.least (j % 256) (omega (arith, lower, upper)) (omega (arith, lower, upper)))
-    (subst
-    (λ (z : ℤ). ((m.den *ℤ counted c.args.with_costs (game.worth j)) -ℤ z) ≤ℤ c.height_bound.result)
+    (subst (λ (z : ℤ). ((m.den *ℤ worth_in scan j) -ℤ z) ≤ℤ bound)
     (least_kept c.args.least (c.requires.least.small (2 ^ 60) c.requires.low))
     (c.height_bound.ensures j (omega (arith, lower, upper)) (omega (arith, lower, upper)) within))
     le)

@@ -2,11 +2,11 @@ use Rattle.std.proofs.Common.{◌≤◌, ◌<◌, ◌^◌, ℕ, ℤ, List, pos, 
 use Rattle.std.proofs.Common.{slice_index_or, unsigned_abs}
 use lib.Dec.{lit≤}
 use Rattle.separation.specs.Values.{IsTable}
-use Rattle.separation.proofs.Eights.{IsEight-narrow}
+use Rattle.separation.proofs.Eights.{IsEight-narrow, narrow_has_room}
 use Rattle.separation.proofs.picking.some_in_64.Goals as goal
 
-pub some_by_sums-requires-clause-sums : goal.some_by_sums-requires-clause-sums
-some_by_sums-requires-clause-sums g c =
+pub invariant_of-some_by_sums-clause-are_sums : goal.invariant_of-some_by_sums-clause-are_sums
+invariant_of-some_by_sums-clause-are_sums g c =
     let p = c.args.program.now in
     let num = c.args.m.now.num.items in
     let numbers = c.args.numbers.now in
@@ -21,7 +21,8 @@ some_by_sums-requires-clause-sums g c =
           subst (IsTable num p.players 8) (sym tables.high)
           (λ s lt. IsEight-narrow num p.players 8 s numbers _ narrow (c.fill_sums-2.ensures s lt));
       room =
-          subst (λ (t : List ℤ). (k : ℕ) → k < 256 → unsigned_abs (slice_index_or t k (pos 0)) ≤ 2 ^ 59)
+          narrow_has_room _
+          (subst (λ (t : List ℤ). (k : ℕ) → k < 256 → unsigned_abs (slice_index_or t k (pos 0)) ≤ 2 ^ 59)
           (sym tables.low)
-          (λ k lt. le_trans ((c.fill_sums.ensures k lt).small (2 ^ 56) (λ i. (narrow i).1)) (lit≤ tt));
+          (λ k lt. le_trans ((c.fill_sums.ensures k lt).small (2 ^ 56) (λ i. (narrow i).1)) (lit≤ tt)));
     }

@@ -6,13 +6,14 @@ use Rattle.definitions.proofs.Casts.{cast_kept}
 use Rattle.std.specs.Bool.{Decides}
 use Rattle.separation.specs.Making.{plain}
 use Rattle.separation.specs.Fronts.{front_level, has_mark}
-use Rattle.separation.specs.Values.{counted, Rises}
+use Rattle.separation.specs.Scanned.{RisesIn, worth_in}
 use Rattle.separation.proofs.rising.marked_rises.Goals as goal
 
 pub returns-then-has_mark : goal.returns-then-has_mark
 returns-then-has_mark g c =
-    let p = c.args.program.now in
-    let m = c.args.m.now in
+    let scan = c.args.scan.now in
+    let p = scan.program.now in
+    let m = scan.m.now in
     let column = plain (g.W.Worth.game p.game.now) c.args.s (front_level p.front) in
     let r = c.is_below.result in
     let value : to_z w128 (of_z w128 c.args.value) ≡ c.args.value = search rules in
@@ -22,10 +23,7 @@ returns-then-has_mark g c =
     let below =
     subst (λ (z : ℤ). Decides r (c.args.value <ℤ (m.den *ℤ z))) c.counted_worth-worth.ensures.value
     (rw value at (rw cost at c.is_below.ensures)) in
-    let rises : Decides r (Rises p.measure m.num.items m.den p.players c.args.with_costs (Some column)) =
-    subst (λ (z : ℤ). Decides r (z <ℤ (m.den *ℤ counted c.args.with_costs column.cost))) c.requires.value below in
+    let rises : Decides r (RisesIn scan (Some column)) =
+    subst (λ (z : ℤ). Decides r (z <ℤ (m.den *ℤ worth_in scan c.args.s))) c.requires.value below in
     let e : has_mark p.marks c.args.s ≡ true = sym c.has_mark.ensures ∙ c.if-has_mark.true in
-    subst
-    (λ (b : Bool). Decides r
-    (Rises p.measure m.num.items m.den p.players c.args.with_costs (if b then Some column else None))) (sym e)
-    rises
+    subst (λ (b : Bool). Decides r (RisesIn scan (if b then Some column else None))) (sym e) rises

@@ -1,0 +1,125 @@
+-- For the private functions of this crate.
+-- What a scan finds.
+--
+--   RisesAt          the column under a number of a program has a cost above its value, under multipliers
+--   IsFirstAt        that is the first number whose column has
+--   game_of          the game of the program that is scanned
+--   RisesIn          a column has a cost above its value, as the scan counts both
+--   ColumnRises      the column under a number has
+--   IsFirstColumn    that is the first number whose column has
+--   NoneInFront      none of the columns in front of the coalitions' has
+--   IsFirstInFront   the first of these that has
+--   column_of        the column of a coalition, if it has one
+--   CoalitionRises   that has a cost above its value
+--   NoneBetween      it has for none of the coalitions from one on up to another
+--   NoneBelow        it has for none of those below one
+--   NoneRises        it has for none
+--   IsFirstRising    the first coalition for which it has
+--   IsSomeRising     one for which it has
+--   IsHighestIn      which of the coalitions from one on up to another has the greatest height
+--   value_in         the value of a coalition's column
+--   AreValues        a base and the sums of a table give the values of some coalitions
+--   worth_in         what the worth of a coalition counts for
+--   IsSmallTable     the numbers of a table are at most 2^60 in size
+use Rattle.std.specs.Prelude.{◌≡◌, ℕ, ◌%◌, ◌^◌, ◌<◌, ◌≤◌, Bool, List, Option}
+use Rattle.std.specs.Prelude.{ℤ, pos, ◌+ℤ◌, unsigned_abs, slice_index_or}
+use Rattle.definitions.specs.Games.{Game}
+use Rattle.worth_core.specs.declared.worth.Worth.{Ghosts}
+use Rattle.simplex.specs.declared.multipliers.Multipliers.{Multipliers}
+use Rattle.separation.specs.Kept.{column_at}
+use Rattle.separation.specs.Making.{plain}
+use Rattle.separation.specs.Fronts.{front_columns, front_level, marked_column, lazy_columns}
+use Rattle.separation.specs.Values.{column_value, counted, Rises, IsFirst, IsFirstBelow, IsSomeBelow, IsHighest}
+use Rattle.separation.specs.declared.column.Column.{Column}
+use Rattle.separation.specs.declared.lazy.Lazy.{Lazy}
+use Rattle.separation.specs.declared.narrow.Highest.{Highest}
+use Rattle.separation.specs.declared.scan.Scan.{Scan}
+
+-- the cost of the column under a number is above its value
+abbrev pub RisesAt : {X : Type 0} {W : Ghosts X} → Lazy X W → Multipliers → Bool → ℕ → Type 0
+RisesAt {W = W} p m with_costs id =
+    Rises p.measure m.num.items m.den p.players with_costs
+    (column_at (lazy_columns (W.game p.game.now) p.front p.marks) id)
+
+-- and no earlier column's is
+abbrev pub IsFirstAt : {X : Type 0} {W : Ghosts X} → Lazy X W → Multipliers → Bool → ℕ → Type 0
+IsFirstAt {W = W} p m with_costs id =
+    IsFirst p.measure m.num.items m.den p.players with_costs (lazy_columns (W.game p.game.now) p.front p.marks) id
+
+abbrev pub game_of : {X : Type 0} {W : Ghosts X} → Scan X W → Game
+game_of {W = W} x = W.game x.program.now.game.now
+
+-- a column's cost is above its value
+abbrev pub RisesIn : {X : Type 0} {W : Ghosts X} → Scan X W → Option Column → Type 0
+RisesIn x column =
+    Rises x.program.now.measure x.m.now.num.items x.m.now.den x.program.now.players x.with_costs column
+
+abbrev pub ColumnRises : {X : Type 0} {W : Ghosts X} → Scan X W → ℕ → Type 0
+ColumnRises x id = RisesAt x.program.now x.m.now x.with_costs id
+
+abbrev pub IsFirstColumn : {X : Type 0} {W : Ghosts X} → Scan X W → ℕ → Type 0
+IsFirstColumn x id = IsFirstAt x.program.now x.m.now x.with_costs id
+
+-- ---- in front of the coalitions' columns
+
+abbrev pub NoneInFront : {X : Type 0} {W : Ghosts X} → Scan X W → Type 0
+NoneInFront x =
+    (j : ℕ) → j < x.program.now.first
+    → ¬ RisesIn x (column_at (front_columns (game_of x) x.program.now.front) j)
+
+abbrev pub IsFirstInFront : {X : Type 0} {W : Ghosts X} → Scan X W → ℕ → Type 0
+IsFirstInFront x id =
+    IsFirstBelow x.program.now.measure x.m.now.num.items x.m.now.den x.program.now.players x.with_costs
+    (column_at (front_columns (game_of x) x.program.now.front)) x.program.now.first id
+
+-- ---- the coalitions' columns
+
+abbrev pub column_of : {X : Type 0} {W : Ghosts X} → Scan X W → ℕ → Option Column
+column_of x s = marked_column (game_of x) (front_level x.program.now.front) x.program.now.marks s
+
+abbrev pub CoalitionRises : {X : Type 0} {W : Ghosts X} → Scan X W → ℕ → Type 0
+CoalitionRises x s = RisesIn x (column_of x s)
+
+-- none rises of the coalitions from a on below b
+abbrev pub NoneBetween : {X : Type 0} {W : Ghosts X} → Scan X W → ℕ → ℕ → Type 0
+NoneBetween x a b = (j : ℕ) → a ≤ j → j < b → j < 2 ^ x.program.now.players → ¬ CoalitionRises x j
+
+abbrev pub NoneBelow : {X : Type 0} {W : Ghosts X} → Scan X W → ℕ → Type 0
+NoneBelow x b = (j : ℕ) → j < b → j < 2 ^ x.program.now.players → ¬ CoalitionRises x j
+
+abbrev pub NoneRises : {X : Type 0} {W : Ghosts X} → Scan X W → Type 0
+NoneRises x = (j : ℕ) → j < 2 ^ x.program.now.players → ¬ CoalitionRises x j
+
+abbrev pub IsFirstRising : {X : Type 0} {W : Ghosts X} → Scan X W → ℕ → Type 0
+IsFirstRising x s =
+    IsFirstBelow x.program.now.measure x.m.now.num.items x.m.now.den x.program.now.players x.with_costs
+    (column_of x) (2 ^ x.program.now.players) s
+
+abbrev pub IsSomeRising : {X : Type 0} {W : Ghosts X} → Scan X W → ℕ → Type 0
+IsSomeRising x s =
+    IsSomeBelow x.program.now.measure x.m.now.num.items x.m.now.den x.program.now.players x.with_costs
+    (column_of x) (2 ^ x.program.now.players) s
+
+-- ---- by height, in 64 bits
+
+-- of the coalitions from a on below s the highest
+abbrev pub IsHighestIn : {X : Type 0} {W : Ghosts X} → Scan X W → ℕ → ℕ → Highest → Type 0
+IsHighestIn x a s h =
+    IsHighest (CoalitionRises x) a s (2 ^ x.program.now.players) h.base h.height h.coalition
+
+-- the value of the column that coalition s has, if it has one
+abbrev pub value_in : {X : Type 0} {W : Ghosts X} → Scan X W → ℕ → ℤ
+value_in x s =
+    column_value x.program.now.measure x.m.now.num.items x.program.now.players
+    (plain (game_of x) s (front_level x.program.now.front))
+
+-- a base and the sums of a table give the values of the coalitions from a on below b
+abbrev pub AreValues : {X : Type 0} {W : Ghosts X} → Scan X W → ℤ → List ℤ → ℕ → ℕ → Type 0
+AreValues x base low a b =
+    (s : ℕ) → a ≤ s → s < b → base +ℤ slice_index_or low (s % 256) (pos 0) ≡ value_in x s
+
+abbrev pub worth_in : {X : Type 0} {W : Ghosts X} → Scan X W → ℕ → ℤ
+worth_in x s = counted x.with_costs ((game_of x).worth s)
+
+abbrev pub IsSmallTable : List ℤ → Type 0
+IsSmallTable low = (k : ℕ) → k < 256 → unsigned_abs (slice_index_or low k (pos 0)) ≤ 2 ^ 60
