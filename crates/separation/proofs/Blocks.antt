@@ -14,15 +14,15 @@ use Rattle.separation.proofs.Valued.{sums_at, value_is}
 -- the level row of the coalitions' columns has a multiplier
 pub front_within : (front : Option Front) (n rows len : ℕ) → rows ≡ front_rows front → len ≡ n + rows
     → ForSome (front_level front) (λ l. n + l < len)
-front_within None n rows len e h l is = absurd (clash l is)
+front_within None n rows len e h l is = absurd (none_is_not_some l is)
   where
-    clash : (y : ℕ) → None ≡ Some y → ⊥
-    clash y e = cc
+    none_is_not_some : (y : ℕ) → None ≡ Some y → ⊥
+    none_is_not_some y e = cc
 front_within (Some f) n rows len e h l is =
-    let same : length f.levels.now ≡ l = inside (length f.levels.now) l is in omega (arith, e, h, same)
+    let same : length f.levels.now ≡ l = some_injective (length f.levels.now) l is in omega (arith, e, h, same)
   where
-    inside : (x y : ℕ) → Some x ≡ Some y → x ≡ y
-    inside x y e = cc
+    some_injective : (x y : ℕ) → Some x ≡ Some y → x ≡ y
+    some_injective x y e = cc
 
 pub block_value : (num : List ℤ) (n s block : ℕ) (level : Option ℕ) (sums : Sums) (cost base value : ℤ)
     → n ≤ length num → ForSome level (λ l. n + l < length num) → AreSums num n sums → 256 * block ≤ s
@@ -38,7 +38,7 @@ block_value num n s block level sums cost base value le within are lower upper f
     ∙ sums_at num n s sums are in
     let is =
     value_is Plain num n (record { coalition = s; level = level; negated = false; cost = cost }) le within in
-    added _ _ _ _ _ _ _ valued based sum (one-mulℤ (level_multiplier num n level)) ∙ sym is
+    regrouped _ _ _ _ _ _ _ valued based sum (one-mulℤ (level_multiplier num n level)) ∙ sym is
   where
-    added : (v b h k l x m : ℤ) → v ≡ b +ℤ l → b ≡ h +ℤ k → l +ℤ h ≡ x → m ≡ k → v ≡ x +ℤ m
-    added v b h k l x m e f s o = omega (arith, linear, e, f, s, o)
+    regrouped : (v b h k l x m : ℤ) → v ≡ b +ℤ l → b ≡ h +ℤ k → l +ℤ h ≡ x → m ≡ k → v ≡ x +ℤ m
+    regrouped v b h k l x m e f s o = omega (arith, linear, e, f, s, o)

@@ -39,11 +39,11 @@ earlier_few k (l ∷ levels) h =
     let ih = earlier_few 0 levels h.1 in
     omega (arith, ih, h.0, earlier_step k l levels)
 
-pub counted : (levels : List Level) (k total : ℕ) (d : Level) → k < length levels
+pub one_level_more : (levels : List Level) (k total : ℕ) (d : Level) → k < length levels
     → total + length (earlier_of 0 (drop k levels)) ≡ length (earlier_of 0 levels)
     → total + length (get_or levels k d).coalitions + length (earlier_of 0 (drop (k + 1) levels))
     ≡ length (earlier_of 0 levels)
-counted levels k total d lt h =
+one_level_more levels k total d lt h =
     let e = ap (λ ls. length (earlier_of 0 ls)) (drop-more levels k d lt) in
     omega (arith, h, e, earlier_step 0 (get_or levels k d) (drop (k + 1) levels))
 

@@ -34,10 +34,10 @@ eight-more num n first s last lt h =
 
 eight-empty : (num : List ℤ) (n first : ℕ) → eight num n first 0 ≡ pos 0
 eight-empty num n first =
-    eight-is num n first 0 ∙ sum_below-zero 8 (member_multiplier num n first 0) (λ i lt. none i)
+    eight-is num n first 0 ∙ sum_below-zero 8 (member_multiplier num n first 0) (λ i lt. no_member i)
   where
-    none : (i : ℕ) → member_multiplier num n first 0 i ≡ pos 0
-    none i = ap (λ (b : Bool). cond b (player_multiplier num n (first + i)) (pos 0)) (has_player-empty i)
+    no_member : (i : ℕ) → member_multiplier num n first 0 i ≡ pos 0
+    no_member i = ap (λ (b : Bool). cond b (player_multiplier num n (first + i)) (pos 0)) (has_player-empty i)
 
 sum-small : (k : ℕ) (f : ℕ → ℤ) → ((i : ℕ) → unsigned_abs (f i) < 2 ^ 110)
     → unsigned_abs (sum_below k f) ≤ k * 2 ^ 110
@@ -49,15 +49,15 @@ pub eight-small : (num : List ℤ) (n first s : ℕ) → ((k : ℕ) → unsigned
 eight-small num n first s h =
     let small =
     sum-small 8 (member_multiplier num n first s)
-    (λ i. member (has_player s i) (nat_lt (first + i) n) (first + i)) in
+    (λ i. member_small (has_player s i) (nat_lt (first + i) n) (first + i)) in
     let same = ap unsigned_abs (eight-is num n first s) in
     omega (arith, small, same)
   where
-    member : (b c : Bool) (i : ℕ)
+    member_small : (b c : Bool) (i : ℕ)
         → unsigned_abs (cond b (cond c (slice_index_or num i (pos 0)) (pos 0)) (pos 0)) < 2 ^ 110
-    member true true i = h i
-    member true false i = omega arith
-    member false c i = omega arith
+    member_small true true i = h i
+    member_small true false i = omega arith
+    member_small false c i = omega arith
 
 pub IsEight-empty : (num : List ℤ) (n first : ℕ) → IsEight num n first 0 (pos 0)
 IsEight-empty num n first = record { value = sym (eight-empty num n first); small = omega arith }

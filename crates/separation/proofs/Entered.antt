@@ -21,21 +21,22 @@ value_at measure num n o = sum_below (length num) (λ r. multiplier_at num r *�
 not_above : (a b : ℤ) → ¬ (b <ℤ a) → a ≤ℤ b
 not_above a b h = grind (arith, linear)
 
-low : (measure : Measure) (num : List ℤ) (den : ℤ) (n : ℕ) (w : Bool) (o : Option Column)
+bounded_unless_it_rises : (measure : Measure) (num : List ℤ) (den : ℤ) (n : ℕ) (w : Bool) (o : Option Column)
     → ¬ Rises measure num den n w o → IsTrue (is_some o)
     → (den *ℤ counted w (cost_at o)) ≤ℤ value_at measure num n o
-low measure num den n w None h is = absurd (false≢true is)
-low measure num den n w (Some c) h is = not_above (den *ℤ counted w c.cost) (column_value measure num n c) h
+bounded_unless_it_rises measure num den n w None h is = absurd (false≢true is)
+bounded_unless_it_rises measure num den n w (Some c) h is =
+    not_above (den *ℤ counted w c.cost) (column_value measure num n c) h
 
-high : (measure : Measure) (num : List ℤ) (den : ℤ) (n : ℕ) (w : Bool) (o : Option Column)
+rising_is_above : (measure : Measure) (num : List ℤ) (den : ℤ) (n : ℕ) (w : Bool) (o : Option Column)
     → Rises measure num den n w o → value_at measure num n o <ℤ (den *ℤ counted w (cost_at o))
-high measure num den n w None h = absurd h
-high measure num den n w (Some c) h = h
+rising_is_above measure num den n w None h = absurd h
+rising_is_above measure num den n w (Some c) h = h
 
-there : (measure : Measure) (num : List ℤ) (den : ℤ) (n : ℕ) (w : Bool) (o : Option Column)
+rising_is_a_column : (measure : Measure) (num : List ℤ) (den : ℤ) (n : ℕ) (w : Bool) (o : Option Column)
     → Rises measure num den n w o → IsTrue (is_some o)
-there measure num den n w None h = absurd h
-there measure num den n w (Some c) h = refl
+rising_is_a_column measure num den n w None h = absurd h
+rising_is_a_column measure num den n w (Some c) h = refl
 
 price_is : (measure : Measure) (n levels : ℕ) (columns : List (Option Column)) (w : Bool) (id : ℕ)
     → counted w (cost_at (column_at columns id)) ≡ price (kept_program measure n levels columns) w id
@@ -44,38 +45,39 @@ price_is measure n levels columns false id = refl
 
 module _ (measure : Measure) (n levels : ℕ) (columns : List (Option Column)) (num : List ℤ) (den : ℤ) (w : Bool)
     (len : length num ≡ n + levels) where
-  below : (id : ℕ) → ¬ Rises measure num den n w (column_at columns id) → IsTrue (is_some (column_at columns id))
+  bounded_at : (id : ℕ) → ¬ Rises measure num den n w (column_at columns id) → IsTrue (is_some (column_at columns id))
       → (den *ℤ price (kept_program measure n levels columns) w id)
       ≤ℤ value_of (priced (kept_program measure n levels columns) w) num
       (λ r. entry_at measure n (column_at columns id) r)
-  below id h is =
+  bounded_at id h is =
       subst
       (λ (t : ℕ). (den *ℤ price (kept_program measure n levels columns) w id)
       ≤ℤ sum_below t (λ r. multiplier_at num r *ℤ entry_at measure n (column_at columns id) r)) len
       (subst (λ (z : ℤ). (den *ℤ z) ≤ℤ value_at measure num n (column_at columns id))
-      (price_is measure n levels columns w id) (low measure num den n w (column_at columns id) h is))
+      (price_is measure n levels columns w id)
+      (bounded_unless_it_rises measure num den n w (column_at columns id) h is))
 
-  above : (id : ℕ) → Rises measure num den n w (column_at columns id)
+  above_at : (id : ℕ) → Rises measure num den n w (column_at columns id)
       → value_of (priced (kept_program measure n levels columns) w) num
       (λ r. entry_at measure n (column_at columns id) r)
       <ℤ (den *ℤ price (kept_program measure n levels columns) w id)
-  above id h =
+  above_at id h =
       subst
       (λ (t : ℕ). sum_below t (λ r. multiplier_at num r *ℤ entry_at measure n (column_at columns id) r)
       <ℤ (den *ℤ price (kept_program measure n levels columns) w id)) len
       (subst (λ (z : ℤ). value_at measure num n (column_at columns id) <ℤ (den *ℤ z))
-      (price_is measure n levels columns w id) (high measure num den n w (column_at columns id) h))
+      (price_is measure n levels columns w id) (rising_is_above measure num den n w (column_at columns id) h))
 
   pub entered : (found : Option ℕ) → pos 1 ≤ℤ den
       → MatchOption found ((id : ℕ) → ¬ Rises measure num den n w (column_at columns id))
       (IsFirst measure num den n w columns)
       → MatchOption found (Bounds (priced (kept_program measure n levels columns) w) num den)
       (λ id. IsEntering (priced (kept_program measure n levels columns) w) num den id)
-  entered None positive h = (positive, λ id is. below id (h id) is)
+  entered None positive h = (positive, λ id is. bounded_at id (h id) is)
   entered (Some id) positive h = record {
-    is_column = there measure num den n w (column_at columns id) h.rises;
-    above = above id h.rises;
-    least = λ j lt is. below j (h.least j lt) is;
+    is_column = rising_is_a_column measure num den n w (column_at columns id) h.rises;
+    above = above_at id h.rises;
+    least = λ j lt is. bounded_at j (h.least j lt) is;
   }
 
   pub risen : (found : Option ℕ) → pos 1 ≤ℤ den
@@ -83,8 +85,8 @@ module _ (measure : Measure) (n levels : ℕ) (columns : List (Option Column)) (
       (λ id. Rises measure num den n w (column_at columns id))
       → MatchOption found (Bounds (priced (kept_program measure n levels columns) w) num den)
       (λ id. IsRising (priced (kept_program measure n levels columns) w) num den id)
-  risen None positive h = (positive, λ id is. below id (h id) is)
+  risen None positive h = (positive, λ id is. bounded_at id (h id) is)
   risen (Some id) positive h = record {
-    is_column = there measure num den n w (column_at columns id) h;
-    above = above id h;
+    is_column = rising_is_a_column measure num den n w (column_at columns id) h;
+    above = above_at id h;
   }

@@ -39,9 +39,9 @@ module _ (measure : Measure) (num : List ℤ) (den : ℤ) (n : ℕ) (w : Bool) (
   none_rises h = h
 
   -- no column rises in front, and none of the first so many coalitions'
-  below : ((j : ℕ) → j < first → ¬ Up (in_front j)) → (m : ℕ) → ((s : ℕ) → s < m → s < 2 ^ n → ¬ Up (behind s))
+  none_below : ((j : ℕ) → j < first → ¬ Up (in_front j)) → (m : ℕ) → ((s : ℕ) → s < m → s < 2 ^ n → ¬ Up (behind s))
       → (j : ℕ) → j < first + m → ¬ Up (column_at (lazy_columns g front marks) j)
-  below none m rest j lt up = elim (below_or_above j first) [
+  none_below none m rest j lt up = elim (below_or_above j first) [
     | inl less ↦ none j less (subst Up (lazy-front g front marks j less) up)
     | inr le ↦ elim (below_or_above j (first + 2 ^ g.players)) [
       | inl inside ↦ rest (j - first) (omega (arith, le, lt)) (let e = powers in omega (arith, e, le, inside))
@@ -63,12 +63,12 @@ module _ (measure : Measure) (num : List ℤ) (den : ℤ) (n : ℕ) (w : Bool) (
             (sym
             (lazy-marked g front marks (first + s) (omega arith) (let e = powers in omega (arith, e, lt))
             ∙ ap behind d)) h.rises;
-        least = λ j less. below none s (λ t before inside. h.least t before) j less;
+        least = λ j less. none_below none s (λ t before inside. h.least t before) j less;
       }
 
   pub none_found : ((j : ℕ) → j < first → ¬ Up (in_front j)) → ((s : ℕ) → s < 2 ^ n → ¬ Up (behind s)) → (id : ℕ)
       → ¬ Up (column_at (lazy_columns g front marks) id)
-  none_found none rest id = below none (id + 1) (λ s lt inside. rest s inside) id (omega arith)
+  none_found none rest id = none_below none (id + 1) (λ s lt inside. rest s inside) id (omega arith)
 
   pub some_rises : (s : ℕ) → IsSomeBelow measure num den n w behind (2 ^ n) s
       → Up (column_at (lazy_columns g front marks) (first + s))

@@ -26,26 +26,26 @@ use Rattle.separation.specs.declared.column.Column.{Column}
 all_or_out : (n s : ℕ) → ((i : ℕ) → i < n → has_player s i ≡ true) ⊎ ((i : ℕ) × (i < n) × (has_player s i ≡ false))
 all_or_out zero s = inl (λ i lt. absurd (omega arith))
 all_or_out (suc n) s = elim (all_or_out n s) [
-  | inl all ↦ last (has_player s n) refl all
+  | inl all ↦ by_last_player (has_player s n) refl all
   | inr (i, lt, out) ↦ inr (i, omega (arith, lt), out)
 ]
   where
-    last : (b : Bool) → has_player s n ≡ b → ((i : ℕ) → i < n → has_player s i ≡ true)
+    by_last_player : (b : Bool) → has_player s n ≡ b → ((i : ℕ) → i < n → has_player s i ≡ true)
         → ((i : ℕ) → i < suc n → has_player s i ≡ true) ⊎ ((i : ℕ) × (i < suc n) × (has_player s i ≡ false))
-    last true e all =
+    by_last_player true e all =
         inl (λ i lt. elim (less_or_last i n lt) [ inl less ↦ all i less | inr same ↦ ap (has_player s) same ∙ e ])
-    last false e all = inr (n, omega arith, e)
+    by_last_player false e all = inr (n, omega arith, e)
 
 all_members : (n s : ℕ) → s < 2 ^ n → ((i : ℕ) → i < n → has_player s i ≡ true) → s ≡ grand_coalition n
 all_members n s h all =
     same_from_bits s (grand_coalition n) (λ j. elim (below_or_above j n) [
-      | inl lt ↦ one (bit_at s j) (all j lt)
-          ∙ sym (one (bit_at (grand_coalition n) j) (has_player-grand_coalition n j lt))
+      | inl lt ↦ bit_is_one (bit_at s j) (all j lt)
+          ∙ sym (bit_is_one (bit_at (grand_coalition n) j) (has_player-grand_coalition n j lt))
       | inr le ↦ bit_at_above s n j h le ∙ sym (bit_at_above (grand_coalition n) n j (grand_coalition-within n) le)
     ])
   where
-    one : (b : ℕ) → nat_eq b 1 ≡ true → b ≡ 1
-    one b e = grind (arith, nat_tests)
+    bit_is_one : (b : ℕ) → nat_eq b 1 ≡ true → b ≡ 1
+    bit_is_one b e = grind (arith, nat_tests)
 
 some_out : (n s : ℕ) → s < grand_coalition n → (i : ℕ) × (i < n) × (has_player s i ≡ false)
 some_out n s lt = elim (all_or_out n s) [
@@ -61,13 +61,13 @@ fewer_members : (n s i : ℕ) → i < n → has_player s i ≡ false → length 
 fewer_members zero s i lt out = absurd (omega arith)
 fewer_members (suc n) s i lt out =
     let next : suc n ≡ n + 1 = omega arith in
-    rw next (step (has_player s n) refl (less_or_last i n lt) (λ less. fewer_members n s i less out))
+    rw next (by_last_player (has_player s n) refl (less_or_last i n lt) (λ less. fewer_members n s i less out))
   where
-    step : (b : Bool) → has_player s n ≡ b → (i < n) ⊎ (i ≡ n) → (i < n → length (members n s) + 1 ≤ n)
+    by_last_player : (b : Bool) → has_player s n ≡ b → (i < n) ⊎ (i ≡ n) → (i < n → length (members n s) + 1 ≤ n)
         → length (members (n + 1) s) + 1 ≤ n + 1
-    step false h w fewer = omega (arith, length-more_no n s h, length-few n s)
-    step true h (inl less) fewer = omega (arith, length-more_yes n s h, fewer less)
-    step true h (inr same) fewer = absurd (false≢true (sym out ∙ ap (has_player s) same ∙ h))
+    by_last_player false h w fewer = omega (arith, length-more_no n s h, length-few n s)
+    by_last_player true h (inl less) fewer = omega (arith, length-more_yes n s h, fewer less)
+    by_last_player true h (inr same) fewer = absurd (false≢true (sym out ∙ ap (has_player s) same ∙ h))
 
 -- a coalition that isn't that of all has fewer members than there are players
 size_proper : (n s : ℕ) → n ≤ 64 → s < grand_coalition n → size s + 1 ≤ n
@@ -104,17 +104,17 @@ member_sizes : (n s : ℕ) → sizes n (λ i. cond (has_player s i) (pos 1) (pos
 member_sizes zero s = rw (members-zero s) refl
 member_sizes (suc n) s =
     let next : suc n ≡ n + 1 = omega arith in
-    sym (ap (λ (k : ℕ). length (members k s)) next ∙ sym (step (has_player s n) refl (member_sizes n s)))
+    sym (ap (λ (k : ℕ). length (members k s)) next ∙ sym (by_last_player (has_player s n) refl (member_sizes n s)))
   where
-    step : (b : Bool) → has_player s n ≡ b
+    by_last_player : (b : Bool) → has_player s n ≡ b
         → sizes n (λ i. cond (has_player s i) (pos 1) (pos 0)) ≡ length (members n s)
         → sizes n (λ i. cond (has_player s i) (pos 1) (pos 0))
         + unsigned_abs (cond (has_player s n) (pos 1) (pos 0)) ≡ length (members (n + 1) s)
-    step true h same =
+    by_last_player true h same =
         ap
         (λ (b : Bool). sizes n (λ i. cond (has_player s i) (pos 1) (pos 0))
         + unsigned_abs (cond b (pos 1) (pos 0))) h ∙ omega (arith, length-more_yes n s h, same)
-    step false h same =
+    by_last_player false h same =
         ap
         (λ (b : Bool). sizes n (λ i. cond (has_player s i) (pos 1) (pos 0))
         + unsigned_abs (cond b (pos 1) (pos 0))) h ∙ omega (arith, length-more_no n s h, same)
@@ -124,17 +124,17 @@ level_sizes : (j l d : ℕ)
     → (sizes j (λ k. cond (nat_eq l k) (pos d) (pos 0)) ≤ d)
     × (j ≤ l → sizes j (λ k. cond (nat_eq l k) (pos d) (pos 0)) ≡ 0)
 level_sizes zero l d = (omega arith, λ le. refl)
-level_sizes (suc j) l d = step (nat_eq l j) refl (level_sizes j l d)
+level_sizes (suc j) l d = by_last_row (nat_eq l j) refl (level_sizes j l d)
   where
-    step : (b : Bool) → nat_eq l j ≡ b
+    by_last_row : (b : Bool) → nat_eq l j ≡ b
         → (sizes j (λ k. cond (nat_eq l k) (pos d) (pos 0)) ≤ d)
         × (j ≤ l → sizes j (λ k. cond (nat_eq l k) (pos d) (pos 0)) ≡ 0)
         → (sizes (suc j) (λ k. cond (nat_eq l k) (pos d) (pos 0)) ≤ d)
         × (suc j ≤ l → sizes (suc j) (λ k. cond (nat_eq l k) (pos d) (pos 0)) ≡ 0)
-    step true e (low, none) =
+    by_last_row true e (low, none) =
         let same : l ≡ j = grind (arith, nat_tests) in
         (rw e (omega (arith, none (omega (arith, same)))), λ le. absurd (omega (arith, le, same)))
-    step false e (low, none) = (rw e (omega (arith, low)), λ le. rw e (omega (arith, none (omega (arith, le)))))
+    by_last_row false e (low, none) = (rw e (omega (arith, low)), λ le. rw e (omega (arith, none (omega (arith, le)))))
 
 no_sizes : (j : ℕ) → sizes j (λ k. pos 0) ≡ 0
 no_sizes zero = refl

@@ -86,8 +86,8 @@ decides g front outers h s = elim (below_or_above s (2 ^ g.players)) [
       let long = h.count in
       subst (λ (o : Option Column). Decides (is_some o) (IsOutside Span g.players front s))
       (sym (past_at outers s (omega (arith, long, le))))
-      (λ e. absurd (false≢true e), λ out. absurd (past le out.1))
+      (λ e. absurd (false≢true e), λ out. absurd (none_past le out.1))
 ]
   where
-    past : 2 ^ g.players ≤ s → s < grand_coalition g.players → ⊥
-    past le lt = omega (arith, le, lt)
+    none_past : 2 ^ g.players ≤ s → s < grand_coalition g.players → ⊥
+    none_past le lt = omega (arith, le, lt)

@@ -38,10 +38,10 @@ abbrev pub Proper : ℕ → Option Column → Type 0
 Proper n o = ForSome o (IsProper n)
 
 for_some : {X : Type 0} (x : X) (P : X → Type 0) → P x → ForSome (Some x) P
-for_some {X = X} x P h y e = subst P (inside x y e) h
+for_some {X = X} x P h y e = subst P (some_injective x y e) h
   where
-    inside : (x y : X) → Some x ≡ Some y → x ≡ y
-    inside x y e = cc
+    some_injective : (x y : X) → Some x ≡ Some y → x ≡ y
+    some_injective x y e = cc
 
 for_none : {X : Type 0} (P : X → Type 0) → ForSome None P
 for_none {X = X} P y e = absurd (clash y e)
@@ -158,11 +158,11 @@ outer_proper : (g : Game) (levels : List Level) (outers : List (Option Column))
     → AreOuter g levels (2 ^ g.players) outers → AllByRecursion (Proper g.players) outers
 outer_proper g levels outers are =
     all_at_places (Proper g.players) None outers
-    (λ id lt. at id (column_at outers id) (are.outer id (let long = are.count in omega (arith, lt, long))))
+    (λ id lt. proper_if_outer id (column_at outers id) (are.outer id (let long = are.count in omega (arith, lt, long))))
   where
-    at : (s : ℕ) (o : Option Column) → IsOuter g levels s o → Proper g.players o
-    at s None h = for_none (IsProper g.players)
-    at s (Some c) h =
+    proper_if_outer : (s : ℕ) (o : Option Column) → IsOuter g levels s o → Proper g.players o
+    proper_if_outer s None h = for_none (IsProper g.players)
+    proper_if_outer s (Some c) h =
         with_level g.players c (subst (λ (d : Column). d.coalition < grand_coalition g.players) (sym h.1) h.0.1)
 
 -- the columns of a stage that are listed

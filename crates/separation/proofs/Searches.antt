@@ -9,8 +9,8 @@ use Rattle.separation.specs.Values.{Rises, IsFirstBelow}
 pub below_64 : (n : ℕ) → n ≤ 16 → n < 64
 below_64 n few = omega arith
 
-pub enough : (n m l : ℕ) → l ≡ n + m → n ≤ l
-enough n m l e = omega arith
+pub players_within_rows : (n m l : ℕ) → l ≡ n + m → n ≤ l
+players_within_rows n m l e = omega arith
 
 module _ (measure : Measure) (num : List ℤ) (den : ℤ) (n : ℕ) (costs : Bool) (column : ℕ → Option Column)
     (count s : ℕ)

@@ -104,17 +104,17 @@ level_entry measure n s l r = by_row (nat_lt r n) refl
   where
     by_row : (b : Bool) → nat_lt r n ≡ b → plain_entry measure n s (Some l) r ≡ plus_entry measure n s l r
     by_row true e = rw e refl
-    by_row false e = let t : nat_eq l (r - n) ≡ nat_eq r (n + l) = same n l r e in rw e (rw t refl)
+    by_row false e = let t : nat_eq l (r - n) ≡ nat_eq r (n + l) = level_test n l r e in rw e (rw t refl)
       where
-        both : (n l r : ℕ) → n ≤ r → (nat_eq l (r - n) ≡ nat_eq r (n + l))
-        both n l r le = test (nat_eq r (n + l)) refl
+        level_test_past : (n l r : ℕ) → n ≤ r → (nat_eq l (r - n) ≡ nat_eq r (n + l))
+        level_test_past n l r le = by_test (nat_eq r (n + l)) refl
           where
-            test : (b : Bool) → nat_eq r (n + l) ≡ b → nat_eq l (r - n) ≡ nat_eq r (n + l)
-            test true e = let t : nat_eq l (r - n) ≡ true = grind (arith, nat_tests) in t ∙ sym e
-            test false e = let t : nat_eq l (r - n) ≡ false = grind (arith, nat_tests) in t ∙ sym e
+            by_test : (b : Bool) → nat_eq r (n + l) ≡ b → nat_eq l (r - n) ≡ nat_eq r (n + l)
+            by_test true e = let t : nat_eq l (r - n) ≡ true = grind (arith, nat_tests) in t ∙ sym e
+            by_test false e = let t : nat_eq l (r - n) ≡ false = grind (arith, nat_tests) in t ∙ sym e
 
-        same : (n l r : ℕ) → nat_lt r n ≡ false → nat_eq l (r - n) ≡ nat_eq r (n + l)
-        same n l r e = let le : n ≤ r = grind (arith, nat_tests) in both n l r le
+        level_test : (n l r : ℕ) → nat_lt r n ≡ false → nat_eq l (r - n) ≡ nat_eq r (n + l)
+        level_test n l r e = let le : n ≤ r = grind (arith, nat_tests) in level_test_past n l r le
 
 pub no_level_entry : (measure : Measure) (n s row r : ℕ) → r < n + row
     → plain_entry measure n s None r ≡ plus_entry measure n s row r
@@ -130,11 +130,11 @@ pub member_entry : (measure : Measure) (n s r : ℕ) → r < n
 member_entry measure n s r lt = let t : nat_lt r n ≡ true = grind (arith, nat_tests) in rw t refl
 
 pub no_level : (j : ℕ) → ForSome None (λ l. l < j)
-no_level j m e = absurd (none m e)
+no_level j m e = absurd (none_is_not_some m e)
   where
     is_there : Option ℕ → Type 0
     is_there None = Unit {0}
     is_there (Some t) = ⊥
 
-    none : (m : ℕ) → None ≡ Some m → ⊥
-    none m e = subst is_there e tt
+    none_is_not_some : (m : ℕ) → None ≡ Some m → ⊥
+    none_is_not_some m e = subst is_there e tt

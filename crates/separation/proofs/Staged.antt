@@ -51,10 +51,11 @@ earlier_all n k (l ∷ levels) h =
     (all_pairs (IsEarlier n (k + length (l ∷ levels))) (λ c. (c.0, k)) (λ c. c.0 < 2 ^ n) l.coalitions
     (λ c lt. (lt, omega arith)) h.0.coalitions)
     (all_weaken (IsEarlier n ((k + 1) + length levels)) (IsEarlier n (k + length (l ∷ levels)))
-    (earlier_of (k + 1) levels) (λ c e. (e.0, more k c.1 (length levels) e.1)) (earlier_all n (k + 1) levels h.1))
+    (earlier_of (k + 1) levels) (λ c e. (e.0, next_level_below k c.1 (length levels) e.1))
+    (earlier_all n (k + 1) levels h.1))
   where
-    more : (k c j : ℕ) → c < (k + 1) + j → c < k + suc j
-    more k c j h = omega arith
+    next_level_below : (k c j : ℕ) → c < (k + 1) + j → c < k + suc j
+    next_level_below k c j h = omega arith
 
 pub levels_within : (n : ℕ) (front levels : List Level) → LevelsForm n front levels
     → AllByRecursion (AreWithin n) levels
@@ -79,14 +80,14 @@ negated_small : (z : ℤ) → unsigned_abs z < 2 ^ 46 → unsigned_abs (pos 0 -�
 negated_small z h = omega (arith, ints)
 
 some_level : (l j : ℕ) → l < j → ForSome (Some l) (λ l. l < j)
-some_level l j h m e = subst (λ (t : ℕ). t < j) (inside l m e) h
+some_level l j h m e = subst (λ (t : ℕ). t < j) (some_injective l m e) h
   where
     or_zero : Option ℕ → ℕ
     or_zero None = 0
     or_zero (Some t) = t
 
-    inside : (l m : ℕ) → Some l ≡ Some m → l ≡ m
-    inside l m e = ap or_zero e
+    some_injective : (l m : ℕ) → Some l ≡ Some m → l ≡ m
+    some_injective l m e = ap or_zero e
 
 plain_level : (measure : Measure) (g : Game) (k s l : ℕ) → IsGame g → s < 2 ^ g.players → l < k + 1
     → Like measure g k (plain g s (Some l)) (record { mask = s; row = l; minus = false })
@@ -273,7 +274,7 @@ module _ (family : Family) (measure : Measure) (g : Game) (front : List Level) (
       ∙ (let x = length-two in let y = length-listed g.players (bound family g front) in omega (arith, x, y))
 
   at_number : (id : ℕ) → SameAt measure n (k + 1) q id (column_at all id)
-  at_number id = elim (four id b n) [
+  at_number id = elim (by_place id b n) [
     | inl lt ↦
         let e : column_at all id ≡ column_at settled id =
         get_or_append_left ((settled ++ singles) ++ bounds) outers None id
@@ -313,9 +314,9 @@ module _ (family : Family) (measure : Measure) (g : Game) (front : List Level) (
         (outer_or (id - b - (n + n)))))
   ]
     where
-      four : (id b n : ℕ)
+      by_place : (id b n : ℕ)
           → (id < b) ⊎ (((b ≤ id) × (id < b + n)) ⊎ (((b + n ≤ id) × (id < b + n + n)) ⊎ (b + n + n ≤ id)))
-      four id b n = elim (below_or_above id b) [
+      by_place id b n = elim (below_or_above id b) [
         | inl lt ↦ inl lt
         | inr le ↦ elim (below_or_above id (b + n)) [
           | inl lt ↦ inr (inl (le, lt))
@@ -329,16 +330,16 @@ module _ (family : Family) (measure : Measure) (g : Game) (front : List Level) (
   right_same : (r : ℕ) → right_at n (k + 1) r ≡ q.right r
   right_same r = by_row (nat_eq r (g.players + length front)) refl
     where
-      none : nat_eq (length front + 1) 0 ≡ false
-      none = grind (arith, nat_tests)
+      not_zero_rows : nat_eq (length front + 1) 0 ≡ false
+      not_zero_rows = grind (arith, nat_tests)
 
       by_row : (x : Bool) → nat_eq r (g.players + length front) ≡ x → right_at n (k + 1) r ≡ q.right r
       by_row true e =
           let t : nat_eq (r + 1) (g.players + (length front + 1)) ≡ true = grind (arith, nat_tests) in
-          rw none (rw t (rw e refl))
+          rw not_zero_rows (rw t (rw e refl))
       by_row false e =
           let t : nat_eq (r + 1) (g.players + (length front + 1)) ≡ false = grind (arith, nat_tests) in
-          rw none (rw t (rw e refl))
+          rw not_zero_rows (rw t (rw e refl))
 
   stage_with : ((s : ℕ) → Decides (has_column outers s) (IsOutside Span g.players front s))
       → IsStage family measure g front
@@ -355,11 +356,11 @@ module _ (family : Family) (measure : Measure) (g : Game) (front : List Level) (
 outer_plain : (g : Game) (front : List Level) (outers : List (Option Column))
     → AreOuter g front (2 ^ g.players) outers → ArePlain g (length front) (2 ^ g.players) outers
 outer_plain g front outers are =
-    record { count = are.count; plain_or = λ s lt. at s (column_at outers s) (are.outer s lt) }
+    record { count = are.count; plain_or = λ s lt. plain_or_none s (column_at outers s) (are.outer s lt) }
   where
-    at : (s : ℕ) (o : Option Column) → IsOuter g front s o → IsPlainOr g (length front) s o
-    at s None h = tt
-    at s (Some c) h = h.1
+    plain_or_none : (s : ℕ) (o : Option Column) → IsOuter g front s o → IsPlainOr g (length front) s o
+    plain_or_none s None h = tt
+    plain_or_none s (Some c) h = h.1
 
 -- the columns in front, and those of the coalitions outside
 pub stage_of : (family : Family) (measure : Measure) (g : Game) (front : List Level) → IsGame g

@@ -63,26 +63,26 @@ signed_sum zero y f true = refl
 signed_sum (suc n) y f true =
     omega (arith, linear, signed_sum n y f true, mul-subℤ (y n) (pos 0) (f n), mul-zeroℤ (y n))
 
-picked : (j l : ℕ) (y : ℕ → ℤ) → l < j → sum_below j (λ k. if nat_eq l k then y k else pos 0) ≡ y l
-picked zero l y h = absurd (omega arith)
-picked (suc j) l y h = elim (less_or_last l j h) [
+sum_of_one_row : (j l : ℕ) (y : ℕ → ℤ) → l < j → sum_below j (λ k. if nat_eq l k then y k else pos 0) ≡ y l
+sum_of_one_row zero l y h = absurd (omega arith)
+sum_of_one_row (suc j) l y h = elim (less_or_last l j h) [
   | inl less ↦
       let v : nat_eq l j ≡ false = grind (arith, nat_tests) in
-      rw v (omega (arith, linear, picked j l y less))
+      rw v (omega (arith, linear, sum_of_one_row j l y less))
   | inr same ↦
       let v : nat_eq l j ≡ true = grind (arith, nat_tests) in
-      let none = sum_below-zero j (λ k. if nat_eq l k then y k else pos 0) (λ k lt. other l j k y same lt) in
+      let none = sum_below-zero j (λ k. if nat_eq l k then y k else pos 0) (λ k lt. zero_elsewhere l j k y same lt) in
       rw v (omega (arith, linear, none, ap y same))
 ]
   where
-    other : (l j k : ℕ) (y : ℕ → ℤ) → l ≡ j → k < j → cond (nat_eq l k) (y k) (pos 0) ≡ pos 0
-    other l j k y same lt = let v : nat_eq l k ≡ false = grind (arith, nat_tests) in rw v refl
+    zero_elsewhere : (l j k : ℕ) (y : ℕ → ℤ) → l ≡ j → k < j → cond (nat_eq l k) (y k) (pos 0) ≡ pos 0
+    zero_elsewhere l j k y same lt = let v : nat_eq l k ≡ false = grind (arith, nat_tests) in rw v refl
 
 level_sum : (num : List ℤ) (n j : ℕ) (level : Option ℕ) (d : ℤ) → ForSome level (λ l. l < j)
     → sum_below j (λ k. if is_level level k then d *ℤ multiplier_at num (n + k) else pos 0)
     ≡ d *ℤ level_multiplier num n level
 level_sum num n j None d h = sum_below-zero j (λ k. pos 0) (λ k lt. refl) ∙ sym (mul-zeroℤ d)
-level_sum num n j (Some l) d h = picked j l (λ k. d *ℤ multiplier_at num (n + k)) (h l refl)
+level_sum num n j (Some l) d h = sum_of_one_row j l (λ k. d *ℤ multiplier_at num (n + k)) (h l refl)
 
 -- the value of the column that isn't negated
 plain_sum : (measure : Measure) (num : List ℤ) (n j s : ℕ) (level : Option ℕ) → ForSome level (λ l. l < j)

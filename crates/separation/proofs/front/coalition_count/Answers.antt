@@ -1,6 +1,6 @@
 use Rattle.std.proofs.Common.{◌≡◌, ◌<◌, length, get_or, ap, ◌∙◌, arith}
 use Rattle.definitions.specs.Certificates.{Level}
-use Rattle.separation.proofs.Counts.{counted, earlier_few}
+use Rattle.separation.proofs.Counts.{one_level_more, earlier_few}
 use Rattle.separation.proofs.front.coalition_count.Goals as goal
 
 pub overflow_add-count : goal.overflow_add-count
@@ -12,7 +12,7 @@ overflow_add-count c =
     let here : c.len.result ≡ length (get_or levels k l).coalitions =
     c.len.ensures ∙ c.level.inside.coalitions.ok.0
     ∙ ap (λ (v : Level). length v.coalitions) (c.level.view_is ∙ c.level-item.is) in
-    let step = counted levels k c.loop-level.count l lt c.loop-level.invariant in
+    let step = one_level_more levels k c.loop-level.count l lt c.loop-level.invariant in
     let few = earlier_few 0 levels c.requires.small in
     omega (arith, here, step, few, c.requires.few)
 
@@ -24,7 +24,8 @@ loop-level-preserved c =
     let here : c.len.result ≡ length (get_or levels k l).coalitions =
     c.len.ensures ∙ c.level.inside.coalitions.ok.0
     ∙ ap (λ (v : Level). length v.coalitions) (c.level.view_is ∙ c.level-item.is) in
-    rw here (counted levels k c.loop-level.count l (omega (arith, c.loop-level-test.true)) c.loop-level.invariant)
+    rw here
+    (one_level_more levels k c.loop-level.count l (omega (arith, c.loop-level-test.true)) c.loop-level.invariant)
 
 pub returns-clause-small : goal.returns-clause-small
 returns-clause-small c =

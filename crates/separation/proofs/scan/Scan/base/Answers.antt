@@ -1,5 +1,5 @@
-use Rattle.std.proofs.Common.{◌≡◌, ◌≤◌, ◌%◌, ◌^◌, ℕ, ℤ, pos, ◌+ℤ◌, Option, length, slice_index_or}
-use Rattle.std.proofs.Common.{unsigned_abs, to_z, of_z, refl, sym, ap, subst, ◌∙◌, arith}
+use Rattle.std.proofs.Common.{◌≡◌, ◌≤◌, ◌%◌, ◌^◌, ℕ, ℤ, pos, ◌+ℤ◌, Option, length}
+use Rattle.std.proofs.Common.{slice_index_or, unsigned_abs, to_z, of_z, refl, sym, ap, subst, ◌∙◌, arith}
 use mir.Syntax.{w128}
 use Rattle.definitions.proofs.Casts.{cast_kept}
 use Rattle.definitions.specs.declared.Measure.{Measure}

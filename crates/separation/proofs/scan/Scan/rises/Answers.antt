@@ -11,4 +11,5 @@ rises-requires-clause-within g c =
 
 pub rises-requires-clause-players : goal.rises-requires-clause-players
 rises-requires-clause-players g c =
-    let scan = c.args.self.now in Searches.enough scan.program.now.players scan.program.now.levels _ scan.rows
+    let scan = c.args.self.now in
+    Searches.players_within_rows scan.program.now.players scan.program.now.levels _ scan.rows
