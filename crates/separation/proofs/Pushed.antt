@@ -1,12 +1,16 @@
 -- Lists of columns that loops make, push by push.
 use Rattle.std.proofs.Common.{◌≡◌, ℕ, ◌+◌, ◌<◌, List, [], ◌∷◌, ◌++◌, length, map}
-use Rattle.std.proofs.Common.{take, get_or}
+use Rattle.std.proofs.Common.{zero, suc, take, drop, get_or, Result, Ok, Err, inl, inr}
 use Rattle.std.proofs.Common.{refl, sym, ap, ◌∙◌, arith, append_assoc, ℤ, Option, Some}
-use Rattle.std.proofs.lemmas.List.{take_more, length-take-le, append-nil}
+use Rattle.std.proofs.lemmas.List.{take_more, length-take-le, append-nil, take-append-drop}
+use Rattle.std.proofs.Math.Seq.{take-append_seam}
+use Rattle.std.specs.Result.{OnErr}
+use Rattle.definitions.proofs.Cases.{less_or_last_of}
+use Rattle.kohlberg.proofs.Pairs.{drop-more}
 use Rattle.definitions.specs.Games.{Game}
 use Rattle.definitions.specs.Certificates.{Level}
 use Rattle.separation.specs.Stage.{earlier_of}
-use Rattle.separation.specs.Making.{plain, minus, earlier_columns}
+use Rattle.separation.specs.Making.{listed, plain, minus, earlier_columns, AddsSome}
 use Rattle.separation.specs.declared.column.Column.{Column}
 
 pub earlier_columns-append : (g : Game) (cs ds : List (ℕ × ℕ))
@@ -67,3 +71,107 @@ levels-push g k levels l xs ys zs lt is h e =
     ∙ ap (λ (t : List (Option Column)). xs ++ t)
     (sym (earlier_columns-append g (earlier_of 0 (take k levels)) ds)
     ∙ ap (earlier_columns g) (sym (ap (earlier_of 0) more ∙ earlier_of-append 0 k (take k levels) l long)))
+
+-- ---- after want of memory
+
+pub on_err : {T E P : Type 0} (r : Result T E) → P → OnErr r P
+on_err (Ok x) p = tt
+on_err (Err e) p = p
+
+pub adds_some : (xs these rest more zs : List (Option Column)) → more ≡ these ++ rest → zs ≡ xs ++ these
+    → AddsSome xs more zs
+adds_some xs these rest more zs split e = (
+  length these,
+  e ∙ ap (λ (t : List (Option Column)). xs ++ t)
+      (sym (ap (take (length these)) split ∙ take-append_seam these rest)),
+)
+
+level_split : (g : Game) (k i : ℕ) (pairs : List (ℕ × ℤ))
+    → earlier_columns g (map (λ c. (c.0, k)) pairs)
+    ≡ earlier_columns g (map (λ c. (c.0, k)) (take i pairs)) ++ earlier_columns g (map (λ c. (c.0, k)) (drop i pairs))
+level_split g k i pairs =
+    let f : ℕ × ℤ → ℕ × ℕ = λ c. (c.0, k) in
+    ap (λ (ps : List (ℕ × ℤ)). earlier_columns g (map f ps)) (sym (take-append-drop i pairs))
+    ∙ ap (earlier_columns g) (map-append f (take i pairs) (drop i pairs))
+    ∙ earlier_columns-append g (map f (take i pairs)) (map f (drop i pairs))
+
+-- both columns of the first coalitions of a level
+pub level_part : (g : Game) (k i : ℕ) (pairs : List (ℕ × ℤ)) (xs ys : List (Option Column))
+    → ys ≡ xs ++ earlier_columns g (map (λ c. (c.0, k)) (take i pairs))
+    → AddsSome xs (earlier_columns g (map (λ c. (c.0, k)) pairs)) ys
+level_part g k i pairs xs ys h = adds_some xs _ _ _ ys (level_split g k i pairs) h
+
+-- and one column of the next
+pub level_half : (g : Game) (k i : ℕ) (pairs : List (ℕ × ℤ)) (p : ℕ × ℤ) (xs ys zs : List (Option Column))
+    → i < length pairs → p ≡ get_or pairs i p
+    → ys ≡ xs ++ earlier_columns g (map (λ c. (c.0, k)) (take i pairs))
+    → zs ≡ ys ++ Some (plain g p.0 (Some k)) ∷ []
+    → AddsSome xs (earlier_columns g (map (λ c. (c.0, k)) pairs)) zs
+level_half g k i pairs p xs ys zs lt is h e =
+    let f : ℕ × ℤ → ℕ × ℕ = λ c. (c.0, k) in
+    let here = earlier_columns g (map f (take i pairs)) in
+    let one : List (Option Column) = Some (plain g p.0 (Some k)) ∷ [] in
+    let rest : List (Option Column) =
+    Some (minus g p.0 (Some k)) ∷ earlier_columns g (map f (drop (i + 1) pairs)) in
+    let next : drop i pairs ≡ p ∷ drop (i + 1) pairs =
+    drop-more pairs i p lt ∙ ap (λ (t : ℕ × ℤ). t ∷ drop (i + 1) pairs) (sym is) in
+    adds_some xs (here ++ one) rest _ zs
+    (level_split g k i pairs
+    ∙ ap (λ (ps : List (ℕ × ℤ)). here ++ earlier_columns g (map f ps)) next
+    ∙ sym (append_assoc here one rest))
+    (e ∙ ap (λ (t : List (Option Column)). t ++ one) h ∙ append_assoc xs here one)
+
+earlier_of-split : (k n : ℕ) (levels : List Level)
+    → (ds : List (ℕ × ℕ)) × (earlier_of k levels ≡ earlier_of k (take n levels) ++ ds)
+earlier_of-split k zero levels = (earlier_of k levels, refl)
+earlier_of-split k (suc n) [] = ([], refl)
+earlier_of-split k (suc n) (l ∷ levels) =
+    let (ds, e) = earlier_of-split (k + 1) n levels in
+    let here : List (ℕ × ℕ) = map (λ c. (c.0, k)) l.coalitions in (
+      ds,
+      ap (λ (t : List (ℕ × ℕ)). here ++ t) e ∙ sym (append_assoc here (earlier_of (k + 1) (take n levels)) ds),
+    )
+
+-- the columns of the first levels, and some of the next
+pub levels_part : (g : Game) (k : ℕ) (levels : List Level) (l : Level) (xs ys zs : List (Option Column))
+    → k < length levels → l ≡ get_or levels k l
+    → ys ≡ xs ++ earlier_columns g (earlier_of 0 (take k levels))
+    → AddsSome ys (earlier_columns g (map (λ c. (c.0, k)) l.coalitions)) zs
+    → AddsSome xs (earlier_columns g (earlier_of 0 levels)) zs
+levels_part g k levels l xs ys zs lt is h (j, e) =
+    let (ds, split) = earlier_of-split 0 (k + 1) levels in
+    let before = earlier_columns g (earlier_of 0 (take k levels)) in
+    let here = earlier_columns g (map (λ c. (c.0, k)) l.coalitions) in
+    let behind = earlier_columns g ds in
+    adds_some xs (before ++ take j here) (drop j here ++ behind) _ zs
+    (ap (earlier_columns g) split
+    ∙ earlier_columns-append g (earlier_of 0 (take (k + 1) levels)) ds
+    ∙ ap (λ (t : List (Option Column)). t ++ behind)
+    (sym (levels-push g k levels l [] before (before ++ here) lt is refl refl)
+    ∙ ap (λ (t : List (Option Column)). before ++ t) (sym (take-append-drop j here))
+    ∙ sym (append_assoc before (take j here) (drop j here)))
+    ∙ append_assoc (before ++ take j here) (drop j here) behind)
+    (e
+    ∙ ap (λ (t : List (Option Column)). t ++ take j here) h
+    ∙ append_assoc xs before (take j here))
+
+listed-split : (n i : ℕ) (f : ℕ → Option Column) → i < n + 1
+    → (rest : List (Option Column)) × (listed n f ≡ listed i f ++ rest)
+listed-split zero i f lt =
+    let none : i ≡ 0 = omega (arith, lt) in
+    ([], ap (λ (t : ℕ). listed t f) (sym none) ∙ sym (append-nil (listed i f)))
+listed-split (suc n) i f lt = elim (less_or_last_of i (n + 1) (omega (arith, lt))) [
+  | inl less ↦
+      let (rest, e) = listed-split n i f less in (
+        rest ++ f n ∷ [],
+        ap (λ (t : List (Option Column)). t ++ f n ∷ []) e ∙ append_assoc (listed i f) rest (f n ∷ []),
+      )
+  | inr same ↦ let last : suc n ≡ i = omega (arith, same) in
+      ([], ap (λ (t : ℕ). listed t f) last ∙ sym (append-nil (listed i f)))
+]
+
+-- the first of a sequence
+pub listed_part : (n i : ℕ) (f : ℕ → Option Column) (xs ys : List (Option Column)) → i < n → ys ≡ xs ++ listed i f
+    → AddsSome xs (listed n f) ys
+listed_part n i f xs ys lt h =
+    let (rest, split) = listed-split n i f (omega (arith, lt)) in adds_some xs (listed i f) rest _ ys split h

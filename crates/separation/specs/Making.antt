@@ -6,6 +6,7 @@
 --   earlier_columns   two columns for each coalition of a level
 --   whole_columns     both columns of all players
 --   single, bound     the column of a player alone, and this negated
+--   AddsSome          columns, and behind them the first few of some more
 --   IsOuter           the column of a coalition, where it is outside
 --   AreOuter          the columns of the coalitions outside
 --   EndsOuter         columns, and behind them those of the coalitions outside
@@ -14,7 +15,7 @@
 --   AreWithin         the coalitions of a level are of n players
 use Rattle.std.specs.Prelude.{◌≡◌, ℕ, zero, suc, ◌<◌, true, false, ◌&&◌, nat_lt, ◌^◌}
 use Rattle.std.specs.Prelude.{List, [], ◌∷◌}
-use Rattle.std.specs.Prelude.{◌++◌, length, pos, ◌-ℤ◌, if◌then◌else◌, Option, Some, None}
+use Rattle.std.specs.Prelude.{◌++◌, length, take, pos, ◌-ℤ◌, if◌then◌else◌, Option, Some, None}
 use Rattle.std.specs.List.{AllByRecursion}
 use Rattle.definitions.specs.Coalitions.{singleton, grand_coalition}
 use Rattle.definitions.specs.Games.{Game}
@@ -53,6 +54,10 @@ single family g i = if is_imputations family then Some (plain g (singleton i) No
 abbrev pub bound : Family → Game → List Level → ℕ → Option Column
 bound family g front i =
     if is_imputations family && has_bound front i then Some (minus g (singleton i) None) else None
+
+-- columns, and behind them the first few of some more
+abbrev pub AddsSome : List (Option Column) → List (Option Column) → List (Option Column) → Type 0
+AddsSome columns more longer = (k : ℕ) × (longer ≡ columns ++ take k more)
 
 -- the column of coalition s, where it is outside
 abbrev pub IsOuter : Game → List Level → ℕ → Option Column → Type 0

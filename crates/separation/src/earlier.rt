@@ -1,11 +1,11 @@
 //! The columns of a stage in front of those of the coalitions outside, in their order.
 
-ghost use Rattle.std.specs.Prelude.{◌≡◌, ◌<◌, ◌≤◌, ◌^◌, ◌++◌, map, length, OnOk};
+ghost use Rattle.std.specs.Prelude.{◌≡◌, ◌<◌, ◌≤◌, ◌^◌, ◌++◌, map, length, OnOk, OnErr};
 ghost use Rattle.std.specs.List.{AllByRecursion};
 ghost use Rattle.definitions.specs.Coalitions.{grand_coalition};
 ghost use Rattle.separation.specs.Stage.{earlier_of};
 ghost use Rattle.separation.specs.Making.{listed, plain, minus, earlier_columns, whole_columns};
-ghost use Rattle.separation.specs.Making.{single, bound, AreWithin};
+ghost use Rattle.separation.specs.Making.{single, bound, AddsSome, AreWithin};
 
 use crate::column::Column;
 use coalitions::Coalition;
@@ -30,13 +30,15 @@ pub(crate) fn minus<W: Worth>(game: &W, s: Coalition, level: Option<u32>) -> Col
     Column::minus(s, level, game.worth(s))
 }
 
-/// Adds both columns of the coalition of all players.
+/// Adds both columns of the coalition of all players. Its one error is want of memory; then the first few are added.
 pub(crate) fn push_whole<W: Worth>(
     columns: &mut Vec<Option<Column>>,
     game: &W,
 ) -> Result<(), AllocError>
-    ensures { OnOk result (columns.new.items
+    ensures ok { OnOk result (columns.new.items
         ≡ columns.old.items ++ whole_columns (W.game game.now) (grand_coalition (W.game game.now).players)) }
+    ensures err { OnErr result (AddsSome columns.old.items
+        (whole_columns (W.game game.now) (grand_coalition (W.game game.now).players)) columns.new.items) }
 {
     let all = Coalition::all(game.players());
     columns.push(Some(plain(game, all, None)))?;
@@ -44,7 +46,7 @@ pub(crate) fn push_whole<W: Worth>(
     Ok(())
 }
 
-/// Adds both columns of each coalition of level `k`.
+/// Adds both columns of each coalition of level `k`. Its one error is want of memory; then the first few are added.
 fn push_level<W: Worth>(
     columns: &mut Vec<Option<Column>>,
     game: &W,
@@ -52,8 +54,10 @@ fn push_level<W: Worth>(
     pairs: &[(Coalition, i128)],
 ) -> Result<(), AllocError>
     requires { AllByRecursion (λ c. c.0 < 2 ^ (W.game game.now).players) pairs.now }
-    ensures { OnOk result (columns.new.items
+    ensures ok { OnOk result (columns.new.items
         ≡ columns.old.items ++ earlier_columns (W.game game.now) (map (λ c. (c.0, k)) pairs.now)) }
+    ensures err { OnErr result (AddsSome columns.old.items
+        (earlier_columns (W.game game.now) (map (λ c. (c.0, k)) pairs.now)) columns.new.items) }
 {
     for (s, _) in pairs {
         columns.push(Some(plain(game, *s, Some(k))))?;
@@ -62,7 +66,7 @@ fn push_level<W: Worth>(
     Ok(())
 }
 
-/// Adds both columns of each coalition of the levels.
+/// Adds both columns of each coalition of the levels. Its one error is want of memory; then the first few are added.
 pub(crate) fn push_earlier<W: Worth>(
     columns: &mut Vec<Option<Column>>,
     game: &W,
@@ -70,8 +74,10 @@ pub(crate) fn push_earlier<W: Worth>(
 ) -> Result<(), AllocError>
     requires few { length levels.now ≤ 16 }
     requires within { AllByRecursion (AreWithin (W.game game.now).players) levels.now }
-    ensures { OnOk result (columns.new.items
+    ensures ok { OnOk result (columns.new.items
         ≡ columns.old.items ++ earlier_columns (W.game game.now) (earlier_of 0 levels.now)) }
+    ensures err { OnErr result (AddsSome columns.old.items
+        (earlier_columns (W.game game.now) (earlier_of 0 levels.now)) columns.new.items) }
 {
     for k in 0..levels.len() {
         let level = &levels[k];
@@ -105,14 +111,16 @@ pub(crate) fn bound<W: Worth>(game: &W, family: Family, levels: &[Level], i: u32
     }
 }
 
-/// Adds the column of each player alone.
+/// Adds the column of each player alone. Its one error is want of memory; then the first few are added.
 pub(crate) fn push_singles<W: Worth>(
     columns: &mut Vec<Option<Column>>,
     game: &W,
     family: Family,
 ) -> Result<(), AllocError>
-    ensures { OnOk result (columns.new.items
+    ensures ok { OnOk result (columns.new.items
         ≡ columns.old.items ++ listed (W.game game.now).players (single family (W.game game.now))) }
+    ensures err { OnErr result (AddsSome columns.old.items
+        (listed (W.game game.now).players (single family (W.game game.now))) columns.new.items) }
 {
     for i in 0..game.players() {
         columns.push(single(game, family, i))?;
@@ -120,15 +128,17 @@ pub(crate) fn push_singles<W: Worth>(
     Ok(())
 }
 
-/// Adds the column of each player alone, negated.
+/// Adds the column of each player alone, negated. Its one error is want of memory; then the first few are added.
 pub(crate) fn push_bounds<W: Worth>(
     columns: &mut Vec<Option<Column>>,
     game: &W,
     family: Family,
     levels: &[Level],
 ) -> Result<(), AllocError>
-    ensures { OnOk result (columns.new.items
+    ensures ok { OnOk result (columns.new.items
         ≡ columns.old.items ++ listed (W.game game.now).players (bound family (W.game game.now) levels.now)) }
+    ensures err { OnErr result (AddsSome columns.old.items
+        (listed (W.game game.now).players (bound family (W.game game.now) levels.now)) columns.new.items) }
 {
     for i in 0..game.players() {
         columns.push(bound(game, family, levels, i))?;

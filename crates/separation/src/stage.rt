@@ -1,6 +1,6 @@
 //! The stage programs of the nucleolus.
 
-ghost use Rattle.std.specs.Prelude.{◌≡◌, ◌+◌, ◌<◌, ◌≤◌, ◌^◌, length, IfOk, OnOk};
+ghost use Rattle.std.specs.Prelude.{◌≡◌, ℕ, ◌+◌, ◌<◌, ◌≤◌, ◌^◌, length, IfOk, OnOk, OnErr};
 ghost use Rattle.std.specs.List.{AllByRecursion};
 ghost use Rattle.definitions.specs.Certificates.{HasForm};
 ghost use Rattle.definitions.specs.declared.Measure.{Measure};
@@ -35,7 +35,8 @@ fn outer<W: Worth>(game: &W, levels: &[Level], outside: &Outside, s: Coalition) 
     }
 }
 
-/// Adds the columns of the coalitions outside, each under its mask.
+/// Adds the columns of the coalitions outside, each under its mask. Its one error is want of memory; then those below
+/// some mask are added.
 fn push_outer<W: Worth>(
     columns: &mut Vec<Option<Column>>,
     game: &W,
@@ -45,8 +46,10 @@ fn push_outer<W: Worth>(
     requires few_players { (W.game game.now).players ≤ 16 }
     requires few { length levels.now ≤ 16 }
     requires marks { IsMarking (W.game game.now).players levels.now outside.now }
-    ensures { OnOk result (EndsOuter (W.game game.now) levels.now (2 ^ (W.game game.now).players)
+    ensures ok { OnOk result (EndsOuter (W.game game.now) levels.now (2 ^ (W.game game.now).players)
         columns.old.items columns.new.items) }
+    ensures err { OnErr result ((k : ℕ) × (k < 2 ^ (W.game game.now).players)
+        × EndsOuter (W.game game.now) levels.now k columns.old.items columns.new.items) }
 {
     for s in 0..1u64 << game.players() {
         columns.push(outer(game, levels, outside, Coalition(s)))?;

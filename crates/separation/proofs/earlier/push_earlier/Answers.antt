@@ -1,7 +1,8 @@
-use Rattle.std.proofs.Common.{◌≡◌, ◌++◌, ◌∙◌, ap, ◌<◌, ℕ, ℤ, List, map, length}
+use Rattle.std.proofs.Common.{◌≡◌, ◌++◌, ◌∙◌, ap, subst, ◌<◌}
+use Rattle.std.proofs.Common.{ℕ, ℤ, List, map, length}
 use Rattle.definitions.specs.Certificates.{Level}
-use Rattle.separation.specs.Making.{earlier_columns}
-use Rattle.separation.proofs.Pushed.{levels-push}
+use Rattle.separation.specs.Making.{earlier_columns, AddsSome}
+use Rattle.separation.proofs.Pushed.{levels-push, on_err, levels_part}
 use Rattle.separation.proofs.earlier.push_earlier.Goals as goal
 
 pub loop-k-preserved : goal.loop-k-preserved
@@ -10,7 +11,7 @@ loop-k-preserved g c =
     let lt : c.loop-k.k < length c.args.levels.now = c.loop-k-test.true in
     let pushed : c.push_level.new.columns.items
     ≡ c.loop-k.columns.items ++ earlier_columns game (map (λ p. (p.0, c.loop-k.k)) c.deref.result.now) =
-    c.in_ok-push_level.ensures {u = tt} in
+    c.in_ok-push_level.ensures.ok in
     let same : c.deref.result.now ≡ c.index-levels-k.result.coalitions =
     c.deref.ensures.value ∙ ap (λ (l : Level). l.coalitions) c.level.view_is in
     levels-push game c.loop-k.k c.args.levels.now c.index-levels-k.result c.args.columns.now.items
@@ -18,3 +19,17 @@ loop-k-preserved g c =
     (pushed
     ∙ ap (λ (ps : List (ℕ × ℤ)). c.loop-k.columns.items ++ earlier_columns game (map (λ p. (p.0, c.loop-k.k)) ps))
     same)
+
+pub returns-in_err-push_level-clause-err : goal.returns-in_err-push_level-clause-err
+returns-in_err-push_level-clause-err g c =
+    let game = g.W.Worth.game c.args.game.now in
+    let lt : c.loop-k.k < length c.args.levels.now = c.loop-k-test.true in
+    let same : c.deref.result.now ≡ c.index-levels-k.result.coalitions =
+    c.deref.ensures.value ∙ ap (λ (l : Level). l.coalitions) c.level.view_is in
+    on_err c.from_residual.result
+    (levels_part game c.loop-k.k c.args.levels.now c.index-levels-k.result c.args.columns.now.items
+    c.loop-k.columns.items _ lt c.index-levels-k.is c.loop-k.invariant
+    (subst
+    (λ (ps : List (ℕ × ℤ)). AddsSome c.loop-k.columns.items
+    (earlier_columns game (map (λ p. (p.0, c.loop-k.k)) ps)) c.push_level.new.columns.items) same
+    c.in_err-push_level.ensures.err))

@@ -69,7 +69,8 @@ loop-j-preserved g c =
           record {
             base = ap (λ (y : Highest). y.base) (w.best-is ∙ w.raised-best.ensures) ∙ inv.base;
             highest = λ a h.
-                subst (λ (y : Highest). IsHighestIn x a (64 * c.args.place + (c.loop-j.j + 1)) y) (sym (w.best-is ∙ w.raised-best.ensures))
+                subst (λ (y : Highest). IsHighestIn x a (64 * c.args.place + (c.loop-j.j + 1)) y)
+                (sym (w.best-is ∙ w.raised-best.ensures))
                 (subst (λ (t : ℕ). IsHighest R a t (2 ^ p.players) best.base z s) next
                 (highest_more R a s (2 ^ p.players) best.base best.height best.coalition z within
                 (subst (λ (b : Bool). (best.base <ℤ z) ↔ rises_with b) (sym on) up)

@@ -1,0 +1,19 @@
+use Rattle.std.proofs.Common.{◌++◌, ◌∷◌, [], ℕ, Some, None, ap, ◌∙◌}
+use Rattle.definitions.specs.Coalitions.{grand_coalition}
+use Rattle.separation.specs.Making.{plain}
+use Rattle.separation.specs.declared.column.Column.{Column}
+use Rattle.separation.proofs.Pushed.{on_err}
+use Rattle.separation.proofs.earlier.push_whole.Goals as goal
+
+pub returns-in_err-push-2-clause-err : goal.returns-in_err-push-2-clause-err
+returns-in_err-push-2-clause-err g c =
+    let game = g.W.Worth.game c.args.game.now in
+    let first = c.in_ok-push.ensures {u = tt} in
+    let all = c.all-all.ensures ∙ ap grand_coalition c.players.ensures.count in
+    on_err c.from_residual-in_err-push-2.result (
+      1,
+      c.in_err-push-2.ensures.items
+          ∙ first.items
+          ∙ ap (λ (o : Column). c.args.columns.now.items ++ Some o ∷ [])
+          (c.plain.ensures ∙ ap (λ (s : ℕ). plain game s None) all),
+    )
