@@ -1,5 +1,6 @@
 pub mod Signs
 pub mod Sizes
+pub mod WrappedSums
 pub mod Rows
 pub mod Positions
 pub mod DotProducts

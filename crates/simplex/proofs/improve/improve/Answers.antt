@@ -136,6 +136,19 @@ weights_of-weights-requires-clause-column_small g c =
     (Entered.rising_of P Q c.args.part enter.same m.num.items m.den c.in-Some.id enter.answer)
     c.load_column-column.result c.load_column-column.ensures
 
+pub weights_of-weights-requires-clause-weights_small : goal.weights_of-weights-requires-clause-weights_small
+weights_of-weights-requires-clause-weights_small g c =
+    let P = g.C.Columns.program c.loop-id.columns in
+    let Q = g.C.Columns.program c.rising_in.new.columns in
+    let w = c.loop-id.work in
+    let m = c.multipliers_of-m.result in
+    let enter = c.in-Some.ensures {u = tt} in
+    Steps.weights_small Q c.args.part w (tame_of Q (g.met.C.Columns.lawful c.rising_in.new.columns))
+    (Entered.state_of P Q c.args.part enter.same w c.loop-id.invariant.state) m.num.items m.den
+    (multipliers g (goal.at.weights_of-weights-requires-clause-weights_small g c).After-multipliers_of-m) c.in-Some.id
+    (Entered.rising_of P Q c.args.part enter.same m.num.items m.den c.in-Some.id enter.answer)
+    c.load_column-column.result c.load_column-column.ensures
+
 pub least_ratio-requires-clause-weights_small : goal.least_ratio-requires-clause-weights_small
 least_ratio-requires-clause-weights_small g c =
     let P = g.C.Columns.program c.loop-id.columns in
