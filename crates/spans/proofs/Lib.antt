@@ -5,3 +5,6 @@ pub mod Started
 pub mod EightSums
 pub mod Marks
 pub mod Weighing
+pub mod Chains
+pub mod Blocks
+pub mod Known

@@ -1,41 +1,33 @@
 -- Marks of coalitions, word by word and bit by bit.
-use Rattle.std.proofs.Common.{◌≡◌, ◌≢◌, ◌⊎◌, ℕ, zero, suc, replicate, ◌+◌, ◌-◌, ◌*◌}
+use Rattle.std.proofs.Common.{◌≡◌, ◌≢◌, ℕ, zero, suc, replicate, ◌+◌, ◌-◌, ◌*◌}
 use Rattle.std.proofs.Common.{◌/◌, ◌%◌, ◌^◌, ◌<◌, ◌≤◌, Bool}
-use Rattle.std.proofs.Common.{true, false, cond, not, ◌&&◌, ◌||◌, nat_eq, List, length, length-set}
+use Rattle.std.proofs.Common.{true, false, not, ◌&&◌, nat_eq, List, length}
 use Rattle.std.proofs.Common.{set, get_or, min}
-use Rattle.std.proofs.Common.{get_or-set_same, get_or-set_other, ℤ, pos, ◌+ℤ◌, ◌*ℤ◌, slice_index_or, unsigned_abs}
+use Rattle.std.proofs.Common.{get_or-set_same, get_or-set_other, ℤ, pos, slice_index_or}
 use Rattle.std.proofs.Common.{IsTrue, bit_and, refl, sym, ap, subst, ◌∙◌, arith, inl, inr}
 use Rattle.std.proofs.lemmas.Bool.{false≢true}
 use Rattle.std.proofs.lemmas.Bool.Decides.{nat_tests}
-use Rattle.std.proofs.lemmas.Int.{ints}
 use Rattle.std.proofs.lemmas.List.{get_or_past}
-use Rattle.std.proofs.lemmas.Nat.Bits.{bit_at_cat_low, bit_at_cat_high, bit_at-zero}
-use Rattle.std.proofs.lemmas.Nat.Bits.{bit_at_and, bit_at_not, bit_at-lt, bit_at_above}
+use Rattle.std.proofs.lemmas.Nat.Bits.{bit_at-zero}
+use Rattle.std.proofs.lemmas.Nat.Bits.{bit_at_and, bit_at_not, bit_at-lt}
 use Rattle.std.specs.Bool.{Decides}
 use Rattle.std.proofs.Math.Nat.{pow-le-pow_right}
 use Rattle.std.specs.Int.{bit_at, bit_not}
 use mir.Syntax.{w64}
 use Rattle.definitions.specs.Coalitions.{has_player, grand_coalition}
 use Rattle.definitions.specs.Certificates.{InSpan}
-use Rattle.definitions.proofs.Ring.{linear, unit_laws}
 use Rattle.determinants.specs.Basis.{dot}
 use Rattle.determinants.specs.Matrix.{entry_at}
 use Rattle.spans.specs.Span.{vector, flag, IsKept, IsSpan}
 use Rattle.spans.specs.Outside.{is_marked, IsProperWord, HasNoWeight}
-use Rattle.spans.specs.Sums.{two_sums}
 use Rattle.spans.proofs.Inside.{inside_from_zeros, zero_from_inside}
-use Rattle.definitions.proofs.Cases.{last_or_less_of, below_or_above, same_or_other, not_true, and_right, or_false}
-use Rattle.definitions.proofs.Cases.{nat_eq-same, nat_eq-other, nat_eq-equal, and_parts, and_both, from_not}
-use Rattle.definitions.proofs.Members.{has_player-grand_coalition, has_player-empty}
-use Rattle.definitions.proofs.Parts.{more-is, has_player-past}
+use Rattle.definitions.proofs.Cases.{last_or_less_of, below_or_above, same_or_other}
+use Rattle.definitions.proofs.Cases.{nat_eq-other, nat_eq-equal, and_parts, and_both, from_not}
+use Rattle.definitions.proofs.Members.{has_player-grand_coalition}
+use Rattle.definitions.proofs.Parts.{has_player-past}
 use Rattle.std.proofs.lemmas.Nat.{pow_pos}
 
 -- ---- words
-
--- v has the bits of w whose two sums add to 0, as word p
-abbrev pub IsSilent : List ℤ → List ℤ → ℕ → ℕ → ℕ → Type 0
-IsSilent low high p w v =
-    (j : ℕ) → j < 64 → Decides (has_player v j) (IsTrue (has_player w j) × (two_sums low high (64 * p + j) ≡ pos 0))
 
 -- v has the bits of w that u doesn't have
 abbrev pub IsWithout : ℕ → ℕ → ℕ → Type 0
@@ -59,21 +51,7 @@ words_rest ws olds p v h q le =
 place_of : (s : ℕ) → 64 * (s / 64) + s % 64 ≡ s
 place_of s = omega arith
 
--- words that are done, seen as marks
-pub marks_silent : (low high : List ℤ) (olds news : List ℕ)
-    → ((p : ℕ) → p < 1024 → IsSilent low high p (slice_index_or olds p 0) (slice_index_or news p 0)) → (s : ℕ)
-    → s < 2 ^ 16 → Decides (is_marked news s) (IsTrue (is_marked olds s) × (two_sums low high s ≡ pos 0))
-marks_silent low high olds news h s lt =
-    subst (λ (t : ℕ). Decides (is_marked news s) (IsTrue (is_marked olds s) × (two_sums low high t ≡ pos 0)))
-    (place_of s) (h (s / 64) (omega arith) (s % 64) (omega arith))
-
 -- ---- one bit
-
-pub none_silent : (low high : List ℤ) (p w : ℕ) → w ≡ 0 → IsSilent low high p w w
-none_silent low high p w e j lt =
-    let off : has_player w j ≡ false =
-    ap (λ (t : ℕ). has_player t j) e ∙ (let z = bit_at-zero j in grind (arith, nat_tests, z)) in
-    (λ q. absurd (false≢true (sym off ∙ q)), λ q. q.0)
 
 pub without_bits : (a b j : ℕ) → b < 2 ^ 64 → j < 64
     → has_player (bit_and a (bit_not w64 b)) j ≡ (has_player a j && not (has_player b j))
@@ -92,89 +70,6 @@ past ws s len le =
     let z = bit_at-zero (s % 64) in
     let none : slice_index_or ws (s / 64) 0 ≡ 0 = get_or_past ws (s / 64) 0 (omega (arith, len, le)) in
     ap (λ (w : ℕ). has_player w (s % 64)) none ∙ (grind (arith, nat_tests, z))
-
--- ---- bit by bit
-
--- of the bits of a word that are left no more, those are found that have a property
-pub record IsSearched (P : ℕ → Type 0) (word rest found : ℕ) : Type 0 where
-  pub within : (i : ℕ) → IsTrue (has_player rest i) → IsTrue (has_player word i)
-  pub found_is : (i : ℕ) → i < 64
-      → Decides (has_player found i) (IsTrue (has_player word i) × ((has_player rest i ≡ false) × P i))
-
-pub nothing_searched : (P : ℕ → Type 0) (word : ℕ) → IsSearched P word word 0
-nothing_searched P word = record {
-  within = λ i e. e;
-  found_is = λ i lt.
-      (λ e. absurd (false≢true (sym (has_player-empty i) ∙ e)), λ q. absurd (false≢true (sym q.1.0 ∙ q.0)));
-}
-
-pub all_searched : (P : ℕ → Type 0) (word rest found : ℕ) → rest ≡ 0 → IsSearched P word rest found
-    → (i : ℕ) → i < 64 → Decides (has_player found i) (IsTrue (has_player word i) × P i)
-all_searched P word rest found e h i lt =
-    let d = h.found_is i lt in
-    let none : has_player rest i ≡ false = ap (λ (t : ℕ). has_player t i) e ∙ has_player-empty i in
-    (λ on. let q = d.0 on in (q.0, q.1.1), λ q. d.1 (q.0, (none, q.1)))
-
-module _ (P : ℕ → Type 0) (word rest rest' found found' j : ℕ) (here : Bool) (lt : j < 64)
-    (set : has_player rest j ≡ true)
-    (less : (i : ℕ) → has_player rest' i ≡ (not (nat_eq i j) && has_player rest i))
-    (more : (i : ℕ) → has_player found' i ≡ ((nat_eq i j && here) || has_player found i))
-    (decides : Decides here (P j)) (before : IsSearched P word rest found) where
-  lacking : has_player found j ≡ false
-  lacking =
-      not_true (has_player found j) (λ e. false≢true (sym ((before.found_is j lt).0 e).1.0 ∙ set))
-
-  gone : has_player rest' j ≡ false
-  gone = less j ∙ ap (λ (b : Bool). not b && has_player rest j) (nat_eq-same j)
-
-  at_j : has_player found' j ≡ here
-  at_j =
-      more j ∙ ap (λ (b : Bool). (b && here) || has_player found j) (nat_eq-same j)
-      ∙ ap (λ (b : Bool). here || b) lacking ∙ or_false here
-
-  rest_as_before : (i : ℕ) → i ≢ j → has_player rest' i ≡ has_player rest i
-  rest_as_before i other = less i ∙ ap (λ (b : Bool). not b && has_player rest i) (nat_eq-other i j other)
-
-  found_as_before : (i : ℕ) → i ≢ j → has_player found' i ≡ has_player found i
-  found_as_before i other =
-      more i ∙ ap (λ (b : Bool). (b && here) || has_player found i) (nat_eq-other i j other)
-
-  pub one_searched : IsSearched P word rest' found'
-  one_searched = record {
-    within = λ i e. before.within i (and_right (not (nat_eq i j)) (has_player rest i) (sym (less i) ∙ e));
-    found_is = λ i low. elim (same_or_other i j) [
-      | inl same ↦ subst
-          (λ (t : ℕ). Decides (has_player found' t)
-          (IsTrue (has_player word t) × ((has_player rest' t ≡ false) × P t))) (sym same)
-          (λ e. (before.within j set, (gone, decides.0 (sym at_j ∙ e))), λ q. at_j ∙ decides.1 q.1.1)
-      | inr other ↦
-          let d = before.found_is i low in (
-            λ e.
-                let q = d.0 (sym (found_as_before i other) ∙ e) in
-                (q.0, (rest_as_before i other ∙ q.1.0, q.1.1)),
-            λ q. found_as_before i other ∙ d.1 (q.0, (sym (rest_as_before i other) ∙ q.1.0, q.1.1)),
-          )
-    ];
-  }
-
--- a word without one of its bits is less
-pub without_less : (s j r : ℕ) → has_player s j ≡ true
-    → ((i : ℕ) → has_player r i ≡ (not (nat_eq i j) && has_player s i)) → r < s
-without_less s j r set h =
-    let whole : s ≡ r + 2 ^ j = more-is r j s lacks back in
-    let some = pow_pos j in
-    omega (arith, whole, some)
-  where
-    lacks : has_player r j ≡ false
-    lacks = h j ∙ ap (λ (b : Bool). not b && has_player s j) (nat_eq-same j)
-
-    back : (i : ℕ) → has_player s i ≡ (nat_eq i j || has_player r i)
-    back i = elim (same_or_other i j) [
-      | inl same ↦ ap (has_player s) same ∙ set
-          ∙ sym (ap (λ (b : Bool). b || has_player r i) (nat_eq-equal i j same))
-      | inr other ↦ sym (ap (λ (b : Bool). b || has_player r i) (nat_eq-other i j other) ∙ h i
-          ∙ ap (λ (b : Bool). not b && has_player s i) (nat_eq-other i j other))
-    ]
 
 -- ---- all but the empty one and that of all
 
@@ -307,7 +202,7 @@ cleared false held new A e d = (λ q. absurd (false≢true (sym e ∙ q)), λ q.
 
 -- ---- no marks
 
-zeros_at : (n m : ℕ) → ◌≡◌ {A = ℕ} (slice_index_or (replicate n 0) m 0) 0
+pub zeros_at : (n m : ℕ) → ◌≡◌ {A = ℕ} (slice_index_or (replicate n 0) m 0) 0
 zeros_at zero m = refl
 zeros_at (suc n) zero = refl
 zeros_at (suc n) (suc m) = zeros_at n m
@@ -320,39 +215,6 @@ pub marks_without : (olds others news : List ℕ)
     → IsWithout (slice_index_or olds p 0) (slice_index_or others p 0) (slice_index_or news p 0)) → (s : ℕ)
     → s < 2 ^ 16 → is_marked news s ≡ (is_marked olds s && not (is_marked others s))
 marks_without olds others news h s lt = h (s / 64) (omega arith) (s % 64) (omega arith)
-
--- the words below a place have what is silent of the old ones, and the others are as they were
-pub record AreSilent (low high : List ℤ) (olds news : List ℕ) (place : ℕ) : Type 0 where
-  pub len : length news ≡ 1024
-  pub done : (p : ℕ) → p < place → IsSilent low high p (slice_index_or olds p 0) (slice_index_or news p 0)
-  pub rest : (p : ℕ) → place ≤ p → slice_index_or news p 0 ≡ slice_index_or olds p 0
-
-pub AreSilent-set : (low high : List ℤ) (olds news : List ℕ) (p v : ℕ) → p < 1024 → AreSilent low high olds news p
-    → IsSilent low high p (slice_index_or news p 0) v → AreSilent low high olds (set news p v) (p + 1)
-AreSilent-set low high olds news p v lt h here = record {
-  len = length-set news p v ∙ h.len;
-  done =
-      words_more (λ q w. IsSilent low high q (slice_index_or olds q 0) w) news p v
-      (subst (λ (t : ℕ). p < t) (sym h.len) lt)
-      (subst (λ (w : ℕ). IsSilent low high p w v) (h.rest p (omega arith)) here) h.done;
-  rest = words_rest news olds p v h.rest;
-}
-
-pub AreSilent-none : (low high : List ℤ) (olds news : List ℕ) (p : ℕ) → slice_index_or news p 0 ≡ 0
-    → AreSilent low high olds news p → AreSilent low high olds news (p + 1)
-AreSilent-none low high olds news p e h = record {
-  len = h.len;
-  done = λ q lt. elim (last_or_less_of q p lt) [
-    | inl same ↦ subst (λ (t : ℕ). IsSilent low high t (slice_index_or olds t 0) (slice_index_or news t 0))
-        (sym same) (none_silent_as low high p _ _ (h.rest p (omega arith)) e)
-    | inr less ↦ h.done q less
-  ];
-  rest = λ q le. h.rest q (omega arith);
-}
-  where
-    none_silent_as : (low high : List ℤ) (p w v : ℕ) → v ≡ w → v ≡ 0 → IsSilent low high p w v
-    none_silent_as low high p w v same e =
-        subst (λ (t : ℕ). IsSilent low high p t v) same (none_silent low high p v e)
 
 pub cleared_marks : (olds held news : List ℕ) (n : ℕ) (A : ℕ → Type 0) → length olds ≡ 1024 → length news ≡ 1024
     → ((s : ℕ) → IsTrue (is_marked olds s) → s < 2 ^ n)

@@ -1,3 +1,4 @@
 pub mod Span
 pub mod Sums
 pub mod Outside
+pub mod Places

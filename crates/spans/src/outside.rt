@@ -1,9 +1,9 @@
 //! The coalitions outside of a span, found all at once. A coalition's weight at a place is the sum of two numbers from
 //! tables, one for the members among the first eight players and one for those among the rest.
 
-ghost use Rattle.std.specs.Prelude.{◌≡◌, ◌&&◌, ◌||◌, not, true, IsTrue, slice_index_or};
-ghost use Rattle.std.specs.Prelude.{ℕ, ◌*◌, ◌/◌, ◌+◌, ◌^◌, ◌<◌, ◌≤◌, nat_eq, pos, ◌+ℤ◌};
-ghost use Rattle.std.specs.Prelude.{◌-ℤ◌, unsigned_abs};
+ghost use Rattle.std.specs.Prelude.{◌≡◌, ◌&&◌, ◌||◌, not, false, IsTrue, slice_index_or};
+ghost use Rattle.std.specs.Prelude.{ℕ, ◌*◌, ◌/◌, ◌%◌, ◌+◌, ◌^◌, ◌<◌, ◌≤◌, nat_eq};
+ghost use Rattle.std.specs.Prelude.{pos, ◌+ℤ◌, ◌-ℤ◌, unsigned_abs};
 ghost use Rattle.std.specs.Bool.{Decides};
 ghost use Rattle.definitions.specs.Coalitions.{grand_coalition, has_player};
 ghost use Rattle.definitions.specs.Certificates.{InSpan};
@@ -14,6 +14,7 @@ ghost use Rattle.spans.specs.Outside.{is_marked, IsProperWord, HasNoWeight};
 ghost use Rattle.spans.specs.Sums.{number_at, two_sums};
 
 use crate::player_sums::PlayerSums;
+use crate::silent_places::SilentPlaces;
 use crate::{Span, entry};
 use coalitions::Coalition;
 use std::marker::Model;
@@ -48,63 +49,38 @@ fn proper_word(n: u32, place: usize) -> u64
     }
 }
 
-/// The lowest bit of a word that has one.
-fn lowest(word: u64) -> u32
-    requires { 0 < word }
-    ensures within { result < 64 }
-    ensures set { has_player word result ≡ true }
+/// Whether some of the 256 coalitions of a block, which are those of four words, are there.
+fn has_some(words: &[u64; 1024], block: usize) -> bool
+    requires { block < 256 }
+    ensures { result ≡ false → (s : ℕ) → s / 256 ≡ block → is_marked words.now s ≡ false }
 {
-    word.trailing_zeros()
+    let first = 4 * block;
+    words[first] != 0 || words[first + 1] != 0 || words[first + 2] != 0 || words[first + 3] != 0
 }
 
-/// A word with one bit more, or as it was where the bit isn't to be set.
-fn with_if(word: u64, j: u32, set: bool) -> u64
-    requires { j < 64 }
-    ensures { (i : ℕ) → has_player result i ≡ ((nat_eq i j && set) || has_player word i) }
+/// Takes out the coalitions of a block whose place in it isn't among some.
+fn keep_in_block(words: &mut [u64; 1024], block: usize, places: &[u64; 4])
+    requires { block < 256 }
+    ensures { (s : ℕ) → is_marked words.new s
+        ≡ (is_marked words.old s && (not (nat_eq (s / 256) block) || is_marked places.now (s % 256))) }
 {
-    if set { Coalition(word).with(j).0 } else { word }
-}
-
-/// Whether the two sums of a coalition of a word add to 0, where `wanted` is minus the one of them that the word's
-/// coalitions have in common.
-fn is_silent(sums: &PlayerSums, wanted: i64, place: usize, j: u32) -> bool
-    requires place { place < 1024 }
-    requires within { j < 64 }
-    requires wanted { wanted ≡ pos 0 -ℤ slice_index_or sums.now.high (place / 4) (pos 0) }
-    ensures { Decides result (two_sums sums.now.low sums.now.high (64 * place + j) ≡ pos 0) }
-{
-    sums.low[place % 4 * 64 + j as usize] == wanted
-}
-
-/// The coalitions of one word whose two sums add to 0. It goes over the bits that are set alone.
-fn silent(word: u64, place: usize, sums: &PlayerSums) -> u64
-    requires place { place < 1024 }
-    requires small { (a : ℕ) → a < 256 → unsigned_abs (slice_index_or sums.now.high a (pos 0)) ≤ 2 ^ 61 }
-    ensures { (j : ℕ) → j < 64
-        → Decides (has_player result j)
-        (IsTrue (has_player word j) × (two_sums sums.now.low sums.now.high (64 * place + j) ≡ pos 0)) }
-{
-    let wanted = -sums.high[place / 4];
-    let mut rest = word;
-    let mut found: u64 = 0;
-    while rest != 0 {
-        let j = lowest(rest);
-        rest = Coalition(rest).without(j).0;
-        found = with_if(found, j, is_silent(sums, wanted, place, j));
+    for i in 0..4 {
+        words[4 * block + i] &= places[i];
     }
-    found
 }
 
-/// Takes out the coalitions whose two sums don't add to 0.
+/// Takes out the coalitions whose two sums don't add to 0. Those of a block have the sum from the second table in
+/// common, so they are found where the first table holds minus that.
 fn keep_silent(words: &mut [u64; 1024], sums: &PlayerSums)
     requires { (a : ℕ) → a < 256 → unsigned_abs (slice_index_or sums.now.high a (pos 0)) ≤ 2 ^ 61 }
     ensures { (s : ℕ) → s < 2 ^ 16
         → Decides (is_marked words.new s)
         (IsTrue (is_marked words.old s) × (two_sums sums.now.low sums.now.high s ≡ pos 0)) }
 {
-    for place in 0..1024 {
-        if words[place] != 0 {
-            words[place] = silent(words[place], place, sums);
+    let mut places = SilentPlaces::of(sums);
+    for block in 0..256 {
+        if has_some(words, block) {
+            keep_in_block(words, block, &places.of_block(sums, block));
         }
     }
 }

@@ -1,11 +1,11 @@
-use Rattle.std.proofs.Common.{◌≡◌, ℕ, ◌<◌, ◌≤◌, length, slice_index_or}
-use Rattle.spans.proofs.Marks.{IsSilent}
+use Rattle.std.proofs.Common.{ℕ, ◌<◌, ◌^◌}
+use Rattle.spans.specs.Places.{ArePlaces, AreKnown}
+use Rattle.spans.proofs.Blocks.{AreSilentBelow}
 use Rattle.spans.proofs.outside.keep_silent.Given as goal
 
-abbrev pub invariant-loop-place : goal.invariant-loop-place
-invariant-loop-place l = record {
-  len : length l.words ≡ 1024;
-  done : (p : ℕ) → p < l.place
-      → IsSilent l.sums.low l.sums.high p (slice_index_or l.fn.words p 0) (slice_index_or l.words p 0);
-  rest : (p : ℕ) → l.place ≤ p → slice_index_or l.words p 0 ≡ slice_index_or l.fn.words p 0;
+abbrev pub invariant-loop-block : goal.invariant-loop-block
+invariant-loop-block l = record {
+  places : ArePlaces l.sums.low l.places.places.last l.places.places.before;
+  known : AreKnown l.sums.low l.sums.high l.places.latest l.places.found;
+  below : (s : ℕ) → s < 2 ^ 16 → AreSilentBelow l.sums.low l.sums.high l.fn.words l.words l.block s;
 }
