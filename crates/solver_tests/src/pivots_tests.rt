@@ -172,28 +172,28 @@ fn asked_for_stage(alloc: Global, game: &TableGame, family: Family) -> Result<u6
 /// imputations and for preimputations: three times as often as was counted. By the least number the seven first ask the
 /// balanced program 1,500 to 60,000 times, and the three last the stage for preimputations 260 to 2,600 times.
 const MOST: [(Slow, [u64; 3]); 10] = [
-    (Slow::Square, [111, 204, 159]),
-    (Slow::Cube, [111, 180, 144]),
+    (Slow::Square, [87, 189, 159]),
+    (Slow::Cube, [87, 174, 144]),
     (
         Slow::SquaredSum([1, 2, 3, 5, 8, 13, 21, 34, 55, 89]),
-        [111, 210, 171],
+        [87, 204, 171],
     ),
     (
         Slow::SquaredSum([10, 13, 16, 21, 28, 37, 48, 62, 81, 106]),
-        [111, 168, 105],
+        [87, 165, 105],
     ),
     (
         Slow::SquaredSum([4, 9, 17, 31, 38, 52, 61, 77, 83, 96]),
-        [111, 183, 132],
+        [87, 183, 126],
     ),
     (
         Slow::SquaredSum([1, 2, 3, 4, 5, 6, 7, 8, 9, 10]),
-        [111, 192, 117],
+        [87, 192, 117],
     ),
-    (Slow::Line, [93, 300, 195]),
-    (Slow::GrayCode, [69, 42, 237]),
-    (Slow::Root, [81, 42, 90]),
-    (Slow::Cut, [114, 42, 270]),
+    (Slow::Line, [93, 210, 168]),
+    (Slow::GrayCode, [147, 42, 261]),
+    (Slow::Root, [81, 42, 435]),
+    (Slow::Cut, [141, 42, 396]),
 ];
 
 #[test]
