@@ -31,13 +31,13 @@ paid x i = neg_ℤ (share x i)
 
 sum_over-negated : (n : ℕ) (a : ℕ → ℤ) (s : ℕ) → sum_over n (λ i. neg_ℤ (a i)) s ≡ neg_ℤ (sum_over n a s)
 sum_over-negated zero a s = refl
-sum_over-negated (suc n) a s = step (sum_over-negated n a s) (has_player s n)
+sum_over-negated (suc n) a s = next_negated (sum_over-negated n a s) (has_player s n)
   where
-    step : sum_over n (λ i. neg_ℤ (a i)) s ≡ neg_ℤ (sum_over n a s) → (b : Bool)
+    next_negated : sum_over n (λ i. neg_ℤ (a i)) s ≡ neg_ℤ (sum_over n a s) → (b : Bool)
         → sum_over n (λ i. neg_ℤ (a i)) s +ℤ cond b (neg_ℤ (a n)) (pos 0)
         ≡ neg_ℤ (sum_over n a s +ℤ cond b (a n) (pos 0))
-    step ih true = omega (arith, linear, ih)
-    step ih false = omega (arith, linear, ih)
+    next_negated ih true = omega (arith, linear, ih)
+    next_negated ih false = omega (arith, linear, ih)
 
 pub sum_over-paid : (n : ℕ) (x : Allocation) (s : ℕ) → length x.shares ≡ n → sum_over n (paid x) s ≡ payment x s
 sum_over-paid n x s count =

@@ -46,8 +46,8 @@ pub some_unseen-is : (n f seen u : ℕ) → f < 2 ^ n
     → not (nat_eq u 0) ≡ some_unseen n f seen
 some_unseen-is n f seen u lt h = decide (some_unseen n f seen) refl
   where
-    none : some_unseen n f seen ≡ false → u ≡ 0
-    none e = same_coalition u 0 (λ i. elim (below_or_above i n) [
+    empty_if_none : some_unseen n f seen ≡ false → u ≡ 0
+    empty_if_none e = same_coalition u 0 (λ i. elim (below_or_above i n) [
       | inl below ↦ h i ∙ some_below-false n (λ i. has_player f i && not (has_player seen i)) e i below
           ∙ sym (has_player-empty i)
       | inr past ↦ h i ∙ ap (λ (b : Bool). b && not (has_player seen i)) (has_player-past n f i lt past)
@@ -67,7 +67,7 @@ some_unseen-is n f seen u lt h = decide (some_unseen n f seen) refl
 
     decide : (b : Bool) → some_unseen n f seen ≡ b → not (nat_eq u 0) ≡ some_unseen n f seen
     decide true e = other u (λ z. false≢true (sym (empty z) ∙ e)) ∙ sym e
-    decide false e = test u (none e) ∙ sym e
+    decide false e = test u (empty_if_none e) ∙ sym e
 
 -- where nobody is seen
 pub unseen-start : (f i : ℕ) → has_player f i ≡ (has_player f i && not (has_player 0 i))

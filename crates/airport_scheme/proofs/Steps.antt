@@ -149,7 +149,7 @@ pub IsPart-next : (n : ℕ) (c : ℕ → ℕ) (pay : ℕ → ℤ) (den : ℤ) (i
     → IsPart n c pay den i rate → IsNext n c pay den i b m r → ((j : ℕ) → j < i → more j ≡ m *ℤ pay j)
     → ((d : ℕ) → d < suc b → more (i + d) ≡ r) → IsPart n c more (den *ℤ m) (i + suc b) r
 IsPart-next n c pay den i b rate m r more p q before block = record {
-  positive = product_positive den m p.positive one;
+  positive = product_positive den m p.positive factor_positive;
   bottom = bottom;
   last = λ k e. ap more (place_of k e) ∙ block b (omega arith);
   least =
@@ -172,14 +172,16 @@ IsPart-next n c pay den i b rate m r more p q before block = record {
   all = λ k e f. all_at k (place_of k (e ∙ sym f)) f;
 }
   where
-    one : pos 1 ≤ℤ m
-    one = size-positive n i b m q.size
+    factor_positive : pos 1 ≤ℤ m
+    factor_positive = size-positive n i b m q.size
 
     rise : (m *ℤ rate) ≤ℤ r
     rise = rate-rises n c pay den i b rate m r p q
 
     bottom : pos 0 ≤ℤ r
-    bottom = let z = mul-nonnegativeℤ m rate (omega (arith, linear, one)) p.bottom in omega (arith, linear, z, rise)
+    bottom =
+        let z = mul-nonnegativeℤ m rate (omega (arith, linear, factor_positive)) p.bottom in
+        omega (arith, linear, z, rise)
 
     whole : sum_below (i + suc b) more ≡ m *ℤ sum_below i pay +ℤ pos (suc b) *ℤ r
     whole =
@@ -190,17 +192,18 @@ IsPart-next n c pay den i b rate m r more p q before block = record {
     place_of k e = omega arith
 
     least_before : (k : ℕ) → k < i → pos 0 ≤ℤ more k
-    least_before k lt = rw (before k lt) (mul-nonnegativeℤ m (pay k) (omega (arith, linear, one)) (p.least k lt))
+    least_before k lt =
+        rw (before k lt) (mul-nonnegativeℤ m (pay k) (omega (arith, linear, factor_positive)) (p.least k lt))
 
     up_before : (k : ℕ) → k < i → more k ≤ℤ r
     up_before k lt =
-        let z = mul-leℤ m (pay k) rate (omega (arith, linear, one)) (p.up k lt) in
+        let z = mul-leℤ m (pay k) rate (omega (arith, linear, factor_positive)) (p.up k lt) in
         omega (arith, linear, z, rise, before k lt)
 
     rising : (j k : ℕ) → j < k → (j < i) ⊎ ((d : ℕ) × (d < suc b) × (j ≡ i + d))
         → (k < i) ⊎ ((d : ℕ) × (d < suc b) × (k ≡ i + d)) → more j ≤ℤ more k
     rising j k lt (inl a) (inl e) =
-        let z = mul-leℤ m (pay j) (pay k) (omega (arith, linear, one)) (p.rises j k lt e) in
+        let z = mul-leℤ m (pay j) (pay k) (omega (arith, linear, factor_positive)) (p.rises j k lt e) in
         omega (arith, linear, z, before j a, before k e)
     rising j k lt (inl a) (inr e) = rw (e.2, block e.0 e.1) (up_before j a)
     rising j k lt (inr a) (inl e) = absurd (omega (arith, a.2))
@@ -209,7 +212,8 @@ IsPart-next n c pay den i b rate m r more p q before block = record {
     under_before : (k : ℕ) → k < i → suc k < n → (sum_below (suc k) more +ℤ more k) ≤ℤ ((den *ℤ m) *ℤ pos (c k))
     under_before k lt le =
         let s = sum-scaled i pay more m before (suc k) lt in
-        rw (s, before k lt) (under_scaled m (sum_below (suc k) pay) (pay k) den (pos (c k)) one (p.under k lt le))
+        rw (s, before k lt)
+        (under_scaled m (sum_below (suc k) pay) (pay k) den (pos (c k)) factor_positive (p.under k lt le))
 
     under_block : (k d : ℕ) → d < suc b → k ≡ i + d → suc k < n
         → (sum_below (suc k) more +ℤ more k) ≤ℤ ((den *ℤ m) *ℤ pos (c k))
@@ -230,7 +234,7 @@ IsPart-next n c pay den i b rate m r more p q before block = record {
         let s = sum-scaled i pay more m before (suc k) (omega arith) in
         let bk = before k (omega arith) in
         let bs = before (suc k) less in
-        let up_before = times_down m (pay k) (pay (suc k)) one (omega (arith, linear, up, bk, bs)) in
+        let up_before = times_down m (pay k) (pay (suc k)) factor_positive (omega (arith, linear, up, bk, bs)) in
         rw (s, bk) (tight_scaled m (sum_below (suc k) pay) (pay k) den (pos (c k)) (p.tight k less up_before))
     tight_at k lt up (inr (inl same)) =
         let s = sum-scaled i pay more m before (suc k) (omega arith) in

@@ -77,13 +77,13 @@ pub Fixes-next : (n : ℕ) (levels : List Level) (i : ℕ) (d : Level) (fixed : 
     → Fixes n (take i levels ++ take (i + 1 - i) (drop i levels)) fixed → Fixes n (take (i + 1) levels) fixed
 Fixes-next n levels i d fixed lt h = subst (λ (ls : List Level). Fixes n ls fixed) next h
   where
-    one : take (i + 1 - i) (drop i levels) ≡ get_or levels i d ∷ []
-    one =
+    one_level : take (i + 1 - i) (drop i levels) ≡ get_or levels i d ∷ []
+    one_level =
         let e : i + 1 - i ≡ 1 = omega arith in
         ap (λ (k : ℕ). take k (drop i levels)) e ∙ ap (take 1) (drop-more levels i d lt)
 
     next : take i levels ++ take (i + 1 - i) (drop i levels) ≡ take (i + 1) levels
-    next = ap (λ (ls : List Level). take i levels ++ ls) one ∙ sym (take-more levels i d lt)
+    next = ap (λ (ls : List Level). take i levels ++ ls) one_level ∙ sym (take-more levels i d lt)
 
 -- one level of those that are of n players
 pub within_one : (n : ℕ) (levels : List Level) (i : ℕ) (d : Level) → i < length levels

@@ -35,14 +35,14 @@ length-members_mod zero s =
     rw (members-zero s, none) (sym count_ones-zero)
 length-members_mod (suc n) s =
     let next : suc n ≡ n + 1 = omega arith in
-    rw next (step (has_player s n) refl (length-members_mod n s))
+    rw next (next_length (has_player s n) refl (length-members_mod n s))
   where
-    step : (b : Bool) → has_player s n ≡ b → length (members n s) ≡ count_ones (s % 2 ^ n)
+    next_length : (b : Bool) → has_player s n ≡ b → length (members n s) ≡ count_ones (s % 2 ^ n)
         → length (members (n + 1) s) ≡ count_ones (s % 2 ^ (n + 1))
-    step true h low =
+    next_length true h low =
         let bit : count_ones (bit_at s n) ≡ 1 = ap count_ones (bit_by_player s n true h) ∙ count_ones-one in
         rw (members-more_yes n s h, ones_mod-suc n s) (omega (arith, length-append (members n s) (n ∷ [])))
-    step false h low =
+    next_length false h low =
         let bit : count_ones (bit_at s n) ≡ 0 = ap count_ones (bit_by_player s n false h) ∙ count_ones-zero in
         rw (members-more_no n s h, ones_mod-suc n s) (omega arith)
 

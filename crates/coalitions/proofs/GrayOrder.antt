@@ -54,7 +54,7 @@ before zero k one zeros =
     }
 before (suc t) k one zeros =
     let even : k % 2 ≡ 0 = sym (bit_at_lowest k) ∙ zeros 0 (omega arith) in
-    let some : k / 2 ≡ 0 → ⊥ = λ e. none (k / 2) t (sym (bit_at-suc k t) ∙ one) e in
+    let some : k / 2 ≡ 0 → ⊥ = λ e. zero_has_no_bit (k / 2) t (sym (bit_at-suc k t) ∙ one) e in
     let half : (k - 1) / 2 ≡ k / 2 - 1 = omega (arith, some) in
     let odd : (k - 1) % 2 ≡ 1 = omega (arith, some) in
     let ih =
@@ -76,8 +76,8 @@ before (suc t) k one zeros =
           ];
     }
   where
-    none : (m i : ℕ) → bit_at m i ≡ 1 → m ≡ 0 → ⊥
-    none m i one e =
+    zero_has_no_bit : (m i : ℕ) → bit_at m i ≡ 1 → m ≡ 0 → ⊥
+    zero_has_no_bit m i one e =
         let fits : m < 2 ^ 0 = omega arith in
         let z = bit_at_above m 0 i fits (omega arith) in
         omega (arith, one, z)

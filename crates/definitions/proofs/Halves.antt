@@ -24,10 +24,10 @@ pub has_player-last : (n s : ℕ) → s < 2 ^ n → has_player s n ≡ false
 has_player-last n s h = has_player-past n s n h (le_refl n)
 
 pub has_player-upper : (n s : ℕ) → s < 2 ^ n → has_player (2 ^ n + s) n ≡ true
-has_player-upper n s h = step (bit_at_cat_high 1 n s n h (le_refl n))
+has_player-upper n s h = top_bit_is_one (bit_at_cat_high 1 n s n h (le_refl n))
   where
-    step : bit_at (1 * 2 ^ n + s) n ≡ bit_at 1 (n - n) → nat_eq (bit_at (2 ^ n + s) n) 1 ≡ true
-    step e =
+    top_bit_is_one : bit_at (1 * 2 ^ n + s) n ≡ bit_at 1 (n - n) → nat_eq (bit_at (2 ^ n + s) n) 1 ≡ true
+    top_bit_is_one e =
         let same : 1 * 2 ^ n + s ≡ 2 ^ n + s = omega arith in
         let low : n - n ≡ 0 = omega arith in
         let one : bit_at (2 ^ n + s) n ≡ 1 =
@@ -160,14 +160,14 @@ last_gained f n s h =
 pub sum_below-moved : (n i : ℕ) (f : ℕ → ℤ) → i < n → sum_below (2 ^ n) (gained f i) ≡ sum_below (2 ^ n) (held f i)
 sum_below-moved zero i f h = absurd (omega arith)
 sum_below-moved (suc n) i f h = elim (less_or_last i n h) [
-  | inl less ↦ step less (sum_below-moved n i f less) (sum_below-moved n i (λ t. f (2 ^ n + t)) less)
+  | inl less ↦ from_both_halves less (sum_below-moved n i f less) (sum_below-moved n i (λ t. f (2 ^ n + t)) less)
   | inr same ↦ rw same (itself n)
 ]
   where
-    step : i < n → sum_below (2 ^ n) (gained f i) ≡ sum_below (2 ^ n) (held f i)
+    from_both_halves : i < n → sum_below (2 ^ n) (gained f i) ≡ sum_below (2 ^ n) (held f i)
         → sum_below (2 ^ n) (gained (λ t. f (2 ^ n + t)) i) ≡ sum_below (2 ^ n) (held (λ t. f (2 ^ n + t)) i)
         → sum_below (2 ^ suc n) (gained f i) ≡ sum_below (2 ^ suc n) (held f i)
-    step less low high =
+    from_both_halves less low high =
         let a = sum_below-halves n (gained f i) in
         let b = sum_below-add (2 ^ n) (gained f i) (λ s. gained f i (2 ^ n + s)) in
         let c =

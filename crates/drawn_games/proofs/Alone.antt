@@ -45,10 +45,10 @@ single-is : (i : ℕ) → i < 64 → is_single (singleton i) ≡ true
 single-is i lt =
     nat_eq-equal (size (singleton i)) 1
     (size-at (i + 1) (singleton i) (omega arith) (singleton-within (i + 1) i (omega arith))
-    ∙ length-more_yes i (singleton i) (has_player-singleton i) ∙ one (one_member i i (omega arith)))
+    ∙ length-more_yes i (singleton i) (has_player-singleton i) ∙ one_more_is_one (one_member i i (omega arith)))
   where
-    one : {k : ℕ} → k ≡ 0 → k + 1 ≡ 1
-    one e = omega arith
+    one_more_is_one : {k : ℕ} → k ≡ 0 → k + 1 ≡ 1
+    one_more_is_one e = omega arith
 
 table-at : (seed n s : ℕ) → 1 ≤ s → s < 2 ^ n → table_worth (table_numbers seed n) s ≡ table_number seed s
 table-at seed n s some lt =
@@ -56,11 +56,11 @@ table-at seed n s some lt =
     (get_or-map-range_with_len (table_number seed) 1 (2 ^ n - 1) (s - 1) s (pos 0) (omega arith) (omega arith))
 
 number-positive : (seed s : ℕ) → pos 0 ≤ℤ table_number seed s
-number-positive seed s = step (is_single s) (long_draw seed (draws_before s))
+number-positive seed s = either_positive (is_single s) (long_draw seed (draws_before s))
   where
-    step : (b : Bool) (k : ℕ) → pos 0 ≤ℤ cond b (pos 0) (pos k)
-    step true k = omega (arith, ints)
-    step false k = omega (arith, ints)
+    either_positive : (b : Bool) (k : ℕ) → pos 0 ≤ℤ cond b (pos 0) (pos k)
+    either_positive true k = omega (arith, ints)
+    either_positive false k = omega (arith, ints)
 
 pub table_imputations : (seed n : ℕ) → 1 ≤ n → n ≤ 16
     → HasImputations (record { players = n; worth = table_worth (table_numbers seed n) })
@@ -108,24 +108,24 @@ greatest-sum : (m : ℕ) (cost : ℕ → ℕ) (s : ℕ) (f : ℕ → ℤ) → ((
     → sum_below m f ≤ℤ neg_ℤ (pos (greatest_cost m cost s))
 greatest-sum zero cost s f h = omega (arith, ints)
 greatest-sum (suc m) cost s f h =
-    step (has_player s m) (greatest_cost m cost s) (cost m) (sum_below m f) (f m)
+    next_at_most (has_player s m) (greatest_cost m cost s) (cost m) (sum_below m f) (f m)
     (greatest-sum m cost s f (λ i lt. h i (omega arith))) (h m (omega arith))
   where
-    step : (q : Bool) (g c : ℕ) (x y : ℤ) → x ≤ℤ neg_ℤ (pos g) → y ≤ℤ neg_ℤ (pos c)
+    next_at_most : (q : Bool) (g c : ℕ) (x y : ℤ) → x ≤ℤ neg_ℤ (pos g) → y ≤ℤ neg_ℤ (pos c)
         → (x +ℤ y) ≤ℤ neg_ℤ (pos (max g (cond q c 0)))
-    step true g c x y h k = let m : max g c ≤ g + c = omega arith in omega (arith, ints, h, k, m)
-    step false g c x y h k = let m : max g 0 ≤ g + c = omega arith in omega (arith, ints, h, k, m)
+    next_at_most true g c x y h k = let m : max g c ≤ g + c = omega arith in omega (arith, ints, h, k, m)
+    next_at_most false g c x y h k = let m : max g 0 ≤ g + c = omega arith in omega (arith, ints, h, k, m)
 
 pub airport_imputations : (costs : List ℕ)
     → HasImputations (record { players = length costs; worth = airport_worth costs })
 airport_imputations costs =
     greatest-sum (length costs) (slice_index costs) (grand_coalition (length costs))
     (λ i. airport_worth costs (singleton i))
-    (λ i lt. turned (slice_index costs i) (greatest_cost (length costs) (slice_index costs) (singleton i))
+    (λ i lt. negated-le (slice_index costs i) (greatest_cost (length costs) (slice_index costs) (singleton i))
     (greatest_cost-at_least (length costs) (slice_index costs) (singleton i) i lt (has_player-singleton i)))
   where
-    turned : (c g : ℕ) → c ≤ g → neg_ℤ (pos g) ≤ℤ neg_ℤ (pos c)
-    turned c g h = omega (arith, ints, h)
+    negated-le : (c g : ℕ) → c ≤ g → neg_ℤ (pos g) ≤ℤ neg_ℤ (pos c)
+    negated-le c g h = omega (arith, ints, h)
 
 -- ---- estates
 
@@ -137,11 +137,12 @@ exceed-sum zero d f r some positive h =
     (omega (arith, ints), (let c = int_max_is (pos 0) (pos 0 -ℤ r) in omega (arith, ints, c)))
 exceed-sum (suc m) d f r some positive h =
     let ih = exceed-sum m d f r some (λ i lt. positive i (omega arith)) (λ i lt. h i (omega arith)) in
-    step (sum_below m f) (f m) (sum_below m d) (d m) ih.0 (positive m (omega arith)) ih.1 (h m (omega arith))
+    next_exceed (sum_below m f) (f m) (sum_below m d) (d m) ih.0 (positive m (omega arith)) ih.1 (h m (omega arith))
   where
-    step : (x y s e : ℤ) → pos 0 ≤ℤ s → pos 0 ≤ℤ e → x ≤ℤ int_max (pos 0) (s -ℤ r) → y ≤ℤ int_max (pos 0) (e -ℤ r)
+    next_exceed : (x y s e : ℤ) → pos 0 ≤ℤ s → pos 0 ≤ℤ e → x ≤ℤ int_max (pos 0) (s -ℤ r)
+        → y ≤ℤ int_max (pos 0) (e -ℤ r)
         → (pos 0 ≤ℤ (s +ℤ e)) × ((x +ℤ y) ≤ℤ int_max (pos 0) (s +ℤ e -ℤ r))
-    step x y s e p q h k =
+    next_exceed x y s e p q h k =
         let a = int_max_is (pos 0) (s -ℤ r) in
         let b = int_max_is (pos 0) (e -ℤ r) in
         let c = int_max_is (pos 0) (s +ℤ e -ℤ r) in

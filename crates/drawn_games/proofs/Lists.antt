@@ -34,10 +34,10 @@ pub one_more_from_1 : {X : Type 0} (f : ℕ → X) (s : ℕ) (before after : Lis
 one_more_from_1 {X = X} f s before after x some e pushed is =
     pushed ∙ ap (λ (xs : List X). xs ++ x ∷ []) e ∙ ap (λ (y : X). map f (range_with_len 1 (s - 1)) ++ y ∷ []) is
     ∙ sym (map-range_with_len_more f 1 (s - 1) s (omega arith))
-    ∙ ap (λ (k : ℕ). map f (range_with_len 1 k)) (same s some)
+    ∙ ap (λ (k : ℕ). map f (range_with_len 1 k)) (sub_one_add_one s some)
   where
-    same : (s : ℕ) → 1 ≤ s → s - 1 + 1 ≡ s + 1 - 1
-    same s some = omega arith
+    sub_one_add_one : (s : ℕ) → 1 ≤ s → s - 1 + 1 ≡ s + 1 - 1
+    sub_one_add_one s some = omega arith
 
 -- one more cost or claim
 pub long_more : (seed k : ℕ) (before after : List ℤ) (z : ℤ) → before ≡ map pos (long_draws seed k)

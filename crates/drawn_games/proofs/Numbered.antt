@@ -22,12 +22,12 @@ link-inside n i j lt le =
 
 pub pair-inside : (rows columns i j : ℕ) → i < rows → j < columns → i * columns + j < rows * columns
 pair-inside rows columns i j il jl =
-    let k : (i + 1) * columns ≤ rows * columns = mul-le-mul (next i il) (same columns) in
+    let k : (i + 1) * columns ≤ rows * columns = mul-le-mul (next i il) (at_most_itself columns) in
     let f : (i + 1) * columns ≡ i * columns + columns = omega arith in
     omega (arith, k, f)
   where
-    same : (k : ℕ) → k ≤ k
-    same k = omega arith
+    at_most_itself : (k : ℕ) → k ≤ k
+    at_most_itself k = omega arith
 
     next : (i : ℕ) → i < rows → i + 1 ≤ rows
     next i h = omega arith
@@ -35,35 +35,35 @@ pair-inside rows columns i j il jl =
 -- the same numbers give the same links
 pub link-same : (f g : ℕ → ℕ) (n i j : ℕ) → ((k : ℕ) → k < links_before n n → f k ≡ g k) → i ≤ n → j ≤ n
     → link f n i j ≡ link g n i j
-link-same f g n i j h il jl = step (nat_lt i j) (nat_lt j i) refl refl
+link-same f g n i j h il jl = either_same (nat_lt i j) (nat_lt j i) refl refl
   where
-    step : (p q : Bool) → nat_lt i j ≡ p → nat_lt j i ≡ q
+    either_same : (p q : Bool) → nat_lt i j ≡ p → nat_lt j i ≡ q
         → cond p (f (link_place n i j)) (cond q (f (link_place n j i)) 0)
         ≡ cond p (g (link_place n i j)) (cond q (g (link_place n j i)) 0)
-    step true q e k = h (link_place n i j) (link-inside n i j (from_nat_lt i j e) jl)
-    step false true e k = h (link_place n j i) (link-inside n j i (from_nat_lt j i k) il)
-    step false false e k = refl
+    either_same true q e k = h (link_place n i j) (link-inside n i j (from_nat_lt i j e) jl)
+    either_same false true e k = h (link_place n j i) (link-inside n j i (from_nat_lt j i k) il)
+    either_same false false e k = refl
 
 -- ---- tables
 
 -- one player alone takes no draw
 pub single-keeps : (s : ℕ) → is_single s ≡ true → draws_before (s + 1) ≡ draws_before s
-single-keeps s e = rw add-one (step (nat_eq s 0) (is_single s) e)
+single-keeps s e = rw add-one (or_true_keeps (nat_eq s 0) (is_single s) e)
   where
-    step : (p q : Bool) → q ≡ true → cond (p || q) (draws_before s) (suc (draws_before s)) ≡ draws_before s
-    step true q k = refl
-    step false true k = refl
-    step false false k = absurd (false≢true k)
+    or_true_keeps : (p q : Bool) → q ≡ true → cond (p || q) (draws_before s) (suc (draws_before s)) ≡ draws_before s
+    or_true_keeps true q k = refl
+    or_true_keeps false true k = refl
+    or_true_keeps false false k = absurd (false≢true k)
 
 -- every other coalition takes one
 pub other-draws : (s : ℕ) → 1 ≤ s → is_single s ≡ false → draws_before (s + 1) ≡ suc (draws_before s)
-other-draws s some e = rw add-one (step (nat_eq s 0) (is_single s) (nat_eq-some 0 s some) e)
+other-draws s some e = rw add-one (neither_draws (nat_eq s 0) (is_single s) (nat_eq-some 0 s some) e)
   where
-    step : (p q : Bool) → p ≡ false → q ≡ false
+    neither_draws : (p q : Bool) → p ≡ false → q ≡ false
         → cond (p || q) (draws_before s) (suc (draws_before s)) ≡ suc (draws_before s)
-    step false false h k = refl
-    step false true h k = absurd (false≢true (sym k))
-    step true q h k = absurd (false≢true (sym h))
+    neither_draws false false h k = refl
+    neither_draws false true h k = absurd (false≢true (sym k))
+    neither_draws true q h k = absurd (false≢true (sym h))
 
 pub single-number : (seed s : ℕ) → is_single s ≡ true → table_number seed s ≡ pos 0
 single-number seed s e = rw e refl

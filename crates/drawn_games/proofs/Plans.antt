@@ -28,10 +28,10 @@ straight k (suc m) = (0, suc k) ∷ straight (suc k) m
 
 straight-attaches : (k m : ℕ) (c w : ℕ → Bool) → c 0 ≡ true → ((j : ℕ) → w j ≡ (nat_lt k j && nat_le j (k + m)))
     → IsAttachment c w (straight k m)
-straight-attaches k zero c w source h = λ j. h j ∙ none k j
+straight-attaches k zero c w source h = λ j. h j ∙ none_between k j
   where
-    none : (k j : ℕ) → (nat_lt k j && nat_le j (k + 0)) ≡ false
-    none k j = grind (arith, nat_tests)
+    none_between : (k j : ℕ) → (nat_lt k j && nat_le j (k + 0)) ≡ false
+    none_between k j = grind (arith, nat_tests)
 straight-attaches k (suc m) c w source h = (
   source,
   h (suc k) ∙ here k m,
@@ -55,15 +55,15 @@ straight-cost matrix k (suc m) f h =
     let front = sum_below-front m f in
     let ih =
     straight-cost matrix (suc k) m (λ i. f (suc i))
-    (λ i lt. subst (λ (j : ℕ). f (suc i) ≤ℤ neg_ℤ (pos (entry matrix 0 (suc j)))) (moved k i)
+    (λ i lt. subst (λ (j : ℕ). f (suc i) ≤ℤ neg_ℤ (pos (entry matrix 0 (suc j)))) (suc_to_front k i)
     (h (suc i) (omega arith))) in
     let same : k + 0 ≡ k = omega arith in
     let first = subst (λ (j : ℕ). f 0 ≤ℤ neg_ℤ (pos (entry matrix 0 (suc j)))) same (h 0 (omega arith)) in
     both (entry matrix 0 (suc k)) (plan_cost matrix (straight (suc k) m)) (f 0) (sum_below m (λ i. f (suc i)))
     (sum_below (suc m) f) front first ih
   where
-    moved : (k i : ℕ) → k + suc i ≡ suc k + i
-    moved k i = omega arith
+    suc_to_front : (k i : ℕ) → k + suc i ≡ suc k + i
+    suc_to_front k i = omega arith
 
     both : (e p : ℕ) (x y z : ℤ) → z ≡ x +ℤ y → x ≤ℤ neg_ℤ (pos e) → y ≤ℤ neg_ℤ (pos p) → z ≤ℤ neg_ℤ (pos (e + p))
     both e p x y z g h k = omega (arith, ints, g, h, k)

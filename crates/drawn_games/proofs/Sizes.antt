@@ -115,12 +115,12 @@ table_sizes seed n zs some few e = record {
   small =
       subst (λ (ys : List ℤ). All (λ w. unsigned_abs w < 2 ^ 40) ys) (sym e)
       (All-numbered (λ w. unsigned_abs w < 2 ^ 40) (table_number seed) 1 (2 ^ n - 1)
-      (λ s. small (is_single s) (long_draw seed (draws_before s)) (long_small seed (draws_before s))));
+      (λ s. number_small (is_single s) (long_draw seed (draws_before s)) (long_small seed (draws_before s))));
 }
   where
-    small : (b : Bool) (k : ℕ) → k < 2 ^ 20 → unsigned_abs (cond b (pos 0) (pos k)) < 2 ^ 40
-    small true k h = omega arith
-    small false k h = omega arith
+    number_small : (b : Bool) (k : ℕ) → k < 2 ^ 20 → unsigned_abs (cond b (pos 0) (pos k)) < 2 ^ 40
+    number_small true k h = omega arith
+    number_small false k h = omega arith
 
 -- ---- matrices
 
@@ -156,37 +156,38 @@ rows_length rows columns number =
     (λ i. length-map-range_with_len (λ j. pos (number i j)) 0 columns)
 
 link_small : (seed n i j : ℕ) → link (short_draw seed) n i j < 2 ^ 16
-link_small seed n i j = step (nat_lt i j) (nat_lt j i)
+link_small seed n i j = either_small (nat_lt i j) (nat_lt j i)
   where
-    step : (p q : Bool)
+    either_small : (p q : Bool)
         → cond p (short_draw seed (link_place n i j)) (cond q (short_draw seed (link_place n j i)) 0) < 2 ^ 16
-    step true q = short_small seed (link_place n i j)
-    step false true = short_small seed (link_place n j i)
-    step false false = omega arith
+    either_small true q = short_small seed (link_place n i j)
+    either_small false true = short_small seed (link_place n j i)
+    either_small false false = omega arith
 
 not_both : (x y : ℕ) → nat_lt x y ≡ true → nat_lt y x ≡ true → ⊥
 not_both x y e f = grind (arith, nat_tests)
 
 link_turned : (number : ℕ → ℕ) (n i j : ℕ) → link number n i j ≡ link number n j i
-link_turned number n i j = step (nat_lt i j) (nat_lt j i) refl refl
+link_turned number n i j = tests_swapped (nat_lt i j) (nat_lt j i) refl refl
   where
-    step : (p q : Bool) → nat_lt i j ≡ p → nat_lt j i ≡ q
+    tests_swapped : (p q : Bool) → nat_lt i j ≡ p → nat_lt j i ≡ q
         → cond p (number (link_place n i j)) (cond q (number (link_place n j i)) 0)
         ≡ cond q (number (link_place n j i)) (cond p (number (link_place n i j)) 0)
-    step true true e f = absurd (not_both i j e f)
-    step true false e f = refl
-    step false true e f = refl
-    step false false e f = refl
+    tests_swapped true true e f = absurd (not_both i j e f)
+    tests_swapped true false e f = refl
+    tests_swapped false true e f = refl
+    tests_swapped false false e f = refl
 
 link_self : (number : ℕ → ℕ) (n i : ℕ) → link number n i i ≡ 0
-link_self number n i = step (nat_lt i i) (apart i)
+link_self number n i = false_gives_zero (nat_lt i i) (apart i)
   where
     apart : (i : ℕ) → nat_lt i i ≡ false
     apart i = grind (arith, nat_tests)
 
-    step : (p : Bool) → p ≡ false → cond p (number (link_place n i i)) (cond p (number (link_place n i i)) 0) ≡ 0
-    step false e = refl
-    step true e = absurd (false≢true (sym e))
+    false_gives_zero : (p : Bool) → p ≡ false
+        → cond p (number (link_place n i i)) (cond p (number (link_place n i i)) 0) ≡ 0
+    false_gives_zero false e = refl
+    false_gives_zero true e = absurd (false≢true (sym e))
 
 pub tree_sizes : (seed n : ℕ) (rows : List (List ℤ)) → 1 ≤ n → n ≤ 16
     → rows ≡ rows_of (n + 1) (n + 1) (link (short_draw seed) n) → IsTree rows

@@ -28,26 +28,26 @@ rows_where test f (suc k) = if test k then f k ∷ rows_where test f k else rows
 rows_all : (Q : Row → Type 0) (test : ℕ → Bool) (f : ℕ → Row) (k : ℕ)
     → ((t : ℕ) → t < k → test t ≡ true → Q (f t)) → AllByRecursion Q (rows_where test f k)
 rows_all Q test f zero h = tt
-rows_all Q test f (suc k) h = step (test k) refl (rows_all Q test f k (λ t lt e. h t (omega arith) e))
+rows_all Q test f (suc k) h = next_all (test k) refl (rows_all Q test f k (λ t lt e. h t (omega arith) e))
   where
-    step : (b : Bool) → test k ≡ b → AllByRecursion Q (rows_where test f k)
+    next_all : (b : Bool) → test k ≡ b → AllByRecursion Q (rows_where test f k)
         → AllByRecursion Q (cond b (f k ∷ rows_where test f k) (rows_where test f k))
-    step true e ih = (h k (omega arith) e, ih)
-    step false e ih = ih
+    next_all true e ih = (h k (omega arith) e, ih)
+    next_all false e ih = ih
 
 rows_at : (Q : Row → Type 0) (test : ℕ → Bool) (f : ℕ → Row) (k t : ℕ) → AllByRecursion Q (rows_where test f k)
     → t < k → test t ≡ true → Q (f t)
 rows_at Q test f zero t h lt e = absurd (omega arith)
 rows_at Q test f (suc k) t h lt e =
-    step (test k) refl (λ all less. rows_at Q test f k t all less e) h
+    next_at (test k) refl (λ all less. rows_at Q test f k t all less e) h
   where
-    step : (b : Bool) → test k ≡ b → (AllByRecursion Q (rows_where test f k) → t < k → Q (f t))
+    next_at : (b : Bool) → test k ≡ b → (AllByRecursion Q (rows_where test f k) → t < k → Q (f t))
         → AllByRecursion Q (cond b (f k ∷ rows_where test f k) (rows_where test f k)) → Q (f t)
-    step true is later all = elim (less_or_last t k lt) [
+    next_at true is later all = elim (less_or_last t k lt) [
       | inl less ↦ later all.1 less
       | inr same ↦ rw same all.0
     ]
-    step false is later all = elim (less_or_last t k lt) [
+    next_at false is later all = elim (less_or_last t k lt) [
       | inl less ↦ later all less
       | inr same ↦ absurd (false≢true (sym is ∙ sym (ap test same) ∙ e))
     ]

@@ -41,11 +41,11 @@ unit_at-same : (s : ℕ) (z : ℤ) → unit_at s s *ℤ z ≡ z
 unit_at-same s z = rw (nat_eq-same s) (one-mulℤ z)
 
 pub unit_at-low : (s t : ℕ) → pos 0 ≤ℤ unit_at s t
-unit_at-low s t = step (nat_eq t s)
+unit_at-low s t = either_low (nat_eq t s)
   where
-    step : (b : Bool) → pos 0 ≤ℤ cond b (pos 1) (pos 0)
-    step true = omega (arith, linear)
-    step false = omega (arith, linear)
+    either_low : (b : Bool) → pos 0 ≤ℤ cond b (pos 1) (pos 0)
+    either_low true = omega (arith, linear)
+    either_low false = omega (arith, linear)
 
 pub sum_below-unit : (m s : ℕ) (f : ℕ → ℤ) → s < m → sum_below m (λ t. unit_at s t *ℤ f t) ≡ f s
 sum_below-unit zero s f lt = absurd (omega arith)

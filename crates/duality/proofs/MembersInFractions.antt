@@ -95,14 +95,14 @@ module _ {C : Type 0} (N : Numbers C) (L : IsOrderedGroup N) where
       → (x : Allocation) × InFamily family g x
   member_in_fractions family g y h = by_count g.players refl family h
     where
-      none : Allocation
-      none = record { shares = []; den = pos 1 }
+      no_shares : Allocation
+      no_shares = record { shares = []; den = pos 1 }
 
       by_count : (c : ℕ) → g.players ≡ c → (family : Family) → InFamilyOver N family g y
           → (x : Allocation) × InFamily family g x
       by_count zero e Imputations h =
           let w = nothing Imputations g y h e in (
-            none,
+            no_shares,
             (
               (sym e, omega (arith, linear)),
               omega (arith, linear, w, one-mulℤ (g.worth (grand_coalition g.players))),
@@ -111,7 +111,7 @@ module _ {C : Type 0} (N : Numbers C) (L : IsOrderedGroup N) where
           )
       by_count zero e Preimputations h =
           let w = nothing Preimputations g y h e in (
-            none,
+            no_shares,
             (
               (sym e, omega (arith, linear)),
               omega (arith, linear, w, one-mulℤ (g.worth (grand_coalition g.players))),

@@ -102,8 +102,8 @@ module _ (family : Family) (measure : Measure) (g : Game) (m : IsMeasurable meas
   abbrev moved : ℤ → Row
   moved K = added (scaled K xr) zr
 
-  one : pos 1 ≤ℤ x.den
-  one = (allocation_of family g x h.0).1
+  den_positive : pos 1 ≤ℤ x.den
+  den_positive = (allocation_of family g x h.0).1
 
   moved_den : (K : ℤ) → moved K 0 ≡ K *ℤ x.den
   moved_den K = omega (arith, linear)
@@ -183,7 +183,7 @@ module _ (family : Family) (measure : Measure) (g : Game) (m : IsMeasurable meas
   moved_in : (K : ℤ) → pos 1 ≤ℤ K → ((i : ℕ) → i < n → (neg_ℤ (z i) +ℤ pos 1) ≤ℤ K)
       → In (suc n) (base family g) (moved K)
   moved_in K k1 k2 =
-      let positive = mul-positiveℤ K x.den (omega (arith, linear, k1)) (omega (arith, linear, one)) in
+      let positive = mul-positiveℤ K x.den (omega (arith, linear, k1)) (omega (arith, linear, den_positive)) in
       point_in family g (moved K) (omega (arith, linear, positive, moved_den K)) (moved_efficient K)
       (moved_low K k1 k2)
 
@@ -198,7 +198,8 @@ module _ (family : Family) (measure : Measure) (g : Game) (m : IsMeasurable meas
     under : (s : ℕ) → val n (moved K) (form measure g s) ≤ℤ (K *ℤ e +ℤ neg_ℤ (pos 1))
         → (xr 0 *ℤ val n (moved K) (form measure g s)) ≤ℤ bound
     under s le =
-        mul-leℤ x.den (val n (moved K) (form measure g s)) (K *ℤ e +ℤ neg_ℤ (pos 1)) (omega (arith, linear, one)) le
+        mul-leℤ x.den (val n (moved K) (form measure g s)) (K *ℤ e +ℤ neg_ℤ (pos 1))
+        (omega (arith, linear, den_positive)) le
 
     -- who gains and has at most the greatest excess comes below it
     under_gain : (t : ℕ) → t < 2 ^ n - 2 → me (suc t) ≤ℤ e → pos 1 ≤ℤ gained (suc t)
@@ -249,7 +250,7 @@ module _ (family : Family) (measure : Measure) (g : Game) (m : IsMeasurable meas
 
     above : (d : ℕ) → me (suc d) ≡ e → bound <ℤ (moved K 0 *ℤ val n xr (form measure g (suc d)))
     above d is =
-        shaped x.den K e (moved K 0) (val n xr (form measure g (suc d))) (moved_den K) (at_x (suc d) ∙ is) one
+        shaped x.den K e (moved K 0) (val n xr (form measure g (suc d))) (moved_den K) (at_x (suc d) ∙ is) den_positive
       where
         shaped : (d k e q b : ℤ) → q ≡ k *ℤ d → b ≡ e → pos 1 ≤ℤ d → (d *ℤ (k *ℤ e +ℤ neg_ℤ (pos 1))) <ℤ (q *ℤ b)
         shaped d k e q b f h one =
@@ -261,7 +262,7 @@ module _ (family : Family) (measure : Measure) (g : Game) (m : IsMeasurable meas
   -- who gains has other shares
   same_none : (K : ℤ) → IsSame g x (allocation g (moved K)) → (i : ℕ) → i < n → z i ≡ pos 0
   same_none K same i lt =
-      shaped x.den K (share x i) (z i) (moved K 0) (share (allocation g (moved K)) i) one (moved_den K)
+      shaped x.den K (share x i) (z i) (moved K 0) (share (allocation g (moved K)) i) den_positive (moved_den K)
       (listed_at n (shares_of (moved K)) i lt) (same i lt)
     where
       shaped : (d k a z q s : ℤ) → pos 1 ≤ℤ d → q ≡ k *ℤ d → s ≡ k *ℤ a +ℤ z → a *ℤ q ≡ s *ℤ d → z ≡ pos 0

@@ -412,7 +412,7 @@ module _ (family : Family) (measure : Measure) (g : Game) (m : IsMeasurable meas
       same = λ i lt. elim (less_or_last i k (omega (arith, e))) [
         | inl less ↦ inl (upto_member k i less)
         | inr last ↦ inr
-            (one (has_player (grand_coalition n) i) (w k) (w i) (has_player-grand_coalition n i lt)
+            (weight_of_one_pair (has_player (grand_coalition n) i) (w k) (w i) (has_player-grand_coalition n i lt)
             (ap w (sym last)))
       ];
     };
@@ -420,9 +420,9 @@ module _ (family : Family) (measure : Measure) (g : Game) (m : IsMeasurable meas
     tight = λ i bound. absurd (false≢true bound);
   }
     where
-      one : (b : Bool) (u v : ℤ) → b ≡ true → u ≡ v → cond b u (pos 0) +ℤ pos 0 ≡ pos 1 *ℤ v
-      one true u v is same = omega (arith, linear, same, one-mulℤ v)
-      one false u v is same = absurd (false≢true is)
+      weight_of_one_pair : (b : Bool) (u v : ℤ) → b ≡ true → u ≡ v → cond b u (pos 0) +ℤ pos 0 ≡ pos 1 *ℤ v
+      weight_of_one_pair true u v is same = omega (arith, linear, same, one-mulℤ v)
+      weight_of_one_pair false u v is same = absurd (false≢true is)
 
   certified : (c : ℕ) → n ≡ c → (levels : List Level) × HasShape n levels × Certifies Span family measure g x levels
   certified zero e = (

@@ -23,10 +23,10 @@ abbrev pub opposite : ℤ → ℤ → Bool
 opposite n d = not (beq (lt_z n (pos 0)) (lt_z d (pos 0)))
 
 sign_test : (n : ℤ) → n ≡ with_sign (lt_z n (pos 0)) (unsigned_abs n)
-sign_test (pos n) = ap (λ (t : Bool). with_sign t n) (sym (none n))
+sign_test (pos n) = ap (λ (t : Bool). with_sign t n) (sym (pos_not_negative n))
   where
-    none : (n : ℕ) → lt_z (pos n) (pos 0) ≡ false
-    none n = grind (arith, ints)
+    pos_not_negative : (n : ℕ) → lt_z (pos n) (pos 0) ≡ false
+    pos_not_negative n = grind (arith, ints)
 sign_test (negsuc n) = refl
 
 signed_value : (s t : Bool) (a b p q : ℕ) → p * b ≡ a * q
@@ -44,10 +44,10 @@ size_with_sign false m = refl
 size_with_sign true m = omega (arith, ints)
 
 quotients : (a b g p q : ℕ) → g * p ≡ a → g * q ≡ b → p * b ≡ a * q
-quotients a b g p q e f = ap (λ (n : ℕ). p * n) (sym f) ∙ turned p g q ∙ ap (λ (n : ℕ). n * q) e
+quotients a b g p q e f = ap (λ (n : ℕ). p * n) (sym f) ∙ factor_to_front p g q ∙ ap (λ (n : ℕ). n * q) e
   where
-    turned : (p g q : ℕ) → p * (g * q) ≡ (g * p) * q
-    turned p g q = omega arith
+    factor_to_front : (p g q : ℕ) → p * (g * q) ≡ (g * p) * q
+    factor_to_front p g q = omega arith
 
 positive_quotient : (g q b : ℕ) → 0 < b → g * q ≡ b → pos 1 ≤ℤ pos q
 positive_quotient g zero b h e = absurd (omega arith)

@@ -38,12 +38,12 @@ whole_less a b c d p q h =
     let y = mul-le-mul_right b (upper c d) in
     omega arith
 
-turned : (x y s t : ℕ) → x ≡ s → y ≡ t → nat_cmp s t ≡ nat_cmp x y
-turned x y s t e f = rw (e, f)
+nat_cmp-same : (x y s t : ℕ) → x ≡ s → y ≡ t → nat_cmp s t ≡ nat_cmp x y
+nat_cmp-same x y s t e f = rw (e, f)
 
 pub next_order : (a b c d : ℕ) → a / b ≡ c / d → nat_cmp (d * (a % b)) (b * (c % d)) ≡ nat_cmp (a * d) (c * b)
 next_order a b c d e =
-    turned ((a % b) * d) ((c % d) * b) (d * (a % b)) (b * (c % d)) (Rattle.std.proofs.Common.mul_comm (a % b) d)
+    nat_cmp-same ((a % b) * d) ((c % d) * b) (d * (a % b)) (b * (c % d)) (Rattle.std.proofs.Common.mul_comm (a % b) d)
     (Rattle.std.proofs.Common.mul_comm (c % d) b) ∙ rests_order a b c d e
 
 -- a rest of 0

@@ -40,15 +40,15 @@ among k (member l e ms) h =
     (later l e ms (get_member k ms) (among k ms h.2))
     (record { ordered = h.1; shallow = omega arith; light = omega arith })
 
-none : {P : Type 0} (d : Data) → None ≡ Some d → P
-none d e = absurd (cc)
+none_is_not_some : {P : Type 0} (d : Data) → None ≡ Some d → P
+none_is_not_some d e = absurd (cc)
 
 pub member_keeps : (k : List ℕ) (d e : Data) → IsOrdered e → get k e ≡ Some d → IsPartOf d e
-member_keeps k d null h e = none d e
-member_keeps k d (boolean b) h e = none d e
-member_keeps k d (number n) h e = none d e
-member_keeps k d (string s) h e = none d e
-member_keeps k d (array ds) h e = none d e
+member_keeps k d null h e = none_is_not_some d e
+member_keeps k d (boolean b) h e = none_is_not_some d e
+member_keeps k d (number n) h e = none_is_not_some d e
+member_keeps k d (string s) h e = none_is_not_some d e
+member_keeps k d (array ds) h e = none_is_not_some d e
 member_keeps k d (object ms) h e =
     let a : Among ms d = subst (IfAmong ms) e (among k ms h) in
     record {

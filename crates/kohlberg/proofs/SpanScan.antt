@@ -93,11 +93,11 @@ bounds_skip n old mid ps i d lt light h =
 
 pub levels_start : (n : ℕ) (old : List ℕ) (levels : List Level)
     → Extends n old old (IsLevelVector n (take 0 levels))
-levels_start n old levels = Extends-none n old (IsLevelVector n (take 0 levels)) (λ t h. none t h)
+levels_start n old levels = Extends-none n old (IsLevelVector n (take 0 levels)) (λ t h. no_level_vector t h)
   where
-    none : (t : ℕ) → IsLevelVector n (take 0 levels) t → ⊥
-    none t (inl h) = false≢true h
-    none t (inr h) = false≢true h.3
+    no_level_vector : (t : ℕ) → IsLevelVector n (take 0 levels) t → ⊥
+    no_level_vector t (inl h) = false≢true h
+    no_level_vector t (inr h) = false≢true h.3
 
 pub levels_more : (n : ℕ) (old mid next new : List ℕ) (levels : List Level) (i : ℕ) (d : Level) → i < length levels
     → Extends n old mid (IsLevelVector n (take i levels))

@@ -31,13 +31,13 @@ number_times k (x ∷ xs) (suc i) lt = number_times k xs i (omega arith)
 -- ---- tables
 
 pub table_times : TableTimes
-table_times k worths s = step (nat_eq s 0)
+table_times k worths s = worth_times (nat_eq s 0)
   where
-    step : (b : Bool)
+    worth_times : (b : Bool)
         → cond b (pos 0) (get_or (map (λ z. k *ℤ z) worths) (s - 1) (pos 0))
         ≡ k *ℤ cond b (pos 0) (get_or worths (s - 1) (pos 0))
-    step true = sym (mul-zeroℤ k)
-    step false = share_times k (record { shares = worths; den = pos 1 }) (s - 1)
+    worth_times true = sym (mul-zeroℤ k)
+    worth_times false = share_times k (record { shares = worths; den = pos 1 }) (s - 1)
 
 pub cost_table_times : CostTableTimes
 cost_table_times k v s = sym (mul-negℤ k (v s))

@@ -21,22 +21,22 @@ use Rattle.laws.proofs.Gathered.{sum_below-renumbered}
 
 coalition_where-within : (n : ℕ) (test : ℕ → Bool) → coalition_where n test < 2 ^ n
 coalition_where-within zero test = omega arith
-coalition_where-within (suc n) test = step (test n) (coalition_where-within n test)
+coalition_where-within (suc n) test = next_within (test n) (coalition_where-within n test)
   where
-    step : (b : Bool) → coalition_where n test < 2 ^ n
+    next_within : (b : Bool) → coalition_where n test < 2 ^ n
         → cond b (coalition_where n test + 2 ^ n) (coalition_where n test) < 2 ^ suc n
-    step true lt = omega (arith, lt, pow-suc 2 n)
-    step false lt = omega (arith, lt, pow-suc 2 n)
+    next_within true lt = omega (arith, lt, pow-suc 2 n)
+    next_within false lt = omega (arith, lt, pow-suc 2 n)
 
 coalition_where-has : (n : ℕ) (test : ℕ → Bool) (i : ℕ) → i < n → has_player (coalition_where n test) i ≡ test i
 coalition_where-has zero test i lt = absurd (omega arith)
 coalition_where-has (suc n) test i lt =
-    step (test n) refl (λ less. coalition_where-has n test i less) (coalition_where-within n test)
+    next_has (test n) refl (λ less. coalition_where-has n test i less) (coalition_where-within n test)
   where
-    step : (b : Bool) → test n ≡ b → (i < n → has_player (coalition_where n test) i ≡ test i)
+    next_has : (b : Bool) → test n ≡ b → (i < n → has_player (coalition_where n test) i ≡ test i)
         → coalition_where n test < 2 ^ n
         → has_player (cond b (coalition_where n test + 2 ^ n) (coalition_where n test)) i ≡ test i
-    step true e ih within =
+    next_has true e ih within =
         let lacks = has_player-past n (coalition_where n test) n within (omega arith) in
         elim (less_or_last i n lt) [
           | inl less ↦
@@ -45,7 +45,7 @@ coalition_where-has (suc n) test i lt =
               ap (has_player (coalition_where n test + 2 ^ n)) same
               ∙ has_player-more_same (coalition_where n test) n lacks ∙ sym e ∙ ap test (sym same)
         ]
-    step false e ih within = elim (less_or_last i n lt) [
+    next_has false e ih within = elim (less_or_last i n lt) [
       | inl less ↦ ih less
       | inr same ↦
           has_player-past n (coalition_where n test) i within (omega (arith, same)) ∙ sym e ∙ ap test (sym same)
@@ -140,16 +140,16 @@ module _ (n : ℕ) (to back : ℕ → ℕ) (r : IsRenumbering n to back) where
     where
       counted_of : (k s : ℕ) → pos (length (members k s)) ≡ sum_over k (λ i. pos 1) s
       counted_of zero s = ap (λ l. pos (length l)) (members-zero s)
-      counted_of (suc k) s = step (has_player s k) refl (counted_of k s)
+      counted_of (suc k) s = next_counted (has_player s k) refl (counted_of k s)
         where
           next : k + 1 ≡ suc k
           next = omega arith
 
-          step : (b : Bool) → has_player s k ≡ b → pos (length (members k s)) ≡ sum_over k (λ i. pos 1) s
+          next_counted : (b : Bool) → has_player s k ≡ b → pos (length (members k s)) ≡ sum_over k (λ i. pos 1) s
               → pos (length (members (suc k) s)) ≡ sum_over k (λ i. pos 1) s +ℤ cond b (pos 1) (pos 0)
-          step true e ih =
+          next_counted true e ih =
               sym (ap (λ m. pos (length (members m s))) next) ∙ omega (arith, linear, ih, length-more_yes k s e)
-          step false e ih =
+          next_counted false e ih =
               sym (ap (λ m. pos (length (members m s))) next) ∙ omega (arith, linear, ih, length-more_no k s e)
 
 -- coalitions there and back

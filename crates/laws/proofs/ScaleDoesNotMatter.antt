@@ -104,9 +104,9 @@ module _ (k l : ℤ) (n : ℕ) (v w : ℕ → ℤ) (one_k : pos 1 ≤ℤ k) (one
       absurd (omega (arith, linear, there, here, worths x.den s lt, mul_left_commℤ l k (amount x s))))
 
 -- and back
-turned : (k l : ℤ) (n : ℕ) (v w : ℕ → ℤ) → ((s : ℕ) → s < 2 ^ n → l *ℤ v s ≡ k *ℤ w s) → (s : ℕ) → s < 2 ^ n
+sides_swapped : (k l : ℤ) (n : ℕ) (v w : ℕ → ℤ) → ((s : ℕ) → s < 2 ^ n → l *ℤ v s ≡ k *ℤ w s) → (s : ℕ) → s < 2 ^ n
     → k *ℤ w s ≡ l *ℤ v s
-turned k l n v w same s lt = sym (same s lt)
+sides_swapped k l n v w same s lt = sym (same s lt)
 
 pub answered_alike : (k l : ℤ) (g : Game) (w : ℕ → ℤ) (x : Allocation) → pos 1 ≤ℤ k → pos 1 ≤ℤ l
     → AreSameFractions k l g w → AreAnsweredAlike k l g w x
@@ -140,4 +140,4 @@ answered_alike k l g w x p q same = record {
 }
   where
     back : (s : ℕ) → s < 2 ^ g.players → k *ℤ w s ≡ l *ℤ g.worth s
-    back = turned k l g.players g.worth w same
+    back = sides_swapped k l g.players g.worth w same

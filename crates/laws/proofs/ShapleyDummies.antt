@@ -25,12 +25,12 @@ pub null-total : (g : Game) (i : ℕ) → i < g.players → AddsNothing g i → 
 null-total g i h nothing =
     orders_are_subsets g i h
     ∙ sum_below-zero (2 ^ g.players) (subset_term g.worth g.players i)
-    (λ s lt. step (has_player s i) (pos (orders_with g.players (size_below g.players s))) (g.worth (s + 2 ^ i))
+    (λ s lt. null_term (has_player s i) (pos (orders_with g.players (size_below g.players s))) (g.worth (s + 2 ^ i))
     (g.worth s) (nothing s lt))
   where
-    step : (b : Bool) (k y z : ℤ) → (b ≡ false → y ≡ z) → cond b (pos 0) (k *ℤ (y -ℤ z)) ≡ pos 0
-    step true k y z e = refl
-    step false k y z e =
+    null_term : (b : Bool) (k y z : ℤ) → (b ≡ false → y ≡ z) → cond b (pos 0) (k *ℤ (y -ℤ z)) ≡ pos 0
+    null_term true k y z e = refl
+    null_term false k y z e =
         let none : y -ℤ z ≡ pos 0 = (let same = e refl in omega (arith, linear, same)) in
         ap (λ d. k *ℤ d) none ∙ mul-zeroℤ k
 
@@ -73,14 +73,15 @@ only-total n i lt =
     (λ j h ne. null-total (only n i) j h
     (λ s within out. ap worth_if (has_player-more_other s j i out (λ e. ne (sym e))))))
     ∙ sum-totals (only n i)
-    ∙ ap (λ (z : ℤ). pos (factorial n) *ℤ z) one
+    ∙ ap (λ (z : ℤ). pos (factorial n) *ℤ z) grand_worth_one
     ∙ mul-oneℤ (pos (factorial n))
   where
     worth_if : Bool → ℤ
     worth_if b = cond b (pos 1) (pos 0)
 
-    one : cond (has_player (grand_coalition n) i) (pos 1) (pos 0) -ℤ cond (has_player 0 i) (pos 1) (pos 0) ≡ pos 1
-    one = rw (has_player-grand_coalition n i lt, has_player-empty i) refl
+    grand_worth_one : cond (has_player (grand_coalition n) i) (pos 1) (pos 0) -ℤ cond (has_player 0 i) (pos 1) (pos 0)
+        ≡ pos 1
+    grand_worth_one = rw (has_player-grand_coalition n i lt, has_player-empty i) refl
 
 dummy-total : (g : Game) (i : ℕ) → i < g.players → IsDummy g i
     → shapley_total g i ≡ pos (factorial g.players) *ℤ g.worth (singleton i)
@@ -98,14 +99,14 @@ dummy-total g i lt dummy =
         → subset_term g.worth g.players i s
         ≡ g.worth (singleton i) *ℤ subset_term (only g.players i).worth g.players i s
     at s h =
-        step (has_player s i) (has_player (s + 2 ^ i) i) (pos (orders_with g.players (size_below g.players s)))
+        dummy_term (has_player s i) (has_player (s + 2 ^ i) i) (pos (orders_with g.players (size_below g.players s)))
         (g.worth (s + 2 ^ i)) (g.worth s) (g.worth (singleton i)) (has_player-more_same s i) (dummy s h)
       where
-        step : (b c : Bool) (k y z w : ℤ) → (b ≡ false → c ≡ true) → (b ≡ false → y ≡ z +ℤ w)
+        dummy_term : (b c : Bool) (k y z w : ℤ) → (b ≡ false → c ≡ true) → (b ≡ false → y ≡ z +ℤ w)
             → cond b (pos 0) (k *ℤ (y -ℤ z))
             ≡ w *ℤ cond b (pos 0) (k *ℤ (cond c (pos 1) (pos 0) -ℤ cond b (pos 1) (pos 0)))
-        step true c k y z w e f = sym (mul-zeroℤ w)
-        step false c k y z w e f =
+        dummy_term true c k y z w e f = sym (mul-zeroℤ w)
+        dummy_term false c k y z w e f =
             let more : y -ℤ z ≡ w = (let same = f refl in omega (arith, linear, same)) in
             rw (e refl) (ap (λ d. k *ℤ d) more ∙ *ℤ_comm k w ∙ ap (λ d. w *ℤ d) (sym (mul-oneℤ k)))
 

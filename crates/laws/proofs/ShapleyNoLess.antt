@@ -60,7 +60,7 @@ module _ (g : Game) (i j : ℕ) (hi : i < g.players) (hj : j < g.players) (ne : 
 
   pairs-no_less : (s : ℕ) → s < 2 ^ n → pair_term v n j i s ≤ℤ pair_term v n i j s
   pairs-no_less s lt =
-      step (has_player s i) (has_player s j) (has_player (s + 2 ^ j) i) (has_player (s + 2 ^ i) j) _ _ _ _
+      terms_no_less (has_player s i) (has_player s j) (has_player (s + 2 ^ j) i) (has_player (s + 2 ^ i) j) _ _ _ _
       (λ out. has_player-more_other s j i out ne) (λ out. has_player-more_other s i j out (λ e. ne (sym e))) both
       refl refl
     where
@@ -83,15 +83,15 @@ module _ (g : Game) (i j : ℕ) (hi : i < g.players) (hj : j < g.players) (ne : 
           (v (s + 2 ^ j + 2 ^ i) -ℤ v (s + 2 ^ j)) (omega (arith, linear, le)) in
           omega (arith, linear, first, same, second)
 
-      step : (b c p q : Bool) (a d e f : ℤ) → (c ≡ false → p ≡ b) → (b ≡ false → q ≡ c)
+      terms_no_less : (b c p q : Bool) (a d e f : ℤ) → (c ≡ false → p ≡ b) → (b ≡ false → q ≡ c)
           → (has_player s i ≡ false → has_player s j ≡ false → (e +ℤ f) ≤ℤ (a +ℤ d)) → has_player s i ≡ b
           → has_player s j ≡ c
           → cond b (pos 0) (cond c (pos 0) e +ℤ cond q (pos 0) f)
           ≤ℤ cond c (pos 0) (cond b (pos 0) a +ℤ cond p (pos 0) d)
-      step true true p q a d e f h k le one two = omega (arith, linear)
-      step true false p q a d e f h k le one two = rw (h refl) (omega (arith, linear))
-      step false true p q a d e f h k le one two = rw (k refl) (omega (arith, linear))
-      step false false p q a d e f h k le one two = rw (h refl, k refl) (le one two)
+      terms_no_less true true p q a d e f h k le one two = omega (arith, linear)
+      terms_no_less true false p q a d e f h k le one two = rw (h refl) (omega (arith, linear))
+      terms_no_less false true p q a d e f h k le one two = rw (k refl) (omega (arith, linear))
+      terms_no_less false false p q a d e f h k le one two = rw (h refl, k refl) (le one two)
 
   apart : shapley_total g j ≤ℤ shapley_total g i
   apart =

@@ -20,41 +20,41 @@ one_if z x = cond (int_eq x z) 1 0
 all_with_number : (m f : ℤ) (xs : List ℤ) → f ≤ℤ m → AllByRecursion (λ y. y ≤ℤ m) xs
     → AllByRecursion (λ y. y ≤ℤ m) (with_number f xs)
 all_with_number m f [] le h = (le, tt)
-all_with_number m f (x ∷ xs) le h = step (all_with_number m f xs le h.1) (int_lt x f)
+all_with_number m f (x ∷ xs) le h = next_all (all_with_number m f xs le h.1) (int_lt x f)
   where
-    step : AllByRecursion (λ y. y ≤ℤ m) (with_number f xs) → (b : Bool)
+    next_all : AllByRecursion (λ y. y ≤ℤ m) (with_number f xs) → (b : Bool)
         → AllByRecursion (λ y. y ≤ℤ m) (cond b (f ∷ (x ∷ xs)) (x ∷ with_number f xs))
-    step ih true = (le, h)
-    step ih false = (h.0, ih)
+    next_all ih true = (le, h)
+    next_all ih false = (h.0, ih)
 
 pub Falls-with_number : (f : ℤ) (xs : List ℤ) → Falls xs → Falls (with_number f xs)
 Falls-with_number f [] h = (tt, tt)
-Falls-with_number f (x ∷ xs) h = step (Falls-with_number f xs h.1) (int_lt x f) refl
+Falls-with_number f (x ∷ xs) h = next_falls (Falls-with_number f xs h.1) (int_lt x f) refl
   where
-    step : Falls (with_number f xs) → (b : Bool) → int_lt x f ≡ b
+    next_falls : Falls (with_number f xs) → (b : Bool) → int_lt x f ≡ b
         → Falls (cond b (f ∷ (x ∷ xs)) (x ∷ with_number f xs))
-    step ih true e =
+    next_falls ih true e =
         let le : x ≤ℤ f = omega (arith, ints, e) in
         ((le, all_weaken (λ y. y ≤ℤ x) (λ y. y ≤ℤ f) xs (λ y k. omega (arith, linear, k, le)) h.0), h)
-    step ih false e = (all_with_number x f xs (omega (arith, ints, e)) h.0, ih)
+    next_falls ih false e = (all_with_number x f xs (omega (arith, ints, e)) h.0, ih)
 
 pub times_in-with_number : (z f : ℤ) (xs : List ℤ) → times_in z (with_number f xs) ≡ one_if z f + times_in z xs
 times_in-with_number z f [] = refl
-times_in-with_number z f (x ∷ xs) = step (times_in-with_number z f xs) (int_lt x f)
+times_in-with_number z f (x ∷ xs) = next_times (times_in-with_number z f xs) (int_lt x f)
   where
-    step : times_in z (with_number f xs) ≡ one_if z f + times_in z xs → (b : Bool)
+    next_times : times_in z (with_number f xs) ≡ one_if z f + times_in z xs → (b : Bool)
         → times_in z (cond b (f ∷ (x ∷ xs)) (x ∷ with_number f xs)) ≡ one_if z f + (one_if z x + times_in z xs)
-    step ih true = refl
-    step ih false = omega (arith, ih)
+    next_times ih true = refl
+    next_times ih false = omega (arith, ih)
 
 pub length-with_number : (f : ℤ) (xs : List ℤ) → length (with_number f xs) ≡ suc (length xs)
 length-with_number f [] = refl
-length-with_number f (x ∷ xs) = step (length-with_number f xs) (int_lt x f)
+length-with_number f (x ∷ xs) = next_length (length-with_number f xs) (int_lt x f)
   where
-    step : length (with_number f xs) ≡ suc (length xs) → (b : Bool)
+    next_length : length (with_number f xs) ≡ suc (length xs) → (b : Bool)
         → length (cond b (f ∷ (x ∷ xs)) (x ∷ with_number f xs)) ≡ suc (suc (length xs))
-    step ih true = refl
-    step ih false = ap suc ih
+    next_length ih true = refl
+    next_length ih false = ap suc ih
 
 -- ---- the sorted list
 
@@ -74,11 +74,12 @@ one_if-same x = grind (arith, ints)
 -- what stands in a list that nothing is greater than m in isn't either
 standing : (m z : ℤ) (xs : List ℤ) → AllByRecursion (λ y. y ≤ℤ m) xs → 1 ≤ times_in z xs → z ≤ℤ m
 standing m z [] h some = absurd (omega arith)
-standing m z (x ∷ xs) h some = step (standing m z xs h.1) (int_eq x z) refl
+standing m z (x ∷ xs) h some = next_standing (standing m z xs h.1) (int_eq x z) refl
   where
-    step : (1 ≤ times_in z xs → z ≤ℤ m) → (b : Bool) → int_eq x z ≡ b → z ≤ℤ m
-    step ih true e = (let le = h.0 in let same = from_int_eq x z e in omega (arith, linear, same, le))
-    step ih false e = ih (let none : one_if z x ≡ 0 = ap (λ (b : Bool). cond b 1 0) e in omega (arith, none, some))
+    next_standing : (1 ≤ times_in z xs → z ≤ℤ m) → (b : Bool) → int_eq x z ≡ b → z ≤ℤ m
+    next_standing ih true e = (let le = h.0 in let same = from_int_eq x z e in omega (arith, linear, same, le))
+    next_standing ih false e =
+        ih (let none : one_if z x ≡ 0 = ap (λ (b : Bool). cond b 1 0) e in omega (arith, none, some))
 
 -- the first of a list that falls is no less than what stands in it
 first_greatest : (x z : ℤ) (xs : List ℤ) → Falls (x ∷ xs) → 1 ≤ times_in z (x ∷ xs) → z ≤ℤ x

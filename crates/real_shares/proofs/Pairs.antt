@@ -50,8 +50,8 @@ below-shift : (f g h : ℕ → ℤ) → Below f g → Below (λ k. f k +ℤ h k)
 below-shift f g h (inl a) = inl (omega (arith, linear))
 below-shift f g h (inr a) = let u = a.0 in let v = a.1 in inr (omega (arith, linear, u), omega (arith, linear, v))
 
-same : (f h : ℕ → ℤ) → f 0 ≡ h 0 → f 1 ≡ h 1 → Equal pairs f h
-same f h d e = (
+equal_from_parts : (f h : ℕ → ℤ) → f 0 ≡ h 0 → f 1 ≡ h 1 → Equal pairs f h
+equal_from_parts f h d e = (
   from_below f h (inr (omega (arith, linear, d), omega (arith, linear, e))),
   from_below h f (inr (omega (arith, linear, d), omega (arith, linear, e))),
 )
@@ -61,11 +61,13 @@ pairs_ordered = record {
   linear = λ f h. elim (below-linear f h) [ inl a ↦ inl (from_below f h a) | inr a ↦ inr (from_below h f a) ];
   transitive = λ f g h a b. from_below f h (below-trans f g h (to_below f g a) (to_below g h b));
   shifts = λ f g h a. from_below (λ k. f k +ℤ h k) (λ k. g k +ℤ h k) (below-shift f g h (to_below f g a));
-  commutes = λ f h. same (λ k. f k +ℤ h k) (λ k. h k +ℤ f k) (omega (arith, linear)) (omega (arith, linear));
-  associates = λ f g h. same (λ k. f k +ℤ g k +ℤ h k) (λ k. f k +ℤ (g k +ℤ h k)) (omega (arith, linear))
+  commutes = λ f h. equal_from_parts (λ k. f k +ℤ h k) (λ k. h k +ℤ f k) (omega (arith, linear))
       (omega (arith, linear));
-  neutral = λ f. same (λ k. f k +ℤ pos 0) f (omega (arith, linear)) (omega (arith, linear));
-  inverse = λ f. same (λ k. f k +ℤ (pos 0 -ℤ f k)) (λ k. pos 0) (omega (arith, linear)) (omega (arith, linear));
+  associates = λ f g h. equal_from_parts (λ k. f k +ℤ g k +ℤ h k) (λ k. f k +ℤ (g k +ℤ h k)) (omega (arith, linear))
+      (omega (arith, linear));
+  neutral = λ f. equal_from_parts (λ k. f k +ℤ pos 0) f (omega (arith, linear)) (omega (arith, linear));
+  inverse = λ f. equal_from_parts (λ k. f k +ℤ (pos 0 -ℤ f k)) (λ k. pos 0) (omega (arith, linear))
+      (omega (arith, linear));
   positive = λ h. elim (to_below pairs.unit pairs.zero h)
       [ inl a ↦ omega (arith, linear, a) | inr a ↦ let u = a.1 in omega (arith, linear, u) ];
 }

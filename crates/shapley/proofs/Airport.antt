@@ -92,10 +92,10 @@ weight-at : (j k r q : ℕ) → j ≡ k → r ≡ q → weight j r ≡ weight k 
 weight-at j k r q e f = ap (λ (a : ℕ). weight a r) e ∙ ap (λ (a : ℕ). weight k a) f
 
 weights-add : (j r n : ℕ) → suc r + suc j ≡ n → weight j (suc r) +ℤ weight (suc j) r ≡ pos n *ℤ weight j r
-weights-add j r n e = step (factorial j) (factorial r)
+weights-add j r n e = products_add (factorial j) (factorial r)
   where
-    step : (a b : ℕ) → pos (a * (suc r * b)) +ℤ pos (suc j * a * b) ≡ pos (n * (a * b))
-    step a b =
+    products_add : (a b : ℕ) → pos (a * (suc r * b)) +ℤ pos (suc j * a * b) ≡ pos (n * (a * b))
+    products_add a b =
         let one : a * (suc r * b) ≡ suc r * (a * b) = omega arith in
         let two : suc j * a * b ≡ suc j * (a * b) = omega arith in
         let all = ap (λ (k : ℕ). k * (a * b)) e in
@@ -107,16 +107,16 @@ open_step_in m n d s e lt =
     let a =
     weight-at _ _ _ _ (size_below-without n s lt)
     (ap (λ (k : ℕ). k + d) (lacks-without n s lt) ∙ more (lacks n s)) in
-    step (clear m (suc n) s) (clear m (suc n) (2 ^ n + s)) (clear m n s) _ _ _ (clear-without m n s lt)
+    first_term_alone (clear m (suc n) s) (clear m (suc n) (2 ^ n + s)) (clear m n s) _ _ _ (clear-without m n s lt)
     (clear-with m n s lt ∙ rw e (and_false (clear m n s))) a
   where
     more : (r : ℕ) → suc r + d ≡ r + suc d
     more r = omega arith
 
-    step : (b c f : Bool) (x y z : ℤ) → b ≡ f → c ≡ false → x ≡ z
+    first_term_alone : (b c f : Bool) (x y z : ℤ) → b ≡ f → c ≡ false → x ≡ z
         → cond b x (pos 0) +ℤ cond c y (pos 0) ≡ cond f z (pos 0)
-    step b c true x y z h k i = rw (h, k) (omega (arith, linear, i))
-    step b c false x y z h k i = rw (h, k) refl
+    first_term_alone b c true x y z h k i = rw (h, k) (omega (arith, linear, i))
+    first_term_alone b c false x y z h k i = rw (h, k) refl
 
 open_step_out : (m : ℕ → Bool) (n d s : ℕ) → m n ≡ false → s < 2 ^ n
     → open_term m (suc n) d s +ℤ open_term m (suc n) d (2 ^ n + s) ≡ pos (suc (suc (n + d))) *ℤ open_term m n d s
@@ -127,7 +127,7 @@ open_step_out m n d s e lt =
     let b = weight-at _ _ _ _ (size_below-with n s lt) (ap (λ (k : ℕ). k + d) (lacks-with n s lt)) in
     let all = size-lacks n s in
     let c = weights-add (size_below n s) (lacks n s + d) (suc (suc (n + d))) (omega arith) in
-    step (clear m (suc n) s) (clear m (suc n) (2 ^ n + s)) (clear m n s)
+    both_terms (clear m (suc n) s) (clear m (suc n) (2 ^ n + s)) (clear m n s)
     (weight (size_below (suc n) s) (lacks (suc n) s + d))
     (weight (size_below (suc n) (2 ^ n + s)) (lacks (suc n) (2 ^ n + s) + d))
     (weight (size_below n s) (lacks n s + d)) (pos (suc (suc (n + d)))) (clear-without m n s lt)
@@ -136,10 +136,10 @@ open_step_out m n d s e lt =
     more : (r : ℕ) → suc r + d ≡ suc (r + d)
     more r = omega arith
 
-    step : (b c f : Bool) (x y z k : ℤ) → b ≡ f → c ≡ f → x +ℤ y ≡ k *ℤ z
+    both_terms : (b c f : Bool) (x y z k : ℤ) → b ≡ f → c ≡ f → x +ℤ y ≡ k *ℤ z
         → cond b x (pos 0) +ℤ cond c y (pos 0) ≡ k *ℤ cond f z (pos 0)
-    step b c true x y z k h i e = rw (h, i) e
-    step b c false x y z k h i e = rw (h, i) (sym (mul-zeroℤ k))
+    both_terms b c true x y z k h i e = rw (h, i) e
+    both_terms b c false x y z k h i e = rw (h, i) (sym (mul-zeroℤ k))
 
 abbrev open_sum : (ℕ → Bool) → ℕ → ℕ → ℤ
 open_sum m n d = sum_below (2 ^ n) (open_term m n d)
@@ -149,19 +149,19 @@ multiplied : (a q f : ℕ) (s t : ℤ) → t ≡ pos q *ℤ s → pos a *ℤ s �
 multiplied a q f s t e h = ap (λ z. pos a *ℤ z) e ∙ mul_left_commℤ (pos a) (pos q) s ∙ ap (λ z. pos q *ℤ z) h
 
 open_total : (m : ℕ → Bool) (n d : ℕ) → pos (suc d + count m n) *ℤ open_sum m n d ≡ pos (factorial (suc (n + d)))
-open_total m zero d = ap (λ z. pos (suc d + 0) *ℤ (pos 0 +ℤ z)) nobody ∙ ap pos (step (factorial (0 + d)))
+open_total m zero d = ap (λ z. pos (suc d + 0) *ℤ (pos 0 +ℤ z)) nobody ∙ ap pos (units_dropped (factorial (0 + d)))
   where
     nobody : weight (size_below 0 0) (lacks 0 0 + d) ≡ weight 0 (0 + d)
     nobody =
         let none = size_below-zero 0 in
         weight-at (size_below 0 0) 0 (lacks 0 0 + d) (0 + d) none (omega arith)
 
-    step : (f : ℕ) → (suc d + 0) * (0 + 1 * f) ≡ suc (0 + d) * f
-    step f = omega arith
+    units_dropped : (f : ℕ) → (suc d + 0) * (0 + 1 * f) ≡ suc (0 + d) * f
+    units_dropped f = omega arith
 open_total m (suc n) d = cases (m n) refl (open_total m n (suc d)) (open_total m n d)
   where
-    moved : suc d + suc (count m n) ≡ suc (suc d) + count m n
-    moved = omega arith
+    suc_to_front : suc d + suc (count m n) ≡ suc (suc d) + count m n
+    suc_to_front = omega arith
 
     top : suc (n + suc d) ≡ suc (suc n + d)
     top = omega arith
@@ -179,7 +179,7 @@ open_total m (suc n) d = cases (m n) refl (open_total m n (suc d)) (open_total m
         (sum_below-halves n (open_term m (suc n) d)
         ∙ sum_below-same (2 ^ n) (λ s. open_term m (suc n) d s +ℤ open_term m (suc n) d (2 ^ n + s))
         (open_term m n (suc d)) (λ s lt. open_step_in m n d s e lt))
-        ∙ ap (λ (k : ℕ). pos k *ℤ open_sum m n (suc d)) moved
+        ∙ ap (λ (k : ℕ). pos k *ℤ open_sum m n (suc d)) suc_to_front
         ∙ more
         ∙ ap (λ (k : ℕ). pos (factorial k)) top
     cases false e more same =
@@ -223,17 +223,17 @@ closed_step_in m n i s e out lt =
     let a =
     weight-at _ _ _ _ (size_below-without n s lt)
     (ap (λ (k : ℕ). k - 1) (lacks-without n s lt) ∙ pred_zero (lacks n s)) in
-    step (has_player s i) (has_player (2 ^ n + s) i) (clear m (suc n) s) (clear m (suc n) (2 ^ n + s)) (clear m n s)
-    _ _ _ out.0 (clear-without m n s lt) (clear-with m n s lt ∙ rw e (and_false (clear m n s))) a
+    first_term_alone (has_player s i) (has_player (2 ^ n + s) i) (clear m (suc n) s) (clear m (suc n) (2 ^ n + s))
+    (clear m n s) _ _ _ out.0 (clear-without m n s lt) (clear-with m n s lt ∙ rw e (and_false (clear m n s))) a
   where
-    step : (p q b c f : Bool) (x y z : ℤ) → (p ≡ true → f ≡ false) → b ≡ f → c ≡ false → x ≡ z
+    first_term_alone : (p q b c f : Bool) (x y z : ℤ) → (p ≡ true → f ≡ false) → b ≡ f → c ≡ false → x ≡ z
         → cond p (pos 0) (cond b x (pos 0)) +ℤ cond q (pos 0) (cond c y (pos 0)) ≡ cond f z (pos 0)
-    step true true b c f x y z o h k i = rw (o refl) refl
-    step true false b c f x y z o h k i = rw (k, o refl) refl
-    step false true b c true x y z o h k i = rw h (omega (arith, linear, i))
-    step false true b c false x y z o h k i = rw h refl
-    step false false b c true x y z o h k i = rw (h, k) (omega (arith, linear, i))
-    step false false b c false x y z o h k i = rw (h, k) refl
+    first_term_alone true true b c f x y z o h k i = rw (o refl) refl
+    first_term_alone true false b c f x y z o h k i = rw (k, o refl) refl
+    first_term_alone false true b c true x y z o h k i = rw h (omega (arith, linear, i))
+    first_term_alone false true b c false x y z o h k i = rw h refl
+    first_term_alone false false b c true x y z o h k i = rw (h, k) (omega (arith, linear, i))
+    first_term_alone false false b c false x y z o h k i = rw (h, k) refl
 
 -- the last player is another one outside the set
 closed_step_out : (m : ℕ → Bool) (n i s : ℕ) → m n ≡ false → i < n → s < 2 ^ n
@@ -241,7 +241,8 @@ closed_step_out : (m : ℕ → Bool) (n i s : ℕ) → m n ≡ false → i < n �
 closed_step_out m n i s e below lt =
     let a = weight-at _ _ _ _ (size_below-without n s lt) (ap (λ (k : ℕ). k - 1) (lacks-without n s lt)) in
     let b = weight-at _ _ _ _ (size_below-with n s lt) (ap (λ (k : ℕ). k - 1) (lacks-with n s lt)) in
-    step (has_player s i) (has_player (2 ^ n + s) i) (clear m (suc n) s) (clear m (suc n) (2 ^ n + s)) (clear m n s)
+    both_terms (has_player s i) (has_player (2 ^ n + s) i) (clear m (suc n) s) (clear m (suc n) (2 ^ n + s))
+    (clear m n s)
     (weight (size_below (suc n) s) (lacks (suc n) s - 1))
     (weight (size_below (suc n) (2 ^ n + s)) (lacks (suc n) (2 ^ n + s) - 1))
     (weight (size_below n s) (lacks n s - 1)) (pos (suc n)) (has_player-lower n s i below)
@@ -265,12 +266,12 @@ closed_step_out m n i s e below lt =
         let w = ap (λ z. pos (suc n) *ℤ z) (weight-at (size_below n s) (size_below n s) (suc r - 1) r refl p) in
         omega (arith, linear, a, b, c, u, v, w)
 
-    step : (p q b c f : Bool) (x y z k : ℤ) → q ≡ p → b ≡ f → c ≡ f → (p ≡ false → x +ℤ y ≡ k *ℤ z)
+    both_terms : (p q b c f : Bool) (x y z k : ℤ) → q ≡ p → b ≡ f → c ≡ f → (p ≡ false → x +ℤ y ≡ k *ℤ z)
         → cond p (pos 0) (cond b x (pos 0)) +ℤ cond q (pos 0) (cond c y (pos 0))
         ≡ k *ℤ cond p (pos 0) (cond f z (pos 0))
-    step true q b c f x y z k g h i j = rw g (sym (mul-zeroℤ k))
-    step false q b c true x y z k g h i j = rw (g, h, i) (j refl)
-    step false q b c false x y z k g h i j = rw (g, h, i) (sym (mul-zeroℤ k))
+    both_terms true q b c f x y z k g h i j = rw g (sym (mul-zeroℤ k))
+    both_terms false q b c true x y z k g h i j = rw (g, h, i) (j refl)
+    both_terms false q b c false x y z k g h i j = rw (g, h, i) (sym (mul-zeroℤ k))
 
 pub closed_total : (m : ℕ → Bool) (n i : ℕ) → i < n → m i ≡ true
     → pos (count m n) *ℤ closed_sum m n i ≡ pos (factorial n)
@@ -334,25 +335,25 @@ clear-is zero cost u s = nothing u
     nothing : (u : ℕ) → nat_le 0 u ≡ true
     nothing u = grind (arith, nat_tests)
 clear-is (suc n) cost u s =
-    step (has_player s n) (greatest_cost n cost s) (cost n)
+    max_at_most (has_player s n) (greatest_cost n cost s) (cost n)
     ∙ ap (λ b. b && not (has_player s n && nat_lt u (cost n))) (clear-is n cost u s)
   where
-    step : (b : Bool) (g c : ℕ) → nat_le (max g (cond b c 0)) u ≡ (nat_le g u && not (b && nat_lt u c))
-    step true g c = both g c
+    max_at_most : (b : Bool) (g c : ℕ) → nat_le (max g (cond b c 0)) u ≡ (nat_le g u && not (b && nat_lt u c))
+    max_at_most true g c = both g c
       where
         both : (g c : ℕ) → nat_le (max g c) u ≡ (nat_le g u && not (nat_lt u c))
         both g c = grind (arith, nat_tests)
-    step false g c = one g
+    max_at_most false g c = max_zero_at_most g
       where
-        one : (g : ℕ) → nat_le (max g 0) u ≡ (nat_le g u && true)
-        one g = grind (arith, nat_tests)
+        max_zero_at_most : (g : ℕ) → nat_le (max g 0) u ≡ (nat_le g u && true)
+        max_zero_at_most g = grind (arith, nat_tests)
 
 -- a number times how far c is above g, unit by unit
 layers : (w : ℤ) (g c : ℕ) → sum_below c (λ u. if nat_le g u then w else pos 0) ≡ w *ℤ pos (c - g)
-layers w g zero = sym (ap (λ (k : ℕ). w *ℤ pos k) (none g) ∙ mul-zeroℤ w)
+layers w g zero = sym (ap (λ (k : ℕ). w *ℤ pos k) (nothing_above g) ∙ mul-zeroℤ w)
   where
-    none : (g : ℕ) → 0 - g ≡ 0
-    none g = omega arith
+    nothing_above : (g : ℕ) → 0 - g ≡ 0
+    nothing_above g = omega arith
 layers w g (suc c) = cases (nat_le g c) refl (layers w g c)
   where
     at_most : (g c : ℕ) → nat_le g c ≡ true → pos (suc c - g) ≡ pos (c - g) +ℤ pos 1
@@ -380,13 +381,13 @@ layer-closed : (n i : ℕ) (cost : ℕ → ℕ) (u s : ℕ) → layer_term n i c
 layer-closed n i cost u s =
     let all = size-lacks n s in
     let rest : n - 1 - size_below n s ≡ lacks n s - 1 = omega arith in
-    step (has_player s i) (nat_le (greatest_cost n cost s) u) (clear (above cost u) n s) _ _ (clear-is n cost u s)
+    terms_same (has_player s i) (nat_le (greatest_cost n cost s) u) (clear (above cost u) n s) _ _ (clear-is n cost u s)
     (weight-at (size_below n s) (size_below n s) (n - 1 - size_below n s) (lacks n s - 1) refl rest)
   where
-    step : (p b c : Bool) (x y : ℤ) → b ≡ c → x ≡ y
+    terms_same : (p b c : Bool) (x y : ℤ) → b ≡ c → x ≡ y
         → cond p (pos 0) (cond b x (pos 0)) ≡ cond p (pos 0) (cond c y (pos 0))
-    step true b c x y e f = refl
-    step false b c x y e f = rw (e, f) refl
+    terms_same true b c x y e f = refl
+    terms_same false b c x y e f = rw (e, f) refl
 
 term-layers : (costs : List ℕ) (i s : ℕ) → i < length costs
     → subset_term (airport_worth costs) (length costs) i s
@@ -398,8 +399,8 @@ term-layers costs i s lt = cases (has_player s i) refl
         let e : neg_ℤ (pos (max g c)) -ℤ neg_ℤ (pos g) ≡ neg_ℤ (pos (c - g)) = omega (arith, ints) in
         ap (λ z. w *ℤ z) e ∙ mul-negℤ w (pos (c - g))
 
-    none : (k : ℕ) → pos 0 ≡ neg_ℤ (sum_below k (λ u. pos 0))
-    none k = ap neg_ℤ (sym (sum_below-zero k (λ u. pos 0) (λ u h. refl)))
+    zero_layers : (k : ℕ) → pos 0 ≡ neg_ℤ (sum_below k (λ u. pos 0))
+    zero_layers k = ap neg_ℤ (sym (sum_below-zero k (λ u. pos 0) (λ u h. refl)))
 
     cases : (b : Bool) → has_player s i ≡ b
         → cond b (pos 0)
@@ -410,7 +411,7 @@ term-layers costs i s lt = cases (has_player s i) refl
         (λ u. cond b (pos 0)
         (if nat_le (greatest_cost (length costs) (slice_index costs) s) u
         then pos (orders_with (length costs) (size_below (length costs) s)) else pos 0)))
-    cases true e = none (slice_index costs i)
+    cases true e = zero_layers (slice_index costs i)
     cases false e =
         let w = pos (orders_with (length costs) (size_below (length costs) s)) in
         let g = greatest_cost (length costs) (slice_index costs) s in
@@ -466,7 +467,7 @@ airport-shares costs i l lt divides =
     let each =
     sum_below-same (slice_index costs i)
     (λ u. pos (factorial (length costs)) *ℤ pos (l / count (above (slice_index costs) u) (length costs)))
-    (λ u. pos l *ℤ closed_sum (above (slice_index costs) u) (length costs) i) (λ u h. one u h) in
+    (λ u. pos l *ℤ closed_sum (above (slice_index costs) u) (length costs) i) (λ u h. unit_share u h) in
     let left =
     sum_below-times (slice_index costs i) (λ u. pos (l / count (above (slice_index costs) u) (length costs)))
     (pos (factorial (length costs))) in
@@ -482,16 +483,16 @@ airport-shares costs i l lt divides =
     join a b t f l e g =
         *ℤ_comm (neg_ℤ a) f ∙ mul-negℤ f a ∙ ap neg_ℤ e ∙ sym (mul-negℤ l b) ∙ ap (λ z. l *ℤ z) (sym g)
 
-    one : (u : ℕ) → u < slice_index costs i
+    unit_share : (u : ℕ) → u < slice_index costs i
         → pos (factorial (length costs)) *ℤ pos (l / count (above (slice_index costs) u) (length costs))
         ≡ pos l *ℤ closed_sum (above (slice_index costs) u) (length costs) i
-    one u h =
-        step (count (above (slice_index costs) u) (length costs))
+    unit_share u h =
+        cross_multiplied (count (above (slice_index costs) u) (length costs))
         (l / count (above (slice_index costs) u) (length costs))
         (closed_sum (above (slice_index costs) u) (length costs) i) (factorial (length costs)) (divides u h)
         (closed_total (above (slice_index costs) u) (length costs) i lt (nat_lt-less u (slice_index costs i) h))
       where
-        step : (k q : ℕ) (z : ℤ) (f : ℕ) → k * q ≡ l → pos k *ℤ z ≡ pos f → pos f *ℤ pos q ≡ pos l *ℤ z
-        step k q z f e g =
+        cross_multiplied : (k q : ℕ) (z : ℤ) (f : ℕ) → k * q ≡ l → pos k *ℤ z ≡ pos f → pos f *ℤ pos q ≡ pos l *ℤ z
+        cross_multiplied k q z f e g =
             *ℤ_comm (pos f) (pos q) ∙ ap (λ y. pos q *ℤ y) (sym g) ∙ sym (mul_assocℤ (pos q) (pos k) z)
             ∙ ap (λ (m : ℕ). pos m *ℤ z) (mul_comm q k ∙ e)

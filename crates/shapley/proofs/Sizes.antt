@@ -16,10 +16,10 @@ factorial-mul (suc j) r =
     let ih = factorial-mul j r in
     let e : suc j + r ≡ suc (j + r) = omega arith in
     let le : suc j ≤ suc (j + r) = omega arith in
-    rw e (step (suc j) (suc (j + r)) (factorial j) (factorial r) (factorial (j + r)) (mul-le-mul le ih))
+    rw e (factors_regrouped (suc j) (suc (j + r)) (factorial j) (factorial r) (factorial (j + r)) (mul-le-mul le ih))
   where
-    step : (k m a b c : ℕ) → k * (a * b) ≤ m * c → k * a * b ≤ m * c
-    step k m a b c h = let e : k * a * b ≡ k * (a * b) = omega arith in omega (arith, h, e)
+    factors_regrouped : (k m a b c : ℕ) → k * (a * b) ≤ m * c → k * a * b ≤ m * c
+    factors_regrouped k m a b c h = let e : k * a * b ≡ k * (a * b) = omega arith in omega (arith, h, e)
 
 pub factorial-some : (n : ℕ) → 1 ≤ factorial n
 factorial-some zero = omega arith

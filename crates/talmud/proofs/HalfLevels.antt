@@ -35,12 +35,12 @@ pub others_proper : (n : ℕ) (cost at : ℕ → ℕ) → IsOrder n cost at → 
     → (0 < others n at j) × (others n at j < grand_coalition n)
 others_proper n cost at o two j lt = with_other (other_place j n lt two)
   where
-    small : others n at j < 2 ^ n
-    small = let p = pow-lt (o.below j lt) in omega (arith, p)
+    others_within : others n at j < 2 ^ n
+    others_within = let p = pow-lt (o.below j lt) in omega (arith, p)
 
     with_other : ((h : ℕ) × (h < n) × (j ≢ h)) → (0 < others n at j) × (others n at j < grand_coalition n)
     with_other (h, hn, ne) =
-        proper n (others n at j) (at h) (at j) small (others-has n cost at o j h lt hn ne) (o.below j lt)
+        proper n (others n at j) (at h) (at j) others_within (others-has n cost at o j h lt hn ne) (o.below j lt)
         (others-lacks n cost at o j lt)
 
 pub single_proper : (n : ℕ) (cost at : ℕ → ℕ) → IsOrder n cost at → 2 ≤ n → (j : ℕ) → j < n
@@ -60,14 +60,14 @@ ascends-half : (n : ℕ) (cost at : ℕ → ℕ) (m i k : ℕ) (l : Level) → m
 ascends-half n cost at m i k l mn o b = elim (three_or_two n b.two) [
   | inl three ↦ ascends-both n cost at o three i (k - i)
       (let some = b.end.some in let within = b.end.within in omega arith)
-  | inr two ↦ rw (one k i (b.end.pair two)) (ascends-one n cost at o i (let t = b.two in omega arith))
+  | inr two ↦ rw (one_apart k i (b.end.pair two)) (ascends-one n cost at o i (let t = b.two in omega arith))
 ]
   where
     three_or_two : (n : ℕ) → i + 2 ≤ n → (3 ≤ n) ⊎ (n ≡ 2)
     three_or_two n h = grind arith
 
-    one : (k i : ℕ) → k ≡ i + 1 → k - i ≡ 1
-    one k i e = omega arith
+    one_apart : (k i : ℕ) → k ≡ i + 1 → k - i ≡ 1
+    one_apart k i e = omega arith
 
 pub half_form : (n : ℕ) (cost at : ℕ → ℕ) (m i k : ℕ) (levels : List Level) (l : Level) → n ≤ 64 → m ≤ n
     → IsOrder n cost at → IsHalfLevel n cost at m i k l → LevelForm n levels l
@@ -176,8 +176,8 @@ half_holds family estate claims at m gain t x i k levels l r b c = record {
     twice j lt = let h = r.half j lt in omega (arith, linear, h)
 
     -- equal claims have equal halves
-    same : (j : ℕ) → i ≤ j → j < k → share x (at j) ≡ share x (at i)
-    same j low high =
+    equal_halves : (j : ℕ) → i ≤ j → j < k → share x (at j) ≡ share x (at i)
+    equal_halves j low high =
         equal _ _ _ (twice j (below j high) ∙ ap (λ (n : ℕ). x.den *ℤ pos n) (b.end.same j low high)) (twice i start)
       where
         equal : (u v w : ℤ) → u +ℤ u ≡ w → v +ℤ v ≡ w → u ≡ v
@@ -191,10 +191,10 @@ half_holds family estate claims at m gain t x i k levels l r b c = record {
     mine : (j : ℕ) → i ≤ j → j < k → excess (game_of estate claims) x (single at j) ≡ neg_ℤ (share x (at i))
     mine j low high =
         excess-singleton estate claims x (at j) d (r.order.below j (place j high))
-        (enough estate claims at m gain t x r j (below j high)) ∙ ap neg_ℤ (same j low high)
+        (enough estate claims at m gain t x r j (below j high)) ∙ ap neg_ℤ (equal_halves j low high)
 
     theirs : (j : ℕ) → i ≤ j → j < k
         → excess (game_of estate claims) x (others (length claims) at j) ≡ neg_ℤ (share x (at i))
     theirs j low high =
         excess-others estate claims x (at j) d (r.order.below j (place j high))
-        ∙ ap neg_ℤ (sym (r.half j (below j high)) ∙ same j low high)
+        ∙ ap neg_ℤ (sym (r.half j (below j high)) ∙ equal_halves j low high)

@@ -237,14 +237,14 @@ weight-single_out n cost at o i zero h le hn out = refl
 weight-single_out n cost at o i (suc b) h le hn out =
     weight_at-with_pair (single at (i + b)) (pos 1) (with_keys (single at) i b) (at h)
     ∙ rw (single-lacks n cost at o (i + b) h (omega arith) hn (apart out))
-    (none _ (weight-single_out n cost at o i b h (omega arith) hn (outside_fewer h i b out)))
+    (zero_added _ (weight-single_out n cost at o i b h (omega arith) hn (outside_fewer h i b out)))
   where
     apart : (h < i) ⊎ (i + suc b ≤ h) → i + b ≢ h
     apart (inl a) e = omega arith
     apart (inr a) e = omega arith
 
-    none : (z : ℤ) → z ≡ pos 0 → pos 0 +ℤ z ≡ pos 0
-    none z e = omega (arith, ints)
+    zero_added : (z : ℤ) → z ≡ pos 0 → pos 0 +ℤ z ≡ pos 0
+    zero_added z e = omega (arith, ints)
 
 pub weight-single_in : (n : ℕ) (cost at : ℕ → ℕ) → IsOrder n cost at → (i b h : ℕ) → i + b ≤ n → i ≤ h → h < i + b
     → weight_at (with_keys (single at) i b) (at h) ≡ pos 1

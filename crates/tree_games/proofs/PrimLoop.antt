@@ -184,7 +184,7 @@ tree_laws t h =
           nothing
           (prim-idle (entries_of t) (length t) ((length t) - 1) is_source (is_point_of 0)
           (nobody (closest (near (entries_of t) is_source (length t)) (is_point_of 0) (length t))));
-      small = λ s lt. small (prim_cost (entries_of t) (length t) ((length t) - 1) is_source (is_point_of s))
+      small = λ s lt. worth_small (prim_cost (entries_of t) (length t) ((length t) - 1) is_source (is_point_of s))
           (prim_cost-small (entries_of t) (λ i j. entries-small t i j h.entries) (length t) ((length t) - 1) is_source
           (is_point_of s)) few;
     }
@@ -196,8 +196,8 @@ tree_laws t h =
     nobody zero = refl
     nobody (suc i) = has_player-empty i
 
-    small : (k : ℕ) → k ≤ ((length t) - 1) * 2 ^ 40 → (length t) ≤ 17 → unsigned_abs (neg_ℤ (pos k)) < 2 ^ 46
-    small k le few = let m : k < 2 ^ 46 = omega arith in omega (arith, ints, m)
+    worth_small : (k : ℕ) → k ≤ ((length t) - 1) * 2 ^ 40 → (length t) ≤ 17 → unsigned_abs (neg_ℤ (pos k)) < 2 ^ 46
+    worth_small k le few = let m : k < 2 ^ 46 = omega arith in omega (arith, ints, m)
 
 pub doubled : (points s k : ℕ) → points ≤ 17 → s < 2 ^ (points - 1) → k ≡ s → k * 2 % 2 ^ 64 ≡ 2 * s
 doubled points s k few lt e =

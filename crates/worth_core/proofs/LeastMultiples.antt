@@ -19,17 +19,17 @@ use Rattle.fractions.proofs.Ratios.{size_of}
 
 -- ---- the least common multiple of two numbers
 
-turned : (a h g k : ℕ) → g * h ≡ a → h * (g * k) ≡ a * k
-turned a h g k e = sym (moved h g k) ∙ ap (λ (n : ℕ). n * k) e
+quotient_times : (a h g k : ℕ) → g * h ≡ a → h * (g * k) ≡ a * k
+quotient_times a h g k e = sym (factor_to_front h g k) ∙ ap (λ (n : ℕ). n * k) e
   where
-    moved : (h g k : ℕ) → (g * h) * k ≡ h * (g * k)
-    moved h g k = omega arith
+    factor_to_front : (h g k : ℕ) → (g * h) * k ≡ h * (g * k)
+    factor_to_front h g k = omega arith
 
 joined : (a k g b : ℕ) → g * k ≡ b → (a * k) * g ≡ a * b
-joined a k g b e = moved a k g ∙ ap (λ (n : ℕ). a * n) e
+joined a k g b e = last_to_middle a k g ∙ ap (λ (n : ℕ). a * n) e
   where
-    moved : (a k g : ℕ) → (a * k) * g ≡ a * (g * k)
-    moved a k g = omega arith
+    last_to_middle : (a k g : ℕ) → (a * k) * g ≡ a * (g * k)
+    last_to_middle a k g = omega arith
 
 least_from : (a b n : ℕ) → 0 < b → a ∣ n → b ∣ n → a * (b / gcd a b) ∣ n
 least_from a b n p left right =
@@ -57,13 +57,13 @@ least_multiple a b p q = record {
   positive =
       product_positive a (b / gcd a b) p (quotient_positive (gcd a b) (b / gcd a b) b q (right_quotient a b));
   left = dvd-mul_right a (b / gcd a b);
-  right = subst (λ (k : ℕ). b ∣ k) (sym (turned' a b)) (dvd-mul_left b (a / gcd a b));
+  right = subst (λ (k : ℕ). b ∣ k) (sym (other_quotient a b)) (dvd-mul_left b (a / gcd a b));
   least = λ n left right. least_from a b n q left right;
 }
   where
-    turned' : (a b : ℕ) → a * (b / gcd a b) ≡ (a / gcd a b) * b
-    turned' a b =
-        sym (turned a (a / gcd a b) (gcd a b) (b / gcd a b) (left_quotient a b))
+    other_quotient : (a b : ℕ) → a * (b / gcd a b) ≡ (a / gcd a b) * b
+    other_quotient a b =
+        sym (quotient_times a (a / gcd a b) (gcd a b) (b / gcd a b) (left_quotient a b))
         ∙ ap (λ (n : ℕ). (a / gcd a b) * n) (right_quotient a b)
 
 pub one_multiple : (a b m n : ℕ) → IsLeastMultiple a b m → IsLeastMultiple a b n → m ≡ n

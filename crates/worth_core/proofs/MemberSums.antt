@@ -8,8 +8,8 @@ use Rattle.definitions.specs.Coalitions.{has_player, sum_over}
 use Rattle.definitions.proofs.Casts.{cast_kept}
 
 module _ (a : ℕ → ℤ) (s i : ℕ) (sum : ℤ) (so : (sum ≡ sum_over i a s) × (unsigned_abs sum ≤ i * 2 ^ 110)) where
-  step : (b : Bool) → has_player s i ≡ b → sum_over (i + 1) a s ≡ sum_over i a s +ℤ (if b then a i else pos 0)
-  step b e =
+  sum_over-next : (b : Bool) → has_player s i ≡ b → sum_over (i + 1) a s ≡ sum_over i a s +ℤ (if b then a i else pos 0)
+  sum_over-next b e =
       let one : i + 1 ≡ suc i = omega arith in
       ap (λ n. sum_over n a s) one ∙ ap (λ t. sum_over i a s +ℤ (if t then a i else pos 0)) e
 
@@ -17,7 +17,7 @@ module _ (a : ℕ → ℤ) (s i : ℕ) (sum : ℤ) (so : (sum ≡ sum_over i a s
   pub left_out : has_player s i ≡ false → (x : ℤ) → x ≡ sum
       → (x ≡ sum_over (i + 1) a s) × (unsigned_abs x ≤ (i + 1) * 2 ^ 110)
   left_out none x same =
-      let more = step false none in
+      let more = sum_over-next false none in
       (omega (arith, ints, same, so.0, more), omega (arith, ints, same, so.1))
 
   module _ (v : ℤ) (few : i < 64) (small : unsigned_abs v < 2 ^ 110) where
@@ -35,7 +35,7 @@ module _ (a : ℕ → ℤ) (s i : ℕ) (sum : ℤ) (so : (sum ≡ sum_over i a s
         → x ≡ to_z w128 (of_z w128 (sum +ℤ to_z w128 (of_z w128 v)))
         → (x ≡ sum_over (i + 1) a s) × (unsigned_abs x ≤ (i + 1) * 2 ^ 110)
     added member given x made =
-        let more = step true member in
+        let more = sum_over-next true member in
         let total : x ≡ sum +ℤ v =
         made ∙ ap (λ z. to_z w128 (of_z w128 (sum +ℤ z))) kept ∙ cast_kept w128 (sum +ℤ v) bound in
         (omega (arith, ints, total, so.0, more, given), omega (arith, ints, total, so.1, small))

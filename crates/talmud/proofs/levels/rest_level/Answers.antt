@@ -9,10 +9,11 @@ use Rattle.definitions.proofs.Ring.{zero-subℤ}
 use Rattle.std.proofs.Math.Nat.{sub-zero}
 
 negated : (t : ℕ) → t < 2 ^ 48 → to_z w128 (of_z w128 (pos 0 -ℤ to_z w128 t)) ≡ neg_ℤ (pos t)
-negated t h = rw (to_z_pos w128 t (omega arith)) (cast_kept w128 (pos 0 -ℤ pos t) (small t h) ∙ zero-subℤ (pos t))
+negated t h =
+    rw (to_z_pos w128 t (omega arith)) (cast_kept w128 (pos 0 -ℤ pos t) (negated_small t h) ∙ zero-subℤ (pos t))
   where
-    small : (t : ℕ) → t < 2 ^ 48 → unsigned_abs (pos 0 -ℤ pos t) < 2 ^ 127
-    small t h = omega (arith, ints)
+    negated_small : (t : ℕ) → t < 2 ^ 48 → unsigned_abs (pos 0 -ℤ pos t) < 2 ^ 127
+    negated_small t h = omega (arith, ints)
 
 pub returns-clause-level : goal.returns-clause-level
 returns-clause-level c =
