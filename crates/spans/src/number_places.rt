@@ -12,13 +12,13 @@ use coalitions::Coalition;
 /// The places of a table's numbers in chains, one for each slot of numbers: the last place of each slot, and before
 /// each place the last one of its slot. A place counts from 1 here, and 0 ends a chain.
 #[derive(Drop)]
-pub struct NumberPlaces {
-    pub last: [u16; 1024],
-    pub before: [u16; 256],
+pub(crate) struct NumberPlaces {
+    pub(crate) last: [u16; 1024],
+    pub(crate) before: [u16; 256],
 }
 
 /// The slot of a number, which is the same for equal numbers.
-pub fn slot(number: i64) -> usize
+pub(crate) fn slot(number: i64) -> usize
     ensures within { result < 1024 }
     ensures value { result ≡ slot_of number }
 {
@@ -35,7 +35,7 @@ fn slot_at(numbers: &[i64; 256], place: usize) -> usize
 }
 
 /// Whether a number stands at a place.
-pub fn stands_at(numbers: &[i64; 256], place: usize, number: i64) -> bool
+pub(crate) fn stands_at(numbers: &[i64; 256], place: usize, number: i64) -> bool
     requires { place < 256 }
     ensures { Decides result (number_at numbers.now place ≡ number) }
 {
@@ -54,7 +54,7 @@ fn mark_if(found: &mut [u64; 4], place: usize, holds: bool)
 
 impl NumberPlaces {
     /// The places of a table's numbers.
-    pub fn of(numbers: &[i64; 256]) -> NumberPlaces
+    pub(crate) fn of(numbers: &[i64; 256]) -> NumberPlaces
         ensures { ArePlaces numbers.now result.last result.before }
     {
         let mut last = [0; 1024];
@@ -68,7 +68,7 @@ impl NumberPlaces {
     }
 
     /// The places where a number stands in the table, from 0 on, a bit for each.
-    pub fn find(&self, numbers: &[i64; 256], wanted: i64) -> [u64; 4]
+    pub(crate) fn find(&self, numbers: &[i64; 256], wanted: i64) -> [u64; 4]
         requires { ArePlaces numbers.now self.now.last self.now.before }
         ensures { (i : ℕ) → i < 256 → Decides (is_marked result i) (number_at numbers.now i ≡ wanted) }
     {

@@ -13,7 +13,7 @@ use crate::player_sums::PlayerSums;
 /// The places of the first table, and those that were found for blocks: in each of 64 slots the latest block, from 1
 /// on, and its places.
 #[derive(Drop)]
-pub struct SilentPlaces {
+pub(crate) struct SilentPlaces {
     places: NumberPlaces,
     latest: [u16; 64],
     found: [[u64; 4]; 64],
@@ -21,7 +21,7 @@ pub struct SilentPlaces {
 
 impl SilentPlaces {
     /// The places of sums, of which none is found for a block yet.
-    pub fn of(sums: &PlayerSums) -> SilentPlaces
+    pub(crate) fn of(sums: &PlayerSums) -> SilentPlaces
         ensures places { ArePlaces sums.now.low result.places.last result.places.before }
         ensures known { AreKnown sums.now.low sums.now.high result.latest result.found }
     {
@@ -33,7 +33,7 @@ impl SilentPlaces {
     }
 
     /// The places in a block of the coalitions whose two sums add to 0, a bit for each.
-    pub fn of_block(&mut self, sums: &PlayerSums, block: usize) -> [u64; 4]
+    pub(crate) fn of_block(&mut self, sums: &PlayerSums, block: usize) -> [u64; 4]
         requires block { block < 256 }
         requires small { (a : ℕ) → a < 256 → unsigned_abs (slice_index_or sums.now.high a (pos 0)) ≤ 2 ^ 61 }
         requires places { ArePlaces sums.now.low self.old.places.last self.old.places.before }
