@@ -46,8 +46,8 @@ module _ (g : Game) (levels : List Level) (k : ℕ) (d : Level) (lt : k < length
   abbrev behind : List (Option Column)
   behind = earlier_columns g (earlier_of (k + 1) (drop (k + 1) levels))
 
-  split : earlier_columns g (earlier_of k (drop k levels)) ≡ here ++ behind
-  split =
+  pub level_split : earlier_columns g (earlier_of k (drop k levels)) ≡ here ++ behind
+  level_split =
       ap (λ (ls : List Level). earlier_columns g (earlier_of k ls)) (drop-more levels k d lt)
       ∙ earlier_columns-append g (map (λ c. (c.0, k)) (get_or levels k d).coalitions)
       (earlier_of (k + 1) (drop (k + 1) levels))
@@ -55,7 +55,7 @@ module _ (g : Game) (levels : List Level) (k : ℕ) (d : Level) (lt : k < length
   pub level_here : (id : ℕ) → id < 2 * length (get_or levels k d).coalitions
       → column_at (earlier_columns g (earlier_of k (drop k levels))) id ≡ column_at here id
   level_here id less =
-      ap (λ (t : List (Option Column)). column_at t id) split
+      ap (λ (t : List (Option Column)). column_at t id) level_split
       ∙ get_or_append_left here behind None id
       (let h = level_length g k (get_or levels k d).coalitions in omega (arith, h, less))
 
@@ -63,7 +63,7 @@ module _ (g : Game) (levels : List Level) (k : ℕ) (d : Level) (lt : k < length
       → column_at (earlier_columns g (earlier_of k (drop k levels))) id
       ≡ column_at behind (id - 2 * length (get_or levels k d).coalitions)
   level_past id le =
-      ap (λ (t : List (Option Column)). column_at t id) split
+      ap (λ (t : List (Option Column)). column_at t id) level_split
       ∙ get_or-append_right here behind (2 * length (get_or levels k d).coalitions) id None
       (level_length g k (get_or levels k d).coalitions) le
 

@@ -18,4 +18,5 @@ pub mod Blocks
 pub mod FirstFound
 pub mod Products
 pub mod Searches
+pub mod InFront
 mod Picked

@@ -4,8 +4,10 @@
 --   listed            the first n columns of a sequence
 --   plain, minus      the column of a coalition at its worth, and this negated
 --   earlier_columns   two columns for each coalition of a level
---   whole_columns     both columns of all players
+--   both_columns      both columns of a coalition
+--   whole_columns     those of all players
 --   single, bound     the column of a player alone, and this negated
+--   alone_columns     those of all players alone
 --   AddsSome          columns, and behind them the first few of some more
 --   IsOuter           the column of a coalition, where it is outside
 --   AreOuter          the columns of the coalitions outside
@@ -43,8 +45,12 @@ abbrev pub earlier_columns : Game → List (ℕ × ℕ) → List (Option Column)
 earlier_columns g [] = []
 earlier_columns g (c ∷ cs) = Some (plain g c.0 (Some c.1)) ∷ (Some (minus g c.0 (Some c.1)) ∷ earlier_columns g cs)
 
+-- both columns of a coalition, in a level row or none
+abbrev pub both_columns : Game → ℕ → Option ℕ → List (Option Column)
+both_columns g s level = Some (plain g s level) ∷ (Some (minus g s level) ∷ [])
+
 abbrev pub whole_columns : Game → ℕ → List (Option Column)
-whole_columns g s = Some (plain g s None) ∷ (Some (minus g s None) ∷ [])
+whole_columns g s = both_columns g s None
 
 -- the column of player i alone, for imputations
 abbrev pub single : Family → Game → ℕ → Option Column
@@ -54,6 +60,10 @@ single family g i = if is_imputations family then Some (plain g (singleton i) No
 abbrev pub bound : Family → Game → List Level → ℕ → Option Column
 bound family g front i =
     if is_imputations family && has_bound front i then Some (minus g (singleton i) None) else None
+
+-- both columns of each player alone
+abbrev pub alone_columns : Family → Game → List Level → List (Option Column)
+alone_columns family g front = listed g.players (single family g) ++ listed g.players (bound family g front)
 
 -- columns, and behind them the first few of some more
 abbrev pub AddsSome : List (Option Column) → List (Option Column) → List (Option Column) → Type 0

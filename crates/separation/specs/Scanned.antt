@@ -7,6 +7,8 @@
 --   RisesIn          a column has a cost above its value, as the scan counts both
 --   ColumnRises      the column under a number has
 --   IsFirstColumn    that is the first number whose column has
+--   NoneOf           none of the columns in a list has
+--   IsFirstOf        the place of the first of these that has
 --   NoneInFront      none of the columns in front of the coalitions' has
 --   IsFirstInFront   the first of these that has
 --   column_of        the column of a coalition, if it has one
@@ -61,6 +63,13 @@ abbrev pub IsFirstColumn : {X : Type 0} {W : Ghosts X} → Scan X W → ℕ → 
 IsFirstColumn x id = IsFirstAt x.program.now x.m.now x.with_costs id
 
 -- ---- in front of the coalitions' columns
+
+abbrev pub NoneOf : {X : Type 0} {W : Ghosts X} → Scan X W → List (Option Column) → Type 0
+NoneOf x columns = (j : ℕ) → ¬ RisesIn x (column_at columns j)
+
+abbrev pub IsFirstOf : {X : Type 0} {W : Ghosts X} → Scan X W → List (Option Column) → ℕ → Type 0
+IsFirstOf x columns place =
+    IsFirst x.program.now.measure x.m.now.num.items x.m.now.den x.program.now.players x.with_costs columns place
 
 abbrev pub NoneInFront : {X : Type 0} {W : Ghosts X} → Scan X W → Type 0
 NoneInFront x =

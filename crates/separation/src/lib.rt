@@ -6,6 +6,7 @@ mod column;
 mod earlier;
 mod found;
 mod front;
+mod in_front;
 mod lazy;
 mod listed;
 mod marks;

@@ -7,9 +7,10 @@ ghost use Rattle.definitions.specs.declared.Measure.{Measure};
 ghost use Rattle.separation.specs.Values.{AreNarrow};
 ghost use Rattle.separation.specs.Scanned.{RisesAt, ColumnRises, NoneBetween, NoneRises, IsSomeRising};
 
+use crate::in_front::first_in_front;
 use crate::lazy::Lazy;
 use crate::narrow::best_in_64;
-use crate::rising::{counted_worth, first_in_front, first_one_by_one, marked_rises};
+use crate::rising::{counted_worth, first_one_by_one, marked_rises};
 use crate::scan::Scan;
 use crate::sums::{bar, narrow, wide};
 use crate::tables::{NarrowSums, Sums};

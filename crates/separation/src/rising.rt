@@ -4,9 +4,10 @@ ghost use Rattle.std.specs.Prelude.{◌≡◌, ℕ, ◌+◌, ◌*◌, ◌<◌, �
 ghost use Rattle.std.specs.Bool.{Decides};
 ghost use Rattle.definitions.specs.declared.Measure.{Measure};
 ghost use Rattle.separation.specs.Values.{counted};
-ghost use Rattle.separation.specs.Scanned.{RisesAt, IsFirstAt, ColumnRises, IsFirstColumn, NoneInFront, IsFirstInFront};
+ghost use Rattle.separation.specs.Scanned.{RisesAt, IsFirstAt, ColumnRises, IsFirstColumn};
 ghost use Rattle.separation.specs.Scanned.{CoalitionRises, NoneBelow, NoneRises, IsFirstRising, value_in};
 
+use crate::in_front::first_in_front;
 use crate::lazy::Lazy;
 use crate::scan::Scan;
 use crate::sums::{is_below, wide};
@@ -14,19 +15,6 @@ use crate::tables::Sums;
 use coalitions::Coalition;
 use simplex::Multipliers;
 use worth_core::{Measure, Worth};
-
-/// The number of the first column in front of those of the coalitions whose cost is above its value.
-pub(crate) fn first_in_front<W: Worth>(scan: &Scan<'_, W>) -> Option<u64>
-    ensures { MatchOption result (NoneInFront scan.now) (IsFirstInFront scan.now) }
-{
-    for id in 0..scan.program.first {
-        let column = scan.program.front_column(id);
-        if scan.rises(column) {
-            return Some(id);
-        }
-    }
-    None
-}
 
 /// What a coalition's worth counts for: where costs don't count, the game isn't asked.
 pub(crate) fn counted_worth<W: Worth>(game: &W, s: Coalition, with_costs: bool) -> i64

@@ -5,7 +5,7 @@ ghost use Rattle.separation.specs.Values.{AreSums};
 
 use crate::column::Column;
 use crate::lazy::Lazy;
-use crate::sums::rises;
+use crate::sums::{rises, value};
 use crate::tables::Sums;
 use simplex::Multipliers;
 use worth_core::Worth;
@@ -27,7 +27,7 @@ impl<W: Worth> Scan<'_, W> {
     ghost use Rattle.std.specs.Bool.{Decides};
     ghost use Rattle.std.specs.Option.{ForSome};
     ghost use Rattle.definitions.specs.declared.Measure.{Measure};
-    ghost use Rattle.separation.specs.Values.{low_of};
+    ghost use Rattle.separation.specs.Values.{low_of, column_value};
     ghost use Rattle.separation.specs.Scanned.{AreValues, RisesIn};
 
     /// What the 256 coalitions from 256 * `block` on have in common with plain excess: the multipliers of the members
@@ -41,6 +41,16 @@ impl<W: Worth> Scan<'_, W> {
         let program = self.program;
         self.sums
             .base(self.m, program.players, program.level(), block)
+    }
+
+    /// The value of a column.
+    pub(crate) fn value(&self, column: Column) -> i128
+        requires { ForSome column.level (λ l. l < self.now.program.now.levels) }
+        ensures { result ≡ column_value self.now.program.now.measure self.now.m.now.num.items
+            self.now.program.now.players column }
+    {
+        let program = self.program;
+        value(column, self.m, program.measure, program.players, &self.sums)
     }
 
     /// Whether there is a column and its cost is above its value.

@@ -165,7 +165,13 @@ fn level_value(m: &Multipliers, n: u32, measure: Measure, level: Option<u32>, s:
 }
 
 /// The sum of multiplier times entry of a column.
-fn value(column: Column, m: &Multipliers, measure: Measure, n: u32, sums: &Sums<'_>) -> i128
+pub(crate) fn value(
+    column: Column,
+    m: &Multipliers,
+    measure: Measure,
+    n: u32,
+    sums: &Sums<'_>,
+) -> i128
     requires within { ForSome column.level (λ l. n + l < length m.now.num.items) }
     requires players { n ≤ length m.now.num.items }
     requires sums { AreSums m.now.num.items n sums.now }
