@@ -1,32 +1,29 @@
 use Rattle.std.proofs.Common.{◌≡◌, ◌<◌, ◌^◌, ℕ, Bool, true}
 use Rattle.std.proofs.Common.{false, Option, ℤ, ◌<ℤ◌, ◌*ℤ◌}
 use Rattle.std.proofs.Common.{unsigned_abs, to_z, of_z, ap, subst, ◌∙◌, arith}
-use Rattle.std.proofs.lemmas.Int.{ints, to_z-of_z}
+use Rattle.std.proofs.lemmas.Int.{ints}
 use mir.Syntax.{w64, w128}
 use lib.Signed.{lt_z, mag}
-use Rattle.std.proofs.Math.Facts.{sfits_lit, yes_ltb}
 use Rattle.definitions.specs.Games.{Game, IsGame}
 use Rattle.definitions.proofs.Casts.{cast_kept}
+use Rattle.kohlberg.proofs.Kept.{kept}
 use Rattle.separation.specs.Making.{plain}
 use Rattle.separation.specs.Values.{column_value, counted}
 use Rattle.separation.specs.declared.column.Column.{Column}
 use Rattle.separation.proofs.InFront.{second_up, none_up}
 use Rattle.separation.proofs.in_front.first_of_both.Goals as goal
 
--- a test of two numbers of 128 bits
-held : (a : ℤ) → mag a < 2 ^ 127 → to_z w128 (of_z w128 a) ≡ a
-held a h = to_z-of_z w128 a (sfits_lit (yes_ltb h))
-
+-- tests of two numbers of 128 bits
 less : (a b x y : ℤ) → mag a < 2 ^ 127 → mag b < 2 ^ 127 → a ≡ x → b ≡ y
     → lt_z (to_z w128 (of_z w128 a)) (to_z w128 (of_z w128 b)) ≡ true → x <ℤ y
 less a b x y ha hb e f t =
-    rw (← e, ← f) (let h = rw (held a ha, held b hb) at t in omega (arith, ints, h))
+    rw (← e, ← f) (let h = rw (kept a ha, kept b hb) at t in omega (arith, ints, h))
 
 not_less : (a b x y : ℤ) → mag a < 2 ^ 127 → mag b < 2 ^ 127 → a ≡ x → b ≡ y
     → lt_z (to_z w128 (of_z w128 a)) (to_z w128 (of_z w128 b)) ≡ false → ¬ (x <ℤ y)
 not_less a b x y ha hb e f t =
     rw (← e, ← f)
-    (let h = rw (held a ha, held b hb) at t in λ lt. omega (arith, ints, h, lt))
+    (let h = rw (kept a ha, kept b hb) at t in λ lt. omega (arith, ints, h, lt))
 
 -- what the worth of a coalition counts for, over the denominator
 cost_is : (g : Game) (n s : ℕ) (level : Option ℕ) (column : Column) (den : ℤ) (w : Bool) → IsGame g → n ≡ g.players
