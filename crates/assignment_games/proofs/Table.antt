@@ -4,12 +4,11 @@ use Rattle.std.proofs.Common.{not, ◌&&◌, nat_eq, List}
 use Rattle.std.proofs.Common.{[], ◌∷◌, ◌++◌, length, Option, Some, None, MatchOption, refl, sym}
 use Rattle.std.proofs.Common.{ap, subst}
 use Rattle.std.proofs.Common.{◌∙◌, inl, inr, arith, slice_index, length-append}
-use Rattle.std.proofs.lemmas.Bool.{false≢true}
 use Rattle.std.proofs.lemmas.List.{get_or_append_left, get_or_push}
 use Rattle.std.proofs.lemmas.Nat.{pow_pos}
 use Rattle.std.proofs.Math.Pow.{pow_mono}
-use Rattle.definitions.proofs.Cases.{below_or_above, same_or_other, less_or_last_of, nat_eq-same, nat_eq-other}
-use Rattle.definitions.proofs.Parts.{more-is, has_player-past}
+use Rattle.definitions.proofs.Cases.{same_or_other, less_or_last_of, nat_eq-same, nat_eq-other}
+use Rattle.definitions.proofs.Parts.{more-is}
 use Rattle.definitions.specs.Coalitions.{has_player}
 use Rattle.definitions.specs.Classes.{Matrix, removed}
 use Rattle.assignment_games.specs.Values.{IsOptimalAmong}

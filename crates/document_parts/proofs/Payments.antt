@@ -1,7 +1,7 @@
 -- Shares with their signs turned are shares.
-use Rattle.std.proofs.Common.{◌≡◌, ℕ, zero, suc, ◌<◌, ◌≤◌, ◌^◌, List, length, map}
-use Rattle.std.proofs.Common.{take, ℤ, pos, negsuc}
-use Rattle.std.proofs.Common.{neg_ℤ, unsigned_abs, refl, sym, ap, ap₂, ◌∙◌, subst, arith}
+use Rattle.std.proofs.Common.{◌≡◌, ℕ, ◌<◌, ◌≤◌, ◌^◌, List, length, map}
+use Rattle.std.proofs.Common.{take, ℤ, pos}
+use Rattle.std.proofs.Common.{neg_ℤ, unsigned_abs, sym, ap, ap₂, ◌∙◌, subst, arith}
 use Rattle.std.proofs.Math.ListN.{get_or-map}
 use Rattle.std.proofs.lemmas.List.{length-map, take_all}
 use Rattle.definitions.specs.Games.{Allocation, IsShares, share}

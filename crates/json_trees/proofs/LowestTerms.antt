@@ -2,9 +2,8 @@
 use Rattle.std.proofs.Common.{◌≡◌, ◌≢◌, ℕ, ◌*◌, ◌/◌, ◌^◌, FitsSigned, ◌<◌, arith, refl}
 use Rattle.std.proofs.Common.{sym, ap}
 use Rattle.std.proofs.Common.{subst, ◌∙◌, Bool, true, false, Some, None, if◌then◌else◌, ℤ, pos}
-use Rattle.std.proofs.Common.{negsuc, ◌*ℤ◌, ◌≤ℤ◌, unsigned_abs, int_div}
+use Rattle.std.proofs.Common.{◌*ℤ◌, ◌≤ℤ◌, unsigned_abs, int_div}
 use Rattle.std.specs.Prelude.{unwrap_or}
-use Rattle.std.proofs.lemmas.Bool.{ltb-true, lt-ltb}
 use Rattle.std.proofs.lemmas.Int.{ints, fits_signed_from_abs}
 use Rattle.std.proofs.lemmas.Nat.Gcd.{le_of_dvd}
 use mir.Syntax.{w128}

@@ -1,6 +1,6 @@
 -- The same shares over another denominator are the nucleolus where the first are.
 use Rattle.std.proofs.Common.{◌≡◌, ℤ, ◌*ℤ◌, sym, ap, ◌∙◌}
-use Rattle.definitions.proofs.Ring.{ring_laws, mul_assocℤ, mul_left_commℤ, mul-cancelℤ, mul_ends_exchangedℤ}
+use Rattle.definitions.proofs.Ring.{mul_assocℤ, mul_left_commℤ, mul-cancelℤ, mul_ends_exchangedℤ}
 use Rattle.definitions.specs.Coalitions.{proper_coalitions}
 use Rattle.definitions.specs.Games.{Game, Allocation, share, measured_excess, excess_list}
 use Rattle.definitions.specs.Games.{Beats, IsSame, IsAllocation, IsNucleolus}

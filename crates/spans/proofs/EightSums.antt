@@ -1,14 +1,14 @@
 -- Sums over coalitions of a number for each player: by two tables, within so many players, and as weights of a place.
 use Rattle.std.proofs.Common.{◌≡◌, ℕ, zero, suc, ◌+◌, ◌-◌, ◌*◌, ◌/◌, ◌%◌, ◌^◌}
 use Rattle.std.proofs.Common.{◌<◌, ◌≤◌, Bool, true, false}
-use Rattle.std.proofs.Common.{cond, List, ℤ, pos, ◌+ℤ◌, ◌*ℤ◌, refl, sym, ap, ◌∙◌}
+use Rattle.std.proofs.Common.{cond, List, ℤ, pos, ◌+ℤ◌, refl, sym, ap, ◌∙◌}
 use Rattle.std.proofs.Common.{arith, nat_eq, unsigned_abs}
-use Rattle.std.proofs.Common.{to_z, of_z, FitsSigned, slice_index_or, inl, inr, ◌≢◌, length, get_or, set}
+use Rattle.std.proofs.Common.{to_z, of_z, FitsSigned, inl, inr, ◌≢◌, length, get_or, set}
 use Rattle.std.proofs.Common.{subst}
-use Rattle.std.proofs.Common.{get_or-set_same, get_or-set_other, replicate, add-one}
+use Rattle.std.proofs.Common.{get_or-set_same, get_or-set_other, replicate}
 use Rattle.std.proofs.lemmas.Int.{ints, fits_signed_from_abs}
 use Rattle.std.proofs.lemmas.Nat.Bits.{bit_at_cat_low, bit_at_cat_high}
-use Rattle.std.proofs.Math.Nat.{pow-le-pow_right, pow-succ'}
+use Rattle.std.proofs.Math.Nat.{pow-le-pow_right}
 use Rattle.std.proofs.Math.Pow.{pow-lt}
 use Rattle.std.specs.Int.{bit_at}
 use mir.Syntax.{w64}

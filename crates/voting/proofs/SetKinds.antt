@@ -1,9 +1,8 @@
 -- The sets of a kind with one player more.
 use Rattle.std.proofs.Common.{◌≡◌, ◌≢◌, ◌⊎◌, ℕ, ◌+◌, ◌^◌, ◌<◌, Bool, true, false}
-use Rattle.std.proofs.Common.{cond, not, ◌&&◌, ◌||◌}
+use Rattle.std.proofs.Common.{not, ◌&&◌, ◌||◌}
 use Rattle.std.proofs.Common.{ℤ, pos, ◌+ℤ◌, ◌≤ℤ◌, refl, sym, ap, subst, ◌∙◌, inl}
 use Rattle.std.proofs.Common.{inr, arith, add-one}
-use Rattle.definitions.proofs.Members.{has_player-empty, sum_below-zero}
 use Rattle.definitions.proofs.Ring.{linear}
 use Rattle.definitions.proofs.Splits.{some_below-same}
 use Rattle.definitions.proofs.Halves.{has_player-last}

@@ -1,6 +1,6 @@
 -- The least common multiple of 1 to 32 as a common denominator of Shapley shares.
 use Rattle.std.proofs.Common.{◌≡◌, ℕ, zero, suc, ◌+◌, ◌-◌, ◌*◌, ◌/◌, ◌%◌, ◌<◌}
-use Rattle.std.proofs.Common.{◌≤◌, Bool, true, false}
+use Rattle.std.proofs.Common.{◌≤◌, Bool, true}
 use Rattle.std.proofs.Common.{◌&&◌, ◌||◌, nat_eq, nat_le, refl, ap, ◌∙◌, inl, inr, arith}
 use Rattle.std.proofs.lemmas.Bool.Decides.{nat_tests}
 use Rattle.definitions.specs.Shapley.{factorial}

@@ -1,6 +1,6 @@
-use Rattle.std.proofs.Common.{◌≡◌, ◌≤◌, ◌<◌, ◌^◌, ℤ, ℕ, length, length-set, to_z}
-use Rattle.std.proofs.Common.{of_z, arith, ap, sym, subst, ◌∙◌, ◌+ℤ◌}
-use Rattle.std.proofs.Common.{unsigned_abs, refl}
+use Rattle.std.proofs.Common.{◌≡◌, ◌≤◌, ◌<◌, ◌^◌, ℤ, length, length-set, to_z}
+use Rattle.std.proofs.Common.{of_z, arith, ◌∙◌, ◌+ℤ◌}
+use Rattle.std.proofs.Common.{unsigned_abs}
 use mir.Syntax.{w64, w128}
 use Rattle.definitions.proofs.Casts.{cast_kept}
 use Rattle.determinants.specs.Matrix.{entry_at}

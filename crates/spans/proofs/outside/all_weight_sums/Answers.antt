@@ -1,4 +1,4 @@
-use Rattle.std.proofs.Common.{◌≡◌, ◌≤◌, ◌^◌, ℕ, arith, refl, subst, unsigned_abs, ◌∙◌}
+use Rattle.std.proofs.Common.{◌≡◌, ◌≤◌, ◌^◌, ℕ, arith, refl, subst, ◌∙◌}
 use Rattle.spans.specs.Sums.{number_at}
 use Rattle.spans.proofs.EightSums.{AreAddedRows, no_row_added, row_added, row_passed, two_sums-is}
 use Rattle.spans.proofs.outside.all_weight_sums.Goals as goal

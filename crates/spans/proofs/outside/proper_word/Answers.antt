@@ -1,4 +1,4 @@
-use Rattle.std.proofs.Common.{◌≡◌, ◌<◌, ◌*◌, ◌+◌, ◌%◌, ◌^◌, ℕ, arith, ap, ◌∙◌}
+use Rattle.std.proofs.Common.{◌≡◌, ◌*◌, ◌%◌, ◌^◌, ℕ, arith, ap, ◌∙◌}
 use Rattle.std.proofs.Common.{not, nat_eq, ◌&&◌}
 use Rattle.std.proofs.lemmas.Nat.{one_shl}
 use Rattle.definitions.specs.Coalitions.{has_player}

@@ -1,5 +1,5 @@
-use Rattle.std.proofs.Common.{◌≡◌, ◌≤◌, ◌^◌, ℕ, ℤ, pos, replicate, arith, inl, inr}
-use Rattle.std.proofs.Common.{sym, ap, unsigned_abs, ◌∙◌}
+use Rattle.std.proofs.Common.{◌^◌, pos, replicate, arith, inl, inr}
+use Rattle.std.proofs.Common.{ap, unsigned_abs, ◌∙◌}
 use Rattle.definitions.proofs.Cases.{below_or_above}
 use Rattle.determinants.proofs.Lists.{zeros_at}
 use Rattle.determinants.specs.Matrix.{entry_at}

@@ -1,6 +1,6 @@
 use Rattle.std.proofs.Common.{◌≡◌, ◌≤◌, ◌<◌, ◌*◌, ◌+◌, ◌-◌, ◌%◌, ◌^◌, ℕ, ℤ}
 use Rattle.std.proofs.Common.{pos, ◌+ℤ◌, slice_index_or, slice_set}
-use Rattle.std.proofs.Common.{length, length-set, to_z, of_z, unsigned_abs, arith, ap, sym, subst, ◌∙◌}
+use Rattle.std.proofs.Common.{length, length-set, to_z, of_z, arith, ap, sym, subst, ◌∙◌}
 use Rattle.std.proofs.lemmas.Nat.{one_shl}
 use mir.Syntax.{w64}
 use Rattle.spans.specs.Sums.{number_at, eight_sum, IsEightSum}

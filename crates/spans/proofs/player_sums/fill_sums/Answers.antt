@@ -1,4 +1,4 @@
-use Rattle.std.proofs.Common.{◌≡◌, ◌<◌, ◌+◌, ◌*◌, ◌^◌, ℕ, arith, subst, length, pos}
+use Rattle.std.proofs.Common.{◌≡◌, ◌<◌, ◌^◌, ℕ, arith, subst, length, pos}
 use Rattle.std.proofs.Common.{rules}
 use Rattle.std.proofs.Common.{get_or-set_same}
 use Rattle.spans.proofs.EightSums.{IsEightSum-empty}

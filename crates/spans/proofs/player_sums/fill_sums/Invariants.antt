@@ -1,4 +1,4 @@
-use Rattle.std.proofs.Common.{◌≡◌, ℕ, ◌^◌, ◌<◌, length, pos, slice_index_or}
+use Rattle.std.proofs.Common.{ℕ, ◌^◌, ◌<◌, pos, slice_index_or}
 use Rattle.spans.specs.Sums.{IsEightSum}
 use Rattle.spans.proofs.player_sums.fill_sums.Given as goal
 
