@@ -1,4 +1,4 @@
--- To be read in this order. The last five are for the private functions.
+-- To be read in this order. The last four are for the private functions.
 pub mod Stage
 pub mod Balanced
 pub mod Same

@@ -38,7 +38,8 @@ pub struct Lazy<'a, W: Worth> {
     pub(crate) marks: Option<Outside>,
     /// The greatest worth of each block of 256 coalitions, or 0 where that is more.
     pub(crate) peaks: [i64; 256],
-    /// The block of 256 coalitions in which the column that entered last was found; the next search begins there.
+    /// The block of 256 coalitions in which the last coalition was found, whose column entered; there the next search
+    /// of coalitions begins, whatever entered since from the front.
     pub(crate) at: u8,
     ghost count: { players ≡ (W.game game.now).players },
     ghost few: { players ≤ 16 },

@@ -1,5 +1,5 @@
 //! A column that rises, picked so that the simplex takes few steps: of the first 256 coalitions among which one rises,
-//! that whose cost is most above its value. The search goes round, and begins where the last one ended.
+//! that whose cost is most above its value. The search goes round, from the block of the last coalition on.
 
 ghost use Rattle.std.specs.Prelude.{◌≡◌, ◌⊎◌, ℕ, ◌+◌, ◌*◌, ◌<◌, ◌≤◌, ◌^◌, length, unsigned_abs};
 ghost use Rattle.std.specs.Prelude.{MatchOption};
