@@ -30,7 +30,7 @@ count-some m (suc n) i lt e = elim (less_or_last i n lt) [
     some_either true k h = omega arith
     some_either false k h = h
 
-count-few : (m : ℕ → Bool) (n : ℕ) → count m n ≤ n
+pub count-few : (m : ℕ → Bool) (n : ℕ) → count m n ≤ n
 count-few m zero = omega arith
 count-few m (suc n) = few_either (m n) (count m n) (count-few m n)
   where

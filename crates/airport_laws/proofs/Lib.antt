@@ -1,0 +1,10 @@
+pub mod OrdersExist
+pub mod SchemesExist
+pub mod PaymentsExist
+pub mod PaymentLevels
+pub mod PaymentsAreTheNucleolus
+pub mod EveryNucleolusIsPaid
+pub mod AirportsAreConvex
+pub mod UnitsByPlace
+pub mod ShapleyIsByStep
+pub mod ShapleyIsInCore
