@@ -1,6 +1,6 @@
 -- Every nucleolus has the shares of payments over another denominator, so it is payments.
 use Rattle.std.proofs.Common.{◌≡◌, ℕ, zero, suc, ◌<◌, ◌≤◌, ◌^◌, List, length, get_or}
-use Rattle.std.proofs.Common.{ℤ, pos, ◌+ℤ◌, ◌*ℤ◌, neg_ℤ, ◌≤ℤ◌, ◌<ℤ◌, sym, ap, ◌∙◌, inl, inr, arith}
+use Rattle.std.proofs.Common.{ℤ, pos, ◌+ℤ◌, ◌*ℤ◌, neg_ℤ, ◌≤ℤ◌, ◌<ℤ◌, sym, ap, ◌∙◌, arith}
 use lib.IntN.{*ℤ_comm, neg_ℤ-neg_ℤ}
 use Rattle.definitions.proofs.Families.{allocation_of}
 use Rattle.definitions.proofs.Ring.{linear, mul-leℤ, mul-le_cancelℤ, mul-lt_cancelℤ, mul-ltℤ, mul-cancelℤ}
@@ -18,7 +18,7 @@ use Rattle.laws.specs.Airports.{pays}
 use Rattle.laws.proofs.NucleolusIsUnique.{nucleolus_unique}
 use Rattle.laws.proofs.LittlechildPayments.{group, all_pay, nobody_more}
 use Rattle.airport_laws.proofs.OrdersExist.{order_exists}
-use Rattle.airport_laws.proofs.PaymentsExist.{none_or_some, payments_exist}
+use Rattle.airport_laws.proofs.PaymentsExist.{payments_exist}
 use Rattle.airport_laws.proofs.PaymentsAreTheNucleolus.{payments_nucleolus}
 
 -- ---- the same payments over another denominator
@@ -137,24 +137,11 @@ module _ (family : Family) (costs : List ℕ) (x : Allocation) (h : IsNucleolus 
   pub nucleolus_group : (s : ℕ) → s < 2 ^ length costs
       → sum_over (length costs) (pays x) s
       ≤ℤ (x.den *ℤ pos (greatest_cost (length costs) (λ k. get_or costs k 0) s))
-  nucleolus_group s lt = elim (none_or_some (length costs)) [
-    | inl none ↦
-        let left = ap (λ (n : ℕ). sum_over n (pays x) s) none in
-        let right = ap (λ (n : ℕ). x.den *ℤ pos (greatest_cost n (λ k. get_or costs k 0) s)) none in
-        omega (arith, linear, left, right, mul-zeroℤ x.den)
-    | inr some ↦ group costs in_order.0 paid.0 x paid.1 s some lt
-  ]
+  nucleolus_group s lt = group costs in_order.0 paid.0 x paid.1 s lt
 
   pub nucleolus_all : sum_below (length costs) (pays x)
       ≡ x.den *ℤ pos (greatest_cost (length costs) (λ k. get_or costs k 0) (grand_coalition (length costs)))
-  nucleolus_all = elim (none_or_some (length costs)) [
-    | inl none ↦
-        let all = grand_coalition (length costs) in
-        let left = ap (λ (n : ℕ). sum_below n (pays x)) none in
-        let right = ap (λ (n : ℕ). x.den *ℤ pos (greatest_cost n (λ k. get_or costs k 0) all)) none in
-        omega (arith, linear, left, right, mul-zeroℤ x.den)
-    | inr some ↦ all_pay costs in_order.0 paid.0 x paid.1 some
-  ]
+  nucleolus_all = all_pay costs in_order.0 paid.0 x paid.1
 
   pub nucleolus_nobody : (i : ℕ) → i < length costs
       → (pos 0 ≤ℤ pays x i) × (pays x i ≤ℤ (x.den *ℤ pos (get_or costs i 0)))

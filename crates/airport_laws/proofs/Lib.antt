@@ -5,6 +5,7 @@ pub mod PaymentLevels
 pub mod PaymentsAreTheNucleolus
 pub mod EveryNucleolusIsPaid
 pub mod AirportsAreConvex
+pub mod ThreeAirlinesByStep
 pub mod UnitsByPlace
 pub mod ShapleyIsByStep
 pub mod ShapleyIsInCore

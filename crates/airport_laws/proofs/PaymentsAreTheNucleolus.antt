@@ -16,8 +16,8 @@ use Rattle.real_shares.proofs.Soundness.{IsNucleolusOver-from_levels}
 use Rattle.airport_scheme.specs.Scheme.{IsPaid}
 use Rattle.airport_scheme.proofs.Excesses.{game_of}
 use Rattle.airport_scheme.proofs.Chains.{Covers-none, Certifies-chain}
+use Rattle.laws.proofs.Numbers.{none_or_some}
 use Rattle.laws.proofs.NucleolusIsUnique.{nucleolus_unique}
-use Rattle.airport_laws.proofs.PaymentsExist.{none_or_some}
 use Rattle.airport_laws.proofs.PaymentLevels.{levels_exist, levels_fit}
 
 some_nucleolus : (family : Family) (costs : List ℕ) (at : ℕ → ℕ) (pay : ℕ → ℤ) (x : Allocation)

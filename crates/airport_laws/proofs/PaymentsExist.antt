@@ -1,6 +1,6 @@
 -- In each order of the players by their costs there are payments: those of the scheme, looked up by place. Where there
 -- are no players, nobody pays.
-use Rattle.std.proofs.Common.{◌≡◌, ◌⊎◌, ℕ, zero, suc, ◌<◌, ◌≤◌, cond, nat_eq, List, [], length, get_or, map}
+use Rattle.std.proofs.Common.{◌≡◌, ℕ, zero, suc, ◌<◌, ◌≤◌, cond, nat_eq, List, [], length, get_or, map}
 use Rattle.std.proofs.Common.{ℤ, pos, neg_ℤ, refl, sym, ◌∙◌, inl, inr, arith}
 use Rattle.std.specs.List.{range_with_len}
 use Rattle.std.proofs.lemmas.List.FromFn.{get_or-map-range_with_len, length-map-range_with_len}
@@ -9,6 +9,7 @@ use Rattle.definitions.proofs.Ring.{linear}
 use Rattle.definitions.specs.Games.{Allocation}
 use Rattle.orders.specs.Orders.{IsOrder}
 use Rattle.airport_scheme.specs.Scheme.{IsPaid}
+use Rattle.laws.proofs.Numbers.{none_or_some}
 use Rattle.airport_laws.proofs.SchemesExist.{scheme_exists}
 
 -- minus the payment of the last of m places where player i stands
@@ -45,9 +46,6 @@ some_exist costs at some o =
         scheme = scheme.2;
       },
     )
-
-pub none_or_some : (n : ℕ) → (n ≡ 0) ⊎ (1 ≤ n)
-none_or_some n = grind arith
 
 nobody_pays : (costs : List ℕ) (at : ℕ → ℕ) → length costs ≡ 0 → IsOrder (length costs) (λ k. get_or costs k 0) at
     → (pay : ℕ → ℤ) × (x : Allocation) × IsPaid costs at pay x

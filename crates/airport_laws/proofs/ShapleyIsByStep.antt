@@ -42,7 +42,7 @@ factorial-divided n k some le =
 
 -- ---- the total
 
-pub total_units : (costs : List ℕ) (i : ℕ) → i < length costs
+total_units : (costs : List ℕ) (i : ℕ) → i < length costs
     → shapley_total (game_of_costs costs) i ≡ neg_ℤ (units_below costs (factorial (length costs)) (slice_index costs i))
 total_units costs i lt =
     let n = length costs in

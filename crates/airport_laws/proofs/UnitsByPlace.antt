@@ -5,14 +5,14 @@ use Rattle.std.proofs.Common.{nat_lt, List, length, slice_index, ℤ, pos, ◌+�
 use Rattle.std.proofs.Common.{refl, sym, ap, ◌∙◌, inl, inr, arith}
 use Rattle.std.proofs.lemmas.Int.{ints}
 use Rattle.definitions.proofs.Cases.{less_or_last, below_or_above, same_or_less, nat_lt-less, nat_lt-past}
-use Rattle.definitions.proofs.Ring.{linear}
-use Rattle.definitions.proofs.Members.{sum_below-same, sum_below-zero, sum_below-split, sum_over-grand_coalition}
+use Rattle.definitions.proofs.Ring.{linear, mul-oneℤ}
+use Rattle.definitions.proofs.Members.{sum_below-same, sum_below-zero, sum_below-split}
 use Rattle.definitions.specs.Sums.{sum_below}
-use Rattle.definitions.specs.Coalitions.{sum_over}
 use Rattle.orders.specs.Orders.{IsOrder}
-use Rattle.orders.proofs.Fronts.{order-place, sum_over-front}
+use Rattle.orders.proofs.Fronts.{order-place}
 use Rattle.shapley.specs.Layers.{above, count, units_below}
-use Rattle.shapley.proofs.Steps.{units_more}
+use Rattle.shapley.proofs.Steps.{units_more, sum_below-constant}
+use Rattle.talmud.proofs.Sharing.{sum-places}
 use Rattle.airport_laws.specs.Steps.{cost_before, step}
 
 -- ---- how many are above
@@ -28,17 +28,6 @@ count-sum m (suc n) = one_either (m n) (count m n) (sum_below n (λ i. one_if (m
     one_either true c z e = omega (arith, ints, e)
     one_either false c z e = omega (arith, ints, e)
 
-sum-ones : (d : ℕ) → sum_below d (λ i. pos 1) ≡ pos d
-sum-ones zero = refl
-sum-ones (suc d) = let ih = sum-ones d in omega (arith, ints, ih)
-
--- a sum over the players, in order
-sum-ordered : (n : ℕ) (cost at : ℕ → ℕ) → IsOrder n cost at → (f : ℕ → ℤ)
-    → sum_below n f ≡ sum_below n (λ j. f (at j))
-sum-ordered n cost at o f =
-    sym (sum_over-grand_coalition n f) ∙ ap (λ (s : ℕ). sum_over n f s) (sym o.full)
-    ∙ sum_over-front n cost at o f n (omega arith)
-
 -- where the players from place k on are those above u
 count-past : (n : ℕ) (cost at : ℕ → ℕ) → IsOrder n cost at → (u k : ℕ) → k ≤ n
     → ((j : ℕ) → j < k → cost (at j) ≤ u) → ((j : ℕ) → k ≤ j → j < n → u < cost (at j))
@@ -47,12 +36,12 @@ count-past n cost at o u k le low high =
     let d = n - k in
     let whole : k + d ≡ n = omega arith in
     let f : ℕ → ℤ = λ j. one_if (nat_lt u (cost (at j))) in
-    let all = count-sum (above cost u) n ∙ sum-ordered n cost at o (λ i. one_if (above cost u i)) in
+    let all = count-sum (above cost u) n ∙ sum-places n cost at o (λ i. one_if (above cost u i)) in
     let parts = ap (λ (m : ℕ). sum_below m f) (sym whole) ∙ sum_below-split k d f in
     let none = sum_below-zero k f (λ j lt. none_at j (low j lt)) in
     let ones =
     sum_below-same d (λ j. f (k + j)) (λ j. pos 1) (λ j lt. one_at (k + j) (high (k + j) (omega arith) (omega arith)))
-    ∙ sum-ones d in
+    ∙ sum_below-constant d (pos 1) ∙ mul-oneℤ (pos d) in
     omega (arith, ints, all, parts, none, ones)
   where
     none_at : (j : ℕ) → cost (at j) ≤ u → one_if (nat_lt u (cost (at j))) ≡ pos 0

@@ -3,10 +3,13 @@
 --
 --   cost_before, step    the cost at the place before, and how far the cost at a place is above it
 --   IsByStep             shares by which each step is borne equally by all who need it
+--   by_step              of costs of 2, 4 and 6: payments of 2/3, 5/3 and 11/3
+--   ThreeAirlinesByStep  these are so, and 1, 3/2 and 7/2 aren't
 --   ShapleyIsByStep      just these are the Shapley value
 --   ShapleyIsInCore      by it no group pays more together than its greatest cost, and all together pay just that
 --   AirportsAreConvex    as worths the game is convex, and so as costs concave
-use Rattle.std.specs.Prelude.{◌≡◌, ◌↔◌, ℕ, zero, suc, ◌-◌, ◌<◌, List, length, ℤ, pos, ◌*ℤ◌, ◌≤ℤ◌, slice_index}
+use Rattle.std.specs.Prelude.{◌≡◌, ◌↔◌, ℕ, zero, suc, ◌-◌, ◌<◌, List, [], ◌∷◌, length, ℤ, pos, neg_ℤ, ◌*ℤ◌, ◌≤ℤ◌}
+use Rattle.std.specs.Prelude.{slice_index}
 use Rattle.definitions.specs.Sums.{sum_below}
 use Rattle.definitions.specs.Games.{Allocation, InCore}
 use Rattle.definitions.specs.Shapley.{factorial, IsShapley}
@@ -14,6 +17,7 @@ use Rattle.definitions.specs.Convexity.{IsConvex}
 use Rattle.orders.specs.Orders.{IsOrder}
 use Rattle.laws.specs.ClassGames.{airport_game}
 use Rattle.laws.specs.Airports.{pays}
+use Rattle.laws.specs.SmallNucleoli.{payments}
 
 -- the cost at the place before place k, and 0 before the first
 abbrev pub cost_before : List ℕ → (ℕ → ℕ) → ℕ → ℕ
@@ -34,6 +38,15 @@ pub record IsByStep (costs : List ℕ) (at : ℕ → ℕ) (x : Allocation) : Typ
       → pos (length costs - j) *ℤ part j ≡ pos (factorial (length costs)) *ℤ (x.den *ℤ pos (step costs at j))
   pub shares : (k : ℕ) → k < length costs
       → pos (factorial (length costs)) *ℤ pays x (at k) ≡ sum_below (suc k) part
+
+-- of three who need 2, 4 and 6 of a runway, who pay 2/3, 5/3 and 11/3
+abbrev pub by_step : Allocation
+by_step = record { shares = neg_ℤ (pos 2) ∷ (neg_ℤ (pos 5) ∷ (neg_ℤ (pos 11) ∷ [])); den = pos 3 }
+
+-- all three bear the first step of 2, two the second, and one the third; the payments of the nucleolus aren't so
+abbrev pub ThreeAirlinesByStep : Type 0
+ThreeAirlinesByStep =
+    IsByStep (2 ∷ (4 ∷ (6 ∷ []))) (λ k. k) by_step × ¬ IsByStep (2 ∷ (4 ∷ (6 ∷ []))) (λ k. k) payments
 
 -- in each order of the players by their costs, just these shares are the Shapley value
 abbrev pub ShapleyIsByStep : Type 0

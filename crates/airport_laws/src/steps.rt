@@ -1,7 +1,13 @@
 //! The Shapley value of an airport game by the steps of its costs, for any number of players (Littlechild and Owen
 //! 1973), and that the game is convex.
 
-ghost use Rattle.airport_laws.specs.Steps.{ShapleyIsByStep, ShapleyIsInCore, AirportsAreConvex};
+ghost use Rattle.airport_laws.specs.Steps.{ThreeAirlinesByStep, ShapleyIsByStep, ShapleyIsInCore, AirportsAreConvex};
+
+/// Three airlines that need 2, 4 and 6 bear each step equally where they pay 2/3, 5/3 and 11/3, but not where they pay
+/// 1, 3/2 and 7/2.
+pub fn three_airlines_by_step()
+    ensures { ThreeAirlinesByStep }
+{}
 
 /// Just the shares by which each step of the costs is borne equally by all who need it are the Shapley value.
 pub fn shapley_is_by_step()

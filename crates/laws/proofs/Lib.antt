@@ -1,3 +1,5 @@
+pub mod Numbers
+pub mod AtPlayer
 mod Gaps
 pub mod NucleolusIsUnique
 pub mod NucleolusIsInCore
@@ -16,6 +18,7 @@ mod SharesScale
 pub mod SharesAddToAll
 pub mod ShapleyNoLess
 mod ShapleyDummies
+pub mod LevelledSums
 pub mod UnanimityGames
 mod FairRulesAreShapley
 mod AddsNoLessInClasses

@@ -50,7 +50,7 @@ pub some_above : (costs : List ℕ) (i u : ℕ) → i < length costs → u < sli
 some_above costs i u lt h =
     count-some (above (slice_index costs) u) (length costs) i lt (nat_lt-less u (slice_index costs i) h)
 
-sum_below-constant : (n : ℕ) (c : ℤ) → sum_below n (λ u. c) ≡ pos n *ℤ c
+pub sum_below-constant : (n : ℕ) (c : ℤ) → sum_below n (λ u. c) ≡ pos n *ℤ c
 sum_below-constant zero c = sym (zero-mulℤ c)
 sum_below-constant (suc n) c = omega (arith, linear, sum_below-constant n c, suc-mulℤ n c)
 
