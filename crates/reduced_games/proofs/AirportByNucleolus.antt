@@ -1,8 +1,7 @@
 -- The core of an airport isn't empty: who needs most can pay all.
-use Rattle.std.proofs.Common.{◌≡◌, ℕ, zero, suc, ◌<◌, ◌≤◌, Bool, true, false, cond, List, length, map}
+use Rattle.std.proofs.Common.{◌≡◌, ℕ, ◌<◌, ◌≤◌, Bool, true, false, cond, List, length, map}
 use Rattle.std.proofs.Common.{slice_index, pos, neg_ℤ, ◌*ℤ◌, ◌≤ℤ◌, refl, sym, ap, ◌∙◌, inl, arith}
 use Rattle.std.specs.List.{range_with_len}
-use Rattle.std.proofs.Math.Nat.{pow-suc}
 use Rattle.std.proofs.lemmas.List.FromFn.{get_or-map-range_with_len, length-map-range_with_len}
 use Rattle.definitions.proofs.Ring.{linear, one-mulℤ}
 use Rattle.definitions.proofs.Casts.{pos-le}
@@ -15,32 +14,30 @@ use Rattle.definitions.specs.Games.{Allocation, share, amount, InCore}
 use Rattle.definitions.specs.declared.Measure.TheVariants.{Plain}
 use Rattle.airport.proofs.GreatestCosts.{greatest_cost-at_least}
 use Rattle.laws.specs.ClassGames.{airport_game}
+use Rattle.laws.proofs.AtPlayer.{at_player, sum_over-at_player}
 use Rattle.laws.proofs.NucleolusIsInCore.{nucleolus_in_core}
 use Rattle.reduced_games.specs.AirportsLeft.{AirportByNucleolus}
-use Rattle.reduced_games.proofs.Staying.{at_player, at_player_over}
+use Rattle.reduced_games.proofs.Staying.{some_stay}
 use Rattle.reduced_games.proofs.NucleolusReduces.{both_reduce}
-use Rattle.reduced_games.proofs.ReducedAirport.{greatest_member, reduced_airport}
+use Rattle.reduced_games.proofs.ReducedAirport.{reduced_airport}
+use Rattle.reduced_games.proofs.GreatestMembers.{greatest_member}
 
-module _ (costs : List ℕ) (some : 0 < length costs) where
+module _ (costs : List ℕ) (some : 1 ≤ length costs) where
   abbrev n : ℕ
   n = length costs
 
   abbrev cost : ℕ → ℕ
   cost i = slice_index costs i
 
-  positive : (n : ℕ) → 0 < n → 0 < grand_coalition n
-  positive zero h = absurd (omega arith)
-  positive (suc n) h = (let p = grand_coalition-within n in omega (arith, p, pow-suc 2 n))
-
   -- a player with the greatest cost
   abbrev payer : ℕ
-  payer = (greatest_member n cost (grand_coalition n) (positive n some) (grand_coalition-within n)).0
+  payer = (greatest_member n cost (grand_coalition n) (some_stay n some) (grand_coalition-within n)).0
 
   payer_in : payer < n
-  payer_in = (greatest_member n cost (grand_coalition n) (positive n some) (grand_coalition-within n)).1
+  payer_in = (greatest_member n cost (grand_coalition n) (some_stay n some) (grand_coalition-within n)).1
 
   payer_cost : greatest_cost n cost (grand_coalition n) ≡ cost payer
-  payer_cost = (greatest_member n cost (grand_coalition n) (positive n some) (grand_coalition-within n)).3
+  payer_cost = (greatest_member n cost (grand_coalition n) (some_stay n some) (grand_coalition-within n)).3
 
   -- who pays all
   abbrev z : Allocation
@@ -54,7 +51,7 @@ module _ (costs : List ℕ) (some : 0 < length costs) where
       ap (λ k. sum_over k (share z) s) z_long
       ∙ sum_over-same n (share z) (at_player payer (neg_ℤ (pos (cost payer)))) s
       (λ i lt. get_or-map-range_with_len (at_player payer (neg_ℤ (pos (cost payer)))) 0 n i i (pos 0) lt (omega arith))
-      ∙ at_player_over n s payer (neg_ℤ (pos (cost payer))) payer_in
+      ∙ sum_over-at_player n s payer (neg_ℤ (pos (cost payer))) payer_in
 
   covered : (s : ℕ) → (pos 1 *ℤ airport_worth costs s) ≤ℤ amount z s
   covered s = by_member (has_player s payer) refl

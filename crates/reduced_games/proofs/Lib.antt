@@ -1,15 +1,20 @@
 mod Staying
 mod Excesses
 mod ReducedGameProperty
-mod OtherSolutions
+mod ReducedGamesExist
+mod PrekernelAndCoreReduce
+mod Pairs
 mod NucleolusReduces
 mod Leaving
 mod ReducedEstate
 mod TalmudIsConsistent
 mod EstateByNucleolus
+mod GreatestMembers
 mod ReducedAirport
 mod AirportByNucleolus
 mod TwoOfThreeVoters
+mod HeirsLeft
+mod AirlinesLeft
 mod Rules
 mod SideWeights
 mod Numbered
@@ -18,3 +23,5 @@ mod Words
 mod WordGames
 mod WordGameShares
 mod SobolevsTheorem
+mod ShapleyIsntSuchARule
+mod InTheirOrder

@@ -8,7 +8,7 @@ use Rattle.definitions.specs.declared.Measure.TheVariants.{Plain}
 use Rattle.laws.proofs.NucleolusIsInCore.{nucleolus_in_core}
 use Rattle.laws.proofs.WithACoreBothAreOne.{both_are_one}
 use Rattle.reduced_games.specs.ReducedGames.{AreSome, staying_shares, IsReducedGame, NucleolusReduces}
-use Rattle.reduced_games.proofs.OtherSolutions.{core_reduces}
+use Rattle.reduced_games.proofs.PrekernelAndCoreReduce.{core_reduces}
 use Rattle.reduced_games.proofs.ReducedGameProperty.{reduced_game_property}
 
 pub nucleolus_reduces : NucleolusReduces

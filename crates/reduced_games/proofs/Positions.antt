@@ -12,6 +12,7 @@ use Rattle.definitions.proofs.Members.{has_player-singleton, has_player-singleto
 use Rattle.definitions.proofs.Members.{sum_below-front, sum_below-zero}
 use Rattle.definitions.specs.Sums.{sum_below}
 use Rattle.definitions.specs.Coalitions.{has_player, singleton}
+use Rattle.laws.proofs.Numbers.{pos-unsigned_abs}
 
 -- ---- lists of pairs
 
@@ -93,11 +94,8 @@ weighed_sum f w v (suc t) low =
       list_sum-append f (weighed w v t) (copies (unsigned_abs (w t)) (t, v)),
       weighed_sum f w v t (λ s lt. low s (omega arith)),
       copies_sum f (unsigned_abs (w t)) (t, v),
-      ap (λ z. z *ℤ f (t, v)) (whole (w t) (low t (omega arith))),
+      ap (λ z. z *ℤ f (t, v)) (pos-unsigned_abs (w t) (low t (omega arith))),
     )
-  where
-    whole : (z : ℤ) → pos 0 ≤ℤ z → pos (unsigned_abs z) ≡ z
-    whole z h = omega (arith, ints)
 
 some_weight : (z : ℤ) → pos 0 ≤ℤ z → 0 < unsigned_abs z → pos 1 ≤ℤ z
 some_weight z low h = omega (arith, ints)

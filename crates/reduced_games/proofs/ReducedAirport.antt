@@ -1,14 +1,13 @@
 -- The reduced game of an airport. Some who stay have two choices: without the one who goes, or with it, who then brings
 -- what it pays. The lesser cost rises with the greatest cost among those who stay, so it is the greatest of the lesser
 -- costs of each.
-use Rattle.std.proofs.Common.{◌≡◌, ◌≢◌, ◌⊎◌, ℕ, zero, suc, ◌-◌, ◌^◌, ◌<◌, ◌≤◌, max, Bool, true, false, cond}
+use Rattle.std.proofs.Common.{◌≡◌, ◌≢◌, ℕ, ◌-◌, ◌^◌, ◌<◌, ◌≤◌, max, Bool, true, false, cond}
 use Rattle.std.proofs.Common.{not, ◌&&◌, nat_eq, List, length, map, unsigned_abs, slice_index}
 use Rattle.std.proofs.Common.{ℤ, pos, neg_ℤ, ◌-ℤ◌, ◌*ℤ◌, ◌≤ℤ◌}
-use Rattle.std.proofs.Common.{refl, sym, ap, ◌∙◌, inl, inr, arith}
+use Rattle.std.proofs.Common.{sym, ap, ◌∙◌, inl, inr, arith}
 use Rattle.std.specs.Int.{int_min}
 use Rattle.std.specs.List.{range_with_len}
 use Rattle.std.proofs.lemmas.Bool.{false≢true}
-use Rattle.std.proofs.Math.Nat.{pow-suc}
 use Rattle.std.proofs.lemmas.Int.{ints, clamps, by_lt_z}
 use Rattle.std.proofs.lemmas.List.FromFn.{get_or-map-range_with_len, length-map-range_with_len}
 use Rattle.definitions.proofs.Ring.{linear, mul-leℤ, mul-negℤ, mul-nonnegativeℤ, one-mulℤ}
@@ -18,61 +17,24 @@ use Rattle.definitions.proofs.Cases.{int_min-left, int_min-right}
 use Rattle.definitions.proofs.Masks.{grand_coalition-within, singleton-within}
 use Rattle.definitions.proofs.Members.{has_player-grand_coalition, has_player-complement, has_player-singleton}
 use Rattle.definitions.proofs.Members.{sum_below-same, has_player-singleton_other, sum_over-singleton}
-use Rattle.definitions.proofs.SomeMembers.{some_member}
 use Rattle.definitions.proofs.Splits.{some_below-true}
 use Rattle.definitions.proofs.SumsOver.{amount-at}
 use Rattle.definitions.specs.Classes.{greatest_cost, airport_worth}
 use Rattle.definitions.specs.Coalitions.{has_player, singleton, grand_coalition, some_below}
 use Rattle.definitions.specs.Games.{Allocation, share, amount, InCore}
 use Rattle.laws.specs.ClassGames.{airport_game}
+use Rattle.laws.proofs.AtPlayer.{sum_over-at_player}
+use Rattle.laws.proofs.Numbers.{pos-unsigned_abs}
 use Rattle.laws.proofs.RenumberedCoalitions.{coalition_where-has}
+use Rattle.laws.specs.Airports.{pays}
 use Rattle.airport.proofs.GreatestCosts.{greatest_cost-at_least, greatest_cost-at_most, greatest_cost-empty}
 use Rattle.reduced_games.specs.ReducedGames.{AreSome, staying, staying_shares, worth_left, amount_leaving}
 use Rattle.reduced_games.specs.ReducedGames.{IsReducedGame}
-use Rattle.reduced_games.specs.AirportsLeft.{paid, cost_left, IsAirportLeft, AirportsAreLeft, ReducedAirport}
+use Rattle.reduced_games.specs.AirportsLeft.{cost_left, IsAirportLeft, AirportsAreLeft, ReducedAirport}
 use Rattle.reduced_games.proofs.Staying.{staying_has, staying_all, staying_old, old_numbers, old_within}
-use Rattle.reduced_games.proofs.Staying.{staying_amount, at_player_over}
+use Rattle.reduced_games.proofs.Staying.{staying_amount, some_stay}
+use Rattle.reduced_games.proofs.GreatestMembers.{greatest_member}
 use Rattle.reduced_games.proofs.Leaving.{leaving_is, gone, spread_either, staying_others}
-
--- ---- greatest costs
-
--- c is the cost of some member
-abbrev pub IsCostOfMember : ℕ → (ℕ → ℕ) → ℕ → ℕ → Type 0
-IsCostOfMember n cost s c = (k : ℕ) × (k < n) × (has_player s k ≡ true) × (c ≡ cost k)
-
--- the greatest cost is 0, or that of some member
-greatest_or_none : (n : ℕ) (cost : ℕ → ℕ) (s : ℕ)
-    → (greatest_cost n cost s ≡ 0) ⊎ IsCostOfMember n cost s (greatest_cost n cost s)
-greatest_or_none zero cost s = inl refl
-greatest_or_none (suc n) cost s = by_last (has_player s n) refl (greatest_or_none n cost s)
-  where
-    greater : (a b : ℕ) → (max a b ≡ a) ⊎ (max a b ≡ b)
-    greater a b = grind arith
-
-    by_last : (b : Bool) → has_player s n ≡ b
-        → (greatest_cost n cost s ≡ 0) ⊎ IsCostOfMember n cost s (greatest_cost n cost s)
-        → (max (greatest_cost n cost s) (cond b (cost n) 0) ≡ 0)
-        ⊎ IsCostOfMember (suc n) cost s (max (greatest_cost n cost s) (cond b (cost n) 0))
-    by_last false e (inl none) = inl (omega (arith, none))
-    by_last false e (inr some) = inr (some.0, omega (arith, some.1), some.2, omega (arith, some.3))
-    by_last true e before = elim (greater (greatest_cost n cost s) (cost n)) [
-      | inr second ↦ inr (n, omega arith, e, second)
-      | inl first ↦ elim before [
-        | inl none ↦ inl (first ∙ none)
-        | inr some ↦ inr (some.0, omega (arith, some.1), some.2, first ∙ some.3)
-      ]
-    ]
-
--- some member of a coalition that isn't empty has the greatest cost
-pub greatest_member : (n : ℕ) (cost : ℕ → ℕ) (s : ℕ) → 0 < s → s < 2 ^ n
-    → IsCostOfMember n cost s (greatest_cost n cost s)
-greatest_member n cost s some within = elim (greatest_or_none n cost s) [
-  | inr found ↦ found
-  | inl none ↦
-      let i = some_member n s some within in
-      let low = greatest_cost-at_least n cost s i.0 i.1 i.2 in
-      (i.0, i.1, i.2, omega (arith, none, low))
-]
 
 -- ---- the lesser cost
 
@@ -119,7 +81,7 @@ module _ (m : ℕ) (who : ℕ → ℕ) (costs : List ℕ) (x : Allocation) (l : 
       ∙ sum_below-same n (λ i. cond (has_player s i) (gone n m who a (share x) i) (pos 0))
       (λ i. cond (has_player s i) (cond (has_player (singleton l) i) (share x l) (pos 0)) (pos 0))
       (λ i lt. ap (λ z. cond (has_player s i) z (pos 0)) (gone_is i lt))
-      ∙ at_player_over n s l (share x l) player
+      ∙ sum_over-at_player n s l (share x l) player
     where
       left_over : (u v w : ℤ) → v ≡ w → pos 1 *ℤ u -ℤ pos 1 *ℤ v ≡ u -ℤ w
       left_over u v w e = omega (arith, linear, one-mulℤ u, one-mulℤ v, e)
@@ -191,7 +153,7 @@ module _ (m : ℕ) (who : ℕ → ℕ) (costs : List ℕ) (x : Allocation) (l : 
   kept s = worth_left m who (airport_game costs) x s
 
   abbrev with_l : ℕ → ℤ
-  with_l t = x.den *ℤ pos (max (own t) (cost l)) -ℤ paid x l
+  with_l t = x.den *ℤ pos (max (own t) (cost l)) -ℤ pays x l
 
   kept_without : (s t : ℕ) → staying m who s ≡ t → has_player s l ≡ false
       → kept s ≡ neg_ℤ (x.den *ℤ pos (own t))
@@ -259,7 +221,7 @@ module _ (m : ℕ) (who : ℕ → ℕ) (costs : List ℕ) (x : Allocation) (l : 
   -- ---- the costs that are left
 
   -- who goes pays at most its cost alone
-  at_most_alone : paid x l ≤ℤ (x.den *ℤ pos (cost l))
+  at_most_alone : pays x l ≤ℤ (x.den *ℤ pos (cost l))
   at_most_alone =
       let s = singleton l in
       let within = singleton-within n l player in
@@ -287,7 +249,7 @@ module _ (m : ℕ) (who : ℕ → ℕ) (costs : List ℕ) (x : Allocation) (l : 
       let first = mul-nonnegativeℤ x.den (pos (cost i)) den_low (omega (arith, linear)) in
       let more = mul-leℤ x.den (pos (cost l)) (pos (max (cost i) (cost l))) den_low
       (pos-le (cost l) (max (cost i) (cost l)) (omega arith)) in
-      both (x.den *ℤ pos (cost i)) (x.den *ℤ pos (max (cost i) (cost l)) -ℤ paid x l) first
+      both (x.den *ℤ pos (cost i)) (x.den *ℤ pos (max (cost i) (cost l)) -ℤ pays x l) first
       (let least = at_most_alone in omega (arith, linear, more, least))
     where
       both : (u v : ℤ) → pos 0 ≤ℤ u → pos 0 ≤ℤ v → pos 0 ≤ℤ int_min u v
@@ -304,19 +266,16 @@ module _ (m : ℕ) (who : ℕ → ℕ) (costs : List ℕ) (x : Allocation) (l : 
       same = λ k lt.
           ap pos (get_or-map-range_with_len (λ k. unsigned_abs (cost_left costs x l (who k))) 0 m k k 0 lt
           (omega arith))
-          ∙ whole (cost_left costs x l (who k)) (cost_left_low (who k));
+          ∙ pos-unsigned_abs (cost_left costs x l (who k)) (cost_left_low (who k));
     },
   )
-    where
-      whole : (z : ℤ) → pos 0 ≤ℤ z → pos (unsigned_abs z) ≡ z
-      whole z low = omega (arith, ints)
 
   module _ (left_costs : List ℕ) (e : IsAirportLeft m who costs x l left_costs) where
     abbrev left_cost : ℕ → ℕ
     left_cost k = slice_index left_costs k
 
     abbrev lesser_of : ℕ → ℤ
-    lesser_of c = lesser x.den (cost l) (paid x l) c
+    lesser_of c = lesser x.den (cost l) (pays x l) c
 
     -- the greatest of the lesser costs is the lesser of the greatest
     left_greatest : (t : ℕ) → 0 < t → t < 2 ^ m → pos (greatest_cost m left_cost t) ≡ lesser_of (own t)
@@ -324,7 +283,7 @@ module _ (m : ℕ) (who : ℕ → ℕ) (costs : List ℕ) (x : Allocation) (l : 
         let k = greatest_member m left_cost t some within in
         let j = greatest_member m (λ k. cost (who k)) t some within in
         let up =
-        lesser_rises x.den (cost l) (paid x l) (cost (who k.0)) (own t) den_low
+        lesser_rises x.den (cost l) (pays x l) (cost (who k.0)) (own t) den_low
         (greatest_cost-at_least m (λ k. cost (who k)) t k.0 k.1 k.2) in
         let down =
         pos-le (left_cost j.0) (greatest_cost m left_cost t) (greatest_cost-at_least m left_cost t j.0 j.1 j.2) in
@@ -387,14 +346,10 @@ module _ (m : ℕ) (who : ℕ → ℕ) (costs : List ℕ) (x : Allocation) (l : 
       all = (let t = grand_coalition m in
           let second = int_min-right (x.den *ℤ pos (own t)) (with_l t) all_cheaper in
           let whole = kept_with (grand_coalition n) t (staying_all n m who a) (has_player-grand_coalition n l player) in
-          omega (arith, linear, worth_is t (positive m a.some) (grand_coalition-within m), second, whole));
+          omega (arith, linear, worth_is t (some_stay m a.some) (grand_coalition-within m), second, whole));
       some = λ t some less.
           (attained t some (omega (arith, less)), λ s p. at_most s t some (omega (arith, less)) p.1);
     }
-      where
-        positive : (m : ℕ) → 1 ≤ m → 0 < grand_coalition m
-        positive zero h = absurd (omega arith)
-        positive (suc m) h = (let p = grand_coalition-within m in omega (arith, p, pow-suc 2 m))
 
 pub airports_are_left : AirportsAreLeft
 airports_are_left m who costs x l a core player goes stay = airport_left m who costs x l a core player goes stay

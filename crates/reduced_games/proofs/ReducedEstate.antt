@@ -17,18 +17,19 @@ use Rattle.definitions.specs.Sums.{sum_below}
 use Rattle.definitions.specs.Coalitions.{grand_coalition, sum_over}
 use Rattle.definitions.specs.Games.{Allocation, share}
 use Rattle.definitions.specs.Classes.{bankruptcy_worth}
+use Rattle.laws.proofs.Numbers.{pos-unsigned_abs}
 use Rattle.laws.specs.ClassGames.{bankruptcy_game}
 use Rattle.laws.specs.TalmudRule.{claimed}
 use Rattle.talmud.proofs.Worths.{worth-grand_coalition}
 use Rattle.reduced_games.specs.ReducedGames.{AreSome, staying, worth_left, amount_leaving, IsReducedGame}
-use Rattle.reduced_games.specs.EstatesLeft.{IsEstateLeft, IsDivision, EstatesAreLeft, ReducedEstate}
+use Rattle.reduced_games.specs.EstatesLeft.{IsEstateLeft, AreAwards, EstatesAreLeft, ReducedEstate}
 use Rattle.reduced_games.proofs.Staying.{staying_all, staying_old, old_numbers, old_within}
 use Rattle.reduced_games.proofs.Staying.{staying_amount}
 use Rattle.reduced_games.proofs.Leaving.{leaving, leaving_low, leaving_less, leaving_parts, nobody_leaves}
 use Rattle.reduced_games.proofs.Leaving.{staying_others}
 
 module _ (m : ℕ) (who : ℕ → ℕ) (estate : ℕ) (claims : List ℕ) (x : Allocation) (a : AreSome (length claims) m who)
-    (d : IsDivision estate claims x) where
+    (d : AreAwards estate claims x) where
   abbrev n : ℕ
   n = length claims
 
@@ -74,7 +75,7 @@ module _ (m : ℕ) (who : ℕ → ℕ) (estate : ℕ) (claims : List ℕ) (x : A
     unsigned_abs (sum_below m (λ k. share x (who k))),
     map (λ k. unsigned_abs x.den * slice_index claims (who k)) (range_with_len 0 m),
     record {
-      paid = whole (sum_below m (λ k. share x (who k))) left_low ∙ sym left_is;
+      paid = pos-unsigned_abs (sum_below m (λ k. share x (who k))) left_low ∙ sym left_is;
       players = length-map-range_with_len (λ k. unsigned_abs x.den * slice_index claims (who k)) 0 m;
       same = λ k lt.
           ap pos (get_or-map-range_with_len (λ k. unsigned_abs x.den * slice_index claims (who k)) 0 m k k 0 lt
@@ -83,13 +84,10 @@ module _ (m : ℕ) (who : ℕ → ℕ) (estate : ℕ) (claims : List ℕ) (x : A
     },
   )
     where
-      whole : (z : ℤ) → pos 0 ≤ℤ z → pos (unsigned_abs z) ≡ z
-      whole z low = omega (arith, ints)
-
       product : (q : ℤ) (c : ℕ) → pos 1 ≤ℤ q → pos (unsigned_abs q * c) ≡ q *ℤ pos c
       product q c one =
           let parts : pos (unsigned_abs q * c) ≡ pos (unsigned_abs q) *ℤ pos c = refl in
-          parts ∙ ap (λ z. z *ℤ pos c) (whole q (omega (arith, linear, one)))
+          parts ∙ ap (λ z. z *ℤ pos c) (pos-unsigned_abs q (omega (arith, linear, one)))
 
   module _ (left : ℕ) (left_claims : List ℕ) (e : IsEstateLeft m who estate claims x left left_claims) where
     -- what some who stay claim of the estate that is left

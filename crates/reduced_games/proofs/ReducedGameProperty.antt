@@ -8,9 +8,10 @@ use Rattle.std.proofs.Common.{map, ℤ, pos, ◌-ℤ◌, ◌*ℤ◌, ◌<ℤ◌,
 use Rattle.std.proofs.Common.{refl, sym, ap, subst, ◌∙◌, inl, inr, arith}
 use Rattle.std.proofs.lemmas.Bool.{false≢true}
 use Rattle.std.proofs.lemmas.Int.{by_lt_z}
+use Rattle.std.proofs.Math.Pow.{pow_pos}
 use Rattle.definitions.proofs.Ring.{linear, one-mulℤ, mul-oneℤ, mul-subℤ, mul-leℤ}
 use Rattle.definitions.proofs.Cases.{same_or_other, true_or_false}
-use Rattle.definitions.proofs.Masks.{proper_or_all, singleton-within, grand_coalition-within}
+use Rattle.definitions.proofs.Masks.{proper_or_all, singleton-within}
 use Rattle.definitions.proofs.Members.{sum_over-combined, sum_over-singleton, sum_over-grand_coalition}
 use Rattle.definitions.proofs.SumsOver.{sum_over-empty}
 use Rattle.definitions.specs.Sums.{sum_below}
@@ -195,7 +196,7 @@ module _ (m : ℕ) (who : ℕ → ℕ) (g h : Game) (x : Allocation) (a : AreSom
   same_shares : ((t : ℕ) → t < count → gains (suc t) ≡ pos 0) → IsSame (on m h) y z
   same_shares none k lt =
       let whole = singleton-within m k lt in
-      let some = singleton_some k in
+      let some = pow_pos k in
       let nothing : gains (singleton k) ≡ pos 0 = elim (proper_or_all m (singleton k) whole) [
         | inl less ↦ (let back : suc (singleton k - 1) ≡ singleton k = omega (arith, some) in
             ap gains (sym back) ∙ none (singleton k - 1) (omega (arith, some, less)))
@@ -211,9 +212,6 @@ module _ (m : ℕ) (who : ℕ → ℕ) (g h : Game) (x : Allocation) (a : AreSom
         ap (λ u. u *ℤ z.den) (staying_share m who x k lt),
         *ℤ_comm (share x (who k)) z.den,
       )
-    where
-      singleton_some : (k : ℕ) → 0 < singleton k
-      singleton_some k = let p = grand_coalition-within k in omega (arith, p)
 
   lost : (t : ℕ) → losing t ≡ true → gains (suc t) <ℤ pos 0
   lost t e = omega (arith, linear, e)

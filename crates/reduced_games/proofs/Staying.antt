@@ -1,21 +1,22 @@
 -- The members of a coalition who stay: which they are, what their numbers add to, and that each coalition of those who
 -- stay is the staying part of some coalition.
-use Rattle.std.proofs.Common.{◌≡◌, ℕ, zero, suc, ◌^◌, ◌<◌, Bool, true, false, cond, ◌&&◌}
+use Rattle.std.proofs.Common.{◌≡◌, ℕ, zero, suc, ◌^◌, ◌<◌, ◌≤◌, Bool, cond, ◌&&◌}
 use Rattle.std.proofs.Common.{nat_eq, length, ℤ, pos}
-use Rattle.std.proofs.Common.{refl, sym, ap, ◌∙◌, inl, inr, arith}
+use Rattle.std.proofs.Common.{sym, ap, ◌∙◌, inl, inr, arith}
 use Rattle.std.proofs.lemmas.Bool.{false≢true}
+use Rattle.std.proofs.Math.Nat.{pow-suc}
 use Rattle.std.proofs.lemmas.List.FromFn.{get_or-map-range_with_len, length-map-range_with_len}
 use Rattle.definitions.proofs.Ring.{linear}
 use Rattle.definitions.proofs.Cases.{nat_eq-same, from_nat_eq, true_or_false, and_parts, and_both, not_true}
 use Rattle.definitions.proofs.Masks.{grand_coalition-within}
 use Rattle.definitions.proofs.Members.{has_player-empty, has_player-grand_coalition, sum_below-same}
-use Rattle.definitions.proofs.Members.{sum_over-singleton}
 use Rattle.definitions.proofs.Splits.{some_below-at, some_below-true}
 use Rattle.definitions.proofs.SumsOver.{sum_over-same, sum_over-add, sum_over-zero}
 use Rattle.definitions.specs.Sums.{sum_below}
 use Rattle.definitions.specs.Coalitions.{has_player, singleton, grand_coalition, sum_over, some_below}
 use Rattle.definitions.specs.Games.{Allocation, share, amount}
 use Rattle.laws.specs.Renumbering.{coalition_where}
+use Rattle.laws.proofs.AtPlayer.{at_player, sum_over-at_player}
 use Rattle.laws.proofs.RenumberedCoalitions.{coalition_where-within, coalition_where-has, same_below}
 use Rattle.reduced_games.specs.ReducedGames.{AreSome, staying, staying_shares}
 
@@ -44,6 +45,11 @@ pub staying_all : (n m : ℕ) (who : ℕ → ℕ) → AreSome n m who
 staying_all n m who a =
     staying_is m who (grand_coalition n) (grand_coalition m) (grand_coalition-within m)
     (λ k lt. has_player-grand_coalition n (who k) (a.players k lt) ∙ sym (has_player-grand_coalition m k lt))
+
+-- who stay aren't nobody
+pub some_stay : (m : ℕ) → 1 ≤ m → 0 < grand_coalition m
+some_stay zero h = absurd (omega arith)
+some_stay (suc m) h = let p = grand_coalition-within m in omega (arith, p, pow-suc 2 m)
 
 -- ---- those of t, by their old numbers
 
@@ -79,23 +85,6 @@ staying_old n m who t a within =
 
 -- ---- sums
 
--- c for player w, 0 for the others
-abbrev pub at_player : ℕ → ℤ → ℕ → ℤ
-at_player w c i = cond (has_player (singleton w) i) c (pos 0)
-
-pub at_player_over : (n s w : ℕ) (c : ℤ) → w < n → sum_over n (at_player w c) s ≡ cond (has_player s w) c (pos 0)
-at_player_over n s w c lt =
-    sum_below-same n (λ i. cond (has_player s i) (at_player w c i) (pos 0))
-    (λ i. cond (has_player (singleton w) i) (cond (has_player s i) c (pos 0)) (pos 0))
-    (λ i h. swap (has_player s i) (has_player (singleton w) i))
-    ∙ sum_over-singleton n w (λ i. cond (has_player s i) c (pos 0)) lt
-  where
-    swap : (a b : Bool) → cond a (cond b c (pos 0)) (pos 0) ≡ cond b (cond a c (pos 0)) (pos 0)
-    swap true true = refl
-    swap true false = refl
-    swap false true = refl
-    swap false false = refl
-
 -- numbers of those who stay, and 0 for the others, by the old numbers
 abbrev pub spread : ℕ → (ℕ → ℕ) → (ℕ → ℤ) → ℕ → ℤ
 spread m who a i = sum_below m (λ k. cond (has_player (singleton (who k)) i) (a k) (pos 0))
@@ -116,7 +105,7 @@ sum_over-spread n m who a s within =
           linear,
           sum_over-add n (spread m who a) (at_player (who m) (a m)) s,
           by_players m (λ k lt. within k (omega arith)),
-          at_player_over n s (who m) (a m) (within m (omega arith)),
+          sum_over-at_player n s (who m) (a m) (within m (omega arith)),
         )
 
 -- ---- the shares

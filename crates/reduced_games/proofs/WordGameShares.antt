@@ -1,17 +1,17 @@
 -- In the game of all words each player gets nothing: by exchanges all get the same, and all together nothing. So by the
 -- reduced game property the players of the given game, by their words, get nothing in theirs.
-use Rattle.std.proofs.Common.{◌≡◌, ℕ, zero, suc, ◌^◌, ◌<◌, ◌≤◌, Bool, false, cond}
+use Rattle.std.proofs.Common.{◌≡◌, ℕ, ◌^◌, ◌<◌, ◌≤◌, Bool, false, cond}
 use Rattle.std.proofs.Common.{ℤ, pos, ◌+ℤ◌, ◌*ℤ◌, ◌<ℤ◌, ◌≤ℤ◌}
 use Rattle.std.proofs.Common.{refl, sym, ap, ◌∙◌, inl, inr, arith}
 use lib.IntN.{*ℤ_comm}
-use Rattle.definitions.proofs.Ring.{linear, mul-leℤ, mul-zeroℤ, zero-mulℤ, mul-cancelℤ, suc-mulℤ, mul-oneℤ}
+use Rattle.definitions.proofs.Ring.{linear, mul-leℤ, mul-zeroℤ, zero-mulℤ, mul-cancelℤ, mul-oneℤ}
 use Rattle.definitions.proofs.Cases.{less_same_or_greater, nat_eq-other}
 use Rattle.definitions.proofs.Masks.{grand_coalition-within}
 use Rattle.definitions.proofs.Members.{sum_below-same, sum_over-grand_coalition}
 use Rattle.definitions.proofs.SumsOver.{sum_over-same, sum_over-zero}
-use Rattle.definitions.specs.Sums.{sum_below}
 use Rattle.definitions.specs.Coalitions.{has_player, grand_coalition, sum_over}
 use Rattle.definitions.specs.Games.{Game, Allocation, share, amount}
+use Rattle.shapley.proofs.Steps.{sum_below-constant}
 use Rattle.laws.specs.StrategicEquivalence.{equivalent_game}
 use Rattle.reduced_games.specs.ReducedGames.{AreSome, staying, staying_shares, worth_left, IsReducedGame}
 use Rattle.reduced_games.specs.SobolevsTheorem.{IsPlayable, MeetsSobolevsAxioms}
@@ -84,7 +84,7 @@ module _ (rule : Game → Allocation) (ax : MeetsSobolevsAxioms rule) (n L : ℕ
   nothing : (k : ℕ) → k < N → share x k ≡ pos 0
   nothing k lt =
       let c = share x (who 0) in
-      let total = sum_below-same N (share x) (λ k. c) all_alike ∙ sum_constant N c in
+      let total = sum_below-same N (share x) (λ k. c) all_alike ∙ sum_below-constant N c in
       let whole = ap (λ t. sum_over t (share x) (grand_coalition N)) (ax.single game proper).0
       ∙ sum_over-grand_coalition N (share x) in
       let e = efficient_rule rule ax game proper in
@@ -93,10 +93,6 @@ module _ (rule : Game → Allocation) (ax : MeetsSobolevsAxioms rule) (n L : ℕ
       ∙ mul-cancelℤ (pos N) c (pos 0) (positive N proper.0)
       (omega (arith, linear, total, whole, e, none, mul-zeroℤ (pos N)))
     where
-      sum_constant : (k : ℕ) (c : ℤ) → sum_below k (λ i. c) ≡ pos k *ℤ c
-      sum_constant zero c = sym (zero-mulℤ c)
-      sum_constant (suc k) c = omega (arith, linear, sum_constant k c, suc-mulℤ k c)
-
       positive : (k : ℕ) → 1 ≤ k → pos 0 <ℤ pos k
       positive k one = omega (arith, linear)
 

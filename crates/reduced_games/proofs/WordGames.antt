@@ -28,7 +28,8 @@ use Rattle.reduced_games.proofs.Staying.{staying_empty}
 use Rattle.reduced_games.proofs.Rules.{same_game}
 use Rattle.reduced_games.proofs.Numbered.{place, passing, passing_is, passing_place, place_within}
 use Rattle.reduced_games.proofs.Words.{count_of, weight_of, swap, swap_within, swap_has, swap_twice, swap_weight}
-use Rattle.reduced_games.proofs.Words.{value_exchanged, AreAlike, all_pass, to_int_eq}
+use Rattle.laws.proofs.Numbers.{to_int_eq}
+use Rattle.reduced_games.proofs.Words.{value_exchanged, AreAlike, all_pass}
 
 -- where nobody from c on passes, the coalition of those who do is below 2 ^ c
 short_where : (c k : ℕ) (test : ℕ → Bool) → ((l : ℕ) → c ≤ l → l < k → test l ≡ false)

@@ -6,9 +6,8 @@ use Rattle.std.proofs.Common.{refl, sym, ap, ◌∙◌, inl, inr, arith}
 use Rattle.std.proofs.lemmas.Int.{ints}
 use Rattle.std.specs.Ordering.{int_eq}
 use Rattle.definitions.proofs.Ring.{linear}
-use Rattle.definitions.proofs.Cases.{same_or_other, less_or_last}
+use Rattle.definitions.proofs.Cases.{same_or_other}
 use Rattle.definitions.proofs.Members.{sum_below-same, sum_below-nonnegative}
-use Rattle.definitions.proofs.Parts.{sum_below-le}
 use Rattle.definitions.proofs.Splits.{passes_below}
 use Rattle.theorems.proofs.Examples.{from_int_eq}
 use Rattle.definitions.specs.Sums.{sum_below}
@@ -18,28 +17,19 @@ use Rattle.laws.proofs.Gathered.{sum_below-renumbered}
 use Rattle.laws.proofs.ExchangeChangesNothing.{exchanged_first, exchanged_second, exchanged_other}
 use Rattle.laws.proofs.ExchangeChangesNothing.{exchange_is_renumbering}
 use Rattle.laws.proofs.RenumberedCoalitions.{coalition_where-within, coalition_where-has, same_below, was_back}
+use Rattle.laws.proofs.LevelledSums.{sum_below-less}
+use Rattle.laws.proofs.Numbers.{to_int_eq}
 use Rattle.laws.proofs.SomeGreater.{some_greater}
 
--- ---- sums
-
-sum_below-less : (n k : ℕ) (f h : ℕ → ℤ) → ((i : ℕ) → i < n → f i ≤ℤ h i) → k < n → f k <ℤ h k
-    → sum_below n f <ℤ sum_below n h
-sum_below-less zero k f h le lt less = absurd (omega arith)
-sum_below-less (suc n) k f h le lt less = elim (less_or_last k n lt) [
-  | inl earlier ↦
-      (let ih = sum_below-less n k f h (λ i l. le i (omega arith)) earlier less in
-      let last = le n (omega arith) in omega (arith, linear, ih, last))
-  | inr same ↦
-      (let rest = sum_below-le n f h (λ i l. le i (omega arith)) in
-      omega (arith, linear, rest, less, ap f same, ap h same))
-]
+-- ---- tests
 
 pub all_pass : (n : ℕ) (test : ℕ → Bool) → ((t : ℕ) → t < n → test t ≡ true) → passes_below n test ≡ true
 all_pass zero test h = refl
 all_pass (suc n) test h = rw (all_pass n test (λ t lt. h t (omega arith))) (h n (omega arith))
 
-pub to_int_eq : (a b : ℤ) → a ≡ b → int_eq a b ≡ true
-to_int_eq a b e = grind (arith, ints)
+one_or_none : (b : Bool) → pos 0 ≤ℤ cond b (pos 1) (pos 0)
+one_or_none true = omega (arith, linear)
+one_or_none false = omega (arith, linear)
 
 -- ---- L positions, with values
 
@@ -228,15 +218,11 @@ module _ (L : ℕ) (u : ℕ → ℤ) where
       low_where_same : (l : ℕ) → has_player moved l ≡ has_player s l → apart_at moved l ≤ℤ apart_at r l
       low_where_same l e =
           let none : apart_at moved l ≡ pos 0 = rw e (same (has_player s l)) in
-          let low = not_less (differ r s l) in omega (arith, linear, none, low)
+          let low = one_or_none (differ r s l) in omega (arith, linear, none, low)
         where
           same : (b : Bool) → cond ((b && not b) || (not b && b)) (pos 1) (pos 0) ≡ pos 0
           same true = refl
           same false = refl
-
-          not_less : (b : Bool) → pos 0 ≤ℤ cond b (pos 1) (pos 0)
-          not_less true = omega (arith, linear)
-          not_less false = omega (arith, linear)
 
       no_more : (l : ℕ) → l < L → apart_at moved l ≤ℤ apart_at r l
       no_more l lt = elim (same_or_other l a.first) [
@@ -256,11 +242,8 @@ module _ (L : ℕ) (u : ℕ → ℤ) where
       nearer = sum_below-less L a.first (apart_at moved) (apart_at r) no_more a.first_in less_at_first
 
   distance_low : (r s : ℕ) → pos 0 ≤ℤ distance r s
-  distance_low r s = sum_below-nonnegative L (λ l. cond (differ r s l) (pos 1) (pos 0)) (λ l lt. low (differ r s l))
-    where
-      low : (b : Bool) → pos 0 ≤ℤ cond b (pos 1) (pos 0)
-      low true = omega (arith, linear)
-      low false = omega (arith, linear)
+  distance_low r s =
+      sum_below-nonnegative L (λ l. cond (differ r s l) (pos 1) (pos 0)) (λ l lt. one_or_none (differ r s l))
 
   -- what exchanges of two positions of one value keep is the same of all words that are alike
   module _ (s : ℕ) (hs : s < 2 ^ L) (P : ℕ → ℤ)

@@ -1,30 +1,27 @@
 -- An airport when one player pays its share and goes (Littlechild 1974; Potters and Sudhölter 1999).
 --
---   paid             what player i pays
---   cost_left        what player i needs when player l has paid
---   IsAirportLeft    the airport of those who stay
---   AirportsAreLeft  there is such an airport
---   ReducedAirport   the reduced game of an airport is the game of the airport that is left
---   AirportByNucleolus
---                    there the nucleolus lets each who stays pay what it paid
-use Rattle.std.specs.Prelude.{◌≡◌, ◌≢◌, ℕ, ◌<◌, List, length, max, ℤ, pos, neg_ℤ, ◌-ℤ◌, ◌*ℤ◌, slice_index}
+--   cost_left            what player i needs when player l has paid
+--   IsAirportLeft        the airport of those who stay
+--   AirportsAreLeft      there is such an airport
+--   ReducedAirport       the reduced game of an airport is the game of the airport that is left
+--   AirportByNucleolus   there the nucleolus lets each who stays pay what it paid
+--   AirlinesLeft         an example that meets these definitions, and one that doesn't
+use Rattle.std.specs.Prelude.{◌≡◌, ◌≢◌, ℕ, ◌<◌, List, [], ◌∷◌, length, max, ℤ, pos, ◌-ℤ◌, ◌*ℤ◌, slice_index}
 use Rattle.std.specs.Int.{int_min}
-use Rattle.definitions.specs.Games.{Allocation, share, InCore, IsNucleolus}
+use Rattle.definitions.specs.Games.{Allocation, InCore, IsNucleolus}
 use Rattle.definitions.specs.declared.Family.{Family}
 use Rattle.definitions.specs.declared.Measure.TheVariants.{Plain}
+use Rattle.laws.specs.Airports.{pays}
 use Rattle.laws.specs.ClassGames.{airport_game}
+use Rattle.laws.specs.SmallNucleoli.{payments}
 use Rattle.reduced_games.specs.ReducedGames.{AreSome, staying_shares, IsReducedGame}
 
--- what player i pays, over the denominator of x: minus its share
-abbrev pub paid : Allocation → ℕ → ℤ
-paid x i = neg_ℤ (share x i)
-
--- what player i needs, in units of 1 over that denominator: the lesser of the cost alone, and of the cost with player l
--- less what that one has paid
+-- what player i needs, in units of 1 over the denominator of x: the lesser of the cost alone, and of the cost with
+-- player l less what that one has paid
 abbrev pub cost_left : List ℕ → Allocation → ℕ → ℕ → ℤ
 cost_left costs x l i =
     int_min (x.den *ℤ pos (slice_index costs i))
-    (x.den *ℤ pos (max (slice_index costs i) (slice_index costs l)) -ℤ paid x l)
+    (x.den *ℤ pos (max (slice_index costs i) (slice_index costs l)) -ℤ pays x l)
 
 -- all but player l stay, with these costs
 pub record IsAirportLeft (m : ℕ) (who : ℕ → ℕ) (costs : List ℕ) (x : Allocation) (l : ℕ) (left_costs : List ℕ) : Type 0
@@ -58,3 +55,12 @@ AirportByNucleolus =
     AreSome (length costs) m who → IsAirportLeft m who costs x l left_costs →
     IsNucleolus family Plain (airport_game costs) x →
     IsNucleolus family Plain (airport_game left_costs) (staying_shares m who x)
+
+-- ---- an example that meets these definitions, and one that doesn't
+
+-- Who need 2, 4 and 6 pay 1, 3/2 and 7/2. Where the last has paid, the others need 2 and 5/2, over the denominator 2
+-- these are 4 and 5; and their costs alone aren't what is left
+abbrev pub AirlinesLeft : Type 0
+AirlinesLeft =
+    IsAirportLeft 2 (λ k. k) (2 ∷ (4 ∷ (6 ∷ []))) payments 2 (4 ∷ (5 ∷ []))
+    × ¬ IsAirportLeft 2 (λ k. k) (2 ∷ (4 ∷ (6 ∷ []))) payments 2 (4 ∷ (8 ∷ []))

@@ -15,11 +15,12 @@
 --   PrekernelReduces            the same of the prekernel
 --   the_two i j                 two who stay
 --   IsStandard                  each of two players gets its worth alone, and they share the rest alike
+--   left_to_two, without_third  games of two, of the example
 --   PrekernelByPairs            the prekernel: each two have the standard solution of their reduced game
 --   EachTwoAreStandard          so at the prenucleolus each two have it
 --   CoreReduces                 a core point's shares are a core point of the reduced game
 --   CoreByPairs                 the core: the shares of each two are a core point of their reduced game
---   TwoOfThreeVoters            an example
+--   TwoOfThreeVoters            an example that meets these definitions, and one that doesn't
 use Rattle.std.specs.Prelude.{◌≡◌, ◌≢◌, ◌↔◌, ℕ, ◌^◌, ◌<◌, ◌≤◌, nat_eq, [], ◌∷◌, map, if◌then◌else◌}
 use Rattle.std.specs.Prelude.{pos, ℤ, ◌-ℤ◌, ◌*ℤ◌}
 use Rattle.std.specs.List.{range_with_len}
@@ -112,9 +113,12 @@ CoreReduces =
 abbrev pub the_two : ℕ → ℕ → ℕ → ℕ
 the_two i j k = if nat_eq k 0 then i else j
 
--- the standard solution of a game of two: each gets as much above its worth alone
-abbrev pub IsStandard : Game → Allocation → Type 0
-IsStandard h y = share y 0 -ℤ y.den *ℤ h.worth (singleton 0) ≡ share y 1 -ℤ y.den *ℤ h.worth (singleton 1)
+-- the standard solution of a game of two: they share the worth of both, and each gets as much above its worth alone
+pub record IsStandard (h : Game) (y : Allocation) : Type 0 where
+  pub players : h.players ≡ 2
+  pub shares : IsAllocation h y
+  pub all : IsEfficient h y
+  pub alike : share y 0 -ℤ y.den *ℤ h.worth (singleton 0) ≡ share y 1 -ℤ y.den *ℤ h.worth (singleton 1)
 
 -- an efficient allocation is in the prekernel, as the prenucleolus is, exactly where each two have the standard
 -- solution of their reduced game (Peleg 1986)
@@ -141,12 +145,23 @@ CoreByPairs =
     ↔ ((i j : ℕ) (h : Game) → i < g.players → j < g.players → i ≢ j → IsReducedGame 2 (the_two i j) g x h →
     InCore h (staying_shares 2 (the_two i j) x))
 
--- ---- an example: the definition is met
+-- ---- an example that meets these definitions, and one that doesn't
 
--- three vote by majority, each gets a third, and the third voter goes. Each of the others would keep 2/3 with it, and
+-- Three vote by majority, each gets a third, and the third voter goes. Each of the others would keep 2/3 with it, and
 -- both keep 2/3: over the denominator 3, each of the three coalitions is worth 2
+abbrev pub left_to_two : Game
+left_to_two = record { players = 2; worth = table_worth (pos 2 ∷ (pos 2 ∷ (pos 2 ∷ []))) }
+
+-- the game in which nobody has the partner who is paid
+abbrev pub without_third : Game
+without_third = record { players = 2; worth = table_worth (pos 0 ∷ (pos 0 ∷ (pos 2 ∷ []))) }
+
+-- The first two stay, and one of them twice isn't two who stay. The one game is the reduced game, and the other isn't.
+-- A third each is its standard solution, and all for the first isn't
 abbrev pub TwoOfThreeVoters : Type 0
 TwoOfThreeVoters =
-    AreSome 3 2 (λ k. k)
-    × IsReducedGame 2 (λ k. k) (voting_game 2 (1 ∷ (1 ∷ (1 ∷ [])))) thirds
-    (record { players = 2; worth = table_worth (pos 2 ∷ (pos 2 ∷ (pos 2 ∷ []))) })
+    AreSome 3 2 (λ k. k) × ¬ AreSome 3 2 (λ k. 0)
+    × IsReducedGame 2 (λ k. k) (voting_game 2 (1 ∷ (1 ∷ (1 ∷ [])))) thirds left_to_two
+    × ¬ IsReducedGame 2 (λ k. k) (voting_game 2 (1 ∷ (1 ∷ (1 ∷ [])))) thirds without_third
+    × IsStandard left_to_two (staying_shares 2 (λ k. k) thirds)
+    × ¬ IsStandard left_to_two (record { shares = pos 2 ∷ (pos 0 ∷ []); den = pos 1 })

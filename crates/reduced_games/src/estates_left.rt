@@ -2,6 +2,7 @@
 //! it does nothing when it runs.
 
 ghost use Rattle.reduced_games.specs.EstatesLeft.{EstatesAreLeft, ReducedEstate, EstateByNucleolus, TalmudIsConsistent};
+ghost use Rattle.reduced_games.specs.EstatesLeft.{HeirsLeft};
 
 /// Where nobody got more than the claim, nor less than nothing, an estate and claims are left.
 pub fn estates_are_left()
@@ -21,4 +22,9 @@ pub fn estate_by_nucleolus()
 /// The Talmud rule is consistent: of the estate that is left it gives each who stays what it had.
 pub fn talmud_is_consistent()
     ensures { TalmudIsConsistent }
+{}
+
+/// Of 200 the claims of 100, 200 and 300 get 50, 75 and 75; where the first goes, 150 are left for the others.
+pub fn heirs_left()
+    ensures { HeirsLeft }
 {}

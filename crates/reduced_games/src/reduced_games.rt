@@ -53,7 +53,7 @@ pub fn core_by_pairs()
     ensures { CoreByPairs }
 {}
 
-/// Of three who vote by majority and get a third each, one goes: the game of the others.
+/// Of three who vote by majority and get a third each, one goes: what is the game of the others, and what isn't.
 pub fn two_of_three_voters()
     ensures { TwoOfThreeVoters }
 {}

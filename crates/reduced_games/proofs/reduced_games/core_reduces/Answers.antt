@@ -1,4 +1,4 @@
-use Rattle.reduced_games.proofs.OtherSolutions.{core_reduces}
+use Rattle.reduced_games.proofs.PrekernelAndCoreReduce.{core_reduces}
 use Rattle.reduced_games.proofs.reduced_games.core_reduces.Goals as goal
 
 pub returns : goal.returns

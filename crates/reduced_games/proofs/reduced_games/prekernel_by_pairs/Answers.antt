@@ -1,4 +1,4 @@
-use Rattle.reduced_games.proofs.OtherSolutions.{prekernel_by_pairs}
+use Rattle.reduced_games.proofs.Pairs.{prekernel_by_pairs}
 use Rattle.reduced_games.proofs.reduced_games.prekernel_by_pairs.Goals as goal
 
 pub returns : goal.returns

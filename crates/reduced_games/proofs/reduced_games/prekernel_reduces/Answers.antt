@@ -1,4 +1,4 @@
-use Rattle.reduced_games.proofs.OtherSolutions.{prekernel_reduces}
+use Rattle.reduced_games.proofs.PrekernelAndCoreReduce.{prekernel_reduces}
 use Rattle.reduced_games.proofs.reduced_games.prekernel_reduces.Goals as goal
 
 pub returns : goal.returns
