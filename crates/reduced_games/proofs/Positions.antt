@@ -1,12 +1,13 @@
 -- Lists of coalitions with values, each as often as its weight: for each coalition one list, of coalitions of no less
 -- worth and with its worth as value, that holds each player equally often; and all lists in one.
 use Rattle.std.proofs.Common.{◌≡◌, ◌⊎◌, ℕ, zero, suc, ◌+◌, ◌<◌, ◌≤◌, Bool, true, false, cond}
-use Rattle.std.proofs.Common.{List, [], ◌∷◌, ◌++◌, length, get_or, unsigned_abs, ℤ, pos, ◌+ℤ◌, ◌*ℤ◌, ◌<ℤ◌, ◌≤ℤ◌}
+use Rattle.std.proofs.Common.{List, [], ◌∷◌, ◌++◌, length, length-append, get_or, unsigned_abs, ℤ, pos, ◌+ℤ◌, ◌*ℤ◌, ◌<ℤ◌, ◌≤ℤ◌}
 use Rattle.std.proofs.Common.{refl, sym, ap, ◌∙◌, inl, inr, arith}
 use Rattle.std.proofs.lemmas.Int.{ints, by_lt_z}
 use Rattle.std.specs.Ordering.{int_eq}
 use Rattle.std.specs.List.{AllByRecursion}
 use Rattle.definitions.proofs.Ring.{linear, suc-mulℤ, zero-mulℤ, mul-zeroℤ}
+use Rattle.definitions.proofs.Alls.{all_join}
 use Rattle.definitions.proofs.Cases.{less_or_last, same_or_other}
 use Rattle.definitions.proofs.Members.{has_player-singleton, has_player-singleton_other}
 use Rattle.definitions.proofs.Members.{sum_below-front, sum_below-zero}
@@ -37,22 +38,11 @@ holds_back : (p : ℕ × ℤ) (ps qs : List (ℕ × ℤ)) → Holds p qs → Hol
 holds_back p [] qs h = h
 holds_back p (q ∷ ps) qs h = inr (holds_back p ps qs h)
 
-all_append : (P : ℕ × ℤ → Type 0) (ps qs : List (ℕ × ℤ)) → AllByRecursion P ps → AllByRecursion P qs
-    → AllByRecursion P (ps ++ qs)
-all_append P [] qs h k = k
-all_append P (p ∷ ps) qs h k = (h.0, all_append P ps qs h.1 k)
-
 -- by their places
 pub held_at : (p d : ℕ × ℤ) (ps : List (ℕ × ℤ)) → Holds p ps → (l : ℕ) × (l < length ps) × (get_or ps l d ≡ p)
 held_at p d [] h = absurd h
 held_at p d (q ∷ ps) (inl e) = (0, omega arith, e)
 held_at p d (q ∷ ps) (inr h) = (let found = held_at p d ps h in (suc found.0, omega (arith, found.1), found.2))
-
-pub all_at : (P : ℕ × ℤ → Type 0) (d : ℕ × ℤ) (ps : List (ℕ × ℤ)) → AllByRecursion P ps → (l : ℕ) → l < length ps
-    → P (get_or ps l d)
-all_at P d [] h l lt = absurd (omega arith)
-all_at P d (p ∷ ps) h zero lt = h.0
-all_at P d (p ∷ ps) h (suc l) lt = all_at P d ps h.1 l (omega arith)
 
 pub list_sum-places : (f : ℕ × ℤ → ℤ) (d : ℕ × ℤ) (ps : List (ℕ × ℤ))
     → sum_below (length ps) (λ l. f (get_or ps l d)) ≡ list_sum f ps
@@ -104,7 +94,7 @@ weighed_all : (P : ℕ × ℤ → Type 0) (w : ℕ → ℤ) (v : ℤ) (t : ℕ) 
     → ((s : ℕ) → s < t → pos 1 ≤ℤ w s → P (s, v)) → AllByRecursion P (weighed w v t)
 weighed_all P w v zero low h = tt
 weighed_all P w v (suc t) low h =
-    all_append P (weighed w v t) (copies (unsigned_abs (w t)) (t, v))
+    all_join P (weighed w v t) (copies (unsigned_abs (w t)) (t, v))
     (weighed_all P w v t (λ s lt. low s (omega arith)) (λ s lt. h s (omega arith)))
     (copies_all P (unsigned_abs (w t)) (t, v)
     (λ some. h t (omega arith) (some_weight (w t) (low t (omega arith)) some)))
@@ -178,7 +168,7 @@ module _ (n b count : ℕ) (E : ℕ → ℤ) (a : AllWeights n b count E) (small
       let even_more = weighed_even n b E w v (a.total c lt) (a.low c lt) (a.balance c lt) in
       record {
         pairs = before.pairs ++ more;
-        inside = all_append (λ p. (p.0 < b) × (p.1 ≤ℤ E p.0)) before.pairs more before.inside
+        inside = all_join (λ p. (p.0 < b) × (p.1 ≤ℤ E p.0)) before.pairs more before.inside
             (weighed_all (λ p. (p.0 < b) × (p.1 ≤ℤ E p.0)) w v b (a.low c lt)
             (λ s within one. (
               within,
@@ -287,7 +277,7 @@ pub with_singles : (n b count : ℕ) (E : ℕ → ℤ) (v : ℤ) → Positions n
 with_singles n b count E v p within low = record {
   positions = record {
     pairs = p.pairs ++ singles 0 n v;
-    inside = all_append (λ p. (p.0 < b) × (p.1 ≤ℤ E p.0)) p.pairs (singles 0 n v) p.inside
+    inside = all_join (λ p. (p.0 < b) × (p.1 ≤ℤ E p.0)) p.pairs (singles 0 n v) p.inside
         (singles_all (λ p. (p.0 < b) × (p.1 ≤ℤ E p.0)) 0 n v
         (λ j first lt. (let in_b = within j (omega (arith, lt)) in (in_b, low (singleton j) in_b))));
     even = λ u i j hi hj.
@@ -297,13 +287,9 @@ with_singles n b count E v p within low = record {
     holds = λ d lt. holds_front (suc d, E (suc d)) p.pairs (singles 0 n v) (p.holds d lt);
   };
   front = length p.pairs;
-  long = length_append p.pairs (singles 0 n v) ∙ ap (λ k. length p.pairs + k) (singles_length 0 n v);
+  long = length-append p.pairs (singles 0 n v) ∙ ap (λ k. length p.pairs + k) (singles_length 0 n v);
   alone = λ j lt.
       ap (λ q. q.0) (back_at p.pairs (singles 0 n v) (0, pos 0) (length p.pairs + j) j refl
       ∙ singles_at 0 n v (0, pos 0) j lt)
       ∙ ap singleton (omega arith);
 }
-  where
-    length_append : (ps qs : List (ℕ × ℤ)) → length (ps ++ qs) ≡ length ps + length qs
-    length_append [] qs = omega arith
-    length_append (p ∷ ps) qs = (let ih = length_append ps qs in omega (arith, ih))

@@ -16,6 +16,7 @@ use Rattle.definitions.specs.Scales.{times}
 use Rattle.theorems.proofs.Scaled.{share_times}
 use Rattle.laws.specs.StrategicEquivalence.{equivalent_game, equivalent_shares}
 use Rattle.laws.specs.Renumbering.{IsRenumbering, renumbered_game, renumbered_shares}
+use Rattle.laws.proofs.RenumberingChangesNothing.{renumbered_share}
 use Rattle.reduced_games.specs.ReducedGames.{AreSome, staying_shares, worth_left, IsReducedGame}
 use Rattle.reduced_games.specs.SobolevsTheorem.{IsPlayable, KeepTheirOrder, MeetsSobolevsAxioms}
 use Rattle.reduced_games.proofs.Staying.{staying_share, staying_amount, staying_all}
@@ -33,11 +34,6 @@ equivalent_share k b x i lt =
     get_or-map-range_with_len (λ i. share (times k x) i +ℤ x.den *ℤ b i) 0 (length (times k x).shares) i i (pos 0)
     (let long = length-map x.shares (λ a. k *ℤ a) in omega (arith, lt, long)) (omega arith)
     ∙ ap (λ z. z +ℤ x.den *ℤ b i) (share_times k x i)
-
-renumbered_share : (to : ℕ → ℕ) (x : Allocation) (i : ℕ) → i < length x.shares
-    → share (renumbered_shares to x) i ≡ share x (to i)
-renumbered_share to x i lt =
-    get_or-map-range_with_len (λ i. share x (to i)) 0 (length x.shares) i i (pos 0) lt (omega arith)
 
 -- of one player, with worth 0
 abbrev nothing_for_one : Game

@@ -17,6 +17,7 @@ use Rattle.definitions.specs.Games.{Game, Allocation, excess, IsNucleolus}
 use Rattle.definitions.specs.declared.Family.TheVariants.{Preimputations}
 use Rattle.definitions.specs.declared.Measure.TheVariants.{Plain}
 use Rattle.theorems.proofs.Transfers.{some_greatest}
+use Rattle.duality.proofs.Farkas.{one_or_none-low}
 use Rattle.duality.specs.Farkas.{MeetsAll, Contradicts}
 use Rattle.duality.proofs.Farkas.{farkas}
 use Rattle.duality.proofs.NoGain.{no_gain}
@@ -158,11 +159,7 @@ module _ (g : Game) (x : Allocation) (is : IsNucleolus Preimputations Plain g x)
         top = high d (omega (arith, linear))
 
         aim_low : (t : ℕ) → pos 0 ≤ℤ aim (suc t)
-        aim_low t = either (nat_eq (suc t) (suc d))
-          where
-            either : (b : Bool) → pos 0 ≤ℤ cond b (pos 1) (pos 0)
-            either true = omega (arith, linear)
-            either false = omega (arith, linear)
+        aim_low t = one_or_none-low (nat_eq (suc t) (suc d))
 
         gain : (t : ℕ) → t < count → is_high (suc t) ≡ true → (q *ℤ aim (suc t)) ≤ℤ sum_over n z (suc t)
         gain t less h =

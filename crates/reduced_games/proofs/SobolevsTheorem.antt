@@ -6,6 +6,7 @@ use Rattle.std.proofs.Common.{ℤ, pos, neg_ℤ, ◌+ℤ◌, ◌*ℤ◌, ◌≤�
 use Rattle.std.proofs.Common.{refl, sym, ap, ◌∙◌, inl, inr, arith}
 use Rattle.std.proofs.lemmas.Int.{ints, by_lt_z}
 use lib.IntN.{*ℤ_comm}
+use Rattle.definitions.proofs.Alls.{all_at}
 use Rattle.definitions.proofs.Ring.{linear, mul-zeroℤ, mul-cancelℤ, mul_assocℤ, mul_left_commℤ, mul-subℤ, zero-mulℤ}
 use Rattle.definitions.proofs.Cases.{less_or_last, below_or_above}
 use Rattle.definitions.proofs.Masks.{singleton-within}
@@ -28,7 +29,7 @@ use Rattle.reduced_games.proofs.Staying.{staying_empty}
 use Rattle.reduced_games.proofs.ReducedGameProperty.{reduced_game_property}
 use Rattle.reduced_games.proofs.Rules.{share_equivalent}
 use Rattle.reduced_games.proofs.SideWeights.{side_weights}
-use Rattle.reduced_games.proofs.Positions.{AllWeights, positions, counts, list_sum-places, all_at, held_at}
+use Rattle.reduced_games.proofs.Positions.{AllWeights, positions, counts, list_sum-places, held_at}
 use Rattle.reduced_games.proofs.Positions.{WithSingles, with_singles}
 use Rattle.reduced_games.proofs.WordGames.{word_rises}
 use Rattle.reduced_games.proofs.WordGameShares.{nothing_given}
@@ -114,14 +115,18 @@ module _ (rule : Game → Allocation) (ax : MeetsSobolevsAxioms rule) (g : Game)
   abbrev pair_at : ℕ → ℕ × ℤ
   pair_at l = get_or pairs l (0, pos 0)
 
+  inside_at : (l : ℕ) → l < length pairs → ((pair_at l).0 < 2 ^ n) × ((pair_at l).1 ≤ℤ E (pair_at l).0)
+  inside_at l lt =
+      all_at (λ q. (q.0 < 2 ^ n) × (q.1 ≤ℤ E q.0)) pairs l (0, pos 0) lt all_positions.positions.inside
+
   excesses_get_nothing : (i : ℕ) → i < n → share (rule excesses) i ≡ pos 0
   excesses_get_nothing =
       nothing_given rule ax n (length pairs) (λ l. (pair_at l).0) (λ l. (pair_at l).1) floor.0 p.0
       (λ v i j hi hj. list_sum-places (counts v i) (0, pos 0) pairs ∙ all_positions.positions.even v i j hi hj
       ∙ sym (list_sum-places (counts v j) (0, pos 0) pairs))
       E
-      (λ l lt. (all_at (λ q. (q.0 < 2 ^ n) × (q.1 ≤ℤ E q.0)) (0, pos 0) pairs all_positions.positions.inside l lt).0)
-      (λ l lt. (all_at (λ q. (q.0 < 2 ^ n) × (q.1 ≤ℤ E q.0)) (0, pos 0) pairs all_positions.positions.inside l lt).1)
+      (λ l lt. (inside_at l lt).0)
+      (λ l lt. (inside_at l lt).1)
       floor.1 met
       (word_rises n (length pairs) (λ l. (pair_at l).0) (λ l. (pair_at l).1) floor.0 all_positions.front
       all_positions.long all_positions.alone)

@@ -12,6 +12,7 @@ use Rattle.definitions.proofs.Splits.{passes_below}
 use Rattle.theorems.proofs.Examples.{from_int_eq}
 use Rattle.definitions.specs.Sums.{sum_below}
 use Rattle.definitions.specs.Coalitions.{has_player}
+use Rattle.duality.proofs.Farkas.{one_or_none-low}
 use Rattle.laws.specs.Renumbering.{exchanged, renumbered_coalition}
 use Rattle.laws.proofs.Gathered.{sum_below-renumbered}
 use Rattle.laws.proofs.ExchangeChangesNothing.{exchanged_first, exchanged_second, exchanged_other}
@@ -26,10 +27,6 @@ use Rattle.laws.proofs.SomeGreater.{some_greater}
 pub all_pass : (n : ℕ) (test : ℕ → Bool) → ((t : ℕ) → t < n → test t ≡ true) → passes_below n test ≡ true
 all_pass zero test h = refl
 all_pass (suc n) test h = rw (all_pass n test (λ t lt. h t (omega arith))) (h n (omega arith))
-
-one_or_none : (b : Bool) → pos 0 ≤ℤ cond b (pos 1) (pos 0)
-one_or_none true = omega (arith, linear)
-one_or_none false = omega (arith, linear)
 
 -- ---- L positions, with values
 
@@ -218,7 +215,7 @@ module _ (L : ℕ) (u : ℕ → ℤ) where
       low_where_same : (l : ℕ) → has_player moved l ≡ has_player s l → apart_at moved l ≤ℤ apart_at r l
       low_where_same l e =
           let none : apart_at moved l ≡ pos 0 = rw e (same (has_player s l)) in
-          let low = one_or_none (differ r s l) in omega (arith, linear, none, low)
+          let low = one_or_none-low (differ r s l) in omega (arith, linear, none, low)
         where
           same : (b : Bool) → cond ((b && not b) || (not b && b)) (pos 1) (pos 0) ≡ pos 0
           same true = refl
@@ -243,7 +240,7 @@ module _ (L : ℕ) (u : ℕ → ℤ) where
 
   distance_low : (r s : ℕ) → pos 0 ≤ℤ distance r s
   distance_low r s =
-      sum_below-nonnegative L (λ l. cond (differ r s l) (pos 1) (pos 0)) (λ l lt. one_or_none (differ r s l))
+      sum_below-nonnegative L (λ l. cond (differ r s l) (pos 1) (pos 0)) (λ l lt. one_or_none-low (differ r s l))
 
   -- what exchanges of two positions of one value keep is the same of all words that are alike
   module _ (s : ℕ) (hs : s < 2 ^ L) (P : ℕ → ℤ)
