@@ -1,0 +1,14 @@
+mod Worths
+mod LessenedLists
+mod PerHeadParts
+mod ShapleyParts
+mod WhoGetsLessOfMore
+mod OneNumberMore
+mod WhoGrowGetNoLess
+mod WhoAddsMoreGetsNoLess
+mod EachWhoGrows
+mod LevelledSums
+mod Terms
+mod MonotonicRulesAreShapley
+mod NoCoreRule
+mod GrowsAround

@@ -1,0 +1,22 @@
+//! Where only coalitions with some player grow: what it gets by rules that give core points, and by the Shapley value
+//! (Young 1985).
+
+ghost use Rattle.monotonicity.specs.CoreRules.{SomebodyLosesInTheCore, NoCoreRuleIsMonotonic};
+ghost use Rattle.monotonicity.specs.CoreRules.{WhoIsInAllThatGrowsGetsNoLess};
+
+/// In some game only coalitions with one player come to be worth more, and this player gets less at every core point
+/// (Young 1985). (The proof's two games are his, with five players, and one core point each.)
+pub fn somebody_loses_in_the_core()
+    ensures { SomebodyLosesInTheCore }
+{}
+
+/// So no rule that gives a core point wherever there is one always gives no less to a player where no coalition with
+/// this player is worth less, and each other what it was (Young 1985).
+pub fn no_core_rule_is_monotonic()
+    ensures { NoCoreRuleIsMonotonic }
+{}
+
+/// The Shapley value does, of any number of players.
+pub fn who_is_in_all_that_grows_gets_no_less()
+    ensures { WhoIsInAllThatGrowsGetsNoLess }
+{}

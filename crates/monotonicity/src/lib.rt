@@ -1,0 +1,8 @@
+//! What players are promised where the game changes: where all together are worth more and nothing else changes, and
+//! where a player adds more. Each function's contract is a theorem, and its body is empty. No crate of the program
+//! needs them.
+#![tactic(auto)]
+
+pub mod additions;
+pub mod core_rules;
+pub mod growth;

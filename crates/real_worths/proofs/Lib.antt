@@ -1,0 +1,3 @@
+mod WholeWorths
+mod CoreFirst
+mod BothAreOne

@@ -1,0 +1,68 @@
+-- What a coalition gets and what the others get add to the worth of all: so one gets at least its worth just where the
+-- other gets at most what it adds.
+use Rattle.std.proofs.Common.{◌≡◌, ℕ, ◌-◌, ◌^◌, ◌<◌, ◌+ℤ◌, ◌*ℤ◌, ◌≤ℤ◌, ap, arith}
+use Rattle.std.proofs.lemmas.Int.{by_lt_z}
+use Rattle.definitions.proofs.Masks.{grand_coalition-within}
+use Rattle.definitions.proofs.Members.{sum_over-complement, sum_over-grand_coalition}
+use Rattle.definitions.proofs.Ring.{linear, mul-subℤ}
+use Rattle.definitions.proofs.SumsOver.{amount-at}
+use Rattle.definitions.specs.Coalitions.{grand_coalition}
+use Rattle.definitions.specs.Games.{Game, Allocation, share, amount, IsAllocation, IsEfficient, InCore}
+use Rattle.stability.specs.Subsidies.{IsSubsidyFree, CoreIsSubsidyFree}
+
+-- what the others get
+rest : (g : Game) (x : Allocation) (s : ℕ) → IsAllocation g x → IsEfficient g x → s < 2 ^ g.players
+    → amount x (grand_coalition g.players - s) +ℤ amount x s ≡ x.den *ℤ g.worth (grand_coalition g.players)
+rest g x s hx e lt =
+    let n = g.players in
+    omega (
+      arith,
+      linear,
+      sum_over-complement n s (share x) lt,
+      sum_over-grand_coalition n (share x),
+      amount-at g x s hx,
+      amount-at g x (grand_coalition n - s) hx,
+      amount-at g x (grand_coalition n) hx,
+      e,
+    )
+
+others-within : (n s : ℕ) → grand_coalition n - s < 2 ^ n
+others-within n s = let within = grand_coalition-within n in omega (arith, within)
+
+twice : (n s : ℕ) → s < 2 ^ n → grand_coalition n - (grand_coalition n - s) ≡ s
+twice n s lt = omega (arith, lt)
+
+to_free : (g : Game) (x : Allocation) → InCore g x → IsSubsidyFree g x
+to_free g x h = (
+  h.0,
+  h.1,
+  λ s lt.
+      let all = grand_coalition g.players in
+      let reach : (x.den *ℤ g.worth (all - s)) ≤ℤ amount x (all - s) =
+      by_lt_z (amount x (all - s)) (x.den *ℤ g.worth (all - s))
+      (λ blocks. absurd (h.2 (all - s) (others-within g.players s) blocks))
+      (λ le. le) in
+      omega (arith, linear, reach, rest g x s h.0 h.1 lt, mul-subℤ x.den (g.worth all) (g.worth (all - s))),
+)
+
+to_core : (g : Game) (x : Allocation) → IsSubsidyFree g x → InCore g x
+to_core g x h = (
+  h.0,
+  h.1,
+  λ s lt blocks.
+      let all = grand_coalition g.players in
+      let at_most = h.2 (all - s) (others-within g.players s) in
+      let same = ap (λ (t : ℕ). x.den *ℤ g.worth t) (twice g.players s lt) in
+      omega (
+        arith,
+        linear,
+        blocks,
+        at_most,
+        same,
+        rest g x s h.0 h.1 lt,
+        mul-subℤ x.den (g.worth all) (g.worth (all - (all - s))),
+      ),
+)
+
+pub core_is_subsidy_free : CoreIsSubsidyFree
+core_is_subsidy_free g x = (to_free g x, to_core g x)

@@ -1,0 +1,12 @@
+mod Kernel
+mod CoreKernel
+mod Counters
+mod BargainingSet
+mod LeastCore
+mod FirstTakesAll
+mod WhoJoins
+mod ZeroMonotonic
+mod CoreSubsidies
+mod Supermodular
+mod Covers
+mod JustifiedObjection
