@@ -4,6 +4,8 @@ mod Counters
 mod BargainingSet
 mod LeastCore
 mod FirstTakesAll
+mod MajorityObjections
+mod TwoVoters
 mod WhoJoins
 mod ZeroMonotonic
 mod CoreSubsidies

@@ -2,7 +2,8 @@
 -- kernel is the prekernel. And whoever got less than alone at a prekernel point would be in all coalitions of the
 -- greatest excess, but not in those that balance it (Maschler, Peleg and Shapley 1972).
 use Rattle.std.proofs.Common.{◌≡◌, ◌≢◌, ℕ, ◌+◌, ◌^◌, ◌<◌, true, false, not, ℤ}
-use Rattle.std.proofs.Common.{pos, ◌*ℤ◌, ◌<ℤ◌, ◌≤ℤ◌, refl, sym, ap, ◌∙◌, inl, inr, arith}
+use Rattle.std.proofs.Common.{pos, ◌*ℤ◌, ◌<ℤ◌, ◌≤ℤ◌, refl, sym}
+use Rattle.std.proofs.Common.{ap, ◌∙◌, inl, inr, arith}
 use Rattle.std.proofs.lemmas.Bool.{false≢true}
 use Rattle.std.proofs.lemmas.Int.{by_lt_z}
 use Rattle.definitions.proofs.Cases.{same_or_other, true_or_false, from_not}
