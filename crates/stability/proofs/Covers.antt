@@ -19,7 +19,7 @@ use Rattle.definitions.specs.Convexity.{IsConvex}
 use Rattle.definitions.specs.Games.{Game}
 use Rattle.theorems.proofs.Transfers.{some_greatest}
 use Rattle.laws.proofs.RenumberedCoalitions.{coalition_where-within, coalition_where-has}
-use Rattle.stability.proofs.Supermodular.{union, common}
+use Rattle.stability.proofs.Unions.{union, common}
 
 abbrev pub lies_in : ℕ → ℕ → ℕ → Bool
 lies_in n r s = not (some_below n (λ i. has_player r i && not (has_player s i)))

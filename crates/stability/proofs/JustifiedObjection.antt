@@ -42,11 +42,12 @@ use Rattle.stability.specs.ConvexCores.{ConvexBargainingSetIsCore}
 use Rattle.stability.proofs.BargainingSet.{core_in_bargaining_set, one_of_all}
 use Rattle.stability.proofs.Counters.{sum_over-at}
 use Rattle.stability.proofs.Covers.{lies_in, lies_from, lies_to, greatest_in, cover, cover_game, cover-convex}
-use Rattle.stability.proofs.Supermodular.{union, common, excess-both}
+use Rattle.stability.proofs.Supermodular.{excess-both}
+use Rattle.stability.proofs.Unions.{union, common}
 
 -- ---- sums and tests
 
-to_int_eq : (a b : ℤ) → a ≡ b → int_eq a b ≡ true
+pub to_int_eq : (a b : ℤ) → a ≡ b → int_eq a b ≡ true
 to_int_eq a b e = grind (arith, ints)
 
 members_le : (n s : ℕ) (a b : ℕ → ℤ) → ((i : ℕ) → i < n → has_player s i ≡ true → a i ≤ℤ b i)

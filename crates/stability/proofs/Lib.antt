@@ -8,7 +8,15 @@ mod MajorityObjections
 mod TwoVoters
 mod WhoJoins
 mod ZeroMonotonic
+mod Unions
 mod CoreSubsidies
 mod Supermodular
 mod Covers
+mod SumsByTest
+mod NearRings
+mod NoNearRing
+mod SplitCoalitions
+mod Narrowing
+mod OneKernelPoint
+mod ConvexKernel
 mod JustifiedObjection

@@ -17,13 +17,7 @@ use Rattle.definitions.specs.Games.{Game, Allocation, share, amount, excess, IsA
 use Rattle.convexity.proofs.Joining.{adds_more}
 use Rattle.laws.proofs.RenumberedCoalitions.{coalition_where-within, coalition_where-has, same_below}
 use Rattle.laws.specs.Renumbering.{coalition_where}
-
--- the players of either coalition, and those of both
-abbrev pub union : ℕ → ℕ → ℕ → ℕ
-union n a b = coalition_where n (λ i. has_player a i || has_player b i)
-
-abbrev pub common : ℕ → ℕ → ℕ → ℕ
-common n a b = coalition_where n (λ i. has_player a i && has_player b i)
+use Rattle.stability.proofs.Unions.{union, common}
 
 -- ---- one by one
 
