@@ -1,8 +1,7 @@
 -- Two convex games of four players, and the certificates of their nucleoli.
-use Rattle.std.proofs.Common.{◌≡◌, ℕ, ◌<◌, Bool, true, false}
-use Rattle.std.proofs.Common.{◌||◌, not, nat_eq, [], ◌∷◌, ℤ}
-use Rattle.std.proofs.Common.{pos, negsuc, ◌*ℤ◌, ◌≤ℤ◌, int_le, refl}
-use Rattle.std.proofs.Common.{sym, ◌∙◌, inl, arith, rules}
+use Rattle.std.proofs.Common.{◌≡◌, ℕ, ◌<◌, Bool, true, false, ◌||◌, not, nat_eq, []}
+use Rattle.std.proofs.Common.{◌∷◌, ℤ, pos, negsuc, ◌*ℤ◌, ◌≤ℤ◌, int_le, refl, sym, ◌∙◌}
+use Rattle.std.proofs.Common.{inl, arith, rules}
 use Rattle.std.proofs.lemmas.Bool.{false≢true}
 use Rattle.std.proofs.lemmas.Int.{ints}
 use Rattle.std.specs.Ordering.{int_eq}

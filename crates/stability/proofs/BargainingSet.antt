@@ -18,8 +18,7 @@ use Rattle.definitions.specs.Coalitions.{has_player, singleton}
 use Rattle.definitions.specs.Games.{Game, Allocation, share, excess, IsAllocation, InCore}
 use Rattle.definitions.specs.Prekernel.{IsSurplus}
 use Rattle.definitions.specs.declared.Family.TheVariants.{Imputations}
-use Rattle.stability.specs.BargainingSet.{IsObjection, IsCounter}
-use Rattle.stability.specs.BargainingSet.{KernelIsInBargainingSet, NucleolusIsInBargainingSet}
+use Rattle.stability.specs.BargainingSet.{IsObjection, IsCounter, KernelIsInBargainingSet, NucleolusIsInBargainingSet}
 use Rattle.stability.specs.BargainingSet.{BargainingSetIsntEmpty, CoreIsInBargainingSet}
 use Rattle.laws.proofs.NucleolusIsInCore.{core_family}
 use Rattle.stability.proofs.CoreKernel.{core_low}

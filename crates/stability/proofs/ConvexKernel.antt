@@ -8,8 +8,7 @@ use Rattle.definitions.specs.declared.Family.TheVariants.{Preimputations}
 use Rattle.definitions.specs.declared.Measure.TheVariants.{Plain}
 use Rattle.theorems.proofs.Transfers.{prenucleolus_in_prekernel}
 use Rattle.duality.proofs.Nucleoli.{prenucleoli_exist}
-use Rattle.stability.specs.ConvexCores.{ConvexKernelIsOnePoint, ConvexKernelIsNucleolus}
-use Rattle.stability.specs.ConvexCores.{ConvexPrekernelIsPrenucleolus}
+use Rattle.stability.specs.ConvexCores.{ConvexKernelIsOnePoint, ConvexKernelIsNucleolus, ConvexPrekernelIsPrenucleolus}
 use Rattle.stability.proofs.Kernel.{nucleolus_in_kernel}
 use Rattle.stability.proofs.OneKernelPoint.{same_point}
 use Rattle.stability.proofs.WhoJoins.{convex_is_zero_monotonic}

@@ -19,4 +19,5 @@ mod SplitCoalitions
 mod Narrowing
 mod OneKernelPoint
 mod ConvexKernel
+mod GreatestGain
 mod JustifiedObjection

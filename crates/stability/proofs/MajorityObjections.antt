@@ -1,7 +1,6 @@
 -- Objections and counters of three who vote by majority: by computation, and for all that could be offered.
-use Rattle.std.proofs.Common.{◌≢◌, ℕ, ◌<◌, ◌&&◌, ◌||◌, not, pos, ◌*ℤ◌}
-use Rattle.std.proofs.Common.{int_le, refl, sym, ap, ◌∙◌, inl, inr}
-use Rattle.std.proofs.Common.{arith, rules}
+use Rattle.std.proofs.Common.{◌≢◌, ℕ, ◌<◌, ◌&&◌, ◌||◌, not, pos, ◌*ℤ◌, int_le, refl}
+use Rattle.std.proofs.Common.{sym, ap, ◌∙◌, inl, inr, arith, rules}
 use Rattle.std.proofs.lemmas.Int.{ints}
 use Rattle.definitions.proofs.Cases.{and_both}
 use Rattle.definitions.proofs.Ring.{linear, mul-oneℤ, one-mulℤ, mul-zeroℤ, zero-mulℤ}

@@ -5,8 +5,7 @@
 --   IsReducible n z f p     the part p is such
 --   reducible_in, _out      so are the two
 use Rattle.std.proofs.Common.{◌≡◌, ℕ, ◌^◌, ◌<◌, Bool, true, false, ◌&&◌, ◌||◌, not}
-use Rattle.std.proofs.Common.{ℤ, pos, ◌≤ℤ◌, refl, sym, ap, ◌∙◌, inl, inr}
-use Rattle.std.proofs.Common.{arith}
+use Rattle.std.proofs.Common.{ℤ, pos, ◌≤ℤ◌, refl, sym, ap, ◌∙◌, inl, inr, arith}
 use Rattle.std.proofs.lemmas.Bool.{false≢true}
 use Rattle.definitions.proofs.Cases.{true_or_false, and_parts, and_true, and_false, from_not, or_right, or_false}
 use Rattle.definitions.proofs.Ring.{linear}

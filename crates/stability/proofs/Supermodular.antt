@@ -1,9 +1,8 @@
 -- Of a convex game, two coalitions are worth no more than all their members together and those that are in both
 -- (Shapley 1971): the members of the first join those in both, and no less the second, one by one.
-use Rattle.std.proofs.Common.{◌≡◌, ◌≢◌, ℕ, zero, suc, ◌+◌, ◌^◌, ◌<◌}
-use Rattle.std.proofs.Common.{◌≤◌, Bool, true, false, ◌&&◌, ◌||◌, nat_lt, cond}
-use Rattle.std.proofs.Common.{ℤ, pos, ◌+ℤ◌, ◌-ℤ◌, ◌≤ℤ◌, refl}
-use Rattle.std.proofs.Common.{sym, ap, ◌∙◌, inl, inr, arith}
+use Rattle.std.proofs.Common.{◌≡◌, ◌≢◌, ℕ, zero, suc, ◌+◌, ◌^◌, ◌<◌, ◌≤◌, Bool}
+use Rattle.std.proofs.Common.{true, false, ◌&&◌, ◌||◌, nat_lt, cond, ℤ, pos, ◌+ℤ◌, ◌-ℤ◌}
+use Rattle.std.proofs.Common.{◌≤ℤ◌, refl, sym, ap, ◌∙◌, inl, inr, arith}
 use Rattle.std.proofs.lemmas.Bool.{false≢true}
 use Rattle.std.proofs.lemmas.Bool.Decides.{nat_tests}
 use Rattle.definitions.proofs.Cases.{same_or_other, nat_lt-past, nat_lt-less}
