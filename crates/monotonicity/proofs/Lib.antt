@@ -10,5 +10,8 @@ mod EachWhoGrows
 mod LevelledSums
 mod Terms
 mod MonotonicRulesAreShapley
+mod SixWorths
 mod NoCoreRule
 mod GrowsAround
+mod SmallGrowth
+mod TwoRules

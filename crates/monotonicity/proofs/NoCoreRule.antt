@@ -1,88 +1,98 @@
--- Two games of five players, each with just one core point. In the second, two coalitions are worth more, both with
--- player 4, who gets 6 in place of 7 (Young 1985).
-use Rattle.std.proofs.Common.{◌≡◌, ℕ, ◌^◌, ◌<◌, ◌||◌, not, nat_eq, if◌then◌else◌, List, [], ◌∷◌, ℤ}
-use Rattle.std.proofs.Common.{pos, ◌+ℤ◌, ◌*ℤ◌, ◌<ℤ◌, ◌≤ℤ◌, int_le, refl, sym, ◌∙◌, arith, rules}
+-- Three games of five players or more, in which the worth of all rises from 11 to 12 and then that of the first five
+-- but 3 from 9 to 12. Player 4, who is in both coalitions, gets 7 at each core point of the first game and 6 at each of
+-- the last (Young 1985).
+use Rattle.std.proofs.Common.{◌≡◌, ◌≢◌, ℕ, ◌<◌, ◌≤◌, List}
+use Rattle.std.proofs.Common.{[], ◌∷◌, ℤ, pos, ◌+ℤ◌, ◌*ℤ◌}
+use Rattle.std.proofs.Common.{◌<ℤ◌, ◌≤ℤ◌, refl, sym, ap, ◌∙◌, inl, inr, arith, rules}
+use Rattle.std.proofs.lemmas.Bool.{false≢true}
 use Rattle.std.proofs.lemmas.Int.{by_lt_z, ints}
-use Rattle.std.specs.Ordering.{int_eq}
 use lib.IntN.{*ℤ_comm}
-use Rattle.definitions.proofs.Cases.{or_other}
-use Rattle.definitions.proofs.Ring.{linear, mul-leℤ, mul-positiveℤ, mul_assocℤ, mul_left_commℤ}
-use Rattle.definitions.proofs.Splits.{passes_below-at}
-use Rattle.definitions.proofs.SumsOver.{amount-at}
-use Rattle.theorems.proofs.Examples.{from_int_eq, from_either}
-use Rattle.definitions.specs.Coalitions.{has_player, sum_over}
-use Rattle.definitions.specs.Games.{Game, Allocation, share, amount, InCore}
+use Rattle.definitions.proofs.Cases.{same_or_other}
+use Rattle.definitions.proofs.Masks.{grand_coalition-within}
+use Rattle.definitions.proofs.Members.{has_player-grand_coalition}
+use Rattle.definitions.proofs.Ring.{linear, mul-leℤ, mul-le_cancelℤ, mul_left_commℤ}
+use Rattle.definitions.specs.Coalitions.{has_player, grand_coalition}
+use Rattle.definitions.specs.Games.{Game, Allocation, share, InCore}
+use Rattle.duality.proofs.BondarevaShapley.{point}
+use Rattle.monotonicity.specs.Growth.{GroupGrows}
 use Rattle.monotonicity.specs.CoreRules.{GrowsAround, SomebodyLosesInTheCore, NoCoreRuleIsMonotonic}
+use Rattle.monotonicity.proofs.SixWorths.{six, six-all, six-game, six-others, six-but_four, six-core}
+use Rattle.monotonicity.proofs.SixWorths.{all-high, reaches, five_at_most, listed_share}
 
 -- ---- the games
 
--- the number of a coalition in a list, and 0 where it isn't there
-abbrev listed : List (ℕ × ℤ) → ℕ → ℤ
-listed [] s = pos 0
-listed (p ∷ ps) s = if nat_eq p.0 s then p.1 else listed ps s
+abbrev smaller : ℕ → Game
+smaller n = six n (pos 9) (pos 11)
 
--- 1, 2 and 3 are worth 3, 1, 3 and 4 are worth 9, 3 and 5 are worth 3, and 2, 4 and 5 are worth 9; the two numbers are
--- the worths of all but 3, and of all
-abbrev five : ℤ → ℤ → Game
-five but_one all = record {
-  players = 5;
-  worth = listed
-      ((7, pos 3)
-      ∷ ((13, pos 9) ∷ ((20, pos 3) ∷ ((26, pos 9) ∷ ((27, but_one) ∷ ((31, all) ∷ []))))));
-}
+abbrev middle : ℕ → Game
+middle n = six n (pos 9) (pos 12)
 
-abbrev smaller : Game
-smaller = five (pos 9) (pos 11)
+abbrev greater : ℕ → Game
+greater n = six n (pos 12) (pos 12)
 
-abbrev greater : Game
-greater = five (pos 12) (pos 12)
-
-grows : GrowsAround smaller greater 3
-grows = record {
+all_grow : (n : ℕ) → 5 ≤ n → GroupGrows (pos 1) (grand_coalition n) (smaller n) (middle n)
+all_grow n many = record {
   players = refl;
-  around = λ s lt inside. from_either _ _ _
-      (passes_below-at 32 (λ s. not (has_player s 3) || int_le (smaller.worth s) (greater.worth s)) refl s lt) inside;
-  apart = λ s lt outside. from_int_eq _ _
-      (or_other _ _ outside
-      (passes_below-at 32 (λ s. has_player s 3 || int_eq (greater.worth s) (smaller.worth s)) refl s lt));
+  more = omega (arith, linear, six-all n (pos 9) (pos 11) many, six-all n (pos 9) (pos 12) many);
+  others = λ s lt ne. six-others n (pos 9) (pos 12) (pos 11) s ne;
 }
+
+four_grow : (n : ℕ) → GroupGrows (pos 3) 27 (middle n) (greater n)
+four_grow n = record {
+  players = refl;
+  more = refl;
+  others = λ s lt ne. six-but_four n (pos 12) (pos 9) (pos 12) s ne;
+}
+
+-- a coalition that grows, and no other, grows around each member
+grows : (n : ℕ) → 5 ≤ n → GrowsAround (smaller n) (greater n) 3
+grows n many = record {
+  players = refl;
+  around = λ s lt inside. elim (same_or_other s (grand_coalition n)) [
+    | inl all ↦ omega (
+      arith,
+      linear,
+      ap (smaller n).worth all ∙ six-all n (pos 9) (pos 11) many,
+      ap (greater n).worth all ∙ six-all n (pos 12) (pos 12) many,
+    )
+    | inr ne ↦ elim (same_or_other s 27) [
+      | inl four ↦ omega (arith, linear, ap (smaller n).worth four, ap (greater n).worth four)
+      | inr other ↦ omega (arith, linear, same s ne other)
+    ]
+  ];
+  apart = λ s lt out. sym
+      (same s
+      (λ all. false≢true
+      (sym out ∙ ap (λ (t : ℕ). has_player t 3) all ∙ has_player-grand_coalition n 3 (omega (arith, many))))
+      (λ four. false≢true (sym out ∙ ap (λ (t : ℕ). has_player t 3) four)));
+}
+  where
+    same : (s : ℕ) → s ≢ grand_coalition n → s ≢ 27 → (smaller n).worth s ≡ (greater n).worth s
+    same s ne other =
+        six-others n (pos 9) (pos 11) (pos 12) s ne ∙ six-but_four n (pos 9) (pos 12) (pos 12) s other
 
 -- ---- their core points
 
-abbrev first_point : Allocation
-first_point = record { shares = pos 0 ∷ (pos 1 ∷ (pos 2 ∷ (pos 7 ∷ (pos 1 ∷ [])))); den = pos 1 }
+abbrev first_shares : List ℤ
+first_shares = pos 0 ∷ (pos 1 ∷ (pos 2 ∷ (pos 7 ∷ (pos 1 ∷ []))))
 
-abbrev second_point : Allocation
-second_point = record { shares = pos 3 ∷ (pos 0 ∷ (pos 0 ∷ (pos 6 ∷ (pos 3 ∷ [])))); den = pos 1 }
+abbrev middle_shares : List ℤ
+middle_shares = pos 0 ∷ (pos 1 ∷ (pos 3 ∷ (pos 7 ∷ (pos 1 ∷ []))))
 
-first_core : InCore smaller first_point
-first_core = (
-  (refl, search rules),
-  refl,
-  λ s lt blocks.
-      let e =
-      passes_below-at 32 (λ s. int_le (first_point.den *ℤ smaller.worth s) (amount first_point s)) refl s lt in
-      omega (arith, linear, e, blocks),
-)
+abbrev last_shares : List ℤ
+last_shares = pos 3 ∷ (pos 0 ∷ (pos 0 ∷ (pos 6 ∷ (pos 3 ∷ []))))
 
-second_core : InCore greater second_point
-second_core = (
-  (refl, search rules),
-  refl,
-  λ s lt blocks.
-      let e =
-      passes_below-at 32 (λ s. int_le (second_point.den *ℤ greater.worth s) (amount second_point s)) refl s lt in
-      omega (arith, linear, e, blocks),
-)
+abbrev with_nothing : ℕ → List ℤ → Allocation
+with_nothing n xs = point n (listed_share xs) (pos 1)
 
--- ---- there are no others
+first_core : (n : ℕ) → 5 ≤ n → InCore (smaller n) (with_nothing n first_shares)
+first_core n many = six-core n (pos 9) (pos 11) first_shares many refl (search rules) refl (search rules)
 
-reaches : (g : Game) (x : Allocation) (s : ℕ) → InCore g x → s < 2 ^ g.players
-    → (x.den *ℤ g.worth s) ≤ℤ sum_over g.players (share x) s
-reaches g x s h lt =
-    by_lt_z (amount x s) (x.den *ℤ g.worth s)
-    (λ blocks. absurd (h.2 s lt blocks))
-    (λ le. omega (arith, linear, le, amount-at g x s h.0))
+middle_core : (n : ℕ) → 5 ≤ n → InCore (middle n) (with_nothing n middle_shares)
+middle_core n many = six-core n (pos 9) (pos 12) middle_shares many refl (search rules) refl (search rules)
+
+last_core : (n : ℕ) → 5 ≤ n → InCore (greater n) (with_nothing n last_shares)
+last_core n many = six-core n (pos 12) (pos 12) last_shares many refl (search rules) refl (search rules)
 
 three_times : (p : ℤ) → p *ℤ pos 3 ≡ p +ℤ p +ℤ p
 three_times p = omega (arith, ints)
@@ -103,17 +113,17 @@ twelve_times : (p : ℤ) → p *ℤ pos 12 ≡ p *ℤ pos 9 +ℤ p *ℤ pos 3
 twelve_times p = omega (arith, ints)
 
 -- player 4 gets 7 at least
-seven_before : (x : Allocation) → InCore smaller x → (x.den *ℤ pos 7) ≤ℤ share x 3
-seven_before x h =
+seven_before : (n : ℕ) (x : Allocation) → 5 ≤ n → InCore (smaller n) x → (x.den *ℤ pos 7) ≤ℤ share x 3
+seven_before n x many h =
     omega (
       arith,
       linear,
-      reaches smaller x 7 h (omega arith),
-      reaches smaller x 13 h (omega arith),
-      reaches smaller x 20 h (omega arith),
-      reaches smaller x 26 h (omega arith),
-      reaches smaller x 27 h (omega arith),
-      sym (amount-at smaller x 31 h.0) ∙ h.1,
+      reaches n (pos 9) (pos 11) x 7 many h (omega arith),
+      reaches n (pos 9) (pos 11) x 13 many h (omega arith),
+      reaches n (pos 9) (pos 11) x 20 many h (omega arith),
+      reaches n (pos 9) (pos 11) x 26 many h (omega arith),
+      reaches n (pos 9) (pos 11) x 27 many h (omega arith),
+      five_at_most n (pos 9) (pos 11) x many h,
       three_times x.den,
       six_times x.den,
       seven_times x.den,
@@ -122,59 +132,85 @@ seven_before x h =
     )
 
 -- and then 6 at most
-six_after : (y : Allocation) → InCore greater y → share y 3 ≤ℤ (y.den *ℤ pos 6)
-six_after y h =
+six_after : (n : ℕ) (y : Allocation) → 5 ≤ n → InCore (greater n) y → share y 3 ≤ℤ (y.den *ℤ pos 6)
+six_after n y many h =
     omega (
       arith,
       linear,
-      reaches greater y 7 h (omega arith),
-      reaches greater y 13 h (omega arith),
-      reaches greater y 20 h (omega arith),
-      reaches greater y 26 h (omega arith),
-      reaches greater y 27 h (omega arith),
-      sym (amount-at greater y 31 h.0) ∙ h.1,
+      reaches n (pos 12) (pos 12) y 7 many h (omega arith),
+      reaches n (pos 12) (pos 12) y 13 many h (omega arith),
+      reaches n (pos 12) (pos 12) y 20 many h (omega arith),
+      reaches n (pos 12) (pos 12) y 26 many h (omega arith),
+      reaches n (pos 12) (pos 12) y 27 many h (omega arith),
+      five_at_most n (pos 12) (pos 12) y many h,
       three_times y.den,
       six_times y.den,
       nine_times y.den,
       twelve_times y.den,
     )
 
-loses : (x y : Allocation) → InCore smaller x → InCore greater y → (share y 3 *ℤ x.den) <ℤ (share x 3 *ℤ y.den)
-loses x y hx hy =
-    let p = x.den in
-    let q = y.den in
-    let one =
-    mul-leℤ q (p *ℤ pos 7) (share x 3) (omega (arith, linear, hy.0.1)) (seven_before x hx) in
-    let two =
-    mul-leℤ p (share y 3) (q *ℤ pos 6) (omega (arith, linear, hx.0.1)) (six_after y hy) in
-    let some = mul-positiveℤ p q (omega (arith, linear, hx.0.1)) (omega (arith, linear, hy.0.1)) in
-    omega (
+-- a share a over p of at least c, and one b over q that isn't less
+at_least-through : (a p b q c : ℤ) → pos 1 ≤ℤ p → pos 1 ≤ℤ q → (p *ℤ c) ≤ℤ a → (a *ℤ q) ≤ℤ (b *ℤ p) → (q *ℤ c) ≤ℤ b
+at_least-through a p b q c hp hq low le =
+    mul-le_cancelℤ p (q *ℤ c) b (omega (arith, linear, hp))
+    (omega (
       arith,
       linear,
-      one,
-      two,
-      some,
-      *ℤ_comm (share x 3) q,
-      *ℤ_comm (share y 3) p,
-      sixfold p q,
-      sevenfold p q,
-      seven_times (p *ℤ q),
-    )
-  where
-    sixfold : (p q : ℤ) → p *ℤ (q *ℤ pos 6) ≡ (p *ℤ q) *ℤ pos 6
-    sixfold p q = sym (mul_assocℤ p q (pos 6))
+      le,
+      mul-leℤ q (p *ℤ c) a (omega (arith, linear, hq)) low,
+      *ℤ_comm a q,
+      *ℤ_comm b p,
+      mul_left_commℤ q p c,
+    ))
 
-    sevenfold : (p q : ℤ) → q *ℤ (p *ℤ pos 7) ≡ (p *ℤ q) *ℤ pos 7
-    sevenfold p q = mul_left_commℤ q p (pos 7) ∙ sym (mul_assocℤ p q (pos 7))
+loses : (n : ℕ) (x y : Allocation) → 5 ≤ n → InCore (smaller n) x → InCore (greater n) y
+    → (share y 3 *ℤ x.den) <ℤ (share x 3 *ℤ y.den)
+loses n x y many hx hy =
+    by_lt_z (share y 3 *ℤ x.den) (share x 3 *ℤ y.den)
+    (λ less. less)
+    (λ le. absurd
+    (let low =
+    at_least-through (share x 3) x.den (share y 3) y.den (pos 7) hx.0.1 hy.0.1 (seven_before n x many hx) le in
+    omega (arith, linear, low, six_after n y many hy, seven_times y.den, hy.0.1)))
 
 pub somebody_loses : SomebodyLosesInTheCore
-somebody_loses =
-    (smaller, greater, 3, (grows, omega arith, (first_point, first_core), (second_point, second_core), loses))
+somebody_loses n many = (
+  smaller n,
+  greater n,
+  3,
+  six-game n (pos 9) (pos 11) many,
+  six-game n (pos 12) (pos 12) many,
+  (
+    grows n many,
+    omega (arith, many),
+    (with_nothing n first_shares, first_core n many),
+    (with_nothing n last_shares, last_core n many),
+    λ x y hx hy. loses n x y many hx hy,
+  ),
+)
 
 pub no_core_rule : NoCoreRuleIsMonotonic
-no_core_rule rule picks monotonic =
-    let less =
-    loses (rule smaller) (rule greater) (picks smaller first_point first_core)
-    (picks greater second_point second_core) in
-    let le = monotonic smaller greater 3 grows (omega arith) in
-    omega (arith, linear, less, le)
+no_core_rule n rule many picks monotonic =
+    let x = rule (smaller n) in
+    let m = rule (middle n) in
+    let y = rule (greater n) in
+    let first =
+    picks (smaller n) (with_nothing n first_shares) (six-game n (pos 9) (pos 11) many) (first_core n many) in
+    let second =
+    picks (middle n) (with_nothing n middle_shares) (six-game n (pos 9) (pos 12) many) (middle_core n many) in
+    let third = picks (greater n) (with_nothing n last_shares) (six-game n (pos 12) (pos 12) many) (last_core n many) in
+    let high = all-high n many in
+    let lt : 3 < n = omega (arith, many) in
+    let one =
+    monotonic (pos 1) (grand_coalition n) (smaller n) (middle n) (with_nothing n first_shares)
+    (with_nothing n middle_shares) 3 (six-game n (pos 9) (pos 11) many) (first_core n many) (middle_core n many)
+    (search rules) (grand_coalition-within n) (all_grow n many) lt (has_player-grand_coalition n 3 lt) in
+    let two =
+    monotonic (pos 3) 27 (middle n) (greater n) (with_nothing n middle_shares) (with_nothing n last_shares) 3
+    (six-game n (pos 9) (pos 12) many) (middle_core n many) (last_core n many) (search rules)
+    (omega (arith, high)) (four_grow n) lt refl in
+    let low =
+    at_least-through (share x 3) x.den (share m 3) m.den (pos 7) first.0.1 second.0.1 (seven_before n x many first)
+    one in
+    let still = at_least-through (share m 3) m.den (share y 3) y.den (pos 7) second.0.1 third.0.1 low two in
+    omega (arith, linear, still, six_after n y many third, seven_times y.den, third.0.1)

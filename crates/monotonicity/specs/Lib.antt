@@ -1,3 +1,5 @@
 pub mod Growth
 pub mod Additions
 pub mod CoreRules
+pub mod SmallGrowth
+pub mod TwoRules

@@ -5,4 +5,5 @@
 
 pub mod additions;
 pub mod core_rules;
+pub mod examples;
 pub mod growth;

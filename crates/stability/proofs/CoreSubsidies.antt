@@ -2,12 +2,12 @@
 -- other gets at most what it adds.
 use Rattle.std.proofs.Common.{◌≡◌, ℕ, ◌-◌, ◌^◌, ◌<◌, ◌+ℤ◌, ◌*ℤ◌, ◌≤ℤ◌, ap, arith}
 use Rattle.std.proofs.lemmas.Int.{by_lt_z}
-use Rattle.definitions.proofs.Masks.{grand_coalition-within}
 use Rattle.definitions.proofs.Members.{sum_over-complement, sum_over-grand_coalition}
 use Rattle.definitions.proofs.Ring.{linear, mul-subℤ}
 use Rattle.definitions.proofs.SumsOver.{amount-at}
 use Rattle.definitions.specs.Coalitions.{grand_coalition}
 use Rattle.definitions.specs.Games.{Game, Allocation, share, amount, IsAllocation, IsEfficient, InCore}
+use Rattle.stability.proofs.Unions.{opposite-within, opposite-twice}
 use Rattle.stability.specs.Subsidies.{IsSubsidyFree, CoreIsSubsidyFree}
 
 -- what the others get
@@ -26,12 +26,6 @@ rest g x s hx e lt =
       e,
     )
 
-others-within : (n s : ℕ) → grand_coalition n - s < 2 ^ n
-others-within n s = let within = grand_coalition-within n in omega (arith, within)
-
-twice : (n s : ℕ) → s < 2 ^ n → grand_coalition n - (grand_coalition n - s) ≡ s
-twice n s lt = omega (arith, lt)
-
 to_free : (g : Game) (x : Allocation) → InCore g x → IsSubsidyFree g x
 to_free g x h = (
   h.0,
@@ -40,7 +34,7 @@ to_free g x h = (
       let all = grand_coalition g.players in
       let reach : (x.den *ℤ g.worth (all - s)) ≤ℤ amount x (all - s) =
       by_lt_z (amount x (all - s)) (x.den *ℤ g.worth (all - s))
-      (λ blocks. absurd (h.2 (all - s) (others-within g.players s) blocks))
+      (λ blocks. absurd (h.2 (all - s) (opposite-within g.players s) blocks))
       (λ le. le) in
       omega (arith, linear, reach, rest g x s h.0 h.1 lt, mul-subℤ x.den (g.worth all) (g.worth (all - s))),
 )
@@ -51,8 +45,8 @@ to_core g x h = (
   h.1,
   λ s lt blocks.
       let all = grand_coalition g.players in
-      let at_most = h.2 (all - s) (others-within g.players s) in
-      let same = ap (λ (t : ℕ). x.den *ℤ g.worth t) (twice g.players s lt) in
+      let at_most = h.2 (all - s) (opposite-within g.players s) in
+      let same = ap (λ (t : ℕ). x.den *ℤ g.worth t) (opposite-twice g.players s lt) in
       omega (
         arith,
         linear,

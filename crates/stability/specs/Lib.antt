@@ -5,3 +5,4 @@ pub mod ConvexCores
 pub mod Majority
 pub mod ZeroMonotonic
 pub mod Subsidies
+pub mod TwoVoters
