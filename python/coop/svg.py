@@ -1,23 +1,35 @@
 """Parts of an SVG picture: texts, lines, marks and the page. All is black on white, so that it can be printed."""
+from __future__ import annotations
+
 import unicodedata
+from fractions import Fraction
+from typing import Iterable, Sequence
+
+from .game import Game
+from .names import safe
+from .styles import EXACT, Style, column
 
 FONT = "Helvetica, Arial, 'Liberation Sans', 'DejaVu Sans', sans-serif"
 SIZE = 13
 NARROW, WIDE = "iljt.,:|'() ", "mwMW@%"
 
+Place = tuple[float, float]
+"""A place of the picture: to the right, and down."""
 
-def clean(words):
+
+def clean(words: str) -> str:
     """A text as XML may have it."""
     words = "".join(c if c.isprintable() else "\ufffd" for c in words)
     return words.replace("&", "&amp;").replace("<", "&lt;").replace(">", "&gt;")
 
 
-def width(words, size=SIZE):
+def width(words: str, size: float = SIZE) -> float:
     """About how wide a text is."""
     return size * sum(letter_width(letter) for letter in words)
 
 
-def letter_width(letter):
+def letter_width(letter: str) -> float:
+    """About how wide a letter is, as a part of its size."""
     if unicodedata.combining(letter):
         return 0
     if unicodedata.east_asian_width(letter) in "WF":
@@ -25,11 +37,12 @@ def letter_width(letter):
     return 0.3 if letter in NARROW else 0.85 if letter in WIDE else 0.6
 
 
-def widest(texts, size=SIZE):
+def widest(texts: Iterable[str], size: float = SIZE) -> float:
+    """How wide the widest of some texts is."""
     return max(width(words, size) for words in texts)
 
 
-def cut(words, room, size=SIZE):
+def cut(words: str, room: float, size: float = SIZE) -> str:
     """A text cut so that it isn't wider than the room."""
     if width(words, size) <= room:
         return words
@@ -38,66 +51,87 @@ def cut(words, room, size=SIZE):
     return words.rstrip() + "…"
 
 
-def number_text(value):
-    """A fraction; where that is long, about its decimals."""
-    text = str(value)
-    if len(text) > 10 and value.denominator > 1:
-        text = f"{float(value):.4g}" if abs(value) < 1000 else f"{float(value):.1f}"
+def number_text(value: Fraction, style: Style = EXACT) -> str:
+    """A number in a style; without places a fraction, and where that is long, about its decimals."""
+    text = style(value)
+    if style.places is None and len(str(value)) > 10 and value.denominator > 1:
+        text = (f"{float(value):.4g}" if abs(value) < 1000 else f"{float(value):.1f}") + style.behind
     return text.replace("-", "−")
 
 
-def text(x, y, words, anchor="start", size=SIZE, weight="normal", color="#000"):
+def number_column(shares: Sequence[Fraction], style: Style) -> list[str]:
+    """The shares and their sum; decimals of named places add up."""
+    if style.places is not None:
+        return [words.replace("-", "−") for words in column(shares, style)]
+    return [number_text(value, style) for value in [*shares, sum(shares, Fraction(0))]]
+
+
+def text(
+    x: float,
+    y: float,
+    words: str,
+    anchor: str = "start",
+    size: float = SIZE,
+    weight: str = "normal",
+    color: str = "#000",
+) -> str:
+    """A text, its anchor at a place."""
     place = f'x="{x:.1f}" y="{y:.1f}" font-size="{size}" text-anchor="{anchor}" font-weight="{weight}"'
     return f'<text {place} fill="{color}">{clean(words)}</text>'
 
 
-def text_on_white(x, y, words, anchor):
+def text_on_white(x: float, y: float, words: str, anchor: str) -> str:
     """A text with a white rim, for one that stands on lines."""
     rim = 'stroke="#fff" stroke-width="4" stroke-linejoin="round" fill="#fff"'
     under = f'<text x="{x:.1f}" y="{y:.1f}" font-size="{SIZE}" text-anchor="{anchor}" {rim}>{clean(words)}</text>'
     return under + text(x, y, words, anchor)
 
 
-def heading(game):
+def heading(game: Game, title: str = "", style: Style = EXACT) -> list[str]:
     """The title of a picture, and what all are worth or cost below it."""
-    below = f"all together: {number_text(game.whole())}" + ", excess per head" * game.per_head
-    return [text(20, 30, game.title(), size=17, weight="bold"), text(20, 50, below, color="#444")]
+    below = f"all together: {number_text(game.whole(), style)}" + ", excess per head" * game.per_head
+    return [text(20, 30, safe(title) or game.title(), size=17, weight="bold"), text(20, 50, below, color="#444")]
 
 
-def line(start, end, thick=1.0, dash="", color="#000"):
+def line(start: Place, end: Place, thick: float = 1.0, dash: str = "", color: str = "#000") -> str:
+    """A straight line."""
     (x, y), (z, w) = start, end
     dashes = f' stroke-dasharray="{dash}"' if dash else ""
     ends = f'x1="{x:.1f}" y1="{y:.1f}" x2="{z:.1f}" y2="{w:.1f}"'
     return f'<line {ends} stroke="{color}" stroke-width="{thick}"{dashes}/>'
 
 
-def polygon(corners, style):
+def polygon(corners: Iterable[Place], style: str) -> str:
+    """A polygon by its corners."""
     points = " ".join(f"{x:.1f},{y:.1f}" for x, y in corners)
     return f'<polygon points="{points}" {style}/>'
 
 
-def circle(x, y, r, style):
+def circle(x: float, y: float, r: float, style: str) -> str:
+    """A circle by its middle."""
     return f'<circle cx="{x:.1f}" cy="{y:.1f}" r="{r}" {style}/>'
 
 
-def rectangle(x, y, wide, high, style):
+def rectangle(x: float, y: float, wide: float, high: float, style: str) -> str:
+    """A rectangle by its upper left corner."""
     return f'<rect x="{x:.1f}" y="{y:.1f}" width="{wide:.1f}" height="{high:.1f}" {style}/>'
 
 
-def mark(kind, x, y, r=5.0):
+def mark(kind: int, x: float, y: float, r: float = 5.0) -> str:
     """One of eight marks, each told from the others without colour."""
     style = f'fill="{"#000" if kind % 8 in (0, 3, 5, 6) else "#fff"}" stroke="#000" stroke-width="1.6"'
     if kind % 4 == 0:
         return circle(x, y, r, style)
-    corners = {
-        1: [(-1, -1), (1, -1), (1, 1), (-1, 1)],
-        2: [(0, -1.3), (1.2, 0.9), (-1.2, 0.9)],
-        3: [(0, -1.4), (1.4, 0), (0, 1.4), (-1.4, 0)],
+    corners: list[Place] = {
+        1: [(-1.0, -1.0), (1.0, -1.0), (1.0, 1.0), (-1.0, 1.0)],
+        2: [(0.0, -1.3), (1.2, 0.9), (-1.2, 0.9)],
+        3: [(0.0, -1.4), (1.4, 0.0), (0.0, 1.4), (-1.4, 0.0)],
     }[kind % 4]
     return polygon([(x + r * a, y + r * b) for a, b in corners], style)
 
 
-def page(wide, high, title, parts):
+def page(wide: float, high: float, title: str, parts: Sequence[str]) -> str:
+    """The whole picture."""
     size = f'width="{wide:.0f}" height="{high:.0f}" viewBox="0 0 {wide:.0f} {high:.0f}"'
     first = f'<svg xmlns="http://www.w3.org/2000/svg" {size} font-family="{FONT}">'
     white = '<rect width="100%" height="100%" fill="#fff"/>'

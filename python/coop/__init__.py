@@ -1,0 +1,51 @@
+"""Games for coop, its answers as numbers by name, and what one does with them.
+
+    import coop
+
+    game = coop.airport({"light": 2, "medium": 4, "heavy": 6})
+    print(coop.nucleolus(game).shares["medium"])        # 3/2
+
+The constructors make games (`games`), the calls ask the program (`calls`) and give answers (`answers`) or raise
+(`errors`). docs/python.md of the project tells more.
+"""
+from .answers import Answer
+from .calls import bird, check, convex, core, kernel, matching, nucleolus, prenucleolus, propose, shapley
+from .errors import BadInput, CoopError, Fault, NoAnswer, NoMemory, NotFound, Refused, Usage
+from .game import Game
+from .games import airport, assignment, bankruptcy, cost_table, landings, market, table, tree, voting
+from .many import many
+from .program import find
+
+__all__ = [
+    "Answer",
+    "BadInput",
+    "CoopError",
+    "Fault",
+    "Game",
+    "NoAnswer",
+    "NoMemory",
+    "NotFound",
+    "Refused",
+    "Usage",
+    "airport",
+    "assignment",
+    "bankruptcy",
+    "bird",
+    "check",
+    "convex",
+    "core",
+    "cost_table",
+    "find",
+    "kernel",
+    "landings",
+    "many",
+    "market",
+    "matching",
+    "nucleolus",
+    "prenucleolus",
+    "propose",
+    "shapley",
+    "table",
+    "tree",
+    "voting",
+]

@@ -1,0 +1,64 @@
+"""Numbers as a document takes them: exact, and of a size that fits.
+
+A float is refused unless a number of digits is named, since 0.1 as a float isn't a tenth.
+"""
+from __future__ import annotations
+
+import re
+from decimal import Decimal
+from fractions import Fraction
+from math import gcd
+from typing import Iterable, Optional, Union
+
+from .errors import BadInput
+
+Amount = Union[int, str, Fraction, Decimal, float]
+"""What may be given for a number: "12", "12.50" and "25/2" are texts of numbers."""
+
+MOST_SCALE, LIMIT = 65536, 2**40
+NUMBER = re.compile(r"-?([0-9]{1,40}(\.[0-9]{1,40})?|[0-9]{1,40}/0*[1-9][0-9]{0,39})")
+
+
+def fraction_of(value: Amount, digits: Optional[int] = None) -> Fraction:
+    """The exact value. With a number of digits it is rounded to so many decimals, and floats are taken too."""
+    if isinstance(value, bool) or not isinstance(value, (int, str, Fraction, Decimal, float)):
+        raise BadInput(f"{str(value)[:40]!r} is no number")
+    if isinstance(value, float) and digits is None:
+        raise BadInput(f"{value!r} is a float: name a number of digits to round to, or give a text, {str(value)!r}")
+    if isinstance(value, str) and not NUMBER.fullmatch(value.strip()):
+        raise BadInput(f"{value[:40]!r} is no number; write 12, 12.50 or 25/2")
+    try:
+        exact = Fraction(value.strip() if isinstance(value, str) else value)
+    except (ValueError, OverflowError):
+        raise BadInput(f"{value!r} is no number") from None
+    return exact if digits is None else Fraction(round(exact * 10**digits), 10**digits)
+
+
+def fractions_of(values: Iterable[Amount], digits: Optional[int] = None) -> list[Fraction]:
+    """The exact values of a list."""
+    return [fraction_of(value, digits) for value in values]
+
+
+def written(value: Fraction) -> Union[int, str]:
+    """The number as a document of version 2 has it: an integer, or a fraction in lowest terms as a text."""
+    return value.numerator if value.denominator == 1 else str(value)
+
+
+def common_denominator(values: Iterable[Fraction]) -> int:
+    """The least common denominator."""
+    common = 1
+    for value in values:
+        common *= value.denominator // gcd(common, value.denominator)
+    return common
+
+
+def factor_for(values: list[Fraction], digits: Optional[int] = None) -> int:
+    """By how much all numbers of a game are multiplied, so that a document takes them. That is 1 where their common
+    denominator is one that a document may have; else that denominator, so that all become integers. Numbers rounded to
+    more than four digits are multiplied by 10 to that power, whatever they are, so that games of one source agree."""
+    common = common_denominator(values)
+    if digits is not None and 10**digits > MOST_SCALE:
+        common = 10**digits
+    if max((abs(value) for value in values), default=Fraction(0)) * common >= LIMIT:
+        raise BadInput(f"a number, times the common denominator {common}, is 2^40 or more: round to fewer digits")
+    return 1 if common <= MOST_SCALE else common

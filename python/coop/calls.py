@@ -1,0 +1,148 @@
+"""The program's commands as calls. Each gives an answer of `answers`, or raises what `errors` has."""
+from __future__ import annotations
+
+import json
+from typing import Any, Mapping, Optional, Sequence, Union, cast
+
+from . import answers
+from .amounts import Amount, fraction_of, written
+from .answers import Answer
+from .errors import BadInput, Fault, NoAnswer, NoMemory, Refused, Usage
+from .game import Game
+from .program import Program, find
+
+Chosen = Union[None, str, Program]
+"""A program by its name or itself; None for the one that is found."""
+
+Proposal = Union[Mapping[str, Amount], Sequence[Amount]]
+FAULTS = {5: "reading failed", 6: "writing failed", 70: "bin/coop couldn't build it"}
+USAGES = {
+    "class": "the command doesn't serve the class of the game",
+    "players": "the command doesn't serve so many players",
+    "words": "the words are no command",
+}
+
+
+def nucleolus(game: Game, program: Chosen = None) -> Union[answers.Nucleolus, answers.NoImputation]:
+    """The division that treats the worst-off groups best, where nobody gets less than alone."""
+    return cast("Union[answers.Nucleolus, answers.NoImputation]", ask("nucleolus", game, program=program))
+
+
+def prenucleolus(game: Game, program: Chosen = None) -> answers.Nucleolus:
+    """The same among all divisions of the whole."""
+    return cast(answers.Nucleolus, ask("prenucleolus", game, program=program))
+
+
+def core(game: Game, program: Chosen = None) -> Union[answers.CorePoint, answers.EmptyCore]:
+    """A division by which no group could do better, or why there is none."""
+    return cast("Union[answers.CorePoint, answers.EmptyCore]", ask("core", game, program=program))
+
+
+def shapley(game: Game, program: Chosen = None) -> answers.Shapley:
+    """What each adds, on average over all orders of joining."""
+    return cast(answers.Shapley, ask("shapley", game, program=program))
+
+
+def propose(
+    game: Game, shares: Proposal, program: Chosen = None
+) -> Union[answers.InCore, answers.Blocked, answers.NotEfficient]:
+    """Whether some group could do better by itself than by these shares."""
+    answer = ask("propose", game, shares, program=program)
+    return cast("Union[answers.InCore, answers.Blocked, answers.NotEfficient]", answer)
+
+
+def convex(game: Game, program: Chosen = None) -> Union[answers.Convex, answers.NotConvex]:
+    """Whether a player always adds no less where more have joined."""
+    return cast("Union[answers.Convex, answers.NotConvex]", ask("convex", game, program=program))
+
+
+def kernel(
+    game: Game, shares: Proposal, program: Chosen = None
+) -> Union[answers.InPrekernel, answers.NotInPrekernel, answers.NotEfficient]:
+    """Whether any two players have the same hold on each other by these shares: the prekernel."""
+    answer = ask("kernel", game, shares, program=program)
+    return cast("Union[answers.InPrekernel, answers.NotInPrekernel, answers.NotEfficient]", answer)
+
+
+def bird(game: Game, program: Chosen = None) -> answers.Bird:
+    """The cheapest network, and who pays which link."""
+    return cast(answers.Bird, ask("bird", game, program=program))
+
+
+def matching(game: Game, program: Chosen = None) -> answers.Matching:
+    """Who trades with whom, and both ends of the core."""
+    return cast(answers.Matching, ask("matching", game, program=program))
+
+
+def check(line: Union[str, bytes, answers.Nucleolus], program: Chosen = None) -> Union[answers.Yes, answers.No]:
+    """Whether the certificate of a line shows that its shares are the nucleolus, or the prenucleolus, of its game."""
+    if isinstance(line, answers.Nucleolus):
+        document, game = line.line.encode(), line.game
+    else:
+        document = line if isinstance(line, bytes) else line.encode()
+        game = game_of(document)
+    return cast("Union[answers.Yes, answers.No]", answered("check", document, game, program))
+
+
+def game_of(document: bytes) -> Game:
+    """The game of a document; of one that is no document a game of nobody's, which the program refuses to answer."""
+    try:
+        return Game(json.loads(document)["game"])
+    except (ValueError, KeyError, TypeError, RecursionError, BadInput):
+        return Game({"class": "airport", "costs": [0]})
+
+
+def ask(command: str, game: Game, shares: Optional[Proposal] = None, program: Chosen = None) -> Answer:
+    """What a command answers to a game, and to shares of it."""
+    return answered(command, document_of(game, shares), game, program)
+
+
+def document_of(game: Game, shares: Optional[Proposal] = None) -> bytes:
+    """The bytes of the document of a game, and of shares of it."""
+    return game.document() if shares is None else game.document(shares=items_of(game, shares))
+
+
+def items_of(game: Game, shares: Proposal) -> list[Any]:
+    """Shares by names, or in the players' order, as a document has them."""
+    if isinstance(shares, Mapping):
+        if set(shares) != set(game.names):
+            raise BadInput(f"shares by names are for {', '.join(game.names)}, each once")
+        shares = [shares[name] for name in game.names]
+    return [written(fraction_of(share) * game.factor) for share in shares]
+
+
+def answered(command: str, document: bytes, game: Game, program: Chosen) -> Answer:
+    """One run of the program, and its answer."""
+    status, data = find(program).run([command], document)
+    line = data.decode("utf-8", "replace").rstrip("\n")
+    if status not in (0, 1):
+        raise fault_of(command, status, line, document)
+    try:
+        return answers.answer_of(line, status, game)
+    except (ValueError, KeyError, TypeError) as fault:
+        raise Fault(f"the program's line isn't one of coop: {line[:80]!r} ({fault})", status, line) from None
+
+
+def fault_of(command: str, status: int, line: str, document: bytes) -> NoAnswer:
+    """The exception of a status that is no answer."""
+    if status == 7:
+        return NoMemory("the program found no memory", status)
+    if status in (2, 3):
+        try:
+            tree = json.loads(line)
+            if status == 2:
+                return Usage(f"{command}: {USAGES[tree['usage']]}", status, line)
+            return refusal(line, tree["number"], tree["refused"], command, document)
+        except (ValueError, KeyError, TypeError):
+            pass
+    return Fault(f"{FAULTS.get(status, 'the program ended')} (status {status})", status, line)
+
+
+def refusal(line: str, number: int, name: str, command: str, document: bytes) -> Refused:
+    """The exception of a refused document, with the place of the slip."""
+    from .slips import slip_in
+
+    slip = slip_in(document, command)
+    where = slip if slip and slip.number == number else None
+    sentence = f"refused, {number} {name}" + (f": {where}" if where else "")
+    return Refused(sentence, line, number, name, where)

@@ -1,0 +1,114 @@
+"""What the scripts share: their words, how they end, and what they say beside their output."""
+from __future__ import annotations
+
+import argparse
+import os
+import signal
+import sys
+from typing import Any, Callable, Iterable, NoReturn, Optional, Sequence, Union
+
+from .amounts import MOST_SCALE
+from .errors import BadInput, CoopError
+from .game import Game
+from .names import visible, warning
+from .styles import MOST_PLACES, Style
+
+Output = Union[str, tuple[str, int]]
+"""What a script prints, and the status with which it ends where that isn't 0."""
+
+
+class Options(argparse.ArgumentParser):
+    """The words of a script. A slip in them is bad input, told in one line."""
+
+    def __init__(self, description: Optional[str]):
+        name = f"scripts/{os.path.basename(sys.argv[0])}"
+        plain = argparse.RawDescriptionHelpFormatter
+        super().__init__(prog=name, description=description, formatter_class=plain, allow_abbrev=False)
+
+    def error(self, message: str) -> NoReturn:
+        """Refuses the words."""
+        raise BadInput(f"{message}; {self.format_usage().strip()}")
+
+    def add_file(self, name: str = "file", text: str = "a file; without one, standard input") -> None:
+        """One file, or none for standard input."""
+        self.add_argument(name, nargs="?", default="-", metavar=name.upper(), help=text)
+
+    def add_files(self) -> None:
+        """Any number of files."""
+        self.add_argument("files", nargs="*", metavar="FILE", help="lines and documents; without one, standard input")
+
+    def add_style(self, places: Optional[int] = None) -> None:
+        """How numbers are shown."""
+        shown = "fractions" if places is None else f"{places}"
+        told = f"decimals of N places (else {shown}), thousands separated"
+        self.add_argument("--places", type=digits, metavar="N", default=places, help=told)
+        self.add_argument("--unit", default="", metavar="UNIT", help="the unit behind each number, as EUR")
+
+    def add_digits(self) -> None:
+        """To how many decimals numbers of a file are rounded."""
+        told = "round each number to N decimals (else all are exact)"
+        self.add_argument("--digits", type=digits, metavar="N", help=told)
+
+
+def digits(text: str) -> int:
+    """A number of decimals."""
+    if not text.isascii() or not text.isdigit() or int(text) > MOST_PLACES:
+        raise argparse.ArgumentTypeError(f"{text!r} isn't a number from 0 to {MOST_PLACES}")
+    return int(text)
+
+
+def style_of(chosen: Any) -> Style:
+    """The style that the words name."""
+    return Style(chosen.places, chosen.unit)
+
+
+def run(main: Callable[[Sequence[str]], Output]) -> None:
+    """Runs a script: prints what it makes of its words, or one line of what is wrong, with status 2."""
+    if hasattr(signal, "SIGPIPE"):
+        signal.signal(signal.SIGPIPE, signal.SIG_DFL)  # a reader that stops early is no fault
+    try:
+        made = main(sys.argv[1:])
+        text, status = made if isinstance(made, tuple) else (made, 0)
+        with open(1, "w", encoding="utf-8", closefd=False) as output:
+            output.write(text)
+    except (CoopError, OSError) as fault:
+        say(str(fault))
+        sys.exit(2)
+    sys.exit(status)
+
+
+def say(sentence: str) -> None:
+    """One line on standard error."""
+    print(f"{os.path.basename(sys.argv[0])}: {visible(' '.join(sentence.split()))}", file=sys.stderr)
+
+
+def warn_of(names: Sequence[str]) -> None:
+    """Says on standard error which names look alike or hide something."""
+    sentence = warning(names)
+    if sentence:
+        say(sentence)
+
+
+def add_scaled(options: Options) -> None:
+    """Whether numbers too fine for a document may be multiplied."""
+    told = "multiply all numbers by one that makes them integers, and tell it"
+    options.add_argument("--scaled", action="store_true", help=told)
+
+
+def documents_of(games: Iterable[Game], may_scale: bool) -> str:
+    """The documents of games, one a line. What they were multiplied by is told; it has to be asked for."""
+    lines, factors = [], set()
+    for game in games:
+        if game.factor > 1 and not may_scale:
+            raise BadInput(
+                f"the numbers have the common denominator {game.factor}, above {MOST_SCALE}: round them (--digits 4), "
+                "or have all multiplied by it (--scaled)"
+            )
+        warn_of(game.names)
+        factors.add(game.factor)
+        lines.append(game.document().decode() + "\n")
+    if len(factors) > 1:
+        raise BadInput("the games would be multiplied by different numbers: name a number of digits, as --digits 9")
+    for factor in factors - {1}:
+        say(f"numbers were multiplied by {factor}: divide what comes out, by scripts/shares --over {factor}")
+    return "".join(lines)

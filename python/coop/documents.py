@@ -1,0 +1,189 @@
+"""Documents and lines: how they are read, and the shares and games in them."""
+from __future__ import annotations
+
+import json
+from dataclasses import dataclass
+from fractions import Fraction
+from typing import Any, Iterable, Optional, Sequence
+
+from .errors import BadInput
+from .game import Game, numbers
+from .names import safe
+
+MOST_BYTES = 1 << 26  # of a file: some documents of the 8 MB that the program takes
+ANSWERS = {"shapley": "Shapley shares", "bird": "Bird's shares"}
+KEYS = {
+    "shapley": "Shapley shares",
+    "marginal": "marginal shares",
+    "buyers best": "best for buyers",
+    "sellers best": "best for sellers",
+}
+
+
+@dataclass(frozen=True)
+class Document:
+    """An object of a file, with the file's name."""
+
+    where: str
+    tree: dict[str, Any]
+
+
+@dataclass(frozen=True)
+class Point:
+    """Shares as they are written, under a name; for costs they are payments. `game` is that of their document."""
+
+    name: str
+    shares: list[Fraction]
+    game: Optional[Game] = None
+
+
+# ---- Reading
+
+
+def read_bytes(path: str) -> tuple[bytes, str]:
+    """The bytes of a file, or of standard input where its name is -, and the name to call it by."""
+    where = "standard input" if path == "-" else path
+    try:
+        with open(0 if path == "-" else path, "rb") as file:
+            data = file.read(MOST_BYTES + 1)
+    except OSError as fault:
+        raise BadInput(f"{where}: {fault.strerror}") from None
+    if len(data) > MOST_BYTES:
+        raise BadInput(f"{where} has more than {MOST_BYTES} bytes")
+    return data, where
+
+
+def read_text(path: str) -> tuple[str, str]:
+    """The text of a file, or of standard input, and the name to call it by."""
+    data, where = read_bytes(path)
+    try:
+        return data.decode("utf-8-sig"), where
+    except UnicodeError:
+        raise BadInput(f"{where} isn't UTF-8") from None
+
+
+def once(pairs: list[tuple[str, Any]]) -> dict[str, Any]:
+    """An object of which each key stands once."""
+    tree = dict(pairs)
+    if len(tree) < len(pairs):
+        keys = [key for key, _ in pairs]
+        twice = next(key for key in keys if keys.count(key) > 1)
+        raise BadInput(f"the key {json.dumps(twice)[:80]} stands twice in one object, of which the last would count")
+    return tree
+
+
+def parse(text: str, where: str) -> list[Any]:
+    """The JSON values of a text, one or more, one behind the other."""
+    decoder, trees, rest = json.JSONDecoder(object_pairs_hook=once), [], text.strip()
+    if not rest:
+        raise BadInput(f"{where} is empty")
+    while rest:
+        try:
+            tree, end = decoder.raw_decode(rest)
+        except BadInput as fault:
+            raise BadInput(f"{where}: {fault}") from None
+        except (ValueError, RecursionError) as fault:
+            raise BadInput(f"{where} is no JSON: {fault}") from None
+        trees.append(tree)
+        rest = rest[end:].strip()
+    return trees
+
+
+def read_documents(paths: Sequence[str]) -> list[Document]:
+    """The documents and lines of files, or of standard input."""
+    found = []
+    for path in paths or ["-"]:
+        text, where = read_text(path)
+        found += [Document(where, object_of(tree, where)) for tree in parse(text, where)]
+    return found
+
+
+def object_of(tree: Any, where: str) -> dict[str, Any]:
+    """The object that a document or a line is, and no refusal."""
+    if type(tree) is not dict:
+        raise BadInput(f"{where} is no object, as a document or a line is")
+    if "refused" in tree or "usage" in tree:
+        raise BadInput(f"{where}: the program answered {json.dumps(tree)}")
+    return tree
+
+
+# ---- Games
+
+
+def without_measure(game: Game) -> dict[str, Any]:
+    """The tree of a game but for its measure."""
+    return {key: value for key, value in game.tree.items() if key != "excess"}
+
+
+def games_in(documents: Iterable[Document]) -> list[tuple[Document, Game]]:
+    """The games of the documents. All have the same players; they may differ in their numbers and their measure."""
+    games = [(document, Game(document.tree["game"])) for document in documents if "game" in document.tree]
+    for document, game in games:
+        first = games[0]
+        if game.names != first[1].names or game.costs != first[1].costs:
+            raise BadInput(f"{document.where}: other players than those of {first[0].where}, or costs beside worths")
+    return games
+
+
+# ---- Shares
+
+
+def points_in(documents: Sequence[Document]) -> list[Point]:
+    """The shares of the documents, as they are written there. Of several games each point is named by its game too."""
+    games = games_in(documents)
+    points = []
+    for document in documents:
+        own = next((game for other, game in games if other is document), None)
+        for name, shares in shares_in(document):
+            game = own or only_game(document, games)
+            points.append((document, Point(name, shares, game)))
+    if not points:
+        raise BadInput("no shares: give a line that has them, or a document with a proposal")
+    players = games[0][1].n if games else len(points[0][1].shares)
+    for _, point in points:
+        if len(point.shares) != players:
+            raise BadInput(f"{point.name}: {len(point.shares)} shares for {players} players")
+    return numbered(labelled(points))
+
+
+def shares_in(document: Document) -> Iterable[tuple[str, list[Fraction]]]:
+    """The lists of shares of one document, each with its name."""
+    if "shares" in document.tree:
+        answer = str(document.tree.get("answer", "proposal"))
+        yield safe(ANSWERS.get(answer, answer)), numbers(document.tree["shares"], f"{document.where}: shares")
+    for key, name in KEYS.items():
+        if key in document.tree:
+            yield name, numbers(document.tree[key], f"{document.where}: {key}")
+
+
+def only_game(document: Document, games: list[tuple[Document, Game]]) -> Optional[Game]:
+    """The game of a document without one: that of all the others."""
+    if any(without_measure(game) != without_measure(games[0][1]) for _, game in games):
+        raise BadInput(f"{document.where} has shares and no game, and the others have several games")
+    return games[0][1] if games else None
+
+
+def labelled(points: list[tuple[Document, Point]]) -> list[Point]:
+    """The points; where games differ, with the measure and the file behind the name."""
+    games = [point.game for _, point in points if point.game]
+    heads = len({game.per_head for game in games}) > 1
+    several = any(without_measure(game) != without_measure(games[0]) for game in games)
+    result = []
+    for document, point in points:
+        name, game = point.name, point.game
+        if heads and game and game.per_head and name in ("nucleolus", "prenucleolus"):
+            name += " per head"
+        if several:
+            name += f", {safe(document.where)}"
+        result.append(Point(name, point.shares, game))
+    return result
+
+
+def numbered(points: list[Point]) -> list[Point]:
+    """The points; of several with one name each gets a number behind it."""
+    names, result = [point.name for point in points], []
+    for k, point in enumerate(points):
+        several = names.count(point.name) > 1
+        name = f"{point.name} {names[:k + 1].count(point.name)}" if several else point.name
+        result.append(Point(name, point.shares, point.game))
+    return result

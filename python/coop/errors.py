@@ -1,0 +1,55 @@
+"""What can go wrong, as exceptions."""
+from __future__ import annotations
+
+from typing import TYPE_CHECKING, Optional
+
+if TYPE_CHECKING:
+    from .slips import Slip
+
+
+class CoopError(Exception):
+    """The base of all exceptions of this package."""
+
+
+class BadInput(CoopError):
+    """What was given is no game, no document, no line or no number; the text says what is wrong with it."""
+
+
+class NotFound(CoopError):
+    """No program was found."""
+
+
+class NoAnswer(CoopError):
+    """The program ended with another status than 0 or 1, so there is no answer."""
+
+    def __init__(self, sentence: str, status: int, line: str = ""):
+        super().__init__(sentence)
+        self.status = status
+        """The status with which the program ended."""
+        self.line = line
+        """What it wrote."""
+
+
+class Usage(NoAnswer):
+    """The command doesn't serve the class of the game, or so many players, or the words are no command; status 2."""
+
+
+class Refused(NoAnswer):
+    """The document is refused, by a number and a name; status 3."""
+
+    def __init__(self, sentence: str, line: str, number: int, name: str, where: Optional[Slip] = None):
+        super().__init__(sentence, 3, line)
+        self.number = number
+        """The number of the refusal."""
+        self.name = name
+        """The name of the refusal."""
+        self.where = where
+        """The place of the slip, where it was found."""
+
+
+class Fault(NoAnswer):
+    """Reading or writing failed, or the program couldn't be run; there is no whole line."""
+
+
+class NoMemory(NoAnswer):
+    """The program found no memory; status 7."""

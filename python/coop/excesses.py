@@ -1,0 +1,155 @@
+"""Excess lists of divisions, side by side: which of two treats the worst-off groups better, and who is worse off."""
+from __future__ import annotations
+
+from fractions import Fraction
+from typing import NamedTuple, Optional, Sequence
+
+from .documents import Point, without_measure
+from .errors import BadInput
+from .game import Game
+from .groups import Namer
+from .masks import members
+from .prose import filled
+from .styles import EXACT, Style
+from .tables import aligned, csv_text
+
+MOST_PLAYERS = 16
+SHOWN = 8  # of a long row of equal places, the first and the last
+
+
+class Entry(NamedTuple):
+    """A group and its excess."""
+
+    excess: Fraction
+    group: int
+
+
+def excess(game: Game, shares: Sequence[Fraction], group: int) -> Fraction:
+    """What the group is worth less what its members get, per head where the game says so; for costs what they pay less
+    what the group costs."""
+    players = members(group)
+    got = sum((shares[i] for i in players), Fraction(0))
+    plain = game.worth(group) + (got if game.costs else -got)
+    return plain / len(players) if game.per_head else plain
+
+
+def excess_list(game: Game, shares: Sequence[Fraction]) -> list[Entry]:
+    """The excesses of all groups but the empty one and that of all, from the greatest; equals in mask order."""
+    if game.n > MOST_PLAYERS:
+        raise BadInput(f"the groups of {game.n} players are too many to list: {MOST_PLAYERS} players at most")
+    entries = [Entry(excess(game, shares, group), group) for group in range(1, game.everyone)]
+    return sorted(entries, key=lambda entry: (-entry.excess, entry.group))
+
+
+def first_difference(first: Sequence[Entry], second: Sequence[Entry]) -> Optional[int]:
+    """The first place, from 0, at which two lists have different excesses."""
+    return next((place for place, (a, b) in enumerate(zip(first, second)) if a.excess != b.excess), None)
+
+
+class Comparison:
+    """Two divisions of one game."""
+
+    def __init__(self, game: Game, first: Point, second: Point, say: Style = EXACT):
+        self.game, self.points, self.say = game, (first, second), say
+        self.namer = Namer(game)
+        self.lists = excess_list(game, first.shares), excess_list(game, second.shares)
+        self.place = first_difference(*self.lists)
+        self.pays, self.pay = ("pays", "pay") if game.costs else ("gets", "get")
+
+    def better(self) -> Optional[Point]:
+        """The one whose list is less in the first place that differs."""
+        if self.place is None:
+            return None
+        a, b = (some[self.place].excess for some in self.lists)
+        return self.points[0] if a < b else self.points[1]
+
+    # ---- In words
+
+    def told(self, everything: bool = False) -> str:
+        """The lists side by side to the first difference, or whole, and what follows."""
+        faults = [sentence for point in self.points for sentence in self.faults_of(point)]
+        sentences = [filled(sentence) for sentence in [*faults, *self.verdict()]]
+        return "\n".join([self.table(everything), *sentences]) + "\n"
+
+    def faults_of(self, point: Point) -> list[str]:
+        """Why shares are no division at all, or no imputation."""
+        total = sum(point.shares, Fraction(0))
+        if total != self.game.whole():
+            whole = f"{'cost' if self.game.costs else 'are worth'} {self.say(self.game.whole())}"
+            return [f"The shares of {point.name} add to {self.say(total)}, and all together {whole}."]
+        sign = -1 if self.game.costs else 1
+        short = [i for i in range(self.game.n) if sign * point.shares[i] < sign * self.game.alone(i)]
+        if not short:
+            return []
+        than = "more than it costs" if self.game.costs else "less than it is worth"
+        share, alone = self.say(point.shares[short[0]]), self.say(self.game.alone(short[0]))
+        return [
+            f"By {point.name} {self.namer.names[short[0]]} {self.pays} {share}, {than} alone, {alone}. So the "
+            "nucleolus, which asks that nobody does worse than alone, doesn't look there; the prenucleolus does."
+        ]
+
+    def verdict(self) -> list[str]:
+        """Which of the two is better, and for whom the other is worse."""
+        better = self.better()
+        if better is None or self.place is None:
+            return ["Both have the same list of excesses."]
+        worse, own = (self.points[1], 1) if better is self.points[0] else (self.points[0], 0)
+        e, less = self.lists[own][self.place].excess, self.lists[1 - own][self.place].excess
+        group = next(entry.group for entry in self.lists[own] if excess(self.game, better.shares, entry.group) < e)
+        return [
+            f"Place {self.place + 1} is the first that differs: {self.say(less)} by {better.name}, {self.say(e)} by "
+            f"{worse.name}. The lesser is better, so {better.name} treats the worst-off groups better. "
+            f"Worse off by {worse.name}: {self.namer.group(group)}. {self.compared(group, worse, better)}"
+        ]
+
+    def compared(self, group: int, worse: Point, better: Point) -> str:
+        """What a group gets by two divisions, beside what it is worth by itself."""
+        players = members(group)
+        one, two = (self.say(sum((point.shares[i] for i in players), Fraction(0))) for point in (worse, better))
+        alone = self.say(self.game.worth(group) * (-1 if self.game.costs else 1))
+        own = "would cost" if self.game.costs else "is worth" if len(players) == 1 else "are worth"
+        if len(players) == 1:
+            return f"It {self.pays} {one} there, and {two} by {better.name}; by itself it {own} {alone}."
+        return f"They {self.pay} {one} there, and {two} by {better.name}; by themselves they {own} {alone}."
+
+    # ---- As a table
+
+    def table(self, everything: bool) -> str:
+        """The lists side by side."""
+        end = len(self.lists[0]) if everything or self.place is None else self.place + 1
+        places = list(range(end))
+        if not everything and end > 2 * SHOWN:
+            places = places[:SHOWN] + [-1] + places[-SHOWN:]
+        columns: list[list[str]] = [["place"], ["group"], [self.points[0].name], ["group"], [self.points[1].name]]
+        for place in places:
+            for column, cell in zip(columns, self.row(place)):
+                column.append(cell)
+        left = [columns[0], columns[1], columns[3]]
+        return aligned([left[0], left[1], columns[2], left[2], columns[4]], {0, 1, 3})
+
+    def row(self, place: int) -> list[str]:
+        """One place of both lists."""
+        if place < 0:
+            return ["..", "", "", "", ""]
+        cells = [str(place + 1)]
+        for some in self.lists:
+            cells += [self.namer.group(some[place].group), self.say(some[place].excess)]
+        return cells
+
+    def csv(self) -> str:
+        """Both lists, whole, as CSV."""
+        head = ["place", f"group of {self.points[0].name}", self.points[0].name]
+        head += [f"group of {self.points[1].name}", self.points[1].name]
+        return csv_text([head, *(self.row(place) for place in range(len(self.lists[0])))])
+
+
+def compare(points: Sequence[Point], say: Style = EXACT) -> Comparison:
+    """The comparison of two points of one game, by the measure of the first."""
+    if len(points) != 2:
+        raise BadInput(f"{len(points)} divisions are given, and two are compared")
+    games = [point.game for point in points if point.game]
+    if not games:
+        raise BadInput("no game: give the document beside the lines")
+    if any(without_measure(game) != without_measure(games[0]) for game in games):
+        raise BadInput("the two are divisions of different games")
+    return Comparison(games[0], points[0], points[1], say)

@@ -1,0 +1,187 @@
+"""The game of a document, and what its groups are worth. A cost is a negative worth here."""
+from __future__ import annotations
+
+import json
+import re
+from fractions import Fraction
+from typing import Any
+
+from .errors import BadInput
+from .masks import mask_of, members
+from .matching import best_matching
+
+COSTS = ("cost-table", "airport", "tree")
+TABLES = ("table", "cost-table")
+KINDS = {
+    "table": "a table of worths",
+    "cost-table": "a table of costs",
+    "airport": "an airport",
+    "bankruptcy": "an estate",
+    "tree": "a network",
+    "assignment": "a market",
+    "market": "a market",
+    "voting": "a vote",
+}
+LISTS = {"airport": "costs", "bankruptcy": "claims", "voting": "weights"}
+SINGLE = {"bankruptcy": "estate", "voting": "quota"}
+MOST_IN_A_TABLE = 16
+FRACTION = re.compile("-?[0-9]{1,39}(/0*[1-9][0-9]{0,38})?")
+
+
+def number(tree: Any, what: str) -> Fraction:
+    """The value of an integer or a fraction text."""
+    if type(tree) is int or type(tree) is str and FRACTION.fullmatch(tree):
+        return Fraction(tree)
+    raise BadInput(f'{what}: {json.dumps(tree)[:40]} is no integer, nor, with "version":2, a fraction text')
+
+
+def array(tree: Any, what: str) -> list[Any]:
+    """The items of an array."""
+    if type(tree) is not list:
+        raise BadInput(f"{what} isn't an array")
+    return tree
+
+
+def numbers(tree: Any, what: str) -> list[Fraction]:
+    """The values of an array of numbers."""
+    return [number(item, what) for item in array(tree, what)]
+
+
+class Game:
+    """The game of a document. `amounts` has its numbers, all worths or costs of a table by their masks; `rows` has its
+    matrix, and `single` its estate or quota. `factor` says how many times the game's own numbers those of the document
+    are: 1, but where a document couldn't take these."""
+
+    kind: str
+    n: int
+    names: list[str]
+    amounts: list[Fraction]
+    rows: list[list[Fraction]]
+    single: Fraction
+
+    def __init__(self, tree: Any, factor: int = 1):
+        if type(tree) is not dict:
+            raise BadInput("the game isn't an object")
+        kind = tree.get("class")
+        if type(kind) is not str or kind not in KINDS:
+            raise BadInput(f"the class of the game is none of {', '.join(KINDS)}")
+        self.tree: dict[str, Any] = tree
+        self.kind, self.factor = kind, factor
+        self.costs, self.per_head = kind in COSTS, tree.get("excess") == "per-head"
+        self.is_table = kind in TABLES
+        self.n = self.count_players(tree)
+        self.everyone = 2**self.n - 1
+        self.named = "names" in tree
+        self.names = self.read_names(tree)
+        if self.is_table:
+            self.amounts = self.read_table(tree)
+
+    def count_players(self, tree: dict[str, Any]) -> int:
+        """The number of players, with the numbers of the game unless it is a table."""
+        if self.is_table:
+            n = tree.get("players")
+        elif self.kind in LISTS:
+            self.amounts = numbers(self.value(tree, LISTS[self.kind]), LISTS[self.kind])
+            n = len(self.amounts)
+            if self.kind in SINGLE:
+                self.single = number(self.value(tree, SINGLE[self.kind]), SINGLE[self.kind])
+        else:
+            self.rows = self.read_matrix(tree)
+            n = len(self.rows) - 1 if self.kind == "tree" else len(self.rows) + len(self.rows[0])
+        if type(n) is not int or not 1 <= n <= (MOST_IN_A_TABLE if self.is_table else 64):
+            raise BadInput("the game hasn't 1 to 64 players, or a table 1 to 16")
+        return n
+
+    def value(self, tree: dict[str, Any], key: str) -> Any:
+        """What stands at a key that the class has."""
+        if key not in tree:
+            raise BadInput(f"a game of class {self.kind} has the key {key}")
+        return tree[key]
+
+    def read_matrix(self, tree: dict[str, Any]) -> list[list[Fraction]]:
+        """The rows of the matrix."""
+        rows = [numbers(row, "a row of the matrix") for row in array(self.value(tree, "matrix"), "the matrix")]
+        widths = {len(row) for row in rows}
+        if len(widths) != 1 or widths == {0}:
+            raise BadInput("the rows of the matrix differ in length, or there is none, or it is empty")
+        if self.kind == "tree" and widths != {len(rows)}:
+            raise BadInput("the matrix of a network isn't square")
+        return rows
+
+    def read_names(self, tree: dict[str, Any]) -> list[str]:
+        """The names; where the document has none, they are the numbers from 1."""
+        names = array(tree.get("names", [str(i + 1) for i in range(self.n)]), "names")
+        if len(names) != self.n or not all(type(name) is str and name for name in names):
+            raise BadInput(f"names isn't an array of {self.n} texts")
+        if len(set(names)) != self.n:
+            raise BadInput("two names are alike")
+        return names
+
+    def read_table(self, tree: dict[str, Any]) -> list[Fraction]:
+        """The numbers of a table by masks."""
+        if "worths" in tree:
+            amounts = [Fraction(0)] + numbers(tree["worths"], "worths")
+        else:
+            amounts = [number(tree.get("default", 0), "default")] * 2**self.n
+            amounts[0] = Fraction(0)
+            for item in array(self.value(tree, "sparse"), "sparse"):
+                if type(item) is not list or len(item) != 2:
+                    raise BadInput("an item of sparse isn't a pair of a group and a number")
+                players = {self.player(member) for member in array(item[0], "a group of sparse")}
+                amounts[mask_of(players)] = number(item[1], "sparse")
+        if len(amounts) != 2**self.n:
+            raise BadInput(f"worths has {len(amounts) - 1} items, and not {2**self.n - 1}")
+        return amounts
+
+    def player(self, member: Any) -> int:
+        """The player of a number from 1, or of a name."""
+        if self.named and member in self.names:
+            return self.names.index(member)
+        if type(member) is int and 1 <= member <= self.n:
+            return member - 1
+        raise BadInput(f"{json.dumps(member)[:80]} is no player of the game")
+
+    def title(self) -> str:
+        """The title of a picture of the game."""
+        return f"{KINDS[self.kind].capitalize()}: what each {'pays' if self.costs else 'gets'}"
+
+    def whole(self) -> Fraction:
+        """What all together are worth, or cost."""
+        return self.worth(self.everyone) * (-1 if self.costs else 1)
+
+    def alone(self, i: int) -> Fraction:
+        """What a player is worth, or costs, alone."""
+        return self.worth(1 << i) * (-1 if self.costs else 1)
+
+    def worth(self, group: int) -> Fraction:
+        """What the group is worth by itself; minus its cost where the numbers are costs."""
+        if self.is_table:
+            return -self.amounts[group] if self.costs else self.amounts[group]
+        players = members(group)
+        if self.kind == "airport":
+            return -max((self.amounts[i] for i in players), default=Fraction(0))
+        if self.kind == "bankruptcy":
+            others = sum((self.amounts[i] for i in members(self.everyone - group)), Fraction(0))
+            return max(Fraction(0), self.single - others)
+        if self.kind == "voting":
+            return Fraction(sum(self.amounts[i] for i in players) >= self.single)
+        return -self.network(players) if self.kind == "tree" else self.trade(players)
+
+    def network(self, players: list[int]) -> Fraction:
+        """The least cost of a network that joins the players to the source."""
+        cost, links = Fraction(0), {i + 1: self.rows[0][i + 1] for i in players}
+        while links:
+            new = min(links, key=links.__getitem__)
+            cost += links.pop(new)
+            links = {i: min(link, self.rows[new][i]) for i, link in links.items()}
+        return cost
+
+    def trade(self, players: list[int]) -> Fraction:
+        """What buyers and sellers are worth together."""
+        buyers = len(self.rows)
+        sellers = [j - buyers for j in players if j >= buyers]
+        return best_matching([[self.rows[i][j] for j in sellers] for i in players if i < buyers])
+
+    def document(self, **others: Any) -> bytes:
+        """The bytes of a document of this game, with other keys beside it, as `shares`."""
+        return json.dumps({"game": self.tree, **others}, ensure_ascii=False, separators=(",", ":")).encode()

@@ -1,0 +1,289 @@
+"""Games from numbers: one constructor for each class of documents.
+
+Numbers are int, Fraction, Decimal or texts ("12.50", "25/2"); floats need a number of digits, to which all numbers are
+rounded. Where names are given as the keys of a mapping, players stand in its order. A game whose numbers have a common
+denominator above 65,536 is multiplied by it (`Game.factor`), and what the calls answer is divided again.
+"""
+from __future__ import annotations
+
+from fractions import Fraction
+from typing import Any, Iterable, Mapping, Optional, Sequence, Union
+
+from .amounts import Amount, factor_for, fraction_of, fractions_of, written
+from .errors import BadInput
+from .game import MOST_IN_A_TABLE, Game
+from .masks import mask_of, members
+from .vectors import in_mask_order
+
+Amounts = Union[Mapping[str, Amount], Sequence[Amount]]
+Group = Union[str, int, Iterable[Union[str, int]]]
+Table = Union[Mapping[Any, Amount], Sequence[Amount]]
+Rows = Sequence[Sequence[Amount]]
+MOST_NAME = 64  # bytes
+
+
+def table(
+    worths: Table,
+    names: Optional[Sequence[str]] = None,
+    *,
+    order: str = "mask",
+    default: Optional[Amount] = None,
+    digits: Optional[int] = None,
+    per_head: bool = False,
+) -> Game:
+    """A game by what each group is worth: a mapping from groups, or a vector in an order of `vectors.ORDERS`.
+
+    A group is a tuple or a set of names, or of numbers from 1; a name or a number alone; or a text, "Ann+Bob". The
+    empty group may stand there with 0. Each other group has to be there, unless a default is named.
+    """
+    return listed("table", worths, names, order, default, digits, per_head)
+
+
+def cost_table(
+    costs: Table,
+    names: Optional[Sequence[str]] = None,
+    *,
+    order: str = "mask",
+    default: Optional[Amount] = None,
+    digits: Optional[int] = None,
+    per_head: bool = False,
+) -> Game:
+    """A game by what each group costs, given as for `table`."""
+    return listed("cost-table", costs, names, order, default, digits, per_head)
+
+
+def airport(
+    costs: Amounts,
+    names: Optional[Sequence[str]] = None,
+    *,
+    digits: Optional[int] = None,
+    per_head: bool = False,
+) -> Game:
+    """An airport by what each landing needs alone."""
+    names, amounts = named(costs, names, digits)
+    require_none_negative(amounts)
+    return made("airport", {"costs": amounts}, names, per_head, digits)
+
+
+def landings(rows: Iterable[tuple[str, Amount, int]], *, digits: Optional[int] = None, per_head: bool = False) -> Game:
+    """An airport by airlines: a name, what a landing needs alone, and how many landings. Each landing is a player, with
+    its number behind the name."""
+    names: list[str] = []
+    costs: list[Amount] = []
+    for name, cost, count in rows:
+        if type(count) is not int or count < 1:
+            raise BadInput(f"{name}: {count!r} is no number of landings")
+        names += [f"{name} {i + 1}" for i in range(count)]
+        costs += [cost] * count
+        if len(names) > 64:
+            raise BadInput("more than 64 landings: an airport has at most 64 players")
+    return airport(costs, names, digits=digits, per_head=per_head)
+
+
+def bankruptcy(
+    estate: Amount,
+    claims: Amounts,
+    names: Optional[Sequence[str]] = None,
+    *,
+    digits: Optional[int] = None,
+    per_head: bool = False,
+) -> Game:
+    """An estate and the claims on it."""
+    names, amounts = named(claims, names, digits)
+    whole = fraction_of(estate, digits)
+    require_none_negative([whole, *amounts])
+    if sum(amounts) < whole:
+        raise BadInput(f"the claims add to {sum(amounts)}, less than the estate of {whole}: each gets its claim")
+    return made("bankruptcy", {"claims": amounts, "estate": whole}, names, per_head, digits)
+
+
+def tree(
+    matrix: Rows, names: Optional[Sequence[str]] = None, *, digits: Optional[int] = None, per_head: bool = False
+) -> Game:
+    """A network by what the link of each two points costs; row and column 0 are the source."""
+    rows = rows_of(matrix, digits)
+    if any(len(row) != len(rows) for row in rows):
+        raise BadInput("a network's matrix has as many columns as rows, the source first")
+    for i, row in enumerate(rows):
+        if row[i]:
+            raise BadInput(f"the link from point {i} to itself costs {row[i]}, and not 0")
+        for j, cost in enumerate(row):
+            if cost != rows[j][i]:
+                raise BadInput(f"the link between {i} and {j} costs {cost} one way and {rows[j][i]} the other")
+    return made("tree", {"matrix": rows}, names, per_head, digits)
+
+
+def assignment(
+    matrix: Rows, names: Optional[Sequence[str]] = None, *, digits: Optional[int] = None, per_head: bool = False
+) -> Game:
+    """A market of at most 16 players by what each buyer, a row, and each seller, a column, are worth together."""
+    return made("assignment", {"matrix": rows_of(matrix, digits)}, names, per_head, digits)
+
+
+def market(matrix: Rows, names: Optional[Sequence[str]] = None, *, digits: Optional[int] = None) -> Game:
+    """A market of at most 32 buyers and 32 sellers, which `matching` alone answers."""
+    return made("market", {"matrix": rows_of(matrix, digits)}, names, digits=digits)
+
+
+def voting(quota: int, weights: Union[Mapping[str, int], Sequence[int]], names: Optional[Sequence[str]] = None) -> Game:
+    """A vote by weights and the quota that wins."""
+    names, amounts = named(weights, names, None)
+    whole = fraction_of(quota)
+    if any(value.denominator > 1 for value in [whole, *amounts]):
+        raise BadInput("a quota and votes are integers")
+    return made("voting", {"quota": whole, "weights": amounts}, names)
+
+
+# ---- What they share
+
+
+def named(
+    amounts: Amounts, names: Optional[Sequence[str]], digits: Optional[int]
+) -> tuple[Optional[Sequence[str]], list[Fraction]]:
+    """The names and the numbers of a mapping or a list."""
+    if isinstance(amounts, Mapping):
+        if names is not None:
+            raise BadInput("names stand in the mapping already")
+        return [str(name) for name in amounts], fractions_of(amounts.values(), digits)
+    return names, fractions_of(amounts, digits)
+
+
+def require_none_negative(amounts: list[Fraction]) -> None:
+    """Refuses numbers below 0."""
+    if min(amounts, default=Fraction(0)) < 0:
+        raise BadInput(f"{min(amounts)} is below 0")
+
+
+def rows_of(matrix: Rows, digits: Optional[int]) -> list[list[Fraction]]:
+    """The rows of a matrix, none of them empty, and none of its numbers negative."""
+    rows = [fractions_of(row, digits) for row in matrix]
+    if not rows or not rows[0] or any(len(row) != len(rows[0]) for row in rows):
+        raise BadInput("the rows of a matrix have one length, and there is one at least")
+    require_none_negative([entry for row in rows for entry in row])
+    return rows
+
+
+def checked_names(names: Sequence[str]) -> list[str]:
+    """The names, each a text of 1 to 64 bytes that stands once."""
+    for name in names:
+        if not isinstance(name, str) or not 1 <= len(name.encode("utf-8", "replace")) <= MOST_NAME:
+            raise BadInput(f"{str(name)[:80]!r} is no name of 1 to {MOST_NAME} bytes")
+    if len(set(names)) < len(names):
+        raise BadInput(f"the name {next(name for name in names if list(names).count(name) > 1)!r} stands twice")
+    return list(names)
+
+
+def made(
+    kind: str,
+    parts: Mapping[str, Any],
+    names: Optional[Sequence[str]] = None,
+    per_head: bool = False,
+    digits: Optional[int] = None,
+) -> Game:
+    """The game of a class and its parts: numbers, lists of numbers, and items of `sparse`."""
+    amounts = list(numbers_in(parts))
+    factor = factor_for(amounts, digits)
+    tree: dict[str, Any] = {"class": kind}
+    if names is not None:
+        tree["names"] = checked_names(names)
+    if per_head:
+        tree["excess"] = "per-head"
+    tree.update((key, as_json(part, factor)) for key, part in parts.items())
+    if any((amount * factor).denominator > 1 for amount in amounts):
+        tree["version"] = 2
+    return Game(tree, factor)
+
+
+def numbers_in(part: Any) -> Iterable[Fraction]:
+    """All numbers of a part, at whatever depth."""
+    if isinstance(part, Fraction):
+        yield part
+    elif isinstance(part, (list, tuple, Mapping)):
+        for item in part.values() if isinstance(part, Mapping) else part:
+            yield from numbers_in(item)
+
+
+def as_json(part: Any, factor: int) -> Any:
+    """A part with its numbers as a document has them."""
+    if isinstance(part, Fraction):
+        return written(part * factor)
+    return [as_json(item, factor) for item in part] if isinstance(part, (list, tuple)) else part
+
+
+# ---- Tables
+
+
+def listed(
+    kind: str,
+    amounts: Table,
+    names: Optional[Sequence[str]],
+    order: str,
+    default: Optional[Amount],
+    digits: Optional[int],
+    per_head: bool,
+) -> Game:
+    """A table from a mapping or a vector."""
+    if not isinstance(amounts, Mapping):
+        if default is not None:
+            raise BadInput("a vector has no default")
+        vector = in_mask_order(fractions_of(amounts, digits), order)
+        players = len(vector).bit_length()
+        if names is not None and len(names) != players:
+            raise BadInput(f"{len(names)} names for {players} players")
+        return made(kind, {"players": players, "worths": vector}, names, per_head, digits)
+    if order != "mask":
+        raise BadInput("only a vector has an order")
+    groups = [(members_of(group), fraction_of(amount, digits)) for group, amount in amounts.items()]
+    empty = [amount for group, amount in groups if not group]
+    if any(empty):
+        raise BadInput("the empty group isn't worth 0")
+    rest = None if default is None else fraction_of(default, digits)
+    return by_groups(kind, [item for item in groups if item[0]], names, rest, per_head, digits)
+
+
+def members_of(group: Any) -> list[Union[str, int]]:
+    """The members of a group as it is written."""
+    if isinstance(group, str):
+        return [member.strip() for member in group.split("+")] if group else []
+    if isinstance(group, int):
+        return [group]
+    return list(group)
+
+
+def by_groups(
+    kind: str,
+    groups: Sequence[tuple[list[Any], Fraction]],
+    names: Optional[Sequence[str]],
+    default: Optional[Fraction],
+    per_head: bool,
+    digits: Optional[int],
+) -> Game:
+    """A table from groups and their numbers."""
+    everyone = list(dict.fromkeys(member for group, _ in groups for member in group))
+    numbered = names is None and all(type(member) is int for member in everyone)
+    players: list[Any] = list(range(1, max(everyone, default=0) + 1)) if numbered else list(names or map(str, everyone))
+    if not 1 <= len(players) <= MOST_IN_A_TABLE:
+        raise BadInput(f"{len(players)} players: a table has 1 to {MOST_IN_A_TABLE}")
+    found: dict[int, Fraction] = {}
+    for group, amount in groups:
+        mask = mask_of(player_of(member, players) for member in group)
+        if mask in found:
+            raise BadInput(f"the group {'+'.join(map(str, group))} stands twice")
+        if len(members(mask)) < len(group):
+            raise BadInput(f"a member of {'+'.join(map(str, group))} stands twice")
+        found[mask] = amount
+    missing = [mask for mask in range(1, 2 ** len(players)) if mask not in found]
+    if missing and default is None:
+        first = "+".join(str(players[i]) for i in members(missing[0]))
+        raise BadInput(f"the group {first} is missing" + f", and {len(missing) - 1} more" * (len(missing) > 1))
+    vector = [found.get(mask, default or Fraction(0)) for mask in range(1, 2 ** len(players))]
+    return made(kind, {"players": len(players), "worths": vector}, None if numbered else players, per_head, digits)
+
+
+def player_of(member: Any, players: Sequence[Any]) -> int:
+    """The place of a member among the players, by its name or by its number from 1."""
+    if member in players:
+        return players.index(member)
+    if type(member) is int and 1 <= member <= len(players):
+        return member - 1
+    raise BadInput(f"{member!r} is no player")

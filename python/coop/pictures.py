@@ -1,0 +1,27 @@
+"""Shares as a picture: the triangle of three players, or bars."""
+from __future__ import annotations
+
+from typing import Optional, Sequence
+
+from .bars import bars
+from .documents import Point, without_measure
+from .errors import BadInput
+from .game import Game
+from .styles import EXACT, Style
+from .triangle import triangle
+
+
+def game_of(points: Sequence[Point]) -> Game:
+    """The game whose marks a picture has: the first one of the points."""
+    game: Optional[Game] = next((point.game for point in points if point.game), None)
+    if game is None:
+        raise BadInput("no game: give the document beside the line")
+    return game
+
+
+def picture(points: Sequence[Point], *, wants_bars: bool = False, title: str = "", style: Style = EXACT) -> str:
+    """The picture of some points, as an SVG. Of several games the marks are those of the first, and there are bars."""
+    game = game_of(points)
+    one = all(point.game is None or without_measure(point.game) == without_measure(game) for point in points)
+    draw = triangle if game.n == 3 and one and not wants_bars else bars
+    return draw(game, points, title, style)

@@ -1,0 +1,166 @@
+"""The program: where it is found, and one run of it.
+
+A program is anything with `run`: words and the bytes of a document to a status and the bytes of the line. Here are
+two, a command of the system and the C library. The first that is found is taken, in this order: what is named as an
+argument; the environment's `COOP`, a command; its `COOP_LIBRARY`, the C library; `coop` on the path; and in the
+repository in which this package stands the built program, then `node page/coop.mjs`, then `bin/coop`, which builds
+it where the kit is.
+"""
+from __future__ import annotations
+
+import os
+from typing import Any, Optional, Protocol, Sequence, Union
+
+from .errors import BadInput, Fault, NotFound
+
+TOP = os.path.dirname(os.path.dirname(os.path.dirname(os.path.abspath(__file__))))
+BUILT = (
+    os.path.join(TOP, "crates", "coop_program", "out", "coop_program"),
+    os.path.join(TOP, "crates", "coop", "out", "coop"),
+)
+"""Where a repository has the built program, the newest layout first."""
+
+NO_ROOM = 6
+GROWTH, FIRST_ROOM, MOST_ROOM = 8, 1 << 16, 1 << 28
+
+
+class Program(Protocol):
+    """What answers words and a document."""
+
+    def run(self, words: Sequence[str], document: bytes) -> tuple[int, bytes]:
+        """The status and the line."""
+
+
+class Command:
+    """A command of the system: a program and its first words."""
+
+    def __init__(self, command: Sequence[str]):
+        self.command = list(command)
+
+    def run(self, words: Sequence[str], document: bytes) -> tuple[int, bytes]:
+        """Runs it in a process of its own."""
+        try:
+            return spawned([*self.command, *words], document)
+        except OSError as fault:
+            raise Fault(f"{self.command[0]} doesn't run: {fault.strerror}", -1) from None
+
+
+def spawned(words: list[str], document: bytes) -> tuple[int, bytes]:
+    """One process. The document is a file in memory, so neither end waits for the other."""
+    if not hasattr(os, "memfd_create") or not hasattr(os, "posix_spawnp"):
+        return run_elsewhere(words, document)
+    source = os.memfd_create("document")
+    reading, writing = os.pipe()
+    try:
+        with open(source, "wb", closefd=False) as file:
+            file.write(document)
+        os.lseek(source, 0, os.SEEK_SET)
+        actions = [(os.POSIX_SPAWN_DUP2, source, 0), (os.POSIX_SPAWN_DUP2, writing, 1)]
+        process = os.posix_spawnp(words[0], words, os.environ, file_actions=actions)
+    except BaseException:
+        os.close(reading)
+        raise
+    finally:
+        os.close(source)
+        os.close(writing)
+    with open(reading, "rb") as output:
+        line = output.read()
+    return os.waitstatus_to_exitcode(os.waitpid(process, 0)[1]), line
+
+
+def run_elsewhere(words: list[str], document: bytes) -> tuple[int, bytes]:
+    """The same on a system without files in memory."""
+    import subprocess
+
+    done = subprocess.run(words, input=document, stdout=subprocess.PIPE)
+    return done.returncode, done.stdout
+
+
+class Library:
+    """The C library, which answers within this process: see c/coop.h."""
+
+    def __init__(self, path: str):
+        import ctypes
+
+        self.ctypes: Any = ctypes
+        try:
+            self.call: Any = ctypes.CDLL(path).coop_run
+        except (OSError, AttributeError) as fault:
+            raise NotFound(f"{path} is no library of coop: {fault}") from None
+        text, size = ctypes.c_char_p, ctypes.c_size_t
+        self.call.restype = ctypes.c_uint32
+        self.call.argtypes = [text, size, text, size, text, size, ctypes.POINTER(size)]
+
+    def run(self, words: Sequence[str], document: bytes) -> tuple[int, bytes]:
+        """One call. Where the line has no room, another with more."""
+        typed, room = b"\0".join(word.encode() for word in words), max(FIRST_ROOM, GROWTH * len(document))
+        while True:
+            line, count = self.ctypes.create_string_buffer(room), self.ctypes.c_size_t()
+            status = self.call(typed, len(typed), document, len(document), line, room, self.ctypes.byref(count))
+            if status != NO_ROOM or room >= MOST_ROOM:
+                return int(status), bytes(line.raw[: count.value])
+            room *= GROWTH
+
+
+# ---- Finding it
+
+_found: Optional[Program] = None
+
+
+def find(program: Union[None, str, Program] = None) -> Program:
+    """The program: the one that is named, or the first that is found, which is kept."""
+    global _found
+    if program is not None:
+        return named(program) if isinstance(program, str) else program
+    if _found is None:
+        _found = found()
+    return _found
+
+
+def named(text: str) -> Program:
+    """The program of a text: a file, a library, or words of a command."""
+    if text.endswith((".so", ".dylib")):
+        return Library(text)
+    if os.path.exists(text) or " " not in text.strip():
+        return Command([text])
+    import shlex
+
+    try:
+        return Command(shlex.split(text))
+    except ValueError as fault:
+        raise BadInput(f"{text!r} is no command: {fault}") from None
+
+
+def built() -> Optional[str]:
+    """The built program of the repository, where it is there."""
+    return next((path for path in BUILT if os.access(path, os.X_OK)), None)
+
+
+def found() -> Program:
+    """The first program that the environment, the path or the repository has."""
+    if os.environ.get("COOP"):
+        return named(os.environ["COOP"])
+    if os.environ.get("COOP_LIBRARY"):
+        return Library(os.environ["COOP_LIBRARY"])
+    on_path = which("coop")
+    if on_path:
+        return Command([on_path])
+    path = built()
+    if path:
+        return Command([path])
+    page, builder = os.path.join(TOP, "page", "coop.mjs"), os.path.join(TOP, "bin", "coop")
+    node = which("node")
+    if node and os.path.exists(page):
+        return Command([node, page])
+    if which("rt") and os.access(builder, os.X_OK):
+        return Command([builder])
+    raise NotFound("there is no program coop: name it, set COOP to it, put it on the path, or build it by bin/coop")
+
+
+def which(name: str) -> Optional[str]:
+    """The program of this name on the path."""
+    for folder in os.environ.get("PATH", os.defpath).split(os.pathsep):
+        path = os.path.join(folder or ".", name)
+        if os.path.isfile(path) and os.access(path, os.X_OK):
+            return path
+    return None

@@ -1,0 +1,89 @@
+"""Any line in sentences: an answer, a failed certificate, a refusal with its place."""
+from __future__ import annotations
+
+import json
+from typing import Any, Optional
+
+from . import checking
+from .certificates import Explainer
+from .documents import once
+from .errors import BadInput
+from .failures import failure
+from .game import Game, numbers
+from .prose import filled
+from .sentences import Teller
+from .slips import NAMES, NEEDS, slip_in
+from .styles import EXACT, Style
+
+CHECKED = ("nucleolus", "prenucleolus")
+
+
+def reasons(
+    line: bytes, document: Optional[bytes] = None, say: Style = EXACT, where: str = "the line"
+) -> tuple[str, int]:
+    """The sentences of a line, and 1 where they tell that a certificate fails, else 0. The document that was asked
+    about gives names and numbers where the line has no game; and where it was refused, the place of the slip."""
+    tree = read(line, where)
+    if "refused" in tree:
+        return refusal(tree, document) + "\n", 0
+    if tree.get("answer") in CHECKED:
+        return certificate(line, tree, say)
+    beside = read(document, "the document") if document is not None else tree
+    if tree.get("answer") == "no":
+        return failure(tree, beside if beside is not tree else None, say) + "\n", 0
+    game = Game(beside["game"]) if "game" in beside else None
+    shares = numbers(beside["shares"], "shares") if beside is not tree and "shares" in beside else None
+    if game and shares is not None and len(shares) != game.n:
+        raise BadInput(f"{len(shares)} shares for {game.n} players")
+    return Teller(game, shares, say).told(tree) + "\n", 0
+
+
+def read(data: bytes, where: str) -> dict[str, Any]:
+    """The object of some bytes, in which each key stands once."""
+    try:
+        tree = json.loads(data.decode("utf-8-sig"), object_pairs_hook=once)
+    except BadInput as fault:
+        raise BadInput(f"{where}: {fault}") from None
+    except (ValueError, RecursionError) as fault:
+        raise BadInput(f"{where} is no JSON: {fault}") from None
+    if type(tree) is not dict:
+        raise BadInput(f"{where} is no object, as a document or a line is")
+    return tree
+
+
+def checked(line: bytes, where: str) -> dict[str, Any]:
+    """The document of a line whose certificate holds."""
+    tree = read(line, where)
+    if "refused" in tree or "usage" in tree:
+        raise BadInput(f"{where}: the program answered {json.dumps(tree)}")
+    if tree.get("answer") not in CHECKED or "certificate" not in tree:
+        raise BadInput(f"{where} is no line of nucleolus or prenucleolus, with its certificate")
+    verdict = checking.verdict(line)
+    if verdict["answer"] == "no":
+        raise BadInput(f"the certificate fails: {' '.join(failure(verdict, tree).split())}")
+    return tree
+
+
+def certificate(line: bytes, tree: dict[str, Any], say: Style) -> tuple[str, int]:
+    """A certificate, once it was checked; or the condition that it fails."""
+    if "certificate" not in tree:
+        raise BadInput("the line has no certificate to explain")
+    verdict = checking.verdict(line)
+    if verdict["answer"] == "no":
+        return failure(verdict, tree, say) + "\n", 1
+    return "\n\n".join(Explainer(tree, say).paragraphs()) + "\n", 0
+
+
+def refusal(tree: dict[str, Any], document: Optional[bytes]) -> str:
+    """Why a document is refused, and where."""
+    number = tree.get("number")
+    if number not in NAMES:
+        raise BadInput("this is no refusal of the program")
+    if document is None:
+        advice = "Give the document beside the line, and its slip is told."
+        return filled(f"The document is refused: {number} {NAMES[number]}. {advice}")
+    for command in ("nucleolus", *NEEDS):
+        slip = slip_in(document, command)
+        if slip and slip.number == number:
+            return filled(f"The document is refused: {number} {NAMES[number]}. {slip}.")
+    raise BadInput(f"the document isn't refused for {number} {NAMES[number]}: is it another one?")

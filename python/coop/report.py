@@ -1,0 +1,93 @@
+"""One page of HTML to print: who gets how much, the picture, the reasons, and how to check."""
+from __future__ import annotations
+
+import html
+import json
+from fractions import Fraction
+from typing import Any
+
+from .certificates import Explainer
+from .documents import Point
+from .game import KINDS, Game
+from .names import safe
+from .pictures import picture
+from .styles import Style, column
+
+STYLE = """
+body { font: 11pt/1.4 Georgia, 'Liberation Serif', 'DejaVu Serif', serif; }
+body { max-width: 46em; margin: 2em auto; padding: 0 1em; }
+h1 { font-size: 1.5em; margin-bottom: 0; }
+h2 { font-size: 1.1em; margin: 1.4em 0 0.4em; break-after: avoid; }
+table { border-collapse: collapse; }
+th, td { padding: 0.15em 0.9em; text-align: right; border-bottom: 1px solid #bbb; }
+th:first-child, td:first-child { text-align: left; padding-left: 0; }
+tr.all td { font-weight: bold; border-top: 2px solid #000; border-bottom: none; }
+svg { max-width: 100%; height: auto; break-inside: avoid; }
+p, ul { margin: 0.4em 0; }
+pre { white-space: pre-wrap; overflow-wrap: anywhere; font-size: 8pt; border: 1px solid #bbb; padding: 0.5em; }
+@media print { body { margin: 0; max-width: none; } }
+""".strip()
+CHECK = """
+<p>The line below is the whole answer: the game, the shares as exact fractions, and a certificate that shows that they
+are the {answer}. Anyone can check it, with Python alone: take <code>check-anew</code> from the project and not from
+whoever sent this page, save the line as a file, and call <code>python3 check-anew FILE</code>; it says yes or no, and
+why not. That the game in it is the one that was agreed on, <code>scripts/same-game FILE AGREED</code> says. By hand it
+goes too, by the project's page <code>docs/certificates.md</code>.</p>
+""".strip()
+
+
+def report(document: dict[str, Any], title: str, style: Style) -> str:
+    """The page of a line with a certificate, which has to be one that was checked."""
+    game = Game(document["game"])
+    point = Point(document["answer"], [Fraction(share) for share in document["shares"]], game)
+    name = title or f"{KINDS[game.kind].capitalize()}: who {'pays' if game.costs else 'gets'} how much"
+    parts = [
+        f"<h1>{text(name)}</h1>",
+        f"<p>By the {text(document['answer'])}{', excess per head' if game.per_head else ''}.</p>",
+        table(game, point, style),
+        "<h2>The picture</h2>",
+        picture([point], title=name, style=style),
+        "<h2>Why</h2>",
+        *(paragraph(part) for part in Explainer(document, style).paragraphs()),
+        "<h2>How to check</h2>",
+        CHECK.format(answer=text(document["answer"])),
+        f"<pre>{html.escape(json.dumps(document, separators=(',', ':')))}</pre>",
+    ]
+    head = f'<meta charset="utf-8"><title>{text(name)}</title>\n<style>\n{STYLE}\n</style>'
+    body = "\n".join(parts)
+    return f'<!DOCTYPE html>\n<html lang="en">\n<head>{head}</head>\n<body>\n{body}\n</body>\n</html>\n'
+
+
+def text(words: str) -> str:
+    """A text as HTML may have it."""
+    return html.escape(safe(words))
+
+
+def table(game: Game, point: Point, style: Style) -> str:
+    """Who gets how much: decimals that add to the rounded sum, and the exact fractions."""
+    numbers = column(point.shares, Style(2 if style.places is None else style.places))
+    amount = f"{'pays' if game.costs else 'gets'}" + (f", {text(style.unit)}" if style.unit else "")
+    alone = "would cost alone" if game.costs else "is worth alone"
+    rows = [f"<tr><th></th><th>{amount}</th><th>exactly</th><th>{alone}</th></tr>"]
+    for i, name in enumerate(game.names):
+        cells = text(name), numbers[i], str(point.shares[i]), style(game.alone(i))
+        rows.append("<tr>" + "".join(f"<td>{cell}</td>" for cell in cells) + "</tr>")
+    total = str(sum(point.shares, Fraction(0)))
+    rows.append(f'<tr class="all"><td>together</td><td>{numbers[-1]}</td><td>{total}</td><td></td></tr>')
+    note = "<p>Decimals are rounded so that they add up.</p>"
+    return "<table>\n" + "\n".join(rows) + f"\n</table>\n{note}"
+
+
+def paragraph(words: str) -> str:
+    """A paragraph of sentences, with a list where it has items."""
+    lines = words.split("\n  - ")
+    first, *items = (html.escape(" ".join(line.split())) for line in lines)
+    if not items:
+        return f"<p>{first}</p>"
+    last, _, rest = lines[-1].partition("\n")
+    while rest.startswith("    "):
+        more, _, rest = rest.partition("\n")
+        last += " " + more.strip()
+    items[-1] = html.escape(" ".join(last.split()))
+    behind = f"<p>{html.escape(' '.join(rest.split()))}</p>" if rest else ""
+    return f"<p>{first}</p>\n<ul>\n" + "\n".join(f"<li>{item}</li>" for item in items) + f"\n</ul>{behind}"

@@ -1,0 +1,158 @@
+"""The rules that give the nucleolus of an airport and of an estate, told with the numbers of a game.
+
+A rule is worked out anew. It is told only where its shares are those of the document.
+"""
+from __future__ import annotations
+
+from fractions import Fraction
+from typing import Optional, Sequence
+
+from .game import Game
+from .groups import Namer
+from .styles import EXACT, Style
+
+LITTLECHILD = (
+    "The rule (Littlechild). The players come in the order of their costs. At each step the cost of a runway for them, "
+    "above what those before pay, is split into equal parts: one for each who pays now, and one that is saved. Those "
+    "pay now for whom this part is least."
+)
+
+
+def rule_of(game: Game, shares: Sequence[Fraction], namer: Namer, say: Style = EXACT) -> list[str]:
+    """The sentences of the rule: the first, and an item for each step. None where the class has no rule."""
+    if game.per_head:
+        return []
+    if game.kind == "airport":
+        return airport_rule(game, shares, namer, say)
+    return estate_rule(game, shares, namer, say) if game.kind == "bankruptcy" else []
+
+
+# ---- An airport
+
+
+def airport_steps(costs: Sequence[Fraction]) -> list[tuple[list[int], Fraction]]:
+    """Littlechild's steps: who pays in each, in the order of their costs, and what each of these pays."""
+    order = sorted(range(len(costs)), key=lambda i: costs[i])
+    steps, done, paid = [], 0, Fraction(0)
+    while done < len(order):
+        ends = range(done + 1, len(order) + 1)
+        shares = {end: (costs[order[end - 1]] - paid) / parts(done, end, len(order)) for end in ends}
+        part = min(shares.values())
+        end = max(end for end in ends if shares[end] == part)
+        steps.append((order[done:end], part))
+        done, paid = end, paid + part * (end - done)
+    return steps
+
+
+def parts(done: int, end: int, players: int) -> int:
+    """How many parts there are for those from `done` to `end`; the last step saves nothing."""
+    return end - done + (end < players)
+
+
+def airport_rule(game: Game, shares: Sequence[Fraction], namer: Namer, say: Style) -> list[str]:
+    """Littlechild's scheme."""
+    teller, items = AirportTeller(game, namer, say), []
+    for who, part in airport_steps(game.amounts):
+        if any(shares[i] != part for i in who):
+            return []
+        items.append(teller.step(who, part))
+    return [LITTLECHILD] + items
+
+
+class AirportTeller:
+    """Tells step by step: how many have paid, what they paid together, and what each of the last step paid."""
+
+    def __init__(self, game: Game, namer: Namer, say: Style):
+        self.game, self.namer, self.say = game, namer, say
+        self.done, self.paid = 0, Fraction(0)
+        self.before: Optional[Fraction] = None
+
+    def step(self, who: list[int], part: Fraction) -> str:
+        """The sentence of a step, which is done then."""
+        say, done, end, several = self.say, self.done, self.done + len(who), len(who) > 1
+        text = f"{self.namer.players(who)} {'pay' if several else 'pays'} {say(part)}" + " each" * several
+        if self.before is not None and part > self.before:
+            text += f" ({say(part - self.before)} more)"
+        text += f": {runway(done, end, self.game.n)} {say(self.game.amounts[who[-1]])}"
+        if done:
+            left = self.game.amounts[who[-1]] - self.paid
+            text += f", {those_before(done)} {'pays' if done == 1 else 'pay'} {say(self.paid)}, "
+            text += f"and {say(left)} {'is' if left == 1 else 'are'} left"
+        self.done, self.paid, self.before = end, self.paid + part * len(who), part
+        return text + self.division(done, end) + "."
+
+    def division(self, done: int, end: int) -> str:
+        """How what is left is divided."""
+        count = parts(done, end, self.game.n)
+        if end == self.game.n:
+            return ", in equal parts" if end - done > 1 else ""
+        if count == 2:
+            return ", of which it pays one half, and the other half is saved"
+        return f", of which each of them pays one of {count} parts, and the last part is saved"
+
+
+def runway(done: int, end: int, players: int) -> str:
+    """Which runway a step pays for."""
+    if end == 1:
+        return "its own runway costs"
+    if end == players:
+        return "the runway that serves all costs"
+    if done == 0:
+        return f"a runway for these {end} costs"
+    if end == 2:
+        return "a runway for both costs"
+    return f"a runway for {'it' if end - done == 1 else 'them'} and {those_before(done)} costs"
+
+
+def those_before(done: int) -> str:
+    """Those who have paid."""
+    return "the one before" if done == 1 else f"the {done} before"
+
+
+# ---- An estate
+
+
+def greatest_part(claims: Sequence[Fraction], amount: Fraction) -> Fraction:
+    """The t for which the halves of the claims, each cut to t, add to the amount, which is at most half of all."""
+    left, count = amount, len(claims)
+    for claim in sorted(claims):
+        if claim * count >= 2 * left:
+            return left / count
+        left, count = left - claim / 2, count - 1
+    return max(claims) / 2
+
+
+def estate_rule(game: Game, shares: Sequence[Fraction], namer: Namer, say: Style) -> list[str]:
+    """The Talmud's rule."""
+    estate = game.single
+    claims = [min(claim, estate) for claim in game.amounts]
+    total = sum(claims, Fraction(0))
+    lacking = 2 * estate > total
+    amount = total - estate if lacking else estate
+    t = greatest_part(claims, amount)
+    halves = [min(claim / 2, t) for claim in claims]
+    if list(shares) != ([claim - half for claim, half in zip(claims, halves)] if lacking else halves):
+        return []
+    verb = "loses" if lacking else "gets"
+    capped = [i for i in range(game.n) if claims[i] / 2 > t]
+    first = (
+        "The rule (the Talmud's; Aumann and Maschler). "
+        + f"A claim above the estate counts as the estate, {say(estate)}. " * (claims != game.amounts)
+        + f"The claims add to {say(total)}, half of which is {say(total / 2)}; the estate of {say(estate)} is "
+        + f"{'more' if lacking else 'no more'} than that. So each {verb} half of its claim"
+        + f", but at most {say(t)}" * bool(capped)
+        + f": together {f'the {say(amount)} that the estate lacks' if lacking else say(amount)}."
+    )
+    items = [first]
+    uncut = [i for i in range(game.n) if i not in capped]
+    for ids, what in ((uncut, f"{verb} half"), (capped, f"{verb} {say(t)}, as half of the claim is more")):
+        if ids:
+            claimants = [claimant(namer.names[i], claims[i], halves[i], lacking, say) for i in ids]
+            items.append(f"{what}: {'; '.join(claimants)}.")
+    return items
+
+
+def claimant(name: str, claim: Fraction, part: Fraction, lacking: bool, say: Style) -> str:
+    """A claimant with half of its claim, and where it loses that, with what is left."""
+    left = f", and {say(claim)} - {say(part)} = {say(claim - part)} is left" * lacking
+    return f"{name} (half of {say(claim)} is {say(claim / 2)}{left})"

@@ -1,0 +1,185 @@
+"""Where a document's slip is: the first refusal that applies, with its place and a sentence.
+
+`slip_in` reads a document as docs/formats.md says, test by test in the order of the refusals, and stops at the
+first that applies. The program's own answer has the number and the name alone.
+"""
+from __future__ import annotations
+
+import json
+import re
+from dataclasses import dataclass
+from typing import Any, Iterator, Optional
+
+from .names import visible
+
+NAMES = {
+    1: "TooLong",
+    2: "NotJson",
+    3: "Shape",
+    4: "Players",
+    5: "Number",
+    6: "Names",
+    7: "Coalition",
+    8: "Estate",
+    9: "Matrix",
+    10: "Proposal",
+    11: "TooFine",
+    12: "Certificate",
+    13: "Quota",
+}
+"""The refusals by their numbers."""
+
+MOST_BYTES, MOST_TO_CHECK, MOST_DEPTH = 2097152, 8388608, 127
+GAME, SHARES, ALL = ("game",), ("game", "shares"), ("answer", "certificate", "game", "shares")
+COMMANDS = (
+    "nucleolus",
+    "prenucleolus",
+    "propose",
+    "core",
+    "bird",
+    "check",
+    "shapley",
+    "convex",
+    "kernel",
+    "matching",
+)
+NEEDS = {"propose": SHARES, "kernel": SHARES, "check": ALL}
+"""What the document of a command needs, where that isn't the game alone."""
+
+STRING = re.compile(r'"(?:[^"\\]|\\.)*"', re.DOTALL)
+
+
+@dataclass(frozen=True)
+class Slip:
+    """A slip: the refusal's number, its place, and what is wrong there."""
+
+    number: int
+    place: str
+    sentence: str
+
+    @property
+    def name(self) -> str:
+        """The name of the refusal."""
+        return NAMES[self.number]
+
+    def __str__(self) -> str:
+        return visible(f"{self.place}: {self.sentence}")
+
+
+class Found(Exception):
+    """The first slip, on its way out."""
+
+    def __init__(self, number: int, place: str, sentence: str):
+        super().__init__(sentence)
+        self.slip = Slip(number, place, sentence)
+
+
+def need(fact: object, number: int, place: str, sentence: str) -> None:
+    """Ends with a slip where the fact doesn't hold."""
+    if not fact:
+        raise Found(number, place, sentence)
+
+
+def slip_in(data: bytes, command: str = "nucleolus") -> Optional[Slip]:
+    """The first slip for a command in the bytes of a document; None where there is none."""
+    from .refusals import refuse
+    from .shapes import require_shape
+
+    needs = NEEDS.get(command, GAME)
+    try:
+        most = MOST_TO_CHECK if command == "check" else MOST_BYTES
+        need(len(data) <= most, 1, "the document", f"it has {len(data):,} bytes, above {most:,}: leave out the blanks")
+        tree = read_json(data)
+        require_shape(tree, needs)
+        refuse(tree, needs)
+    except Found as found:
+        return found.slip
+    return None
+
+
+# ---- JSON
+
+
+def read_json(data: bytes) -> Any:
+    """The tree of a JSON text; of a key that is given twice the last value counts."""
+    need(not data.startswith(b"\xef\xbb\xbf"), 2, "line 1", "there is a byte order mark: save as UTF-8 without one")
+    try:
+        text = data.decode()
+    except UnicodeDecodeError as fault:
+        line = data.count(b"\n", 0, fault.start) + 1
+        raise Found(2, f"line {line}", "a byte there isn't UTF-8: save as UTF-8") from None
+    need(text.strip(), 2, "the document", "it is empty")
+    require_depth(text)
+    try:
+        tree = json.loads(text, parse_int=integer, parse_float=real, parse_constant=constant)
+    except json.JSONDecodeError as fault:
+        raise Found(2, f"line {fault.lineno}, column {fault.colno}", advice(fault.msg, text, fault.pos)) from None
+    except (ValueError, RecursionError) as fault:
+        raise Found(2, "the document", str(fault)) from None
+    require_whole(text)
+    return tree
+
+
+def integer(text: str) -> Any:
+    """An integer within 64 bits; any other, and -0, is a float."""
+    if text != "-0" and len(text) <= 20 and -(2**63) <= int(text) < 2**63:
+        return int(text)
+    return real(text)
+
+
+def real(text: str) -> float:
+    """A float of 64 bits."""
+    value = float(text)
+    if value in (float("inf"), float("-inf")):
+        raise ValueError(f"the number {text[:20]} is too large")
+    return value
+
+
+def constant(text: str) -> Any:
+    """What JSON has no word for."""
+    raise ValueError(f"{text} is no number")
+
+
+def advice(fault: str, text: str, place: int) -> str:
+    """What a fault of JSON means."""
+    rest = text[place : place + 1]
+    if fault == "Extra data":
+        return "there is more behind the document: one JSON object is a document"
+    if rest == "'":
+        return "a single quote: JSON has double quotes"
+    if fault.startswith(("Expecting property name", "Expecting value")) and rest in ("]", "}"):
+        return f"a comma stands in front of {rest}"
+    if rest == "/" or rest == "#":
+        return "a comment, which JSON hasn't"
+    return fault[:1].lower() + fault[1:] if rest else "the document ends there, before it is whole"
+
+
+def brackets(text: str) -> Iterator[tuple[int, str]]:
+    """The brackets outside of strings, with their places."""
+    place = 0
+    for string in STRING.finditer(text):
+        yield from ((place + at, c) for at, c in enumerate(text[place : string.start()]) if c in "[]{}")
+        place = string.end()
+    yield from ((place + at, c) for at, c in enumerate(text[place:]) if c in "[]{}")
+
+
+def require_depth(text: str) -> None:
+    """No value is nested deeper than the program reads."""
+    if text.count("[") + text.count("{") <= MOST_DEPTH:
+        return
+    depth = 0
+    for place, bracket in brackets(text):
+        depth += 1 if bracket in "[{" else -1
+        need(depth <= MOST_DEPTH, 2, f"character {place + 1}", f"it is nested deeper than {MOST_DEPTH} there")
+
+
+def require_whole(text: str) -> None:
+    """No string has half of a character."""
+    if "\\u" not in text.lower():
+        return
+    for string in STRING.finditer(text):
+        try:
+            json.loads(string[0]).encode()
+        except UnicodeEncodeError:
+            line = text.count("\n", 0, string.start()) + 1
+            raise Found(2, f"line {line}", "a text there has half of a character, as \\ud800") from None

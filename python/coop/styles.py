@@ -1,0 +1,70 @@
+"""How numbers are shown: as fractions, or as decimals with thousands separated and a unit behind."""
+from __future__ import annotations
+
+from dataclasses import dataclass
+from fractions import Fraction
+from math import floor
+from typing import Optional, Sequence
+
+MOST_PLACES = 12
+
+
+@dataclass(frozen=True)
+class Style:
+    """Fractions where no places are named; else decimals of so many places, rounded."""
+
+    places: Optional[int] = None
+    unit: str = ""
+
+    def __call__(self, value: Fraction) -> str:
+        """The number in this style."""
+        text = str(value) if self.places is None else decimal(steps_of(value, self.places), self.places)
+        return text + self.behind
+
+    @property
+    def behind(self) -> str:
+        """What stands behind each number."""
+        return f" {self.unit}" if self.unit else ""
+
+    def is_rounded(self, value: Fraction) -> bool:
+        """Whether the number shown isn't the exact one."""
+        return self.places is not None and (value * 10**self.places).denominator > 1
+
+
+EXACT = Style()
+"""Fractions, without a unit."""
+
+
+def steps_of(value: Fraction, places: int) -> int:
+    """The number in steps of the last place, halves away from 0."""
+    scale: int = 10**places
+    steps = floor(abs(value) * scale + Fraction(1, 2))
+    return -steps if value < 0 else steps
+
+
+def decimal(steps: int, places: int, separator: str = ",") -> str:
+    """So many steps of the last place as a decimal, with thousands separated."""
+    digits = str(abs(steps)).rjust(places + 1, "0")
+    whole = f"{int(digits[:len(digits) - places]):,}".replace(",", separator)
+    return "-" * (steps < 0) + whole + ("." + digits[len(digits) - places :] if places else "")
+
+
+def rounded(shares: Sequence[Fraction], places: int) -> list[int]:
+    """The shares in steps of the last place, so that they add to the rounded sum. All are rounded down first; what
+    then lacks goes to those who lost most, and among equals to the first."""
+    scale: int = 10**places
+    exact = [share * scale for share in shares]
+    steps = [floor(share) for share in exact]
+    lacking = floor(sum(exact) + Fraction(1, 2)) - sum(steps)
+    for i in sorted(range(len(steps)), key=lambda i: steps[i] - exact[i])[:lacking]:
+        steps[i] += 1
+    return steps
+
+
+def column(shares: Sequence[Fraction], style: Style) -> list[str]:
+    """The shares and their sum as texts. Decimals are rounded so that they add up."""
+    values = [*shares, sum(shares, Fraction(0))]
+    if style.places is None:
+        return [style(value) for value in values]
+    steps = rounded(shares, style.places)
+    return [decimal(step, style.places) + style.behind for step in [*steps, sum(steps)]]

@@ -1,0 +1,50 @@
+"""Games as vectors: in which order the groups' numbers stand.
+
+`mask` is the order of documents, and of MatTuGames: 1, 2, 12, 3, 13, 23, 123. `size` is that of CoopGame and of TUGlab:
+1, 2, 3, 12, 13, 23, 123. (Of these tools from memory.) Both have one number less than there are groups, so neither can
+be told from the other by its length: the order has to be named.
+"""
+from __future__ import annotations
+
+from fractions import Fraction
+from typing import Callable, Sequence
+
+from .errors import BadInput
+from .masks import by_mask, by_size
+
+ORDERS: dict[str, Callable[[int], list[int]]] = {"mask": by_mask, "size": by_size}
+"""The groups in each order, for a number of players."""
+
+MOST_PLAYERS = 16
+
+
+def players_of(length: int) -> int:
+    """How many players a vector of so many numbers has, without one for the empty group."""
+    players = (length + 1).bit_length() - 1
+    if length < 1 or 2**players - 1 != length:
+        near = ", ".join(str(2**n - 1) for n in range(2, 7))
+        raise BadInput(f"a vector has 2^n - 1 numbers ({near}, ..), or one more, 0, for the empty group; not {length}")
+    if players > MOST_PLAYERS:
+        raise BadInput(f"{players} players: a table has at most {MOST_PLAYERS}")
+    return players
+
+
+def in_mask_order(vector: Sequence[Fraction], order: str = "mask") -> list[Fraction]:
+    """The vector in mask order, without the empty group, which may stand first with 0."""
+    if order not in ORDERS:
+        raise BadInput(f"{order!r} is no order: {', '.join(ORDERS)}")
+    numbers = list(vector)
+    if len(numbers) > 1 and len(numbers) & len(numbers) - 1 == 0:
+        if numbers[0]:
+            raise BadInput(f"a vector of {len(numbers)} numbers has that of the empty group first, and it isn't 0")
+        del numbers[0]
+    groups = ORDERS[order](players_of(len(numbers)))
+    place = dict(zip(groups, numbers))
+    return [place[group] for group in range(1, len(numbers) + 1)]
+
+
+def in_order(worths: Sequence[Fraction], order: str) -> list[Fraction]:
+    """The other way: a vector in mask order, in the order that is named."""
+    if order not in ORDERS:
+        raise BadInput(f"{order!r} is no order: {', '.join(ORDERS)}")
+    return [worths[group - 1] for group in ORDERS[order](players_of(len(worths)))]

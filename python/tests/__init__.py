@@ -1,0 +1,1 @@
+"""Tests of the package, by unittest. tools/try-python runs them; those that ask the program need it to be found."""

@@ -1,0 +1,74 @@
+"""Numbers: what is taken, what is refused, and how they are shown."""
+import unittest
+from decimal import Decimal
+from fractions import Fraction
+
+from coop import BadInput
+from coop.amounts import Amount, factor_for, fraction_of, written
+from coop.styles import Style, column, decimal, rounded
+
+
+class Amounts(unittest.TestCase):
+    def test_what_is_taken(self) -> None:
+        cases: list[tuple[Amount, str]] = [
+            (3, "3"),
+            ("12.50", "25/2"),
+            (" 25/2 ", "25/2"),
+            ("-0.1", "-1/10"),
+            (Decimal("0.1"), "1/10"),
+        ]
+        for value, text in [*cases, (Fraction(6, 4), "3/2")]:
+            self.assertEqual(fraction_of(value), Fraction(text), value)
+
+    def test_a_float_needs_a_number_of_digits(self) -> None:
+        with self.assertRaisesRegex(BadInput, "0.1 is a float"):
+            fraction_of(0.1)
+        self.assertEqual(fraction_of(0.1, 1), Fraction(1, 10))
+        self.assertEqual(fraction_of(0.2875775201, 9), Fraction(287577520, 10**9))
+
+    def test_what_is_no_number(self) -> None:
+        for value in ("", "1,200.50", "1e3", "1/0", "ten", "1.", ".5", "NaN", True, None, Decimal("NaN"), float("inf")):
+            with self.assertRaises(BadInput, msg=value):
+                fraction_of(value, 3)  # type: ignore[arg-type]
+
+    def test_the_factor(self) -> None:
+        self.assertEqual(factor_for([Fraction(1, 65536)]), 1)
+        self.assertEqual(factor_for([Fraction(1, 65537), Fraction(1, 2)]), 131074)
+        self.assertEqual(factor_for([Fraction(1, 2)], 4), 1)
+        self.assertEqual(factor_for([Fraction(1, 2)], 5), 100000)
+        for values in (
+            [Fraction(2**40)],
+            [Fraction(2**39, 3), Fraction(1, 2)],
+            [Fraction(1, 2**41), Fraction(1)],
+        ):
+            with self.assertRaises(BadInput, msg=values):
+                factor_for(values)
+
+    def test_as_written(self) -> None:
+        self.assertEqual([written(Fraction(text)) for text in ("4/2", "1/2", "-3/2")], [2, "1/2", "-3/2"])
+
+
+class Shown(unittest.TestCase):
+    def test_styles(self) -> None:
+        value = Fraction(1760050, 7)
+        self.assertEqual(Style()(value), "1760050/7")
+        self.assertEqual(Style(2, "EUR")(value), "251,435.71 EUR")
+        self.assertEqual(Style(0)(-value), "-251,436")
+        self.assertEqual([Style(1)(Fraction(text)) for text in ("1/20", "-1/20", "1/25")], ["0.1", "-0.1", "0.0"])
+        self.assertTrue(Style(2).is_rounded(Fraction(1, 3)))
+        self.assertFalse(Style(2).is_rounded(Fraction(1, 4)) or Style().is_rounded(Fraction(1, 3)))
+
+    def test_decimals(self) -> None:
+        self.assertEqual(decimal(123456789, 2), "1,234,567.89")
+        self.assertEqual(decimal(-5, 3), "-0.005")
+        self.assertEqual(decimal(123456789, 2, ""), "1234567.89")
+
+    def test_rounded_shares_add_up(self) -> None:
+        thirds = [Fraction(1, 3)] * 3
+        self.assertEqual(rounded(thirds, 2), [34, 33, 33])
+        self.assertEqual(column(thirds, Style(2, "EUR")), ["0.34 EUR", "0.33 EUR", "0.33 EUR", "1.00 EUR"])
+        self.assertEqual(column(thirds, Style()), ["1/3", "1/3", "1/3", "1"])
+
+
+if __name__ == "__main__":
+    unittest.main()

@@ -1,0 +1,151 @@
+"""The calls: what each answers, and what is raised."""
+import json
+import unittest
+from fractions import Fraction
+from typing import Union
+
+import coop
+from coop import answers
+
+from .asking import Answering, needs_program
+
+AIRPORT = coop.airport({"light": 2, "medium": 4, "heavy": 6})
+TRIO = coop.table({"s": 20, "p": 30, "s+p": 80, "d": 0, "s+d": 50, "p+d": 65, "s+p+d": 120})
+MAJORITY = coop.table([0, 0, 1, 0, 1, 1, 1])
+
+
+def fractions(text: str) -> list[Fraction]:
+    """Fractions between blanks."""
+    return [Fraction(part) for part in text.split()]
+
+
+@needs_program
+class Calls(unittest.TestCase):
+    def test_nucleolus_and_check(self) -> None:
+        answer = coop.nucleolus(AIRPORT)
+        assert isinstance(answer, answers.Nucleolus)
+        self.assertEqual(answer.shares, dict(zip(["light", "medium", "heavy"], fractions("1 3/2 7/2"))))
+        self.assertEqual((answer.status, answer.rule, bool(answer)), (0, "nucleolus", True))
+        self.assertEqual(json.loads(answer.line)["certificate"], answer.certificate)
+        lines: list[Union[str, bytes, answers.Nucleolus]] = [answer, answer.line, answer.line.encode()]
+        for line in lines:
+            self.assertIsInstance(coop.check(line), answers.Yes)
+        no = coop.check(answer.line.replace('"-1"', '"-2"'))
+        assert isinstance(no, answers.No)
+        self.assertEqual((no.reason, no.level, no.coalition, bool(no)), (3, 1, ("light",), False))
+        self.assertEqual(coop.prenucleolus(AIRPORT).rule, "prenucleolus")
+        none = coop.nucleolus(coop.table([1, 2, 2]))
+        assert isinstance(none, answers.NoImputation)
+        self.assertEqual((none.singles, none.total, bool(none)), (3, 2, False))
+
+    def test_the_core(self) -> None:
+        point, empty = coop.core(AIRPORT), coop.core(MAJORITY)
+        assert isinstance(point, answers.CorePoint) and isinstance(empty, answers.EmptyCore)
+        self.assertEqual(list(point.shares.values()), fractions("1 3/2 7/2"))
+        self.assertEqual(empty.collection, ((("1", "2"), 1), (("1", "3"), 1), (("2", "3"), 1)))
+        self.assertEqual((empty.k, empty.value, empty.against), (2, 3, 2))
+
+    def test_proposals(self) -> None:
+        blocked = coop.propose(AIRPORT, {"light": 3, "heavy": 2, "medium": 1})
+        assert isinstance(blocked, answers.Blocked)
+        self.assertEqual((blocked.coalition, blocked.excess), (("light",), 1))
+        self.assertIsInstance(coop.propose(AIRPORT, ["1", "1.5", Fraction(7, 2)]), answers.InCore)
+        unequal = coop.propose(AIRPORT, [1, 2, 4])
+        assert isinstance(unequal, answers.NotEfficient)
+        self.assertEqual((unequal.sum, unequal.total), (7, 6))
+        hold = coop.kernel(TRIO, ["125/3", "325/6", "145/6"])
+        assert isinstance(hold, answers.NotInPrekernel)
+        self.assertEqual((hold.i, hold.j, hold.ij, hold.ji), ("s", "p", Fraction(-95, 6), Fraction(-40, 3)))
+        self.assertIsInstance(coop.kernel(TRIO, [40, 55, 25]), answers.InPrekernel)
+
+    def test_the_others(self) -> None:
+        self.assertEqual(list(coop.shapley(coop.voting(5, [4, 2, 1])).shares.values()), fractions("2/3 1/6 1/6"))
+        bird = coop.bird(coop.tree([[0, 10, 10], [10, 0, 1], [10, 1, 0]], ["harbour", "mill"]))
+        self.assertEqual(bird.links, (("0", "harbour", 10), ("harbour", "mill", 1)))
+        convex, other = coop.convex(TRIO), coop.convex(MAJORITY)
+        assert isinstance(convex, answers.Convex) and isinstance(other, answers.NotConvex)
+        self.assertEqual(list(convex.marginal.values()), [20, 60, 40])
+        self.assertEqual((other.coalition, other.i, other.j, other.deficit), (("1",), "2", "3", 1))
+        homes = coop.matching(coop.market([[5, 8], [7, 6], [6, 6]], ["Ann", "Ben", "Cem", "house", "flat"]))
+        self.assertEqual((homes.pairs, homes.value), ((("Ann", "flat"), ("Ben", "house")), 15))
+        self.assertEqual((homes.buyers_best["Ann"], homes.sellers_best["flat"]), (2, 8))
+
+    def test_numbers_are_over_the_factor(self) -> None:
+        game = coop.airport([0.2, 0.4, 0.6], ["light", "medium", "heavy"], digits=9)
+        self.assertEqual(game.factor, 10**9)
+        answer = coop.nucleolus(game)
+        assert isinstance(answer, answers.Nucleolus)
+        self.assertEqual(list(answer.shares.values()), fractions("1/10 3/20 7/20"))
+        self.assertIsInstance(coop.propose(game, answer.shares), answers.InCore)
+        blocked = coop.propose(game, ["0.3", "0.1", "0.2"])
+        assert isinstance(blocked, answers.Blocked)
+        self.assertEqual(blocked.excess, Fraction(1, 10))
+        self.assertEqual(sum(coop.shapley(game).shares.values()), Fraction(3, 5))
+        none = coop.nucleolus(coop.table(["0.10001", "0.2", "0.2"], digits=5))
+        assert isinstance(none, answers.NoImputation)
+        self.assertEqual((none.singles, none.total), (Fraction(30001, 100000), Fraction(1, 5)))
+
+    def test_what_is_raised(self) -> None:
+        with self.assertRaisesRegex(coop.Usage, "class of the game"):
+            coop.bird(AIRPORT)
+        with self.assertRaises(coop.Refused) as raised:
+            coop.nucleolus(coop.Game({"class": "airport", "costs": [-1]}))
+        self.assertEqual((raised.exception.number, raised.exception.name), (5, "Number"))
+        self.assertEqual(str(raised.exception), "refused, 5 Number: $.game.costs[0]: -1 is below 0")
+        with self.assertRaises(coop.Refused) as raised:
+            coop.check("{}")
+        self.assertEqual((raised.exception.status, raised.exception.number), (3, 3))
+
+    def test_many(self) -> None:
+        games = [coop.airport([2, 4, cost]) for cost in range(5, 25)]
+        games.insert(3, coop.Game({"class": "airport", "costs": [-1]}))
+        found = list(coop.many(("nucleolus", "shapley"), games, processors=3))
+        self.assertEqual(len(found), len(games))
+        for game, (nucleolus, shapley) in zip(games, found):
+            if game is games[3]:
+                self.assertTrue(isinstance(nucleolus, coop.Refused) and isinstance(shapley, coop.Refused))
+                continue
+            assert isinstance(nucleolus, answers.Nucleolus) and isinstance(shapley, answers.Shapley)
+            self.assertEqual(sum(nucleolus.shares.values()), game.whole())
+            self.assertEqual(shapley.shares, coop.shapley(game).shares)
+        self.assertEqual([len(some) for some in coop.many("core", iter(games[:2]))], [1, 1])
+
+
+class Statuses(unittest.TestCase):
+    """Each status by a program that gives just that."""
+
+    def test_what_is_asked(self) -> None:
+        program = Answering(0, '{"answer":"core"}\n')
+        coop.propose(AIRPORT, [1, "1.5", Fraction(7, 2)], program=program)
+        ((words, document),) = program.asked
+        self.assertEqual(words, ["propose"])
+        tree = {"class": "airport", "names": ["light", "medium", "heavy"], "costs": [2, 4, 6]}
+        self.assertEqual(json.loads(document), {"game": tree, "shares": [1, "3/2", "7/2"]})
+
+    def test_shares_of_others(self) -> None:
+        for shares in ({"light": 1, "medium": 2}, {"light": 1, "medium": 2, "heavy": 3, "x": 0}):
+            with self.assertRaisesRegex(coop.BadInput, "light, medium, heavy"):
+                coop.propose(AIRPORT, shares, program=Answering(0))
+
+    def test_no_answers(self) -> None:
+        cases: list[tuple[int, str, type[coop.NoAnswer], str]] = [
+            (2, '{"usage":"players"}', coop.Usage, "so many players"),
+            (3, '{"number":8,"refused":"Estate"}', coop.Refused, "8 Estate"),
+            (5, "", coop.Fault, "reading failed"),
+            (6, '{"answ', coop.Fault, "writing failed"),
+            (7, "", coop.NoMemory, "no memory"),
+            (70, "", coop.Fault, "couldn't build"),
+            (-9, "", coop.Fault, "status -9"),
+            (2, "usage: cat", coop.Fault, "status 2"),
+            (0, "no line", coop.Fault, "isn't one of coop"),
+            (0, '{"answer":"maybe"}', coop.Fault, "isn't one of coop"),
+            (0, '{"answer":"shapley"}', coop.Fault, "isn't one of coop"),
+        ]
+        for status, line, kind, sentence in cases:
+            with self.assertRaisesRegex(kind, sentence) as raised:
+                coop.shapley(AIRPORT, program=Answering(status, line))
+            self.assertEqual(raised.exception.status, status)
+
+
+if __name__ == "__main__":
+    unittest.main()

@@ -1,0 +1,102 @@
+"""Excess lists and comparisons."""
+import unittest
+from fractions import Fraction
+from itertools import product
+from typing import Sequence
+
+import coop
+from coop.documents import Point
+from coop.excesses import Comparison, compare, excess, excess_list, first_difference
+from coop.tables import csv_text, put_together, shares_csv
+from coop.styles import Style
+
+AIRPORT = coop.airport({"light": 2, "medium": 4, "heavy": 6})
+
+
+def point(name: str, text: str, game: coop.Game = AIRPORT) -> Point:
+    """A point of fractions between blanks."""
+    return Point(name, [Fraction(part) for part in text.split()], game)
+
+
+NUCLEOLUS, SHAPLEY = point("nucleolus", "1 3/2 7/2"), point("Shapley shares", "2/3 5/3 11/3")
+TOLD = """\
+place  group        nucleolus  group                      Shapley shares
+1      light alone         -1  medium and heavy together            -2/3
+
+Place 1 is the first that differs: -1 by nucleolus, -2/3 by Shapley shares. The lesser is better, so
+nucleolus treats the worst-off groups better. Worse off by Shapley shares: medium and heavy
+together. They pay 16/3 there, and 5 by nucleolus; by themselves they would cost 6.
+"""
+
+
+class Excesses(unittest.TestCase):
+    def test_by_hand(self) -> None:
+        excesses = [str(excess(AIRPORT, NUCLEOLUS.shares, group)) for group in range(1, 7)]
+        self.assertEqual(excesses, ["-1", "-5/2", "-3/2", "-5/2", "-3/2", "-1"])
+        listed = [(str(entry.excess), entry.group) for entry in excess_list(AIRPORT, NUCLEOLUS.shares)]
+        self.assertEqual(listed, [("-1", 1), ("-1", 6), ("-3/2", 3), ("-3/2", 5), ("-5/2", 2), ("-5/2", 4)])
+        per_head = coop.table([0, 0, 6, 0, 2, 2, 12], per_head=True)
+        self.assertEqual(excess(per_head, [Fraction(5), Fraction(5), Fraction(2)], 3), -2)
+
+    def test_told(self) -> None:
+        self.assertEqual(compare([NUCLEOLUS, SHAPLEY]).told(), TOLD)
+        self.assertIs(compare([SHAPLEY, NUCLEOLUS]).better(), NUCLEOLUS)
+        same = compare([NUCLEOLUS, point("proposal", "1 3/2 7/2")])
+        self.assertIsNone(same.better())
+        self.assertIn("Both have the same list", same.told())
+        self.assertEqual(compare([NUCLEOLUS, SHAPLEY]).told(True).count("\n"), 11)
+        alone = " ".join(compare([NUCLEOLUS, point("proposal", "3 1 2")]).told().split())
+        self.assertIn("By proposal light pays 3, more than it costs alone, 2.", alone)
+        self.assertIn(
+            "The shares of proposal add to 7, and all together cost 6.",
+            compare([NUCLEOLUS, point("proposal", "3 1 3")]).told(),
+        )
+
+    def test_the_better_one_is_less_in_the_order_of_lists(self) -> None:
+        """Over all pairs of divisions of 4 among three, in whole numbers, against sorted lists."""
+        game = coop.table([0, 1, 2, 0, 3, 1, 4])
+        every = [shares for shares in product(range(-1, 6), repeat=3) if sum(shares) == 4]
+        for a, b in product(every, repeat=2):
+            first, second = (Point(name, [Fraction(x) for x in shares], game) for name, shares in (("a", a), ("b", b)))
+            lists = [worst_first(game, shares) for shares in (a, b)]
+            wanted = None if lists[0] == lists[1] else first if lists[0] < lists[1] else second
+            comparison = Comparison(game, first, second)
+            self.assertIs(comparison.better(), wanted)
+            self.assertTrue(comparison.verdict())
+
+    def test_what_is_refused(self) -> None:
+        other = point("proposal", "1 2 3", coop.airport([1, 2, 6], AIRPORT.names))
+        for points, sentence in (([NUCLEOLUS], "1 divisions"), ([NUCLEOLUS, other], "different games")):
+            with self.assertRaisesRegex(coop.BadInput, sentence):
+                compare(points)
+        with self.assertRaisesRegex(coop.BadInput, "too many to list"):
+            excess_list(coop.airport([1] * 17), [Fraction(0)] * 17)
+
+    def test_first_difference(self) -> None:
+        lists = [excess_list(AIRPORT, some.shares) for some in (NUCLEOLUS, SHAPLEY)]
+        self.assertEqual((first_difference(*lists), first_difference(lists[0], lists[0])), (0, None))
+
+
+def worst_first(game: coop.Game, shares: Sequence[int]) -> list[int]:
+    """The excesses of a table of whole numbers, from the greatest."""
+    excesses = [game.amounts[s] - sum(shares[i] for i in range(3) if s >> i & 1) for s in range(1, 7)]
+    return sorted((int(e) for e in excesses), reverse=True)
+
+
+class Tables(unittest.TestCase):
+    def test_csv(self) -> None:
+        text = shares_csv(
+            ["a", "=1+1\u200b"], [point("nucleolus", "1/3 100000", coop.airport([1, 2]))], Style(2, "EUR")
+        )
+        self.assertEqual(
+            text, 'player,nucleolus,"nucleolus rounded, EUR"\na,1/3,0.33\n\'=1+1\\u200b,100000,100000.00\n'
+        )
+        self.assertEqual(csv_text([["-1/2", "-0.50", "-x", "@a"]]), "-1/2,-0.50,'-x,'@a\n")
+
+    def test_put_together(self) -> None:
+        names, points = put_together(["Aer 1", "Aer 2", "Bee"], [point("nucleolus", "1/2 1/2 3")])
+        self.assertEqual((names, points[0].shares), (["Aer", "Bee"], [1, 3]))
+
+
+if __name__ == "__main__":
+    unittest.main()

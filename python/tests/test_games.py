@@ -1,0 +1,103 @@
+"""Each constructor against documents made by hand."""
+import unittest
+from decimal import Decimal
+from fractions import Fraction
+from typing import Any, Callable
+
+import coop
+from coop import BadInput, Game
+
+HALF = Fraction(1, 2)
+
+
+class Constructors(unittest.TestCase):
+    def expect(self, game: Game, tree: dict[str, Any], factor: int = 1) -> None:
+        self.assertEqual((game.tree, game.factor), (tree, factor))
+
+    def test_tables(self) -> None:
+        vector = {"class": "table", "players": 2, "worths": [1, "1/2", 3], "version": 2}
+        self.expect(coop.table([1, HALF, 3]), vector)
+        self.expect(coop.table([0, 1, "0.5", 3]), vector)
+        self.expect(coop.table({(): 0, (1,): 1, (2,): Decimal("0.5"), (1, 2): 3}), vector)
+        self.expect(coop.table({1: 1, 2: HALF, (2, 1): 3}), vector)
+        self.expect(coop.table({(1, 2): 3}, default=0), {"class": "table", "players": 2, "worths": [0, 0, 3]})
+        named = {"class": "table", "names": ["Ann", "Bob"], "players": 2, "worths": [1, 2, 4]}
+        self.expect(coop.table({"Ann": 1, "Bob": 2, "Ann+Bob": 4}), named)
+        self.expect(coop.table({("Ann",): 1, ("Bob",): 2, frozenset(["Bob", "Ann"]): 4}), named)
+        self.expect(coop.table([1, 2, 4], ["Ann", "Bob"]), named)
+        self.expect(coop.table({1: 1, 2: 2, (1, 2): 4}, ["Ann", "Bob"]), named)
+
+    def test_costs_and_measures(self) -> None:
+        costs = {"class": "cost-table", "excess": "per-head", "players": 2, "worths": [8, 7, 11]}
+        self.expect(coop.cost_table([8, 7, 11], per_head=True), costs)
+        by_size = {"class": "cost-table", "players": 3, "worths": [1, 2, 12, 3, 13, 23, 123]}
+        self.expect(coop.cost_table([1, 2, 3, 12, 13, 23, 123], order="size"), by_size)
+
+    def test_the_other_classes(self) -> None:
+        airport = {"class": "airport", "costs": [2, 4, 6], "names": ["light", "medium", "heavy"]}
+        self.expect(coop.airport({"light": 2, "medium": 4, "heavy": 6}), airport)
+        self.expect(coop.airport([2, 4, 6], ["light", "medium", "heavy"]), airport)
+        landings = {
+            "class": "airport",
+            "names": ["Aer 1", "Aer 2", "Bee 1"],
+            "costs": ["41/2", "41/2", 40],
+            "version": 2,
+        }
+        self.expect(coop.landings([("Aer", "20.50", 2), ("Bee", 40, 1)]), landings)
+        estate = {"class": "bankruptcy", "names": ["A", "B"], "claims": [100, "201/2"], "estate": "400/3", "version": 2}
+        self.expect(coop.bankruptcy("400/3", {"A": 100, "B": "100.5"}), estate)
+        self.expect(
+            coop.tree([[0, 10, 10], [10, 0, 1], [10, 1, 0]]),
+            {"class": "tree", "matrix": [[0, 10, 10], [10, 0, 1], [10, 1, 0]]},
+        )
+        self.expect(
+            coop.assignment([[5, 8], [7, "6.5"]]),
+            {"class": "assignment", "matrix": [[5, 8], [7, "13/2"]], "version": 2},
+        )
+        self.expect(coop.market([[5]], ["a", "b"]), {"class": "market", "matrix": [[5]], "names": ["a", "b"]})
+        self.expect(
+            coop.voting(5, {"A": 4, "B": 2}), {"class": "voting", "names": ["A", "B"], "quota": 5, "weights": [4, 2]}
+        )
+
+    def test_numbers_too_fine_for_a_document(self) -> None:
+        self.expect(
+            coop.airport([0.2875775201, 1], digits=9), {"class": "airport", "costs": [287577520, 10**9]}, 10**9
+        )
+        self.expect(coop.airport(["0.287581", 1]), {"class": "airport", "costs": [287581, 10**6]}, 10**6)
+        self.expect(coop.airport([0.25, 1.0], digits=4), {"class": "airport", "costs": ["1/4", 1], "version": 2})
+
+    def test_what_is_refused(self) -> None:
+        cases: list[tuple[str, Callable[[], Game]]] = [
+            ("missing", lambda: coop.table({"Ann": 1, "Bob": 2})),
+            ("twice", lambda: coop.table({("Ann", "Bob"): 1, ("Bob", "Ann"): 2}, default=0)),
+            ("twice", lambda: coop.table({("Ann", "Ann"): 1}, default=0)),
+            ("empty group", lambda: coop.table({(): 1, "Ann": 1})),
+            ("no player", lambda: coop.table({"Ann": 1}, ["Bob"])),
+            ("2.n - 1", lambda: coop.table([1, 2, 3, 4, 5])),
+            ("isn't 0", lambda: coop.table([5, 1, 2, 4])),
+            ("no order", lambda: coop.table([1, 2, 4], order="lexical")),
+            ("names for", lambda: coop.table([1, 2, 4], ["Ann"])),
+            ("default", lambda: coop.table([1, 2, 4], default=0)),
+            ("17 players", lambda: coop.table({str(i): 1 for i in range(17)}, default=0)),
+            ("is a float", lambda: coop.airport([0.5])),
+            ("below 0", lambda: coop.airport([-1])),
+            ("stands twice", lambda: coop.airport([1, 2], ["a", "a"])),
+            ("no name", lambda: coop.airport([1, 2], ["a", "ü" * 33])),
+            ("no name", lambda: coop.airport([1, 2], ["a", ""])),
+            ("less than the estate", lambda: coop.bankruptcy(5, [1, 2])),
+            ("one way", lambda: coop.tree([[0, 1], [2, 0]])),
+            ("itself", lambda: coop.tree([[0, 1], [1, 1]])),
+            ("as many columns", lambda: coop.tree([[0, 1]])),
+            ("one length", lambda: coop.assignment([[1, 2], [3]])),
+            ("integers", lambda: coop.voting("2.5", [1, 2])),  # type: ignore[arg-type]
+            ("64 landings", lambda: coop.landings([("Aer", 1, 65)])),
+            ("number of landings", lambda: coop.landings([("Aer", 1, 0)])),
+            ("2.40", lambda: coop.airport([2**40])),
+        ]
+        for sentence, make in cases:
+            with self.assertRaisesRegex(BadInput, sentence):
+                make()
+
+
+if __name__ == "__main__":
+    unittest.main()

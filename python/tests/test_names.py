@@ -1,0 +1,42 @@
+"""Names that try to forge."""
+import unittest
+
+from coop.names import alike, looks, safe, visible, warning
+
+ZERO_WIDTH, OVERRIDE, ESCAPE = "\u200b", "\u202e", "\x1b"
+
+
+class Names(unittest.TestCase):
+    def test_escapes(self) -> None:
+        cases = {
+            "Adler  40.00\nBrandt": "Adler  40.00\\u000aBrandt",
+            f"A{ESCAPE}[2K": "A\\u001b[2K",
+            f"A{ZERO_WIDTH}B{OVERRIDE}": "A\\u200bB\\u202e",
+            "A\u3164\ufe0f\u2028": "A\\u3164\\ufe0f\\u2028",
+            "\U000e0041": "\\U000e0041",
+            "R\\D": "R\\\\D",
+            "Müller, Söhne 李 é": "Müller, Söhne 李 é",
+        }
+        for name, shown in cases.items():
+            self.assertEqual(safe(name), shown)
+        self.assertEqual(visible(f"a\\b{ZERO_WIDTH}"), "a\\b\\u200b")
+
+    def test_no_two_names_are_shown_alike(self) -> None:
+        self.assertNotEqual(safe(f"A{ZERO_WIDTH}"), safe("A\\u200b"))
+
+    def test_names_that_look_alike(self) -> None:
+        self.assertEqual(alike(["Adler", f"Adler{ZERO_WIDTH}", "Brandt"]), [["Adler", f"Adler{ZERO_WIDTH}"]])
+        for other in ("Ａdler", "Adler ", f"{OVERRIDE}Adler", "Ad\u00adler", " Adler"):
+            self.assertEqual(looks(other), "Adler", other)
+        self.assertEqual(alike(["é", "e\u0301"]), [["é", "e\u0301"]])
+        self.assertEqual(alike(["bob", "Bob", "Zoë", "Zoe"]), [])
+
+    def test_warnings(self) -> None:
+        self.assertIsNone(warning(["Adler", "Brandt", "Müller"]))
+        self.assertIn("Adler, Adler\\u200b", warning(["Adler", f"Adler{ZERO_WIDTH}"]) or "")
+        self.assertIn("escapes in A\\u000aB", warning(["A\nB", "C"]) or "")
+        self.assertIn("2 names look alike", warning(["A", "A "]) or "")
+
+
+if __name__ == "__main__":
+    unittest.main()

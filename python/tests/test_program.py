@@ -1,0 +1,90 @@
+"""Where the program is found, and how it is run."""
+import os
+import subprocess
+import sys
+import tempfile
+import unittest
+
+from coop import Fault, NotFound
+from coop.program import TOP, Command, Library, find, named, run_elsewhere, spawned
+
+PACKAGE = os.path.join(TOP, "python")
+FIND = "import coop; print(coop.find().command)"
+
+
+def executable(folder: str, name: str, text: str) -> str:
+    """A script of the shell."""
+    path = os.path.join(folder, name)
+    with open(path, "w", encoding="utf-8") as file:
+        file.write(f"#!/bin/sh\n{text}\n")
+    os.chmod(path, 0o755)
+    return path
+
+
+class Finding(unittest.TestCase):
+    def found(self, package: str, **environment: str) -> str:
+        """What a new Python finds, by an environment alone."""
+        settings = {"PYTHONPATH": package, "PATH": "/nowhere", **environment}
+        words = [sys.executable, "-B", "-c", FIND]
+        done = subprocess.run(words, env=settings, cwd="/", stdout=subprocess.PIPE, stderr=subprocess.PIPE)
+        return done.stdout.decode().strip() or done.stderr.decode().strip().split("\n")[-1]
+
+    def test_the_order(self) -> None:
+        with tempfile.TemporaryDirectory() as folder:
+            one, two = executable(folder, "coop", "exit 1"), executable(folder, "other", "exit 1")
+            self.assertEqual(self.found(PACKAGE, PATH=folder, COOP=two), str([two]))
+            self.assertEqual(self.found(PACKAGE, PATH=folder), str([one]))
+            self.assertEqual(self.found(PACKAGE, COOP=f"{two} --x 'a b'"), str([two, "--x", "a b"]))
+            self.assertEqual(self.found(PACKAGE, PATH=f"/nowhere:{folder}", COOP=""), str([one]))
+
+    def test_in_a_repository(self) -> None:
+        with tempfile.TemporaryDirectory() as top:
+            os.mkdir(os.path.join(top, "python"))
+            os.symlink(os.path.join(PACKAGE, "coop"), os.path.join(top, "python", "coop"))
+            package = os.path.join(top, "python")
+            self.assertIn("NotFound: there is no program coop", self.found(package))
+            for folder in ("page", "bin", "kit", "tools"):
+                os.mkdir(os.path.join(top, folder))
+            builder = executable(os.path.join(top, "bin"), "coop", "exit 0")
+            kit, tools = os.path.join(top, "kit"), os.path.join(top, "tools")
+            executable(kit, "rt", "exit 0")
+            self.assertIn("NotFound", self.found(package))
+            self.assertEqual(self.found(package, PATH=kit), str([builder]))
+            page = executable(os.path.join(top, "page"), "coop.mjs", "exit 0")
+            node = executable(tools, "node", "exit 0")
+            self.assertEqual(self.found(package, PATH=f"{kit}:{tools}"), str([node, page]))
+            for crate in ("coop", "coop_program"):
+                out = os.path.join(top, "crates", crate, "out")
+                os.makedirs(out)
+                built = executable(out, crate, "exit 0")
+                self.assertEqual(self.found(package, PATH=f"{kit}:{tools}"), str([built]))
+
+    def test_by_name(self) -> None:
+        self.assertEqual(named("/a/coop").command, ["/a/coop"])  # type: ignore[attr-defined]
+        self.assertEqual(named("node 'a b.mjs'").command, ["node", "a b.mjs"])  # type: ignore[attr-defined]
+        program = Command(["x"])
+        self.assertIs(find(program), program)
+        with self.assertRaises(NotFound):
+            Library("/nowhere/libcoop.so")
+
+
+class Running(unittest.TestCase):
+    def test_a_process(self) -> None:
+        with tempfile.TemporaryDirectory() as folder:
+            echo = executable(folder, "echo", 'printf "%s:" "$@"; cat; exit 3')
+            long = os.urandom(1 << 20)
+            for run in (spawned, run_elsewhere):
+                self.assertEqual(run([echo, "a", "b c"], long), (3, b"a:b c:" + long))
+                self.assertEqual(run([executable(folder, "killed", "kill -9 $$")], b""), (-9, b""))
+                self.assertEqual(run([executable(folder, "deaf", "exit 7")], long), (7, b""))
+            open_before = len(os.listdir("/proc/self/fd")) if os.path.exists("/proc/self/fd") else 0
+            for _ in range(5):
+                spawned([echo], b"x")
+                with self.assertRaises(Fault):
+                    Command(["/nowhere/coop"]).run(["core"], b"")
+            if open_before:
+                self.assertEqual(len(os.listdir("/proc/self/fd")), open_before)
+
+
+if __name__ == "__main__":
+    unittest.main()

@@ -1,0 +1,282 @@
+"""Each answer in sentences, failed conditions, and refusals with their place."""
+import json
+import unittest
+from typing import Any, Optional
+
+from coop.reasons import reasons
+from coop.styles import EXACT, Style
+from coop import BadInput
+
+AIRPORT: dict[str, Any] = {"class": "airport", "costs": [2, 4, 6], "names": ["light", "medium", "heavy"]}
+TRIO = {"class": "table", "names": ["s", "p", "d"], "players": 3, "worths": [20, 30, 80, 0, 50, 65, 120]}
+MAJORITY = {"class": "table", "players": 3, "worths": [0, 0, 1, 0, 1, 1, 1]}
+LEVELS = [
+    {"excess": "-1", "coalitions": [[[1], 1], [[2, 3], 1]], "earlier": [], "bounds": [], "total": 1},
+    {"excess": "-3/2", "coalitions": [[[1, 2], 1], [[1, 3], 1]], "earlier": [[[1], -1]], "bounds": [], "total": 1},
+]
+FOUR: dict[str, Any] = {
+    "answer": "nucleolus",
+    "certificate": {
+        "mode": "span",
+        "levels": [
+            {
+                "excess": "-2",
+                "coalitions": [[[1, 2], 1], [[1, 2, 3], 1], [[4], 1], [[3, 4], 1]],
+                "earlier": [],
+                "bounds": [],
+                "total": 2,
+            },
+            {"excess": "-5/2", "coalitions": [[[2], 1], [[1, 3], 1]], "earlier": [[[4], 1]], "bounds": [], "total": 1},
+        ],
+    },
+    "game": {
+        "class": "table",
+        "players": 4,
+        "sparse": [[[1, 2], 4], [[1, 3], 3], [[3, 4], 2], [[1, 2, 3], 6], [[1, 2, 4], 5], [[1, 2, 3, 4], 10]],
+    },
+    "shares": ["7/2", "5/2", 2, 2],
+}
+
+
+def said(line: Any, document: Any = None, say: Style = EXACT) -> tuple[str, int]:
+    """The sentences with single blanks, and the status."""
+    beside: Optional[bytes] = None if document is None else json.dumps(document).encode()
+    text, status = reasons(json.dumps(line).encode(), beside, say)
+    return " ".join(text.split()), status
+
+
+def solved(**changes: Any) -> dict[str, Any]:
+    """The airport's line, with changes."""
+    certificate = {"mode": "players", "levels": json.loads(json.dumps(LEVELS))}
+    return {
+        "answer": "nucleolus",
+        "certificate": certificate,
+        "game": AIRPORT,
+        "shares": ["1", "3/2", "7/2"],
+        **changes,
+    }
+
+
+def spoilt(level: int, **changes: Any) -> dict[str, Any]:
+    """The airport's line with changes of a level."""
+    document = solved()
+    document["certificate"]["levels"][level].update(changes)
+    return document
+
+
+BLOCKED = {"answer": "blocked", "coalition": [1], "excess": "1"}
+SENTENCES: list[tuple[Any, Any, str]] = [
+    ({"answer": "yes"}, None, "The certificate meets all conditions"),
+    ({"answer": "core"}, None, "No group could do better by itself than by these shares: they lie in the core."),
+    (
+        BLOCKED,
+        {"game": AIRPORT, "shares": [3, 1, 2]},
+        (
+            "light alone could do better without the others, by 1. It pays 3, where by itself it would cost 2. "
+            "No group could do better by more."
+        ),
+    ),
+    (BLOCKED, None, "Player 1 alone could do better without the others, by 1. No group could do better by more."),
+    (
+        {"answer": "not efficient", "sum": "-6", "total": "6"},
+        {"game": AIRPORT, "shares": [-1, -2, -3]},
+        "The shares add to -6, and all together cost 6. So they aren't a division of the whole.",
+    ),
+    (
+        {"answer": "core point", "shares": ["1", "3/2", "7/2"]},
+        {"game": AIRPORT},
+        "and no proposal. - light: 1 - medium: 3/2 - heavy: 7/2",
+    ),
+    (
+        {
+            "against": "2",
+            "answer": "empty core",
+            "collection": [[[1, 2], 1], [[1, 3], 1], [[2, 3], 1]],
+            "k": 2,
+            "value": "3",
+        },
+        {"game": MAJORITY},
+        (
+            "- player 1 and player 2 together, counted once (worth 1) - player 1 and player 3 together, counted once"
+            " (worth 1) - player 2 and player 3 together, counted once (worth 1) So counted these groups hold each"
+            " player twice, and are worth 3 by themselves. All together, counted as often, are worth 2; the groups' sum"
+            " is more. So in every division one of them has to get less than by itself."
+        ),
+    ),
+    (
+        {"answer": "shapley", "shares": ["2/3", "1/6", "1/6"]},
+        {"game": {"class": "voting", "quota": 5, "weights": [4, 2, 1]}},
+        "Each voter's power",
+    ),
+    (
+        {"answer": "shapley", "shares": ["2/3", "5/3", "11/3"]},
+        {"game": AIRPORT},
+        "What each costs more than those in front of it",
+    ),
+    (
+        {"answer": "bird", "shares": ["10", "1"], "tree": [[0, 1, 10], [1, 2, 1]]},
+        {"game": {"class": "tree", "matrix": [[0, 10, 10], [10, 0, 1], [10, 1, 0]], "names": ["harbour", "mill"]}},
+        "- the source to harbour: 10, which harbour pays - harbour to mill: 1, which mill pays",
+    ),
+    (
+        {"answer": "convex", "marginal": ["20", "60", "40"], "shapley": ["125/3", "325/6", "145/6"]},
+        {"game": TRIO},
+        "- Shapley shares. s: 125/3, p: 325/6, d: 145/6 - In the order of the players. s: 20, p: 60, d: 40",
+    ),
+    # behind player 1 the third adds 1, and behind 1 and 2 nothing
+    (
+        {"answer": "not convex", "deficit": "1", "i": 2, "j": 3, "set": [1]},
+        {"game": MAJORITY},
+        "Player 3 adds 1 less behind player 1 alone with player 2 than behind player 1 alone: 0, and 1.",
+    ),
+    ({"answer": "prekernel"}, None, "these shares lie in the prekernel"),
+    (
+        {"answer": "not prekernel", "i": 1, "ij": "-95/6", "j": 2, "ji": "-40/3"},
+        {"game": TRIO, "shares": ["125/3", "325/6", "145/6"]},
+        (
+            "p has a better hold on s. Of the groups with s and without p the greatest excess is -95/6 (s and d"
+            " together); of those with p and without s it is -40/3 (p and d together)."
+        ),
+    ),
+    (
+        {
+            "answer": "matching",
+            "buyers best": ["2", "1", "0", "6", "6"],
+            "pairs": [[1, 5], [2, 4]],
+            "sellers best": ["0", "0", "0", "7", "8"],
+            "value": "15",
+        },
+        {
+            "game": {
+                "class": "market",
+                "matrix": [[5, 8], [7, 6], [6, 6]],
+                "names": ["Ann", "Ben", "Cem", "house", "flat"],
+            }
+        },
+        "- Ann with flat, at 6 at least and 8 at most - Ben with house, at 6 at least and 7 at most",
+    ),
+    (
+        {"answer": "no imputation", "singles": "3", "total": "2"},
+        None,
+        "The players are worth 3 by themselves, added, and 2 all together.",
+    ),
+    (
+        {
+            "class": "table",
+            "common": "216",
+            "first": "1",
+            "greatest": "2",
+            "last": "3",
+            "players": 12,
+            "seed": 1,
+            "verdict": "yes",
+        },
+        None,
+        "a table of worths of 12 players from the number 1",
+    ),
+    ({"usage": "players"}, None, "The command doesn't serve so many players."),
+    (
+        {"number": 3, "refused": "Shape"},
+        {"game": {"class": "airport", "cost": [2]}},
+        (
+            "The document is refused: 3 Shape. $.game: a game of class airport lacks the key costs; is 'cost' meant for"
+            " it?."
+        ),
+    ),
+]
+
+# Each condition, by a document that fails it.
+FAILURES: list[tuple[dict[str, Any], str]] = [
+    (solved(shares=[1, 2, 4]), "by condition 1. The shares add to 7, and all together cost 6."),
+    (solved(shares=[3, 1, 2]), "by condition 2. light pays 3, and costs 2 alone."),
+    (spoilt(0, excess="-2"), "by condition 3 at level 1. The level has the excess -2, and light alone has -1."),
+    (
+        spoilt(1, coalitions=[[[1, 2], 0], [[1, 3], 1]]),
+        "by condition 4 at level 2. The weight of light and medium together is below 1.",
+    ),
+    (spoilt(0, bounds=[[2, 0]]), "by condition 4 at level 1. The weight of the bound of medium is below 1."),
+    (spoilt(1, total=2), "by condition 5 at level 2. At light the weights add to 1, and the total is 2."),
+    (
+        spoilt(0, bounds=[[1, 1], [2, 1], [3, 1]], total=2),
+        (
+            "by condition 6 at level 1. light has a bound, which only those have who get just "
+            "what they are worth alone: light pays 1, and costs 2 alone."
+        ),
+    ),
+    (
+        {**FOUR, "certificate": {**FOUR["certificate"], "mode": "players"}},
+        (
+            "by condition 7 at level 2. The level has the excess -5/2, but "
+            "player 1 and player 2 together, still open, have -2."
+        ),
+    ),
+    (
+        solved(certificate={"mode": "players", "levels": LEVELS[:1]}),
+        "by condition 8. Behind the last level the share of medium isn't settled.",
+    ),
+]
+
+
+class Reasons(unittest.TestCase):
+    def test_sentences(self) -> None:
+        for line, document, sentence in SENTENCES:
+            text, status = said(line, document)
+            self.assertIn(sentence, text)
+            self.assertEqual(status, 0)
+
+    def test_failed_conditions(self) -> None:
+        for document, sentence in FAILURES:
+            text, status = said(document)
+            self.assertIn(sentence, text)
+            self.assertEqual(status, 1)
+
+    def test_a_no_beside_its_document(self) -> None:
+        line = {"answer": "no", "coalition": [1], "level": 1, "reason": 3}
+        self.assertIn("light alone has -1", said(line, spoilt(0, excess="-2"))[0])
+        self.assertEqual(
+            said(line),
+            (
+                (
+                    "The certificate fails, by condition 3 at level 1. A group of a level hasn't the excess that "
+                    "the level says."
+                ),
+                0,
+            ),
+        )
+
+    def test_styles(self) -> None:
+        text = said(solved(), say=Style(2, "EUR"))[0]
+        self.assertIn("They pay: light: 1.00 EUR, medium: 1.50 EUR, heavy: 3.50 EUR. Together: 6.00 EUR.", text)
+        self.assertNotIn("rounded", text)
+        self.assertIn("(Numbers are rounded", said(FOUR, say=Style(0))[0])
+
+    def test_names_are_safe(self) -> None:
+        game = {**AIRPORT, "names": ["light\n\n  heavy: 0", "medium\u202e", "heavy"]}
+        for line, beside in ((solved(game=game), None), ({"answer": "shapley", "shares": [1, 2, 3]}, {"game": game})):
+            text = said(line, beside)[0]
+            self.assertIn("light\\u000a\\u000a heavy: 0", text)
+            self.assertNotIn("\u202e", text)
+
+    def test_what_is_refused(self) -> None:
+        cases: list[tuple[bytes, Optional[bytes], str]] = [
+            (b'{"answer":"yes","answer":"no"}', None, 'the key "answer" stands twice'),
+            (b'{"answer":"perhaps"}', None, "no answer of the program"),
+            (b'{"game":{"class":"airport","costs":[1]}}', None, "no answer of the program"),
+            (b'{"answer":"blocked"}', None, "no whole answer"),
+            (
+                b'{"answer":"blocked","coalition":[9],"excess":"1"}',
+                json.dumps({"game": AIRPORT}).encode(),
+                "9 is no player",
+            ),
+            (b'{"number":8,"refused":"Estate"}', json.dumps({"game": AIRPORT}).encode(), "is it another one"),
+            (b'{"number":99,"refused":"X"}', None, "no refusal"),
+            (b'{"answer":"nucleolus","shares":[1]}', None, "no certificate"),
+            (json.dumps(solved(shares=[1, 2])).encode(), None, "shares has 2 items"),
+        ]
+        for line, document, sentence in cases:
+            with self.assertRaisesRegex(BadInput, sentence):
+                reasons(line, document)
+
+
+if __name__ == "__main__":
+    unittest.main()

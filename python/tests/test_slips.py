@@ -1,0 +1,165 @@
+"""Slips: by what is written here, and against the program."""
+import copy
+import json
+import random
+import unittest
+from typing import Any, Iterator
+
+from coop.program import find
+from coop.slips import COMMANDS, slip_in
+
+from .asking import needs_program
+
+SLIPS = {
+    '{"game":{"class":"airport","cost":[2,4,6]}}': (
+        "3 $.game: a game of class airport lacks the key costs; is 'cost' meant for it?"
+    ),
+    '{"class":"airport","costs":[2]}': '3 $: the game stands alone: write {"game":..} around it',
+    '{"game":{"class":"Airport","costs":[2]}}': (
+        '3 $.game.class: "Airport" is none of table, cost-table, airport, '
+        "bankruptcy, tree, assignment, market, voting; is airport meant?"
+    ),
+    '{"game":{"class":"tree","matrix":[[0,5,8],[5,0,null],[8,null,0]]}}': (
+        "3 $.game.matrix[1][2]: null is no number: a link that doesn't exist needs a number too"
+    ),
+    '{"game":{"class":"table","players":2,"worths":[1,2,3,4,5]}}': "4 $.game.worths: 5 worths: 2 players have 3",
+    '{"game":{"class":"table","players":2,"worths":[0,1,2,3]}}': (
+        "4 $.game.worths: 4 worths: 2 players have 3, since the empty coalition has none"
+    ),
+    '{"game":{"class":"airport","costs":[2,1.5]}}': (
+        "5 $.game.costs[1]: 1.5 has a point or an exponent, or more than 64 bits: "
+        'write an integer; or, with "version":2, a fraction text'
+    ),
+    '{"game":{"class":"airport","costs":[2,0.2875775201],"version":2}}': (
+        "5 $.game.costs[1]: 0.2875775201 has a point or an "
+        'exponent, or more than 64 bits: write an integer, or the text "2875775201/10000000000"'
+    ),
+    '{"game":{"class":"airport","costs":["2195/100"],"version":2}}': (
+        '5 $.game.costs[0]: "2195/100" isn\'t in lowest terms: write "439/20"'
+    ),
+    '{"game":{"class":"airport","costs":["1,5"],"version":2}}': (
+        '5 $.game.costs[0]: "1,5" is no fraction text: write "3/2"'
+    ),
+    '{"game":{"class":"airport","costs":[1,2],"names":["bob","bob"]}}': (
+        '6 $.game.names[1]: the name "bob" stands twice'
+    ),
+    '{"game":{"class":"table","players":2,"sparse":[[[1,2],3],[[2,1],4]]}}': (
+        "7 $.game.sparse[1][0]: [2, 1] stands in item 0 already"
+    ),
+    '{"game":{"class":"bankruptcy","claims":[1,2],"estate":4}}': (
+        "8 $.game.estate: the claims add to 3, less than the estate of 4: each gets its claim"
+    ),
+    '{"game":{"class":"tree","matrix":[[0,1],[2,0]]}}': "9 $.game.matrix[1][0]: 2, and 1 the other way",
+    '{"game":{"class":"voting","quota":600,"weights":[500,300,300]}}': (
+        "13 $.game.weights: the weights add to 1100, above 1,000"
+    ),
+    "": "2 the document: it is empty",
+    '{"game":\n{"class":"airport","costs":[2,]}}': "2 line 2, column 31: a comma stands in front of ]",
+    "{'game':1}": "2 line 1, column 2: a single quote: JSON has double quotes",
+    '{"game":1} {}': "2 line 1, column 12: there is more behind the document: one JSON object is a document",
+    '{"game":{"class":': "2 line 1, column 18: the document ends there, before it is whole",
+    '{"game":{"class":"airport","costs":[NaN]}}': "2 the document: NaN is no number",
+    '{"game":{"class":"airport","costs":[1],"names":["\\ud800"]}}': (
+        "2 line 1: a text there has half of a character, as \\ud800"
+    ),
+}
+
+GAMES: list[dict[str, Any]] = [
+    {"class": "table", "players": 3, "worths": [0, 0, 4, 0, 0, 0, 9]},
+    {
+        "class": "table",
+        "players": 2,
+        "names": ["ann", "bob"],
+        "default": 1,
+        "sparse": [[["bob", 1], 4], [[2], "7/2"]],
+        "version": 2,
+    },
+    {"class": "cost-table", "players": 2, "worths": [8, 7, 11], "excess": "per-head"},
+    {"class": "airport", "costs": [2, 4, "13/2"], "names": ["a", "b", "c"], "version": 2},
+    {"class": "bankruptcy", "claims": [10, 20, 30], "estate": 45, "version": 1},
+    {"class": "tree", "matrix": [[0, 7, 9], [7, 0, 2], [9, 2, 0]]},
+    {"class": "assignment", "matrix": [[5, 8, 2], [7, 6, 3]]},
+    {"class": "market", "matrix": [[5], [7]]},
+    {"class": "voting", "quota": 5, "weights": [4, 2, 1]},
+]
+LEVEL: dict[str, Any] = {
+    "excess": "-1",
+    "coalitions": [[[1], 1], [[2, 3], 1]],
+    "earlier": [],
+    "bounds": [[2, 1]],
+    "total": 1,
+}
+LEVELS = [LEVEL, {**LEVEL, "excess": "-3/2", "coalitions": [[[1, 2], 1]], "earlier": [[[1], -1]]}]
+CERTIFICATE: Any = {"mode": "players", "levels": LEVELS}
+VALUES: list[Any] = json.loads(
+    """[null, true, 0, 1, -1, 2, 3, 17, 65, 2.5, 1e300, 1099511627776, 9223372036854775808, "", "1", "1/2", "2/4", "-0",
+    "1.5", "ann", "b", "span", "plain", "1/65537", "1/9223372036854775809", [], {}, [1, 1], [[1], 1], [[], 1],
+    [[3, 1], 1], [1, 2, 3], "airport", "table"]"""
+)
+VALUES += ["é" * 33, "9" * 39, "1/" + "9" * 38]
+
+
+def spoilt(document: Any, draw: random.Random) -> None:
+    """Puts another value, another place or nothing in the place of some part."""
+    tree: Any = document
+    parent: Any = None
+    key: Any = None
+    while isinstance(tree, (dict, list)) and tree and (parent is None or draw.random() < 0.8):
+        parent, key = tree, draw.choice(sorted(tree) if isinstance(tree, dict) else range(len(tree)))
+        tree = parent[key]
+    if parent is None:
+        return
+    way = draw.random()
+    if way < 0.15:
+        del parent[key]
+    elif way < 0.25 and isinstance(parent, list):
+        parent.append(copy.deepcopy(draw.choice(parent)))
+    elif way < 0.35 and isinstance(parent, dict):
+        parent[draw.choice(["version", "excess", "names", "worths", "default", "estate", "x"])] = draw.choice(VALUES)
+    else:
+        parent[key] = copy.deepcopy(draw.choice(VALUES))
+
+
+def documents(count: int) -> Iterator[tuple[str, bytes]]:
+    """Commands and documents, whole and spoilt once or twice, the same at each call."""
+    draw = random.Random(5)
+    for number in range(count):
+        game: Any = copy.deepcopy(GAMES[number % len(GAMES)])
+        document: dict[str, Any] = {"game": game}
+        command = draw.choice(COMMANDS)
+        if command in ("propose", "kernel", "check") or draw.random() < 0.3:
+            document["shares"] = [1, "3/2", "7/2"][: draw.choice([2, 3, 3, 3])]
+        if command == "check" or draw.random() < 0.2:
+            document.update(answer="nucleolus", certificate=copy.deepcopy(CERTIFICATE))
+        for _ in range(draw.randrange(3)):
+            spoilt(document, draw)
+        yield command, json.dumps(document).encode()
+
+
+class Slips(unittest.TestCase):
+    def test_by_hand(self) -> None:
+        for text, wanted in SLIPS.items():
+            slip = slip_in(text.encode())
+            self.assertEqual(f"{slip.number} {slip}" if slip else None, wanted)
+        self.assertIsNone(slip_in(b'{"game":{"class":"airport","costs":[2,4,6]}}'))
+        for data, number in ((b"\xff", 2), (b"\xef\xbb\xbf{}", 2), (b" " * 2097153, 1), (b"[" * 128 + b"]" * 128, 2)):
+            slip = slip_in(data)
+            self.assertEqual(slip and slip.number, number)
+
+    @needs_program
+    def test_the_program_refuses_the_same(self) -> None:
+        program, seen = find(), set()
+        texts = [(command, text.encode()) for text in SLIPS for command in ("nucleolus", "propose")]
+        fine = b'{"game":{"class":"airport","costs":[1]},"shares":["1/9223372036854775809"]}'
+        texts += [("propose", fine), ("core", b" " * 2097153), ("check", b" " * 2097153)]
+        for command, text in [*texts, *documents(2000)]:
+            status, line = program.run([command], text)
+            wanted = json.loads(line)["number"] if status == 3 else None
+            slip = slip_in(text, command)
+            self.assertEqual(slip and slip.number, wanted, (command, text, slip))
+            seen.add(wanted)
+        self.assertEqual(seen, {None, *range(1, 14)})
+
+
+if __name__ == "__main__":
+    unittest.main()
