@@ -8,6 +8,7 @@ from typing import Any
 
 LIMIT = 1 << 40
 Game = dict[str, Any]
+Making = Callable[[], Game]
 
 
 def table(players: int, worth: Callable[[int], int]) -> Game:
@@ -52,10 +53,9 @@ def network(players: int, cost: Callable[[int, int], int]) -> Game:
     return {"class": "tree", "matrix": rows}
 
 
-def cut(players: int, draw: random.Random) -> Game:
+def cut(players: int, weights: dict[tuple[int, int], int]) -> Game:
     """The table of a cut function: the weights of the pairs of which a coalition holds just one."""
-    pairs = {(i, j): draw.randrange(100) for i in range(players) for j in range(i)}
-    return table(players, lambda mask: sum(w for (i, j), w in pairs.items() if (mask >> i ^ mask >> j) & 1))
+    return table(players, lambda mask: sum(w for (i, j), w in weights.items() if (mask >> i ^ mask >> j) & 1))
 
 
 def generated(players: int, seed: int) -> list[int]:
@@ -70,31 +70,34 @@ def generated(players: int, seed: int) -> list[int]:
     return worths
 
 
-def solved_games(players: int) -> Iterator[tuple[str, Game]]:
-    """The games that the solvers are measured on, by name."""
+def solved_games(players: int) -> Iterator[tuple[str, Making]]:
+    """The games that the solvers are measured on, by name. All numbers are drawn before the first is made."""
     draw = random.Random(1)
     shuffled = [draw.randrange(1, 100) for _ in range(players)]
-    worths = generated(players, 1)
     votes = [draw.randrange(1, 61) for _ in range(players)]
     links = {(i, j): draw.randrange(LIMIT) for j in range(players + 1) for i in range(j)}
-    yield "the generator's table", {"class": "table", "players": players, "worths": worths}
-    yield "the same as costs", {"class": "cost-table", "players": players, "worths": worths}
-    yield "near ties", table(players, lambda mask: 1000 * size_of(mask) ** 2 + draw.randrange(3))
-    yield "square of the mask", table(players, lambda mask: mask**2)
-    yield "cube of the mask", table(players, lambda mask: mask**3)
-    yield "squares, Fibonacci weights", squares(fibonacci(players))
-    yield "squares, weights growing by 1.3", squares(grown(players, 1.3))
-    yield "squares, sorted random weights", squares(sorted(shuffled))
-    yield "squares, random weights", squares(shuffled)
-    yield "squares, weights from 1 on", squares(list(range(1, players + 1)))
-    yield "squares of sizes", table(players, lambda mask: 1000 * size_of(mask) ** 2)
-    yield "mask xor its half", table(players, lambda mask: mask ^ mask >> 1)
-    yield "root of the mask", table(players, lambda mask: math.isqrt(mask * 10**18))
-    yield "size times its distance", table(players, lambda mask: size_of(mask) * (2 * players - size_of(mask)))
-    yield "cut", cut(players, draw)
-    yield "network, a line", network(players, lambda i, j: j - i)
-    yield "network, random links", network(players, lambda i, j: links[i, j])
-    yield "votes, two thirds", {"class": "voting", "quota": -(-2 * sum(votes) // 3), "weights": votes}
+    extra = [draw.randrange(3) for _ in range(1, 1 << players)]
+    pairs = {(i, j): draw.randrange(100) for i in range(players) for j in range(i)}
+    quota = -(-2 * sum(votes) // 3)
+    numbers = list(range(1, players + 1))
+    yield "the generator's table", lambda: {"class": "table", "players": players, "worths": generated(players, 1)}
+    yield "the same as costs", lambda: {"class": "cost-table", "players": players, "worths": generated(players, 1)}
+    yield "near ties", lambda: table(players, lambda mask: 1000 * size_of(mask) ** 2 + extra[mask - 1])
+    yield "square of the mask", lambda: table(players, lambda mask: mask**2)
+    yield "cube of the mask", lambda: table(players, lambda mask: mask**3)
+    yield "squares, Fibonacci weights", lambda: squares(fibonacci(players))
+    yield "squares, weights growing by 1.3", lambda: squares(grown(players, 1.3))
+    yield "squares, sorted random weights", lambda: squares(sorted(shuffled))
+    yield "squares, random weights", lambda: squares(shuffled)
+    yield "squares, weights from 1 on", lambda: squares(numbers)
+    yield "squares of sizes", lambda: table(players, lambda mask: 1000 * size_of(mask) ** 2)
+    yield "mask xor its half", lambda: table(players, lambda mask: mask ^ mask >> 1)
+    yield "root of the mask", lambda: table(players, lambda mask: math.isqrt(mask * 10**18))
+    yield "size times its distance", lambda: table(players, lambda mask: size_of(mask) * (2 * players - size_of(mask)))
+    yield "cut", lambda: cut(players, pairs)
+    yield "network, a line", lambda: network(players, lambda i, j: j - i)
+    yield "network, random links", lambda: network(players, lambda i, j: links[i, j])
+    yield "votes, two thirds", lambda: {"class": "voting", "quota": quota, "weights": votes}
 
 
 def rising_market(size: int) -> Game:
@@ -110,17 +113,18 @@ def turned(market: Game) -> Game:
     return {"class": "market", "matrix": [list(row) for row in zip(*market["matrix"])]}
 
 
-def larger_games() -> Iterator[tuple[str, Game]]:
+def larger_games() -> Iterator[tuple[str, Making]]:
     """The greatest games of classes with bodies of their own, and the greatest with excess per head, by name."""
     draw = random.Random(2)
     costs = [draw.randrange(1, 10000) for _ in range(64)]
     votes = [draw.randrange(1, 32) for _ in range(32)]
     offers = [[LIMIT - 1 - draw.randrange(1000) for _ in range(32)] for _ in range(32)]
-    yield "airport of 64", {"class": "airport", "costs": costs}
-    yield "airport of 32", {"class": "airport", "costs": costs[:32]}
-    yield "estate of 64", {"class": "bankruptcy", "claims": costs, "estate": sum(costs) // 3}
-    yield "votes of 32", {"class": "voting", "quota": -(-2 * sum(votes) // 3), "weights": votes}
-    yield "market, rising prices", rising_market(32)
-    yield "the same, turned", turned(rising_market(32))
-    yield "market, offers near 2^40", {"class": "market", "matrix": offers}
-    yield "per head, 8 players", {"class": "table", "excess": "per-head", "players": 8, "worths": generated(8, 1)}
+    yield "airport of 64", lambda: {"class": "airport", "costs": costs}
+    yield "airport of 32", lambda: {"class": "airport", "costs": costs[:32]}
+    yield "estate of 64", lambda: {"class": "bankruptcy", "claims": costs, "estate": sum(costs) // 3}
+    yield "votes of 32", lambda: {"class": "voting", "quota": -(-2 * sum(votes) // 3), "weights": votes}
+    yield "market, rising prices", lambda: rising_market(32)
+    yield "the same, turned", lambda: turned(rising_market(32))
+    yield "market, offers near 2^40", lambda: {"class": "market", "matrix": offers}
+    few = {"class": "table", "excess": "per-head", "players": 8, "worths": generated(8, 1)}
+    yield "per head, 8 players", lambda: few
