@@ -30,7 +30,7 @@ module _ {C : Type 0} (N : Numbers C) (L : IsOrderedGroup N) where
       (L.neutral N.zero).0)))
 
   -- a + (b - a) is b
-  forth : (a b : C) → Equal N (N.plus a (N.plus b (N.minus a))) b
+  pub forth : (a b : C) → Equal N (N.plus a (N.plus b (N.minus a))) b
   forth a b =
       chain N L (L.commutes a (N.plus b (N.minus a)))
       (chain N L (L.associates b (N.minus a) a)

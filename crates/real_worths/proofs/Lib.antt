@@ -6,3 +6,4 @@ mod Joined
 mod WhoAddsNoLess
 mod Dummies
 mod RealsCanHalve
+mod EquivalentGames
