@@ -20,7 +20,7 @@ use Rattle.real_worths.specs.Games.{IsNucleolusIn}
 use Rattle.real_worths.specs.RealWorths.{IsUnitChange, changed_game, changed_shares}
 use Rattle.real_worths.proofs.CoreFirst.{amount_at, length_in}
 use Rattle.real_worths.proofs.BothAreOne.{alone_gets}
-use Rattle.real_worths.proofs.Joined.{forth}
+use Rattle.real_worths.proofs.Joined.{forth, off}
 
 same_bool : (p q : Bool) → (IsTrue p → IsTrue q) → (IsTrue q → IsTrue p) → p ≡ q
 same_bool true true f h = refl
@@ -39,15 +39,6 @@ module _ {C : Type 0} (N : Numbers C) (L : IsOrderedGroup N) (to back : C → C)
   from_to a b le =
       L.transitive a (back (to a)) b (change.again a).1
       (L.transitive (back (to a)) (back (to b)) b (change.keeps_back (to a) (to b) le) (change.again b).0)
-
-  -- what is added to both doesn't count
-  off : (p q t : C) → AtMost N (N.plus p t) (N.plus q t) → AtMost N p q
-  off p q t le =
-      let undo = λ (c : C). chain N L (L.associates c t (N.minus t))
-      (chain N L (right N L c (L.inverse t)) (L.neutral c)) in
-      L.transitive p (N.plus (N.plus p t) (N.minus t)) q (undo p).1
-      (L.transitive (N.plus (N.plus p t) (N.minus t)) (N.plus (N.plus q t) (N.minus t)) q
-      (L.shifts (N.plus p t) (N.plus q t) (N.minus t) le) (undo q).0)
 
   to_zero : Equal N (to N.zero) N.zero
   to_zero =
@@ -203,8 +194,8 @@ module _ {C : Type 0} (N : Numbers C) (L : IsOrderedGroup N) (to back : C → C)
           let s = grand_coalition n in
           let t = total_over N n b s in
           let here = chain N L (turn N L (amounts s)) e in (
-            from_to (amount_of N y s) (g.worth s) (off (to (amount_of N y s)) (to (g.worth s)) t here.0),
-            from_to (g.worth s) (amount_of N y s) (off (to (g.worth s)) (to (amount_of N y s)) t here.1),
+            from_to (amount_of N y s) (g.worth s) (off N L (to (amount_of N y s)) (to (g.worth s)) t here.0),
+            from_to (g.worth s) (amount_of N y s) (off N L (to (g.worth s)) (to (amount_of N y s)) t here.1),
           )
 
       -- the worth of player i alone, in the new game
@@ -233,7 +224,7 @@ module _ {C : Type 0} (N : Numbers C) (L : IsOrderedGroup N) (to back : C → C)
         efficient_from h.1,
         λ i lt.
             from_to (g.worth (singleton i)) (number_of N y i)
-            (off (to (g.worth (singleton i))) (to (number_of N y i)) (b i)
+            (off N L (to (g.worth (singleton i))) (to (number_of N y i)) (b i)
             (L.transitive (N.plus (to (g.worth (singleton i))) (b i)) (new.worth (singleton i))
             (N.plus (to (number_of N y i)) (b i)) (alone i lt).1
             (L.transitive (new.worth (singleton i)) (number_of N z i) (N.plus (to (number_of N y i)) (b i)) (h.2 i lt)

@@ -53,6 +53,15 @@ module _ {C : Type 0} (N : Numbers C) (L : IsOrderedGroup N) where
       L.transitive a (N.plus a N.zero) (N.plus a h) (L.neutral a).1
       (plus-at_most N L a a N.zero h (at_most-same N L a) low)
 
+  -- what is added to both doesn't count
+  pub off : (p q t : C) → AtMost N (N.plus p t) (N.plus q t) → AtMost N p q
+  off p q t le =
+      let undo = λ (c : C). chain N L (L.associates c t (N.minus t))
+      (chain N L (right N L c (L.inverse t)) (L.neutral c)) in
+      L.transitive p (N.plus (N.plus p t) (N.minus t)) q (undo p).1
+      (L.transitive (N.plus (N.plus p t) (N.minus t)) (N.plus (N.plus q t) (N.minus t)) q
+      (L.shifts (N.plus p t) (N.plus q t) (N.minus t) le) (undo q).0)
+
   -- where h twice isn't above zero, h isn't
   pub half_low : (h : C) → AtMost N (N.plus h h) N.zero → AtMost N h N.zero
   half_low h le = elim (L.linear h N.zero) [

@@ -7,3 +7,4 @@ mod WhoAddsNoLess
 mod Dummies
 mod RealsCanHalve
 mod EquivalentGames
+mod Examples

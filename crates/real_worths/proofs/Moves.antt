@@ -23,7 +23,7 @@ use Rattle.real_worths.proofs.CoreFirst.{amount_at, length_in, efficient_in, not
 use Rattle.real_worths.proofs.BothAreOne.{alone_gets, amount_alone}
 
 module _ {C : Type 0} (N : Numbers C) (L : IsOrderedGroup N) where
-  minus_minus : (a : C) → Equal N (N.minus (N.minus a)) a
+  pub minus_minus : (a : C) → Equal N (N.minus (N.minus a)) a
   minus_minus a = back N L (is_minus N L (N.minus a) a (chain N L (L.commutes (N.minus a) a) (L.inverse a)))
 
   -- w - (a + d) is (w - a) - d

@@ -1,2 +1,3 @@
 pub mod Games
 pub mod RealWorths
+pub mod Examples

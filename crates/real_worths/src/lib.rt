@@ -6,6 +6,7 @@
 
 ghost use Rattle.real_worths.specs.RealWorths.{WholeWorthsAgree, NucleolusIsUnique, NucleolusIsInCore};
 ghost use Rattle.real_worths.specs.RealWorths.{WithACoreBothAreOne, WhoAddsNoLessGetsNoLess, AlikePlayersGetAlike};
+ghost use Rattle.real_worths.specs.Examples.{TwoShare, DoublingIsAChange, IntegersCantHalve};
 ghost use Rattle.real_worths.specs.RealWorths.{DummiesGetTheirWorth, RealsCanHalve, EquivalentGamesAgree};
 
 /// Where the worths are whole numbers, times the unit, these are the nucleolus and the core among real shares that other
@@ -53,4 +54,20 @@ pub fn reals_can_halve()
 /// A change of the unit, and of what each player brings of its own, changes the nucleolus by the same.
 pub fn equivalent_games_agree()
     ensures { EquivalentGamesAgree }
+{}
+
+/// Two who together are worth a real number above zero, and alone nothing, get half each; and all for the first is no
+/// nucleolus.
+pub fn two_share()
+    ensures { TwoShare }
+{}
+
+/// Twice each number is a change of the unit, and zero for each isn't.
+pub fn doubling_is_a_change()
+    ensures { DoublingIsAChange }
+{}
+
+/// The integer 1 isn't twice an integer.
+pub fn integers_cant_halve()
+    ensures { IntegersCantHalve }
 {}
