@@ -8,3 +8,4 @@ mod Dummies
 mod RealsCanHalve
 mod EquivalentGames
 mod Examples
+mod LevelsAreEnough

@@ -6,6 +6,7 @@
 
 ghost use Rattle.real_worths.specs.RealWorths.{WholeWorthsAgree, NucleolusIsUnique, NucleolusIsInCore};
 ghost use Rattle.real_worths.specs.RealWorths.{WithACoreBothAreOne, WhoAddsNoLessGetsNoLess, AlikePlayersGetAlike};
+ghost use Rattle.real_worths.specs.Kohlberg.{LevelsAreEnough};
 ghost use Rattle.real_worths.specs.Examples.{TwoShare, DoublingIsAChange, IntegersCantHalve};
 ghost use Rattle.real_worths.specs.RealWorths.{DummiesGetTheirWorth, RealsCanHalve, EquivalentGamesAgree};
 
@@ -54,6 +55,12 @@ pub fn reals_can_halve()
 /// A change of the unit, and of what each player brings of its own, changes the nucleolus by the same.
 pub fn equivalent_games_agree()
     ensures { EquivalentGamesAgree }
+{}
+
+/// Half of Kohlberg's theorem (Kohlberg 1971; Sobolev 1975): where the coalitions of at least the excess of each coalition
+/// are balanced, the shares are the prenucleolus.
+pub fn levels_are_enough()
+    ensures { LevelsAreEnough }
 {}
 
 /// Two who together are worth a real number above zero, and alone nothing, get half each; and all for the first is no
