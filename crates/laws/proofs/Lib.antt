@@ -7,7 +7,7 @@ pub mod SomeGreater
 pub mod WithACoreBothAreOne
 pub mod ShiftsChangeNothing
 pub mod EquivalentGamesAgree
-mod Withouts
+pub mod Withouts
 mod DummiesGetTheirWorth
 mod DummiesMayGetLess
 mod WhoAddsNoLessGetsNoLess

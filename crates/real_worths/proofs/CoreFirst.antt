@@ -51,7 +51,7 @@ module _ {C : Type 0} (N : Numbers C) (L : IsOrderedGroup N) (g : NumberGame C) 
       either i lt true = same i lt
       either i lt false = equal-same N L N.zero
 
-  nobody_gets : (y : List C) → Equal N (amount_of N y 0) N.zero
+  pub nobody_gets : (y : List C) → Equal N (amount_of N y 0) N.zero
   nobody_gets y =
       total_below-zero N L (length y) (λ i. cond (has_player 0 i) (number_of N y i) N.zero)
       (λ i lt. equal_path N L (cond (has_player 0 i) (number_of N y i) N.zero) N.zero

@@ -1,3 +1,11 @@
 mod WholeWorths
 mod CoreFirst
 mod BothAreOne
+mod Moves
+mod Joined
+mod WhoAddsNoLess
+mod Dummies
+mod RealsCanHalve
+mod EquivalentGames
+mod Examples
+mod LevelsAreEnough

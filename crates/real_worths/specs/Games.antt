@@ -12,8 +12,12 @@
 --   HaveSameIn                two lists give each player the same
 --   IsNucleolusIn             a member whose excesses from the greatest come before those of every other member
 --   InCoreIn                  efficient, and no coalition is worth more than its members get
-use Rattle.std.specs.Prelude.{◌≡◌, ℕ, ◌^◌, ◌<◌, List, length, map}
-use Rattle.definitions.specs.Coalitions.{singleton, grand_coalition, proper_coalitions}
+--   CanHalve N                each number is twice a number, as each real number is
+--   AddsNoLessIn N g i j      player i adds to each coalition without both at least what player j adds
+--   AreInterchangeableIn      both add the same to each coalition without both
+--   IsDummyIn N g i           player i adds its worth alone to each coalition without it
+use Rattle.std.specs.Prelude.{◌≡◌, ℕ, ◌+◌, ◌^◌, ◌<◌, false, List, length, map}
+use Rattle.definitions.specs.Coalitions.{has_player, singleton, grand_coalition, proper_coalitions}
 use Rattle.definitions.specs.Games.{Game}
 use Rattle.definitions.specs.declared.Family.{Family}
 use Rattle.definitions.specs.declared.Family.TheVariants.{Imputations, Preimputations}
@@ -61,3 +65,26 @@ abbrev pub InCoreIn : {C : Type 0} → Numbers C → NumberGame C → List C →
 InCoreIn N g y =
     (length y ≡ g.players) × IsEfficientIn N g y
     × ((s : ℕ) → s < 2 ^ g.players → AtMost N (g.worth s) (amount_of N y s))
+
+-- ---- players
+
+-- each number is twice a number
+abbrev pub CanHalve : {C : Type 0} → Numbers C → Type 0
+CanHalve {C} N = (c : C) → (h : C) × Equal N (N.plus h h) c
+
+-- each coalition without i and j is worth with i at least what it is worth with j
+abbrev pub AddsNoLessIn : {C : Type 0} → Numbers C → NumberGame C → ℕ → ℕ → Type 0
+AddsNoLessIn N g i j =
+    (s : ℕ) → s < 2 ^ g.players → has_player s i ≡ false → has_player s j ≡ false →
+    AtMost N (g.worth (s + singleton j)) (g.worth (s + singleton i))
+
+-- and just that
+abbrev pub AreInterchangeableIn : {C : Type 0} → Numbers C → NumberGame C → ℕ → ℕ → Type 0
+AreInterchangeableIn N g i j =
+    (s : ℕ) → s < 2 ^ g.players → has_player s i ≡ false → has_player s j ≡ false →
+    Equal N (g.worth (s + singleton i)) (g.worth (s + singleton j))
+
+abbrev pub IsDummyIn : {C : Type 0} → Numbers C → NumberGame C → ℕ → Type 0
+IsDummyIn N g i =
+    (s : ℕ) → s < 2 ^ g.players → has_player s i ≡ false →
+    Equal N (g.worth (s + singleton i)) (N.plus (g.worth s) (g.worth (singleton i)))

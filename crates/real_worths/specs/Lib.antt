@@ -1,2 +1,4 @@
 pub mod Games
 pub mod RealWorths
+pub mod Kohlberg
+pub mod Examples

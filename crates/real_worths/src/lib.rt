@@ -5,7 +5,10 @@
 #![tactic(auto)]
 
 ghost use Rattle.real_worths.specs.RealWorths.{WholeWorthsAgree, NucleolusIsUnique, NucleolusIsInCore};
-ghost use Rattle.real_worths.specs.RealWorths.{WithACoreBothAreOne};
+ghost use Rattle.real_worths.specs.RealWorths.{WithACoreBothAreOne, WhoAddsNoLessGetsNoLess, AlikePlayersGetAlike};
+ghost use Rattle.real_worths.specs.Kohlberg.{LevelsAreEnough};
+ghost use Rattle.real_worths.specs.Examples.{TwoShare, DoublingIsAChange, IntegersCantHalve};
+ghost use Rattle.real_worths.specs.RealWorths.{DummiesGetTheirWorth, RealsCanHalve, EquivalentGamesAgree};
 
 /// Where the worths are whole numbers, times the unit, these are the nucleolus and the core among real shares that other
 /// laws speak of.
@@ -26,4 +29,52 @@ pub fn nucleolus_is_in_core()
 /// Where the core isn't empty, the prenucleolus and the nucleolus are one.
 pub fn with_a_core_both_are_one()
     ensures { WithACoreBothAreOne }
+{}
+
+/// A player that adds no less than another to each coalition without both gets no less, of the nucleolus and the
+/// prenucleolus.
+pub fn who_adds_no_less_gets_no_less()
+    ensures { WhoAddsNoLessGetsNoLess }
+{}
+
+/// Players that a game doesn't tell apart get the same.
+pub fn alike_players_get_alike()
+    ensures { AlikePlayersGetAlike }
+{}
+
+/// A player that adds its worth alone to each coalition without it gets exactly that.
+pub fn dummies_get_their_worth()
+    ensures { DummiesGetTheirWorth }
+{}
+
+/// Each real number is twice a real number: so shares can be made equal.
+pub fn reals_can_halve()
+    ensures { RealsCanHalve }
+{}
+
+/// A change of the unit, and of what each player brings of its own, changes the nucleolus by the same.
+pub fn equivalent_games_agree()
+    ensures { EquivalentGamesAgree }
+{}
+
+/// Half of Kohlberg's theorem (Kohlberg 1971; Sobolev 1975): where the coalitions of at least the excess of each coalition
+/// are balanced, the shares are the prenucleolus.
+pub fn levels_are_enough()
+    ensures { LevelsAreEnough }
+{}
+
+/// Two who together are worth a real number above zero, and alone nothing, get half each; and all for the first is no
+/// nucleolus.
+pub fn two_share()
+    ensures { TwoShare }
+{}
+
+/// Twice each number is a change of the unit, and zero for each isn't.
+pub fn doubling_is_a_change()
+    ensures { DoublingIsAChange }
+{}
+
+/// The integer 1 isn't twice an integer.
+pub fn integers_cant_halve()
+    ensures { IntegersCantHalve }
 {}

@@ -28,7 +28,7 @@ use Rattle.reduced_games.specs.SobolevsTheorem.{IsPlayable, MeetsSobolevsAxioms,
 use Rattle.reduced_games.proofs.Staying.{staying_empty}
 use Rattle.reduced_games.proofs.ReducedGameProperty.{reduced_game_property}
 use Rattle.reduced_games.proofs.Rules.{share_equivalent}
-use Rattle.reduced_games.proofs.SideWeights.{side_weights}
+use Rattle.reduced_games.proofs.SideWeights.{weights_at, none_at}
 use Rattle.reduced_games.proofs.Positions.{AllWeights, positions, counts, list_sum-places, held_at}
 use Rattle.reduced_games.proofs.Positions.{WithSingles, with_singles}
 use Rattle.reduced_games.proofs.WordGames.{word_rises}
@@ -93,12 +93,12 @@ module _ (rule : Game → Allocation) (ax : MeetsSobolevsAxioms rule) (g : Game)
 
   all_weights : AllWeights n (2 ^ n) (2 ^ n - 2) E
   all_weights = record {
-    weights = λ d lt. (side_weights g x is p.0 d lt).weights;
-    low = λ d lt. (side_weights g x is p.0 d lt).low;
-    here = λ d lt. (side_weights g x is p.0 d lt).here;
-    none = λ d lt. (side_weights g x is p.0 d lt).none;
-    total = λ d lt. (side_weights g x is p.0 d lt).total;
-    balance = λ d lt. (side_weights g x is p.0 d lt).balance;
+    weights = λ d lt. (weights_at g x is p.0 d lt).weights;
+    low = λ d lt. (weights_at g x is p.0 d lt).low;
+    here = λ d lt. (weights_at g x is p.0 d lt).here;
+    none = λ d lt. none_at g x is p.0 d lt;
+    total = λ d lt. (weights_at g x is p.0 d lt).total;
+    balance = λ d lt. (weights_at g x is p.0 d lt).balance;
   }
 
   floor : (b : ℤ) × ((t : ℕ) → t < 2 ^ n → b ≤ℤ E t)

@@ -1,0 +1,35 @@
+-- Examples that meet the definitions, and examples that don't.
+--
+--   two N c            two players who together are worth c, and alone nothing
+--   TwoShare           they share it, whatever real number it is, as the root of 2
+--   DoublingIsAChange  twice each number is a change of the unit, and zero for each isn't
+--   IntegersCantHalve  each real number is twice a number, and not each integer twice an integer
+use Rattle.std.specs.Prelude.{ℕ, nat_eq, List, [], ◌∷◌, if◌then◌else◌, pos}
+use Rattle.definitions.specs.declared.Family.TheVariants.{Preimputations}
+use Rattle.real_shares.specs.Numbers.{Numbers, Less, Equal}
+use Rattle.real_shares.specs.Reals.{Real, AreReals}
+use Rattle.real_shares.specs.Theorems.{fractions_over}
+use Rattle.real_worths.specs.Games.{NumberGame, IsNucleolusIn, InCoreIn, CanHalve, AreInterchangeableIn, IsDummyIn}
+use Rattle.real_worths.specs.RealWorths.{IsUnitChange}
+
+abbrev pub two : {C : Type 0} → Numbers C → C → NumberGame C
+two N c = record { players = 2; worth = λ s. if nat_eq s 3 then c else N.zero }
+
+-- of a number above zero each gets half; all for the first is no nucleolus, and in no such game is the first a dummy
+abbrev pub TwoShare : Type 0
+TwoShare =
+    (N : Numbers Real) (c h : Real) → AreReals N → Equal N (N.plus h h) c → Less N N.zero c →
+    AreInterchangeableIn N (two N c) 0 1
+    × ¬ IsDummyIn N (two N c) 0
+    × InCoreIn N (two N c) (h ∷ (h ∷ []))
+    × IsNucleolusIn N Preimputations (two N c) (h ∷ (h ∷ []))
+    × ¬ IsNucleolusIn N Preimputations (two N c) (c ∷ (N.zero ∷ []))
+
+abbrev pub DoublingIsAChange : Type 0
+DoublingIsAChange =
+    (N : Numbers Real) → AreReals N →
+    ((back : Real → Real) × IsUnitChange N (λ a. N.plus a a) back)
+    × ((back : Real → Real) → ¬ IsUnitChange N (λ a. N.zero) back)
+
+abbrev pub IntegersCantHalve : Type 0
+IntegersCantHalve = ¬ CanHalve (fractions_over (pos 1))
