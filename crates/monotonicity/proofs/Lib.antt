@@ -15,3 +15,4 @@ mod NoCoreRule
 mod GrowsAround
 mod SmallGrowth
 mod TwoRules
+mod BirdTimes
