@@ -10,7 +10,8 @@ mod EachWhoGrows
 mod LevelledSums
 mod Terms
 mod MonotonicRulesAreShapley
-mod SixWorths
+mod ListedGames
+mod SomebodyLoses
 mod NoCoreRule
 mod GrowsAround
 mod SmallGrowth

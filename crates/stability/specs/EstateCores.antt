@@ -1,5 +1,5 @@
--- The Talmud's shares of an estate are a core point of its game (Aumann and Maschler 1985). The law is the contract of a
--- function of this crate.
+-- The Talmud's shares of an estate are a core point of its game (Aumann and Maschler 1985). The law is the contract of
+-- a function of this crate.
 --
 --   TalmudIsInCore   no group of claimants could do better by itself, of any number of claims
 use Rattle.std.specs.Prelude.{ℕ, List}
@@ -9,4 +9,5 @@ use Rattle.talmud.specs.Rule.{IsTalmud}
 
 abbrev pub TalmudIsInCore : Type 0
 TalmudIsInCore =
-    (estate : ℕ) (claims : List ℕ) (x : Allocation) → IsTalmud estate claims x → InCore (bankruptcy_game estate claims) x
+    (estate : ℕ) (claims : List ℕ) (x : Allocation) → IsTalmud estate claims x →
+    InCore (bankruptcy_game estate claims) x
