@@ -1,216 +1,155 @@
--- Three games of five players or more, in which the worth of all rises from 11 to 12 and then that of the first five
--- but 3 from 9 to 12. Player 4, who is in both coalitions, gets 7 at each core point of the first game and 6 at each of
--- the last (Young 1985).
-use Rattle.std.proofs.Common.{◌≡◌, ◌≢◌, ℕ, ◌<◌, ◌≤◌, List}
-use Rattle.std.proofs.Common.{[], ◌∷◌, ℤ, pos, ◌+ℤ◌, ◌*ℤ◌}
-use Rattle.std.proofs.Common.{◌<ℤ◌, ◌≤ℤ◌, refl, sym, ap, ◌∙◌, inl, inr, arith, rules}
-use Rattle.std.proofs.lemmas.Bool.{false≢true}
-use Rattle.std.proofs.lemmas.Int.{by_lt_z, ints}
+-- Games of four players or more. 1 and 2 each are worth 1 with 3 and with 4, and all are worth 2. Where 1, 2 and 3 come
+-- to be worth 2, the only core point gives player 3 nothing, and where 1, 3 and 4 do, player 1 nothing. So by a
+-- monotonic rule both would get nothing before, but they are worth 1 together (Housman and Clark 1998).
+use Rattle.std.proofs.Common.{◌≡◌, ℕ, ◌<◌, ◌≤◌, List, [], ◌∷◌, ◌++◌, ℤ, pos}
+use Rattle.std.proofs.Common.{◌+ℤ◌, ◌*ℤ◌, ◌≤ℤ◌, refl, sym, arith, rules}
+use Rattle.std.proofs.lemmas.Int.{ints}
 use lib.IntN.{*ℤ_comm}
-use Rattle.definitions.proofs.Cases.{same_or_other}
-use Rattle.definitions.proofs.Masks.{grand_coalition-within}
-use Rattle.definitions.proofs.Members.{has_player-grand_coalition}
-use Rattle.definitions.proofs.Ring.{linear, mul-leℤ, mul-le_cancelℤ, mul_left_commℤ}
-use Rattle.definitions.specs.Coalitions.{has_player, grand_coalition}
+use Rattle.definitions.proofs.Ring.{linear, mul-leℤ, mul-le_cancelℤ, mul-zeroℤ, mul-oneℤ}
+use Rattle.definitions.specs.Coalitions.{grand_coalition, sum_over}
 use Rattle.definitions.specs.Games.{Game, Allocation, share, InCore}
-use Rattle.duality.proofs.BondarevaShapley.{point}
 use Rattle.monotonicity.specs.Growth.{GroupGrows}
-use Rattle.monotonicity.specs.CoreRules.{GrowsAround, SomebodyLosesInTheCore, NoCoreRuleIsMonotonic}
-use Rattle.monotonicity.proofs.SixWorths.{six, six-all, six-game, six-others, six-but_four, six-core}
-use Rattle.monotonicity.proofs.SixWorths.{all-high, reaches, five_at_most, listed_share}
+use Rattle.monotonicity.specs.CoreRules.{PicksCorePoints, IsCoalitionMonotonic, NoCoreRuleIsMonotonic}
+use Rattle.monotonicity.proofs.ListedGames.{with_all, AreFirst, listed-skip, listed-front, with_all-game, listed}
+use Rattle.monotonicity.proofs.ListedGames.{all-high, reaches, first_at_most, with_nothing, with_all-core}
 
 -- ---- the games
 
-abbrev smaller : ℕ → Game
-smaller n = six n (pos 9) (pos 11)
+abbrev pairs : List (ℕ × ℤ)
+pairs = (5, pos 1) ∷ ((6, pos 1) ∷ ((9, pos 1) ∷ ((10, pos 1) ∷ [])))
 
-abbrev middle : ℕ → Game
-middle n = six n (pos 9) (pos 12)
+-- three of the four, who come to be worth 2
+abbrev with_three : ℕ → List (ℕ × ℤ)
+with_three t = pairs ++ (t, pos 2) ∷ []
 
-abbrev greater : ℕ → Game
-greater n = six n (pos 12) (pos 12)
+abbrev before : ℕ → Game
+before n = with_all n pairs (pos 2)
 
-all_grow : (n : ℕ) → 5 ≤ n → GroupGrows (pos 1) (grand_coalition n) (smaller n) (middle n)
-all_grow n many = record {
-  players = refl;
-  more = omega (arith, linear, six-all n (pos 9) (pos 11) many, six-all n (pos 9) (pos 12) many);
-  others = λ s lt ne. six-others n (pos 9) (pos 12) (pos 11) s ne;
-}
+abbrev after : ℕ → ℕ → Game
+after n t = with_all n (with_three t) (pos 2)
 
-four_grow : (n : ℕ) → GroupGrows (pos 3) 27 (middle n) (greater n)
-four_grow n = record {
-  players = refl;
-  more = refl;
-  others = λ s lt ne. six-but_four n (pos 12) (pos 9) (pos 12) s ne;
-}
+pairs_first : AreFirst 4 pairs
+pairs_first = search rules
 
--- a coalition that grows, and no other, grows around each member
-grows : (n : ℕ) → 5 ≤ n → GrowsAround (smaller n) (greater n) 3
-grows n many = record {
-  players = refl;
-  around = λ s lt inside. elim (same_or_other s (grand_coalition n)) [
-    | inl all ↦ omega (
-      arith,
-      linear,
-      ap (smaller n).worth all ∙ six-all n (pos 9) (pos 11) many,
-      ap (greater n).worth all ∙ six-all n (pos 12) (pos 12) many,
-    )
-    | inr ne ↦ elim (same_or_other s 27) [
-      | inl four ↦ omega (arith, linear, ap (smaller n).worth four, ap (greater n).worth four)
-      | inr other ↦ omega (arith, linear, same s ne other)
-    ]
-  ];
-  apart = λ s lt out. sym
-      (same s
-      (λ all. false≢true
-      (sym out ∙ ap (λ (t : ℕ). has_player t 3) all ∙ has_player-grand_coalition n 3 (omega (arith, many))))
-      (λ four. false≢true (sym out ∙ ap (λ (t : ℕ). has_player t 3) four)));
-}
-  where
-    same : (s : ℕ) → s ≢ grand_coalition n → s ≢ 27 → (smaller n).worth s ≡ (greater n).worth s
-    same s ne other =
-        six-others n (pos 9) (pos 11) (pos 12) s ne ∙ six-but_four n (pos 9) (pos 12) (pos 12) s other
+abbrev left_pair : List ℤ
+left_pair = pos 1 ∷ (pos 1 ∷ (pos 0 ∷ (pos 0 ∷ [])))
 
--- ---- their core points
+abbrev right_pair : List ℤ
+right_pair = pos 0 ∷ (pos 0 ∷ (pos 1 ∷ (pos 1 ∷ [])))
 
-abbrev first_shares : List ℤ
-first_shares = pos 0 ∷ (pos 1 ∷ (pos 2 ∷ (pos 7 ∷ (pos 1 ∷ []))))
+twice : (p : ℤ) → p *ℤ pos 2 ≡ p +ℤ p
+twice p = omega (arith, ints)
 
-abbrev middle_shares : List ℤ
-middle_shares = pos 0 ∷ (pos 1 ∷ (pos 3 ∷ (pos 7 ∷ (pos 1 ∷ []))))
-
-abbrev last_shares : List ℤ
-last_shares = pos 3 ∷ (pos 0 ∷ (pos 0 ∷ (pos 6 ∷ (pos 3 ∷ []))))
-
-abbrev with_nothing : ℕ → List ℤ → Allocation
-with_nothing n xs = point n (listed_share xs) (pos 1)
-
-first_core : (n : ℕ) → 5 ≤ n → InCore (smaller n) (with_nothing n first_shares)
-first_core n many = six-core n (pos 9) (pos 11) first_shares many refl (search rules) refl (search rules)
-
-middle_core : (n : ℕ) → 5 ≤ n → InCore (middle n) (with_nothing n middle_shares)
-middle_core n many = six-core n (pos 9) (pos 12) middle_shares many refl (search rules) refl (search rules)
-
-last_core : (n : ℕ) → 5 ≤ n → InCore (greater n) (with_nothing n last_shares)
-last_core n many = six-core n (pos 12) (pos 12) last_shares many refl (search rules) refl (search rules)
-
-three_times : (p : ℤ) → p *ℤ pos 3 ≡ p +ℤ p +ℤ p
-three_times p = omega (arith, ints)
-
-six_times : (p : ℤ) → p *ℤ pos 6 ≡ p *ℤ pos 3 +ℤ p *ℤ pos 3
-six_times p = omega (arith, ints)
-
-seven_times : (p : ℤ) → p *ℤ pos 7 ≡ p *ℤ pos 6 +ℤ p
-seven_times p = omega (arith, ints)
-
-nine_times : (p : ℤ) → p *ℤ pos 9 ≡ p *ℤ pos 6 +ℤ p *ℤ pos 3
-nine_times p = omega (arith, ints)
-
-eleven_times : (p : ℤ) → p *ℤ pos 11 ≡ p *ℤ pos 9 +ℤ p +ℤ p
-eleven_times p = omega (arith, ints)
-
-twelve_times : (p : ℤ) → p *ℤ pos 12 ≡ p *ℤ pos 9 +ℤ p *ℤ pos 3
-twelve_times p = omega (arith, ints)
-
--- player 4 gets 7 at least
-seven_before : (n : ℕ) (x : Allocation) → 5 ≤ n → InCore (smaller n) x → (x.den *ℤ pos 7) ≤ℤ share x 3
-seven_before n x many h =
-    omega (
-      arith,
-      linear,
-      reaches n (pos 9) (pos 11) x 7 many h (omega arith),
-      reaches n (pos 9) (pos 11) x 13 many h (omega arith),
-      reaches n (pos 9) (pos 11) x 20 many h (omega arith),
-      reaches n (pos 9) (pos 11) x 26 many h (omega arith),
-      reaches n (pos 9) (pos 11) x 27 many h (omega arith),
-      five_at_most n (pos 9) (pos 11) x many h,
-      three_times x.den,
-      six_times x.den,
-      seven_times x.den,
-      nine_times x.den,
-      eleven_times x.den,
-    )
-
--- and then 6 at most
-six_after : (n : ℕ) (y : Allocation) → 5 ≤ n → InCore (greater n) y → share y 3 ≤ℤ (y.den *ℤ pos 6)
-six_after n y many h =
-    omega (
-      arith,
-      linear,
-      reaches n (pos 12) (pos 12) y 7 many h (omega arith),
-      reaches n (pos 12) (pos 12) y 13 many h (omega arith),
-      reaches n (pos 12) (pos 12) y 20 many h (omega arith),
-      reaches n (pos 12) (pos 12) y 26 many h (omega arith),
-      reaches n (pos 12) (pos 12) y 27 many h (omega arith),
-      five_at_most n (pos 12) (pos 12) y many h,
-      three_times y.den,
-      six_times y.den,
-      nine_times y.den,
-      twelve_times y.den,
-    )
-
--- a share a over p of at least c, and one b over q that isn't less
-at_least-through : (a p b q c : ℤ) → pos 1 ≤ℤ p → pos 1 ≤ℤ q → (p *ℤ c) ≤ℤ a → (a *ℤ q) ≤ℤ (b *ℤ p) → (q *ℤ c) ≤ℤ b
-at_least-through a p b q c hp hq low le =
-    mul-le_cancelℤ p (q *ℤ c) b (omega (arith, linear, hp))
+-- a share a over p that isn't more than one b over q of nothing at most
+no_more : (a p b q : ℤ) → pos 1 ≤ℤ p → pos 1 ≤ℤ q → b ≤ℤ pos 0 → (a *ℤ q) ≤ℤ (b *ℤ p) → a ≤ℤ pos 0
+no_more a p b q hp hq low le =
+    mul-le_cancelℤ q a (pos 0) (omega (arith, linear, hq))
     (omega (
       arith,
       linear,
       le,
-      mul-leℤ q (p *ℤ c) a (omega (arith, linear, hq)) low,
+      mul-leℤ p b (pos 0) (omega (arith, linear, hp)) low,
+      mul-zeroℤ p,
+      mul-zeroℤ q,
       *ℤ_comm a q,
       *ℤ_comm b p,
-      mul_left_commℤ q p c,
     ))
 
-loses : (n : ℕ) (x y : Allocation) → 5 ≤ n → InCore (smaller n) x → InCore (greater n) y
-    → (share y 3 *ℤ x.den) <ℤ (share x 3 *ℤ y.den)
-loses n x y many hx hy =
-    by_lt_z (share y 3 *ℤ x.den) (share x 3 *ℤ y.den)
-    (λ less. less)
-    (λ le. absurd
-    (let low =
-    at_least-through (share x 3) x.den (share y 3) y.den (pos 7) hx.0.1 hy.0.1 (seven_before n x many hx) le in
-    omega (arith, linear, low, six_after n y many hy, seven_times y.den, hy.0.1)))
+module _ (n : ℕ) (many : 4 ≤ n) where
+  three_grow : (t : ℕ) → (before n).worth t ≡ pos 0 → (after n t).worth t ≡ pos 2
+      → GroupGrows (pos 2) t (before n) (after n t)
+  three_grow t none two = record {
+    players = refl;
+    more = omega (arith, linear, none, two);
+    others = λ s lt ne.
+        listed-front pairs ((t, pos 2) ∷ ((grand_coalition n, pos 2) ∷ [])) ((grand_coalition n, pos 2) ∷ []) s
+        (listed-skip (t, pos 2) ((grand_coalition n, pos 2) ∷ []) s (λ e. ne (sym e)));
+  }
 
-pub somebody_loses : SomebodyLosesInTheCore
-somebody_loses n many = (
-  smaller n,
-  greater n,
-  3,
-  six-game n (pos 9) (pos 11) many,
-  six-game n (pos 12) (pos 12) many,
-  (
-    grows n many,
-    omega (arith, many),
-    (with_nothing n first_shares, first_core n many),
-    (with_nothing n last_shares, last_core n many),
-    λ x y hx hy. loses n x y many hx hy,
-  ),
-)
+  none_worth : (t : ℕ) → t < 15 → listed ((grand_coalition n, pos 2) ∷ []) t ≡ pos 0
+  none_worth t lt =
+      let high = all-high 4 n (omega arith) many in
+      listed-skip (grand_coalition n, pos 2) [] t (λ e. omega (arith, high, lt, e))
+
+  -- ---- their core points
+
+  before_core : InCore (before n) (with_nothing n left_pair)
+  before_core =
+      with_all-core 4 n pairs (pos 2) left_pair (omega arith) many pairs_first refl (search rules) refl (search rules)
+
+  first_core : InCore (after n 7) (with_nothing n left_pair)
+  first_core =
+      with_all-core 4 n (with_three 7) (pos 2) left_pair (omega arith) many (search rules) refl (search rules) refl
+      (search rules)
+
+  second_core : InCore (after n 13) (with_nothing n right_pair)
+  second_core =
+      with_all-core 4 n (with_three 13) (pos 2) right_pair (omega arith) many (search rules) refl (search rules) refl
+      (search rules)
+
+  -- where 1, 2 and 3 are worth 2, player 3 gets nothing
+  third_nothing : (x : Allocation) → InCore (after n 7) x → share x 2 ≤ℤ pos 0
+  third_nothing x h =
+      let at : (s : ℕ) → s < 16 → (x.den *ℤ (after n 7).worth s) ≤ℤ sum_over 4 (share x) s =
+      λ s lt. reaches 4 n (omega arith) many (with_three 7) (pos 2) (search rules) x s h lt in
+      omega (
+        arith,
+        linear,
+        at 7 (omega arith),
+        at 9 (omega arith),
+        at 10 (omega arith),
+        first_at_most 4 n (omega arith) many (with_three 7) (pos 2) (search rules) x h,
+        mul-oneℤ x.den,
+        twice x.den,
+      )
+
+  -- and where 1, 3 and 4 are, player 1 does
+  first_nothing : (x : Allocation) → InCore (after n 13) x → share x 0 ≤ℤ pos 0
+  first_nothing x h =
+      let at : (s : ℕ) → s < 16 → (x.den *ℤ (after n 13).worth s) ≤ℤ sum_over 4 (share x) s =
+      λ s lt. reaches 4 n (omega arith) many (with_three 13) (pos 2) (search rules) x s h lt in
+      omega (
+        arith,
+        linear,
+        at 13 (omega arith),
+        at 6 (omega arith),
+        at 10 (omega arith),
+        first_at_most 4 n (omega arith) many (with_three 13) (pos 2) (search rules) x h,
+        mul-oneℤ x.den,
+        twice x.den,
+      )
+
+  -- together they get 1 at least
+  pair_gets_one : (x : Allocation) → InCore (before n) x → x.den ≤ℤ (share x 0 +ℤ share x 2)
+  pair_gets_one x h =
+      let at = reaches 4 n (omega arith) many pairs (pos 2) pairs_first x 5 h (omega arith) in
+      omega (arith, linear, at, mul-oneℤ x.den)
+
+  none_fits : (rule : Game → Allocation) → PicksCorePoints n rule → IsCoalitionMonotonic n rule → ⊥
+  none_fits rule picks monotonic =
+      let x = rule (before n) in
+      let y = rule (after n 7) in
+      let z = rule (after n 13) in
+      let game = with_all-game 4 n (omega arith) many pairs (pos 2) pairs_first in
+      let hx = picks (before n) (with_nothing n left_pair) game before_core in
+      let hy =
+      picks (after n 7) (with_nothing n left_pair)
+      (with_all-game 4 n (omega arith) many (with_three 7) (pos 2) (search rules)) first_core in
+      let hz =
+      picks (after n 13) (with_nothing n right_pair)
+      (with_all-game 4 n (omega arith) many (with_three 13) (pos 2) (search rules)) second_core in
+      let high = all-high 4 n (omega arith) many in
+      let third =
+      monotonic (pos 2) 7 (before n) (after n 7) (with_nothing n left_pair) (with_nothing n left_pair) 2 game
+      before_core first_core (search rules) (omega (arith, high)) (three_grow 7 (none_worth 7 (omega arith)) refl)
+      (omega (arith, many)) refl in
+      let first =
+      monotonic (pos 2) 13 (before n) (after n 13) (with_nothing n left_pair) (with_nothing n right_pair) 0 game
+      before_core second_core (search rules) (omega (arith, high)) (three_grow 13 (none_worth 13 (omega arith)) refl)
+      (omega (arith, many)) refl in
+      let none_three = no_more (share x 2) x.den (share y 2) y.den hx.0.1 hy.0.1 (third_nothing y hy) third in
+      let none_one = no_more (share x 0) x.den (share z 0) z.den hx.0.1 hz.0.1 (first_nothing z hz) first in
+      omega (arith, linear, pair_gets_one x hx, none_three, none_one, hx.0.1)
 
 pub no_core_rule : NoCoreRuleIsMonotonic
-no_core_rule n rule many picks monotonic =
-    let x = rule (smaller n) in
-    let m = rule (middle n) in
-    let y = rule (greater n) in
-    let first =
-    picks (smaller n) (with_nothing n first_shares) (six-game n (pos 9) (pos 11) many) (first_core n many) in
-    let second =
-    picks (middle n) (with_nothing n middle_shares) (six-game n (pos 9) (pos 12) many) (middle_core n many) in
-    let third = picks (greater n) (with_nothing n last_shares) (six-game n (pos 12) (pos 12) many) (last_core n many) in
-    let high = all-high n many in
-    let lt : 3 < n = omega (arith, many) in
-    let one =
-    monotonic (pos 1) (grand_coalition n) (smaller n) (middle n) (with_nothing n first_shares)
-    (with_nothing n middle_shares) 3 (six-game n (pos 9) (pos 11) many) (first_core n many) (middle_core n many)
-    (search rules) (grand_coalition-within n) (all_grow n many) lt (has_player-grand_coalition n 3 lt) in
-    let two =
-    monotonic (pos 3) 27 (middle n) (greater n) (with_nothing n middle_shares) (with_nothing n last_shares) 3
-    (six-game n (pos 9) (pos 12) many) (middle_core n many) (last_core n many) (search rules)
-    (omega (arith, high)) (four_grow n) lt refl in
-    let low =
-    at_least-through (share x 3) x.den (share m 3) m.den (pos 7) first.0.1 second.0.1 (seven_before n x many first)
-    one in
-    let still = at_least-through (share m 3) m.den (share y 3) y.den (pos 7) second.0.1 third.0.1 low two in
-    omega (arith, linear, still, six_after n y many third, seven_times y.den, third.0.1)
+no_core_rule n rule many picks monotonic = none_fits n many rule picks monotonic

@@ -6,7 +6,7 @@
 --   SomebodyLosesInTheCore          there are such games of any number of players from five on
 --   PicksCorePoints n rule          where a game of n players has core points, the rule's shares are one
 --   IsCoalitionMonotonic n rule     where a coalition grows, and both games have core points, no member gets less
---   NoCoreRuleIsMonotonic           so from five players on no rule is both
+--   NoCoreRuleIsMonotonic           from four players on no rule is both (of four: Housman and Clark 1998)
 --   WhoIsInAllThatGrowsGetsNoLess   but the Shapley value gives no less to a player around whom a game grows
 use Rattle.std.specs.Prelude.{◌≡◌, ℕ, ◌^◌, ◌<◌, ◌≤◌, true}
 use Rattle.std.specs.Prelude.{false, ℤ, pos, ◌*ℤ◌, ◌<ℤ◌, ◌≤ℤ◌}
@@ -49,10 +49,11 @@ IsCoalitionMonotonic n rule =
     pos 0 ≤ℤ d → t < 2 ^ n → GroupGrows d t g h → i < n → has_player t i ≡ true →
     (share (rule g) i *ℤ (rule h).den) ≤ℤ (share (rule h) i *ℤ (rule g).den)
 
--- so from five players on no rule picks core points and is monotonic
+-- from four players on no rule picks core points and is monotonic (of five and more Young 1985, of four Housman and
+-- Clark 1998)
 abbrev pub NoCoreRuleIsMonotonic : Type 0
 NoCoreRuleIsMonotonic =
-    (n : ℕ) (rule : Game → Allocation) → 5 ≤ n → PicksCorePoints n rule → ¬ IsCoalitionMonotonic n rule
+    (n : ℕ) (rule : Game → Allocation) → 4 ≤ n → PicksCorePoints n rule → ¬ IsCoalitionMonotonic n rule
 
 -- where a game grows around a player, the Shapley value gives that player no less
 abbrev pub WhoIsInAllThatGrowsGetsNoLess : Type 0

@@ -3,3 +3,4 @@ pub mod Additions
 pub mod CoreRules
 pub mod SmallGrowth
 pub mod TwoRules
+pub mod BirdShares

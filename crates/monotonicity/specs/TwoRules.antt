@@ -3,7 +3,7 @@
 --
 --   GivesShapley n rule        the rule gives each game of n players its Shapley value
 --   GivesPrenucleolus n rule   or its prenucleolus, by plain excess
---   TwoRulesDiffer             from five players on the first is monotonic and doesn't pick core points, and the second
+--   TwoRulesDiffer             from four players on the first is monotonic and doesn't pick core points, and the second
 --                              picks core points and isn't monotonic
 use Rattle.std.specs.Prelude.{ℕ, ◌≤◌}
 use Rattle.definitions.specs.Games.{Game, Allocation, IsNucleolus}
@@ -24,7 +24,7 @@ GivesPrenucleolus n rule = (g : Game) → IsGameOf n g → IsNucleolus Preimputa
 -- where there is one; each of the second does, and is monotonic in neither sense
 abbrev pub TwoRulesDiffer : Type 0
 TwoRulesDiffer =
-    (n : ℕ) → 5 ≤ n →
+    (n : ℕ) → 4 ≤ n →
     ((rule : Game → Allocation) × GivesShapley n rule)
     × ((rule : Game → Allocation) × GivesPrenucleolus n rule)
     × ((rule : Game → Allocation) → GivesShapley n rule →

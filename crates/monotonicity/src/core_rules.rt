@@ -10,8 +10,9 @@ pub fn somebody_loses_in_the_core()
     ensures { SomebodyLosesInTheCore }
 {}
 
-/// So no rule for five players or more gives a core point wherever there is one, and no member less where one coalition
-/// is worth more: not even if that is asked of games with core points alone (Young 1985).
+/// No rule for four players or more gives a core point wherever there is one, and no member less where one coalition is
+/// worth more: not even if that is asked of games with core points alone (of five and more Young 1985, of four Housman
+/// and Clark 1998).
 pub fn no_core_rule_is_monotonic()
     ensures { NoCoreRuleIsMonotonic }
 {}

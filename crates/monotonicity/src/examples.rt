@@ -9,7 +9,7 @@ pub fn contracts_compared()
     ensures { ContractsCompared }
 {}
 
-/// From five players on the Shapley value is monotonic in both senses, and isn't always a core point where there is
+/// From four players on the Shapley value is monotonic in both senses, and isn't always a core point where there is
 /// one; the prenucleolus is, and is monotonic in neither sense.
 pub fn two_rules_differ()
     ensures { TwoRulesDiffer }

@@ -7,3 +7,4 @@ pub mod additions;
 pub mod core_rules;
 pub mod examples;
 pub mod growth;
+pub mod networks;

@@ -6,3 +6,4 @@ pub mod Majority
 pub mod ZeroMonotonic
 pub mod Subsidies
 pub mod TwoVoters
+pub mod EstateCores

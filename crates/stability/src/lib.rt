@@ -4,6 +4,7 @@
 #![tactic(auto)]
 
 pub mod convex_cores;
+pub mod estates;
 pub mod joining;
 pub mod kernels;
 pub mod least_cores;
