@@ -3,11 +3,11 @@
 //
 //     node page/build.mjs --module page/engine/coop.wasm --commit COMMIT --out page/coop.html
 //
-// COMMIT is the commit of the sources that the module was made from. Without --module, or without --commit, these are those
-// of the page that stands at --out already: so whoever changes the page alone needs neither the kit nor a module.
+// COMMIT is the commit of the sources that the module was made from. Without --module, or without --commit, these are
+// those of the page that stands at --out already: so whoever changes the page alone needs neither the kit nor a module.
 //
-// It is no bundler. Each module becomes a function of its own, so names don't clash. An import names what it takes, from
-// a relative path; an export stands in front of what it exports. Other forms of import and export are refused.
+// It is no bundler. Each module becomes a function of its own, so names don't clash. An import names what it takes,
+// from a relative path; an export stands in front of what it exports. Other forms of import and export are refused.
 import { createHash } from "node:crypto";
 import { readFileSync, writeFileSync } from "node:fs";
 import { dirname, join, relative, resolve } from "node:path";

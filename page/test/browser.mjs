@@ -31,6 +31,8 @@ export class Browser {
   }
 
   receive(message) {
+    if (message.method === "Tracing.dataCollected") return this.traced.push(...message.params.value);
+    if (message.method === "Tracing.tracingComplete") return this.traceDone();
     if (message.id === undefined) return this.pages.get(message.sessionId)?.events.push(message);
     const { resolve, reject, timer } = this.waiting.get(message.id) ?? {};
     this.waiting.delete(message.id);
@@ -58,6 +60,22 @@ export class Browser {
     await page.look(look);
     await page.open(url);
     return page;
+  }
+
+  /** What runs in a page's main thread while `work` is done: the longest task, in milliseconds of the processor. So a
+   * busy machine makes it no longer. One at a time. */
+  async longestTask(page, work) {
+    this.traced = [];
+    const traceConfig = { includedCategories: ["toplevel", "blink.user_timing"], excludedCategories: ["*"] };
+    await this.send("Tracing.start", { transferMode: "ReportEvents", traceConfig });
+    await page.run("performance.mark('coop-here') && 0");
+    await work();
+    const done = new Promise((resolve) => (this.traceDone = resolve));
+    await this.send("Tracing.end");
+    await done;
+    const here = this.traced.find(({ name }) => name === "coop-here");
+    const isOwn = ({ name, pid, tid }) => pid === here.pid && tid === here.tid && name.endsWith("RunTask");
+    return Math.round(this.traced.filter(isOwn).reduce((most, { tdur = 0 }) => Math.max(most, tdur), 0) / 1000);
   }
 
   stop() {

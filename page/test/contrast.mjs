@@ -15,7 +15,8 @@ const EDGES = ["edge", "nucleolus", "shapley", "core", "bird", "buyers", "seller
 /** The palettes of a style sheet: the light one, and the dark one over it. */
 export function palettesIn(css) {
   const [, light, dark] = css.split(":root {");
-  const colours = (rules) => Object.fromEntries([...rules.matchAll(/(--[\w-]+): (#[0-9a-f]{6});/g)].map(([, a, b]) => [a, b]));
+  const pairs = (rules) => [...rules.matchAll(/(--[\w-]+): (#[0-9a-f]{6});/g)].map(([, name, value]) => [name, value]);
+  const colours = (rules) => Object.fromEntries(pairs(rules));
   return { light: colours(light), dark: { ...colours(light), ...colours(dark) } };
 }
 

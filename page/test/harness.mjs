@@ -15,9 +15,11 @@ export class Harness {
     Object.assign(this, { url, only, list: [], done: 0, faults: [] });
   }
 
-  /** A scenario: `play(page, expect)` in a page of its own, at an address that ends in `#id`. */
-  scenario(name, id, play, look = {}) {
-    if (name.includes(this.only)) this.list.push({ name, id, play, look });
+  /** Scenarios: `play(page, expect)` in a page of its own, at an address that ends in `#id`. */
+  add(scenarios) {
+    for (const [name, id, play, look = {}] of scenarios) {
+      if (name.includes(this.only)) this.list.push({ name, id, play, look });
+    }
   }
 
   expect(name) {

@@ -6,7 +6,8 @@ import { join } from "node:path";
 import { fileURLToPath } from "node:url";
 
 const [MOST_LETTERS, MOST_LINES, MOST_FILE] = [120, 40, 400];
-const OPENS = /^( *)(?:export )?(?:async |static )*(?:function\*? ?\w*\(.*|(?:get |set )?\w+\(.*\)|(?:const|let) \w+ = .*=>) ?\{$/;
+const NAMED = "function\\*? ?\\w*\\(.*|(?:get |set )?\\w+\\(.*\\)|(?:const|let) \\w+ = .*=>";
+const OPENS = new RegExp(`^( *)(?:export )?(?:async |static )*(?:${NAMED}) ?\\{$`);
 
 const top = fileURLToPath(new URL("..", import.meta.url));
 let lines = 0, faults = 0;

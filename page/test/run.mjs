@@ -13,16 +13,13 @@ import { monkey } from "./monkey.mjs";
 const words = process.argv.slice(2), [page, top] = words.map((word) => resolve(word));
 const option = (name, byDefault) => (words.includes(name) ? words[words.indexOf(name) + 1] : byDefault);
 
-const harness = new Harness(pathToFileURL(page).href, option("--only", ""));
-large(harness, Number(option("--slack", "1")));
-casesTyped(harness);
-tables(harness);
-otherCases(harness);
-documents(harness, top, resolve(option("--program", join(top, "crates", "coop", "out", "coop"))));
-checking(harness, top);
-looks(harness);
-access(harness);
-monkey(harness, Number(option("--seed", "1")), Number(option("--steps", "60")));
+const harness = new Harness(pathToFileURL(page).href, option("--only", "")), told = [];
+const program = resolve(option("--program", join(top, "crates", "coop", "out", "coop")));
+harness.add(large(Number(option("--slack", "1")), told));
+for (const some of [casesTyped, tables, otherCases, documents(top, program), checking(top), looks, access]) {
+  harness.add(some);
+}
+harness.add(monkey(Number(option("--seed", "1")), Number(option("--steps", "60"))));
 const faults = await harness.run();
-for (const line of [harness.times, harness.opened]) if (line) console.log(line);
+for (const line of told) console.log(line);
 process.exit(faults ? 1 : 0);

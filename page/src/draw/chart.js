@@ -13,7 +13,7 @@ export function chart({ title, rows, legend, low, high, wide, text }) {
   const left = isNarrow ? side : labels, span = high > low ? high - low : 1;
   const x = (value) => left + ((value - low) / span) * (wide - left - right);
   const parts = [], drawn = legendLines(legend, wide);
-  let y = drawn.high + 10;
+  let y = drawn.high + (isNarrow ? 14 : 10);
   const top = y, ticks = ticksOf(low, high), bodies = [];
   for (const row of rows) {
     if (isNarrow) y += LINE - 4;

@@ -14,28 +14,39 @@ function tableOf(kind, heads, rows) {
 
 // ---- A market
 
-/** `fair` are the shares of the nucleolus, where there are some. */
-export function trades(game, matching, { show, fair, wide }) {
+/** The pairs that trade: who, what they gain, the price at least and at most, and that of the nucleolus. */
+export function dealsOf(game, matching, solution) {
   const buyers = matching["buyers best"].map(Rational.of), sellers = matching["sellers best"].map(Rational.of);
-  const deals = matching.pairs.map((pair) => {
+  return matching.pairs.map((pair) => {
     const [buyer, seller] = pair.map((player) => Number(player) - 1);
-    const worth = game.rows[buyer][seller - game.rows.length], who = `${game.shown[buyer]} – ${game.shown[seller]}`;
-    return { buyer, seller, who, worth, low: buyers[seller], high: sellers[seller], fair: fair?.[seller] };
+    const worth = game.rows[buyer][seller - game.rows.length], fair = solution?.shares[seller];
+    const who = `${game.shown[buyer]} – ${game.shown[seller]}`;
+    return { pair: [buyer, seller], who, worth, low: buyers[seller], high: sellers[seller], fair };
   });
-  const price = ({ low, high }) => (low.equals(high) ? show(low) : `${show(low)} to ${show(high)}`);
+}
+
+export function priceOf({ show }) {
+  return ({ low, high }) => (low.equals(high) ? show(low) : `${show(low)} to ${show(high)}`);
+}
+
+export function tradesTable(deals, format) {
+  const hasFair = deals.some(({ fair }) => fair), price = priceOf(format);
   const rows = deals.map((deal) => el("tr", {},
-    el("th", { scope: "row" }, deal.who), el("td", { class: "number" }, show(deal.worth)),
+    el("th", { scope: "row" }, deal.who), el("td", { class: "number" }, format.show(deal.worth)),
     el("td", { class: "number" }, price(deal).replaceAll(" ", "\u00a0")),
-    fair && el("td", { class: "number" }, show(deal.fair))));
-  const traded = new Set(deals.flatMap(({ buyer, seller }) => [buyer, seller]));
+    hasFair && el("td", { class: "number" }, format.show(deal.fair))));
+  return tableOf("trades", ["Who trades", "Gain", "Price", ...(hasFair ? ["By the nucleolus"] : [])], rows);
+}
+
+export function trades(game, matching, { solution, wide, ...format }) {
+  const deals = dealsOf(game, matching, solution), traded = new Set(deals.flatMap(({ pair }) => pair));
   const idle = game.everyone().filter((i) => !traded.has(i)).map((i) => game.shown[i]);
-  const heads = ["Who trades", "Gain", "Price", ...(fair ? ["By the nucleolus"] : [])];
-  return el("div", {}, tableOf("trades", heads, rows),
+  return el("div", {}, tradesTable(deals, format),
     el("p", { class: "hint" },
-      `Together they gain ${show(Rational.of(matching.value))}; no other pairs gain more. `,
+      `Together they gain ${format.show(Rational.of(matching.value))}; no other pairs gain more. `,
       "A price is what the seller gets of the gain, above its own value. At a lower price some buyer would be outbid, ",
       "at a higher one some seller undercut.", idle.length > 0 && ` Without a trade: ${idle.join(", ")}.`),
-    deals.length > 0 && figure("ranges", "prices", pricesPicture(deals, price, show, wide)));
+    deals.length > 0 && figure("ranges", "prices", pricesPicture(deals, priceOf(format), format.show, wide)));
 }
 
 export function pricesPicture(deals, price, show, wide) {

@@ -21,7 +21,7 @@ export function answerParts(result, settings) {
   return [
     notices(result, format),
     ...(game.ballots ? votes(result, pictured) : []),
-    result.matching && trades(game, result.matching, { ...format, fair: solution?.shares, wide: pictured.wide }),
+    result.matching && trades(game, result.matching, { ...format, solution, wide: pictured.wide }),
     solution && !game.ballots && !game.isMarket() && lead(result, solution, settings),
     points.length > 0 && (!game.ballots || solution) && sharesTable(result, settings),
     ...(solution && !game.ballots ? pictures(result, seen, pictured) : []),

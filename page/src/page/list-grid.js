@@ -52,7 +52,8 @@ class ListGrid {
       this.onChange();
       cellOf(this.body, `rows.${Math.min(r, rows.length - 1)}.${this.keys[0]}`)?.focus();
     }, { class: "remove", "aria-label": `Remove row ${r + 1}`, title: "Remove this row" });
-    return el("tr", {}, this.columns().map((column) => this.cellIn(row, r, column)), el("td", { class: "tool" }, remove));
+    const cells = this.columns().map((column) => this.cellIn(row, r, column));
+    return el("tr", {}, cells, el("td", { class: "tool" }, remove));
   }
 
   cellIn(row, r, column) {

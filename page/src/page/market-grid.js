@@ -23,7 +23,9 @@ class MarketGrid {
 
   show() {
     const { buyers, sellers } = this.typed, none = el("td", { class: "tool" });
-    const seller = (_, j) => el("th", { scope: "col", class: "number" }, this.nameInput("sellers", j, `Seller ${j + 1}`));
+    const seller = (_, j) => {
+      return el("th", { scope: "col", class: "number" }, this.nameInput("sellers", j, `Seller ${j + 1}`));
+    };
     const head = el("tr", {}, el("th", { scope: "col" }, "Buyer"), sellers.map(seller), none);
     const rows = buyers.map((name, i) => el("tr", {},
       el("th", { scope: "row" }, this.nameInput("buyers", i, `Buyer ${i + 1}`)),

@@ -9,6 +9,7 @@ import { meanings, SUBTITLES } from "./meanings.js";
 import { proposalInput, proposalSum, proposalTools } from "./proposal-cells.js";
 
 const BRIEF = 20; // rows that are kept on one printed page
+const NARROW = 520;
 
 export function sharesTable(result, settings) {
   const { game, points } = result, { rows, format, proposal } = settings;
@@ -73,14 +74,19 @@ function sumRow({ sum, of }, { rows, context, columns, format, proposal }) {
     context && el("td", { class: "context" }), cells, proposal.canBe && el("td", { class: "proposed" }));
 }
 
-function footOf({ game, rows, context, columns, format, proposal }, hasHolds) {
+function footOf({ game, context, columns, format, proposal, wide }, hasHolds) {
   const blank = context && el("td", { class: "context" });
   const sum = el("tr", { class: "sum" }, el("th", { scope: "row" }, "together"), blank,
     columns.map(({ texts }) => el("td", { class: "number" }, texts.at(-1))),
     proposal.canBe && el("td", { class: "number proposed" }, proposalSum(game, proposal, format)));
-  const asked = (title, told, own) => el("tr", { class: "verdict" }, el("th", { scope: "row" }, title),
-    blank && el("td", { class: "context" }), columns.map((point) => el("td", { class: "number" }, told(point))),
-    proposal.canBe && el("td", { class: "number proposed", role: "status" }, proposal.shares ? told(own) : "–"));
+  // on a narrow page the question stands above its answers, since a column has room for a word alone
+  const isNarrow = wide < NARROW, span = columns.length + 1 + (proposal.canBe ? 1 : 0);
+  const asked = (title, told, own) => [
+    isNarrow && el("tr", { class: "question" }, el("th", { scope: "rowgroup", colspan: String(span) }, title)),
+    el("tr", { class: "verdict" }, el("th", { scope: "row" }, isNarrow ? "" : title),
+      blank && el("td", { class: "context" }), columns.map((point) => el("td", { class: "number" }, told(point))),
+      proposal.canBe && el("td", { class: "number proposed", role: "status" }, proposal.shares ? told(own) : "–")),
+  ];
   const isJudged = columns.some(({ verdict }) => verdict !== null);
   return el("tfoot", {}, sum,
     isJudged && asked("Can a group do better by itself?", (one) => verdictText(game, one.verdict, format), proposal),

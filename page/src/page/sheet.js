@@ -2,7 +2,7 @@
 import { fractionText } from "../exact/decimals.js";
 import { barsPicture } from "../draw/bars.js";
 import { planPicture } from "../draw/plan.js";
-import { powerPicture } from "../draw/ranges.js";
+import { dealsOf, powerPicture, priceOf, pricesPicture, tradesTable } from "../draw/ranges.js";
 import { trianglePicture } from "../draw/triangle.js";
 import { Rational } from "../exact/rational.js";
 import { lead, solutionOf } from "./answer.js";
@@ -10,14 +10,14 @@ import { el, refill } from "./dom.js";
 import { digestOf } from "./files.js";
 import { formatOf, totalsOf } from "./format.js";
 
-const WIDE = 640;
+const WIDE = 700;
 const MOST_PICTURED = 10; // rows whose bars leave room for the rest
-const MOST_SENTENCES = 7;
+const MOST_TOLD = 800; // characters of the first reason that are printed in full
 const MOST_DOCUMENT = 420; // characters of the game's document that are printed
 
 const OPEN = "Open the page coop.html of the project";
-const POWER = "Power is in what part of all orders of joining a voter is the one by whom the votes suffice (Shapley and "
-  + "Shubik 1954).";
+const POWER = "Power is in what part of all orders of joining a voter is the one by whom the votes suffice (Shapley "
+  + "and Shubik 1954).";
 const PRICES = "By the pairs that gain most together, and the prices at which no other pair does better.";
 
 let shownFor = null; // whose fingerprint is being worked out
@@ -50,6 +50,9 @@ function answerOf(view) {
   const shapley = result.points.find(({ key }) => key === "shapley");
   const point = game.ballots ? shapley : solutionOf(result) ?? result.points[0];
   if (!point) return null;
+  if (result.matching) {
+    return el("section", {}, tradesTable(dealsOf(game, result.matching, solutionOf(result)), format));
+  }
   const title = game.ballots ? "Power" : point.title, totals = totalsOf(rows, point.shares);
   const context = contextOf(game, rows, format), texts = format.column(totals);
   const body = rows.map(({ label, players }, r) => el("tr", {},
@@ -86,7 +89,11 @@ function pictureOf({ result, rows, format }) {
   const { game, points, bird } = result, solution = solutionOf(result), few = rows.length <= MOST_PICTURED;
   const settings = { ...format, wide: WIDE }, holder = (drawn) => el("figure", {}, drawn);
   if (game.ballots) return few ? holder(powerOf(game, points, format)) : null;
-  if (!solution || game.isMarket()) return null;
+  if (result.matching) {
+    const deals = dealsOf(game, result.matching, solution);
+    return deals.length > 0 && few ? holder(pricesPicture(deals, priceOf(format), format.show, WIDE)) : null;
+  }
+  if (!solution) return null;
   if (bird && few) return holder(planPicture(game, bird.tree, settings));
   if (game.n === 3) return holder(trianglePicture(game, [solution], settings).drawn);
   return few ? holder(barsPicture(game, rows, [solution], settings)) : null;
@@ -103,9 +110,14 @@ function powerOf(game, points, { show }) {
 
 function reasonsOf({ result }) {
   const { reasons, answer, game, points } = result;
-  if (!reasons) return el("section", {}, el("h2", {}, "How it was found"), el("p", {}, game.ballots ? POWER : PRICES));
-  const [principle, next] = reasons, more = next ? [...next.sentences, ...next.items.map(({ label }) => label)] : [];
-  const sentences = [...principle.sentences, ...more].slice(0, MOST_SENTENCES);
+  if (game.ballots || !reasons) {
+    return el("section", {}, el("h2", {}, "How it was found"), el("p", {}, game.ballots ? POWER : PRICES));
+  }
+  const [principle, next] = reasons, levels = reasons.filter(({ isLevel }) => isLevel).length;
+  const more = next ? [...next.sentences, ...next.items.map(({ label }) => label), next.last] : [];
+  const isLong = more.join(" ").length > MOST_TOLD, told = isLong ? [...more.slice(0, 2), more.at(-1)] : more;
+  const sentences = [...principle.sentences, ...told].filter(Boolean);
+  if (next?.isLevel && levels > 1) sentences.push(`So the first of ${levels} levels; the certificate has them all.`);
   const isCore = points.find(({ key }) => key === answer)?.verdict?.isCore;
   return el("section", {}, el("h2", {}, `Why: the ${answer}`),
     el("p", {}, sentences.join(" ")),
@@ -123,9 +135,9 @@ function agreedOf({ result: { text } }, digest) {
     el("p", { class: "sign" }, "Agreed on by", el("span"), "on", el("span", { class: "short" })));
 }
 
-function checkOf({ result: { answer, line } }) {
+function checkOf({ result: { answer, line, game } }) {
   const foot = document.querySelector("footer p").textContent;
-  const steps = line
+  const steps = line && !game.ballots
     ? `${OPEN}, choose “I got an answer and doubt it”, and give it the agreed file and the line with the certificate. `
       + `Two checkers, apart from each other, say whether these shares are the ${answer} of the agreed game. `
       + "It goes by hand, too (docs/certificates.md)."

@@ -17,10 +17,10 @@ export function meaning(answer = "nucleolus") {
       el("li", {}, el("b", {}, "The program. "), "Its source is proved, by the prover of the Rattle kit. Trusted are ",
         "that prover; the compilers of the kit; what the kit’s own crates state; that the proved code became this ",
         "WebAssembly module as it should; the few lines that give it memory (host.js); and this browser. No proof ",
-        `covers the translation to WebAssembly; it was compared on ${COMPARED} documents with the program as it is built `,
-        "for Linux."),
-      el("li", {}, el("b", {}, "The page’s own checker. "), "A few hundred lines of JavaScript that share nothing ",
-        "with the program and stand in this file: nothing is proved of them. Trusted are these lines and this browser.")),
+        `covers the translation to WebAssembly; it was compared on ${COMPARED} documents with the program as it is `,
+        "built for Linux."),
+      el("li", {}, el("b", {}, "The page’s own checker. "), "Some 600 lines of JavaScript that share nothing with ",
+        "the program and stand in this file: nothing is proved of them. Trusted are these lines and this browser.")),
     el("p", {}, "Each of the two says its word by itself. A checker of a third kind, in Python, comes with the ",
       "project. Nothing that you type leaves this page, and nothing is kept."));
 }

@@ -86,8 +86,8 @@ class VerifyPanel {
 
   showBare(seen, game) {
     const what = game
-      ? "It has no certificate, so there is nothing to check: only the lines of the nucleolus and the prenucleolus have "
-        + "one."
+      ? "It has no certificate, so there is nothing to check: only the lines of the nucleolus and the prenucleolus "
+        + "have one."
       : "It has no game and no certificate.";
     refill(this.answers, el("p", { class: "notice" }, what), twice(seen), summary(seen, game, this.format()));
   }

@@ -3,7 +3,7 @@ import { lcm, Rational } from "../exact/rational.js";
 import { Inexact, isObject, writeJson } from "../exact/json.js";
 import { withEscapes } from "../game/names.js";
 import { fractionSlip } from "./slips-of-numbers.js";
-import { plural } from "./words.js";
+import { isOrAre, plural } from "./words.js";
 
 const MOST_DENOMINATOR = 2n ** 63n;
 const MOST_SHARE = 2n ** 110n;
@@ -16,7 +16,7 @@ const LEVEL_KEYS = ["bounds", "coalitions", "earlier", "excess", "total"];
 export function shareSlips({ shares }, n, scale, add) {
   if (!Array.isArray(shares)) return add(3, "shares is an array, with a share for each player.", "shares");
   if (shares.length !== n) {
-    add(10, `There are ${plural(shares.length, "share")} for ${plural(n, "player")}.`, "shares");
+    add(10, `There ${isOrAre(shares)} ${plural(shares.length, "share")} for ${plural(n, "player")}.`, "shares");
   }
   const isRead = shares.map((share, i) => shareIsRead(share, `shares, item ${i + 1}`, add));
   return isRead.every(Boolean) ? finenessSlips(shares, scale, add) : undefined;

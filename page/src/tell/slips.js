@@ -4,7 +4,7 @@ import { bytesOf } from "../cases/reading.js";
 import { withEscapes } from "../game/names.js";
 import { certificateSlips, shareSlips } from "./slips-of-evidence.js";
 import { numberSlips, wholeSlips } from "./slips-of-numbers.js";
-import { plural } from "./words.js";
+import { isOrAre, plural } from "./words.js";
 
 const TABLE = ["players", "worths", "sparse", "default"];
 const KEYS = {
@@ -125,7 +125,9 @@ function nameSlips({ names }, n, add) {
     add(3, "names is an array of texts.", "game.names");
     return;
   }
-  if (names.length !== n) add(6, `There are ${plural(names.length, "name")} for ${plural(n, "player")}.`, "game.names");
+  if (names.length !== n) {
+    add(6, `There ${isOrAre(names)} ${plural(names.length, "name")} for ${plural(n, "player")}.`, "game.names");
+  }
   names.forEach((name, i) => {
     const place = `game.names, item ${i + 1}`, shown = withEscapes(name.slice(0, 20));
     if (!name) add(6, "A name is empty.", place);
