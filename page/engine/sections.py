@@ -82,14 +82,14 @@ def stop_on_unknown(module: bytes, functions: Iterable[str], export: str) -> Non
     of = dict(sections(module))
     if {TABLES, ELEMENTS} & set(of):
         raise Unknown("the module has a table of functions")
-    count, flags = of[MEMORIES][:2]
+    count, flags = (of.get(MEMORIES, b"") + b"\0\0")[:2]
     if (count, flags & ~1) != (1, 0):
         raise Unknown("the module doesn't have one memory of 32 bits of its own")
-    wanted = {("heap", name, FUNCTION) for name in functions}
-    if not set(imports_in(of[IMPORTS])) <= wanted:
-        raise Unknown(f"the module asks its host for {sorted(imports_in(of[IMPORTS]))}")
-    if sorted(exports_in(of[EXPORTS])) != sorted((*GIVEN, export)):
-        raise Unknown(f"the module gives {sorted(exports_in(of[EXPORTS]))}")
+    asked, given = (list(imports_in(of.get(IMPORTS, b"\0"))), sorted(exports_in(of.get(EXPORTS, b"\0"))))
+    if not set(asked) <= {("heap", name, FUNCTION) for name in functions}:
+        raise Unknown(f"the module asks its host for {asked}")
+    if given != sorted((*GIVEN, export)):
+        raise Unknown(f"the module gives {given}")
 
 
 def with_makers(module: bytes, said: str) -> bytes:

@@ -8,7 +8,7 @@ from collections.abc import Iterator
 from pathlib import Path
 
 from documents import TOP, Run
-from sections import coded
+from stops import small_module
 
 AIRPORT = os.path.join(TOP, "examples", "airport.json")
 NO_ANSWER = 70
@@ -45,7 +45,7 @@ def faults_without_answer(page: str) -> Iterator[str]:
         begins = whole.index("AGFzbQEAAAA")
         half = whole[:begins + 100000] + whole[whole.index('"', begins):]
         pages = {"no page": None, "no module": "<p>", "two modules": whole + whole, "half of a module": half,
-                 "a trap": trapping()}
+                 "a trap": f'<script>"{base64.b64encode(small_module()).decode()}"</script>'}
         for name, text in pages.items():
             if text is not None:
                 html.write_text(text, "utf-8")
@@ -53,26 +53,6 @@ def faults_without_answer(page: str) -> Iterator[str]:
             status, line, errors = called(words, Path(AIRPORT).read_bytes())
             if (status, line) != (NO_ANSWER, b"") or not errors.startswith(b"coop: no answer: "):
                 yield f"coop.mjs with {name}: status {status}, {line!r}, {errors!r}"
-
-
-def trapping() -> str:
-    """A page with a module of the same form, whose call traps."""
-    def section(number: int, *parts: bytes) -> bytes:
-        data = coded(len(parts)) + b"".join(parts)
-        return bytes([number]) + coded(len(data)) + data
-
-    def name(text: bytes) -> bytes:
-        return coded(len(text)) + text
-
-    i32, i64 = b"\x7f", b"\x7e"
-    padding = coded(3) + b"pad" + bytes(2000)
-    module = b"\0asm\1\0\0\0" + b"".join([
-        section(1, b"\x60\7" + i64 * 7 + b"\1" + i32), section(3, b"\0"), section(5, b"\0\2"),
-        section(6, i64 + b"\0\x42\x10\x0b"),
-        section(7, name(b"memory") + b"\2\0", name(b"__heap_base") + b"\3\0", name(b"coop_run") + b"\0\0"),
-        section(10, b"\3\0\0\x0b"), b"\0" + coded(len(padding)) + padding,
-    ])
-    return f'<script>"{base64.b64encode(module).decode()}"</script>'
 
 
 def faults_unbuilt(page: str) -> Iterator[str]:

@@ -1,0 +1,30 @@
+// Texts that are handed on: to save, to copy, to look at, and their fingerprint.
+import { button, copy, download, el } from "./dom.js";
+
+const MOST_SHOWN = 3000;
+
+export function fileButtons(text, name) {
+  return el("span", { class: "files" },
+    button(`Save ${name}`, () => download(name, text)),
+    button("Copy", (event) => copy(text, event.target), { class: "quiet", "aria-label": `Copy ${name}` }));
+}
+
+export function shown(title, text) {
+  const isLong = text.length > MOST_SHOWN, count = text.length.toLocaleString("en");
+  return el("details", { class: `file${isLong ? " long" : ""}` },
+    el("summary", {}, title, el("small", {}, ` ${count} characters`)),
+    el("pre", { tabindex: "0", role: "region", "aria-label": title },
+      isLong ? `${text.slice(0, MOST_SHOWN)} …` : text));
+}
+
+/** The SHA-256 of a text, by which people see that they have the same file; null where the browser has none. */
+export async function digestOf(text) {
+  const bytes = await globalThis.crypto?.subtle?.digest("SHA-256", new TextEncoder().encode(text));
+  return bytes ? [...new Uint8Array(bytes)].map((byte) => byte.toString(16).padStart(2, "0")).join("") : null;
+}
+
+export function fingerprint(text) {
+  const place = el("small", { class: "fingerprint" });
+  digestOf(text).then((digits) => (place.textContent = digits ? `SHA-256 of the file: ${digits}` : ""));
+  return place;
+}

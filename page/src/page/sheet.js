@@ -1,0 +1,146 @@
+// The one printed page: who, how much, a picture, the reasons, what is agreed on, and how to check it.
+import { fractionText } from "../exact/decimals.js";
+import { barsPicture } from "../draw/bars.js";
+import { planPicture } from "../draw/plan.js";
+import { dealsOf, powerPicture, priceOf, pricesPicture, tradesTable } from "../draw/ranges.js";
+import { trianglePicture } from "../draw/triangle.js";
+import { Rational } from "../exact/rational.js";
+import { lead, solutionOf } from "./answer.js";
+import { el, refill } from "./dom.js";
+import { digestOf } from "./files.js";
+import { formatOf, totalsOf } from "./format.js";
+
+const WIDE = 700;
+const MOST_PICTURED = 10; // rows whose bars leave room for the rest
+const MOST_TOLD = 800; // characters of the first reason that are printed in full
+const MOST_DOCUMENT = 420; // characters of the game's document that are printed
+
+const OPEN = "Open the page coop.html of the project";
+const POWER = "Power is in what part of all orders of joining a voter is the one by whom the votes suffice (Shapley "
+  + "and Shubik 1954).";
+const PRICES = "By the pairs that gain most together, and the prices at which no other pair does better.";
+
+let shownFor = null; // whose fingerprint is being worked out
+
+/** Fills the sheet with the answer of a session; leaves it empty where there is none. */
+export function showSheet(session, typed = {}) {
+  const sheet = document.getElementById("sheet"), { result, reading } = session;
+  if (!result || result.refusal || !result.points.length) return refill(sheet);
+  const view = { ...session, ...typed, result, rows: reading.rows, format: formatOf(session.places, session.mark) };
+  const print = el("span", { class: "digest" });
+  refill(sheet, headOf(view), answerOf(view), pictureOf(view), reasonsOf(view), agreedOf(view, print), checkOf(view));
+  return tellDigest(result.text, print);
+}
+
+async function tellDigest(text, place) {
+  shownFor = text;
+  const digest = await digestOf(`${text}\n`);
+  if (shownFor === text) place.textContent = digest ?? "(this browser works out none)";
+}
+
+function headOf({ heading, kind }) {
+  const day = new Date().toLocaleDateString("en-GB", { dateStyle: "long" });
+  return el("header", {}, el("h1", {}, heading?.trim() || kind.title), el("p", { class: "hint" }, day));
+}
+
+// ---- Who, and how much
+
+function answerOf(view) {
+  const { result, rows, format, unit } = view, { game } = result;
+  const shapley = result.points.find(({ key }) => key === "shapley");
+  const point = game.ballots ? shapley : solutionOf(result) ?? result.points[0];
+  if (!point) return null;
+  if (result.matching) {
+    return el("section", {}, tradesTable(dealsOf(game, result.matching, solutionOf(result)), format));
+  }
+  const title = game.ballots ? "Power" : point.title, totals = totalsOf(rows, point.shares);
+  const context = contextOf(game, rows, format), texts = format.column(totals);
+  const body = rows.map(({ label, players }, r) => el("tr", {},
+    el("th", { scope: "row" }, label, players.length > 1 && ` (${players.length} landings)`),
+    context && el("td", { class: "number" }, context.texts[r]),
+    el("td", { class: "number strong" }, texts[r]),
+    el("td", { class: "number" }, format.isExact(totals[r]) ? "" : fractionText(totals[r]))));
+  const heads = [game.costs ? "Who pays" : game.ballots ? "Who votes" : "Who gets", context?.title, title, "exactly"];
+  const sum = el("tr", { class: "sum" }, el("th", { scope: "row" }, "together"), context && el("td"),
+    el("td", { class: "number strong" }, texts.at(-1)), el("td"));
+  const shown = heads.filter((head) => head !== undefined);
+  return el("section", {},
+    !game.ballots && !game.isMarket() && lead(result, point, { rows, format }),
+    unit?.trim() && el("p", { class: "hint" }, `All amounts are in ${unit.trim()}.`),
+    el("table", { class: `shares${rows.length > 20 ? " dense" : ""}` },
+      el("thead", {}, el("tr", {}, shown.map((head, k) => {
+        return el("th", { scope: "col", class: k ? "number" : "" }, head);
+      }))),
+      el("tbody", {}, body), el("tfoot", {}, sum)));
+}
+
+function contextOf(game, rows, { show }) {
+  const of = (title, values) => ({ title, texts: rows.map(({ players: [i] }) => show(values[i])) });
+  if (game.ballots) return { title: "Votes", texts: rows.map(({ players: [i] }) => String(game.ballots[0].votes[i])) };
+  if (game.isMarket()) return undefined;
+  if (game.kind === "bankruptcy") return of("Claim", game.amounts);
+  if (game.kind === "airport") return of("A landing needs", game.amounts);
+  return of(game.costs ? "Costs alone" : "Worth alone", game.own);
+}
+
+// ---- The picture
+
+function pictureOf({ result, rows, format }) {
+  const { game, points, bird } = result, solution = solutionOf(result), few = rows.length <= MOST_PICTURED;
+  const settings = { ...format, wide: WIDE }, holder = (drawn) => el("figure", {}, drawn);
+  if (game.ballots) return few ? holder(powerOf(game, points, format)) : null;
+  if (result.matching) {
+    const deals = dealsOf(game, result.matching, solution);
+    return deals.length > 0 && few ? holder(pricesPicture(deals, priceOf(format), format.show, WIDE)) : null;
+  }
+  if (!solution) return null;
+  if (bird && few) return holder(planPicture(game, bird.tree, settings));
+  if (game.n === 3) return holder(trianglePicture(game, [solution], settings).drawn);
+  return few ? holder(barsPicture(game, rows, [solution], settings)) : null;
+}
+
+function powerOf(game, points, { show }) {
+  const { shares } = points.find(({ key }) => key === "shapley"), [{ votes }] = game.ballots;
+  const parts = votes.map((own) => own.over(Rational.sum(votes)));
+  const percent = (value) => `${show(value.times(Rational.of(100)))}\u202f%`;
+  return powerPicture(game, shares, parts, percent, WIDE);
+}
+
+// ---- The reasons
+
+function reasonsOf({ result }) {
+  const { reasons, answer, game, points } = result;
+  if (game.ballots || !reasons) {
+    return el("section", {}, el("h2", {}, "How it was found"), el("p", {}, game.ballots ? POWER : PRICES));
+  }
+  const [principle, next] = reasons, levels = reasons.filter(({ isLevel }) => isLevel).length;
+  const more = next ? [...next.sentences, ...next.items.map(({ label }) => label), next.last] : [];
+  const isLong = more.join(" ").length > MOST_TOLD, told = isLong ? [...more.slice(0, 2), more.at(-1)] : more;
+  const sentences = [...principle.sentences, ...told].filter(Boolean);
+  if (next?.isLevel && levels > 1) sentences.push(`So the first of ${levels} levels; the certificate has them all.`);
+  const isCore = points.find(({ key }) => key === answer)?.verdict?.isCore;
+  return el("section", {}, el("h2", {}, `Why: the ${answer}`),
+    el("p", {}, sentences.join(" ")),
+    isCore && el("p", {}, "By these shares no group does better by itself."),
+    el("p", {}, `No other division meets the principle: there is just one ${answer} (Schmeidler 1969).`));
+}
+
+// ---- What is agreed on, and how to check it
+
+function agreedOf({ result: { text } }, digest) {
+  const isShort = text.length <= MOST_DOCUMENT;
+  return el("section", {}, el("h2", {}, "What is agreed on"),
+    el("p", {}, "The numbers of the game, as they stand in its file. Its SHA-256 is ", digest, "."),
+    isShort && el("p", { class: "document" }, text),
+    el("p", { class: "sign" }, "Agreed on by", el("span"), "on", el("span", { class: "short" })));
+}
+
+function checkOf({ result: { answer, line, game } }) {
+  const foot = document.querySelector("footer p").textContent;
+  const steps = line && !game.ballots
+    ? `${OPEN}, choose “I got an answer and doubt it”, and give it the agreed file and the line with the certificate. `
+      + `Two checkers, apart from each other, say whether these shares are the ${answer} of the agreed game. `
+      + "It goes by hand, too (docs/certificates.md)."
+    : `${OPEN}, choose “Open or paste a document”, and give it the agreed file: it works the answer out anew.`;
+  return el("section", {}, el("h2", {}, "How to check it"), el("p", {}, steps), el("p", { class: "hint" }, foot));
+}
