@@ -12,7 +12,7 @@ from .answers import Answer
 from .calls import bird, check, convex, core, kernel, matching, nucleolus, prenucleolus, propose, shapley
 from .errors import BadInput, CoopError, Fault, NoAnswer, NoMemory, NotFound, Refused, Usage
 from .game import Game
-from .games import airport, assignment, bankruptcy, cost_table, landings, market, table, tree, voting
+from .games import airport, assignment, bankruptcy, cost_table, landings, market, table, table_of, tree, voting
 from .many import many
 from .program import find
 
@@ -46,6 +46,7 @@ __all__ = [
     "propose",
     "shapley",
     "table",
+    "table_of",
     "tree",
     "voting",
 ]
