@@ -8,44 +8,19 @@
 The constructors make games (`games`), the calls ask the program (`calls`) and give answers (`answers`) or raise
 (`errors`). docs/python.md of the project tells more.
 """
-from .answers import Answer
+from .answers import Answer, Bird, Blocked, Convex, CorePoint, EmptyCore, InCore, InPrekernel, Matching, No
+from .answers import NoImputation, NotConvex, NotEfficient, NotInPrekernel, Nucleolus, Shapley, Yes
 from .calls import bird, check, convex, core, kernel, matching, nucleolus, prenucleolus, propose, shapley
 from .errors import BadInput, CoopError, Fault, NoAnswer, NoMemory, NotFound, Refused, Usage
 from .game import Game
-from .games import airport, assignment, bankruptcy, cost_table, landings, market, table, tree, voting
+from .games import airport, assignment, bankruptcy, cost_table, landings, market, table, table_of, tree, voting
 from .many import many
 from .program import find
 
-__all__ = [
-    "Answer",
-    "BadInput",
-    "CoopError",
-    "Fault",
-    "Game",
-    "NoAnswer",
-    "NoMemory",
-    "NotFound",
-    "Refused",
-    "Usage",
-    "airport",
-    "assignment",
-    "bankruptcy",
-    "bird",
-    "check",
-    "convex",
-    "core",
-    "cost_table",
-    "find",
-    "kernel",
-    "landings",
-    "many",
-    "market",
-    "matching",
-    "nucleolus",
-    "prenucleolus",
-    "propose",
-    "shapley",
-    "table",
-    "tree",
-    "voting",
+__all__ = [  # fmt: skip
+    "Answer", "BadInput", "Bird", "Blocked", "Convex", "CoopError", "CorePoint", "EmptyCore", "Fault", "Game",
+    "InCore", "InPrekernel", "Matching", "No", "NoAnswer", "NoImputation", "NoMemory", "NotConvex", "NotEfficient",
+    "NotFound", "NotInPrekernel", "Nucleolus", "Refused", "Shapley", "Usage", "Yes", "airport", "assignment",
+    "bankruptcy", "bird", "check", "convex", "core", "cost_table", "find", "kernel", "landings", "many", "market",
+    "matching", "nucleolus", "prenucleolus", "propose", "shapley", "table", "table_of", "tree", "voting",
 ]

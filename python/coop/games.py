@@ -7,12 +7,12 @@ denominator above 65,536 is multiplied by it (`Game.factor`), and what the calls
 from __future__ import annotations
 
 from fractions import Fraction
-from typing import Any, Iterable, Mapping, Optional, Sequence, Union
+from typing import Any, Callable, Iterable, Mapping, Optional, Sequence, Union
 
 from .amounts import Amount, factor_for, fraction_of, fractions_of, written
 from .errors import BadInput
 from .game import MOST_IN_A_TABLE, Game
-from .masks import mask_of, members
+from .masks import by_mask, mask_of, members
 from .vectors import in_mask_order
 
 Amounts = Union[Mapping[str, Amount], Sequence[Amount]]
@@ -37,6 +37,23 @@ def table(
     empty group may stand there with 0. Each other group has to be there, unless a default is named.
     """
     return listed("table", worths, names, order, default, digits, per_head)
+
+
+def table_of(
+    names: Sequence[str],
+    worth: Callable[[tuple[str, ...]], Amount],
+    *,
+    costs: bool = False,
+    digits: Optional[int] = None,
+    per_head: bool = False,
+) -> Game:
+    """A table from a rule: what each group is worth, or costs, by a function of the tuple of its members. Of a vote the
+    function may say whether the group wins."""
+    if len(names) > MOST_IN_A_TABLE:
+        raise BadInput(f"{len(names)} players: a table has at most {MOST_IN_A_TABLE}")
+    groups = (tuple(names[i] for i in members(group)) for group in by_mask(len(names)))
+    worths = [amount + 0 if isinstance(amount, bool) else amount for amount in map(worth, groups)]
+    return listed("cost-table" if costs else "table", worths, names, "mask", None, digits, per_head)
 
 
 def cost_table(

@@ -5,7 +5,7 @@ import os
 import sys
 import time
 from collections import deque
-from typing import Iterable, Iterator, Optional, Sequence, Union
+from typing import Callable, Iterable, Iterator, Optional, Sequence, TypeVar, Union
 
 from .answers import Answer
 from .calls import Chosen, ask
@@ -15,6 +15,10 @@ from .program import Program, find
 
 Outcome = Union[Answer, NoAnswer]
 """An answer; or, where there is none, the exception that the call would raise."""
+
+Item = TypeVar("Item")
+Result = TypeVar("Result")
+AHEAD = 16  # items that wait for each processor
 
 
 def many(
@@ -27,29 +31,12 @@ def many(
 ) -> Iterator[tuple[Outcome, ...]]:
     """For each game, in order, what each command answers: `for plain, shares in many(("nucleolus", "shapley"), games)`.
 
-    A game that is refused ends nothing: its outcome is the exception. Progress is told on standard error, where
-    that is a terminal unless it is asked for or not.
+    A game that is refused ends nothing: its outcome is the exception. Progress is told on standard error, where that is
+    a terminal unless it is asked for or not.
     """
-    from concurrent.futures import Future, ThreadPoolExecutor
-
     words = (commands,) if isinstance(commands, str) else tuple(commands)
-    found, count = find(program), processors or os.cpu_count() or 1
-    total = len(games) if isinstance(games, Sequence) else None
-    shown = Progress(total, sys.stderr.isatty() if progress is None else progress)
-    waiting: deque[Future[tuple[Outcome, ...]]] = deque()
-    with ThreadPoolExecutor(count) as pool:
-        for game in games:
-            waiting.append(pool.submit(outcomes, words, game, found))
-            if len(waiting) >= 16 * count:
-                yield shown.told(waiting.popleft().result())
-        while waiting:
-            yield shown.told(waiting.popleft().result())
-    shown.end()
-
-
-def outcomes(words: Sequence[str], game: Game, program: Program) -> tuple[Outcome, ...]:
-    """What each command answers to one game."""
-    return tuple(outcome(word, game, program) for word in words)
+    found = find(program)
+    return spread(lambda game: tuple(outcome(word, game, found) for word in words), games, processors, progress)
 
 
 def outcome(word: str, game: Game, program: Program) -> Outcome:
@@ -60,6 +47,32 @@ def outcome(word: str, game: Game, program: Program) -> Outcome:
         return fault
 
 
+def spread(
+    work: Callable[[Item], Result],
+    items: Iterable[Item],
+    processors: Optional[int] = None,
+    progress: Optional[bool] = None,
+) -> Iterator[Result]:
+    """The results of some work on items, in their order, by as many threads as there are processors: each waits for a
+    process, or for the C library, and others go on meanwhile."""
+    from concurrent.futures import Future, ThreadPoolExecutor
+
+    count = processors or os.cpu_count() or 1
+    total = len(items) if isinstance(items, Sequence) else None
+    shown = Progress(total, sys.stderr.isatty() if progress is None else progress)
+    waiting: deque[Future[Result]] = deque()
+    with ThreadPoolExecutor(count) as pool:
+        for item in items:
+            waiting.append(pool.submit(work, item))
+            if len(waiting) >= AHEAD * count:
+                yield waiting.popleft().result()
+                shown.count()
+        while waiting:
+            yield waiting.popleft().result()
+            shown.count()
+    shown.end()
+
+
 class Progress:
     """A bar on standard error."""
 
@@ -67,15 +80,14 @@ class Progress:
         self.total, self.is_shown = total, is_shown
         self.done, self.begun, self.last = 0, time.monotonic(), 0.0
 
-    def told(self, result: tuple[Outcome, ...]) -> tuple[Outcome, ...]:
-        """Counts a game, and hands its result on."""
+    def count(self) -> None:
+        """Counts an item."""
         self.done += 1
         now = time.monotonic()
         if self.is_shown and (now - self.last > 0.1 or self.done == self.total):
             self.last = now
             sys.stderr.write("\r" + self.text(now - self.begun))
             sys.stderr.flush()
-        return result
 
     def text(self, seconds: float) -> str:
         """The bar, where it is known how many there are."""

@@ -46,7 +46,7 @@ def escape(letter: str) -> str:
 
 def looks(text: str) -> str:
     """What a name looks like: names of the same look can't be told apart by most readers."""
-    seen = "".join(letter for letter in unicodedata.normalize("NFKC", text) if not is_unseen(letter))
+    seen = "".join(letter for letter in text if not is_unseen(letter))
     return " ".join(unicodedata.normalize("NFKC", seen).split())
 
 

@@ -98,7 +98,7 @@ class Library:
             line, count = self.ctypes.create_string_buffer(room), self.ctypes.c_size_t()
             status = self.call(typed, len(typed), document, len(document), line, room, self.ctypes.byref(count))
             if status != NO_ROOM or room >= MOST_ROOM:
-                return int(status), bytes(line.raw[: count.value])
+                return int(status), bytes(self.ctypes.string_at(line, count.value))
             room *= GROWTH
 
 

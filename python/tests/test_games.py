@@ -27,6 +27,15 @@ class Constructors(unittest.TestCase):
         self.expect(coop.table([1, 2, 4], ["Ann", "Bob"]), named)
         self.expect(coop.table({1: 1, 2: 2, (1, 2): 4}, ["Ann", "Bob"]), named)
 
+    def test_a_rule(self) -> None:
+        people = {"A": 5, "B": 3, "C": 2}
+        game = coop.table_of(list(people), lambda some: sum(people[name] for name in some) >= 6 and len(some))
+        self.expect(game, {"class": "table", "names": ["A", "B", "C"], "players": 3, "worths": [0, 0, 2, 0, 2, 0, 3]})
+        costs = coop.table_of("AB", lambda some: "0.5" if len(some) == 1 else 1, costs=True)
+        self.expect(
+            costs, {"class": "cost-table", "names": ["A", "B"], "players": 2, "worths": ["1/2", "1/2", 1], "version": 2}
+        )
+
     def test_costs_and_measures(self) -> None:
         costs = {"class": "cost-table", "excess": "per-head", "players": 2, "worths": [8, 7, 11]}
         self.expect(coop.cost_table([8, 7, 11], per_head=True), costs)

@@ -64,6 +64,13 @@ def spoilt(level: int, **changes: Any) -> dict[str, Any]:
     return document
 
 
+PAIRS = {"excess": "-2", "coalitions": [[[1, 2], 1], [[1, 3], 1], [[2, 3], 1]], "earlier": [], "bounds": [], "total": 2}
+THIRDS = {
+    "answer": "nucleolus",
+    "certificate": {"mode": "span", "levels": [PAIRS]},
+    "game": {"class": "table", "players": 3, "worths": [0, 0, 0, 0, 0, 0, 3]},
+    "shares": [1, 1, 1],
+}
 BLOCKED = {"answer": "blocked", "coalition": [1], "excess": "1"}
 SENTENCES: list[tuple[Any, Any, str]] = [
     ({"answer": "yes"}, None, "The certificate meets all conditions"),
@@ -210,6 +217,7 @@ FAILURES: list[tuple[dict[str, Any], str]] = [
             "player 1 and player 2 together, still open, have -2."
         ),
     ),
+    (THIRDS, "by condition 7 at level 1. The level has the excess -2, but player 1 alone, still open, has -1."),
     (
         solved(certificate={"mode": "players", "levels": LEVELS[:1]}),
         "by condition 8. Behind the last level the share of medium isn't settled.",

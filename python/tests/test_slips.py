@@ -99,6 +99,93 @@ VALUES: list[Any] = json.loads(
 VALUES += ["é" * 33, "9" * 39, "1/" + "9" * 38]
 
 
+def checked(game: Any, shares: list[Any], *levels: Any, mode: str = "players") -> tuple[str, bytes]:
+    """A document to check."""
+    certificate = {"mode": mode, "levels": list(levels)}
+    return (
+        "check",
+        json.dumps({"answer": "nucleolus", "certificate": certificate, "game": game, "shares": shares}).encode(),
+    )
+
+
+def asked(game: Any, command: str = "nucleolus", shares: Any = None) -> tuple[str, bytes]:
+    """A document for another command."""
+    return command, json.dumps({"game": game} if shares is None else {"game": game, "shares": shares}).encode()
+
+
+THREE: Any = {"class": "airport", "costs": [2, 4, 6]}
+ONE: Any = {"excess": "-1", "coalitions": [[[1], 1]], "earlier": [], "bounds": [], "total": 1}
+# Each a step beside a limit, on this side and on that.
+EDGES: list[tuple[str, bytes]] = [
+    *(
+        asked({"class": "airport", "costs": costs, "version": 2})
+        for costs in (["1/65535", "1/65536"], ["1/65536", "1/2"])
+    ),
+    *(
+        asked({"class": "airport", "costs": ["1/3", cost], "version": 2})
+        for cost in ((2**40 - 1) // 3, 2**40 // 3 + 1)
+    ),
+    *(asked({"class": "voting", "quota": quota, "weights": [2, 1]}) for quota in (0, 1, 3, 4)),
+    *(asked({"class": "voting", "quota": 1, "weights": [weight]}) for weight in (1000, 1001)),
+    *(asked({"class": "voting", "quota": 1, "weights": [1] * count}) for count in (32, 33)),
+    *(asked({"class": "airport", "costs": [1] * count}) for count in (64, 65)),
+    *(asked({"class": "table", "players": players, "sparse": []}) for players in (0, 16, 17, 1.0)),
+    *(asked({"class": "tree", "matrix": [[0] * count] * count}) for count in (1, 17, 18)),
+    *(asked({"class": "assignment", "matrix": [[1] * count]}) for count in (0, 15, 16)),
+    *(asked({"class": "market", "matrix": [[1] * count] * 32}, "matching") for count in (32, 33)),
+    *(asked({"class": "market", "matrix": [[1]] * count}, "matching") for count in (32, 33)),
+    *(asked({"class": "tree", "matrix": rows}) for rows in ([[0, 1], [1]], [[0, 1], [1, 0, 2]], [[1, 1], [1, 0]])),
+    *(asked({"class": "airport", "costs": [1], "names": [name]}) for name in ("é" * 32, "é" * 33, "")),
+    *(asked({"class": "airport", "costs": [1, 2], "names": names}) for names in (["a"], ["a", "a"], ["a", "b", "c"])),
+    *(
+        asked({"class": "bankruptcy", "claims": [1, "1/2"], "estate": estate, "version": 2})
+        for estate in ("3/2", "5/3", 2)
+    ),
+    *(
+        asked({"class": "table", "players": 2, "names": ["a", "b"], "sparse": [[group, 1]]})
+        for group in ([0], [3], [], [1, 1], [1, "a"], ["c"], [1.5], [2])
+    ),
+    *(
+        asked({"class": "airport", "costs": [1]}, "propose", [share])
+        for share in (
+            2**63 - 1,
+            2**63,
+            str(2**110 - 1),
+            str(2**110),
+            f"1/{2**63}",
+            f"1/{2**63 + 1}",
+            "9" * 40,
+            str(-(2**127)),
+        )
+    ),
+    checked(THREE, [1, 2, 3], ONE, ONE),
+    checked(THREE, [1, 2, 3], ONE, ONE, ONE),
+    *(
+        checked(THREE, [1, 2, 3], {**ONE, "excess": excess})
+        for excess in ("1", "2/4", "-0", "1.5", "", "9" * 39, str(2**127 - 1))
+    ),
+    *(
+        checked(THREE, [1, 2, 3], {**ONE, "total": total})
+        for total in (2**63 - 1, 2**63, -(2**63), 1 - 2**63, 0.5)
+    ),
+    *(
+        checked(THREE, [1, 2, 3], {**ONE, "coalitions": [[group, 1]]})
+        for group in ([], [1, 2, 3], [2, 1], [1, 1], [0], [4], [1.0], [1, 3])
+    ),
+    *(
+        checked(THREE, [1, 2, 3], {**ONE, "coalitions": pairs})
+        for pairs in ([], [[[2], 1], [[1], 1]], [[[1], 1], [[1], 1]], [[[1], 1], [[2], 1]])
+    ),
+    *(checked(THREE, [1, 2, 3], ONE, {**ONE, "earlier": [[group, 1]]}) for group in ([1], [2])),
+    checked(THREE, [1, 2, 3], {**ONE, "earlier": [[[1], 1]]}),
+    *(
+        checked(THREE, [1, 2, 3], {**ONE, "bounds": bounds})
+        for bounds in ([[1, 1], [2, 0]], [[2, 1], [1, 1]], [[1, 1], [1, 1]], [[4, 1]], [[0, 1]], [[1, 2**63]])
+    ),
+    *(checked({"class": "airport", "costs": [1] * count}, [0] * count, mode="span") for count in (16, 17)),
+]
+
+
 def spoilt(document: Any, draw: random.Random) -> None:
     """Puts another value, another place or nothing in the place of some part."""
     tree: Any = document
@@ -152,7 +239,7 @@ class Slips(unittest.TestCase):
         texts = [(command, text.encode()) for text in SLIPS for command in ("nucleolus", "propose")]
         fine = b'{"game":{"class":"airport","costs":[1]},"shares":["1/9223372036854775809"]}'
         texts += [("propose", fine), ("core", b" " * 2097153), ("check", b" " * 2097153)]
-        for command, text in [*texts, *documents(2000)]:
+        for command, text in [*texts, *EDGES, *documents(2000)]:
             status, line = program.run([command], text)
             wanted = json.loads(line)["number"] if status == 3 else None
             slip = slip_in(text, command)

@@ -1,0 +1,198 @@
+"""The scripts that tools/try-scripts doesn't try: what they print, how they end, and what they refuse."""
+import csv
+import io
+import json
+import os
+import subprocess
+import sys
+import tempfile
+import unittest
+from typing import Any
+
+from coop.program import TOP
+
+from .asking import needs_program
+from .test_reasons import AIRPORT, solved
+
+SCRIPTS = sorted(name for name in os.listdir(os.path.join(TOP, "scripts")) if not name.startswith("_"))
+PROPOSAL = os.path.join(TOP, "examples", "airport-proposal.json")
+
+
+def script(name: str, *words: str, text: str = "", output: Any = subprocess.PIPE) -> tuple[int, str, str]:
+    """The status, the output and the errors of a script, by an environment of a path and what finds the program."""
+    command = [sys.executable, os.path.join(TOP, "scripts", name), *words]
+    kept = {key: os.environ[key] for key in ("COOP", "COOP_LIBRARY") if key in os.environ}
+    settings = {"PATH": "/usr/bin:/bin", **kept}
+    done = subprocess.run(command, input=text.encode(), stdout=output, stderr=subprocess.PIPE, env=settings, cwd=TOP)
+    return done.returncode, (done.stdout or b"").decode(), done.stderr.decode()
+
+
+class Scripts(unittest.TestCase):
+    def refused(self, found: tuple[int, str, str], *sentences: str) -> None:
+        """Status 2, nothing on standard output, and one line of error."""
+        status, text, errors = found
+        self.assertEqual((status, text, errors.count("\n")), (2, "", 1), errors)
+        for sentence in sentences:
+            self.assertIn(sentence, errors)
+
+    def test_help_and_words(self) -> None:
+        self.assertEqual(len(SCRIPTS), 14)
+        for name in SCRIPTS:
+            status, text, errors = script(name, "--help")
+            self.assertEqual((status, errors), (0, ""), name)
+            self.assertIn(f"scripts/{name}", text)
+            if name != "check-anew":
+                self.refused(script(name, "--no-such-word"), f"{name}: ", f"usage: scripts/{name}")
+        with open("/dev/full", "wb") as full:
+            for name, words in (
+                ("slip", [PROPOSAL]),
+                ("same-game", [PROPOSAL, PROPOSAL]),
+                ("proposal", [PROPOSAL, "1", "2", "3"]),
+            ):
+                self.refused(script(name, *words, output=full), f"{name}: ")
+
+    def test_from_vector(self) -> None:
+        status, text, errors = script("from-vector", "--order", "size", "--names", "a,b,c", text="0,0,0,6,2,2,12\n")
+        self.assertEqual((status, errors), (0, ""))
+        game = {"class": "table", "names": ["a", "b", "c"], "players": 3, "worths": [0, 0, 6, 0, 2, 2, 12]}
+        self.assertEqual(json.loads(text), {"game": game})
+        status, text, errors = script(
+            "from-vector", "--order", "mask", "--costs", "--digits", "9", "--scaled", text="1,2,2.5\n"
+        )
+        self.assertEqual(
+            json.loads(text)["game"],
+            {"class": "cost-table", "players": 2, "worths": [10**9, 2 * 10**9, 25 * 10**8]},
+        )
+        self.assertIn("--over 1000000000", errors)
+        per_head = script("from-vector", "--order", "mask", "--per-head", text="1,2,4\n")[1]
+        self.assertEqual(json.loads(per_head)["game"]["excess"], "per-head")
+        self.refused(script("from-vector", text="1,2,4\n"), "--order")
+        self.refused(script("from-vector", "--order", "mask", text="1,2,0.00001\n"), "--digits 4", "--scaled")
+        self.refused(
+            script("from-vector", "--order", "mask", "--scaled", text="1,2,0.00001\n1,2,3\n"), "different numbers"
+        )
+
+    def test_from_claims_and_landings(self) -> None:
+        claims = "Adler,1200.50\nBrandt,800\n"
+        game = json.loads(script("from-claims", "--estate", "1999.50", text=claims)[1])["game"]
+        self.assertEqual(
+            (game["estate"], game["claims"], game["names"]), ("3999/2", ["2401/2", 800], ["Adler", "Brandt"])
+        )
+        self.refused(script("from-claims", text=claims), "--estate")
+        self.refused(script("from-claims", "--estate", "3000", text=claims), "less than the estate")
+        game = json.loads(script("from-landings", text="Aer,20,2\nBee,40,1\n")[1])["game"]
+        self.assertEqual((game["costs"], game["names"]), ([20, 20, 40], ["Aer 1", "Aer 2", "Bee 1"]))
+        self.refused(script("from-landings", text="Aer,20\n"), "line 1 has 2 columns")
+
+    def test_from_costs_fills(self) -> None:
+        costs = "a,3\nb,4\nc,5\na+b,6\na+b+c,9\n"
+        status, text, errors = script("from-costs", "--fill", text=costs)
+        self.assertEqual((status, json.loads(text)["game"]["sparse"][-2:]), (0, [[["a", "c"], 8], [["b", "c"], 9]]))
+        self.assertIn("2 groups were filled in", errors)
+        self.assertIn("from-costs: a+c: 8 = a | c\nfrom-costs: b+c: 9 = b | c\n", errors)
+        self.refused(script("from-costs", text=costs), "a+c has no line, and 1 more groups", "--fill")
+        gains = json.loads(script("from-costs", "--gains", text="a,1\n")[1])["game"]
+        self.assertEqual(gains["class"], "table")
+        self.refused(script("from-costs", "--gains", "--fill", text=costs), "only costs")
+
+    def test_same_game(self) -> None:
+        with tempfile.TemporaryDirectory() as folder:
+            line, agreed, twice = (os.path.join(folder, name) for name in ("line", "agreed", "twice"))
+            other = {**AIRPORT, "costs": [2, 4, 7]}
+            texts = (
+                json.dumps(solved()),
+                json.dumps({"game": AIRPORT}),
+                json.dumps({"game": other})[:-2] + ', "costs": [2, 4, 6]}}',
+            )
+            for path, text in zip((line, agreed, twice), texts):
+                with open(path, "w", encoding="utf-8") as file:
+                    file.write(text)
+            self.assertEqual(script("same-game", line, agreed)[::2], (0, ""))
+            self.assertEqual(
+                script("same-game", "-", agreed, text=json.dumps({"game": other}))[:2],
+                (1, "another game, at game.costs[2]: 7 in the line, 6 in the agreed document\n"),
+            )
+            self.refused(script("same-game", line, twice), 'the key "costs" stands twice')
+            self.refused(script("same-game", line), "AGREED")
+
+    def test_slip(self) -> None:
+        slip = '{"game":{"class":"airport","cost":[2,4,6]}}'
+        self.assertEqual(script("slip", text=slip)[0], 1)
+        self.assertEqual(script("slip", PROPOSAL), (0, "no slip is seen\n", ""))
+        self.assertIn(
+            "3 Shape, at $: the document lacks the key shares",
+            script("slip", "--command", "kernel", text='{"game":1}')[1],
+        )
+
+    def test_compare(self) -> None:
+        lines = json.dumps(solved()) + json.dumps({"shares": ["2/3", "5/3", "11/3"]})
+        status, text, errors = script("compare", "--places", "2", "--unit", "EUR", text=lines)
+        self.assertEqual((status, errors), (0, ""))
+        self.assertIn("1      light alone  -1.00 EUR  medium and heavy together  -0.67 EUR", text)
+        rows = list(csv.reader(io.StringIO(script("compare", "--csv", text=lines)[1])))
+        self.assertEqual((len(rows), rows[1][:3], rows[1][4]), (7, ["1", "light alone", "-1"], "-2/3"))
+        self.refused(script("compare", text=json.dumps(solved())), "1 divisions")
+
+    def test_report(self) -> None:
+        status, text, errors = script("report", "--title", "A runway", text=json.dumps(solved()))
+        self.assertEqual((status, errors, text[:15], text.count("A runway</h1>")), (0, "", "<!DOCTYPE html>", 1))
+        self.refused(script("report", text=json.dumps(solved(shares=[3, 1, 2]))), "condition 2")
+        self.refused(script("report", text='{"answer":"core"}'), "no line of nucleolus")
+
+    def test_explain_beside_a_document(self) -> None:
+        line = '{"answer":"blocked","coalition":[1],"excess":"1"}'
+        self.assertIn(
+            "It pays 3, where by itself it would cost 2.",
+            " ".join(script("explain", "-", PROPOSAL, text=line)[1].split()),
+        )
+
+    def test_names_that_forge(self) -> None:
+        names = ["light  9.00\nheavy", "medium", "medium\u200b"]
+        text = json.dumps(solved(game={**AIRPORT, "names": names}))
+        for name in ("shares", "explain", "picture", "report", "compare"):
+            status, found, errors = script(name, text=text * 2 if name == "compare" else text)
+            self.assertEqual(status, 0, errors)
+            self.assertNotIn("\u200b", found + errors)
+            self.assertIn("\\u000aheavy", found)
+            if name != "explain":
+                self.assertIn("2 names look alike: medium, medium\\u200b", errors)
+        self.assertIn("\\u000aheavy", script("shares", "--csv", text=text)[1])
+
+    @needs_program
+    def test_many_and_proposal(self) -> None:
+        majority = os.path.join("examples", "majority.json")
+        status, text, errors = script("many", "core,shapley", majority, "lost.json")
+        rows = [row.split(" ", 3) for row in text.splitlines()]
+        self.assertEqual(
+            [row[:3] for row in rows],
+            [
+                ["1", majority, "core"],
+                ["0", majority, "shapley"],
+                ["-", "lost.json", "core"],
+                ["-", "lost.json", "shapley"],
+            ],
+        )
+        self.assertEqual((status, json.loads(rows[0][3])["answer"], "lost.json" in errors), (1, "empty core", True))
+        lines = '{"game":{"class":"airport","costs":[2,4,6]}}\n{"game":{"class":"airport","costs":[1]}}\n'
+        found = script("many", "--csv", "nucleolus", text=lines)[:2]
+        self.assertEqual(
+            found,
+            (
+                0,
+                (
+                    "status,document,command,player 1,player 2,player 3\n"
+                    "0,standard input:1,nucleolus,1,3/2,7/2\n0,standard input:2,nucleolus,1\n"
+                ),
+            ),
+        )
+        self.refused(script("many", "core,sharply", majority), "'sharply' is none of")
+        game = script("proposal", PROPOSAL, "heavy=2", "light=0.50", "medium=7/2")
+        self.assertEqual(json.loads(game[1])["shares"], ["1/2", "7/2", 2])
+        self.assertEqual(json.loads(script("proposal", PROPOSAL, "1", "1.5", "3.5")[1])["shares"], [1, "3/2", "7/2"])
+        self.assertEqual(json.loads(script("proposal", PROPOSAL, text='{"shares":[1,2,3]}')[1])["shares"], [1, 2, 3])
+        self.refused(script("proposal", PROPOSAL, "1", "2"), "2 shares for 3 players")
+        self.refused(script("proposal", PROPOSAL, "light=1", "light=2", "heavy=3"), "each once")
+
+
+if __name__ == "__main__":
+    unittest.main()
