@@ -25,11 +25,30 @@ use Rattle.real_shares.proofs.Combined.{combined, of_members, combined-same, com
 use Rattle.real_shares.proofs.Combined.{combined-members}
 use Rattle.real_shares.proofs.Soundness.{before-from}
 use Rattle.real_worths.specs.Games.{NumberGame, excess_in, excess_list_in, InFamilyIn, HaveSameIn, IsNucleolusIn}
-use Rattle.real_worths.specs.Kohlberg.{IsBalancedTest, is_level}
+use Rattle.real_worths.specs.KohlbergTheorem.{IsBalancedTest, is_level}
 use Rattle.real_worths.proofs.CoreFirst.{amount_at}
 use Rattle.real_worths.proofs.BothAreOne.{alone_gets}
 use Rattle.real_worths.proofs.Joined.{greatest_among, forth}
 use Rattle.real_worths.proofs.Moves.{less_more}
+
+-- ---- proper coalitions
+
+abbrev pub is_proper : ℕ → ℕ → Bool
+is_proper n s = not (nat_eq s 0) && not (nat_eq s (grand_coalition n))
+
+pub to_proper : (n s : ℕ) → 0 < s → s < grand_coalition n → is_proper n s ≡ true
+to_proper n s some less =
+    and_both (not (nat_eq s 0)) (not (nat_eq s (grand_coalition n)))
+    (ap not (nat_eq-other s 0 (λ same. omega (arith, some, same))))
+    (ap not (nat_eq-other s (grand_coalition n) (λ same. omega (arith, less, same))))
+
+pub from_proper : (n s : ℕ) → s < 2 ^ n → is_proper n s ≡ true → (0 < s) × (s < grand_coalition n)
+from_proper n s within h =
+    let both = and_parts (not (nat_eq s 0)) (not (nat_eq s (grand_coalition n))) h in
+    let ne = from_not_nat_eq s 0 (from_not (nat_eq s 0) both.0) in
+    let other = from_not_nat_eq s (grand_coalition n) (from_not (nat_eq s (grand_coalition n)) both.1) in
+    let all = grand_coalition-within n in
+    (omega (arith, ne), omega (arith, within, other, all))
 
 -- ---- weighted sums
 
@@ -205,25 +224,8 @@ module _ {C : Type 0} (N : Numbers C) (L : IsOrderedGroup N) (g : NumberGame C) 
   to_none : (s : ℕ) → Equal N (d s) N.zero → is_none s ≡ true
   to_none s h = and_both (N.at_most (d s) N.zero) (N.at_most N.zero (d s)) h.0 h.1
 
-  abbrev is_proper : ℕ → Bool
-  is_proper s = not (nat_eq s 0) && not (nat_eq s (grand_coalition n))
-
-  to_proper : (s : ℕ) → 0 < s → s < grand_coalition n → is_proper s ≡ true
-  to_proper s some less =
-      and_both (not (nat_eq s 0)) (not (nat_eq s (grand_coalition n)))
-      (ap not (nat_eq-other s 0 (λ same. omega (arith, some, same))))
-      (ap not (nat_eq-other s (grand_coalition n) (λ same. omega (arith, less, same))))
-
-  from_proper : (s : ℕ) → s < 2 ^ n → is_proper s ≡ true → (0 < s) × (s < grand_coalition n)
-  from_proper s within h =
-      let both = and_parts (not (nat_eq s 0)) (not (nat_eq s (grand_coalition n))) h in
-      let ne = from_not_nat_eq s 0 (from_not (nat_eq s 0) both.0) in
-      let other = from_not_nat_eq s (grand_coalition n) (from_not (nat_eq s (grand_coalition n)) both.1) in
-      let all = grand_coalition-within n in
-      (omega (arith, ne), omega (arith, within, other, all))
-
   abbrev moves : ℕ → Bool
-  moves s = is_proper s && not (is_none s)
+  moves s = is_proper n s && not (is_none s)
 
   none_moves : ((s : ℕ) → s < 2 ^ n → moves s ≡ false) → HaveSameIn N g y z
   none_moves none i lt =
@@ -241,13 +243,13 @@ module _ {C : Type 0} (N : Numbers C) (L : IsOrderedGroup N) (g : NumberGame C) 
               absurd
               (false≢true
               (sym (none s within)
-              ∙ and_both (is_proper s) (not (is_none s)) (to_proper s some (omega (arith, within, other, all)))
+              ∙ and_both (is_proper n s) (not (is_none s)) (to_proper n s some (omega (arith, within, other, all)))
               (ap not more)))
         ]
       ]
 
   -- where no coalition of the level of c gets less, all get more
-  module _ (c : ℕ) (within : c < 2 ^ n) (proper : is_proper c ≡ true) (b : IsBalancedTest n (is_level N g y c)) where
+  module _ (c : ℕ) (within : c < 2 ^ n) (proper : is_proper n c ≡ true) (b : IsBalancedTest n (is_level N g y c)) where
     level_here : is_level N g y c c ≡ true
     level_here =
         let both = and_parts (not (nat_eq c 0)) (not (nat_eq c (grand_coalition n))) proper in
@@ -289,8 +291,8 @@ module _ {C : Type 0} (N : Numbers C) (L : IsOrderedGroup N) (g : NumberGame C) 
     | inl none ↦ absurd (differs (none_moves none))
     | inr top ↦
         let c = top.0 in
-        let both = and_parts (is_proper c) (not (is_none c)) top.2 in
-        let bounds = from_proper c top.1 both.0 in
+        let both = and_parts (is_proper n c) (not (is_none c)) top.2 in
+        let bounds = from_proper n c top.1 both.0 in
         let b = levels c bounds.0 bounds.1 in
         elim (greatest_among N L (loses c) e (2 ^ n)) [
           | inl none ↦ absurd
@@ -310,7 +312,7 @@ module _ {C : Type 0} (N : Numbers C) (L : IsOrderedGroup N) (g : NumberGame C) 
               and_parts (not (nat_eq t 0)) (not (nat_eq t (grand_coalition n)) && N.at_most (e c) (e t)) parts.0 in
               let second = and_parts (not (nat_eq t (grand_coalition n))) (N.at_most (e c) (e t)) first.1 in
               let range =
-              from_proper t found.1
+              from_proper n t found.1
               (and_both (not (nat_eq t 0)) (not (nat_eq t (grand_coalition n))) first.0 second.0) in
               before-from N L n e (excess_in N g z) t (omega (arith, range.0)) (omega (arith, range.0, range.1))
               (λ s one past. elim (true_or_false (is_none s)) [
@@ -320,7 +322,7 @@ module _ {C : Type 0} (N : Numbers C) (L : IsOrderedGroup N) (g : NumberGame C) 
                 | inr moved ↦ inr
                     (L.transitive (e s) (e c) (e t)
                     (top.3 s (omega (arith, one, past))
-                    (and_both (is_proper s) (not (is_none s)) (to_proper s one (omega (arith, one, past))) (ap not moved)))
+                    (and_both (is_proper n s) (not (is_none s)) (to_proper n s one (omega (arith, one, past))) (ap not moved)))
                     second.1)
               ])
               (λ le. false≢true (sym (from_not (N.at_most N.zero (d t)) parts.1) ∙ gains t le))

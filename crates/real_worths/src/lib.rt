@@ -6,7 +6,7 @@
 
 ghost use Rattle.real_worths.specs.RealWorths.{WholeWorthsAgree, NucleolusIsUnique, NucleolusIsInCore};
 ghost use Rattle.real_worths.specs.RealWorths.{WithACoreBothAreOne, WhoAddsNoLessGetsNoLess, AlikePlayersGetAlike};
-ghost use Rattle.real_worths.specs.Kohlberg.{LevelsAreEnough};
+ghost use Rattle.real_worths.specs.KohlbergTheorem.{KohlbergTheorem};
 ghost use Rattle.real_worths.specs.Examples.{TwoShare, DoublingIsAChange, IntegersCantHalve};
 ghost use Rattle.real_worths.specs.RealWorths.{DummiesGetTheirWorth, RealsCanHalve, EquivalentGamesAgree};
 
@@ -57,10 +57,10 @@ pub fn equivalent_games_agree()
     ensures { EquivalentGamesAgree }
 {}
 
-/// Half of Kohlberg's theorem (Kohlberg 1971; Sobolev 1975): where the coalitions of at least the excess of each coalition
-/// are balanced, the shares are the prenucleolus.
-pub fn levels_are_enough()
-    ensures { LevelsAreEnough }
+/// Kohlberg's theorem (Kohlberg 1971; for the prenucleolus Sobolev 1975): shares that add to the worth of all are the
+/// prenucleolus just where, for each coalition, those of at least its excess are balanced.
+pub fn kohlberg()
+    ensures { KohlbergTheorem }
 {}
 
 /// Two who together are worth a real number above zero, and alone nothing, get half each; and all for the first is no
