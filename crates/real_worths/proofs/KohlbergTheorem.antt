@@ -1,5 +1,5 @@
 -- Kohlberg's theorem, both ways: the weights of all coalitions of a level, added, balance it.
-use Rattle.std.proofs.Common.{◌≡◌, ◌⊎◌, ℕ, zero, suc, ◌+◌, ◌-◌, ◌^◌, ◌<◌, ◌≤◌, Bool, true, false, cond, List}
+use Rattle.std.proofs.Common.{◌≡◌, ℕ, zero, suc, ◌-◌, ◌^◌, ◌<◌, ◌≤◌, Bool, true, false, cond, List}
 use Rattle.std.proofs.Common.{ℤ, pos, ◌+ℤ◌, ◌*ℤ◌, ◌≤ℤ◌, refl, sym, ap, subst, ◌∙◌, inl, inr, arith}
 use Rattle.std.proofs.lemmas.Bool.{false≢true}
 use Rattle.definitions.proofs.Ring.{linear, add-mulℤ, zero-mulℤ}
@@ -91,7 +91,8 @@ module _ {C : Type 0} (N : Numbers C) (L : IsOrderedGroup N) (halve : CanHalve N
           none = λ s h. (let a = p.none s h in let b = x.none s h in omega (arith, linear, a, b));
           here = λ d lt h. elim (less_or_last d m lt) [
             | inl less ↦
-                (let a = p.here d less h in let b = x.low (suc d) (omega (arith, lt, le)) in omega (arith, linear, a, b))
+                (let a = p.here d less h in
+                let b = x.low (suc d) (omega (arith, lt, le)) in omega (arith, linear, a, b))
             | inr last ↦
                 (let a = p.low (suc d) (omega (arith, lt, le)) in
                 let b = x.here in

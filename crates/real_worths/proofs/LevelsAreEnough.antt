@@ -1,30 +1,32 @@
 -- Beside other shares, take the greatest excess among the coalitions whose members get other amounts together. If none
--- that has it gets less, the weights of its level would add above zero what all get more, which is nothing. So one gets
--- less, and the other shares come behind.
-use Rattle.std.proofs.Common.{◌≡◌, ◌⊎◌, ℕ, zero, suc, ◌+◌, ◌-◌, ◌^◌, ◌<◌, ◌≤◌, Bool, true, false, cond, ◌&&◌, not, nat_eq}
-use Rattle.std.proofs.Common.{List, length, ℤ, pos, negsuc, ◌+ℤ◌, ◌-ℤ◌, ◌*ℤ◌, ◌≤ℤ◌, refl, sym, ap, ◌∙◌, inl, inr, arith}
+-- that has it gets less, the weights of its level would add above zero what all get more, which is nothing. So one
+-- gets less, and the other shares come behind.
+use Rattle.std.proofs.Common.{◌≡◌, ◌⊎◌, ℕ, zero, suc, ◌^◌, ◌<◌, Bool, true, false, cond, ◌&&◌, not, nat_eq}
+use Rattle.std.proofs.Common.{List, ℤ, pos, negsuc, ◌-ℤ◌, ◌*ℤ◌, ◌≤ℤ◌, refl, sym, ap, ◌∙◌, inl, inr, arith}
 use Rattle.std.proofs.lemmas.Bool.{false≢true}
 use Rattle.definitions.proofs.Ring.{linear, mul-zeroℤ, mul-subℤ, mul-oneℤ}
 use Rattle.std.proofs.Math.Pow.{pow_pos}
 use Rattle.definitions.proofs.Cases.{same_or_other}
-use Rattle.definitions.proofs.Cases.{true_or_false, and_parts, and_both, from_not, nat_eq-other, from_not_nat_eq, less_or_last}
+use Rattle.definitions.proofs.Cases.{true_or_false, and_parts, and_both, from_not}
+use Rattle.definitions.proofs.Cases.{nat_eq-other, from_not_nat_eq, less_or_last}
 use Rattle.definitions.proofs.Masks.{grand_coalition-within, singleton-within}
 use Rattle.definitions.proofs.Members.{has_player-grand_coalition}
 use Rattle.definitions.specs.Sums.{sum_below}
 use Rattle.definitions.specs.Coalitions.{has_player, singleton, grand_coalition}
 use Rattle.definitions.specs.declared.Family.TheVariants.{Preimputations}
-use Rattle.real_shares.specs.Numbers.{Numbers, IsOrderedGroup, AtMost, Less, Equal, times, total_below, total_over}
+use Rattle.real_shares.specs.Numbers.{Numbers, IsOrderedGroup, AtMost, Equal, times, total_below, total_over}
 use Rattle.real_shares.specs.Numbers.{sorted_by, ComesBeforeBy}
 use Rattle.real_shares.specs.Shares.{number_of, amount_of}
-use Rattle.real_shares.proofs.Orders.{decided, at_most-same, equal-same, from_less}
-use Rattle.real_shares.proofs.Multiples.{chain, back, equal_path, plus-equal, left, right, neutral_left, times-equal}
-use Rattle.real_shares.proofs.Multiples.{plus-at_most, times-zero, times-keeps, times-one, minus-equal, minus-zero}
+use Rattle.real_shares.proofs.Orders.{at_most-same, equal-same}
+use Rattle.real_shares.proofs.Multiples.{chain, back, equal_path, plus-equal, right, neutral_left, times-equal}
+use Rattle.real_shares.proofs.Multiples.{plus-at_most, times-zero, times-keeps, minus-equal, minus-zero}
 use Rattle.real_shares.proofs.Multiples.{total_below-plus, total_below-minus, total_below-equal, difference-zero}
 use Rattle.real_shares.proofs.Multiples.{from_difference, added-low, minus-at_most}
-use Rattle.real_shares.proofs.Combined.{combined, of_members, combined-same, combined-plus, combined-none, combined-times}
+use Rattle.real_shares.proofs.Combined.{combined, of_members, combined-same}
+use Rattle.real_shares.proofs.Combined.{combined-plus, combined-none, combined-times}
 use Rattle.real_shares.proofs.Combined.{combined-members}
 use Rattle.real_shares.proofs.Soundness.{before-from}
-use Rattle.real_worths.specs.Games.{NumberGame, excess_in, excess_list_in, InFamilyIn, HaveSameIn, IsNucleolusIn}
+use Rattle.real_worths.specs.Games.{NumberGame, excess_in, excess_list_in, InFamilyIn, HaveSameIn}
 use Rattle.real_worths.specs.KohlbergTheorem.{IsBalancedTest, is_level}
 use Rattle.real_worths.proofs.CoreFirst.{amount_at}
 use Rattle.real_worths.proofs.BothAreOne.{alone_gets}
@@ -70,7 +72,8 @@ module _ {C : Type 0} (N : Numbers C) (L : IsOrderedGroup N) where
       → AtMost N (total_below N m (λ s. times N (w s) (f s))) N.zero
   sum_low w f zero each = at_most-same N L N.zero
   sum_low w f (suc m) each =
-      L.transitive (N.plus (total_below N m (λ s. times N (w s) (f s))) (times N (w m) (f m))) (N.plus N.zero N.zero)
+      L.transitive (N.plus (total_below N m (λ s. times N (w s) (f s))) (times N (w m) (f m)))
+      (N.plus N.zero N.zero)
       N.zero
       (plus-at_most N L (total_below N m (λ s. times N (w s) (f s))) N.zero (times N (w m) (f m)) N.zero
       (sum_low w f m (λ s lt. each s (omega arith))) (here (each m (omega arith)))) (L.neutral N.zero).0
@@ -89,7 +92,8 @@ module _ {C : Type 0} (N : Numbers C) (L : IsOrderedGroup N) where
         L.transitive (N.plus (total_below N m (λ s. times N (w s) (f s))) (times N (w m) (f m)))
         (N.plus (f c) N.zero) (f c)
         (plus-at_most N L (total_below N m (λ s. times N (w s) (f s))) (f c) (times N (w m) (f m)) N.zero
-        (sum_less w f m c (λ s h. each s (omega arith)) less one low) (here (each m (omega arith)))) (L.neutral (f c)).0
+        (sum_less w f m c (λ s h. each s (omega arith)) less one low) (here (each m (omega arith))))
+        (L.neutral (f c)).0
     | inr last ↦
         L.transitive (N.plus (total_below N m (λ s. times N (w s) (f s))) (times N (w m) (f m)))
         (N.plus N.zero (f c)) (f c)
@@ -101,7 +105,8 @@ module _ {C : Type 0} (N : Numbers C) (L : IsOrderedGroup N) where
     where
       here : (w m ≡ pos 0) ⊎ ((pos 1 ≤ℤ w m) × AtMost N (f m) N.zero) → AtMost N (times N (w m) (f m)) N.zero
       here (inl none) = (equal_path N L (times N (w m) (f m)) N.zero (ap (λ z. times N z (f m)) none)).0
-      here (inr (one, under)) = L.transitive (times N (w m) (f m)) (f m) N.zero (times_less (w m) (f m) one under) under
+      here (inr (one, under)) =
+          L.transitive (times N (w m) (f m)) (f m) N.zero (times_less (w m) (f m) one under) under
 
   -- balanced weights add nothing where all together get nothing
   module _ (n : ℕ) (v : ℕ → C) (test : ℕ → Bool) (b : IsBalancedTest n test) where
@@ -229,7 +234,8 @@ module _ {C : Type 0} (N : Numbers C) (L : IsOrderedGroup N) (g : NumberGame C) 
 
   none_moves : ((s : ℕ) → s < 2 ^ n → moves s ≡ false) → HaveSameIn N g y z
   none_moves none i lt =
-      let gone = chain N L (back N L (alone_gets N L v i n lt)) (still (singleton i) (singleton-within n i lt) refl) in
+      let gone =
+      chain N L (back N L (alone_gets N L v i n lt)) (still (singleton i) (singleton-within n i lt) refl) in
       back N L (from_difference N L (number_of N z i) (number_of N y i) gone)
     where
       still : (s : ℕ) → s < 2 ^ n → s ≡ singleton i → Equal N (d s) N.zero
@@ -249,36 +255,37 @@ module _ {C : Type 0} (N : Numbers C) (L : IsOrderedGroup N) (g : NumberGame C) 
       ]
 
   -- where no coalition of the level of c gets less, all get more
-  module _ (c : ℕ) (within : c < 2 ^ n) (proper : is_proper n c ≡ true) (b : IsBalancedTest n (is_level N g y c)) where
-    level_here : is_level N g y c c ≡ true
-    level_here =
-        let both = and_parts (not (nat_eq c 0)) (not (nat_eq c (grand_coalition n))) proper in
-        and_both (not (nat_eq c 0)) (not (nat_eq c (grand_coalition n)) && N.at_most (e c) (e c)) both.0
-        (and_both (not (nat_eq c (grand_coalition n))) (N.at_most (e c) (e c)) both.1 (at_most-same N L (e c)))
+  module _ (c : ℕ) (within : c < 2 ^ n) (proper : is_proper n c ≡ true) (b : IsBalancedTest n (is_level N g y c))
+    where
+      level_here : is_level N g y c c ≡ true
+      level_here =
+          let both = and_parts (not (nat_eq c 0)) (not (nat_eq c (grand_coalition n))) proper in
+          and_both (not (nat_eq c 0)) (not (nat_eq c (grand_coalition n)) && N.at_most (e c) (e c)) both.0
+          (and_both (not (nat_eq c (grand_coalition n))) (N.at_most (e c) (e c)) both.1 (at_most-same N L (e c)))
 
-    none_less : ((s : ℕ) → s < 2 ^ n → is_level N g y c s ≡ true → AtMost N N.zero (d s)) → Equal N (d c) N.zero
-    none_less each =
-        let w = b.weights in
-        let f = λ (s : ℕ). N.minus (d s) in
-        let low = λ (s : ℕ) (lt : s < 2 ^ n) (h : is_level N g y c s ≡ true). turned (d s) (each s lt h) in
-        let sum = sum_less N L w f (2 ^ n) c (λ s lt. elim (true_or_false (is_level N g y c s)) [
-          | inl h ↦ inr (b.some s lt h, low s lt h)
-          | inr h ↦ inl (b.none s lt h)
-        ]) within (b.some c within level_here) (low c within level_here) in
-        let none = balanced_sum N L n v (is_level N g y c) b all_none in
-        let up = L.transitive N.zero (total_below N (2 ^ n) (λ s. times N (w s) (f s))) (f c) none.1 sum in
-        (turned_back (d c) up, each c within level_here)
-      where
-        turned : (a : C) → AtMost N N.zero a → AtMost N (N.minus a) N.zero
-        turned a le =
-            L.transitive (N.minus a) (N.minus N.zero) N.zero (minus-at_most N L N.zero a le) (minus-zero N L).0
+      none_less : ((s : ℕ) → s < 2 ^ n → is_level N g y c s ≡ true → AtMost N N.zero (d s)) → Equal N (d c) N.zero
+      none_less each =
+          let w = b.weights in
+          let f = λ (s : ℕ). N.minus (d s) in
+          let low = λ (s : ℕ) (lt : s < 2 ^ n) (h : is_level N g y c s ≡ true). turned (d s) (each s lt h) in
+          let sum = sum_less N L w f (2 ^ n) c (λ s lt. elim (true_or_false (is_level N g y c s)) [
+            | inl h ↦ inr (b.some s lt h, low s lt h)
+            | inr h ↦ inl (b.none s lt h)
+          ]) within (b.some c within level_here) (low c within level_here) in
+          let none = balanced_sum N L n v (is_level N g y c) b all_none in
+          let up = L.transitive N.zero (total_below N (2 ^ n) (λ s. times N (w s) (f s))) (f c) none.1 sum in
+          (turned_back (d c) up, each c within level_here)
+        where
+          turned : (a : C) → AtMost N N.zero a → AtMost N (N.minus a) N.zero
+          turned a le =
+              L.transitive (N.minus a) (N.minus N.zero) N.zero (minus-at_most N L N.zero a le) (minus-zero N L).0
 
-        turned_back : (a : C) → AtMost N N.zero (N.minus a) → AtMost N a N.zero
-        turned_back a le =
-            L.transitive a (N.plus a (N.minus a)) N.zero
-            (L.transitive a (N.plus a N.zero) (N.plus a (N.minus a)) (L.neutral a).1
-            (plus-at_most N L a a N.zero (N.minus a) (at_most-same N L a) le))
-            (L.inverse a).0
+          turned_back : (a : C) → AtMost N N.zero (N.minus a) → AtMost N a N.zero
+          turned_back a le =
+              L.transitive a (N.plus a (N.minus a)) N.zero
+              (L.transitive a (N.plus a N.zero) (N.plus a (N.minus a)) (L.neutral a).1
+              (plus-at_most N L a a N.zero (N.minus a) (at_most-same N L a) le))
+              (L.inverse a).0
 
   -- the level of c, which moves, has a coalition that gets less
   abbrev loses : ℕ → ℕ → Bool
@@ -303,7 +310,8 @@ module _ {C : Type 0} (N : Numbers C) (L : IsOrderedGroup N) (g : NumberGame C) 
                 | inl up ↦ up
                 | inr down ↦ absurd
                     (false≢true
-                    (sym (none s lt) ∙ and_both (is_level N g y c s) (not (N.at_most N.zero (d s))) h (ap not down)))
+                    (sym (none s lt)
+                    ∙ and_both (is_level N g y c s) (not (N.at_most N.zero (d s))) h (ap not down)))
               ]))))
           | inr found ↦
               let t = found.0 in
@@ -322,7 +330,8 @@ module _ {C : Type 0} (N : Numbers C) (L : IsOrderedGroup N) (g : NumberGame C) 
                 | inr moved ↦ inr
                     (L.transitive (e s) (e c) (e t)
                     (top.3 s (omega (arith, one, past))
-                    (and_both (is_proper n s) (not (is_none s)) (to_proper n s one (omega (arith, one, past))) (ap not moved)))
+                    (and_both (is_proper n s) (not (is_none s)) (to_proper n s one (omega (arith, one, past)))
+                    (ap not moved)))
                     second.1)
               ])
               (λ le. false≢true (sym (from_not (N.at_most N.zero (d t)) parts.1) ∙ gains t le))

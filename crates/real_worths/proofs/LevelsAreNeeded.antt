@@ -1,28 +1,26 @@
 -- At the prenucleolus each collection of coalitions of at least some excess is balanced: else a transfer gives one of
 -- them more and takes from none, by Farkas's lemma, and a small enough part of it comes first.
-use Rattle.std.proofs.Common.{◌≡◌, ◌⊎◌, ℕ, zero, suc, ◌+◌, ◌-◌, ◌^◌, ◌<◌, ◌≤◌, Bool, true, false, cond, ◌&&◌, not, nat_eq}
-use Rattle.std.proofs.Common.{List, length, map, ℤ, pos, ◌+ℤ◌, ◌-ℤ◌, ◌*ℤ◌, ◌<ℤ◌, ◌≤ℤ◌, int_le}
-use Rattle.std.proofs.Common.{refl, sym, ap, ◌∙◌, inl, inr, arith}
+use Rattle.std.proofs.Common.{◌≡◌, ◌⊎◌, ℕ, suc, ◌+◌, ◌-◌, ◌^◌, ◌<◌, ◌≤◌, Bool, true, ◌&&◌, not, nat_eq}
+use Rattle.std.proofs.Common.{List, map, ℤ, pos, ◌+ℤ◌, ◌-ℤ◌, ◌<ℤ◌, ◌≤ℤ◌, int_le}
+use Rattle.std.proofs.Common.{sym, ap, ◌∙◌, inl, inr, arith}
 use Rattle.std.proofs.lemmas.Bool.{false≢true}
 use Rattle.std.proofs.lemmas.Int.{ints, by_lt_z}
-use Rattle.definitions.proofs.Ring.{linear, add-mulℤ}
-use Rattle.definitions.proofs.Cases.{true_or_false, and_parts, and_both, from_not, less_or_last}
-use Rattle.definitions.proofs.Masks.{grand_coalition-within}
-use Rattle.definitions.proofs.Members.{sum_over-grand_coalition, sum_below-same, sum_below-add}
+use Rattle.definitions.proofs.Ring.{linear}
+use Rattle.definitions.proofs.Cases.{true_or_false, and_parts, and_both, from_not}
+use Rattle.definitions.proofs.Members.{sum_over-grand_coalition}
 use Rattle.definitions.specs.Sums.{sum_below}
-use Rattle.definitions.specs.Coalitions.{has_player, grand_coalition, proper_coalitions, sum_over}
+use Rattle.definitions.specs.Coalitions.{grand_coalition, proper_coalitions, sum_over}
 use Rattle.definitions.specs.declared.Family.TheVariants.{Preimputations}
-use Rattle.duality.proofs.SideWeights.{SideWeights, side_weights}
 use Rattle.real_shares.specs.Numbers.{Numbers, IsOrderedGroup, AtMost, Less, Equal, times}
-use Rattle.real_shares.specs.Shares.{number_of, amount_of}
-use Rattle.real_shares.proofs.Orders.{decided, at_most-same, from_less}
+use Rattle.real_shares.specs.Shares.{amount_of}
+use Rattle.real_shares.proofs.Orders.{at_most-same, from_less}
 use Rattle.real_shares.proofs.Multiples.{chain, back, equal_path, left, right, times-add, times-one, minus-at_most}
-use Rattle.real_shares.proofs.Multiples.{minus-equal, minus-zero, plus-at_most, from_low, neutral_left, add-minus}
+use Rattle.real_shares.proofs.Multiples.{minus-equal, minus-zero, plus-at_most, from_low}
 use Rattle.real_shares.proofs.Multiples.{times-minus}
 use Rattle.real_shares.proofs.Sorted.{ComesBefore-sorted}
 use Rattle.real_shares.proofs.Soundness.{SameOrLow-range, SomeAbove-range}
 use Rattle.real_worths.specs.Games.{NumberGame, excess_in, excess_list_in, HaveSameIn, IsNucleolusIn, CanHalve}
-use Rattle.real_worths.specs.KohlbergTheorem.{IsBalancedTest, is_level}
+use Rattle.real_worths.specs.KohlbergTheorem.{is_level}
 use Rattle.real_worths.proofs.CoreFirst.{not_both, same_amounts}
 use Rattle.real_worths.proofs.LevelsAreEnough.{is_proper, from_proper, to_proper}
 use Rattle.real_worths.proofs.Moves.{no_less}
@@ -193,7 +191,8 @@ module _ {C : Type 0} (N : Numbers C) (L : IsOrderedGroup N) (halve : CanHalve N
                 by_lt_z (pos 0) (W s)
                 (λ up. inr
                 (let first = up_one (W s) up in
-                L.transitive (excess_in N g z s) (N.plus (e s) (N.minus d)) (N.plus (e b) (N.minus d)) (one_step s first)
+                L.transitive (excess_in N g z s) (N.plus (e s) (N.minus d)) (N.plus (e b) (N.minus d))
+                (one_step s first)
                 (L.shifts (e s) (e b) (N.minus d)
                 (most s inside
                 (and_both (level s) (int_le (pos 1) (W s)) in_level (to_le (pos 1) (W s) first))))))
@@ -222,7 +221,8 @@ module _ {C : Type 0} (N : Numbers C) (L : IsOrderedGroup N) (halve : CanHalve N
           (is.1 z (stepped_long N L g y is.0.0 w d, efficient) differs)
           (ComesBefore-sorted N L E (map (excess_in N g z) (proper_coalitions n)) (map e (proper_coalitions n))
           (SameOrLow-range N E (excess_in N g z) e 1 (2 ^ n - 2) each)
-          (SomeAbove-range N E (excess_in N g z) e 1 (2 ^ n - 2) b (omega (arith, range.0)) (omega (arith, range.0, range.1))
+          (SomeAbove-range N E (excess_in N g z) e 1 (2 ^ n - 2) b (omega (arith, range.0))
+          (omega (arith, range.0, range.1))
           at_top above))
 
     pub never : ⊥

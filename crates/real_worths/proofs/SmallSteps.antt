@@ -1,5 +1,5 @@
 -- A number above zero that is as small as needed; and shares moved by multiples of it.
-use Rattle.std.proofs.Common.{◌≡◌, ◌⊎◌, ℕ, zero, suc, ◌+◌, ◌^◌, ◌<◌, Bool, true, false, cond, List, length, map}
+use Rattle.std.proofs.Common.{◌≡◌, ℕ, zero, suc, ◌+◌, ◌<◌, Bool, true, false, cond, List, length, map}
 use Rattle.std.proofs.Common.{ℤ, pos, negsuc, ◌+ℤ◌, ◌-ℤ◌, ◌≤ℤ◌, unsigned_abs, refl, sym, ap, ◌∙◌, inl, inr, arith}
 use Rattle.std.specs.List.{range_with_len}
 use Rattle.std.proofs.lemmas.Bool.{false≢true}
@@ -7,18 +7,17 @@ use Rattle.std.proofs.lemmas.Int.{ints}
 use Rattle.std.proofs.lemmas.List.FromFn.{get_or-map-range_with_len, length-map-range_with_len}
 use Rattle.definitions.proofs.Ring.{linear}
 use Rattle.definitions.proofs.Cases.{less_or_last, true_or_false}
-use Rattle.definitions.specs.Sums.{sum_below}
 use Rattle.definitions.specs.Coalitions.{has_player, sum_over}
-use Rattle.real_shares.specs.Numbers.{Numbers, IsOrderedGroup, AtMost, Less, Equal, times, total_below, total_over}
+use Rattle.real_shares.specs.Numbers.{Numbers, IsOrderedGroup, AtMost, Less, Equal, times, total_below}
 use Rattle.real_shares.specs.Shares.{number_of, amount_of}
-use Rattle.real_shares.proofs.Orders.{decided, at_most-same, equal-same, from_less}
-use Rattle.real_shares.proofs.Multiples.{chain, back, equal_path, plus-equal, left, right, minus-equal, neutral_left}
-use Rattle.real_shares.proofs.Multiples.{plus-at_most, times-zero, times-keeps, times-add, times-one}
+use Rattle.real_shares.proofs.Orders.{at_most-same, equal-same, from_less}
+use Rattle.real_shares.proofs.Multiples.{chain, back, equal_path, plus-equal, left, right, minus-equal}
+use Rattle.real_shares.proofs.Multiples.{plus-at_most, times-zero, times-keeps, times-add}
 use Rattle.real_shares.proofs.Multiples.{total_below-plus, total_below-equal}
 use Rattle.real_worths.specs.Games.{NumberGame, excess_in, CanHalve}
 use Rattle.real_worths.proofs.CoreFirst.{amount_at}
 use Rattle.real_worths.proofs.Moves.{less_more}
-use Rattle.real_worths.proofs.Joined.{half_low, no_less_with}
+use Rattle.real_worths.proofs.Joined.{no_less_with}
 
 module _ {C : Type 0} (N : Numbers C) (L : IsOrderedGroup N) where
   -- the lesser of two numbers above zero
@@ -125,7 +124,8 @@ sum_above w s (suc m) = next (has_player s m) (sum_over m w s) (w m) (size_of w 
 
 -- ---- shares moved by multiples
 
-module _ {C : Type 0} (N : Numbers C) (L : IsOrderedGroup N) (g : NumberGame C) (y : List C) (long : length y ≡ g.players)
+module _ {C : Type 0} (N : Numbers C) (L : IsOrderedGroup N) (g : NumberGame C) (y : List C)
+    (long : length y ≡ g.players)
     (w : ℕ → ℤ) (d : C) where
   abbrev n : ℕ
   n = g.players
@@ -140,7 +140,8 @@ module _ {C : Type 0} (N : Numbers C) (L : IsOrderedGroup N) (g : NumberGame C) 
   stepped_long = length-map-range_with_len stepped_number 0 n
 
   multiples : (s m : ℕ)
-      → Equal N (total_below N m (λ l. times N (cond (has_player s l) (w l) (pos 0)) d)) (times N (sum_over m w s) d)
+      → Equal N (total_below N m (λ l. times N (cond (has_player s l) (w l) (pos 0)) d))
+      (times N (sum_over m w s) d)
   multiples s zero = equal-same N L N.zero
   multiples s (suc m) =
       chain N L (left N L (times N (cond (has_player s m) (w m) (pos 0)) d) (multiples s m))

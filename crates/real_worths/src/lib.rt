@@ -6,12 +6,13 @@
 
 ghost use Rattle.real_worths.specs.RealWorths.{WholeWorthsAgree, NucleolusIsUnique, NucleolusIsInCore};
 ghost use Rattle.real_worths.specs.RealWorths.{WithACoreBothAreOne, WhoAddsNoLessGetsNoLess, AlikePlayersGetAlike};
-ghost use Rattle.real_worths.specs.KohlbergTheorem.{KohlbergTheorem};
-ghost use Rattle.real_worths.specs.Examples.{TwoShare, DoublingIsAChange, IntegersCantHalve};
 ghost use Rattle.real_worths.specs.RealWorths.{DummiesGetTheirWorth, RealsCanHalve, EquivalentGamesAgree};
+ghost use Rattle.real_worths.specs.KohlbergTheorem.{KohlbergTheorem};
+ghost use Rattle.real_worths.specs.Examples.{TwoShare, DoublingIsAChange, IntegersCantHalve, SomeAddNoLess};
+ghost use Rattle.real_worths.specs.Examples.{SinglesBalance};
 
-/// Where the worths are whole numbers, times the unit, these are the nucleolus and the core among real shares that other
-/// laws speak of.
+/// Where the worths are whole numbers, times the unit, these are the nucleolus and the core among real shares that
+/// other laws speak of.
 pub fn whole_worths_agree()
     ensures { WholeWorthsAgree }
 {}
@@ -77,4 +78,15 @@ pub fn doubling_is_a_change()
 /// The integer 1 isn't twice an integer.
 pub fn integers_cant_halve()
     ensures { IntegersCantHalve }
+{}
+
+/// Of two players the second alone is worth something: it adds no less than the first, which adds less. Where nobody is
+/// worth anything, the first is a dummy.
+pub fn some_add_no_less()
+    ensures { SomeAddNoLess }
+{}
+
+/// The players alone are balanced, and one of two isn't.
+pub fn singles_balance()
+    ensures { SinglesBalance }
 {}
