@@ -66,6 +66,11 @@ module _ {C : Type 0} (N : Numbers C) (L : IsOrderedGroup N) where
       (neutral_left N L a).0
   times_less (negsuc k) a one low = absurd (omega (arith, linear))
 
+  -- no weight, or a term that isn't above zero
+  term_low : (k : ℤ) (a : C) → (k ≡ pos 0) ⊎ ((pos 1 ≤ℤ k) × AtMost N a N.zero) → AtMost N (times N k a) N.zero
+  term_low k a (inl none) = (equal_path N L (times N k a) N.zero (ap (λ z. times N z a) none)).0
+  term_low k a (inr (one, low)) = L.transitive (times N k a) a N.zero (times_less k a one low) low
+
   -- no term is above zero
   sum_low : (w : ℕ → ℤ) (f : ℕ → C) (m : ℕ)
       → ((s : ℕ) → s < m → (w s ≡ pos 0) ⊎ ((pos 1 ≤ℤ w s) × AtMost N (f s) N.zero))
@@ -76,11 +81,7 @@ module _ {C : Type 0} (N : Numbers C) (L : IsOrderedGroup N) where
       (N.plus N.zero N.zero)
       N.zero
       (plus-at_most N L (total_below N m (λ s. times N (w s) (f s))) N.zero (times N (w m) (f m)) N.zero
-      (sum_low w f m (λ s lt. each s (omega arith))) (here (each m (omega arith)))) (L.neutral N.zero).0
-    where
-      here : (w m ≡ pos 0) ⊎ ((pos 1 ≤ℤ w m) × AtMost N (f m) N.zero) → AtMost N (times N (w m) (f m)) N.zero
-      here (inl none) = (equal_path N L (times N (w m) (f m)) N.zero (ap (λ z. times N z (f m)) none)).0
-      here (inr (one, low)) = L.transitive (times N (w m) (f m)) (f m) N.zero (times_less (w m) (f m) one low) low
+      (sum_low w f m (λ s lt. each s (omega arith))) (term_low (w m) (f m) (each m (omega arith)))) (L.neutral N.zero).0
 
   -- and one is below zero
   sum_less : (w : ℕ → ℤ) (f : ℕ → C) (m c : ℕ)
@@ -92,7 +93,7 @@ module _ {C : Type 0} (N : Numbers C) (L : IsOrderedGroup N) where
         L.transitive (N.plus (total_below N m (λ s. times N (w s) (f s))) (times N (w m) (f m)))
         (N.plus (f c) N.zero) (f c)
         (plus-at_most N L (total_below N m (λ s. times N (w s) (f s))) (f c) (times N (w m) (f m)) N.zero
-        (sum_less w f m c (λ s h. each s (omega arith)) less one low) (here (each m (omega arith))))
+        (sum_less w f m c (λ s h. each s (omega arith)) less one low) (term_low (w m) (f m) (each m (omega arith))))
         (L.neutral (f c)).0
     | inr last ↦
         L.transitive (N.plus (total_below N m (λ s. times N (w s) (f s))) (times N (w m) (f m)))
@@ -102,11 +103,6 @@ module _ {C : Type 0} (N : Numbers C) (L : IsOrderedGroup N) where
         (rw (sym last) (times_less (w c) (f c) one low)))
         (neutral_left N L (f c)).0
   ]
-    where
-      here : (w m ≡ pos 0) ⊎ ((pos 1 ≤ℤ w m) × AtMost N (f m) N.zero) → AtMost N (times N (w m) (f m)) N.zero
-      here (inl none) = (equal_path N L (times N (w m) (f m)) N.zero (ap (λ z. times N z (f m)) none)).0
-      here (inr (one, under)) =
-          L.transitive (times N (w m) (f m)) (f m) N.zero (times_less (w m) (f m) one under) under
 
   -- balanced weights add nothing where all together get nothing
   module _ (n : ℕ) (v : ℕ → C) (test : ℕ → Bool) (b : IsBalancedTest n test) where
