@@ -1,6 +1,6 @@
--- A core point gives nobody less than its worth alone. So where there is one, the nucleolus and the prenucleolus lie in
--- the core; and who gives somebody less comes behind a core point.
-use Rattle.std.proofs.Common.{◌≡◌, ◌≢◌, ◌⊎◌, ℕ, zero, suc, ◌^◌, ◌<◌, ◌≤◌, Bool, true, false, cond, List, length}
+-- A core point gives nobody less than its worth alone. So where there is one, the nucleolus and the prenucleolus lie
+-- in the core; and who gives somebody less comes behind a core point.
+use Rattle.std.proofs.Common.{◌≡◌, ◌⊎◌, ℕ, zero, suc, ◌<◌, Bool, true, false, cond, List, length}
 use Rattle.std.proofs.Common.{sym, ap, ◌∙◌, inl, inr, arith}
 use Rattle.definitions.proofs.Cases.{less_or_last}
 use Rattle.definitions.proofs.Masks.{singleton-within}
@@ -10,9 +10,9 @@ use Rattle.definitions.specs.declared.Family.{Family}
 use Rattle.definitions.specs.declared.Family.TheVariants.{Imputations, Preimputations}
 use Rattle.real_shares.specs.Numbers.{Numbers, IsOrderedGroup, AtMost, Equal, total_below}
 use Rattle.real_shares.specs.Shares.{number_of, amount_of}
-use Rattle.real_shares.proofs.Orders.{decided, equal-same}
+use Rattle.real_shares.proofs.Orders.{decided}
 use Rattle.real_shares.proofs.Multiples.{chain, equal_path, plus-equal, neutral_left, total_below-zero}
-use Rattle.real_worths.specs.Games.{NumberGame, IsIndividuallyRationalIn, InFamilyIn, IsNucleolusIn, InCoreIn}
+use Rattle.real_worths.specs.Games.{NumberGame, InFamilyIn, IsNucleolusIn, InCoreIn}
 use Rattle.real_worths.proofs.CoreFirst.{amount_at, core_first, nucleolus_in_core, only_proper}
 
 module _ {C : Type 0} (N : Numbers C) (L : IsOrderedGroup N) where

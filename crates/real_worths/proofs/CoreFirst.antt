@@ -1,14 +1,12 @@
--- Two nucleoli would each come before the other; and a core point has no excess above zero, so its excesses come before
--- those of shares that a coalition blocks.
-use Rattle.std.proofs.Common.{◌≡◌, ℕ, zero, suc, ◌+◌, ◌-◌, ◌^◌, ◌<◌, ◌≤◌, Bool, true, false, cond, List, length}
-use Rattle.std.proofs.Common.{map, refl, ap, inl, inr, arith}
-use Rattle.std.proofs.lemmas.Bool.{false≢true}
-use Rattle.definitions.proofs.Cases.{same_or_other}
+-- Two nucleoli would each come before the other; and a core point has no excess above zero, so its excesses come
+-- before those of shares that a coalition blocks.
+use Rattle.std.proofs.Common.{◌≡◌, ℕ, ◌+◌, ◌-◌, ◌^◌, ◌<◌, ◌≤◌, Bool, true, false, cond, List, length}
+use Rattle.std.proofs.Common.{map, ap, inl, inr, arith}
 use Rattle.definitions.proofs.Members.{has_player-empty}
 use Rattle.definitions.specs.Coalitions.{has_player, grand_coalition, proper_coalitions}
 use Rattle.definitions.specs.declared.Family.{Family}
 use Rattle.definitions.specs.declared.Family.TheVariants.{Imputations, Preimputations}
-use Rattle.real_shares.specs.Numbers.{Numbers, IsOrderedGroup, AtMost, Less, Equal, sorted_by, ComesBeforeBy}
+use Rattle.real_shares.specs.Numbers.{Numbers, IsOrderedGroup, AtMost, Equal, sorted_by, ComesBeforeBy}
 use Rattle.real_shares.specs.Numbers.{total_over}
 use Rattle.real_shares.specs.Shares.{number_of, amount_of}
 use Rattle.real_shares.proofs.Orders.{decided, equal-same}
@@ -90,7 +88,8 @@ module _ {C : Type 0} (N : Numbers C) (L : IsOrderedGroup N) (g : NumberGame C) 
       let f : ℕ → C = excess_in N g z in
       let h : ℕ → C = excess_in N g y in
       ComesBefore-sorted N L N.zero (map f (proper_coalitions n)) (map h (proper_coalitions n))
-      (SameOrLow-range N N.zero f h 1 (2 ^ n - 2) (λ t low high. inr (core_low z t core (omega (arith, low, high)))))
+      (SameOrLow-range N N.zero f h 1 (2 ^ n - 2)
+      (λ t low high. inr (core_low z t core (omega (arith, low, high)))))
       (SomeAbove-range N N.zero f h 1 (2 ^ n - 2) s some proper (core_low z s core (omega (arith, some, proper)))
       (λ le. blocked (from_low N L (g.worth s) (amount_of N y s) le)))
 

@@ -1,10 +1,11 @@
--- With a dummy a coalition's excess is less by what the dummy gets beside its worth alone. Where that is above zero, half
--- of it moved from the dummy to a member of the coalition of the greatest excess without it improves; where it is below
--- zero, the sides change.
-use Rattle.std.proofs.Common.{◌≡◌, ◌≢◌, ℕ, ◌+◌, ◌-◌, ◌^◌, ◌<◌, ◌≤◌, Bool, true, false, not, ◌&&◌, nat_eq, List, length}
-use Rattle.std.proofs.Common.{refl, sym, ap, ◌∙◌, inl, inr, arith}
+-- With a dummy a coalition's excess is less by what the dummy gets beside its worth alone. Where that is above zero,
+-- half of it moved from the dummy to a member of the coalition of the greatest excess without it improves; where it is
+-- below zero, the sides change.
+use Rattle.std.proofs.Common.{◌≡◌, ◌≢◌, ℕ, ◌+◌, ◌-◌, ◌^◌, ◌<◌, ◌≤◌, Bool, true}
+use Rattle.std.proofs.Common.{false, not, ◌&&◌, nat_eq, List, length}
+use Rattle.std.proofs.Common.{sym, ap, ◌∙◌, inl, inr, arith}
 use Rattle.std.proofs.lemmas.Bool.{false≢true}
-use Rattle.definitions.proofs.Cases.{same_or_other, from_not, and_parts, and_both, nat_eq-same, nat_eq-other}
+use Rattle.definitions.proofs.Cases.{same_or_other, from_not, and_parts, and_both, nat_eq-other}
 use Rattle.definitions.proofs.Cases.{from_not_nat_eq}
 use Rattle.definitions.proofs.Masks.{grand_coalition-within, singleton-within}
 use Rattle.definitions.proofs.Members.{has_player-empty, has_player-singleton, has_player-grand_coalition}
@@ -16,12 +17,12 @@ use Rattle.definitions.specs.declared.Family.TheVariants.{Imputations}
 use Rattle.laws.proofs.Withouts.{without}
 use Rattle.real_shares.specs.Numbers.{Numbers, IsOrderedGroup, AtMost, Less, Equal}
 use Rattle.real_shares.specs.Shares.{number_of, amount_of}
-use Rattle.real_shares.proofs.Orders.{decided, at_most-same, from_less}
+use Rattle.real_shares.proofs.Orders.{decided, from_less}
 use Rattle.real_shares.proofs.Multiples.{chain, back, equal_path, plus-equal, left, right, minus-equal, minus-plus}
-use Rattle.real_shares.proofs.Multiples.{exchanged, difference-zero, neutral_left, is_minus, plus-at_most}
+use Rattle.real_shares.proofs.Multiples.{exchanged, difference-zero, neutral_left, plus-at_most}
 use Rattle.real_worths.specs.Games.{NumberGame, excess_in, IsNucleolusIn, CanHalve, IsDummyIn}
 use Rattle.real_worths.proofs.CoreFirst.{length_in, efficient_in, nobody_gets}
-use Rattle.real_worths.proofs.Moves.{no_gain, put_back}
+use Rattle.real_worths.proofs.Moves.{no_gain}
 use Rattle.real_worths.proofs.Joined.{half_positive, both_halves, take_over, no_less_with, greatest_among}
 use Rattle.real_worths.proofs.Joined.{amount_more, rational_of, half_low}
 
@@ -34,7 +35,8 @@ module _ {C : Type 0} (N : Numbers C) (L : IsOrderedGroup N) where
       (chain N L (plus-equal N L (L.inverse b) (chain N L (L.commutes (N.minus a) a) (L.inverse a)))
       (L.neutral N.zero)))
 
-module _ {C : Type 0} (N : Numbers C) (L : IsOrderedGroup N) (halve : CanHalve N) (g : NumberGame C) (family : Family)
+module _ {C : Type 0} (N : Numbers C) (L : IsOrderedGroup N) (halve : CanHalve N) (g : NumberGame C)
+    (family : Family)
     (y : List C) (is : IsNucleolusIn N family g y) (i : ℕ) (hi : i < g.players) (dummy : IsDummyIn N g i) where
   abbrev n : ℕ
   n = g.players
@@ -261,7 +263,8 @@ module _ {C : Type 0} (N : Numbers C) (L : IsOrderedGroup N) (halve : CanHalve N
         outside : (l : ℕ) × (l < n) × (has_player c l ≡ false)
         outside =
             some_outsider n c within
-            (λ same. from_not_nat_eq c (grand_coalition n) (from_not (nat_eq c (grand_coalition n)) both.1) (sym same))
+            (λ same. from_not_nat_eq c (grand_coalition n) (from_not (nat_eq c (grand_coalition n)) both.1)
+            (sym same))
 
         j : ℕ
         j = outside.0
@@ -281,15 +284,18 @@ module _ {C : Type 0} (N : Numbers C) (L : IsOrderedGroup N) (halve : CanHalve N
           | inl all ↦
               L.transitive (e t) N.zero (e c)
               (chain N L (equal_path N L (e t) (e (grand_coalition n)) (ap e all)) all_excess).0
-              (L.transitive N.zero (N.plus a (N.minus u)) (e c) (no_less_twice k (N.plus a (N.minus u)) not_low halved)
+              (L.transitive N.zero (N.plus a (N.minus u)) (e c)
+              (no_less_twice k (N.plus a (N.minus u)) not_low halved)
               (L.transitive (N.plus a (N.minus u)) (e (singleton i)) (e c) alone_excess.1
-              (most (singleton i) (singleton-within n i hi) (holds (singleton i) (has_player-singleton i) alone_some))))
+              (most (singleton i) (singleton-within n i hi)
+              (holds (singleton i) (has_player-singleton i) alone_some))))
         ]
 
         rising : (s : ℕ) → s < 2 ^ n → has_player s i ≡ false
             → AtMost N (N.plus (e s) k) (N.plus (e c) (N.minus k))
         rising s lt out =
-            let whole = chain N L (twice_more (e s) k (N.plus a (N.minus u)) halved) (back N L (with_it s lt out)) in
+            let whole =
+            chain N L (twice_more (e s) k (N.plus a (N.minus u)) halved) (back N L (with_it s lt out)) in
             take_over N L (N.plus (e s) k) (e c) k
             (L.transitive (N.plus (N.plus (e s) k) k) (e (s + 2 ^ i)) (e c) whole.0
             (at_most (s + 2 ^ i) (more-lt n s i lt hi out) (has_player-more_same s i out)))

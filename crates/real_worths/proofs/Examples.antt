@@ -1,21 +1,26 @@
 -- Two who share a real number; doubling; and the integer 1, which isn't twice an integer.
-use Rattle.std.proofs.Common.{◌≡◌, ◌⊎◌, ℕ, zero, suc, ◌+◌, ◌-◌, ◌^◌, ◌<◌, ◌≤◌, List, [], ◌∷◌, length, ℤ, pos, ◌+ℤ◌, int_le, true}
-use Rattle.std.proofs.Common.{refl, sym, ap, ◌∙◌, inl, inr, arith}
+use Rattle.std.proofs.Common.{◌≡◌, ℕ, zero, suc, ◌+◌, ◌^◌, ◌<◌, ◌≤◌, List, [], ◌∷◌}
+use Rattle.std.proofs.Common.{length, ℤ, pos, ◌+ℤ◌, ◌*ℤ◌, ◌≤ℤ◌, int_le, true}
+use Rattle.std.proofs.Common.{Bool, false, cond, nat_eq, ◌||◌}
+use Rattle.std.proofs.Common.{refl, sym, ap, inl, inr, arith}
 use Rattle.std.proofs.lemmas.Bool.{false≢true}
 use Rattle.std.proofs.lemmas.Int.{ints}
+use Rattle.definitions.proofs.Ring.{linear}
+use Rattle.definitions.specs.Sums.{sum_below}
+use Rattle.definitions.specs.Coalitions.{has_player}
 use Rattle.definitions.specs.declared.Family.TheVariants.{Preimputations}
 use Rattle.real_shares.specs.Numbers.{Numbers, IsOrderedGroup, AtMost, Less, Equal, sorted_by, ComesBeforeBy}
-use Rattle.real_shares.specs.Reals.{Real, AreReals}
+use Rattle.real_shares.specs.Reals.{Real}
 use Rattle.real_shares.specs.Shares.{number_of, amount_of}
 use Rattle.real_shares.proofs.Orders.{decided, equal-same, from_less, at_most-same}
-use Rattle.real_shares.proofs.Multiples.{chain, back as turn, equal_path, plus-equal, left, right, neutral_left}
+use Rattle.real_shares.proofs.Multiples.{chain, back as turn, equal_path, left, neutral_left}
 use Rattle.real_shares.proofs.Multiples.{minus-at_most, minus-equal, plus-at_most, exchanged}
 use Rattle.real_shares.proofs.RealNumbers.{are_ordered}
 use Rattle.real_shares.proofs.Soundness.{before-from}
 use Rattle.real_worths.specs.Games.{NumberGame, excess_in, excess_list_in, HaveSameIn, IsNucleolusIn, InCoreIn}
 use Rattle.real_worths.specs.Games.{AreInterchangeableIn, IsDummyIn, CanHalve}
-use Rattle.real_worths.specs.RealWorths.{IsUnitChange}
-use Rattle.real_worths.specs.Examples.{two, TwoShare, DoublingIsAChange, IntegersCantHalve}
+use Rattle.real_worths.specs.Examples.{two, second, TwoShare, DoublingIsAChange, IntegersCantHalve}
+use Rattle.real_worths.specs.Examples.{SomeAddNoLess, SinglesBalance}
 use Rattle.real_worths.proofs.CoreFirst.{amount_at}
 use Rattle.real_worths.proofs.Moves.{minus_minus}
 use Rattle.real_worths.proofs.WhoAddsNoLess.{adds_gets_no_less}
@@ -35,8 +40,10 @@ doubling N R = (
           (L.transitive (N.plus (halve a).0 (halve a).0) a (N.plus (halve b).0 (halve b).0) (halve a).1.0
           (L.transitive a b (N.plus (halve b).0 (halve b).0) le (halve b).1.1));
       there = λ a. (halve a).1;
-      again = λ a.
-          (in_order (halve (N.plus a a)).0 a (halve (N.plus a a)).1.0, in_order a (halve (N.plus a a)).0 (halve (N.plus a a)).1.1);
+      again = λ a. (
+        in_order (halve (N.plus a a)).0 a (halve (N.plus a a)).1.0,
+        in_order a (halve (N.plus a a)).0 (halve (N.plus a a)).1.1,
+      );
     },
   ),
   λ back change.
@@ -58,7 +65,9 @@ doubling N R = (
       | inr more ↦ elim (L.linear a b) [
         | inl here ↦ here
         | inr less ↦
-            let up = L.transitive (N.plus a a) (N.plus b b) (N.plus b a) le (plus-at_most N L b b b a (at_most-same N L b) less) in
+            let up =
+            L.transitive (N.plus a a) (N.plus b b) (N.plus b a) le
+            (plus-at_most N L b b b a (at_most-same N L b) less) in
             absurd (more (off N L a b a up))
       ]
     ]
@@ -143,7 +152,8 @@ module _ {C : Type 0} (N : Numbers C) (L : IsOrderedGroup N) (c h : C) (half : E
         before-from N L 2 (excess_in N g y) (excess_in N g z) s one past (λ t first last. inr (each t first last))
         (λ le. less
         (from_minus h (v k)
-        (L.transitive (N.minus (v k)) (excess_in N g z s) (N.minus h) (alone s one past (amount_of N z s) (v k) gets).1
+        (L.transitive (N.minus (v k)) (excess_in N g z s) (N.minus h)
+        (alone s one past (amount_of N z s) (v k) gets).1
         (L.transitive (excess_in N g z s) (excess_in N g y s) (N.minus h) le
         (alone s one past (amount_of N y s) h half_gets).0))))
       where
@@ -153,7 +163,8 @@ module _ {C : Type 0} (N : Numbers C) (L : IsOrderedGroup N) (c h : C) (half : E
         worthless (suc (suc zero)) first last = refl
         worthless (suc (suc (suc t))) first last = absurd (omega arith)
 
-        alone : (t : ℕ) → 1 ≤ t → t < 3 → (a b : C) → Equal N a b → Equal N (N.plus (g.worth t) (N.minus a)) (N.minus b)
+        alone : (t : ℕ) → 1 ≤ t → t < 3 → (a b : C) → Equal N a b
+            → Equal N (N.plus (g.worth t) (N.minus a)) (N.minus b)
         alone t first last a b e =
             chain N L (left N L (N.minus a) (equal_path N L (g.worth t) N.zero (worthless t first last)))
             (chain N L (neutral_left N L (N.minus a)) (minus-equal N L e))
@@ -200,7 +211,8 @@ module _ {C : Type 0} (N : Numbers C) (L : IsOrderedGroup N) (c h : C) (half : E
           off N L (v 1) h h
               (L.transitive (N.plus (v 1) h) (N.plus (v 1) (v 0)) (N.plus h h)
               (plus-at_most N L (v 1) (v 1) h (v 0) (at_most-same N L (v 1)) first)
-              (L.transitive (N.plus (v 1) (v 0)) (N.plus (v 0) (v 1)) (N.plus h h) (L.commutes (v 1) (v 0)).0 shared.0)),
+              (L.transitive (N.plus (v 1) (v 0)) (N.plus (v 0) (v 1)) (N.plus h h) (L.commutes (v 1) (v 0)).0
+              shared.0)),
         )
         same first second (suc (suc i)) lt = absurd (omega arith)
 
@@ -222,3 +234,55 @@ two_share N c h R half some =
           (adds_gets_no_less N L (can_halve N R) (two N c) Preimputations (c ∷ (N.zero ∷ [])) is 1 0 (omega arith)
           (omega arith) (λ s lt a b. (alike s lt b a).0)),
     )
+
+-- ---- who adds no less, and dummies
+
+pub some_add_no_less : SomeAddNoLess
+some_add_no_less N c R some = (adds, λ less. some (less 0 (omega arith) refl refl), dummy)
+  where
+    L : IsOrderedGroup N
+    L = are_ordered N R
+
+    adds : (s : ℕ) → s < 2 ^ 2 → has_player s 1 ≡ false → has_player s 0 ≡ false
+        → AtMost N ((second N c).worth (s + 1)) ((second N c).worth (s + 2))
+    adds zero lt a b = from_less N L N.zero c some
+    adds (suc zero) lt a b = absurd (false≢true (sym b))
+    adds (suc (suc zero)) lt a b = absurd (false≢true (sym a))
+    adds (suc (suc (suc zero))) lt a b = absurd (false≢true (sym b))
+    adds (suc (suc (suc (suc s)))) lt a b = absurd (omega arith)
+
+    dummy : (s : ℕ) → s < 2 ^ 2 → has_player s 0 ≡ false
+        → Equal N ((two N N.zero).worth (s + 1)) (N.plus ((two N N.zero).worth s) N.zero)
+    dummy zero lt a = turn N L (L.neutral N.zero)
+    dummy (suc zero) lt a = absurd (false≢true (sym a))
+    dummy (suc (suc zero)) lt a = turn N L (L.neutral N.zero)
+    dummy (suc (suc (suc zero))) lt a = absurd (false≢true (sym a))
+    dummy (suc (suc (suc (suc s)))) lt a = absurd (omega arith)
+
+-- ---- balanced collections
+
+pub singles_balance : SinglesBalance
+singles_balance = (
+  record {
+    weights = λ s. cond (nat_eq s 1 || nat_eq s 2) (pos 1) (pos 0);
+    total = pos 1;
+    some = λ s lt h. (let e = ap (λ (b : Bool). cond b (pos 1) (pos 0)) h in omega (arith, linear, e));
+    none = λ s lt h. ap (λ (b : Bool). cond b (pos 1) (pos 0)) h;
+    balance = each;
+  },
+  λ b. one_alone (b.weights 0) (b.weights 1) (b.weights 2) (b.weights 3) b.total (b.some 1 (omega arith) refl)
+      (b.none 2 (omega arith) refl) (b.none 3 (omega arith) refl) (b.balance 0 (omega arith))
+      (b.balance 1 (omega arith)),
+)
+  where
+    each : (i : ℕ) → i < 2
+        → sum_below (2 ^ 2)
+        (λ s. cond (nat_eq s 1 || nat_eq s 2) (pos 1) (pos 0) *ℤ cond (has_player s i) (pos 1) (pos 0)) ≡ pos 1
+    each zero lt = refl
+    each (suc zero) lt = refl
+    each (suc (suc i)) lt = absurd (omega arith)
+
+    one_alone : (a b c d t : ℤ) → pos 1 ≤ℤ b → c ≡ pos 0 → d ≡ pos 0
+        → pos 0 +ℤ a *ℤ pos 0 +ℤ b *ℤ pos 1 +ℤ c *ℤ pos 0 +ℤ d *ℤ pos 1 ≡ t
+        → pos 0 +ℤ a *ℤ pos 0 +ℤ b *ℤ pos 0 +ℤ c *ℤ pos 1 +ℤ d *ℤ pos 1 ≡ t → ⊥
+    one_alone a b c d t one none last first second = omega (arith, ints)

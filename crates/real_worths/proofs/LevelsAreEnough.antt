@@ -1,35 +1,56 @@
 -- Beside other shares, take the greatest excess among the coalitions whose members get other amounts together. If none
--- that has it gets less, the weights of its level would add above zero what all get more, which is nothing. So one gets
--- less, and the other shares come behind.
-use Rattle.std.proofs.Common.{◌≡◌, ◌⊎◌, ℕ, zero, suc, ◌+◌, ◌-◌, ◌^◌, ◌<◌, ◌≤◌, Bool, true, false, cond, ◌&&◌, not, nat_eq}
-use Rattle.std.proofs.Common.{List, length, ℤ, pos, negsuc, ◌+ℤ◌, ◌-ℤ◌, ◌*ℤ◌, ◌≤ℤ◌, refl, sym, ap, ◌∙◌, inl, inr, arith}
+-- that has it gets less, the weights of its level would add above zero what all get more, which is nothing. So one
+-- gets less, and the other shares come behind.
+use Rattle.std.proofs.Common.{◌≡◌, ◌⊎◌, ℕ, zero, suc, ◌^◌, ◌<◌, Bool, true, false, cond, ◌&&◌, not, nat_eq}
+use Rattle.std.proofs.Common.{List, ℤ, pos, negsuc, ◌-ℤ◌, ◌*ℤ◌, ◌≤ℤ◌, refl, sym, ap, ◌∙◌, inl, inr, arith}
 use Rattle.std.proofs.lemmas.Bool.{false≢true}
 use Rattle.definitions.proofs.Ring.{linear, mul-zeroℤ, mul-subℤ, mul-oneℤ}
 use Rattle.std.proofs.Math.Pow.{pow_pos}
 use Rattle.definitions.proofs.Cases.{same_or_other}
-use Rattle.definitions.proofs.Cases.{true_or_false, and_parts, and_both, from_not, nat_eq-other, from_not_nat_eq, less_or_last}
+use Rattle.definitions.proofs.Cases.{true_or_false, and_parts, and_both, from_not}
+use Rattle.definitions.proofs.Cases.{nat_eq-other, from_not_nat_eq, less_or_last}
 use Rattle.definitions.proofs.Masks.{grand_coalition-within, singleton-within}
 use Rattle.definitions.proofs.Members.{has_player-grand_coalition}
 use Rattle.definitions.specs.Sums.{sum_below}
 use Rattle.definitions.specs.Coalitions.{has_player, singleton, grand_coalition}
 use Rattle.definitions.specs.declared.Family.TheVariants.{Preimputations}
-use Rattle.real_shares.specs.Numbers.{Numbers, IsOrderedGroup, AtMost, Less, Equal, times, total_below, total_over}
+use Rattle.real_shares.specs.Numbers.{Numbers, IsOrderedGroup, AtMost, Equal, times, total_below, total_over}
 use Rattle.real_shares.specs.Numbers.{sorted_by, ComesBeforeBy}
 use Rattle.real_shares.specs.Shares.{number_of, amount_of}
-use Rattle.real_shares.proofs.Orders.{decided, at_most-same, equal-same, from_less}
-use Rattle.real_shares.proofs.Multiples.{chain, back, equal_path, plus-equal, left, right, neutral_left, times-equal}
-use Rattle.real_shares.proofs.Multiples.{plus-at_most, times-zero, times-keeps, times-one, minus-equal, minus-zero}
+use Rattle.real_shares.proofs.Orders.{at_most-same, equal-same}
+use Rattle.real_shares.proofs.Multiples.{chain, back, equal_path, plus-equal, right, neutral_left, times-equal}
+use Rattle.real_shares.proofs.Multiples.{plus-at_most, times-zero, times-keeps, minus-equal, minus-zero}
 use Rattle.real_shares.proofs.Multiples.{total_below-plus, total_below-minus, total_below-equal, difference-zero}
 use Rattle.real_shares.proofs.Multiples.{from_difference, added-low, minus-at_most}
-use Rattle.real_shares.proofs.Combined.{combined, of_members, combined-same, combined-plus, combined-none, combined-times}
+use Rattle.real_shares.proofs.Combined.{combined, of_members, combined-same}
+use Rattle.real_shares.proofs.Combined.{combined-plus, combined-none, combined-times}
 use Rattle.real_shares.proofs.Combined.{combined-members}
 use Rattle.real_shares.proofs.Soundness.{before-from}
-use Rattle.real_worths.specs.Games.{NumberGame, excess_in, excess_list_in, InFamilyIn, HaveSameIn, IsNucleolusIn}
-use Rattle.real_worths.specs.Kohlberg.{IsBalancedTest, is_level}
+use Rattle.real_worths.specs.Games.{NumberGame, excess_in, excess_list_in, InFamilyIn, HaveSameIn}
+use Rattle.real_worths.specs.KohlbergTheorem.{IsBalancedTest, is_level}
 use Rattle.real_worths.proofs.CoreFirst.{amount_at}
 use Rattle.real_worths.proofs.BothAreOne.{alone_gets}
 use Rattle.real_worths.proofs.Joined.{greatest_among, forth}
 use Rattle.real_worths.proofs.Moves.{less_more}
+
+-- ---- proper coalitions
+
+abbrev pub is_proper : ℕ → ℕ → Bool
+is_proper n s = not (nat_eq s 0) && not (nat_eq s (grand_coalition n))
+
+pub to_proper : (n s : ℕ) → 0 < s → s < grand_coalition n → is_proper n s ≡ true
+to_proper n s some less =
+    and_both (not (nat_eq s 0)) (not (nat_eq s (grand_coalition n)))
+    (ap not (nat_eq-other s 0 (λ same. omega (arith, some, same))))
+    (ap not (nat_eq-other s (grand_coalition n) (λ same. omega (arith, less, same))))
+
+pub from_proper : (n s : ℕ) → s < 2 ^ n → is_proper n s ≡ true → (0 < s) × (s < grand_coalition n)
+from_proper n s within h =
+    let both = and_parts (not (nat_eq s 0)) (not (nat_eq s (grand_coalition n))) h in
+    let ne = from_not_nat_eq s 0 (from_not (nat_eq s 0) both.0) in
+    let other = from_not_nat_eq s (grand_coalition n) (from_not (nat_eq s (grand_coalition n)) both.1) in
+    let all = grand_coalition-within n in
+    (omega (arith, ne), omega (arith, within, other, all))
 
 -- ---- weighted sums
 
@@ -45,20 +66,22 @@ module _ {C : Type 0} (N : Numbers C) (L : IsOrderedGroup N) where
       (neutral_left N L a).0
   times_less (negsuc k) a one low = absurd (omega (arith, linear))
 
+  -- no weight, or a term that isn't above zero
+  term_low : (k : ℤ) (a : C) → (k ≡ pos 0) ⊎ ((pos 1 ≤ℤ k) × AtMost N a N.zero) → AtMost N (times N k a) N.zero
+  term_low k a (inl none) = (equal_path N L (times N k a) N.zero (ap (λ z. times N z a) none)).0
+  term_low k a (inr (one, low)) = L.transitive (times N k a) a N.zero (times_less k a one low) low
+
   -- no term is above zero
   sum_low : (w : ℕ → ℤ) (f : ℕ → C) (m : ℕ)
       → ((s : ℕ) → s < m → (w s ≡ pos 0) ⊎ ((pos 1 ≤ℤ w s) × AtMost N (f s) N.zero))
       → AtMost N (total_below N m (λ s. times N (w s) (f s))) N.zero
   sum_low w f zero each = at_most-same N L N.zero
   sum_low w f (suc m) each =
-      L.transitive (N.plus (total_below N m (λ s. times N (w s) (f s))) (times N (w m) (f m))) (N.plus N.zero N.zero)
+      L.transitive (N.plus (total_below N m (λ s. times N (w s) (f s))) (times N (w m) (f m)))
+      (N.plus N.zero N.zero)
       N.zero
       (plus-at_most N L (total_below N m (λ s. times N (w s) (f s))) N.zero (times N (w m) (f m)) N.zero
-      (sum_low w f m (λ s lt. each s (omega arith))) (here (each m (omega arith)))) (L.neutral N.zero).0
-    where
-      here : (w m ≡ pos 0) ⊎ ((pos 1 ≤ℤ w m) × AtMost N (f m) N.zero) → AtMost N (times N (w m) (f m)) N.zero
-      here (inl none) = (equal_path N L (times N (w m) (f m)) N.zero (ap (λ z. times N z (f m)) none)).0
-      here (inr (one, low)) = L.transitive (times N (w m) (f m)) (f m) N.zero (times_less (w m) (f m) one low) low
+      (sum_low w f m (λ s lt. each s (omega arith))) (term_low (w m) (f m) (each m (omega arith)))) (L.neutral N.zero).0
 
   -- and one is below zero
   sum_less : (w : ℕ → ℤ) (f : ℕ → C) (m c : ℕ)
@@ -70,7 +93,8 @@ module _ {C : Type 0} (N : Numbers C) (L : IsOrderedGroup N) where
         L.transitive (N.plus (total_below N m (λ s. times N (w s) (f s))) (times N (w m) (f m)))
         (N.plus (f c) N.zero) (f c)
         (plus-at_most N L (total_below N m (λ s. times N (w s) (f s))) (f c) (times N (w m) (f m)) N.zero
-        (sum_less w f m c (λ s h. each s (omega arith)) less one low) (here (each m (omega arith)))) (L.neutral (f c)).0
+        (sum_less w f m c (λ s h. each s (omega arith)) less one low) (term_low (w m) (f m) (each m (omega arith))))
+        (L.neutral (f c)).0
     | inr last ↦
         L.transitive (N.plus (total_below N m (λ s. times N (w s) (f s))) (times N (w m) (f m)))
         (N.plus N.zero (f c)) (f c)
@@ -79,10 +103,6 @@ module _ {C : Type 0} (N : Numbers C) (L : IsOrderedGroup N) where
         (rw (sym last) (times_less (w c) (f c) one low)))
         (neutral_left N L (f c)).0
   ]
-    where
-      here : (w m ≡ pos 0) ⊎ ((pos 1 ≤ℤ w m) × AtMost N (f m) N.zero) → AtMost N (times N (w m) (f m)) N.zero
-      here (inl none) = (equal_path N L (times N (w m) (f m)) N.zero (ap (λ z. times N z (f m)) none)).0
-      here (inr (one, under)) = L.transitive (times N (w m) (f m)) (f m) N.zero (times_less (w m) (f m) one under) under
 
   -- balanced weights add nothing where all together get nothing
   module _ (n : ℕ) (v : ℕ → C) (test : ℕ → Bool) (b : IsBalancedTest n test) where
@@ -205,29 +225,13 @@ module _ {C : Type 0} (N : Numbers C) (L : IsOrderedGroup N) (g : NumberGame C) 
   to_none : (s : ℕ) → Equal N (d s) N.zero → is_none s ≡ true
   to_none s h = and_both (N.at_most (d s) N.zero) (N.at_most N.zero (d s)) h.0 h.1
 
-  abbrev is_proper : ℕ → Bool
-  is_proper s = not (nat_eq s 0) && not (nat_eq s (grand_coalition n))
-
-  to_proper : (s : ℕ) → 0 < s → s < grand_coalition n → is_proper s ≡ true
-  to_proper s some less =
-      and_both (not (nat_eq s 0)) (not (nat_eq s (grand_coalition n)))
-      (ap not (nat_eq-other s 0 (λ same. omega (arith, some, same))))
-      (ap not (nat_eq-other s (grand_coalition n) (λ same. omega (arith, less, same))))
-
-  from_proper : (s : ℕ) → s < 2 ^ n → is_proper s ≡ true → (0 < s) × (s < grand_coalition n)
-  from_proper s within h =
-      let both = and_parts (not (nat_eq s 0)) (not (nat_eq s (grand_coalition n))) h in
-      let ne = from_not_nat_eq s 0 (from_not (nat_eq s 0) both.0) in
-      let other = from_not_nat_eq s (grand_coalition n) (from_not (nat_eq s (grand_coalition n)) both.1) in
-      let all = grand_coalition-within n in
-      (omega (arith, ne), omega (arith, within, other, all))
-
   abbrev moves : ℕ → Bool
-  moves s = is_proper s && not (is_none s)
+  moves s = is_proper n s && not (is_none s)
 
   none_moves : ((s : ℕ) → s < 2 ^ n → moves s ≡ false) → HaveSameIn N g y z
   none_moves none i lt =
-      let gone = chain N L (back N L (alone_gets N L v i n lt)) (still (singleton i) (singleton-within n i lt) refl) in
+      let gone =
+      chain N L (back N L (alone_gets N L v i n lt)) (still (singleton i) (singleton-within n i lt) refl) in
       back N L (from_difference N L (number_of N z i) (number_of N y i) gone)
     where
       still : (s : ℕ) → s < 2 ^ n → s ≡ singleton i → Equal N (d s) N.zero
@@ -241,42 +245,43 @@ module _ {C : Type 0} (N : Numbers C) (L : IsOrderedGroup N) (g : NumberGame C) 
               absurd
               (false≢true
               (sym (none s within)
-              ∙ and_both (is_proper s) (not (is_none s)) (to_proper s some (omega (arith, within, other, all)))
+              ∙ and_both (is_proper n s) (not (is_none s)) (to_proper n s some (omega (arith, within, other, all)))
               (ap not more)))
         ]
       ]
 
   -- where no coalition of the level of c gets less, all get more
-  module _ (c : ℕ) (within : c < 2 ^ n) (proper : is_proper c ≡ true) (b : IsBalancedTest n (is_level N g y c)) where
-    level_here : is_level N g y c c ≡ true
-    level_here =
-        let both = and_parts (not (nat_eq c 0)) (not (nat_eq c (grand_coalition n))) proper in
-        and_both (not (nat_eq c 0)) (not (nat_eq c (grand_coalition n)) && N.at_most (e c) (e c)) both.0
-        (and_both (not (nat_eq c (grand_coalition n))) (N.at_most (e c) (e c)) both.1 (at_most-same N L (e c)))
+  module _ (c : ℕ) (within : c < 2 ^ n) (proper : is_proper n c ≡ true) (b : IsBalancedTest n (is_level N g y c))
+    where
+      level_here : is_level N g y c c ≡ true
+      level_here =
+          let both = and_parts (not (nat_eq c 0)) (not (nat_eq c (grand_coalition n))) proper in
+          and_both (not (nat_eq c 0)) (not (nat_eq c (grand_coalition n)) && N.at_most (e c) (e c)) both.0
+          (and_both (not (nat_eq c (grand_coalition n))) (N.at_most (e c) (e c)) both.1 (at_most-same N L (e c)))
 
-    none_less : ((s : ℕ) → s < 2 ^ n → is_level N g y c s ≡ true → AtMost N N.zero (d s)) → Equal N (d c) N.zero
-    none_less each =
-        let w = b.weights in
-        let f = λ (s : ℕ). N.minus (d s) in
-        let low = λ (s : ℕ) (lt : s < 2 ^ n) (h : is_level N g y c s ≡ true). turned (d s) (each s lt h) in
-        let sum = sum_less N L w f (2 ^ n) c (λ s lt. elim (true_or_false (is_level N g y c s)) [
-          | inl h ↦ inr (b.some s lt h, low s lt h)
-          | inr h ↦ inl (b.none s lt h)
-        ]) within (b.some c within level_here) (low c within level_here) in
-        let none = balanced_sum N L n v (is_level N g y c) b all_none in
-        let up = L.transitive N.zero (total_below N (2 ^ n) (λ s. times N (w s) (f s))) (f c) none.1 sum in
-        (turned_back (d c) up, each c within level_here)
-      where
-        turned : (a : C) → AtMost N N.zero a → AtMost N (N.minus a) N.zero
-        turned a le =
-            L.transitive (N.minus a) (N.minus N.zero) N.zero (minus-at_most N L N.zero a le) (minus-zero N L).0
+      none_less : ((s : ℕ) → s < 2 ^ n → is_level N g y c s ≡ true → AtMost N N.zero (d s)) → Equal N (d c) N.zero
+      none_less each =
+          let w = b.weights in
+          let f = λ (s : ℕ). N.minus (d s) in
+          let low = λ (s : ℕ) (lt : s < 2 ^ n) (h : is_level N g y c s ≡ true). turned (d s) (each s lt h) in
+          let sum = sum_less N L w f (2 ^ n) c (λ s lt. elim (true_or_false (is_level N g y c s)) [
+            | inl h ↦ inr (b.some s lt h, low s lt h)
+            | inr h ↦ inl (b.none s lt h)
+          ]) within (b.some c within level_here) (low c within level_here) in
+          let none = balanced_sum N L n v (is_level N g y c) b all_none in
+          let up = L.transitive N.zero (total_below N (2 ^ n) (λ s. times N (w s) (f s))) (f c) none.1 sum in
+          (turned_back (d c) up, each c within level_here)
+        where
+          turned : (a : C) → AtMost N N.zero a → AtMost N (N.minus a) N.zero
+          turned a le =
+              L.transitive (N.minus a) (N.minus N.zero) N.zero (minus-at_most N L N.zero a le) (minus-zero N L).0
 
-        turned_back : (a : C) → AtMost N N.zero (N.minus a) → AtMost N a N.zero
-        turned_back a le =
-            L.transitive a (N.plus a (N.minus a)) N.zero
-            (L.transitive a (N.plus a N.zero) (N.plus a (N.minus a)) (L.neutral a).1
-            (plus-at_most N L a a N.zero (N.minus a) (at_most-same N L a) le))
-            (L.inverse a).0
+          turned_back : (a : C) → AtMost N N.zero (N.minus a) → AtMost N a N.zero
+          turned_back a le =
+              L.transitive a (N.plus a (N.minus a)) N.zero
+              (L.transitive a (N.plus a N.zero) (N.plus a (N.minus a)) (L.neutral a).1
+              (plus-at_most N L a a N.zero (N.minus a) (at_most-same N L a) le))
+              (L.inverse a).0
 
   -- the level of c, which moves, has a coalition that gets less
   abbrev loses : ℕ → ℕ → Bool
@@ -289,8 +294,8 @@ module _ {C : Type 0} (N : Numbers C) (L : IsOrderedGroup N) (g : NumberGame C) 
     | inl none ↦ absurd (differs (none_moves none))
     | inr top ↦
         let c = top.0 in
-        let both = and_parts (is_proper c) (not (is_none c)) top.2 in
-        let bounds = from_proper c top.1 both.0 in
+        let both = and_parts (is_proper n c) (not (is_none c)) top.2 in
+        let bounds = from_proper n c top.1 both.0 in
         let b = levels c bounds.0 bounds.1 in
         elim (greatest_among N L (loses c) e (2 ^ n)) [
           | inl none ↦ absurd
@@ -301,7 +306,8 @@ module _ {C : Type 0} (N : Numbers C) (L : IsOrderedGroup N) (g : NumberGame C) 
                 | inl up ↦ up
                 | inr down ↦ absurd
                     (false≢true
-                    (sym (none s lt) ∙ and_both (is_level N g y c s) (not (N.at_most N.zero (d s))) h (ap not down)))
+                    (sym (none s lt)
+                    ∙ and_both (is_level N g y c s) (not (N.at_most N.zero (d s))) h (ap not down)))
               ]))))
           | inr found ↦
               let t = found.0 in
@@ -310,7 +316,7 @@ module _ {C : Type 0} (N : Numbers C) (L : IsOrderedGroup N) (g : NumberGame C) 
               and_parts (not (nat_eq t 0)) (not (nat_eq t (grand_coalition n)) && N.at_most (e c) (e t)) parts.0 in
               let second = and_parts (not (nat_eq t (grand_coalition n))) (N.at_most (e c) (e t)) first.1 in
               let range =
-              from_proper t found.1
+              from_proper n t found.1
               (and_both (not (nat_eq t 0)) (not (nat_eq t (grand_coalition n))) first.0 second.0) in
               before-from N L n e (excess_in N g z) t (omega (arith, range.0)) (omega (arith, range.0, range.1))
               (λ s one past. elim (true_or_false (is_none s)) [
@@ -320,7 +326,8 @@ module _ {C : Type 0} (N : Numbers C) (L : IsOrderedGroup N) (g : NumberGame C) 
                 | inr moved ↦ inr
                     (L.transitive (e s) (e c) (e t)
                     (top.3 s (omega (arith, one, past))
-                    (and_both (is_proper s) (not (is_none s)) (to_proper s one (omega (arith, one, past))) (ap not moved)))
+                    (and_both (is_proper n s) (not (is_none s)) (to_proper n s one (omega (arith, one, past)))
+                    (ap not moved)))
                     second.1)
               ])
               (λ le. false≢true (sym (from_not (N.at_most N.zero (d t)) parts.1) ∙ gains t le))

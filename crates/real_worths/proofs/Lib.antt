@@ -9,3 +9,6 @@ mod RealsCanHalve
 mod EquivalentGames
 mod Examples
 mod LevelsAreEnough
+mod SmallSteps
+mod LevelsAreNeeded
+mod KohlbergTheorem

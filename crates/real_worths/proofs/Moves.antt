@@ -5,21 +5,20 @@ use Rattle.std.proofs.Common.{refl, sym, ap, ◌∙◌, inl, inr, arith}
 use Rattle.std.specs.List.{range_with_len}
 use Rattle.std.proofs.lemmas.List.FromFn.{get_or-map-range_with_len, length-map-range_with_len}
 use Rattle.definitions.proofs.Cases.{same_or_other}
-use Rattle.definitions.proofs.Masks.{grand_coalition-within, singleton-within}
 use Rattle.definitions.proofs.Members.{has_player-singleton, has_player-singleton_other, has_player-grand_coalition}
 use Rattle.definitions.specs.Coalitions.{has_player, singleton, grand_coalition}
 use Rattle.definitions.specs.declared.Family.{Family}
 use Rattle.definitions.specs.declared.Family.TheVariants.{Imputations, Preimputations}
-use Rattle.real_shares.specs.Numbers.{Numbers, IsOrderedGroup, AtMost, Less, Equal, total_below, total_over}
+use Rattle.real_shares.specs.Numbers.{Numbers, IsOrderedGroup, AtMost, Less, Equal, total_below}
 use Rattle.real_shares.specs.Shares.{number_of, amount_of}
-use Rattle.real_shares.proofs.Orders.{equal-same, from_less, at_most-same}
+use Rattle.real_shares.proofs.Orders.{from_less, at_most-same}
 use Rattle.real_shares.proofs.Multiples.{chain, back, equal_path, plus-equal, left, right, neutral_left, minus-plus}
 use Rattle.real_shares.proofs.Multiples.{minus-equal, minus-zero, is_minus, added-low, plus-at_most}
 use Rattle.real_shares.proofs.Multiples.{total_below-equal, total_below-plus, total_below-minus}
 use Rattle.real_shares.proofs.Soundness.{before-from}
 use Rattle.real_worths.specs.Games.{NumberGame, excess_in, IsEfficientIn, InFamilyIn, HaveSameIn, excess_list_in}
 use Rattle.real_worths.specs.Games.{IsNucleolusIn}
-use Rattle.real_worths.proofs.CoreFirst.{amount_at, length_in, efficient_in, not_both}
+use Rattle.real_worths.proofs.CoreFirst.{amount_at, not_both}
 use Rattle.real_worths.proofs.BothAreOne.{alone_gets, amount_alone}
 
 module _ {C : Type 0} (N : Numbers C) (L : IsOrderedGroup N) where
@@ -44,7 +43,8 @@ module _ {C : Type 0} (N : Numbers C) (L : IsOrderedGroup N) where
       let b = N.plus a (N.minus d) in
       added-low N L b d (L.transitive (N.plus b d) a b (put_back a d).0 le)
 
-module _ {C : Type 0} (N : Numbers C) (L : IsOrderedGroup N) (g : NumberGame C) (y : List C) (long : length y ≡ g.players)
+module _ {C : Type 0} (N : Numbers C) (L : IsOrderedGroup N) (g : NumberGame C) (y : List C)
+    (long : length y ≡ g.players)
     (d : C) (i j : ℕ) (hi : i < g.players) (hj : j < g.players) (ne : i ≢ j) where
   abbrev n : ℕ
   n = g.players
@@ -84,7 +84,8 @@ module _ {C : Type 0} (N : Numbers C) (L : IsOrderedGroup N) (g : NumberGame C) 
 
   amount_moved : (s : ℕ)
       → Equal N (amount_of N moved s)
-      (N.plus (amount_of N y s) (N.plus (cond (has_player s i) d N.zero) (N.minus (cond (has_player s j) d N.zero))))
+      (N.plus (amount_of N y s)
+      (N.plus (cond (has_player s i) d N.zero) (N.minus (cond (has_player s j) d N.zero))))
   amount_moved s =
       let f : ℕ → C = λ l. cond (has_player s l) (number_of N y l) N.zero in
       let a : ℕ → C = λ l. cond (has_player s l) (at i l) N.zero in
@@ -101,7 +102,8 @@ module _ {C : Type 0} (N : Numbers C) (L : IsOrderedGroup N) (g : NumberGame C) 
     where
       each : (l : ℕ) → l < n → (c : Bool)
           → Equal N (cond c (number_of N moved l) N.zero)
-          (N.plus (cond c (number_of N y l) N.zero) (N.plus (cond c (at i l) N.zero) (N.minus (cond c (at j l) N.zero))))
+          (N.plus (cond c (number_of N y l) N.zero)
+          (N.plus (cond c (at i l) N.zero) (N.minus (cond c (at j l) N.zero))))
       each l lt true = equal_path N L (number_of N moved l) (moved_number l) (moved_at l lt)
       each l lt false =
           back N L
@@ -114,7 +116,9 @@ module _ {C : Type 0} (N : Numbers C) (L : IsOrderedGroup N) (g : NumberGame C) 
   with_tests s p q ep eq =
       chain N L (amount_moved s)
       (equal_path N L _ _
-      (ap (λ (b : Bool). N.plus (amount_of N y s) (N.plus (cond b d N.zero) (N.minus (cond (has_player s j) d N.zero)))) ep
+      (ap
+      (λ (b : Bool). N.plus (amount_of N y s)
+      (N.plus (cond b d N.zero) (N.minus (cond (has_player s j) d N.zero)))) ep
       ∙ ap (λ (b : Bool). N.plus (amount_of N y s) (N.plus (cond p d N.zero) (N.minus (cond b d N.zero)))) eq))
 
   pub gets_more : (s : ℕ) → has_player s i ≡ true → has_player s j ≡ false
@@ -175,7 +179,8 @@ module _ {C : Type 0} (N : Numbers C) (L : IsOrderedGroup N) (g : NumberGame C) 
     rational e r l lt = elim (same_or_other l i) [
       | inl same ↦
           L.transitive (g.worth (singleton l)) (number_of N y l) (number_of N moved l) (r l lt)
-          (L.transitive (number_of N y l) (N.plus (number_of N y l) d) (number_of N moved l) (more (number_of N y l))
+          (L.transitive (number_of N y l) (N.plus (number_of N y l) d) (number_of N moved l)
+          (more (number_of N y l))
           (back N L (got l lt (N.plus (number_of N y l) d)
           (chain N L (gets_more (singleton l) (ap (λ k. has_player (singleton k) i) same ∙ has_player-singleton i)
           (ap (λ k. has_player (singleton k) j) same ∙ has_player-singleton_other i j (λ f. ne (sym f))))
@@ -185,7 +190,9 @@ module _ {C : Type 0} (N : Numbers C) (L : IsOrderedGroup N) (g : NumberGame C) 
             L.transitive (g.worth (singleton l)) (N.plus (number_of N y l) (N.minus d)) (number_of N moved l)
             (rw same (give e))
             (back N L (got l lt (N.plus (number_of N y l) (N.minus d))
-            (chain N L (gets_less (singleton l) (ap (λ k. has_player (singleton k) i) same ∙ has_player-singleton_other j i ne)
+            (chain N L
+            (gets_less (singleton l)
+            (ap (λ k. has_player (singleton k) i) same ∙ has_player-singleton_other j i ne)
             (ap (λ k. has_player (singleton k) j) same ∙ has_player-singleton j))
             (left N L (N.minus d) (amount_alone N L g y l long lt))))).0
         | inr neither ↦
@@ -197,7 +204,8 @@ module _ {C : Type 0} (N : Numbers C) (L : IsOrderedGroup N) (g : NumberGame C) 
       ]
     ]
       where
-        got : (l : ℕ) → l < n → (a : C) → Equal N (amount_of N moved (singleton l)) a → Equal N (number_of N moved l) a
+        got : (l : ℕ) → l < n → (a : C) → Equal N (amount_of N moved (singleton l)) a
+            → Equal N (number_of N moved l) a
         got l lt a e = chain N L (back N L (amount_alone N L g moved l moved_long lt)) e
 
     member : (f : Family) → f ≡ family → InFamilyIn N f g y → InFamilyIn N f g moved
@@ -207,7 +215,8 @@ module _ {C : Type 0} (N : Numbers C) (L : IsOrderedGroup N) (g : NumberGame C) 
     differs : ¬ HaveSameIn N g y moved
     differs same =
         let alone = chain N L (back N L (amount_alone N L g moved i moved_long hi))
-        (chain N L (gets_more (singleton i) (has_player-singleton i) (has_player-singleton_other i j (λ f. ne (sym f))))
+        (chain N L
+        (gets_more (singleton i) (has_player-singleton i) (has_player-singleton_other i j (λ f. ne (sym f))))
         (left N L d (amount_alone N L g y i long hi))) in
         some
         (added-low N L (number_of N y i) d
@@ -236,7 +245,8 @@ module _ {C : Type 0} (N : Numbers C) (L : IsOrderedGroup N) (g : NumberGame C) 
         by_tests s one past true true e f = inl (excess_same s true e f)
         by_tests s one past false false e f = inl (excess_same s false e f)
         by_tests s one past true false e f =
-            inr (L.transitive (excess_in N g moved s) (N.plus (excess_in N g y s) (N.minus d)) (excess_in N g moved c)
+            inr
+            (L.transitive (excess_in N g moved s) (N.plus (excess_in N g y s) (N.minus d)) (excess_in N g moved c)
             (excess_less s e f).0
             (L.transitive (N.plus (excess_in N g y s) (N.minus d)) (N.plus (excess_in N g y c) (N.minus d))
             (excess_in N g moved c)
@@ -244,7 +254,8 @@ module _ {C : Type 0} (N : Numbers C) (L : IsOrderedGroup N) (g : NumberGame C) 
         by_tests s one past false true e f =
             inr (L.transitive (excess_in N g moved s) (N.plus (excess_in N g y s) d) (excess_in N g moved c)
             (excess_more s e f).0
-            (L.transitive (N.plus (excess_in N g y s) d) (N.plus (excess_in N g y c) (N.minus d)) (excess_in N g moved c)
+            (L.transitive (N.plus (excess_in N g y s) d) (N.plus (excess_in N g y c) (N.minus d))
+            (excess_in N g moved c)
             (twice s one past e f) here.1))
 
         above : Less N (excess_in N g moved c) (excess_in N g y c)

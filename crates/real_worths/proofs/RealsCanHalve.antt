@@ -1,8 +1,8 @@
 -- Half of a real number: half of each of its multiples, rounded down.
-use Rattle.std.proofs.Common.{◌≡◌, ℕ, ◌+◌, ◌/◌, ◌≤◌, ℤ, pos, negsuc, ◌+ℤ◌, ◌≤ℤ◌, arith}
+use Rattle.std.proofs.Common.{ℕ, ◌+◌, ◌/◌, ℤ, pos, negsuc, ◌+ℤ◌, ◌≤ℤ◌, arith}
 use Rattle.std.proofs.lemmas.Int.{ints}
 use Rattle.definitions.proofs.Ring.{linear}
-use Rattle.real_shares.specs.Numbers.{Numbers, Equal}
+use Rattle.real_shares.specs.Numbers.{Numbers}
 use Rattle.real_shares.specs.Reals.{Real, AreReals}
 use Rattle.real_worths.specs.Games.{CanHalve}
 

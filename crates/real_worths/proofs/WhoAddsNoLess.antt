@@ -1,9 +1,9 @@
--- Say j gets more than i, which adds no less. Make their shares equal: with i in the place of j a coalition has an excess
--- that is greater by what j gets more at least, so these shares come before the nucleolus.
+-- Say j gets more than i, which adds no less. Make their shares equal: with i in the place of j a coalition has an
+-- excess that is greater by what j gets more at least, so these shares come before the nucleolus.
 use Rattle.std.proofs.Common.{◌≡◌, ◌≢◌, ℕ, ◌+◌, ◌-◌, ◌^◌, ◌<◌, ◌≤◌, true, false, not, List, length}
 use Rattle.std.proofs.Common.{sym, ap, ◌∙◌, inl, inr, arith}
 use Rattle.std.proofs.lemmas.Bool.{false≢true}
-use Rattle.definitions.proofs.Cases.{same_or_other, from_not}
+use Rattle.definitions.proofs.Cases.{from_not}
 use Rattle.definitions.proofs.Masks.{singleton-within}
 use Rattle.definitions.proofs.Members.{has_player-empty, has_player-singleton, has_player-singleton_other}
 use Rattle.definitions.proofs.Parts.{has_player-more_same, has_player-more_other, more-lt}
@@ -15,7 +15,7 @@ use Rattle.theorems.proofs.Moves.{parted, joined, proper_of}
 use Rattle.laws.proofs.Withouts.{without}
 use Rattle.real_shares.specs.Numbers.{Numbers, IsOrderedGroup, AtMost, Equal}
 use Rattle.real_shares.specs.Shares.{number_of, amount_of}
-use Rattle.real_shares.proofs.Orders.{decided, at_most-same, from_less}
+use Rattle.real_shares.proofs.Orders.{decided, from_less}
 use Rattle.real_shares.proofs.Multiples.{chain, back, equal_path, left, right, minus-equal}
 use Rattle.real_worths.specs.Games.{NumberGame, excess_in, IsNucleolusIn, CanHalve, AddsNoLessIn}
 use Rattle.real_worths.proofs.CoreFirst.{length_in}
@@ -23,7 +23,8 @@ use Rattle.real_worths.proofs.Moves.{less_more, no_gain}
 use Rattle.real_worths.proofs.Joined.{half_positive, both_halves, take_over, no_less_with, greatest_among}
 use Rattle.real_worths.proofs.Joined.{amount_more, rational_of}
 
-module _ {C : Type 0} (N : Numbers C) (L : IsOrderedGroup N) (halve : CanHalve N) (g : NumberGame C) (family : Family)
+module _ {C : Type 0} (N : Numbers C) (L : IsOrderedGroup N) (halve : CanHalve N) (g : NumberGame C)
+    (family : Family)
     (y : List C) (is : IsNucleolusIn N family g y) (i j : ℕ) (hi : i < g.players) (hj : j < g.players) where
   abbrev n : ℕ
   n = g.players
@@ -81,7 +82,8 @@ module _ {C : Type 0} (N : Numbers C) (L : IsOrderedGroup N) (halve : CanHalve N
         L.transitive (N.plus (N.plus (e (r + 2 ^ j)) h) h) (N.plus a (N.minus u)) (e (r + 2 ^ i)) twice.0
         (L.transitive (N.plus a (N.minus u)) (N.plus b (N.minus u)) (e (r + 2 ^ i))
         (L.shifts a b (N.minus u)
-        (L.shifts (g.worth (r + 2 ^ j)) (g.worth (r + 2 ^ i)) (N.minus (amount_of N y r)) (adds r within out_i out_j)))
+        (L.shifts (g.worth (r + 2 ^ j)) (g.worth (r + 2 ^ i)) (N.minus (amount_of N y r))
+        (adds r within out_i out_j)))
         (excess_joined r i hi out_i).1)
 
     some_i : holds_without i j (singleton i) ≡ true
@@ -132,7 +134,8 @@ module _ {C : Type 0} (N : Numbers C) (L : IsOrderedGroup N) (halve : CanHalve N
           let c = found.0 in
           let proper = proper_of n i j c hj found.1 found.2 in
           let both = parted (has_player c i) (has_player c j) found.2 in
-          no_gain N L g y long h i j hi hj ne family is (half_positive N L u v h halves more) give c proper.0 proper.1
+          no_gain N L g y long h i j hi hj ne family is (half_positive N L u v h halves more) give c proper.0
+          proper.1
           both.0 (from_not (has_player c j) both.1)
           (λ s one past has out.
           found.3 s (omega (arith, one, past)) (joined (has_player s i) (has_player s j) has (ap not out)))

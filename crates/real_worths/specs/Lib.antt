@@ -1,4 +1,4 @@
 pub mod Games
 pub mod RealWorths
-pub mod Kohlberg
+pub mod KohlbergTheorem
 pub mod Examples

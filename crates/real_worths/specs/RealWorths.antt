@@ -1,19 +1,17 @@
--- What the nucleolus promises where worths and shares are real numbers. Each statement is the contract of a function of
--- this crate.
+-- What the nucleolus promises where worths and shares are real numbers. Each statement is the contract of a function
+-- of this crate.
 --
---   WholeWorthsAgree      where worths are whole numbers, these are the notions of `real_shares`
---   NucleolusIsUnique     two nucleoli of one game and family have the same shares (Schmeidler 1969)
---   NucleolusIsInCore     where some shares are in the core, the nucleolus is, and so is the prenucleolus
---   WithACoreBothAreOne   and they are one
---   WhoAddsNoLessGetsNoLess
---                         who adds no less than another everywhere gets no less
---   AlikePlayersGetAlike  players that the game doesn't tell apart get the same
---   DummiesGetTheirWorth  who adds its worth alone to each coalition gets just that
---   IsUnitChange          an additive change of all numbers that keeps their order, there and back
---   changed_game, changed_shares
---                         worths and shares in the new unit, and each player's number added
---   EquivalentGamesAgree  the nucleolus changes as the worths do (covariance under strategic equivalence)
---   RealsCanHalve         each real number is twice a real number
+--   WholeWorthsAgree               where worths are whole numbers, these are the notions of `real_shares`
+--   NucleolusIsUnique              two nucleoli of one game and family have the same shares (Schmeidler 1969)
+--   NucleolusIsInCore              where some shares are in the core, the nucleolus is, and so is the prenucleolus
+--   WithACoreBothAreOne            and they are one
+--   WhoAddsNoLessGetsNoLess        who adds no less than another everywhere gets no less
+--   AlikePlayersGetAlike           players that the game doesn't tell apart get the same
+--   DummiesGetTheirWorth           who adds its worth alone to each coalition gets just that
+--   RealsCanHalve                  each real number is twice a real number
+--   IsUnitChange                   an additive change of all numbers that keeps their order, there and back
+--   changed_game, changed_shares   worths and shares in the new unit, and each player's number added
+--   EquivalentGamesAgree           the nucleolus changes as the worths do (covariance under strategic equivalence)
 use Rattle.std.specs.Prelude.{◌↔◌, ℕ, ◌<◌, List, length, map}
 use Rattle.std.specs.List.{range_with_len}
 use Rattle.definitions.specs.Coalitions.{singleton}

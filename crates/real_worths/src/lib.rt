@@ -6,12 +6,13 @@
 
 ghost use Rattle.real_worths.specs.RealWorths.{WholeWorthsAgree, NucleolusIsUnique, NucleolusIsInCore};
 ghost use Rattle.real_worths.specs.RealWorths.{WithACoreBothAreOne, WhoAddsNoLessGetsNoLess, AlikePlayersGetAlike};
-ghost use Rattle.real_worths.specs.Kohlberg.{LevelsAreEnough};
-ghost use Rattle.real_worths.specs.Examples.{TwoShare, DoublingIsAChange, IntegersCantHalve};
 ghost use Rattle.real_worths.specs.RealWorths.{DummiesGetTheirWorth, RealsCanHalve, EquivalentGamesAgree};
+ghost use Rattle.real_worths.specs.KohlbergTheorem.{KohlbergTheorem};
+ghost use Rattle.real_worths.specs.Examples.{TwoShare, DoublingIsAChange, IntegersCantHalve, SomeAddNoLess};
+ghost use Rattle.real_worths.specs.Examples.{SinglesBalance};
 
-/// Where the worths are whole numbers, times the unit, these are the nucleolus and the core among real shares that other
-/// laws speak of.
+/// Where the worths are whole numbers, times the unit, these are the nucleolus and the core among real shares that
+/// other laws speak of.
 pub fn whole_worths_agree()
     ensures { WholeWorthsAgree }
 {}
@@ -57,10 +58,10 @@ pub fn equivalent_games_agree()
     ensures { EquivalentGamesAgree }
 {}
 
-/// Half of Kohlberg's theorem (Kohlberg 1971; Sobolev 1975): where the coalitions of at least the excess of each coalition
-/// are balanced, the shares are the prenucleolus.
-pub fn levels_are_enough()
-    ensures { LevelsAreEnough }
+/// Kohlberg's theorem (Kohlberg 1971; for the prenucleolus Sobolev 1975): shares that add to the worth of all are the
+/// prenucleolus just where, for each coalition, those of at least its excess are balanced.
+pub fn kohlberg()
+    ensures { KohlbergTheorem }
 {}
 
 /// Two who together are worth a real number above zero, and alone nothing, get half each; and all for the first is no
@@ -77,4 +78,15 @@ pub fn doubling_is_a_change()
 /// The integer 1 isn't twice an integer.
 pub fn integers_cant_halve()
     ensures { IntegersCantHalve }
+{}
+
+/// Of two players the second alone is worth something: it adds no less than the first, which adds less. Where nobody is
+/// worth anything, the first is a dummy.
+pub fn some_add_no_less()
+    ensures { SomeAddNoLess }
+{}
+
+/// The players alone are balanced, and one of two isn't.
+pub fn singles_balance()
+    ensures { SinglesBalance }
 {}

@@ -1,25 +1,20 @@
 -- At the prenucleolus there are for each coalition weights that balance, on it and on coalitions of no less excess
 -- (Kohlberg 1971): otherwise some transfer would give it more and take from none of them.
-use Rattle.std.proofs.Common.{◌≡◌, ℕ, zero, suc, ◌-◌, ◌^◌, ◌<◌, ◌≤◌, Bool, true, false, cond, ◌||◌, nat_eq}
-use Rattle.std.proofs.Common.{ℤ, pos, neg_ℤ, ◌+ℤ◌, ◌-ℤ◌, ◌*ℤ◌, ◌<ℤ◌, ◌≤ℤ◌, int_le, int_lt}
-use Rattle.std.proofs.Common.{refl, sym, ap, ◌∙◌, inl, inr, arith}
+use Rattle.std.proofs.Common.{◌≡◌, ℕ, zero, suc, ◌-◌, ◌^◌, ◌<◌, ◌≤◌, Bool, true, false, ◌||◌}
+use Rattle.std.proofs.Common.{ℤ, pos, ◌<ℤ◌, ◌≤ℤ◌, int_le, int_lt}
+use Rattle.std.proofs.Common.{refl, sym, ◌∙◌, inl, inr, arith}
 use Rattle.std.proofs.lemmas.Bool.{false≢true}
 use Rattle.std.proofs.lemmas.Int.{by_lt_z, ints}
-use Rattle.definitions.proofs.Ring.{linear, one-mulℤ, mul-oneℤ, mul-zeroℤ, zero-mulℤ, mul-negℤ, mul-nonnegativeℤ}
+use Rattle.definitions.proofs.Ring.{linear}
 use Rattle.std.proofs.Math.Nat.{pow-suc}
-use Rattle.definitions.proofs.Cases.{true_or_false, or_cases, neither, less_or_last, nat_eq-same}
-use Rattle.definitions.proofs.Cases.{nat_eq-other, nat_eq-equal, from_nat_eq}
+use Rattle.definitions.proofs.Cases.{true_or_false, or_cases, neither}
 use Rattle.definitions.proofs.Masks.{grand_coalition-within}
-use Rattle.definitions.proofs.Members.{sum_below-same, sum_below-zero, sum_below-add, sum_below-times}
 use Rattle.definitions.specs.Sums.{sum_below}
-use Rattle.definitions.specs.Coalitions.{has_player, grand_coalition, sum_over}
+use Rattle.definitions.specs.Coalitions.{grand_coalition, sum_over}
 use Rattle.definitions.specs.Games.{Game, Allocation, excess, IsNucleolus}
 use Rattle.definitions.specs.declared.Family.TheVariants.{Preimputations}
 use Rattle.definitions.specs.declared.Measure.TheVariants.{Plain}
 use Rattle.theorems.proofs.Transfers.{some_greatest}
-use Rattle.duality.proofs.Farkas.{one_or_none-low}
-use Rattle.duality.specs.Farkas.{MeetsAll, Contradicts}
-use Rattle.duality.proofs.Farkas.{farkas}
 use Rattle.duality.proofs.NoGain.{no_gain}
 use Rattle.duality.proofs.SideWeights.{SideWeights, side_weights}
 
