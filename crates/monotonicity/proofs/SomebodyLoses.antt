@@ -13,7 +13,8 @@ use Rattle.definitions.specs.Coalitions.{has_player, grand_coalition, sum_over}
 use Rattle.definitions.specs.Games.{Game, Allocation, share, InCore}
 use Rattle.monotonicity.specs.CoreRules.{GrowsAround, SomebodyLosesInTheCore}
 use Rattle.monotonicity.proofs.ListedGames.{with_all, AreFirst, listed-skip, listed-front, with_all-others}
-use Rattle.monotonicity.proofs.ListedGames.{with_all-all, with_all-game, reaches, first_at_most, with_nothing, with_all-core}
+use Rattle.monotonicity.proofs.ListedGames.{with_all-all, with_all-game, with_all-core, reaches}
+use Rattle.monotonicity.proofs.ListedGames.{first_at_most, with_nothing}
 
 -- ---- products
 
