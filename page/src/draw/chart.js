@@ -91,7 +91,7 @@ function legendLines(legend, wide) {
 }
 
 /** Round numbers from the low to the high one, at most six. */
-export function ticksOf(low, high) {
+function ticksOf(low, high) {
   if (!(high > low)) return [low];
   const power = 10 ** Math.floor(Math.log10(high - low));
   const step = [power / 5, power / 2, power, power * 2, power * 5].find((size) => (high - low) / size <= 5);
