@@ -81,7 +81,7 @@ const papers = CASES.map((id) => [`one page on paper: ${id}`, id, async (page, e
 }]);
 
 async function longPaper(page, expect) {
-  const rows = Array.from({ length: 60 }, (_, k) => `Claimant number ${k + 1}\t${100 + ((k * 37) % 91)}.25`);
+  const rows = Array.from({ length: 64 }, (_, k) => `Claimant number ${k + 1}\t${100 + ((k * 37) % 91)}.25`);
   await page.click("Clear all");
   await page.paste('[data-cell="rows.0.name"]', rows.join("\n"));
   await page.type("estate", "3000");
@@ -142,7 +142,7 @@ async function savedPicture(page, expect) {
 
 export const looks = [
   ...phones, ...papers,
-  ["sixty claims on one page", "estate", longPaper],
+  ["64 claims on one page", "estate", longPaper],
   ["nothing is sent or kept", "", apart],
   ["dark", "costs", dark, { dark: true }],
   ["everything on paper", "costs", everything],
