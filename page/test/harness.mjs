@@ -58,6 +58,7 @@ export class Harness {
     } finally {
       this.browser.stop();
     }
+    if (!this.list.length) this.faults.push("there was no scenario to play");
     for (const fault of this.faults) console.log(fault);
     console.log(`${this.list.length} scenarios, ${this.done} expectations, ${this.faults.length} faults`);
     return this.faults.length;
