@@ -2,7 +2,7 @@
 import { svg } from "../page/dom.js";
 import { fitted, widthOf } from "./measure.js";
 
-const [BAR, GAP, AIR, LINE] = [11, 3, 18, 22];
+const [BAR, GAP, AIR, LINE, NOTED] = [11, 3, 18, 22, 20];
 const NARROW = 520; // below this labels stand above their bars
 
 /** `rows` are {label, note, told, bars, spans, marks}; a bar is {key, value}, a span {low, high, room}, a mark
@@ -19,12 +19,12 @@ export function chart({ title, rows, legend, low, high, wide, text }) {
     if (isNarrow) y += LINE - 4;
     const label = labelOf(row, y, left, isNarrow, wide);
     bodies.push(svg("g", {}, svg("title", {}, row.told), label, bodyOf(row, x, y)));
-    y += heightOf(row) + AIR;
+    y += roomOf(row, isNarrow);
   }
   for (const tick of ticks) {
     const at = x(tick).toFixed(1);
     parts.push(svg("line", { class: tick === 0 ? "zero" : "grid-line", x1: at, x2: at, y1: top - 6, y2: y - AIR / 2 }));
-    parts.push(svg("text", { class: "soft", x: at, y: y + 8, "text-anchor": "middle" }, text(tick)));
+    parts.push(svg("text", { class: "soft", y: y + 8, ...within(text(tick), x(tick), wide) }, text(tick)));
   }
   const told = `${title}. ${rows.map((row) => row.told).join("; ")}`;
   return svg("svg", {
@@ -32,9 +32,20 @@ export function chart({ title, rows, legend, low, high, wide, text }) {
   }, drawn.parts, parts, bodies);
 }
 
+/** The place of a number below the picture, which is moved where it would stand out at a side. */
+function within(text, x, wide) {
+  const half = widthOf(text, 13) / 2 + 1;
+  return { x: Math.max(half, Math.min(wide - half, x)).toFixed(1), "text-anchor": "middle" };
+}
+
 function heightOf({ bars = [], spans = [] }) {
   const count = Math.max(1, bars.length, spans.length);
   return count * BAR + (count - 1) * GAP;
+}
+
+/** A note stands below the label, and needs a line of its own. */
+function roomOf(row, isNarrow) {
+  return Math.max(heightOf(row), row.note && !isNarrow ? NOTED : 0) + AIR;
 }
 
 function labelOf({ label, note, ...row }, y, left, isNarrow, wide) {
@@ -86,7 +97,7 @@ function legendLines(legend, wide) {
 }
 
 /** Round numbers from the low to the high one, at most six. */
-export function ticksOf(low, high) {
+function ticksOf(low, high) {
   if (!(high > low)) return [low];
   const power = 10 ** Math.floor(Math.log10(high - low));
   const step = [power / 5, power / 2, power, power * 2, power * 5].find((size) => (high - low) / size <= 5);

@@ -3,6 +3,7 @@ import { Rational } from "./rational.js";
 
 const HALF = new Rational(1n, 2n);
 const NARROW = "\u202f";
+const MOST_LETTERS = 61; // of a number that is typed: a fraction of 30 digits each
 
 /** Shares in steps of the last place, which add to the rounded sum: all are rounded down first, and what then lacks
  * goes to those who lost most, among equals to the first. */
@@ -72,12 +73,13 @@ export function readNumber(typed, mark = ".") {
   if (/^\d{1,15}$/.test(typed)) return { value: new Rational(BigInt(typed)) };
   const text = typed.replace(/[\s\u00a0\u202f'’_]/g, "").replace(/^\p{Sc}|\p{Sc}$/gu, "").replace(/^[−–]/, "-");
   if (text === "") return { fault: "is empty" };
+  if (text.length > MOST_LETTERS) return { fault: "is no number" };
   if (/^-?\d{1,30}\/\d{1,30}$/.test(text)) {
     const [num, den] = text.split("/").map(BigInt);
     return den ? { value: new Rational(num, den) } : { fault: "is divided by nothing" };
   }
   if (/^\(\d[\d.,]*\)$/.test(text)) return readNumber("-" + text.slice(1, -1), mark);
-  if (!/^-?[\d.,]*\d[\d.,]*$/.test(text) || text.length > 40) return { fault: "is no number" };
+  if (!/^-?[\d.,]*\d[\d.,]*$/.test(text)) return { fault: "is no number" };
   const marks = text.replace(/[^.,]/g, "");
   const last = marks.at(-1), other = last === "." ? "," : ".";
   if (!marks) return { value: new Rational(BigInt(text)) };
