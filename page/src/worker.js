@@ -12,10 +12,11 @@ import { warmUp } from "./work/engine.js";
 import { lookAtLine } from "./work/lines.js";
 import { costsOfNetwork, fillLinks } from "./work/networks.js";
 import { estates, overrun } from "./work/others.js";
+import { fillSplits } from "./work/splits.js";
 
 const TASKS = {
-  warmUp, readCase, readCells, readList, openDocument, lookAtLine, fillLinks, costsOfNetwork, estates, overrun, compare,
-  convexity,
+  warmUp, readCase, readCells, readList, openDocument, lookAtLine, fillLinks, costsOfNetwork, fillSplits,
+  estates, overrun, compare, convexity,
   solve: ({ word, document }) => answer(word, document),
   explain: ({ line }) => explained(parseJson(line)),
   checkAnew: ({ document }) => anew(document),

@@ -131,7 +131,7 @@ export const tables = [
     const found = await page.text(".found");
     expect("Shapley", found, /By the Shapley shares all bear the same: 1.00 each/);
     expect("per head", found, /By the prenucleolus per head all bear the same: 1.00 each/);
-    expect("table", found, /together\s+\+3.00\s+12.00\s+15.00/);
+    expect("table", found, /together\s+12.00\s+15.00\s+\+3.00/);
   }],
 
   ["a list with a group forgotten", "costs", async (page, expect) => {
@@ -147,6 +147,17 @@ export const tables = [
     await page.type("numbers.14", "11");
     await settle(page);
     expect("lead", await page.text(".lead"), /together 13.00/);
+  }],
+
+  ["groups that were never costed", "costs", async (page, expect) => {
+    await typeAll(page, { "numbers.5": "", "numbers.6": "" });
+    await page.until("document.querySelector('.fault.gentle')?.textContent.startsWith('2 cells')");
+    await page.click("Fill the empty ones by the cheapest split");
+    await settle(page);
+    const cell = (mask) => page.run(`document.querySelector('[data-cell="numbers.${mask}"]').value`);
+    expect("Sales + Legal", await cell(5), "14");
+    expect("Ops + Legal", await cell(6), "13.5");
+    expect("note", await page.text("#case .note[role=status]"), /2 groups were filled, each by its cheapest split/);
   }],
 
   ["a vector of another program, in both orders", "gains", async (page, expect) => {

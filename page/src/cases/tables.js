@@ -59,6 +59,7 @@ export const costs = tableCase({
   title: "Costs of each group",
   teaser: "What would each group of partners have to spend without the others?",
   what: "The cost",
+  isCost: true,
   help: "What each group would cost by itself. Every group is listed, so none can be forgotten.",
   example: () => exampleOf(["Sales", "Ops", "Legal"], [8, 7.5, 6, 10, 10, 10.25, 12]),
 });

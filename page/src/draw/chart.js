@@ -2,7 +2,7 @@
 import { svg } from "../page/dom.js";
 import { fitted, widthOf } from "./measure.js";
 
-const [BAR, GAP, AIR, LINE] = [11, 3, 18, 22];
+const [BAR, GAP, AIR, LINE, NOTED] = [11, 3, 18, 22, 20];
 const NARROW = 520; // below this labels stand above their bars
 
 /** `rows` are {label, note, told, bars, spans, marks}; a bar is {key, value}, a span {low, high, room}, a mark
@@ -19,7 +19,7 @@ export function chart({ title, rows, legend, low, high, wide, text }) {
     if (isNarrow) y += LINE - 4;
     const label = labelOf(row, y, left, isNarrow, wide);
     bodies.push(svg("g", {}, svg("title", {}, row.told), label, bodyOf(row, x, y)));
-    y += heightOf(row) + AIR;
+    y += roomOf(row, isNarrow);
   }
   for (const tick of ticks) {
     const at = x(tick).toFixed(1);
@@ -35,6 +35,11 @@ export function chart({ title, rows, legend, low, high, wide, text }) {
 function heightOf({ bars = [], spans = [] }) {
   const count = Math.max(1, bars.length, spans.length);
   return count * BAR + (count - 1) * GAP;
+}
+
+/** A note stands below the label, and needs a line of its own. */
+function roomOf(row, isNarrow) {
+  return Math.max(heightOf(row), row.note && !isNarrow ? NOTED : 0) + AIR;
 }
 
 function labelOf({ label, note, ...row }, y, left, isNarrow, wide) {

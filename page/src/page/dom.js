@@ -27,13 +27,17 @@ export function button(text, onClick, attributes = {}) {
   return el("button", { type: "button", ...attributes, on: { click: onClick } }, text);
 }
 
-/** Puts new children into an element; the cell that had the focus has it again. */
+const summaries = (element) => [...element.querySelectorAll("details > summary")];
+
+/** Puts new children into an element; the cell that had the focus has it again, and what was unfolded stays so. */
 export function refill(element, ...children) {
+  const isOpen = new Set(summaries(element).filter((one) => one.parentElement.open).map((one) => one.textContent));
   const focused = document.activeElement;
   const cell = element.contains(focused) ? focused.dataset.cell : undefined;
   const hasRange = cell !== undefined && typeof focused.selectionStart === "number";
   const range = hasRange ? [focused.selectionStart, focused.selectionEnd] : null;
   element.replaceChildren(...children.flat(Infinity).filter(isShown));
+  for (const one of isOpen.size ? summaries(element) : []) one.parentElement.open ||= isOpen.has(one.textContent);
   const again = cell === undefined ? null : cellOf(element, cell);
   again?.focus({ preventScroll: true });
   if (range) again?.setSelectionRange?.(...range);

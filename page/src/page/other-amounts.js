@@ -83,21 +83,30 @@ function overrunPart(view) {
 
 function overrunTable({ fault, more, rules }, { game, rows, format }) {
   if (fault) return el("p", { class: "bad" }, fault);
-  const change = Rational.of(more), signed = (step) => {
-    return `${step > 0n ? "+" : ""}${decimalOf(step, format.places, format)}`;
-  };
-  const columns = rules.map(({ title, before, after }) => {
-    const [old, fresh] = [before, after].map((shares) => totalsOf(rows, shares.map(Rational.of)));
-    const differences = fresh.map((value, r) => value.minus(old[r]));
-    return { title, differences, old: format.column(old), fresh: format.column(fresh),
-      steps: withSum(roundedSteps(differences, format.places)) };
-  });
-  const heads = [game.costs ? "Who pays" : "Who gets", ...columns.flatMap(({ title }) => [title, "before", "after"])];
-  const lines = [...rows.map(({ label }) => label), "together"].map((label, r) => [
-    label, ...columns.flatMap(({ steps, old, fresh }) => [signed(steps[r]), old[r], fresh[r]]),
-  ]);
+  const change = Rational.of(more), columns = rules.map((rule) => overrunColumn(rule, rows, format));
   const sentences = columns.map((column) => el("p", {}, overrunSentence(column, rows, change, game, format)));
-  return [...sentences, tableOf(heads, lines)];
+  const name = el("th", { scope: "col", rowspan: "2" }, game.costs ? "Who pays" : "Who gets");
+  const titles = columns.map(({ title }) => el("th", { scope: "colgroup", colspan: "3", class: "number" }, title));
+  const parts = columns.flatMap(() => ["before", "after", "change"]);
+  const cells = (r) => columns.flatMap(({ texts }) => texts.map((text, k) => {
+    return el("td", { class: k === 2 ? "number change" : "number" }, text[r]);
+  }));
+  const lines = [...rows.map(({ label }) => label), "together"].map((label, r) => {
+    return el("tr", { class: label === "together" ? "sum" : "" }, el("th", { scope: "row" }, label), cells(r));
+  });
+  return [...sentences, el("div", { class: "scroll" }, el("table", { class: "shares small overrun" },
+    el("thead", {}, el("tr", {}, name, titles),
+      el("tr", {}, parts.map((part) => el("th", { scope: "col", class: "number" }, part)))),
+    el("tbody", {}, lines)))];
+}
+
+/** What a rule makes of it: the shares before and after, and the changes, as texts. */
+function overrunColumn({ title, before, after }, rows, format) {
+  const [old, fresh] = [before, after].map((shares) => totalsOf(rows, shares.map(Rational.of)));
+  const differences = fresh.map((value, r) => value.minus(old[r]));
+  const signed = (step) => `${step > 0n ? "+" : ""}${decimalOf(step, format.places, format)}`;
+  const changes = withSum(roundedSteps(differences, format.places)).map(signed);
+  return { title, differences, texts: [format.column(old), format.column(fresh), changes] };
 }
 
 function withSum(steps) {
@@ -117,5 +126,6 @@ function overrunSentence({ title, differences }, rows, change, game, { show }) {
   }
   const isEven = differences.every((value) => value.equals(differences[0]));
   if (isEven) return `${name} all bear the same: ${show(differences[0])} each.`;
-  return `${name} nobody’s share moves the other way.`;
+  const way = change.isNegative() ? "more" : "less";
+  return `${name} nobody ${verb} ${way}.`;
 }

@@ -1,5 +1,5 @@
 // The grid of a table: the players, and a cell for each group, by size. Of many groups a page is shown at a time.
-import { groupLabel, unpacked, withoutPlayer, withPlayer } from "../cases/tables.js";
+import { groupLabel, packed, unpacked, withoutPlayer, withPlayer } from "../cases/tables.js";
 import { masksBySize, membersOf } from "../game/groups.js";
 import { withEscapes } from "../game/names.js";
 import { cellInput, moveByKeys, pasteCells } from "./cells.js";
@@ -15,8 +15,8 @@ export function tableGrid(kind, typed, settings) {
 }
 
 class TableGrid {
-  constructor(kind, typed, { onChange, readList, readCells }) {
-    Object.assign(this, { kind, typed, onChange, readList });
+  constructor(kind, typed, { onChange, readList, readCells, help, mark }) {
+    Object.assign(this, { kind, typed, onChange, readList, help, mark });
     const [players, tools, list] = ["players", "tools", "groups"].map((name) => el("div", { class: name }));
     this.message = el("p", { class: "note", role: "status" });
     Object.assign(this, { players, tools, list, start: 0, wanted: "" });
@@ -124,7 +124,17 @@ class TableGrid {
   showTools() {
     refill(this.tools, this.order.length > PAGE && this.pager(),
       button("Copy the list for a spreadsheet", (event) => copy(this.spreadsheet(), event.target), { class: "quiet" }),
+      button(`Fill the empty ones by the ${this.kind.isCost ? "cheapest" : "best"} split`, () => this.fillSplits(), {
+        class: "quiet", title: "Each group without a number takes that of its best split into groups that have one",
+      }),
       pasteBox((text, order) => this.takeList(text, order)));
+  }
+
+  async fillSplits() {
+    const what = { typed: packed(this.typed), mark: this.mark(), costs: Boolean(this.kind.isCost) };
+    const { state, notes, fault } = await this.help("fillSplits", what);
+    if (state) this.change(unpacked(state));
+    this.message.textContent = fault ?? notes.join(" ");
   }
 
   pager() {
