@@ -51,7 +51,10 @@ class Kept(NamedTuple):
 
 def of_path() -> str:
     """The folder of the kit whose command `rt` is on the path."""
-    return os.path.dirname(os.path.dirname(os.path.realpath(shutil.which("rt") or "")))
+    kit = os.path.dirname(os.path.dirname(os.path.realpath(shutil.which("rt") or "")))
+    if not os.access(os.path.join(kit, "toolchain", "bin", "clang"), os.X_OK):
+        raise Other(f"there is no toolchain/bin/clang in {kit}, where rt stands")
+    return kit
 
 
 def linked(of: str, to: str, but: str = "") -> None:
