@@ -185,6 +185,9 @@ class Scripts(unittest.TestCase):
                 ),
             ),
         )
+        mixed = script("many", "nucleolus", "--places", "1", "--csv", PROPOSAL, "--over", "10")[1]
+        self.assertEqual(mixed.splitlines()[1], f"0,{PROPOSAL},nucleolus,0.1,0.2,0.4")
+        self.refused(script("many", "core", "--over", "0", majority), "no number from 1 on")
         self.refused(script("many", "core,sharply", majority), "'sharply' is none of")
         game = script("proposal", PROPOSAL, "heavy=2", "light=0.50", "medium=7/2")
         self.assertEqual(json.loads(game[1])["shares"], ["1/2", "7/2", 2])

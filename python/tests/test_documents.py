@@ -51,7 +51,7 @@ class Points(Files):
     def test_before_and_after(self) -> None:
         before, after = self.file("before", solved()), self.file("after", solved(game={**AIRPORT, "costs": [2, 4, 9]}))
         points = self.points(before, after)
-        self.assertEqual([point.name for point in points], [f"nucleolus, {before}", f"nucleolus, {after}"])
+        self.assertEqual([point.name for point in points], ["nucleolus, before", "nucleolus, after"])
         self.assertIn("<svg", picture(points))
         with self.assertRaisesRegex(BadInput, "no game, and the others have several"):
             self.points(before, after, self.file("line", {"answer": "shapley", "shares": [1, 2, 3]}))
