@@ -76,6 +76,9 @@ class Game:
         if self.is_table:
             self.amounts = self.read_table(tree)
 
+    def __repr__(self) -> str:
+        return f"Game({self.tree!r})" if self.factor == 1 else f"Game({self.tree!r}, {self.factor})"
+
     def count_players(self, tree: dict[str, Any]) -> int:
         """The number of players, with the numbers of the game unless it is a table."""
         if self.is_table:
