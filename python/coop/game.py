@@ -144,6 +144,11 @@ class Game:
             return member - 1
         raise BadInput(f"{json.dumps(member)[:80]} is no player of the game")
 
+    def all_numbers(self) -> list[Fraction]:
+        """The numbers of the game, in one list."""
+        single = [self.single] if self.kind in SINGLE else []
+        return [entry for row in self.rows for entry in row] if hasattr(self, "rows") else [*self.amounts, *single]
+
     def title(self) -> str:
         """The title of a picture of the game."""
         return f"{KINDS[self.kind].capitalize()}: what each {'pays' if self.costs else 'gets'}"
