@@ -29,6 +29,10 @@ class Options(argparse.ArgumentParser):
         """Refuses the words."""
         raise BadInput(f"{message}; {self.format_usage().strip()}")
 
+    def read(self, words: Sequence[str]) -> Any:
+        """What the words say, options and files in whatever order."""
+        return self.parse_intermixed_args(words)
+
     def add_file(self, name: str = "file", text: str = "a file; without one, standard input") -> None:
         """One file, or none for standard input."""
         self.add_argument(name, nargs="?", default="-", metavar=name.upper(), help=text)
@@ -44,6 +48,11 @@ class Options(argparse.ArgumentParser):
         self.add_argument("--places", type=digits, metavar="N", default=places, help=told)
         self.add_argument("--unit", default="", metavar="UNIT", help="the unit behind each number, as EUR")
 
+    def add_over(self) -> None:
+        """By what numbers of a document that was multiplied are divided."""
+        told = "divide all by N, for documents that were multiplied"
+        self.add_argument("--over", type=factor, default=1, metavar="N", help=told)
+
     def add_digits(self) -> None:
         """To how many decimals numbers of a file are rounded."""
         told = "round each number to N decimals (else all are exact)"
@@ -54,6 +63,13 @@ def digits(text: str) -> int:
     """A number of decimals."""
     if not text.isascii() or not text.isdigit() or int(text) > MOST_PLACES:
         raise argparse.ArgumentTypeError(f"{text!r} isn't a number from 0 to {MOST_PLACES}")
+    return int(text)
+
+
+def factor(text: str) -> int:
+    """A number from 1 on."""
+    if not text.isascii() or not text.isdigit() or not int(text):
+        raise argparse.ArgumentTypeError(f"{text!r} is no number from 1 on")
     return int(text)
 
 

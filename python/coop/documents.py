@@ -2,6 +2,7 @@
 from __future__ import annotations
 
 import json
+import os
 from dataclasses import dataclass
 from fractions import Fraction
 from typing import Any, Iterable, Optional, Sequence
@@ -168,15 +169,22 @@ def labelled(points: list[tuple[Document, Point]]) -> list[Point]:
     games = [point.game for _, point in points if point.game]
     heads = len({game.per_head for game in games}) > 1
     several = any(without_measure(game) != without_measure(games[0]) for game in games)
+    short = short_names({document.where for document, _ in points})
     result = []
     for document, point in points:
         name, game = point.name, point.game
         if heads and game and game.per_head and name in ("nucleolus", "prenucleolus"):
             name += " per head"
         if several:
-            name += f", {safe(document.where)}"
+            name += f", {safe(short[document.where])}"
         result.append(Point(name, point.shares, game))
     return result
+
+
+def short_names(paths: Iterable[str]) -> dict[str, str]:
+    """The last parts of some paths, where these differ, and else the whole ones."""
+    short = {path: os.path.basename(path) for path in paths}
+    return short if len(set(short.values())) == len(short) else {path: path for path in short}
 
 
 def numbered(points: list[Point]) -> list[Point]:

@@ -2,8 +2,10 @@
 from __future__ import annotations
 
 from fractions import Fraction
+from math import lcm
 from typing import NamedTuple, Optional, Sequence
 
+from .amounts import common_denominator
 from .documents import Point, without_measure
 from .errors import BadInput
 from .game import Game
@@ -34,11 +36,19 @@ def excess(game: Game, shares: Sequence[Fraction], group: int) -> Fraction:
 
 
 def excess_list(game: Game, shares: Sequence[Fraction]) -> list[Entry]:
-    """The excesses of all groups but the empty one and that of all, from the greatest; equals in mask order."""
+    """The excesses of all groups but the empty one and that of all, from the greatest; equals in mask order. They are
+    found in whole numbers over a common unit, which is quick."""
     if game.n > MOST_PLAYERS:
         raise BadInput(f"the groups of {game.n} players are too many to list: {MOST_PLAYERS} players at most")
-    entries = [Entry(excess(game, shares, group), group) for group in range(1, game.everyone)]
-    return sorted(entries, key=lambda entry: (-entry.excess, entry.group))
+    unit = common_denominator([*shares, *game.all_numbers()]) * (lcm(*range(1, game.n + 1)) if game.per_head else 1)
+    parts = [(share * unit).numerator * (1 if game.costs else -1) for share in shares]
+    sums, found = [0], []
+    for group in range(1, game.everyone):
+        lowest = group & -group
+        sums.append(sums[group ^ lowest] + parts[lowest.bit_length() - 1])
+        plain = (game.worth(group) * unit).numerator + sums[group]
+        found.append((-plain // bin(group).count("1") if game.per_head else -plain, group))
+    return [Entry(Fraction(-number, unit), group) for number, group in sorted(found)]
 
 
 def first_difference(first: Sequence[Entry], second: Sequence[Entry]) -> Optional[int]:

@@ -76,6 +76,9 @@ class Game:
         if self.is_table:
             self.amounts = self.read_table(tree)
 
+    def __repr__(self) -> str:
+        return f"Game({self.tree!r})" if self.factor == 1 else f"Game({self.tree!r}, {self.factor})"
+
     def count_players(self, tree: dict[str, Any]) -> int:
         """The number of players, with the numbers of the game unless it is a table."""
         if self.is_table:
@@ -140,6 +143,11 @@ class Game:
         if type(member) is int and 1 <= member <= self.n:
             return member - 1
         raise BadInput(f"{json.dumps(member)[:80]} is no player of the game")
+
+    def all_numbers(self) -> list[Fraction]:
+        """The numbers of the game, in one list."""
+        single = [self.single] if self.kind in SINGLE else []
+        return [entry for row in self.rows for entry in row] if hasattr(self, "rows") else [*self.amounts, *single]
 
     def title(self) -> str:
         """The title of a picture of the game."""

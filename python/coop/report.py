@@ -1,6 +1,7 @@
 """One page of HTML to print: who gets how much, the picture, the reasons, and how to check."""
 from __future__ import annotations
 
+import hashlib
 import html
 import json
 from fractions import Fraction
@@ -9,7 +10,7 @@ from typing import Any
 from .certificates import Explainer
 from .documents import Point
 from .game import KINDS, Game
-from .names import safe
+from .names import is_unseen, safe
 from .pictures import picture
 from .styles import Style, column
 
@@ -27,6 +28,7 @@ p, ul { margin: 0.4em 0; }
 pre { white-space: pre-wrap; overflow-wrap: anywhere; font-size: 8pt; border: 1px solid #bbb; padding: 0.5em; }
 @media print { body { margin: 0; max-width: none; } }
 """.strip()
+MOST_PRINTED = 8000  # characters
 CHECK = """
 <p>The line below is the whole answer: the game, the shares as exact fractions, and a certificate that shows that they
 are the {answer}. Anyone can check it, with Python alone: take <code>check-anew</code> from the project and not from
@@ -51,11 +53,28 @@ def report(document: dict[str, Any], title: str, style: Style) -> str:
         *(paragraph(part) for part in Explainer(document, style).paragraphs()),
         "<h2>How to check</h2>",
         CHECK.format(answer=text(document["answer"])),
-        f"<pre>{html.escape(json.dumps(document, separators=(',', ':')))}</pre>",
+        the_line(document),
     ]
     head = f'<meta charset="utf-8"><title>{text(name)}</title>\n<style>\n{STYLE}\n</style>'
     body = "\n".join(parts)
     return f'<!DOCTYPE html>\n<html lang="en">\n<head>{head}</head>\n<body>\n{body}\n</body>\n</html>\n'
+
+
+def the_line(document: dict[str, Any]) -> str:
+    """The line; of one that is too long to be printed its sum, for it has to be sent beside the page."""
+    line = json.dumps(document, ensure_ascii=False, separators=(",", ":"), sort_keys=True)
+    if len(line) <= MOST_PRINTED:
+        return f"<pre>{text_of_line(line)}</pre>"
+    told = hashlib.sha256(line.encode() + b"\n").hexdigest()
+    return (
+        "<p>It is too long to be printed, and comes as a file. As the program wrote it, its sha256"
+        f" is</p>\n<pre>{told}</pre>"
+    )
+
+
+def text_of_line(line: str) -> str:
+    """A line with escapes of JSON for what isn't seen, so that it stays the same document."""
+    return html.escape("".join(json.dumps(letter)[1:-1] if is_unseen(letter) else letter for letter in line))
 
 
 def text(words: str) -> str:

@@ -99,7 +99,7 @@ class Calls(unittest.TestCase):
     def test_many(self) -> None:
         games = [coop.airport([2, 4, cost]) for cost in range(5, 25)]
         games.insert(3, coop.Game({"class": "airport", "costs": [-1]}))
-        found = list(coop.many(("nucleolus", "shapley"), games, processors=3))
+        found = list(coop.many(("nucleolus", "shapley"), games, processors=1))
         self.assertEqual(len(found), len(games))
         for game, (nucleolus, shapley) in zip(games, found):
             if game is games[3]:
@@ -109,6 +109,8 @@ class Calls(unittest.TestCase):
             self.assertEqual(sum(nucleolus.shares.values()), game.whole())
             self.assertEqual(shapley.shares, coop.shapley(game).shares)
         self.assertEqual([len(some) for some in coop.many("core", iter(games[:2]))], [1, 1])
+        again = [outcome.line for outcome, _ in coop.many(("nucleolus", "shapley"), games, processors=3)]
+        self.assertEqual(again, [outcome.line for outcome, _ in found])
 
 
 class Statuses(unittest.TestCase):

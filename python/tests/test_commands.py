@@ -84,6 +84,16 @@ class Scripts(unittest.TestCase):
         self.assertEqual((game["costs"], game["names"]), ([20, 20, 40], ["Aer 1", "Aer 2", "Bee 1"]))
         self.refused(script("from-landings", text="Aer,20\n"), "line 1 has 2 columns")
 
+    def test_shares(self) -> None:
+        game = {"class": "airport", "costs": [2, 2, 4], "names": ["Aer 1", "Aer 2", "Bee 1"]}
+        text = json.dumps({"game": game, "shares": [1, "1/2", 1500]})
+        together = "player,proposal,proposal rounded\nAer,3/2,1.50\nBee,1500,1500.00\n"
+        self.assertEqual(script("shares", "--csv", "--together", text=text)[1], together)
+        over = script("shares", "--csv", "--over", "10", text=text)[1].splitlines()
+        self.assertEqual(over[1:], ["Aer 1,1/10,0.10", "Aer 2,1/20,0.05", "Bee 1,150,150.00"])
+        self.assertIn("1,500.00 EUR", script("shares", "--unit", "EUR", text=text)[1])
+        self.refused(script("shares", "--over", "0", text=text), "no number from 1 on")
+
     def test_from_costs_fills(self) -> None:
         costs = "a,3\nb,4\nc,5\na+b,6\na+b+c,9\n"
         status, text, errors = script("from-costs", "--fill", text=costs)
@@ -185,6 +195,9 @@ class Scripts(unittest.TestCase):
                 ),
             ),
         )
+        mixed = script("many", "nucleolus", "--places", "1", "--csv", PROPOSAL, "--over", "10")[1]
+        self.assertEqual(mixed.splitlines()[1], f"0,{PROPOSAL},nucleolus,0.1,0.2,0.4")
+        self.refused(script("many", "core", "--over", "0", majority), "no number from 1 on")
         self.refused(script("many", "core,sharply", majority), "'sharply' is none of")
         game = script("proposal", PROPOSAL, "heavy=2", "light=0.50", "medium=7/2")
         self.assertEqual(json.loads(game[1])["shares"], ["1/2", "7/2", 2])

@@ -1,4 +1,5 @@
 """Documents, their points, whether two games are the same, and the printed page."""
+import hashlib
 import json
 import os
 import tempfile
@@ -51,7 +52,7 @@ class Points(Files):
     def test_before_and_after(self) -> None:
         before, after = self.file("before", solved()), self.file("after", solved(game={**AIRPORT, "costs": [2, 4, 9]}))
         points = self.points(before, after)
-        self.assertEqual([point.name for point in points], [f"nucleolus, {before}", f"nucleolus, {after}"])
+        self.assertEqual([point.name for point in points], ["nucleolus, before", "nucleolus, after"])
         self.assertIn("<svg", picture(points))
         with self.assertRaisesRegex(BadInput, "no game, and the others have several"):
             self.points(before, after, self.file("line", {"answer": "shapley", "shares": [1, 2, 3]}))
@@ -148,6 +149,11 @@ class Reports(unittest.TestCase):
         self.assertEqual(json.loads(line), document)
         svg = text[text.index("<svg") : text.index("</svg>") + 6]
         self.assertIn("heavy\\u202e", [element.text for element in ElementTree.fromstring(svg).iter()])
+
+    def test_a_line_too_long_to_print(self) -> None:
+        document = solved(game={**AIRPORT, "names": ["a" * 9000, "b", "c"]})
+        line = json.dumps(document, ensure_ascii=False, separators=(",", ":"), sort_keys=True) + "\n"
+        self.assertIn(hashlib.sha256(line.encode()).hexdigest(), Page(report(document, "", Style())).texts)
 
     def test_lists_are_whole(self) -> None:
         document = solved()

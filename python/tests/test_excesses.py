@@ -1,4 +1,5 @@
 """Excess lists and comparisons."""
+import random
 import unittest
 from fractions import Fraction
 from itertools import product
@@ -6,7 +7,7 @@ from typing import Sequence
 
 import coop
 from coop.documents import Point
-from coop.excesses import Comparison, compare, excess, excess_list, first_difference
+from coop.excesses import Comparison, Entry, compare, excess, excess_list, first_difference
 from coop.tables import csv_text, put_together, shares_csv
 from coop.styles import Style
 
@@ -37,6 +38,14 @@ class Excesses(unittest.TestCase):
         self.assertEqual(listed, [("-1", 1), ("-1", 6), ("-3/2", 3), ("-3/2", 5), ("-5/2", 2), ("-5/2", 4)])
         per_head = coop.table([0, 0, 6, 0, 2, 2, 12], per_head=True)
         self.assertEqual(excess(per_head, [Fraction(5), Fraction(5), Fraction(2)], 3), -2)
+
+    def test_lists_are_those_of_the_groups(self) -> None:
+        """Each list against the excesses of its groups, over random games of each class and both measures."""
+        draw = random.Random(6)
+        for game in drawn_games(draw):
+            shares = [Fraction(draw.randint(-9, 20), draw.randint(1, 6)) for _ in range(game.n)]
+            wanted = [Entry(excess(game, shares, group), group) for group in range(1, game.everyone)]
+            self.assertEqual(excess_list(game, shares), sorted(wanted, key=lambda entry: (-entry.excess, entry.group)))
 
     def test_told(self) -> None:
         self.assertEqual(compare([NUCLEOLUS, SHAPLEY]).told(), TOLD)
@@ -75,6 +84,23 @@ class Excesses(unittest.TestCase):
     def test_first_difference(self) -> None:
         lists = [excess_list(AIRPORT, some.shares) for some in (NUCLEOLUS, SHAPLEY)]
         self.assertEqual((first_difference(*lists), first_difference(lists[0], lists[0])), (0, None))
+
+
+def drawn_games(draw: random.Random) -> list[coop.Game]:
+    """Games of some players and each class, plain and per head."""
+    some = [Fraction(draw.randint(1, 30), draw.randint(1, 4)) for _ in range(40)]
+    links = [[Fraction(0) if i == j else some[i + j] for j in range(5)] for i in range(5)]
+    games = []
+    for per_head in (False, True):
+        games += [
+            coop.table(some[:31], per_head=per_head),
+            coop.cost_table(some[:15], per_head=per_head),
+            coop.airport(some[:4], per_head=per_head),
+            coop.bankruptcy(some[0], some[1:6], per_head=per_head),
+            coop.tree(links, per_head=per_head),
+            coop.assignment([some[:2], some[2:4], some[4:6]], per_head=per_head),
+        ]
+    return [*games, coop.voting(5, [4, 2, 1, 1])]
 
 
 def worst_first(game: coop.Game, shares: Sequence[int]) -> list[int]:
