@@ -6,8 +6,8 @@ ghost use Rattle.big_assignment.specs.Deals.{NoneWanted, at_prices, mate_of, off
 
 use crate::deal::{Deal, PLACES};
 
-/// The prices where row `i` has its turn: each column that it would rather have than its own costs so much more that the
-/// row is content.
+/// The prices where row `i` has its turn: each column that it would rather have than its own costs so much more that
+/// the row is content.
 fn after_turn(deal: &Deal, n: usize, i: usize, prices: &[u64; PLACES]) -> [u64; PLACES]
     requires rows { n ≤ 32 }
     requires row { i < n }

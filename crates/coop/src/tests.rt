@@ -5,6 +5,7 @@ mod cores;
 mod failing_calls;
 mod fractional_worths;
 mod generated_games;
+mod greatest_games;
 mod hostile_documents;
 mod markets;
 mod networks_and_markets;
