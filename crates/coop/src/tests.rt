@@ -18,8 +18,7 @@ mod statuses;
 mod tables;
 mod votes;
 
-use crate::run::run;
-use crate::status::Status;
+use crate::{Status, run};
 use ports::{MemorySink, MemorySource};
 use std::alloc::Global;
 use std::process::Abort;

@@ -3,33 +3,12 @@
 
 mod adapters;
 mod behind_name;
-mod bird_shares;
-mod check;
-mod classes;
-mod convex_shares;
-mod core_search;
-mod generated;
-mod judge;
-mod limits;
-mod market_matching;
-mod prekernel_test;
-mod reply;
-mod run;
-mod shapley_values;
-mod solve;
 mod stack;
-mod status;
-mod stop;
-mod stream;
-#[cfg(test)]
-mod tests;
-mod words;
 
 use adapters::{StdSink, StdSource};
 use behind_name::BehindName;
-use run::run;
+use coop::{Status, run};
 use stack::use_stack;
-use status::Status;
 use std::io::ErrorKind;
 use std::process::ExitCode;
 use std::{env, io};

@@ -11,7 +11,7 @@ use Rattle.coop.proofs.Right.{no_command, right_usage}
 use Rattle.coop.proofs.Requests.{is_fit}
 use Rattle.coop.proofs.Completed.{positive_or_negative, status_of_answered}
 use Rattle.coop.proofs.GeneratorEnds.{asks_for_nothing, ends_as_made}
-use Rattle.coop.proofs.run.run.Goals as goal
+use Rattle.coop.proofs.running.run.Goals as goal
 
 pub reply_to_request-requires : goal.reply_to_request-requires
 reply_to_request-requires g c = is_fit _ c.in-Some.request c.in-Some.ensures

@@ -1,7 +1,7 @@
 use Rattle.std.proofs.Common.{sym, ◌∙◌}
 use Rattle.game_text.specs.Readings.{contents_in}
 use Rattle.coop.proofs.Right.{right_where_served}
-use Rattle.coop.proofs.run.answer_to_document.Goals as goal
+use Rattle.coop.proofs.running.answer_to_document.Goals as goal
 
 pub returns-clause-right : goal.returns-clause-right
 returns-clause-right c =

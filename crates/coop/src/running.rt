@@ -63,6 +63,8 @@ pub fn run<S: Source, K: Sink>(
     // For a generated game nothing is read, and its answer is positive.
     ensures generated { AsksForGame (map string_bytes words.now)
         → EndsMade (S.left source.old) (S.left source.new) result }
+    // The sink is the one that was passed.
+    ensures same_sink { K.mark sink.new ≡ K.mark sink.old }
 {
     let Some(request) = request_of(words) else {
         return match write_line(sink, usage_line()) {

@@ -1,5 +1,5 @@
 use Rattle.coop.proofs.Right.{right_summary}
-use Rattle.coop.proofs.run.reply_to_request.Goals as goal
+use Rattle.coop.proofs.running.reply_to_request.Goals as goal
 
 pub returns-in-Ok-clause-right : goal.returns-in-Ok-clause-right
 returns-in-Ok-clause-right g c = λ words asked.

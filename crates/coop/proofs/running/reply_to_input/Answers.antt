@@ -5,7 +5,7 @@ use Rattle.coop.specs.Outcome.{IsRight}
 use Rattle.coop.specs.Words.{word_of}
 use Rattle.coop.proofs.Right.{right_refusal, right_answer}
 use Rattle.coop.proofs.Needs.{has_needed}
-use Rattle.coop.proofs.run.reply_to_input.Goals as goal
+use Rattle.coop.proofs.running.reply_to_input.Goals as goal
 
 pub returns-in-Err-Refused-clause-right : goal.returns-in-Err-Refused-clause-right
 returns-in-Err-Refused-clause-right g c =
