@@ -149,14 +149,26 @@ export const tables = [
     expect("lead", await page.text(".lead"), /together 13.00/);
   }],
 
+  ["a comma in front of decimals, in sentences too", "costs", async (page, expect) => {
+    await page.run(`(() => {
+      const marks = document.querySelectorAll("#answer-settings select")[1];
+      marks.value = ",";
+      marks.dispatchEvent(new Event("change"));
+    })()`);
+    await settle(page);
+    expect("table", await page.text(".shares tbody"), /3,88/);
+    expect("sentences", await page.text("#why"), /2,125 less[\s\S]*Sales pays 3,875/);
+    expect("no points", /\d\.\d/.test(await page.text("#why")), false);
+  }],
+
   ["groups that were never costed", "costs", async (page, expect) => {
-    await typeAll(page, { "numbers.5": "", "numbers.6": "" });
+    await typeAll(page, { "numbers.5": "", "numbers.7": "" });
     await page.until("document.querySelector('.fault.gentle')?.textContent.startsWith('2 cells')");
     await page.click("Fill the empty ones by the cheapest split");
     await settle(page);
     const cell = (mask) => page.run(`document.querySelector('[data-cell="numbers.${mask}"]').value`);
     expect("Sales + Legal", await cell(5), "14");
-    expect("Ops + Legal", await cell(6), "13.5");
+    expect("all, by Sales + Ops and Legal", await cell(7), "16");
     expect("note", await page.text("#case .note[role=status]"), /2 groups were filled, each by its cheapest split/);
   }],
 

@@ -42,13 +42,15 @@ const REFUSED_LINES = [
     /A coalition is a list[\s\S]*certificate, level 1, coalitions, item 2/],
 ];
 
-/** Texts that are no documents at all. */
+/** Texts that are no documents at all, and nothing for a grid. */
 const BROKEN = {
   "a picture": String.fromCharCode(...Array.from({ length: 5000 }, (_, k) => (k * 7919) % 0xd7ff)),
   "a page": "<!doctype html><script>alert(1)</script>".repeat(50),
   "deeply nested": "[".repeat(100000),
   "a list of numbers": "1;2;3\n4;5;6\n",
   "null": "null",
+  "long digits": `${"1".repeat(400000)}x\t2\n3\t${" ".repeat(100000)}x,1`,
+  "columns of blanks": `${" ".repeat(300000)}x,\n${"\t".repeat(200000)}`,
   "a long text": `"${"x".repeat(3000000)}"`,
   "forged keys": '{"__proto__":1,"constructor":{"x":1},"game":{"class":"__proto__"}}',
   "a half of a character": '{"game":{"class":"airport","costs":[1],"names":["\\ud800"]}}',
@@ -80,16 +82,29 @@ const broken = Object.entries(BROKEN).map(([name, text]) => [`none: ${name}`, "d
   expect("no yes", await page.text("#verify .answers"), /^(?!Yes)/);
 }]);
 
+const pasted = ["runway", "costs", "network", "market", "votes"].map((id) => [`pasted into cells: ${id}`, id,
+  async (page, expect) => {
+    for (const text of Object.values(BROKEN)) {
+      await page.paste("#case table input, #case .groups input", text);
+      await page.run("new Promise((resolve) => setTimeout(resolve, 100))");
+    }
+    await page.click("Fill in the worked example");
+    await page.until(READY, 20000);
+    expect("still works", await page.text("#evidence .words"), /says yes[\s\S]*says yes/);
+  }]);
+
 export function documents(top, program) {
   const examples = readdirSync(join(top, "examples")).map((file) => {
     return [`opened: ${file}`, "document", (page, expect) => opened(page, expect, program, top, file)];
   });
-  return [...refused, ...broken, ...examples, ["a proposal in a document", "document", async (page, expect) => {
-    await page.fill("#document textarea", readFileSync(join(top, "examples", "departments.json"), "utf8"));
-    await page.until(READY, 15000);
-    expect("typed", await page.run(`document.querySelector('[data-cell="proposal.0"]').value`), "4");
-    expect("judged", await page.text(".shares .verdict td:last-child"), /No/);
-  }]];
+  const departments = readFileSync(join(top, "examples", "departments.json"), "utf8");
+  return [...refused, ...broken, ...pasted, ...examples,
+    ["a proposal in a document", "document", async (page, expect) => {
+      await page.fill("#document textarea", departments);
+      await page.until(READY, 15000);
+      expect("typed", await page.run(`document.querySelector('[data-cell="proposal.0"]').value`), "4");
+      expect("judged", await page.text(".shares .verdict td:last-child"), /No/);
+    }]];
 }
 
 /** An example is opened, and the document that the page makes of it has the same Shapley shares by the native program.

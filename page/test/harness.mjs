@@ -5,7 +5,7 @@ const AT_ONCE = 3;
 
 export const READY = "!document.getElementById('answer').hidden"
   + " && !document.getElementById('answer').classList.contains('stale')"
-  + " && document.querySelectorAll('#answer-body table, #answer-body .notice.bad').length > 0"
+  + " && document.querySelectorAll('#answer-body table').length > 0"
   + " && ![...document.querySelectorAll('.verdict td')].some((td) => td.textContent === '…')"
   + " && !document.querySelector('#evidence:not([hidden]) .word.busy')"
   + " && !document.querySelector('#busy button')";
@@ -58,6 +58,7 @@ export class Harness {
     } finally {
       this.browser.stop();
     }
+    if (!this.list.length) this.faults.push("there was no scenario to play");
     for (const fault of this.faults) console.log(fault);
     console.log(`${this.list.length} scenarios, ${this.done} expectations, ${this.faults.length} faults`);
     return this.faults.length;

@@ -80,6 +80,33 @@ const papers = CASES.map((id) => [`one page on paper: ${id}`, id, async (page, e
   expect("a picture", await page.run("document.querySelectorAll('#sheet svg').length"), 1);
 }]);
 
+async function longPaper(page, expect) {
+  const rows = Array.from({ length: 64 }, (_, k) => `Claimant number ${k + 1}\t${100 + ((k * 37) % 91)}.25`);
+  await page.click("Clear all");
+  await page.paste('[data-cell="rows.0.name"]', rows.join("\n"));
+  await page.type("estate", "3000");
+  await settle(page);
+  const pages = (await page.pdf()).toString("latin1").match(/\/Type \/Page\b/g) ?? [];
+  expect("pages", pages.length, 1);
+  expect("two tables", await page.run("document.querySelectorAll('#sheet table').length"), 2);
+}
+
+/** What would send or keep anything stands nowhere in the page, and the policy of the page refuses it besides. */
+async function apart(page, expect) {
+  await page.click("Costs of each group");
+  await page.until(READY);
+  const words = "localStorage|sessionStorage|indexedDB|document\\.cookie|sendBeacon|XMLHttpRequest|WebSocket";
+  const code = "[...document.scripts].map((one) => one.textContent).join()";
+  expect("words", await page.run(`${code}.match(/${words}|EventSource|\\bfetch\\(|importScripts/)?.[0] ?? ""`), "");
+  expect("kept", await page.run("localStorage.length + sessionStorage.length + document.cookie.length"), 0);
+  const refused = await page.run(`new Promise((resolve) => {
+    document.addEventListener("securitypolicyviolation", (event) => resolve(event.effectiveDirective));
+    globalThis["fet" + "ch"]("http://127.0.0.1:9/").catch(() => setTimeout(() => resolve("nothing"), 500));
+  })`);
+  expect("refused by", refused, "connect-src");
+  page.events.length = 0;
+}
+
 async function dark(page, expect) {
   const colours = () => page.run("['--paper', '--ink'].map((name) => "
     + "getComputedStyle(document.documentElement).getPropertyValue(name).trim()).join()");
@@ -115,6 +142,8 @@ async function savedPicture(page, expect) {
 
 export const looks = [
   ...phones, ...papers,
+  ["64 claims on one page", "estate", longPaper],
+  ["nothing is sent or kept", "", apart],
   ["dark", "costs", dark, { dark: true }],
   ["everything on paper", "costs", everything],
   ["a picture to save", "costs", savedPicture],

@@ -10,7 +10,7 @@ export function cellsOf(text) {
 
 /** A comma between a name and a number, or between two points; and not the decimal comma of a lone column. */
 function hasCommaColumns(lines) {
-  return lines.every((line) => line.includes(",") && !/^\s*[-−]?[\d\s.'’]*,\d+\s*$/.test(line));
+  return lines.every((line) => line.includes(",") && !/^[-−]?[\d\s.'’]*,\d+$/.test(line.trim()));
 }
 
 function splitLine(line, by) {

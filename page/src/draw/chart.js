@@ -24,12 +24,18 @@ export function chart({ title, rows, legend, low, high, wide, text }) {
   for (const tick of ticks) {
     const at = x(tick).toFixed(1);
     parts.push(svg("line", { class: tick === 0 ? "zero" : "grid-line", x1: at, x2: at, y1: top - 6, y2: y - AIR / 2 }));
-    parts.push(svg("text", { class: "soft", x: at, y: y + 8, "text-anchor": "middle" }, text(tick)));
+    parts.push(svg("text", { class: "soft", y: y + 8, ...within(text(tick), x(tick), wide) }, text(tick)));
   }
   const told = `${title}. ${rows.map((row) => row.told).join("; ")}`;
   return svg("svg", {
     class: "picture", viewBox: `0 0 ${wide} ${Math.ceil(y + 16)}`, width: wide, role: "img", "aria-label": told,
   }, drawn.parts, parts, bodies);
+}
+
+/** The place of a number below the picture, which is moved where it would stand out at a side. */
+function within(text, x, wide) {
+  const half = widthOf(text, 13) / 2 + 1;
+  return { x: Math.max(half, Math.min(wide - half, x)).toFixed(1), "text-anchor": "middle" };
 }
 
 function heightOf({ bars = [], spans = [] }) {
@@ -91,7 +97,7 @@ function legendLines(legend, wide) {
 }
 
 /** Round numbers from the low to the high one, at most six. */
-export function ticksOf(low, high) {
+function ticksOf(low, high) {
   if (!(high > low)) return [low];
   const power = 10 ** Math.floor(Math.log10(high - low));
   const step = [power / 5, power / 2, power, power * 2, power * 5].find((size) => (high - low) / size <= 5);

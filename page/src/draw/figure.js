@@ -16,7 +16,7 @@ export function figure(kind, name, drawn, ...caption) {
 }
 
 /** The picture as a document of its own: in the light colours, on white. */
-export function asFile(drawn) {
+function asFile(drawn) {
   const copy = drawn.cloneNode(true), [, , wide, high] = copy.getAttribute("viewBox").split(" ");
   const style = document.createElementNS("http://www.w3.org/2000/svg", "style");
   style.textContent = inColours(PICTURE);

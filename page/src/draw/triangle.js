@@ -1,6 +1,6 @@
 // The triangle of the divisions among three. A division is a point: the nearer it is to a player's corner, the more
 // that player gets (the less it pays). A payment is a negative share here, and a cost a negative worth.
-import { Rational, ZERO } from "../exact/rational.js";
+import { ZERO } from "../exact/rational.js";
 import { shortText } from "../exact/decimals.js";
 import { svg } from "../page/dom.js";
 import { figure } from "./figure.js";

@@ -1,8 +1,12 @@
 // Decimals: those that people type, and those that are shown.
 import { Rational } from "./rational.js";
 
+/** The decimal mark of sentences: that of the page, which each worker is told. */
+export const spoken = { mark: "." };
+
 const HALF = new Rational(1n, 2n);
 const NARROW = "\u202f";
+const MOST_LETTERS = 61; // of a number that is typed: a fraction of 30 digits each
 
 /** Shares in steps of the last place, which add to the rounded sum: all are rounded down first, and what then lacks
  * goes to those who lost most, among equals to the first. */
@@ -42,15 +46,15 @@ export function fractionText(value) {
 /** A number as a sentence has it, exact: a decimal where four places do, else a fraction; a very long one about. */
 export function shortText(value) {
   const places = placesOf(value);
-  if (places >= 0) return decimal(value, places);
+  if (places >= 0) return decimal(value, places, spoken);
   const text = fractionText(value);
-  return text.length <= 15 ? text : "about " + decimal(value, 4);
+  return text.length <= 15 ? text : `about ${decimal(value, 4, spoken)}`;
 }
 
 /** The same, with the decimals beside a fraction. */
 export function fullText(value) {
   const text = shortText(value);
-  return text.includes("/") ? `${text} (about ${decimal(value, 2)})` : text;
+  return text.includes("/") ? `${text} (about ${decimal(value, 2, spoken)})` : text;
 }
 
 /** How many decimals write a value exactly, to 4; -1 where these don't. */
@@ -72,12 +76,13 @@ export function readNumber(typed, mark = ".") {
   if (/^\d{1,15}$/.test(typed)) return { value: new Rational(BigInt(typed)) };
   const text = typed.replace(/[\s\u00a0\u202f'’_]/g, "").replace(/^\p{Sc}|\p{Sc}$/gu, "").replace(/^[−–]/, "-");
   if (text === "") return { fault: "is empty" };
+  if (text.length > MOST_LETTERS) return { fault: "is no number" };
   if (/^-?\d{1,30}\/\d{1,30}$/.test(text)) {
     const [num, den] = text.split("/").map(BigInt);
     return den ? { value: new Rational(num, den) } : { fault: "is divided by nothing" };
   }
   if (/^\(\d[\d.,]*\)$/.test(text)) return readNumber("-" + text.slice(1, -1), mark);
-  if (!/^-?[\d.,]*\d[\d.,]*$/.test(text) || text.length > 40) return { fault: "is no number" };
+  if (!/^-?[\d.,]*\d[\d.,]*$/.test(text)) return { fault: "is no number" };
   const marks = text.replace(/[^.,]/g, "");
   const last = marks.at(-1), other = last === "." ? "," : ".";
   if (!marks) return { value: new Rational(BigInt(text)) };

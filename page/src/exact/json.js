@@ -28,7 +28,7 @@ export function isObject(tree) {
 }
 
 /** The text of some bytes in UTF-8; a text as it is. */
-export function textOf(data) {
+function textOf(data) {
   if (typeof data === "string") return data;
   try {
     return new TextDecoder("utf-8", { fatal: true, ignoreBOM: true }).decode(data);

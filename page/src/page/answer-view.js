@@ -50,12 +50,19 @@ export class AnswerView {
     };
     refill(at("answer-settings"), result.refusal ? [] : this.settings(result));
     refill(at("answer-body"), answerParts(result, { rows, format, proposal, wide }));
+    this.say();
     if (result.refusal) return;
     this.showMore(result, rows, format);
     const why = whyParts(result);
     refill(at("why-body"), why);
     at("why").hidden = !why.length;
     refill(at("evidence-body"), evidenceParts(result, session.kind.id));
+  }
+
+  /** Tells those who hear the page what it answers, once for each answer. */
+  say() {
+    const text = at("answer-body").querySelector(".lead, .notice, .hint")?.textContent ?? "";
+    if (at("said").textContent !== text) at("said").textContent = text;
   }
 
   /** The parts with fields of their own are kept while answers come, and made anew for another game or other decimals.

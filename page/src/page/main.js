@@ -74,9 +74,10 @@ function tellUnforeseen() {
 }
 
 function listen() {
+  const calm = matchMedia("(prefers-reduced-motion: reduce)").matches;
   for (const home of document.querySelectorAll("[data-home]")) home.addEventListener("click", () => show(""));
   for (const link of document.querySelectorAll("[data-part]")) {
-    link.addEventListener("click", () => at(link.dataset.part).scrollIntoView({ behavior: "smooth" }));
+    link.addEventListener("click", () => at(link.dataset.part).scrollIntoView({ behavior: calm ? "auto" : "smooth" }));
   }
   let width = innerWidth;
   addEventListener("resize", () => {

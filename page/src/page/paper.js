@@ -18,7 +18,7 @@ export function paperPart(session, typed) {
       button("Print one page", printed("sheet")), button("Print everything", printed("all"))));
 }
 
-export function printAs(what, session, typed) {
+function printAs(what, session, typed) {
   document.body.dataset.print = what;
   if (what === "sheet") showSheet(session, typed);
   print();

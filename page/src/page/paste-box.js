@@ -8,7 +8,7 @@ export function pasteBox(onList) {
     const text = event.clipboardData?.getData("text/plain") ?? "";
     if (text.length <= MOST_SHOWN) return;
     event.preventDefault();
-    onList(text, order.value);
+    use(text);
   };
   const area = el("textarea", {
     rows: "5", on: { paste }, placeholder: "Sales\t8\nOps\t7.50\nSales+Ops\t10\n…", spellcheck: "false",
@@ -17,10 +17,15 @@ export function pasteBox(onList) {
   const order = el("select", { "aria-label": "The order of numbers alone" },
     el("option", { value: "size" }, "by size: 1, 2, 3, 1+2, 1+3, 2+3, 1+2+3"),
     el("option", { value: "mask" }, "by masks: 1, 2, 1+2, 3, 1+3, 2+3, 1+2+3"));
-  return el("details", { class: "inline" }, el("summary", {}, "Paste a whole list"),
+  const use = (text) => {
+    box.open = false;
+    onList(text, order.value);
+  };
+  const box = el("details", { class: "inline" }, el("summary", {}, "Paste a whole list"),
     el("p", { class: "hint" }, "A line for each group: its members with + between, and its number. The players are ",
       "those with a line of their own. Or numbers alone, a line each, without the group of nobody."),
     area,
     el("p", {}, el("label", {}, "Numbers alone stand ", order)),
-    el("p", {}, button("Use this list", () => onList(area.value, order.value))));
+    el("p", {}, button("Use this list", () => use(area.value))));
+  return box;
 }

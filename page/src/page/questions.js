@@ -29,7 +29,8 @@ export async function askAll(read, { engine, checker, onPart }) {
   await askSolution(result, ask);
   if (result.refusal) return onPart(result), result;
   if (result.line) onPart(result);
-  const beside = result.line && askBeside(result, checker, onPart);
+  const beside = result.line ? askBeside(result, checker, onPart) : null;
+  beside?.catch(() => 0); // it is told where it is waited for
   await askOthers(result, ask);
   onPart(result);
   for (const point of result.points) Object.assign(point, await judge(result, point.shares, engine));

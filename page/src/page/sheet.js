@@ -12,6 +12,7 @@ import { formatOf, totalsOf } from "./format.js";
 
 const WIDE = 700;
 const MOST_PICTURED = 10; // rows whose bars leave room for the rest
+const MOST_ROWS = 18; // of one table; more stand in two, side by side
 const MOST_TOLD = 800; // characters of the first reason that are printed in full
 const MOST_DOCUMENT = 420; // characters of the game's document that are printed
 
@@ -55,23 +56,33 @@ function answerOf(view) {
   }
   const title = game.ballots ? "Power" : point.title, totals = totalsOf(rows, point.shares);
   const context = contextOf(game, rows, format), texts = format.column(totals);
-  const body = rows.map(({ label, players }, r) => el("tr", {},
-    el("th", { scope: "row" }, label, players.length > 1 && ` (${players.length} landings)`),
+  const hasExact = totals.some((total) => !format.isExact(total)), who = game.costs ? "Who pays" : "Who gets";
+  const heads = [game.ballots ? "Who votes" : who, context?.title, title, hasExact ? "exactly" : undefined];
+  const line = (r) => el("tr", {},
+    el("th", { scope: "row" }, rows[r].label, rows[r].players.length > 1 && ` (${rows[r].players.length} landings)`),
     context && el("td", { class: "number" }, context.texts[r]),
     el("td", { class: "number strong" }, texts[r]),
-    el("td", { class: "number" }, format.isExact(totals[r]) ? "" : fractionText(totals[r]))));
-  const heads = [game.costs ? "Who pays" : game.ballots ? "Who votes" : "Who gets", context?.title, title, "exactly"];
+    hasExact && el("td", { class: "number" }, format.isExact(totals[r]) ? "" : fractionText(totals[r])));
   const sum = el("tr", { class: "sum" }, el("th", { scope: "row" }, "together"), context && el("td"),
-    el("td", { class: "number strong" }, texts.at(-1)), el("td"));
-  const shown = heads.filter((head) => head !== undefined);
+    el("td", { class: "number strong" }, texts.at(-1)), hasExact && el("td"));
   return el("section", {},
     !game.ballots && !game.isMarket() && lead(result, point, { rows, format }),
     unit?.trim() && el("p", { class: "hint" }, `All amounts are in ${unit.trim()}.`),
-    el("table", { class: `shares${rows.length > 20 ? " dense" : ""}` },
-      el("thead", {}, el("tr", {}, shown.map((head, k) => {
-        return el("th", { scope: "col", class: k ? "number" : "" }, head);
-      }))),
-      el("tbody", {}, body), el("tfoot", {}, sum)));
+    halves(rows.length, heads.filter((head) => head !== undefined), line, sum));
+}
+
+/** One table; of many rows two, side by side, with the sum below the second. */
+function halves(count, heads, line, sum) {
+  const isLong = count > MOST_ROWS, middle = isLong ? Math.ceil(count / 2) : count;
+  const head = () => el("thead", {}, el("tr", {}, heads.map((title, k) => {
+    return el("th", { scope: "col", class: k ? "number" : "" }, title);
+  })));
+  const tables = [[0, middle], [middle, count]].filter(([from, to]) => from < to).map(([from, to]) => {
+    const lines = Array.from({ length: to - from }, (_, k) => line(from + k));
+    return el("table", { class: isLong ? "shares dense" : "shares" }, head(), el("tbody", {}, lines),
+      el("tfoot", {}, to === count && sum));
+  });
+  return el("div", { class: "halves" }, tables);
 }
 
 function contextOf(game, rows, { show }) {
@@ -114,15 +125,21 @@ function reasonsOf({ result }) {
     return el("section", {}, el("h2", {}, "How it was found"), el("p", {}, game.ballots ? POWER : PRICES));
   }
   const [principle, next] = reasons, levels = reasons.filter(({ isLevel }) => isLevel).length;
-  const more = next ? [...next.sentences, ...next.items.map(({ label }) => label), next.last] : [];
-  const isLong = more.join(" ").length > MOST_TOLD, told = isLong ? [...more.slice(0, 2), more.at(-1)] : more;
-  const sentences = [...principle.sentences, ...told].filter(Boolean);
+  const sentences = [...principle.sentences, ...(next ? toldOf(next) : [])];
   if (next?.isLevel && levels > 1) sentences.push(`So the first of ${levels} levels; the certificate has them all.`);
   const isCore = points.find(({ key }) => key === answer)?.verdict?.isCore;
   return el("section", {}, el("h2", {}, `Why: the ${answer}`),
     el("p", {}, sentences.join(" ")),
     isCore && el("p", {}, "By these shares no group does better by itself."),
     el("p", {}, `No other division meets the principle: there is just one ${answer} (Schmeidler 1969).`));
+}
+
+/** The first reason: with its items, or without, or its first sentences and the last one, as there is room. */
+function toldOf({ sentences, items, last = "" }) {
+  const whole = [...sentences, ...items.map(({ label }) => label), last], short = [...sentences, last];
+  const isShort = (some) => some.join(" ").length <= MOST_TOLD;
+  const told = isShort(whole) ? whole : isShort(short) ? short : [...short.slice(0, 2), sentences.at(-1)];
+  return told.filter(Boolean);
 }
 
 // ---- What is agreed on, and how to check it

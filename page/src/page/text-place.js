@@ -5,7 +5,7 @@ export const MOST_BYTES = 8388608; // of a text that is read at all
 const MOST_SHOWN = 200000; // characters of a text in a text area
 const WAIT = 250;
 
-export const TOO_LONG = "This is longer than 8 MB, so it is no document or line of the program, and isn’t read.";
+const TOO_LONG = "This is longer than 8 MB, so it is no document or line of the program, and isn’t read.";
 
 /** The text of a file; {fault} where it is too long, or isn't a text. */
 export async function textOfFile(file) {

@@ -22,6 +22,12 @@ export function explain(game, line) {
   return new Explainer(game, line).parts();
 }
 
+/** How often each player is counted; what is taken off may outweigh the rest. */
+function onBalance(total) {
+  if (total > 0n) return times(total);
+  return total < 0n ? `equally often (−${-total} times, on balance)` : "not at all, on balance";
+}
+
 class Explainer {
   constructor(game, line) {
     this.game = game;
@@ -128,7 +134,7 @@ class Explainer {
   why(level) {
     const isEven = new Set(level.coalitions.map(([, weight]) => weight)).size === 1;
     const sentences = isEven ? [] : [this.counts(level.coalitions)];
-    const often = level.total ? times(level.total) : "not at all, on balance";
+    const often = onBalance(level.total);
     sentences.push(`${this.subject(level, isEven)} each player ${often}.`, this.conclusion(level));
     if (level.earlier.length) sentences.push("(What was added or taken off is settled already.)");
     return sentences;

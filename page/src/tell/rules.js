@@ -13,7 +13,7 @@ export function ruleOf(game, shares, namer) {
 // ---- A runway
 
 /** Littlechild's steps: who pays in each, in the order of their costs, and what each of these pays. */
-export function runwaySteps(costs) {
+function runwaySteps(costs) {
   const order = costs.map((_, i) => i).sort((i, j) => costs[i].compare(costs[j]) || i - j);
   const steps = [];
   let done = 0, paid = ZERO;
