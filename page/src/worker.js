@@ -1,6 +1,7 @@
 // What runs beside the page, so that nothing freezes it: the engine, the checker of the page's own, all that reads long
 // texts, and the sentences.
 import { checkAnew } from "./check/check-anew.js";
+import { spoken } from "./exact/decimals.js";
 import { parseJson } from "./exact/json.js";
 import { Game } from "./game/game.js";
 import { explain } from "./tell/explain.js";
@@ -32,7 +33,8 @@ function anew(document) {
   return refused === undefined ? { tree: parseJson(line) } : { refused };
 }
 
-self.onmessage = ({ data: { id, task, what } }) => {
+self.onmessage = ({ data: { id, task, what, mark } }) => {
+  spoken.mark = mark;
   try {
     self.postMessage({ id, result: TASKS[task](what) });
   } catch (fault) {

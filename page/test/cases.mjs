@@ -149,6 +149,18 @@ export const tables = [
     expect("lead", await page.text(".lead"), /together 13.00/);
   }],
 
+  ["a comma in front of decimals, in sentences too", "costs", async (page, expect) => {
+    await page.run(`(() => {
+      const marks = document.querySelectorAll("#answer-settings select")[1];
+      marks.value = ",";
+      marks.dispatchEvent(new Event("change"));
+    })()`);
+    await settle(page);
+    expect("table", await page.text(".shares tbody"), /3,88/);
+    expect("sentences", await page.text("#why"), /2,125 less[\s\S]*Sales pays 3,875/);
+    expect("no points", /\d\.\d/.test(await page.text("#why")), false);
+  }],
+
   ["groups that were never costed", "costs", async (page, expect) => {
     await typeAll(page, { "numbers.5": "", "numbers.7": "" });
     await page.until("document.querySelector('.fault.gentle')?.textContent.startsWith('2 cells')");

@@ -15,7 +15,7 @@ const words = process.argv.slice(2), [page, top] = words.map((word) => resolve(w
 const option = (name, byDefault) => (words.includes(name) ? words[words.indexOf(name) + 1] : byDefault);
 
 const harness = new Harness(pathToFileURL(page).href, option("--only", "")), told = [];
-const program = resolve(option("--program", join(top, "crates", "coop", "out", "coop")));
+const program = resolve(option("--program", join(top, "crates", "coop_program", "out", "coop_program")));
 harness.add(large(Number(option("--slack", "1")), told));
 for (const some of [bothWays, casesTyped, tables, otherCases, documents(top, program), checking(top), looks, access]) {
   harness.add(some);

@@ -1,6 +1,9 @@
 // Decimals: those that people type, and those that are shown.
 import { Rational } from "./rational.js";
 
+/** The decimal mark of sentences: that of the page, which each worker is told. */
+export const spoken = { mark: "." };
+
 const HALF = new Rational(1n, 2n);
 const NARROW = "\u202f";
 const MOST_LETTERS = 61; // of a number that is typed: a fraction of 30 digits each
@@ -43,15 +46,15 @@ export function fractionText(value) {
 /** A number as a sentence has it, exact: a decimal where four places do, else a fraction; a very long one about. */
 export function shortText(value) {
   const places = placesOf(value);
-  if (places >= 0) return decimal(value, places);
+  if (places >= 0) return decimal(value, places, spoken);
   const text = fractionText(value);
-  return text.length <= 15 ? text : "about " + decimal(value, 4);
+  return text.length <= 15 ? text : `about ${decimal(value, 4, spoken)}`;
 }
 
 /** The same, with the decimals beside a fraction. */
 export function fullText(value) {
   const text = shortText(value);
-  return text.includes("/") ? `${text} (about ${decimal(value, 2)})` : text;
+  return text.includes("/") ? `${text} (about ${decimal(value, 2, spoken)})` : text;
 }
 
 /** How many decimals write a value exactly, to 4; -1 where these don't. */

@@ -1,4 +1,5 @@
 // A helper is a worker of the page's own code. It does one task after the other; stopping it ends what it does.
+import { spoken } from "../exact/decimals.js";
 
 const SLOW = 150; // milliseconds after which a task that nobody needs any more is ended
 
@@ -33,7 +34,7 @@ export class Helper {
     if (!this.waiting.size) this.since = performance.now();
     return new Promise((resolve, reject) => {
       this.waiting.set(id, { resolve, reject });
-      this.worker.postMessage({ id, task, what });
+      this.worker.postMessage({ id, task, what, mark: spoken.mark });
     });
   }
 

@@ -1,4 +1,5 @@
 // The case that is worked on: what was typed, what was read of it, and the answers of the program.
+import { spoken } from "../exact/decimals.js";
 import { Helper } from "./helper.js";
 import { proposalOf } from "./proposal.js";
 import { askAll, judge } from "./questions.js";
@@ -16,6 +17,7 @@ export class Session {
     this.kind = null;
     this.turn = 0;
     this.mark = new Intl.NumberFormat().format(0.5).includes(",") ? "," : ".";
+    spoken.mark = this.mark;
   }
 
   /** Starts the workers, so that the first question needn't wait for them. */
@@ -39,6 +41,7 @@ export class Session {
 
   setMark(mark) {
     this.mark = mark;
+    spoken.mark = mark;
     this.changed(0);
   }
 
