@@ -10,9 +10,7 @@
    first two. A length with all bits set stands for a null pointer. Words and document lie in blocks of just their length, so
    that valgrind sees a read too far; a write too far is seen by what stands behind the room. Ends with 1 where something
    isn't as it should be, and says what.
-   malloc and realloc of the library lead here: the linker is given --wrap for both. */
-#define _GNU_SOURCE
-#include <malloc.h>
+   malloc, realloc and free of the library lead here: the linker is given --wrap for them. */
 #include <pthread.h>
 #include <stdint.h>
 #include <stdio.h>
@@ -38,15 +36,34 @@ struct answer {
 static struct case_ *cases;
 static size_t case_count;
 static unsigned long requests, refused;
+/* How many blocks the library holds. */
+static long held;
 
 void *__real_malloc(size_t size);
 void *__real_realloc(void *memory, size_t size);
+void __real_free(void *memory);
 
 static int is_refused(void) { return refused && ++requests == refused; }
 
-void *__wrap_malloc(size_t size) { return is_refused() ? NULL : __real_malloc(size); }
+static void *counted(void *memory)
+{
+    if (memory) __atomic_add_fetch(&held, 1, __ATOMIC_SEQ_CST);
+    return memory;
+}
 
-void *__wrap_realloc(void *memory, size_t size) { return is_refused() ? NULL : __real_realloc(memory, size); }
+void *__wrap_malloc(size_t size) { return is_refused() ? NULL : counted(__real_malloc(size)); }
+
+void *__wrap_realloc(void *memory, size_t size)
+{
+    if (is_refused()) return NULL;
+    return memory ? __real_realloc(memory, size) : counted(__real_realloc(NULL, size));
+}
+
+void __wrap_free(void *memory)
+{
+    if (memory) __atomic_sub_fetch(&held, 1, __ATOMIC_SEQ_CST);
+    __real_free(memory);
+}
 
 static void fail(const char *what, size_t index)
 {
@@ -75,7 +92,7 @@ static void read_cases(const char *name)
     uint64_t numbers[3];
     if (!file) fail("no file", 0);
     while (fread(numbers, sizeof numbers, 1, file) == 1) {
-        cases = realloc(cases, (case_count + 1) * sizeof *cases);
+        cases = __real_realloc(cases, (case_count + 1) * sizeof *cases);
         if (!cases) fail("no memory for the cases", case_count);
         struct case_ *c = &cases[case_count];
         c->words_length = numbers[0], c->document_length = numbers[1], c->room = numbers[2];
@@ -115,12 +132,14 @@ static int is_same(struct answer a, struct answer b)
 
 static void write_answers(void)
 {
+    /* No pointer at all, the count's neither. */
+    if (coop_run(NULL, 0, NULL, 0, NULL, 0, NULL) != 6) fail("null pointers alone have room", 0);
     for (size_t i = 0; i < case_count; i++) {
         struct answer answer = call(i, cases[i].room);
         uint64_t numbers[2] = {answer.status, answer.count};
         fwrite(numbers, sizeof numbers, 1, stdout);
         fwrite(answer.line, 1, answer.count, stdout);
-        free(answer.line);
+        __real_free(answer.line);
     }
 }
 
@@ -135,9 +154,9 @@ static void try_rooms(void)
             size_t count = room < whole.count ? room : whole.count;
             if (found.status != (room < whole.count ? 6 : whole.status)) fail("another status than its room asks for", i);
             if (found.count != count || (count && memcmp(found.line, whole.line, count))) fail("another line", i);
-            free(found.line);
+            __real_free(found.line);
         }
-        free(whole.line);
+        __real_free(whole.line);
     }
     printf("%lu calls with each room for %zu lines\n", calls, case_count);
 }
@@ -150,36 +169,33 @@ static void *run_all(void *first)
         size_t index = (i + (size_t)first) % case_count;
         struct answer found = call(index, cases[index].room);
         if (!is_same(found, wanted[index])) fail("another answer in a thread", index);
-        free(found.line);
+        __real_free(found.line);
     }
     return NULL;
 }
 
 static void try_threads(int count, size_t kilobytes)
 {
-    pthread_t *threads = malloc(count * sizeof *threads);
+    pthread_t *threads = __real_malloc(count * sizeof *threads);
     pthread_attr_t attributes;
-    wanted = malloc(case_count * sizeof *wanted);
+    wanted = __real_malloc(case_count * sizeof *wanted);
     if (!threads || !wanted) fail("no memory", 0);
     for (size_t i = 0; i < case_count; i++) wanted[i] = call(i, cases[i].room);
     if (pthread_attr_init(&attributes) || pthread_attr_setstacksize(&attributes, kilobytes << 10)) fail("no such stack", 0);
     for (int i = 0; i < count; i++)
         if (pthread_create(&threads[i], &attributes, run_all, (void *)(case_count * i / count))) fail("no thread", i);
     for (int i = 0; i < count; i++) pthread_join(threads[i], NULL);
+    if (held != 0) fail("a block isn't given back", 0);
     printf("%zu calls in each of %d threads of %zu KB of stack\n", case_count, count, kilobytes);
 }
 
 static void try_again(unsigned long times)
 {
-    size_t before = 0;
     for (unsigned long i = 0; i < times; i++) {
-        size_t index = i % case_count;
-        free(call(index, cases[index].room).line);
-        if (i == case_count - 1) before = mallinfo2().uordblks + mallinfo2().hblkhd;
+        __real_free(call(i % case_count, cases[i % case_count].room).line);
+        if (held != 0) fail("a block isn't given back", i % case_count);
     }
-    size_t after = mallinfo2().uordblks + mallinfo2().hblkhd;
-    if (times < 2 * case_count || after != before) fail("memory isn't as it was", case_count);
-    printf("%lu calls, and as much memory in use as before\n", times);
+    printf("%lu calls, each of which gave back all that it took\n", times);
 }
 
 static void try_refusing(void)
@@ -192,12 +208,13 @@ static void try_refusing(void)
             struct answer found = call(i, cases[i].room);
             int reached = requests >= number;
             refused = 0;
+            if (held != 0) fail("a block isn't given back where memory was refused", i);
             if (found.status == 7) wanting++;
             else if (!is_same(found, whole)) fail("another answer where memory was refused", i);
-            free(found.line);
+            __real_free(found.line);
             if (!reached) break;
         }
-        free(whole.line);
+        __real_free(whole.line);
     }
     if (wanting == 0) fail("no call wanted memory", 0);
     printf("%lu requests refused, of which %lu ended with 7 and no line\n", calls, wanting);

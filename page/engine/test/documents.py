@@ -90,6 +90,25 @@ def largest_games() -> Iterator[Game]:
     yield named_sparse(random.Random(4))
 
 
+def even_games() -> Iterator[Game]:
+    """Games in which much is equal: no worths, sums of what players have alone, worths by the number of members."""
+    for players in (1, 2, 3, 5, 8, 16):
+        masks = range(1, 2**players)
+        alone = [player % 3 for player in range(players)]
+        for worths in ([0 for _ in masks], [-1 for _ in masks], [bin(mask).count("1") for mask in masks],
+                       [bin(mask).count("1") ** 2 for mask in masks], [int(mask == masks[-1]) for mask in masks],
+                       [sum(alone[i] for i in range(players) if mask >> i & 1) for mask in masks],
+                       [int(mask & 3 == 3) for mask in masks], [int(bin(mask & 7).count("1") > 1) for mask in masks]):
+            for measure in ("plain", "per-head") if players < 9 else ("plain",):
+                yield {"class": "table", "excess": measure, "players": players, "worths": worths}
+    rising, falling = list(range(64)), list(range(64, 0, -1))
+    for numbers in (rising, falling, rising[:40] + falling[:24], falling[:40] + rising[:24], [7] * 64, [0, 9] * 32,
+                    [abs(place * 37 % 64 - 20) for place in range(64)]):
+        yield {"class": "airport", "costs": numbers}
+        for part in (1, 2, 3):
+            yield {"class": "bankruptcy", "claims": numbers, "estate": sum(numbers) * part // 4}
+
+
 def small_games(draw: random.Random, count: int) -> Iterator[Game]:
     """Games of a few players of each class, each with whole numbers, or with fractions in version 2."""
     for number in range(count):
@@ -150,7 +169,9 @@ def spoilt_texts(games: list[Game], spoil: Any, count: int) -> Iterator[Run]:
 # Numbers at the limits of a float, of 64 bits and of a game; texts that are fractions or not; names with escapes.
 NUMBERS = """0 -0 1.0 1e0 1E+2 -1 1099511627775 1099511627776 9223372036854775807 9223372036854775808
 18446744073709551616 1.7976931348623157e308 1.7976931348623159e308 1e309 -1e400 1e-400 2.2250738585072011e-308
-4.9e-324 123456789012345678901234567890 0.1 00 01 +1 .5 1. 1e NaN Infinity "1/2" "2/4" "1/65536" "1/65537" "-1/3"
+4.9e-324 2.4703282292062328e-324 1.7976931348623158079e308 9007199254740993e10 5e-400 1e22 1e23
+9007199254740992.999999999999999999999999999999999999999999 1234567890123456789012345678901234567890e269
+123456789012345678901234567890 0.1 00 01 +1 .5 1. 1e NaN Infinity "1/2" "2/4" "1/65536" "1/65537" "-1/3"
 "1/0" "1/-2" "" " 1" "1 " "0/1" "-0"
 "170141183460469231731687303715884105727/2" "340282366920938463463374607431768211456/3" true null [] {}""".split()
 NAMES = ['"a"', '"\\u0061"', '"\\ud83d\\ude00"', '"\\ud800"', '"\\n\\t\\"\\\\\\/"', '"\u2028"', '"😀"', '""',
@@ -172,6 +193,13 @@ def odd_texts() -> Iterator[Run]:
         for name in NAMES:
             game = f'{{"class":"airport","costs":[3,4],"names":["a{command}",{name}]}}'
             yield Run([command], f'{{"game":{game}}}'.encode())
+    draw = random.Random(6)
+    for count in (5, 11, 12, 13, 60, 700):
+        keys = [f'"{number:04}":{number}' for number in range(count)] * 2
+        for many in (",".join(keys), ",".join(keys[::-1]), ",".join(draw.sample(keys, len(keys)))):
+            game = '"game":{"class":"airport","costs":[3,4]}'
+            yield Run(["core"], f'{{{many},{game}}}'.encode())
+            yield Run(["core"], f'{{"game":{{{many}}},{game}}}'.encode())
     for depth in (126, 127, 128, 100000):
         yield Run(["core"], b"[" * depth + b"]" * depth)
         yield Run(["core"], b'{"game":' * depth + b"1" + b"}" * depth)
@@ -217,7 +245,7 @@ def runs(program: str) -> Iterator[Run]:
     yield from (Run(["check"], text) for text in from_checks.texts(program))
     known = [dict(game, excess=measure) for game in from_checks.GAMES for measure in ("plain", "per-head")]
     games = [*known, *map(from_checks.halved, known), *small_games(random.Random(53), 90)]
-    for game in [*games, *(game for game, _ in from_checks.LIMITS), *largest_games()]:
+    for game in [*games, *(game for game, _ in from_checks.LIMITS), *even_games(), *largest_games()]:
         yield from on_game(program, game)
     yield from spoilt_texts(games, from_checks.change_anything, 500)
     for source in (odd_texts(), with_faults(), at_lengths(), words_alone()):

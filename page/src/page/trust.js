@@ -2,7 +2,7 @@
 import { el } from "./dom.js";
 
 // What tools/try-page compares, at least.
-const COMPARED = "3,000";
+const COMPARED = "7,191";
 
 export function meaning(answer = "nucleolus") {
   return el("details", { class: "meanings" },
