@@ -4,6 +4,7 @@ from __future__ import annotations
 import csv
 import re
 from fractions import Fraction
+from itertools import islice
 from typing import Any, Iterator, NamedTuple, Optional, Sequence
 
 from . import filling, games
@@ -140,10 +141,11 @@ def vectors(
     names: Optional[Sequence[str]] = None,
     digits: Optional[int] = None,
     per_head: bool = False,
+    has_head: bool = False,
 ) -> Iterator[Game]:
-    """A game from each row of numbers, in an order of `vectors.ORDERS`."""
+    """A game from each row of numbers, in an order of `vectors.ORDERS`, but for a first row of headings."""
     found = False
-    for row in all_rows(text):
+    for row in islice(all_rows(text), int(has_head), None):
         found = True
         amounts = [amount_of(row, place, digits) for place in range(len(row.cells))]
         try:

@@ -54,6 +54,8 @@ class Readers(unittest.TestCase):
         games = list(vectors("0,0,0,6,2,2,12\n1,2,3,4,5,6,7\n", "size", names=["a", "b", "c"]))
         self.assertEqual([game.tree["worths"] for game in games], [[0, 0, 6, 0, 2, 2, 12], [1, 2, 4, 3, 5, 6, 7]])
         self.assertEqual(games[0].names, ["a", "b", "c"])
+        with_head = vectors('"V1","V2","V3"\n1,2,4\n', "size", has_head=True)
+        self.assertEqual([game.tree["worths"] for game in with_head], [[1, 2, 4]])
         self.assertEqual(next(vectors("0.25,1,1", "mask", digits=1, kind="cost-table")).tree["worths"], ["1/5", 1, 1])
 
     def test_claims_and_landings(self) -> None:
