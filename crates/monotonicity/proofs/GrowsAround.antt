@@ -7,7 +7,7 @@ use Rattle.monotonicity.specs.Additions.{AddsNoLessThen}
 use Rattle.monotonicity.specs.CoreRules.{GrowsAround, WhoIsInAllThatGrowsGetsNoLess}
 use Rattle.monotonicity.proofs.WhoAddsMoreGetsNoLess.{adds_more_gets_no_less}
 
-adds : (g h : Game) (i : ℕ) → GrowsAround g h i → i < g.players → AddsNoLessThen g h i
+pub adds : (g h : Game) (i : ℕ) → GrowsAround g h i → i < g.players → AddsNoLessThen g h i
 adds g h i grows hi = record {
   players = grows.players;
   adds = λ s lt out. omega (

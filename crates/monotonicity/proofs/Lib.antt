@@ -10,5 +10,10 @@ mod EachWhoGrows
 mod LevelledSums
 mod Terms
 mod MonotonicRulesAreShapley
+mod ListedGames
+mod SomebodyLoses
 mod NoCoreRule
 mod GrowsAround
+mod SmallGrowth
+mod TwoRules
+mod BirdTimes

@@ -1,7 +1,8 @@
 -- A rule that is efficient, symmetric and strongly monotonic gives the Shapley value (Young 1985): by the number of
 -- terms of the game. Whom a term lacks gets what it gets without that term; those that all terms hold are alike.
-use Rattle.std.proofs.Common.{◌≡◌, ℕ, zero, suc, ◌+◌, ◌^◌, ◌<◌, ◌≤◌, true, false, List, length}
-use Rattle.std.proofs.Common.{ℤ, pos, ◌-ℤ◌, ◌*ℤ◌, ◌<ℤ◌, refl, sym, ap, subst, ◌∙◌, inl, inr, arith}
+use Rattle.std.proofs.Common.{◌≡◌, ℕ, zero, suc, ◌+◌, ◌^◌, ◌<◌, ◌≤◌, true, false}
+use Rattle.std.proofs.Common.{List, length, ℤ, pos, ◌-ℤ◌, ◌*ℤ◌, ◌<ℤ◌, refl, sym, ap}
+use Rattle.std.proofs.Common.{subst, ◌∙◌, inl, inr, arith}
 use lib.IntN.{*ℤ_comm}
 use Rattle.std.specs.List.{AllByRecursion}
 use Rattle.definitions.proofs.Cases.{same_or_other}

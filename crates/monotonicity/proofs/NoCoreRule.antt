@@ -1,180 +1,155 @@
--- Two games of five players, each with just one core point. In the second, two coalitions are worth more, both with
--- player 4, who gets 6 in place of 7 (Young 1985).
-use Rattle.std.proofs.Common.{◌≡◌, ℕ, ◌^◌, ◌<◌, ◌||◌, not, nat_eq, if◌then◌else◌, List, [], ◌∷◌, ℤ}
-use Rattle.std.proofs.Common.{pos, ◌+ℤ◌, ◌*ℤ◌, ◌<ℤ◌, ◌≤ℤ◌, int_le, refl, sym, ◌∙◌, arith, rules}
-use Rattle.std.proofs.lemmas.Int.{by_lt_z, ints}
-use Rattle.std.specs.Ordering.{int_eq}
+-- Games of four players or more. 1 and 2 each are worth 1 with 3 and with 4, and all are worth 2. Where 1, 2 and 3 come
+-- to be worth 2, the only core point gives player 3 nothing, and where 1, 3 and 4 do, player 1 nothing. So by a
+-- monotonic rule both would get nothing before, but they are worth 1 together (Housman and Clark 1998).
+use Rattle.std.proofs.Common.{◌≡◌, ℕ, ◌<◌, ◌≤◌, List, [], ◌∷◌, ◌++◌, ℤ, pos}
+use Rattle.std.proofs.Common.{◌+ℤ◌, ◌*ℤ◌, ◌≤ℤ◌, refl, sym, arith, rules}
+use Rattle.std.proofs.lemmas.Int.{ints}
 use lib.IntN.{*ℤ_comm}
-use Rattle.definitions.proofs.Cases.{or_other}
-use Rattle.definitions.proofs.Ring.{linear, mul-leℤ, mul-positiveℤ, mul_assocℤ, mul_left_commℤ}
-use Rattle.definitions.proofs.Splits.{passes_below-at}
-use Rattle.definitions.proofs.SumsOver.{amount-at}
-use Rattle.theorems.proofs.Examples.{from_int_eq, from_either}
-use Rattle.definitions.specs.Coalitions.{has_player, sum_over}
-use Rattle.definitions.specs.Games.{Game, Allocation, share, amount, InCore}
-use Rattle.monotonicity.specs.CoreRules.{GrowsAround, SomebodyLosesInTheCore, NoCoreRuleIsMonotonic}
+use Rattle.definitions.proofs.Ring.{linear, mul-leℤ, mul-le_cancelℤ, mul-zeroℤ, mul-oneℤ}
+use Rattle.definitions.specs.Coalitions.{grand_coalition, sum_over}
+use Rattle.definitions.specs.Games.{Game, Allocation, share, InCore}
+use Rattle.monotonicity.specs.Growth.{GroupGrows}
+use Rattle.monotonicity.specs.CoreRules.{PicksCorePoints, IsCoalitionMonotonic, NoCoreRuleIsMonotonic}
+use Rattle.monotonicity.proofs.ListedGames.{with_all, AreFirst, listed-skip, listed-front, with_all-game, listed}
+use Rattle.monotonicity.proofs.ListedGames.{all-high, reaches, first_at_most, with_nothing, with_all-core}
 
 -- ---- the games
 
--- the number of a coalition in a list, and 0 where it isn't there
-abbrev listed : List (ℕ × ℤ) → ℕ → ℤ
-listed [] s = pos 0
-listed (p ∷ ps) s = if nat_eq p.0 s then p.1 else listed ps s
+abbrev pairs : List (ℕ × ℤ)
+pairs = (5, pos 1) ∷ ((6, pos 1) ∷ ((9, pos 1) ∷ ((10, pos 1) ∷ [])))
 
--- 1, 2 and 3 are worth 3, 1, 3 and 4 are worth 9, 3 and 5 are worth 3, and 2, 4 and 5 are worth 9; the two numbers are
--- the worths of all but 3, and of all
-abbrev five : ℤ → ℤ → Game
-five but_one all = record {
-  players = 5;
-  worth = listed
-      ((7, pos 3)
-      ∷ ((13, pos 9) ∷ ((20, pos 3) ∷ ((26, pos 9) ∷ ((27, but_one) ∷ ((31, all) ∷ []))))));
-}
+-- three of the four, who come to be worth 2
+abbrev with_three : ℕ → List (ℕ × ℤ)
+with_three t = pairs ++ (t, pos 2) ∷ []
 
-abbrev smaller : Game
-smaller = five (pos 9) (pos 11)
+abbrev before : ℕ → Game
+before n = with_all n pairs (pos 2)
 
-abbrev greater : Game
-greater = five (pos 12) (pos 12)
+abbrev after : ℕ → ℕ → Game
+after n t = with_all n (with_three t) (pos 2)
 
-grows : GrowsAround smaller greater 3
-grows = record {
-  players = refl;
-  around = λ s lt inside. from_either _ _ _
-      (passes_below-at 32 (λ s. not (has_player s 3) || int_le (smaller.worth s) (greater.worth s)) refl s lt) inside;
-  apart = λ s lt outside. from_int_eq _ _
-      (or_other _ _ outside
-      (passes_below-at 32 (λ s. has_player s 3 || int_eq (greater.worth s) (smaller.worth s)) refl s lt));
-}
+pairs_first : AreFirst 4 pairs
+pairs_first = search rules
 
--- ---- their core points
+abbrev left_pair : List ℤ
+left_pair = pos 1 ∷ (pos 1 ∷ (pos 0 ∷ (pos 0 ∷ [])))
 
-abbrev first_point : Allocation
-first_point = record { shares = pos 0 ∷ (pos 1 ∷ (pos 2 ∷ (pos 7 ∷ (pos 1 ∷ [])))); den = pos 1 }
+abbrev right_pair : List ℤ
+right_pair = pos 0 ∷ (pos 0 ∷ (pos 1 ∷ (pos 1 ∷ [])))
 
-abbrev second_point : Allocation
-second_point = record { shares = pos 3 ∷ (pos 0 ∷ (pos 0 ∷ (pos 6 ∷ (pos 3 ∷ [])))); den = pos 1 }
+twice : (p : ℤ) → p *ℤ pos 2 ≡ p +ℤ p
+twice p = omega (arith, ints)
 
-first_core : InCore smaller first_point
-first_core = (
-  (refl, search rules),
-  refl,
-  λ s lt blocks.
-      let e =
-      passes_below-at 32 (λ s. int_le (first_point.den *ℤ smaller.worth s) (amount first_point s)) refl s lt in
-      omega (arith, linear, e, blocks),
-)
-
-second_core : InCore greater second_point
-second_core = (
-  (refl, search rules),
-  refl,
-  λ s lt blocks.
-      let e =
-      passes_below-at 32 (λ s. int_le (second_point.den *ℤ greater.worth s) (amount second_point s)) refl s lt in
-      omega (arith, linear, e, blocks),
-)
-
--- ---- there are no others
-
-reaches : (g : Game) (x : Allocation) (s : ℕ) → InCore g x → s < 2 ^ g.players
-    → (x.den *ℤ g.worth s) ≤ℤ sum_over g.players (share x) s
-reaches g x s h lt =
-    by_lt_z (amount x s) (x.den *ℤ g.worth s)
-    (λ blocks. absurd (h.2 s lt blocks))
-    (λ le. omega (arith, linear, le, amount-at g x s h.0))
-
-three_times : (p : ℤ) → p *ℤ pos 3 ≡ p +ℤ p +ℤ p
-three_times p = omega (arith, ints)
-
-six_times : (p : ℤ) → p *ℤ pos 6 ≡ p *ℤ pos 3 +ℤ p *ℤ pos 3
-six_times p = omega (arith, ints)
-
-seven_times : (p : ℤ) → p *ℤ pos 7 ≡ p *ℤ pos 6 +ℤ p
-seven_times p = omega (arith, ints)
-
-nine_times : (p : ℤ) → p *ℤ pos 9 ≡ p *ℤ pos 6 +ℤ p *ℤ pos 3
-nine_times p = omega (arith, ints)
-
-eleven_times : (p : ℤ) → p *ℤ pos 11 ≡ p *ℤ pos 9 +ℤ p +ℤ p
-eleven_times p = omega (arith, ints)
-
-twelve_times : (p : ℤ) → p *ℤ pos 12 ≡ p *ℤ pos 9 +ℤ p *ℤ pos 3
-twelve_times p = omega (arith, ints)
-
--- player 4 gets 7 at least
-seven_before : (x : Allocation) → InCore smaller x → (x.den *ℤ pos 7) ≤ℤ share x 3
-seven_before x h =
-    omega (
+-- a share a over p that isn't more than one b over q of nothing at most
+no_more : (a p b q : ℤ) → pos 1 ≤ℤ p → pos 1 ≤ℤ q → b ≤ℤ pos 0 → (a *ℤ q) ≤ℤ (b *ℤ p) → a ≤ℤ pos 0
+no_more a p b q hp hq low le =
+    mul-le_cancelℤ q a (pos 0) (omega (arith, linear, hq))
+    (omega (
       arith,
       linear,
-      reaches smaller x 7 h (omega arith),
-      reaches smaller x 13 h (omega arith),
-      reaches smaller x 20 h (omega arith),
-      reaches smaller x 26 h (omega arith),
-      reaches smaller x 27 h (omega arith),
-      sym (amount-at smaller x 31 h.0) ∙ h.1,
-      three_times x.den,
-      six_times x.den,
-      seven_times x.den,
-      nine_times x.den,
-      eleven_times x.den,
-    )
+      le,
+      mul-leℤ p b (pos 0) (omega (arith, linear, hp)) low,
+      mul-zeroℤ p,
+      mul-zeroℤ q,
+      *ℤ_comm a q,
+      *ℤ_comm b p,
+    ))
 
--- and then 6 at most
-six_after : (y : Allocation) → InCore greater y → share y 3 ≤ℤ (y.den *ℤ pos 6)
-six_after y h =
-    omega (
-      arith,
-      linear,
-      reaches greater y 7 h (omega arith),
-      reaches greater y 13 h (omega arith),
-      reaches greater y 20 h (omega arith),
-      reaches greater y 26 h (omega arith),
-      reaches greater y 27 h (omega arith),
-      sym (amount-at greater y 31 h.0) ∙ h.1,
-      three_times y.den,
-      six_times y.den,
-      nine_times y.den,
-      twelve_times y.den,
-    )
+module _ (n : ℕ) (many : 4 ≤ n) where
+  three_grow : (t : ℕ) → (before n).worth t ≡ pos 0 → (after n t).worth t ≡ pos 2
+      → GroupGrows (pos 2) t (before n) (after n t)
+  three_grow t none two = record {
+    players = refl;
+    more = omega (arith, linear, none, two);
+    others = λ s lt ne.
+        listed-front pairs ((t, pos 2) ∷ ((grand_coalition n, pos 2) ∷ [])) ((grand_coalition n, pos 2) ∷ []) s
+        (listed-skip (t, pos 2) ((grand_coalition n, pos 2) ∷ []) s (λ e. ne (sym e)));
+  }
 
-loses : (x y : Allocation) → InCore smaller x → InCore greater y → (share y 3 *ℤ x.den) <ℤ (share x 3 *ℤ y.den)
-loses x y hx hy =
-    let p = x.den in
-    let q = y.den in
-    let one =
-    mul-leℤ q (p *ℤ pos 7) (share x 3) (omega (arith, linear, hy.0.1)) (seven_before x hx) in
-    let two =
-    mul-leℤ p (share y 3) (q *ℤ pos 6) (omega (arith, linear, hx.0.1)) (six_after y hy) in
-    let some = mul-positiveℤ p q (omega (arith, linear, hx.0.1)) (omega (arith, linear, hy.0.1)) in
-    omega (
-      arith,
-      linear,
-      one,
-      two,
-      some,
-      *ℤ_comm (share x 3) q,
-      *ℤ_comm (share y 3) p,
-      sixfold p q,
-      sevenfold p q,
-      seven_times (p *ℤ q),
-    )
-  where
-    sixfold : (p q : ℤ) → p *ℤ (q *ℤ pos 6) ≡ (p *ℤ q) *ℤ pos 6
-    sixfold p q = sym (mul_assocℤ p q (pos 6))
+  none_worth : (t : ℕ) → t < 15 → listed ((grand_coalition n, pos 2) ∷ []) t ≡ pos 0
+  none_worth t lt =
+      let high = all-high 4 n (omega arith) many in
+      listed-skip (grand_coalition n, pos 2) [] t (λ e. omega (arith, high, lt, e))
 
-    sevenfold : (p q : ℤ) → q *ℤ (p *ℤ pos 7) ≡ (p *ℤ q) *ℤ pos 7
-    sevenfold p q = mul_left_commℤ q p (pos 7) ∙ sym (mul_assocℤ p q (pos 7))
+  -- ---- their core points
 
-pub somebody_loses : SomebodyLosesInTheCore
-somebody_loses =
-    (smaller, greater, 3, (grows, omega arith, (first_point, first_core), (second_point, second_core), loses))
+  before_core : InCore (before n) (with_nothing n left_pair)
+  before_core =
+      with_all-core 4 n pairs (pos 2) left_pair (omega arith) many pairs_first refl (search rules) refl (search rules)
+
+  first_core : InCore (after n 7) (with_nothing n left_pair)
+  first_core =
+      with_all-core 4 n (with_three 7) (pos 2) left_pair (omega arith) many (search rules) refl (search rules) refl
+      (search rules)
+
+  second_core : InCore (after n 13) (with_nothing n right_pair)
+  second_core =
+      with_all-core 4 n (with_three 13) (pos 2) right_pair (omega arith) many (search rules) refl (search rules) refl
+      (search rules)
+
+  -- where 1, 2 and 3 are worth 2, player 3 gets nothing
+  third_nothing : (x : Allocation) → InCore (after n 7) x → share x 2 ≤ℤ pos 0
+  third_nothing x h =
+      let at : (s : ℕ) → s < 16 → (x.den *ℤ (after n 7).worth s) ≤ℤ sum_over 4 (share x) s =
+      λ s lt. reaches 4 n (omega arith) many (with_three 7) (pos 2) (search rules) x s h lt in
+      omega (
+        arith,
+        linear,
+        at 7 (omega arith),
+        at 9 (omega arith),
+        at 10 (omega arith),
+        first_at_most 4 n (omega arith) many (with_three 7) (pos 2) (search rules) x h,
+        mul-oneℤ x.den,
+        twice x.den,
+      )
+
+  -- and where 1, 3 and 4 are, player 1 does
+  first_nothing : (x : Allocation) → InCore (after n 13) x → share x 0 ≤ℤ pos 0
+  first_nothing x h =
+      let at : (s : ℕ) → s < 16 → (x.den *ℤ (after n 13).worth s) ≤ℤ sum_over 4 (share x) s =
+      λ s lt. reaches 4 n (omega arith) many (with_three 13) (pos 2) (search rules) x s h lt in
+      omega (
+        arith,
+        linear,
+        at 13 (omega arith),
+        at 6 (omega arith),
+        at 10 (omega arith),
+        first_at_most 4 n (omega arith) many (with_three 13) (pos 2) (search rules) x h,
+        mul-oneℤ x.den,
+        twice x.den,
+      )
+
+  -- together they get 1 at least
+  pair_gets_one : (x : Allocation) → InCore (before n) x → x.den ≤ℤ (share x 0 +ℤ share x 2)
+  pair_gets_one x h =
+      let at = reaches 4 n (omega arith) many pairs (pos 2) pairs_first x 5 h (omega arith) in
+      omega (arith, linear, at, mul-oneℤ x.den)
+
+  none_fits : (rule : Game → Allocation) → PicksCorePoints n rule → IsCoalitionMonotonic n rule → ⊥
+  none_fits rule picks monotonic =
+      let x = rule (before n) in
+      let y = rule (after n 7) in
+      let z = rule (after n 13) in
+      let game = with_all-game 4 n (omega arith) many pairs (pos 2) pairs_first in
+      let hx = picks (before n) (with_nothing n left_pair) game before_core in
+      let hy =
+      picks (after n 7) (with_nothing n left_pair)
+      (with_all-game 4 n (omega arith) many (with_three 7) (pos 2) (search rules)) first_core in
+      let hz =
+      picks (after n 13) (with_nothing n right_pair)
+      (with_all-game 4 n (omega arith) many (with_three 13) (pos 2) (search rules)) second_core in
+      let high = all-high 4 n (omega arith) many in
+      let third =
+      monotonic (pos 2) 7 (before n) (after n 7) (with_nothing n left_pair) (with_nothing n left_pair) 2 game
+      before_core first_core (search rules) (omega (arith, high)) (three_grow 7 (none_worth 7 (omega arith)) refl)
+      (omega (arith, many)) refl in
+      let first =
+      monotonic (pos 2) 13 (before n) (after n 13) (with_nothing n left_pair) (with_nothing n right_pair) 0 game
+      before_core second_core (search rules) (omega (arith, high)) (three_grow 13 (none_worth 13 (omega arith)) refl)
+      (omega (arith, many)) refl in
+      let none_three = no_more (share x 2) x.den (share y 2) y.den hx.0.1 hy.0.1 (third_nothing y hy) third in
+      let none_one = no_more (share x 0) x.den (share z 0) z.den hx.0.1 hz.0.1 (first_nothing z hz) first in
+      omega (arith, linear, pair_gets_one x hx, none_three, none_one, hx.0.1)
 
 pub no_core_rule : NoCoreRuleIsMonotonic
-no_core_rule rule picks monotonic =
-    let less =
-    loses (rule smaller) (rule greater) (picks smaller first_point first_core)
-    (picks greater second_point second_core) in
-    let le = monotonic smaller greater 3 grows (omega arith) in
-    omega (arith, linear, less, le)
+no_core_rule n rule many picks monotonic = none_fits n many rule picks monotonic

@@ -1,6 +1,7 @@
 -- Two convex games of four players, and the certificates of their nucleoli.
-use Rattle.std.proofs.Common.{◌≡◌, ℕ, ◌<◌, Bool, true, false, ◌||◌, not, nat_eq, [], ◌∷◌, ℤ}
-use Rattle.std.proofs.Common.{pos, negsuc, ◌*ℤ◌, ◌≤ℤ◌, int_le, refl, sym, ◌∙◌, inl, arith, rules}
+use Rattle.std.proofs.Common.{◌≡◌, ℕ, ◌<◌, Bool, true, false, ◌||◌, not, nat_eq, []}
+use Rattle.std.proofs.Common.{◌∷◌, ℤ, pos, negsuc, ◌*ℤ◌, ◌≤ℤ◌, int_le, refl, sym, ◌∙◌}
+use Rattle.std.proofs.Common.{inl, arith, rules}
 use Rattle.std.proofs.lemmas.Bool.{false≢true}
 use Rattle.std.proofs.lemmas.Int.{ints}
 use Rattle.std.specs.Ordering.{int_eq}
@@ -26,7 +27,7 @@ three = two_contracts (pos 3)
 abbrev four : Game
 four = two_contracts (pos 4)
 
-grows : WholeGrows (pos 1) three four
+pub grows : WholeGrows (pos 1) three four
 grows = record {
   players = refl;
   more = refl;

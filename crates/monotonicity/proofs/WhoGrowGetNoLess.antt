@@ -1,7 +1,8 @@
 -- Where coalition t alone is worth more, only its excess rises, at all shares by the same. If its members got less at
 -- the new nucleolus than at the old one, its excess there would be the greater, so the old one would still come first
 -- (Zhou 1991).
-use Rattle.std.proofs.Common.{◌≡◌, ◌≢◌, ℕ, ◌-◌, ◌^◌, ◌<◌, List, ℤ, pos, ◌+ℤ◌, ◌-ℤ◌, ◌*ℤ◌, ◌<ℤ◌}
+use Rattle.std.proofs.Common.{◌≡◌, ◌≢◌, ℕ, ◌-◌, ◌^◌, ◌<◌, List}
+use Rattle.std.proofs.Common.{ℤ, pos, ◌+ℤ◌, ◌-ℤ◌, ◌*ℤ◌, ◌<ℤ◌}
 use Rattle.std.proofs.Common.{◌≤ℤ◌, sym, ap, subst, ◌∙◌, inl, inr, arith}
 use Rattle.std.proofs.lemmas.Int.{by_lt_z}
 use lib.IntN.{*ℤ_comm}

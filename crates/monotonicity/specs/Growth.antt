@@ -12,7 +12,8 @@
 --   WhoGetsLessOfMore            there player 1 gets less of more
 --   WhoGrowGetNoLess             the members of a coalition that grows together get no less, by the nucleolus
 --   EachWhoGrowsGetsNoLess       and each of them gets no less, and who isn't in it no more, by the Shapley value
-use Rattle.std.specs.Prelude.{◌≡◌, ◌≢◌, ℕ, ◌^◌, ◌<◌, ◌≤◌, true, false, [], ◌∷◌, ℤ, pos, ◌+ℤ◌, ◌-ℤ◌, ◌*ℤ◌, ◌<ℤ◌, ◌≤ℤ◌}
+use Rattle.std.specs.Prelude.{◌≡◌, ◌≢◌, ℕ, ◌^◌, ◌<◌, ◌≤◌, true, false, []}
+use Rattle.std.specs.Prelude.{◌∷◌, ℤ, pos, ◌+ℤ◌, ◌-ℤ◌, ◌*ℤ◌, ◌<ℤ◌, ◌≤ℤ◌}
 use Rattle.definitions.specs.Classes.{table_worth}
 use Rattle.definitions.specs.Coalitions.{has_player, grand_coalition}
 use Rattle.definitions.specs.Convexity.{IsConvex}

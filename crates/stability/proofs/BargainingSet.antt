@@ -17,10 +17,11 @@ use Rattle.definitions.specs.Sums.{sum_below}
 use Rattle.definitions.specs.Coalitions.{has_player, singleton}
 use Rattle.definitions.specs.Games.{Game, Allocation, share, excess, IsAllocation, InCore}
 use Rattle.definitions.specs.Prekernel.{IsSurplus}
-use Rattle.stability.specs.BargainingSet.{IsObjection, IsCounter}
-use Rattle.stability.specs.BargainingSet.{KernelIsInBargainingSet, NucleolusIsInBargainingSet}
+use Rattle.definitions.specs.declared.Family.TheVariants.{Imputations}
+use Rattle.stability.specs.BargainingSet.{IsObjection, IsCounter, KernelIsInBargainingSet, NucleolusIsInBargainingSet}
 use Rattle.stability.specs.BargainingSet.{BargainingSetIsntEmpty, CoreIsInBargainingSet}
-use Rattle.stability.proofs.CoreKernel.{core_low, core_imputation}
+use Rattle.laws.proofs.NucleolusIsInCore.{core_family}
+use Rattle.stability.proofs.CoreKernel.{core_low}
 use Rattle.stability.proofs.Kernel.{nucleolus_in_kernel, kernel_isnt_empty}
 use Rattle.stability.proofs.Counters.{answer, counters, rise, rise-within, rise-all}
 
@@ -113,6 +114,6 @@ no_objection g x h k l p y hk o =
 
 pub core_in_bargaining_set : CoreIsInBargainingSet
 core_in_bargaining_set g x h = (
-  (core_imputation g x h, λ k l p y hk hl ne o. absurd (no_objection g x h k l p y hk o)),
+  (core_family Imputations g x h, λ k l p y hk hl ne o. absurd (no_objection g x h k l p y hk o)),
   no_objection g x h,
 )

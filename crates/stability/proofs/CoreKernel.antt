@@ -1,6 +1,7 @@
 -- At a core point no surplus is above 0, and who gets just its worth alone has a surplus of 0 at least: so nobody is
 -- outweighed.
-use Rattle.std.proofs.Common.{◌≡◌, ◌≢◌, ℕ, ◌^◌, ◌<◌, pos, ◌-ℤ◌, ◌*ℤ◌, ◌≤ℤ◌, sym, arith}
+use Rattle.std.proofs.Common.{◌≡◌, ◌≢◌, ℕ, ◌^◌, ◌<◌, pos}
+use Rattle.std.proofs.Common.{◌-ℤ◌, ◌*ℤ◌, ◌≤ℤ◌, sym, arith}
 use Rattle.std.proofs.lemmas.Int.{by_lt_z}
 use Rattle.definitions.proofs.Masks.{singleton-within}
 use Rattle.definitions.proofs.Members.{sum_over-singleton}
@@ -8,8 +9,9 @@ use Rattle.definitions.proofs.Ring.{linear}
 use Rattle.definitions.proofs.SumsOver.{amount-at}
 use Rattle.theorems.proofs.Transfers.{holds_without-singleton}
 use Rattle.definitions.specs.Coalitions.{singleton}
-use Rattle.definitions.specs.Games.{Game, Allocation, share, amount, excess, IsAllocation, InFamily, InCore}
+use Rattle.definitions.specs.Games.{Game, Allocation, share, amount, excess, IsAllocation, InCore}
 use Rattle.definitions.specs.declared.Family.TheVariants.{Imputations}
+use Rattle.laws.proofs.NucleolusIsInCore.{core_family}
 use Rattle.stability.specs.Kernel.{Outweighs, InKernel, AtACorePoint}
 use Rattle.stability.proofs.Kernel.{kernel_from, prekernel_from}
 
@@ -25,18 +27,6 @@ core_low g x s h lt =
     (λ blocks. absurd (h.2 s lt blocks))
     (λ le. omega (arith, linear, le))
 
-pub core_imputation : (g : Game) (x : Allocation) → InCore g x → InFamily Imputations g x
-core_imputation g x h = (
-  h.0,
-  h.1,
-  λ i lt. omega (
-    arith,
-    linear,
-    core_low g x (singleton i) h (singleton-within g.players i lt),
-    excess-alone g x i h.0 lt,
-  ),
-)
-
 none_outweighed : (g : Game) (x : Allocation) → InCore g x → InKernel g x → (i j : ℕ) → i < g.players
     → j < g.players → i ≢ j → ¬ Outweighs g x i j
 none_outweighed g x core h i j hi hj ne outweighs =
@@ -49,5 +39,5 @@ none_outweighed g x core h i j hi hj ne outweighs =
 pub at_a_core_point : AtACorePoint
 at_a_core_point g x core = (
   λ h. prekernel_from g x h.0 (none_outweighed g x core h),
-  λ h. kernel_from g x (core_imputation g x core).2 h,
+  λ h. kernel_from g x (core_family Imputations g x core).2 h,
 )

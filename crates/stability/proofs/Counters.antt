@@ -1,7 +1,8 @@
 -- A counter objection: each member of q who is in p gets what y gives it, each other what x gives it, and player l what
 -- is left of the worth of q. Where the excess of q is at least that of p, that is at least nothing (Davis and Maschler
 -- 1967).
-use Rattle.std.proofs.Common.{◌≡◌, ℕ, ◌^◌, ◌<◌, Bool, true, false, not, cond, map, ℤ, pos}
+use Rattle.std.proofs.Common.{◌≡◌, ℕ, ◌^◌, ◌<◌, Bool, true}
+use Rattle.std.proofs.Common.{false, not, cond, map, ℤ, pos}
 use Rattle.std.proofs.Common.{◌+ℤ◌, ◌-ℤ◌, ◌*ℤ◌, ◌≤ℤ◌, refl, sym, ap, ◌∙◌, arith}
 use Rattle.std.specs.List.{range_with_len}
 use Rattle.std.proofs.lemmas.List.FromFn.{get_or-map-range_with_len, length-map-range_with_len}

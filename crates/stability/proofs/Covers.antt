@@ -3,7 +3,8 @@
 --
 --   lies_in n r s   all players of r are in s
 --   cover n e s     the greatest number e r of the coalitions r that lie in s
-use Rattle.std.proofs.Common.{◌≡◌, ℕ, ◌+◌, ◌^◌, ◌<◌, Bool, true, false, ◌&&◌, ◌||◌, not, ℤ, ◌+ℤ◌, ◌≤ℤ◌}
+use Rattle.std.proofs.Common.{◌≡◌, ℕ, ◌+◌, ◌^◌, ◌<◌, Bool, true}
+use Rattle.std.proofs.Common.{false, ◌&&◌, ◌||◌, not, ℤ, ◌+ℤ◌, ◌≤ℤ◌}
 use Rattle.std.proofs.Common.{refl, sym, ap, ◌∙◌, inl, inr, arith}
 use Rattle.std.proofs.lemmas.Bool.{false≢true}
 use Rattle.std.proofs.Math.Pow.{pow_pos}
@@ -18,7 +19,7 @@ use Rattle.definitions.specs.Convexity.{IsConvex}
 use Rattle.definitions.specs.Games.{Game}
 use Rattle.theorems.proofs.Transfers.{some_greatest}
 use Rattle.laws.proofs.RenumberedCoalitions.{coalition_where-within, coalition_where-has}
-use Rattle.stability.proofs.Supermodular.{union, common}
+use Rattle.stability.proofs.Unions.{union, common}
 
 abbrev pub lies_in : ℕ → ℕ → ℕ → Bool
 lies_in n r s = not (some_below n (λ i. has_player r i && not (has_player s i)))

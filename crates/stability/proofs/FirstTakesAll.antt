@@ -1,6 +1,7 @@
 -- Where the first of three takes all, the two others are worth 1 and get nothing: the second outweighs the first, and
 -- objects with half of it, which the first can't counter.
-use Rattle.std.proofs.Common.{◌≡◌, ◌⊎◌, ℕ, ◌<◌, Bool, true, false, ◌||◌, not, nat_eq, [], ◌∷◌, ℤ, pos, ◌+ℤ◌, ◌*ℤ◌}
+use Rattle.std.proofs.Common.{◌≡◌, ◌⊎◌, ℕ, ◌<◌, Bool, true, false}
+use Rattle.std.proofs.Common.{◌||◌, not, nat_eq, ℤ, pos, ◌+ℤ◌, ◌*ℤ◌}
 use Rattle.std.proofs.Common.{◌≤ℤ◌, int_le, refl, sym, ap, ◌∙◌, inl, inr, arith, rules}
 use Rattle.std.proofs.lemmas.Bool.{false≢true}
 use Rattle.std.proofs.lemmas.Int.{ints}
@@ -19,7 +20,7 @@ use Rattle.laws.specs.SmallNucleoli.{thirds}
 use Rattle.stability.specs.BargainingSet.{IsObjection, IsCounter, InBargainingSet}
 use Rattle.stability.specs.Kernel.{InKernel}
 use Rattle.stability.specs.LeastCore.{IsGreatestExcess, InLeastCore}
-use Rattle.stability.specs.Majority.{majority, first_takes_all, MajorityShares}
+use Rattle.stability.specs.Majority.{majority, first_takes_all, last_halves, MajorityShares}
 use Rattle.stability.proofs.BargainingSet.{nucleolus_in_bargaining_set}
 use Rattle.stability.proofs.Kernel.{nucleolus_in_kernel}
 use Rattle.stability.proofs.LeastCore.{prenucleolus_in_least_core}
@@ -27,7 +28,7 @@ use Rattle.stability.proofs.LeastCore.{prenucleolus_in_least_core}
 -- ---- the kernel
 
 -- with the third, the second could have 1 more
-second_surplus : IsSurplus majority first_takes_all 1 0 (pos 1)
+pub second_surplus : IsSurplus majority first_takes_all 1 0 (pos 1)
 second_surplus = (
   (6, (omega arith, refl), refl),
   λ s h. from_either _ _ _
@@ -36,7 +37,7 @@ second_surplus = (
 )
 
 -- and the first nothing
-first_surplus : IsSurplus majority first_takes_all 0 1 (pos 0)
+pub first_surplus : IsSurplus majority first_takes_all 0 1 (pos 0)
 first_surplus = (
   (5, (omega arith, refl), refl),
   λ s h. from_either _ _ _
@@ -53,11 +54,7 @@ not_in_kernel h =
 
 -- ---- the bargaining set
 
--- half for the second and half for the third
-abbrev halves : Allocation
-halves = record { shares = pos 0 ∷ (pos 1 ∷ (pos 1 ∷ [])); den = pos 2 }
-
-objection : IsObjection majority first_takes_all 1 0 6 halves
+pub objection : IsObjection majority first_takes_all 1 0 6 last_halves
 objection = record {
   within = omega arith;
   without = refl;
@@ -65,13 +62,13 @@ objection = record {
   divides = refl;
   no_less = λ i lt inside. from_either _ _ _
       (passes_below-at 3
-      (λ i. not (has_player 6 i) || int_le (share first_takes_all i *ℤ pos 2) (share halves i *ℤ pos 1)) refl i lt)
+      (λ i. not (has_player 6 i) || int_le (share first_takes_all i *ℤ pos 2) (share last_halves i *ℤ pos 1)) refl i lt)
       inside;
   more = search rules;
 }
 
 -- coalitions with the first and without the second
-first_alone_or_third : (q : ℕ) → q < 8 → holds_without 0 1 q ≡ true → (q ≡ 1) ⊎ (q ≡ 5)
+pub first_alone_or_third : (q : ℕ) → q < 8 → holds_without 0 1 q ≡ true → (q ≡ 1) ⊎ (q ≡ 5)
 first_alone_or_third q lt h =
     by_tests (holds_without 0 1 q) (nat_eq q 1) (nat_eq q 5) refl refl
     (passes_below-at 8 (λ q. not (holds_without 0 1 q) || (nat_eq q 1 || nat_eq q 5)) refl q lt) h
@@ -83,7 +80,7 @@ first_alone_or_third q lt h =
     by_tests true false false e f h k = absurd (false≢true h)
     by_tests false c d e f h k = absurd (false≢true k)
 
-no_counter : (q : ℕ) (z : Allocation) → IsCounter majority first_takes_all 1 0 6 halves q z → ⊥
+pub no_counter : (q : ℕ) (z : Allocation) → IsCounter majority first_takes_all 1 0 6 last_halves q z → ⊥
 no_counter q z c = elim (first_alone_or_third q c.within c.without) [
   | inl alone ↦
       let got =
@@ -116,7 +113,7 @@ no_counter q z c = elim (first_alone_or_third q c.within c.without) [
 
 not_in_bargaining_set : ¬ InBargainingSet majority first_takes_all
 not_in_bargaining_set h =
-    let counter = h.1 1 0 6 halves (omega arith) (omega arith) (λ e. omega (arith, e)) objection in
+    let counter = h.1 1 0 6 last_halves (omega arith) (omega arith) (λ e. omega (arith, e)) objection in
     no_counter counter.0 counter.1 counter.2
 
 -- ---- the least core
@@ -128,7 +125,7 @@ greatest_of_first = (
       (passes_below-at 7 (λ s. not true || int_le (excess majority first_takes_all s) (pos 1)) refl s h.1) refl,
 )
 
-greatest_of_thirds : IsGreatestExcess Plain majority thirds (pos 1)
+pub greatest_of_thirds : IsGreatestExcess Plain majority thirds (pos 1)
 greatest_of_thirds = (
   (6, (omega arith, omega arith), refl),
   λ s h. from_either _ _ _

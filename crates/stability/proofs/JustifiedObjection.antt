@@ -1,52 +1,38 @@
 -- Of a convex game, at an imputation that some coalition blocks, an objection can't be countered (Maschler, Peleg and
--- Shapley 1972). Let p be the coalition of the greatest excess, the last of several. What its members get more is a
--- core point z of the game of the greatest excesses of parts, and of that player k leaves a little to each of the
--- others. Who would counter without k needs the excess of a coalition, which is at most what z gives it: so no member
--- of p can be in it, and p with it would have no less excess.
-use Rattle.std.proofs.Common.{◌≡◌, ◌≢◌, ℕ, zero, suc, ◌+◌, ◌^◌, ◌<◌, ◌≤◌, Bool, true, false, ◌&&◌, ◌||◌, not}
-use Rattle.std.proofs.Common.{cond, map, ℤ, pos, ◌+ℤ◌, ◌*ℤ◌, ◌<ℤ◌, ◌≤ℤ◌, neg_ℤ, int_lt}
-use Rattle.std.proofs.Common.{refl, sym, ap, ◌∙◌, inl, inr, arith}
+-- Shapley 1972). What the members of the coalition p of the greatest excess can get more is as z has it, and of that
+-- player k leaves a little to each of the others. Who would counter without k needs the excess of a coalition, which is
+-- at most what z gives it: so no member of p can be in it, and p with it would have no less excess.
+use Rattle.std.proofs.Common.{◌≡◌, ◌≢◌, ℕ, zero, suc, ◌^◌, ◌<◌, ◌≤◌, Bool, true}
+use Rattle.std.proofs.Common.{false, ◌&&◌, ◌||◌, not, cond, map, ℤ, pos, ◌+ℤ◌, ◌*ℤ◌}
+use Rattle.std.proofs.Common.{◌<ℤ◌, ◌≤ℤ◌, neg_ℤ, refl, sym, ap, ◌∙◌, inl, inr, arith}
 use Rattle.std.specs.List.{range_with_len}
-use Rattle.std.specs.Ordering.{int_eq}
 use Rattle.std.proofs.lemmas.Bool.{false≢true}
-use Rattle.std.proofs.lemmas.Int.{by_lt_z, ints}
+use Rattle.std.proofs.lemmas.Int.{ints}
 use Rattle.std.proofs.lemmas.List.FromFn.{get_or-map-range_with_len, length-map-range_with_len}
 use Rattle.std.proofs.Math.Pow.{pow_pos}
 use lib.IntN.{*ℤ_comm}
 use Rattle.definitions.proofs.Cases.{below_or_above, same_or_other, true_or_false, not_true, and_parts, or_right}
 use Rattle.definitions.proofs.Halves.{size_below, size_below-zero, size_below-yes, size_below-no, size_below-some}
-use Rattle.definitions.proofs.Masks.{singleton-within}
-use Rattle.definitions.proofs.Members.{has_player-empty, has_player-grand_coalition, has_player-singleton}
-use Rattle.definitions.proofs.Members.{has_player-singleton_other, sum_below-same, sum_below-zero, sum_over-singleton}
-use Rattle.definitions.proofs.Members.{sum_over-grand_coalition, sum_over-nonnegative}
-use Rattle.definitions.proofs.Parts.{part, sum_below-le, sum_over-more}
+use Rattle.definitions.proofs.Members.{has_player-empty, has_player-singleton, has_player-singleton_other}
+use Rattle.definitions.proofs.Members.{sum_below-same, sum_over-nonnegative}
+use Rattle.definitions.proofs.Parts.{part, sum_below-le}
 use Rattle.definitions.proofs.Ring.{ring_laws, linear, mul-leℤ, mul-le_cancelℤ, mul-positiveℤ, mul-nonnegativeℤ}
 use Rattle.definitions.proofs.Ring.{mul-zeroℤ, mul-oneℤ, mul-addℤ, add-mulℤ, mul-subℤ, mul_assocℤ}
-use Rattle.definitions.proofs.SomeMembers.{some_outsider}
-use Rattle.definitions.proofs.Splits.{some_below-true, some_below-false}
-use Rattle.definitions.proofs.SumsOver.{sum_over-same, sum_over-add, sum_over-times, amount-at, amount-empty}
-use Rattle.definitions.specs.Sums.{sum_below, IsGreatest}
-use Rattle.definitions.specs.Coalitions.{has_player, singleton, grand_coalition, sum_over, some_below}
+use Rattle.definitions.proofs.SumsOver.{sum_over-same, sum_over-add, sum_over-times, amount-at}
+use Rattle.definitions.specs.Coalitions.{has_player, singleton, sum_over}
 use Rattle.definitions.specs.Convexity.{IsConvex}
-use Rattle.definitions.specs.Games.{Game, Allocation, share, amount, excess, IsAllocation, IsEfficient, Blocks, InCore}
-use Rattle.theorems.proofs.Examples.{from_int_eq}
+use Rattle.definitions.specs.Games.{Game, Allocation, share, amount, excess, IsAllocation, Blocks}
 use Rattle.theorems.proofs.Moves.{parted, joined as both_tests}
-use Rattle.theorems.proofs.Transfers.{some_greatest}
-use Rattle.convexity.proofs.ShapleyCore.{shapley_in_core}
 use Rattle.laws.proofs.RenumberedCoalitions.{coalition_where-within, coalition_where-has, same_below}
-use Rattle.laws.proofs.ShapleyValuesExist.{shapley_exists}
 use Rattle.laws.proofs.UnanimityGames.{misses-less}
 use Rattle.stability.specs.BargainingSet.{GetsMore, IsObjection, IsCounter, InBargainingSet}
 use Rattle.stability.specs.ConvexCores.{ConvexBargainingSetIsCore}
 use Rattle.stability.proofs.BargainingSet.{core_in_bargaining_set, one_of_all}
 use Rattle.stability.proofs.Counters.{sum_over-at}
-use Rattle.stability.proofs.Covers.{lies_in, lies_from, lies_to, greatest_in, cover, cover_game, cover-convex}
-use Rattle.stability.proofs.Supermodular.{union, common, excess-both}
-
--- ---- sums and tests
-
-to_int_eq : (a b : ℤ) → a ≡ b → int_eq a b ≡ true
-to_int_eq a b e = grind (arith, ints)
+use Rattle.stability.proofs.Covers.{lies_in, lies_from}
+use Rattle.stability.proofs.GreatestGain.{Gain, gain, empty_nothing}
+use Rattle.stability.proofs.Supermodular.{excess-both}
+use Rattle.stability.proofs.Unions.{union, common}
 
 members_le : (n s : ℕ) (a b : ℕ → ℤ) → ((i : ℕ) → i < n → has_player s i ≡ true → a i ≤ℤ b i)
     → sum_over n a s ≤ℤ sum_over n b s
@@ -56,13 +42,6 @@ members_le n s a b h =
     by_test : (c : Bool) (y z : ℤ) → (c ≡ true → y ≤ℤ z) → cond c y (pos 0) ≤ℤ cond c z (pos 0)
     by_test true y z h = h refl
     by_test false y z h = omega (arith, linear)
-
-at_most_all : (n s : ℕ) (f : ℕ → ℤ) → ((i : ℕ) → i < n → pos 0 ≤ℤ f i) → sum_over n f s ≤ℤ sum_below n f
-at_most_all n s f low = sum_below-le n (part f s) f (λ i lt. by_test (has_player s i) (f i) (low i lt))
-  where
-    by_test : (c : Bool) (z : ℤ) → pos 0 ≤ℤ z → cond c z (pos 0) ≤ℤ z
-    by_test true z h = omega (arith, linear)
-    by_test false z h = h
 
 sum_over-ones : (n s : ℕ) → sum_over n (λ i. pos 1) s ≡ pos (size_below n s)
 sum_over-ones zero s = sym (ap pos (size_below-zero s))
@@ -76,10 +55,10 @@ sum_over-ones (suc n) s =
     next : (k : ℕ) → pos (suc k) ≡ pos k +ℤ pos 1
     next k = omega (arith, ints)
 
--- ---- the coalition of the greatest excess, and what its members can get more
+-- ---- the objection
 
 module _ (g : Game) (convex : IsConvex g) (nobody : g.worth 0 ≡ pos 0) (x : Allocation) (hx : IsAllocation g x)
-    (efficient : IsEfficient g x) (s : ℕ) (hs : s < 2 ^ g.players) (blocks : Blocks g x s) where
+    (gain : Gain g x) where
   abbrev n : ℕ
   n = g.players
 
@@ -87,178 +66,25 @@ module _ (g : Game) (convex : IsConvex g) (nobody : g.worth 0 ≡ pos 0) (x : Al
   e r = excess g x r
 
   abbrev z : Allocation
-  z = (shapley_exists (cover_game g.players (excess g x))).0
+  z = gain.z
 
-  e_nobody : e 0 ≡ pos 0
-  e_nobody = omega (arith, linear, amount-empty x, ap (λ (u : ℤ). x.den *ℤ u) nobody, mul-zeroℤ x.den)
+  abbrev top : ℤ
+  top = gain.top
 
-  w_nobody : cover n e 0 ≡ pos 0
-  w_nobody =
-      let most = (greatest_in n e 0).1 in
-      let r = most.0.0 in
-      let none : r ≡ 0 =
-      same_below n r 0 most.0.1.0 (pow_pos n)
-      (λ i lt. not_true (has_player r i)
-      (λ inside. false≢true (sym (has_player-empty i) ∙ lies_to n r 0 i most.0.1.1 lt inside))
-      ∙ sym (has_player-empty i)) in
-      most.0.2 ∙ ap e none ∙ e_nobody
+  abbrev p : ℕ
+  p = gain.p
 
-  z_core : InCore (cover_game n e) z
-  z_core =
-      shapley_in_core (cover_game n e) z w_nobody (shapley_exists (cover_game n e)).1
-      (cover-convex n e (λ a b ha hb. excess-both g x a b convex hx ha hb))
+  abbrev k : ℕ
+  k = gain.k
 
-  z_positive : pos 0 <ℤ z.den
-  z_positive = let one = z_core.0.1 in omega (arith, linear, one)
-
-  -- a coalition gets in z at least the excess of each part
-  reach : (q r : ℕ) → q < 2 ^ n → r < 2 ^ n → lies_in n r q ≡ true → (z.den *ℤ e r) ≤ℤ sum_over n (share z) q
-  reach q r hq hr lies =
-      let le =
-      mul-leℤ z.den (e r) (cover n e q) (omega (arith, linear, z_positive)) ((greatest_in n e q).1.1 r (hr, lies)) in
-      by_lt_z (amount z q) (z.den *ℤ cover n e q)
-      (λ less. absurd (z_core.2 q hq less))
-      (λ more. omega (arith, linear, le, more, amount-at (cover_game n e) z q z_core.0))
-
-  itself : (q : ℕ) → lies_in n q q ≡ true
-  itself q = lies_from n q q (λ i lt inside. inside)
-
-  nonnegative : (i : ℕ) → i < n → pos 0 ≤ℤ share z i
-  nonnegative i lt =
-      let some =
-      reach (singleton i) 0 (singleton-within n i lt) (pow_pos n)
-      (lies_from n 0 (singleton i) (λ j hj inside. absurd (false≢true (sym (has_player-empty j) ∙ inside)))) in
-      omega (
-        arith,
-        linear,
-        some,
-        sum_over-singleton n i (share z) lt,
-        ap (λ (u : ℤ). z.den *ℤ u) e_nobody,
-        mul-zeroℤ z.den,
-      )
-
-  -- the greatest excess
-  top : ℤ
-  top = cover n e (grand_coalition n)
-
-  low : (r : ℕ) → r < 2 ^ n → e r ≤ℤ top
-  unfolding top
-  low r hr =
-      (greatest_in n e (grand_coalition n)).1.1 r
-      (hr, lies_from n r (grand_coalition n) (λ i lt inside. has_player-grand_coalition n i lt))
-
-  total : sum_below n (share z) ≡ z.den *ℤ top
-  unfolding top
-  total =
-      sym (sum_over-grand_coalition n (share z))
-      ∙ sym (amount-at (cover_game n e) z (grand_coalition n) z_core.0)
-      ∙ z_core.1
-
-  top_positive : pos 0 <ℤ top
-  top_positive = omega (arith, linear, blocks, low s hs)
-
-  last : (m : ℤ) × IsGreatest (λ r. (r < 2 ^ n) × (int_eq (e r) top ≡ true)) (λ r. pos r) m
-  unfolding top
-  last = elim (some_greatest (λ r. int_eq (e r) top) (λ r. pos r) (2 ^ n)) [
-    | inl none ↦ absurd
-        (let most = (greatest_in n e (grand_coalition n)).1 in
-        false≢true (sym (none most.0.0 most.0.1.0) ∙ to_int_eq (e most.0.0) top (sym most.0.2)))
-    | inr found ↦ found
-  ]
-
-  p : ℕ
-  p = last.1.0.0
-
-  p_within : p < 2 ^ n
-  unfolding p
-  p_within = last.1.0.1.0
-
-  p_top : e p ≡ top
-  unfolding p
-  p_top = from_int_eq (e p) top last.1.0.1.1
-
-  p_last : (r : ℕ) → r < 2 ^ n → e r ≡ top → r ≤ p
-  unfolding p
-  p_last r hr same =
-      let le = last.1.1 r (hr, to_int_eq (e r) top same) in
-      let is = last.1.0.2 in
-      omega (arith, ints, le, is)
-
-  p_gets : sum_over n (share z) p ≡ z.den *ℤ top
-  p_gets =
-      let some = reach p p p_within p_within (itself p) in
-      let all = at_most_all n p (share z) nonnegative in
-      omega (arith, linear, some, all, total, ap (λ (u : ℤ). z.den *ℤ u) p_top)
-
-  others_get_nothing : (i : ℕ) → i < n → has_player p i ≡ false → share z i ≡ pos 0
-  others_get_nothing i lt out =
-      let more = sum_over-more n p i (share z) lt out in
-      let all = at_most_all n (p + 2 ^ i) (share z) nonnegative in
-      omega (arith, linear, more, all, p_gets, total, nonnegative i lt)
-
-  some_gain : pos 0 <ℤ (z.den *ℤ top)
-  some_gain = mul-positiveℤ z.den top z_positive top_positive
-
-  -- a member of p that gets something, and somebody outside
-  winner : (i : ℕ) × (i < n) × (has_player p i ≡ true) × (pos 0 <ℤ share z i)
-  winner = elim (true_or_false (some_below n (λ i. has_player p i && int_lt (pos 0) (share z i)))) [
-    | inl some ↦
-        let found = some_below-true n (λ i. has_player p i && int_lt (pos 0) (share z i)) some in
-        let both = and_parts (has_player p found.0) (int_lt (pos 0) (share z found.0)) found.2 in
-        (found.0, found.1, both.0, omega (arith, ints, both.1))
-    | inr none ↦ absurd
-        (let le =
-        sum_below-le n (part (share z) p) (λ i. pos 0)
-        (λ i lt. by_test (has_player p i) (share z i)
-        (some_below-false n (λ i. has_player p i && int_lt (pos 0) (share z i)) none i lt)) in
-        omega (arith, linear, le, sum_below-zero n (λ i. pos 0) (λ i lt. refl), p_gets, some_gain))
-  ]
-    where
-      by_test : (c : Bool) (u : ℤ) → (c && int_lt (pos 0) u) ≡ false → cond c u (pos 0) ≤ℤ pos 0
-      by_test true u h = omega (arith, ints, h)
-      by_test false u h = omega (arith, linear)
-
-  outsider : (j : ℕ) × (j < n) × (has_player p j ≡ false)
-  outsider =
-      some_outsider n p p_within
-      (λ all. omega (arith, linear, ap e all, efficient, p_top, top_positive))
-
-  k : ℕ
-  k = winner.0
-
-  l : ℕ
-  l = outsider.0
-
-  hk : k < n
-  unfolding k
-  hk = winner.1
-
-  k_in : has_player p k ≡ true
-  unfolding k
-  k_in = winner.2
-
-  k_gains : pos 0 <ℤ share z k
-  unfolding k
-  k_gains = winner.3
-
-  hl : l < n
-  unfolding l
-  hl = outsider.1
-
-  l_out : has_player p l ≡ false
-  unfolding l
-  l_out = outsider.2
-
-  k_l : k ≢ l
-  k_l same = false≢true (sym l_out ∙ ap (has_player p) (sym same) ∙ k_in)
-
-  -- ---- the objection
+  abbrev l : ℕ
+  l = gain.l
 
   abbrev c : ℤ
   c = pos (size_below n p)
 
   c_some : pos 1 ≤ℤ c
-  c_some = let some = size_below-some n k p hk k_in in omega (arith, linear, some)
+  c_some = let some = size_below-some n k p gain.hk gain.k_in in omega (arith, linear, some)
 
   -- what each gets more: c times its share of z, and 1 of what k leaves
   abbrev extra : ℕ → ℤ
@@ -274,7 +100,7 @@ module _ (g : Game) (convex : IsConvex g) (nobody : g.worth 0 ≡ pos 0) (x : Al
   y = record { shares = map raised (range_with_len 0 n); den = scale *ℤ x.den }
 
   scale_positive : pos 0 <ℤ scale
-  scale_positive = mul-positiveℤ c z.den (omega (arith, linear, c_some)) z_positive
+  scale_positive = mul-positiveℤ c z.den (omega (arith, linear, c_some)) gain.z_positive
 
   share-y : (i : ℕ) → i < n → share y i ≡ raised i
   share-y i lt = get_or-map-range_with_len raised 0 n i i (pos 0) lt (omega arith)
@@ -289,7 +115,7 @@ module _ (g : Game) (convex : IsConvex g) (nobody : g.worth 0 ≡ pos 0) (x : Al
         sum_over-add n (λ i. c *ℤ share z i +ℤ part (λ j. pos 1) p i) (part (λ j. neg_ℤ c) (singleton k)) q,
         sum_over-add n (λ i. c *ℤ share z i) (part (λ j. pos 1) p) q,
         sum_over-times n (share z) c q,
-        sum_over-at n k q (neg_ℤ c) hk,
+        sum_over-at n k q (neg_ℤ c) gain.hk,
       )
 
   raised-sum : (q : ℕ) → sum_over n raised q ≡ scale *ℤ amount x q +ℤ sum_over n extra q
@@ -311,12 +137,12 @@ module _ (g : Game) (convex : IsConvex g) (nobody : g.worth 0 ≡ pos 0) (x : Al
             let left =
             ap (λ (b : Bool). cond b (neg_ℤ c) (pos 0)) (ap (has_player (singleton k)) same ∙ has_player-singleton k) in
             let much =
-            mul-leℤ c (pos 1) (share z k) (omega (arith, linear, c_some)) (omega (arith, linear, k_gains)) in
+            mul-leℤ c (pos 1) (share z k) (omega (arith, linear, c_some)) (omega (arith, linear, gain.k_gains)) in
             omega (arith, linear, one, left, much, mul-oneℤ c, ap (λ (j : ℕ). c *ℤ share z j) same)
         | inr other ↦
             let none = ap (λ (b : Bool). cond b (neg_ℤ c) (pos 0)) (has_player-singleton_other k i other) in
             let some =
-            mul-nonnegativeℤ c (share z i) (omega (arith, linear, c_some)) (nonnegative i lt) in
+            mul-nonnegativeℤ c (share z i) (omega (arith, linear, c_some)) (gain.nonnegative i lt) in
             omega (arith, linear, one, none, some)
       ]
 
@@ -351,10 +177,10 @@ module _ (g : Game) (convex : IsConvex g) (nobody : g.worth 0 ≡ pos 0) (x : Al
         raised-sum p,
         extra-sum p,
         ones,
-        ap (λ (b : Bool). cond b (neg_ℤ c) (pos 0)) k_in,
-        ap (λ (u : ℤ). c *ℤ u) p_gets,
+        ap (λ (b : Bool). cond b (neg_ℤ c) (pos 0)) gain.k_in,
+        ap (λ (u : ℤ). c *ℤ u) gain.p_gets,
         sym (mul_assocℤ c z.den top),
-        ap (λ (u : ℤ). scale *ℤ u) (sym p_top),
+        ap (λ (u : ℤ). scale *ℤ u) (sym gain.p_top),
         mul-subℤ scale (x.den *ℤ g.worth p) (amount x p),
         mul_assocℤ scale x.den (g.worth p),
       )
@@ -365,8 +191,8 @@ module _ (g : Game) (convex : IsConvex g) (nobody : g.worth 0 ≡ pos 0) (x : Al
 
   objection : IsObjection g x k l p y
   objection = record {
-    within = p_within;
-    without = both_tests (has_player p k) (has_player p l) k_in (ap not l_out);
+    within = gain.p_within;
+    without = both_tests (has_player p k) (has_player p l) gain.k_in (ap not gain.l_out);
     shares = (
       length-map-range_with_len raised 0 n,
       (let some = mul-positiveℤ scale x.den scale_positive (omega (arith, linear, hx.1)) in
@@ -374,7 +200,7 @@ module _ (g : Game) (convex : IsConvex g) (nobody : g.worth 0 ≡ pos 0) (x : Al
     );
     divides = divides;
     no_less = λ i lt inside. (let more = gets_more i lt inside in omega (arith, linear, more));
-    more = gets_more k hk k_in;
+    more = gets_more k gain.hk gain.k_in;
   }
 
   -- ---- no counter objection
@@ -402,12 +228,12 @@ module _ (g : Game) (convex : IsConvex g) (nobody : g.worth 0 ≡ pos 0) (x : Al
           let le = o.as_before i lt inside out in
           let more =
           mul-leℤ scale (share x i *ℤ u.den) (share u i *ℤ x.den) (omega (arith, linear, scale_positive)) le in
-          let ne : i ≢ k = λ same. false≢true (sym out ∙ ap (has_player p) same ∙ k_in) in
+          let ne : i ≢ k = λ same. false≢true (sym out ∙ ap (has_player p) same ∙ gain.k_in) in
           let nothing : extra i ≡ pos 0 =
           omega (
             arith,
             linear,
-            ap (λ (a : ℤ). c *ℤ a) (others_get_nothing i lt out),
+            ap (λ (a : ℤ). c *ℤ a) (gain.others_get_nothing i lt out),
             mul-zeroℤ c,
             ap (λ (b : Bool). cond b (pos 1) (pos 0)) out,
             ap (λ (b : Bool). cond b (neg_ℤ c) (pos 0)) (has_player-singleton_other k i ne),
@@ -456,7 +282,7 @@ module _ (g : Game) (convex : IsConvex g) (nobody : g.worth 0 ≡ pos 0) (x : Al
 
     covered : (scale *ℤ e q) ≤ℤ (c *ℤ sum_over n (share z) q)
     covered =
-        let some = reach q q o.within o.within (itself q) in
+        let some = gain.reach q o.within in
         omega (
           arith,
           linear,
@@ -497,7 +323,7 @@ module _ (g : Game) (convex : IsConvex g) (nobody : g.worth 0 ≡ pos 0) (x : Al
     q_low =
         let some =
         mul-nonnegativeℤ c (sum_over n (share z) q) (omega (arith, linear, c_some))
-        (sum_over-nonnegative n q (share z) nonnegative) in
+        (sum_over-nonnegative n q (share z) gain.nonnegative) in
         let ones = sum_over-nonnegative n q (part (λ j. pos 1) p) ones_low in
         mul-le_cancelℤ scale (pos 0) (e q) scale_positive
         (omega (arith, linear, some, ones, sums, extra_covered, mul-zeroℤ scale))
@@ -510,22 +336,22 @@ module _ (g : Game) (convex : IsConvex g) (nobody : g.worth 0 ≡ pos 0) (x : Al
         same_below n (common n p q) 0 (coalition_where-within n (λ i. has_player p i && has_player q i)) (pow_pos n)
         (λ i lt. coalition_where-has n (λ i. has_player p i && has_player q i) i lt ∙ apart i lt
         ∙ sym (has_player-empty i)) in
-        let both = excess-both g x p q convex hx p_within o.within in
+        let both = excess-both g x p q convex hx gain.p_within o.within in
         let r_top : e r ≡ top =
-        omega (arith, linear, both, ap e none, e_nobody, p_top, q_low, low r r_within) in
-        let le = p_last r r_within r_top in
+        omega (arith, linear, both, ap e none, empty_nothing g x nobody, gain.p_top, q_low, gain.low r r_within) in
+        let le = gain.p_last r r_within r_top in
         let inside : lies_in n p r ≡ true =
         lies_from n p r
         (λ i lt h. coalition_where-has n (λ i. has_player p i || has_player q i) i lt
         ∙ ap (λ (b : Bool). b || has_player q i) h) in
         let ge : p ≤ r = elim (below_or_above r p) [
-          | inl less ↦ absurd (false≢true (sym (ap not (misses-less n p r p_within less)) ∙ inside))
+          | inl less ↦ absurd (false≢true (sym (ap not (misses-less n p r gain.p_within less)) ∙ inside))
           | inr more ↦ more
         ] in
         let same : r ≡ p = omega (arith, le, ge) in
         false≢true
-        (sym l_out ∙ ap (λ (t : ℕ). has_player t l) (sym same)
-        ∙ coalition_where-has n (λ i. has_player p i || has_player q i) l hl
+        (sym gain.l_out ∙ ap (λ (t : ℕ). has_player t l) (sym same)
+        ∙ coalition_where-has n (λ i. has_player p i || has_player q i) l gain.hl
         ∙ or_right (has_player p l) (has_player q l) parts.0)
 
 -- ---- the bargaining set
@@ -533,14 +359,11 @@ module _ (g : Game) (convex : IsConvex g) (nobody : g.worth 0 ≡ pos 0) (x : Al
 unblocked : (g : Game) (x : Allocation) → g.worth 0 ≡ pos 0 → IsConvex g → InBargainingSet g x → (s : ℕ)
     → s < 2 ^ g.players → ¬ Blocks g x s
 unblocked g x nobody convex h s hs blocks =
-    let a = h.0.0 in
-    let f = h.0.1 in
+    let won = gain g convex nobody x h.0.0 h.0.1 s hs blocks in
+    let k_l : won.k ≢ won.l = λ same. false≢true (sym won.l_out ∙ ap (has_player won.p) (sym same) ∙ won.k_in) in
     let counter =
-    h.1 (k g convex nobody x a f s hs blocks) (l g convex nobody x a f s hs blocks)
-    (p g convex nobody x a f s hs blocks) (y g convex nobody x a f s hs blocks) (hk g convex nobody x a f s hs blocks)
-    (hl g convex nobody x a f s hs blocks) (k_l g convex nobody x a f s hs blocks)
-    (objection g convex nobody x a f s hs blocks) in
-    never g convex nobody x a f s hs blocks counter.0 counter.1 counter.2
+    h.1 won.k won.l won.p (y g convex nobody x h.0.0 won) won.hk won.hl k_l (objection g convex nobody x h.0.0 won) in
+    never g convex nobody x h.0.0 won counter.0 counter.1 counter.2
 
 pub bargaining_set_is_core : ConvexBargainingSetIsCore
 bargaining_set_is_core g x nobody convex = (

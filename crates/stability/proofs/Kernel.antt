@@ -1,6 +1,7 @@
 -- Where player i outweighs j at the nucleolus, j gets just its worth alone: else a small move from j to i would leave
 -- an imputation whose excesses come first (Schmeidler 1969).
-use Rattle.std.proofs.Common.{◌≡◌, ◌≢◌, ℕ, ◌^◌, ◌<◌, true, ℤ, pos, ◌*ℤ◌, ◌<ℤ◌, refl, sym, subst, inl, arith}
+use Rattle.std.proofs.Common.{◌≡◌, ◌≢◌, ℕ, ◌^◌, ◌<◌, true, ℤ, pos}
+use Rattle.std.proofs.Common.{◌*ℤ◌, ◌<ℤ◌, refl, sym, subst, inl, arith}
 use Rattle.std.proofs.lemmas.Int.{by_lt_z}
 use Rattle.definitions.proofs.Ring.{linear}
 use Rattle.definitions.proofs.Scans.{IsGreatest-unique}
@@ -8,7 +9,7 @@ use Rattle.theorems.proofs.Moves.{excess-raised, no_gain}
 use Rattle.theorems.proofs.Transfers.{surplus_of}
 use Rattle.definitions.specs.Coalitions.{singleton}
 use Rattle.definitions.specs.Games.{Game, Allocation, share, excess, IsIndividuallyRational, InFamily, IsNucleolus}
-use Rattle.definitions.specs.Prekernel.{holds_without, IsSurplus, InPrekernel}
+use Rattle.definitions.specs.Prekernel.{holds_without, IsSurplus, AreBalanced, InPrekernel}
 use Rattle.definitions.specs.declared.Family.TheVariants.{Imputations}
 use Rattle.definitions.specs.declared.Measure.TheVariants.{Plain}
 use Rattle.duality.proofs.Nucleoli.{nucleoli_exist}
@@ -41,19 +42,22 @@ kernel_isnt_empty g y h =
 
 -- ---- beside the prekernel
 
--- where any two are balanced, nobody is outweighed
+-- of two who are balanced, neither outweighs the other
+pub none_outweighs : (g : Game) (x : Allocation) (i j : ℕ) → AreBalanced g x i j → ¬ Outweighs g x i j
+none_outweighs g x i j balanced outweighs =
+    let a =
+    IsGreatest-unique (λ s. (s < 2 ^ g.players) × (holds_without i j s ≡ true)) (excess g x) outweighs.0 balanced.0
+    outweighs.2 balanced.1 in
+    let b =
+    IsGreatest-unique (λ s. (s < 2 ^ g.players) × (holds_without j i s ≡ true)) (excess g x) outweighs.1 balanced.0
+    outweighs.3 balanced.2 in
+    omega (arith, linear, a, b, outweighs.4)
+
+-- so where any two are balanced, nobody is outweighed
 pub kernel_from : (g : Game) (x : Allocation) → IsIndividuallyRational g x → InPrekernel g x → InKernel g x
 kernel_from g x individual h = (
   (h.0, h.1, individual),
-  λ i j hi hj ne outweighs.
-      let balanced = h.2 i j hi hj ne in
-      let a =
-      IsGreatest-unique (λ s. (s < 2 ^ g.players) × (holds_without i j s ≡ true)) (excess g x) outweighs.0
-      balanced.0 outweighs.2 balanced.1 in
-      let b =
-      IsGreatest-unique (λ s. (s < 2 ^ g.players) × (holds_without j i s ≡ true)) (excess g x) outweighs.1
-      balanced.0 outweighs.3 balanced.2 in
-      absurd (omega (arith, linear, a, b, outweighs.4)),
+  λ i j hi hj ne outweighs. absurd (none_outweighs g x i j (h.2 i j hi hj ne) outweighs),
 )
 
 -- and where nobody is outweighed, any two are balanced

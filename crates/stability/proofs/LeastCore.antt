@@ -1,7 +1,8 @@
 -- Of two preimputations the one with the lesser greatest excess comes first: so the prenucleolus has the least
 -- (Maschler, Peleg and Shapley 1979). At a core point no excess is above 0, so the least isn't.
 use Rattle.std.proofs.Common.{◌≡◌, ℕ, ◌-◌, ◌^◌, ◌<◌, true, not, nat_eq}
-use Rattle.std.proofs.Common.{map, ℤ, pos, ◌-ℤ◌, ◌*ℤ◌, ◌<ℤ◌, ◌≤ℤ◌, sym, ap, ◌∙◌, inl, inr, arith}
+use Rattle.std.proofs.Common.{map, ℤ, pos, ◌-ℤ◌, ◌*ℤ◌, ◌<ℤ◌, ◌≤ℤ◌}
+use Rattle.std.proofs.Common.{sym, ap, ◌∙◌, inl, inr, arith}
 use Rattle.std.proofs.lemmas.Bool.{false≢true}
 use Rattle.std.proofs.lemmas.Bool.Decides.{nat_tests}
 use Rattle.std.proofs.lemmas.Int.{by_lt_z}

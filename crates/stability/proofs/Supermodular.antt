@@ -1,10 +1,11 @@
 -- Of a convex game, two coalitions are worth no more than all their members together and those that are in both
 -- (Shapley 1971): the members of the first join those in both, and no less the second, one by one.
-use Rattle.std.proofs.Common.{◌≡◌, ◌≢◌, ℕ, zero, suc, ◌+◌, ◌^◌, ◌<◌, ◌≤◌, Bool, true, false, ◌&&◌, ◌||◌, nat_lt, cond}
-use Rattle.std.proofs.Common.{ℤ, pos, ◌+ℤ◌, ◌-ℤ◌, ◌≤ℤ◌, refl, sym, ap, ◌∙◌, inl, inr, arith}
+use Rattle.std.proofs.Common.{◌≡◌, ◌≢◌, ℕ, zero, suc, ◌+◌, ◌^◌, ◌<◌, ◌≤◌, Bool}
+use Rattle.std.proofs.Common.{true, false, ◌&&◌, ◌||◌, nat_lt, cond, ℤ, pos, ◌+ℤ◌, ◌-ℤ◌}
+use Rattle.std.proofs.Common.{◌≤ℤ◌, refl, sym, ap, ◌∙◌, inl, inr, arith}
 use Rattle.std.proofs.lemmas.Bool.{false≢true}
 use Rattle.std.proofs.lemmas.Bool.Decides.{nat_tests}
-use Rattle.definitions.proofs.Cases.{same_or_other}
+use Rattle.definitions.proofs.Cases.{same_or_other, nat_lt-past, nat_lt-less}
 use Rattle.definitions.proofs.Members.{sum_below-same, sum_below-add}
 use Rattle.definitions.proofs.Parts.{has_player-more_same, has_player-more_other, has_player-within, more-lt, part}
 use Rattle.definitions.proofs.Ring.{linear, mul-leℤ, mul-addℤ}
@@ -15,13 +16,7 @@ use Rattle.definitions.specs.Games.{Game, Allocation, share, amount, excess, IsA
 use Rattle.convexity.proofs.Joining.{adds_more}
 use Rattle.laws.proofs.RenumberedCoalitions.{coalition_where-within, coalition_where-has, same_below}
 use Rattle.laws.specs.Renumbering.{coalition_where}
-
--- the players of either coalition, and those of both
-abbrev pub union : ℕ → ℕ → ℕ → ℕ
-union n a b = coalition_where n (λ i. has_player a i || has_player b i)
-
-abbrev pub common : ℕ → ℕ → ℕ → ℕ
-common n a b = coalition_where n (λ i. has_player a i && has_player b i)
+use Rattle.stability.proofs.Unions.{union, common}
 
 -- ---- one by one
 
@@ -37,15 +32,6 @@ lt_next i k ne = grind (arith, nat_tests)
 
 lt_here : (k : ℕ) → nat_lt k (suc k) ≡ true
 lt_here k = grind (arith, nat_tests)
-
-lt_not : (k : ℕ) → nat_lt k k ≡ false
-lt_not k = grind (arith, nat_tests)
-
-lt_zero : (i : ℕ) → nat_lt i 0 ≡ false
-lt_zero i = grind (arith, nat_tests)
-
-lt_within : (i n : ℕ) → i < n → nat_lt i n ≡ true
-lt_within i n h = grind (arith, nat_tests)
 
 module _ (n a b : ℕ) where
   abbrev grown : ℕ → ℕ
@@ -141,9 +127,9 @@ module _ (g : Game) (convex : IsConvex g) (a b : ℕ) where
 
       joins : has_player a k ≡ true → has_player b k ≡ false → (low (suc k) -ℤ low k) ≤ℤ (high (suc k) -ℤ high k)
       joins ha hb =
-          let out_s : shared_test a b k k ≡ false = rw (ha, hb, lt_not k) refl in
+          let out_s : shared_test a b k k ≡ false = rw (ha, hb, nat_lt-past k k (omega arith)) refl in
           let in_s : shared_test a b (suc k) k ≡ true = rw (ha, hb, lt_here k) refl in
-          let out_g : grown_test a b k k ≡ false = rw (ha, hb, lt_not k) refl in
+          let out_g : grown_test a b k k ≡ false = rw (ha, hb, nat_lt-past k k (omega arith)) refl in
           let in_g : grown_test a b (suc k) k ≡ true = rw (ha, hb, lt_here k) refl in
           let one =
           ap g.worth
@@ -173,25 +159,26 @@ module _ (g : Game) (convex : IsConvex g) (a b : ℕ) where
       let first : low 0 ≡ g.worth (common n a b) =
       ap g.worth
       (none_more n a b (shared_test a b 0) (λ i. has_player a i && has_player b i)
-      (λ i. ap (λ (c : Bool). has_player a i && (has_player b i || c)) (lt_zero i)
+      (λ i. ap (λ (c : Bool). has_player a i && (has_player b i || c)) (nat_lt-past i 0 (omega arith))
       ∙ ap (λ (c : Bool). has_player a i && c) (or_none (has_player b i)))) in
       let second : high 0 ≡ g.worth b =
       ap g.worth
       (same_below n (grown n a b 0) b (grown-within n a b 0) hb
-      (λ i h. grown-has n a b 0 i h ∙ ap (λ (c : Bool). has_player b i || (has_player a i && c)) (lt_zero i)
+      (λ i h. grown-has n a b 0 i h
+      ∙ ap (λ (c : Bool). has_player b i || (has_player a i && c)) (nat_lt-past i 0 (omega arith))
       ∙ none_added (has_player a i) (has_player b i))) in
       let third : low n ≡ g.worth a =
       ap g.worth
       (same_below n (shared n a b n) a (shared-within n a b n) ha
       (λ i h. shared-has n a b n i h
-      ∙ ap (λ (c : Bool). has_player a i && (has_player b i || c)) (lt_within i n h)
+      ∙ ap (λ (c : Bool). has_player a i && (has_player b i || c)) (nat_lt-less i n h)
       ∙ all_added (has_player a i) (has_player b i))) in
       let fourth : high n ≡ g.worth (union n a b) =
       ap g.worth
       (same_below n (grown n a b n) (union n a b) (grown-within n a b n)
       (coalition_where-within n (λ i. has_player a i || has_player b i))
       (λ i h. grown-has n a b n i h
-      ∙ ap (λ (c : Bool). has_player b i || (has_player a i && c)) (lt_within i n h)
+      ∙ ap (λ (c : Bool). has_player b i || (has_player a i && c)) (nat_lt-less i n h)
       ∙ either_way (has_player a i) (has_player b i)
       ∙ sym (coalition_where-has n (λ i. has_player a i || has_player b i) i h))) in
       omega (arith, linear, all, first, second, third, fourth)

@@ -1,11 +1,11 @@
 -- Where each player adds at least its worth alone, an excess doesn't fall when a player joins who gets at most its
 -- worth alone. So outside a coalition of positive excess somebody gets more.
-use Rattle.std.proofs.Common.{◌≡◌, ℕ, zero, suc, ◌+◌, ◌^◌, ◌<◌, ◌≤◌, Bool, true, false, ◌&&◌, not, length, ℤ, pos}
-use Rattle.std.proofs.Common.{◌+ℤ◌, ◌-ℤ◌, ◌*ℤ◌, ◌<ℤ◌, ◌≤ℤ◌, int_lt, sym, ap, ◌∙◌, inl, inr, arith}
+use Rattle.std.proofs.Common.{◌≡◌, ℕ, zero, suc, ◌+◌, ◌^◌, ◌<◌, ◌≤◌, Bool, true}
+use Rattle.std.proofs.Common.{false, ◌&&◌, not, length, ℤ, pos, ◌+ℤ◌, ◌-ℤ◌, ◌*ℤ◌, ◌<ℤ◌}
+use Rattle.std.proofs.Common.{◌≤ℤ◌, int_lt, sym, ap, ◌∙◌, inl, inr, arith}
 use Rattle.std.proofs.lemmas.Bool.{false≢true}
 use Rattle.std.proofs.lemmas.Int.{ints}
-use Rattle.definitions.proofs.Cases.{below_or_above, same_or_other, true_or_false, and_parts, from_not}
-use Rattle.definitions.proofs.Cases.{same_or_later}
+use Rattle.definitions.proofs.Cases.{below_or_above, same_or_other, true_or_false, and_parts, from_not, same_or_later}
 use Rattle.std.proofs.Math.Pow.{pow_pos}
 use Rattle.definitions.proofs.Members.{has_player-empty}
 use Rattle.definitions.proofs.Parts.{has_player-more_same, has_player-more_other, more-lt, sum_over-more}

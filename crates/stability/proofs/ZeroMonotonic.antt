@@ -2,10 +2,12 @@
 -- kernel is the prekernel. And whoever got less than alone at a prekernel point would be in all coalitions of the
 -- greatest excess, but not in those that balance it (Maschler, Peleg and Shapley 1972).
 use Rattle.std.proofs.Common.{◌≡◌, ◌≢◌, ℕ, ◌+◌, ◌^◌, ◌<◌, true, false, not, ℤ}
-use Rattle.std.proofs.Common.{pos, ◌*ℤ◌, ◌<ℤ◌, ◌≤ℤ◌, refl, sym, ap, ◌∙◌, inl, inr, arith}
+use Rattle.std.proofs.Common.{pos, ◌*ℤ◌, ◌<ℤ◌, ◌≤ℤ◌, refl, sym}
+use Rattle.std.proofs.Common.{ap, ◌∙◌, inl, inr, arith}
 use Rattle.std.proofs.lemmas.Bool.{false≢true}
 use Rattle.std.proofs.lemmas.Int.{by_lt_z}
 use Rattle.definitions.proofs.Cases.{same_or_other, true_or_false, from_not}
+use Rattle.definitions.proofs.Families.{allocation_of}
 use Rattle.definitions.proofs.Masks.{singleton-within, proper_or_all, grand_coalition-within}
 use Rattle.definitions.proofs.Parts.{has_player-more_same, has_player-more_other, more-lt}
 use Rattle.definitions.proofs.Ring.{ring_laws, linear, mul-cancelℤ, mul_left_commℤ}
@@ -15,8 +17,9 @@ use Rattle.theorems.proofs.ScaledLists.{order_kept, values_times}
 use Rattle.theorems.proofs.Transfers.{surplus_of, holds_without-singleton, prenucleolus_in_prekernel}
 use Rattle.definitions.specs.Coalitions.{has_player, singleton, grand_coalition, proper_coalitions}
 use Rattle.definitions.specs.Games.{Game, Allocation, share, excess, IsAllocation}
-use Rattle.definitions.specs.Games.{IsIndividuallyRational, Beats, IsSame, IsNucleolus, excess_list}
+use Rattle.definitions.specs.Games.{IsIndividuallyRational, InFamily, Beats, IsSame, IsNucleolus, excess_list}
 use Rattle.definitions.specs.Prekernel.{IsSurplus, InPrekernel}
+use Rattle.definitions.specs.declared.Family.{Family}
 use Rattle.definitions.specs.declared.Family.TheVariants.{Imputations, Preimputations}
 use Rattle.definitions.specs.declared.Measure.TheVariants.{Plain}
 use Rattle.stability.specs.Kernel.{InKernel}
@@ -181,6 +184,21 @@ beats-same g x p y hx hp same h =
     (values_times x.den p.den (λ s. p.den *ℤ excess g y s) (λ s. x.den *ℤ excess g y s)
     (proper_coalitions g.players) (λ s. mul_left_commℤ x.den p.den (excess g y s))) h
 
+-- a member of the family with the shares of a nucleolus is one
+pub nucleolus-same : (family : Family) (g : Game) (x p : Allocation) → InFamily family g x
+    → IsNucleolus family Plain g p → IsSame g x p → IsNucleolus family Plain g x
+nucleolus-same family g x p hx hp same = (
+  hx,
+  λ y hy differs. beats-same g x p y (allocation_of family g x hx) here same
+      (hp.1 y hy
+      (λ other. differs
+      (λ i lt. same_both (share x i) (share p i) (share y i) x.den p.den y.den
+      (omega (arith, linear, here.1)) (same i lt) (other i lt)))),
+)
+  where
+    here : IsAllocation g p
+    here = allocation_of family g p hp.0
+
 to_nucleolus : (g : Game) (x : Allocation) → IsZeroMonotonic g → IsNucleolus Preimputations Plain g x
     → IsNucleolus Imputations Plain g x
 to_nucleolus g x mono h = (
@@ -195,14 +213,8 @@ from_nucleolus g x mono h = elim (same_or_other g.players 0) [
       ((h.0.0, h.0.1), λ y hy differs. absurd (differs (λ i lt. absurd (omega (arith, none, lt)))))
   | inr some ↦
       let (p, hp) = prenucleoli_exist Plain g (inl refl) (omega (arith, some)) in
-      let same = nucleolus_unique Imputations Plain g x p h (to_nucleolus g p mono hp) in (
-        (h.0.0, h.0.1),
-        λ y hy differs. beats-same g x p y h.0.0 hp.0.0 same
-            (hp.1 y hy
-            (λ other. differs
-            (λ i lt. same_both (share x i) (share p i) (share y i) x.den p.den y.den
-            (omega (arith, linear, hp.0.0.1)) (same i lt) (other i lt)))),
-      )
+      nucleolus-same Preimputations g x p (h.0.0, h.0.1) hp
+      (nucleolus_unique Imputations Plain g x p h (to_nucleolus g p mono hp))
 ]
 
 pub prenucleolus_is_nucleolus : PrenucleolusIsNucleolus

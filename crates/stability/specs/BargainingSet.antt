@@ -11,7 +11,8 @@
 --   NucleolusIsInBargainingSet   so the nucleolus does
 --   BargainingSetIsntEmpty       where there is an imputation, some shares lie in it
 --   CoreIsInBargainingSet        the core lies in it: at a core point nobody has an objection
-use Rattle.std.specs.Prelude.{◌≡◌, ◌≢◌, ℕ, ◌^◌, ◌<◌, true, false, IsTrue, ◌*ℤ◌, ◌<ℤ◌, ◌≤ℤ◌}
+use Rattle.std.specs.Prelude.{◌≡◌, ◌≢◌, ℕ, ◌^◌, ◌<◌, true}
+use Rattle.std.specs.Prelude.{false, IsTrue, ◌*ℤ◌, ◌<ℤ◌, ◌≤ℤ◌}
 use Rattle.definitions.specs.Coalitions.{has_player}
 use Rattle.definitions.specs.Games.{Game, Allocation, share, amount, IsAllocation, InFamily, IsNucleolus, InCore}
 use Rattle.definitions.specs.Prekernel.{holds_without}

@@ -5,3 +5,5 @@ pub mod ConvexCores
 pub mod Majority
 pub mod ZeroMonotonic
 pub mod Subsidies
+pub mod TwoVoters
+pub mod EstateCores
