@@ -7,7 +7,6 @@ mod OneNumberMore
 mod WhoGrowGetNoLess
 mod WhoAddsMoreGetsNoLess
 mod EachWhoGrows
-mod LevelledSums
 mod Terms
 mod MonotonicRulesAreShapley
 mod ListedGames

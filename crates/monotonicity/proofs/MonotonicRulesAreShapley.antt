@@ -18,7 +18,7 @@ use Rattle.laws.specs.FairRules.{IsGameOf}
 use Rattle.laws.proofs.SharesAddToAll.{amount-all, efficient, sum-totals}
 use Rattle.laws.proofs.ShapleyNoLess.{totals-alike, alike_get_alike}
 use Rattle.monotonicity.specs.Additions.{IsMonotonicRule, MonotonicRulesAreShapley}
-use Rattle.monotonicity.proofs.LevelledSums.{IsLevelled, all_same}
+use Rattle.laws.proofs.LevelledSums.{IsLevelled, all_same}
 use Rattle.monotonicity.proofs.Terms.{IsTerm, value, value-nobody, held, held-all, each_holds, held-fewer}
 use Rattle.monotonicity.proofs.Terms.{held-adds, both_held-alike, terms_of}
 use Rattle.monotonicity.proofs.WhoAddsMoreGetsNoLess.{totals-no_less, adds_more_gets_no_less}

@@ -7,15 +7,15 @@
 --   each_holds      all terms' coalitions hold player i
 use Rattle.std.proofs.Common.{◌≡◌, ◌≢◌, ℕ, zero, suc, ◌+◌, ◌-◌, ◌^◌, ◌<◌, ◌≤◌}
 use Rattle.std.proofs.Common.{Bool, true, false, cond, ◌&&◌, List, [], ◌∷◌, length, ℤ}
-use Rattle.std.proofs.Common.{pos, ◌+ℤ◌, ◌-ℤ◌, refl, sym, ap, ◌∙◌, inl, inr, arith}
+use Rattle.std.proofs.Common.{pos, ◌+ℤ◌, ◌-ℤ◌, refl, sym, ap, ◌∙◌, arith}
 use Rattle.std.specs.List.{AllByRecursion}
 use Rattle.std.proofs.lemmas.Bool.{false≢true}
-use Rattle.definitions.proofs.Cases.{less_or_last, and_parts}
+use Rattle.definitions.proofs.Cases.{and_parts}
 use Rattle.definitions.proofs.Masks.{grand_coalition-within}
 use Rattle.definitions.proofs.Parts.{has_player-more_other}
 use Rattle.definitions.proofs.Ring.{linear}
 use Rattle.definitions.specs.Coalitions.{has_player}
-use Rattle.laws.proofs.UnanimityGames.{carried, misses-self, misses-member, misses-outside, misses-less}
+use Rattle.laws.proofs.UnanimityGames.{carried, misses-member, misses-outside, misses-less, below_next}
 
 abbrev pub IsTerm : ℕ → ℕ × ℤ → Type 0
 IsTerm n p = (1 ≤ p.0) × (p.0 < 2 ^ n)
@@ -97,18 +97,6 @@ both_held-alike n i j (p ∷ ps) s hi hj ne ei ej si sj =
     omega (arith, linear, same, both_held-alike n i j ps s hi hj ne ki.1 kj.1 si sj)
 
 -- ---- every game is such a sum
-
--- without its part at k a game is 0 there too
-below_next : (n k : ℕ) (v : ℕ → ℤ) → ((s : ℕ) → s < k → v s ≡ pos 0) → k < 2 ^ n → (s : ℕ) → s < suc k
-    → v s -ℤ carried n k (v k) s ≡ pos 0
-below_next n k v none small s h = elim (less_or_last s k h) [
-  | inl less ↦
-      let out = ap (λ (b : Bool). cond b (pos 0) (v k)) (misses-less n k s small less) in
-      omega (arith, linear, none s less, out)
-  | inr same ↦
-      let inside = ap (λ (b : Bool). cond b (pos 0) (v k)) (misses-self n k) in
-      omega (arith, linear, inside, ap v same, ap (carried n k (v k)) same)
-]
 
 -- terms that add to these worths
 abbrev pub HasTerms : ℕ → (ℕ → ℤ) → Type 0

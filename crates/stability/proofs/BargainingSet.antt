@@ -21,7 +21,7 @@ use Rattle.definitions.specs.declared.Family.TheVariants.{Imputations}
 use Rattle.stability.specs.BargainingSet.{IsObjection, IsCounter, KernelIsInBargainingSet, NucleolusIsInBargainingSet}
 use Rattle.stability.specs.BargainingSet.{BargainingSetIsntEmpty, CoreIsInBargainingSet}
 use Rattle.laws.proofs.NucleolusIsInCore.{core_family}
-use Rattle.stability.proofs.CoreKernel.{core_low}
+use Rattle.laws.proofs.NucleolusIsInCore.{core_low}
 use Rattle.stability.proofs.Kernel.{nucleolus_in_kernel, kernel_isnt_empty}
 use Rattle.stability.proofs.Counters.{answer, counters, rise, rise-within, rise-all}
 
@@ -98,7 +98,7 @@ no_objection g x h k l p y hk o =
     ap (λ (b : Bool). cond b (rise x y k) (pos 0)) inside in
     let some = one_of_all g.players k (part (rise x y) p) (rise-within g x k l p y o) hk in
     let none =
-    mul-leℤ y.den (excess g x p) (pos 0) (omega (arith, linear, o.shares.1)) (core_low g x p h o.within) in
+    mul-leℤ y.den (excess g x p) (pos 0) (omega (arith, linear, o.shares.1)) (core_low g x h p o.within) in
     omega (
       arith,
       linear,

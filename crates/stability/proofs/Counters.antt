@@ -7,7 +7,7 @@ use Rattle.std.proofs.Common.{◌+ℤ◌, ◌-ℤ◌, ◌*ℤ◌, ◌≤ℤ◌, 
 use Rattle.std.specs.List.{range_with_len}
 use Rattle.std.proofs.lemmas.List.FromFn.{get_or-map-range_with_len, length-map-range_with_len}
 use lib.IntN.{*ℤ_comm}
-use Rattle.definitions.proofs.Members.{sum_below-same, sum_over-combined, sum_over-singleton}
+use Rattle.definitions.proofs.Members.{sum_over-combined}
 use Rattle.definitions.proofs.Parts.{part, sum_below-le}
 use Rattle.definitions.proofs.Ring.{linear, mul-subℤ, mul-leℤ, mul-positiveℤ, mul_assocℤ, mul_left_commℤ}
 use Rattle.definitions.proofs.SumsOver.{sum_over-same, sum_over-add, sum_over-times, amount-at}
@@ -15,6 +15,7 @@ use Rattle.theorems.proofs.Moves.{parted}
 use Rattle.definitions.specs.Coalitions.{has_player, singleton, sum_over}
 use Rattle.definitions.specs.Games.{Game, Allocation, share, amount, excess, IsAllocation}
 use Rattle.definitions.specs.Prekernel.{holds_without}
+use Rattle.laws.proofs.AtPlayer.{sum_over-at_player}
 use Rattle.stability.specs.BargainingSet.{GetsNoLess, IsObjection, IsCounter}
 
 -- ---- what the members of p get more at y
@@ -47,20 +48,6 @@ rise-all g x k l p y hx o =
     )
 
 -- ---- the shares of q
-
--- a number of one player alone
-pub sum_over-at : (n l s : ℕ) (c : ℤ) → l < n
-    → sum_over n (part (λ i. c) (singleton l)) s ≡ cond (has_player s l) c (pos 0)
-sum_over-at n l s c lt =
-    sum_below-same n (part (part (λ i. c) (singleton l)) s) (part (part (λ i. c) s) (singleton l))
-    (λ i k. swap (has_player s i) (has_player (singleton l) i))
-    ∙ sum_over-singleton n l (part (λ i. c) s) lt
-  where
-    swap : (a b : Bool) → cond a (cond b c (pos 0)) (pos 0) ≡ cond b (cond a c (pos 0)) (pos 0)
-    swap true true = refl
-    swap true false = refl
-    swap false true = refl
-    swap false false = refl
 
 module _ (g : Game) (x : Allocation) (k l p : ℕ) (y : Allocation) (q : ℕ) (hx : IsAllocation g x)
     (o : IsObjection g x k l p y) (hl : l < g.players) (within : q < 2 ^ g.players)
@@ -128,7 +115,7 @@ module _ (g : Game) (x : Allocation) (k l p : ℕ) (y : Allocation) (q : ℕ) (h
       let a = ap (λ (m : ℕ). sum_over m (share answer) q) (length-map-range_with_len given 0 n) in
       let b = sum_over-same n (share answer) given q share-answer in
       let c = sum_over-add n claim (part (λ j. rest) (singleton l)) q in
-      let d = sum_over-at n l q rest hl ∙ ap (λ (b : Bool). cond b rest (pos 0)) holds.0 in
+      let d = sum_over-at_player n q l rest hl ∙ ap (λ (b : Bool). cond b rest (pos 0)) holds.0 in
       omega (arith, linear, a, b, c, d)
 
   no_less_than_claim : (i : ℕ) → i < n → claim i ≤ℤ share answer i

@@ -28,11 +28,9 @@ use Rattle.theorems.proofs.Transfers.{some_greatest}
 use Rattle.convexity.proofs.ShapleyCore.{shapley_in_core}
 use Rattle.laws.proofs.RenumberedCoalitions.{same_below}
 use Rattle.laws.proofs.ShapleyValuesExist.{shapley_exists}
+use Rattle.laws.proofs.Numbers.{to_int_eq}
 use Rattle.stability.proofs.Covers.{lies_in, lies_from, lies_to, greatest_in, cover, cover_game, cover-convex}
 use Rattle.stability.proofs.Supermodular.{excess-both}
-
-pub to_int_eq : (a b : ℤ) → a ≡ b → int_eq a b ≡ true
-to_int_eq a b e = grind (arith, ints)
 
 at_most_all : (n s : ℕ) (f : ℕ → ℤ) → ((i : ℕ) → i < n → pos 0 ≤ℤ f i) → sum_over n f s ≤ℤ sum_below n f
 at_most_all n s f low = sum_below-le n (part f s) f (λ i lt. by_test (has_player s i) (f i) (low i lt))

@@ -28,7 +28,7 @@ use Rattle.laws.proofs.UnanimityGames.{misses-less}
 use Rattle.stability.specs.BargainingSet.{GetsMore, IsObjection, IsCounter, InBargainingSet}
 use Rattle.stability.specs.ConvexCores.{ConvexBargainingSetIsCore}
 use Rattle.stability.proofs.BargainingSet.{core_in_bargaining_set, one_of_all}
-use Rattle.stability.proofs.Counters.{sum_over-at}
+use Rattle.laws.proofs.AtPlayer.{sum_over-at_player}
 use Rattle.stability.proofs.Covers.{lies_in, lies_from}
 use Rattle.stability.proofs.GreatestGain.{Gain, gain, empty_nothing}
 use Rattle.stability.proofs.Supermodular.{excess-both}
@@ -115,7 +115,7 @@ module _ (g : Game) (convex : IsConvex g) (nobody : g.worth 0 ≡ pos 0) (x : Al
         sum_over-add n (λ i. c *ℤ share z i +ℤ part (λ j. pos 1) p i) (part (λ j. neg_ℤ c) (singleton k)) q,
         sum_over-add n (λ i. c *ℤ share z i) (part (λ j. pos 1) p) q,
         sum_over-times n (share z) c q,
-        sum_over-at n k q (neg_ℤ c) gain.hk,
+        sum_over-at_player n q k (neg_ℤ c) gain.hk,
       )
 
   raised-sum : (q : ℕ) → sum_over n raised q ≡ scale *ℤ amount x q +ℤ sum_over n extra q

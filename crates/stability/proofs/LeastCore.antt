@@ -1,7 +1,7 @@
 -- Of two preimputations the one with the lesser greatest excess comes first: so the prenucleolus has the least
 -- (Maschler, Peleg and Shapley 1979). At a core point no excess is above 0, so the least isn't.
 use Rattle.std.proofs.Common.{◌≡◌, ℕ, ◌-◌, ◌^◌, ◌<◌, true, not, nat_eq}
-use Rattle.std.proofs.Common.{map, ℤ, pos, ◌-ℤ◌, ◌*ℤ◌, ◌<ℤ◌, ◌≤ℤ◌}
+use Rattle.std.proofs.Common.{map, ℤ, pos, ◌*ℤ◌, ◌<ℤ◌, ◌≤ℤ◌}
 use Rattle.std.proofs.Common.{sym, ap, ◌∙◌, inl, inr, arith}
 use Rattle.std.proofs.lemmas.Bool.{false≢true}
 use Rattle.std.proofs.lemmas.Bool.Decides.{nat_tests}
@@ -11,45 +11,23 @@ use lib.IntN.{*ℤ_comm}
 use Rattle.definitions.proofs.Cases.{same_or_other}
 use Rattle.definitions.proofs.Masks.{proper_or_all}
 use Rattle.definitions.proofs.Measured.{weight, measured-weight, weight-positive, measured-positive}
-use Rattle.definitions.proofs.Members.{sum_over-combined}
-use Rattle.definitions.proofs.Ring.{linear, mul-subℤ, mul-leℤ, mul-le_cancelℤ, mul-zeroℤ, mul_left_commℤ}
-use Rattle.definitions.proofs.SumsOver.{sum_over-same, sum_over-zero, amount-at, amount-empty}
+use Rattle.definitions.proofs.Ring.{linear, mul-leℤ, mul-le_cancelℤ, mul-zeroℤ, mul_left_commℤ}
+use Rattle.definitions.proofs.SumsOver.{amount-empty}
 use Rattle.theorems.proofs.OneWay.{beats_one_way}
 use Rattle.theorems.proofs.SortedLemmas.{ComesBefore-sorted}
 use Rattle.theorems.proofs.Soundness.{SameOrLow-range, SomeAbove-range}
 use Rattle.theorems.proofs.Transfers.{some_greatest}
-use Rattle.definitions.specs.Coalitions.{grand_coalition, proper_coalitions, sum_over}
-use Rattle.definitions.specs.Games.{Game, Allocation, share, amount, excess, measured_excess, IsAllocation}
+use Rattle.definitions.specs.Coalitions.{grand_coalition, proper_coalitions}
+use Rattle.definitions.specs.Games.{Game, Allocation, amount, excess, measured_excess, IsAllocation}
 use Rattle.definitions.specs.Games.{InFamily, Beats, IsSame, Blocks}
 use Rattle.definitions.specs.declared.Family.TheVariants.{Preimputations}
 use Rattle.definitions.specs.declared.Measure.{Measure}
 use Rattle.duality.proofs.Nucleoli.{prenucleoli_exist}
-use Rattle.stability.proofs.CoreKernel.{core_low}
+use Rattle.laws.proofs.NucleolusIsInCore.{core_low, same_excess}
 use Rattle.stability.specs.LeastCore.{IsGreatestExcess, PrenucleolusIsInLeastCore, LeastCoreIsntEmpty}
 use Rattle.stability.specs.LeastCore.{LeastCoreIsInCore}
 
 -- ---- shares that are the same
-
--- leave each coalition the same excess
-pub same_excess : (g : Game) (x y : Allocation) (s : ℕ) → IsAllocation g x → IsAllocation g y → IsSame g x y
-    → x.den *ℤ excess g y s ≡ y.den *ℤ excess g x s
-same_excess g x y s hx hy same =
-    let n = g.players in
-    let none : sum_over n (λ i. y.den *ℤ share x i -ℤ x.den *ℤ share y i) s ≡ pos 0 =
-    sum_over-same n (λ i. y.den *ℤ share x i -ℤ x.den *ℤ share y i) (λ i. pos 0) s
-    (λ i lt. omega (arith, linear, same i lt, *ℤ_comm (share x i) y.den, *ℤ_comm (share y i) x.den))
-    ∙ sum_over-zero n s in
-    omega (
-      arith,
-      linear,
-      none,
-      sum_over-combined n (share x) (share y) y.den x.den s,
-      ap (λ (z : ℤ). y.den *ℤ z) (amount-at g x s hx),
-      ap (λ (z : ℤ). x.den *ℤ z) (amount-at g y s hy),
-      mul-subℤ x.den (y.den *ℤ g.worth s) (amount y s),
-      mul-subℤ y.den (x.den *ℤ g.worth s) (amount x s),
-      mul_left_commℤ x.den y.den (g.worth s),
-    )
 
 -- and the same measured excess
 same_measured : (measure : Measure) (g : Game) (x y : Allocation) (s : ℕ) → IsAllocation g x → IsAllocation g y
@@ -177,7 +155,7 @@ least_core_in_core measure g x z can core h = (
   where
     nobody : pos 0 <ℤ (x.den *ℤ g.worth 0) → ⊥
     nobody up =
-        let here = core_low g z 0 core (pow_pos g.players) in
+        let here = core_low g z core 0 (pow_pos g.players) in
         let worth : g.worth 0 ≤ℤ pos 0 =
         mul-le_cancelℤ z.den (g.worth 0) (pos 0) (omega (arith, linear, core.0.1))
         (omega (arith, linear, here, amount-empty z, mul-zeroℤ z.den)) in
@@ -198,7 +176,7 @@ least_core_in_core measure g x z can core h = (
         let w = weight measure t in
         let within : t < 2 ^ g.players = omega (arith, most_z.0.1.1) in
         let up = weight-positive measure g.players t can most_z.0.1.0 within in
-        let low = mul-leℤ w (excess g z t) (pos 0) (omega (arith, linear, up)) (core_low g z t core within) in
+        let low = mul-leℤ w (excess g z t) (pos 0) (omega (arith, linear, up)) (core_low g z core t within) in
         let below : k ≤ℤ pos 0 =
         omega (arith, linear, most_z.0.2, low, measured-weight measure t (excess g z t), mul-zeroℤ w) in
         let none = mul-leℤ x.den k (pos 0) (omega (arith, linear, h.0.0.1)) below in

@@ -20,7 +20,7 @@ use Rattle.definitions.proofs.Splits.{some_below-at, some_below-true}
 use Rattle.definitions.specs.Coalitions.{has_player, singleton, some_below, splits}
 use Rattle.theorems.proofs.Examples.{from_int_eq}
 use Rattle.theorems.proofs.Transfers.{some_greatest}
-use Rattle.stability.proofs.GreatestGain.{to_int_eq}
+use Rattle.laws.proofs.Numbers.{to_int_eq}
 use Rattle.stability.proofs.NearRings.{Some, IsNearRing, inside, outside}
 use Rattle.stability.proofs.NoNearRing.{no_near_ring}
 use Rattle.stability.proofs.Unions.{union, common, union-has, union-within, common-has, common-within}

@@ -29,7 +29,8 @@ use Rattle.duality.proofs.Nucleoli.{prenucleoli_exist}
 use Rattle.laws.proofs.NucleolusIsUnique.{nucleolus_unique}
 use Rattle.stability.proofs.CoreKernel.{excess-alone}
 use Rattle.stability.proofs.Kernel.{kernel_from, prekernel_from}
-use Rattle.stability.proofs.LeastCore.{greatest_excess_of, same_excess}
+use Rattle.stability.proofs.LeastCore.{greatest_excess_of}
+use Rattle.laws.proofs.NucleolusIsInCore.{same_excess}
 use Rattle.stability.proofs.WhoJoins.{joined, somebody_gets_more}
 
 -- ---- the kernel is in the prekernel
