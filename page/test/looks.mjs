@@ -72,9 +72,12 @@ const phones = VIEWS.map((id) => [`phone width: ${id || "start"}`, id, async (pa
 }, { wide: 360, high: 780 }]);
 
 const papers = CASES.map((id) => [`one page on paper: ${id}`, id, async (page, expect) => {
+  // paper doesn't wait: all has to stand there as soon as the browser begins to print
+  const begun = "dispatchEvent(new Event('beforeprint')); document.getElementById('sheet').textContent";
+  const sheet = await page.run(begun);
+  await page.run("dispatchEvent(new Event('afterprint'))");
   const pages = (await page.pdf()).toString("latin1").match(/\/Type \/Page\b/g) ?? [];
   expect("pages", pages.length, 1);
-  const sheet = await page.run("document.getElementById('sheet').textContent");
   expect("who, and the rest", sheet, id === "market" ? /Ann – flat8.00/ : /together/);
   expect("parts", sheet, /What is agreed on[\s\S]*SHA-256 is [0-9a-f]{64}[\s\S]*How to check it/);
   expect("a picture", await page.run("document.querySelectorAll('#sheet svg').length"), 1);

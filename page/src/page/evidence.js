@@ -63,6 +63,7 @@ function withoutCertificate({ game, text }, name) {
   return [
     el("p", {}, what),
     el("p", { class: "tools" }, fileButtons(`${text}\n`, `${name}-game.json`)),
+    fingerprint(`${text}\n`),
     shown("The game’s file", text),
   ];
 }

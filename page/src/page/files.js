@@ -17,14 +17,23 @@ export function shown(title, text) {
       isLong ? `${text.slice(0, MOST_SHOWN)} …` : text));
 }
 
+const known = { text: null, digest: null }; // the last text whose SHA-256 was worked out
+
 /** The SHA-256 of a text, by which people see that they have the same file; null where the browser has none. */
-export async function digestOf(text) {
+async function digestOf(text) {
   const bytes = await globalThis.crypto?.subtle?.digest("SHA-256", new TextEncoder().encode(text));
-  return bytes ? [...new Uint8Array(bytes)].map((byte) => byte.toString(16).padStart(2, "0")).join("") : null;
+  const digest = bytes ? [...new Uint8Array(bytes)].map((byte) => byte.toString(16).padStart(2, "0")).join("") : null;
+  Object.assign(known, { text, digest });
+  return digest;
 }
 
 export function fingerprint(text) {
   const place = el("small", { class: "fingerprint" });
-  digestOf(text).then((digits) => (place.textContent = digits ? `SHA-256 of the file: ${digits}` : ""));
+  digestOf(text).then((digest) => (place.textContent = digest ? `SHA-256 of the file: ${digest}` : ""));
   return place;
+}
+
+/** The SHA-256 of the text whose fingerprint was shown last; paper can't wait for one. */
+export function knownDigest(text) {
+  return known.text === text ? known.digest : null;
 }

@@ -7,7 +7,7 @@ import { trianglePicture } from "../draw/triangle.js";
 import { Rational } from "../exact/rational.js";
 import { lead, solutionOf } from "./answer.js";
 import { el, refill } from "./dom.js";
-import { digestOf } from "./files.js";
+import { knownDigest } from "./files.js";
 import { formatOf, totalsOf } from "./format.js";
 
 const WIDE = 700;
@@ -21,22 +21,15 @@ const POWER = "Power is in what part of all orders of joining a voter is the one
   + "and Shubik 1954).";
 const PRICES = "By the pairs that gain most together, and the prices at which no other pair does better.";
 
-let shownFor = null; // whose fingerprint is being worked out
-
 /** Fills the sheet with the answer of a session; leaves it empty where there is none. */
 export function showSheet(session, typed = {}) {
   const sheet = document.getElementById("sheet"), { result, reading } = session;
-  if (!result || result.refusal || !result.points.length) return refill(sheet);
+  if (!result || result.refusal || !result.points.length) {
+    refill(sheet);
+    return;
+  }
   const view = { ...session, ...typed, result, rows: reading.rows, format: formatOf(session.places, session.mark) };
-  const print = el("span", { class: "digest" });
-  refill(sheet, headOf(view), answerOf(view), pictureOf(view), reasonsOf(view), agreedOf(view, print), checkOf(view));
-  return tellDigest(result.text, print);
-}
-
-async function tellDigest(text, place) {
-  shownFor = text;
-  const digest = await digestOf(`${text}\n`);
-  if (shownFor === text) place.textContent = digest ?? "(this browser works out none)";
+  refill(sheet, headOf(view), answerOf(view), pictureOf(view), reasonsOf(view), agreedOf(view), checkOf(view));
 }
 
 function headOf({ heading, kind }) {
@@ -144,10 +137,11 @@ function toldOf({ sentences, items, last = "" }) {
 
 // ---- What is agreed on, and how to check it
 
-function agreedOf({ result: { text } }, digest) {
-  const isShort = text.length <= MOST_DOCUMENT;
+function agreedOf({ result: { text } }) {
+  const isShort = text.length <= MOST_DOCUMENT, digest = knownDigest(`${text}\n`) ?? "(this browser works out none)";
   return el("section", {}, el("h2", {}, "What is agreed on"),
-    el("p", {}, "The numbers of the game, as they stand in its file. Its SHA-256 is ", digest, "."),
+    el("p", {}, "The numbers of the game, as they stand in its file. Its SHA-256 is ",
+      el("span", { class: "digest" }, digest), "."),
     isShort && el("p", { class: "document" }, text),
     el("p", { class: "sign" }, "Agreed on by", el("span"), "on", el("span", { class: "short" })));
 }
