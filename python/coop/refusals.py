@@ -24,6 +24,7 @@ PLAYERS, NUMBER, NAMES, COALITION, ESTATE, MATRIX, PROPOSAL, TOO_FINE, CERTIFICA
 )
 TABLES = ("table", "cost-table")
 MOST_SCALE, LIMIT = 65536, 2**40
+IS_FLOAT = "has a point or an exponent, or more than 64 bits"
 FRACTION = re.compile("-?(0|[1-9][0-9]{0,38})(/[1-9][0-9]{0,38})?")
 
 Number = tuple[str, Any]
@@ -129,18 +130,20 @@ def numbers_of(game: Any) -> Iterator[Number]:
 def value_of(tree: Any, place: str, has_fractions: bool) -> Fraction:
     """The value of a number of the game."""
     if type(tree) is float:
-        hint = "an integer" + (
-            f", or the text {text_of(tree)}" if has_fractions else '; or, with "version":2, a fraction text'
-        )
-        raise Found(NUMBER, place, f"{brief(tree)} has a point or an exponent, or more than 64 bits: write {hint}")
+        rounded = float(f"{tree:.4f}")
+        meant = tree if Fraction(repr(tree)).denominator <= MOST_SCALE else rounded
+        hint = "" if has_fractions or meant == int(meant) else ', with "version":2'
+        about = "" if meant == tree else "fewer decimals, as "
+        raise Found(NUMBER, place, f"{brief(tree)} {IS_FLOAT}: write {about}{text_of(meant)}{hint}")
     if type(tree) is int:
         return Fraction(tree)
     return fraction(tree, place)
 
 
 def text_of(number: float) -> str:
-    """A float that was written with few digits, as a fraction text."""
-    return f'"{Fraction(repr(number))}"'
+    """What a float may mean: an integer, or a fraction text."""
+    text = written(Fraction(repr(number)))
+    return text if len(text) <= 40 else "a number of fewer digits"
 
 
 def fraction(tree: str, place: str) -> Fraction:
@@ -173,9 +176,7 @@ def written(value: Fraction) -> str:
 def share(tree: Any, place: str) -> Fraction:
     """The value of a share."""
     if type(tree) is float:
-        raise Found(
-            NUMBER, place, f"{brief(tree)} has a point or an exponent, or more than 64 bits: write {text_of(tree)}"
-        )
+        raise Found(NUMBER, place, f"{brief(tree)} {IS_FLOAT}: write {text_of(tree)}")
     return Fraction(tree) if type(tree) is int else fraction(tree, place)
 
 
