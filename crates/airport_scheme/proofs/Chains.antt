@@ -166,7 +166,7 @@ ascends-front : (at : ℕ → ℕ) (k : ℕ) (w : ℤ) (t : Bool) → Ascends 0 
 ascends-front at k w true = (omega arith, tt)
 ascends-front at k w false = tt
 
-others_proper : (n : ℕ) (cost at : ℕ → ℕ) → IsOrder n cost at → 2 ≤ n → (j : ℕ) → j < n
+pub others_proper : (n : ℕ) (cost at : ℕ → ℕ) → IsOrder n cost at → 2 ≤ n → (j : ℕ) → j < n
     → (0 < grand_coalition n - singleton (at j)) × (grand_coalition n - singleton (at j) < grand_coalition n)
 others_proper n cost at o two j lt = with_other (another_place j lt two)
   where
@@ -183,7 +183,7 @@ others_proper n cost at o two j lt = with_other (another_place j lt two)
         proper n (grand_coalition n - singleton (at j)) (at h) (at j) within (others-has n cost at o j h lt hn ne)
         (o.below j lt) (others-lacks n cost at o j lt)
 
-front_proper : (n : ℕ) (cost at : ℕ → ℕ) → IsOrder n cost at → (k : ℕ) → 0 < k → k < n
+pub front_proper : (n : ℕ) (cost at : ℕ → ℕ) → IsOrder n cost at → (k : ℕ) → 0 < k → k < n
     → (0 < front at k) × (front at k < grand_coalition n)
 front_proper n cost at o k low high =
     proper n (front at k) (at 0) (at k) (front-lt n cost at o k (omega arith))

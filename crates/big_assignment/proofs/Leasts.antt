@@ -3,7 +3,7 @@
 use Rattle.std.proofs.Common.{◌≡◌, ℕ, ◌+◌, ◌*◌, ◌^◌, ◌<◌, ◌≤◌, List, slice_index, sym}
 use Rattle.std.proofs.Common.{ap, subst, inl, inr, arith}
 use Rattle.big_assignment.specs.declared.deal.Deal.{Deal}
-use Rattle.big_assignment.specs.Deals.{AreDealOffers, IsBelow, IsFair, IsGain, IsWanted, Meets, NoneWanted, at_prices}
+use Rattle.big_assignment.specs.Deals.{AreDealOffers, IsBelow, IsFair, IsGain, Meets, NoneWanted, at_prices}
 use Rattle.big_assignment.specs.Deals.{mate_of, offer_of, price_of}
 use Rattle.big_assignment.specs.Searches.{IsPut}
 use Rattle.big_assignment.proofs.Sums.{times-add}
@@ -17,17 +17,19 @@ fair_meets deal n f i k il kl = (let a = f.covers i k il kl in let b = f.tight i
 pub below_none : (deal : Deal) (n : ℕ) (p : ℕ → ℕ) → ((k : ℕ) → k ≤ 32 → p k ≡ 0) → IsBelow deal n p
 below_none deal n p h d q meets k kl = (let e = ap (λ (z : ℕ). d * z) (h k kl) in omega (arith, e))
 
--- a column whose price is raised as far as its row wants
-pub below_raised : (deal : Deal) (n : ℕ) (p p' : ℕ → ℕ) (i k x : ℕ) → IsBelow deal n p → i < n → k ≤ 32
-    → mate_of deal i ≤ 32 → x + offer_of deal i (mate_of deal i) ≡ offer_of deal i k + p (mate_of deal i)
-    → IsPut p p' k x → IsBelow deal n p'
-below_raised deal n p p' i k x h il kl within e put d q meets l ll = elim (same_or_other l k) [
-  | inl same ↦ subst (λ (z : ℕ). d * p' z ≤ q z) (sym same) raised_below
+-- a column whose price is raised as far as its row wants, where its own costs what it costs at the prices p
+pub below_raised : (deal : Deal) (n : ℕ) (p r r' : ℕ → ℕ) (i k x : ℕ) → IsBelow deal n p → IsBelow deal n r → i < n
+    → k ≤ 32 → mate_of deal i ≤ 32
+    → x + offer_of deal i (mate_of deal i) ≡ offer_of deal i k + p (mate_of deal i) → IsPut r r' k x
+    → IsBelow deal n r'
+below_raised deal n p r r' i k x h older il kl within e put d q meets l ll = elim (same_or_other l k) [
+  | inl same ↦ subst (λ (z : ℕ). d * r' z ≤ q z) (sym same) raised_below
   | inr other ↦
-      (let f = ap (λ (z : ℕ). d * z) (put.elsewhere l other) in let g = h d q meets l ll in omega (arith, f, g))
+      (let f = ap (λ (z : ℕ). d * z) (put.elsewhere l other) in
+      let g = older d q meets l ll in omega (arith, f, g))
 ]
   where
-    raised_below : d * p' k ≤ q k
+    raised_below : d * r' k ≤ q k
     raised_below =
         let a = meets i k il kl in
         let b = h d q meets (mate_of deal i) within in
@@ -68,11 +70,6 @@ below_small deal n q o few f below k kl =
 
 pub content_meets : (deal : Deal) (n : ℕ) (q : ℕ → ℕ) → ((i : ℕ) → i < n → NoneWanted deal q i) → Meets deal n 1 q
 content_meets deal n q h i k il kl = (let a = h i il k kl in omega (arith, a))
-
-pub wanted_raised : (deal : Deal) (n : ℕ) (q q' : ℕ → ℕ) (i k x : ℕ) → IsFair deal n → IsBelow deal n q → i < n
-    → IsWanted deal q i k x → IsPut q q' k x → IsBelow deal n q'
-wanted_raised deal n q q' i k x f below il w put =
-    below_raised deal n q q' i k x below il w.column (f.within i il) w.price put
 
 pub gain_less : (deal : Deal) (n : ℕ) (q : ℕ → ℕ) → IsFair deal n → IsBelow deal n q → (i : ℕ) → i < n
     → q (mate_of deal i) ≤ offer_of deal i (mate_of deal i)

@@ -5,6 +5,7 @@ pub mod Pairs
 pub mod Searches
 pub mod Walks
 pub mod Leasts
+pub mod Rounds
 pub mod Evenness
 pub mod Supports
 pub mod Members

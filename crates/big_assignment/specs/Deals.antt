@@ -22,8 +22,8 @@
 --   Meets          prices over a denominator leave each row content with its column
 --   IsBelow        no such prices are lower anywhere
 --   IsGain         what each row gains at its column's price
---   NoneWanted     a row would rather have no other column than its own
---   IsWanted       it would rather have another, and is content where that costs so much
+--   IsContentAt    a row would rather have no other column at some prices than its own at others
+--   NoneWanted     it would rather have no other column than its own
 --   Holds          the row that has a column, or 32 where none has
 --   IsOutside      nothing is offered outside of so many rows and columns
 --   IsTurned       rows and columns exchanged
@@ -118,16 +118,14 @@ IsBelow deal n p = (d : ℕ) (q : ℕ → ℕ) → Meets deal n d q → (k : ℕ
 pub record IsGain (deal : Deal) (n : ℕ) (p v : ℕ → ℕ) : Type 0 where
   pub adds : (i : ℕ) → i < n → v i + p (mate_of deal i) ≡ offer_of deal i (mate_of deal i)
 
+-- row i would rather have no other column at the prices q than its own at the prices p
+abbrev pub IsContentAt : Deal → (ℕ → ℕ) → (ℕ → ℕ) → ℕ → Type 0
+IsContentAt deal p q i =
+    (k : ℕ) → k ≤ 32 → offer_of deal i k + p (mate_of deal i) ≤ offer_of deal i (mate_of deal i) + q k
+
 -- row i would rather have no other column than its own
 abbrev pub NoneWanted : Deal → (ℕ → ℕ) → ℕ → Type 0
-NoneWanted deal p i =
-    (k : ℕ) → k ≤ 32 → offer_of deal i k + p (mate_of deal i) ≤ offer_of deal i (mate_of deal i) + p k
-
--- row i would rather have column k than its own, and is content where it costs x
-pub record IsWanted (deal : Deal) (p : ℕ → ℕ) (i k x : ℕ) : Type 0 where
-  pub column : k ≤ 32
-  pub dearer : p k < x
-  pub price : x + offer_of deal i (mate_of deal i) ≡ offer_of deal i k + p (mate_of deal i)
+NoneWanted deal p i = IsContentAt deal p p i
 
 -- ---- rows and columns exchanged
 

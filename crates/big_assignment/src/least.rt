@@ -1,60 +1,55 @@
 //! The least prices at which each row is content with its column: prices rise from 0, and only where a row would rather
 //! have another column (Shapley and Shubik 1971; Demange, Gale and Sotomayor 1986).
-ghost use Rattle.std.specs.Prelude.{ℕ, ◌+◌, ◌^◌, ◌<◌, ◌≤◌, slice_index, MatchOption};
-ghost use Rattle.big_assignment.specs.Deals.{AreColumns, AreDealOffers, IsBelow, IsFair, IsGain, IsWanted, NoneWanted};
-ghost use Rattle.big_assignment.specs.Deals.{at_prices, mate_of, offer_of};
+ghost use Rattle.std.specs.Prelude.{ℕ, ◌<◌, ◌≤◌, slice_index};
+ghost use Rattle.big_assignment.specs.Deals.{AreColumns, AreDealOffers, IsBelow, IsContentAt, IsFair, IsGain};
+ghost use Rattle.big_assignment.specs.Deals.{NoneWanted, at_prices, mate_of, offer_of};
 
 use crate::deal::{Deal, PLACES};
 
-/// The first column that row `i` would rather have than its own, and the price at which it is content.
-fn wanted_in_row(deal: &Deal, n: usize, i: usize, prices: &[u64; PLACES]) -> Option<(usize, u64)>
+/// The prices where row `i` has its turn: each column that it would rather have than its own costs so much more that
+/// the row is content.
+fn after_turn(deal: &Deal, n: usize, i: usize, prices: &[u64; PLACES]) -> [u64; PLACES]
     requires rows { n ≤ 32 }
     requires row { i < n }
     requires offers { AreDealOffers deal.now }
-    requires columns { AreColumns deal.now n }
-    requires small { (k : ℕ) → k ≤ 32 → slice_index prices.now k ≤ 2 ^ 40 }
-    ensures { MatchOption result
-        (NoneWanted deal.now (slice_index prices.now) i)
-        (λ w. IsWanted deal.now (slice_index prices.now) i w.0 w.1) }
+    requires fair { IsFair deal.now n }
+    requires below { IsBelow deal.now n (slice_index prices.now) }
+    ensures below { IsBelow deal.now n (slice_index result) }
+    ensures more { (k : ℕ) → k ≤ 32 → slice_index prices.now k ≤ slice_index result k }
+    ensures content { IsContentAt deal.now (slice_index prices.now) (slice_index result) i }
 {
     let own = deal.mate(i);
     let gain = deal.offer(i, own);
+    let mut raised = *prices;
     for k in 0..PLACES {
         let other = deal.offer(i, k) + prices[own];
         if gain + prices[k] < other {
-            return Some((k, other - gain));
+            raised[k] = other - gain;
         }
     }
-    None
+    raised
 }
 
-/// The first row, from row `from` on and then from the first, that would rather have another column than its own, with
-/// that column and the price at which the row is content.
-fn wanted(deal: &Deal, n: usize, from: usize, prices: &[u64; PLACES]) -> Option<(usize, usize, u64)>
+/// The prices where each row has its turn, one after the other.
+fn after_round(deal: &Deal, n: usize, prices: &[u64; PLACES]) -> [u64; PLACES]
     requires rows { n ≤ 32 }
-    requires start { from ≤ n }
     requires offers { AreDealOffers deal.now }
-    requires columns { AreColumns deal.now n }
-    requires small { (k : ℕ) → k ≤ 32 → slice_index prices.now k ≤ 2 ^ 40 }
-    ensures { MatchOption result
-        ((i : ℕ) → i < n → NoneWanted deal.now (slice_index prices.now) i)
-        (λ w. (w.0 < n) × IsWanted deal.now (slice_index prices.now) w.0 w.1 w.2) }
+    requires fair { IsFair deal.now n }
+    requires below { IsBelow deal.now n (slice_index prices.now) }
+    ensures below { IsBelow deal.now n (slice_index result) }
+    ensures more { (k : ℕ) → k ≤ 32 → slice_index prices.now k ≤ slice_index result k }
+    ensures content { (i : ℕ) → i < n → IsContentAt deal.now (slice_index prices.now) (slice_index result) i }
 {
-    for later in from..n {
-        if let Some((k, price)) = wanted_in_row(deal, n, later, prices) {
-            return Some((later, k, price));
-        }
+    let mut raised = *prices;
+    for i in 0..n {
+        raised = after_turn(deal, n, i, &raised);
     }
-    for earlier in 0..from {
-        if let Some((k, price)) = wanted_in_row(deal, n, earlier, prices) {
-            return Some((earlier, k, price));
-        }
-    }
-    None
+    raised
 }
 
-/// The least prices at which each row is content. Rows take turns, as in Bellman 1958, so as many turns of all rows as
-/// there are places suffice.
+/// The least prices at which each row is content. In each round, as in Bellman 1958, one price more gets as high as it
+/// has to be: so as many rounds as there are places suffice, and a price is raised in at most that many turns of each
+/// row.
 fn least_prices(deal: &Deal, n: usize) -> [u64; PLACES]
     requires rows { n ≤ 32 }
     requires offers { AreDealOffers deal.now }
@@ -63,10 +58,12 @@ fn least_prices(deal: &Deal, n: usize) -> [u64; PLACES]
     ensures content { (i : ℕ) → i < n → NoneWanted deal.now (slice_index result) i }
 {
     let mut prices = [0; PLACES];
-    let mut from = 0;
-    while let Some((row, k, price)) = wanted(deal, n, from, &prices) {
-        prices[k] = price;
-        from = row;
+    for _round in 0..PLACES {
+        let raised = after_round(deal, n, &prices);
+        if raised == prices {
+            return prices;
+        }
+        prices = raised;
     }
     prices
 }

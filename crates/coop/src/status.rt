@@ -27,7 +27,7 @@ pub enum Status {
 
 impl Status {
     /// The number that the program ends with: 0 to 3 after an answer, 5 to 7 after a fault.
-    pub(crate) fn number(self) -> u8
+    pub fn number(self) -> u8
         ensures { result ≡ status_number self }
     {
         self as u8

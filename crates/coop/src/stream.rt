@@ -48,6 +48,7 @@ pub(crate) fn write_line<K: Sink>(sink: &mut K, line: &[u8]) -> Result<(), Faile
         ((n : ℕ) × (n < length line.now) × Appends (K.taken sink.old) (K.taken sink.new) (take n line.now)) }
     ensures cause { HasCause (K.faults sink.old) (K.faults sink.new) result }
     ensures last { OnErr result (K.failed sink.new ≡ true) }
+    ensures same_sink { K.mark sink.new ≡ K.mark sink.old }
 {
     let mut at = 0;
     'writing: while at < line.len() {

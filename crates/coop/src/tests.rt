@@ -5,6 +5,7 @@ mod cores;
 mod failing_calls;
 mod fractional_worths;
 mod generated_games;
+mod greatest_games;
 mod hostile_documents;
 mod markets;
 mod networks_and_markets;
@@ -18,8 +19,7 @@ mod statuses;
 mod tables;
 mod votes;
 
-use crate::run::run;
-use crate::status::Status;
+use crate::{Status, run};
 use ports::{MemorySink, MemorySource};
 use std::alloc::Global;
 use std::process::Abort;

@@ -40,12 +40,12 @@ unit_at-other s t z h = rw (nat_eq-other t s h) (zero-mulℤ z)
 unit_at-same : (s : ℕ) (z : ℤ) → unit_at s s *ℤ z ≡ z
 unit_at-same s z = rw (nat_eq-same s) (one-mulℤ z)
 
+pub one_or_none-low : (b : Bool) → pos 0 ≤ℤ cond b (pos 1) (pos 0)
+one_or_none-low true = omega (arith, linear)
+one_or_none-low false = omega (arith, linear)
+
 pub unit_at-low : (s t : ℕ) → pos 0 ≤ℤ unit_at s t
-unit_at-low s t = either_low (nat_eq t s)
-  where
-    either_low : (b : Bool) → pos 0 ≤ℤ cond b (pos 1) (pos 0)
-    either_low true = omega (arith, linear)
-    either_low false = omega (arith, linear)
+unit_at-low s t = one_or_none-low (nat_eq t s)
 
 pub sum_below-unit : (m s : ℕ) (f : ℕ → ℤ) → s < m → sum_below m (λ t. unit_at s t *ℤ f t) ≡ f s
 sum_below-unit zero s f lt = absurd (omega arith)

@@ -1,5 +1,6 @@
 pub mod Elimination
 pub mod Farkas
+pub mod SideWeights
 pub mod CommonDivisors
 pub mod BondarevaShapley
 pub mod LeastValues

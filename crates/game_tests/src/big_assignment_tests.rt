@@ -287,3 +287,55 @@ fn no_pair_blocks_the_ends_of_a_market_of_scattered_numbers(rt: HostRuntime) -> 
     }
     Ok(())
 }
+
+/// What buyer `i` and seller `j` are worth together: 2^33 for the same number, 2^j more where the buyer's is greater,
+/// and else 0.
+fn step(i: u32, j: u32) -> i64
+    requires { j < 32 }
+{
+    if i < j {
+        0
+    } else if i == j {
+        1 << 33
+    } else {
+        (1 << 33) + (1 << j)
+    }
+}
+
+/// The matrix of these numbers, with 32 rows and columns.
+fn steps(alloc: Global) -> Result<Vec<Vec<i64>>, AllocError> {
+    let mut matrix = Vec::new(alloc);
+    for i in 0..32u32 {
+        let mut row = Vec::new(alloc);
+        for j in 0..32u32 {
+            row.push(step(i, j))?;
+        }
+        matrix.push(row)?;
+    }
+    Ok(matrix)
+}
+
+// Buyer i has seller i, and would rather have each seller of a lesser number, until it costs 2^j more. Where the buyer
+// of least number is always asked first, prices rise 2^31 - 1 times.
+#[test]
+fn buyers_who_take_turns_raise_few_prices(rt: HostRuntime) -> Result<(), Fail> {
+    let mut low = [0; 64];
+    let mut high = [0; 64];
+    for k in 0..32usize {
+        let power: i128 = 1 << k;
+        low[k] = (3 << 31) + power;
+        low[32 + k] = (1 << 31) - power;
+        high[k] = power - 1;
+        high[32 + k] = (1 << 33) + 1 - power;
+    }
+    let solution = solution_of(rt.alloc(), steps(rt.alloc())?)?;
+    assert_eq!(rt;
+        (
+            solution.value,
+            are_numbers(&solution.buyers_best, &low),
+            are_numbers(&solution.sellers_best, &high)
+        ),
+        (1 << 38, true, true)
+    );
+    Ok(())
+}

@@ -20,7 +20,7 @@ use Rattle.talmud.proofs.Excesses.{excess-core}
 use Rattle.talmud.proofs.Worths.{game_of, Divides, amount-at, worth-grand_coalition}
 
 -- the rule's shares lie in the core
-rule_in_core : (estate : ℕ) (claims : List ℕ) (x : Allocation) → IsTalmud estate claims x
+pub rule_in_core : (estate : ℕ) (claims : List ℕ) (x : Allocation) → IsTalmud estate claims x
     → InCore (game_of estate claims) x
 rule_in_core estate claims x h = (
   (h.players, h.positive),

@@ -5,13 +5,13 @@ use Rattle.definitions.proofs.Cases.{same_or_other, nat_eq-same, nat_eq-other}
 use Rattle.laws.specs.Renumbering.{IsRenumbering, exchanged, ExchangeChangesNothing}
 use Rattle.laws.proofs.RenumberingChangesNothing.{renumbering_changes_nothing}
 
-exchanged_first : (i j : ℕ) → exchanged i j i ≡ j
+pub exchanged_first : (i j : ℕ) → exchanged i j i ≡ j
 exchanged_first i j = rw (nat_eq-same i) refl
 
-exchanged_other : (i j k : ℕ) → k ≢ i → k ≢ j → exchanged i j k ≡ k
+pub exchanged_other : (i j k : ℕ) → k ≢ i → k ≢ j → exchanged i j k ≡ k
 exchanged_other i j k a b = rw (nat_eq-other k i a) (rw (nat_eq-other k j b) refl)
 
-exchanged_second : (i j : ℕ) → exchanged i j j ≡ i
+pub exchanged_second : (i j : ℕ) → exchanged i j j ≡ i
 exchanged_second i j = elim (same_or_other j i) [
   | inl same ↦ ap (exchanged i j) same ∙ exchanged_first i j ∙ same
   | inr other ↦ rw (nat_eq-other j i other) (rw (nat_eq-same j) refl)
@@ -38,7 +38,7 @@ exchanged_twice i j k = elim (same_or_other k i) [
   ]
 ]
 
-exchange_is_renumbering : (n i j : ℕ) → i < n → j < n → IsRenumbering n (exchanged i j) (exchanged i j)
+pub exchange_is_renumbering : (n i j : ℕ) → i < n → j < n → IsRenumbering n (exchanged i j) (exchanged i j)
 exchange_is_renumbering n i j hi hj = record {
   to_within = exchanged_within n i j hi hj;
   back_within = exchanged_within n i j hi hj;

@@ -2,15 +2,14 @@
 -- one coalition counts, and such a game leaves it no choice.
 use Rattle.std.proofs.Common.{◌≡◌, ◌↔◌, ℕ, zero, suc, ◌+◌, ◌-◌, ◌^◌, ◌<◌, ◌≤◌}
 use Rattle.std.proofs.Common.{Bool, true, false, cond, ℤ, pos}
-use Rattle.std.proofs.Common.{◌+ℤ◌, ◌-ℤ◌, ◌*ℤ◌, ◌<ℤ◌, ◌≤ℤ◌, refl, sym, ap, subst, ◌∙◌}
+use Rattle.std.proofs.Common.{◌+ℤ◌, ◌-ℤ◌, ◌*ℤ◌, ◌<ℤ◌, refl, sym, ap, subst, ◌∙◌}
 use Rattle.std.proofs.Common.{inl, inr, arith}
 use lib.IntN.{*ℤ_comm}
-use Rattle.std.proofs.lemmas.Int.{by_lt_z}
-use Rattle.definitions.proofs.Cases.{less_or_last, same_or_other, true_or_false}
+use Rattle.definitions.proofs.Cases.{same_or_other}
 use Rattle.definitions.proofs.Halves.{size_below}
 use Rattle.definitions.proofs.Masks.{grand_coalition-within}
 use Rattle.definitions.proofs.Members.{sum_below-same, sum_below-add, sum_below-times}
-use Rattle.definitions.proofs.Parts.{has_player-more_other, more-lt, sum_below-le}
+use Rattle.definitions.proofs.Parts.{has_player-more_other, more-lt}
 use Rattle.definitions.proofs.Ring.{ring_laws, linear, mul-cancelℤ, mul-addℤ}
 use Rattle.definitions.proofs.Ring.{mul-zeroℤ, mul_left_commℤ, mul-positiveℤ}
 use Rattle.definitions.specs.Sums.{sum_below}
@@ -24,7 +23,8 @@ use Rattle.laws.proofs.ShapleyNoLess.{totals-alike, alike_get_alike}
 use Rattle.laws.proofs.ShapleyDummies.{null-total, nothing_gets_nothing}
 use Rattle.laws.proofs.SharesAddToAll.{amount-all, efficient, factorial-positive, sum-totals}
 use Rattle.shapley.proofs.Orders.{orders_are_subsets}
-use Rattle.laws.proofs.UnanimityGames.{carried, misses-self, misses-member, misses-outside, misses-less}
+use Rattle.laws.proofs.LevelledSums.{IsLevelled, all_same}
+use Rattle.laws.proofs.UnanimityGames.{carried, misses-member, misses-outside, misses-less, below_next}
 
 -- the game of n players and these worths
 abbrev game : ℕ → (ℕ → ℤ) → Game
@@ -94,43 +94,6 @@ sum_down f g a b c d e t r w some h k same total =
     first : f *ℤ (c *ℤ (d *ℤ e)) ≡ (c *ℤ f) *ℤ (d *ℤ e)
     first = simp ring_laws
 
--- ---- numbers that are the same for all members of a coalition, and known outside
-
-less_sum : (n i : ℕ) (a b : ℕ → ℤ) → ((j : ℕ) → j < n → a j ≤ℤ b j) → i < n → a i <ℤ b i
-    → sum_below n a <ℤ sum_below n b
-less_sum zero i a b le h lt = absurd (omega arith)
-less_sum (suc n) i a b le h lt = elim (less_or_last i n h) [
-  | inl less ↦ omega (arith, linear, less_sum n i a b (λ j k. le j (omega arith)) less lt, le n (omega arith))
-  | inr same ↦ omega (arith, linear, sum_below-le n a b (λ j k. le j (omega arith)), lt, ap a same, ap b same)
-]
-
-module _ (n k : ℕ) where
-  -- outside the same, and one number for all members
-  abbrev IsLevelled : (ℕ → ℤ) → Type 0
-  IsLevelled a = (i j : ℕ) → i < n → j < n → has_player k i ≡ true → has_player k j ≡ true → a i ≡ a j
-
-  no_lesser : (a b : ℕ → ℤ) → ((i : ℕ) → i < n → has_player k i ≡ false → a i ≡ b i) → IsLevelled a → IsLevelled b
-      → sum_below n a ≡ sum_below n b → (i : ℕ) → i < n → has_player k i ≡ true → a i <ℤ b i → ⊥
-  no_lesser a b out la lb sums i lt has less =
-      let below = less_sum n i a b (λ j h. elim (true_or_false (has_player k j)) [
-        | inl inside ↦ omega (arith, linear, la i j lt h has inside, lb i j lt h has inside, less)
-        | inr outside ↦ omega (arith, linear, out j h outside)
-      ]) lt less in
-      omega (arith, linear, below, sums)
-
-  pub all_same : (a b : ℕ → ℤ) → ((i : ℕ) → i < n → has_player k i ≡ false → a i ≡ b i) → IsLevelled a
-      → IsLevelled b → sum_below n a ≡ sum_below n b → (i : ℕ) → i < n → a i ≡ b i
-  all_same a b out la lb sums i lt = elim (true_or_false (has_player k i)) [
-    | inl inside ↦
-        by_lt_z (a i) (b i)
-        (λ less. absurd (no_lesser a b out la lb sums i lt inside less))
-        (λ le.
-        by_lt_z (b i) (a i)
-        (λ more. absurd (no_lesser b a (λ j h o. sym (out j h o)) lb la (sym sums) i lt inside more))
-        (λ ge. omega (arith, linear, le, ge)))
-    | inr outside ↦ out i lt outside
-  ]
-
 -- ---- a fair rule
 
 module _ (n : ℕ) (rule : Game → Allocation) (fair : IsFairRule n rule) where
@@ -170,7 +133,7 @@ module _ (n : ℕ) (rule : Game → Allocation) (fair : IsFairRule n rule) where
 
   gives-carried : (k : ℕ) (c : ℤ) → 1 ≤ k → k < 2 ^ n → Gives (carried n k c)
   gives-carried k c some small i lt =
-      *ℤ_comm (share x i) f ∙ all_same n k a b outside left right sums i lt
+      *ℤ_comm (share x i) f ∙ all_same n (has_player k) a b outside left right sums i lt
     where
       g : Game
       g = game n (carried n k c)
@@ -195,11 +158,11 @@ module _ (n : ℕ) (rule : Game → Allocation) (fair : IsFairRule n rule) where
           ∙ sym (mul-zeroℤ x.den)
           ∙ ap (λ (z : ℤ). x.den *ℤ z) (sym (null-total g j h adds))
 
-      left : IsLevelled n k a
+      left : IsLevelled n (has_player k) a
       left j l hj hl kj kl =
           ap (λ (z : ℤ). f *ℤ z) (fair.alike g j l ok hj hl (carried-alike k c j l hj hl kj kl))
 
-      right : IsLevelled n k b
+      right : IsLevelled n (has_player k) b
       right j l hj hl kj kl =
           ap (λ (z : ℤ). x.den *ℤ z) (totals-alike g j l hj hl (carried-alike k c j l hj hl kj kl))
 
@@ -217,18 +180,6 @@ module _ (n : ℕ) (rule : Game → Allocation) (fair : IsFairRule n rule) where
   positive : (g : Game) → IsGameOf n g → pos 0 <ℤ (rule g).den
   positive g ok = let some = (fair.shares g ok).1 in omega (arith, linear, some)
 
-  -- without its part at k a game is 0 there too
-  below_next : (k : ℕ) (v : ℕ → ℤ) → ((s : ℕ) → s < k → v s ≡ pos 0) → k < 2 ^ n → (s : ℕ) → s < suc k
-      → v s -ℤ carried n k (v k) s ≡ pos 0
-  below_next k v none small s h = elim (less_or_last s k h) [
-    | inl less ↦
-        let out = ap (λ (b : Bool). cond b (pos 0) (v k)) (misses-less n k s small less) in
-        omega (arith, linear, none s less, out)
-    | inr same ↦
-        let inside = ap (λ (b : Bool). cond b (pos 0) (v k)) (misses-self n k) in
-        omega (arith, linear, inside, ap v same, ap (carried n k (v k)) same)
-  ]
-
   -- worths that are 0 below k: the worth of k is taken off
   gives-from : (d k : ℕ) → k + d ≡ 2 ^ n → 1 ≤ k → (v : ℕ → ℤ) → ((s : ℕ) → s < k → v s ≡ pos 0) → Gives v
   gives-from zero k e some v none i lt =
@@ -238,7 +189,7 @@ module _ (n : ℕ) (rule : Game → Allocation) (fair : IsFairRule n rule) where
       let u = carried n k (v k) in
       let w = λ (s : ℕ). v s -ℤ u s in
       let small : k < 2 ^ n = omega (arith, e) in
-      let less = below_next k v none small in
+      let less = below_next n k v none small in
       let nobody = none 0 (omega (arith, some)) in
       let one = gives-carried k (v k) some small i lt in
       let two = gives-from d (suc k) (omega (arith, e)) (omega arith) w less i lt in

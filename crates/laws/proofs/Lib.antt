@@ -1,22 +1,25 @@
+pub mod Numbers
+pub mod AtPlayer
 mod Gaps
-mod NucleolusIsUnique
-mod NucleolusIsInCore
-mod SomeGreater
-mod WithACoreBothAreOne
-mod ShiftsChangeNothing
-mod EquivalentGamesAgree
-mod Withouts
+pub mod NucleolusIsUnique
+pub mod NucleolusIsInCore
+pub mod SomeGreater
+pub mod WithACoreBothAreOne
+pub mod ShiftsChangeNothing
+pub mod EquivalentGamesAgree
+pub mod Withouts
 mod DummiesGetTheirWorth
 mod DummiesMayGetLess
 mod WhoAddsNoLessGetsNoLess
 mod AlikePlayersGetAlike
-mod ShapleyValuesExist
-mod TotalsAdd
+pub mod ShapleyValuesExist
+pub mod TotalsAdd
 mod SharesScale
-mod SharesAddToAll
-mod ShapleyNoLess
+pub mod SharesAddToAll
+pub mod ShapleyNoLess
 mod ShapleyDummies
-mod UnanimityGames
+pub mod LevelledSums
+pub mod UnanimityGames
 mod FairRulesAreShapley
 mod AddsNoLessInClasses
 mod BesideTheirOwn
@@ -25,19 +28,19 @@ mod WhoNeedsMoreSavesNoLess
 mod WhoClaimsMoreGetsNoLess
 mod WhoClaimsMoreLosesNoLess
 mod WhoHasMoreVotesGetsNoLess
-mod LittlechildPayments
-mod EachTwoAreAGarment
-mod NoOtherIsConsistent
-mod TalmudSharesExist
+pub mod LittlechildPayments
+pub mod EachTwoAreAGarment
+pub mod NoOtherIsConsistent
+pub mod TalmudSharesExist
 mod BalanceIsTheGarment
-mod EveryNucleolus
+pub mod EveryNucleolus
 mod ExampleGarment
 mod SortedLists
 mod LeavingOut
 mod ScaleDoesNotMatter
 mod ClassesTimes
-mod SmallNucleoli
-mod Gathered
-mod RenumberedCoalitions
-mod RenumberingChangesNothing
-mod ExchangeChangesNothing
+pub mod SmallNucleoli
+pub mod Gathered
+pub mod RenumberedCoalitions
+pub mod RenumberingChangesNothing
+pub mod ExchangeChangesNothing

@@ -8,7 +8,7 @@ use Rattle.std.proofs.lemmas.Int.{by_lt_z}
 use Rattle.definitions.proofs.Cases.{less_same_or_greater, same_or_other, next_or_last}
 use Rattle.definitions.proofs.Masks.{singleton-within}
 use Rattle.definitions.proofs.Members.{has_player-singleton_other, sum_over-grand_coalition, sum_over-singleton}
-use Rattle.definitions.proofs.Ring.{linear, mul-leℤ, mul-negℤ}
+use Rattle.definitions.proofs.Ring.{linear, mul-leℤ, mul-negℤ, mul-zeroℤ}
 use Rattle.definitions.specs.Sums.{sum_below}
 use Rattle.definitions.specs.Coalitions.{has_player, singleton, grand_coalition, sum_over}
 use Rattle.definitions.specs.Classes.{greatest_cost}
@@ -19,6 +19,7 @@ use Rattle.airport.proofs.GreatestCosts.{greatest_cost-at_most}
 use Rattle.airport_scheme.specs.Scheme.{IsScheme, IsPaid}
 use Rattle.laws.specs.Airports.{pays}
 use Rattle.airport_scheme.proofs.Chains.{InCore-scheme}
+use Rattle.laws.proofs.Numbers.{none_or_some}
 
 -- ---- by place
 
@@ -93,20 +94,31 @@ module _ (costs : List ℕ) (at : ℕ → ℕ) (pay : ℕ → ℤ) (x : Allocati
       low in
       omega (arith, linear, e, pays-at a.0 a.1, pays-at b.0 b.1, ap (pays x) a.2, ap (pays x) b.2)
 
-  pub group : (s : ℕ) → 1 ≤ length costs → s < 2 ^ length costs
+  some_group : (s : ℕ) → 1 ≤ length costs → s < 2 ^ length costs
       → sum_over (length costs) (pays x) s
       ≤ℤ (x.den *ℤ pos (greatest_cost (length costs) (λ k. get_or costs k 0) s))
-  group s some lt =
+  some_group s some lt =
       let core = InCore-scheme costs at pay x some p in
       let g = greatest_cost (length costs) (λ k. get_or costs k 0) s in
       by_lt_z (amount x s) (x.den *ℤ neg_ℤ (pos g))
       (λ blocks. absurd (core.2 s lt blocks))
       (λ le. omega (arith, linear, le, sum_over-paid (length costs) x s p.players, mul-negℤ x.den (pos g)))
 
-  pub all_pay : 1 ≤ length costs
+  pub group : (s : ℕ) → s < 2 ^ length costs
+      → sum_over (length costs) (pays x) s
+      ≤ℤ (x.den *ℤ pos (greatest_cost (length costs) (λ k. get_or costs k 0) s))
+  group s lt = elim (none_or_some (length costs)) [
+    | inl none ↦
+        let left = ap (λ (n : ℕ). sum_over n (pays x) s) none in
+        let right = ap (λ (n : ℕ). x.den *ℤ pos (greatest_cost n (λ k. get_or costs k 0) s)) none in
+        omega (arith, linear, left, right, mul-zeroℤ x.den)
+    | inr some ↦ some_group s some lt
+  ]
+
+  some_all_pay : 1 ≤ length costs
       → sum_below (length costs) (pays x)
       ≡ x.den *ℤ pos (greatest_cost (length costs) (λ k. get_or costs k 0) (grand_coalition (length costs)))
-  all_pay some =
+  some_all_pay some =
       let core = InCore-scheme costs at pay x some p in
       let all = grand_coalition (length costs) in
       let g = greatest_cost (length costs) (λ k. get_or costs k 0) all in
@@ -120,12 +132,23 @@ module _ (costs : List ℕ) (at : ℕ → ℕ) (pay : ℕ → ℤ) (x : Allocati
         mul-negℤ x.den (pos g),
       )
 
+  pub all_pay : sum_below (length costs) (pays x)
+      ≡ x.den *ℤ pos (greatest_cost (length costs) (λ k. get_or costs k 0) (grand_coalition (length costs)))
+  all_pay = elim (none_or_some (length costs)) [
+    | inl none ↦
+        let all = grand_coalition (length costs) in
+        let left = ap (λ (n : ℕ). sum_below n (pays x)) none in
+        let right = ap (λ (n : ℕ). x.den *ℤ pos (greatest_cost n (λ k. get_or costs k 0) all)) none in
+        omega (arith, linear, left, right, mul-zeroℤ x.den)
+    | inr some ↦ some_all_pay some
+  ]
+
   pub nobody_more : (i : ℕ) → i < length costs
       → (pos 0 ≤ℤ pays x i) × (pays x i ≤ℤ (x.den *ℤ pos (get_or costs i 0)))
   nobody_more i lt =
       let a = order-place (length costs) (λ k. get_or costs k 0) at p.order i lt in
       let least = p.scheme.least a.0 a.1 in
-      let alone = group (singleton i) (omega arith) (singleton-within (length costs) i lt) in
+      let alone = group (singleton i) (singleton-within (length costs) i lt) in
       let one = sum_over-singleton (length costs) i (pays x) lt in
       let cost =
       greatest_cost-at_most (length costs) (λ k. get_or costs k 0) (singleton i) (get_or costs i 0)

@@ -30,7 +30,7 @@ pub excess_grand : (g : Game) (x : Allocation) → IsEfficient g x → excess g 
 excess_grand g x e = omega (arith, linear, e)
 
 -- shares that are the same leave each coalition the same excess
-same_excess : (g : Game) (x y : Allocation) (s : ℕ) → IsAllocation g x → IsAllocation g y → IsSame g x y
+pub same_excess : (g : Game) (x y : Allocation) (s : ℕ) → IsAllocation g x → IsAllocation g y → IsSame g x y
     → x.den *ℤ excess g y s ≡ y.den *ℤ excess g x s
 same_excess g x y s hx hy same =
     let none =
@@ -48,7 +48,7 @@ same_excess g x y s hx hy same =
 -- ---- a core point
 
 -- no excess is above 0
-core_low : (g : Game) (z : Allocation) → InCore g z → (s : ℕ) → s < 2 ^ g.players → excess g z s ≤ℤ pos 0
+pub core_low : (g : Game) (z : Allocation) → InCore g z → (s : ℕ) → s < 2 ^ g.players → excess g z s ≤ℤ pos 0
 core_low g z h s lt =
     by_lt_z (amount z s) (z.den *ℤ g.worth s) (λ blocks. absurd (h.2 s lt blocks)) (λ le. omega (arith, linear, le))
 

@@ -19,7 +19,7 @@ use Rattle.laws.proofs.Gathered.{sum_below-renumbered}
 
 -- ---- the coalition of the players that pass a test
 
-coalition_where-within : (n : ℕ) (test : ℕ → Bool) → coalition_where n test < 2 ^ n
+pub coalition_where-within : (n : ℕ) (test : ℕ → Bool) → coalition_where n test < 2 ^ n
 coalition_where-within zero test = omega arith
 coalition_where-within (suc n) test = next_within (test n) (coalition_where-within n test)
   where
@@ -28,7 +28,7 @@ coalition_where-within (suc n) test = next_within (test n) (coalition_where-with
     next_within true lt = omega (arith, lt, pow-suc 2 n)
     next_within false lt = omega (arith, lt, pow-suc 2 n)
 
-coalition_where-has : (n : ℕ) (test : ℕ → Bool) (i : ℕ) → i < n → has_player (coalition_where n test) i ≡ test i
+pub coalition_where-has : (n : ℕ) (test : ℕ → Bool) (i : ℕ) → i < n → has_player (coalition_where n test) i ≡ test i
 coalition_where-has zero test i lt = absurd (omega arith)
 coalition_where-has (suc n) test i lt =
     next_has (test n) refl (λ less. coalition_where-has n test i less) (coalition_where-within n test)
@@ -52,7 +52,7 @@ coalition_where-has (suc n) test i lt =
     ]
 
 -- coalitions of n players with the same players below n are the same
-same_below : (n s t : ℕ) → s < 2 ^ n → t < 2 ^ n → ((i : ℕ) → i < n → has_player s i ≡ has_player t i) → s ≡ t
+pub same_below : (n s t : ℕ) → s < 2 ^ n → t < 2 ^ n → ((i : ℕ) → i < n → has_player s i ≡ has_player t i) → s ≡ t
 same_below n s t hs ht each =
     same_coalition s t (λ i. elim (below_or_above i n) [
       | inl less ↦ each i less

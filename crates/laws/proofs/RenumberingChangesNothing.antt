@@ -1,9 +1,9 @@
 -- The nucleolus of a game with its players renumbered has the renumbered shares: a coalition's excess is that of the
 -- coalition that its members were, so both games have the same excesses in another order.
-use Rattle.std.proofs.Common.{◌≡◌, ℕ, zero, suc, ◌+◌, ◌-◌, ◌/◌, ◌^◌, ◌<◌}
-use Rattle.std.proofs.Common.{List, length, map, slice_index_or, ℤ, pos, ◌-ℤ◌, ◌*ℤ◌}
+use Rattle.std.proofs.Common.{◌≡◌, ℕ, ◌+◌, ◌-◌, ◌/◌, ◌^◌, ◌<◌}
+use Rattle.std.proofs.Common.{List, length, ℤ, pos, ◌-ℤ◌, ◌*ℤ◌}
 use Rattle.std.proofs.Common.{refl, sym, ap, subst, ◌∙◌, inl, inr, arith}
-use Rattle.std.specs.List.{range_with_len}
+use Rattle.std.proofs.lemmas.List.FromFn.{get_or-map-range_with_len, length-map-range_with_len}
 use Rattle.definitions.proofs.Ring.{linear}
 use Rattle.definitions.proofs.Masks.{grand_coalition-within, singleton-within}
 use Rattle.definitions.proofs.Families.{allocation_of}
@@ -24,16 +24,10 @@ use Rattle.laws.proofs.Gathered.{sorted-renumbered}
 use Rattle.laws.proofs.RenumberedCoalitions.{reverse_of, was_grand, was_singleton, was_some, sum_over-was}
 use Rattle.laws.proofs.RenumberedCoalitions.{size-was, was_back, places}
 
--- ---- lists over places
-
-mapped_length : (f : ℕ → ℤ) (a c : ℕ) → length (map f (range_with_len a c)) ≡ c
-mapped_length f a zero = refl
-mapped_length f a (suc c) = ap suc (mapped_length f (a + 1) c)
-
-mapped_at : (f : ℕ → ℤ) (a c i : ℕ) → i < c → slice_index_or (map f (range_with_len a c)) i (pos 0) ≡ f (a + i)
-mapped_at f a zero i lt = absurd (omega arith)
-mapped_at f a (suc c) zero lt = ap f (omega arith)
-mapped_at f a (suc c) (suc i) lt = mapped_at f (a + 1) c i (omega arith) ∙ ap f (omega arith)
+pub renumbered_share : (to : ℕ → ℕ) (x : Allocation) (i : ℕ) → i < length x.shares
+    → share (renumbered_shares to x) i ≡ share x (to i)
+renumbered_share to x i lt =
+    get_or-map-range_with_len (λ i. share x (to i)) 0 (length x.shares) i i (pos 0) lt (omega arith)
 
 -- ---- the game and the shares, where u is the worth of the coalition that s was
 
@@ -53,12 +47,10 @@ module _ (n : ℕ) (to back : ℕ → ℕ) (r : IsRenumbering n to back) (v u : 
   y = renumbered_shares to x
 
   y_length : length y.shares ≡ n
-  y_length = mapped_length (λ i. share x (to i)) 0 (length x.shares) ∙ shares
+  y_length = length-map-range_with_len (λ i. share x (to i)) 0 (length x.shares) ∙ shares
 
   y_share : (i : ℕ) → i < n → share y i ≡ share x (to i)
-  y_share i lt =
-      mapped_at (λ i. share x (to i)) 0 (length x.shares) i (omega (arith, lt, shares))
-      ∙ ap (λ k. share x (to k)) (omega arith)
+  y_share i lt = renumbered_share to x i (omega (arith, lt, shares))
 
   y_amount : (s : ℕ) → amount y s ≡ amount x (image s)
   y_amount s =

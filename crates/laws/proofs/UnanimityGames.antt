@@ -2,12 +2,12 @@
 -- anything.
 use Rattle.std.proofs.Common.{◌≡◌, ℕ, zero, suc, ◌+◌, ◌-◌, ◌^◌, ◌<◌, ◌≤◌, Bool}
 use Rattle.std.proofs.Common.{true, false, cond}
-use Rattle.std.proofs.Common.{◌&&◌, not, ℤ, pos, ◌≤ℤ◌, refl, sym, ap, inl, inr}
+use Rattle.std.proofs.Common.{◌&&◌, not, ℤ, pos, ◌-ℤ◌, ◌≤ℤ◌, refl, sym, ap, inl, inr}
 use Rattle.std.proofs.Common.{arith}
 use Rattle.std.proofs.lemmas.Bool.{false≢true}
 use Rattle.std.proofs.lemmas.Int.{ints}
 use Rattle.std.proofs.Math.Nat.{pow-suc}
-use Rattle.definitions.proofs.Cases.{below_or_above, same_or_other, true_or_false}
+use Rattle.definitions.proofs.Cases.{below_or_above, less_or_last, same_or_other, true_or_false}
 use Rattle.definitions.proofs.Halves.{has_player-last, has_player-upper, has_player-lower}
 use Rattle.definitions.proofs.Members.{sum_below-same}
 use Rattle.definitions.proofs.Parts.{has_player-more_other, sum_below-le}
@@ -91,4 +91,16 @@ pub misses-less : (n k s : ℕ) → k < 2 ^ n → s < k → misses n k s ≡ tru
 misses-less n k s h lt = elim (true_or_false (misses n k s)) [
   | inl some ↦ some
   | inr none ↦ absurd (let le = no_less n k s h (omega (arith, h, lt)) none in omega (arith, le, lt))
+]
+
+-- without its part at k a game whose worths are 0 below k is 0 there too
+pub below_next : (n k : ℕ) (v : ℕ → ℤ) → ((s : ℕ) → s < k → v s ≡ pos 0) → k < 2 ^ n → (s : ℕ) → s < suc k
+    → v s -ℤ carried n k (v k) s ≡ pos 0
+below_next n k v none small s h = elim (less_or_last s k h) [
+  | inl less ↦
+      let out = ap (λ (b : Bool). cond b (pos 0) (v k)) (misses-less n k s small less) in
+      omega (arith, linear, none s less, out)
+  | inr same ↦
+      let inside = ap (λ (b : Bool). cond b (pos 0) (v k)) (misses-self n k) in
+      omega (arith, linear, inside, ap v same, ap (carried n k (v k)) same)
 ]

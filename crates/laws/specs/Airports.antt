@@ -65,12 +65,12 @@ NobodyPaysMoreThanAlone =
 abbrev pub NoGroupPaysMoreThanItsCost : Type 0
 NoGroupPaysMoreThanItsCost =
     (costs : List ℕ) (at : ℕ → ℕ) (pay : ℕ → ℤ) (x : Allocation) (s : ℕ) → IsPaid costs at pay x →
-    1 ≤ length costs → s < 2 ^ length costs →
+    s < 2 ^ length costs →
     sum_over (length costs) (pays x) s ≤ℤ (x.den *ℤ pos (greatest_cost (length costs) (slice_index costs) s))
 
 -- all together pay just the greatest cost
 abbrev pub AllPayTheGreatestCost : Type 0
 AllPayTheGreatestCost =
-    (costs : List ℕ) (at : ℕ → ℕ) (pay : ℕ → ℤ) (x : Allocation) → IsPaid costs at pay x → 1 ≤ length costs →
+    (costs : List ℕ) (at : ℕ → ℕ) (pay : ℕ → ℤ) (x : Allocation) → IsPaid costs at pay x →
     sum_below (length costs) (pays x)
     ≡ x.den *ℤ pos (greatest_cost (length costs) (slice_index costs) (grand_coalition (length costs)))

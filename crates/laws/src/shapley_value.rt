@@ -46,9 +46,10 @@ pub fn dummies_get_their_worth()
     ensures { DummiesGetTheirWorth }
 {}
 
-/// The theorem of Shapley (1953), both ways. A rule that gives shares to all games of so many players is efficient,
-/// gives the same to players that the game doesn't tell apart and nothing to those who add nothing, and adds up over
-/// sums of games, just where it gives each game the Shapley value.
+/// The theorem of Shapley (1953), both ways, on the games of so many players whose worths are whole numbers, and for
+/// rules whose shares are fractions. A rule that gives shares to all these games is efficient, gives the same to those
+/// whom the game doesn't tell apart and nothing to those who add nothing, and adds up over sums of games, just where it
+/// gives each game the Shapley value.
 pub fn fair_rules_are_shapley()
     ensures { FairRulesAreShapley }
 {}

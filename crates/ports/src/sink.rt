@@ -1,4 +1,4 @@
-ghost use Rattle.std.specs.Prelude.{ℕ, List, Option, Bool};
+ghost use Rattle.std.specs.Prelude.{◌≡◌, ℕ, List, Option, Bool};
 ghost use Rattle.ports.specs.Writes.{IsWrite};
 
 use crate::Failed;
@@ -11,12 +11,15 @@ pub trait Sink {
     ghost faults: { Self → ℕ };
     // Whether the last write failed.
     ghost failed: { Self → Bool };
+    // A number by which its owner knows the sink again, as where it holds memory of its owner: no write changes it.
+    ghost mark: { Self → ℕ } = { λ _. 0 };
 
     /// Takes bytes from the front of `piece`, at least one where there is one, and gives their number.
     ///
     /// `Failed` comes only where the count of faults rises by one or stands at its last value, and keeps what was
     /// taken.
     fn write(&mut self, piece: &[u8]) -> Result<usize, Failed>
-        ensures { IsWrite (taken self.old) (taken self.new) (faults self.old) (faults self.new) (failed self.new)
-            result piece.now };
+        ensures write { IsWrite (taken self.old) (taken self.new) (faults self.old) (faults self.new) (failed self.new)
+            result piece.now }
+        ensures same_sink { mark self.new ≡ mark self.old };
 }

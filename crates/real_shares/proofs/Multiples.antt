@@ -29,10 +29,10 @@ module _ {C : Type 0} (N : Numbers C) (L : IsOrderedGroup N) where
   pub plus-equal : {a b c d : C} → Equal N a b → Equal N c d → Equal N (N.plus a c) (N.plus b d)
   plus-equal {a} {b} {c} {d} h k = (plus-at_most a b c d h.0 k.0, plus-at_most b a d c h.1 k.1)
 
-  left : {a b : C} (c : C) → Equal N a b → Equal N (N.plus a c) (N.plus b c)
+  pub left : {a b : C} (c : C) → Equal N a b → Equal N (N.plus a c) (N.plus b c)
   left {a} {b} c h = plus-equal {a = a} {b = b} {c = c} {d = c} h (equal-same N L c)
 
-  right : {a b : C} (c : C) → Equal N a b → Equal N (N.plus c a) (N.plus c b)
+  pub right : {a b : C} (c : C) → Equal N a b → Equal N (N.plus c a) (N.plus c b)
   right {a} {b} c h = plus-equal {a = c} {b = c} {c = a} {d = b} (equal-same N L c) h
 
   pub neutral_left : (a : C) → Equal N (N.plus N.zero a) a

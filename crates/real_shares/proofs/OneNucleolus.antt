@@ -22,7 +22,7 @@ unbeaten_is_same N family measure g x y hx hy unbeaten i lt =
       | inl h ↦ elim (decided (N.at_most b a)) [ inr k ↦ absurd (wrong (λ e. k e.1)) | inl k ↦ (h, k) ]
     ]
 
-not_both_over : {C : Type 0} (N : Numbers C) (l k : List C) → IsLesserBy N l k → IsLesserBy N k l → IsOrderedGroup N
+pub not_both_over : {C : Type 0} (N : Numbers C) (l k : List C) → IsLesserBy N l k → IsLesserBy N k l → IsOrderedGroup N
     → ⊥
 not_both_over N [] k h i L = absurd h
 not_both_over N (a ∷ l) [] h i L = absurd h

@@ -37,7 +37,7 @@ use Rattle.real_shares.proofs.Differences.{gap, excess-differs, all-zero, bound-
 
 -- ---- lists over the masks
 
-SameOrLow-range : {C : Type 0} (N : Numbers C) (e : C) (f h : ℕ → C) (a k : ℕ)
+pub SameOrLow-range : {C : Type 0} (N : Numbers C) (e : C) (f h : ℕ → C) (a k : ℕ)
     → ((s : ℕ) → a ≤ s → s < a + k → Equal N (f s) (h s) ⊎ AtMost N (f s) e)
     → SameOrLow N e (map f (range_with_len a k)) (map h (range_with_len a k))
 SameOrLow-range N e f h a zero each = tt
@@ -46,7 +46,7 @@ SameOrLow-range N e f h a (suc k) each = (
   SameOrLow-range N e f h (a + 1) k (λ s low high. each s (omega arith) (omega arith)),
 )
 
-SomeAbove-range : {C : Type 0} (N : Numbers C) (e : C) (f h : ℕ → C) (a k c : ℕ) → a ≤ c → c < a + k
+pub SomeAbove-range : {C : Type 0} (N : Numbers C) (e : C) (f h : ℕ → C) (a k c : ℕ) → a ≤ c → c < a + k
     → AtMost N (f c) e → Less N e (h c) → SomeAbove N e (map f (range_with_len a k)) (map h (range_with_len a k))
 SomeAbove-range N e f h a zero c low high at above = absurd (omega arith)
 SomeAbove-range N e f h a (suc k) c low high at above = elim (same_or_later a c low) [

@@ -8,8 +8,8 @@ ghost use Rattle.real_shares.specs.Theorems.{CollectionsBlockOverGroups, Collect
 ghost use Rattle.real_shares.specs.Theorems.{CorePointsForReals, PrekernelForReals, OneAmongReals, UnbeatenIsSame};
 
 /// A certificate that meets its form and its conditions certifies the nucleolus over every linearly ordered abelian
-/// group with a unit above zero, for any number of players (at most 16 for excess per head), in both modes and for both
-/// families (Schmeidler 1969, Kohlberg 1971).
+/// group with a unit above zero, for both families (Schmeidler 1969, Kohlberg 1971): of any number of players in mode
+/// players, and of at most 16 in mode span, as the form asks, and for excess per head.
 pub fn certificates_are_sound_over_groups()
     ensures { SoundOverGroups }
 {}

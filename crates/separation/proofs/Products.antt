@@ -103,6 +103,29 @@ pub below_bound : (b l v a least bound height : ℤ) → b +ℤ l ≡ v → v <�
     → bound ≤ℤ height → b <ℤ height
 below_bound b l v a least bound height e f g h i = omega (arith, linear, e, f, g, h, i)
 
+-- a height is so much above the base as the cost above the value
+pub height_by_gap : (b l v a z : ℤ) → z ≡ a -ℤ l → b +ℤ l ≡ v → z ≡ b +ℤ (a -ℤ v)
+height_by_gap b l v a z e f = omega (arith, linear, e, f)
+
+-- and so it is at most each number that no height is above
+pub gap_bound : (b l v a least bound height : ℤ) → b +ℤ l ≡ v → least ≤ℤ l → (a -ℤ least) ≤ℤ bound
+    → bound ≤ℤ height → (b +ℤ (a -ℤ v)) ≤ℤ height
+gap_bound b l v a least bound height e f g h = omega (arith, linear, e, f, g, h)
+
+-- what a cost is above a value
+pub gap_held : (d w a b : ℤ) → unsigned_abs d ≤ 2 ^ 63 → unsigned_abs w < 2 ^ 46 → a ≡ d *ℤ w
+    → unsigned_abs b ≤ 2 ^ 115 → FitsSigned w128 (held a -ℤ held b) × (held (held a -ℤ held b) ≡ d *ℤ w -ℤ b)
+gap_held d w a b hd hw is hb =
+    let product : unsigned_abs (d *ℤ w) ≤ 2 ^ 109 =
+    le_trans (unsigned_abs-mul_le d w (2 ^ 63) (2 ^ 46) hd (le_of_lt hw)) (lit≤ tt) in
+    let ka : held (d *ℤ w) ≡ d *ℤ w = cast_kept w128 (d *ℤ w) (omega (arith, product)) in
+    let kb : held b ≡ b = cast_kept w128 b (omega (arith, hb)) in
+    let small : unsigned_abs (d *ℤ w -ℤ b) ≤ 2 ^ 116 = omega (arith, ints, product, hb) in
+    rw (is, ka, kb) (
+      fits_signed_from_abs w128 (d *ℤ w -ℤ b) (omega (arith, small)),
+      cast_kept w128 (d *ℤ w -ℤ b) (omega (arith, small)),
+    )
+
 -- less a number
 pub less_a_number : (a b l : ℤ) → a ≤ℤ b → (a -ℤ l) ≤ℤ (b -ℤ l)
 less_a_number a b l h = omega (arith, linear, h)

@@ -18,20 +18,23 @@
 --   NoneRises        it has for none
 --   IsFirstRising    the first coalition for which it has
 --   IsSomeRising     one for which it has
---   IsHighestIn      which of the coalitions from one on up to another has the greatest height
 --   value_in         the value of a coalition's column
---   AreValues        a base and the sums of a table give the values of some coalitions
 --   worth_in         what the worth of a coalition counts for
+--   gap_in           by how much its cost is above its value
+--   IsMostIn         one for which it has, and none of some for which it has has a greater gap
+--   IsHighestIn      which of the coalitions from one on up to another has the greatest height
+--   AreValues        a base and the sums of a table give the values of some coalitions
 --   IsSmallTable     the numbers of a table are at most 2^60 in size
 use Rattle.std.specs.Prelude.{◌≡◌, ℕ, ◌%◌, ◌^◌, ◌<◌, ◌≤◌, Bool, List, Option}
-use Rattle.std.specs.Prelude.{ℤ, pos, ◌+ℤ◌, unsigned_abs, slice_index_or}
+use Rattle.std.specs.Prelude.{ℤ, pos, ◌+ℤ◌, ◌-ℤ◌, ◌*ℤ◌, unsigned_abs, slice_index_or}
 use Rattle.definitions.specs.Games.{Game}
 use Rattle.worth_core.specs.declared.worth.Worth.{Ghosts}
 use Rattle.simplex.specs.declared.multipliers.Multipliers.{Multipliers}
 use Rattle.separation.specs.Kept.{column_at}
 use Rattle.separation.specs.Making.{plain}
 use Rattle.separation.specs.Fronts.{front_columns, front_level, marked_column, lazy_columns}
-use Rattle.separation.specs.Values.{column_value, counted, Rises, IsFirst, IsFirstBelow, IsSomeBelow, IsHighest}
+use Rattle.separation.specs.Values.{column_value, counted, Rises, IsFirst, IsFirstBelow, IsSomeBelow}
+use Rattle.separation.specs.Values.{IsMost, IsHighest}
 use Rattle.separation.specs.declared.column.Column.{Column}
 use Rattle.separation.specs.declared.lazy.Lazy.{Lazy}
 use Rattle.separation.specs.declared.narrow.Highest.{Highest}
@@ -109,12 +112,7 @@ IsSomeRising x s =
     IsSomeBelow x.program.now.measure x.m.now.num.items x.m.now.den x.program.now.players x.with_costs
     (column_of x) (2 ^ x.program.now.players) s
 
--- ---- by height, in 64 bits
-
--- of the coalitions from a on below s the highest
-abbrev pub IsHighestIn : {X : Type 0} {W : Ghosts X} → Scan X W → ℕ → ℕ → Highest → Type 0
-IsHighestIn x a s h =
-    IsHighest (CoalitionRises x) a s (2 ^ x.program.now.players) h.base h.height h.coalition
+-- ---- by what a cost is above a value
 
 -- the value of the column that coalition s has, if it has one
 abbrev pub value_in : {X : Type 0} {W : Ghosts X} → Scan X W → ℕ → ℤ
@@ -122,13 +120,26 @@ value_in x s =
     column_value x.program.now.measure x.m.now.num.items x.program.now.players
     (plain (game_of x) s (front_level x.program.now.front))
 
+abbrev pub worth_in : {X : Type 0} {W : Ghosts X} → Scan X W → ℕ → ℤ
+worth_in x s = counted x.with_costs ((game_of x).worth s)
+
+-- by how much the cost of that column over the denominator is above its value
+abbrev pub gap_in : {X : Type 0} {W : Ghosts X} → Scan X W → ℕ → ℤ
+gap_in x s = (x.m.now.den *ℤ worth_in x s) -ℤ value_in x s
+
+-- coalition s has such a column, and of the coalitions from a on below b none that has has a greater gap
+abbrev pub IsMostIn : {X : Type 0} {W : Ghosts X} → Scan X W → ℕ → ℕ → ℕ → Type 0
+IsMostIn x a b s = IsMost (CoalitionRises x) (gap_in x) a b (2 ^ x.program.now.players) s
+
+-- of the coalitions from a on below s the highest: its height is so much above the base as its gap
+abbrev pub IsHighestIn : {X : Type 0} {W : Ghosts X} → Scan X W → ℕ → ℕ → Highest → Type 0
+IsHighestIn x a s h =
+    IsHighest (CoalitionRises x) (gap_in x) a s (2 ^ x.program.now.players) h.base h.height h.coalition
+
 -- a base and the sums of a table give the values of the coalitions from a on below b
 abbrev pub AreValues : {X : Type 0} {W : Ghosts X} → Scan X W → ℤ → List ℤ → ℕ → ℕ → Type 0
 AreValues x base low a b =
     (s : ℕ) → a ≤ s → s < b → base +ℤ slice_index_or low (s % 256) (pos 0) ≡ value_in x s
-
-abbrev pub worth_in : {X : Type 0} {W : Ghosts X} → Scan X W → ℕ → ℤ
-worth_in x s = counted x.with_costs ((game_of x).worth s)
 
 abbrev pub IsSmallTable : List ℤ → Type 0
 IsSmallTable low = (k : ℕ) → k < 256 → unsigned_abs (slice_index_or low k (pos 0)) ≤ 2 ^ 60

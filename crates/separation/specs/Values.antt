@@ -16,9 +16,10 @@
 --   Rises, IsFirst      a column's cost is above its value; the first such
 --   IsFirstBelow        the first such of so many columns
 --   IsSomeBelow         one such of so many columns
---   IsHighest           of some numbers none rises, and the height is the base; or one is that rises
+--   IsMost              one that rises, and none of some that rise has more
+--   IsHighest           of some numbers none rises, and the height is the base; or the one that has most is picked
 use Rattle.std.specs.Prelude.{◌≡◌, ℕ, ◌+◌, ◌<◌, ◌≤◌, Bool, true, false, nat_lt, List}
-use Rattle.std.specs.Prelude.{length, ℤ, pos, ◌*ℤ◌, ◌<ℤ◌}
+use Rattle.std.specs.Prelude.{length, ℤ, pos, ◌+ℤ◌, ◌*ℤ◌, ◌<ℤ◌}
 use Rattle.std.specs.Prelude.{if◌then◌else◌, slice_index_or, Option, Some, None, ◌^◌, unsigned_abs, ◌≤ℤ◌}
 use Rattle.definitions.specs.Sums.{sum_below}
 use Rattle.definitions.specs.Coalitions.{has_player}
@@ -117,9 +118,17 @@ pub record IsSomeBelow (measure : Measure) (num : List ℤ) (den : ℤ) (n : ℕ
   pub below : id < count
   pub rises : Rises measure num den n with_costs (column id)
 
+-- a number below a count that rises, and of those from a on below b none that rises has more by G
+pub record IsMost (R : ℕ → Type 0) (G : ℕ → ℤ) (a b count s : ℕ) : Type 0 where
+  pub below : s < count
+  pub rises : R s
+  pub most : (j : ℕ) → a ≤ j → j < b → j < count → R j → G j ≤ℤ G s
+
 -- Of the numbers from a on below s and below a count, none rises, and the height is the base; or the height is above
--- the base, and a number below the count is picked that rises.
-pub record IsHighest (R : ℕ → Type 0) (a s count : ℕ) (base height : ℤ) (picked : ℕ) : Type 0 where
+-- the base, and a number below the count is picked that rises and has that height: so much above the base as it has by
+-- G. None that rises is higher.
+pub record IsHighest (R : ℕ → Type 0) (G : ℕ → ℤ) (a s count : ℕ) (base height : ℤ) (picked : ℕ) : Type 0 where
   pub low : base ≤ℤ height
   pub none : height ≡ base → (j : ℕ) → a ≤ j → j < s → j < count → ¬ R j
-  pub found : base <ℤ height → (picked < count) × R picked
+  pub found : base <ℤ height → (picked < count) × R picked × (height ≡ base +ℤ G picked)
+  pub most : (j : ℕ) → a ≤ j → j < s → j < count → R j → (base +ℤ G j) ≤ℤ height

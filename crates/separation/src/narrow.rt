@@ -3,7 +3,7 @@
 ghost use Rattle.std.specs.Prelude.{◌≡◌, ℕ, ◌+◌, ◌*◌, ◌%◌, ◌<◌, ◌≤◌, ◌^◌, MatchBool, MatchOption};
 ghost use Rattle.std.specs.Prelude.{pos, ◌-ℤ◌, ◌*ℤ◌, ◌<ℤ◌, ◌≤ℤ◌, unsigned_abs, slice_index_or};
 ghost use Rattle.separation.specs.Peaks.{IsLeast};
-ghost use Rattle.separation.specs.Scanned.{NoneBetween, IsSomeRising, IsHighestIn, AreValues, worth_in};
+ghost use Rattle.separation.specs.Scanned.{NoneBetween, IsMostIn, IsHighestIn, AreValues, worth_in};
 ghost use Rattle.separation.specs.Scanned.{IsSmallTable};
 
 use crate::rising::counted_worth;
@@ -136,8 +136,8 @@ fn highest_of_word<W: Worth>(
     }
 }
 
-/// Of the 256 coalitions from 256 * `block` on, one whose cost is above its value: that of the greatest height, which
-/// no clause says.
+/// Of the 256 coalitions from 256 * `block` on, one whose cost is above its value: that of the greatest height, whose
+/// cost is most above its value.
 pub(crate) fn best_in_64<W: Worth>(
     scan: &Scan<'_, W>,
     sums: &NarrowSums<'_>,
@@ -148,7 +148,8 @@ pub(crate) fn best_in_64<W: Worth>(
     requires den { unsigned_abs scan.now.m.now.den < 2 ^ 16 }
     requires low { IsSmallTable sums.now.low.now }
     requires values { AreValues scan.now base sums.now.low.now (256 * block) (256 * block + 256) }
-    ensures { MatchOption result (NoneBetween scan.now (256 * block) (256 * (block + 1))) (IsSomeRising scan.now) }
+    ensures { MatchOption result (NoneBetween scan.now (256 * block) (256 * (block + 1)))
+        (IsMostIn scan.now (256 * block) (256 * (block + 1))) }
 {
     let mut best = Highest {
         base,

@@ -1,11 +1,12 @@
 //! A column that rises, picked so that the simplex takes few steps: of the first 256 coalitions among which one rises,
 //! that whose cost is most above its value. The search goes round, from the block of the last coalition on.
 
-ghost use Rattle.std.specs.Prelude.{◌≡◌, ◌⊎◌, ℕ, ◌+◌, ◌*◌, ◌<◌, ◌≤◌, ◌^◌, length, unsigned_abs};
-ghost use Rattle.std.specs.Prelude.{MatchOption};
+ghost use Rattle.std.specs.Prelude.{◌≡◌, ℕ, ◌+◌, ◌-◌, ◌*◌, ◌/◌, ◌%◌, ◌<◌, ◌≤◌, ◌^◌, length, unsigned_abs};
+ghost use Rattle.std.specs.Prelude.{◌*ℤ◌, ◌-ℤ◌, ◌<ℤ◌, ◌≤ℤ◌, None, IfSome, MatchOption};
 ghost use Rattle.definitions.specs.declared.Measure.{Measure};
 ghost use Rattle.separation.specs.Values.{AreNarrow};
 ghost use Rattle.separation.specs.Scanned.{RisesAt, ColumnRises, NoneBetween, NoneRises, IsSomeRising};
+ghost use Rattle.separation.specs.Scanned.{IsMostIn, worth_in};
 
 use crate::in_front::first_in_front;
 use crate::lazy::Lazy;
@@ -19,17 +20,20 @@ use simplex::Multipliers;
 use spans::fill_sums;
 use worth_core::{Measure, Worth};
 
-/// By how much the cost of a coalition's column is above a value. No answer rests on this number.
+/// By how much the cost of a coalition's column is above a value.
 fn gap<W: Worth>(scan: &Scan<'_, W>, value: i128, s: Coalition) -> i128
-    requires { s < 2 ^ scan.now.program.now.players }
+    requires within { s < 2 ^ scan.now.program.now.players }
+    requires small { unsigned_abs value ≤ 2 ^ 115 }
+    ensures { result ≡ (scan.now.m.now.den *ℤ worth_in scan.now s) -ℤ value }
 {
     let worth = counted_worth(scan.program.game, s, scan.with_costs);
-    bar(scan.m, worth, scan.with_costs).wrapping_sub(value)
+    bar(scan.m, worth, scan.with_costs) - value
 }
 
 /// The better so far, or a coalition with a greater gap.
 fn greater(best: Option<(u64, i128)>, s: u64, gap: i128) -> (u64, i128)
-    ensures { (result.0 ≡ s) ⊎ MatchOption best ⊥ (λ b. result.0 ≡ b.0) }
+    ensures { MatchOption best (result ≡ (s, gap))
+        (λ b. (b.1 <ℤ gap → result ≡ (s, gap)) × (gap ≤ℤ b.1 → result ≡ b)) }
 {
     match best {
         Some((t, most)) => { if most < gap { (s, gap) } else { (t, most) } }
@@ -37,11 +41,13 @@ fn greater(best: Option<(u64, i128)>, s: u64, gap: i128) -> (u64, i128)
     }
 }
 
-/// Of the 256 coalitions from 256 * `block` on one that has a column whose cost is above its value with plain excess.
+/// Of the 256 coalitions from 256 * `block` on one that has a column whose cost is above its value with plain excess:
+/// that whose cost is most above its value.
 fn best_in_128<W: Worth>(scan: &Scan<'_, W>, block: u64) -> Option<u64>
     requires block { block < 256 }
     requires plain { scan.now.program.now.measure ≡ Measure.Plain }
-    ensures { MatchOption result (NoneBetween scan.now (256 * block) (256 * (block + 1))) (IsSomeRising scan.now) }
+    ensures { MatchOption result (NoneBetween scan.now (256 * block) (256 * (block + 1)))
+        (IsMostIn scan.now (256 * block) (256 * (block + 1))) }
 {
     let base = scan.base(block);
     let end = (256 * block + 256).min(1 << scan.program.players);
@@ -59,12 +65,13 @@ fn best_in_128<W: Worth>(scan: &Scan<'_, W>, block: u64) -> Option<u64>
     }
 }
 
-/// Of the 256 coalitions from 256 * `block` on one that has a column whose cost is above its value with plain excess,
-/// in 64 bits where the block's numbers have room there.
+/// Of the 256 coalitions from 256 * `block` on one that has a column whose cost is above its value with plain excess:
+/// that whose cost is most above its value. The search is in 64 bits where the block's numbers have room there.
 fn best_of_block<W: Worth>(scan: &Scan<'_, W>, block: u64) -> Option<u64>
     requires block { block < 256 }
     requires plain { scan.now.program.now.measure ≡ Measure.Plain }
-    ensures { MatchOption result (NoneBetween scan.now (256 * block) (256 * (block + 1))) (IsSomeRising scan.now) }
+    ensures { MatchOption result (NoneBetween scan.now (256 * block) (256 * (block + 1)))
+        (IsMostIn scan.now (256 * block) (256 * (block + 1))) }
 {
     let base = scan.base(block);
     match &scan.sums {
@@ -193,7 +200,11 @@ pub(crate) fn some_found<'a, W: Worth>(
 
 /// The block of the coalition whose column was found, where those of the coalitions have the numbers from `first` on;
 /// the block before, where another column was found or none.
-pub(crate) fn block_of(found: Option<u64>, first: u64, before: u8) -> u8 {
+pub(crate) fn block_of(found: Option<u64>, first: u64, before: u8) -> u8
+    ensures coalition { IfSome found (λ id. first ≤ id → result ≡ (id - first) / 256 % 256) }
+    ensures front { IfSome found (λ id. id < first → result ≡ before) }
+    ensures none { found ≡ None → result ≡ before }
+{
     match found {
         Some(id) if first <= id => ((id - first) / 256 % 256) as u8,
         _ => before,

@@ -135,7 +135,8 @@ impl Sums<'_> {
     /// The value of a coalition's column with plain excess, from what its block has in common.
     pub(crate) fn behind(&self, base: i128, s: Coalition) -> i128
         requires { unsigned_abs base ≤ 2 ^ 114 }
-        ensures { result ≡ base +ℤ slice_index_or (low_of self.now) (s % 256) (pos 0) }
+        ensures value { result ≡ base +ℤ slice_index_or (low_of self.now) (s % 256) (pos 0) }
+        ensures small { unsigned_abs result ≤ 2 ^ 115 }
     {
         base + self.low_at((s.0 % 256) as usize)
     }

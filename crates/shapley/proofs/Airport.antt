@@ -39,7 +39,7 @@ greatest_cost-apart (suc n) i cost s h e =
       greatest_cost-apart n i cost s (omega arith) e,
     ) refl
 
-greatest_cost-plus : (n i : ℕ) (cost : ℕ → ℕ) (s : ℕ) → i < n → has_player s i ≡ false
+pub greatest_cost-plus : (n i : ℕ) (cost : ℕ → ℕ) (s : ℕ) → i < n → has_player s i ≡ false
     → greatest_cost n cost (s + 2 ^ i) ≡ max (greatest_cost n cost s) (cost i)
 greatest_cost-plus zero i cost s h e = absurd (omega arith)
 greatest_cost-plus (suc n) i cost s h e = elim (less_or_last i n h) [

@@ -3,5 +3,5 @@ pub mod EachOnce
 mod Credits
 pub mod Sizes
 mod Sums
-mod Airport
+pub mod Airport
 pub mod Steps

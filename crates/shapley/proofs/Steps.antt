@@ -30,7 +30,7 @@ count-some m (suc n) i lt e = elim (less_or_last i n lt) [
     some_either true k h = omega arith
     some_either false k h = h
 
-count-few : (m : ℕ → Bool) (n : ℕ) → count m n ≤ n
+pub count-few : (m : ℕ → Bool) (n : ℕ) → count m n ≤ n
 count-few m zero = omega arith
 count-few m (suc n) = few_either (m n) (count m n) (count-few m n)
   where
@@ -50,7 +50,7 @@ pub some_above : (costs : List ℕ) (i u : ℕ) → i < length costs → u < sli
 some_above costs i u lt h =
     count-some (above (slice_index costs) u) (length costs) i lt (nat_lt-less u (slice_index costs i) h)
 
-sum_below-constant : (n : ℕ) (c : ℤ) → sum_below n (λ u. c) ≡ pos n *ℤ c
+pub sum_below-constant : (n : ℕ) (c : ℤ) → sum_below n (λ u. c) ≡ pos n *ℤ c
 sum_below-constant zero c = sym (zero-mulℤ c)
 sum_below-constant (suc n) c = omega (arith, linear, sum_below-constant n c, suc-mulℤ n c)
 

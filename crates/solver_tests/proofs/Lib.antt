@@ -1,1 +1,2 @@
 mod StartSpan
+mod LevelSpans

@@ -89,6 +89,11 @@ fn sixteen_who_win_together_have_a_core(rt: HostRuntime) -> Result<(), Fail> {
     worths[65534] = 16;
     let shares = point_of_table(&rt, 16, &worths)?;
     assert_eq!(&rt; shares.players(), 16);
+    let total = shares.sum_of(Coalition(65535));
+    assert!(&rt; total == shares.den().wrapping_mul(16));
+    for i in 0..16u32 {
+        assert!(&rt; shares.num(i) >= 0);
+    }
     Ok(())
 }
 

@@ -189,5 +189,11 @@ fn sixteen_players_who_need_all_are_balanced_alike(rt: HostRuntime) -> Result<()
     let worths = all_or_nothing(&rt)?;
     let alike = answer(&rt, 16, &worths, &[1; 16], 1)?;
     assert_eq!(rt; alike, KernelAnswer::Balanced);
+    // Alone each is against any other, and the last but one has 2.
+    let mut shares = [1; 16];
+    shares[14] = 2;
+    shares[15] = 0;
+    let unlike = answer(&rt, 16, &worths, &shares, 1)?;
+    assert_eq!(rt; unlike, differs(0, 14, (-1, 1), (-2, 1))?);
     Ok(())
 }

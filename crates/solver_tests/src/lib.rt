@@ -10,7 +10,11 @@ mod checker_tests;
 #[cfg(test)]
 mod convexity_tests;
 #[cfg(test)]
+mod counted;
+#[cfg(test)]
 mod determinants_tests;
+#[cfg(test)]
+mod fronts;
 #[cfg(test)]
 mod greatest_games_tests;
 #[cfg(test)]
@@ -33,6 +37,8 @@ mod shapley_tests;
 mod shares;
 #[cfg(test)]
 mod simplex_tests;
+#[cfg(test)]
+mod slow_games;
 #[cfg(test)]
 mod spans_tests;
 #[cfg(test)]

@@ -1,210 +1,157 @@
-//! How many steps the simplex takes for games on which it is slow where the column of least number enters.
+//! How many steps the simplex takes for games on which it is slow where the column of least number enters. No clause
+//! speaks of steps, so these counts are what tells of a search that picks badly.
 
-ghost use Rattle.std.specs.Prelude.{◌≤◌};
+ghost use Rattle.std.specs.Prelude.{◌≡◌, ◌≤◌, ◌<◌, length};
+ghost use Rattle.definitions.specs.declared.Mode.{Mode};
+ghost use Rattle.separation.specs.Peaks.{ArePeaks};
 
-use kohlberg::{Family, Span};
-use separation::Lazy;
-use simplex::{Columns, Multipliers, Workspace, solve};
+use crate::counted::asked_of;
+use crate::fronts::{certificate_of, first_levels, span_of};
+use crate::slow_games::{Slow, game_of};
+use kohlberg::{Certificate, Family};
+use separation::{Lazy, peaks_of};
 use std::alloc::Global;
+use std::process::Abort;
 use std::test::Fail;
 use worth_core::{Measure, Worth};
 use worth_tables::TableGame;
 
-/// A program that counts how often it is asked for a column that rises: once a step, and once more at the end of each
-/// of the two parts.
-#[derive(Drop)]
-struct Counted<C: Columns> {
-    inner: C,
-    asked: u64,
-}
-
-impl<C: Columns> Columns for Counted<C> {
-    ghost program = { λ s. C.program s.inner };
-
-    ghost players = { λ s. C.players s.inner };
-
-    ghost lawful = { λ s. C.lawful s.inner };
-
-    fn rows(&self) -> u32 {
-        self.inner.rows()
-    }
-
-    fn right(&self, row: u32) -> i32 {
-        self.inner.right(row)
-    }
-
-    fn has(&self, id: u64) -> bool {
-        self.inner.has(id)
-    }
-
-    fn entry(&self, id: u64, row: u32) -> i32 {
-        self.inner.entry(id, row)
-    }
-
-    fn cost(&self, id: u64) -> i64 {
-        self.inner.cost(id)
-    }
-
-    fn entering(&mut self, m: &Multipliers, with_costs: bool) -> Option<u64> {
-        self.inner.entering(m, with_costs)
-    }
-
-    fn rising(&mut self, m: &Multipliers, with_costs: bool) -> Option<u64> {
-        self.asked = self.asked.saturating_add(1);
-        self.inner.rising(m, with_costs)
-    }
-}
-
-/// A family of games of ten players.
-#[derive(Clone, Copy)]
-enum Slow {
-    /// The square of the mask.
-    Square,
-    /// The cube of the mask.
-    Cube,
-    /// The square of the members' weights, added.
-    SquaredSum([u64; 10]),
-    /// A tree game whose players stand on a line: minus the distance of the last member.
-    Line,
-    /// The mask, and by exclusive or its half.
-    GrayCode,
-    /// The root of the mask.
-    Root,
-    /// The weights of the pairs that the coalition divides.
-    Cut,
-}
-
-/// The next state of a linear congruence modulo 2^31.
-fn next(state: u64) -> u64 {
-    state.wrapping_mul(1103515245).wrapping_add(12345) % 2147483648
-}
-
-/// The members' weights, added.
-fn sum_of(weights: [u64; 10], s: u64) -> u64 {
-    let mut sum: u64 = 0;
-    for i in 0..10usize {
-        if s >> i & 1 == 1 {
-            sum = sum.wrapping_add(weights[i]);
-        }
-    }
-    sum
-}
-
-/// The weights of the pairs of which one is a member.
-fn cut_of(s: u64) -> u64 {
-    let mut sum: u64 = 0;
-    for i in 0..10u32 {
-        for j in 0..i {
-            if (s >> i & 1) != (s >> j & 1) {
-                sum = sum.wrapping_add(next(u64::from(10 * i + j)) / 65536 % 1000);
-            }
-        }
-    }
-    sum
-}
-
-/// The worth of a coalition of at least one member, without its sign.
-fn size_of_worth(family: Slow, s: u64) -> u64 {
-    match family {
-        Slow::Square => s.wrapping_mul(s),
-        Slow::Cube => s.wrapping_mul(s).wrapping_mul(s),
-        Slow::SquaredSum(weights) => {
-            let sum = sum_of(weights, s);
-            sum.wrapping_mul(sum)
-        }
-        Slow::Line => u64::from(64u32.wrapping_sub(s.leading_zeros())),
-        Slow::GrayCode => s ^ (s >> 1),
-        Slow::Root => s.wrapping_mul(10000000000000000).isqrt(),
-        Slow::Cut => cut_of(s),
-    }
-}
-
-/// The worth of a coalition of at least one member, below 2^40 in size.
-fn worth_of(family: Slow, s: u64) -> i64 {
-    let size = (size_of_worth(family, s) % (1 << 40)) as i64;
-    match family {
-        Slow::Line => -size,
-        _ => size,
-    }
-}
-
-/// The game of a family.
-fn game_of(alloc: Global, family: Slow) -> Result<TableGame, Fail> {
-    let mut worths = Vec::new(alloc);
-    for s in 1..1024 {
-        worths.push(worth_of(family, s))?;
-    }
-    Ok(TableGame::new(alloc, 10, worths).ok().ok_or("no game")?)
-}
-
-/// How often the simplex asks a program for a column that rises.
-fn asked_of<C: Columns>(alloc: Global, columns: &mut Counted<C>) -> Result<u64, Fail> {
-    let rows = columns.rows();
-    if rows == 0 || rows > 31 {
-        Err("no rows")?;
-    }
-    let mut work = Workspace::new(alloc, rows).ok().ok_or("no memory")?;
-    let _ = solve(&mut work, columns);
-    Ok(columns.asked)
-}
-
-/// How often the balanced program of a game is asked.
-fn asked_for_core(alloc: Global, game: &TableGame) -> Result<u64, Fail>
+/// How often the balanced program of a game is asked for the first column that rises, and for some.
+fn asked_for_core(alloc: Global, game: &TableGame) -> Result<(u64, u64), Fail>
     requires { (⟦<TableGame as Worth>⟧.game game.now).players ≤ 16 }
 {
-    let inner = Lazy::balanced(alloc, game).ok().ok_or("no memory")?;
-    asked_of(alloc, &mut Counted { inner, asked: 0 })
+    let program = Lazy::balanced(alloc, game).ok().ok_or("no memory")?;
+    asked_of(alloc, program)
 }
 
-/// How often the first stage of a game for a family is asked.
-fn asked_for_stage(alloc: Global, game: &TableGame, family: Family) -> Result<u64, Fail>
+/// How often the stage behind the first levels of a certificate is asked.
+fn asked_behind(
+    alloc: Global,
+    game: &TableGame,
+    peaks: &[i64; 256],
+    family: Family,
+    certificate: &Certificate,
+    count: usize,
+) -> Result<(u64, u64), Fail>
     requires few { (⟦<TableGame as Worth>⟧.game game.now).players ≤ 16 }
-    requires some { 2 ≤ (⟦<TableGame as Worth>⟧.game game.now).players }
+    requires peaks { ArePeaks (⟦<TableGame as Worth>⟧.game game.now) peaks.now }
+    requires mode { certificate.now.mode ≡ Mode.Span }
+    requires players { certificate.now.players ≡ (⟦<TableGame as Worth>⟧.game game.now).players }
+    requires count { count < length certificate.now.levels }
 {
-    let span = Span::new(game.players());
-    let inner = Lazy::stage(alloc, game, family, Measure::Plain, &[], &span)
-        .ok()
-        .ok_or("no memory")?;
-    asked_of(alloc, &mut Counted { inner, asked: 0 })
+    let levels = first_levels(certificate, count);
+    let span = span_of(game.players(), levels);
+    let program = Lazy::stage_with(game, peaks, family, Measure::Plain, levels, &span);
+    asked_of(alloc, program)
 }
 
-/// The families, and for each the most often that its balanced program may be asked, and its first stages for
-/// imputations and for preimputations: three times as often as was counted. By the least number the seven first ask the
-/// balanced program 1,500 to 60,000 times, and the three last the stage for preimputations 260 to 2,600 times.
-const MOST: [(Slow, [u64; 3]); 10] = [
-    (Slow::Square, [87, 189, 159]),
-    (Slow::Cube, [87, 174, 144]),
+/// How many stages there are, and how often these are asked for the first column that rises and for some, all together;
+/// none where there is no imputation.
+type Stages = Option<(usize, u64, u64)>;
+
+/// How often the stages of a game for a family are asked.
+fn asked_for_stages(alloc: Global, game: &TableGame, family: Family) -> Result<Stages, Fail>
+    requires { (⟦<TableGame as Worth>⟧.game game.now).players ≤ 16 }
+{
+    let Some(certificate) = certificate_of(alloc, game, family, Measure::Plain)? else {
+        return Ok(None);
+    };
+    let peaks = peaks_of(game);
+    let stages = certificate.levels().len();
+    let (mut entering, mut rising) = (0u64, 0u64);
+    for count in 0..stages {
+        let asked = asked_behind(alloc, game, &peaks, family, &certificate, count)?;
+        entering = entering.saturating_add(asked.0);
+        rising = rising.saturating_add(asked.1);
+    }
+    Ok(Some((stages, entering, rising)))
+}
+
+/// A family, and how often its balanced program is asked, its stages for imputations, and those for preimputations.
+/// These were counted once, and any other choice of columns changes them. By the least number the first seven of ten
+/// players ask the balanced program 1,500 to 60,000 times, and the three last the first stage for preimputations 260 to
+/// 2,600 times.
+type Counts = (Slow, (u64, u64), Stages, Stages);
+
+/// Compares the counts of a family of so many players.
+fn compare(rt: &impl Abort, alloc: Global, players: u32, counts: &Counts) -> Result<(), Fail>
+    requires { players ≤ 16 }
+{
+    let &(family, core, imputations, preimputations) = counts;
+    let game = game_of(alloc, family, players)?;
+    assert!(rt; game.players() == players);
+    let found = (
+        asked_for_core(alloc, &game)?,
+        asked_for_stages(alloc, &game, Family::Imputations)?,
+        asked_for_stages(alloc, &game, Family::Preimputations)?,
+    );
+    assert_eq!(rt; found, (core, imputations, preimputations), "{family:?}");
+    Ok(())
+}
+
+/// The counts of ten players.
+const OF_TEN: [Counts; 10] = [
+    (Slow::Square, (0, 29), Some((9, 0, 463)), Some((9, 0, 428))),
+    (Slow::Cube, (0, 29), Some((9, 0, 436)), Some((9, 0, 392))),
     (
         Slow::SquaredSum([1, 2, 3, 5, 8, 13, 21, 34, 55, 89]),
-        [87, 204, 171],
+        (0, 29),
+        Some((9, 0, 450)),
+        Some((9, 0, 401)),
     ),
     (
         Slow::SquaredSum([10, 13, 16, 21, 28, 37, 48, 62, 81, 106]),
-        [87, 165, 105],
+        (0, 29),
+        Some((9, 0, 430)),
+        Some((9, 0, 355)),
     ),
     (
         Slow::SquaredSum([4, 9, 17, 31, 38, 52, 61, 77, 83, 96]),
-        [87, 183, 126],
+        (0, 29),
+        Some((9, 0, 448)),
+        Some((9, 0, 364)),
     ),
     (
         Slow::SquaredSum([1, 2, 3, 4, 5, 6, 7, 8, 9, 10]),
-        [87, 192, 117],
+        (0, 29),
+        Some((9, 0, 440)),
+        Some((9, 0, 350)),
     ),
-    (Slow::Line, [93, 210, 168]),
-    (Slow::GrayCode, [147, 42, 261]),
-    (Slow::Root, [81, 42, 435]),
-    (Slow::Cut, [141, 42, 396]),
+    (Slow::Line, (0, 31), Some((9, 0, 598)), Some((9, 0, 522))),
+    (Slow::GrayCode, (0, 49), None, Some((9, 0, 501))),
+    (Slow::Root, (0, 27), None, Some((8, 0, 447))),
+    (Slow::Cut, (0, 47), None, Some((9, 0, 604))),
 ];
 
 #[test]
-fn slow_families_take_few_steps(rt: HostRuntime) -> Result<(), Fail> {
-    for &(family, most) in &MOST {
-        let game = game_of(rt.alloc(), family)?;
-        assert!(&rt; game.players() == 10);
-        let core = asked_for_core(rt.alloc(), &game)?;
-        let imputations = asked_for_stage(rt.alloc(), &game, Family::Imputations)?;
-        let preimputations = asked_for_stage(rt.alloc(), &game, Family::Preimputations)?;
-        assert!(&rt; core <= most[0] && imputations <= most[1] && preimputations <= most[2]);
+fn slow_families_of_ten_take_so_many_steps(rt: HostRuntime) -> Result<(), Fail> {
+    for counts in &OF_TEN {
+        compare(&rt, rt.alloc(), 10, counts)?;
+    }
+    Ok(())
+}
+
+/// The counts of sixteen players.
+const OF_SIXTEEN: [Counts; 3] = [
+    (
+        Slow::Square,
+        (0, 216),
+        Some((15, 0, 2702)),
+        Some((15, 0, 3362)),
+    ),
+    (
+        Slow::Line,
+        (0, 118),
+        Some((15, 0, 2732)),
+        Some((15, 0, 3233)),
+    ),
+    (Slow::GrayCode, (0, 55), None, Some((15, 0, 3377))),
+];
+
+#[test]
+fn slow_families_of_sixteen_take_so_many_steps(rt: HostRuntime) -> Result<(), Fail> {
+    for counts in &OF_SIXTEEN {
+        compare(&rt, rt.alloc(), 16, counts)?;
     }
     Ok(())
 }

@@ -1,7 +1,9 @@
 //! The balanced programs of small games, and what the simplex makes of them.
 
+use crate::shares::are;
+use crate::slow_games::{Slow, game_of};
 use crate::tables::table;
-use separation::Listed;
+use separation::{Listed, peaks_of, shares_of};
 use simplex::{Optimal, Workspace, solve};
 use std::test::Fail;
 use worth_core::Worth;
@@ -36,6 +38,13 @@ fn parts(best: &Optimal) -> (i128, usize, bool, bool) {
 fn pairs_balance_a_majority_of_three(rt: HostRuntime) -> Result<(), Fail> {
     let best = balanced(&rt, 3, &[0, 0, 1, 0, 1, 1, 1])?;
     assert_eq!(&rt; parts(&best), (2, 3, true, true));
+    if best.multipliers.num.len() != 3 {
+        Err("other rows")?;
+    }
+    let shares = shares_of(rt.alloc(), &best.multipliers, 3)
+        .ok()
+        .ok_or("no memory")?;
+    assert!(&rt; are(&shares, &[(1, 2); 3]));
     Ok(())
 }
 
@@ -48,5 +57,24 @@ fn sixteen_who_win_together_share_16(rt: HostRuntime) -> Result<(), Fail> {
         (best.weight_den, best.weights.as_slice()),
         (1, [(65535, 1)].as_slice())
     );
+    Ok(())
+}
+
+// Squares of masks are greatest at the last of each 256 coalitions, and costs are never above 0.
+#[test]
+fn peaks_are_the_greatest_worths_of_256_coalitions(rt: HostRuntime) -> Result<(), Fail> {
+    for &(family, base) in &[(Slow::Square, 255), (Slow::Line, 0)] {
+        let game = game_of(rt.alloc(), family, 10)?;
+        assert!(&rt; game.players() == 10);
+        let peaks = peaks_of(&game);
+        for k in 0..256usize {
+            let last = if base > 0 && k < 4 {
+                256 * k as i64 + base
+            } else {
+                0
+            };
+            assert_eq!(&rt; peaks[k], last.wrapping_mul(last), "{family:?} at {k}");
+        }
+    }
     Ok(())
 }

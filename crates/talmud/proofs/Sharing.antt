@@ -66,7 +66,7 @@ sum-constant (suc r) t g e =
     omega (arith, linear, ih, e r (omega arith), suc-mulℤ r t)
 
 -- by place or by player
-sum-places : (n : ℕ) (cost at : ℕ → ℕ) → IsOrder n cost at → (f : ℕ → ℤ)
+pub sum-places : (n : ℕ) (cost at : ℕ → ℕ) → IsOrder n cost at → (f : ℕ → ℤ)
     → sum_below n f ≡ sum_below n (λ j. f (at j))
 sum-places n cost at o f =
     sym (sum_over-grand_coalition n f) ∙ ap (sum_over n f) (sym o.full)

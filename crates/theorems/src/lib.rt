@@ -12,8 +12,9 @@ pub fn measures_divide()
     ensures { MeasuresDivide }
 {}
 
-/// A certificate that meets its form and its conditions certifies the nucleolus, for any number of
-/// players (at most 16 for excess per head), in both modes and for both families (Kohlberg 1971).
+/// A certificate that meets its form and its conditions certifies the nucleolus, for both families (Kohlberg 1971):
+/// of any number of players in mode players, and of at most 16 in mode span, as the form asks, and for excess per
+/// head. Of more players in mode span `kohlberg` of `duality` says it.
 pub fn certificates_are_sound()
     ensures { CertificatesAreSound }
 {}

@@ -2,8 +2,7 @@
 ghost use Rattle.std.specs.Prelude.{◌≤◌};
 
 use super::{BLOCKED, run_on, words_of};
-use crate::run::run;
-use crate::status::Status;
+use crate::{Status, run};
 use ports::{FailingSink, FailingSource, MemorySink, MemorySource};
 use std::alloc::Global;
 use std::test::Fail;

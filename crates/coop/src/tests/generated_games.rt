@@ -1,7 +1,6 @@
 //! Games made from a number.
 use super::{printed, words_of};
-use crate::run::run;
-use crate::status::Status;
+use crate::{Status, run};
 use ports::{FailingSource, MemorySink};
 use std::alloc::Global;
 use std::process::Abort;

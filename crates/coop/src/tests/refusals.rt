@@ -1,7 +1,6 @@
 //! Documents that are refused, and words that are no command.
 use super::{run_on, words_of};
-use crate::run::run;
-use crate::status::Status;
+use crate::{Status, run};
 use ports::{MemorySink, MemorySource, Source};
 use std::alloc::Global;
 use std::test::Fail;

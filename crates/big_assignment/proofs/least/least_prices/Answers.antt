@@ -1,45 +1,38 @@
-use Rattle.std.proofs.Common.{ℕ, ◌-◌, ◌^◌, slice_index, slice_set, replicate, arith, refl, ◌∙◌}
-use Rattle.std.proofs.lemmas.List.{length-set}
-use Rattle.std.proofs.lemmas.List.Sums.{sum_by-set}
-use Rattle.big_assignment.proofs.Arrays.{put_set, zeros}
-use Rattle.big_assignment.proofs.Leasts.{below_none, below_small, wanted_raised}
+use Rattle.std.proofs.Common.{slice_index, replicate, arith, inl, inr}
+use Rattle.big_assignment.proofs.Arrays.{zeros}
+use Rattle.big_assignment.proofs.Leasts.{below_none}
+use Rattle.big_assignment.proofs.Rounds.{unsettled_few, settles, below_least, content_at_last}
 use Rattle.big_assignment.proofs.least.least_prices.Goals as goal
 
-pub loop-row-init : goal.loop-row-init
-loop-row-init c = (
-  omega arith,
-  refl,
-  below_none c.args.deal.now c.args.n (slice_index (replicate 33 0)) (λ k le. zeros 33 k),
-)
+pub loop-round-init : goal.loop-round-init
+loop-round-init c =
+    let none = slice_index (replicate 33 0) in
+    record {
+      below = below_none c.args.deal.now c.args.n none (λ k le. zeros 33 k);
+      left = λ q least. (let few = unsettled_few none q in omega (arith, few));
+    }
 
-pub wanted-requires-clause-small : goal.wanted-requires-clause-small
-wanted-requires-clause-small c =
-    below_small c.args.deal.now c.args.n (slice_index c.loop-row.prices) c.requires.offers c.requires.rows
-    c.requires.fair c.loop-row.invariant.2
+pub loop-round-preserved : goal.loop-round-preserved
+loop-round-preserved c =
+    let d = c.args.deal.now in
+    let p = slice_index c.loop-round.prices in
+    let p' = slice_index c.after_round-raised.result in
+    let inv = c.loop-round.invariant in
+    let round = c.after_round-raised.ensures in
+    record {
+      below = round.below;
+      left = λ q least.
+          let before = inv.left q least in
+          elim (settles d c.args.n p p' q least.0 least.1 round.more
+          (below_least d c.args.n p' q round.below least.1) round.content c.requires.fair.within) [
+            | inl none ↦ omega (arith, none, c.loop-round-test.true)
+            | inr fewer ↦ omega (arith, before, fewer)
+          ];
+    }
 
-pub loop-row-smaller : goal.loop-row-smaller
-loop-row-smaller c =
-    let w = c.in-Some.ensures in
-    let size = c.loop-row.invariant.1 in
-    let le = w.1.column in
-    let small =
-    below_small c.args.deal.now c.args.n (slice_index c.loop-row.prices) c.requires.offers c.requires.rows
-    c.requires.fair c.loop-row.invariant.2 c.in-Some.k le in
-    let dearer = w.1.dearer in
-    let sums =
-    sum_by-set (λ (x : ℕ). 2 ^ 41 - x) c.loop-row.prices c.in-Some.k c.in-Some.price 0
-    (omega (arith, size, le)) in
-    omega (arith, sums, dearer, small)
-
-pub loop-row-preserved : goal.loop-row-preserved
-loop-row-preserved c =
-    let w = c.in-Some.ensures in
-    let size = c.loop-row.invariant.1 in
-    let le = w.1.column in (
-      (let lt = w.0 in omega (arith, lt)),
-      length-set c.loop-row.prices c.in-Some.k c.in-Some.price ∙ size,
-      wanted_raised c.args.deal.now c.args.n (slice_index c.loop-row.prices)
-          (slice_index (slice_set c.loop-row.prices c.in-Some.k c.in-Some.price)) c.in-Some.row c.in-Some.k
-          c.in-Some.price c.requires.fair c.loop-row.invariant.2 w.0 w.1
-          (put_set c.loop-row.prices c.in-Some.k c.in-Some.price (omega (arith, size, le))),
-    )
+pub returns-clause-content : goal.returns-clause-content
+returns-clause-content c = λ i il.
+    let inv = c.loop-round.invariant in
+    content_at_last c.args.deal.now c.args.n (slice_index c.loop-round.prices) c.requires.fair inv.below
+    (λ q least. let left = inv.left q least in omega (arith, left, c.loop-round-test.false)) i il
+    (c.requires.fair.within i il)

@@ -5,6 +5,7 @@ use mir.Syntax.{w64}
 use Rattle.definitions.proofs.Casts.{cast_kept}
 use Rattle.separation.specs.Values.{counted}
 use Rattle.separation.specs.Scanned.{worth_in}
+use Rattle.separation.proofs.SmallPeaks.{peak_small}
 use Rattle.separation.proofs.narrow.counted_peak.Goals as goal
 
 -- a peak as it is kept
@@ -18,16 +19,18 @@ returns-then-scan-clause-greatest g c = λ s lower upper within.
     let below = subst (λ (n : ℕ). s < 2 ^ n) p.count within in
     let peak = slice_index_or p.peaks c.args.block (pos 0) in
     let is = p.peaks_are c.args.block c.requires in
-    subst (λ (z : ℤ). worth_in c.args.scan.now s ≤ℤ z) (sym (peak_kept peak is.small))
+    let small = peak_small game c.args.block peak p.laws is in
+    subst (λ (z : ℤ). worth_in c.args.scan.now s ≤ℤ z) (sym (peak_kept peak small))
     (subst (λ (b : Bool). counted b (game.worth s) ≤ℤ peak) (sym c.if-scan.true)
     (is.greatest s lower upper below))
 
 pub returns-then-scan-clause-small : goal.returns-then-scan-clause-small
 returns-then-scan-clause-small g c =
     let p = c.args.scan.now.program.now in
-    let small = (p.peaks_are c.args.block c.requires).small in
-    subst (λ (z : ℤ). unsigned_abs z < 2 ^ 46)
-    (sym (peak_kept (slice_index_or p.peaks c.args.block (pos 0)) small)) small
+    let game = g.W.Worth.game p.game.now in
+    let peak = slice_index_or p.peaks c.args.block (pos 0) in
+    let small = peak_small game c.args.block peak p.laws (p.peaks_are c.args.block c.requires) in
+    subst (λ (z : ℤ). unsigned_abs z < 2 ^ 46) (sym (peak_kept peak small)) small
 
 pub returns-else-scan-clause-greatest : goal.returns-else-scan-clause-greatest
 returns-else-scan-clause-greatest g c = λ s lower upper within.

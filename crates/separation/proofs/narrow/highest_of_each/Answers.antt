@@ -9,11 +9,11 @@ use Rattle.definitions.proofs.Cases.{same_or_other, true_or_false}
 use Rattle.separation.specs.Making.{plain}
 use Rattle.separation.specs.Fronts.{front_level, has_mark}
 use Rattle.separation.specs.Values.{IsHighest}
-use Rattle.separation.specs.Scanned.{RisesIn, CoalitionRises, IsHighestIn, value_in, worth_in}
+use Rattle.separation.specs.Scanned.{RisesIn, CoalitionRises, IsHighestIn, value_in, worth_in, gap_in}
 use Rattle.separation.specs.declared.narrow.Highest.{Highest}
 use Rattle.separation.proofs.Balance.{masks_of}
 use Rattle.separation.proofs.Picked.{highest_more, highest_passed, highest_kept, highest_past}
-use Rattle.separation.proofs.Products.{above_base}
+use Rattle.separation.proofs.Products.{above_base, height_by_gap}
 use Rattle.separation.proofs.narrow.highest_of_each.Goals as goal
 use Rattle.separation.proofs.narrow.highest_of_each.Goals.{then-is_below+then-contains, else-is_below}
 use Rattle.separation.proofs.narrow.highest_of_each.Goals.{else-is_below-via-then-is_below+else-contains}
@@ -28,7 +28,7 @@ loop-j-init g c =
       base = refl;
       highest = λ a h.
           highest_past
-          (λ (j : ℕ). CoalitionRises c.args.scan.now j)
+          (λ (j : ℕ). CoalitionRises c.args.scan.now j) (gap_in c.args.scan.now)
           a (64 * c.args.place) (2 ^ p.players) c.args.before.base c.args.before.height c.args.before.coalition
           (64 * c.args.place + 0) (inl start) h;
     }
@@ -54,6 +54,9 @@ loop-j-preserved g c =
     let value =
     ap (λ (b : ℤ). b +ℤ slice_index_or low (s % 256) (pos 0)) inv.base
     ∙ c.requires.values s (omega arith) (omega (arith, bit)) in
+    let has : z ≡ best.base +ℤ gap_in x s =
+    height_by_gap best.base (slice_index_or low (s % 256) (pos 0)) (value_in x s) (x.m.now.den *ℤ worth_in x s) z
+    (whole ∙ c.height_of-height.ensures) value in
     let up : (best.base <ℤ z) ↔ rises_with true =
     above_base best.base (slice_index_or low (s % 256) (pos 0)) (value_in x s) (x.m.now.den *ℤ worth_in x s) z
     (whole ∙ c.height_of-height.ensures) value in
@@ -71,9 +74,9 @@ loop-j-preserved g c =
             highest = λ a h.
                 subst (λ (y : Highest). IsHighestIn x a (64 * c.args.place + (c.loop-j.j + 1)) y)
                 (sym (w.best-is ∙ w.raised-best.ensures))
-                (subst (λ (t : ℕ). IsHighest R a t (2 ^ p.players) best.base z s) next
-                (highest_more R a s (2 ^ p.players) best.base best.height best.coalition z within
-                (subst (λ (b : Bool). (best.base <ℤ z) ↔ rises_with b) (sym on) up)
+                (subst (λ (t : ℕ). IsHighest R (gap_in x) a t (2 ^ p.players) best.base z s) next
+                (highest_more R (gap_in x) a s (2 ^ p.players) best.base best.height best.coalition z within
+                (subst (λ (b : Bool). (best.base <ℤ z) ↔ rises_with b) (sym on) up) has
                 (w.if-is_below.ensures {u = tt})
                 (inv.highest a h)));
           }
@@ -82,15 +85,17 @@ loop-j-preserved g c =
             base = ap (λ (y : Highest). y.base) w.best-is ∙ inv.base;
             highest = λ a h.
                 subst (λ (y : Highest). IsHighestIn x a (64 * c.args.place + (c.loop-j.j + 1)) y) (sym w.best-is)
-                (subst (λ (t : ℕ). IsHighest R a t (2 ^ p.players) best.base best.height best.coalition) next
+                (subst
+                (λ (t : ℕ). IsHighest R (gap_in x) a t (2 ^ p.players) best.base best.height best.coalition) next
                 (elim w.else-is_below.branch [
                   | else-is_below-via-then-is_below+else-contains v ↦
                       let off : has_mark p.marks s ≡ false =
                       sym (v.contains.ensures ∙ c.marked_word.ensures c.loop-j.j bit) ∙ v.if-contains.false in
-                      highest_passed R a s (2 ^ p.players) best.base best.height best.coalition
+                      highest_passed R (gap_in x) a s (2 ^ p.players) best.base best.height best.coalition
                       (λ (r : R s). subst rises_with off r) (inv.highest a h)
                   | else-is_below-via-else-is_below v ↦
-                      highest_kept R a s (2 ^ p.players) best.base best.height best.coalition z up_where_marked
+                      highest_kept R (gap_in x) a s (2 ^ p.players) best.base best.height best.coalition z
+                      up_where_marked has
                       (v.if-is_below.ensures {u = tt}) (inv.highest a h)
                 ]));
           }
@@ -118,6 +123,6 @@ returns-clause-highest g c = λ a h.
           ))
     ] in
     highest_past
-    (λ (j : ℕ). CoalitionRises c.args.scan.now j)
+    (λ (j : ℕ). CoalitionRises c.args.scan.now j) (gap_in c.args.scan.now)
     a s (2 ^ p.players) best.base best.height best.coalition (64 * c.args.place + 64) end
     (c.loop-j.invariant.highest a h)

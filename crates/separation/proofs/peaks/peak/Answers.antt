@@ -1,6 +1,6 @@
-use Rattle.std.proofs.Common.{◌≡◌, ◌⊎◌, ◌<◌, ◌^◌, ℕ, ℤ, ◌≤ℤ◌, inl, inr, sym}
-use Rattle.std.proofs.Common.{subst, arith}
-use Rattle.std.proofs.Common.{unsigned_abs, to_z, of_z, rules}
+use Rattle.std.proofs.Common.{◌≡◌, ◌⊎◌, ◌+◌, ◌*◌, ◌<◌, ◌^◌, ℕ, ℤ, ◌≤ℤ◌, inl, inr, sym}
+use Rattle.std.proofs.Common.{subst, arith, ◌∙◌}
+use Rattle.std.proofs.Common.{to_z, of_z, rules}
 use mir.Syntax.{w64}
 use Rattle.definitions.proofs.Cases.{last_or_less_of}
 use Rattle.definitions.proofs.Ring.{linear}
@@ -17,17 +17,15 @@ counted_worth-worth-requires g c =
     subst (λ (n : ℕ). c.loop-s.s < 2 ^ n) c.requires.players
     (omega (arith, mask, c.loop-s-test.true, c.min-end.ensures))
 
--- either of two small numbers is small
-either_small : (a b z : ℤ) → unsigned_abs a < 2 ^ 46 → unsigned_abs b < 2 ^ 46 → (z ≡ a) ⊎ (z ≡ b)
-    → unsigned_abs z < 2 ^ 46
-either_small a b z ha hb e = elim e [
-  | inl first ↦ subst (λ (y : ℤ). unsigned_abs y < 2 ^ 46) (sym first) ha
-  | inr second ↦ subst (λ (y : ℤ). unsigned_abs y < 2 ^ 46) (sym second) hb
-]
-
 pub loop-s-preserved : goal.loop-s-preserved
 loop-s-preserved g c =
-    let worth = (g.W.Worth.game c.args.game.now).worth in
+    let game = g.W.Worth.game c.args.game.now in
+    let worth = game.worth in
+    let s = c.loop-s.s in
+    let mask = masks_of c.args.players c.requires.few in
+    let within : s < 2 ^ game.players =
+    subst (λ (n : ℕ). s < 2 ^ n) c.requires.players (omega (arith, mask, c.loop-s-test.true, c.min-end.ensures)) in
+    let upper : s < 256 * c.args.block + 256 = omega (arith, c.loop-s-test.true, c.min-end.ensures) in
     let inv = c.loop-s.invariant in
     let more = c.greater-most.ensures in
     let first = more.first in
@@ -41,7 +39,11 @@ loop-s-preserved g c =
     more.either in
     rw kept (record {
       positive = omega (arith, linear, positive, first);
-      small = either_small _ _ _ inv.small c.counted_worth-worth.ensures.small either;
+      attained = λ y some bounds. elim either [
+        | inl older ↦ subst (λ (z : ℤ). z ≤ℤ y) (sym older) (inv.attained y some bounds)
+        | inr here ↦ subst (λ (z : ℤ). z ≤ℤ y) (sym (here ∙ c.counted_worth-worth.ensures.is))
+            (bounds s c.loop-s.auto.s upper within)
+      ];
       greatest = λ j low lt. elim (last_or_less_of j c.loop-s.s lt) [
         | inl same ↦
             let here = subst (λ (z : ℤ). z ≤ℤ c.greater-most.result) c.counted_worth-worth.ensures.is second in
@@ -58,7 +60,7 @@ returns g c =
     let mask = masks_of c.args.players c.requires.few in
     record {
       positive = inv.positive;
-      small = inv.small;
+      attained = inv.attained;
       greatest = λ j low lt within.
           let below = subst (λ (n : ℕ). j < 2 ^ n) (sym c.requires.players) within in
           inv.greatest j low (omega (arith, mask, lt, below, c.loop-s-test.false, c.min-end.ensures));

@@ -51,7 +51,8 @@ marked_rises-requires-clause-value g c =
     let base = c.base-base.result in
     let small : unsigned_abs base ≤ 2 ^ 114 = c.base-base.ensures.small in
     let kept : to_z w128 (of_z w128 base) ≡ base = cast_kept w128 base (omega (arith, small)) in
-    let valued = c.behind-value.ensures ∙ ap (λ (z : ℤ). z +ℤ slice_index_or (low_of sums) (s % 256) (pos 0)) kept in
+    let valued =
+    c.behind-value.ensures.value ∙ ap (λ (z : ℤ). z +ℤ slice_index_or (low_of sums) (s % 256) (pos 0)) kept in
     let upper : s < 256 * c.args.block + 256 = omega (arith, c.loop-s-test.true, c.min-end.ensures) in
     let whole : to_z w128 (of_z w128 c.behind-value.result) ≡ c.behind-value.result = search rules in
     whole ∙ valued ∙ c.base-base.ensures.values s c.loop-s.auto.s upper

@@ -1,18 +1,10 @@
-use Rattle.std.proofs.Common.{◌≡◌, ◌⊎◌, ◌<◌, ◌≤◌, ◌*◌, ℕ, ℤ, pos, ◌≤ℤ◌, inl}
+use Rattle.std.proofs.Common.{◌≡◌, ◌⊎◌, ◌*◌, ℕ, ℤ, pos, ◌≤ℤ◌, inl}
 use Rattle.std.proofs.Common.{inr, sym, subst, arith}
-use Rattle.std.proofs.Common.{unsigned_abs, slice_index_or, to_z, of_z, rules}
+use Rattle.std.proofs.Common.{slice_index_or, to_z, of_z, rules}
 use mir.Syntax.{w64}
 use Rattle.definitions.proofs.Cases.{last_or_less_of}
 use Rattle.definitions.proofs.Ring.{linear}
 use Rattle.separation.proofs.tables.least_of.Goals as goal
-
--- either of two small numbers is small
-either_small : (a b z : ℤ) (n : ℕ) → unsigned_abs a ≤ n → unsigned_abs b ≤ n → (z ≡ a) ⊎ (z ≡ b)
-    → unsigned_abs z ≤ n
-either_small a b z n ha hb e = elim e [
-  | inl first ↦ subst (λ (y : ℤ). unsigned_abs y ≤ n) (sym first) ha
-  | inr second ↦ subst (λ (y : ℤ). unsigned_abs y ≤ n) (sym second) hb
-]
 
 pub loop-k-init : goal.loop-k-init
 loop-k-init c =
@@ -20,9 +12,8 @@ loop-k-init c =
     let whole : to_z w64 (of_z w64 first) ≡ first = search rules in
     record {
       least = λ j lower upper. absurd (omega (arith, lower, upper));
-      small = λ b h.
-          subst (λ (z : ℤ). unsigned_abs z ≤ b) (sym whole)
-          (h (64 * c.args.quarter) (let few = c.requires in omega (arith, few)));
+      attained = λ y bounds.
+          subst (λ (z : ℤ). y ≤ℤ z) (sym whole) (bounds (64 * c.args.quarter) (omega arith) (omega arith));
     }
 
 pub loop-k-preserved : goal.loop-k-preserved
@@ -38,7 +29,6 @@ loop-k-preserved c =
     let either =
     subst (λ (z : ℤ). (c.lesser-least.result ≡ to_z w64 c.loop-k.least-bits) ⊎ (c.lesser-least.result ≡ z)) whole
     less.either in
-    let upper : c.loop-k.k < 256 = let few = c.requires in omega (arith, few, c.loop-k-test.true) in
     rw kept (record {
       least = λ j lower lt. elim (last_or_less_of j c.loop-k.k lt) [
         | inl same ↦ subst (λ (t : ℕ). c.lesser-least.result ≤ℤ slice_index_or low t (pos 0)) (sym same) second
@@ -46,7 +36,11 @@ loop-k-preserved c =
             let older = inv.least j lower before in
             omega (arith, linear, older, first)
       ];
-      small = λ b h. either_small _ _ _ b (inv.small b h) (h c.loop-k.k upper) either;
+      attained = λ y bounds. elim either [
+        | inl older ↦ subst (λ (z : ℤ). y ≤ℤ z) (sym older) (inv.attained y bounds)
+        | inr last ↦ subst (λ (z : ℤ). y ≤ℤ z) (sym last)
+            (bounds c.loop-k.k c.loop-k.auto.k (omega (arith, c.loop-k-test.true)))
+      ];
     })
 
 pub returns : goal.returns
@@ -54,5 +48,5 @@ returns c =
     let inv = c.loop-k.invariant in
     record {
       least = λ j lower upper. inv.least j lower (omega (arith, upper, c.loop-k-test.false));
-      small = inv.small;
+      attained = inv.attained;
     }

@@ -1,0 +1,11 @@
+pub mod OrdersExist
+pub mod SchemesExist
+pub mod PaymentsExist
+pub mod PaymentLevels
+pub mod PaymentsAreTheNucleolus
+pub mod EveryNucleolusIsPaid
+pub mod AirportsAreConvex
+pub mod ThreeAirlinesByStep
+pub mod UnitsByPlace
+pub mod ShapleyIsByStep
+pub mod ShapleyIsInCore

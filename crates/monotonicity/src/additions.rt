@@ -1,0 +1,16 @@
+//! Where a player adds more than before (Young 1985).
+
+ghost use Rattle.monotonicity.specs.Additions.{WhoAddsMoreGetsNoLess, MonotonicRulesAreShapley};
+
+/// Strong monotonicity of the Shapley value: a player that adds to each coalition at least what it added before gets at
+/// least what it got before, whatever else changes (Young 1985).
+pub fn who_adds_more_gets_no_less()
+    ensures { WhoAddsMoreGetsNoLess }
+{}
+
+/// The theorem of Young (1985), both ways. A rule that gives shares to all games of so many players is efficient, gives
+/// the same to players that the game doesn't tell apart, and no less to who adds more, just where it gives each game
+/// the Shapley value.
+pub fn monotonic_rules_are_shapley()
+    ensures { MonotonicRulesAreShapley }
+{}

@@ -1,0 +1,10 @@
+//! What players are promised where the game changes: where all together, or one coalition, are worth more and nothing
+//! else changes, where a player adds more, and where all links of a network cost more. Each function's contract is a
+//! theorem, and its body is empty. No crate of the program needs them.
+#![tactic(auto)]
+
+pub mod additions;
+pub mod core_rules;
+pub mod examples;
+pub mod growth;
+pub mod networks;

@@ -1,0 +1,14 @@
+mod WholeWorths
+mod CoreFirst
+mod BothAreOne
+mod Moves
+mod Joined
+mod WhoAddsNoLess
+mod Dummies
+mod RealsCanHalve
+mod EquivalentGames
+mod Examples
+mod LevelsAreEnough
+mod SmallSteps
+mod LevelsAreNeeded
+mod KohlbergTheorem

@@ -1,0 +1,4 @@
+pub mod Games
+pub mod RealWorths
+pub mod KohlbergTheorem
+pub mod Examples

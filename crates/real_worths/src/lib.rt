@@ -1,0 +1,92 @@
+//! Games whose worths are real numbers, and shares that are: laws of the textbook to the letter (Schmeidler 1969; Peleg
+//! and Sudhölter, Introduction to the Theory of Cooperative Games), by plain excess. Each function's contract is a
+//! theorem, and its body is empty. The lemmas are of numbers of any linearly ordered abelian group. No crate of the
+//! program needs them.
+#![tactic(auto)]
+
+ghost use Rattle.real_worths.specs.RealWorths.{WholeWorthsAgree, NucleolusIsUnique, NucleolusIsInCore};
+ghost use Rattle.real_worths.specs.RealWorths.{WithACoreBothAreOne, WhoAddsNoLessGetsNoLess, AlikePlayersGetAlike};
+ghost use Rattle.real_worths.specs.RealWorths.{DummiesGetTheirWorth, RealsCanHalve, EquivalentGamesAgree};
+ghost use Rattle.real_worths.specs.KohlbergTheorem.{KohlbergTheorem};
+ghost use Rattle.real_worths.specs.Examples.{TwoShare, DoublingIsAChange, IntegersCantHalve, SomeAddNoLess};
+ghost use Rattle.real_worths.specs.Examples.{SinglesBalance};
+
+/// Where the worths are whole numbers, times the unit, these are the nucleolus and the core among real shares that
+/// other laws speak of.
+pub fn whole_worths_agree()
+    ensures { WholeWorthsAgree }
+{}
+
+/// Two nucleoli of one game and family have the same shares.
+pub fn nucleolus_is_unique()
+    ensures { NucleolusIsUnique }
+{}
+
+/// Where the core isn't empty, the nucleolus and the prenucleolus lie in it.
+pub fn nucleolus_is_in_core()
+    ensures { NucleolusIsInCore }
+{}
+
+/// Where the core isn't empty, the prenucleolus and the nucleolus are one.
+pub fn with_a_core_both_are_one()
+    ensures { WithACoreBothAreOne }
+{}
+
+/// A player that adds no less than another to each coalition without both gets no less, of the nucleolus and the
+/// prenucleolus.
+pub fn who_adds_no_less_gets_no_less()
+    ensures { WhoAddsNoLessGetsNoLess }
+{}
+
+/// Players that a game doesn't tell apart get the same.
+pub fn alike_players_get_alike()
+    ensures { AlikePlayersGetAlike }
+{}
+
+/// A player that adds its worth alone to each coalition without it gets exactly that.
+pub fn dummies_get_their_worth()
+    ensures { DummiesGetTheirWorth }
+{}
+
+/// Each real number is twice a real number: so shares can be made equal.
+pub fn reals_can_halve()
+    ensures { RealsCanHalve }
+{}
+
+/// A change of the unit, and of what each player brings of its own, changes the nucleolus by the same.
+pub fn equivalent_games_agree()
+    ensures { EquivalentGamesAgree }
+{}
+
+/// Kohlberg's theorem (Kohlberg 1971; for the prenucleolus Sobolev 1975): shares that add to the worth of all are the
+/// prenucleolus just where, for each coalition, those of at least its excess are balanced.
+pub fn kohlberg()
+    ensures { KohlbergTheorem }
+{}
+
+/// Two who together are worth a real number above zero, and alone nothing, get half each; and all for the first is no
+/// nucleolus.
+pub fn two_share()
+    ensures { TwoShare }
+{}
+
+/// Twice each number is a change of the unit, and zero for each isn't.
+pub fn doubling_is_a_change()
+    ensures { DoublingIsAChange }
+{}
+
+/// The integer 1 isn't twice an integer.
+pub fn integers_cant_halve()
+    ensures { IntegersCantHalve }
+{}
+
+/// Of two players the second alone is worth something: it adds no less than the first, which adds less. Where nobody is
+/// worth anything, the first is a dummy.
+pub fn some_add_no_less()
+    ensures { SomeAddNoLess }
+{}
+
+/// The players alone are balanced, and one of two isn't.
+pub fn singles_balance()
+    ensures { SinglesBalance }
+{}

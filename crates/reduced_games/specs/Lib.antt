@@ -1,0 +1,4 @@
+pub mod ReducedGames
+pub mod EstatesLeft
+pub mod AirportsLeft
+pub mod SobolevsTheorem

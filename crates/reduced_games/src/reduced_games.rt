@@ -1,0 +1,59 @@
+//! The reduced game of those who stay (Davis and Maschler 1965), of any number of players, and what solutions give them
+//! in it. Each function's contract is a theorem, and it does nothing when it runs.
+
+ghost use Rattle.reduced_games.specs.ReducedGames.{ReducedGamesExist, ReducedGameIsOne, ReducedGameProperty};
+ghost use Rattle.reduced_games.specs.ReducedGames.{PrekernelReduces, CoreReduces, PrekernelByPairs, CoreByPairs};
+ghost use Rattle.reduced_games.specs.ReducedGames.{NucleolusReduces, EachTwoAreStandard, TwoOfThreeVoters};
+
+/// Whoever stays, there is a reduced game.
+pub fn reduced_games_exist()
+    ensures { ReducedGamesExist }
+{}
+
+/// There is only one: two have the same worths.
+pub fn reduced_game_is_one()
+    ensures { ReducedGameIsOne }
+{}
+
+/// The reduced game property of the prenucleolus (Sobolev 1975). Where some players go with their shares, the
+/// prenucleolus of the game that is left gives each of the others what it got before.
+pub fn reduced_game_property()
+    ensures { ReducedGameProperty }
+{}
+
+/// And of the nucleolus, where the core isn't empty.
+pub fn nucleolus_reduces()
+    ensures { NucleolusReduces }
+{}
+
+/// The reduced game property of the prekernel (Peleg 1986).
+pub fn prekernel_reduces()
+    ensures { PrekernelReduces }
+{}
+
+/// The reduced game property of the core (Peleg 1986).
+pub fn core_reduces()
+    ensures { CoreReduces }
+{}
+
+/// And its converse for pairs: an efficient allocation lies in the prekernel exactly where each two players have the
+/// standard solution of their reduced game.
+pub fn prekernel_by_pairs()
+    ensures { PrekernelByPairs }
+{}
+
+/// So at the prenucleolus each two have it.
+pub fn each_two_are_standard()
+    ensures { EachTwoAreStandard }
+{}
+
+/// An efficient allocation lies in the core exactly where the shares of each two players lie in the core of their
+/// reduced game.
+pub fn core_by_pairs()
+    ensures { CoreByPairs }
+{}
+
+/// Of three who vote by majority and get a third each, one goes: what is the game of the others, and what isn't.
+pub fn two_of_three_voters()
+    ensures { TwoOfThreeVoters }
+{}

@@ -1,0 +1,28 @@
+//! Which rule has these properties: the prenucleolus alone. Each function's contract is a theorem, and it does nothing
+//! when it runs.
+
+ghost use Rattle.reduced_games.specs.SobolevsTheorem.{SobolevsTheorem, SomeRuleMeetsThem, ShapleyIsntSuchARule};
+ghost use Rattle.reduced_games.specs.SobolevsTheorem.{InTheirOrder};
+
+/// Sobolev's theorem (Sobolev 1975), both ways, over games whose worths are whole numbers and rules whose shares are
+/// fractions. A rule that gives one allocation to each game, of any number of players, is covariant under strategic
+/// equivalence, anonymous and has the reduced game property just where it gives each game its prenucleolus.
+pub fn sobolevs_theorem()
+    ensures { SobolevsTheorem }
+{}
+
+/// Some rule meets these axioms.
+pub fn some_rule_meets_them()
+    ensures { SomeRuleMeetsThem }
+{}
+
+/// The Shapley value doesn't meet them: it lacks the reduced game property.
+pub fn shapley_isnt_such_a_rule()
+    ensures { ShapleyIsntSuchARule }
+{}
+
+/// What the axioms speak of, in the small: a vote is playable and a game of nobody isn't, and two of three keep their
+/// order, but not exchanged.
+pub fn in_their_order()
+    ensures { InTheirOrder }
+{}

@@ -1,0 +1,30 @@
+-- Two with a vote each: where both have to agree, and where one suffices. The law is the contract of a function of this
+-- crate.
+--
+--   both_agree, one_suffices   the two games
+--   halves                     half for each
+--   TwoVoters                  where both have to agree, who joins does no harm, and halves are free of subsidies;
+--                              where one suffices, who joins the other does harm. Of three who vote by majority,
+--                              that the first takes all isn't free of subsidies
+use Rattle.std.specs.Prelude.{[], ◌∷◌, pos}
+use Rattle.definitions.specs.Games.{Game, Allocation}
+use Rattle.laws.specs.ClassGames.{voting_game}
+use Rattle.stability.specs.Majority.{majority, first_takes_all}
+use Rattle.stability.specs.Subsidies.{IsSubsidyFree}
+use Rattle.stability.specs.ZeroMonotonic.{IsZeroMonotonic}
+
+-- two with a vote each, of whom both win together
+abbrev pub both_agree : Game
+both_agree = voting_game 2 (1 ∷ (1 ∷ []))
+
+-- of whom each wins alone
+abbrev pub one_suffices : Game
+one_suffices = voting_game 1 (1 ∷ (1 ∷ []))
+
+abbrev pub halves : Allocation
+halves = record { shares = pos 1 ∷ (pos 1 ∷ []); den = pos 2 }
+
+abbrev pub TwoVoters : Type 0
+TwoVoters =
+    (IsZeroMonotonic both_agree × ¬ IsZeroMonotonic one_suffices)
+    × (IsSubsidyFree both_agree halves × ¬ IsSubsidyFree majority first_takes_all)

@@ -1,0 +1,20 @@
+//! Games in which it harms no coalition that a player joins it: by plain excess, of any number of players (Maschler,
+//! Peleg and Shapley 1972).
+
+ghost use Rattle.stability.specs.ZeroMonotonic.{ConvexIsZeroMonotonic, KernelIsPrekernel, PrenucleolusIsNucleolus};
+
+/// In a convex game each player adds to each coalition at least its worth alone.
+pub fn convex_is_zero_monotonic()
+    ensures { ConvexIsZeroMonotonic }
+{}
+
+/// Where each player adds to each coalition at least its worth alone, the kernel is the prekernel (Maschler, Peleg and
+/// Shapley 1972).
+pub fn kernel_is_prekernel()
+    ensures { KernelIsPrekernel }
+{}
+
+/// There the prenucleolus gives nobody less than its worth alone, so it is the nucleolus.
+pub fn prenucleolus_is_nucleolus()
+    ensures { PrenucleolusIsNucleolus }
+{}

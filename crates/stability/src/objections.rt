@@ -1,0 +1,25 @@
+//! The bargaining set of Davis and Maschler (1967): whoever objects to another's share can be countered. Of any number
+//! of players.
+
+ghost use Rattle.stability.specs.BargainingSet.{KernelIsInBargainingSet, NucleolusIsInBargainingSet};
+ghost use Rattle.stability.specs.BargainingSet.{BargainingSetIsntEmpty, CoreIsInBargainingSet};
+
+/// The kernel lies in the bargaining set (Davis and Maschler 1967).
+pub fn kernel_is_in_bargaining_set()
+    ensures { KernelIsInBargainingSet }
+{}
+
+/// So the nucleolus does: at the nucleolus each objection of a player against another can be countered.
+pub fn nucleolus_is_in_bargaining_set()
+    ensures { NucleolusIsInBargainingSet }
+{}
+
+/// Where there is an imputation, some shares lie in the bargaining set.
+pub fn bargaining_set_isnt_empty()
+    ensures { BargainingSetIsntEmpty }
+{}
+
+/// The core lies in the bargaining set: at a core point nobody has an objection.
+pub fn core_is_in_bargaining_set()
+    ensures { CoreIsInBargainingSet }
+{}

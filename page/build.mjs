@@ -1,0 +1,117 @@
+#!/usr/bin/env node
+// Joins the modules, the styles and the program into one page.
+//
+//     node page/build.mjs --module page/engine/coop.wasm --commit COMMIT --out page/coop.html
+//
+// COMMIT is the commit of the sources that the module was made from. Without --module, or without --commit, these are
+// those of the page that stands at --out already: so whoever changes the page alone needs neither the kit nor a module.
+//
+// It is no bundler. Each module becomes a function of its own, so names don't clash. An import names what it takes,
+// from a relative path; an export stands in front of what it exports. Other forms of import and export are refused.
+import { createHash } from "node:crypto";
+import { readFileSync, writeFileSync } from "node:fs";
+import { dirname, join, relative, resolve } from "node:path";
+import { fileURLToPath } from "node:url";
+
+const TOP = dirname(fileURLToPath(import.meta.url));
+const SRC = join(TOP, "src");
+const MOST = 1_200_000; // bytes of the page
+
+/** What stands in the place of "/* NAME *\/" in a module, as the text of a string or as code. */
+function placesOf(module) {
+  const style = (name) => JSON.stringify(readFileSync(join(SRC, name), "utf8")).slice(1, -1);
+  return {
+    MODULE: () => module.toString("base64"),
+    PALETTE: () => style("palette.css"),
+    PICTURE: () => style("picture.css"),
+  };
+}
+
+/** A module and all that it imports, each once, in front of what needs it: code by path. */
+function modulesOf(entry, places) {
+  const done = new Map(), found = new Map();
+  const visit = (path, from) => {
+    if (done.get(path) === "open") throw new Error(`${from} and ${path} import each other`);
+    if (done.has(path)) return;
+    done.set(path, "open");
+    found.set(path, moduleOf(path, places, (other) => (visit(other, path), nameOf(other))));
+    done.set(path, "done");
+  };
+  visit(join(SRC, entry), "");
+  return found;
+}
+
+/** The modules that page and worker share, which stand in the page once, and those of each alone. */
+function scriptsOf(places) {
+  const page = modulesOf("page/main.js", places), worker = modulesOf("worker.js", places);
+  const isShared = ([path]) => page.has(path) && worker.has(path);
+  const script = (modules) => inScript(modules.map(([, code]) => code).join("\n"));
+  return {
+    SHARED: script([...worker].filter(isShared)),
+    WORKER: script([...worker].filter((one) => !isShared(one))),
+    PAGE: script([...page].filter((one) => !isShared(one))),
+  };
+}
+
+function nameOf(path) {
+  return `module_${relative(SRC, path).replace(/\W/g, "_")}`;
+}
+
+function moduleOf(path, places, importing) {
+  const exported = [];
+  let code = readFileSync(path, "utf8");
+  code = code.replace(/^import \{([^}]*)\} from "([^"]+)";$/gm, (_, names, from) => {
+    return `const {${names.replace(/ as /g, ": ")}} = ${importing(resolve(dirname(path), from))};`;
+  });
+  code = code.replace(/^export ((?:async )?function\*?|class|const) (\w+)/gm, (_, what, name) => {
+    exported.push(name);
+    return `${what} ${name}`;
+  });
+  if (/^(import|export)\b/m.test(code)) throw new Error(`${path} has an import or an export of another form`);
+  code = code.replace(/\/\* ([A-Z]+) \*\//g, (whole, name) => places[name]?.() ?? whole);
+  return `const ${nameOf(path)} = (() => {\n${code}\nreturn { ${exported.join(", ")} };\n})();`;
+}
+
+/** Code as the text of a script element may have it. */
+function inScript(code) {
+  return code.replace(/<\/script/gi, "<\\/script").replace(/<!--/g, "<\\!--");
+}
+
+function pageOf(module, commit) {
+  const scripts = scriptsOf(placesOf(module)), text = (name) => readFileSync(join(SRC, name), "utf8");
+  const styles = ["palette.css", "style.css", "answer.css", "picture.css", "narrow.css", "print.css"];
+  return text("page.html")
+    .replaceAll("COMMIT", commit)
+    .replaceAll("DIGEST", createHash("sha256").update(module).digest("hex"))
+    .replace("/* STYLE */", () => styles.map(text).join("\n"))
+    .replace(/\/\* (SHARED|WORKER|PAGE) \*\//g, (_, name) => `"use strict";\n${scripts[name]}`);
+}
+
+/** The commit that a page names already. */
+function commitOf(path) {
+  const found = /<meta name="commit" content="([^"]*)">/.exec(readFileSync(path, "utf8"));
+  if (!found) throw new Error(`${path} names no commit; give one with --commit`);
+  return found[1];
+}
+
+async function moduleOfPage(path) {
+  const { moduleIn } = await import("./engine/inside.js");
+  return moduleIn(readFileSync(path, "utf8"));
+}
+
+async function main(words) {
+  const option = (name) => (words.includes(name) ? words[words.indexOf(name) + 1] : undefined);
+  const [file, out] = [option("--module"), option("--out")];
+  if (!out) {
+    console.error("node page/build.mjs [--module MODULE] [--commit COMMIT] --out PAGE");
+    return 2;
+  }
+  const module = file ? readFileSync(file) : Buffer.from(await moduleOfPage(out));
+  const page = pageOf(module, option("--commit") ?? commitOf(out)), bytes = Buffer.byteLength(page);
+  if (bytes > MOST) throw new Error(`the page has ${bytes} bytes, and may have ${MOST}`);
+  writeFileSync(out, page);
+  console.log(`${out}: ${bytes} bytes, SHA-256 ${createHash("sha256").update(page).digest("hex")}`);
+  return 0;
+}
+
+process.exitCode = await main(process.argv.slice(2));

@@ -1,0 +1,183 @@
+// Runs the module of coop: the heap that the module asks its host for, and one call in an instance of its own.
+// For pages, workers and Node:
+//
+//     const module = new WebAssembly.Module(bytes);
+//     const { status, line } = coop(module, ["nucleolus"], new TextEncoder().encode(document));
+
+const KiB = 1024;
+const MiB = 1024 * KiB;
+const PAGE = 64 * KiB;
+// What the program ends with where the line has no room, and where memory isn't found.
+const NO_ROOM = 6;
+const OUT_OF_MEMORY = 7;
+const STATUSES = [0, 1, 2, 3, NO_ROOM, OUT_OF_MEMORY];
+// Where a pointer leads that no memory stands behind: it is never null.
+const NOWHERE = 16;
+
+/** The engine stopped, by a fault of its own or of its host: there is no answer. */
+export class EngineFault extends Error {
+  name = "EngineFault";
+}
+
+/**
+ * What the program answers to words and the bytes of a document: its status, and the bytes of its line.
+ *
+ * The status is 7 where more than `most` bytes of memory are asked for, or where the host finds none; it is never 6.
+ * For tests, `refused` is the number of a request for memory that is refused, and `room` is how many bytes a line may
+ * have at first; beside the answer stand how many requests there were, and how many bytes of memory the module had.
+ */
+export function coop(module, words, document, { most = 1024 * MiB, refused = 0, room = roomFor(document) } = {}) {
+  const typed = new TextEncoder().encode(words.join("\0"));
+  for (; ; room *= 4) {
+    const heap = new Heap(most, refused);
+    const answer = called(module, heap, typed, document, room) ?? { status: OUT_OF_MEMORY, line: new Uint8Array(0) };
+    if (answer.status !== NO_ROOM) return { ...answer, requests: heap.requests, memory: heap.bytes.length };
+  }
+}
+
+// The line of a nucleolus has its game in it. What else stands in a line was never seen to take more than 15 KB.
+function roomFor(document) {
+  return document.length + 64 * KiB;
+}
+
+// One call in a new instance, or null where there is no memory to begin with.
+function called(module, heap, typed, document, room) {
+  const run = begun(module, heap);
+  const places = run && [typed.length, document.length, room, 8].map((size) => heap.take(size));
+  if (!places || places.includes(0)) return null;
+  const [typedAt, documentAt, lineAt, countAt] = places;
+  heap.bytes.set(typed, typedAt);
+  heap.bytes.set(document, documentAt);
+  const parts = [typedAt, typed.length, documentAt, document.length, lineAt, room, countAt];
+  const status = guarded(() => run(...parts.map(BigInt)));
+  const count = heap.view.getBigUint64(countAt, true);
+  if (!STATUSES.includes(status) || count > room) throw new EngineFault(`the engine ended with ${status} and ${count}`);
+  return { status, line: heap.bytes.slice(lineAt, lineAt + Number(count)) };
+}
+
+// The call of a new instance, or null where there is no memory for one.
+function begun(module, heap) {
+  try {
+    const { exports } = new WebAssembly.Instance(module, { heap: heap.imports });
+    heap.begin(exports.memory, Number(exports.__heap_base.value));
+    return exports.coop_run;
+  } catch (fault) {
+    if (fault instanceof RangeError) return null;
+    throw new EngineFault(`the engine doesn't start: ${fault}`, { cause: fault });
+  }
+}
+
+function guarded(call) {
+  try {
+    return call();
+  } catch (fault) {
+    throw new EngineFault(`the engine stopped: ${fault}`, { cause: fault });
+  }
+}
+
+// Blocks of 16, 32, 48, 64, 96, 128, .. bytes, at places that 16 divides. A block that is given back waits for the next
+// request of its class. The class of each stands in a table beside the memory, one byte for 16 of the memory's.
+class Heap {
+  constructor(most, refused) {
+    this.most = most;
+    this.refused = refused;
+    this.requests = 0;
+    this.waiting = [];
+    this.bytes = new Uint8Array(0);
+    this.imports = {
+      rattle_alloc: (to, size) => this.tell(to, () => this.take(numberOf(size))),
+      rattle_realloc: (to, at, kept, size) =>
+        this.tell(to, () => this.move(numberOf(at), numberOf(kept), numberOf(size))),
+      rattle_dealloc: (at) => this.give(numberOf(at)),
+    };
+  }
+
+  // Takes the memory of an instance, where no byte from the base on is in use.
+  begin(memory, base) {
+    this.memory = memory;
+    this.next = Math.ceil(base / 16) * 16;
+    this.look(new Uint8Array(memory.buffer.byteLength / 16));
+  }
+
+  // A memory that has grown has a new buffer.
+  look(classes) {
+    this.view = new DataView(this.memory.buffer);
+    this.bytes = new Uint8Array(this.memory.buffer);
+    this.classes = classes;
+  }
+
+  // Whether the memory could be made to reach to an end.
+  grow(end) {
+    const has = this.bytes.length;
+    if (end > this.most) return false;
+    // A quarter more, so that it seldom grows.
+    const wanted = Math.min(Math.max(end, has * 1.25), this.most);
+    const pages = Math.ceil((wanted - has) / PAGE);
+    try {
+      const classes = new Uint8Array((has + pages * PAGE) / 16);
+      classes.set(this.classes);
+      this.memory.grow(pages);
+      this.look(classes);
+      return true;
+    } catch (fault) {
+      if (fault instanceof RangeError) return false;
+      throw fault;
+    }
+  }
+
+  // The place of a block, or 0 where there is none.
+  take(size) {
+    if (size > this.most) return 0;
+    const kind = classOf(size);
+    const waiting = this.waiting[kind]?.pop();
+    if (waiting !== undefined) return waiting;
+    const at = this.next;
+    const end = at + roomOf(kind);
+    if (end > this.bytes.length && !this.grow(end)) return 0;
+    this.next = end;
+    this.classes[at / 16] = kind;
+    return at;
+  }
+
+  give(at) {
+    (this.waiting[this.classes[at / 16]] ??= []).push(at);
+  }
+
+  // The place of a block of another size with the same first bytes, or 0 where there is none.
+  move(at, kept, size) {
+    if (size <= roomOf(this.classes[at / 16])) return at;
+    const to = this.take(size);
+    if (to !== 0) {
+      this.bytes.copyWithin(to, at, at + kept);
+      this.give(at);
+    }
+    return to;
+  }
+
+  // Answers a request: whether there is a block, and where.
+  tell(to, find) {
+    this.requests += 1;
+    const at = this.requests === this.refused ? 0 : find();
+    const place = numberOf(to);
+    this.view.setBigUint64(place, at === 0 ? 0n : 1n, true);
+    this.view.setBigUint64(place + 8, BigInt(at || NOWHERE), true);
+  }
+}
+
+// Sizes and places have 64 bits.
+function numberOf(big) {
+  return Number(BigInt.asUintN(64, big));
+}
+
+// The class of a size below 2^31.
+function classOf(size) {
+  if (size <= 16) return 0;
+  const power = 31 - Math.clz32(size - 1);
+  const isSmall = power > 4 && size <= 3 * 2 ** (power - 1);
+  return 2 * (power - 4) + (isSmall ? 1 : 2);
+}
+
+// How many bytes the blocks of a class have.
+function roomOf(kind) {
+  return (kind % 2 === 1 ? 24 : 16) * 2 ** Math.floor(kind / 2);
+}

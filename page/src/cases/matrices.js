@@ -1,0 +1,92 @@
+// Cases that are a matrix: a network of links, and buyers with sellers.
+import { typedText } from "../exact/decimals.js";
+import { rowsOf } from "./lists.js";
+import { Reading } from "./reading.js";
+
+export const network = {
+  id: "network",
+  classes: ["tree"],
+  title: "A network of links",
+  teaser: "All have to be joined to one source: pipes, cables, roads.",
+  unit: "place",
+  isNetwork: true,
+  most: 16,
+  help: "What a link between each two places would cost. A link that can’t be built needs a number too, which decides "
+    + "much: leave it empty, and see below.",
+  example: () => ({
+    names: ["Harbour", "Mill", "Farm", "Chapel"],
+    links: linksOf([["9.99", "10.25", "12", "14"], ["1.05", "3.50", "8"], ["6", "2"], ["5"]]),
+  }),
+  empty: () => ({ names: ["", ""], links: {} }),
+
+  read(state, mark) {
+    const reading = new Reading(mark), n = state.names.length;
+    const names = reading.names(state.names.map((typed, i) => ({ typed, cell: `names.${i}` })), "Place");
+    const matrix = Array.from({ length: n + 1 }, () => Array(n + 1).fill(0n));
+    for (let i = 0; i <= n; i++) {
+      for (let j = i + 1; j <= n; j++) {
+        const value = reading.number(`links.${i}-${j}`, state.links[`${i}-${j}`] ?? "", "The cost of this link");
+        if (value) matrix[i][j] = matrix[j][i] = value.toDocument();
+      }
+    }
+    reading.close();
+    return {
+      reading,
+      rows: rowsOf(names),
+      tree: { class: "tree", ...reading.version, names, matrix },
+    };
+  },
+
+  fromGame: (game) => ({
+    names: game.names.map((name) => (game.named ? name : "")),
+    links: linksOf(game.rows.map((row, i) => row.slice(i + 1).map((cost) => typedText(cost)))),
+  }),
+};
+
+/** Links by "i-j", from rows of what stands right of the diagonal. */
+function linksOf(rows) {
+  return Object.fromEntries(rows.flatMap((row, i) => row.map((cost, k) => [`${i}-${i + 1 + k}`, String(cost)])));
+}
+
+export const market = {
+  id: "market",
+  classes: ["market", "assignment"],
+  title: "Buyers and sellers",
+  teaser: "Each buys one thing, each sells one. Who trades with whom, at which price?",
+  unit: "trader",
+  isMarket: true,
+  most: 32,
+  help: "What each buyer and seller gain together if they trade: what it is worth to the buyer, less what it is worth "
+    + "to the seller; 0 where that is less than nothing.",
+  example: () => ({
+    buyers: ["Ann", "Ben", "Cem"],
+    sellers: ["house", "flat"],
+    values: [["5", "8"], ["7", "6"], ["6", "6"]],
+  }),
+  empty: () => ({ buyers: ["", ""], sellers: ["", ""], values: [["", ""], ["", ""]] }),
+
+  read(state, mark) {
+    const reading = new Reading(mark), { buyers, sellers } = state;
+    const cells = [
+      ...buyers.map((typed, i) => ({ typed: typed.trim() || `Buyer ${i + 1}`, cell: `buyers.${i}` })),
+      ...sellers.map((typed, j) => ({ typed: typed.trim() || `Seller ${j + 1}`, cell: `sellers.${j}` })),
+    ];
+    const names = reading.names(cells, "Trader");
+    const matrix = buyers.map((_, i) => sellers.map((_, j) => {
+      return reading.number(`values.${i}.${j}`, state.values[i][j], "What they gain together")?.toDocument() ?? 0n;
+    }));
+    reading.close();
+    const kind = buyers.length + sellers.length <= 16 ? "assignment" : "market";
+    return {
+      reading,
+      rows: rowsOf(names),
+      tree: { class: kind, ...reading.version, names, matrix },
+    };
+  },
+
+  fromGame: (game) => ({
+    buyers: game.rows.map((_, i) => (game.named ? game.names[i] : "")),
+    sellers: game.rows[0].map((_, j) => (game.named ? game.names[game.rows.length + j] : "")),
+    values: game.rows.map((row) => row.map((value) => typedText(value))),
+  }),
+};

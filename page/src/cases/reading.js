@@ -1,0 +1,110 @@
+// Reads what a person typed into the cells of a case, and keeps what is wrong, cell by cell.
+import { lcm } from "../exact/rational.js";
+import { readNumber } from "../exact/decimals.js";
+import { remarksOf, withEscapes } from "../game/names.js";
+
+const MOST_SCALE = 65536n;
+const MOST = 2n ** 40n;
+const MOST_KEPT = 200; // faults that are kept with their cells; of the others only the number
+
+export class Reading {
+  constructor(mark) {
+    this.mark = mark;
+    this.faults = []; // {cell, sentence}
+    this.count = 0; // of faults
+    this.empty = { count: 0, first: null }; // cells that are empty and may not be
+    this.doubts = []; // numbers that the decimal mark decides
+    this.notes = []; // what was changed for the program, and what is remarkable
+    this.numbers = [];
+    this.texts = new Map();
+  }
+
+  /** What a text is read as. Tables have many cells with the same text, so it is kept. */
+  known(typed) {
+    if (!this.texts.has(typed)) this.texts.set(typed, readNumber(typed, this.mark));
+    return this.texts.get(typed);
+  }
+
+  fault(cell, sentence) {
+    this.count += 1;
+    if (this.faults.length < MOST_KEPT) this.faults.push({ cell, sentence });
+    return null;
+  }
+
+  /** The value of a cell, or null. */
+  number(cell, typed, what, { canBeNegative = false } = {}) {
+    const { value, fault, doubt } = this.known(typed);
+    if (doubt && !this.doubts.length) this.doubts.push({ cell, typed, value: String(value) });
+    if (fault === "is empty") {
+      this.empty.count += 1;
+      this.empty.first ??= cell;
+      return null;
+    }
+    if (fault) {
+      const shown = fault === "is no number" ? `: “${withEscapes(typed.trim().slice(0, 20))}”` : "";
+      return this.fault(cell, `${what} ${fault}${shown}.`);
+    }
+    if (value.isNegative() && !canBeNegative) return this.fault(cell, `${what} can’t be negative.`);
+    this.numbers.push({ cell, value, what });
+    return value;
+  }
+
+  whole(cell, typed, what, low, high) {
+    const value = /^\s*\d{1,9}\s*$/.test(typed) ? Number(typed) : readNumber(typed, this.mark).value?.toNumber();
+    if (!Number.isInteger(value)) return this.fault(cell, `${what} is a whole number.`);
+    if (value < low || value > high) {
+      return this.fault(cell, `${what} is from ${low} to ${high.toLocaleString("en")}.`);
+    }
+    return value;
+  }
+
+  /** Names, each with its cell; an empty one is the word with its number. */
+  names(cells, word) {
+    const names = cells.map(({ typed }, i) => typed.trim().normalize("NFC") || `${word} ${i + 1}`);
+    const first = new Map();
+    names.forEach((name, i) => {
+      if (bytesOf(name) > 64) this.fault(cells[i].cell, "A name has at most 64 letters (32 with accents).");
+      if (first.has(name)) this.fault(cells[i].cell, `The name “${withEscapes(name)}” stands twice.`);
+      else first.set(name, i);
+    });
+    this.remark(names);
+    return names;
+  }
+
+  remark(names) {
+    this.notes.push(...remarksOf(names));
+  }
+
+  /** What the program asks of all numbers together: one denominator, and sizes below a limit. */
+  close() {
+    let scale = 1n;
+    for (const { cell, value, what } of this.numbers) {
+      if (scale % value.den) scale = lcm(scale, value.den);
+      if (scale > MOST_SCALE) {
+        return this.fault(cell, `${what} is too fine: with the others it needs a common denominator above 65,536. `
+          + "Up to four decimals always fit.");
+      }
+    }
+    for (const { cell, value, what } of this.numbers) {
+      if ((value.abs().num * scale) / value.den >= MOST) {
+        return this.fault(cell, `${what} is too large: with its decimals it may have about twelve digits.`);
+      }
+    }
+    this.version = scale > 1n ? { version: 2n } : {};
+    return null;
+  }
+
+  isRight() {
+    return !this.count && !this.empty.count;
+  }
+}
+
+export function bytesOf(text) {
+  return new TextEncoder().encode(text).length;
+}
+
+/** Of pasted rows those behind a line of headings: one whose number isn't a number, where the next row has one. */
+export function withoutHeadings(rows, column, mark) {
+  const isNumber = (row) => !readNumber(row?.[column] ?? "", mark).fault;
+  return rows.length > 1 && !isNumber(rows[0]) && isNumber(rows[1]) ? rows.slice(1) : rows;
+}

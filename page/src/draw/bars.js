@@ -1,0 +1,43 @@
+// Bars of what each gets or pays, with marks at what it is worth alone and at what it adds to all others.
+import { Rational, ZERO } from "../exact/rational.js";
+import { chart } from "./chart.js";
+import { figure } from "./figure.js";
+
+/** `rows` are {label, players}: players of a row have equal shares, and the bar is that of one of them. */
+export function barsPicture(game, rows, points, { show, wide }) {
+  const first = rows.map(({ players: [i] }) => i);
+  const alone = first.map((i) => game.alone(i)), added = first.map((i) => game.added(i));
+  const values = [ZERO, ...added, ...points.flatMap((point) => first.map((i) => point.shares[i]))];
+  const most = Rational.max(values), isFar = most.times(Rational.of(4)).less(Rational.max(alone));
+  const low = Rational.min([...values, ...alone]).toNumber();
+  const high = isFar ? most.toNumber() * 1.1 : Rational.max([...values, ...alone]).toNumber();
+  const own = game.costs ? "costs alone" : "is worth alone";
+  const within = (value) => (value.toNumber() <= high ? value.toNumber() : null);
+  return chart({
+    title: game.costs ? "What each pays" : "What each gets",
+    low, high: high > low ? high : low + 1, wide, text: tickText,
+    legend: [
+      ...points.map(({ key, title }) => ({ key, title })),
+      { kind: "alone", title: own + (isFar ? " (an arrow: far more)" : "") },
+      { kind: "adds", title: `adds to the ${game.costs ? "cost" : "worth"} of all others` },
+    ],
+    rows: rows.map(({ label, players }, r) => ({
+      label, note: players.length > 1 ? `each of ${players.length}` : "", end: high,
+      told: `${label}: ${[
+        ...points.map((point) => `${point.title} ${show(point.shares[players[0]])}`),
+        `${own} ${show(alone[r])}`, `adds ${show(added[r])} to all others`,
+      ].join(", ")}`,
+      bars: points.map((point) => ({ key: point.key, value: point.shares[players[0]].toNumber() })),
+      marks: [{ kind: "adds", value: added[r].toNumber() }, { kind: "alone", value: within(alone[r]) }],
+    })),
+  });
+}
+
+export function bars(game, rows, points, settings) {
+  const each = rows.some(({ players }) => players.length > 1) ? "A bar is what one landing pays." : "";
+  return figure("bars", "shares", barsPicture(game, rows, points, settings), each);
+}
+
+export function tickText(tick) {
+  return Number(tick.toPrecision(10)).toLocaleString("en").replace(/,/g, "\u202f").replace("-", "−");
+}

@@ -1,0 +1,71 @@
+// The cheapest network, drawn from its source to the right: each place hangs on the one that it is joined to.
+import { Rational } from "../exact/rational.js";
+import { svg } from "../page/dom.js";
+import { figure } from "./figure.js";
+import { fitted, widthOf } from "./measure.js";
+
+const ROW = 52;
+
+/** Where each point stands: how many links from the source, and in which row. */
+function spotsOf(children) {
+  const spots = new Map();
+  let rows = 0;
+  const put = (point, depth) => {
+    const below = children.get(point);
+    for (const child of below) put(child, depth + 1);
+    const own = below.map((child) => spots.get(child).row);
+    spots.set(point, { depth, row: own.length ? (own[0] + own.at(-1)) / 2 : rows++ });
+  };
+  put(0, 0);
+  return { spots, rows, deepest: Math.max(...[...spots.values()].map(({ depth }) => depth)) };
+}
+
+/** `links` are [end, player, cost] in the order of joining, players from 1 and the source 0. */
+export function planPicture(game, links, { show, wide }) {
+  const children = new Map([[0, []]]), cost = new Map();
+  for (const [end, player, price] of links) {
+    children.set(Number(player), []);
+    children.get(Number(end)).push(Number(player));
+    cost.set(Number(player), Rational.of(price));
+  }
+  const { spots, rows, deepest } = spotsOf(children), names = ["Source", ...game.shown];
+  const label = Math.min(150, Math.max(...names.map((name) => widthOf(name))) + 24);
+  const step = Math.max(118, Math.min(200, (wide - label - 20) / Math.max(1, deepest)));
+  const x = (point) => 14 + spots.get(point).depth * step, y = (point) => 26 + spots.get(point).row * ROW;
+  const curves = links.map(([end, player]) => {
+    const [from, to] = [Number(end), Number(player)], bend = x(from) + step * 0.42;
+    return svg("path", {
+      class: "link", d: `M${x(from)},${y(from)} C${bend},${y(from)} ${bend - step * 0.1},${y(to)} ${x(to)},${y(to)}`,
+    });
+  });
+  const points = [...spots.keys()].map((point) => placed(names[point], x(point), y(point), {
+    isSource: !point, isLeaf: point && !children.get(point).length, price: point ? show(cost.get(point)) : "",
+  }));
+  const size = { width: 12 + deepest * step + label, height: rows * ROW + 10 };
+  const told = links.map(([end, player]) => {
+    const [from, to] = [Number(end), Number(player)];
+    return `${names[to]} is joined to ${names[from]} and pays ${show(cost.get(to))}`;
+  });
+  return svg("svg", {
+    class: "picture", viewBox: `0 0 ${size.width} ${size.height}`, width: size.width, height: size.height, role: "img",
+    "aria-label": `The cheapest network. ${told.join("; ")}`,
+  }, curves, points);
+}
+
+function placed(name, x, y, { isSource, isLeaf, price }) {
+  const short = fitted(name, 130);
+  const above = isSource ? { x: 4, y: y - 13 } : { x, y: y - 13, "text-anchor": "middle" };
+  const spot = isLeaf ? { x: x + 12, y: y + 5 } : above;
+  return [
+    svg("circle", { class: isSource ? "place source" : "place", cx: x, cy: y, r: isSource ? 7.5 : 5.5 }),
+    svg("text", { class: "apart", ...spot }, short),
+    price && svg("text", { class: "soft apart", x: x - 11, y: y + 16, "text-anchor": "end" }, price),
+  ].filter(Boolean);
+}
+
+export function plan(game, links, settings) {
+  return figure("plan", "network", planPicture(game, links, settings),
+    "The number at a place is what it pays, for the link to the one before. No network costs less. It grows from the ",
+    "source, always by the cheapest next link, which the new place pays (Bird 1976). No group can do better than by ",
+    "these payments.");
+}

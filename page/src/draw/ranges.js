@@ -1,0 +1,113 @@
+// Who trades with whom, and the range of the price; and the power of votes.
+import { Rational } from "../exact/rational.js";
+import { decimal, fractionText } from "../exact/decimals.js";
+import { el } from "../page/dom.js";
+import { tickText } from "./bars.js";
+import { chart } from "./chart.js";
+import { figure } from "./figure.js";
+
+function tableOf(kind, heads, rows) {
+  return el("div", { class: "scroll" }, el("table", { class: kind },
+    el("thead", {}, el("tr", {}, heads.map((title, k) => el("th", { scope: "col", class: k ? "number" : "" }, title)))),
+    el("tbody", {}, rows)));
+}
+
+// ---- A market
+
+/** The pairs that trade: who, what they gain, the price at least and at most, and that of the nucleolus. */
+export function dealsOf(game, matching, solution) {
+  const buyers = matching["buyers best"].map(Rational.of), sellers = matching["sellers best"].map(Rational.of);
+  return matching.pairs.map((pair) => {
+    const [buyer, seller] = pair.map((player) => Number(player) - 1);
+    const worth = game.rows[buyer][seller - game.rows.length], fair = solution?.shares[seller];
+    const who = `${game.shown[buyer]} – ${game.shown[seller]}`;
+    return { pair: [buyer, seller], who, worth, low: buyers[seller], high: sellers[seller], fair };
+  });
+}
+
+export function priceOf({ show }) {
+  return ({ low, high }) => (low.equals(high) ? show(low) : `${show(low)} to ${show(high)}`);
+}
+
+export function tradesTable(deals, format) {
+  const hasFair = deals.some(({ fair }) => fair), price = priceOf(format);
+  const rows = deals.map((deal) => el("tr", {},
+    el("th", { scope: "row" }, deal.who), el("td", { class: "number" }, format.show(deal.worth)),
+    el("td", { class: "number" }, price(deal).replaceAll(" ", "\u00a0")),
+    hasFair && el("td", { class: "number" }, format.show(deal.fair))));
+  return tableOf("trades", ["Who trades", "Gain", "Price", ...(hasFair ? ["By the nucleolus"] : [])], rows);
+}
+
+export function trades(game, matching, { solution, wide, ...format }) {
+  const deals = dealsOf(game, matching, solution), traded = new Set(deals.flatMap(({ pair }) => pair));
+  const idle = game.everyone().filter((i) => !traded.has(i)).map((i) => game.shown[i]);
+  return el("div", {}, tradesTable(deals, format),
+    el("p", { class: "hint" },
+      `Together they gain ${format.show(Rational.of(matching.value))}; no other pairs gain more. `,
+      "A price is what the seller gets of the gain, above its own value. At a lower price some buyer would be outbid, ",
+      "at a higher one some seller undercut.", idle.length > 0 && ` Without a trade: ${idle.join(", ")}.`),
+    deals.length > 0 && figure("ranges", "prices", pricesPicture(deals, priceOf(format), format.show, wide)));
+}
+
+export function pricesPicture(deals, price, show, wide) {
+  const hasFair = deals.some(({ fair }) => fair);
+  return chart({
+    title: "The range of each price", low: 0, wide, text: tickText,
+    high: Math.max(...deals.map(({ worth }) => worth.toNumber())) || 1,
+    legend: [
+      { kind: "span", title: "prices by which no buyer and seller do better together" },
+      ...(hasFair ? [{ kind: "adds", title: "by the nucleolus" }] : []),
+    ],
+    rows: deals.map((deal) => ({
+      label: deal.who, told: `${deal.who}: gain ${show(deal.worth)}, price ${price(deal)}`,
+      spans: [{ low: deal.low.toNumber(), high: deal.high.toNumber(), room: deal.worth.toNumber() }],
+      marks: deal.fair ? [{ kind: "adds", value: deal.fair.toNumber() }] : [],
+    })),
+  });
+}
+
+// ---- Votes
+
+const HUNDRED = Rational.of(100);
+
+function remarkOn(i, share, ballots) {
+  const without = ({ votes }) => Rational.sum(votes.filter((_, j) => j !== i));
+  if (share.isZero()) return "no influence";
+  if (ballots.some((ballot) => without(ballot).less(ballot.quota))) return "needed by all";
+  return ballots.every(({ votes, quota }) => !votes[i].less(quota)) ? "wins alone" : "";
+}
+
+/** `ballots` have the votes and the quota of each of one or two ballots. */
+export function power(game, shares, { mark, wide }) {
+  const { ballots, shown } = game, isDouble = ballots.length > 1;
+  const parts = ballots.map(({ votes }) => votes.map((own) => own.over(Rational.sum(votes))));
+  const percent = (value) => `${decimal(value.times(HUNDRED), 1, { mark })}\u202f%`;
+  const rows = game.everyone().map((i) => {
+    const remark = remarkOn(i, shares[i], ballots), exact = !shares[i].isZero() && fractionText(shares[i]);
+    return el("tr", {},
+      el("th", { scope: "row" }, shown[i], remark && el("small", {}, remark)),
+      ballots.map(({ votes }, b) => [
+        el("td", { class: "number" }, String(votes[i])), el("td", { class: "number" }, percent(parts[b][i])),
+      ]),
+      el("td", { class: "number main" }, percent(shares[i]), exact && el("small", {}, exact)));
+  });
+  const heads = ["Voter", "Votes", "of all", ...(isDouble ? ["Second votes", "of all"] : []), "Power"];
+  const reaches = isDouble ? "reaches both quotas" : "reaches the quota";
+  return el("div", {}, tableOf("power", heads, rows),
+    el("p", { class: "hint" },
+      `Power: in what part of all orders of joining a voter is the one who ${reaches} (Shapley and Shubik 1954).`),
+    figure("powers", "power", powerPicture(game, shares, parts[0], percent, wide)));
+}
+
+export function powerPicture(game, shares, parts, percent, wide) {
+  const number = (value) => value.times(HUNDRED).toNumber();
+  return chart({
+    title: "The power of each voter", low: 0, wide, text: (tick) => `${tickText(tick)}\u202f%`,
+    high: number(Rational.max([...shares, ...parts])),
+    legend: [{ key: "shapley", title: "power" }, { kind: "adds", title: "part of the votes" }],
+    rows: game.everyone().map((i) => ({
+      label: game.shown[i], told: `${game.shown[i]}: power ${percent(shares[i])}, votes ${percent(parts[i])}`,
+      bars: [{ key: "shapley", value: number(shares[i]) }], marks: [{ kind: "adds", value: number(parts[i]) }],
+    })),
+  });
+}

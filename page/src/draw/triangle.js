@@ -1,0 +1,114 @@
+// The triangle of the divisions among three. A division is a point: the nearer it is to a player's corner, the more
+// that player gets (the less it pays). A payment is a negative share here, and a cost a negative worth.
+import { ZERO } from "../exact/rational.js";
+import { shortText } from "../exact/decimals.js";
+import { svg } from "../page/dom.js";
+import { figure } from "./figure.js";
+import { fitted } from "./measure.js";
+import { Shape } from "./shape.js";
+
+const LETTERS = "abcdef";
+const ALONE = [[0], [1], [2]];
+const PAIRS = [[1, 2], [0, 2], [0, 1]];
+const [TOP, LINE, BESIDE] = [44, 24, 660]; // above this width the legend stands beside the triangle
+
+const GREY = [
+  "There is no core",
+  "The core is the one point in grey",
+  "The core is the grey segment",
+  "Grey: the core, where no group could do better",
+];
+
+/** The picture, and what is said below it. */
+export function trianglePicture(game, points, { wide }) {
+  const isBeside = wide >= BESIDE, width = isBeside ? wide * 0.58 : wide, side = Math.min(430, width - 60);
+  const shape = new Shape(game, points, { side, left: (width - side) / 2, top: TOP });
+  const { bounds, hidden } = boundsOf(game, shape), bottom = TOP + shape.high + 42;
+  const legend = [
+    ...points.map((point) => ({ mark: (x, y) => markOf(point.key, x, y), text: point.title })),
+    ...bounds.map(({ letter, text }) => ({ mark: (x, y) => letterAt(letter, x, y + 5), text })),
+  ];
+  const [x, top] = isBeside ? [width + 8, Math.max(20, (bottom - legend.length * LINE) / 2)] : [14, bottom + 8];
+  const high = Math.max(bottom, top + legend.length * LINE);
+  const title = `${GREY[Math.min(shape.core.length, 3)]}.`;
+  const drawn = svg("svg", {
+    class: "picture", viewBox: `0 0 ${wide} ${Math.ceil(high)}`, width: wide, role: "img",
+    "aria-label": `Triangle of the divisions. ${title} ${legend.map(({ text }) => text).join("; ")}`,
+  }, coreOf(shape), framesOf(shape), bounds.map((bound) => bound.drawn), cornersOf(game, shape, width),
+  points.map((point, k) => markOf(point.key, ...shape.place(shape.shares[k]))),
+  legend.map(({ mark, text }, k) => [
+    mark(x + 8, top + k * LINE),
+    svg("text", { x: x + 26, y: top + k * LINE + 5 }, fitted(text, wide - x - 30)),
+  ]));
+  return { drawn, title, hidden };
+}
+
+export function triangle(game, points, settings) {
+  const { drawn, title, hidden } = trianglePicture(game, points, settings);
+  const nearer = game.costs ? "the less it pays" : "the more it gets";
+  return figure("triangle", "triangle", drawn, `${title} The nearer a point is to a player’s corner, ${nearer}.`,
+    hidden.length > 0 && ` Outside of the picture: ${hidden.join("; ")}.`);
+}
+
+function coreOf({ core, place, path }) {
+  if (core.length > 2) return svg("polygon", { class: "core", points: path(core) });
+  if (core.length === 2) return svg("polyline", { class: "core thin", points: path(core) });
+  if (!core.length) return [];
+  const [cx, cy] = place(core[0]);
+  return svg("circle", { class: "core", cx, cy, r: 12 });
+}
+
+function framesOf({ isImputations, spare, path, outer, inner }) {
+  const frame = svg("polygon", { class: isImputations ? "frame" : "outer", points: path(outer) });
+  const hasInner = !isImputations && ZERO.less(spare);
+  return hasInner ? [frame, svg("polygon", { class: "frame", points: path(inner) })] : [frame];
+}
+
+function cornersOf(game, { spots, side }, width) {
+  return spots.map(([x, y], i) => {
+    const text = fitted(game.shown[i], i === 2 ? width - 20 : side / 2, 15, 600);
+    return svg("text", { class: "strong", x, y: y + (i === 2 ? -14 : 26), "text-anchor": "middle" }, text);
+  });
+}
+
+/** The lines on which a group gets just what it is worth, with their letters; and those that lie outside. */
+function boundsOf(game, shape) {
+  const bound = game.costs ? "at most" : "at least", get = game.costs ? "pay" : "get";
+  const bounds = [], hidden = [];
+  for (const group of [...PAIRS, ...(shape.isImputations ? [] : ALONE)]) {
+    const isPair = group.length === 2, who = group.map((i) => game.shown[i]).join(" and ");
+    const worth = shortText(shape.sign(game.worth(group)));
+    const text = `${who} ${isPair ? get : `${get}s`} ${bound} ${worth}`;
+    const ends = shape.lineOf(group);
+    if (!ends) {
+      hidden.push(text);
+      continue;
+    }
+    const letter = LETTERS[bounds.length], [[x1, y1], [x2, y2]] = ends;
+    const line = svg("line", { class: isPair ? "pair" : "single", x1, y1, x2, y2 });
+    const [x, y] = outwards(ends[isPair ? 0 : 1], shape.spots);
+    bounds.push({ letter, text, drawn: [line, letterAt(letter, x, y + 4)] });
+  }
+  return { bounds, hidden };
+}
+
+/** A place a little outside of the end of a line. */
+function outwards([x, y], spots) {
+  const middle = [0, 1].map((axis) => spots.reduce((sum, spot) => sum + spot[axis], 0) / 3);
+  const away = Math.hypot(x - middle[0], y - middle[1]) || 1;
+  return [x + ((x - middle[0]) / away) * 14, y + ((y - middle[1]) / away) * 14];
+}
+
+function letterAt(letter, x, y) {
+  return svg("text", { class: "letter", x, y, "text-anchor": "middle" }, letter);
+}
+
+/** Each point has its own mark, told from the others without colour. */
+function markOf(key, x, y) {
+  const own = { class: "own mark", "data-point": key };
+  const at = (pairs) => pairs.map(([a, b]) => `${x + a},${y + b}`).join(" ");
+  if (key === "shapley") return svg("rect", { ...own, x: x - 5.5, y: y - 5.5, width: 11, height: 11 });
+  if (key === "core") return svg("polygon", { ...own, points: at([[0, -7], [6.5, 5], [-6.5, 5]]) });
+  if (key === "proposal") return svg("polygon", { ...own, points: at([[0, -8], [8, 0], [0, 8], [-8, 0]]) });
+  return svg("circle", { ...own, cx: x, cy: y, r: key.endsWith("nucleolus") ? 6 : 4.5 });
+}

@@ -1,0 +1,108 @@
+// Decimals: those that people type, and those that are shown.
+import { Rational } from "./rational.js";
+
+/** The decimal mark of sentences: that of the page, which each worker is told. */
+export const spoken = { mark: "." };
+
+const HALF = new Rational(1n, 2n);
+const NARROW = "\u202f";
+const MOST_LETTERS = 61; // of a number that is typed: a fraction of 30 digits each
+
+/** Shares in steps of the last place, which add to the rounded sum: all are rounded down first, and what then lacks
+ * goes to those who lost most, among equals to the first. */
+export function roundedSteps(shares, places) {
+  const unit = new Rational(10n ** BigInt(places));
+  const exact = shares.map((share) => share.times(unit));
+  const steps = exact.map((share) => share.floor());
+  const whole = Rational.sum(exact).plus(HALF).floor();
+  const lacking = Number(whole - steps.reduce((total, step) => total + step, 0n));
+  const lost = exact.map((share, i) => share.minus(new Rational(steps[i])));
+  const order = steps.map((_, i) => i).sort((i, j) => lost[j].compare(lost[i]) || i - j);
+  for (const i of order.slice(0, lacking)) steps[i] += 1n;
+  return steps;
+}
+
+export function stepsOf(value, places) {
+  return value.times(new Rational(10n ** BigInt(places))).plus(HALF).floor();
+}
+
+/** Steps of the last place as a decimal: 1234567 in two places is "12 345.67". */
+export function decimalOf(steps, places, { mark = ".", grouped = true } = {}) {
+  const digits = String(steps < 0n ? -steps : steps).padStart(places + 1, "0");
+  const whole = digits.slice(0, digits.length - places);
+  const shown = grouped && whole.length > 4 ? whole.replace(/(?=(\d{3})+$)(?!^)/g, NARROW) : whole;
+  return (steps < 0n ? "−" : "") + shown + (places ? mark + digits.slice(-places) : "");
+}
+
+export function decimal(value, places, options) {
+  return decimalOf(stepsOf(value, places), places, options);
+}
+
+/** A fraction for the eye: "3/2", "−7". */
+export function fractionText(value) {
+  return value.toString().replace("-", "−");
+}
+
+/** A number as a sentence has it, exact: a decimal where four places do, else a fraction; a very long one about. */
+export function shortText(value) {
+  const places = placesOf(value);
+  if (places >= 0) return decimal(value, places, spoken);
+  const text = fractionText(value);
+  return text.length <= 15 ? text : `about ${decimal(value, 4, spoken)}`;
+}
+
+/** The same, with the decimals beside a fraction. */
+export function fullText(value) {
+  const text = shortText(value);
+  return text.includes("/") ? `${text} (about ${decimal(value, 2, spoken)})` : text;
+}
+
+/** How many decimals write a value exactly, to 4; -1 where these don't. */
+export function placesOf(value) {
+  return [0n, 1n, 2n, 3n, 4n].findIndex((places) => 10n ** places % value.den === 0n);
+}
+
+/** A value as one would type it: a decimal where four places do, else a fraction. */
+export function typedText(value, mark = ".") {
+  const places = placesOf(value);
+  if (places < 0) return value.toString();
+  return decimal(value, places, { mark, grouped: false }).replace("−", "-");
+}
+
+/** The number that a person typed or a spreadsheet gave: {value}, or {fault} in words. Points and commas may part
+ * thousands or stand in front of decimals; where a text can be read both ways, as 1,234, the mark decides, and `doubt`
+ * says so. */
+export function readNumber(typed, mark = ".") {
+  if (/^\d{1,15}$/.test(typed)) return { value: new Rational(BigInt(typed)) };
+  const text = typed.replace(/[\s\u00a0\u202f'’_]/g, "").replace(/^\p{Sc}|\p{Sc}$/gu, "").replace(/^[−–]/, "-");
+  if (text === "") return { fault: "is empty" };
+  if (text.length > MOST_LETTERS) return { fault: "is no number" };
+  if (/^-?\d{1,30}\/\d{1,30}$/.test(text)) {
+    const [num, den] = text.split("/").map(BigInt);
+    return den ? { value: new Rational(num, den) } : { fault: "is divided by nothing" };
+  }
+  if (/^\(\d[\d.,]*\)$/.test(text)) return readNumber("-" + text.slice(1, -1), mark);
+  if (!/^-?[\d.,]*\d[\d.,]*$/.test(text)) return { fault: "is no number" };
+  const marks = text.replace(/[^.,]/g, "");
+  const last = marks.at(-1), other = last === "." ? "," : ".";
+  if (!marks) return { value: new Rational(BigInt(text)) };
+  const thousands = (by) => new RegExp(`^-?[1-9]\\d{0,2}(\\${by}\\d{3})+$`);
+  if (marks.length > 1 && marks === last.repeat(marks.length)) {
+    if (!thousands(last).test(text)) return { fault: "is no number" };
+    return { value: new Rational(BigInt(text.replaceAll(last, ""))) };
+  }
+  if (marks.length > 1) {
+    const [whole, decimals] = text.split(last);
+    const isRight = thousands(other).test(whole) && !decimals.includes(other);
+    return isRight ? { value: withDecimals(whole.replaceAll(other, ""), decimals) } : { fault: "is no number" };
+  }
+  const doubt = thousands(last).test(text);
+  if (doubt && last !== mark) return { value: new Rational(BigInt(text.replace(last, ""))), doubt };
+  const [whole, decimals] = text.split(last);
+  return { value: withDecimals(whole, decimals), doubt };
+}
+
+function withDecimals(whole, decimals) {
+  const digits = BigInt((whole.replace("-", "") || "0") + decimals);
+  return new Rational(whole.startsWith("-") ? -digits : digits, 10n ** BigInt(decimals.length));
+}

@@ -1,0 +1,123 @@
+// The panels below a case: the answer, its settings, the reasons and the evidence.
+import { answerParts } from "./answer.js";
+import { button, copy, el, refill } from "./dom.js";
+import { evidenceParts } from "./evidence.js";
+import { formatOf } from "./format.js";
+import { otherAmounts } from "./other-amounts.js";
+import { paperPart } from "./paper.js";
+import { takesPerHead } from "./questions.js";
+import { tableText } from "./shares-table.js";
+import { whyParts } from "./why.js";
+
+const PLACES = [0, 1, 2, 3, 4, 6];
+const MARKS = [[".", "point"], [",", "comma"]];
+const MEASURES = [["plain", "as a whole"], ["per-head", "per head"]];
+
+const at = (id) => document.getElementById(id);
+
+export class AnswerView {
+  constructor(session) {
+    this.session = session;
+    this.typed = {}; // what was typed into the parts of the answer, of this case
+  }
+
+  format() {
+    return formatOf(this.session.places, this.session.mark);
+  }
+
+  /** What was typed for another case is of no use here. */
+  clear() {
+    this.typed = {};
+    for (const id of ["answer-settings", "answer-body", "answer-more", "why-body", "evidence-body"]) refill(at(id));
+  }
+
+  stale() {
+    at("answer").classList.add("stale");
+  }
+
+  show() {
+    const { session } = this, { result } = session;
+    at("answer").classList.toggle("stale", !result);
+    for (const id of ["answer", "why", "evidence"]) {
+      at(id).hidden = !result || (id !== "answer" && Boolean(result.refusal));
+    }
+    if (!result) return;
+    const { rows } = session.reading, wide = at("answer-body").clientWidth || 640, format = this.format();
+    const proposal = {
+      ...session.proposal,
+      set: (r, text) => session.setProposal(Object.assign([...session.texts], { [r]: text })),
+      setAll: (texts) => session.setProposal(texts),
+    };
+    refill(at("answer-settings"), result.refusal ? [] : this.settings(result));
+    refill(at("answer-body"), answerParts(result, { rows, format, proposal, wide }));
+    this.say();
+    if (result.refusal) return;
+    this.showMore(result, rows, format);
+    const why = whyParts(result);
+    refill(at("why-body"), why);
+    at("why").hidden = !why.length;
+    refill(at("evidence-body"), evidenceParts(result, session.kind.id));
+  }
+
+  /** Tells those who hear the page what it answers, once for each answer. */
+  say() {
+    const text = at("answer-body").querySelector(".lead, .notice, .hint")?.textContent ?? "";
+    if (at("said").textContent !== text) at("said").textContent = text;
+  }
+
+  /** The parts with fields of their own are kept while answers come, and made anew for another game or other decimals.
+   * */
+  showMore(result, rows, format) {
+    const key = [result.text, format.places, format.mark].join("\n");
+    if (this.shownMore === key && at("answer-more").childElementCount) return;
+    this.shownMore = key;
+    const settings = {
+      rows, format, mark: format.mark, typed: this.typed, ask: (task, what) => this.session.checker.ask(task, what),
+    };
+    refill(at("answer-more"), otherAmounts(result, settings), paperPart(this.session, this.typed));
+  }
+
+  settings({ game, points }) {
+    const { session } = this, choice = (title, options, now, onChange) => el("label", {}, `${title} `,
+      el("select", { on: { change: (event) => onChange(event.target.value) } }, options.map(([value, name]) => {
+        return el("option", { value: String(value), selected: value === now }, String(name));
+      })));
+    const places = choice("Decimals", PLACES.map((count) => [count, count]), session.places, (value) => {
+      session.places = Number(value);
+      this.show();
+    });
+    const mark = choice("Decimal mark", MARKS, session.mark, (value) => session.setMark(value));
+    const text = () => tableText(session.result, { rows: session.reading.rows, format: this.format() });
+    const copyTable = button("Copy the table", (event) => copy(text(), event.target), { class: "quiet" });
+    return [takesPerHead(game) && this.measures(game), places, mark, points.length > 0 && copyTable];
+  }
+
+  measures(game) {
+    const now = game.perHead ? "per-head" : "plain", name = "How a group’s loss is counted";
+    return el("span", { class: "choice", role: "group", "aria-label": name }, "A group’s loss counts",
+      el("span", {}, MEASURES.map(([value, title]) => button(title, () => this.session.setMeasure(value), {
+        "aria-pressed": String(value === now),
+      }))));
+  }
+
+  // ---- At work, and faults
+
+  busy(isBusy) {
+    refill(at("busy"), isBusy && [
+      el("span", {}, "Working it out … "), button("Stop", () => this.session.stop()),
+    ]);
+  }
+
+  /** What is said where no answer came. A fault that nobody has foreseen isn't shown as it is. */
+  fault({ message }) {
+    const sentence = /^(The program|Stopped)/.test(message) ? message
+      : "The program failed at this document, which it never should, so there is no answer. Please save the document, "
+        + "and send it to its makers.";
+    for (const id of ["answer", "why", "evidence"]) at(id).hidden = id !== "answer";
+    at("answer").classList.remove("stale");
+    for (const id of ["answer-settings", "answer-more"]) refill(at(id));
+    this.shownMore = null;
+    refill(at("answer-body"), el("div", { class: "notice bad", role: "alert" }, el("p", {}, sentence),
+      button("Try again", () => this.session.changed(0))));
+  }
+}

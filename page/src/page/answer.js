@@ -1,0 +1,109 @@
+// The answer: who gets or pays what, by several divisions side by side, with pictures.
+import { Rational } from "../exact/rational.js";
+import { decimalOf, roundedSteps } from "../exact/decimals.js";
+import { bars } from "../draw/bars.js";
+import { plan } from "../draw/plan.js";
+import { power, trades } from "../draw/ranges.js";
+import { triangle } from "../draw/triangle.js";
+import { listed, Namer } from "../tell/words.js";
+import { el } from "./dom.js";
+import { totalsOf } from "./format.js";
+import { sharesTable } from "./shares-table.js";
+
+/** All parts of an answer. `settings` are {rows, format, proposal, wide}. */
+export function answerParts(result, settings) {
+  const { game, points, refusal } = result, { proposal, wide } = settings;
+  if (refusal) return [refused(refusal)];
+  const solution = solutionOf(result);
+  const own = { key: "proposal", title: "Your proposal", shares: proposal.shares };
+  const seen = proposal.shares ? [...points, own] : points, { format } = settings;
+  const pictured = { ...settings, wide: Math.min(wide, 900) };
+  return [
+    notices(result, format),
+    ...(game.ballots ? votes(result, pictured) : []),
+    result.matching && trades(game, result.matching, { ...format, solution, wide: pictured.wide }),
+    solution && !game.ballots && !game.isMarket() && lead(result, solution, settings),
+    points.length > 0 && (!game.ballots || solution) && sharesTable(result, settings),
+    ...(solution && !game.ballots ? pictures(result, seen, pictured) : []),
+  ].filter(Boolean);
+}
+
+export function solutionOf({ points }) {
+  return points.find(({ key }) => key.endsWith("nucleolus"));
+}
+
+function refused({ sentence, place }) {
+  return el("div", { class: "notice bad", role: "alert" },
+    el("p", {}, sentence), place && el("p", { class: "where" }, `Place: ${place}`));
+}
+
+function pictures({ game, bird }, points, { rows, format, wide }) {
+  const narrow = points.filter(({ key }) => !["core", "buyers", "sellers"].includes(key));
+  return [
+    bars(game, rows, narrow, { ...format, wide }),
+    game.n === 3 && triangle(game, points, { wide }),
+    ...(bird ? [el("h3", {}, "The cheapest network"), plan(game, bird.tree, { ...format, wide })] : []),
+  ];
+}
+
+function votes({ game, points }, { format, wide }) {
+  const shapley = points.find(({ key }) => key === "shapley"), solution = solutionOf({ points });
+  const parts = [shapley && power(game, shapley.shares, { ...format, wide })];
+  if (solution) {
+    parts.push(el("h3", {}, "Dividing a prize of 1 among the voters"),
+      el("p", { class: "hint" }, "That is another question than power: a voter may get nothing of the prize and have ",
+        "influence all the same."));
+  }
+  return parts;
+}
+
+// ---- What has to be said first
+
+function notices({ game, noImputation, core }, { show }) {
+  const notes = [];
+  if (noImputation) {
+    const { singles, total } = noImputation, [apart, together] = [show(singles), show(total)];
+    const worse = game.costs ? "pays more" : "gets less";
+    const facts = game.costs
+      ? `By themselves the players cost ${apart}, added; all together cost ${together}.`
+      : `By themselves the players are worth ${apart}, added; all together are worth ${together}.`;
+    notes.push(`${facts} So in every division somebody ${worse} than alone, and there is no nucleolus. `
+      + "The prenucleolus doesn’t ask for that.");
+  }
+  if (core?.collection) notes.push(emptyCore(game, core, show));
+  return notes.length > 0 && el("div", { class: "notice" }, notes.map((note) => el("p", {}, note)));
+}
+
+/** Why no division satisfies all groups: the groups of the collection, so counted, want more than there is. */
+function emptyCore(game, core, show) {
+  const namer = new Namer(game), k = Number(core.k), often = k === 1 ? "once" : `${k} times`;
+  const groups = core.collection.map(([players, weight]) => {
+    const group = namer.group(players.map((player) => Number(player) - 1));
+    return `${group}${weight > 1n ? ` (${weight} times)` : ""}`;
+  });
+  const [value, against] = [show(Rational.of(core.value)), show(Rational.of(core.against))];
+  const all = k === 1 ? "All together" : `${k} times all together`;
+  const [own, whole] = game.costs
+    ? [`cost ${value} by themselves, added`, `cost ${against}, which is more`]
+    : [`are worth ${value}, added`, `are worth ${against}, which is less`];
+  return "Whatever the division, some group does better by itself. "
+    + `Take ${listed(groups)}: they hold each player ${often} and ${own}. ${all} ${whole}.`;
+}
+
+// ---- The answer in a sentence
+
+const MOST_LED = 6;
+
+export function lead({ game }, { shares, key }, { rows, format }) {
+  const who = [...new Set(rows.map((row) => row.sum ?? row.label))];
+  if (who.length > MOST_LED) return null;
+  const steps = roundedSteps(totalsOf(rows, shares), format.places), verb = game.costs ? "pays" : "gets";
+  const shown = (some) => decimalOf(some.reduce((sum, step) => sum + step, 0n), format.places, format);
+  const parts = who.map((name) => {
+    const own = rows.map((row, r) => ({ row, r })).filter(({ row }) => (row.sum ?? row.label) === name);
+    const landings = own.reduce((count, { row }) => count + row.players.length, 0);
+    return `${name} ${verb} ${shown(own.map(({ r }) => steps[r]))}${landings > 1 ? ` for ${landings} landings` : ""}`;
+  });
+  return el("p", { class: "lead" }, `${listed(parts)}: together ${shown(steps)}.`,
+    key === "prenucleolus" && " (By the prenucleolus.)");
+}

@@ -1,0 +1,60 @@
+// What the grids of all cases share: a cell to type in, moving by keys, and pasting.
+import { cellsOf } from "../cases/pasting.js";
+import { cellOf, el } from "./dom.js";
+
+const MOST_LETTERS = 200; // of a cell: longer names and numbers are refused anyway
+const LONG = 20000; // letters of a pasted text that a worker reads
+
+/** An input with the name of its cell. */
+export function cellInput({ cell, value, label, placeholder = "", isNumber = false, onInput }) {
+  return el("input", {
+    type: "text", value, placeholder, autocomplete: "off", spellcheck: "false", maxlength: MOST_LETTERS,
+    inputmode: isNumber ? "decimal" : false, class: isNumber ? "number" : "name",
+    "data-cell": cell, "aria-label": label, on: { input: (event) => onInput(event.target.value) },
+  });
+}
+
+/** Enter and the arrows up and down go to the cell below or above; `neighbour(cell, step)` names it. */
+export function moveByKeys(element, neighbour) {
+  element.addEventListener("keydown", (event) => {
+    const step = { Enter: event.shiftKey ? -1 : 1, ArrowDown: 1, ArrowUp: -1 }[event.key];
+    if (!step || event.altKey || event.ctrlKey || event.metaKey || event.target.dataset.cell === undefined) return;
+    const next = cellOf(element, neighbour(event.target.dataset.cell, step) ?? "");
+    event.preventDefault();
+    next?.focus();
+    next?.select?.();
+  });
+}
+
+/** What is pasted over several cells goes to `fill(cell, rows, text)`; a text for one cell is pasted as ever. A long
+ * one is read by `readCells`, beside the page. */
+export function pasteCells(element, fill, readCells) {
+  element.addEventListener("paste", async (event) => {
+    const text = event.clipboardData?.getData("text/plain") ?? "", cell = event.target.dataset?.cell;
+    if (cell === undefined || cell === "find") return;
+    if (text.length > LONG) {
+      event.preventDefault();
+      fill(cell, await readCells(text), text);
+      return;
+    }
+    const rows = cellsOf(text);
+    if (rows.length < 2 && rows[0].length < 2) return;
+    event.preventDefault();
+    fill(cell, rows, text);
+  });
+}
+
+/** Marks the cells that have a fault, with its sentence. */
+export function markFaults(element, faults) {
+  const sentences = new Map(faults.map(({ cell, sentence }) => [cell, sentence]));
+  for (const input of element.querySelectorAll("[data-cell]")) {
+    const sentence = sentences.get(input.dataset.cell);
+    if (sentence) {
+      input.setAttribute("aria-invalid", "true");
+      input.setAttribute("title", sentence);
+    } else if (input.hasAttribute("aria-invalid")) {
+      input.removeAttribute("aria-invalid");
+      input.removeAttribute("title");
+    }
+  }
+}

@@ -1,0 +1,74 @@
+// Elements of the page, made by calls.
+
+const SVG = "http://www.w3.org/2000/svg";
+
+/** An element with attributes (`on` has listeners) and children; null and false are left out. */
+export function el(tag, attributes = {}, ...children) {
+  return filled(document.createElement(tag), attributes, children);
+}
+
+export function svg(tag, attributes = {}, ...children) {
+  return filled(document.createElementNS(SVG, tag), attributes, children);
+}
+
+const isShown = (child) => child !== null && child !== false && child !== undefined && child !== "";
+
+function filled(element, { on = {}, ...attributes }, children) {
+  for (const [event, listener] of Object.entries(on)) element.addEventListener(event, listener);
+  for (const [name, value] of Object.entries(attributes)) {
+    if (name === "value") element.value = value;
+    else if (value !== false && isShown(value)) element.setAttribute(name, value === true ? "" : value);
+  }
+  element.append(...children.flat(Infinity).filter(isShown));
+  return element;
+}
+
+export function button(text, onClick, attributes = {}) {
+  return el("button", { type: "button", ...attributes, on: { click: onClick } }, text);
+}
+
+const summaries = (element) => [...element.querySelectorAll("details > summary")];
+
+/** Puts new children into an element; the cell that had the focus has it again, and what was unfolded stays so. */
+export function refill(element, ...children) {
+  const isOpen = new Set(summaries(element).filter((one) => one.parentElement.open).map((one) => one.textContent));
+  const focused = document.activeElement;
+  const cell = element.contains(focused) ? focused.dataset.cell : undefined;
+  const hasRange = cell !== undefined && typeof focused.selectionStart === "number";
+  const range = hasRange ? [focused.selectionStart, focused.selectionEnd] : null;
+  element.replaceChildren(...children.flat(Infinity).filter(isShown));
+  for (const one of isOpen.size ? summaries(element) : []) one.parentElement.open ||= isOpen.has(one.textContent);
+  const again = cell === undefined ? null : cellOf(element, cell);
+  again?.focus({ preventScroll: true });
+  if (range) again?.setSelectionRange?.(...range);
+}
+
+export function cellOf(element, cell) {
+  return element.querySelector(`[data-cell="${CSS.escape(cell)}"]`);
+}
+
+/** Hands a text to the user as a file. */
+export function download(name, text, type = "application/json") {
+  const link = el("a", { href: URL.createObjectURL(new Blob([text], { type })), download: name });
+  document.body.append(link);
+  link.click();
+  link.remove();
+  setTimeout(() => URL.revokeObjectURL(link.href), 1000);
+}
+
+/** Copies a text, and says so on the button for a while. */
+export async function copy(text, source) {
+  let isDone = true;
+  try {
+    await navigator.clipboard.writeText(text);
+  } catch {
+    const area = el("textarea", { value: text, class: "away", "aria-label": "What is copied" });
+    document.body.append(area);
+    area.select();
+    isDone = document.execCommand("copy");
+    area.remove();
+  }
+  source.dataset.label ??= source.textContent;
+  source.textContent = isDone ? "Copied" : "Copying isn’t allowed here";
+  setTimeout(() => (source.textContent = source.dataset.label), 1600);
+}

@@ -1,0 +1,69 @@
+// The evidence: what was checked, by whom, what a yes means, and the files to hand on.
+import { failureText } from "../tell/failures.js";
+import { el } from "./dom.js";
+import { fileButtons, fingerprint, shown } from "./files.js";
+import { meaning } from "./trust.js";
+
+/** One checker's word: {title, isYes, sentence}; without `isYes` while it is asked. */
+export function programWord(found, game) {
+  const title = "The program’s checker";
+  if (!found) return { title, sentence: "is at work …" };
+  if (found.fault) return { title, isYes: false, sentence: `gave no answer: ${found.fault}` };
+  if (found.refusal) {
+    const { sentence, place } = found.refusal;
+    return { title, isYes: false, sentence: `refuses the document. ${sentence}${place ? ` (${place})` : ""}` };
+  }
+  return { title, ...wordOf(found.tree, game) };
+}
+
+export function anewWord(found, game) {
+  const title = "The page’s own checker";
+  if (!found) return { title, sentence: "is at work …" };
+  if (found.fault) return { title, isYes: false, sentence: `gave no answer: ${found.fault}` };
+  if (found.refused) return { title, isYes: false, sentence: `refuses the document: ${found.refused}.` };
+  return { title, ...wordOf(found.tree, game) };
+}
+
+function wordOf(tree, game) {
+  if (tree.answer === "yes") return { isYes: true, sentence: "says yes: all eight conditions hold." };
+  const { condition, sentence } = failureText(tree, game);
+  return { isYes: false, sentence: `says no. ${sentence} (condition ${condition})` };
+}
+
+export function wordLine({ title, isYes, sentence }) {
+  const state = isYes === undefined ? "busy" : isYes ? "good" : "bad";
+  return el("li", { class: `word ${state}` }, el("b", {}, title), ` ${sentence}`);
+}
+
+/** `name` is the case, by which files are named. */
+export function evidenceParts(result, name) {
+  if (!result.line) return withoutCertificate(result, name);
+  const { program, anew } = result.checks, { line, game, answer } = result, text = `${result.text}\n`;
+  return [
+    el("ul", { class: "words", role: "status" }, wordLine(programWord(program, game)), wordLine(anewWord(anew, game))),
+    result.points.length > 1 && el("p", { class: "after" }, `The certificate is of the ${answer} alone. The other `,
+      "columns come from the same program, but carry no evidence with them."),
+    el("h3", {}, "Hand it on"),
+    el("ol", { class: "steps" },
+      el("li", {}, "Agree on the game’s file first, before anyone knows an answer. ",
+        fileButtons(text, `${name}-game.json`), fingerprint(text)),
+      el("li", {}, "Send the line: the answer with its evidence. ", fileButtons(line, `${name}-${answer}.json`)),
+      el("li", {}, "Whoever gets it opens this page, taken from where the project has it and not from you, and checks ",
+        "below: is it the agreed game, and does the certificate hold?")),
+    shown("The game’s file", result.text), shown("The line with its evidence", line.trim()),
+    meaning(answer),
+  ];
+}
+
+/** What is said where the program prints no certificate. */
+function withoutCertificate({ game, text }, name) {
+  const what = game.kind === "voting"
+    ? "Power comes without a certificate: who doubts it works it out anew, by this page or another program."
+    : "The pairs and prices come without a certificate. To 16 traders the page gives the nucleolus too, with one.";
+  return [
+    el("p", {}, what),
+    el("p", { class: "tools" }, fileButtons(`${text}\n`, `${name}-game.json`)),
+    fingerprint(`${text}\n`),
+    shown("The game’s file", text),
+  ];
+}

@@ -1,0 +1,39 @@
+// Texts that are handed on: to save, to copy, to look at, and their fingerprint.
+import { button, copy, download, el } from "./dom.js";
+
+const MOST_SHOWN = 3000;
+
+export function fileButtons(text, name) {
+  return el("span", { class: "files" },
+    button(`Save ${name}`, () => download(name, text)),
+    button("Copy", (event) => copy(text, event.target), { class: "quiet", "aria-label": `Copy ${name}` }));
+}
+
+export function shown(title, text) {
+  const isLong = text.length > MOST_SHOWN, count = text.length.toLocaleString("en");
+  return el("details", { class: `file${isLong ? " long" : ""}` },
+    el("summary", {}, title, el("small", {}, ` ${count} characters`)),
+    el("pre", { tabindex: "0", role: "region", "aria-label": title },
+      isLong ? `${text.slice(0, MOST_SHOWN)} …` : text));
+}
+
+const known = { text: null, digest: null }; // the last text whose SHA-256 was worked out
+
+/** The SHA-256 of a text, by which people see that they have the same file; null where the browser has none. */
+async function digestOf(text) {
+  const bytes = await globalThis.crypto?.subtle?.digest("SHA-256", new TextEncoder().encode(text));
+  const digest = bytes ? [...new Uint8Array(bytes)].map((byte) => byte.toString(16).padStart(2, "0")).join("") : null;
+  Object.assign(known, { text, digest });
+  return digest;
+}
+
+export function fingerprint(text) {
+  const place = el("small", { class: "fingerprint" });
+  digestOf(text).then((digest) => (place.textContent = digest ? `SHA-256 of the file: ${digest}` : ""));
+  return place;
+}
+
+/** The SHA-256 of the text whose fingerprint was shown last; paper can't wait for one. */
+export function knownDigest(text) {
+  return known.text === text ? known.digest : null;
+}

@@ -1,0 +1,26 @@
+// How numbers are shown, by the decimals and the mark that the user wants.
+import { Rational } from "../exact/rational.js";
+import { decimalOf, placesOf, roundedSteps, stepsOf } from "../exact/decimals.js";
+
+export function formatOf(places, mark) {
+  const text = (steps) => decimalOf(steps, places, { mark });
+  return {
+    places,
+    mark,
+    show: (value) => text(stepsOf(value, places)),
+    /** Values as decimals that add up, and their sum as the last. */
+    column: (values) => {
+      const steps = roundedSteps(values, places);
+      return [...steps, steps.reduce((sum, step) => sum + step, 0n)].map(text);
+    },
+    isExact: (value) => {
+      const needed = placesOf(value);
+      return needed >= 0 && needed <= places;
+    },
+  };
+}
+
+/** The totals of the rows by a point: of a row of landings what they pay together. */
+export function totalsOf(rows, shares) {
+  return rows.map(({ players }) => shares[players[0]].times(Rational.of(players.length)));
+}

@@ -1,0 +1,53 @@
+// A helper is a worker of the page's own code. It does one task after the other; stopping it ends what it does.
+import { spoken } from "../exact/decimals.js";
+
+const SLOW = 150; // milliseconds after which a task that nobody needs any more is ended
+
+export class Helper {
+  constructor() {
+    this.waiting = new Map();
+    this.next = 0;
+  }
+
+  start() {
+    const code = ["shared-code", "worker-code"].map((id) => document.getElementById(id).textContent);
+    const url = URL.createObjectURL(new Blob(code, { type: "text/javascript" }));
+    this.worker = new Worker(url);
+    this.worker.onmessage = ({ data: { id, result, fault } }) => {
+      const { resolve, reject } = this.waiting.get(id) ?? {};
+      this.waiting.delete(id);
+      this.since = performance.now();
+      if (fault === undefined) resolve?.(result);
+      else reject?.(new Error(fault));
+    };
+    this.worker.onerror = (event) => {
+      event.preventDefault();
+      this.stop("the helper failed");
+    };
+    URL.revokeObjectURL(url);
+  }
+
+  /** Does a task of worker.js: `what` are its settings. */
+  ask(task, what = {}) {
+    if (!this.worker) this.start();
+    const id = (this.next += 1);
+    if (!this.waiting.size) this.since = performance.now();
+    return new Promise((resolve, reject) => {
+      this.waiting.set(id, { resolve, reject });
+      this.worker.postMessage({ id, task, what, mark: spoken.mark });
+    });
+  }
+
+  /** Ends what is being done; the next task starts a new worker. */
+  stop(reason = "stopped") {
+    this.worker?.terminate();
+    this.worker = null;
+    for (const { reject } of this.waiting.values()) reject(new Error(reason));
+    this.waiting.clear();
+  }
+
+  /** The same where it has taken long already; a short task ends by itself sooner than a new worker starts. */
+  stopIfSlow() {
+    if (this.waiting.size && performance.now() - this.since > SLOW) this.stop();
+  }
+}

@@ -1,0 +1,105 @@
+// The grid of a market: what each buyer gains with each seller.
+import { withEscapes } from "../game/names.js";
+import { cellInput, moveByKeys, pasteCells } from "./cells.js";
+import { button, el, refill } from "./dom.js";
+
+export function marketGrid(kind, typed, settings) {
+  return new MarketGrid(kind, typed, settings).element;
+}
+
+class MarketGrid {
+  constructor(kind, typed, { onChange, readCells }) {
+    Object.assign(this, { kind, typed, onChange });
+    this.holder = el("div", { class: "scroll" });
+    this.tools = el("p", { class: "tools" });
+    this.element = el("div", {}, this.holder, this.tools);
+    moveByKeys(this.holder, (cell, step) => {
+      const [what, a, b] = cell.split(".");
+      return what === "values" ? `values.${Number(a) + step}.${b}` : `${what}.${Number(a) + step}`;
+    });
+    pasteCells(this.holder, (cell, rows) => this.change(() => this.fill(cell, rows)), readCells);
+    this.show();
+  }
+
+  show() {
+    const { buyers, sellers } = this.typed, none = el("td", { class: "tool" });
+    const seller = (_, j) => {
+      return el("th", { scope: "col", class: "number" }, this.nameInput("sellers", j, `Seller ${j + 1}`));
+    };
+    const head = el("tr", {}, el("th", { scope: "col" }, "Buyer"), sellers.map(seller), none);
+    const rows = buyers.map((name, i) => el("tr", {},
+      el("th", { scope: "row" }, this.nameInput("buyers", i, `Buyer ${i + 1}`)),
+      sellers.map((other, j) => el("td", {}, this.valueInput(i, j, name, other))),
+      el("td", { class: "tool" }, buyers.length > 1 && this.removal(i, name))));
+    refill(this.holder, el("table", { class: "grid matrix market" }, el("thead", {}, head), el("tbody", {}, rows)));
+    this.showTools();
+  }
+
+  removal(i, name) {
+    const remove = () => {
+      this.typed.buyers.splice(i, 1);
+      this.typed.values.splice(i, 1);
+    };
+    const label = `Remove ${withEscapes(name) || `buyer ${i + 1}`}`;
+    return button("×", () => this.change(remove), { class: "remove", "aria-label": label });
+  }
+
+  showTools() {
+    const { buyers, sellers } = this.typed, { most } = this.kind;
+    const tool = (title, more, others) => button(title, () => this.change(() => {
+      this.resize(buyers.length + more, sellers.length + others);
+    }), { class: "quiet" });
+    refill(this.tools, buyers.length < most && tool("Add a buyer", 1, 0),
+      sellers.length < most && tool("Add a seller", 0, 1), sellers.length > 1 && tool("Remove the last seller", 0, -1));
+  }
+
+  nameInput(side, k, placeholder) {
+    return cellInput({
+      cell: `${side}.${k}`, value: this.typed[side][k], label: placeholder, placeholder,
+      onInput: (text) => {
+        this.typed[side][k] = text;
+        this.onChange();
+      },
+    });
+  }
+
+  valueInput(i, j, buyer, seller) {
+    return cellInput({
+      cell: `values.${i}.${j}`, value: this.typed.values[i][j], isNumber: true,
+      label: `${withEscapes(buyer) || `Buyer ${i + 1}`} with ${withEscapes(seller) || `seller ${j + 1}`}`,
+      onInput: (text) => {
+        this.typed.values[i][j] = text;
+        this.onChange();
+      },
+    });
+  }
+
+  resize(buyers, sellers) {
+    const { typed } = this;
+    typed.buyers = Array.from({ length: buyers }, (_, i) => typed.buyers[i] ?? "");
+    typed.sellers = Array.from({ length: sellers }, (_, j) => typed.sellers[j] ?? "");
+    typed.values = typed.buyers.map((_, i) => typed.sellers.map((_, j) => typed.values[i]?.[j] ?? ""));
+  }
+
+  change(doIt) {
+    doIt();
+    this.show();
+    this.onChange();
+  }
+
+  /** A block of numbers; with names in front or above where it is pasted over a name. */
+  fill(cell, rows) {
+    const [what, a, b] = cell.split("."), { typed, kind: { most } } = this;
+    const top = what === "sellers" ? -1 : Number(a), left = what === "buyers" ? -1 : Number(what === "values" ? b : a);
+    const within = (now, needed) => Math.min(most, Math.max(now, needed));
+    const width = rows.reduce((wide, row) => Math.max(wide, row.length), 0);
+    this.resize(within(typed.buyers.length, top + rows.length), within(typed.sellers.length, left + width));
+    rows.slice(0, most + 1).forEach((row, r) => row.slice(0, most + 1).forEach((text, c) => {
+      const i = top + r, j = left + c, isBuyer = i >= 0 && i < typed.buyers.length;
+      const isSeller = j >= 0 && j < typed.sellers.length;
+      if (i < 0 && isSeller) typed.sellers[j] = text;
+      else if (j < 0 && isBuyer) typed.buyers[i] = text;
+      else if (isBuyer && isSeller) typed.values[i][j] = text;
+    }));
+  }
+}

@@ -1,0 +1,41 @@
+// What the divisions and the questions of the table mean, in a sentence or two.
+import { el } from "./dom.js";
+
+export const SUBTITLES = {
+  nucleolus: "treats those worst off best",
+  prenucleolus: "the same, where some do worse than alone",
+  shapley: "the mean over all orders of joining",
+  core: "one of many, and no proposal",
+  bird: "each pays its own link",
+  buyers: "the least prices",
+  sellers: "the greatest prices",
+  proposal: "to be judged",
+};
+
+const MEANINGS = {
+  nucleolus: "The nucleolus looks at the group that gains least by joining, and treats it as well as can be; then at "
+    + "the next, and so on. There is just one. If any division satisfies all groups, this one does (Schmeidler 1969).",
+  prenucleolus: "The prenucleolus is the same, among all divisions of the whole: it doesn’t ask that each does at "
+    + "least as well as alone.",
+  shapley: "Shapley shares let the players join one by one. Each gets what it adds, on average over all orders. "
+    + "No other rule is efficient, symmetric and additive, and gives nothing for nothing (Shapley 1953). Some group "
+    + "may do better by itself.",
+  core: "A core point is a division by which no group does better by itself. This is one, often of many, and tells "
+    + "nothing of who deserves what.",
+  bird: "Bird’s shares let each place pay the link by which the cheapest network reaches it (Bird 1976).",
+  buyers: "The two ends of the market: the least prices, and the greatest, by which no buyer and seller do better "
+    + "together (Shapley and Shubik 1971).",
+};
+
+const GROUPS = "A group does better by itself where it is worth more than its members get together (or costs less than "
+  + "they pay). Shares by which none does are in the core.";
+const HOLDS = "Of two players one has the stronger hold where the best group with it and without the other has the "
+  + "more to gain by leaving, or the less to lose. Where no two differ, the division is in the prekernel; the "
+  + "nucleolus is, wherever some division satisfies all groups.";
+
+export function meanings(points, hasHolds) {
+  const texts = points.map(({ key }) => MEANINGS[key]).filter(Boolean);
+  return el("details", { class: "meanings screen" },
+    el("summary", {}, "What the columns and the questions mean"),
+    [...texts, GROUPS, ...(hasHolds ? [HOLDS] : [])].map((text) => el("p", {}, text)));
+}

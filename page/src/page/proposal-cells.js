@@ -1,0 +1,56 @@
+// The column of the user's proposal: its cells, its sum, and ways to fill it.
+import { Rational, ZERO } from "../exact/rational.js";
+import { decimalOf, fractionText, roundedSteps } from "../exact/decimals.js";
+import { button, el } from "./dom.js";
+import { totalsOf } from "./format.js";
+
+export function proposalInput({ label }, r, proposal) {
+  const fault = proposal.faults[r];
+  return el("input", {
+    type: "text", class: "number", inputmode: "decimal", autocomplete: "off", maxlength: 200,
+    "data-cell": `proposal.${r}`, value: proposal.texts[r],
+    "aria-label": `Your proposal for ${label}`, "aria-invalid": fault ? "true" : false, title: fault ?? false,
+    on: {
+      input: (event) => proposal.set(r, event.target.value),
+      keydown: (event) => {
+        if (event.key !== "Enter") return;
+        document.querySelector(`[data-cell="proposal.${r + (event.shiftKey ? -1 : 1)}"]`)?.focus();
+      },
+    },
+  });
+}
+
+export function proposalSum(game, { totals }, { show, isExact }) {
+  if (!totals) return "–";
+  const sum = Rational.sum(totals), rest = game.whole().minus(sum);
+  if (rest.isZero()) return show(sum);
+  const size = isExact(rest) ? show(rest.abs()) : fractionText(rest.abs());
+  return [show(sum), el("small", { class: "bad" }, rest.isNegative() ? `${size} too much` : `${size} is missing`)];
+}
+
+/** Ways to divide the whole that people name first: {title, totals}. */
+function ways({ game, points }, rows) {
+  const counts = rows.map(({ players }) => Rational.of(players.length)), all = Rational.sum(counts);
+  const whole = game.whole(), own = game.kind === "bankruptcy" ? game.amounts : game.own;
+  const weights = rows.map(({ players: [i] }, r) => own[i].times(counts[r])), sum = Rational.sum(weights);
+  const canWeigh = ZERO.less(sum) && !weights.some((weight) => weight.isNegative());
+  const [first] = points, what = game.kind === "bankruptcy" ? "the claims" : game.costs ? "costs alone" : "worth alone";
+  return [
+    first && { title: `${first.title.toLowerCase()}, rounded`, totals: () => totalsOf(rows, first.shares) },
+    { title: "equal parts", totals: () => counts.map((count) => whole.times(count).over(all)) },
+    canWeigh && {
+      title: `in proportion to ${what}`,
+      totals: () => weights.map((weight) => whole.times(weight).over(sum)),
+    },
+  ].filter(Boolean);
+}
+
+export function proposalTools(result, { rows, proposal, format }) {
+  const fill = (totals) => {
+    const typed = (step) => decimalOf(step, format.places, { mark: format.mark, grouped: false }).replace("−", "-");
+    proposal.setAll(roundedSteps(totals, format.places).map(typed));
+  };
+  return el("p", { class: "tools fill" }, el("span", {}, "Fill your proposal with "),
+    ways(result, rows).map(({ title, totals }) => button(title, () => fill(totals()), { class: "quiet" })),
+    proposal.texts.some(Boolean) && button("clear", () => proposal.setAll([]), { class: "quiet" }));
+}

@@ -1,0 +1,23 @@
+// The division that the user proposes: a text for each row of the answer.
+import { readNumber } from "../exact/decimals.js";
+import { Rational } from "../exact/rational.js";
+
+/** What the texts say for these rows. `totals` and `shares` are null until each row has a number. */
+export function proposalOf(texts, rows, mark) {
+  const typed = rows.map((_, r) => texts[r] ?? "");
+  const read = typed.map((text) => (text.trim() ? readNumber(text, mark) : null));
+  const totals = rows.length && read.every((one) => one?.value) ? read.map(({ value }) => value) : null;
+  return {
+    texts: typed, totals, shares: totals && sharesOf(rows, totals),
+    faults: read.map((one) => (one?.fault ? `It ${one.fault}.` : null)),
+  };
+}
+
+/** What each player pays or gets, where the players of a row share alike. */
+function sharesOf(rows, totals) {
+  const shares = [];
+  rows.forEach(({ players }, r) => {
+    for (const i of players) shares[i] = totals[r].over(Rational.of(players.length));
+  });
+  return shares;
+}

@@ -1,0 +1,138 @@
+// What the page asks the program about a game, and the answers in the order in which they come.
+import { Rational } from "../exact/rational.js";
+import { writeJson } from "../exact/json.js";
+import { Facts } from "../game/facts.js";
+
+/** The greatest numbers of players that the commands take, by class; README.md of the program has them all. */
+const LIMITS = {
+  nucleolus: { airport: 64, bankruptcy: 64, market: 0 },
+  shapley: { airport: 32, voting: 32, market: 0 },
+  propose: { airport: 64, bankruptcy: 64, voting: 32, market: 0 },
+  convex: { market: 0 },
+  kernel: { market: 0 },
+};
+const MOST_PER_HEAD = 8;
+
+export function takes(question, game) {
+  return game.n <= (LIMITS[question][game.kind] ?? 16);
+}
+
+/** Whether a game may be asked about with excess per head, too. */
+export function takesPerHead(game) {
+  return game.n > 1 && game.n <= MOST_PER_HEAD && game.kind !== "market";
+}
+
+/** Asks all that is asked of a game. `read` is what a worker read; `onPart(result)` is called as answers come. */
+export async function askAll(read, { engine, checker, onPart }) {
+  const result = { game: new Facts(read.facts), text: read.text, points: [], checks: {} };
+  const ask = async (word, document = read.text) => checked(await engine("solve", { word, document }));
+  await askSolution(result, ask);
+  if (result.refusal) return onPart(result), result;
+  if (result.line) onPart(result);
+  const beside = result.line ? askBeside(result, checker, onPart) : null;
+  beside?.catch(() => 0); // it is told where it is waited for
+  await askOthers(result, ask);
+  onPart(result);
+  for (const point of result.points) Object.assign(point, await judge(result, point.shares, engine));
+  if (takes("convex", result.game) && !result.game.ballots && result.game.n > 1) {
+    result.convexity = await engine("convexity", { text: read.text });
+  }
+  onPart(result);
+  if (result.line) result.checks.program = await settled(ask("check", result.line));
+  onPart(result);
+  await beside;
+  return result;
+}
+
+/** What another worker does meanwhile: the sentences, and the second checker's word. */
+async function askBeside(result, checker, onPart) {
+  result.reasons = await checker("explain", { line: result.line });
+  onPart(result);
+  result.checks.anew = await settled(checker("checkAnew", { document: result.line }));
+  onPart(result);
+}
+
+/** A checker that fails is told as a fault, and doesn't keep the other from its word. */
+export function settled(promise) {
+  return promise.catch((fault) => {
+    if (fault.message === "stopped") throw fault;
+    return { fault: fault.message };
+  });
+}
+
+/** The answer of the program, where there is one. */
+function checked(answer) {
+  if (answer.status <= 3) return answer;
+  if (answer.status === 7) throw new Error("The program found no memory for this.");
+  throw new Error(`The program ended with status ${answer.status}.`);
+}
+
+async function askSolution(result, ask) {
+  if (!takes("nucleolus", result.game)) return;
+  let answer = await ask("nucleolus");
+  if (answer.refusal) {
+    result.refusal = answer.refusal;
+    return;
+  }
+  if (answer.status === 1) {
+    const { singles, total } = answer.tree;
+    result.noImputation = { singles: Rational.of(singles), total: Rational.of(total) };
+    answer = await ask("prenucleolus");
+  }
+  result.line = answer.line;
+  result.answer = answer.tree.answer;
+  addPoint(result, result.answer, result.answer === "nucleolus" ? "Nucleolus" : "Prenucleolus", answer.tree.shares);
+}
+
+async function askOthers(result, ask) {
+  const { game } = result;
+  if (takes("shapley", game)) addPoint(result, "shapley", "Shapley shares", (await ask("shapley")).tree.shares);
+  if (game.isTable() && !game.ballots) {
+    result.core = (await ask("core")).tree;
+    if (result.core.shares) addPoint(result, "core", "A core point", result.core.shares);
+  }
+  if (game.kind === "tree") {
+    result.bird = (await ask("bird")).tree;
+    addPoint(result, "bird", "Bird’s shares", result.bird.shares);
+  }
+  if (game.isMarket()) {
+    const document = result.text.replace('{"game":{"class":"assignment"', '{"game":{"class":"market"');
+    result.matching = (await ask("matching", document)).tree;
+    addPoint(result, "buyers", "Best for buyers", result.matching["buyers best"]);
+    addPoint(result, "sellers", "Best for sellers", result.matching["sellers best"]);
+  }
+}
+
+function addPoint(result, key, title, shares) {
+  result.points.push({ key, title, shares: shares.map(Rational.of) });
+}
+
+/** What the program says of shares: whether a group could do better by itself (`verdict`), and whether one of two has
+ * the stronger hold on the other (`hold`); null for what it doesn't say. */
+export async function judge({ game, text }, shares, engine) {
+  const document = withShares(text, shares), found = { verdict: null, hold: null };
+  if (takes("propose", game)) found.verdict = verdictOf(checked(await engine("solve", { word: "propose", document })));
+  const isHeld = takes("kernel", game) && !game.ballots && game.n > 1 && game.n <= 12;
+  if (isHeld) found.hold = holdOf(checked(await engine("solve", { word: "kernel", document })).tree);
+  return found;
+}
+
+function withShares(text, shares) {
+  return `${text.slice(0, -1)},"shares":${writeJson(shares.map((share) => share.toDocument()))}}`;
+}
+
+function verdictOf({ tree, refusal }) {
+  if (refusal) return { refusal };
+  if (tree.answer === "core") return { isCore: true };
+  if (tree.answer !== "blocked") return { sum: Rational.of(tree.sum), total: Rational.of(tree.total) };
+  return { group: tree.coalition.map((player) => Number(player) - 1), excess: Rational.of(tree.excess) };
+}
+
+/** Of the first two who aren't in balance: who has the stronger hold on whom, and by how much. */
+function holdOf({ answer, i, j, ij, ji }) {
+  if (answer === "prekernel") return { isEven: true };
+  if (answer !== "not prekernel") return null;
+  const more = Rational.of(ij).minus(Rational.of(ji)), pair = [Number(i) - 1, Number(j) - 1];
+  const [strong, weak] = more.isNegative() ? pair.reverse() : pair;
+  return { strong, weak, by: more.abs() };
+}

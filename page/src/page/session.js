@@ -1,0 +1,139 @@
+// The case that is worked on: what was typed, what was read of it, and the answers of the program.
+import { spoken } from "../exact/decimals.js";
+import { Helper } from "./helper.js";
+import { proposalOf } from "./proposal.js";
+import { askAll, judge } from "./questions.js";
+
+const WAIT = 200; // milliseconds between the last key and the question
+const BUSY = 400; // milliseconds after which the page says that it is at work
+
+export class Session {
+  /** `on` is called as things happen: `stale`, `read`, `answer`, `busy(isBusy)` and `fault(fault)`. */
+  constructor(on) {
+    this.on = on;
+    this.engine = new Helper();
+    this.checker = new Helper();
+    this.reader = new Helper();
+    this.kind = null;
+    this.turn = 0;
+    this.mark = new Intl.NumberFormat().format(0.5).includes(",") ? "," : ".";
+    spoken.mark = this.mark;
+  }
+
+  /** Starts the workers, so that the first question needn't wait for them. */
+  warmUp() {
+    for (const helper of [this.engine, this.checker]) helper.ask("warmUp").catch(() => 0);
+  }
+
+  open(kind, typed, { measure = "plain", texts = [] } = {}) {
+    Object.assign(this, { kind, typed, measure, texts, places: kind.places ?? 2 });
+    Object.assign(this, { reading: null, result: null, judged: {}, proposal: proposalOf([], [], this.mark) });
+    this.changed(0);
+  }
+
+  /** Something was typed, or chosen, that changes the game. */
+  changed(wait = WAIT) {
+    this.turn += 1;
+    this.on.stale();
+    clearTimeout(this.timer);
+    this.timer = setTimeout(() => this.work(), wait);
+  }
+
+  setMark(mark) {
+    this.mark = mark;
+    spoken.mark = mark;
+    this.changed(0);
+  }
+
+  setMeasure(measure) {
+    this.measure = measure;
+    this.changed(0);
+  }
+
+  /** The helpers as functions that ask; a question that nobody needs any more isn't asked. */
+  asking(turn) {
+    const one = (helper) => (task, what) => {
+      return this.turn === turn ? helper.ask(task, what) : Promise.reject(new Error("stopped"));
+    };
+    return { engine: one(this.engine), checker: one(this.checker) };
+  }
+
+  async work() {
+    const mine = (this.turn += 1), isMine = () => this.turn === mine;
+    for (const helper of [this.engine, this.checker]) helper.stopIfSlow();
+    const slow = setTimeout(() => isMine() && this.on.busy(true), BUSY), { engine, checker } = this.asking(mine);
+    try {
+      const { kind, mark, measure } = this, typed = kind.pack?.(this.typed) ?? this.typed;
+      const reading = await engine("readCase", { id: kind.id, typed, mark, measure });
+      if (!isMine()) return;
+      this.reading = reading;
+      this.judged = {};
+      this.on.read();
+      if (reading.isRight) await this.ask(engine, checker, isMine);
+      else this.result = null;
+      if (isMine()) this.on.answer();
+    } catch (fault) {
+      if (isMine() && fault.message !== "stopped") this.on.fault(fault);
+    } finally {
+      clearTimeout(slow);
+      if (isMine()) this.on.busy(false);
+    }
+  }
+
+  async ask(engine, checker, isMine) {
+    this.readProposal();
+    const onPart = (result) => {
+      if (!isMine()) return;
+      this.result = result;
+      this.on.answer();
+    };
+    await askAll(this.reading, { engine, checker, onPart });
+    if (isMine()) await this.judge();
+  }
+
+  stop() {
+    this.turn += 1;
+    this.engine.stop();
+    this.checker.stop();
+    this.on.busy(false);
+    this.on.fault(new Error("Stopped. Change a number, or try again."));
+  }
+
+  // ---- The proposal
+
+  readProposal() {
+    const canBe = this.reading.facts.kind !== "market";
+    this.proposal = { canBe, ...proposalOf(this.texts, this.reading.rows, this.mark), ...this.judged };
+  }
+
+  setProposal(texts) {
+    this.texts = Array.from(texts, (text) => text ?? "");
+    this.judged = {};
+    this.readProposal();
+    this.on.answer();
+    clearTimeout(this.judging);
+    this.judging = setTimeout(() => this.judge().catch(this.on.fault), WAIT);
+  }
+
+  async judge() {
+    const { result, turn, texts } = this, { shares } = this.proposal;
+    if (!shares || !result || result.refusal) return;
+    const isMine = () => this.turn === turn && this.texts === texts, { engine, checker } = this.asking(turn);
+    try {
+      const judged = await judge(result, shares, engine), [solution] = result.points;
+      const isComparable = judged.verdict && !judged.verdict.sum && result.line;
+      if (isComparable && isMine()) judged.comparison = await this.compared(checker, shares, solution);
+      if (!isMine()) return;
+      this.judged = judged;
+      this.readProposal();
+      this.on.answer();
+    } catch (fault) {
+      if (fault.message !== "stopped") throw fault;
+    }
+  }
+
+  compared(checker, shares, solution) {
+    const [one, other] = [shares, solution.shares].map((list) => list.map(String));
+    return checker("compare", { text: this.result.text, one, other });
+  }
+}

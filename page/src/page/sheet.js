@@ -1,0 +1,157 @@
+// The one printed page: who, how much, a picture, the reasons, what is agreed on, and how to check it.
+import { fractionText } from "../exact/decimals.js";
+import { barsPicture } from "../draw/bars.js";
+import { planPicture } from "../draw/plan.js";
+import { dealsOf, powerPicture, priceOf, pricesPicture, tradesTable } from "../draw/ranges.js";
+import { trianglePicture } from "../draw/triangle.js";
+import { Rational } from "../exact/rational.js";
+import { lead, solutionOf } from "./answer.js";
+import { el, refill } from "./dom.js";
+import { knownDigest } from "./files.js";
+import { formatOf, totalsOf } from "./format.js";
+
+const WIDE = 700;
+const MOST_PICTURED = 10; // rows whose bars leave room for the rest
+const MOST_ROWS = 18; // of one table; more stand in two, side by side
+const MOST_TOLD = 800; // characters of the first reason that are printed in full
+const MOST_DOCUMENT = 420; // characters of the game's document that are printed
+
+const OPEN = "Open the page coop.html of the project";
+const POWER = "Power is in what part of all orders of joining a voter is the one by whom the votes suffice (Shapley "
+  + "and Shubik 1954).";
+const PRICES = "By the pairs that gain most together, and the prices at which no other pair does better.";
+
+/** Fills the sheet with the answer of a session; leaves it empty where there is none. */
+export function showSheet(session, typed = {}) {
+  const sheet = document.getElementById("sheet"), { result, reading } = session;
+  if (!result || result.refusal || !result.points.length) {
+    refill(sheet);
+    return;
+  }
+  const view = { ...session, ...typed, result, rows: reading.rows, format: formatOf(session.places, session.mark) };
+  refill(sheet, headOf(view), answerOf(view), pictureOf(view), reasonsOf(view), agreedOf(view), checkOf(view));
+}
+
+function headOf({ heading, kind }) {
+  const day = new Date().toLocaleDateString("en-GB", { dateStyle: "long" });
+  return el("header", {}, el("h1", {}, heading?.trim() || kind.title), el("p", { class: "hint" }, day));
+}
+
+// ---- Who, and how much
+
+function answerOf(view) {
+  const { result, rows, format, unit } = view, { game } = result;
+  const shapley = result.points.find(({ key }) => key === "shapley");
+  const point = game.ballots ? shapley : solutionOf(result) ?? result.points[0];
+  if (!point) return null;
+  if (result.matching) {
+    return el("section", {}, tradesTable(dealsOf(game, result.matching, solutionOf(result)), format));
+  }
+  const title = game.ballots ? "Power" : point.title, totals = totalsOf(rows, point.shares);
+  const context = contextOf(game, rows, format), texts = format.column(totals);
+  const hasExact = totals.some((total) => !format.isExact(total)), who = game.costs ? "Who pays" : "Who gets";
+  const heads = [game.ballots ? "Who votes" : who, context?.title, title, hasExact ? "exactly" : undefined];
+  const line = (r) => el("tr", {},
+    el("th", { scope: "row" }, rows[r].label, rows[r].players.length > 1 && ` (${rows[r].players.length} landings)`),
+    context && el("td", { class: "number" }, context.texts[r]),
+    el("td", { class: "number strong" }, texts[r]),
+    hasExact && el("td", { class: "number" }, format.isExact(totals[r]) ? "" : fractionText(totals[r])));
+  const sum = el("tr", { class: "sum" }, el("th", { scope: "row" }, "together"), context && el("td"),
+    el("td", { class: "number strong" }, texts.at(-1)), hasExact && el("td"));
+  return el("section", {},
+    !game.ballots && !game.isMarket() && lead(result, point, { rows, format }),
+    unit?.trim() && el("p", { class: "hint" }, `All amounts are in ${unit.trim()}.`),
+    halves(rows.length, heads.filter((head) => head !== undefined), line, sum));
+}
+
+/** One table; of many rows two, side by side, with the sum below the second. */
+function halves(count, heads, line, sum) {
+  const isLong = count > MOST_ROWS, middle = isLong ? Math.ceil(count / 2) : count;
+  const head = () => el("thead", {}, el("tr", {}, heads.map((title, k) => {
+    return el("th", { scope: "col", class: k ? "number" : "" }, title);
+  })));
+  const tables = [[0, middle], [middle, count]].filter(([from, to]) => from < to).map(([from, to]) => {
+    const lines = Array.from({ length: to - from }, (_, k) => line(from + k));
+    return el("table", { class: isLong ? "shares dense" : "shares" }, head(), el("tbody", {}, lines),
+      el("tfoot", {}, to === count && sum));
+  });
+  return el("div", { class: "halves" }, tables);
+}
+
+function contextOf(game, rows, { show }) {
+  const of = (title, values) => ({ title, texts: rows.map(({ players: [i] }) => show(values[i])) });
+  if (game.ballots) return { title: "Votes", texts: rows.map(({ players: [i] }) => String(game.ballots[0].votes[i])) };
+  if (game.isMarket()) return undefined;
+  if (game.kind === "bankruptcy") return of("Claim", game.amounts);
+  if (game.kind === "airport") return of("A landing needs", game.amounts);
+  return of(game.costs ? "Costs alone" : "Worth alone", game.own);
+}
+
+// ---- The picture
+
+function pictureOf({ result, rows, format }) {
+  const { game, points, bird } = result, solution = solutionOf(result), few = rows.length <= MOST_PICTURED;
+  const settings = { ...format, wide: WIDE }, holder = (drawn) => el("figure", {}, drawn);
+  if (game.ballots) return few ? holder(powerOf(game, points, format)) : null;
+  if (result.matching) {
+    const deals = dealsOf(game, result.matching, solution);
+    return deals.length > 0 && few ? holder(pricesPicture(deals, priceOf(format), format.show, WIDE)) : null;
+  }
+  if (!solution) return null;
+  if (bird && few) return holder(planPicture(game, bird.tree, settings));
+  if (game.n === 3) return holder(trianglePicture(game, [solution], settings).drawn);
+  return few ? holder(barsPicture(game, rows, [solution], settings)) : null;
+}
+
+function powerOf(game, points, { show }) {
+  const { shares } = points.find(({ key }) => key === "shapley"), [{ votes }] = game.ballots;
+  const parts = votes.map((own) => own.over(Rational.sum(votes)));
+  const percent = (value) => `${show(value.times(Rational.of(100)))}\u202f%`;
+  return powerPicture(game, shares, parts, percent, WIDE);
+}
+
+// ---- The reasons
+
+function reasonsOf({ result }) {
+  const { reasons, answer, game, points } = result;
+  if (game.ballots || !reasons) {
+    return el("section", {}, el("h2", {}, "How it was found"), el("p", {}, game.ballots ? POWER : PRICES));
+  }
+  const [principle, next] = reasons, levels = reasons.filter(({ isLevel }) => isLevel).length;
+  const sentences = [...principle.sentences, ...(next ? toldOf(next) : [])];
+  if (next?.isLevel && levels > 1) sentences.push(`So the first of ${levels} levels; the certificate has them all.`);
+  const isCore = points.find(({ key }) => key === answer)?.verdict?.isCore;
+  return el("section", {}, el("h2", {}, `Why: the ${answer}`),
+    el("p", {}, sentences.join(" ")),
+    isCore && el("p", {}, "By these shares no group does better by itself."),
+    el("p", {}, `No other division meets the principle: there is just one ${answer} (Schmeidler 1969).`));
+}
+
+/** The first reason: with its items, or without, or its first sentences and the last one, as there is room. */
+function toldOf({ sentences, items, last = "" }) {
+  const whole = [...sentences, ...items.map(({ label }) => label), last], short = [...sentences, last];
+  const isShort = (some) => some.join(" ").length <= MOST_TOLD;
+  const told = isShort(whole) ? whole : isShort(short) ? short : [...short.slice(0, 2), sentences.at(-1)];
+  return told.filter(Boolean);
+}
+
+// ---- What is agreed on, and how to check it
+
+function agreedOf({ result: { text } }) {
+  const isShort = text.length <= MOST_DOCUMENT, digest = knownDigest(`${text}\n`) ?? "(this browser works out none)";
+  return el("section", {}, el("h2", {}, "What is agreed on"),
+    el("p", {}, "The numbers of the game, as they stand in its file. Its SHA-256 is ",
+      el("span", { class: "digest" }, digest), "."),
+    isShort && el("p", { class: "document" }, text),
+    el("p", { class: "sign" }, "Agreed on by", el("span"), "on", el("span", { class: "short" })));
+}
+
+function checkOf({ result: { answer, line, game } }) {
+  const foot = document.querySelector("footer p").textContent;
+  const steps = line && !game.ballots
+    ? `${OPEN}, choose “I got an answer and doubt it”, and give it the agreed file and the line with the certificate. `
+      + `Two checkers, apart from each other, say whether these shares are the ${answer} of the agreed game. `
+      + "It goes by hand, too (docs/certificates.md)."
+    : `${OPEN}, choose “Open or paste a document”, and give it the agreed file: it works the answer out anew.`;
+  return el("section", {}, el("h2", {}, "How to check it"), el("p", {}, steps), el("p", { class: "hint" }, foot));
+}

@@ -1,0 +1,24 @@
+// Which part of the page is shown. Each has an address, so that the browser's way back works.
+import { caseNamed } from "../cases/cases.js";
+
+const OTHERS = ["document", "verify"];
+const TITLE = "coop: fair shares, with evidence";
+
+const at = (id) => document.getElementById(id);
+
+/** Shows a case by its name, or "document", "verify" or "" for the start. */
+export function showView(view) {
+  if (location.hash.slice(1) !== view) history.pushState(null, "", view ? `#${view}` : location.pathname);
+  const kind = caseNamed(view);
+  document.body.dataset.view = kind ? "case" : view || "start";
+  document.title = kind ? `${kind.title} – coop` : TITLE;
+  scrollTo(0, 0);
+  const head = kind ? at("case-title") : at(view || "start").querySelector("h1, h2");
+  head.focus({ preventScroll: true });
+}
+
+/** The part that the address names; the start for any that isn't there. */
+export function viewOfAddress() {
+  const view = location.hash.slice(1);
+  return OTHERS.includes(view) || caseNamed(view) ? view : "";
+}

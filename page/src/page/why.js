@@ -1,0 +1,38 @@
+// The reasons: the principle, the rule of the class, and the levels of the certificate, those of a long one folded.
+import { el } from "./dom.js";
+
+const MOST_OPEN = 3; // levels that are shown unfolded, where there are no more
+
+const PRICES = "A price can be no lower than what another buyer would offer, and no higher than what another seller "
+  + "would take.";
+
+export function whyParts({ answer, reasons, matching, convexity }) {
+  if (!answer) return matching ? [el("p", {}, PRICES)] : [];
+  if (!reasons) return [];
+  const levels = reasons.filter(({ isLevel }) => isLevel), others = reasons.filter(({ isLevel }) => !isLevel);
+  const isLong = levels.length > MOST_OPEN;
+  return [
+    ...others.map(article),
+    isLong && el("p", { class: "fold screen" }, `The certificate has ${levels.length} levels. Each says who is worst `,
+      "off of those who are left, and why nobody can do better."),
+    ...levels.map(isLong ? folded : article),
+    convexity && article({ title: "Does it matter who joins first?", sentences: [convexity.sentence], items: [] }),
+  ];
+}
+
+function article(part) {
+  return el("article", { class: "reason" }, el("h3", {}, part.title), bodyOf(part));
+}
+
+function folded(part) {
+  return el("details", { class: "reason level" },
+    el("summary", {}, el("b", {}, part.title), part.brief && el("span", {}, ` ${part.brief}`)), bodyOf(part));
+}
+
+function bodyOf({ sentences, items, last }) {
+  return [
+    el("p", {}, sentences.join(" ")),
+    items.length > 0 && el("ul", {}, items.map(({ label, text }) => el("li", {}, el("b", {}, label), " ", text))),
+    last && el("p", {}, last),
+  ];
+}

@@ -1,0 +1,116 @@
+// The rules that give the nucleolus of a runway and of an estate, told with the numbers of a game. A rule is worked out
+// anew, and told only where its shares are those of the answer.
+import { Rational, ZERO } from "../exact/rational.js";
+import { fullText, shortText } from "../exact/decimals.js";
+
+/** The rule as {title, sentences, items}; null where the class has none. */
+export function ruleOf(game, shares, namer) {
+  if (game.perHead) return null;
+  if (game.kind === "airport") return runwayRule(game, shares, namer);
+  return game.kind === "bankruptcy" ? estateRule(game, shares, namer) : null;
+}
+
+// ---- A runway
+
+/** Littlechild's steps: who pays in each, in the order of their costs, and what each of these pays. */
+function runwaySteps(costs) {
+  const order = costs.map((_, i) => i).sort((i, j) => costs[i].compare(costs[j]) || i - j);
+  const steps = [];
+  let done = 0, paid = ZERO;
+  while (done < order.length) {
+    let end = 0, part = null;
+    for (let place = done + 1; place <= order.length; place++) {
+      const share = costs[order[place - 1]].minus(paid).over(Rational.of(partsUpTo(done, place, order.length)));
+      if (part === null || !part.less(share)) [end, part] = [place, share];
+    }
+    steps.push({ who: order.slice(done, end), part, done, paid });
+    paid = paid.plus(part.times(Rational.of(end - done)));
+    done = end;
+  }
+  return steps;
+}
+
+/** How many parts there are for those from `done` to `end`; the last step saves nothing. */
+function partsUpTo(done, end, players) {
+  return end - done + (end < players ? 1 : 0);
+}
+
+function runwayRule(game, shares, namer) {
+  const steps = runwaySteps(game.amounts);
+  if (steps.some(({ who, part }) => who.some((i) => !shares[i].equals(part)))) return null;
+  return {
+    title: "The rule (Littlechild 1974)",
+    sentences: [
+      "Put the landings in the order of what they need.",
+      "At each step take the cost of a runway for them, less what those before pay.",
+      "Split it in equal parts: one for each who pays now, and one that is saved.",
+      "Those pay now for whom this part is least.",
+    ],
+    items: steps.map((step, k) => runwayStep(game, namer, step, steps[k - 1])),
+  };
+}
+
+function runwayStep(game, namer, { who, part, done, paid }, before) {
+  const end = done + who.length, isLast = end === game.n, several = who.length > 1;
+  const cost = game.amounts[who.at(-1)], left = cost.minus(paid), count = partsUpTo(done, end, game.n);
+  const sentences = [`${runway(done, end, game.n)} costs ${shortText(cost)}.`];
+  const those = done === 1 ? "The one before pays" : `The ${done} before pay`;
+  if (done) sentences.push(`${those} ${shortText(paid)}, so ${shortText(left)} is left.`);
+  if (isLast) sentences.push(several ? "They share it equally." : "The last pays it.");
+  else if (count === 2) sentences.push("Half of it is paid, and half is saved.");
+  else sentences.push(`Each pays one of ${count} parts, and one part is saved.`);
+  const more = before && before.part.less(part) ? `, ${shortText(part.minus(before.part))} more than those before` : "";
+  return {
+    label: `${namer.players(who)} ${several ? "pay" : "pays"} ${fullText(part)}${several ? " each" : ""}${more}.`,
+    text: sentences.join(" "),
+  };
+}
+
+function runway(done, end, players) {
+  if (end === players) return "The runway for all";
+  if (end === 1) return "Its own runway";
+  if (!done) return `A runway for these ${end}`;
+  return `A runway for ${end - done === 1 ? "it" : "them"} and ${done === 1 ? "the one" : `the ${done}`} before`;
+}
+
+// ---- An estate
+
+/** The t for which the halves of the claims, each cut to t, add to the amount, which is at most half of all. */
+function greatestPart(claims, amount) {
+  const two = Rational.of(2);
+  const sorted = [...claims].sort((a, b) => a.compare(b));
+  let left = amount, count = claims.length;
+  for (const claim of sorted) {
+    const number = Rational.of(count);
+    if (!claim.times(number).less(left.times(two))) return left.over(number);
+    left = left.minus(claim.over(two));
+    count -= 1;
+  }
+  return sorted.at(-1).over(two);
+}
+
+function estateRule(game, shares, namer) {
+  const estate = game.single, two = Rational.of(2);
+  const claims = game.amounts.map((claim) => Rational.min([claim, estate]));
+  const total = Rational.sum(claims), half = total.over(two), isLacking = half.less(estate);
+  const amount = isLacking ? total.minus(estate) : estate, t = greatestPart(claims, amount);
+  const parts = claims.map((claim) => Rational.min([claim.over(two), t]));
+  const byRule = isLacking ? claims.map((claim, i) => claim.minus(parts[i])) : parts;
+  if (byRule.some((share, i) => !share.equals(shares[i]))) return null;
+  const verb = isLacking ? "loses" : "gets", isCapped = claims.map((claim) => t.less(claim.over(two)));
+  const isCut = game.amounts.some((claim) => estate.less(claim));
+  const sentences = [
+    ...(isCut ? [`A claim above the estate counts as the estate, ${shortText(estate)}.`] : []),
+    `The claims add to ${shortText(total)}, and half of that is ${shortText(half)}.`,
+    `The estate of ${shortText(estate)} is ${isLacking ? "more" : "no more"} than that.`,
+    `So each ${verb} half of its claim${isCapped.includes(true) ? `, but at most ${shortText(t)}` : ""}.`,
+    `Together that is ${isLacking ? `the ${shortText(amount)} that the estate lacks` : shortText(amount)}.`,
+  ];
+  const items = claims.map((claim, i) => {
+    const halfOf = `Half of ${shortText(claim)} is ${shortText(claim.over(two))}`;
+    const cut = isCapped[i] ? `, which is more than ${shortText(t)}` : "";
+    const left = isLacking ? ` ${shortText(claim)} less ${shortText(parts[i])} is ${shortText(shares[i])}.` : "";
+    return { label: `${namer.names[i]} gets ${fullText(shares[i])}.`, text: `${halfOf}${cut}.${left}` };
+  });
+  return { title: "The rule (the Talmud’s; Aumann and Maschler 1985)", sentences, items };
+}

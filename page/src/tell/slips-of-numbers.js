@@ -1,0 +1,144 @@
+// What is wrong with the numbers of a game, and with its groups.
+import { gcd, lcm, Rational } from "../exact/rational.js";
+import { Inexact, writeJson } from "../exact/json.js";
+import { withEscapes } from "../game/names.js";
+import { plural } from "./words.js";
+
+const MOST = 2n ** 40n;
+const MOST_SCALE = 65536n;
+
+/** The common denominator of the numbers. `form` says whether the game is a table, whose numbers may be negative,
+ * whether it has fractions, and whether it is a vote, which has none. */
+export function numberSlips(tree, form, add) {
+  const reader = new NumberReader(form, add);
+  const list = (items, path) => items.forEach((item, i) => reader.read(item, `${path}, item ${i + 1}`));
+  for (const key of ["worths", "costs", "claims", "weights"]) {
+    if (Array.isArray(tree[key])) list(tree[key], `game.${key}`);
+    else if (key in tree) add(3, `${key} is an array.`, `game.${key}`);
+  }
+  for (const key of ["estate", "default", "quota"]) if (key in tree) reader.read(tree[key], `game.${key}`);
+  if (Array.isArray(tree.matrix)) tree.matrix.forEach((row, i) => list(row, `game.matrix, row ${i + 1}`));
+  if (Array.isArray(tree.sparse)) sparseSlips(tree, reader, add);
+  else if ("sparse" in tree) add(3, "sparse is an array of pairs.", "game.sparse");
+  if (reader.isFine && !form.isVote) {
+    add(5, "The numbers have no common denominator up to 65,536. Give fewer decimals.", "game");
+  } else if (reader.scale > 1n && !reader.most.times(new Rational(reader.scale)).less(new Rational(MOST))) {
+    add(5, `A number, times the common denominator ${reader.scale}, is 2^40 or more.`, "game");
+  }
+  return reader.scale;
+}
+
+class NumberReader {
+  constructor({ isTable, hasFractions, isVote }, add) {
+    Object.assign(this, { isTable, add, hasFractions: hasFractions && !isVote });
+    this.scale = 1n;
+    this.most = new Rational(0n);
+    this.isFine = false;
+  }
+
+  read(item, place) {
+    if (typeof item === "bigint") return this.size(item, 1n, place);
+    if (item instanceof Inexact) {
+      const advice = "Write a fraction as a text, \"25/2\", and \"version\":2.";
+      return this.add(5, `${item.text.slice(0, 30)} is no whole number. ${advice}`, place);
+    }
+    if (typeof item === "string") return this.fraction(item, place);
+    const shown = withEscapes(writeJson(item).slice(0, 30));
+    return this.add(3, `${shown} stands where a number has to be.`, place);
+  }
+
+  fraction(item, place) {
+    const shown = withEscapes(item.slice(0, 30));
+    if (!this.hasFractions) {
+      return this.add(3, `“${shown}” stands in quotes; fractions need "version":2 in the game.`, place);
+    }
+    const slip = fractionSlip(item);
+    if (slip) return this.add(5, slip, place);
+    const [num, den = 1n] = item.split("/").map(BigInt);
+    this.scale = this.isFine ? 1n : lcm(this.scale, den);
+    this.isFine ||= this.scale > MOST_SCALE;
+    return this.size(num, den, place);
+  }
+
+  size(num, den, place) {
+    const size = num < 0n ? -num : num;
+    if (num < 0n && !this.isTable) this.add(5, "A number here can’t be negative.", place);
+    if (size >= MOST * den) this.add(5, "A number is 2^40 (about a million millions) or more.", place);
+    else if (this.most.num * den < size * this.most.den) this.most = new Rational(size, den);
+  }
+}
+
+/** What is wrong with a text that should be a fraction in lowest terms; "" where nothing is. */
+export function fractionSlip(text) {
+  const shown = withEscapes(text.slice(0, 30)), parts = /^(-?\d{1,39})(?:\/(\d{1,39}))?$/.exec(text);
+  if (!parts) return `“${shown}” is no fraction, as "25/2".`;
+  const num = BigInt(parts[1]), den = BigInt(parts[2] ?? 1), common = den ? gcd(num, den) : 0n;
+  const lowest = common && (den / common === 1n ? `${num / common}` : `${num / common}/${den / common}`);
+  return lowest === text ? "" : `“${shown}” isn’t in lowest terms${common ? `; write "${lowest}"` : ""}.`;
+}
+
+// ---- Groups of a table
+
+function sparseSlips(tree, reader, add) {
+  const seen = new Map();
+  tree.sparse.forEach((item, i) => {
+    const place = `game.sparse, item ${i + 1}`;
+    if (!Array.isArray(item) || item.length !== 2 || !Array.isArray(item[0])) {
+      return add(3, "An item is a pair of a group, as an array, and a number.", place);
+    }
+    reader.read(item[1], place);
+    const members = item[0].map((member) => memberOf(member, tree, place, add));
+    if (!members.length) add(7, "A group has no member.", place);
+    if (new Set(members).size < members.length) add(7, "A player stands twice in a group.", place);
+    const key = [...members].sort().join();
+    if (seen.has(key)) add(7, `The group stands at item ${seen.get(key)} already.`, place);
+    else seen.set(key, i + 1);
+    return undefined;
+  });
+}
+
+function memberOf(member, { names, players }, place, add) {
+  if (typeof member === "string") {
+    const i = Array.isArray(names) ? names.indexOf(member) : -1;
+    if (i < 0) add(6, `“${withEscapes(member.slice(0, 64))}” isn’t among the names.`, place);
+    return i + 1;
+  }
+  if (typeof member !== "bigint") add(3, "A member is a number or a name.", place);
+  else if (member < 1n || member > players) add(7, `There is no player ${member}.`, place);
+  return Number(member);
+}
+
+// ---- The numbers together
+
+export function wholeSlips(tree, kind, add) {
+  if (kind === "voting") voteSlips(tree, add);
+  if (kind === "bankruptcy" && Rational.sum(tree.claims.map(Rational.of)).less(Rational.of(tree.estate))) {
+    add(8, "The claims add to less than the estate. Then each gets its claim, and no rule is needed.", "game.estate");
+  }
+  if ("matrix" in tree) matrixSlips(tree, kind, add);
+}
+
+function voteSlips({ weights, quota }, add) {
+  const votes = weights.reduce((total, item) => total + item, 0n);
+  if (votes > 1000n) {
+    const advice = "Divide all by a common divisor.";
+    add(13, `The votes add to ${votes}, and the program takes 1,000. ${advice}`, "game.weights");
+  } else if (quota < 1n || quota > votes) {
+    add(13, `The quota has to be from 1 to ${votes}, the votes of all.`, "game.quota");
+  }
+}
+
+function matrixSlips({ matrix }, kind, add) {
+  const width = kind === "tree" ? matrix.length : matrix[0].length;
+  matrix.forEach((row, i) => {
+    const place = `game.matrix, row ${i + 1}`;
+    if (row.length !== width) add(9, `Row ${i + 1} has ${plural(row.length, "item")}, and not ${width}.`, place);
+    if (kind === "tree") row.forEach((item, j) => linkSlip(matrix, item, i, j, add));
+  });
+}
+
+function linkSlip(matrix, item, i, j, add) {
+  const place = `game.matrix, row ${i + 1}, item ${j + 1}`;
+  if (i === j && item !== 0n) add(9, "From a point to itself a link costs 0.", place);
+  if (j < i && item !== matrix[j]?.[i]) add(9, "A link costs the same in both directions; these two differ.", place);
+}

@@ -1,0 +1,151 @@
+// What is wrong with a document: the number of a refusal, a sentence and a place each. Not all slips are found.
+import { Inexact, isObject, JsonFault, parseJson } from "../exact/json.js";
+import { bytesOf } from "../cases/reading.js";
+import { withEscapes } from "../game/names.js";
+import { certificateSlips, shareSlips } from "./slips-of-evidence.js";
+import { numberSlips, wholeSlips } from "./slips-of-numbers.js";
+import { isOrAre, plural } from "./words.js";
+
+const TABLE = ["players", "worths", "sparse", "default"];
+const KEYS = {
+  table: TABLE, "cost-table": TABLE, airport: ["costs"], bankruptcy: ["claims", "estate"], tree: ["matrix"],
+  assignment: ["matrix"], market: ["matrix"], voting: ["weights", "quota"],
+};
+const COMMON = ["class", "names", "excess", "version"];
+const LISTS = { airport: ["costs", 64], bankruptcy: ["claims", 64], voting: ["weights", 32] };
+
+/** What the commands need beside the game. */
+const NEEDS = { check: ["answer", "certificate", "shares"], propose: ["shares"], kernel: ["shares"] };
+
+export function slipsOf(data, command = "") {
+  const slips = [], add = (number, sentence, place) => slips.push({ number, sentence, place });
+  try {
+    documentSlips(parseJson(data), NEEDS[command] ?? [], slips, add);
+  } catch (fault) {
+    if (!(fault instanceof JsonFault)) throw fault;
+    const place = fault.line ? `line ${fault.line}, column ${fault.column}` : undefined;
+    add(2, `It is no JSON text: ${fault.sentence}.`, place);
+  }
+  return slips;
+}
+
+function documentSlips(tree, needed, slips, add) {
+  if (!isObject(tree)) return add(3, "A document is an object, {\"game\":{…}}.");
+  if ("class" in tree && !("game" in tree)) return add(3, "This is a game alone; write {\"game\":{…}} around it.");
+  strangeKeys(tree, ["answer", "certificate", "game", "shares"], "", add);
+  for (const key of needed.filter((one) => !(one in tree))) add(3, `The key “${key}” is missing.`, "the document");
+  if (needed.includes("answer") && "answer" in tree && !["nucleolus", "prenucleolus"].includes(tree.answer)) {
+    add(3, "answer is “nucleolus” or “prenucleolus”.", "answer");
+  }
+  if (!isObject(tree.game)) return add(3, "The key game, with an object, is missing.", "game");
+  const { n, scale } = gameSlips(tree.game, slips, add);
+  if (slips.length || !n) return undefined;
+  if ("shares" in tree) shareSlips(tree, n, scale, add);
+  return "certificate" in tree ? certificateSlips(tree, n, add) : undefined;
+}
+
+function strangeKeys(tree, known, path, add) {
+  for (const key of Object.keys(tree).filter((one) => !known.includes(one))) {
+    const near = known.find((word) => distance(word, key) <= 2), shown = withEscapes(key.slice(0, 40));
+    add(3, `The key “${shown}” has no place here${near ? `; is it “${near}”?` : "."}`, path + shown);
+  }
+}
+
+/** What is wrong with a game. Where nothing is, its number of players and the scale of its numbers. */
+function gameSlips(tree, slips, add) {
+  const kind = tree.class, isKnown = typeof kind === "string" && Object.hasOwn(KEYS, kind);
+  if (!isKnown) return add(3, `The class is none of ${Object.keys(KEYS).join(", ")}.`, "game.class"), {};
+  strangeKeys(tree, [...COMMON, ...KEYS[kind]], "game.", add);
+  keySlips(tree, kind, add);
+  if (slips.length) return {};
+  const isTable = KEYS[kind] === TABLE;
+  const playersOf = isTable ? playersOfTable : kind in LISTS ? playersOfList : playersOfMatrix;
+  const n = playersOf(tree, add);
+  if (n) nameSlips(tree, n, add);
+  const form = { isTable, hasFractions: tree.version === 2n, isVote: kind === "voting" };
+  const scale = numberSlips(tree, form, add);
+  if (!slips.length) wholeSlips(tree, kind, add);
+  return { n, scale };
+}
+
+function keySlips(tree, kind, add) {
+  for (const key of KEYS[kind].filter((one) => !TABLE.slice(1).includes(one) && !(one in tree))) {
+    add(3, `The key “${key}” is missing.`, "game");
+  }
+  if (KEYS[kind] === TABLE) {
+    if ("worths" in tree === "sparse" in tree) add(3, "A table has either worths or sparse.", "game");
+    if ("default" in tree && "worths" in tree) add(3, "default goes with sparse alone.", "game.default");
+  }
+  if ("excess" in tree && !["plain", "per-head"].includes(tree.excess)) {
+    add(3, "excess is “plain” or “per-head”.", "game.excess");
+  }
+  if ("version" in tree && tree.version !== 1n && tree.version !== 2n) {
+    add(3, "version is 1 or 2, without quotes.", "game.version");
+  }
+}
+
+function playersOfTable({ players, worths }, add) {
+  if (typeof players !== "bigint") {
+    return add(players instanceof Inexact ? 4 : 3, "players is a whole number, without quotes.", "game.players"), 0;
+  }
+  if (players < 1n || players > 16n) {
+    return add(4, `A table has 1 to 16 players, and not ${players}.`, "game.players"), 0;
+  }
+  const n = Number(players), count = 2 ** n - 1;
+  if (Array.isArray(worths) && worths.length !== count) {
+    const found = plural(worths.length, "item");
+    add(4, `${plural(n, "player")} have ${count} groups, and worths has ${found}.`, "game.worths");
+  }
+  return n;
+}
+
+function playersOfList(tree, add) {
+  const [key, most] = LISTS[tree.class];
+  if (!Array.isArray(tree[key])) return add(3, `${key} is an array.`, `game.${key}`), 0;
+  const n = tree[key].length;
+  if (n < 1 || n > most) add(4, `${key} has 1 to ${most} items, and not ${n}.`, `game.${key}`);
+  return n;
+}
+
+function playersOfMatrix({ class: kind, matrix }, add) {
+  if (!Array.isArray(matrix) || !matrix.every(Array.isArray)) {
+    return add(3, "The matrix is an array of rows.", "game.matrix"), 0;
+  }
+  const rows = matrix.length, columns = matrix[0]?.length ?? 0, n = kind === "tree" ? rows - 1 : rows + columns;
+  const isWithin = kind === "market" ? rows <= 32 && columns <= 32 : n >= 1 && n <= 16;
+  if (rows < 1 || columns < 1 || !isWithin) {
+    add(4, `A matrix of ${rows} rows and ${columns} columns is too large or too small.`, "game.matrix");
+  }
+  return n;
+}
+
+function nameSlips({ names }, n, add) {
+  if (names === undefined) return;
+  if (!Array.isArray(names) || !names.every((name) => typeof name === "string")) {
+    add(3, "names is an array of texts.", "game.names");
+    return;
+  }
+  if (names.length !== n) {
+    add(6, `There ${isOrAre(names)} ${plural(names.length, "name")} for ${plural(n, "player")}.`, "game.names");
+  }
+  names.forEach((name, i) => {
+    const place = `game.names, item ${i + 1}`, shown = withEscapes(name.slice(0, 20));
+    if (!name) add(6, "A name is empty.", place);
+    if (bytesOf(name) > 64) add(6, `The name “${shown}…” is longer than 64 bytes.`, place);
+    if (names.indexOf(name) < i) add(6, `The name “${withEscapes(name)}” stands twice.`, place);
+  });
+}
+
+/** How many letters have to change to make one word of another. */
+function distance(one, other) {
+  if (other.length > 40) return other.length;
+  let row = Array.from({ length: other.length + 1 }, (_, j) => j);
+  for (let i = 1; i <= one.length; i++) {
+    const next = [i];
+    for (let j = 1; j <= other.length; j++) {
+      next.push(Math.min(next[j - 1] + 1, row[j] + 1, row[j - 1] + (one[i - 1] === other[j - 1] ? 0 : 1)));
+    }
+    row = next;
+  }
+  return row.at(-1);
+}

@@ -1,0 +1,114 @@
+// Players and groups of players in words, by their names.
+import { without } from "../game/groups.js";
+
+export function listed(parts) {
+  return parts.length < 2 ? parts.join("") : `${parts.slice(0, -1).join(", ")} and ${parts.at(-1)}`;
+}
+
+/** Parts that have commas or an "and" themselves. */
+function enumerated(parts) {
+  return parts.length < 2 ? parts.join("") : `${parts.slice(0, -1).join("; ")}; and ${parts.at(-1)}`;
+}
+
+export function times(count) {
+  return { 1: "once", 2: "twice" }[count] ?? `${count} times`;
+}
+
+export function plural(count, one, several = one + "s") {
+  return `${count} ${count === 1 ? one : several}`;
+}
+
+export function isOrAre(list) {
+  return list.length === 1 ? "is" : "are";
+}
+
+/** Names the players and the groups of a game. */
+export class Namer {
+  constructor(game) {
+    this.n = game.n;
+    this.names = game.shown;
+    this.isNamed = game.named;
+  }
+
+  /** Some players: of many those that are left out, or the first and the last, or the first ones. */
+  players(some, most = 12) {
+    const ids = [...some].sort((i, j) => i - j), out = without(this.n, ids);
+    const name = (i) => this.names[i];
+    if (ids.length > 3 && !out.length) return "all players";
+    if (ids.length > most / 2 && out.length <= 3) return `all but ${listed(out.map(name))}`;
+    const parts = this.runs(ids);
+    if (parts.length < ids.length && parts.length <= most) return listed(parts);
+    if (this.isNamed && ids.length > 4 && ids.at(-1) - ids[0] === ids.length - 1) {
+      return `${name(ids[0])} to ${name(ids.at(-1))} (${ids.length} in a row)`;
+    }
+    if (ids.length <= most) return listed(ids.map(name));
+    return `${ids.slice(0, most - 2).map(name).join(", ")} and ${ids.length - most + 2} others`;
+  }
+
+  /** Names in a row that are numbered alike, as those of landings are, are put together: "Aer 1 to 3". */
+  runs(ids) {
+    const runs = [];
+    for (const i of ids) {
+      const [, base, number] = /^(.*) (\d+)$/.exec(this.names[i]) ?? [];
+      const last = runs.at(-1);
+      if (base !== undefined && last?.base === base && Number(number) === last.to + 1) last.to += 1;
+      else runs.push({ base, from: Number(number), to: Number(number), name: this.names[i] });
+    }
+    return runs.flatMap(({ base, from, to, name }) => {
+      if (base === undefined || from === to) return [name];
+      return to === from + 1 ? [name, `${base} ${to}`] : [`${base} ${from} to ${to}`];
+    });
+  }
+
+  /** One group, by its members or by those that are left out. */
+  group(group) {
+    const out = without(this.n, group);
+    if (group.length === 1) return `${this.names[group[0]]} alone`;
+    if (group.length > out.length + 1) return `all but ${this.players(out)}`;
+    return `${this.players(group)} together`;
+  }
+
+  /** A group that is counted with others. */
+  inSum(group) {
+    if (group.length === 1) return this.names[group[0]];
+    return `the group of ${this.group(group).replace(/ together$/, "")}`;
+  }
+
+  /** Several groups; of many, those of one player and those without one player are put together. */
+  groups(groups) {
+    if (groups.length <= 4) return enumerated(groups.map((group) => this.group(group)));
+    const alone = groups.filter((group) => group.length === 1);
+    const butOne = groups.filter((group) => group.length > 1 && group.length === this.n - 1);
+    const rest = groups.filter((group) => group.length > 1 && group.length < this.n - 1);
+    return enumerated([...this.eachAlone(alone), ...this.eachLeftOut(butOne), ...this.firstAndCount(rest)]);
+  }
+
+  eachAlone(groups) {
+    if (groups.length < 2) return groups.map((group) => this.group(group));
+    return [groups.length === this.n ? "each player alone" : `each of ${this.players(groups.flat())} alone`];
+  }
+
+  eachLeftOut(groups) {
+    if (groups.length < 2) return groups.map((group) => this.group(group));
+    if (groups.length === this.n) return ["all but one, whichever is left out"];
+    return [`all but one, whichever of ${this.players(groups.flatMap((group) => without(this.n, group)))} is left out`];
+  }
+
+  firstAndCount(groups, most = 8) {
+    const parts = groups.slice(0, most).map((group) => this.group(group));
+    const sizes = groups.slice(most).map((group) => group.length);
+    if (!sizes.length) return parts;
+    const low = Math.min(...sizes), high = Math.max(...sizes);
+    return [...parts, `${sizes.length} more groups, of ${low < high ? `${low} to ${high}` : low} players`];
+  }
+
+  /** The players of each share: pairs of the share and a list of them. */
+  equal(shares, ids) {
+    const equal = new Map();
+    for (const i of [...ids].sort((a, b) => a - b)) {
+      const key = String(shares[i]);
+      equal.set(key, [...(equal.get(key) ?? []), i]);
+    }
+    return [...equal.values()].map((who) => [shares[who[0]], who]);
+  }
+}

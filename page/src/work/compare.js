@@ -1,0 +1,45 @@
+// Two divisions of a game side by side, as the nucleolus compares them: what the groups lack, from the greatest down.
+import { parseJson } from "../exact/json.js";
+import { lcm, Rational } from "../exact/rational.js";
+import { shortText } from "../exact/decimals.js";
+import { Game } from "../game/game.js";
+import { membersOf } from "../game/groups.js";
+import { Namer } from "../tell/words.js";
+
+const MOST_SHOWN = 8;
+const MOST_PLAYERS = 12; // of other games than tables, whose groups take longer to be worked out
+
+/** `one` and `other` are shares as texts: the first places of both lists, and where they differ first; null where the
+ * game has too many groups. */
+export function compare({ text, one, other }) {
+  const game = new Game(parseJson(text).game);
+  if (game.n < 2 || (!game.isTable() && game.n > MOST_PLAYERS)) return null;
+  const unit = unitOf(game, [...one, ...other].map(Rational.of));
+  const lists = [one, other].map((shares) => excesses(game, shares.map(Rational.of), unit));
+  const differs = lists[0].findIndex(({ excess }, k) => excess !== lists[1][k].excess);
+  const namer = new Namer(game), first = Math.max(0, Math.min(differs, lists[0].length - 1) - MOST_SHOWN + 2);
+  const shown = (list) => list.slice(first, first + MOST_SHOWN).map(({ mask, excess }) => {
+    return { group: namer.group(membersOf(mask)), excess: shortText(new Rational(excess, unit)) };
+  });
+  const better = differs < 0 ? "same" : lists[0][differs].excess < lists[1][differs].excess ? "one" : "other";
+  return { first: first + 1, lists: lists.map(shown), differs: differs + 1, better, of: lists[0].length };
+}
+
+/** A common denominator of all that is counted; per head, of the parts too. */
+function unitOf(game, shares) {
+  const heads = game.perHead ? Array.from({ length: game.n }, (_, i) => BigInt(i + 1)).reduce(lcm, 1n) : 1n;
+  const worths = game.isTable() ? game.amounts : game.amounts ?? game.rows.flat();
+  const all = [...shares, ...worths, ...(game.single ? [game.single] : [])];
+  return all.reduce((common, { den }) => (common % den ? lcm(common, den) : common), 1n) * heads;
+}
+
+/** Each group but that of all, with its excess over the unit, from the greatest down. */
+function excesses(game, shares, unit) {
+  const sign = game.costs ? -1n : 1n, over = (value) => (value.num * unit) / value.den;
+  const own = shares.map((share) => sign * over(share));
+  return Array.from({ length: 2 ** game.n - 2 }, (_, k) => {
+    const members = membersOf(k + 1), got = members.reduce((sum, i) => sum + own[i], 0n);
+    const excess = over(game.worth(members)) - got;
+    return { mask: k + 1, excess: game.perHead ? excess / BigInt(members.length) : excess };
+  }).sort((a, b) => (a.excess > b.excess ? -1 : a.excess < b.excess ? 1 : a.mask - b.mask));
+}

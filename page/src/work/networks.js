@@ -1,0 +1,108 @@
+// Help for links that don't exist: the ways through the others, or a table of what each group's cheapest network costs.
+import { lcm, Rational } from "../exact/rational.js";
+import { readNumber, shortText, typedText } from "../exact/decimals.js";
+import { withEscapes } from "../game/names.js";
+
+/** The costs that were typed, by "i-j", those of empty cells being null; or a fault in words. */
+function linksOf({ names, links, mark }) {
+  const n = names.length, costs = new Map();
+  for (let i = 0; i <= n; i++) {
+    for (let j = i + 1; j <= n; j++) {
+      const text = links[`${i}-${j}`] ?? "", { value, fault } = readNumber(text, mark);
+      if (text.trim() && (fault || value.isNegative())) return { fault: "Mend the numbers that are marked first." };
+      costs.set(`${i}-${j}`, value ?? null);
+    }
+  }
+  return { n, cost: (i, j) => costs.get(i < j ? `${i}-${j}` : `${j}-${i}`) };
+}
+
+function placeName(names, i) {
+  return i ? withEscapes(names[i - 1].trim()) || `Place ${i}` : "Source";
+}
+
+/** Fills each empty cell by the cheapest way over links that exist: {links, notes}, or {fault}. */
+export function fillLinks({ names, links, mark }) {
+  const { n, cost, fault } = linksOf({ names, links, mark });
+  if (fault) return { fault };
+  const ways = Array.from({ length: n + 1 }, (_, i) => Array.from({ length: n + 1 }, (_, j) => {
+    return i === j ? Rational.of(0) : cost(i, j);
+  }));
+  for (let k = 0; k <= n; k++) {
+    for (let i = 0; i <= n; i++) {
+      for (let j = 0; j <= n; j++) {
+        if (!ways[i][k] || !ways[k][j]) continue;
+        const way = ways[i][k].plus(ways[k][j]);
+        if (!ways[i][j] || way.less(ways[i][j])) ways[i][j] = way;
+      }
+    }
+  }
+  const filled = { ...links }, told = [], lacking = [];
+  for (let i = 0; i <= n; i++) {
+    for (let j = i + 1; j <= n; j++) {
+      if (cost(i, j)) continue;
+      const which = `${placeName(names, i)} – ${placeName(names, j)}`;
+      if (!ways[i][j]) lacking.push(which);
+      else {
+        filled[`${i}-${j}`] = typedText(ways[i][j], mark);
+        told.push(`${which} ${shortText(ways[i][j])}`);
+      }
+    }
+  }
+  return { links: filled, notes: notesOf(told, lacking) };
+}
+
+function notesOf(told, lacking) {
+  const notes = [];
+  if (told.length) {
+    notes.push(`Filled by the cheapest way through the others: ${told.join("; ")}. `
+      + "Where several of a group’s ways share a stretch, this counts the stretch more than once, and rewards the "
+      + "place that it leads through. Then make a table of costs.");
+  }
+  if (lacking.length) notes.push(`No way leads there: ${lacking.join("; ")}.`);
+  return notes.length ? notes : ["No link is empty."];
+}
+
+/** The table of costs of a network: a group costs the cheapest network that joins it, with or without places of others.
+ * {typed, notes}, or {fault}. */
+export function costsOfNetwork({ names, links, mark }) {
+  const { n, cost, fault } = linksOf({ names, links, mark });
+  if (fault) return { fault };
+  const { scale, costs } = scaled(n, cost), least = new Float64Array(2 ** n);
+  for (let mask = 1; mask < 2 ** n; mask++) least[mask] = treeCost(mask, n, costs);
+  for (let bit = 1; bit < 2 ** n; bit *= 2) {
+    for (let mask = 1; mask < 2 ** n; mask++) {
+      if (!(mask & bit) && least[mask | bit] < least[mask]) least[mask] = least[mask | bit];
+    }
+  }
+  if (least[2 ** n - 1] === Infinity) return { fault: "No network joins all: some place has no way to the source." };
+  const numbers = Array.from(least, (value, mask) => {
+    return mask ? typedText(new Rational(BigInt(value), scale), mark) : "";
+  });
+  const notes = ["Made of a network: each group costs the cheapest network that joins it, over others’ places too."];
+  return { typed: { names: [...names], numbers }, notes };
+}
+
+/** Whole numbers over a scale; Infinity for a link that doesn't exist. */
+function scaled(n, cost) {
+  let scale = 1n;
+  const points = Array.from({ length: n + 1 }, (_, i) => i);
+  const values = points.map((i) => points.map((j) => (i === j ? Rational.of(0) : cost(i, j))));
+  for (const value of values.flat()) if (value) scale = lcm(scale, value.den);
+  const costs = values.map((row) => row.map((value) => (value ? Number((value.num * scale) / value.den) : Infinity)));
+  return { scale, costs };
+}
+
+/** The cheapest tree over the source and the members of a mask alone; Infinity where there is none. */
+function treeCost(mask, n, costs) {
+  const near = costs[0].slice();
+  let left = mask, sum = 0;
+  while (left) {
+    let next = 0;
+    for (let i = 1; i <= n; i++) if ((left >> (i - 1)) & 1 && (!next || near[i] < near[next])) next = i;
+    if (near[next] === Infinity) return Infinity;
+    left &= ~(1 << (next - 1));
+    sum += near[next];
+    for (let i = 1; i <= n; i++) if (costs[next][i] < near[i]) near[i] = costs[next][i];
+  }
+  return sum;
+}

@@ -1,0 +1,112 @@
+// Opens each case in Firefox, by its remote protocol (Marionette): node page/test/firefox.mjs PAGE [FOLDER]
+//
+// Each case has to be answered, with a yes of both checkers, without an error and no wider than the window. Pictures
+// are put into FOLDER, if one is named.
+import { spawn } from "node:child_process";
+import { mkdtempSync, rmSync, writeFileSync } from "node:fs";
+import { connect } from "node:net";
+import { tmpdir } from "node:os";
+import { join, resolve } from "node:path";
+import { pathToFileURL } from "node:url";
+import { pause } from "./browser.mjs";
+import { READY } from "./harness.mjs";
+
+const CASES = ["runway", "estate", "costs", "gains", "network", "market", "votes"];
+const SETTINGS = {
+  "datareporting.policy.dataSubmissionEnabled": false, "browser.shell.checkDefaultBrowser": false,
+  "app.update.disabledForTesting": true, "network.captive-portal-service.enabled": false,
+};
+
+class Firefox {
+  static async start(program = process.env.FIREFOX ?? "firefox-esr") {
+    const firefox = new Firefox(), port = 20000 + (process.pid % 20000);
+    firefox.folder = mkdtempSync(join(tmpdir(), "coop-firefox-"));
+    const settings = Object.entries({ ...SETTINGS, "marionette.port": port });
+    writeFileSync(join(firefox.folder, "user.js"), settings.map(([name, value]) => {
+      return `user_pref(${JSON.stringify(name)}, ${value});`;
+    }).join("\n"));
+    const words = ["--headless", "--marionette", "--no-remote", "--profile", firefox.folder];
+    firefox.process = spawn(program, words, { stdio: "ignore" });
+    Object.assign(firefox, { waiting: new Map(), next: 0, rest: Buffer.alloc(0) });
+    firefox.socket = await firefox.connected(port);
+    firefox.socket.on("data", (data) => firefox.receive(data));
+    await firefox.send("WebDriver:NewSession", {});
+    return firefox;
+  }
+
+  async connected(port) {
+    for (let k = 0; k < 200; k++) {
+      const socket = connect(port, "127.0.0.1");
+      const isThere = await new Promise((told) => {
+        socket.on("connect", () => told(true)).on("error", () => told(false));
+      });
+      if (isThere) return socket;
+      await pause(200);
+    }
+    throw new Error("Firefox doesn't answer");
+  }
+
+  /** A message is its length, a colon and JSON: [1, id, error, result]. */
+  receive(data) {
+    this.rest = Buffer.concat([this.rest, data]);
+    for (let at = this.rest.indexOf(58); at > 0; at = this.rest.indexOf(58)) {
+      const end = at + 1 + Number(this.rest.subarray(0, at).toString());
+      if (this.rest.length < end) return;
+      const message = JSON.parse(this.rest.subarray(at + 1, end).toString());
+      this.rest = this.rest.subarray(end);
+      const [, id, error, result] = Array.isArray(message) ? message : [];
+      const { resolve: done, reject } = this.waiting.get(id) ?? {};
+      if (error) reject?.(new Error(error.message));
+      else done?.(result);
+    }
+  }
+
+  send(name, what) {
+    const id = (this.next += 1), text = JSON.stringify([0, id, name, what]);
+    return new Promise((done, reject) => {
+      this.waiting.set(id, { resolve: done, reject });
+      this.socket.write(`${Buffer.byteLength(text)}:${text}`);
+    });
+  }
+
+  async run(expression) {
+    return (await this.send("WebDriver:ExecuteScript", { script: `return (${expression})`, args: [] })).value;
+  }
+
+  stop() {
+    this.socket?.end();
+    this.process.on("exit", () => rmSync(this.folder, { recursive: true, force: true, maxRetries: 5 }));
+    this.process.kill();
+  }
+}
+
+/** What is wrong with a case; "" where nothing is. */
+async function faultOf(firefox, url, id, folder) {
+  await firefox.send("WebDriver:Navigate", { url: "about:blank" });
+  await firefox.send("WebDriver:Navigate", { url: `${url}#${id}` });
+  for (let k = 0; k < 400 && !(await firefox.run(READY)); k++) await pause(100);
+  const words = await firefox.run("document.querySelector('#evidence .words')?.innerText ?? ''");
+  const over = await firefox.run("document.documentElement.scrollWidth - document.documentElement.clientWidth");
+  if (folder) {
+    const { value } = await firefox.send("WebDriver:TakeScreenshot", { full: true });
+    writeFileSync(join(folder, `${id}-firefox.png`), Buffer.from(value, "base64"));
+  }
+  if (!/says yes[\s\S]*says yes/.test(words)) return `${id}: the checkers say ${JSON.stringify(words)}`;
+  const said = await firefox.run("document.getElementById('busy').innerText");
+  return said ? `${id}: the page says ${said}` : over > 0 ? `${id}: too wide by ${over}` : "";
+}
+
+const [page, folder] = process.argv.slice(2), firefox = await Firefox.start();
+let faults = 0;
+try {
+  for (const id of CASES) {
+    const fault = await faultOf(firefox, pathToFileURL(resolve(page)).href, id, folder);
+    if (!fault) continue;
+    faults += 1;
+    console.log(fault);
+  }
+} finally {
+  firefox.stop();
+}
+console.log(`${CASES.length} cases in Firefox, ${faults} faults`);
+process.exitCode = faults ? 1 : 0;

@@ -1,0 +1,72 @@
+// Scenarios in a browser, several at a time, and what they expect.
+import { Browser } from "./browser.mjs";
+
+const AT_ONCE = 3;
+
+export const READY = "!document.getElementById('answer').hidden"
+  + " && !document.getElementById('answer').classList.contains('stale')"
+  + " && document.querySelectorAll('#answer-body table').length > 0"
+  + " && ![...document.querySelectorAll('.verdict td')].some((td) => td.textContent === '…')"
+  + " && !document.querySelector('#evidence:not([hidden]) .word.busy')"
+  + " && !document.querySelector('#busy button')";
+
+export class Harness {
+  constructor(url, only = "") {
+    Object.assign(this, { url, only, list: [], done: 0, faults: [] });
+  }
+
+  /** Scenarios: `play(page, expect)` in a page of its own, at an address that ends in `#id`. */
+  add(scenarios) {
+    for (const [name, id, play, look = {}] of scenarios) {
+      if (name.includes(this.only)) this.list.push({ name, id, play, look });
+    }
+  }
+
+  expect(name) {
+    return (what, found, wanted) => {
+      this.done += 1;
+      const isRight = wanted instanceof RegExp ? wanted.test(found) : Object.is(found, wanted);
+      if (!isRight) {
+        const shown = JSON.stringify(found)?.slice(0, 500);
+        this.faults.push(`${name}: ${what}: found ${shown}, wanted ${String(wanted)}`);
+      }
+    };
+  }
+
+  async play({ name, id, play, look }) {
+    const page = await this.browser.page(this.url + (id ? `#${id}` : ""), look);
+    try {
+      if (id && !["document", "verify"].includes(id)) await page.until(READY);
+      await play(page, this.expect(name));
+    } catch (fault) {
+      this.faults.push(`${name}: ${fault.message.slice(0, 400)}`);
+    }
+    const said = page.faults(), asked = page.requests();
+    if (said.length) this.faults.push(`${name}: the page reports ${said[0].slice(0, 300)}`);
+    if (asked.length) this.faults.push(`${name}: the page asks for ${asked[0]}`);
+    await page.close();
+  }
+
+  /** Plays all, and gives the number of faults. */
+  async run() {
+    this.browser = await Browser.start();
+    const queue = [...this.list], one = async () => {
+      while (queue.length) await this.play(queue.shift());
+    };
+    try {
+      await Promise.all(Array.from({ length: AT_ONCE }, one));
+    } finally {
+      this.browser.stop();
+    }
+    if (!this.list.length) this.faults.push("there was no scenario to play");
+    for (const fault of this.faults) console.log(fault);
+    console.log(`${this.list.length} scenarios, ${this.done} expectations, ${this.faults.length} faults`);
+    return this.faults.length;
+  }
+}
+
+/** Waits until all that follows a change has been said. */
+export async function settle(page) {
+  await page.run("new Promise((resolve) => setTimeout(resolve, 260))");
+  await page.until(READY);
+}

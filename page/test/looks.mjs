@@ -1,0 +1,210 @@
+// Scenarios: sizes and times, phone width, dark, on paper, by the keyboard alone, and as a screen reader has it.
+import { pause } from "./browser.mjs";
+import { READY, settle } from "./harness.mjs";
+
+const CASES = ["runway", "estate", "costs", "gains", "network", "market", "votes"];
+const MOST_BLOCKED = 200; // milliseconds of the processor that one task of the page may take
+const MOST_ANSWER = 1000; // from the last key to the answer of 16 players, on a quiet machine
+const MOST_OPEN = 500;
+
+function listOf(players) {
+  return Array.from({ length: 2 ** players - 1 }, (_, k) => {
+    const members = Array.from({ length: players }, (_, i) => i).filter((i) => ((k + 1) >> i) & 1);
+    return `${members.map((i) => `P${i + 1}`).join("+")}\t${members.length ** 2 + ((k + 1) % 7)}`;
+  }).join("\n");
+}
+
+const ANSWERED = `document.querySelectorAll('.shares tbody tr').length === 16 && ${READY}`;
+
+/** Starts to wait for the next answer, and for how long it takes. */
+const AWAIT = `window.typed = performance.now();
+  window.waiting = new Promise((resolve) => {
+    const seen = new MutationObserver(() => {
+      if (document.getElementById("answer").classList.contains("stale")) return;
+      seen.disconnect();
+      resolve(performance.now() - window.typed);
+    });
+    seen.observe(document.getElementById("answer"), { attributes: true });
+  }); true`;
+
+async function sixteen(page, expect, slack, told) {
+  let time = 0;
+  const longest = await page.browser.longestTask(page, async () => {
+    await page.click("Paste a whole list");
+    await page.paste("details.inline textarea", listOf(16));
+    await page.until(ANSWERED, 60000);
+    expect("words", await page.text("#evidence .words"), /program’s checker says yes[\s\S]*own checker says yes/);
+    await page.run(AWAIT);
+    await page.type("numbers.1", "3");
+    time = Math.round(await page.run("window.waiting"));
+    await settle(page);
+  });
+  told.push(`16 players: answered ${time} ms after the last key, and the page blocked for at most ${longest} ms`);
+  expect(`answered after ${time} ms`, time <= MOST_ANSWER * slack, true);
+  expect(`blocked for ${longest} ms`, longest > 0 && longest <= MOST_BLOCKED, true);
+}
+
+async function opening(page, expect, slack, told) {
+  const time = await page.run("Math.round(performance.getEntriesByType('navigation')[0].loadEventEnd)");
+  told.push(`the page opened in ${time} ms`);
+  expect(`opened in ${time} ms`, time <= MOST_OPEN * slack, true);
+  expect("cards", await page.run("document.querySelectorAll('.card').length"), 9);
+}
+
+/** Sizes and times; these may be longer by `slack`, and are put into `told`. */
+export function large(slack, told) {
+  return [
+    ["sixteen players, 65,535 groups", "gains", (page, expect) => sixteen(page, expect, slack, told)],
+    ["how fast the page opens", "", (page, expect) => opening(page, expect, slack, told)],
+  ];
+}
+
+const OVER = "document.documentElement.scrollWidth - document.documentElement.clientWidth";
+
+const VIEWS = ["", "document", "verify", ...CASES];
+const isCase = (id) => CASES.includes(id);
+
+const phones = VIEWS.map((id) => [`phone width: ${id || "start"}`, id, async (page, expect) => {
+  expect("too wide by", await page.run(OVER), 0);
+  if (!isCase(id)) return;
+  await page.run("for (const one of document.querySelectorAll('details')) one.open = true");
+  expect("unfolded, too wide by", await page.run(OVER), 0);
+}, { wide: 360, high: 780 }]);
+
+const papers = CASES.map((id) => [`one page on paper: ${id}`, id, async (page, expect) => {
+  // paper doesn't wait: all has to stand there as soon as the browser begins to print
+  const begun = "dispatchEvent(new Event('beforeprint')); document.getElementById('sheet').textContent";
+  const sheet = await page.run(begun);
+  await page.run("dispatchEvent(new Event('afterprint'))");
+  const pages = (await page.pdf()).toString("latin1").match(/\/Type \/Page\b/g) ?? [];
+  expect("pages", pages.length, 1);
+  expect("who, and the rest", sheet, id === "market" ? /Ann – flat8.00/ : /together/);
+  expect("parts", sheet, /What is agreed on[\s\S]*SHA-256 is [0-9a-f]{64}[\s\S]*How to check it/);
+  expect("a picture", await page.run("document.querySelectorAll('#sheet svg').length"), 1);
+}]);
+
+async function longPaper(page, expect) {
+  const rows = Array.from({ length: 64 }, (_, k) => `Claimant number ${k + 1}\t${100 + ((k * 37) % 91)}.25`);
+  await page.click("Clear all");
+  await page.paste('[data-cell="rows.0.name"]', rows.join("\n"));
+  await page.type("estate", "3000");
+  await settle(page);
+  const pages = (await page.pdf()).toString("latin1").match(/\/Type \/Page\b/g) ?? [];
+  expect("pages", pages.length, 1);
+  expect("two tables", await page.run("document.querySelectorAll('#sheet table').length"), 2);
+}
+
+/** What would send or keep anything stands nowhere in the page, and the policy of the page refuses it besides. */
+async function apart(page, expect) {
+  await page.click("Costs of each group");
+  await page.until(READY);
+  const words = "localStorage|sessionStorage|indexedDB|document\\.cookie|sendBeacon|XMLHttpRequest|WebSocket";
+  const code = "[...document.scripts].map((one) => one.textContent).join()";
+  expect("words", await page.run(`${code}.match(/${words}|EventSource|\\bfetch\\(|importScripts/)?.[0] ?? ""`), "");
+  expect("kept", await page.run("localStorage.length + sessionStorage.length + document.cookie.length"), 0);
+  const refused = await page.run(`new Promise((resolve) => {
+    document.addEventListener("securitypolicyviolation", (event) => resolve(event.effectiveDirective));
+    globalThis["fet" + "ch"]("http://127.0.0.1:9/").catch(() => setTimeout(() => resolve("nothing"), 500));
+  })`);
+  expect("refused by", refused, "connect-src");
+  page.events.length = 0;
+}
+
+async function dark(page, expect) {
+  const colours = () => page.run("['--paper', '--ink'].map((name) => "
+    + "getComputedStyle(document.documentElement).getPropertyValue(name).trim()).join()");
+  expect("dark", await colours(), "#141618,#ecebe7");
+  await page.look({ dark: false });
+  expect("light", await colours(), "#f7f5f0,#1d1c1a");
+}
+
+async function everything(page, expect) {
+  await page.run("document.body.dataset.print = 'all'; window.print = () => 0");
+  await page.look({ wide: 800, print: true });
+  const shown = (selector) => page.run(`getComputedStyle(document.querySelector("${selector}")).display !== "none"`);
+  expect("the sheet", await shown("#sheet"), false);
+  expect("the reasons", await shown("#why"), true);
+  expect("the buttons", await shown("#answer-settings"), false);
+}
+
+async function savedPicture(page, expect) {
+  const file = await page.run(`(async () => {
+    let kept = null;
+    const made = URL.createObjectURL;
+    URL.createObjectURL = (blob) => (kept = blob, made.call(URL, blob));
+    HTMLAnchorElement.prototype.click = () => 0;
+    document.querySelector(".triangle .save").click();
+    URL.createObjectURL = made;
+    return kept.text();
+  })()`);
+  expect("a picture", file, /^<\?xml[\s\S]*<svg[\s\S]*<style[\s\S]*Legal/);
+  expect("no names of colours", /var\(--/.test(file), false);
+  const parsed = `new DOMParser().parseFromString(${JSON.stringify(file)}, "image/svg+xml")`;
+  expect("well formed", await page.run(`${parsed}.querySelector("parsererror") === null`), true);
+}
+
+export const looks = [
+  ...phones, ...papers,
+  ["64 claims on one page", "estate", longPaper],
+  ["nothing is sent or kept", "", apart],
+  ["dark", "costs", dark, { dark: true }],
+  ["everything on paper", "costs", everything],
+  ["a picture to save", "costs", savedPicture],
+];
+
+// ---- By the keyboard, and by ear
+
+async function keysAlone(page, expect) {
+  const focused = () => page.run("document.activeElement.dataset.cell ?? document.activeElement.ariaLabel");
+  await page.run(`document.querySelector('[data-cell="rows.0.claim"]').focus()`);
+  await page.key("Enter", { text: "\r" });
+  expect("below", await focused(), "rows.1.claim");
+  await page.key("Tab");
+  expect("tab", await focused(), "Remove row 2");
+  await page.run(`document.querySelector('[data-cell="rows.2.claim"]').focus()`);
+  await page.key("Enter", { text: "\r" });
+  expect("new row", await focused(), "rows.3.claim");
+  await page.send("Input.insertText", { text: "500" });
+  const kept = await page.run("document.activeElement.dataset.cell + document.activeElement.value");
+  expect("kept", kept, "rows.3.claim500");
+  await settle(page);
+  expect("four", await page.run("document.querySelectorAll('#answer .shares tbody tr').length"), 4);
+}
+
+async function startByKeys(page, expect) {
+  for (let k = 0; k < 3; k++) await page.key("Tab");
+  await page.key("Enter", { text: "\r" });
+  await page.until(READY);
+  expect("a case", await page.run("location.hash"), /^#(runway|estate|costs)/);
+  expect("its head has the focus", await page.run("document.activeElement.id"), "case-title");
+}
+
+const ROLES = ["button", "textbox", "combobox", "searchbox", "link", "checkbox", "DisclosureTriangle", "spinbutton"];
+
+/** Each control has a name in the tree that screen readers get, and the tab key goes through all of them. */
+async function controls(page, expect) {
+  await pause(100);
+  const { nodes } = await page.send("Accessibility.getFullAXTree", {});
+  const seen = nodes.filter(({ ignored, role }) => !ignored && ROLES.includes(role?.value));
+  const nameless = seen.filter(({ name }) => !name?.value?.trim());
+  expect("without a name", nameless.map(({ role }) => role.value).join(), "");
+  expect("some controls", seen.length > 1, true);
+  const pictures = nodes.filter(({ ignored, role }) => !ignored && ["img", "image"].includes(role?.value));
+  expect("pictures without a name", pictures.filter(({ name }) => !name?.value).length, 0);
+  const reachable = "button, input:not([aria-hidden]), select, textarea, summary, pre[tabindex]";
+  const wanted = await page.run(`[...document.querySelectorAll("${reachable}")]
+    .filter((one) => one.checkVisibility() && !one.disabled).length`);
+  await page.run("document.activeElement.blur(); window.reached = new Set(); scrollTo(0, 0);"
+    + "addEventListener('focusin', ({ target }) => reached.add(target))");
+  for (let k = 0; k < wanted + 3; k++) await page.key("Tab");
+  const left = await page.run(`[...document.querySelectorAll("${reachable}")]
+    .filter((one) => one.checkVisibility() && !one.disabled && !reached.has(one))
+    .map((one) => one.outerHTML.slice(0, 80)).join()`);
+  expect("not reached by the tab key", left, "");
+}
+
+export const access = [
+  ["keys alone", "estate", keysAlone],
+  ["the start by keys alone", "", startByKeys],
+  ...VIEWS.map((id) => [`each control reached and named: ${id || "start"}`, id, controls]),
+];

@@ -1,0 +1,26 @@
+// Plays all scenarios in Chromium: node page/test/run.mjs PAGE TOP [--program PROGRAM] [--only TEXT] [--slack FACTOR]
+//
+// PAGE is the page, TOP the repository with the built program. The last line says how much was tried; the status is 0
+// where all is as expected, and 1 else. On a busy machine times may be longer by the factor.
+import { join, resolve } from "node:path";
+import { pathToFileURL } from "node:url";
+import { bothWays } from "./both-ways.mjs";
+import { casesTyped, otherCases, tables } from "./cases.mjs";
+import { checking, documents } from "./documents.mjs";
+import { Harness } from "./harness.mjs";
+import { access, large, looks } from "./looks.mjs";
+import { monkey } from "./monkey.mjs";
+
+const words = process.argv.slice(2), [page, top] = words.map((word) => resolve(word));
+const option = (name, byDefault) => (words.includes(name) ? words[words.indexOf(name) + 1] : byDefault);
+
+const harness = new Harness(pathToFileURL(page).href, option("--only", "")), told = [];
+const program = resolve(option("--program", join(top, "crates", "coop_program", "out", "coop_program")));
+harness.add(large(Number(option("--slack", "1")), told));
+for (const some of [bothWays, casesTyped, tables, otherCases, documents(top, program), checking(top), looks, access]) {
+  harness.add(some);
+}
+harness.add(monkey(Number(option("--seed", "1")), Number(option("--steps", "60"))));
+const faults = await harness.run();
+for (const line of told) console.log(line);
+process.exit(faults ? 1 : 0);
