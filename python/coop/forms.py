@@ -1,25 +1,33 @@
 """Refusal 12, Certificate: the form that a certificate has."""
 from __future__ import annotations
 
-import re
 from fractions import Fraction
 from typing import Any
 
 from .masks import mask_of
+from .refusals import FRACTION
 from .shapes import brief
-from .slips import need
+from .slips import Refusal, need
 
-CERTIFICATE = 12
-FRACTION = re.compile("-?(0|[1-9][0-9]{0,38})(/[1-9][0-9]{0,38})?")
 MOST_ITEMS = 65536
 
 
 def require_form(tree: Any, players: int, scale: int) -> None:
     """Ends with the first slip of form of a certificate of the right shape."""
     place = "$.certificate"
-    need(tree["mode"] == "players" or players <= 16, CERTIFICATE, f"{place}.mode", "span is for at most 16 players")
+    need(
+        tree["mode"] == "players" or players <= 16,
+        Refusal.Certificate,
+        f"{place}.mode",
+        "span is for at most 16 players",
+    )
     levels = tree["levels"]
-    need(len(levels) < players, CERTIFICATE, f"{place}.levels", f"{len(levels)} levels: there are fewer than {players}")
+    need(
+        len(levels) < players,
+        Refusal.Certificate,
+        f"{place}.levels",
+        f"{len(levels)} levels: there are fewer than {players}",
+    )
     listed: set[int] = set()
     for i, level in enumerate(levels):
         where = f"{place}.levels[{i}]"
@@ -28,15 +36,20 @@ def require_form(tree: Any, players: int, scale: int) -> None:
         count = len(level["coalitions"])
         need(
             1 <= count <= MOST_ITEMS,
-            CERTIFICATE,
+            Refusal.Certificate,
             f"{where}.coalitions",
             f"{count} coalitions: there are 1 to {MOST_ITEMS:,}",
         )
-        need(len(level["earlier"]) <= MOST_ITEMS, CERTIFICATE, f"{where}.earlier", f"there are at most {MOST_ITEMS:,}")
+        need(
+            len(level["earlier"]) <= MOST_ITEMS,
+            Refusal.Certificate,
+            f"{where}.earlier",
+            f"there are at most {MOST_ITEMS:,}",
+        )
         here = ascending(level["coalitions"], f"{where}.coalitions", players)
         for k, group in enumerate(ascending(level["earlier"], f"{where}.earlier", players)):
             sentence = f"{brief(level['earlier'][k][0])} stands in no level in front"
-            need(group in listed, CERTIFICATE, f"{where}.earlier[{k}]", sentence)
+            need(group in listed, Refusal.Certificate, f"{where}.earlier[{k}]", sentence)
         bounds(level["bounds"], f"{where}.bounds", players)
         listed.update(here)
 
@@ -46,19 +59,19 @@ def require_excess(text: str, place: str, scale: int) -> None:
     value = Fraction(text) if FRACTION.fullmatch(text) else None
     need(
         value is not None and str(value) == text,
-        CERTIFICATE,
+        Refusal.Certificate,
         place,
         f"{brief(text)} is no fraction text in lowest terms",
     )
     for exact in (Fraction(text), Fraction(text) * scale):
         fits = -(2**127) <= exact.numerator < 2**127 and exact.denominator < 2**127
-        need(fits, CERTIFICATE, place, f"{brief(text)}, times the scale, is longer than 128 bits")
+        need(fits, Refusal.Certificate, place, f"{brief(text)}, times the scale, is longer than 128 bits")
 
 
 def weight(tree: Any, place: str) -> None:
     """A weight is an integer below 2^63 in size."""
     fits = type(tree) is int and abs(tree) < 2**63
-    need(fits, CERTIFICATE, place, f"{brief(tree)} is no integer below 2^63 in size")
+    need(fits, Refusal.Certificate, place, f"{brief(tree)} is no integer below 2^63 in size")
 
 
 def ascending(tree: Any, place: str, players: int) -> list[int]:
@@ -67,12 +80,24 @@ def ascending(tree: Any, place: str, players: int) -> list[int]:
     for k, (coalition, number) in enumerate(tree):
         where = f"{place}[{k}]"
         ids = all(type(player) is int and 1 <= player <= players for player in coalition)
-        need(ids, CERTIFICATE, where, f"{brief(coalition)} has what is no player from 1 to {players}")
-        need(coalition == sorted(set(coalition)), CERTIFICATE, where, f"the members of {brief(coalition)} don't ascend")
-        need(0 < len(coalition) < players, CERTIFICATE, where, f"{brief(coalition)} is empty, or has all players")
+        need(ids, Refusal.Certificate, where, f"{brief(coalition)} has what is no player from 1 to {players}")
+        need(
+            coalition == sorted(set(coalition)),
+            Refusal.Certificate,
+            where,
+            f"the members of {brief(coalition)} don't ascend",
+        )
+        need(
+            0 < len(coalition) < players, Refusal.Certificate, where, f"{brief(coalition)} is empty, or has all players"
+        )
         weight(number, where)
         group = mask_of(player - 1 for player in coalition)
-        need(not groups or groups[-1] < group, CERTIFICATE, where, f"{brief(coalition)} isn't in ascending mask order")
+        need(
+            not groups or groups[-1] < group,
+            Refusal.Certificate,
+            where,
+            f"{brief(coalition)} isn't in ascending mask order",
+        )
         groups.append(group)
     return groups
 
@@ -82,7 +107,9 @@ def bounds(tree: Any, place: str, players: int) -> None:
     last = 0
     for k, (player, number) in enumerate(tree):
         where = f"{place}[{k}]"
-        need(type(player) is int and 1 <= player <= players, CERTIFICATE, where, f"{brief(player)} is no player")
-        need(player > last, CERTIFICATE, where, "the players don't ascend")
+        need(
+            type(player) is int and 1 <= player <= players, Refusal.Certificate, where, f"{brief(player)} is no player"
+        )
+        need(player > last, Refusal.Certificate, where, "the players don't ascend")
         weight(number, where)
         last = player

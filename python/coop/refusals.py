@@ -6,25 +6,15 @@ from fractions import Fraction
 from math import lcm
 from typing import Any, Iterator, Optional, Sequence
 
-from .game import LISTS
+from .amounts import LIMIT, MOST_SCALE
+from .game import LISTS, TABLES
 from .shapes import brief
-from .slips import Found, need
+from .slips import Found, Refusal, need
 
-PLAYERS, NUMBER, NAMES, COALITION, ESTATE, MATRIX, PROPOSAL, TOO_FINE, CERTIFICATE, QUOTA = (
-    4,
-    5,
-    6,
-    7,
-    8,
-    9,
-    10,
-    11,
-    12,
-    13,
-)
-TABLES = ("table", "cost-table")
-MOST_SCALE, LIMIT = 65536, 2**40
+IS_FLOAT = "has a point or an exponent, or more than 64 bits"
 FRACTION = re.compile("-?(0|[1-9][0-9]{0,38})(/[1-9][0-9]{0,38})?")
+"""The form of a fraction text, but for lowest terms."""
+
 
 Number = tuple[str, Any]
 """A number of the document with its place."""
@@ -41,7 +31,7 @@ def refuse(tree: Any, needs: Sequence[str]) -> None:
     own_tests(game)
     if shares is None:
         return
-    need(len(shares) == players, PROPOSAL, "$.shares", f"{len(shares)} shares for {players} players")
+    need(len(shares) == players, Refusal.Proposal, "$.shares", f"{len(shares)} shares for {players} players")
     too_fine(shares, scale)
     if "certificate" in needs:
         from .forms import require_form
@@ -60,19 +50,27 @@ def count_players(game: Any) -> int:
     if kind in LISTS:
         key, most = LISTS[kind], 32 if kind == "voting" else 64
         count = len(game[key])
-        need(1 <= count <= most, PLAYERS, f"$.game.{key}", f"{count} players: there are 1 to {most}")
+        need(1 <= count <= most, Refusal.Players, f"$.game.{key}", f"{count} players: there are 1 to {most}")
         return count
     rows = game["matrix"]
     if kind == "tree":
-        need(2 <= len(rows) <= 17, PLAYERS, "$.game.matrix", f"{len(rows)} rows: there are 2 to 17, the source's first")
+        need(
+            2 <= len(rows) <= 17,
+            Refusal.Players,
+            "$.game.matrix",
+            f"{len(rows)} rows: there are 2 to 17, the source's first",
+        )
         return len(rows) - 1
-    need(rows and rows[0], PLAYERS, "$.game.matrix", "there is no row, or the first is empty")
+    need(rows and rows[0], Refusal.Players, "$.game.matrix", "there is no row, or the first is empty")
     sellers = len(rows[0])
     if kind == "assignment":
         need(
-            len(rows) + sellers <= 16, PLAYERS, "$.game.matrix", f"{len(rows) + sellers} players: there are at most 16"
+            len(rows) + sellers <= 16,
+            Refusal.Players,
+            "$.game.matrix",
+            f"{len(rows) + sellers} players: there are at most 16",
         )
-    need(max(len(rows), sellers) <= 32, PLAYERS, "$.game.matrix", "there are at most 32 buyers and 32 sellers")
+    need(max(len(rows), sellers) <= 32, Refusal.Players, "$.game.matrix", "there are at most 32 buyers and 32 sellers")
     return len(rows) + sellers
 
 
@@ -80,11 +78,13 @@ def players_of_table(game: Any) -> int:
     """How many players a table has."""
     players = game["players"]
     fits = type(players) is int and 1 <= players <= 16
-    need(fits, PLAYERS, "$.game.players", f"{brief(players)} isn't an integer from 1 to 16")
+    need(fits, Refusal.Players, "$.game.players", f"{brief(players)} isn't an integer from 1 to 16")
     if "worths" in game:
         count, wanted = len(game["worths"]), 2**players - 1
         hint = ", since the empty coalition has none" if count == wanted + 1 else ""
-        need(count == wanted, PLAYERS, "$.game.worths", f"{count} worths: {players} players have {wanted}{hint}")
+        need(
+            count == wanted, Refusal.Players, "$.game.worths", f"{count} worths: {players} players have {wanted}{hint}"
+        )
     return int(players)
 
 
@@ -99,17 +99,17 @@ def numbers(game: Any) -> int:
     for place, value in values:
         need(
             value.denominator <= MOST_SCALE,
-            NUMBER,
+            Refusal.Number,
             place,
             f"the denominator {value.denominator} is above {MOST_SCALE:,}",
         )
         scale = lcm(scale, value.denominator)
         sentence = f"with it the common denominator is {scale}, above {MOST_SCALE:,}: give fewer decimals"
-        need(scale <= MOST_SCALE, NUMBER, place, sentence)
+        need(scale <= MOST_SCALE, Refusal.Number, place, sentence)
     for place, value in values:
         times = f", times the common denominator {scale}," if scale > 1 else ""
-        need(abs(value * scale) < LIMIT, NUMBER, place, f"{value}{times} is 2^40 or more in size")
-        need(value >= 0 or game["class"] in TABLES, NUMBER, place, f"{value} is below 0")
+        need(abs(value * scale) < LIMIT, Refusal.Number, place, f"{value}{times} is 2^40 or more in size")
+        need(value >= 0 or game["class"] in TABLES, Refusal.Number, place, f"{value} is below 0")
     return scale
 
 
@@ -129,31 +129,35 @@ def numbers_of(game: Any) -> Iterator[Number]:
 def value_of(tree: Any, place: str, has_fractions: bool) -> Fraction:
     """The value of a number of the game."""
     if type(tree) is float:
-        hint = "an integer" + (
-            f", or the text {text_of(tree)}" if has_fractions else '; or, with "version":2, a fraction text'
-        )
-        raise Found(NUMBER, place, f"{brief(tree)} has a point or an exponent, or more than 64 bits: write {hint}")
+        rounded = float(f"{tree:.4f}")
+        meant = tree if Fraction(repr(tree)).denominator <= MOST_SCALE else rounded
+        hint = "" if has_fractions or meant == int(meant) else ', with "version":2'
+        about = "" if meant == tree else "fewer decimals, as "
+        raise Found(Refusal.Number, place, f"{brief(tree)} {IS_FLOAT}: write {about}{text_of(meant)}{hint}")
     if type(tree) is int:
         return Fraction(tree)
     return fraction(tree, place)
 
 
 def text_of(number: float) -> str:
-    """A float that was written with few digits, as a fraction text."""
-    return f'"{Fraction(repr(number))}"'
+    """What a float may mean: an integer, or a fraction text."""
+    text = written(Fraction(repr(number)))
+    return text if len(text) <= 40 else "a number of fewer digits"
 
 
 def fraction(tree: str, place: str) -> Fraction:
     """The value of a fraction text."""
     if FRACTION.fullmatch(tree):
         value = Fraction(tree)
-        need(str(value) == tree, NUMBER, place, f"{brief(tree)} isn't in lowest terms: write {written(value)}")
+        need(str(value) == tree, Refusal.Number, place, f"{brief(tree)} isn't in lowest terms: write {written(value)}")
         fits = -(2**127) <= value.numerator < 2**127 and value.denominator < 2**127
-        need(fits, NUMBER, place, f"{brief(tree)} is longer than 128 bits")
+        need(fits, Refusal.Number, place, f"{brief(tree)} is longer than 128 bits")
         return value
     guess = guessed(tree)
     raise Found(
-        NUMBER, place, f"{brief(tree)} is no fraction text" + (f": write {written(guess)}" if guess is not None else "")
+        Refusal.Number,
+        place,
+        f"{brief(tree)} is no fraction text" + (f": write {written(guess)}" if guess is not None else ""),
     )
 
 
@@ -173,9 +177,7 @@ def written(value: Fraction) -> str:
 def share(tree: Any, place: str) -> Fraction:
     """The value of a share."""
     if type(tree) is float:
-        raise Found(
-            NUMBER, place, f"{brief(tree)} has a point or an exponent, or more than 64 bits: write {text_of(tree)}"
-        )
+        raise Found(Refusal.Number, place, f"{brief(tree)} {IS_FLOAT}: write {text_of(tree)}")
     return Fraction(tree) if type(tree) is int else fraction(tree, place)
 
 
@@ -183,11 +185,11 @@ def too_fine(shares: Sequence[Fraction], scale: int) -> None:
     """The shares have a common denominator that fits."""
     scaled = [value * scale for value in shares]
     finest = lcm(*(value.denominator for value in scaled))
-    need(finest <= 2**63, TOO_FINE, "$.shares", "the shares have no common denominator to 2^63")
+    need(finest <= 2**63, Refusal.TooFine, "$.shares", "the shares have no common denominator to 2^63")
     for i, value in enumerate(scaled):
         need(
             abs(value * finest) < 2**110,
-            TOO_FINE,
+            Refusal.TooFine,
             f"$.shares[{i}]",
             "over the common denominator it is 2^110 or more",
         )
@@ -200,16 +202,16 @@ def names(game: Any, players: int) -> None:
     """The names, and the members that are given by them."""
     found = game.get("names", [])
     if "names" in game:
-        need(len(found) == players, NAMES, "$.game.names", f"{len(found)} names for {players} players")
+        need(len(found) == players, Refusal.Names, "$.game.names", f"{len(found)} names for {players} players")
     for i, name in enumerate(found):
         place = f"$.game.names[{i}]"
-        need(name, NAMES, place, "a name is empty")
-        need(len(name.encode()) <= 64, NAMES, place, f"a name has {len(name.encode())} bytes, above 64")
-        need(name not in found[:i], NAMES, place, f"the name {brief(name)} stands twice")
+        need(name, Refusal.Names, place, "a name is empty")
+        need(len(name.encode()) <= 64, Refusal.Names, place, f"a name has {len(name.encode())} bytes, above 64")
+        need(name not in found[:i], Refusal.Names, place, f"the name {brief(name)} stands twice")
     for i, item in enumerate(game.get("sparse", [])):
         for j, member in enumerate(item[0]):
             known = type(member) is not str or member in found
-            need(known, NAMES, f"$.game.sparse[{i}][0][{j}]", f"{brief(member)} isn't among the names")
+            need(known, Refusal.Names, f"$.game.sparse[{i}][0][{j}]", f"{brief(member)} isn't among the names")
 
 
 def coalitions(game: Any, players: int) -> None:
@@ -217,15 +219,15 @@ def coalitions(game: Any, players: int) -> None:
     seen: dict[frozenset[int], int] = {}
     for i, (coalition, _) in enumerate(game.get("sparse", [])):
         place, ids = f"$.game.sparse[{i}][0]", []
-        need(coalition, COALITION, place, "the coalition is empty")
+        need(coalition, Refusal.Coalition, place, "the coalition is empty")
         for member in coalition:
             player = game["names"].index(member) + 1 if type(member) is str else member
             fits = type(player) is int and 1 <= player <= players
-            need(fits, COALITION, place, f"{brief(player)} is no player: they count from 1 to {players}")
-            need(player not in ids, COALITION, place, f"{brief(member)} stands twice in {brief(coalition)}")
+            need(fits, Refusal.Coalition, place, f"{brief(player)} is no player: they count from 1 to {players}")
+            need(player not in ids, Refusal.Coalition, place, f"{brief(member)} stands twice in {brief(coalition)}")
             ids.append(player)
         first = seen.setdefault(frozenset(ids), i)
-        need(first == i, COALITION, place, f"{brief(coalition)} stands in item {first} already")
+        need(first == i, Refusal.Coalition, place, f"{brief(coalition)} stands in item {first} already")
 
 
 # ---- What a class asks
@@ -237,13 +239,13 @@ def own_tests(game: Any) -> None:
     if kind == "bankruptcy":
         total, estate = sum(map(Fraction, game["claims"])), Fraction(game["estate"])
         sentence = f"the claims add to {total}, less than the estate of {estate}: each gets its claim"
-        need(total >= estate, ESTATE, "$.game.estate", sentence)
+        need(total >= estate, Refusal.Estate, "$.game.estate", sentence)
     elif kind == "voting":
         total, quota = sum(game["weights"]), game["quota"]
-        need(total <= 1000, QUOTA, "$.game.weights", f"the weights add to {total}, above 1,000")
+        need(total <= 1000, Refusal.Quota, "$.game.weights", f"the weights add to {total}, above 1,000")
         need(
             1 <= quota <= total,
-            QUOTA,
+            Refusal.Quota,
             "$.game.quota",
             f"the quota {quota} isn't from 1 to {total}, what the weights add to",
         )
@@ -255,15 +257,15 @@ def matrix(rows: Any, is_tree: bool) -> None:
     """The rows of a matrix."""
     width = len(rows) if is_tree else len(rows[0])
     for i, row in enumerate(rows):
-        need(len(row) == width, MATRIX, f"$.game.matrix[{i}]", f"the row has {len(row)} items, and not {width}")
+        need(len(row) == width, Refusal.Matrix, f"$.game.matrix[{i}]", f"the row has {len(row)} items, and not {width}")
     for i, row in enumerate(rows if is_tree else []):
         need(
             not Fraction(row[i]),
-            MATRIX,
+            Refusal.Matrix,
             f"$.game.matrix[{i}][{i}]",
             f"{brief(row[i])} from a point to itself, and not 0",
         )
         for j in range(i):
             same = Fraction(row[j]) == Fraction(rows[j][i])
             sentence = f"{brief(row[j])}, and {brief(rows[j][i])} the other way"
-            need(same, MATRIX, f"$.game.matrix[{i}][{j}]", sentence)
+            need(same, Refusal.Matrix, f"$.game.matrix[{i}][{j}]", sentence)

@@ -5,7 +5,7 @@ import json
 from difflib import get_close_matches
 from typing import Any, Callable, Iterable, Sequence
 
-from .slips import ALL, Found, need
+from .slips import ALL, Found, Refusal, need
 
 TABLE_KEYS = (("players", "worths"), ("players", "sparse"), ("players", "sparse", "default"))
 KEYS: dict[str, tuple[tuple[str, ...], ...]] = {
@@ -22,7 +22,6 @@ KEYS: dict[str, tuple[tuple[str, ...], ...]] = {
 
 COMMON = ("class", "names", "excess", "version")
 LEVEL_KEYS = ("excess", "coalitions", "earlier", "bounds", "total")
-SHAPE = 3
 
 
 def brief(tree: Any) -> str:
@@ -38,9 +37,9 @@ def is_number(tree: Any) -> bool:
 
 def require_shape(tree: Any, needs: Sequence[str]) -> None:
     """Ends with the first slip of shape."""
-    need(type(tree) is dict, SHAPE, "$", f"a document is an object, and not {brief(tree)}")
+    need(type(tree) is dict, Refusal.Shape, "$", f"a document is an object, and not {brief(tree)}")
     if "game" not in tree and "class" in tree:
-        raise Found(SHAPE, "$", 'the game stands alone: write {"game":..} around it')
+        raise Found(Refusal.Shape, "$", 'the game stands alone: write {"game":..} around it')
     keys(tree, [needs], ALL, "$", "the document")
     game(tree["game"])
     if "shares" in needs:
@@ -59,12 +58,14 @@ def keys(tree: dict[str, Any], choices: Iterable[Sequence[str]], allowed: Sequen
     if lacking:
         near = get_close_matches(lacking[0], found, 1, 0.6)
         raise Found(
-            SHAPE, place, f"{what} lacks the key {lacking[0]}" + (f"; is {near[0]!r} meant for it?" if near else "")
+            Refusal.Shape,
+            place,
+            f"{what} lacks the key {lacking[0]}" + (f"; is {near[0]!r} meant for it?" if near else ""),
         )
     if unknown:
         near = get_close_matches(unknown[0], [*choice, *allowed], 1, 0.6)
         sentence = f"{what} has no key {unknown[0]!r}"
-        raise Found(SHAPE, f"{place}.{unknown[0]}", sentence + (f"; is {near[0]} meant?" if near else ""))
+        raise Found(Refusal.Shape, f"{place}.{unknown[0]}", sentence + (f"; is {near[0]} meant?" if near else ""))
 
 
 def word(tree: Any, words: Sequence[Any], place: str) -> None:
@@ -73,54 +74,69 @@ def word(tree: Any, words: Sequence[Any], place: str) -> None:
         return
     near = get_close_matches(str(tree).lower(), map(str, words), 1, 0.6)
     hint = f"; is {near[0]} meant?" if near else ""
-    raise Found(SHAPE, place, f"{brief(tree)} is none of {', '.join(map(str, words))}{hint}")
+    raise Found(Refusal.Shape, place, f"{brief(tree)} is none of {', '.join(map(str, words))}{hint}")
 
 
 def items(tree: Any, place: str, test: Callable[[Any, str], None]) -> None:
     """The value is an array, and each item passes the test."""
     hint = ": an array in the order of the players" if type(tree) is dict else ""
-    need(type(tree) is list, SHAPE, place, f"{brief(tree)} is no array{hint}")
+    need(type(tree) is list, Refusal.Shape, place, f"{brief(tree)} is no array{hint}")
     for i, item in enumerate(tree):
         test(item, f"{place}[{i}]")
 
 
 def pair(tree: Any, place: str, hint: str = "") -> None:
     """The value is an array of two."""
-    need(type(tree) is list, SHAPE, place, f"{brief(tree)} is no pair{hint}")
-    need(len(tree) == 2, SHAPE, place, f"{brief(tree)} has {len(tree)} parts, and not two{hint}")
+    need(type(tree) is list, Refusal.Shape, place, f"{brief(tree)} is no pair{hint}")
+    need(len(tree) == 2, Refusal.Shape, place, f"{brief(tree)} has {len(tree)} parts, and not two{hint}")
 
 
 def share(tree: Any, place: str) -> None:
     """A share is a number or a text."""
-    need(is_number(tree) or type(tree) is str, SHAPE, place, f"{brief(tree)} is no number, and no text of a fraction")
+    need(
+        is_number(tree) or type(tree) is str,
+        Refusal.Shape,
+        place,
+        f"{brief(tree)} is no number, and no text of a fraction",
+    )
 
 
 def number(tree: Any, place: str) -> None:
     """A number without quotes."""
     hint = ": leave out the quotes" if type(tree) is str else ""
-    need(is_number(tree), SHAPE, place, f"{brief(tree)} is no number{hint}")
+    need(is_number(tree), Refusal.Shape, place, f"{brief(tree)} is no number{hint}")
 
 
 def amount_of_version_1(tree: Any, place: str) -> None:
     """A number of a game without fractions."""
     hint = ': leave out the quotes, or for fractions put "version":2 into the game' if type(tree) is str else ""
     hint = ": a link that doesn't exist needs a number too" if tree is None and ".matrix" in place else hint
-    need(is_number(tree), SHAPE, place, f"{brief(tree)} is no number{hint}")
+    need(is_number(tree), Refusal.Shape, place, f"{brief(tree)} is no number{hint}")
 
 
 def amount_of_version_2(tree: Any, place: str) -> None:
     """A number, or a text of a fraction."""
-    need(is_number(tree) or type(tree) is str, SHAPE, place, f"{brief(tree)} is no number, and no text of a fraction")
+    need(
+        is_number(tree) or type(tree) is str,
+        Refusal.Shape,
+        place,
+        f"{brief(tree)} is no number, and no text of a fraction",
+    )
 
 
 def text(tree: Any, place: str) -> None:
     """A text."""
-    need(type(tree) is str, SHAPE, place, f"{brief(tree)} is no text")
+    need(type(tree) is str, Refusal.Shape, place, f"{brief(tree)} is no text")
 
 
 def member(tree: Any, place: str) -> None:
     """A member of a coalition, by number or name."""
-    need(is_number(tree) or type(tree) is str, SHAPE, place, f"{brief(tree)} is no number of a player, and no name")
+    need(
+        is_number(tree) or type(tree) is str,
+        Refusal.Shape,
+        place,
+        f"{brief(tree)} is no number of a player, and no name",
+    )
 
 
 # ---- The game
@@ -128,13 +144,18 @@ def member(tree: Any, place: str) -> None:
 
 def game(tree: Any) -> None:
     """The shape of a game."""
-    need(type(tree) is dict, SHAPE, "$.game", f"{brief(tree)} is no object")
-    need("class" in tree, SHAPE, "$.game", "the game lacks the key class")
+    need(type(tree) is dict, Refusal.Shape, "$.game", f"{brief(tree)} is no object")
+    need("class" in tree, Refusal.Shape, "$.game", "the game lacks the key class")
     word(tree["class"], list(KEYS), "$.game.class")
     kind = tree["class"]
     if kind in ("table", "cost-table") and "worths" in tree:
         for other in ("sparse", "default"):
-            need(other not in tree, SHAPE, "$.game", f"a table has either worths or sparse, so {other} has no place")
+            need(
+                other not in tree,
+                Refusal.Shape,
+                "$.game",
+                f"a table has either worths or sparse, so {other} has no place",
+            )
     keys(tree, KEYS[kind], COMMON, "$.game", f"a game of class {kind}")
     if "names" in tree:
         items(tree["names"], "$.game.names", text)
@@ -168,7 +189,12 @@ def part(tree: Any, key: str, amount: Callable[[Any, str], None]) -> None:
 def listed(tree: Any, place: str, amount: Callable[[Any, str], None]) -> None:
     """An item of `sparse`."""
     pair(tree, place, ': write [["Ann","Bob"],6]')
-    need(type(tree[0]) is list, SHAPE, f"{place}[0]", f'{brief(tree[0])} is no coalition: write [["Ann","Bob"],6]')
+    need(
+        type(tree[0]) is list,
+        Refusal.Shape,
+        f"{place}[0]",
+        f'{brief(tree[0])} is no coalition: write [["Ann","Bob"],6]',
+    )
     items(tree[0], f"{place}[0]", member)
     amount(tree[1], f"{place}[1]")
 
@@ -178,7 +204,7 @@ def listed(tree: Any, place: str, amount: Callable[[Any, str], None]) -> None:
 
 def certificate(tree: Any, place: str) -> None:
     """The shape of a certificate."""
-    need(type(tree) is dict, SHAPE, place, f"{brief(tree)} is no object")
+    need(type(tree) is dict, Refusal.Shape, place, f"{brief(tree)} is no object")
     keys(tree, [("mode", "levels")], (), place, "a certificate")
     word(tree["mode"], ("players", "span"), f"{place}.mode")
     items(tree["levels"], f"{place}.levels", level)
@@ -186,7 +212,7 @@ def certificate(tree: Any, place: str) -> None:
 
 def level(tree: Any, place: str) -> None:
     """The shape of a level."""
-    need(type(tree) is dict, SHAPE, place, f"{brief(tree)} is no object")
+    need(type(tree) is dict, Refusal.Shape, place, f"{brief(tree)} is no object")
     keys(tree, [LEVEL_KEYS], (), place, "a level")
     text(tree["excess"], f"{place}.excess")
     number(tree["total"], f"{place}.total")

@@ -8,26 +8,32 @@ from __future__ import annotations
 import json
 import re
 from dataclasses import dataclass
+from enum import IntEnum
 from typing import Any, Iterator, Optional
 
 from .names import visible
 
-NAMES = {
-    1: "TooLong",
-    2: "NotJson",
-    3: "Shape",
-    4: "Players",
-    5: "Number",
-    6: "Names",
-    7: "Coalition",
-    8: "Estate",
-    9: "Matrix",
-    10: "Proposal",
-    11: "TooFine",
-    12: "Certificate",
-    13: "Quota",
-}
-"""The refusals by their numbers."""
+
+class Refusal(IntEnum):
+    """The refusals by their numbers, under the names that the program writes."""
+
+    TooLong = 1
+    NotJson = 2
+    Shape = 3
+    Players = 4
+    Number = 5
+    Names = 6
+    Coalition = 7
+    Estate = 8
+    Matrix = 9
+    Proposal = 10
+    TooFine = 11
+    Certificate = 12
+    Quota = 13
+
+
+NAMES = {refusal.value: refusal.name for refusal in Refusal}
+"""The names by the numbers."""
 
 MOST_BYTES, MOST_TO_CHECK, MOST_DEPTH = 2097152, 8388608, 127
 GAME, SHARES, ALL = ("game",), ("game", "shares"), ("answer", "certificate", "game", "shares")
@@ -69,15 +75,15 @@ class Slip:
 class Found(Exception):
     """The first slip, on its way out."""
 
-    def __init__(self, number: int, place: str, sentence: str):
+    def __init__(self, refusal: Refusal, place: str, sentence: str):
         super().__init__(sentence)
-        self.slip = Slip(number, place, sentence)
+        self.slip = Slip(refusal.value, place, sentence)
 
 
-def need(fact: object, number: int, place: str, sentence: str) -> None:
+def need(fact: object, refusal: Refusal, place: str, sentence: str) -> None:
     """Ends with a slip where the fact doesn't hold."""
     if not fact:
-        raise Found(number, place, sentence)
+        raise Found(refusal, place, sentence)
 
 
 def slip_in(data: bytes, command: str = "nucleolus") -> Optional[Slip]:
@@ -88,7 +94,12 @@ def slip_in(data: bytes, command: str = "nucleolus") -> Optional[Slip]:
     needs = NEEDS.get(command, GAME)
     try:
         most = MOST_TO_CHECK if command == "check" else MOST_BYTES
-        need(len(data) <= most, 1, "the document", f"it has {len(data):,} bytes, above {most:,}: leave out the blanks")
+        need(
+            len(data) <= most,
+            Refusal.TooLong,
+            "the document",
+            f"it has {len(data):,} bytes, above {most:,}: leave out the blanks",
+        )
         tree = read_json(data)
         require_shape(tree, needs)
         refuse(tree, needs)
@@ -102,20 +113,27 @@ def slip_in(data: bytes, command: str = "nucleolus") -> Optional[Slip]:
 
 def read_json(data: bytes) -> Any:
     """The tree of a JSON text; of a key that is given twice the last value counts."""
-    need(not data.startswith(b"\xef\xbb\xbf"), 2, "line 1", "there is a byte order mark: save as UTF-8 without one")
+    need(
+        not data.startswith(b"\xef\xbb\xbf"),
+        Refusal.NotJson,
+        "line 1",
+        "there is a byte order mark: save as UTF-8 without one",
+    )
     try:
         text = data.decode()
     except UnicodeDecodeError as fault:
         line = data.count(b"\n", 0, fault.start) + 1
-        raise Found(2, f"line {line}", "a byte there isn't UTF-8: save as UTF-8") from None
-    need(text.strip(), 2, "the document", "it is empty")
+        raise Found(Refusal.NotJson, f"line {line}", "a byte there isn't UTF-8: save as UTF-8") from None
+    need(text.strip(), Refusal.NotJson, "the document", "it is empty")
     require_depth(text)
     try:
         tree = json.loads(text, parse_int=integer, parse_float=real, parse_constant=constant)
     except json.JSONDecodeError as fault:
-        raise Found(2, f"line {fault.lineno}, column {fault.colno}", advice(fault.msg, text, fault.pos)) from None
+        raise Found(
+            Refusal.NotJson, f"line {fault.lineno}, column {fault.colno}", advice(fault.msg, text, fault.pos)
+        ) from None
     except (ValueError, RecursionError) as fault:
-        raise Found(2, "the document", str(fault)) from None
+        raise Found(Refusal.NotJson, "the document", str(fault)) from None
     require_whole(text)
     return tree
 
@@ -170,7 +188,12 @@ def require_depth(text: str) -> None:
     depth = 0
     for place, bracket in brackets(text):
         depth += 1 if bracket in "[{" else -1
-        need(depth <= MOST_DEPTH, 2, f"character {place + 1}", f"it is nested deeper than {MOST_DEPTH} there")
+        need(
+            depth <= MOST_DEPTH,
+            Refusal.NotJson,
+            f"character {place + 1}",
+            f"it is nested deeper than {MOST_DEPTH} there",
+        )
 
 
 def require_whole(text: str) -> None:
@@ -182,4 +205,4 @@ def require_whole(text: str) -> None:
             json.loads(string[0]).encode()
         except UnicodeEncodeError:
             line = text.count("\n", 0, string.start()) + 1
-            raise Found(2, f"line {line}", "a text there has half of a character, as \\ud800") from None
+            raise Found(Refusal.NotJson, f"line {line}", "a text there has half of a character, as \\ud800") from None

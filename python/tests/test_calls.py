@@ -1,4 +1,6 @@
 """The calls: what each answers, and what is raised."""
+import contextlib
+import io
 import json
 import unittest
 from fractions import Fraction
@@ -111,6 +113,21 @@ class Calls(unittest.TestCase):
         self.assertEqual([len(some) for some in coop.many("core", iter(games[:2]))], [1, 1])
         again = [outcome.line for outcome, _ in coop.many(("nucleolus", "shapley"), games, processors=3)]
         self.assertEqual(again, [outcome.line for outcome, _ in found])
+
+
+class Bars(unittest.TestCase):
+    def test_progress(self) -> None:
+        program = Answering(1, '{"answer":"blocked","coalition":[1],"excess":"1"}')
+        games = [AIRPORT] * 7
+        errors = io.StringIO()
+        with contextlib.redirect_stderr(errors):
+            list(coop.many("propose", games, program=program, processors=2))
+        self.assertEqual(errors.getvalue(), "")
+        with contextlib.redirect_stderr(errors):
+            list(coop.many("propose", games, program=program, processors=2, progress=True))
+        bars = errors.getvalue().split("\r")
+        self.assertTrue(bars[1].startswith("[####......"), bars)
+        self.assertEqual((bars[-1], len(program.asked)), (f"[{'#' * 30}] 7 of 7 games, 0 s left \n", 14))
 
 
 class Statuses(unittest.TestCase):

@@ -9,7 +9,7 @@ from html.parser import HTMLParser
 from typing import Any
 
 from coop import BadInput
-from coop.documents import Point, points_in, read_documents
+from coop.documents import Point, points_in, read_documents, short_names
 from coop.pictures import picture
 from coop.reasons import checked
 from coop.report import report
@@ -54,6 +54,7 @@ class Points(Files):
         points = self.points(before, after)
         self.assertEqual([point.name for point in points], ["nucleolus, before", "nucleolus, after"])
         self.assertIn("<svg", picture(points))
+        self.assertEqual(short_names(["a/x", "b/x", "y"]), {"a/x": "a/x", "b/x": "b/x", "y": "y"})
         with self.assertRaisesRegex(BadInput, "no game, and the others have several"):
             self.points(before, after, self.file("line", {"answer": "shapley", "shares": [1, 2, 3]}))
 

@@ -27,12 +27,17 @@ SLIPS = {
         "4 $.game.worths: 4 worths: 2 players have 3, since the empty coalition has none"
     ),
     '{"game":{"class":"airport","costs":[2,1.5]}}': (
-        "5 $.game.costs[1]: 1.5 has a point or an exponent, or more than 64 bits: "
-        'write an integer; or, with "version":2, a fraction text'
+        '5 $.game.costs[1]: 1.5 has a point or an exponent, or more than 64 bits: write "3/2", with "version":2'
+    ),
+    '{"game":{"class":"airport","costs":[2,200.0]}}': (
+        "5 $.game.costs[1]: 200.0 has a point or an exponent, or more than 64 bits: write 200"
     ),
     '{"game":{"class":"airport","costs":[2,0.2875775201],"version":2}}': (
-        "5 $.game.costs[1]: 0.2875775201 has a point or an "
-        'exponent, or more than 64 bits: write an integer, or the text "2875775201/10000000000"'
+        "5 $.game.costs[1]: 0.2875775201 has a point or an exponent, or more than 64 bits: write "
+        'fewer decimals, as "719/2500"'
+    ),
+    '{"game":{"class":"airport","costs":[2,1e300],"version":2}}': (
+        "5 $.game.costs[1]: 1e+300 has a point or an exponent, or more than 64 bits: write a number of fewer digits"
     ),
     '{"game":{"class":"airport","costs":["2195/100"],"version":2}}': (
         '5 $.game.costs[0]: "2195/100" isn\'t in lowest terms: write "439/20"'
