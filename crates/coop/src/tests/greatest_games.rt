@@ -50,7 +50,11 @@ fn sixteen_players_with_fifteen_levels_are_answered(rt: HostRuntime) -> Result<(
     let document = squares(rt.alloc())?;
     for &(command, length) in &[("nucleolus", 676_790), ("prenucleolus", 676_793)] {
         let found = solved(rt.alloc(), command, &document)?;
-        assert_eq!(rt; found, (Status::Done, length, 15, (Status::Done, true)), "{command}");
+        assert_eq!(rt;
+            found,
+            (Status::Done, length, 15, (Status::Done, true)),
+            "{command}"
+        );
     }
     Ok(())
 }
@@ -84,10 +88,7 @@ fn level_of_all(alloc: Global) -> Result<String, Fail> {
 // levels may say again what is fixed already. Behind it are blanks, up to so many bytes in all.
 fn five_levels_of_all(alloc: Global, length: usize) -> Result<Vec<u8>, Fail> {
     let level = level_of_all(alloc)?;
-    let mut text = String::from_str(
-        alloc,
-        r#"{"answer":"nucleolus","certificate":{"levels":["#,
-    )?;
+    let mut text = String::from_str(alloc, r#"{"answer":"nucleolus","certificate":{"levels":["#)?;
     for k in 0..5u32 {
         text.push_str(if k > 0 { "," } else { "" })?;
         text.push_str(level.as_str())?;
@@ -97,7 +98,7 @@ fn five_levels_of_all(alloc: Global, length: usize) -> Result<Vec<u8>, Fail> {
         r#""shares":["0","0","0","0","0","0","0","0","0","0","0","0","0","0","0","0"]}"#,
     ))?;
     let mut bytes = text.into_bytes();
-    while bytes.len() < length {
+    for _ in bytes.len()..length {
         bytes.push(b' ')?;
     }
     Ok(bytes)
@@ -111,6 +112,9 @@ fn the_longest_certificate_is_checked(rt: HostRuntime) -> Result<(), Fail> {
     let checked = run_on(rt.alloc(), &["check"], &document, 100, YES)?;
     document.push(b' ')?;
     let refused = run_on(rt.alloc(), &["check"], &document, 100, too_long)?;
-    assert_eq!(rt; (checked, refused), ((Status::Done, true), (Status::Refused, true)));
+    assert_eq!(rt;
+        (checked, refused),
+        ((Status::Done, true), (Status::Refused, true))
+    );
     Ok(())
 }
