@@ -98,7 +98,7 @@ fn five_levels_of_all(alloc: Global, length: usize) -> Result<Vec<u8>, Fail> {
         r#""shares":["0","0","0","0","0","0","0","0","0","0","0","0","0","0","0","0"]}"#,
     ))?;
     let mut bytes = text.into_bytes();
-    while bytes.len() < length {
+    for _ in bytes.len()..length {
         bytes.push(b' ')?;
     }
     Ok(bytes)
