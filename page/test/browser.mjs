@@ -19,7 +19,7 @@ export class Browser {
     browser.folder = mkdtempSync(join(tmpdir(), "coop-browser-"));
     const words = [...WORDS, `--user-data-dir=${browser.folder}`, "about:blank"];
     browser.process = spawn(program, words, { stdio: ["ignore", "ignore", "ignore", "pipe", "pipe"] });
-    for (const signal of ["SIGTERM", "SIGINT"]) process.on(signal, () => (browser.stop(), process.exit(1)));
+    for (const signal of ["SIGTERM", "SIGINT"]) process.on(signal, () => browser.stop().then(() => process.exit(1)));
     Object.assign(browser, { waiting: new Map(), pages: new Map(), next: 0 });
     let rest = "";
     browser.process.stdio[4].setEncoding("utf8").on("data", (data) => {
@@ -78,9 +78,11 @@ export class Browser {
     return Math.round(this.traced.filter(isOwn).reduce((most, { tdur = 0 }) => Math.max(most, tdur), 0) / 1000);
   }
 
-  stop() {
+  async stop() {
+    const ended = new Promise((done) => this.process.on("exit", done));
     this.process.kill();
-    this.process.on("exit", () => rmSync(this.folder, { recursive: true, force: true, maxRetries: 5 }));
+    await ended;
+    rmSync(this.folder, { recursive: true, force: true, maxRetries: 10 });
   }
 }
 

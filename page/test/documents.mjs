@@ -132,8 +132,9 @@ async function said(page) {
 }
 
 async function lawyer(page, expect, line, agreed) {
-  await put(page, 0, line);
   await put(page, 1, agreed);
+  await page.until("document.querySelector('#verify .answers .hint')");
+  await put(page, 0, line);
   expect("good", await said(page), /Yes: these shares are the nucleolus of the agreed game[\s\S]*3.50/);
   await put(page, 0, line.replace('"-1"', '"-2"'));
   expect("spoilt", await said(page), /says no. At level 1: light alone hasn’t the excess[\s\S]*own checker says no/);

@@ -1,5 +1,5 @@
 // Scenarios: pages whose module doesn't start, or stops in the midst of an answer. That is told, and no answer shown.
-import { mkdtempSync, readFileSync, writeFileSync } from "node:fs";
+import { mkdtempSync, readFileSync, rmSync, writeFileSync } from "node:fs";
 import { tmpdir } from "node:os";
 import { join } from "node:path";
 import { pathToFileURL } from "node:url";
@@ -36,6 +36,7 @@ async function fails(page, expect, url, wanted) {
 /** `page` is the file of the page, `top` the repository. */
 export function failing(page, top) {
   const text = readFileSync(page, "utf8"), folder = mkdtempSync(join(tmpdir(), "coop-failing-"));
+  process.on("exit", () => rmSync(folder, { recursive: true, force: true }));
   const line = readFileSync(join(top, "examples", "airport-solved.json"), "utf8");
   const made = (name, module) => {
     const path = join(folder, name), given = `<script>window.line = ${JSON.stringify(line)}</script></body>`;

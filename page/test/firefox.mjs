@@ -1,7 +1,7 @@
 // Opens each case in Firefox, by its remote protocol (Marionette): node page/test/firefox.mjs PAGE [FOLDER]
 //
 // Each case has to be answered, with a yes of both checkers, without an error and no wider than the window. Pictures
-// are put into FOLDER, if one is named.
+// are put into FOLDER, if one is named. The status is 3 where Firefox doesn't start, as on a machine that is very busy.
 import { spawn } from "node:child_process";
 import { mkdtempSync, rmSync, writeFileSync } from "node:fs";
 import { connect } from "node:net";
@@ -12,13 +12,16 @@ import { pause } from "./browser.mjs";
 import { READY } from "./harness.mjs";
 
 const CASES = ["runway", "estate", "costs", "gains", "network", "market", "votes"];
+const START = 60000; // milliseconds in which it has to start, and to take a session; else nothing was tried
+const LIMIT = 90000; // milliseconds after which an answer is given up
+const NOT_TRIED = 3;
 const SETTINGS = {
   "datareporting.policy.dataSubmissionEnabled": false, "browser.shell.checkDefaultBrowser": false,
   "app.update.disabledForTesting": true, "network.captive-portal-service.enabled": false,
 };
 
 class Firefox {
-  static async start(program = process.env.FIREFOX ?? "firefox-esr") {
+  static start(program = process.env.FIREFOX ?? "firefox-esr") {
     const firefox = new Firefox(), port = 20000 + (process.pid % 20000);
     firefox.folder = mkdtempSync(join(tmpdir(), "coop-firefox-"));
     const settings = Object.entries({ ...SETTINGS, "marionette.port": port });
@@ -27,23 +30,29 @@ class Firefox {
     }).join("\n"));
     const words = ["--headless", "--marionette", "--no-remote", "--profile", firefox.folder];
     firefox.process = spawn(program, words, { stdio: "ignore" });
+    for (const signal of ["SIGTERM", "SIGINT"]) process.on(signal, () => firefox.stop().then(() => process.exit(1)));
     Object.assign(firefox, { waiting: new Map(), next: 0, rest: Buffer.alloc(0) });
-    firefox.socket = await firefox.connected(port);
-    firefox.socket.on("data", (data) => firefox.receive(data));
-    await firefox.send("WebDriver:NewSession", {});
+    firefox.port = port;
     return firefox;
   }
 
+  /** Whether it started in time. */
+  async begin() {
+    this.socket = await this.connected(this.port);
+    if (!this.socket) return false;
+    this.socket.on("data", (data) => this.receive(data));
+    return this.send("WebDriver:NewSession", {}, START).then(() => true, () => false);
+  }
+
   async connected(port) {
-    for (let k = 0; k < 200; k++) {
+    for (const end = Date.now() + START; Date.now() < end; await pause(200)) {
       const socket = connect(port, "127.0.0.1");
       const isThere = await new Promise((told) => {
         socket.on("connect", () => told(true)).on("error", () => told(false));
       });
       if (isThere) return socket;
-      await pause(200);
     }
-    throw new Error("Firefox doesn't answer");
+    return null;
   }
 
   /** A message is its length, a colon and JSON: [1, id, error, result]. */
@@ -61,10 +70,11 @@ class Firefox {
     }
   }
 
-  send(name, what) {
+  send(name, what, limit = LIMIT) {
     const id = (this.next += 1), text = JSON.stringify([0, id, name, what]);
     return new Promise((done, reject) => {
-      this.waiting.set(id, { resolve: done, reject });
+      const timer = setTimeout(() => reject(new Error(`Firefox doesn't answer ${name}`)), limit);
+      this.waiting.set(id, { resolve: (result) => (clearTimeout(timer), done(result)), reject });
       this.socket.write(`${Buffer.byteLength(text)}:${text}`);
     });
   }
@@ -73,10 +83,12 @@ class Firefox {
     return (await this.send("WebDriver:ExecuteScript", { script: `return (${expression})`, args: [] })).value;
   }
 
-  stop() {
-    this.socket?.end();
-    this.process.on("exit", () => rmSync(this.folder, { recursive: true, force: true, maxRetries: 5 }));
-    this.process.kill();
+  async stop() {
+    const ended = new Promise((done) => this.process.on("exit", done));
+    this.socket?.destroy();
+    this.process.kill("SIGKILL");
+    await ended;
+    rmSync(this.folder, { recursive: true, force: true, maxRetries: 10 });
   }
 }
 
@@ -106,17 +118,26 @@ async function faultOfWays(firefox, url) {
   return there === "#estate" && !hash && view === "start" ? "" : `ways: ${there}, ${hash}, ${view}`;
 }
 
-const [page, folder] = process.argv.slice(2), firefox = await Firefox.start();
-let faults = 0;
-try {
+async function faultsOf(firefox, page, folder) {
   const url = pathToFileURL(resolve(page)).href, found = [await faultOfWays(firefox, url)];
   for (const id of CASES) found.push(await faultOf(firefox, url, id, folder));
-  for (const fault of found.filter(Boolean)) {
-    faults += 1;
-    console.log(fault);
-  }
-} finally {
-  firefox.stop();
+  return found.filter(Boolean);
 }
-console.log(`${CASES.length} cases in Firefox, ${faults} faults`);
-process.exitCode = faults ? 1 : 0;
+
+async function main([page, folder]) {
+  const firefox = Firefox.start();
+  try {
+    if (!(await firefox.begin())) {
+      console.log("Firefox didn't start in time, so nothing was tried in it");
+      return NOT_TRIED;
+    }
+    const faults = await faultsOf(firefox, page, folder).catch((fault) => [fault.message]);
+    for (const fault of faults) console.log(fault);
+    console.log(`${CASES.length} cases in Firefox, ${faults.length} faults`);
+    return faults.length ? 1 : 0;
+  } finally {
+    await firefox.stop();
+  }
+}
+
+process.exit(await main(process.argv.slice(2)));

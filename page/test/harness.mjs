@@ -56,7 +56,7 @@ export class Harness {
     try {
       await Promise.all(Array.from({ length: AT_ONCE }, one));
     } finally {
-      this.browser.stop();
+      await this.browser.stop();
     }
     if (!this.list.length) this.faults.push("there was no scenario to play");
     for (const fault of this.faults) console.log(fault);

@@ -35,5 +35,5 @@ const browser = await Browser.start();
 try {
   for (const id of wanted.length ? wanted : ALL) for (const look of Object.keys(LOOKS)) await shoot(browser, id, look);
 } finally {
-  browser.stop();
+  await browser.stop();
 }
