@@ -96,12 +96,22 @@ async function faultOf(firefox, url, id, folder) {
   return said ? `${id}: the page says ${said}` : over > 0 ? `${id}: too wide by ${over}` : "";
 }
 
+/** The start, a case and the way back to the start. */
+async function faultOfWays(firefox, url) {
+  await firefox.send("WebDriver:Navigate", { url });
+  await firefox.run("document.querySelectorAll('.card')[1].click()");
+  const there = await firefox.run("location.hash");
+  await firefox.run("document.querySelector('#case [data-home]').click()");
+  const [hash, view] = await firefox.run("[location.hash, document.body.dataset.view]");
+  return there === "#estate" && !hash && view === "start" ? "" : `ways: ${there}, ${hash}, ${view}`;
+}
+
 const [page, folder] = process.argv.slice(2), firefox = await Firefox.start();
 let faults = 0;
 try {
-  for (const id of CASES) {
-    const fault = await faultOf(firefox, pathToFileURL(resolve(page)).href, id, folder);
-    if (!fault) continue;
+  const url = pathToFileURL(resolve(page)).href, found = [await faultOfWays(firefox, url)];
+  for (const id of CASES) found.push(await faultOf(firefox, url, id, folder));
+  for (const fault of found.filter(Boolean)) {
     faults += 1;
     console.log(fault);
   }

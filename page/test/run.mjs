@@ -7,6 +7,7 @@ import { pathToFileURL } from "node:url";
 import { bothWays } from "./both-ways.mjs";
 import { casesTyped, otherCases, tables } from "./cases.mjs";
 import { checking, documents } from "./documents.mjs";
+import { failing } from "./failing.mjs";
 import { Harness } from "./harness.mjs";
 import { access, large, looks } from "./looks.mjs";
 import { monkey } from "./monkey.mjs";
@@ -17,7 +18,8 @@ const option = (name, byDefault) => (words.includes(name) ? words[words.indexOf(
 const harness = new Harness(pathToFileURL(page).href, option("--only", "")), told = [];
 const program = resolve(option("--program", join(top, "crates", "coop_program", "out", "coop_program")));
 harness.add(large(Number(option("--slack", "1")), told));
-for (const some of [bothWays, casesTyped, tables, otherCases, documents(top, program), checking(top), looks, access]) {
+for (const some of [bothWays, casesTyped, tables, otherCases, documents(top, program), checking(top),
+  failing(page, top), looks, access]) {
   harness.add(some);
 }
 harness.add(monkey(Number(option("--seed", "1")), Number(option("--steps", "60"))));

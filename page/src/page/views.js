@@ -8,13 +8,22 @@ const at = (id) => document.getElementById(id);
 
 /** Shows a case by its name, or "document", "verify" or "" for the start. */
 export function showView(view) {
-  if (location.hash.slice(1) !== view) history.pushState(null, "", view ? `#${view}` : location.pathname);
+  if (location.hash.slice(1) !== view) enter(view);
   const kind = caseNamed(view);
   document.body.dataset.view = kind ? "case" : view || "start";
   document.title = kind ? `${kind.title} – coop` : TITLE;
   scrollTo(0, 0);
   const head = kind ? at("case-title") : at(view || "start").querySelector("h1, h2");
   head.focus({ preventScroll: true });
+}
+
+/** Some browsers let a file have no other address than by its mark. */
+function enter(view) {
+  try {
+    history.pushState(null, "", view ? `#${view}` : location.pathname);
+  } catch {
+    location.hash = view;
+  }
 }
 
 /** The part that the address names; the start for any that isn't there. */

@@ -7,7 +7,11 @@ let compiled = null;
 
 /** Compiles the module, so that the first question needn't wait for it. */
 export function warmUp() {
-  compiled ??= new WebAssembly.Module(Uint8Array.from(atob(MODULE), (letter) => letter.charCodeAt(0)));
+  try {
+    compiled ??= new WebAssembly.Module(Uint8Array.from(atob(MODULE), (letter) => letter.charCodeAt(0)));
+  } catch (fault) {
+    throw new Error(`The program doesn’t start in this browser: ${fault.message}`);
+  }
 }
 
 /** Answers a document by the program: the status that it ends with, and the line that it prints. */

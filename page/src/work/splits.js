@@ -34,17 +34,16 @@ function scaledValues(numbers, mark) {
   return { scale, values: read.map((one) => one && Number((one.value.num * scale) / one.value.den)) };
 }
 
-/** The value of each group: its own, or that of its best split in two. */
+/** The best sum of groups with numbers that split each group, which may be its own number; null where there is none. A
+ * group with a number may be split too: as a part of a larger one it counts for what its parts come to. */
 function bestSplits(values, costs) {
   const best = [...values], isBetter = costs ? (a, b) => a < b : (a, b) => a > b;
   for (let mask = 1; mask < best.length; mask++) {
-    if (best[mask] !== null) continue;
     const low = mask & -mask, rest = mask & ~low;
     for (let part = (rest - 1) & rest; rest; part = (part - 1) & rest) {
       const one = best[part | low], other = best[mask & ~(part | low)];
-      if (one !== null && other !== null && (best[mask] === null || isBetter(one + other, best[mask]))) {
-        best[mask] = one + other;
-      }
+      const isWhole = one !== null && other !== null;
+      if (isWhole && (best[mask] === null || isBetter(one + other, best[mask]))) best[mask] = one + other;
       if (!part) break;
     }
   }
