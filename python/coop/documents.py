@@ -175,7 +175,7 @@ def labelled(points: list[tuple[Document, Point]]) -> list[Point]:
         name, game = point.name, point.game
         if heads and game and game.per_head and name in ("nucleolus", "prenucleolus"):
             name += " per head"
-        if several:
+        if several and len(short) > 1:
             name += f", {safe(short[document.where])}"
         result.append(Point(name, point.shares, game))
     return result

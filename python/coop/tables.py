@@ -9,6 +9,7 @@ from fractions import Fraction
 from typing import Collection, Optional, Sequence
 
 from .documents import Point
+from .errors import BadInput
 from .names import safe
 from .styles import Style, decimal, rounded
 
@@ -93,6 +94,14 @@ def put_together(names: Sequence[str], points: Sequence[Point]) -> tuple[list[st
             sums[name] += share
         result.append(Point(point.name, list(sums.values()), point.game))
     return owners, result
+
+
+def change(points: Sequence[Point]) -> Point:
+    """What each gets more by the last point than by the first."""
+    if len(points) < 2:
+        raise BadInput("a change is that between two divisions, and there is one")
+    shares = [last - first for first, last in zip(points[0].shares, points[-1].shares)]
+    return Point("change", shares, points[-1].game)
 
 
 def divided(points: Sequence[Point], by: Optional[int]) -> list[Point]:

@@ -141,6 +141,14 @@ class Statuses(unittest.TestCase):
         tree = {"class": "airport", "names": ["light", "medium", "heavy"], "costs": [2, 4, 6]}
         self.assertEqual(json.loads(document), {"game": tree, "shares": [1, "3/2", "7/2"]})
 
+    def test_a_slip_of_another_refusal_is_not_told(self) -> None:
+        game = coop.Game({"class": "airport", "costs": [-1]})
+        for number, name, has_place in ((5, "Number", True), (8, "Estate", False)):
+            program = Answering(3, json.dumps({"number": number, "refused": name}))
+            with self.assertRaises(coop.Refused) as raised:
+                coop.core(game, program=program)
+            self.assertEqual(raised.exception.where is not None, has_place)
+
     def test_shares_of_others(self) -> None:
         for shares in ({"light": 1, "medium": 2}, {"light": 1, "medium": 2, "heavy": 3, "x": 0}):
             with self.assertRaisesRegex(coop.BadInput, "light, medium, heavy"):

@@ -36,7 +36,7 @@ class Scripts(unittest.TestCase):
             self.assertIn(sentence, errors)
 
     def test_help_and_words(self) -> None:
-        self.assertEqual(len(SCRIPTS), 14)
+        self.assertEqual(len(SCRIPTS), 16)
         for name in SCRIPTS:
             status, text, errors = script(name, "--help")
             self.assertEqual((status, errors), (0, ""), name)
@@ -93,6 +93,20 @@ class Scripts(unittest.TestCase):
         self.assertEqual(over[1:], ["Aer 1,1/10,0.10", "Aer 2,1/20,0.05", "Bee 1,150,150.00"])
         self.assertIn("1,500.00 EUR", script("shares", "--unit", "EUR", text=text)[1])
         self.refused(script("shares", "--over", "0", text=text), "no number from 1 on")
+
+    def test_overrun_without_and_change(self) -> None:
+        table = '{"game":{"class":"cost-table","names":["a","b"],"players":2,"worths":[2,3,4]}}'
+        worths = [json.loads(script("overrun", "-", by, text=table)[1])["game"]["worths"] for by in ("12.50", "-1")]
+        self.assertEqual(worths, [[2, 3, "33/2"], [2, 3, 3]])
+        self.refused(script("overrun", PROPOSAL, "1"), "that of a table")
+        game = json.loads(script("without", PROPOSAL, "light")[1])["game"]
+        self.assertEqual(game, {"class": "airport", "costs": [4, 6], "names": ["medium", "heavy"]})
+        self.refused(script("without", PROPOSAL, "bright"), "bright is no player")
+        lines = '{"shares":[1,2]} {"shares":[3,7]} {"shares":["3/2",1]}'
+        rows = script("shares", "--change", "--csv", text=lines)[1].splitlines()
+        self.assertEqual(rows[0].split(",")[-2:], ["change", "change rounded"])
+        self.assertEqual([row.split(",")[-2:] for row in rows[1:]], [["1/2", "0.50"], ["-1", "-1.00"]])
+        self.refused(script("shares", "--change", text='{"shares":[1,2]}'), "there is one")
 
     def test_from_costs_fills(self) -> None:
         costs = "a,3\nb,4\nc,5\na+b,6\na+b+c,9\n"

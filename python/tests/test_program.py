@@ -1,9 +1,11 @@
 """Where the program is found, and how it is run."""
+import ctypes
 import os
 import subprocess
 import sys
 import tempfile
 import unittest
+from typing import Any
 
 from coop import Fault, NotFound
 from coop.program import TOP, Command, Library, find, named, run_elsewhere, spawned
@@ -66,6 +68,26 @@ class Finding(unittest.TestCase):
         self.assertIs(find(program), program)
         with self.assertRaises(NotFound):
             Library("/nowhere/libcoop.so")
+
+
+class Calling(unittest.TestCase):
+    """The C library, by a function in its place."""
+
+    def test_a_call(self) -> None:
+        library, asked = Library.__new__(Library), []
+        library.ctypes = ctypes
+
+        def call(words: bytes, length: int, document: bytes, size: int, line: Any, room: int, count: Any) -> int:
+            answer = b"x" * 200000
+            asked.append((words[:length], document[:size], room))
+            ctypes.memmove(line, answer, min(room, len(answer)))
+            count._obj.value = min(room, len(answer))
+            return 6 if room < len(answer) else 1
+
+        library.call = call
+        self.assertEqual(library.run(["gen", "table", "2", "1"], b"{}"), (1, b"x" * 200000))
+        self.assertEqual([words for words, _, _ in asked], [b"gen\0table\0002\0001"] * 2)
+        self.assertEqual([room for _, _, room in asked], [1 << 16, 1 << 19])
 
 
 class Running(unittest.TestCase):

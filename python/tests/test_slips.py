@@ -163,6 +163,7 @@ EDGES: list[tuple[str, bytes]] = [
             str(-(2**127)),
         )
     ),
+    *(asked({"class": "table", "players": 1, "sparse": [item]}) for item in ([[1], 1], [[1], 1, 1], [[1]], 1)),
     checked(THREE, [1, 2, 3], ONE, ONE),
     checked(THREE, [1, 2, 3], ONE, ONE, ONE),
     *(

@@ -1,0 +1,59 @@
+"""Games beside a game: without some players, and after an overrun."""
+from __future__ import annotations
+
+from fractions import Fraction
+from typing import Any, Collection
+
+from .amounts import Amount, fraction_of
+from .errors import BadInput
+from .game import LISTS, Game
+from .games import made
+from .masks import mask_of, members
+
+
+def without(game: Game, leaving: Collection[str]) -> Game:
+    """The game of those who stay: each of their groups is worth, or costs, what it was."""
+    for name in leaving:
+        if name not in game.names:
+            raise BadInput(f"{name} is no player: there are {', '.join(game.names)}")
+    stay = [i for i, name in enumerate(game.names) if name not in leaving]
+    if not stay:
+        raise BadInput("nobody stays")
+    names = [game.names[i] for i in stay] if game.named else None
+    return made(game.kind, parts_of(game, stay), names, game.per_head)
+
+
+def parts_of(game: Game, stay: list[int]) -> dict[str, Any]:
+    """The numbers of those who stay."""
+    if game.is_table:
+        groups = (mask_of(stay[k] for k in members(group)) for group in range(1, 2 ** len(stay)))
+        return {"players": len(stay), "worths": [game.amounts[group] for group in groups]}
+    if game.kind in LISTS:
+        return {LISTS[game.kind]: [game.amounts[i] for i in stay], **single_of(game, stay)}
+    if game.kind == "tree":
+        points = [0, *(i + 1 for i in stay)]
+        return {"matrix": [[game.rows[i][j] for j in points] for i in points]}
+    buyers = len(game.rows)
+    rows = [[game.rows[i][j - buyers] for j in stay if j >= buyers] for i in stay if i < buyers]
+    if not rows or not rows[0]:
+        raise BadInput("a market needs a buyer and a seller")
+    return {"matrix": rows}
+
+
+def single_of(game: Game, stay: list[int]) -> dict[str, Any]:
+    """The quota; or of the estate what the claims of those who leave would leave."""
+    if game.kind == "voting":
+        return {"quota": game.single}
+    if game.kind == "bankruptcy":
+        left = game.single - sum(game.amounts[i] for i in range(game.n) if i not in stay)
+        return {"estate": max(Fraction(0), left)}
+    return {}
+
+
+def overrun(game: Game, amount: Amount, per_head: bool = False) -> Game:
+    """A table of which all together cost, or are worth, so much more, and every smaller group what it was."""
+    if not game.is_table:
+        raise BadInput("an overrun is that of a table: of another class all groups change with a number")
+    worths = [*game.amounts[1:-1], game.amounts[-1] + fraction_of(amount)]
+    names = game.names if game.named else None
+    return made(game.kind, {"players": game.n, "worths": worths}, names, per_head or game.per_head)

@@ -1,0 +1,49 @@
+"""Games without some players, and after an overrun."""
+import random
+import unittest
+
+import coop
+from coop.masks import mask_of, members
+from coop.variants import overrun, without
+
+from .test_excesses import drawn_games
+
+
+class Variants(unittest.TestCase):
+    def test_those_who_stay_keep_their_worths(self) -> None:
+        """Over random games of each class: each group of those who stay is worth what it was."""
+        draw = random.Random(8)
+        for game in drawn_games(draw):
+            for leaving in range(game.n):
+                if game.kind == "assignment" and leaving in (3, 4) and len(game.rows[0]) == 1:
+                    continue
+                found = without(game, [game.names[leaving]])
+                stay = [i for i in range(game.n) if i != leaving]
+                self.assertEqual((found.n, found.kind, found.per_head), (game.n - 1, game.kind, game.per_head))
+                for group in range(1, 2**found.n):
+                    self.assertEqual(found.worth(group), game.worth(mask_of(stay[k] for k in members(group))))
+
+    def test_names(self) -> None:
+        game = coop.airport({"light": 2, "medium": 4, "heavy": 6})
+        self.assertEqual(
+            without(game, ["heavy", "light"]).tree, {"class": "airport", "costs": [4], "names": ["medium"]}
+        )
+        self.assertEqual(without(coop.airport([2, 4]), ["1"]).tree, {"class": "airport", "costs": [4]})
+        cases = [(["x"], "x is no player"), (game.names, "nobody stays")]
+        for leaving, sentence in cases:
+            with self.assertRaisesRegex(coop.BadInput, sentence):
+                without(game, leaving)
+        with self.assertRaisesRegex(coop.BadInput, "a buyer and a seller"):
+            without(coop.assignment([[1], [2]]), ["3"])
+
+    def test_an_overrun(self) -> None:
+        game = coop.cost_table({"a": 2, "b": 3, "a+b": 4})
+        self.assertEqual(overrun(game, "0.5").tree["worths"], [2, 3, "9/2"])
+        self.assertEqual(overrun(game, -1, per_head=True).tree["excess"], "per-head")
+        self.assertEqual(overrun(game, 0).tree, game.tree)
+        with self.assertRaisesRegex(coop.BadInput, "that of a table"):
+            overrun(coop.airport([1, 2]), 1)
+
+
+if __name__ == "__main__":
+    unittest.main()
