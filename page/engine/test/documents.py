@@ -254,10 +254,8 @@ def runs(program: str) -> Iterator[Run]:
 
 def runs_for_memory(program: str) -> Iterator[tuple[Run, dict[str, bool]]]:
     """Runs, with whether each request for memory is refused in its turn, or limits rise."""
-    refusing = tool("refuse-memory")
-    for words, text in refusing.RUNS:
-        run = Run(words.split(), refusing.document(program, text).encode())
-        yield run, {"refusing": True}
+    for tried in tool("refuse-memory").all_runs(program):
+        run = Run(tried.words.split(), tried.text.encode())
+        if not tried.is_greater:
+            yield run, {"refusing": True}
         yield run, {"limiting": True}
-    for words, text in refusing.GREATER_RUNS:
-        yield Run(words.split(), refusing.document(program, text).encode()), {"limiting": True}

@@ -2,7 +2,7 @@
 import { el } from "./dom.js";
 
 // What tools/try-page compares, at least.
-const COMPARED = "7,191";
+const COMPARED = "7,192";
 
 export function meaning(answer = "nucleolus") {
   return el("details", { class: "meanings" },
