@@ -125,7 +125,8 @@ class Page {
   async until(expression, limit = 30000) {
     const start = Date.now();
     while (!(await this.run(expression).catch(() => false))) {
-      if (Date.now() - start > limit) throw new Error(`not within ${limit} ms: ${expression}`);
+      const isLate = Date.now() - start > limit * (this.browser.slack ?? 1);
+      if (isLate) throw new Error(`not within ${limit} ms: ${expression}`);
       await pause(30);
     }
     return Date.now() - start;

@@ -11,8 +11,9 @@ export const READY = "!document.getElementById('answer').hidden"
   + " && !document.querySelector('#busy button')";
 
 export class Harness {
-  constructor(url, only = "") {
-    Object.assign(this, { url, only, list: [], done: 0, faults: [] });
+  /** On a busy machine all may take longer by `slack`. */
+  constructor(url, only = "", slack = 1) {
+    Object.assign(this, { url, only, slack, list: [], done: 0, faults: [] });
   }
 
   /** Scenarios: `play(page, expect)` in a page of its own, at an address that ends in `#id`. */
@@ -34,7 +35,8 @@ export class Harness {
   }
 
   async play({ name, id, play, look }) {
-    const page = await this.browser.page(this.url + (id ? `#${id}` : ""), look);
+    const page = await this.opened(this.url + (id ? `#${id}` : ""), look, name);
+    if (!page) return;
     try {
       if (id && !["document", "verify"].includes(id)) await page.until(READY);
       await play(page, this.expect(name));
@@ -47,9 +49,20 @@ export class Harness {
     await page.close();
   }
 
+  /** A page; null, and a fault, where it doesn't open. */
+  async opened(url, look, name) {
+    try {
+      return await this.browser.page(url, look);
+    } catch (fault) {
+      this.faults.push(`${name}: ${fault.message.slice(0, 400)}`);
+      return null;
+    }
+  }
+
   /** Plays all, and gives the number of faults. */
   async run() {
     this.browser = await Browser.start();
+    this.browser.slack = this.slack;
     const queue = [...this.list], one = async () => {
       while (queue.length) await this.play(queue.shift());
     };

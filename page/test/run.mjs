@@ -15,9 +15,10 @@ import { monkey } from "./monkey.mjs";
 const words = process.argv.slice(2), [page, top] = words.map((word) => resolve(word));
 const option = (name, byDefault) => (words.includes(name) ? words[words.indexOf(name) + 1] : byDefault);
 
-const harness = new Harness(pathToFileURL(page).href, option("--only", "")), told = [];
+const slack = Number(option("--slack", "1")), told = [];
+const harness = new Harness(pathToFileURL(page).href, option("--only", ""), slack);
 const program = resolve(option("--program", join(top, "crates", "coop_program", "out", "coop_program")));
-harness.add(large(Number(option("--slack", "1")), told));
+harness.add(large(slack, told));
 for (const some of [bothWays, casesTyped, tables, otherCases, documents(top, program), checking(top),
   failing(page, top), looks, access]) {
   harness.add(some);
