@@ -1,8 +1,7 @@
 -- From an optimal stage to the reading behind its level, and the value of later multipliers at an earlier stage.
 use Rattle.std.proofs.Common.{◌≡◌, ◌⊎◌, ℕ, suc, ◌+◌, ◌-◌, ◌<◌, Bool, true, false}
-use Rattle.std.proofs.Common.{◌&&◌, IsTrue, List, [], ◌∷◌}
-use Rattle.std.proofs.Common.{◌++◌, length, map, ℤ, pos, ◌-ℤ◌, ◌*ℤ◌, ◌≤ℤ◌, refl, sym}
-use Rattle.std.proofs.Common.{ap, subst, ◌∙◌, inl, inr}
+use Rattle.std.proofs.Common.{◌&&◌, IsTrue, List, [], ◌∷◌, ◌++◌, length, map, ℤ, pos}
+use Rattle.std.proofs.Common.{◌-ℤ◌, ◌*ℤ◌, ◌≤ℤ◌, refl, sym, ap, subst, ◌∙◌, inl, inr}
 use Rattle.std.proofs.Common.{arith, nat_eq, nat_lt, int_le, if◌then◌else◌, slice_index_or}
 use Rattle.std.proofs.lemmas.Bool.{false≢true}
 use Rattle.std.proofs.lemmas.List.{append_assoc}
@@ -85,8 +84,7 @@ pub rise_at : (q : Stage) (outside : ℕ → Bool) (m : RowMultipliers) (id : �
     → rise (program_of q outside) m.num m.den id ≡ column_rise q.measure q.game (length q.front + 1) (share_of m)
     (excess_of q.game.players m) m.den (column q.game.players q.front id)
 rise_at q outside m id =
-    ap (λ z. m.den *ℤ (program_of q outside).cost id -ℤ z)
-    (column_value-is q outside m id)
+    ap (λ z. m.den *ℤ (program_of q outside).cost id -ℤ z) (column_value-is q outside m id)
 
 pub outer_tight : (q : Stage) (outside : ℕ → Bool) (m : RowMultipliers) (s : ℕ)
     → rise (program_of q outside) m.num m.den (outer_id q.game.players q.front s) ≡ pos 0
@@ -94,16 +92,14 @@ pub outer_tight : (q : Stage) (outside : ℕ → Bool) (m : RowMultipliers) (s :
     ≡ reached q.measure q.game.players (share_of m) (excess_of q.game.players m) s (length q.front)
 outer_tight q outside m s h =
     let at =
-    sym
-    (ap (column_rise q.measure q.game (length q.front + 1) (share_of m) (excess_of q.game.players m) m.den)
+    sym (ap (column_rise q.measure q.game (length q.front + 1) (share_of m) (excess_of q.game.players m) m.den)
     (column_outer q.game.players q.front s))
     ∙ sym (rise_at q outside m (outer_id q.game.players q.front s)) ∙ h in
     omega (
       arith,
       linear,
-      at,
-      within_row (length q.front + 1) (length q.front) (excess_of q.game.players m) (pos (divisor q.measure s))
-          (omega arith),
+      within_row (length q.front + 1) (length q.front) (excess_of q.game.players m)
+          (pos (divisor q.measure s)) (omega arith),
     )
 
 pub single_tight : (q : Stage) (outside : ℕ → Bool) (m : RowMultipliers) (i : ℕ) → i < q.game.players
@@ -111,15 +107,14 @@ pub single_tight : (q : Stage) (outside : ℕ → Bool) (m : RowMultipliers) (i 
     → share_of m i ≡ m.den *ℤ q.game.worth (singleton i)
 single_tight q outside m i lt h =
     let at =
-    sym
-    (ap (column_rise q.measure q.game (length q.front + 1) (share_of m) (excess_of q.game.players m) m.den)
+    sym (ap (column_rise q.measure q.game (length q.front + 1) (share_of m) (excess_of q.game.players m) m.den)
     (column_single q.game.players q.front i lt))
     ∙ sym (rise_at q outside m (single_id q.game.players q.front i)) ∙ h in
     omega (
       arith,
       linear,
-      at,
-      single_value q.measure q.game.players (length q.front) i (share_of m) (excess_of q.game.players m) lt,
+      single_value q.measure q.game.players (length q.front) i (share_of m)
+          (excess_of q.game.players m) lt,
     )
 
 -- ---- lists
@@ -139,10 +134,9 @@ pub earlier_of-append : (k : ℕ) (xs ys : List Level)
 earlier_of-append k [] ys = let e : k + 0 ≡ k = omega arith in rw e refl
 earlier_of-append k (l ∷ xs) ys =
     let e : k + length (l ∷ xs) ≡ k + 1 + length xs = omega arith in
-    ap (λ z. map (λ c. (c.0, k)) l.coalitions ++ z) (earlier_of-append (k + 1) xs ys)
-    ∙ sym
-    (append_assoc (map (λ c. (c.0, k)) l.coalitions) (earlier_of (k + 1) xs)
-    (earlier_of (k + 1 + length xs) ys)) ∙ ap (λ z. earlier_of k (l ∷ xs) ++ earlier_of z ys) (sym e)
+    let one =
+    append_assoc (map (λ c. (c.0, k)) l.coalitions) (earlier_of (k + 1) xs) (earlier_of (k + 1 + length xs) ys) in
+    cc (earlier_of-append (k + 1) xs ys)
 
 pub earlier_of-more : (front : List Level) (l : Level)
     → earlier_of 0 (front ++ l ∷ []) ≡ earlier_of 0 front ++ (map (λ c. (c.0, length front)) l.coalitions ++ [])
@@ -157,7 +151,7 @@ pair_at P k [] s h any = absurd (false≢true any)
 pair_at P k (c ∷ cs) s h any = elim (or_cases (nat_eq c.0 s) (list_any (λ c. nat_eq c.0 s) cs) any) [
   | inl here ↦
       let e : c.0 ≡ s = grind (arith, nat_tests) in
-      subst (λ (z : ℕ). P (z, k)) e h.0
+      rw e at h.0
   | inr more ↦ pair_at P k cs s h.1 more
 ]
 
@@ -178,11 +172,10 @@ restrict q levels m r =
       positive = r.positive;
       whole = r.whole;
       settled =
-          all_left
-          (λ c. m.den *ℤ q.game.worth c.0
+          all_left (λ c. m.den *ℤ q.game.worth c.0
           ≡ reached q.measure q.game.players (share_of m) (excess_of q.game.players m) c.0 c.1)
           (earlier_of 0 q.front) (earlier_of (0 + length q.front) levels)
-          (subst (Settled_pairs q.measure q.game m) (earlier_of-append 0 q.front levels) r.settled);
+          (rw (earlier_of-append 0 q.front levels) at r.settled);
       single = r.single;
       bound = λ f i h b. r.bound f i h
           (any_left (λ l. list_any (λ b. nat_eq b.0 i && int_le (pos 1) b.1) l.bounds) q.front levels b);
@@ -239,8 +232,7 @@ pub settles_own_level : (q : Stage) (t : StageAnswer) → Answers q t → Reads 
 settles_own_level q t holds =
     let outside : ℕ → Bool = t.outside in
     let m : RowMultipliers = t.multipliers in
-    let tight =
-    tight_optimal (program_of q outside) t.weights t.weight_den m.num m.den holds.optimal in
+    let tight = tight_optimal (program_of q outside) t.weights t.weight_den m.num m.den holds.optimal in
     let r = reading_of q outside m holds.optimal.1 in
     let test : ℕ → Level → Bool = λ i l. list_any (λ b. nat_eq b.0 i && int_le (pos 1) b.1) l.bounds in
     let pairs : Settled_pairs q.measure q.game m
@@ -257,7 +249,7 @@ settles_own_level q t holds =
     record {
       positive = r.positive;
       whole = r.whole;
-      settled = subst (Settled_pairs q.measure q.game m) (sym (earlier_of-more q.front t.level)) pairs;
+      settled = rw (earlier_of-more q.front t.level) pairs;
       single = r.single;
       bound = λ f i h b. elim (any_cases (test i) q.front (t.level ∷ []) b) [
         | inl old ↦ r.bound f i h old
@@ -312,9 +304,7 @@ further_tight q t m holds r i is_so weighs =
             let b =
             any_left (λ l. list_any (λ b. nat_eq b.0 (i - n) && int_le (pos 1) b.1) l.bounds) q.front
             (t.level ∷ []) (and_right (is_imputations q.family) (has_bound q.front (i - n)) y) in
-            rw past
-            (rw below
-            (omega (
+            rw past (rw below (omega (
               arith,
               linear,
               r.bound f (i - n) h b,
@@ -326,12 +316,11 @@ further_tight q t m holds r i is_so weighs =
             let s : ℕ = i - (n + n) in
             let eq : n + n + s ≡ i = grind (arith, nat_tests) in
             let listed =
-            holds.follows.all_coalitions s
-            (subst (λ (z : ℕ). HasWeight t.weights (length (settled_columns n q.front) + z)) (sym eq) weighs) in
+            holds.follows.all_coalitions s (rw eq weighs) in
             let pairs =
             all_right (λ c. m.den *ℤ q.game.worth c.0 ≡ reached q.measure n x e c.0 c.1) (earlier_of 0 q.front)
             (map (λ c. (c.0, length q.front)) t.level.coalitions ++ [])
-            (subst (Settled_pairs q.measure q.game m) (earlier_of-more q.front t.level) r.settled) in
+            (rw (earlier_of-more q.front t.level) at r.settled) in
             let mine =
             all_left (λ c. m.den *ℤ q.game.worth c.0 ≡ reached q.measure n x e c.0 c.1)
             (map (λ c. (c.0, length q.front)) t.level.coalitions) [] pairs in
@@ -342,13 +331,11 @@ further_tight q t m holds r i is_so weighs =
             pair_at (λ c. m.den *ℤ q.game.worth c.0 ≡ reached q.measure n x e c.0 c.1) (length q.front)
             t.level.coalitions
             s mine any in
-            rw past
-            (rw beyond
-            (omega (
+            rw past (rw beyond (omega (
               arith,
               linear,
-              fact,
-              within_row (length q.front + 1) (length q.front) e (pos (divisor q.measure s)) (omega arith),
+              within_row (length q.front + 1) (length q.front) e (pos (divisor q.measure s))
+                  (omega arith),
             )))
       ]
     ]
@@ -376,9 +363,7 @@ tight_later q t m holds r id is_so weighs =
           first)
       | inr past ↦
           let eq : len + (id - len) ≡ id = grind (arith, nat_tests) in
-          rw past
-          (further_tight q t m holds r (id - len) (rw past at is_so)
-          (subst (HasWeight t.weights) (sym eq) weighs))
+          rw past (further_tight q t m holds r (id - len) (rw past at is_so) (rw eq weighs))
     ]
 
 -- the cost of a stage's weights, by any multipliers that settle its level too
@@ -386,6 +371,7 @@ pub stage_value : (q : Stage) (t : StageAnswer) (m : RowMultipliers) → Answers
     → m.den *ℤ weighted_sum (program_of q t.outside).cost t.weights ≡ t.weight_den
     *ℤ excess_of q.game.players m (length q.front)
 stage_value q t m holds r =
+    let one =
     tight_value (program_of q t.outside) m.num m.den t.weights t.weight_den holds.optimal.0
-    (tight_later q t m holds r)
-    ∙ ap (λ z. t.weight_den *ℤ z) (right_value q t.outside m)
+    (tight_later q t m holds r) in
+    cc (right_value q t.outside m)

@@ -1,7 +1,6 @@
 -- The stage program behind levels that leave a player has an optimum: some weights solve it, and no ray raises its
 -- cost.
-use Rattle.std.proofs.Common.{◌≤◌, ◌≡◌, ◌⊎◌, ℕ, ◌^◌, ◌<◌, List}
-use Rattle.std.proofs.Common.{inl, inr, arith}
+use Rattle.std.proofs.Common.{◌≤◌, ◌≡◌, ◌⊎◌, ℕ, ◌^◌, ◌<◌, List, inl, inr, arith}
 use Rattle.std.proofs.Math.Pow.{pow_pos, pow-lt}
 use Rattle.definitions.specs.Coalitions.{singleton, grand_coalition}
 use Rattle.definitions.specs.Certificates.{Level, IsFixedVector, IsOutside}

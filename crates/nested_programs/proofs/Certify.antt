@@ -1,8 +1,7 @@
 -- A chain of optimal stages that fix everything certifies the shares of the last.
 use Rattle.std.proofs.Common.{◌≡◌, ◌⊎◌, ℕ, ◌^◌, ◌<◌, IsTrue, List, [], ◌∷◌, ◌++◌}
-use Rattle.std.proofs.Common.{length, map, ℤ, pos, ◌-ℤ◌}
-use Rattle.std.proofs.Common.{◌*ℤ◌, ◌≤ℤ◌, refl, sym, ap, subst, ◌∙◌, inl, inr, arith}
-use Rattle.std.proofs.Common.{if◌then◌else◌}
+use Rattle.std.proofs.Common.{length, map, ℤ, pos, ◌-ℤ◌, ◌*ℤ◌, ◌≤ℤ◌, refl, sym, ap}
+use Rattle.std.proofs.Common.{subst, ◌∙◌, inl, inr, arith, if◌then◌else◌}
 use Rattle.std.specs.List.{AllByRecursion}
 use Rattle.std.proofs.lemmas.List.{append_assoc, append-nil, length-append}
 use Rattle.definitions.proofs.Ring.{linear, mul-leℤ, mul_assocℤ}
@@ -12,8 +11,7 @@ use Rattle.definitions.proofs.Members.{sum_below-same, sum_over-grand_coalition}
 use Rattle.definitions.specs.Coalitions.{has_player, singleton, grand_coalition, sum_over}
 use Rattle.definitions.specs.Measures.{divisor, IsMeasurable}
 use Rattle.definitions.specs.Games.{Game, Allocation, share, amount, excess, IsAllocation, IsEfficient, InFamily}
-use Rattle.definitions.specs.Certificates.{Level, has_bound, IsAllFixed, HasExcess}
-use Rattle.definitions.specs.Certificates.{LevelHolds, LevelsHold, Certifies}
+use Rattle.definitions.specs.Certificates.{Level, has_bound, IsAllFixed, HasExcess, LevelHolds, LevelsHold, Certifies}
 use Rattle.definitions.specs.declared.Family.{Family}
 use Rattle.definitions.specs.declared.Measure.{Measure}
 use Rattle.definitions.specs.declared.Family.TheVariants.{Imputations, Preimputations}
@@ -26,19 +24,16 @@ use Rattle.nested_programs.specs.Chain.{StageAnswer, Answers, levels_of, IsChain
 use Rattle.nested_programs.proofs.Advance.{Reads, Settled_pairs, restrict, settles_own_level}
 use Rattle.nested_programs.proofs.Advance.{earlier_of-more, BoundComes}
 use Rattle.nested_programs.proofs.Form.{level_balanced, level_proper}
-use Rattle.nested_programs.proofs.Chain.{Past, past_none, past_more, outside_low}
-use Rattle.nested_programs.proofs.Chain.{weighted_family}
+use Rattle.nested_programs.proofs.Chain.{Past, past_none, past_more, outside_low, weighted_family}
 use Rattle.definitions.proofs.Alls.{all_left, all_right, all_weaken}
 
 -- the multipliers of the last stage settle all levels
 pub last_reads : (q : Stage) (t : StageAnswer) (ts : List StageAnswer) → Answers q t → IsChain (after q t) ts
     → Reads (behind (after q t) (levels_of ts)) (last_of t ts).multipliers
 last_reads q t [] holds chain =
-    subst (λ ls. Reads (with_front q ls) t.multipliers) (sym (append-nil (q.front ++ t.level ∷ [])))
-    (settles_own_level q t holds)
+    rw (append-nil (q.front ++ t.level ∷ [])) (settles_own_level q t holds)
 last_reads q t (t' ∷ ts) holds chain =
-    subst (λ ls. Reads (with_front q ls) (last_of t' ts).multipliers)
-    (append_assoc (q.front ++ t.level ∷ []) (t'.level ∷ []) (levels_of ts))
+    rw (append_assoc (q.front ++ t.level ∷ []) (t'.level ∷ []) (levels_of ts)) at
     (last_reads (after q t) t' ts chain.0 chain.1)
 
 -- ---- shares
@@ -46,15 +41,15 @@ last_reads q t (t' ∷ ts) holds chain =
 pub amount_read : (g : Game) (m : RowMultipliers) (x : Allocation) (s : ℕ) → IsReadFrom g.players m.num m.den x
     → amount x s ≡ sum_over g.players (share_of m) s
 amount_read g m x s read =
-    ap (λ (z : ℕ). sum_over z (share x) s) read.players
-    ∙ sum_below-same g.players (λ i. if has_player s i then share x i else pos 0)
+    let two =
+    sum_below-same g.players (λ i. if has_player s i then share x i else pos 0)
     (λ i. if has_player s i then share_of m i else pos 0)
-    (λ i h. ap (λ z. if has_player s i then z else pos 0) (read.shares i h))
+    (λ i h. ap (λ z. if has_player s i then z else pos 0) (read.shares i h)) in
+    cc (read.players)
 
 pub excess_read : (g : Game) (m : RowMultipliers) (x : Allocation) (s : ℕ) → IsReadFrom g.players m.num m.den x
     → excess g x s ≡ m.den *ℤ g.worth s -ℤ sum_over g.players (share_of m) s
-excess_read g m x s read =
-    omega (arith, linear, amount_read g m x s read, ap (λ z. z *ℤ g.worth s) read.common)
+excess_read g m x s read = omega (arith, linear, amount_read g m x s read, ap (λ z. z *ℤ g.worth s) read.common)
 
 read_alone : (g : Game) (m : RowMultipliers) (x : Allocation) (s : ℕ) → IsReadFrom g.players m.num m.den x
     → x.den *ℤ g.worth s ≡ m.den *ℤ g.worth s
@@ -65,7 +60,7 @@ in_family : (q : Stage) (m : RowMultipliers) (x : Allocation) → IsReadFrom q.g
 in_family q m x read r = by_family q.family r.single
   where
     allocation : IsAllocation q.game x
-    allocation = (read.players, omega (arith, linear, r.positive, read.common))
+    allocation = (read.players, omega (arith, linear))
 
     efficient : IsEfficient q.game x
     efficient =
@@ -89,12 +84,11 @@ in_family q m x read r = by_family q.family r.single
 has_excess : (a b num lden e den xden h : ℤ) → a ≡ b → b ≡ e *ℤ h → num *ℤ den ≡ e *ℤ lden → xden ≡ den
     → a *ℤ lden ≡ num *ℤ (xden *ℤ h)
 has_excess a b num lden e den xden h h1 h2 h3 h5 =
-    ap (λ z. z *ℤ lden) (h1 ∙ h2) ∙ scaled e h lden num den h3 ∙ ap (λ z. num *ℤ (z *ℤ h)) (sym h5)
+    cc (scaled e h lden num den h3)
   where
     scaled : (e h lden num den : ℤ) → num *ℤ den ≡ e *ℤ lden → (e *ℤ h) *ℤ lden ≡ num *ℤ (den *ℤ h)
     scaled e h lden num den k =
-        mul_assocℤ e h lden ∙ ap (λ z. e *ℤ z) (*ℤ_comm h lden) ∙ sym (mul_assocℤ e lden h)
-        ∙ ap (λ z. z *ℤ h) (sym k) ∙ mul_assocℤ num den h
+        cc (mul_assocℤ e h lden, *ℤ_comm h lden, mul_assocℤ e lden h, mul_assocℤ num den h)
 
 has_at_most : (a num lden e den xden h : ℤ) → a ≤ℤ (e *ℤ h) → pos 1 ≤ℤ lden → num *ℤ den ≡ e *ℤ lden → xden ≡ den
     → (a *ℤ lden) ≤ℤ (num *ℤ (xden *ℤ h))
@@ -141,7 +135,7 @@ level_holds q t ts m x has past holds chain r fixed read num lden =
     let pairs =
     all_right (λ c. m.den *ℤ q.game.worth c.0 ≡ reached q.measure n (share_of m) (excess_of n m) c.0 c.1)
     (earlier_of 0 q.front) (map (λ c. (c.0, length q.front)) t.level.coalitions ++ [])
-    (subst (Settled_pairs q.measure q.game m) (earlier_of-more q.front t.level) near.settled) in
+    (rw (earlier_of-more q.front t.level) at near.settled) in
     let mine =
     all_left (λ c. m.den *ℤ q.game.worth c.0 ≡ reached q.measure n (share_of m) (excess_of n m) c.0 c.1)
     (map (λ c. (c.0, length q.front)) t.level.coalitions) [] pairs in
@@ -174,7 +168,7 @@ level_holds q t ts m x has past holds chain r fixed read num lden =
           let e = excess_read q.game m x s read in
           let plain =
           has_at_most (excess q.game x s) t.level.excess_num t.level.excess_den (excess_of n m (length q.front)) m.den
-          x.den (pos (divisor q.measure s)) (omega (arith, linear, low, e)) lden num read.common in
+          x.den (pos (divisor q.measure s)) (omega (arith, linear)) lden num read.common in
           measured-le q.measure n s (excess q.game x s) x.den t.level.excess_num t.level.excess_den has o.0
           (omega (arith, o.1)) plain);
     }
@@ -184,8 +178,7 @@ levels_hold : (q : Stage) (ts : List StageAnswer) (m : RowMultipliers) (x : Allo
     → IsAllFixed Span q.game.players (q.front ++ levels_of ts) → IsReadFrom q.game.players m.num m.den x
     → HaveExcesses q.game m (length q.front) (levels_of ts)
     → LevelsHold Span q.family q.measure q.game x q.front (levels_of ts)
-levels_hold q [] m x has past chain r fixed read excesses =
-    subst (IsAllFixed Span q.game.players) (append-nil q.front) fixed
+levels_hold q [] m x has past chain r fixed read excesses = rw (append-nil q.front) at fixed
 levels_hold q (t ∷ ts) m x has past chain r fixed read excesses =
     let shift : (q.front ++ t.level ∷ []) ++ levels_of ts ≡ q.front ++ t.level ∷ levels_of ts =
     append_assoc q.front (t.level ∷ []) (levels_of ts) in
@@ -193,8 +186,7 @@ levels_hold q (t ∷ ts) m x has past chain r fixed read excesses =
     let fixed' = subst (IsAllFixed Span q.game.players) (sym shift) fixed in (
       level_holds q t ts m x has past chain.0 chain.1 r' fixed' read excesses.0 excesses.1,
       levels_hold (after q t) ts m x has
-          (past_more q t past chain.0) chain.1 r' fixed' read
-          (subst (λ (z : ℕ). HaveExcesses q.game m z (levels_of ts)) (sym (length-append q.front (t.level ∷ [])))
+          (past_more q t past chain.0) chain.1 r' fixed' read (rw (length-append q.front (t.level ∷ []))
           excesses.2),
     )
 

@@ -1,16 +1,15 @@
 -- Along a chain of optimal stages: multipliers that settle all levels agree, optima don't rise, and no coalition
 -- outside a level has more than the level's excess.
 use Rattle.std.proofs.Common.{◌≡◌, ℕ, zero, suc, ◌+◌, ◌<◌, Bool, true, false, ◌&&◌}
-use Rattle.std.proofs.Common.{IsTrue, List, [], ◌∷◌, ◌++◌}
-use Rattle.std.proofs.Common.{length, map, ℤ, pos, ◌+ℤ◌, ◌-ℤ◌, ◌*ℤ◌, ◌≤ℤ◌, refl, sym}
-use Rattle.std.proofs.Common.{ap, subst, ◌∙◌, inl, inr}
+use Rattle.std.proofs.Common.{IsTrue, List, [], ◌∷◌, ◌++◌, length, map, ℤ, pos, ◌+ℤ◌}
+use Rattle.std.proofs.Common.{◌-ℤ◌, ◌*ℤ◌, ◌≤ℤ◌, refl, sym, ap, subst, ◌∙◌, inl, inr}
 use Rattle.std.proofs.Common.{arith, nat_eq, nat_lt, int_le, if◌then◌else◌, slice_index_or}
 use Rattle.std.proofs.lemmas.Bool.{false≢true}
 use Rattle.std.proofs.lemmas.Bool.Decides.{nat_tests}
 use Rattle.std.specs.List.{list_any, AllByRecursion}
 use Rattle.std.proofs.lemmas.List.{append_assoc, append-nil, length-append}
-use Rattle.definitions.proofs.Ring.{linear, mul-addℤ, mul-leℤ, mul_assocℤ, mul-cancelℤ}
-use Rattle.definitions.proofs.Ring.{mul-le_cancelℤ, mul-positiveℤ, mul_left_commℤ}
+use Rattle.definitions.proofs.Ring.{linear, mul-leℤ, mul_assocℤ, mul-cancelℤ, mul-le_cancelℤ, mul-positiveℤ}
+use Rattle.definitions.proofs.Ring.{ring_laws}
 use lib.IntN.{*ℤ_comm}
 use Rattle.definitions.proofs.SumsOver.{sum_over-same}
 use Rattle.definitions.proofs.Members.{sum_below-same, sum_below-zero, sum_over-combined}
@@ -19,8 +18,7 @@ use Rattle.determinants.proofs.Duality.{weak_duality}
 use Rattle.definitions.specs.Sums.{weighted_sum}
 use Rattle.definitions.specs.Coalitions.{has_player, singleton, grand_coalition, sum_over}
 use Rattle.definitions.specs.Measures.{divisor}
-use Rattle.definitions.specs.Certificates.{Level, is_listed, has_bound, IsFixedVector}
-use Rattle.definitions.specs.Certificates.{InSpan, IsOutside, IsAllFixed}
+use Rattle.definitions.specs.Certificates.{Level, is_listed, has_bound, IsFixedVector, InSpan, IsOutside, IsAllFixed}
 use Rattle.definitions.specs.Programs.{Program, Bounds, HasRay, value_of}
 use Rattle.definitions.specs.declared.Family.TheVariants.{Imputations}
 use Rattle.definitions.specs.declared.Mode.TheVariants.{Span}
@@ -128,13 +126,12 @@ next_reading q t outside holds apart =
           all_with (λ c. c.1 < 0 + length (q.front ++ t.level ∷ []))
           (λ c. m.den *ℤ q.game.worth c.0 ≡ reached q.measure n (share_of m) (excess_of n m) c.0 c.1)
           (λ c. m.den *ℤ q.game.worth c.0 ≡ reached q.measure n (share_of m') (excess_of n m') c.0 c.1)
-          (earlier_of 0 (q.front ++ t.level ∷ []))
-          (λ c lt eq. omega (
+          (earlier_of 0 (q.front ++ t.level ∷ [])) (λ c lt eq. omega (
             arith,
             linear,
             eq,
             sum_over-same n (share_of m') (share_of m) c.0 shares,
-            ap (λ z. z *ℤ pos (divisor q.measure c.0)) (excesses c.1 (omega (arith, lt, long))),
+            ap (λ z. z *ℤ pos (divisor q.measure c.0)) (excesses c.1 (omega arith)),
           ))
           (earlier_rows 0 (q.front ++ t.level ∷ [])) r.settled;
       single = λ f i h. omega (arith, linear, r.single f i h, shares i h);
@@ -166,11 +163,9 @@ next_no_ray q t outside holds apart =
 
 same_ratio : (w d d' c e e' : ℤ) → pos 1 ≤ℤ w → d *ℤ c ≡ w *ℤ e → d' *ℤ c ≡ w *ℤ e' → e *ℤ d' ≡ e' *ℤ d
 same_ratio w d d' c e e' one h h' =
-    mul-cancelℤ w (e *ℤ d') (e' *ℤ d) (omega (arith, linear, one))
-    (sym (mul_assocℤ w e d') ∙ ap (λ z. z *ℤ d') (sym h) ∙ factors_swapped ∙ ap (λ z. z *ℤ d) h' ∙ mul_assocℤ w e' d)
-  where
-    factors_swapped : (d *ℤ c) *ℤ d' ≡ (d' *ℤ c) *ℤ d
-    factors_swapped = *ℤ_comm (d *ℤ c) d' ∙ mul_left_commℤ d' d c ∙ *ℤ_comm d (d' *ℤ c)
+    let a = simp ring_laws at (ap (λ z. z *ℤ d') h) in
+    let b = simp ring_laws at (ap (λ z. z *ℤ d) h') in
+    mul-cancelℤ w (e *ℤ d') (e' *ℤ d) (omega (arith, linear)) (simp ring_laws (omega (arith, linear)))
 
 -- multipliers that settle the level of a stage have one excess there, the optimum
 pub one_excess : (q : Stage) (t : StageAnswer) (m m' : RowMultipliers) → Answers q t → Reads (after q t) m
@@ -184,14 +179,11 @@ one_excess q t m m' holds r r' =
 no_greater_optimum : (w d dk c e1 e0 f0 : ℤ) → pos 1 ≤ℤ w → pos 1 ≤ℤ d → pos 1 ≤ℤ dk → (dk *ℤ c) ≤ℤ (w *ℤ f0)
     → d *ℤ c ≡ w *ℤ e1 → e0 *ℤ dk ≡ f0 *ℤ d → e1 ≤ℤ e0
 no_greater_optimum w d dk c e1 e0 f0 pw pd pk h hc he =
-    let a = mul-leℤ d (dk *ℤ c) (w *ℤ f0) (omega (arith, linear, pd)) h in
-    let left : d *ℤ (dk *ℤ c) ≡ (dk *ℤ w) *ℤ e1 =
-    mul_left_commℤ d dk c ∙ ap (λ z. dk *ℤ z) hc ∙ sym (mul_assocℤ dk w e1) in
-    let right : d *ℤ (w *ℤ f0) ≡ (dk *ℤ w) *ℤ e0 =
-    mul_left_commℤ d w f0 ∙ ap (λ z. w *ℤ z) (*ℤ_comm d f0 ∙ sym he ∙ *ℤ_comm e0 dk) ∙ mul_left_commℤ w dk e0
-    ∙ sym (mul_assocℤ dk w e0) in
-    mul-le_cancelℤ (dk *ℤ w) e1 e0 (mul-positiveℤ dk w (omega (arith, linear, pk)) (omega (arith, linear, pw)))
-    (omega (arith, linear, a, left, right))
+    let a = simp ring_laws at (mul-leℤ d (dk *ℤ c) (w *ℤ f0) (omega (arith, linear)) h) in
+    let b = simp ring_laws at (ap (λ z. dk *ℤ z) hc) in
+    let e = simp ring_laws at (ap (λ z. w *ℤ z) he) in
+    mul-le_cancelℤ (dk *ℤ w) e1 e0 (mul-positiveℤ dk w (omega (arith, linear)) (omega (arith, linear)))
+    (simp ring_laws (omega (arith, linear)))
 
 -- the optima don't rise
 pub optimum_falls : (q : Stage) (t t' : StageAnswer) (m : RowMultipliers) → Answers q t → Answers (after q t) t'
@@ -212,14 +204,12 @@ optimum_falls q t t' m holds holds' r =
     right_value next t'.outside next_m
     ∙ ap (excess_of n next_m) long ∙ extended-last n k t.multipliers in
     let value : m.den *ℤ weighted_sum p.cost t'.weights ≡ t'.weight_den *ℤ excess_of n m (k + 1) =
-    stage_value next t' m holds' r ∙ ap (λ z. t'.weight_den *ℤ excess_of n m z) long in
+    cc (stage_value next t' m holds' r) in
     let same =
-    one_excess q t m t.multipliers holds
-    (restrict next (t'.level ∷ []) m r) (settles_own_level q t holds) in
+    one_excess q t m t.multipliers holds (restrict next (t'.level ∷ []) m r) (settles_own_level q t holds) in
     no_greater_optimum t'.weight_den m.den t.multipliers.den (weighted_sum p.cost t'.weights) (excess_of n m (k + 1))
-    (excess_of n m k)
-    (excess_of n t.multipliers k) holds'.optimal.0.1 r.positive holds.optimal.1.0
-    (subst (λ z. (t.multipliers.den *ℤ weighted_sum p.cost t'.weights) ≤ℤ (t'.weight_den *ℤ z)) right weak) value same
+    (excess_of n m k) (excess_of n t.multipliers k) holds'.optimal.0.1 r.positive holds.optimal.1.0
+    (rw right at weak) value same
 
 -- ---- what holds behind the levels in front
 
@@ -255,12 +245,10 @@ past_more q t past holds =
     let test : ℕ → Level → Bool = λ i l. list_any (λ b. nat_eq b.0 i && int_le (pos 1) b.1) l.bounds in
     record {
       same = λ m m' r r' k h. elim
-          (less_or_last_of k (length q.front) (subst (λ (z : ℕ). k < z) (length-append q.front (t.level ∷ [])) h)) [
+          (less_or_last_of k (length q.front) (rw (length-append q.front (t.level ∷ [])) at h)) [
             | inl less ↦ past.same m m' (restrict q (t.level ∷ []) m r)
                 (restrict q (t.level ∷ []) m' r') k less
-            | inr here ↦ subst
-                (λ (z : ℕ). excess_of q.game.players m z *ℤ m'.den ≡ excess_of q.game.players m' z *ℤ m.den)
-                (sym here)
+            | inr here ↦ rw here
                 (one_excess q t m m' holds r r')
           ];
       bounded = λ i b. elim (any_cases (test i) q.front (t.level ∷ []) b) [
@@ -298,33 +286,22 @@ gap m m' i = m'.den *ℤ share_of m i -ℤ m.den *ℤ share_of m' i
 
 -- equal ratios stay equal times a divisor
 scaled_ratio : (e d' e' d h : ℤ) → e *ℤ d' ≡ e' *ℤ d → d' *ℤ (e *ℤ h) ≡ d *ℤ (e' *ℤ h)
-scaled_ratio e d' e' d h k =
-    sym (mul_assocℤ d' e h) ∙ ap (λ z. z *ℤ h) (*ℤ_comm d' e ∙ k ∙ *ℤ_comm e' d) ∙ mul_assocℤ d e' h
+scaled_ratio e d' e' d h k = cc (mul_assocℤ d' e h, *ℤ_comm d' e, *ℤ_comm e' d, mul_assocℤ d e' h)
 
 gap_listed : (d d' v x x' e e' h : ℤ) → d *ℤ v ≡ x +ℤ e *ℤ h → d' *ℤ v ≡ x' +ℤ e' *ℤ h → e *ℤ d' ≡ e' *ℤ d
     → d' *ℤ x -ℤ d *ℤ x' ≡ pos 0
 gap_listed d d' v x x' e e' h i i' k =
-    let a = ap (λ z. d' *ℤ z) i in
-    let b = ap (λ z. d *ℤ z) i' in
-    omega (
-      arith,
-      linear,
-      a,
-      b,
-      scaled_ratio e d' e' d h k,
-      mul-addℤ d' x (e *ℤ h),
-      mul-addℤ d x' (e' *ℤ h),
-      mul_left_commℤ d' d v,
-    )
+    let a = simp ring_laws at (ap (λ z. d' *ℤ z) i) in
+    let b = simp ring_laws at (ap (λ z. d *ℤ z) i') in
+    let f = simp ring_laws at (ap (λ z. z *ℤ h) k) in omega (arith, linear)
 
 gap_equal : (d d' v x x' : ℤ) → x ≡ d *ℤ v → x' ≡ d' *ℤ v → d' *ℤ x -ℤ d *ℤ x' ≡ pos 0
-gap_equal d d' v x x' h h' = omega (arith, linear, ap (λ z. d' *ℤ z) h, ap (λ z. d *ℤ z) h', mul_left_commℤ d' d v)
+gap_equal d d' v x x' h h' = simp (h, h', ring_laws) (omega (arith, linear))
 
 pub gap_settled : (q : Stage) (m m' : RowMultipliers) → Past q → Reads q m → Reads q m'
     → IsSettled q.game.players (gap m m') q.front
 gap_settled q m m' past r r' =
-    is_settled n (gap m m') q.front listed
-    (λ i h b. let f = past.bounded i b in
+    is_settled n (gap m m') q.front listed (λ i h b. let f = past.bounded i b in
     gap_equal m.den m'.den (q.game.worth (singleton i)) (share_of m i) (share_of m' i) (r.bound f i h b)
     (r'.bound f i h b))
   where
@@ -366,18 +343,9 @@ gap_whole q m m' r r' =
 enough_inside : (d dt v x xt e f h : ℤ) → pos 1 ≤ℤ d → pos 1 ≤ℤ dt → dt *ℤ x -ℤ d *ℤ xt ≡ pos 0 → e *ℤ dt ≡ f *ℤ d
     → (dt *ℤ v) ≤ℤ (xt +ℤ f *ℤ h) → (d *ℤ v) ≤ℤ (x +ℤ e *ℤ h)
 enough_inside d dt v x xt e f h pd pt same value low =
-    let a = mul-leℤ d (dt *ℤ v) (xt +ℤ f *ℤ h) (omega (arith, linear, pd)) low in
-    mul-le_cancelℤ dt (d *ℤ v) (x +ℤ e *ℤ h) (omega (arith, linear, pt))
-    (omega (
-      arith,
-      linear,
-      a,
-      same,
-      scaled_ratio e dt f d h value,
-      mul_left_commℤ d dt v,
-      mul-addℤ d xt (f *ℤ h),
-      mul-addℤ dt x (e *ℤ h),
-    ))
+    let a = simp ring_laws at (mul-leℤ d (dt *ℤ v) (xt +ℤ f *ℤ h) (omega (arith, linear)) low) in
+    let b = simp ring_laws at (ap (λ z. z *ℤ h) value) in
+    mul-le_cancelℤ dt (d *ℤ v) (x +ℤ e *ℤ h) (omega (arith, linear)) (simp ring_laws (omega (arith, linear)))
 
 -- where the gap to the stage's own multipliers is nothing
 inside_low : (q : Stage) (t : StageAnswer) (m : RowMultipliers) → Answers q t → Reads (after q t) m → (s : ℕ)
@@ -391,8 +359,7 @@ inside_low q t m holds r s o zero_gap =
     (excess_of q.game.players t.multipliers (length q.front)) (pos (divisor q.measure s)) r.positive own.positive
     (sym (sum_over-combined q.game.players (share_of m) (share_of t.multipliers) t.multipliers.den m.den s)
     ∙ zero_gap)
-    (one_excess q t m t.multipliers holds r (settles_own_level q t holds))
-    (own.outer s o)
+    (one_excess q t m t.multipliers holds r (settles_own_level q t holds)) (own.outer s o)
 
 pub outside_low : (q : Stage) (t : StageAnswer) (ts : List StageAnswer) (m : RowMultipliers) → Past q → Answers q t
     → IsChain (after q t) ts → Reads (behind (after q t) (levels_of ts)) m
@@ -404,12 +371,10 @@ outside_low q t [] m past holds chain r fixed s o =
     let near = restrict next [] m r in
     let own = settles_own_level q t holds in
     let settled =
-    gap_settled next m t.multipliers
-    (past_more q t past holds) near own in
+    gap_settled next m t.multipliers (past_more q t past holds) near own in
     let whole = gap_whole next m t.multipliers near own in
     let zeros =
-    all_same q.game.players (gap m t.multipliers) next.front settled whole
-    (subst (IsAllFixed Span q.game.players) (append-nil next.front) fixed) in
+    all_same q.game.players (gap m t.multipliers) next.front settled whole (rw (append-nil next.front) at fixed) in
     inside_low q t m holds near s o
     (sum_below-zero q.game.players (λ i. if has_player s i then gap m t.multipliers i else pos 0)
     (λ i h. zero_either (has_player s i) (gap m t.multipliers i) (zeros i h)))
@@ -426,8 +391,7 @@ outside_low q t (t' ∷ ts) m past holds chain r fixed s o =
       | inl still ↦
           let ih = outside_low next t' ts m past' chain.0 chain.1 r' fixed' s still in
           let low =
-          optimum_falls q t t' m holds chain.0
-          (restrict (after next t') (levels_of ts) m r') in
+          optimum_falls q t t' m holds chain.0 (restrict (after next t') (levels_of ts) m r') in
           let d : ℤ = pos (divisor q.measure s) in
           let here = ap (λ (k : ℕ). excess_of q.game.players m k *ℤ d) (length-append q.front (t.level ∷ [])) in
           let less =
@@ -436,11 +400,9 @@ outside_low q t (t' ∷ ts) m past holds chain r fixed s o =
           omega (
             arith,
             linear,
-            ih,
-            less,
-            here,
             *ℤ_comm d (excess_of q.game.players m (length q.front + 1)),
-            *ℤ_comm d (excess_of q.game.players m (length q.front)),
+            *ℤ_comm d
+                (excess_of q.game.players m (length q.front)),
           )
       | inr gone ↦
           let was = (holds.decides s).0 o in
@@ -458,5 +420,4 @@ pub excess_optimum : (q : Stage) (t : StageAnswer) (rest : List Level) (m : RowM
     → excess_of q.game.players m (length q.front) *ℤ t.multipliers.den
     ≡ excess_of q.game.players t.multipliers (length q.front) *ℤ m.den
 excess_optimum q t rest m holds r =
-    one_excess q t m t.multipliers holds
-    (restrict (after q t) rest m r) (settles_own_level q t holds)
+    one_excess q t m t.multipliers holds (restrict (after q t) rest m r) (settles_own_level q t holds)

@@ -1,11 +1,10 @@
 -- A chain of stages with one stage more behind it.
 use Rattle.std.proofs.Common.{◌≡◌, ℕ, ◌+◌, List, [], ◌∷◌, ◌++◌, length, pos, ◌*ℤ◌}
-use Rattle.std.proofs.Common.{◌≤ℤ◌}
-use Rattle.std.proofs.Common.{Some, refl, sym, ap, subst, ◌∙◌, arith}
+use Rattle.std.proofs.Common.{◌≤ℤ◌, Some, refl, ap, ◌∙◌, arith}
 use Rattle.std.proofs.lemmas.List.{append_assoc, append-nil}
 use Rattle.definitions.specs.Games.{Game}
 use Rattle.simplex.specs.declared.multipliers.Multipliers.{Multipliers}
-use Rattle.nested_programs.specs.Stage.{Stage, with_front, behind}
+use Rattle.nested_programs.specs.Stage.{Stage, behind}
 use Rattle.nested_programs.specs.Reading.{excess_of}
 use Rattle.nested_programs.specs.Chain.{StageAnswer, Answers, IsChain, levels_of, last_of, after}
 use Rattle.nested_programs.specs.Stages.{rows_of, OwnExcesses, AreLast}
@@ -13,12 +12,11 @@ use Rattle.nested_programs.specs.Stages.{rows_of, OwnExcesses, AreLast}
 -- a stage that holds behind the levels of a chain
 pub chain_more : (q : Stage) (ts : List StageAnswer) (t : StageAnswer) → IsChain q ts
     → Answers (behind q (levels_of ts)) t → IsChain q (ts ++ t ∷ [])
-chain_more q [] t h k =
-    (subst (λ ls. Answers (with_front q ls) t) (append-nil q.front) k, tt)
+chain_more q [] t h k = (rw (append-nil q.front) at k, tt)
 chain_more q (u ∷ ts) t h k = (
   h.0,
   chain_more (after q u) ts t h.1
-      (subst (λ ls. Answers (with_front q ls) t) (sym (append_assoc q.front (u.level ∷ []) (levels_of ts))) k),
+      (rw (append_assoc q.front (u.level ∷ []) (levels_of ts)) k),
 )
 
 pub levels_more : (ts : List StageAnswer) (t : StageAnswer) → levels_of (ts ++ t ∷ []) ≡ levels_of ts ++ t.level ∷ []
@@ -39,11 +37,11 @@ pub own_more : (g : Game) (k : ℕ) (ts : List StageAnswer) (t : StageAnswer) �
     → OwnExcesses g k (ts ++ t ∷ [])
 own_more g k [] t h own =
     let e : k + 0 ≡ k = omega arith in
-    let here : OwnExcess g k t = subst (λ (j : ℕ). OwnExcess g j t) e own in
+    let here : OwnExcess g k t = rw e at own in
     (here.0, here.1, tt)
 own_more g k (u ∷ ts) t h own =
     let e : k + length (u ∷ ts) ≡ k + 1 + length ts = omega arith in
-    (h.0, h.1, own_more g (k + 1) ts t h.2 (subst (λ (j : ℕ). OwnExcess g j t) e own))
+    (h.0, h.1, own_more g (k + 1) ts t h.2 (rw e at own))
 
 last_behind : (u : StageAnswer) (ts : List StageAnswer) (t : StageAnswer) → last_of u (ts ++ t ∷ []) ≡ t
 last_behind u [] t = refl

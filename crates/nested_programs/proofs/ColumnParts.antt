@@ -2,10 +2,9 @@
 --
 -- parts the part of a number in the coalitions outside, in the earlier ones, all players first, and in the bounds
 use Rattle.std.proofs.Common.{◌≡◌, ◌≢◌, ℕ, zero, suc, ◌+◌, ◌-◌, ◌*◌, ◌<◌, ◌≤◌}
-use Rattle.std.proofs.Common.{Bool, true, false, cond}
-use Rattle.std.proofs.Common.{List, [], ◌∷◌, length, ℤ, pos, ◌+ℤ◌, ◌-ℤ◌, refl, sym}
-use Rattle.std.proofs.Common.{ap, ◌∙◌, inl, inr}
-use Rattle.std.proofs.Common.{arith, nat_eq, nat_lt, nat_le, if◌then◌else◌, slice_index_or}
+use Rattle.std.proofs.Common.{Bool, true, false, cond, List, [], ◌∷◌, length, ℤ, pos}
+use Rattle.std.proofs.Common.{◌+ℤ◌, ◌-ℤ◌, refl, sym, ap, ◌∙◌, inl, inr, arith, nat_eq}
+use Rattle.std.proofs.Common.{nat_lt, nat_le, if◌then◌else◌, slice_index_or}
 use Rattle.std.proofs.lemmas.Bool.Decides.{nat_tests}
 use Rattle.definitions.proofs.Ring.{linear}
 use Rattle.definitions.specs.Coalitions.{has_player, singleton, grand_coalition}
@@ -164,7 +163,7 @@ earlier_entry measure n i h id (c ∷ cs) (suc (suc j)) lt =
     let e : id + suc (suc j) ≡ id + 2 + j = omega arith in
     let none = pair_part-other (has_player c.0 i) id (id + suc (suc j)) (λ e. omega arith) (λ e. omega arith) in
     let ih = earlier_entry measure n i h (id + 2) cs j (omega arith) in
-    omega (arith, linear, none, ap (λ (k : ℕ). earlier_part i (id + 2) cs k) e, ih)
+    omega (arith, linear, ap (λ (k : ℕ). earlier_part i (id + 2) cs k) e)
 
 -- ---- the parts of a number
 
@@ -182,10 +181,11 @@ parts-settled measure n first cs i id long h lt =
       arith,
       linear,
       outer_part-before (first + (n + n)) i id (omega arith),
-      ap (λ (k : ℕ). earlier_part i 0 cs k) e,
-      within,
+      ap
+          (λ (k : ℕ). earlier_part i 0 cs k) e,
       is_at-other (first + i) id (λ e. omega arith),
-      is_at-other (first + i + n) id (λ e. omega arith),
+      is_at-other (first + i + n)
+          id (λ e. omega arith),
     )
 
 parts-alone : (n first : ℕ) (cs : List (ℕ × ℕ)) (i p : ℕ) → first ≡ 2 * length cs → p < n
@@ -210,10 +210,11 @@ parts-negated n first cs i p long h h' =
       arith,
       linear,
       outer_part-before (first + (n + n)) i (first + (n + p)) (omega arith),
-      earlier_part-past i 0 cs (first + (n + p)) (omega arith),
+      earlier_part-past i 0
+          cs (first + (n + p)) (omega arith),
       is_at-other (first + i) (first + (n + p)) (λ e. omega arith),
-      moved,
-      is_at-shift (first + n) i p,
+      is_at-shift
+          (first + n) i p,
     )
 
 parts-outer : (n first : ℕ) (cs : List (ℕ × ℕ)) (i s : ℕ) → first ≡ 2 * length cs → i < n
@@ -244,7 +245,7 @@ entry_negated : (measure : Measure) (n : ℕ) (front : List Level) (p i : ℕ) �
 entry_negated measure n front p i k h =
     let plus =
     sym (ap (λ c. entry_of measure n c i) (column_single n front p k)) ∙ entry_single measure n front p i k h in
-    ap (λ c. entry_of measure n c i) (bound_column n front p k) ∙ ap (λ z. pos 0 -ℤ z) plus
+    cc (bound_column n front p k)
 
 -- the coalition of all players, then those of the levels in front
 abbrev pub settled_pairs : ℕ → List Level → List (ℕ × ℕ)
@@ -282,5 +283,4 @@ entry_parts measure n front i id h kind = elim kind [
 pub column_parts : (measure : Measure) (n : ℕ) (front : List Level) (i id : ℕ) → i < n
     → parts n (first_single front) (settled_pairs n front) i id ≡ entry_of measure n (column n front id) i
 column_parts measure n front i id h =
-    ap (λ (k : ℕ). parts n k (settled_pairs n front) i id) (sym (settled_length n front))
-    ∙ entry_parts measure n front i id h (kind_of (length (settled_columns n front)) n id)
+    cc (settled_length n front, entry_parts measure n front i id h (kind_of (length (settled_columns n front)) n id))

@@ -41,7 +41,7 @@ first_apart : (s low k : ℕ) (cs : List (ℕ × ℤ)) (ys : List (ℕ × ℕ)) 
 first_apart s low k [] ys lt h rest = rest
 first_apart s low k (c ∷ cs) ys lt h rest =
     let le = h.0 in
-    (nat_eq-less s c.0 (omega (arith, lt, le)), first_apart s (c.0 + 1) k cs ys (omega (arith, lt, le)) h.1 rest)
+    (nat_eq-less s c.0 (omega arith), first_apart s (c.0 + 1) k cs ys (omega arith) h.1 rest)
 
 level_distinct : (low k : ℕ) (cs : List (ℕ × ℤ)) (ys : List (ℕ × ℕ)) → Ascends low cs → Misses cs ys
     → IsDistinct nat_eq (map (λ (y : ℕ × ℕ). y.0) ys)
@@ -71,8 +71,7 @@ chain_unlisted q k (t ∷ ts) chain =
     (all_weaken (λ c. IsOutside Span q.game.players q.front c.0) (λ c. Unlisted q.front c.0) t.level.coalitions
     (λ c o. outside_unlisted q.game.players q.front c.0 o) (level_outside q t chain.0)))
     (all_weaken (λ c. Unlisted (q.front ++ t.level ∷ []) c.0) (λ c. Unlisted q.front c.0)
-    (earlier_of (k + 1) (levels_of ts))
-    (λ c none listed. none
+    (earlier_of (k + 1) (levels_of ts)) (λ c none listed. none
     (any_left (λ l. list_any (λ d. nat_eq d.0 c.0) l.coalitions) q.front (t.level ∷ []) listed))
     (chain_unlisted (after q t) (k + 1) ts chain.1))
 
@@ -93,8 +92,7 @@ unfolding IsDistinct
 distinct_behind q k [] chain form = tt
 distinct_behind q k (t ∷ ts) chain form =
     level_distinct 0 k t.level.coalitions (earlier_of (k + 1) (levels_of ts)) form.0.ascend
-    (chain_misses q (k + 1) t ts chain.1)
-    (distinct_behind (after q t) (k + 1) ts chain.1 form.1)
+    (chain_misses q (k + 1) t ts chain.1) (distinct_behind (after q t) (k + 1) ts chain.1 form.1)
 
 -- the coalitions of the levels of a chain are distinct
 pub chain_distinct : (q : Stage) (ts : List StageAnswer) → IsChain (with_front q []) ts

@@ -1,9 +1,8 @@
 -- A level has no more entries than its stage has weights: each entry has a column of its own.
 use Rattle.std.proofs.Common.{◌≡◌, ◌≢◌, ◌⊎◌, ℕ, zero, suc, ◌+◌, ◌-◌, ◌*◌, ◌≤◌}
-use Rattle.std.proofs.Common.{Bool, true, false}
-use Rattle.std.proofs.Common.{cond, nat_eq, nat_le, List, [], ◌∷◌, length, ℤ, pos, ◌+ℤ◌}
-use Rattle.std.proofs.Common.{refl}
-use Rattle.std.proofs.Common.{sym, ap, ◌∙◌, inl, inr, arith, if◌then◌else◌}
+use Rattle.std.proofs.Common.{Bool, true, false, cond, nat_eq, nat_le, List, [], ◌∷◌, length}
+use Rattle.std.proofs.Common.{ℤ, pos, ◌+ℤ◌, refl, sym, ap, ◌∙◌, inl, inr, arith}
+use Rattle.std.proofs.Common.{if◌then◌else◌}
 use Rattle.std.proofs.lemmas.Bool.{false≢true}
 use Rattle.std.proofs.lemmas.Bool.Decides.{nat_tests, Decides-int_eq}
 use Rattle.std.proofs.lemmas.List.{length-append}
@@ -14,8 +13,7 @@ use Rattle.kohlberg.proofs.Placed.{length-placed}
 use Rattle.separation.specs.Stage.{earlier_of}
 use Rattle.simplex.specs.declared.answer.Optimal.{Optimal}
 use Rattle.nested_programs.specs.Answer.{IsShort}
-use Rattle.nested_programs.specs.Numbers.{first_single, outer_pairs, net, kept}
-use Rattle.nested_programs.specs.Numbers.{earlier_pairs, bound_pairs, IsLevelOf}
+use Rattle.nested_programs.specs.Numbers.{first_single, outer_pairs, net, kept, earlier_pairs, bound_pairs, IsLevelOf}
 use Rattle.definitions.proofs.Cases.{true_or_false}
 
 -- ---- weights from a column on
@@ -87,14 +85,14 @@ kept_few ws key a b =
     let na = count_next a ws in
     let nb = count_next b ws in
     elim (kept_cases key (net ws a b)) [
-      | inl none ↦ rw none (omega (arith, na, nb))
+      | inl none ↦ rw none (omega arith)
       | inr some ↦ elim (zero_cases (number_at ws a)) [
         | inl za ↦
-            let wb = count_weighs b ws (λ zb. some.1 (omega (arith, linear, za, zb))) in
-            rw some.0 (omega (arith, na, wb))
+            let wb = count_weighs b ws (λ zb. some.1 (omega (arith, linear))) in
+            rw some.0 (omega arith)
         | inr wa ↦
             let ha = count_weighs a ws wa in
-            rw some.0 (omega (arith, ha, nb))
+            rw some.0 (omega arith)
       ]
     ]
 
@@ -109,7 +107,7 @@ earlier_few ws id (c ∷ cs) =
     let end = ap (λ (z : ℕ). count_from z ws) e in
     let ih = earlier_few ws (id + 2) cs in
     let long = length-append (kept c.0 (net ws id (id + 1))) (earlier_pairs ws (id + 2) cs) in
-    omega (arith, here, there, end, ih, long)
+    omega arith
 
 bound_few : (ws : List (ℕ × ℤ)) (first n i : ℕ)
     → length (bound_pairs ws first n i) + (count_from (first + i) ws + count_from (first + i + n) ws)
@@ -123,7 +121,7 @@ bound_few ws first n (suc i) =
     let minus = ap (λ (z : ℕ). count_from z ws) e' in
     let ih = bound_few ws first n i in
     let long = length-append (bound_pairs ws first n i) (kept i (net ws (first + i) (first + i + n))) in
-    omega (arith, here, plus, minus, ih, long)
+    omega arith
 
 either_more : (b : Bool) (q : ℕ × ℤ) (qs : List (ℕ × ℤ)) (k : ℕ) → length qs ≡ k
     → length (cond b (q ∷ qs) qs) ≡ cond b (suc k) k
@@ -152,7 +150,7 @@ level_entries n front best l is =
     let e : first + n + n ≡ first + (n + n) = omega arith in
     let ends = ap (λ (z : ℕ). count_from z ws) e in
     let most = count_most 2 ws in
-    omega (arith, a, a', b, b', c, c', ends, most)
+    omega arith
 
 -- the level of a stage is short: each entry has a column of its own among the weights
 pub level_short : (n : ℕ) (front : List Level) (best : Optimal) (l : Level)
@@ -160,4 +158,4 @@ pub level_short : (n : ℕ) (front : List Level) (best : Optimal) (l : Level)
     → IsShort n l
 level_short n front best l is few low =
     let most = level_entries n front best l is in
-    omega (arith, most, few, low)
+    omega arith

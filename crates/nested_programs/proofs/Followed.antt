@@ -1,9 +1,8 @@
 -- The level that weights of a stage are follows from them.
 use Rattle.std.proofs.Common.{◌≡◌, ◌≢◌, ◌⊎◌, ℕ, ◌+◌, ◌-◌, ◌<◌, ◌≤◌, Bool, true}
-use Rattle.std.proofs.Common.{false, ◌&&◌, IsTrue}
-use Rattle.std.proofs.Common.{List, [], ◌∷◌, ◌++◌, length, ℤ, pos, ◌+ℤ◌, ◌-ℤ◌, ◌≤ℤ◌}
-use Rattle.std.proofs.Common.{refl, sym, ap}
-use Rattle.std.proofs.Common.{subst, ◌∙◌, inl, inr, arith, nat_eq, nat_lt, int_le}
+use Rattle.std.proofs.Common.{false, ◌&&◌, IsTrue, List, [], ◌∷◌, ◌++◌, length, ℤ, pos}
+use Rattle.std.proofs.Common.{◌+ℤ◌, ◌-ℤ◌, ◌≤ℤ◌, refl, ap, ◌∙◌, inl, inr, arith, nat_eq}
+use Rattle.std.proofs.Common.{nat_lt, int_le}
 use Rattle.std.proofs.lemmas.Int.{by_lt_z}
 use Rattle.std.proofs.lemmas.Bool.Decides.{nat_tests}
 use Rattle.std.specs.List.{list_any, AllByRecursion}
@@ -27,8 +26,7 @@ use Rattle.nested_programs.proofs.LevelSums.{is_at, outer_part, pair_part, earli
 use Rattle.nested_programs.proofs.LevelSums.{net_weighted, outer_weighted, earlier_weighted, number_within}
 use Rattle.nested_programs.proofs.ColumnParts.{parts, settled_pairs, settled_length, column_parts}
 use Rattle.nested_programs.proofs.PositiveWeights.{number_low, number_some, weight_of, each_weighs, on_column}
-use Rattle.nested_programs.proofs.LevelPairs.{any_placed_behind, all_outer}
-use Rattle.nested_programs.proofs.LevelPairs.{any_outer, all_bound, any_bound}
+use Rattle.nested_programs.proofs.LevelPairs.{any_placed_behind, all_outer, any_outer, all_bound, any_bound}
 use Rattle.definitions.proofs.Cases.{or_left, true_or_false, and_left, and_right}
 use Rattle.definitions.proofs.Alls.{all_weaken}
 use Rattle.kohlberg.specs.Pairs.{placed}
@@ -43,8 +41,7 @@ whole_first : (n k i : ℕ) (cs : List (ℕ × ℕ)) (ws : List (ℕ × ℤ)) �
 whole_first n k i cs ws h =
     let all : has_player (grand_coalition n) i ≡ true = has_player-grand_coalition n i h in
     let pair : ℕ → ℤ = pair_part (has_player (grand_coalition n) i) 0 in
-    let first : weighted_sum pair ws ≡ net ws 0 1 =
-    ap (λ (b : Bool). weighted_sum (pair_part b 0) ws) all ∙ sym (net_weighted 0 1 ws) in
+    let first : weighted_sum pair ws ≡ net ws 0 1 = cc (net_weighted 0 1 ws) in
     omega (arith, linear, weighted_sum-add pair (earlier_part i 2 cs) ws, first, earlier_weighted i ws 2 cs)
 
 parts_sum : (n first i k : ℕ) (cs : List (ℕ × ℕ)) (ws : List (ℕ × ℤ)) → i < n
@@ -82,7 +79,7 @@ level_sums measure n front best l is i h =
     let same =
     weighted-same (parts n first (settled_pairs n front) i) (λ id. entry_of measure n (column n front id) i) ws
     (λ id. column_parts measure n front i id h) in
-    omega (arith, linear, outer, earlier, bound, is.total, sum, same)
+    omega (arith, linear)
 
 -- ---- the coalitions
 
@@ -97,17 +94,16 @@ outer_weigh n front ws h =
     let P : ℕ × ℤ → Type 0 = λ c. (pos 1 ≤ℤ c.1) × HasWeight ws (outer_id n front c.0) in
     let back : (id : ℕ) → first ≤ id → id ≡ outer_id n front (id - first) =
     λ id le. (let e = outer_id-is n front (id - first) in omega (arith, e)) in
-    placed_all P (outer_pairs first ws)
-    (all_outer P first ws
+    placed_all P (outer_pairs first ws) (all_outer P first ws
     (all_weaken (λ w. (pos 1 ≤ℤ w.1) × HasWeight ws w.0) (λ w. first ≤ w.0 → P (w.0 - first, w.1)) ws
-    (λ w k le. (k.0, subst (HasWeight ws) (back w.0 le) k.1)) (each_weighs ws h)))
+    (λ w k le. (k.0, rw (back w.0 le) at k.1)) (each_weighs ws h)))
 
 outer_listed : (n : ℕ) (front : List Level) (ws : List (ℕ × ℤ)) (s : ℕ) → HasWeight ws (outer_id n front s)
     → list_any (λ c. nat_eq c.0 s) (placed (outer_pairs (first_single front + (n + n)) ws)) ≡ true
 outer_listed n front ws s has =
     let first : ℕ = first_single front + (n + n) in
     any_placed_behind (λ c. nat_eq c.0 s) [] (outer_pairs first ws)
-    (inr (any_outer first ws s (subst (HasWeight ws) (outer_id-is n front s) has)))
+    (inr (any_outer first ws s (rw (outer_id-is n front s) at has)))
 
 -- ---- the bounds
 
@@ -120,7 +116,7 @@ bound_in_front q outside i h is_so =
     let len : ℕ = length (settled_columns n q.front) in
     let e = settled_length n q.front in
     let same : first_single q.front + i + n ≡ len + (n + i) = omega (arith, e) in
-    let there = subst (λ (k : ℕ). IsTrue ((program_of q outside).is_column k)) same is_so in
+    let there = rw same at is_so in
     let t : nat_lt (len + (n + i)) len ≡ false = grind (arith, nat_tests) in
     let v : len + (n + i) - len ≡ n + i = omega arith in
     let t' : nat_lt (n + i) n ≡ false = grind (arith, nat_tests) in
@@ -149,13 +145,12 @@ bound_comes : (q : Stage) (outside : ℕ → Bool) (ws : List (ℕ × ℤ)) (i :
     → net ws (first_single q.front + i) (first_single q.front + i + q.game.players) ≢ pos 0
     → BoundComes q ws (i, net ws (first_single q.front + i) (first_single q.front + i + q.game.players))
 bound_comes q outside ws i are positive h some =
-    by_lt_z (pos 0) z
-    (λ up.
+    by_lt_z (pos 0) z (λ up.
     let one : pos 1 ≤ℤ number_at ws (first + i) = omega (arith, linear, up, low) in (
       h,
       inl (
         omega (arith, linear, up),
-        subst (HasWeight ws) (single_id-is n q.front i) (weight_of ws (first + i) positive one),
+        rw (single_id-is n q.front i) at (weight_of ws (first + i) positive one),
       ),
     ))
     (λ down.
@@ -180,12 +175,11 @@ bound_comes q outside ws i are positive h some =
 
     below : (z a b : ℤ) → z ≡ a -ℤ b → z ≢ pos 0 → z ≤ℤ pos 0 → pos 0 ≤ℤ a → pos 1 ≤ℤ b
     below z a b e ne le a_low =
-        by_lt_z z (pos 0) (λ lt. omega (arith, linear, lt, e, a_low))
-        (λ ge. absurd (ne (omega (arith, linear, ge, le))))
+        by_lt_z z (pos 0) (λ lt. omega (arith, linear)) (λ ge. absurd (ne (omega (arith, linear))))
 
 at_least : (z : ℤ) → pos 1 ≤ℤ z → int_le (pos 1) z ≡ true
 at_least z h =
-    elim (true_or_false (int_le (pos 1) z)) [ inl up ↦ up | inr down ↦ absurd (omega (arith, linear, h, down)) ]
+    elim (true_or_false (int_le (pos 1) z)) [ inl up ↦ up | inr down ↦ absurd (omega (arith, linear)) ]
 
 -- a weight on a player's column gives a bound in front or a bound of the level
 bound_known : (q : Stage) (outside : ℕ → Bool)
@@ -201,7 +195,7 @@ bound_known q outside ws i are positive h has =
     let one : pos 1 ≤ℤ z = omega (arith, linear, none, plus) in
     let t : nat_eq i i ≡ true = grind (arith, nat_tests) in
     let u : int_le (pos 1) z ≡ true = at_least z one in
-    inr (any_bound test ws first n n i h (λ e. omega (arith, linear, e, one)) (rw t u)))
+    inr (any_bound test ws first n n i h (λ e. omega (arith, linear)) (rw t u)))
   where
     n : ℕ
     n = q.game.players
@@ -216,7 +210,7 @@ bound_known q outside ws i are positive h has =
     test b = nat_eq b.0 i && int_le (pos 1) b.1
 
     plus : pos 1 ≤ℤ number_at ws (first + i)
-    plus = number_some ws (first + i) positive (subst (HasWeight ws) (sym (single_id-is n q.front i)) has)
+    plus = number_some ws (first + i) positive (rw (single_id-is n q.front i) has)
 
 -- ---- all together
 
@@ -229,11 +223,9 @@ level_follows q outside best l are numbers is =
     let positive = numbers.positive in
     record {
       coalitions =
-          subst (AllByRecursion (λ c. (pos 1 ≤ℤ c.1) × HasWeight ws (outer_id n q.front c.0))) (sym is.coalitions)
-          (outer_weigh n q.front ws positive);
+          rw is.coalitions (outer_weigh n q.front ws positive);
       bounds =
-          subst (AllByRecursion (BoundComes q ws)) (sym is.bounds)
-          (all_bound (BoundComes q ws) ws (first_single q.front) n n
+          rw is.bounds (all_bound (BoundComes q ws) ws (first_single q.front) n n
           (λ i lt some. bound_comes q outside ws i are positive lt some));
       all_coalitions = λ s has. or_left (list_any (λ c. nat_eq c.0 s) l.coalitions) false
           (ap (list_any (λ c. nat_eq c.0 s)) is.coalitions ∙ outer_listed n q.front ws s has);

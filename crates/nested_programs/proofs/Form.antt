@@ -1,9 +1,8 @@
 -- What the rows of a stage say of its level: it is balanced, and it has a coalition.
 use Rattle.std.proofs.Common.{◌≡◌, ◌≢◌, ◌⊎◌, ℕ, ◌+◌, ◌-◌, ◌<◌, ◌≤◌, Bool, true}
-use Rattle.std.proofs.Common.{false, cond, ◌||◌}
-use Rattle.std.proofs.Common.{IsTrue, List, [], ◌∷◌, length, ℤ, pos, ◌+ℤ◌, ◌*ℤ◌, ◌≤ℤ◌}
-use Rattle.std.proofs.Common.{refl, sym, ap}
-use Rattle.std.proofs.Common.{◌∙◌, inl, inr, arith, nat_eq, nat_lt, if◌then◌else◌}
+use Rattle.std.proofs.Common.{false, ◌||◌, IsTrue, List, [], ◌∷◌, length, ℤ, pos, ◌+ℤ◌}
+use Rattle.std.proofs.Common.{◌*ℤ◌, ◌≤ℤ◌, refl, sym, ap, ◌∙◌, inl, inr, arith, nat_eq}
+use Rattle.std.proofs.Common.{nat_lt, if◌then◌else◌}
 use Rattle.std.proofs.lemmas.Int.{by_lt_z}
 use Rattle.std.proofs.lemmas.Bool.{false≢true}
 use Rattle.std.proofs.lemmas.Bool.Decides.{nat_tests}
@@ -11,7 +10,6 @@ use Rattle.std.specs.List.{list_any, AllByRecursion}
 use Rattle.definitions.proofs.Ring.{linear, mul-zeroℤ, mul-oneℤ, zero-mulℤ}
 use Rattle.definitions.specs.Sums.{weighted_sum}
 use Rattle.definitions.specs.Coalitions.{has_player, singleton, grand_coalition, weight_at}
-use Rattle.definitions.specs.Measures.{divisor}
 use Rattle.definitions.specs.Certificates.{Level, number_at, IsOutside}
 use Rattle.definitions.specs.Programs.{Program}
 use Rattle.definitions.specs.declared.Measure.{Measure}
@@ -34,7 +32,7 @@ level_balanced q t holds i h =
     let u : nat_eq i (q.game.players + length q.front) ≡ false = grind (arith, nat_tests) in
     let zero_right : t.weight_den *ℤ (if nat_eq i (q.game.players + length q.front) then pos 1 else pos 0) ≡ pos 0 =
     rw u (mul-zeroℤ t.weight_den) in
-    omega (arith, linear, holds.follows.sums i h, row, zero_right)
+    omega (arith, linear, holds.follows.sums i h)
 
 -- ---- the last row
 
@@ -65,16 +63,13 @@ kind_of : (measure : Measure) (n : ℕ) (front : List Level) (id : ℕ)
 kind_of measure n front id = elim (true_or_false (nat_lt id len)) [
   | inl below ↦
       let lt : id < len = grind (arith, nat_tests) in
-      inr
-      (rw below
+      inr (rw below
       (all_at (λ c. entry_of measure n c (n + k) ≡ pos 0) (settled_columns n front) id no_column lt no_last_entry))
   | inr past ↦ elim (true_or_false (nat_lt (id - len) n)) [
     | inl below ↦ inr (rw past (rw below (other_row measure n k (singleton (id - len)) (k + 1) (λ e. omega arith))))
     | inr more ↦ elim (true_or_false (nat_lt (id - len) (n + n))) [
       | inl below ↦ inr
-          (rw past
-          (rw more
-          (rw below
+          (rw past (rw more (rw below
           (signed_zero true (plus_entry measure n (singleton (id - len - n)) (k + 1) (n + k))
           (other_row measure n k (singleton (id - len - n)) (k + 1) (λ e. omega arith))))))
       | inr beyond ↦
@@ -111,14 +106,13 @@ some_outer measure p n front (w ∷ ws) h = elim (some_outer measure p n front w
     | inl outer ↦ by_lt_z (pos 0) w.1
         (λ up. inl (outer.0, inl (outer.1, omega (arith, linear, up))))
         (λ low.
-        let e : w.1 ≡ pos 0 = omega (arith, linear, low, h.0.1) in
-        inr
-        (omega (
+        let e : w.1 ≡ pos 0 = omega (arith, linear) in
+        inr (omega (
           arith,
           linear,
-          none,
           ap (λ z. z *ℤ entry_of measure n (column n front w.0) (n + length front)) e,
-          zero-mulℤ (entry_of measure n (column n front w.0) (n + length front)),
+          zero-mulℤ
+              (entry_of measure n (column n front w.0) (n + length front)),
         )))
     | inr nothing ↦ inr (omega (arith, linear, none, ap (λ z. w.1 *ℤ z) nothing, mul-zeroℤ w.1))
   ]
@@ -131,8 +125,7 @@ some_in (c ∷ cs) s h = omega arith
 -- the level of an optimal stage has a coalition
 pub level_some : (q : Stage) (t : StageAnswer) → Answers q t → 1 ≤ length t.level.coalitions
 level_some q t holds =
-    elim
-    (some_outer q.measure (program_of q t.outside) q.game.players q.front t.weights
+    elim (some_outer q.measure (program_of q t.outside) q.game.players q.front t.weights
     holds.optimal.0.0.0) [
       | inl found ↦ some_in t.level.coalitions found.0 (holds.follows.all_coalitions found.0 found.1)
       | inr none ↦
@@ -142,7 +135,7 @@ level_some q t holds =
           let right : t.weight_den
           *ℤ (if nat_eq (q.game.players + length q.front) (q.game.players + length q.front) then pos 1 else pos 0)
           ≡ t.weight_den = rw u (mul-oneℤ t.weight_den) in
-          absurd (omega (arith, linear, row, right, none, holds.optimal.0.1))
+          absurd (omega (arith, linear))
     ]
 
 -- ---- the coalitions of a level were outside
@@ -190,16 +183,13 @@ pub entry_outer : (measure : Measure) (n : ℕ) (front : List Level) (s i : ℕ)
     → entry_of measure n (column n front (outer_id n front s)) i ≡ (if has_player s i then pos 1 else pos 0)
 entry_outer measure n front s i h =
     let t : nat_lt i n ≡ true = grind (arith, nat_tests) in
-    ap (λ c. entry_of measure n c i) (column_outer n front s)
-    ∙ ap
-    (λ (b : Bool). cond b (if has_player s i then pos 1 else pos 0)
-    (if nat_eq i (n + length front) then pos (divisor measure s) else pos 0)) t
+    cc (column_outer n front s)
 
 alone_test : (p i : ℕ) → has_player (singleton p) i ≡ nat_eq p i
 alone_test p i = elim (same_or_other p i) [
   | inl e ↦
       let t : nat_eq p i ≡ true = grind (arith, nat_tests) in
-      ap (λ (z : ℕ). has_player (singleton z) i) e ∙ has_player-singleton i ∙ sym t
+      cc (has_player-singleton i)
   | inr ne ↦
       let t : nat_eq p i ≡ false = grind (arith, nat_tests) in
       has_player-singleton_other p i (λ e. ne (sym e)) ∙ sym t
@@ -209,8 +199,4 @@ pub entry_single : (measure : Measure) (n : ℕ) (front : List Level) (p i : ℕ
     → entry_of measure n (column n front (single_id n front p)) i ≡ (if nat_eq p i then pos 1 else pos 0)
 entry_single measure n front p i k h =
     let t : nat_lt i n ≡ true = grind (arith, nat_tests) in
-    ap (λ c. entry_of measure n c i) (column_single n front p k)
-    ∙ ap
-    (λ (b : Bool). cond b (if has_player (singleton p) i then pos 1 else pos 0)
-    (if nat_eq i (n + (length front + 1)) then pos (divisor measure (singleton p)) else pos 0)) t
-    ∙ ap (λ (b : Bool). cond b (pos 1) (pos 0)) (alone_test p i)
+    cc (column_single n front p k, alone_test p i)

@@ -1,10 +1,9 @@
 -- The level of a stage has the form of a certificate's level, and so has a chain with one level more.
 use Rattle.std.proofs.Common.{◌≡◌, ℕ, ◌+◌, ◌*◌, ◌^◌, ◌<◌, ◌≤◌, Bool, true, IsTrue}
-use Rattle.std.proofs.Common.{nat_eq, List, [], ◌∷◌}
-use Rattle.std.proofs.Common.{◌++◌, length, map, ℤ, unsigned_abs, sym, subst, arith}
+use Rattle.std.proofs.Common.{nat_eq, List, [], ◌∷◌, ◌++◌, length, map, ℤ, unsigned_abs, arith}
 use Rattle.std.specs.List.{list_any, AllByRecursion, IsDistinct}
 use Rattle.std.proofs.lemmas.List.{append_assoc, append-nil}
-use Rattle.definitions.specs.Certificates.{Level, is_listed, Ascends, IsSmall, LevelForm, LevelsForm}
+use Rattle.definitions.specs.Certificates.{Level, is_listed, IsSmall, LevelForm, LevelsForm}
 use Rattle.separation.specs.Stage.{earlier_of}
 use Rattle.simplex.specs.declared.answer.Optimal.{Optimal}
 use Rattle.nested_programs.specs.Stage.{Stage}
@@ -51,8 +50,7 @@ level_listed : (n : ℕ) (front : List Level) (best : Optimal) (l : Level)
     → IsLevelOf n front best l → AllByRecursion (λ c. IsTrue (is_listed front c.0)) l.earlier
 level_listed n front best l is =
     let ws : List (ℕ × ℤ) = best.weights.items in
-    subst (AllByRecursion (λ c. is_listed front c.0 ≡ true)) (sym is.earlier)
-    (placed_all (λ c. is_listed front c.0 ≡ true) (earlier_pairs ws 2 (earlier_of 0 front))
+    rw is.earlier (placed_all (λ c. is_listed front c.0 ≡ true) (earlier_pairs ws 2 (earlier_of 0 front))
     (earlier_all (λ c. is_listed front c.0 ≡ true) ws 2 (earlier_of 0 front)
     (all_weaken (λ c. is_listed front c.0 ≡ true) (λ c. (a b : ℕ) → is_listed front c.0 ≡ true) (earlier_of 0 front)
     (λ c h a b. h) (earlier_listed 0 front))))
@@ -65,9 +63,7 @@ coalitions_small : (n : ℕ) (front : List Level) (best : Optimal) (l : Level)
 coalitions_small n front best l is numbers =
     let ws : List (ℕ × ℤ) = best.weights.items in
     let first : ℕ = first_single front + (n + n) in
-    subst (AllByRecursion (λ p. IsSmall p.1)) (sym is.coalitions)
-    (placed_all (λ p. IsSmall p.1) (outer_pairs first ws)
-    (outer_all (λ p. IsSmall p.1) first ws
+    rw is.coalitions (placed_all (λ p. IsSmall p.1) (outer_pairs first ws) (outer_all (λ p. IsSmall p.1) first ws
     (all_weaken (λ w. unsigned_abs w.1 < 2 ^ 62) (λ w. (s : ℕ) → IsSmall w.1) ws
     (λ w h s. below_63 (unsigned_abs w.1) h) numbers.small)))
 
@@ -75,8 +71,7 @@ earlier_small : (n : ℕ) (front : List Level) (best : Optimal) (l : Level)
     → IsLevelOf n front best l → AreNumbers best.weights.items → AllByRecursion (λ p. IsSmall p.1) l.earlier
 earlier_small n front best l is numbers =
     let ws : List (ℕ × ℤ) = best.weights.items in
-    subst (AllByRecursion (λ p. IsSmall p.1)) (sym is.earlier)
-    (placed_all (λ p. IsSmall p.1) (earlier_pairs ws 2 (earlier_of 0 front))
+    rw is.earlier (placed_all (λ p. IsSmall p.1) (earlier_pairs ws 2 (earlier_of 0 front))
     (earlier_all (λ p. IsSmall p.1) ws 2 (earlier_of 0 front)
     (all_any (λ c. (a b : ℕ) → IsSmall (net ws a b)) (earlier_of 0 front) (λ c a b. net_small ws a b numbers))))
 
@@ -84,8 +79,7 @@ bounds_small : (n : ℕ) (front : List Level) (best : Optimal) (l : Level)
     → IsLevelOf n front best l → AreNumbers best.weights.items → AllByRecursion (λ p. IsSmall p.1) l.bounds
 bounds_small n front best l is numbers =
     let ws : List (ℕ × ℤ) = best.weights.items in
-    subst (AllByRecursion (λ p. IsSmall p.1)) (sym is.bounds)
-    (bound_all (λ p. IsSmall p.1) ws (first_single front) n n (λ k a b lt. net_small ws a b numbers))
+    rw is.bounds (bound_all (λ p. IsSmall p.1) ws (first_single front) n n (λ k a b lt. net_small ws a b numbers))
 
 -- ---- the form
 
@@ -114,29 +108,25 @@ level_formed q best outside l holds numbers is apart few low most =
       listed = level_listed n q.front best l is;
       players = level_players q t holds;
       ascend =
-          subst (Ascends 0) (sym is.coalitions)
-          (placed_ascends (outer_pairs (first_single q.front + (n + n)) ws)
+          rw is.coalitions (placed_ascends (outer_pairs (first_single q.front + (n + n)) ws)
           (outer_apart (first_single q.front + (n + n)) ws numbers.distinct));
       earlier_ascend =
-          subst (Ascends 0) (sym is.earlier)
-          (placed_ascends (earlier_pairs ws 2 (earlier_of 0 q.front))
+          rw is.earlier (placed_ascends (earlier_pairs ws 2 (earlier_of 0 q.front))
           (earlier_apart ws 2 (earlier_of 0 q.front) apart));
-      bounds_ascend = subst (Ascends 0) (sym is.bounds) (bound_ascends ws (first_single q.front) n n);
+      bounds_ascend = rw is.bounds (bound_ascends ws (first_single q.front) n n);
       small = all_join (λ p. IsSmall p.1) (l.coalitions ++ l.earlier) l.bounds
-          (all_join (λ p. IsSmall p.1) l.coalitions l.earlier
-          (coalitions_small n q.front best l is numbers)
-          (earlier_small n q.front best l is numbers))
-          (bounds_small n q.front best l is numbers);
-      total_small = subst IsSmall (sym is.total) (net_small ws 1 0 numbers);
+          (all_join (λ p. IsSmall p.1) l.coalitions l.earlier (coalitions_small n q.front best l is numbers)
+          (earlier_small n q.front best l is numbers)) (bounds_small n q.front best l is numbers);
+      total_small = rw is.total (net_small ws 1 0 numbers);
     }
 
 form_behind : (n : ℕ) (before rest : List Level) (l : Level) → LevelsForm n before rest
     → LevelForm n (before ++ rest) l → LevelsForm n before (rest ++ l ∷ [])
-form_behind n before [] l h form = (subst (λ (ls : List Level). LevelForm n ls l) (append-nil before) form, tt)
+form_behind n before [] l h form = (rw (append-nil before) at form, tt)
 form_behind n before (r ∷ rest) l h form = (
   h.0,
   form_behind n (before ++ r ∷ []) rest l h.1
-      (subst (λ (ls : List Level). LevelForm n ls l) (sym (append_assoc before (r ∷ []) rest)) form),
+      (rw (append_assoc before (r ∷ []) rest) form),
 )
 
 -- one level more has the form too

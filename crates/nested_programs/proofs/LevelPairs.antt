@@ -1,8 +1,7 @@
 -- What holds of each pair, or of some pair, of a level made from weights.
 use Rattle.std.proofs.Common.{◌≡◌, ◌≢◌, ◌⊎◌, ℕ, zero, suc, ◌+◌, ◌-◌, ◌<◌, ◌≤◌}
-use Rattle.std.proofs.Common.{Bool, true, false, List, [], ◌∷◌}
-use Rattle.std.proofs.Common.{ℤ, pos, refl, sym, subst, ◌∙◌, inl, inr, arith, nat_eq}
-use Rattle.std.proofs.Common.{nat_le}
+use Rattle.std.proofs.Common.{Bool, true, false, List, [], ◌∷◌, ℤ, pos, refl, sym}
+use Rattle.std.proofs.Common.{◌∙◌, inl, inr, arith, nat_eq, nat_le}
 use Rattle.std.proofs.lemmas.Bool.{false≢true}
 use Rattle.std.proofs.lemmas.Bool.Decides.{nat_tests, Decides-int_eq}
 use Rattle.std.specs.Ordering.{int_eq}
@@ -84,8 +83,7 @@ any_bound test ws first n (suc j) i lt some h = elim (true_or_false (nat_eq i j)
       let e : i ≡ j = grind (arith, nat_tests) in
       let here : list_any test (kept i (net ws (first + i) (first + i + n))) ≡ true =
       any_kept test i (net ws (first + i) (first + i + n)) some h in
-      any_right test (bound_pairs ws first n j) (kept j (net ws (first + j) (first + j + n)))
-      (subst (λ (k : ℕ). list_any test (kept k (net ws (first + k) (first + k + n))) ≡ true) e here)
+      any_right test (bound_pairs ws first n j) (kept j (net ws (first + j) (first + j + n))) (rw e at here)
   | inr apart ↦ any_left test (bound_pairs ws first n j) (kept j (net ws (first + j) (first + j + n)))
       (any_bound test ws first n j i (grind (arith, nat_tests)) some h)
 ]

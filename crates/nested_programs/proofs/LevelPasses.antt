@@ -1,8 +1,7 @@
 -- The passes that make a level from weights, step by step.
 use Rattle.std.proofs.Common.{◌≡◌, ◌≢◌, ℕ, suc, ◌+◌, ◌*◌, ◌<◌, true, false, List}
-use Rattle.std.proofs.Common.{[], ◌∷◌, ◌++◌}
-use Rattle.std.proofs.Common.{length, map, take, drop, get_or, ℤ, pos, refl, sym, ap}
-use Rattle.std.proofs.Common.{◌∙◌, arith}
+use Rattle.std.proofs.Common.{[], ◌∷◌, ◌++◌, length, map, take, drop, get_or, ℤ, pos}
+use Rattle.std.proofs.Common.{refl, sym, ap, ◌∙◌, arith}
 use Rattle.std.specs.Ordering.{int_eq}
 use Rattle.std.proofs.lemmas.Bool.Decides.{Decides-int_eq}
 use Rattle.std.proofs.lemmas.List.{append_assoc, append-nil, length-take-le, map-append, take_more}
@@ -20,7 +19,7 @@ pub earlier_next : (levels : List Level) (k id : ℕ) (d : Level) → k < length
     ≡ 2 + 2 * length (earlier_of 0 levels)
 earlier_next levels k id d lt h =
     let e = ap (λ ls. length (earlier_of 0 ls)) (drop-more levels k d lt) in
-    omega (arith, h, e, earlier_step 0 (get_or levels k d) (drop (k + 1) levels))
+    omega (arith, earlier_step 0 (get_or levels k d) (drop (k + 1) levels))
 
 -- ---- coalitions of the levels in front
 
@@ -35,12 +34,10 @@ pairs_split : (ws : List (ℕ × ℤ)) (id k : ℕ) (cs : List (ℕ × ℤ)) (re
 pairs_split ws id k [] rest = let e : id + 2 * 0 ≡ id = omega arith in rw e refl
 pairs_split ws id k (c ∷ cs) rest =
     let next : id + 2 + 2 * length cs ≡ id + 2 * suc (length cs) = omega arith in
-    ap (λ us. kept c.0 (net ws id (id + 1)) ++ us)
-    (pairs_split ws (id + 2) k cs rest
-    ∙ ap (λ (n : ℕ). level_pairs ws (id + 2) cs ++ earlier_pairs ws n rest) next)
-    ∙ sym
-    (append_assoc (kept c.0 (net ws id (id + 1))) (level_pairs ws (id + 2) cs)
-    (earlier_pairs ws (id + 2 * suc (length cs)) rest))
+    let two =
+    append_assoc (kept c.0 (net ws id (id + 1))) (level_pairs ws (id + 2) cs)
+    (earlier_pairs ws (id + 2 * suc (length cs)) rest) in
+    cc (pairs_split ws (id + 2) k cs rest)
 
 -- the pairs of one coalition more
 level_more : (ws : List (ℕ × ℤ)) (id : ℕ) (cs : List (ℕ × ℤ)) (k : ℕ) (d : ℕ × ℤ) → k < length cs
@@ -53,18 +50,14 @@ level_more ws id cs k d lt =
     ∙ ap (earlier_pairs ws id) (map-append (λ e. (e.0, 0)) (take k cs) (c ∷ []))
     ∙ pairs_split ws id 0 (take k cs) ((c.0, 0) ∷ [])
     ∙ ap (λ us. level_pairs ws id (take k cs) ++ us)
-    (append-nil (kept c.0 (net ws (id + 2 * length (take k cs)) (id + 2 * length (take k cs) + 1)))
-    ∙ ap (λ (n : ℕ). kept c.0 (net ws (id + 2 * n) (id + 2 * n + 1))) count)
+    (cc (append-nil (kept c.0 (net ws (id + 2 * length (take k cs)) (id + 2 * length (take k cs) + 1)))))
 
 level_step : (ws ps qs : List (ℕ × ℤ)) (id : ℕ) (cs us : List (ℕ × ℤ)) (k : ℕ) (d : ℕ × ℤ) → k < length cs
     → qs ≡ placed_behind ps (level_pairs ws id (take k cs))
     → kept (get_or cs k d).0 (net ws (id + 2 * k) (id + 2 * k + 1)) ≡ us
     → placed_behind qs us ≡ placed_behind ps (level_pairs ws id (take (k + 1) cs))
 level_step ws ps qs id cs us k d lt h e =
-    ap (λ vs. placed_behind vs us) h
-    ∙ sym (placed_append ps (level_pairs ws id (take k cs)) us)
-    ∙ ap (λ vs. placed_behind ps (level_pairs ws id (take k cs) ++ vs)) (sym e)
-    ∙ ap (placed_behind ps) (sym (level_more ws id cs k d lt))
+    cc (placed_append ps (level_pairs ws id (take k cs)) us, level_more ws id cs k d lt)
 
 pub level_put : (ws ps qs : List (ℕ × ℤ)) (id : ℕ) (cs : List (ℕ × ℤ)) (k : ℕ) (d : ℕ × ℤ) (z : ℤ) → k < length cs
     → z ≡ net ws (id + 2 * k) (id + 2 * k + 1) → z ≢ pos 0
@@ -90,10 +83,9 @@ pairs_shift : (ws : List (ℕ × ℤ)) (id a b : ℕ) (levels : List Level)
     → earlier_pairs ws id (earlier_of a levels) ≡ earlier_pairs ws id (earlier_of b levels)
 pairs_shift ws id a b [] = refl
 pairs_shift ws id a b (l ∷ levels) =
-    pairs_split ws id a l.coalitions (earlier_of (a + 1) levels)
-    ∙ ap (λ us. level_pairs ws id l.coalitions ++ us)
-    (pairs_shift ws (id + 2 * length l.coalitions) (a + 1) (b + 1) levels)
-    ∙ sym (pairs_split ws id b l.coalitions (earlier_of (b + 1) levels))
+    let two = pairs_shift ws (id + 2 * length l.coalitions) (a + 1) (b + 1) levels in
+    let three = pairs_split ws id a l.coalitions (earlier_of (a + 1) levels) in
+    cc (pairs_split ws id b l.coalitions (earlier_of (b + 1) levels))
 
 pub earlier_put : (ws ps qs : List (ℕ × ℤ)) (id : ℕ) (levels : List Level) (goal : List (ℕ × ℤ)) (k : ℕ) (d : Level)
     → k < length levels → placed_behind ps (earlier_pairs ws id (earlier_of 0 (drop k levels))) ≡ goal
@@ -105,9 +97,6 @@ earlier_put ws ps qs id levels goal k d lt h e =
     let l = get_or levels k d in
     let rest = drop (k + 1) levels in
     let next = id + 2 * length l.coalitions in
-    ap (λ us. placed_behind us (earlier_pairs ws next (earlier_of 0 rest))) e
-    ∙ ap (λ us. placed_behind (placed_behind ps (level_pairs ws id l.coalitions)) us) (pairs_shift ws next 0 1 rest)
-    ∙ sym (placed_append ps (level_pairs ws id l.coalitions) (earlier_pairs ws next (earlier_of 1 rest)))
-    ∙ sym (ap (placed_behind ps) (pairs_split ws id 0 l.coalitions (earlier_of 1 rest)))
-    ∙ sym (ap (λ ls. placed_behind ps (earlier_pairs ws id (earlier_of 0 ls))) (drop-more levels k d lt))
-    ∙ h
+    let two = placed_append ps (level_pairs ws id l.coalitions) (earlier_pairs ws next (earlier_of 1 rest)) in
+    let three = pairs_split ws id 0 l.coalitions (earlier_of 1 rest) in
+    cc (pairs_shift ws next 0 1 rest, drop-more levels k d lt)

@@ -4,10 +4,9 @@
 --   outer_part      1 at the coalitions outside that hold the player
 --   earlier_part    1 at a coalition of the levels in front that holds the player, and -1 at the same negated
 use Rattle.std.proofs.Common.{◌≡◌, ℕ, zero, suc, ◌+◌, ◌-◌, ◌<◌, ◌≤◌, Bool, true}
-use Rattle.std.proofs.Common.{false, cond}
-use Rattle.std.proofs.Common.{List, [], ◌∷◌, ◌++◌, ℤ, pos, ◌+ℤ◌, ◌-ℤ◌, ◌*ℤ◌, refl}
-use Rattle.std.proofs.Common.{sym, ap, ◌∙◌}
-use Rattle.std.proofs.Common.{inl, inr, arith, nat_eq, nat_le, if◌then◌else◌}
+use Rattle.std.proofs.Common.{false, cond, List, [], ◌∷◌, ◌++◌, ℤ, pos, ◌+ℤ◌, ◌-ℤ◌}
+use Rattle.std.proofs.Common.{◌*ℤ◌, refl, sym, ap, ◌∙◌, inl, inr, arith, nat_eq, nat_le}
+use Rattle.std.proofs.Common.{if◌then◌else◌}
 use Rattle.std.proofs.lemmas.Bool.Decides.{nat_tests, Decides-int_eq}
 use Rattle.std.specs.Ordering.{int_eq}
 use Rattle.definitions.proofs.Ring.{linear, mul-zeroℤ, mul-subℤ}
@@ -108,11 +107,10 @@ earlier_weighted i ws id (c ∷ cs) =
     omega (
       arith,
       linear,
-      front,
       weight_at-kept c.0 z i,
       pair_weighted (has_player c.0 i) id ws,
-      earlier_weighted i ws (id + 2) cs,
-      more,
+      earlier_weighted i ws
+          (id + 2) cs,
     )
 
 -- ---- the bounds
@@ -128,8 +126,8 @@ number_past ws first n (suc j) i h =
       arith,
       linear,
       number_at-append (bound_pairs ws first n j) (kept j z) i,
-      last,
-      number_past ws first n j i (omega arith),
+      number_past ws first n j i
+          (omega arith),
     )
 
 -- the number of a player's bound is the net number of its column
@@ -146,9 +144,7 @@ number_within ws first n (suc j) i h = elim (true_or_false (nat_eq j i)) [
         linear,
         number_at-append (bound_pairs ws first n j) (kept j z) i,
         number_at-kept j z i,
-        here,
         number_past ws first n j i (omega arith),
-        net_is,
       )
   | inr apart ↦
       let none = ap (λ (b : Bool). cond b z (pos 0)) apart in
@@ -158,7 +154,6 @@ number_within ws first n (suc j) i h = elim (true_or_false (nat_eq j i)) [
         linear,
         number_at-append (bound_pairs ws first n j) (kept j z) i,
         number_at-kept j z i,
-        none,
         number_within ws first n j i lt,
       )
 ]

@@ -6,7 +6,7 @@ use Rattle.std.proofs.Common.{◌+ℤ◌, ◌-ℤ◌, ◌*ℤ◌, ◌≤ℤ◌, 
 use Rattle.definitions.proofs.Ring.{linear, one-mulℤ}
 use Rattle.definitions.proofs.Members.{sum_below-same, sum_below-add, sum_over-singleton, sum_over-grand_coalition}
 use Rattle.definitions.specs.Sums.{sum_below}
-use Rattle.definitions.specs.Coalitions.{has_player, singleton, grand_coalition, sum_over}
+use Rattle.definitions.specs.Coalitions.{has_player, singleton, grand_coalition}
 use Rattle.definitions.specs.Games.{Game, Allocation, share, IsAllocation, IsEfficient, IsIndividuallyRational}
 use Rattle.definitions.specs.declared.Family.TheVariants.{Imputations, Preimputations}
 use Rattle.nested_programs.specs.Answer.{singles, HasMember}
@@ -23,8 +23,7 @@ first_gets rest i = if has_player (singleton 0) i then rest else pos 0
 sum_below-first : (n : ℕ) (a : ℕ → ℤ) (rest : ℤ) → 0 < n
     → sum_below n (λ i. a i +ℤ first_gets rest i) ≡ sum_below n a +ℤ rest
 sum_below-first n a rest some =
-    sum_below-add n a (first_gets rest)
-    ∙ ap (λ (z : ℤ). sum_below n a +ℤ z) (sum_over-singleton n 0 (λ i. rest) some)
+    cc (sum_below-add n a (first_gets rest), sum_over-singleton n 0 (λ i. rest) some)
 
 module _ (g : Game) (some : 1 ≤ g.players) where
   abbrev rest : ℤ
@@ -44,19 +43,17 @@ module _ (g : Game) (some : 1 ≤ g.players) where
 
   efficient : IsEfficient g member
   efficient =
-      ap (λ (n : ℕ). sum_over n (share member) (grand_coalition g.players)) (length-tabulate 0 g.players gets)
-      ∙ sum_over-grand_coalition g.players (share member)
-      ∙ sum_below-same g.players (share member) gets share_is
-      ∙ sum_below-first g.players (λ i. g.worth (singleton i)) rest some
-      ∙ rest_added (singles g) (g.worth (grand_coalition g.players))
+      let two = sum_below-first g.players (λ i. g.worth (singleton i)) rest some in
+      let three = rest_added (singles g) (g.worth (grand_coalition g.players)) in
+      let four = sum_below-same g.players (share member) gets share_is in
+      cc (length-tabulate 0 g.players gets, sum_over-grand_coalition g.players (share member))
     where
       rest_added : (a w : ℤ) → a +ℤ (w -ℤ a) ≡ pos 1 *ℤ w
       rest_added a w = omega (arith, linear, one-mulℤ w)
 
   rational : singles g ≤ℤ g.worth (grand_coalition g.players) → IsIndividuallyRational g member
   rational low i lt =
-      rw (share_is i lt)
-      (at_least_alone (has_player (singleton 0) i) (g.worth (singleton i)) (singles g)
+      rw (share_is i lt) (at_least_alone (has_player (singleton 0) i) (g.worth (singleton i)) (singles g)
       (g.worth (grand_coalition g.players)) low)
     where
       at_least_alone : (b : Bool) (a s w : ℤ) → s ≤ℤ w → (pos 1 *ℤ a) ≤ℤ (a +ℤ cond b (w -ℤ s) (pos 0))

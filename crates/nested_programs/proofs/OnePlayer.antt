@@ -24,8 +24,7 @@ fixed_everyone n s (inr (inr (i, lt, e, b))) = absurd (false≢true b)
 
 holds_both : (n s : ℕ) → 2 ≤ n → IsFixedVector n [] s → has_player s 0 ≡ has_player s 1
 holds_both n s two fixed =
-    rw (fixed_everyone n s fixed)
-    (has_player-grand_coalition n 0 (omega (arith, two))
+    rw (fixed_everyone n s fixed) (has_player-grand_coalition n 0 (omega (arith, two))
     ∙ sym (has_player-grand_coalition n 1 (omega (arith, two))))
 
 same_weight : (n : ℕ) (ps : List (ℕ × ℤ)) → 2 ≤ n → AllByRecursion (λ p. IsFixedVector n [] p.0) ps
@@ -72,12 +71,11 @@ module _ (g : Game) (one : g.players ≡ 1) where
       one_part w = omega (arith, linear, one-mulℤ w)
 
   only_first : (i : ℕ) → i < g.players → i ≡ 0
-  only_first i lt = omega (arith, lt, one)
+  only_first i lt = omega arith
 
   rational : IsIndividuallyRational g (whole_share g)
   rational i lt =
-      rw (only_first i lt)
-      (at_least_alone (g.worth (singleton 0)) (g.worth (grand_coalition g.players))
+      rw (only_first i lt) (at_least_alone (g.worth (singleton 0)) (g.worth (grand_coalition g.players))
       (sym (ap (λ (n : ℕ). g.worth (grand_coalition n)) one)))
     where
       at_least_alone : (a w : ℤ) → a ≡ w → (pos 1 *ℤ a) ≤ℤ w

@@ -1,7 +1,6 @@
 -- The keys of the pairs of a level: distinct columns give distinct coalitions, and the players ascend.
 use Rattle.std.proofs.Common.{◌≡◌, ◌≢◌, ℕ, zero, suc, ◌+◌, ◌-◌, ◌<◌, ◌≤◌, false}
-use Rattle.std.proofs.Common.{nat_eq}
-use Rattle.std.proofs.Common.{nat_le, List, [], ◌∷◌, map, ℤ, inl, inr, arith}
+use Rattle.std.proofs.Common.{nat_eq, nat_le, List, [], ◌∷◌, map, ℤ, inl, inr, arith}
 use Rattle.std.proofs.lemmas.Bool.Decides.{nat_tests}
 use Rattle.std.specs.List.{AllByRecursion, IsDistinct}
 use Rattle.definitions.specs.Certificates.{Ascends}
@@ -15,7 +14,7 @@ use Rattle.kohlberg.proofs.Placed.{Apart}
 -- ---- the coalitions outside
 
 other_mask : (first a b : ℕ) → first ≤ a → first ≤ b → nat_eq a b ≡ false → b - first ≢ a - first
-other_mask first a b ha hb ne e = let same : a ≡ b = omega (arith, ha, hb, e) in grind (arith, nat_tests)
+other_mask first a b ha hb ne e = let same : a ≡ b = omega arith in grind (arith, nat_tests)
 
 outer_new : (first id : ℕ) (ws : List (ℕ × ℤ)) → first ≤ id
     → AllByRecursion (λ y. nat_eq id y ≡ false) (map (λ (w : ℕ × ℤ). w.0) ws)
@@ -42,8 +41,7 @@ outer_apart first (w ∷ ws) h = elim (true_or_false (nat_le first w.0)) [
 pub outer_all : (P : ℕ × ℤ → Type 0) (first : ℕ) (ws : List (ℕ × ℤ)) → AllByRecursion (λ w. (s : ℕ) → P (s, w.1)) ws
     → AllByRecursion P (outer_pairs first ws)
 outer_all P first ws h =
-    all_outer P first ws
-    (all_weaken (λ w. (s : ℕ) → P (s, w.1)) (λ w. first ≤ w.0 → P (w.0 - first, w.1)) ws
+    all_outer P first ws (all_weaken (λ w. (s : ℕ) → P (s, w.1)) (λ w. first ≤ w.0 → P (w.0 - first, w.1)) ws
     (λ w each le. each (w.0 - first))
     h)
 

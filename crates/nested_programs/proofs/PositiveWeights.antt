@@ -1,7 +1,6 @@
 -- Weights of at least 1: the number of a column is at least 1 exactly where the column has a weight.
 use Rattle.std.proofs.Common.{◌≡◌, ℕ, Bool, true, IsTrue, List, [], ◌∷◌, ℤ, pos}
-use Rattle.std.proofs.Common.{◌+ℤ◌}
-use Rattle.std.proofs.Common.{◌≤ℤ◌, refl, subst, inl, inr, arith, nat_eq}
+use Rattle.std.proofs.Common.{◌+ℤ◌, ◌≤ℤ◌, refl, inl, inr, arith, nat_eq}
 use Rattle.std.proofs.lemmas.Bool.Decides.{nat_tests}
 use Rattle.std.specs.List.{AllByRecursion}
 use Rattle.definitions.proofs.Ring.{linear}
@@ -27,7 +26,7 @@ number_some (w ∷ ws) id h (inl here) =
 number_some (w ∷ ws) id h (inr more) =
     let ih = number_some ws id h.1 more in
     elim (true_or_false (nat_eq w.0 id)) [
-      | inl same ↦ rw same (omega (arith, linear, ih, h.0))
+      | inl same ↦ rw same (omega (arith, linear))
       | inr other ↦ rw other (omega (arith, linear, ih))
     ]
 
@@ -40,7 +39,7 @@ weight_of (w ∷ ws) id h some = elim (true_or_false (nat_eq w.0 id)) [
       inl (e, h.0)
   | inr other ↦
       let rest : pos 0 +ℤ number_at ws id ≡ number_at (w ∷ ws) id = rw other refl in
-      inr (weight_of ws id h.1 (omega (arith, linear, some, rest)))
+      inr (weight_of ws id h.1 (omega (arith, linear)))
 ]
 
 pub each_weighs : (ws : List (ℕ × ℤ)) → AllByRecursion (λ w. pos 1 ≤ℤ w.1) ws
@@ -56,5 +55,5 @@ each_weighs (w ∷ ws) h = (
 pub on_column : (is_column : ℕ → Bool) (ws : List (ℕ × ℤ)) (id : ℕ)
     → AllByRecursion (λ w. IsTrue (is_column w.0) × (pos 0 ≤ℤ w.1)) ws → HasWeight ws id → IsTrue (is_column id)
 on_column is_column [] id h has = absurd has
-on_column is_column (w ∷ ws) id h (inl here) = subst (λ (k : ℕ). IsTrue (is_column k)) here.0 h.0.0
+on_column is_column (w ∷ ws) id h (inl here) = rw here.0 at h.0.0
 on_column is_column (w ∷ ws) id h (inr more) = on_column is_column ws id h.1 more

@@ -1,9 +1,8 @@
 -- The dual reading of a stage program.
 use Rattle.std.proofs.Common.{◌≡◌, ℕ, zero, suc, ◌+◌, ◌-◌, ◌<◌, ◌≤◌, Bool, true}
-use Rattle.std.proofs.Common.{false, cond, IsTrue, List, []}
-use Rattle.std.proofs.Common.{◌∷◌, length, map, ℤ, pos, ◌+ℤ◌, ◌-ℤ◌, ◌*ℤ◌, ◌≤ℤ◌, refl}
-use Rattle.std.proofs.Common.{sym, ap, subst, ◌∙◌, inl}
-use Rattle.std.proofs.Common.{inr, arith, nat_eq, nat_lt, if◌then◌else◌, slice_index_or}
+use Rattle.std.proofs.Common.{false, cond, IsTrue, List, [], ◌∷◌, length, map, ℤ, pos}
+use Rattle.std.proofs.Common.{◌+ℤ◌, ◌-ℤ◌, ◌*ℤ◌, ◌≤ℤ◌, refl, sym, ap, ◌∙◌, inl, inr}
+use Rattle.std.proofs.Common.{arith, nat_eq, nat_lt, if◌then◌else◌, slice_index_or}
 use Rattle.std.proofs.lemmas.Bool.{false≢true}
 use Rattle.std.proofs.lemmas.Bool.Decides.{nat_tests}
 use Rattle.std.specs.List.{AllByRecursion}
@@ -48,9 +47,7 @@ level_sum n (suc j) row e d = elim (less_same_or_greater row j) [
       let u : nat_lt row j ≡ false = grind (arith, nat_tests) in
       let v : nat_eq (n + j) (n + row) ≡ true = grind (arith, nat_tests) in
       let ih = level_sum n j row e d in
-      rw t
-      (rw v
-      (omega
+      rw t (rw v (omega
       (arith, linear, ap (λ (k : ℕ). e k *ℤ d) same, ih ∙ ap (λ (b : Bool). cond b (e row *ℤ d) (pos 0)) u)))
   | inr (inr more) ↦
       let t : nat_lt row (suc j) ≡ false = grind (arith, nat_tests) in
@@ -76,7 +73,7 @@ plus_value-is measure n j m mask row =
     (λ k. excess_of n m k *ℤ (if nat_eq (n + k) (n + row) then pos (divisor measure mask) else pos 0))
     levels in
     let third = level_sum n j row (excess_of n m) (pos (divisor measure mask)) in
-    omega (arith, linear, split, first, second, third)
+    omega (arith, linear)
   where
     members : (i : ℕ) → i < n
         → slice_index_or m.num i (pos 0) *ℤ plus_entry measure n mask row i
@@ -203,7 +200,7 @@ bound_of q outside x e den meet f i h b =
     let met = rw v at (rw u at (rw t at (meet (q.game.players + i) is_so))) in
     let low = single_of q outside x e den meet f i h in
     let value = single_value q.measure q.game.players (length q.front) i x e h in
-    omega (arith, linear, met, low, value, mul-subℤ den (pos 0) (q.game.worth (singleton i)), mul-zeroℤ den)
+    omega (arith, linear, mul-subℤ den (pos 0) (q.game.worth (singleton i)), mul-zeroℤ den)
 
 outer_of : (q : Stage) (outside : ℕ → Bool) (x e : ℕ → ℤ) (den : ℤ) → FurtherMeet q outside x e den → (s : ℕ)
     → IsTrue (outside s) → (den *ℤ q.game.worth s) ≤ℤ reached q.measure q.game.players x e s (length q.front)
@@ -232,9 +229,7 @@ further_meet q outside x e den r i is_so = elim (true_or_false (nat_lt i q.game.
         let f =
         imputations_of q.family (and_left (is_imputations q.family) (has_bound q.front (i - q.game.players)) y) in
         let b = and_right (is_imputations q.family) (has_bound q.front (i - q.game.players)) y in
-        rw t
-        (rw u
-        (omega (
+        rw t (rw u (omega (
           arith,
           linear,
           r.bound f (i - q.game.players) h b,
@@ -244,15 +239,12 @@ further_meet q outside x e den r i is_so = elim (true_or_false (nat_lt i q.game.
         )))
     | inr u ↦
         let y = rw u at (rw t at is_so) in
-        rw t
-        (rw u
-        (omega (
+        rw t (rw u (omega (
           arith,
           linear,
           r.outer (i - (q.game.players + q.game.players)) y,
           within_row (length q.front + 1) (length q.front) e
-              (pos (divisor q.measure (i - (q.game.players + q.game.players))))
-              (omega arith),
+              (pos (divisor q.measure (i - (q.game.players + q.game.players)))) (omega arith),
         )))
   ]
 ]
@@ -273,8 +265,7 @@ pub of_settled : (measure : Measure) (g : Game) (front : List Level) (x e : ℕ 
     → AllByRecursion (Fixes measure g (length front + 1) x e den) (earlier_of 0 front)
 of_settled measure g front x e den h =
     all_with (λ c. c.1 < 0 + length front) (λ c. den *ℤ g.worth c.0 ≡ reached measure g.players x e c.0 c.1)
-    (Fixes measure g (length front + 1) x e den) (earlier_of 0 front)
-    (λ c lt eq. omega
+    (Fixes measure g (length front + 1) x e den) (earlier_of 0 front) (λ c lt eq. omega
     (arith, linear, eq, within_row (length front + 1) c.1 e (pos (divisor measure c.0)) (omega arith)))
     (earlier_rows 0 front) h
 
@@ -299,8 +290,7 @@ reading_of q outside m b =
     let len : ℕ = length (settled_columns n q.front) in
     let meets : (id : ℕ) → IsTrue ((program_of q outside).is_column id)
     → Meets q.measure q.game (length q.front + 1) x e m.den (column n q.front id) = λ id is_so.
-    subst (λ (z : ℤ). (m.den *ℤ (program_of q outside).cost id) ≤ℤ z)
-    (column_value-is q outside m id) (b.1 id is_so) in
+    rw (column_value-is q outside m id) at (b.1 id is_so) in
     let first : AllByRecursion (Meets q.measure q.game (length q.front + 1) x e m.den) (settled_columns n q.front) =
     all_at_places (Meets q.measure q.game (length q.front + 1) x e m.den) no_column (settled_columns n q.front)
     (λ k lt. let t : nat_lt k len ≡ true = grind (arith, nat_tests) in rw t at (meets k (rw t refl))) in
@@ -347,6 +337,5 @@ of_reading q outside m r =
       | inr t ↦ rw t (further (id - len) (rw t at is_so))
     ] in (
       r.positive,
-      λ id is_so. subst (λ (z : ℤ). (m.den *ℤ (program_of q outside).cost id) ≤ℤ z)
-          (sym (column_value-is q outside m id)) (meets id is_so),
+      λ id is_so. rw (column_value-is q outside m id) (meets id is_so),
     )

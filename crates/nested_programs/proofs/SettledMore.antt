@@ -1,5 +1,5 @@
 -- Each level of a chain settles more than the levels in front of it.
-use Rattle.std.proofs.Common.{List, [], ◌∷◌, sym, subst}
+use Rattle.std.proofs.Common.{List, [], ◌∷◌}
 use Rattle.definitions.specs.Certificates.{LevelsForm}
 use Rattle.simplex.specs.declared.multipliers.Multipliers.{Multipliers}
 use Rattle.std.specs.Prelude.{Option}
@@ -20,6 +20,5 @@ chain_settles_more q (t ∷ ts) chain form = (
 pub settle_more : (q : Stage) (last : Option Multipliers) → AreDone q last → SettleMore q.game.players [] q.front
 settle_more q last done =
     let s = done.stages in
-    subst (SettleMore q.game.players []) (sym s.levels_are)
-    (chain_settles_more (with_front q []) s.stages s.chain
-    (subst (LevelsForm q.game.players []) s.levels_are done.form))
+    rw s.levels_are (chain_settles_more (with_front q []) s.stages s.chain
+    (rw s.levels_are at done.form))

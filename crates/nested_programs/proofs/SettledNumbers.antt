@@ -20,8 +20,8 @@ IsLow f = f 0 ≤ℤ pos 0
 low_is_cone : IsCone IsLow
 low_is_cone = record {
   none = omega (arith, linear);
-  plus = λ f g a b. omega (arith, linear, a, b);
-  decided = λ f. by_lt_z (pos 0) (f 0) (λ up. inr (λ low. omega (arith, linear, up, low))) (λ low. inl low);
+  plus = λ f g a b. omega (arith, linear);
+  decided = λ f. by_lt_z (pos 0) (f 0) (λ up. inr (λ low. omega (arith, linear))) (λ low. inl low);
   other = λ f high. by_lt_z (pos 0) (f 0) (λ up. omega (arith, linear, up)) (λ low. absurd (high low));
 }
 
@@ -29,7 +29,7 @@ zero_column : (f : ℕ → ℤ) → f 0 ≡ pos 0 → Zero IsLow f
 zero_column f e = (omega (arith, linear, e), omega (arith, linear, e))
 
 zero_number : (f : ℕ → ℤ) → Zero IsLow f → f 0 ≡ pos 0
-zero_number f h = let low = h.0 in let high = h.1 in omega (arith, linear, low, high)
+zero_number f h = let low = h.0 in let high = h.1 in omega (arith, linear)
 
 abbrev columns : (ℕ → ℤ) → ℕ → ℕ → ℤ
 columns d i k = d i
@@ -50,8 +50,7 @@ pub inside_same : (n : ℕ) (d : ℕ → ℤ) (front : List Level) → IsSettled
     → sum_over n d (grand_coalition n) ≡ pos 0 → (s : ℕ) → 0 < s → s < grand_coalition n
     → ¬ IsOutside Span n front s → sum_over n d s ≡ pos 0
 inside_same n d front settled all s low high inside =
-    zero_number (over n (columns d) s)
-    (inside_zero low_is_cone Span n (columns d) front settled
+    zero_number (over n (columns d) s) (inside_zero low_is_cone Span n (columns d) front settled
     (zero_column (over n (columns d) (grand_coalition n)) all) s
     low high inside)
 
@@ -59,6 +58,5 @@ inside_same n d front settled all s low high inside =
 pub all_same : (n : ℕ) (d : ℕ → ℤ) (front : List Level) → IsSettled n d front
     → sum_over n d (grand_coalition n) ≡ pos 0 → IsAllFixed Span n front → (i : ℕ) → i < n → d i ≡ pos 0
 all_same n d front settled all fixed i h =
-    zero_number (columns d i)
-    (all_fixed_zero low_is_cone Span n (columns d) front settled
+    zero_number (columns d i) (all_fixed_zero low_is_cone Span n (columns d) front settled
     (zero_column (over n (columns d) (grand_coalition n)) all) fixed i h)

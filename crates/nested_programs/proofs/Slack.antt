@@ -1,7 +1,6 @@
 -- Where the columns of positive weight are tight, and what follows of the optimum.
 use Rattle.std.proofs.Common.{◌≡◌, ℕ, ◌<◌, IsTrue, List, [], ◌∷◌, ℤ, pos, ◌-ℤ◌}
-use Rattle.std.proofs.Common.{◌*ℤ◌, ◌≤ℤ◌}
-use Rattle.std.proofs.Common.{refl, sym, ap, ◌∙◌, inl, inr, arith, slice_index_or}
+use Rattle.std.proofs.Common.{◌*ℤ◌, ◌≤ℤ◌, refl, sym, ap, ◌∙◌, inl, inr, arith, slice_index_or}
 use Rattle.std.proofs.lemmas.Int.{by_lt_z}
 use Rattle.std.specs.List.{AllByRecursion}
 use Rattle.definitions.proofs.Ring.{linear, mul-addℤ, mul-leℤ, mul-subℤ, mul-zeroℤ}
@@ -23,9 +22,8 @@ solved_value p m ws wden rows =
     let same =
     sum_below-same p.rows (λ r. slice_index_or m r (pos 0) *ℤ row_value p ws r)
     (λ r. wden *ℤ (slice_index_or m r (pos 0) *ℤ p.right r))
-    (λ r h. ap (λ z. slice_index_or m r (pos 0) *ℤ z) (rows r h)
-    ∙ mul_left_commℤ (slice_index_or m r (pos 0)) wden (p.right r)) in
-    omega (arith, linear, exchange, times, same)
+    (λ r h. cc (rows r h, mul_left_commℤ (slice_index_or m r (pos 0)) wden (p.right r))) in
+    omega (arith, linear)
 
 -- what a column's cost is above its value
 abbrev pub rise : Program → List ℤ → ℤ → ℕ → ℤ
@@ -75,7 +73,7 @@ tight_where p m den (w ∷ ws) b h sum id (inl (e, one)) =
     let low = rises_low p m den ws b h.1 in
     let here = bounded_low p m den b w.0 h.0.0 in
     let term = term_low w.1 (rise p m den w.0) h.0.1 here in
-    let zero_term : w.1 *ℤ rise p m den w.0 ≡ pos 0 = omega (arith, linear, low, term, sum) in (
+    let zero_term : w.1 *ℤ rise p m den w.0 ≡ pos 0 = omega (arith, linear) in (
       rw (sym e) h.0.0,
       rw (sym e)
           (mul-cancelℤ w.1 (rise p m den w.0) (pos 0) (omega (arith, linear, one)) (zero_term ∙ sym (mul-zeroℤ w.1))),
@@ -83,21 +81,19 @@ tight_where p m den (w ∷ ws) b h sum id (inl (e, one)) =
 tight_where p m den (w ∷ ws) b h sum id (inr more) =
     let here = bounded_low p m den b w.0 h.0.0 in
     let term = term_low w.1 (rise p m den w.0) h.0.1 here in
-    tight_where p m den ws b h.1 (omega (arith, linear, term, sum)) id more
+    tight_where p m den ws b h.1 (omega (arith, linear)) id more
 
 pub tight_optimal : (p : Program) (ws : List (ℕ × ℤ)) (wden : ℤ) (m : List ℤ) (den : ℤ) → IsOptimal p ws wden m den
     → (id : ℕ) → HasWeight ws id → IsTrue (p.is_column id) × (rise p m den id ≡ pos 0)
 tight_optimal p ws wden m den o id h =
     let value = solved_value p m ws wden o.0.2 in
-    tight_where p m den ws o.1 o.0.0.0
-    (omega (
+    tight_where p m den ws o.1 o.0.0.0 (omega (
       arith,
       linear,
       rises p m den ws,
-      value,
-      o.2,
       *ℤ_comm (weighted_sum p.cost ws) den,
-      *ℤ_comm (value_of p m p.right) wden,
+      *ℤ_comm (value_of p m p.right)
+          wden,
     )) id h
 
 -- where each column of positive weight is tight, the cost is the value
@@ -107,11 +103,10 @@ pub tight_sum : (p : Program) (m : List ℤ) (den : ℤ) (ws : List (ℕ × ℤ)
 tight_sum p m den [] h t = refl
 tight_sum p m den (w ∷ ws) h t =
     let ih = tight_sum p m den ws h.1 (λ id c k. t id c (inr k)) in
-    by_lt_z (pos 0) w.1
-    (λ up. omega
+    by_lt_z (pos 0) w.1 (λ up. omega
     (arith, linear, ih, ap (λ z. w.1 *ℤ z) (t w.0 h.0.0 (inl (refl, omega (arith, linear, up)))), mul-zeroℤ w.1))
     (λ low.
-    let e : w.1 ≡ pos 0 = omega (arith, linear, low, h.0.1) in
+    let e : w.1 ≡ pos 0 = omega (arith, linear) in
     omega (arith, linear, ih, ap (λ z. z *ℤ rise p m den w.0) e, zero-mulℤ (rise p m den w.0)))
 
 pub tight_value : (p : Program) (m : List ℤ) (den : ℤ) (ws : List (ℕ × ℤ)) (wden : ℤ) → Solves p ws wden

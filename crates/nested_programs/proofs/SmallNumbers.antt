@@ -1,7 +1,7 @@
 -- Numbers of columns are 0 or one weight each, so net numbers are small.
 use Rattle.std.proofs.Common.{◌≡◌, ◌≢◌, ℕ, ◌^◌, ◌<◌}
 use Rattle.std.proofs.Common.{nat_eq, List, [], ◌∷◌, map, ℤ, pos}
-use Rattle.std.proofs.Common.{◌-ℤ◌, ◌≤ℤ◌, unsigned_abs, sym, ap, subst, ◌∙◌, inl, inr, arith}
+use Rattle.std.proofs.Common.{◌-ℤ◌, ◌≤ℤ◌, unsigned_abs, sym, ap, ◌∙◌, inl, inr, arith}
 use Rattle.std.proofs.lemmas.Bool.Decides.{nat_tests}
 use Rattle.std.proofs.lemmas.Int.{ints}
 use Rattle.std.specs.List.{AllByRecursion, IsDistinct}
@@ -31,10 +31,10 @@ number_is k (w ∷ ws) h apart = elim (true_or_false (nat_eq w.0 k)) [
       let e : w.0 ≡ k = grind (arith, nat_tests) in
       let none : number_at ws k ≡ pos 0 = ap (number_at ws) (sym e) ∙ number_apart w.0 ws apart.0 in
       let one : number_at (w ∷ ws) k ≡ w.1 = rw t (omega (arith, linear, none)) in
-      subst IsNumber (sym one) h.0
+      rw one h.0
   | inr t ↦
       let ne : w.0 ≢ k = grind (arith, nat_tests) in
-      subst IsNumber (sym (number_past_other w ws k ne)) (number_is k ws h.1 apart.1)
+      rw (number_past_other w ws k ne) (number_is k ws h.1 apart.1)
 ]
 
 are_numbers : (ws : List (ℕ × ℤ)) → AreNumbers ws → AllByRecursion (λ w. IsNumber w.1) ws

@@ -1,8 +1,7 @@
 -- What the loop over the stages knows where it begins, in a turn, and where it ends.
 use Rattle.std.proofs.Common.{◌≡◌, ℕ, suc, ◌-◌, ◌<◌, ◌≤◌, Bool, true, false, List}
-use Rattle.std.proofs.Common.{[], ◌∷◌, ◌++◌, length, take}
-use Rattle.std.proofs.Common.{drop, Option, Some, None, MatchOption, is_some, refl, sym, ap, subst}
-use Rattle.std.proofs.Common.{◌∙◌, arith}
+use Rattle.std.proofs.Common.{[], ◌∷◌, ◌++◌, length, take, drop, Option, Some, None, MatchOption}
+use Rattle.std.proofs.Common.{is_some, refl, sym, ◌∙◌, arith}
 use Rattle.std.specs.Prelude.{⊤}
 use Rattle.std.specs.List.{AllByRecursion}
 use Rattle.std.proofs.lemmas.Bool.{false≢true}
@@ -22,8 +21,7 @@ use Rattle.nested_programs.proofs.StageSteps.{start_underway}
 pub underway_at_start : (q : Stage) (kept : List ℕ) → q.front ≡ [] → kept ≡ grand_coalition q.game.players ∷ []
     → 1 ≤ q.game.players → q.game.players ≤ 16 → HasMember q.family q.game → AreUnderway q kept None
 underway_at_start q kept e f some few member =
-    subst (λ ls. AreUnderway (with_front q ls) kept None) (sym e)
-    (subst (λ ks. AreUnderway (with_front q []) ks None) (sym f) (start_underway q some few member))
+    rw e (rw f (start_underway q some few member))
 
 abbrev Unspanned : ℕ → List Level → Option ℕ → Type 0
 Unspanned n levels o =
@@ -53,8 +51,7 @@ forms_few n front (l ∷ levels) h = (h.0.few, forms_few n (front ++ l ∷ []) l
 pub new_only : (xs ys : List Level) (x : Level) (k : ℕ) → ys ≡ xs ++ x ∷ [] → k ≡ length xs
     → take (length ys - k) (drop k ys) ≡ x ∷ []
 new_only xs ys x k e f =
-    ap (λ us. take (length us - k) (drop k us)) e
-    ∙ ap (λ (j : ℕ). take (length (xs ++ x ∷ []) - j) (drop j (xs ++ x ∷ []))) f ∙ behind_old xs
+    cc (behind_old xs)
   where
     behind_old : (us : List Level)
         → take (length (us ++ x ∷ []) - length us) (drop (length us) (us ++ x ∷ [])) ≡ x ∷ []
@@ -67,23 +64,20 @@ new_only xs ys x k e f =
 
 pub best_at : (q : Stage) (shown : List Level) (best : Optimal) → shown ≡ q.front → IsBest (with_front q shown) best
     → IsBest q best
-best_at q shown best e h = subst (λ ls. IsBest (with_front q ls) best) e h
+best_at q shown best e h = rw e at h
 
 pub level_at : (k n : ℕ) (shown levels : List Level) (best : Optimal) (l : Level) → k ≡ n → shown ≡ levels
     → IsLevelOf k shown best l → IsLevelOf n levels best l
-level_at k n shown levels best l e f h =
-    subst (λ (j : ℕ). IsLevelOf j levels best l) e (subst (λ ls. IsLevelOf k ls best l) f h)
+level_at k n shown levels best l e f h = rw e at (rw f at h)
 
 pub extends_at : (k n : ℕ) (old new : List ℕ) (shown added : List Level) → k ≡ n → shown ≡ added
     → Extends k old new (IsLevelVector k shown) → Extends n old new (IsLevelVector n added)
 extends_at k n old new shown added e f h =
-    subst (λ (j : ℕ). Extends j old new (IsLevelVector j added)) e
-    (subst (λ ls. Extends k old new (IsLevelVector k ls)) f h)
+    rw e at (rw f at h)
 
 pub within_at : (k n : ℕ) (shown : List Level) (l : Level) → k ≡ n → shown ≡ l ∷ [] → IsOf n l
     → AllByRecursion (IsOf k) shown
-within_at k n shown l e f h =
-    subst (AllByRecursion (IsOf k)) (sym f) (subst (λ (j : ℕ). IsOf j l) (sym e) h, tt)
+within_at k n shown l e f h = rw f (rw e h, tt)
 
 pub done_where_fixed : (q : Stage) (kept : List ℕ) (last : Option Multipliers) → AreUnderway q kept last
     → IsAllFixed Span q.game.players q.front → AreDone q last

@@ -1,17 +1,15 @@
 -- From the levels so far to those with the next stage's level.
 use Rattle.std.proofs.Common.{◌≡◌, ℕ, ◌+◌, ◌<◌, ◌≤◌, true, false, IsTrue, nat_eq, List}
-use Rattle.std.proofs.Common.{[]}
-use Rattle.std.proofs.Common.{◌∷◌, ◌++◌, length, length-append, map, ℤ, pos, ◌*ℤ◌, ◌≤ℤ◌, Option}
-use Rattle.std.proofs.Common.{Some, None, refl, sym, ap, subst, ◌∙◌, inl, arith}
+use Rattle.std.proofs.Common.{[], ◌∷◌, ◌++◌, length, length-append, map, ℤ, pos, ◌*ℤ◌, ◌≤ℤ◌}
+use Rattle.std.proofs.Common.{Option, Some, None, refl, ap, ◌∙◌, inl, arith}
 use Rattle.std.specs.List.{list_any, AllByRecursion, IsDistinct}
 use Rattle.std.proofs.lemmas.Bool.Decides.{nat_tests}
 use Rattle.std.proofs.lemmas.List.{append-nil}
 use Rattle.definitions.specs.Coalitions.{grand_coalition}
-use Rattle.definitions.specs.Certificates.{Level, InSpan, IsOutside, LevelForm, LevelsForm, is_listed}
+use Rattle.definitions.specs.Certificates.{Level, IsOutside, LevelForm, LevelsForm, is_listed}
 use Rattle.definitions.specs.declared.Mode.TheVariants.{Span}
 use Rattle.simplex.specs.declared.answer.Optimal.{Optimal}
 use Rattle.simplex.specs.declared.multipliers.Multipliers.{Multipliers}
-use Rattle.spans.specs.Span.{IsKept}
 use Rattle.kohlberg.specs.Extends.{Extends, IsLevelVector, SpansFixed}
 use Rattle.kohlberg.proofs.SpanScan.{SpansFixed-start, SpansFixed-more}
 use Rattle.separation.specs.Stage.{earlier_of}
@@ -39,7 +37,7 @@ use Rattle.kohlberg.specs.Solved.{IsLowest}
 start_bounded : (q : Stage) → q.game.players ≤ 16 → HasMember q.family q.game → IsBounded (with_front q [])
 start_bounded q few member outside test =
     first_no_ray q outside member.0 few
-    (λ s o. let h = test s o in let top = grand_coalition-within q.game.players in (h.0, omega (arith, h.1, top)))
+    (λ s o. let h = test s o in let top = grand_coalition-within q.game.players in (h.0, omega arith))
     member.1
 
 pub start_underway : (q : Stage) → 1 ≤ q.game.players → q.game.players ≤ 16 → HasMember q.family q.game
@@ -82,8 +80,7 @@ some_listed (c ∷ cs) l P e some all =
     let same : nat_eq c.0 c.0 ≡ true = grind (arith, nat_tests) in (
       c.0,
       or_left (list_any (λ d. nat_eq d.0 c.0) l.coalitions) false
-          (ap (λ ds. list_any (λ d. nat_eq d.0 c.0) ds) e
-          ∙ or_left (nat_eq c.0 c.0) (list_any (λ d. nat_eq d.0 c.0) cs) same),
+          (cc (or_left (nat_eq c.0 c.0) (list_any (λ d. nat_eq d.0 c.0) cs) same)),
       all.0,
     )
 
@@ -100,9 +97,7 @@ kept_grows q t old new h spans more =
     let s =
     some_listed t.level.coalitions t.level (IsOutside Span q.game.players q.front) refl
     (level_some q t h) (level_outside q t h) in
-    grown_by old new more.more more.longer
-    (λ e. s.2.2
-    (spans.inside s.0 (subst (λ (ks : List ℕ). InSpan q.game.players (IsKept ks) s.0) e (more.added s.0 (inl s.1)))))
+    grown_by old new more.more more.longer (λ e. s.2.2 (spans.inside s.0 (rw e at (more.added s.0 (inl s.1)))))
 
 pub kept_grown : (q : Stage) (old new : List ℕ) (best : Optimal) (l : Level) → IsBest q best
     → IsLevelOf q.game.players q.front best l → SpansFixed q.game.players old q.front
@@ -119,15 +114,11 @@ stages_more : (q : Stage) (last : Option Multipliers) (t : StageAnswer) (m : Mul
     → q.game.players ≤ length m.num.items → AreStages (after q t) (Some m)
 stages_more q last t m h k own positive e wide = record {
   stages = h.stages ++ t ∷ [];
-  levels_are = ap (λ ls. ls ++ t.level ∷ []) h.levels_are ∙ sym (levels_more h.stages t);
-  chain =
-      chain_more (with_front q []) h.stages t h.chain (subst (λ ls. Answers (with_front q ls) t) h.levels_are k);
+  levels_are = cc (h.levels_are, levels_more h.stages t);
+  chain = chain_more (with_front q []) h.stages t h.chain (rw h.levels_are at k);
   own =
       own_more q.game 0 h.stages t h.own (
-        subst
-            (λ (j : ℕ). t.level.excess_num *ℤ t.multipliers.den
-            ≡ excess_of q.game.players t.multipliers j *ℤ t.level.excess_den)
-            count own,
+        rw count at own,
         positive,
       );
   last_is = last_more h.stages t m e;
@@ -135,13 +126,12 @@ stages_more q last t m h k own positive e wide = record {
 }
   where
     count : length q.front ≡ 0 + length h.stages
-    count = let a = ap length h.levels_are in let b = levels_count h.stages in omega (arith, a, b)
+    count = let a = ap length h.levels_are in let b = levels_count h.stages in omega arith
 
 coalitions_distinct : (q : Stage) (last : Option Multipliers) → AreStages q last
     → LevelsForm q.game.players [] q.front → IsDistinct nat_eq (map (λ c. c.0) (earlier_of 0 q.front))
 coalitions_distinct q last h form =
-    subst (λ ls. IsDistinct nat_eq (map (λ c. c.0) (earlier_of 0 ls))) (sym h.levels_are)
-    (chain_distinct q h.stages h.chain (subst (LevelsForm q.game.players []) h.levels_are form))
+    rw h.levels_are (chain_distinct q h.stages h.chain (rw h.levels_are at form))
 
 -- the level of the optimum of the next stage has its form
 pub next_formed : (q : Stage) (kept : List ℕ) (last : Option Multipliers) (best : Optimal) (l : Level)
@@ -149,7 +139,7 @@ pub next_formed : (q : Stage) (kept : List ℕ) (last : Option Multipliers) (bes
     → IsLevelOf q.game.players q.front best l → LevelForm q.game.players q.front l
 next_formed q kept last best l few room h is_best is =
     level_formed q best is_best.outside l (best_answers q best l is_best is) (numbers_of_best q best is_best) is
-    (coalitions_distinct q last h.stages h.form) is_best.answer.form.count (omega (arith, h.more, room)) few
+    (coalitions_distinct q last h.stages h.form) is_best.answer.form.count (omega arith) few
 
 -- the levels with that of the optimum of the next stage
 pub underway_more : (q : Stage) (old new : List ℕ) (last : Option Multipliers) (best : Optimal) (l : Level)
@@ -158,8 +148,7 @@ pub underway_more : (q : Stage) (old new : List ℕ) (last : Option Multipliers)
     → Extends q.game.players old new (IsLevelVector q.game.players (l ∷ []))
     → AreUnderway (behind q (l ∷ [])) new (Some best.multipliers)
 underway_more q old new last best l few room h is_best is low more = record {
-  stages =
-      stages_more q last t best.multipliers h.stages k is.excess.same is.excess.reduced.positive refl wide;
+  stages = stages_more q last t best.multipliers h.stages k is.excess.same is.excess.reduced.positive refl wide;
   form = form_more q.game.players q.front l h.form (next_formed q old last best l few room h is_best is);
   short =
       all_join (IsShort q.game.players) q.front (l ∷ []) h.short
@@ -169,8 +158,8 @@ underway_more q old new last best l few room h is_best is low more = record {
   spans = SpansFixed-more q.game.players old new q.front (l ∷ []) h.spans more;
   more =
       (let grow = kept_grows q t old new k h.spans more in
-      let long = length-append q.front (l ∷ []) in omega (arith, grow, long, h.more));
-  count = (let long = length-append q.front (l ∷ []) in omega (arith, long, h.more, room));
+      let long = length-append q.front (l ∷ []) in omega arith);
+  count = (let long = length-append q.front (l ∷ []) in omega arith);
 }
   where
     t : StageAnswer
@@ -180,7 +169,7 @@ underway_more q old new last best l few room h is_best is low more = record {
     k = best_answers q best l is_best is
 
     next : length q.front + 2 ≤ q.game.players
-    next = omega (arith, h.more, room)
+    next = omega arith
 
     wide : q.game.players ≤ length best.multipliers.num.items
     wide = let e = is_best.answer.count in omega (arith, e)

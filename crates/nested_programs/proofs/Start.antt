@@ -1,10 +1,9 @@
 -- A stage program has a solution where a coalition is outside, and the first has no endless ray where the family
 -- has a member.
 use Rattle.std.proofs.Common.{◌≡◌, ◌≢◌, ℕ, zero, suc, ◌+◌, ◌-◌, ◌^◌, ◌<◌, ◌≤◌}
-use Rattle.std.proofs.Common.{Bool, true, false, not, cond}
-use Rattle.std.proofs.Common.{IsTrue, List, [], ◌∷◌, length, ℤ, pos, ◌+ℤ◌, ◌-ℤ◌, ◌*ℤ◌}
-use Rattle.std.proofs.Common.{◌≤ℤ◌, refl, sym, ap}
-use Rattle.std.proofs.Common.{◌∙◌, inl, inr, arith, nat_eq, nat_lt, if◌then◌else◌}
+use Rattle.std.proofs.Common.{Bool, true, false, not, cond, IsTrue, List, [], ◌∷◌, length}
+use Rattle.std.proofs.Common.{ℤ, pos, ◌+ℤ◌, ◌-ℤ◌, ◌*ℤ◌, ◌≤ℤ◌, refl, sym, ap, ◌∙◌}
+use Rattle.std.proofs.Common.{inl, inr, arith, nat_eq, nat_lt, if◌then◌else◌}
 use Rattle.std.proofs.lemmas.Int.{by_lt_z}
 use Rattle.std.proofs.lemmas.Bool.{false≢true}
 use Rattle.std.proofs.lemmas.Bool.Decides.{nat_tests}
@@ -63,12 +62,12 @@ others_spanned n front s small (k, ne, ps, fixed, sums) = (
   (inl refl, all_negated (IsFixedVector n front) ps fixed),
   λ i h. rw (has_player-grand_coalition n i h)
       (others_weight (has_player s i) (weight_at (negated ps) i) (weight_at ps i) (weight_at-negated ps i)
-      (sums i h ∙ ap (λ (b : Bool). cond b k (pos 0)) (has_player-complement n s i small h))),
+      (cc (sums i h, has_player-complement n s i small h))),
 )
   where
     others_weight : (b : Bool) (u w : ℤ) → u ≡ pos 0 -ℤ w → w ≡ cond (not b) k (pos 0) → k +ℤ u ≡ cond b k (pos 0)
-    others_weight true u w h e = omega (arith, linear, h, e)
-    others_weight false u w h e = omega (arith, linear, h, e)
+    others_weight true u w h e = omega (arith, linear)
+    others_weight false u w h e = omega (arith, linear)
 
 pub others_outside : (n : ℕ) (front : List Level) (s : ℕ) → IsOutside Span n front s
     → IsOutside Span n front (grand_coalition n - s)
@@ -94,9 +93,7 @@ pair_row measure n k s r small h = elim (true_or_false (nat_lt r n)) [
   | inl below ↦
       let lt : r < n = grind (arith, nat_tests) in
       let u : nat_eq r (n + k) ≡ false = grind (arith, nat_tests) in
-      rw below
-      (rw u
-      (rw (has_player-grand_coalition n r lt)
+      rw below (rw u (rw (has_player-grand_coalition n r lt)
       (rw (has_player-complement n s r small lt) (player_row (has_player s r) (both_divisors measure n s)))))
   | inr past ↦
       let u : nat_eq r (n + (k + 1)) ≡ false = grind (arith, nat_tests) in
@@ -141,8 +138,7 @@ some_bound : (N : ℕ) (f : ℕ → ℤ) → (b : ℤ) × ((s : ℕ) → s < N �
 some_bound zero f = (pos 0, λ s h. absurd (omega arith))
 some_bound (suc N) f =
     let ih = some_bound N f in
-    by_lt_z ih.0 (f N)
-    (λ up. (
+    by_lt_z ih.0 (f N) (λ up. (
       f N,
       λ s h. elim (less_or_last s N h)
           [ inl less ↦ omega (arith, linear, up, ih.1 s less) | inr same ↦ omega (arith, linear, ap f same) ],
@@ -174,10 +170,9 @@ first_bounds q outside y few within member = (
           arith,
           linear,
           high.1 s (within s o).1,
-          in_row,
-          enough,
           mul-oneℤ top,
-          sum_over-same n (share_of m) (share y) s shares,
+          sum_over-same n (share_of m) (share y) s
+              shares,
         ));
   }),
 )
@@ -260,7 +255,7 @@ whole_column q outside =
 
 not_own_other : (n s : ℕ) → 0 < n → s < 2 ^ n → s ≢ grand_coalition n - s
 not_own_other n s some small e =
-    bit_differs (has_player s 0) (ap (λ (z : ℕ). has_player z 0) e ∙ has_player-complement n s 0 small some)
+    bit_differs (has_player s 0) (cc (has_player-complement n s 0 small some))
   where
     bit_differs : (b : Bool) → b ≡ not b → ⊥
     bit_differs true h = false≢true (sym h)
@@ -280,7 +275,7 @@ pair_distinct n front s some small =
 
 row_sum : (a b c u v w : ℤ) → a ≡ u → b ≡ v → c ≡ w
     → pos 1 *ℤ a +ℤ (pos 1 *ℤ b +ℤ (pos 1 *ℤ c +ℤ pos 0)) ≡ u +ℤ (v +ℤ w)
-row_sum a b c u v w h k l = omega (arith, linear, h, k, l, one-mulℤ a, one-mulℤ b, one-mulℤ c)
+row_sum a b c u v w h k l = omega (arith, linear, one-mulℤ a, one-mulℤ b, one-mulℤ c)
 
 -- the coalition and its others at one weight, and all players at minus that
 pub pair_solves : (q : Stage) (outside : ℕ → Bool) (s : ℕ) → q.game.players ≤ 16
@@ -290,8 +285,8 @@ pub pair_solves : (q : Stage) (outside : ℕ → Bool) (s : ℕ) → q.game.play
     (both_divisors q.measure q.game.players s)
 pair_solves q outside s few o here others =
     let n : ℕ = q.game.players in
-    let small : s < 2 ^ n = omega (arith, o.0, o.1) in
-    let some : 0 < n = positive n (omega (arith, o.0, o.1)) in (
+    let small : s < 2 ^ n = omega arith in
+    let some : 0 < n = positive n (omega arith) in (
       (
         (
           (whole_column q outside, omega (arith, linear)),

@@ -1,7 +1,6 @@
 -- The columns of the coalitions, each under its mask, are the balanced program.
 use Rattle.std.proofs.Common.{◌≡◌, ℕ, ◌*◌, ◌%◌, ◌<◌, ◌≤◌, ◌^◌, Bool, true, false}
-use Rattle.std.proofs.Common.{◌&&◌, refl}
-use Rattle.std.proofs.Common.{sym, ap, ◌∙◌, subst, inl, inr, arith, nat_lt}
+use Rattle.std.proofs.Common.{◌&&◌, refl, ap, ◌∙◌, inl, inr, arith, nat_lt}
 use Rattle.std.proofs.lemmas.Nat.{one_shl}
 use Rattle.std.proofs.lemmas.Bool.Decides.{nat_tests}
 use Rattle.definitions.specs.Games.{Game, IsGame}
@@ -46,12 +45,10 @@ module _ (g : Game) (game : IsGame g) where
 
   at_number : (id : ℕ) → SameAt Plain g.players 0 q id (column_at (listed (2 ^ g.players) (balanced_column g)) id)
   at_number id = elim (below_or_above id (2 ^ g.players)) [
-    | inl lt ↦ subst (SameAt Plain g.players 0 q id) (sym (listed_at (2 ^ g.players) id (balanced_column g) lt))
+    | inl lt ↦ rw (listed_at (2 ^ g.players) id (balanced_column g) lt)
         (inside_at id lt)
-    | inr le ↦ subst (SameAt Plain g.players 0 q id)
-        (sym
-        (past_at (listed (2 ^ g.players) (balanced_column g)) id
-        (let x = length-listed (2 ^ g.players) (balanced_column g) in omega (arith, x, le)))) (past id le)
+    | inr le ↦ rw (past_at (listed (2 ^ g.players) (balanced_column g)) id
+        (let x = length-listed (2 ^ g.players) (balanced_column g) in omega (arith, x, le))) (past id le)
   ]
 
   pub balanced_of : IsSame (kept_program Plain g.players 0 (listed (2 ^ g.players) (balanced_column g)))

@@ -19,7 +19,7 @@ front_within None n rows len e h l is = absurd (none_is_not_some l is)
     none_is_not_some : (y : ℕ) → None ≡ Some y → ⊥
     none_is_not_some y e = cc
 front_within (Some f) n rows len e h l is =
-    let same : length f.levels.now ≡ l = some_injective (length f.levels.now) l is in omega (arith, e, h, same)
+    let same : length f.levels.now ≡ l = some_injective (length f.levels.now) l is in omega arith
   where
     some_injective : (x y : ℕ) → Some x ≡ Some y → x ≡ y
     some_injective x y e = cc
@@ -31,7 +31,7 @@ pub block_value : (num : List ℤ) (n s block : ℕ) (level : Option ℕ) (sums 
     → value ≡ base +ℤ slice_index_or (low_of sums) (s % 256) (pos 0)
     → value ≡ column_value Plain num n (record { coalition = s; level = level; negated = false; cost = cost })
 block_value num n s block level sums cost base value le within are lower upper few based valued =
-    let here : s / 256 % 256 ≡ block = omega (arith, lower, upper, few) in
+    let here : s / 256 % 256 ≡ block = omega arith in
     let sum =
     ap (λ (t : ℕ). slice_index_or (low_of sums) (s % 256) (pos 0) +ℤ slice_index_or (high_of sums) t (pos 0))
     (sym here)
@@ -41,4 +41,4 @@ block_value num n s block level sums cost base value le within are lower upper f
     regrouped _ _ _ _ _ _ _ valued based sum (one-mulℤ (level_multiplier num n level)) ∙ sym is
   where
     regrouped : (v b h k l x m : ℤ) → v ≡ b +ℤ l → b ≡ h +ℤ k → l +ℤ h ≡ x → m ≡ k → v ≡ x +ℤ m
-    regrouped v b h k l x m e f s o = omega (arith, linear, e, f, s, o)
+    regrouped v b h k l x m e f s o = omega (arith, linear)

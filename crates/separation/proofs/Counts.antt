@@ -1,7 +1,6 @@
 -- How many coalitions levels have, and how many columns these make.
 use Rattle.std.proofs.Common.{◌≡◌, ℕ, suc, ◌+◌, ◌*◌, ◌<◌, ◌≤◌, List, [], ◌∷◌}
-use Rattle.std.proofs.Common.{length, map, drop}
-use Rattle.std.proofs.Common.{get_or, ℤ, refl, ap, ◌∙◌, arith, length-append}
+use Rattle.std.proofs.Common.{length, map, drop, get_or, ℤ, refl, ap, ◌∙◌, arith, length-append}
 use Rattle.std.specs.List.{AllByRecursion}
 use Rattle.definitions.specs.Games.{Game}
 use Rattle.definitions.specs.Certificates.{Level}
@@ -21,7 +20,7 @@ earlier_shift a b (l ∷ levels) =
     let y = length-append (map (λ c. (c.0, b)) l.coalitions) (earlier_of (b + 1) levels) in
     let u = pairs_length a l.coalitions in
     let v = pairs_length b l.coalitions in
-    omega (arith, ih, x, y, u, v)
+    omega arith
 
 pub earlier_step : (k : ℕ) (l : Level) (levels : List Level)
     → length (earlier_of k (l ∷ levels)) ≡ length l.coalitions + length (earlier_of 0 levels)
@@ -29,7 +28,7 @@ earlier_step k l levels =
     let x = length-append (map (λ c. (c.0, k)) l.coalitions) (earlier_of (k + 1) levels) in
     let u = pairs_length k l.coalitions in
     let s = earlier_shift (k + 1) 0 levels in
-    omega (arith, x, u, s)
+    omega arith
 
 -- at most 65536 a level
 pub earlier_few : (k : ℕ) (levels : List Level) → AllByRecursion (λ l. length l.coalitions ≤ 65536) levels
@@ -37,7 +36,7 @@ pub earlier_few : (k : ℕ) (levels : List Level) → AllByRecursion (λ l. leng
 earlier_few k [] h = omega arith
 earlier_few k (l ∷ levels) h =
     let ih = earlier_few 0 levels h.1 in
-    omega (arith, ih, h.0, earlier_step k l levels)
+    omega (arith, earlier_step k l levels)
 
 pub one_level_more : (levels : List Level) (k total : ℕ) (d : Level) → k < length levels
     → total + length (earlier_of 0 (drop k levels)) ≡ length (earlier_of 0 levels)
@@ -45,7 +44,7 @@ pub one_level_more : (levels : List Level) (k total : ℕ) (d : Level) → k < l
     ≡ length (earlier_of 0 levels)
 one_level_more levels k total d lt h =
     let e = ap (λ ls. length (earlier_of 0 ls)) (drop-more levels k d lt) in
-    omega (arith, h, e, earlier_step 0 (get_or levels k d) (drop (k + 1) levels))
+    omega (arith, earlier_step 0 (get_or levels k d) (drop (k + 1) levels))
 
 -- two columns for each coalition
 pub columns_length : (g : Game) (cs : List (ℕ × ℕ)) → length (earlier_columns g cs) ≡ 2 * length cs

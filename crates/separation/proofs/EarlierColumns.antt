@@ -1,8 +1,7 @@
 -- The columns of the levels' coalitions, found by their numbers.
 use Rattle.std.proofs.Common.{◌≡◌, ℕ, zero, suc, ◌+◌, ◌-◌, ◌*◌, ◌/◌, ◌%◌, ◌<◌}
-use Rattle.std.proofs.Common.{◌≤◌, List, [], ◌∷◌, ◌++◌, length}
-use Rattle.std.proofs.Common.{map, drop, get_or, ℤ, Option, Some, None, refl, sym, ap}
-use Rattle.std.proofs.Common.{◌∙◌, arith}
+use Rattle.std.proofs.Common.{◌≤◌, List, [], ◌∷◌, ◌++◌, length, map, drop, get_or, ℤ}
+use Rattle.std.proofs.Common.{Option, Some, None, refl, sym, ap, ◌∙◌, arith}
 use Rattle.std.proofs.lemmas.List.{get_or-append_right, get_or_append_left, drop_all}
 use Rattle.definitions.specs.Games.{Game}
 use Rattle.definitions.specs.Certificates.{Level}
@@ -48,24 +47,27 @@ module _ (g : Game) (levels : List Level) (k : ℕ) (d : Level) (lt : k < length
 
   pub level_split : earlier_columns g (earlier_of k (drop k levels)) ≡ here ++ behind
   level_split =
-      ap (λ (ls : List Level). earlier_columns g (earlier_of k ls)) (drop-more levels k d lt)
-      ∙ earlier_columns-append g (map (λ c. (c.0, k)) (get_or levels k d).coalitions)
-      (earlier_of (k + 1) (drop (k + 1) levels))
+      let two =
+      earlier_columns-append g (map (λ c. (c.0, k)) (get_or levels k d).coalitions)
+      (earlier_of (k + 1) (drop (k + 1) levels)) in
+      cc (drop-more levels k d lt)
 
   pub level_here : (id : ℕ) → id < 2 * length (get_or levels k d).coalitions
       → column_at (earlier_columns g (earlier_of k (drop k levels))) id ≡ column_at here id
   level_here id less =
-      ap (λ (t : List (Option Column)). column_at t id) level_split
-      ∙ get_or_append_left here behind None id
-      (let h = level_length g k (get_or levels k d).coalitions in omega (arith, h, less))
+      let two =
+      get_or_append_left here behind None id
+      (let h = level_length g k (get_or levels k d).coalitions in omega (arith, h, less)) in
+      cc (level_split)
 
   pub level_past : (id : ℕ) → 2 * length (get_or levels k d).coalitions ≤ id
       → column_at (earlier_columns g (earlier_of k (drop k levels))) id
       ≡ column_at behind (id - 2 * length (get_or levels k d).coalitions)
   level_past id le =
-      ap (λ (t : List (Option Column)). column_at t id) level_split
-      ∙ get_or-append_right here behind (2 * length (get_or levels k d).coalitions) id None
-      (level_length g k (get_or levels k d).coalitions) le
+      let two =
+      get_or-append_right here behind (2 * length (get_or levels k d).coalitions) id None
+      (level_length g k (get_or levels k d).coalitions) le in
+      cc (level_split)
 
 -- behind all levels there is none
 pub none_left : (g : Game) (k id : ℕ) (levels : List Level) → length levels ≤ k

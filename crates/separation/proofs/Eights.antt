@@ -1,9 +1,8 @@
 -- The sums of the coalitions of eight players, each from one before it.
 use Rattle.std.proofs.Common.{◌≡◌, ℕ, zero, suc, ◌+◌, ◌-◌, ◌*◌, ◌^◌, ◌<◌, ◌≤◌}
-use Rattle.std.proofs.Common.{Bool, true, false}
-use Rattle.std.proofs.Common.{cond, List, ℤ, pos, ◌+ℤ◌, sym, ap, ◌∙◌, arith, nat_lt}
-use Rattle.std.proofs.Common.{slice_index_or, unsigned_abs, to_z, of_z, subst, inl, inr, refl, length, length-set}
-use Rattle.std.proofs.Common.{set, replicate}
+use Rattle.std.proofs.Common.{Bool, true, false, cond, List, ℤ, pos, ◌+ℤ◌, sym, ap}
+use Rattle.std.proofs.Common.{◌∙◌, arith, nat_lt, slice_index_or, unsigned_abs, to_z, of_z, subst, inl, inr}
+use Rattle.std.proofs.Common.{refl, length, length-set, set, replicate}
 use Rattle.std.proofs.lemmas.List.{get_or_past}
 use Rattle.std.proofs.lemmas.Int.{ints}
 use mir.Syntax.{w128}
@@ -15,8 +14,7 @@ use Rattle.definitions.specs.Coalitions.{has_player}
 use Rattle.definitions.proofs.Halves.{has_player-last}
 use Rattle.definitions.proofs.Members.{has_player-empty, sum_below-zero, sum_below-same}
 use Rattle.definitions.proofs.Parts.{sum_over-more, part}
-use Rattle.separation.specs.Values.{player_multiplier, member_multiplier, eight, IsEight, AreNarrow}
-use Rattle.separation.specs.Values.{low_of, HasRoom}
+use Rattle.separation.specs.Values.{player_multiplier, member_multiplier, eight, IsEight, AreNarrow, low_of, HasRoom}
 use Rattle.separation.specs.declared.tables.NarrowSums.{NarrowSums}
 use Rattle.separation.specs.declared.tables.Sums.{Sums}
 use Rattle.separation.specs.declared.tables.Sums.TheVariants.{Narrow}
@@ -28,9 +26,8 @@ use Rattle.spans.specs.Sums.{number_at, IsEightSum}
 pub eight-more : (num : List ℤ) (n first s last : ℕ) → last < 8 → s < 2 ^ last
     → eight num n first (s + 2 ^ last) ≡ eight num n first s +ℤ player_multiplier num n (first + last)
 eight-more num n first s last lt h =
-    eight-is num n first (s + 2 ^ last)
-    ∙ sum_over-more 8 s last (λ i. player_multiplier num n (first + i)) lt (has_player-last last s h)
-    ∙ ap (λ (z : ℤ). z +ℤ player_multiplier num n (first + last)) (sym (eight-is num n first s))
+    let two = sum_over-more 8 s last (λ i. player_multiplier num n (first + i)) lt (has_player-last last s h) in
+    cc (eight-is num n first (s + 2 ^ last), eight-is num n first s)
 
 eight-empty : (num : List ℤ) (n first : ℕ) → eight num n first 0 ≡ pos 0
 eight-empty num n first =
@@ -42,7 +39,7 @@ eight-empty num n first =
 sum-small : (k : ℕ) (f : ℕ → ℤ) → ((i : ℕ) → unsigned_abs (f i) < 2 ^ 110)
     → unsigned_abs (sum_below k f) ≤ k * 2 ^ 110
 sum-small zero f h = omega (arith, ints)
-sum-small (suc k) f h = let low = sum-small k f h in let last = h k in omega (arith, ints, low, last)
+sum-small (suc k) f h = let low = sum-small k f h in let last = h k in omega (arith, ints)
 
 pub eight-small : (num : List ℤ) (n first s : ℕ) → ((k : ℕ) → unsigned_abs (slice_index_or num k (pos 0)) < 2 ^ 110)
     → unsigned_abs (eight num n first s) ≤ 2 ^ 113
@@ -51,7 +48,7 @@ eight-small num n first s h =
     sum-small 8 (member_multiplier num n first s)
     (λ i. member_small (has_player s i) (nat_lt (first + i) n) (first + i)) in
     let same = ap unsigned_abs (eight-is num n first s) in
-    omega (arith, small, same)
+    omega arith
   where
     member_small : (b c : Bool) (i : ℕ)
         → unsigned_abs (cond b (cond c (slice_index_or num i (pos 0)) (pos 0)) (pos 0)) < 2 ^ 110
@@ -68,7 +65,7 @@ pub IsEight-next : (num : List ℤ) (n first s last : ℕ) (a b : ℤ)
     → IsEight num n first (s - 2 ^ last) a → b ≡ player_multiplier num n (first + last) → unsigned_abs b < 2 ^ 110
     → IsEight num n first s (to_z w128 (of_z w128 (to_z w128 (of_z w128 a) +ℤ to_z w128 (of_z w128 b))))
 IsEight-next num n first s last a b small few lower upper is same b_small =
-    let rest : s - 2 ^ last < 2 ^ last = omega (arith, lower, upper) in
+    let rest : s - 2 ^ last < 2 ^ last = omega arith in
     let whole : s - 2 ^ last + 2 ^ last ≡ s = omega (arith, lower) in
     let more = eight-more num n first (s - 2 ^ last) last (last_below_eight last s lower few) rest in
     let sum : a +ℤ b ≡ eight num n first s = added _ _ _ _ _ is.value same more ∙ ap (eight num n first) whole in
@@ -77,11 +74,11 @@ IsEight-next num n first s last a b small few lower upper is same b_small =
     kept_sum a b a_small b_small in
     record {
       value = kept ∙ sum;
-      small = subst (λ (z : ℤ). unsigned_abs z ≤ 2 ^ 113) (sym (kept ∙ sum)) (eight-small num n first s small);
+      small = rw (kept ∙ sum) (eight-small num n first s small);
     }
   where
     added : (x y u v w : ℤ) → x ≡ u → y ≡ v → w ≡ u +ℤ v → x +ℤ y ≡ w
-    added x y u v w e f h = omega (arith, linear, e, f, h)
+    added x y u v w e f h = omega (arith, linear)
 
     kept_sum : (x y : ℤ) → unsigned_abs x ≤ 2 ^ 113 → unsigned_abs y < 2 ^ 110
         → to_z w128 (of_z w128 (to_z w128 (of_z w128 x) +ℤ to_z w128 (of_z w128 y))) ≡ x +ℤ y
@@ -119,18 +116,18 @@ more_narrow num n i numbers v lt is small before = record {
   len = length-set numbers i v ∙ before.len;
   done =
       filled_below (λ j z. (z ≡ player_multiplier num n j) × (unsigned_abs z ≤ 2 ^ 56)) numbers i v
-      (subst (λ (k : ℕ). i < k) (sym before.len) lt) (is, small) before.done;
+      (rw before.len lt) (is, small) before.done;
 }
 
 pub all_narrow : (num : List ℤ) (n i : ℕ) (numbers : List ℤ) → n ≤ 16 → 16 ≤ i → AreNarrowBelow num n i numbers
     → AreNarrow num n numbers
 all_narrow num n i numbers few end h j = elim (below_or_above j 16) [
-  | inl lt ↦ h.done j (omega (arith, lt, end))
+  | inl lt ↦ h.done j (omega arith)
   | inr le ↦
-      let past = get_or_past numbers j (pos 0) (omega (arith, h.len, le)) in
+      let past = get_or_past numbers j (pos 0) (omega arith) in
       let none : player_multiplier num n j ≡ pos 0 =
-      ap (λ (b : Bool). cond b (slice_index_or num j (pos 0)) (pos 0)) (nat_lt-past j n (omega (arith, few, le))) in
-      (past ∙ sym none, subst (λ (z : ℤ). unsigned_abs z ≤ 2 ^ 56) (sym past) (omega arith))
+      ap (λ (b : Bool). cond b (slice_index_or num j (pos 0)) (pos 0)) (nat_lt-past j n (omega arith)) in
+      (past ∙ sym none, rw past (omega arith))
 ]
 
 -- sums in 64 bits have room where those of the first eight players are small

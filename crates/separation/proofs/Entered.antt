@@ -1,7 +1,6 @@
 -- The first column above its value is the one that enters.
 use Rattle.std.proofs.Common.{◌≡◌, ℕ, ◌+◌, Bool, true, false, IsTrue, List, length, ℤ}
-use Rattle.std.proofs.Common.{pos, ◌*ℤ◌, ◌≤ℤ◌}
-use Rattle.std.proofs.Common.{◌<ℤ◌, refl, subst, arith, Option, Some, None, MatchOption}
+use Rattle.std.proofs.Common.{pos, ◌*ℤ◌, ◌≤ℤ◌, ◌<ℤ◌, refl, arith, Option, Some, None, MatchOption}
 use Rattle.std.proofs.lemmas.Bool.{false≢true}
 use Rattle.std.specs.Option.{is_some}
 use Rattle.definitions.proofs.Ring.{linear}
@@ -50,11 +49,7 @@ module _ (measure : Measure) (n levels : ℕ) (columns : List (Option Column)) (
       ≤ℤ value_of (priced (kept_program measure n levels columns) w) num
       (λ r. entry_at measure n (column_at columns id) r)
   bounded_at id h is =
-      subst
-      (λ (t : ℕ). (den *ℤ price (kept_program measure n levels columns) w id)
-      ≤ℤ sum_below t (λ r. multiplier_at num r *ℤ entry_at measure n (column_at columns id) r)) len
-      (subst (λ (z : ℤ). (den *ℤ z) ≤ℤ value_at measure num n (column_at columns id))
-      (price_is measure n levels columns w id)
+      rw len at (rw (price_is measure n levels columns w id) at
       (bounded_unless_it_rises measure num den n w (column_at columns id) h is))
 
   above_at : (id : ℕ) → Rises measure num den n w (column_at columns id)
@@ -62,11 +57,8 @@ module _ (measure : Measure) (n levels : ℕ) (columns : List (Option Column)) (
       (λ r. entry_at measure n (column_at columns id) r)
       <ℤ (den *ℤ price (kept_program measure n levels columns) w id)
   above_at id h =
-      subst
-      (λ (t : ℕ). sum_below t (λ r. multiplier_at num r *ℤ entry_at measure n (column_at columns id) r)
-      <ℤ (den *ℤ price (kept_program measure n levels columns) w id)) len
-      (subst (λ (z : ℤ). value_at measure num n (column_at columns id) <ℤ (den *ℤ z))
-      (price_is measure n levels columns w id) (rising_is_above measure num den n w (column_at columns id) h))
+      rw len at
+      (rw (price_is measure n levels columns w id) at (rising_is_above measure num den n w (column_at columns id) h))
 
   pub entered : (found : Option ℕ) → pos 1 ≤ℤ den
       → MatchOption found ((id : ℕ) → ¬ Rises measure num den n w (column_at columns id))

@@ -9,11 +9,10 @@ use Rattle.std.proofs.lemmas.Int.{ints}
 use Rattle.std.proofs.lemmas.Nat.Bits.{bit_at_above, same_from_bits}
 use Rattle.std.specs.Int.{bit_at}
 use Rattle.std.specs.Option.{ForSome, is_some}
-use Rattle.definitions.proofs.Members.{has_player-grand_coalition}
+use Rattle.definitions.proofs.Members.{has_player-grand_coalition, members-zero}
 use Rattle.definitions.proofs.Cases.{below_or_above, less_or_last}
 use Rattle.definitions.proofs.Masks.{grand_coalition-within}
 use Rattle.definitions.proofs.Sizes.{length-more_yes, length-more_no, length-few, size-at}
-use Rattle.definitions.proofs.Members.{members-zero}
 use Rattle.definitions.specs.Coalitions.{has_player, grand_coalition, members, size}
 use Rattle.definitions.specs.declared.Measure.TheVariants.{PerHead}
 use Rattle.simplex.specs.Laws.{sizes}
@@ -50,8 +49,8 @@ all_members n s h all =
 some_out : (n s : ℕ) → s < grand_coalition n → (i : ℕ) × (i < n) × (has_player s i ≡ false)
 some_out n s lt = elim (all_or_out n s) [
   | inl all ↦ absurd
-      (let e = all_members n s (let b = grand_coalition-within n in omega (arith, lt, b)) all in
-      omega (arith, lt, e))
+      (let e = all_members n s (let b = grand_coalition-within n in omega arith) all in
+      omega arith)
   | inr out ↦ out
 ]
 
@@ -73,7 +72,7 @@ fewer_members (suc n) s i lt out =
 size_proper : (n s : ℕ) → n ≤ 64 → s < grand_coalition n → size s + 1 ≤ n
 size_proper n s few lt =
     let out = some_out n s lt in
-    let here = size-at n s few (let b = grand_coalition-within n in omega (arith, lt, b)) in
+    let here = size-at n s few (let b = grand_coalition-within n in omega arith) in
     omega (arith, here, fewer_members n s out.0 out.1 out.2)
 
 -- ---- the entries
@@ -94,7 +93,7 @@ sizes_same zero a b h = refl
 sizes_same (suc n) a b h =
     let ih = sizes_same n a b (λ i lt. h i (omega (arith, lt))) in
     let here = h n (omega arith) in
-    omega (arith, ih, here)
+    omega arith
 
 size_signed : (negated : Bool) (z : ℤ) → unsigned_abs (signed negated z) ≡ unsigned_abs z
 size_signed true z = omega (arith, ints)
@@ -104,19 +103,17 @@ member_sizes : (n s : ℕ) → sizes n (λ i. cond (has_player s i) (pos 1) (pos
 member_sizes zero s = rw (members-zero s) refl
 member_sizes (suc n) s =
     let next : suc n ≡ n + 1 = omega arith in
-    sym (ap (λ (k : ℕ). length (members k s)) next ∙ sym (by_last_player (has_player s n) refl (member_sizes n s)))
+    sym (cc (by_last_player (has_player s n) refl (member_sizes n s)))
   where
     by_last_player : (b : Bool) → has_player s n ≡ b
         → sizes n (λ i. cond (has_player s i) (pos 1) (pos 0)) ≡ length (members n s)
         → sizes n (λ i. cond (has_player s i) (pos 1) (pos 0))
         + unsigned_abs (cond (has_player s n) (pos 1) (pos 0)) ≡ length (members (n + 1) s)
     by_last_player true h same =
-        ap
-        (λ (b : Bool). sizes n (λ i. cond (has_player s i) (pos 1) (pos 0))
+        ap (λ (b : Bool). sizes n (λ i. cond (has_player s i) (pos 1) (pos 0))
         + unsigned_abs (cond b (pos 1) (pos 0))) h ∙ omega (arith, length-more_yes n s h, same)
     by_last_player false h same =
-        ap
-        (λ (b : Bool). sizes n (λ i. cond (has_player s i) (pos 1) (pos 0))
+        ap (λ (b : Bool). sizes n (λ i. cond (has_player s i) (pos 1) (pos 0))
         + unsigned_abs (cond b (pos 1) (pos 0))) h ∙ omega (arith, length-more_no n s h, same)
 
 -- at most one level row has an entry
@@ -133,8 +130,9 @@ level_sizes (suc j) l d = by_last_row (nat_eq l j) refl (level_sizes j l d)
         × (suc j ≤ l → sizes (suc j) (λ k. cond (nat_eq l k) (pos d) (pos 0)) ≡ 0)
     by_last_row true e (low, none) =
         let same : l ≡ j = grind (arith, nat_tests) in
-        (rw e (omega (arith, none (omega (arith, same)))), λ le. absurd (omega (arith, le, same)))
-    by_last_row false e (low, none) = (rw e (omega (arith, low)), λ le. rw e (omega (arith, none (omega (arith, le)))))
+        (rw e (omega (arith, none (omega (arith, same)))), λ le. absurd (omega arith))
+    by_last_row false e (low, none) =
+        (rw e (omega (arith, low)), λ le. rw e (omega (arith, none (omega (arith, le)))))
 
 no_sizes : (j : ℕ) → sizes j (λ k. pos 0) ≡ 0
 no_sizes zero = refl
@@ -167,10 +165,10 @@ level_few n j s (Some l) few proper =
     let out = some_out n s lt in
     omega (
       arith,
-      few,
       (level_sizes j l (size s)).0,
       size_proper n s (omega (arith, few)) lt,
-      fewer_members n s out.0 out.1 out.2,
+      fewer_members n s out.0 out.1
+          out.2,
     )
 
 column_short : (n j : ℕ) (c : Column) → n ≤ 8 → IsProper n c → sizes (n + j) (column_entry PerHead n c) ≤ 14

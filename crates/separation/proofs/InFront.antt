@@ -1,15 +1,14 @@
 -- The first column that rises of a list, found part by part.
-use Rattle.std.proofs.Common.{◌≡◌, ℕ, zero, suc, ◌+◌, ◌-◌, ◌<◌}
-use Rattle.std.proofs.Common.{◌≤◌, Bool, true, false, List, ◌++◌}
-use Rattle.std.proofs.Common.{length, length-append, ℤ, pos, ◌-ℤ◌, ◌*ℤ◌, ◌<ℤ◌, Option, None, Some}
-use Rattle.std.proofs.Common.{refl, sym, ap, subst, inl, inr, ◌∙◌, arith, ◌^◌, unsigned_abs}
-use Rattle.std.proofs.Common.{◌*◌, map, drop, get_or}
+use Rattle.std.proofs.Common.{◌≡◌, ℕ, zero, suc, ◌+◌, ◌-◌, ◌<◌, ◌≤◌, Bool, true}
+use Rattle.std.proofs.Common.{false, List, ◌++◌, length, length-append, ℤ, pos, ◌-ℤ◌, ◌*ℤ◌, ◌<ℤ◌}
+use Rattle.std.proofs.Common.{Option, None, Some, refl, sym, ap, subst, inl, inr, ◌∙◌}
+use Rattle.std.proofs.Common.{arith, ◌^◌, unsigned_abs, ◌*◌, map, drop, get_or}
 use Rattle.std.proofs.lemmas.Int.{ints}
 use Rattle.std.proofs.lemmas.List.{append_assoc, get_or-append_right, get_or_append_left, drop_all}
 use Rattle.std.proofs.Math.Pow.{pow-lt}
 use Rattle.std.specs.Option.{ForSome}
 use Rattle.definitions.specs.Coalitions.{singleton, grand_coalition}
-use Rattle.definitions.specs.Games.{Game, IsGame}
+use Rattle.definitions.specs.Games.{Game}
 use Rattle.definitions.specs.declared.Family.{Family}
 use Rattle.definitions.specs.declared.Family.TheVariants.{Imputations, Preimputations}
 use Rattle.definitions.specs.declared.Measure.{Measure}
@@ -21,7 +20,10 @@ use Rattle.separation.specs.Stage.{earlier_of}
 use Rattle.separation.specs.Kept.{column_at, plain_entry}
 use Rattle.separation.specs.Making.{listed, plain, minus, single, bound, both_columns, earlier_columns}
 use Rattle.separation.specs.Making.{alone_columns, inner_columns}
-use Rattle.separation.specs.Values.{multiplier_at, column_value, counted, Rises, IsFirst}
+use Rattle.separation.specs.Values.{multiplier_at, column_value, counted}
+use Rattle.separation.specs.Scanned.{game_of, RisesIn, NoneOf, IsFirstOf, worth_in}
+use Rattle.separation.specs.declared.scan.Scan.{Scan}
+use Rattle.worth_core.specs.declared.worth.Worth.{Ghosts}
 use Rattle.separation.specs.declared.column.Column.{Column}
 use Rattle.separation.proofs.InnerColumns.{length-inner}
 use Rattle.separation.proofs.Counts.{level_length, columns_length}
@@ -46,32 +48,48 @@ negated_below v c v' c' e f lt = omega (arith, ints)
 below_negated : (v c v' c' : ℤ) → v' ≡ pos 0 -ℤ v → c' ≡ pos 0 -ℤ c → v' <ℤ c' → c <ℤ v
 below_negated v c v' c' e f lt = omega (arith, ints)
 
-module _ (measure : Measure) (num : List ℤ) (den : ℤ) (n : ℕ) (w : Bool) where
+for_some : (c : Column) (P : Column → Type 0) → P c → ForSome (Some c) P
+for_some c P h o is = rw (some_injective c o is) at h
+  where
+    some_injective : (a b : Column) → Some a ≡ Some b → a ≡ b
+    some_injective a b e = cc
+
+module _ {X : Type 0} {W : Ghosts X} (x : Scan X W) where
+  abbrev g : Game
+  g = game_of x
+
+  abbrev n : ℕ
+  n = x.program.now.players
+
   abbrev Up : Option Column → Type 0
-  Up = Rises measure num den n w
+  Up = RisesIn x
 
-  abbrev pub NoneUp : List (Option Column) → Type 0
-  NoneUp columns = (j : ℕ) → ¬ Up (column_at columns j)
+  abbrev NoneUp : List (Option Column) → Type 0
+  NoneUp = NoneOf x
 
-  abbrev pub FirstUp : List (Option Column) → ℕ → Type 0
-  FirstUp = IsFirst measure num den n w
+  abbrev FirstUp : List (Option Column) → ℕ → Type 0
+  FirstUp = IsFirstOf x
 
   -- ---- both columns of a coalition
 
-  module _ (g : Game) (s : ℕ) (level : Option ℕ) where
+  module _ (s : ℕ) (level : Option ℕ) where
     abbrev value : ℤ
-    value = column_value measure num n (plain g s level)
+    value = column_value x.program.now.measure x.m.now.num.items n (plain g s level)
 
     abbrev cost : ℤ
-    cost = den *ℤ counted w (g.worth s)
+    cost = x.m.now.den *ℤ worth_in x s
+
+    negative : column_value x.program.now.measure x.m.now.num.items n (minus g s level) ≡ pos 0 -ℤ value
+    negative = negated_value x.program.now.measure x.m.now.num.items n s g level
+
+    lost : x.m.now.den *ℤ counted x.with_costs (pos 0 -ℤ g.worth s) ≡ pos 0 -ℤ cost
+    lost = negated_cost x.m.now.den (g.worth s) x.with_costs
 
     minus_rises : cost <ℤ value → Up (Some (minus g s level))
-    minus_rises lt =
-        negated_below value cost _ _ (negated_value measure num n s g level) (negated_cost den (g.worth s) w) lt
+    minus_rises lt = negated_below value cost _ _ negative lost lt
 
     minus_not : ¬ (cost <ℤ value) → ¬ Up (Some (minus g s level))
-    minus_not le up =
-        le (below_negated value cost _ _ (negated_value measure num n s g level) (negated_cost den (g.worth s) w) up)
+    minus_not le up = le (below_negated value cost _ _ negative lost up)
 
     pub second_up : ¬ (value <ℤ cost) → cost <ℤ value → FirstUp (both_columns g s level) 1
     second_up not_first lt = record { place = omega arith; rises = minus_rises lt; least = before }
@@ -90,19 +108,19 @@ module _ (measure : Measure) (num : List ℤ) (den : ℤ) (n : ℕ) (w : Bool) w
   module _ (before behind : List (Option Column)) where
     pub none_either : NoneUp before → NoneUp behind → NoneUp (before ++ behind)
     none_either first rest j up = elim (below_or_above j (length before)) [
-      | inl less ↦ first j (subst Up (get_or_append_left before behind None j less) up)
+      | inl less ↦ first j (rw (get_or_append_left before behind None j less) at up)
       | inr le ↦ rest (j - length before)
-          (subst Up (get_or-append_right before behind (length before) j None refl le) up)
+          (rw (get_or-append_right before behind (length before) j None refl le) at up)
     ]
 
     pub first_before : (place : ℕ) → FirstUp before place → FirstUp (before ++ behind) place
     first_before place h =
         let lt : place < length before = h.place in
         record {
-          place = let e = length-append before behind in omega (arith, e, lt);
-          rises = subst Up (sym (get_or_append_left before behind None place lt)) h.rises;
+          place = let e = length-append before behind in omega arith;
+          rises = rw (get_or_append_left before behind None place lt) h.rises;
           least = λ j less up. h.least j less
-              (subst Up (get_or_append_left before behind None j (omega (arith, less, lt))) up);
+              (rw (get_or_append_left before behind None j (omega arith)) at up);
         }
 
     pub first_behind : (place : ℕ) → NoneUp before → FirstUp behind place
@@ -110,16 +128,14 @@ module _ (measure : Measure) (num : List ℤ) (den : ℤ) (n : ℕ) (w : Bool) w
     first_behind place none h =
         let d : length before + place - length before ≡ place = omega arith in
         record {
-          place = let e = length-append before behind in let lt = h.place in omega (arith, e, lt);
+          place = let e = length-append before behind in let lt = h.place in omega arith;
           rises =
-              subst Up
-              (sym
-              (get_or-append_right before behind (length before) (length before + place) None refl (omega arith)
-              ∙ ap (column_at behind) d)) h.rises;
+              rw (get_or-append_right before behind (length before) (length before + place) None refl (omega arith)
+              ∙ ap (column_at behind) d) h.rises;
           least = λ j less up. elim (below_or_above j (length before)) [
-            | inl lt ↦ none j (subst Up (get_or_append_left before behind None j lt) up)
-            | inr le ↦ h.least (j - length before) (omega (arith, less, le))
-                (subst Up (get_or-append_right before behind (length before) j None refl le) up)
+            | inl lt ↦ none j (rw (get_or_append_left before behind None j lt) at up)
+            | inr le ↦ h.least (j - length before) (omega arith)
+                (rw (get_or-append_right before behind (length before) j None refl le) at up)
           ];
         }
 
@@ -132,7 +148,7 @@ module _ (measure : Measure) (num : List ℤ) (den : ℤ) (n : ℕ) (w : Bool) w
   pub decide_all : (columns : List (Option Column)) → Decide columns 0 columns
   decide_all columns = (
     λ none. none,
-    λ place first. let e : place ≡ 0 + place = omega arith in subst (FirstUp columns) e first,
+    λ place first. let e : place ≡ 0 + place = omega arith in rw e at first,
   )
 
   pub decide_here : (columns here behind : List (Option Column)) (passed place : ℕ)
@@ -144,7 +160,7 @@ module _ (measure : Measure) (num : List ℤ) (den : ℤ) (n : ℕ) (w : Bool) w
   decide_behind columns here behind passed h none = (
     λ rest. h.0 (none_either here behind none rest),
     λ place first. let e : passed + (length here + place) ≡ passed + length here + place = omega arith in
-        subst (FirstUp columns) e (h.1 (length here + place) (first_behind here behind place none first)),
+        rw e at (h.1 (length here + place) (first_behind here behind place none first)),
   )
 
   -- ---- a list of the columns of a sequence
@@ -152,21 +168,21 @@ module _ (measure : Measure) (num : List ℤ) (den : ℤ) (n : ℕ) (w : Bool) w
   module _ (count : ℕ) (f : ℕ → Option Column) where
     pub first_listed : (i : ℕ) → i < count → Up (f i) → ((j : ℕ) → j < i → ¬ Up (f j)) → FirstUp (listed count f) i
     first_listed i lt up none = record {
-      place = let e = length-listed count f in omega (arith, e, lt);
-      rises = subst Up (sym (listed_at count i f lt)) up;
-      least = λ j less rises. none j less (subst Up (listed_at count j f (omega (arith, less, lt))) rises);
+      place = let e = length-listed count f in omega arith;
+      rises = rw (listed_at count i f lt) up;
+      least = λ j less rises. none j less (rw (listed_at count j f (omega arith)) at rises);
     }
 
     pub none_listed : ((j : ℕ) → j < count → ¬ Up (f j)) → NoneUp (listed count f)
     none_listed none j up = elim (below_or_above j count) [
-      | inl less ↦ none j less (subst Up (listed_at count j f less) up)
+      | inl less ↦ none j less (rw (listed_at count j f less) at up)
       | inr le ↦ (let e = length-listed count f in
-          subst Up (past_at (listed count f) j (omega (arith, e, le))) up)
+          rw (past_at (listed count f) j (omega arith)) at up)
     ]
 
   -- ---- the coalitions of one level
 
-  module _ (g : Game) (k : ℕ) (pairs : List (ℕ × ℤ)) where
+  module _ (k : ℕ) (pairs : List (ℕ × ℤ)) where
     abbrev pub of_level : List (Option Column)
     of_level = earlier_columns g (map (λ c. (c.0, k)) pairs)
 
@@ -182,24 +198,21 @@ module _ (measure : Measure) (num : List ℤ) (den : ℤ) (n : ℕ) (w : Bool) w
         → FirstUp (both_columns g (get_or pairs j d).0 (Some k)) place → FirstUp of_level (2 * j + place)
     pair_first j place d lt h first =
         decide_here of_level (both_columns g (get_or pairs j d).0 (Some k)) (of_pairs (j + 1)) (2 * j) place
-        (subst (Decide of_level (2 * j)) (one_pair j d lt) h) first
+        (rw (one_pair j d lt) at h) first
 
     pub pair_passed : (j : ℕ) (d : ℕ × ℤ) → j < length pairs → Decide of_level (2 * j) (of_pairs j)
         → NoneUp (both_columns g (get_or pairs j d).0 (Some k)) → Decide of_level (2 * (j + 1)) (of_pairs (j + 1))
     pair_passed j d lt h none =
         let e : 2 * j + 2 ≡ 2 * (j + 1) = omega arith in
-        subst (λ (t : ℕ). Decide of_level t (of_pairs (j + 1))) e
-        (decide_behind of_level (both_columns g (get_or pairs j d).0 (Some k)) (of_pairs (j + 1)) (2 * j)
-        (subst (Decide of_level (2 * j)) (one_pair j d lt) h) none)
+        rw e at (decide_behind of_level (both_columns g (get_or pairs j d).0 (Some k)) (of_pairs (j + 1)) (2 * j)
+        (rw (one_pair j d lt) at h) none)
 
     pub pairs_passed : (j : ℕ) → length pairs ≤ j → Decide of_level (2 * j) (of_pairs j) → NoneUp of_level
-    pairs_passed j le h =
-        h.0 (λ i. subst (λ (ps : List (ℕ × ℤ)). ¬ Up (column_at (earlier_columns g (map (λ c. (c.0, k)) ps)) i))
-        (sym (drop_all j pairs le)) (λ up. up))
+    pairs_passed j le h = h.0 (λ i. rw (drop_all j pairs le) (λ up. up))
 
   -- ---- the coalitions of the levels
 
-  module _ (g : Game) (levels : List Level) where
+  module _ (levels : List Level) where
     abbrev pub of_levels : List (Option Column)
     of_levels = earlier_columns g (earlier_of 0 levels)
 
@@ -211,59 +224,55 @@ module _ (measure : Measure) (num : List ℤ) (den : ℤ) (n : ℕ) (w : Bool) w
         → FirstUp of_levels (passed + place)
     level_first k place passed d lt h first =
         decide_here of_levels (earlier_columns g (map (λ c. (c.0, k)) (get_or levels k d).coalitions))
-        (from_level (k + 1)) passed place (subst (Decide of_levels passed) (level_split g levels k d lt) h) first
+        (from_level (k + 1)) passed place (rw (level_split g levels k d lt) at h) first
 
     pub level_passed : (k passed : ℕ) (d : Level) → k < length levels → Decide of_levels passed (from_level k)
         → NoneUp (earlier_columns g (map (λ c. (c.0, k)) (get_or levels k d).coalitions))
         → Decide of_levels (passed + 2 * length (get_or levels k d).coalitions) (from_level (k + 1))
     level_passed k passed d lt h none =
-        subst (λ (t : ℕ). Decide of_levels (passed + t) (from_level (k + 1)))
-        (level_length g k (get_or levels k d).coalitions)
+        rw (level_length g k (get_or levels k d).coalitions) at
         (decide_behind of_levels (earlier_columns g (map (λ c. (c.0, k)) (get_or levels k d).coalitions))
-        (from_level (k + 1)) passed (subst (Decide of_levels passed) (level_split g levels k d lt) h) none)
+        (from_level (k + 1)) passed (rw (level_split g levels k d lt) at h) none)
 
     pub levels_passed : (k passed : ℕ) → length levels ≤ k → Decide of_levels passed (from_level k)
         → NoneUp of_levels
-    levels_passed k passed le h =
-        h.0 (λ i. subst (λ (o : Option Column). ¬ Up o) (none_left g k i levels le) (λ up. up))
+    levels_passed k passed le h = h.0 (λ i. rw (← (none_left g k i levels le)) (λ up. up))
 
   -- ---- the players alone
 
-  pub none_alone : (family : Family) (g : Game) (front : List Level) → family ≡ Preimputations
+  pub none_alone : (family : Family) (front : List Level) → family ≡ Preimputations
       → NoneUp (alone_columns family g front)
-  none_alone family g front is =
-      subst (λ (f : Family). NoneUp (alone_columns f g front)) (sym is)
+  none_alone family front is =
+      rw is
       (none_either (listed g.players (single Preimputations g)) (listed g.players (bound Preimputations g front))
       (none_listed g.players (single Preimputations g) (λ j lt up. up))
       (none_listed g.players (bound Preimputations g front) (λ j lt up. up)))
 
-  module _ (family : Family) (g : Game) (front : List Level) (count : ℕ) (is : family ≡ Imputations)
-      (same : count ≡ g.players) where
+  module _ (family : Family) (front : List Level) (is : family ≡ Imputations) where
     abbrev pub singles : List (Option Column)
-    singles = listed count (single Imputations g)
+    singles = listed n (single Imputations g)
 
     abbrev pub bounds : List (Option Column)
-    bounds = listed count (bound Imputations g front)
+    bounds = listed n (bound Imputations g front)
 
     alone_is : singles ++ bounds ≡ alone_columns family g front
-    alone_is = rw (is, same) refl
+    alone_is =
+        rw is
+        (ap (λ (t : ℕ). listed t (single Imputations g) ++ listed t (bound Imputations g front)) x.program.now.count)
 
     pub none_of_players : NoneUp singles → NoneUp bounds → NoneUp (alone_columns family g front)
-    none_of_players none rest = subst NoneUp alone_is (none_either singles bounds none rest)
+    none_of_players none rest = rw alone_is at (none_either singles bounds none rest)
 
     pub single_first : (i : ℕ) → FirstUp singles i → FirstUp (alone_columns family g front) i
-    single_first i first =
-        subst (λ (columns : List (Option Column)). FirstUp columns i) alone_is (first_before singles bounds i first)
+    single_first i first = rw alone_is at (first_before singles bounds i first)
 
-    pub bound_first : (i : ℕ) → NoneUp singles → FirstUp bounds i → FirstUp (alone_columns family g front) (count + i)
+    pub bound_first : (i : ℕ) → NoneUp singles → FirstUp bounds i → FirstUp (alone_columns family g front) (n + i)
     bound_first i none first =
-        subst (λ (columns : List (Option Column)). FirstUp columns (count + i)) alone_is
-        (subst (λ (t : ℕ). FirstUp (singles ++ bounds) (t + i)) (length-listed count (single Imputations g))
-        (first_behind singles bounds i none first))
+        rw alone_is at (rw (length-listed n (single Imputations g)) at (first_behind singles bounds i none first))
 
   -- ---- all in front of a stage's coalitions outside
 
-  module _ (family : Family) (g : Game) (front : List Level) where
+  module _ (family : Family) (front : List Level) where
     abbrev whole : List (Option Column)
     whole = both_columns g (grand_coalition g.players) None
 
@@ -280,48 +289,38 @@ module _ (measure : Measure) (num : List ℤ) (den : ℤ) (n : ℕ) (w : Bool) w
 
     pub whole_first : (place : ℕ) → FirstUp whole place → FirstUp (inner_columns family g front) place
     whole_first place first =
-        subst (λ (columns : List (Option Column)). FirstUp columns place) inner_is
-        (first_before whole (earlier ++ alone) place first)
+        rw inner_is at (first_before whole (earlier ++ alone) place first)
 
     pub earlier_first : (place : ℕ) → NoneUp whole → FirstUp earlier place
         → FirstUp (inner_columns family g front) (2 + place)
     earlier_first place none first =
-        subst (λ (columns : List (Option Column)). FirstUp columns (2 + place)) inner_is
-        (first_behind whole (earlier ++ alone) place none (first_before earlier alone place first))
+        rw inner_is at (first_behind whole (earlier ++ alone) place none (first_before earlier alone place first))
 
-    pub alone_first : (place first n : ℕ) → first ≡ length (inner_columns family g front) → n ≡ g.players
+    pub alone_first : (place first : ℕ) → first ≡ length (inner_columns family g front)
         → NoneUp whole → NoneUp earlier → FirstUp alone place
         → FirstUp (inner_columns family g front) (first - 2 * n + place)
-    alone_first place first n e same none rest up =
+    alone_first place first e none rest up =
+        let same : n ≡ g.players = x.program.now.count in
         let counted : 2 + (length earlier + place) ≡ first - 2 * n + place =
-        (let x = length-inner family g front in
-        let y = columns_length g (earlier_of 0 front) in omega (arith, e, same, x, y)) in
-        subst (FirstUp (inner_columns family g front)) counted
-        (subst (λ (columns : List (Option Column)). FirstUp columns (2 + (length earlier + place))) inner_is
-        (first_behind whole (earlier ++ alone) (length earlier + place) none
+        (let k = length-inner family g front in
+        let l = columns_length g (earlier_of 0 front) in omega arith) in
+        rw counted at (rw inner_is at (first_behind whole (earlier ++ alone) (length earlier + place) none
         (first_behind earlier alone place rest up)))
 
     pub none_in_front : NoneUp whole → NoneUp earlier → NoneUp alone → NoneUp (inner_columns family g front)
     none_in_front none rest last =
         subst NoneUp inner_is (none_either whole (earlier ++ alone) none (none_either earlier alone rest last))
 
--- ---- the costs of the columns of the players alone
+  -- ---- the costs of the columns of the players alone
 
-for_some : (c : Column) (P : Column → Type 0) → P c → ForSome (Some c) P
-for_some c P h x is = subst P (some_injective c x is) h
-  where
-    some_injective : (a b : Column) → Some a ≡ Some b → a ≡ b
-    some_injective a b e = cc
+  pub alone_small : (i : ℕ) → i < n → ForSome (single Imputations g i) (λ c. unsigned_abs c.cost < 2 ^ 46)
+  alone_small i lt =
+      for_some (plain g (singleton i) None) (λ c. unsigned_abs c.cost < 2 ^ 46)
+      (x.program.now.laws.small (singleton i) (pow-lt (rw x.program.now.count at lt)))
 
-pub alone_small : (g : Game) (n i : ℕ) → IsGame g → n ≡ g.players → i < n
-    → ForSome (single Imputations g i) (λ c. unsigned_abs c.cost < 2 ^ 46)
-alone_small g n i game same lt =
-    for_some (plain g (singleton i) None) (λ c. unsigned_abs c.cost < 2 ^ 46)
-    (game.small (singleton i) (pow-lt (subst (λ (t : ℕ). i < t) same lt)))
-
-pub minus_small : (g : Game) (n i : ℕ) → IsGame g → n ≡ g.players → i < n
-    → ForSome (Some (minus g (singleton i) None)) (λ c. unsigned_abs c.cost < 2 ^ 46)
-minus_small g n i game same lt =
-    for_some (minus g (singleton i) None) (λ c. unsigned_abs c.cost < 2 ^ 46)
-    (let small : unsigned_abs (g.worth (singleton i)) < 2 ^ 46 =
-    game.small (singleton i) (pow-lt (subst (λ (t : ℕ). i < t) same lt)) in omega (arith, ints, small))
+  pub minus_small : (i : ℕ) → i < n
+      → ForSome (Some (minus g (singleton i) None)) (λ c. unsigned_abs c.cost < 2 ^ 46)
+  minus_small i lt =
+      for_some (minus g (singleton i) None) (λ c. unsigned_abs c.cost < 2 ^ 46)
+      (let small : unsigned_abs (g.worth (singleton i)) < 2 ^ 46 =
+      x.program.now.laws.small (singleton i) (pow-lt (rw x.program.now.count at lt)) in omega (arith, ints))

@@ -39,17 +39,17 @@ module _ (family : Family) (g : Game) (front : List Level) where
   length-two : length ((whole ++ earlier) ++ singles) ≡ b + n
   length-two =
       length-append (whole ++ earlier) singles
-      ∙ (let x = length-one in let y = length-listed g.players (single family g) in omega (arith, x, y))
+      ∙ (let x = length-one in let y = length-listed g.players (single family g) in omega arith)
 
   pub length-inner : length (inner_columns family g front) ≡ b + n + n
   length-inner =
       length-append ((whole ++ earlier) ++ singles) bounds
-      ∙ (let x = length-two in let y = length-listed g.players (bound family g front) in omega (arith, x, y))
+      ∙ (let x = length-two in let y = length-listed g.players (bound family g front) in omega arith)
 
   settled_at : (id : ℕ) → id < b → column_at (inner_columns family g front) id ≡ column_at (whole ++ earlier) id
   settled_at id lt =
-      get_or_append_left ((whole ++ earlier) ++ singles) bounds None id (let x = length-two in omega (arith, x, lt))
-      ∙ get_or_append_left (whole ++ earlier) singles None id (let x = length-one in omega (arith, x, lt))
+      get_or_append_left ((whole ++ earlier) ++ singles) bounds None id (let x = length-two in omega arith)
+      ∙ get_or_append_left (whole ++ earlier) singles None id (let x = length-one in omega arith)
 
   pub whole_at : (id : ℕ) → id < 2 → column_at (inner_columns family g front) id ≡ column_at whole id
   whole_at id lt = settled_at id (omega (arith, lt)) ∙ get_or_append_left whole earlier None id lt
@@ -61,9 +61,9 @@ module _ (family : Family) (g : Game) (front : List Level) where
   pub single_at : (id : ℕ) → b ≤ id → id < b + n
       → column_at (inner_columns family g front) id ≡ single family g (id - b)
   single_at id le lt =
-      get_or_append_left ((whole ++ earlier) ++ singles) bounds None id (let x = length-two in omega (arith, x, lt))
+      get_or_append_left ((whole ++ earlier) ++ singles) bounds None id (let x = length-two in omega arith)
       ∙ get_or-append_right (whole ++ earlier) singles b id None length-one le
-      ∙ listed_at g.players (id - b) (single family g) (omega (arith, le, lt))
+      ∙ listed_at g.players (id - b) (single family g) (omega arith)
 
   pub bound_at : (id : ℕ) → b + n ≤ id → id < b + n + n
       → column_at (inner_columns family g front) id ≡ bound family g front (id - b - n)
@@ -71,7 +71,7 @@ module _ (family : Family) (g : Game) (front : List Level) where
       let d : id - (b + n) ≡ id - b - n = omega (arith, le) in
       get_or-append_right ((whole ++ earlier) ++ singles) bounds (b + n) id None length-two le
       ∙ ap (column_at bounds) d
-      ∙ listed_at g.players (id - b - n) (bound family g front) (omega (arith, le, lt))
+      ∙ listed_at g.players (id - b - n) (bound family g front) (omega arith)
 
   pub none_at : (id : ℕ) → b + n + n ≤ id → column_at (inner_columns family g front) id ≡ None
-  none_at id le = past_at (inner_columns family g front) id (let x = length-inner in omega (arith, x, le))
+  none_at id le = past_at (inner_columns family g front) id (let x = length-inner in omega arith)

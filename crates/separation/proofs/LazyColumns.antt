@@ -1,8 +1,7 @@
 -- The columns that are found by their numbers: what stands under each, and that they are the programs'.
 use Rattle.std.proofs.Common.{◌≡◌, ℕ, ◌+◌, ◌-◌, ◌<◌, ◌≤◌, ◌^◌, Bool, true, false}
-use Rattle.std.proofs.Common.{List, [], ◌∷◌, ◌++◌, length}
-use Rattle.std.proofs.Common.{length-append, refl, sym, ap, ◌∙◌, subst, arith, if◌then◌else◌, Option, Some}
-use Rattle.std.proofs.Common.{None}
+use Rattle.std.proofs.Common.{List, [], ◌∷◌, ◌++◌, length, length-append, refl, ◌∙◌, arith, if◌then◌else◌}
+use Rattle.std.proofs.Common.{Option, Some, None}
 use Rattle.std.proofs.lemmas.List.{get_or-append_right, get_or_append_left}
 use Rattle.std.specs.Bool.{Decides}
 use Rattle.std.specs.List.{AllByRecursion}
@@ -33,9 +32,8 @@ module _ (g : Game) (front : Option Front) (marks : Option (List ℕ)) where
 
   pub length-lazy : length (lazy_columns g front marks) ≡ length (front_columns g front) + 2 ^ g.players
   length-lazy =
-      length-append (front_columns g front) marked
-      ∙ ap (λ (t : ℕ). length (front_columns g front) + t)
-      (length-listed (2 ^ g.players) (marked_column g (front_level front) marks))
+      let one = length-listed (2 ^ g.players) (marked_column g (front_level front) marks) in
+      cc (length-append (front_columns g front) marked)
 
   pub lazy-front : (id : ℕ) → id < length (front_columns g front)
       → column_at (lazy_columns g front marks) id ≡ column_at (front_columns g front) id
@@ -48,11 +46,11 @@ module _ (g : Game) (front : Option Front) (marks : Option (List ℕ)) where
   lazy-marked id le lt =
       get_or-append_right (front_columns g front) marked (length (front_columns g front)) id None refl le
       ∙ listed_at (2 ^ g.players) (id - length (front_columns g front)) (marked_column g (front_level front) marks)
-      (omega (arith, le, lt))
+      (omega arith)
 
   pub lazy-past : (id : ℕ) → length (front_columns g front) + 2 ^ g.players ≤ id
       → column_at (lazy_columns g front marks) id ≡ None
-  lazy-past id le = past_at (lazy_columns g front marks) id (let h = length-lazy in omega (arith, h, le))
+  lazy-past id le = past_at (lazy_columns g front marks) id (let h = length-lazy in omega arith)
 
 -- ---- that they are small, and the programs
 
@@ -60,7 +58,7 @@ marked_plain : (g : Game) (k : ℕ) (marks : Option (List ℕ))
     → ArePlain g k (2 ^ g.players) (listed (2 ^ g.players) (marked_column g (Some k) marks))
 marked_plain g k marks = record {
   count = length-listed (2 ^ g.players) (marked_column g (Some k) marks);
-  plain_or = λ s lt. subst (IsPlainOr g k s) (sym (listed_at (2 ^ g.players) s (marked_column g (Some k) marks) lt))
+  plain_or = λ s lt. rw (listed_at (2 ^ g.players) s (marked_column g (Some k) marks) lt)
       (by_test s (has_mark marks s));
 }
   where
@@ -96,8 +94,7 @@ marked_outer : (g : Game) (levels : List Level) (words : List ℕ) → IsMarking
     (listed (2 ^ g.players) (marked_column g (Some (length levels)) (Some words)))
 marked_outer g levels words h = record {
   count = length-listed (2 ^ g.players) (marked_column g (Some (length levels)) (Some words));
-  outer = λ s lt. subst (IsOuter g levels s)
-      (sym (listed_at (2 ^ g.players) s (marked_column g (Some (length levels)) (Some words)) lt))
+  outer = λ s lt. rw (listed_at (2 ^ g.players) s (marked_column g (Some (length levels)) (Some words)) lt)
       (by_test s (is_marked words s) (h s));
 }
   where
@@ -111,8 +108,7 @@ marked_outer g levels words h = record {
 
 pub marking_of : (n m : ℕ) (levels : List Level) (kept words : List ℕ) → n ≡ m → IsSpanOf m kept levels
     → (IsSpanOf n kept levels → IsMarking n levels words) → IsMarking m levels words
-marking_of n m levels kept words e span marking =
-    subst (λ (k : ℕ). IsMarking k levels words) e (marking (subst (λ (k : ℕ). IsSpanOf k kept levels) (sym e) span))
+marking_of n m levels kept words e span marking = rw e at (marking (rw e span))
 
 pub stage_kept : (f : Front) (measure : Measure) (g : Game) (n : ℕ) (kept words : List ℕ) → n ≡ g.players → IsGame g
     → AllByRecursion (IsSmallLevel g.players) f.levels.now → IsSpanOf g.players kept f.levels.now

@@ -1,8 +1,7 @@
 -- The coalitions outside, by marks.
 use Rattle.std.proofs.Common.{◌≡◌, ℕ, ◌+◌, ◌-◌, ◌<◌, ◌≤◌, ◌^◌, Bool, IsTrue, List}
-use Rattle.std.proofs.Common.{[], ◌∷◌, ◌++◌, length-append}
-use Rattle.std.proofs.Common.{append_assoc, refl, sym, ap, ◌∙◌, subst, inl, inr, arith, Option}
-use Rattle.std.proofs.Common.{Some, None}
+use Rattle.std.proofs.Common.{[], ◌∷◌, ◌++◌, length-append, append_assoc, refl, sym, ap, ◌∙◌, inl}
+use Rattle.std.proofs.Common.{inr, arith, Option, Some, None}
 use Rattle.std.proofs.lemmas.Bool.{false≢true}
 use Rattle.std.proofs.lemmas.List.{get_or-append_right, get_or_append_left, append-nil}
 use Rattle.std.specs.Bool.{Decides}
@@ -54,18 +53,16 @@ EndsOuter-push g front n columns ys zs o h outer e = record {
     outer = λ s lt. elim (less_or_last_of s n lt) [
       | inl less ↦
           let long = h.are.count in
-          subst (IsOuter g front s) (sym (get_or_append_left h.outers (o ∷ []) None s (omega (arith, long, less))))
-          (h.are.outer s less)
+          rw (get_or_append_left h.outers (o ∷ []) None s (omega (arith, long, less))) (h.are.outer s less)
       | inr same ↦
           let d : s - n ≡ 0 = omega (arith, same) in
           let at : column_at (h.outers ++ o ∷ []) s ≡ o =
           get_or-append_right h.outers (o ∷ []) n s None h.are.count (omega (arith, same))
           ∙ ap (column_at (o ∷ [])) d in
-          subst (IsOuter g front s) (sym at) (subst (λ (t : ℕ). IsOuter g front t o) (sym same) outer)
+          rw at (rw same outer)
     ];
   };
-  longer_is =
-      e ∙ ap (λ (t : List (Option Column)). t ++ o ∷ []) h.longer_is ∙ append_assoc columns h.outers (o ∷ []);
+  longer_is = cc (h.longer_is, append_assoc columns h.outers (o ∷ []));
 }
 
 -- the test that passes at the coalitions that have a column
@@ -84,10 +81,9 @@ decides g front outers h s = elim (below_or_above s (2 ^ g.players)) [
   | inl lt ↦ decides_at g front s (column_at outers s) (h.outer s lt)
   | inr le ↦
       let long = h.count in
-      subst (λ (o : Option Column). Decides (is_some o) (IsOutside Span g.players front s))
-      (sym (past_at outers s (omega (arith, long, le))))
+      rw (past_at outers s (omega (arith, long, le)))
       (λ e. absurd (false≢true e), λ out. absurd (none_past le out.1))
 ]
   where
     none_past : 2 ^ g.players ≤ s → s < grand_coalition g.players → ⊥
-    none_past le lt = omega (arith, le, lt)
+    none_past le lt = omega arith

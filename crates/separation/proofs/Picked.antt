@@ -2,7 +2,7 @@
 use Rattle.std.proofs.Common.{◌≡◌, ◌↔◌, ◌⊎◌, inl, inr, ℕ, ◌+◌, ◌<◌, ◌≤◌, ℤ}
 use Rattle.std.proofs.Common.{◌+ℤ◌, ◌≤ℤ◌, ◌<ℤ◌, int_lt, Bool, true, false}
 use Rattle.std.proofs.lemmas.Int.{ints}
-use Rattle.std.proofs.Common.{Option, Some, None, MatchOption, refl, sym, subst, arith}
+use Rattle.std.proofs.Common.{Option, Some, None, MatchOption, refl, arith}
 use Rattle.definitions.proofs.Cases.{last_or_less_of, below_or_above}
 use Rattle.definitions.proofs.Ring.{linear}
 use Rattle.separation.specs.Values.{IsMost, IsHighest}
@@ -20,7 +20,7 @@ module _ (R : ℕ → Type 0) (G : ℕ → ℤ) (a s count : ℕ) where
     below = h.below;
     rises = h.rises;
     most = λ j low lt within r. elim (last_or_less_of j s lt) [
-      | inl same ↦ absurd (here (subst R same r))
+      | inl same ↦ absurd (here (rw same at r))
       | inr less ↦ h.most j low less within r
     ];
   }
@@ -29,7 +29,7 @@ module _ (R : ℕ → Type 0) (G : ℕ → ℤ) (a s count : ℕ) where
       → MatchOption o ((j : ℕ) → a ≤ j → j < s → j < count → R j → ⊥) (IsPicked R G a s count)
       → MatchOption o ((j : ℕ) → a ≤ j → j < s + 1 → j < count → R j → ⊥) (IsPicked R G a (s + 1) count)
   passed_over None here h = λ j low lt within. elim (last_or_less_of j s lt) [
-    | inl same ↦ subst (λ (t : ℕ). R t → ⊥) (sym same) here
+    | inl same ↦ rw same here
     | inr less ↦ h j low less within
   ]
   passed_over (Some b) here h = (most_passed b.0 here h.0, h.1)
@@ -40,7 +40,7 @@ module _ (R : ℕ → Type 0) (G : ℕ → ℤ) (a s count : ℕ) where
     below = within;
     rises = rises;
     most = λ j low lt below r. elim (last_or_less_of j s lt) [
-      | inl same ↦ subst (λ (t : ℕ). G t ≤ℤ G s) (sym same) (omega (arith, linear))
+      | inl same ↦ rw same (omega (arith, linear))
       | inr less ↦ absurd (none j low less below r)
     ];
   }
@@ -50,8 +50,8 @@ module _ (R : ℕ → Type 0) (G : ℕ → ℤ) (a s count : ℕ) where
     below = within;
     rises = rises;
     most = λ j low lt below r. elim (last_or_less_of j s lt) [
-      | inl same ↦ subst (λ (t : ℕ). G t ≤ℤ G s) (sym same) (omega (arith, linear))
-      | inr less ↦ let older = h.most j low less below r in omega (arith, linear, older, more)
+      | inl same ↦ rw same (omega (arith, linear))
+      | inr less ↦ let older = h.most j low less below r in omega (arith, linear)
     ];
   }
 
@@ -60,7 +60,7 @@ module _ (R : ℕ → Type 0) (G : ℕ → ℤ) (a s count : ℕ) where
     below = h.below;
     rises = h.rises;
     most = λ j low lt below r. elim (last_or_less_of j s lt) [
-      | inl same ↦ subst (λ (k : ℕ). G k ≤ℤ G t) (sym same) less
+      | inl same ↦ rw same less
       | inr before ↦ h.most j low before below r
     ];
   }
@@ -69,12 +69,11 @@ module _ (R : ℕ → Type 0) (G : ℕ → ℤ) (a s count : ℕ) where
       → MatchOption o (r ≡ (s, z)) (λ b. (b.1 <ℤ z → r ≡ (s, z)) × (z ≤ℤ b.1 → r ≡ b))
       → MatchOption o ((j : ℕ) → a ≤ j → j < s → j < count → R j → ⊥) (IsPicked R G a s count)
       → IsPicked R G a (s + 1) count r
-  picked_more None r z within rises has e h =
-      subst (IsPicked R G a (s + 1) count) (sym e) (first_picked within rises h, has)
+  picked_more None r z within rises has e h = rw e (first_picked within rises h, has)
   picked_more (Some b) r z within rises has e h = elim (less_or_more b.1 z) [
-    | inl more ↦ subst (IsPicked R G a (s + 1) count) (sym (e.0 more))
+    | inl more ↦ rw (e.0 more)
         (more_picked b.0 within rises (above b.1 z (G b.0) (G s) h.1 has more) h.0, has)
-    | inr less ↦ subst (IsPicked R G a (s + 1) count) (sym (e.1 less))
+    | inr less ↦ rw (e.1 less)
         (kept_picked b.0 (at_most b.1 z (G b.0) (G s) h.1 has less) h.0, h.1)
   ]
     where
@@ -87,10 +86,10 @@ module _ (R : ℕ → Type 0) (G : ℕ → ℤ) (a s count : ℕ) where
           step (int_lt x y) refl
 
       above : (x y u v : ℤ) → x ≡ u → y ≡ v → x <ℤ y → u <ℤ v
-      above x y u v e f h = omega (arith, linear, e, f, h)
+      above x y u v e f h = omega (arith, linear)
 
       at_most : (x y u v : ℤ) → x ≡ u → y ≡ v → y ≤ℤ x → v ≤ℤ u
-      at_most x y u v e f h = omega (arith, linear, e, f, h)
+      at_most x y u v e f h = omega (arith, linear)
 
 -- ---- by height
 
@@ -100,12 +99,12 @@ module _ (R : ℕ → Type 0) (G : ℕ → ℤ) (a s count : ℕ) (base height :
   highest_more z within rises has more h =
       let low = h.low in
       record {
-        low = omega (arith, linear, low, more);
-        none = λ e. absurd (omega (arith, linear, low, more, e));
+        low = omega (arith, linear);
+        none = λ e. absurd (omega (arith, linear));
         found = λ up. (within, rises.0 up, has);
         most = λ j lower lt below r. elim (last_or_less_of j s lt) [
-          | inl same ↦ subst (λ (t : ℕ). (base +ℤ G t) ≤ℤ z) (sym same) (omega (arith, linear, has))
-          | inr before ↦ let older = h.most j lower before below r in omega (arith, linear, older, more)
+          | inl same ↦ rw same (omega (arith, linear, has))
+          | inr before ↦ let older = h.most j lower before below r in omega (arith, linear)
         ];
       }
 
@@ -114,12 +113,12 @@ module _ (R : ℕ → Type 0) (G : ℕ → ℤ) (a s count : ℕ) (base height :
   highest_passed here h = record {
     low = h.low;
     none = λ e j low lt within. elim (last_or_less_of j s lt) [
-      | inl same ↦ subst (λ (t : ℕ). ¬ R t) (sym same) here
+      | inl same ↦ rw same here
       | inr before ↦ h.none e j low before within
     ];
     found = h.found;
     most = λ j low lt within r. elim (last_or_less_of j s lt) [
-      | inl same ↦ absurd (here (subst R same r))
+      | inl same ↦ absurd (here (rw same at r))
       | inr before ↦ h.most j low before within r
     ];
   }
@@ -129,12 +128,12 @@ module _ (R : ℕ → Type 0) (G : ℕ → ℤ) (a s count : ℕ) (base height :
   highest_kept z rises has less h = record {
     low = h.low;
     none = λ e j low lt within. elim (last_or_less_of j s lt) [
-      | inl same ↦ λ r. let up = rises (subst R same r) in absurd (omega (arith, linear, e, less, up))
+      | inl same ↦ λ r. let up = rises (rw same at r) in absurd (omega (arith, linear))
       | inr before ↦ h.none e j low before within
     ];
     found = h.found;
     most = λ j low lt within r. elim (last_or_less_of j s lt) [
-      | inl same ↦ subst (λ (t : ℕ). (base +ℤ G t) ≤ℤ height) (sym same) (omega (arith, linear, has, less))
+      | inl same ↦ rw same (omega (arith, linear))
       | inr before ↦ h.most j low before within r
     ];
   }
@@ -151,8 +150,8 @@ module _ (R : ℕ → Type 0) (G : ℕ → ℤ) (a s count : ℕ) (base height :
     where
       earlier : (j : ℕ) → j < t → j < count → j < s
       earlier j lt within = elim end [
-        | inl same ↦ subst (λ (k : ℕ). j < k) (sym same) lt
-        | inr le ↦ omega (arith, le, within)
+        | inl same ↦ rw same lt
+        | inr le ↦ omega arith
       ]
 
   -- a stretch of which none that rises is higher
@@ -163,7 +162,7 @@ module _ (R : ℕ → Type 0) (G : ℕ → ℤ) (a s count : ℕ) (base height :
     low = h.low;
     none = λ e j low lt within. elim (below_or_above j s) [
       | inl before ↦ h.none e j low before within
-      | inr past ↦ λ r. let up = above j past lt within r in absurd (omega (arith, linear, e, up))
+      | inr past ↦ λ r. let up = above j past lt within r in absurd (omega (arith, linear))
     ];
     found = h.found;
     most = λ j low lt within r. elim (below_or_above j s) [
@@ -180,5 +179,5 @@ module _ (R : ℕ → Type 0) (G : ℕ → ℤ) (a s count : ℕ) (base height :
     most = λ j low lt within r.
         let less = h.most j low lt within r in
         let has = (h.found up).2 in
-        omega (arith, linear, less, has);
+        omega (arith, linear);
   }

@@ -1,7 +1,7 @@
 -- The columns of a stage are proper: none of them has all players and a level row.
 use Rattle.std.proofs.Common.{◌≡◌, ℕ, zero, suc, ◌+◌, ◌<◌, ◌≤◌, ◌^◌, Bool, true}
 use Rattle.std.proofs.Common.{false, ◌&&◌, List, [], ◌∷◌}
-use Rattle.std.proofs.Common.{◌++◌, length, map, refl, sym, subst, arith, Option, Some, None}
+use Rattle.std.proofs.Common.{◌++◌, length, map, refl, arith, Option, Some, None}
 use Rattle.std.proofs.Math.Pow.{pow-lt}
 use Rattle.std.specs.List.{AllByRecursion}
 use Rattle.std.specs.Option.{ForSome}
@@ -38,7 +38,7 @@ abbrev pub Proper : ℕ → Option Column → Type 0
 Proper n o = ForSome o (IsProper n)
 
 for_some : {X : Type 0} (x : X) (P : X → Type 0) → P x → ForSome (Some x) P
-for_some {X = X} x P h y e = subst P (some_injective x y e) h
+for_some {X = X} x P h y e = rw (some_injective x y e) at h
   where
     some_injective : (x y : X) → Some x ≡ Some y → x ≡ y
     some_injective x y e = cc
@@ -54,14 +54,13 @@ without_level : (n : ℕ) (c : Column) → c.level ≡ None → c.coalition < 2 
 without_level n c none lt =
     for_some c (IsProper n) (
       lt,
-      subst (λ (l : Option ℕ). ForSome l (λ k. c.coalition < grand_coalition n)) (sym none)
+      rw none
           (for_none (λ k. c.coalition < grand_coalition n)),
     )
 
 -- a column of a coalition that isn't that of all
 with_level : (n : ℕ) (c : Column) → c.coalition < grand_coalition n → Proper n (Some c)
-with_level n c lt =
-    for_some c (IsProper n) (let b = grand_coalition-within n in omega (arith, lt, b), λ k e. lt)
+with_level n c lt = for_some c (IsProper n) (let b = grand_coalition-within n in omega arith, λ k e. lt)
 
 -- ---- lists of columns
 
@@ -108,8 +107,7 @@ levels_proper n k front [] h = tt
 levels_proper n k front (l ∷ levels) h =
     all_join (λ c. c.0 < grand_coalition n) (map (λ c. (c.0, k)) l.coalitions) (earlier_of (k + 1) levels)
     (all_pairs (λ c. c.0 < grand_coalition n) (λ c. (c.0, k)) (λ c. (0 < c.0) × (c.0 < grand_coalition n))
-    l.coalitions (λ c p. p.1) h.0.proper)
-    (levels_proper n (k + 1) (front ++ l ∷ []) levels h.1)
+    l.coalitions (λ c p. p.1) h.0.proper) (levels_proper n (k + 1) (front ++ l ∷ []) levels h.1)
 
 single_proper : (family : Family) (g : Game) (i : ℕ) → i < g.players → Proper g.players (single family g i)
 single_proper family g i lt = by_family (is_imputations family) refl
@@ -135,8 +133,7 @@ inner_proper family g levels form =
     whole_columns g (grand_coalition g.players) ++ earlier_columns g (earlier_of 0 levels) in
     let singles : List (Option Column) = listed g.players (single family g) in
     let bounds : List (Option Column) = listed g.players (bound family g levels) in
-    all_join P (settled ++ singles) bounds
-    (all_join P settled singles
+    all_join P (settled ++ singles) bounds (all_join P settled singles
     (all_join P (whole_columns g (grand_coalition g.players)) (earlier_columns g (earlier_of 0 levels))
     (whole_proper g) (earlier_proper g (earlier_of 0 levels) (levels_proper g.players 0 [] levels form)))
     (listed_all P g.players (single family g) (λ i lt. single_proper family g i lt)))
@@ -149,7 +146,7 @@ stage_short : (measure : Measure) (n : ℕ) (levels : List Level) (columns : Lis
     → AreShort measure n (length levels + 1) columns
 stage_short Plain n levels columns heads count proper = λ e. absurd (no_heads e)
 stage_short PerHead n levels columns heads count proper = λ e. record {
-  few = let few = heads e in omega (arith, few, count);
+  few = let few = heads e in omega arith;
   columns = λ id is. kept_short n (length levels + 1) (column_at columns id) (heads e)
       (proper_at n columns (proper e) id) is;
 }
@@ -158,12 +155,11 @@ outer_proper : (g : Game) (levels : List Level) (outers : List (Option Column))
     → AreOuter g levels (2 ^ g.players) outers → AllByRecursion (Proper g.players) outers
 outer_proper g levels outers are =
     all_at_places (Proper g.players) None outers
-    (λ id lt. proper_if_outer id (column_at outers id) (are.outer id (let long = are.count in omega (arith, lt, long))))
+    (λ id lt. proper_if_outer id (column_at outers id) (are.outer id (let long = are.count in omega arith)))
   where
     proper_if_outer : (s : ℕ) (o : Option Column) → IsOuter g levels s o → Proper g.players o
     proper_if_outer s None h = for_none (IsProper g.players)
-    proper_if_outer s (Some c) h =
-        with_level g.players c (subst (λ (d : Column). d.coalition < grand_coalition g.players) (sym h.1) h.0.1)
+    proper_if_outer s (Some c) h = with_level g.players c (rw h.1 h.0.1)
 
 -- the columns of a stage that are listed
 pub listed_short : (family : Family) (measure : Measure) (g : Game) (levels : List Level)

@@ -32,16 +32,12 @@ pub level-push : (g : Game) (k i : ℕ) (pairs : List (ℕ × ℤ)) (p : ℕ × 
     → zs ≡ xs ++ earlier_columns g (map (λ c. (c.0, k)) (take (i + 1) pairs))
 level-push g k i pairs p xs ys zs lt is h e =
     let f : ℕ × ℤ → ℕ × ℕ = λ c. (c.0, k) in
-    let one : take (i + 1) pairs ≡ take i pairs ++ p ∷ [] =
-    take_more pairs i p lt ∙ ap (λ (t : ℕ × ℤ). take i pairs ++ t ∷ []) (sym is) in
+    let one : take (i + 1) pairs ≡ take i pairs ++ p ∷ [] = cc (take_more pairs i p lt) in
     let more : map f (take (i + 1) pairs) ≡ map f (take i pairs) ++ f p ∷ [] =
     ap (map f) one ∙ map-append f (take i pairs) (p ∷ []) in
-    e
-    ∙ append_assoc ys (Some (plain g p.0 (Some k)) ∷ []) (Some (minus g p.0 (Some k)) ∷ [])
-    ∙ ap (λ (t : List (Option Column)). t ++ earlier_columns g (f p ∷ [])) h
-    ∙ append_assoc xs (earlier_columns g (map f (take i pairs))) (earlier_columns g (f p ∷ []))
-    ∙ ap (λ (t : List (Option Column)). xs ++ t)
-    (sym (earlier_columns-append g (map f (take i pairs)) (f p ∷ [])) ∙ ap (earlier_columns g) (sym more))
+    let two = append_assoc xs (earlier_columns g (map f (take i pairs))) (earlier_columns g (f p ∷ [])) in
+    let three = append_assoc ys (Some (plain g p.0 (Some k)) ∷ []) (Some (minus g p.0 (Some k)) ∷ []) in
+    cc (earlier_columns-append g (map f (take i pairs)) (f p ∷ []))
 
 earlier_of-append : (k j : ℕ) (levels : List Level) (l : Level) → j ≡ k + length levels
     → earlier_of k (levels ++ l ∷ []) ≡ earlier_of k levels ++ map (λ c. (c.0, j)) l.coalitions
@@ -50,10 +46,9 @@ earlier_of-append k j [] l e =
     append-nil (map (λ c. (c.0, k)) l.coalitions) ∙ ap (λ (t : ℕ). map (λ c. (c.0, t)) l.coalitions) (sym same)
 earlier_of-append k j (m ∷ levels) l e =
     let next : j ≡ (k + 1) + length levels = omega (arith, e) in
-    ap (λ (t : List (ℕ × ℕ)). map (λ c. (c.0, k)) m.coalitions ++ t) (earlier_of-append (k + 1) j levels l next)
-    ∙ sym
-    (append_assoc (map (λ c. (c.0, k)) m.coalitions) (earlier_of (k + 1) levels)
-    (map (λ c. (c.0, j)) l.coalitions))
+    let two =
+    append_assoc (map (λ c. (c.0, k)) m.coalitions) (earlier_of (k + 1) levels) (map (λ c. (c.0, j)) l.coalitions) in
+    cc (earlier_of-append (k + 1) j levels l next)
 
 -- the columns of one more level
 pub levels-push : (g : Game) (k : ℕ) (levels : List Level) (l : Level) (xs ys zs : List (Option Column))
@@ -64,13 +59,9 @@ pub levels-push : (g : Game) (k : ℕ) (levels : List Level) (l : Level) (xs ys 
 levels-push g k levels l xs ys zs lt is h e =
     let ds : List (ℕ × ℕ) = map (λ c. (c.0, k)) l.coalitions in
     let long : k ≡ 0 + length (take k levels) = let t = length-take-le k levels (omega arith) in omega (arith, t) in
-    let more : take (k + 1) levels ≡ take k levels ++ l ∷ [] =
-    take_more levels k l lt ∙ ap (λ (t : Level). take k levels ++ t ∷ []) (sym is) in
-    e ∙ ap (λ (t : List (Option Column)). t ++ earlier_columns g ds) h
-    ∙ append_assoc xs (earlier_columns g (earlier_of 0 (take k levels))) (earlier_columns g ds)
-    ∙ ap (λ (t : List (Option Column)). xs ++ t)
-    (sym (earlier_columns-append g (earlier_of 0 (take k levels)) ds)
-    ∙ ap (earlier_columns g) (sym (ap (earlier_of 0) more ∙ earlier_of-append 0 k (take k levels) l long)))
+    let more : take (k + 1) levels ≡ take k levels ++ l ∷ [] = cc (take_more levels k l lt) in
+    let two = append_assoc xs (earlier_columns g (earlier_of 0 (take k levels))) (earlier_columns g ds) in
+    cc (earlier_columns-append g (earlier_of 0 (take k levels)) ds, earlier_of-append 0 k (take k levels) l long)
 
 -- ---- after want of memory
 
@@ -82,8 +73,7 @@ pub adds_some : (xs these rest more zs : List (Option Column)) → more ≡ thes
     → AddsSome xs more zs
 adds_some xs these rest more zs split e = (
   length these,
-  e ∙ ap (λ (t : List (Option Column)). xs ++ t)
-      (sym (ap (take (length these)) split ∙ take-append_seam these rest)),
+  cc (take-append_seam these rest),
 )
 
 level_split : (g : Game) (k i : ℕ) (pairs : List (ℕ × ℤ))
@@ -91,9 +81,8 @@ level_split : (g : Game) (k i : ℕ) (pairs : List (ℕ × ℤ))
     ≡ earlier_columns g (map (λ c. (c.0, k)) (take i pairs)) ++ earlier_columns g (map (λ c. (c.0, k)) (drop i pairs))
 level_split g k i pairs =
     let f : ℕ × ℤ → ℕ × ℕ = λ c. (c.0, k) in
-    ap (λ (ps : List (ℕ × ℤ)). earlier_columns g (map f ps)) (sym (take-append-drop i pairs))
-    ∙ ap (earlier_columns g) (map-append f (take i pairs) (drop i pairs))
-    ∙ earlier_columns-append g (map f (take i pairs)) (map f (drop i pairs))
+    let two = earlier_columns-append g (map f (take i pairs)) (map f (drop i pairs)) in
+    cc (take-append-drop i pairs, map-append f (take i pairs) (drop i pairs))
 
 -- both columns of the first coalitions of a level
 pub level_part : (g : Game) (k i : ℕ) (pairs : List (ℕ × ℤ)) (xs ys : List (Option Column))
@@ -113,13 +102,9 @@ level_half g k i pairs p xs ys zs lt is h e =
     let one : List (Option Column) = Some (plain g p.0 (Some k)) ∷ [] in
     let rest : List (Option Column) =
     Some (minus g p.0 (Some k)) ∷ earlier_columns g (map f (drop (i + 1) pairs)) in
-    let next : drop i pairs ≡ p ∷ drop (i + 1) pairs =
-    drop-more pairs i p lt ∙ ap (λ (t : ℕ × ℤ). t ∷ drop (i + 1) pairs) (sym is) in
-    adds_some xs (here ++ one) rest _ zs
-    (level_split g k i pairs
-    ∙ ap (λ (ps : List (ℕ × ℤ)). here ++ earlier_columns g (map f ps)) next
-    ∙ sym (append_assoc here one rest))
-    (e ∙ ap (λ (t : List (Option Column)). t ++ one) h ∙ append_assoc xs here one)
+    let next : drop i pairs ≡ p ∷ drop (i + 1) pairs = cc (drop-more pairs i p lt) in
+    adds_some xs (here ++ one) rest _ zs (cc (level_split g k i pairs, append_assoc here one rest))
+    (cc (append_assoc xs here one))
 
 earlier_of-split : (k n : ℕ) (levels : List Level)
     → (ds : List (ℕ × ℕ)) × (earlier_of k levels ≡ earlier_of k (take n levels) ++ ds)
@@ -129,7 +114,7 @@ earlier_of-split k (suc n) (l ∷ levels) =
     let (ds, e) = earlier_of-split (k + 1) n levels in
     let here : List (ℕ × ℕ) = map (λ c. (c.0, k)) l.coalitions in (
       ds,
-      ap (λ (t : List (ℕ × ℕ)). here ++ t) e ∙ sym (append_assoc here (earlier_of (k + 1) (take n levels)) ds),
+      cc (append_assoc here (earlier_of (k + 1) (take n levels)) ds),
     )
 
 -- the columns of the first levels, and some of the next
@@ -144,16 +129,11 @@ levels_part g k levels l xs ys zs lt is h (j, e) =
     let here = earlier_columns g (map (λ c. (c.0, k)) l.coalitions) in
     let behind = earlier_columns g ds in
     adds_some xs (before ++ take j here) (drop j here ++ behind) _ zs
-    (ap (earlier_columns g) split
-    ∙ earlier_columns-append g (earlier_of 0 (take (k + 1) levels)) ds
-    ∙ ap (λ (t : List (Option Column)). t ++ behind)
-    (sym (levels-push g k levels l [] before (before ++ here) lt is refl refl)
-    ∙ ap (λ (t : List (Option Column)). before ++ t) (sym (take-append-drop j here))
-    ∙ sym (append_assoc before (take j here) (drop j here)))
-    ∙ append_assoc (before ++ take j here) (drop j here) behind)
-    (e
-    ∙ ap (λ (t : List (Option Column)). t ++ take j here) h
-    ∙ append_assoc xs before (take j here))
+    (let two = levels-push g k levels l [] before (before ++ here) lt is refl refl in
+    let three = earlier_columns-append g (earlier_of 0 (take (k + 1) levels)) ds in
+    let four = append_assoc (before ++ take j here) (drop j here) behind in
+    cc (take-append-drop j here, append_assoc before (take j here) (drop j here)))
+    (cc (append_assoc xs before (take j here)))
 
 listed-split : (n i : ℕ) (f : ℕ → Option Column) → i < n + 1
     → (rest : List (Option Column)) × (listed n f ≡ listed i f ++ rest)
@@ -164,7 +144,7 @@ listed-split (suc n) i f lt = elim (less_or_last_of i (n + 1) (omega (arith, lt)
   | inl less ↦
       let (rest, e) = listed-split n i f less in (
         rest ++ f n ∷ [],
-        ap (λ (t : List (Option Column)). t ++ f n ∷ []) e ∙ append_assoc (listed i f) rest (f n ∷ []),
+        cc (append_assoc (listed i f) rest (f n ∷ [])),
       )
   | inr same ↦ let last : suc n ≡ i = omega (arith, same) in
       ([], ap (λ (t : ℕ). listed t f) last ∙ sym (append-nil (listed i f)))

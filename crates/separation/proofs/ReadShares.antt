@@ -1,7 +1,6 @@
 -- The multipliers of the players' rows, taken one by one.
 use Rattle.std.proofs.Common.{◌≡◌, ℕ, ◌+◌, ◌^◌, ◌<◌, ◌≤◌, List, [], ◌∷◌, ◌++◌}
-use Rattle.std.proofs.Common.{length, take, ℤ, pos, to_z, of_z}
-use Rattle.std.proofs.Common.{refl, sym, ap, subst, ◌∙◌, arith, unsigned_abs, slice_index_or}
+use Rattle.std.proofs.Common.{length, take, ℤ, pos, to_z, of_z, refl, arith, unsigned_abs, slice_index_or}
 use Rattle.std.proofs.lemmas.List.{take_more, length-take-le, get_or-take}
 use Rattle.std.proofs.lemmas.Int.{ints}
 use mir.Syntax.{w128}
@@ -22,11 +21,7 @@ num_kept m k =
 pub taken_more : (m : Multipliers) (items num new : List ℤ) (i : ℕ) → i < length m.num.items → items ≡ m.num.items
     → num ≡ take i m.num.items → new ≡ num ++ to_z w128 (of_z w128 (slice_index_or items i (pos 0))) ∷ []
     → new ≡ take (i + 1) m.num.items
-taken_more m items num new i lt same is e =
-    e ∙ ap (λ (us : List ℤ). us ++ to_z w128 (of_z w128 (slice_index_or items i (pos 0))) ∷ []) is
-    ∙ ap (λ (z : ℤ). take i m.num.items ++ z ∷ [])
-    (ap (λ (us : List ℤ). to_z w128 (of_z w128 (slice_index_or us i (pos 0)))) same ∙ num_kept m i)
-    ∙ sym (take_more m.num.items i (pos 0) lt)
+taken_more m items num new i lt same is e = cc (num_kept m i, take_more m.num.items i (pos 0) lt)
 
 module _ (m : Multipliers) (n : ℕ) (rows : n ≤ length m.num.items) where
   count : length (take n m.num.items) ≡ n
@@ -41,8 +36,8 @@ module _ (m : Multipliers) (n : ℕ) (rows : n ≤ length m.num.items) where
     some = omega (arith, count, some);
     few = omega (arith, count, few);
     positive = m.den_positive;
-    common = let small = m.den_small in let positive = m.den_positive in omega (arith, ints, small, positive);
-    small = λ i lt. subst (λ (z : ℤ). unsigned_abs z < 2 ^ 110) (sym (taken_at i (omega (arith, lt, count))))
+    common = let small = m.den_small in let positive = m.den_positive in omega (arith, ints);
+    small = λ i lt. rw (taken_at i (omega (arith, lt, count)))
         (m.num_small i);
   }
 

@@ -1,9 +1,8 @@
 -- What stands under a number of a list of columns, against a program.
 use Rattle.std.proofs.Common.{◌≡◌, ℕ, zero, suc, ◌+◌, ◌-◌, ◌<◌, ◌≤◌, ◌^◌, Bool}
-use Rattle.std.proofs.Common.{true, false, IsTrue, List, []}
-use Rattle.std.proofs.Common.{◌∷◌, length, length-append, refl, sym, ap, ◌∙◌, subst, inl, inr}
-use Rattle.std.proofs.Common.{arith, nat_eq}
-use Rattle.std.proofs.Common.{nat_lt, if◌then◌else◌, pos, Option, Some, None, unsigned_abs}
+use Rattle.std.proofs.Common.{true, false, IsTrue, List, [], ◌∷◌, length, length-append, refl, sym}
+use Rattle.std.proofs.Common.{ap, ◌∙◌, subst, inl, inr, arith, nat_eq, nat_lt, if◌then◌else◌, pos}
+use Rattle.std.proofs.Common.{Option, Some, None, unsigned_abs}
 use Rattle.std.proofs.lemmas.Bool.{false≢true}
 use Rattle.std.proofs.lemmas.Bool.Decides.{nat_tests}
 use Rattle.std.proofs.lemmas.List.{get_or-append_right, get_or_append_left}
@@ -50,11 +49,11 @@ cost_same measure n levels q id (Some c) h is = h.cost
 
 cost_small : (measure : Measure) (n levels : ℕ) (q : Program) (id : ℕ) (o : Option Column)
     → SameAt measure n levels q id o → ForSome o (λ c. unsigned_abs c.cost < 2 ^ 46)
-cost_small measure n levels q id o h c e = let fits = subst (SameAt measure n levels q id) e h in fits.small
+cost_small measure n levels q id o h c e = let fits = rw e at h in fits.small
 
 level_there : (measure : Measure) (n levels : ℕ) (q : Program) (id : ℕ) (o : Option Column)
     → SameAt measure n levels q id o → ForSome o (λ c. ForSome c.level (λ l. l < levels))
-level_there measure n levels q id o h c e = let fits = subst (SameAt measure n levels q id) e h in fits.level
+level_there measure n levels q id o h c e = let fits = rw e at h in fits.level
 
 pub same_program : (measure : Measure) (n levels : ℕ) (columns : List (Option Column)) (q : Program)
     → n + levels ≡ q.rows → ((r : ℕ) → r < q.rows → right_at n levels r ≡ q.right r)

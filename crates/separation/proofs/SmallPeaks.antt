@@ -10,7 +10,7 @@ peak_small g k z laws is =
     let most = is.attained (pos (2 ^ 46 - 1)) (omega arith)
     (λ s lower upper within. let small = laws.small s within in omega (arith, ints, small)) in
     let some = is.positive in
-    omega (arith, ints, most, some)
+    omega (arith, ints)
 
 pub least_small : (low : List ℤ) (q : ℕ) (z : ℤ) (b : ℕ) → q < 4 → IsLeast low q z
     → ((k : ℕ) → k < 256 → unsigned_abs (slice_index_or low k (pos 0)) ≤ b) → unsigned_abs z ≤ b
@@ -18,5 +18,5 @@ least_small low q z b few is small =
     let first = is.least (64 * q) (omega arith) (omega arith) in
     let size = small (64 * q) (omega (arith, few)) in
     let some = is.attained (pos 0 -ℤ pos b)
-    (λ k lower upper. let each = small k (omega (arith, few, upper)) in omega (arith, ints, each)) in
-    omega (arith, ints, first, size, some)
+    (λ k lower upper. let each = small k (omega arith) in omega (arith, ints, each)) in
+    omega (arith, ints)

@@ -1,9 +1,8 @@
 -- The columns of a stage, each under its number, are its program.
 use Rattle.std.proofs.Common.{◌≡◌, ◌⊎◌, ℕ, zero, suc, ◌+◌, ◌-◌, ◌<◌, ◌≤◌, ◌^◌}
-use Rattle.std.proofs.Common.{Bool, true, false, ◌&&◌, List, []}
-use Rattle.std.proofs.Common.{◌∷◌, ◌++◌, length, length-append, map, get_or, refl, sym, ap, ◌∙◌}
-use Rattle.std.proofs.Common.{subst, inl, inr}
-use Rattle.std.proofs.Common.{arith, nat_eq, nat_lt, ℤ, pos, ◌-ℤ◌, Option, Some, None, unsigned_abs}
+use Rattle.std.proofs.Common.{Bool, true, false, ◌&&◌, List, [], ◌∷◌, ◌++◌, length, length-append}
+use Rattle.std.proofs.Common.{map, get_or, refl, ap, ◌∙◌, subst, inl, inr, arith, nat_eq}
+use Rattle.std.proofs.Common.{nat_lt, ℤ, pos, ◌-ℤ◌, Option, Some, None, unsigned_abs}
 use Rattle.std.proofs.lemmas.Bool.Decides.{nat_tests}
 use Rattle.std.proofs.lemmas.Int.{ints}
 use Rattle.std.proofs.lemmas.List.{get_or-append_right, get_or_append_left}
@@ -80,7 +79,7 @@ negated_small : (z : ℤ) → unsigned_abs z < 2 ^ 46 → unsigned_abs (pos 0 -�
 negated_small z h = omega (arith, ints)
 
 some_level : (l j : ℕ) → l < j → ForSome (Some l) (λ l. l < j)
-some_level l j h m e = subst (λ (t : ℕ). t < j) (some_injective l m e) h
+some_level l j h m e = rw (some_injective l m e) at h
   where
     or_zero : Option ℕ → ℕ
     or_zero None = 0
@@ -177,8 +176,7 @@ module _ (family : Family) (measure : Measure) (g : Game) (front : List Level) (
       minus_none measure g k (grand_coalition g.players) game (grand_coalition-within g.players)
   settled_found (suc (suc j)) lt =
       let e : 0 + length front ≡ length front = omega arith in
-      earlier_found measure g k (earlier_of 0 front) j game
-      (subst (λ (t : ℕ). AllByRecursion (IsEarlier g.players t) (earlier_of 0 front)) e
+      earlier_found measure g k (earlier_of 0 front) j game (rw e at
       (earlier_all g.players 0 front within)) (omega arith)
 
   from_settled : (id : ℕ) (o : Option Column) → id < b
@@ -236,11 +234,9 @@ module _ (family : Family) (measure : Measure) (g : Game) (front : List Level) (
   outer_at i le (Some c) is (inl h) =
       let t : nat_lt i g.players ≡ false = grind (arith, nat_tests) in
       let u : nat_lt i (g.players + g.players) ≡ false = grind (arith, nat_tests) in
-      rw t
-      (rw u (
+      rw t (rw u (
         ap is_some is,
-        subst (λ (x : Column). Like measure g k x (record { mask = i - (n + n); row = k; minus = false }))
-            (sym h.0) (plain_level measure g k (i - (n + n)) k game h.1 (omega arith)),
+        rw h.0 (plain_level measure g k (i - (n + n)) k game h.1 (omega arith)),
       ))
   outer_at i le (Some c) is (inr e) = absurd (subst is_there e tt)
     where
@@ -251,7 +247,7 @@ module _ (family : Family) (measure : Measure) (g : Game) (front : List Level) (
   outer_or : (s : ℕ) → (IsPlainOr g k s (column_at outers s) × (s < 2 ^ n)) ⊎ (column_at outers s ≡ None)
   outer_or s = elim (below_or_above s (2 ^ n)) [
     | inl lt ↦ inl (are.plain_or s lt, lt)
-    | inr le ↦ let long = are.count in inr (past_at outers s (omega (arith, long, le)))
+    | inr le ↦ let long = are.count in inr (past_at outers s (omega arith))
   ]
 
   abbrev singles : List (Option Column)
@@ -266,50 +262,43 @@ module _ (family : Family) (measure : Measure) (g : Game) (front : List Level) (
   length-two : length (settled ++ singles) ≡ b + n
   length-two =
       length-append settled singles
-      ∙ (let x = length-settled in let y = length-listed g.players (single family g) in omega (arith, x, y))
+      ∙ (let x = length-settled in let y = length-listed g.players (single family g) in omega arith)
 
   length-three : length ((settled ++ singles) ++ bounds) ≡ b + n + n
   length-three =
       length-append (settled ++ singles) bounds
-      ∙ (let x = length-two in let y = length-listed g.players (bound family g front) in omega (arith, x, y))
+      ∙ (let x = length-two in let y = length-listed g.players (bound family g front) in omega arith)
 
   at_number : (id : ℕ) → SameAt measure n (k + 1) q id (column_at all id)
   at_number id = elim (by_place id b n) [
     | inl lt ↦
         let e : column_at all id ≡ column_at settled id =
-        get_or_append_left ((settled ++ singles) ++ bounds) outers None id
-        (let x = length-three in omega (arith, x, lt))
-        ∙ get_or_append_left (settled ++ singles) bounds None id (let x = length-two in omega (arith, x, lt))
-        ∙ get_or_append_left settled singles None id (let x = length-settled in omega (arith, x, lt)) in
-        subst (SameAt measure n (k + 1) q id) (sym e)
-        (from_settled id (column_at settled id) lt (settled_found id lt))
+        get_or_append_left ((settled ++ singles) ++ bounds) outers None id (let x = length-three in omega arith)
+        ∙ get_or_append_left (settled ++ singles) bounds None id (let x = length-two in omega arith)
+        ∙ get_or_append_left settled singles None id (let x = length-settled in omega arith) in
+        rw e (from_settled id (column_at settled id) lt (settled_found id lt))
     | inr (inl h) ↦
         let e : column_at all id ≡ single family g (id - b) =
-        get_or_append_left ((settled ++ singles) ++ bounds) outers None id
-        (let x = length-three in omega (arith, x, h.1))
-        ∙ get_or_append_left (settled ++ singles) bounds None id (let x = length-two in omega (arith, x, h.1))
+        get_or_append_left ((settled ++ singles) ++ bounds) outers None id (let x = length-three in omega arith)
+        ∙ get_or_append_left (settled ++ singles) bounds None id (let x = length-two in omega arith)
         ∙ get_or-append_right settled singles b id None length-settled h.0
-        ∙ listed_at g.players (id - b) (single family g) (omega (arith, h.0, h.1)) in
-        subst (SameAt measure n (k + 1) q id) (sym e)
-        (from_further id (single family g (id - b)) h.0 (single_at (id - b) (omega (arith, h.0, h.1))))
+        ∙ listed_at g.players (id - b) (single family g) (omega arith) in
+        rw e (from_further id (single family g (id - b)) h.0 (single_at (id - b) (omega arith)))
     | inr (inr (inl h)) ↦
         let d : id - (b + n) ≡ id - b - n = omega (arith, h.0) in
         let e : column_at all id ≡ bound family g front (id - b - n) =
-        get_or_append_left ((settled ++ singles) ++ bounds) outers None id
-        (let x = length-three in omega (arith, x, h.1))
+        get_or_append_left ((settled ++ singles) ++ bounds) outers None id (let x = length-three in omega arith)
         ∙ get_or-append_right (settled ++ singles) bounds (b + n) id None length-two h.0
         ∙ ap (column_at bounds) d
-        ∙ listed_at g.players (id - b - n) (bound family g front) (omega (arith, h.0, h.1)) in
-        subst (SameAt measure n (k + 1) q id) (sym e)
-        (from_further id (bound family g front (id - b - n)) (omega (arith, h.0))
-        (bound_at (id - b) (omega (arith, h.0)) (omega (arith, h.0, h.1))))
+        ∙ listed_at g.players (id - b - n) (bound family g front) (omega arith) in
+        rw e (from_further id (bound family g front (id - b - n)) (omega (arith, h.0))
+        (bound_at (id - b) (omega (arith, h.0)) (omega arith)))
     | inr (inr (inr le)) ↦
         let d : id - (b + n + n) ≡ id - b - (n + n) = omega (arith, le) in
         let e : column_at all id ≡ column_at outers (id - b - (n + n)) =
         get_or-append_right ((settled ++ singles) ++ bounds) outers (b + n + n) id None length-three le
         ∙ ap (column_at outers) d in
-        subst (SameAt measure n (k + 1) q id) (sym e)
-        (from_further id (column_at outers (id - b - (n + n))) (omega (arith, le))
+        rw e (from_further id (column_at outers (id - b - (n + n))) (omega (arith, le))
         (outer_at (id - b) (omega (arith, le)) (column_at outers (id - b - (n + n))) refl
         (outer_or (id - b - (n + n)))))
   ]

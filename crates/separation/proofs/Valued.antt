@@ -1,9 +1,8 @@
 -- The value of a column from two tables of sums and one multiplier.
 use Rattle.std.proofs.Common.{◌≡◌, ℕ, zero, suc, ◌+◌, ◌-◌, ◌/◌, ◌%◌, ◌<◌, ◌≤◌}
-use Rattle.std.proofs.Common.{Bool, true, false, cond}
-use Rattle.std.proofs.Common.{List, length, ℤ, pos, ◌+ℤ◌, ◌*ℤ◌, refl, sym, ap, ◌∙◌}
-use Rattle.std.proofs.Common.{inl, inr, arith, nat_eq}
-use Rattle.std.proofs.Common.{nat_lt, if◌then◌else◌, slice_index_or, Option, Some, None}
+use Rattle.std.proofs.Common.{Bool, true, false, cond, List, length, ℤ, pos, ◌+ℤ◌, ◌*ℤ◌}
+use Rattle.std.proofs.Common.{refl, sym, ap, ◌∙◌, inl, inr, arith, nat_eq, nat_lt, if◌then◌else◌}
+use Rattle.std.proofs.Common.{slice_index_or, Option, Some, None}
 use Rattle.std.proofs.lemmas.Bool.Decides.{nat_tests}
 use Rattle.std.specs.Option.{ForSome}
 use Rattle.definitions.proofs.Ring.{linear, mul-zeroℤ, mul-subℤ, add-sameℤ}
@@ -41,8 +40,7 @@ pub sums_at : (num : List ℤ) (n s : ℕ) (sums : Sums) → AreSums num n sums
     → slice_index_or (low_of sums) (s % 256) (pos 0) +ℤ slice_index_or (high_of sums) (s / 256 % 256) (pos 0)
     ≡ sum_over n (multiplier_at num) s
 sums_at num n s sums h =
-    add-sameℤ _ _ _ _
-    ((h.low_is (s % 256) (omega arith)).value ∙ eight-is num n 0 (s % 256)
+    add-sameℤ _ _ _ _ ((h.low_is (s % 256) (omega arith)).value ∙ eight-is num n 0 (s % 256)
     ∙ sum_below-same 8 (member_multiplier num n 0 (s % 256)) (part (player_multiplier num n) (s % 256))
     (λ i lt. let e : 0 + i ≡ i = omega arith in
     ap (λ (k : ℕ). cond (has_player (s % 256) i) (player_multiplier num n k) (pos 0)) e))
@@ -97,7 +95,7 @@ plain_sum measure num n j s level h =
     sum_below-same j (λ k. f (n + k)) (λ k. if is_level level k then d *ℤ multiplier_at num (n + k) else pos 0)
     levels in
     let third = level_sum num n j level d h in
-    omega (arith, linear, split, first, second, third)
+    omega (arith, linear)
   where
     members : (i : ℕ) → i < n
         → multiplier_at num i *ℤ plain_entry measure n s level i
@@ -122,7 +120,6 @@ pub value_is : (measure : Measure) (num : List ℤ) (n : ℕ) (c : Column) → n
     *ℤ level_multiplier num n c.level)
 value_is measure num n c le h =
     let e : length num ≡ n + (length num - n) = omega arith in
-    signed_sum (length num) (multiplier_at num) (λ r. plain_entry measure n c.coalition c.level r) c.negated
-    ∙ ap (signed c.negated)
-    (ap (λ (t : ℕ). sum_below t (λ r. multiplier_at num r *ℤ plain_entry measure n c.coalition c.level r)) e
-    ∙ plain_sum measure num n (length num - n) c.coalition c.level (λ l is. let lt = h l is in omega arith))
+    let three =
+    signed_sum (length num) (multiplier_at num) (λ r. plain_entry measure n c.coalition c.level r) c.negated in
+    cc (plain_sum measure num n (length num - n) c.coalition c.level (λ l is. let lt = h l is in omega arith))

@@ -6,8 +6,8 @@ ghost use Rattle.separation.specs.Same.{IsSame};
 ghost use Rattle.separation.specs.Making.{listed, balanced_column};
 
 use crate::column::Column;
-use crate::earlier::plain;
 use crate::listed::Listed;
+use crate::making::plain;
 use coalitions::Coalition;
 use fractions::OutOfMemory;
 use simplex::Columns;

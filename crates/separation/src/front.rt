@@ -9,7 +9,7 @@ ghost use Rattle.separation.specs.Making.{earlier_columns, whole_columns, inner_
 ghost use Rattle.separation.specs.Fronts.{IsSmallLevel};
 
 use crate::column::Column;
-use crate::earlier::{bound, minus, plain, single};
+use crate::making::{bound, minus, plain, single};
 use coalitions::Coalition;
 use kohlberg::{Family, Level};
 use worth_core::Worth;

@@ -12,8 +12,8 @@ ghost use Rattle.separation.specs.Making.{alone_columns, inner_columns};
 ghost use Rattle.separation.specs.Fronts.{IsSmallLevel};
 ghost use Rattle.separation.specs.Scanned.{game_of, RisesIn, NoneOf, IsFirstOf, NoneInFront, IsFirstInFront};
 
-use crate::earlier::{minus, plain, single};
 use crate::front::Front;
+use crate::making::{minus, plain, single};
 use crate::scan::Scan;
 use crate::sums::bar;
 use coalitions::Coalition;

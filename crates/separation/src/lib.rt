@@ -3,16 +3,15 @@
 
 mod balanced;
 mod column;
-mod earlier;
-mod found;
+mod entering;
 mod front;
 mod in_front;
 mod lazy;
 mod listed;
+mod making;
 mod marks;
 mod narrow;
 mod peaks;
-mod picking;
 mod rising;
 mod scan;
 mod shares;

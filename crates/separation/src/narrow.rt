@@ -6,8 +6,7 @@ ghost use Rattle.separation.specs.Peaks.{IsLeast};
 ghost use Rattle.separation.specs.Scanned.{NoneBetween, IsMostIn, IsHighestIn, AreValues, worth_in};
 ghost use Rattle.separation.specs.Scanned.{IsSmallTable};
 
-use crate::rising::counted_worth;
-use crate::scan::Scan;
+use crate::scan::{Scan, counted_worth};
 use crate::tables::NarrowSums;
 use coalitions::Coalition;
 use worth_core::Worth;

@@ -3,7 +3,7 @@
 ghost use Rattle.std.specs.Prelude.{◌≡◌, ◌⊎◌, ◌≤◌, ◌<◌, ◌^◌, ◌≤ℤ◌};
 ghost use Rattle.separation.specs.Peaks.{IsPeak, ArePeaks};
 
-use crate::rising::counted_worth;
+use crate::scan::counted_worth;
 use coalitions::Coalition;
 use worth_core::Worth;
 

@@ -1,132 +1,210 @@
-//! The first column that rises, found by going over the numbers.
+//! A column that rises, which `rising` answers, picked so that the simplex takes few steps: of the first 256 coalitions
+//! among which one rises, that whose cost is most above its value. The search goes round, from the block of the last
+//! coalition on.
 
-ghost use Rattle.std.specs.Prelude.{◌≡◌, ℕ, ◌+◌, ◌*◌, ◌<◌, ◌^◌, length, unsigned_abs, MatchOption};
-ghost use Rattle.std.specs.Bool.{Decides};
+ghost use Rattle.std.specs.Prelude.{◌≡◌, ℕ, ◌+◌, ◌-◌, ◌*◌, ◌/◌, ◌%◌, ◌<◌, ◌≤◌, ◌^◌, length, unsigned_abs};
+ghost use Rattle.std.specs.Prelude.{◌*ℤ◌, ◌-ℤ◌, ◌<ℤ◌, ◌≤ℤ◌, None, IfSome, MatchOption};
 ghost use Rattle.definitions.specs.declared.Measure.{Measure};
-ghost use Rattle.separation.specs.Values.{counted};
-ghost use Rattle.separation.specs.Scanned.{RisesAt, IsFirstAt, ColumnRises, IsFirstColumn};
-ghost use Rattle.separation.specs.Scanned.{CoalitionRises, NoneBelow, NoneRises, IsFirstRising, value_in};
+ghost use Rattle.separation.specs.Values.{AreNarrow};
+ghost use Rattle.separation.specs.Scanned.{RisesAt, ColumnRises, NoneBetween, NoneRises, IsSomeRising};
+ghost use Rattle.separation.specs.Scanned.{IsMostIn, worth_in};
 
+use crate::entering::first_one_by_one;
 use crate::in_front::first_in_front;
 use crate::lazy::Lazy;
-use crate::scan::Scan;
-use crate::sums::{is_below, wide};
-use crate::tables::Sums;
+use crate::narrow::best_in_64;
+use crate::scan::{Scan, counted_worth};
+use crate::sums::{bar, narrow, wide};
+use crate::tables::{NarrowSums, Sums};
 use coalitions::Coalition;
 use simplex::Multipliers;
+use spans::fill_sums;
 use worth_core::{Measure, Worth};
 
-/// What a coalition's worth counts for: where costs don't count, the game isn't asked.
-pub(crate) fn counted_worth<W: Worth>(game: &W, s: Coalition, with_costs: bool) -> i64
-    requires { s < 2 ^ (W.game game.now).players }
-    ensures is { result ≡ counted with_costs ((W.game game.now).worth s) }
-    ensures value { counted with_costs result ≡ counted with_costs ((W.game game.now).worth s) }
-    ensures small { unsigned_abs result < 2 ^ 46 }
+/// By how much the cost of a coalition's column is above a value.
+fn gap<W: Worth>(scan: &Scan<'_, W>, value: i128, s: Coalition) -> i128
+    requires within { s < 2 ^ scan.now.program.now.players }
+    requires small { unsigned_abs value ≤ 2 ^ 115 }
+    ensures { result ≡ (scan.now.m.now.den *ℤ worth_in scan.now s) -ℤ value }
 {
-    game.players(); // Brings the laws of the game.
-    if with_costs { game.worth(s) } else { 0 }
+    let worth = counted_worth(scan.program.game, s, scan.with_costs);
+    bar(scan.m, worth, scan.with_costs) - value
 }
 
-/// Whether a coalition has a column and its cost is above the column's value.
-pub(crate) fn marked_rises<W: Worth>(scan: &Scan<'_, W>, value: i128, s: Coalition) -> bool
-    requires within { s < 2 ^ scan.now.program.now.players }
-    requires value { value ≡ value_in scan.now s }
-    ensures { Decides result (CoalitionRises scan.now s) }
+/// The better so far, or a coalition with a greater gap.
+fn greater(best: Option<(u64, i128)>, s: u64, gap: i128) -> (u64, i128)
+    ensures { MatchOption best (result ≡ (s, gap))
+        (λ b. (b.1 <ℤ gap → result ≡ (s, gap)) × (gap ≤ℤ b.1 → result ≡ b)) }
 {
-    if scan.program.has_mark(s) {
-        let worth = counted_worth(scan.program.game, s, scan.with_costs);
-        is_below(value, scan.m, worth, scan.with_costs)
-    } else {
-        false
+    match best {
+        Some((t, most)) => { if most < gap { (s, gap) } else { (t, most) } }
+        None => (s, gap),
     }
 }
 
-/// The first coalition of the 256 from 256 * `block` on that has a column whose cost is above its value with plain
-/// excess, where no lesser coalition has one.
-fn first_of_block<W: Worth>(scan: &Scan<'_, W>, block: u64) -> Option<u64>
+/// Of the 256 coalitions from 256 * `block` on one that has a column whose cost is above its value with plain excess:
+/// that whose cost is most above its value.
+fn best_in_128<W: Worth>(scan: &Scan<'_, W>, block: u64) -> Option<u64>
     requires block { block < 256 }
     requires plain { scan.now.program.now.measure ≡ Measure.Plain }
-    requires before { NoneBelow scan.now (256 * block) }
-    ensures { MatchOption result (NoneBelow scan.now (256 * (block + 1))) (IsFirstRising scan.now) }
+    ensures { MatchOption result (NoneBetween scan.now (256 * block) (256 * (block + 1)))
+        (IsMostIn scan.now (256 * block) (256 * (block + 1))) }
 {
     let base = scan.base(block);
     let end = (256 * block + 256).min(1 << scan.program.players);
+    let mut best: Option<(u64, i128)> = None;
     for s in 256 * block..end {
         let value = scan.sums.behind(base, Coalition(s));
-        if marked_rises(scan, value, Coalition(s)) {
-            return Some(s);
+        if scan.marked_rises(value, Coalition(s)) {
+            let here = gap(scan, value, Coalition(s));
+            best = Some(greater(best, s, here));
         }
     }
-    None
+    match best {
+        Some((s, _)) => Some(s),
+        None => None,
+    }
 }
 
-/// The first coalition that has a column whose cost is above its value with plain excess.
-fn first_by_blocks<W: Worth>(scan: &Scan<'_, W>) -> Option<u64>
+/// Of the 256 coalitions from 256 * `block` on one that has a column whose cost is above its value with plain excess:
+/// that whose cost is most above its value. The search is in 64 bits where the block's numbers have room there.
+fn best_of_block<W: Worth>(scan: &Scan<'_, W>, block: u64) -> Option<u64>
+    requires block { block < 256 }
     requires plain { scan.now.program.now.measure ≡ Measure.Plain }
-    ensures { MatchOption result (NoneRises scan.now) (IsFirstRising scan.now) }
+    ensures { MatchOption result (NoneBetween scan.now (256 * block) (256 * (block + 1)))
+        (IsMostIn scan.now (256 * block) (256 * (block + 1))) }
 {
-    for block in 0..256 {
-        if let Some(s) = first_of_block(scan, block) {
+    let base = scan.base(block);
+    match &scan.sums {
+        Sums::Narrow(narrow) if scan.m.den < 1 << 16 && base.unsigned_abs() <= 1 << 61 => {
+            best_in_64(scan, narrow, base as i64, block)
+        }
+        _ => best_in_128(scan, block),
+    }
+}
+
+/// Of the blocks from one on up to another, what is found in the first that has any.
+fn best_from<W: Worth>(scan: &Scan<'_, W>, from: u64, to: u64) -> Option<u64>
+    requires to { to ≤ 256 }
+    requires plain { scan.now.program.now.measure ≡ Measure.Plain }
+    ensures { MatchOption result (NoneBetween scan.now (256 * from) (256 * to)) (IsSomeRising scan.now) }
+{
+    for block in from..to {
+        if let Some(s) = best_of_block(scan, block) {
             return Some(s);
         }
     }
     None
 }
 
-/// The first coalition that has a column whose cost is above its value, each value found by itself.
-pub(crate) fn first_one_by_one<W: Worth>(scan: &Scan<'_, W>) -> Option<u64>
-    ensures { MatchOption result (NoneRises scan.now) (IsFirstRising scan.now) }
+/// A coalition that has a column whose cost is above its value with plain excess, sought from the last place on.
+fn best_around<W: Worth>(scan: &Scan<'_, W>) -> Option<u64>
+    requires plain { scan.now.program.now.measure ≡ Measure.Plain }
+    ensures { MatchOption result (NoneRises scan.now) (IsSomeRising scan.now) }
 {
-    for s in 0..1u64 << scan.program.players {
-        let column = scan.program.marked_column(Coalition(s));
-        if scan.rises(column) {
-            return Some(s);
-        }
+    let at = u64::from(scan.program.at);
+    if let Some(s) = best_from(scan, at, 256) {
+        return Some(s);
     }
-    None
+    best_from(scan, 0, at)
 }
 
-/// The first coalition that has a column whose cost is above its value. With plain excess the coalitions of a block
-/// have the multiplier of their level row in common; per head there are at most 8 players, and each coalition has its
-/// own entry there.
-fn first_marked<W: Worth>(scan: &Scan<'_, W>) -> Option<u64>
-    ensures { MatchOption result (NoneRises scan.now) (IsFirstRising scan.now) }
+/// A coalition that has a column whose cost is above its value.
+fn some_marked<W: Worth>(scan: &Scan<'_, W>) -> Option<u64>
+    ensures { MatchOption result (NoneRises scan.now) (IsSomeRising scan.now) }
 {
     match scan.program.measure {
-        Measure::Plain => first_by_blocks(scan),
+        Measure::Plain => best_around(scan),
         Measure::PerHead => first_one_by_one(scan),
     }
 }
 
-/// The number of the first column whose cost is above its value, by the sums of the multipliers.
-fn first_by_sums<W: Worth>(scan: &Scan<'_, W>) -> Option<u64>
-    ensures { MatchOption result ((id : ℕ) → ¬ ColumnRises scan.now id) (IsFirstColumn scan.now) }
+/// The number of a column whose cost is above its value, by the sums of the multipliers.
+fn some_by_sums<W: Worth>(scan: &Scan<'_, W>) -> Option<u64>
+    ensures { MatchOption result ((id : ℕ) → ¬ ColumnRises scan.now id) (ColumnRises scan.now) }
 {
     if let Some(id) = first_in_front(scan) {
         return Some(id);
     }
-    match first_marked(scan) {
+    match some_marked(scan) {
         Some(s) => Some(scan.program.first + s),
         None => None,
     }
 }
 
-/// The number of the first column whose cost is above its value, without costs as if each were 0.
-pub(crate) fn first_found<'a, W: Worth>(
+/// The number of such a column, by tables in 64 bits of the players' multipliers there.
+fn some_in_64<'a, W: Worth>(
+    program: &'a Lazy<'a, W>,
+    m: &'a Multipliers,
+    numbers: &[i64; 16],
+    with_costs: bool,
+) -> Option<u64>
+    requires rows { length m.now.num.items ≡ program.now.players + program.now.levels }
+    requires numbers { AreNarrow m.now.num.items program.now.players numbers.now }
+    ensures { MatchOption result ((id : ℕ) → ¬ RisesAt program.now m.now with_costs id)
+        (RisesAt program.now m.now with_costs) }
+{
+    let mut low = [0; 256];
+    let mut high = [0; 256];
+    fill_sums(&mut low, numbers, 0);
+    fill_sums(&mut high, numbers, 8);
+    let tables = NarrowSums::new(&low, &high);
+    let sums = Sums::Narrow(tables);
+    some_by_sums(&Scan {
+        program,
+        m,
+        sums,
+        with_costs,
+    })
+}
+
+/// The number of such a column, by tables in 128 bits. It is a function of its own, since its tables are large and
+/// seldom made.
+#[inline(never)]
+fn some_in_128<'a, W: Worth>(
     program: &'a Lazy<'a, W>,
     m: &'a Multipliers,
     with_costs: bool,
 ) -> Option<u64>
     requires rows { length m.now.num.items ≡ program.now.players + program.now.levels }
     ensures { MatchOption result ((id : ℕ) → ¬ RisesAt program.now m.now with_costs id)
-        (IsFirstAt program.now m.now with_costs) }
+        (RisesAt program.now m.now with_costs) }
 {
     let tables = wide(m, program.players);
     let sums = Sums::Wide(&tables);
-    first_by_sums(&Scan {
+    some_by_sums(&Scan {
         program,
         m,
         sums,
         with_costs,
     })
+}
+
+/// The number of a column whose cost is above its value, without costs as if each were 0.
+pub(crate) fn some_found<'a, W: Worth>(
+    program: &'a Lazy<'a, W>,
+    m: &'a Multipliers,
+    with_costs: bool,
+) -> Option<u64>
+    requires rows { length m.now.num.items ≡ program.now.players + program.now.levels }
+    ensures { MatchOption result ((id : ℕ) → ¬ RisesAt program.now m.now with_costs id)
+        (RisesAt program.now m.now with_costs) }
+{
+    match narrow(m, program.players) {
+        Some(numbers) => some_in_64(program, m, &numbers, with_costs),
+        None => some_in_128(program, m, with_costs),
+    }
+}
+
+/// The block of the coalition whose column was found, where those of the coalitions have the numbers from `first` on;
+/// the block before, where another column was found or none.
+pub(crate) fn block_of(found: Option<u64>, first: u64, before: u8) -> u8
+    ensures coalition { IfSome found (λ id. first ≤ id → result ≡ (id - first) / 256 % 256) }
+    ensures front { IfSome found (λ id. id < first → result ≡ before) }
+    ensures none { found ≡ None → result ≡ before }
+{
+    match found {
+        Some(id) if first <= id => ((id - first) / 256 % 256) as u8,
+        _ => before,
+    }
 }

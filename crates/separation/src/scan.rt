@@ -1,14 +1,26 @@
 //! What a search for a column that rises goes over.
 
-ghost use Rattle.std.specs.Prelude.{◌≡◌, ◌+◌, length};
-ghost use Rattle.separation.specs.Values.{AreSums};
+ghost use Rattle.std.specs.Prelude.{◌≡◌, ◌+◌, ◌^◌, ◌<◌, length, unsigned_abs};
+ghost use Rattle.separation.specs.Values.{AreSums, counted};
 
 use crate::column::Column;
 use crate::lazy::Lazy;
-use crate::sums::{rises, value};
+use crate::sums::{is_below, rises, value};
 use crate::tables::Sums;
+use coalitions::Coalition;
 use simplex::Multipliers;
 use worth_core::Worth;
+
+/// What a coalition's worth counts for: where costs don't count, the game isn't asked.
+pub(crate) fn counted_worth<W: Worth>(game: &W, s: Coalition, with_costs: bool) -> i64
+    requires { s < 2 ^ (W.game game.now).players }
+    ensures is { result ≡ counted with_costs ((W.game game.now).worth s) }
+    ensures value { counted with_costs result ≡ counted with_costs ((W.game game.now).worth s) }
+    ensures small { unsigned_abs result < 2 ^ 46 }
+{
+    game.players(); // Brings the laws of the game.
+    if with_costs { game.worth(s) } else { 0 }
+}
 
 /// A search for a column whose cost is above its value: in a program, under multipliers, by their sums over coalitions,
 /// and with costs or as if each were 0.
@@ -23,12 +35,12 @@ pub(crate) struct Scan<'a, W: Worth> {
 }
 
 impl<W: Worth> Scan<'_, W> {
-    ghost use Rattle.std.specs.Prelude.{◌*◌, ◌^◌, ◌<◌, ◌≤◌, unsigned_abs};
+    ghost use Rattle.std.specs.Prelude.{◌*◌, ◌≤◌};
     ghost use Rattle.std.specs.Bool.{Decides};
     ghost use Rattle.std.specs.Option.{ForSome};
     ghost use Rattle.definitions.specs.declared.Measure.{Measure};
     ghost use Rattle.separation.specs.Values.{low_of, column_value};
-    ghost use Rattle.separation.specs.Scanned.{AreValues, RisesIn};
+    ghost use Rattle.separation.specs.Scanned.{AreValues, RisesIn, CoalitionRises, value_in};
 
     /// What the 256 coalitions from 256 * `block` on have in common with plain excess: the multipliers of the members
     /// past the first eight players, and that of their level row.
@@ -68,5 +80,19 @@ impl<W: Worth> Scan<'_, W> {
             &self.sums,
             self.with_costs,
         )
+    }
+
+    /// Whether a coalition has a column and its cost is above the column's value.
+    pub(crate) fn marked_rises(&self, value: i128, s: Coalition) -> bool
+        requires within { s < 2 ^ self.now.program.now.players }
+        requires value { value ≡ value_in self.now s }
+        ensures { Decides result (CoalitionRises self.now s) }
+    {
+        if self.program.has_mark(s) {
+            let worth = counted_worth(self.program.game, s, self.with_costs);
+            is_below(value, self.m, worth, self.with_costs)
+        } else {
+            false
+        }
     }
 }

@@ -10,8 +10,8 @@ ghost use Rattle.separation.specs.Same.{IsSpanOf, IsStage};
 ghost use Rattle.separation.specs.Making.{AreWithin, IsOuter, EndsOuter, inner_columns};
 
 use crate::column::Column;
-use crate::earlier::{plain, push_bounds, push_earlier, push_singles, push_whole};
 use crate::listed::Listed;
+use crate::making::{plain, push_bounds, push_earlier, push_singles, push_whole};
 use crate::marks::outside_of;
 use coalitions::Coalition;
 use fractions::OutOfMemory;

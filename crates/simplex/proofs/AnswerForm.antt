@@ -1,13 +1,11 @@
 -- The weights of the last basis in lowest terms: they and its multipliers are an answer.
 use Rattle.std.proofs.Common.{◌≡◌, ℕ, zero, suc, ◌*◌, ◌^◌, ◌<◌, ◌≤◌, IsTrue, List}
-use Rattle.std.proofs.Common.{length}
-use Rattle.std.proofs.Common.{map, nat_eq, arith, refl, sym, ap, subst, ◌∙◌, ℤ, pos}
-use Rattle.std.proofs.Common.{negsuc}
-use Rattle.std.proofs.Common.{◌*ℤ◌, ◌<ℤ◌, ◌≤ℤ◌, unsigned_abs, mul_comm}
+use Rattle.std.proofs.Common.{arith, refl, sym, ap, ◌∙◌, ℤ, pos, negsuc, ◌*ℤ◌, ◌<ℤ◌}
+use Rattle.std.proofs.Common.{◌≤ℤ◌, unsigned_abs, mul_comm}
 use Prim.Native.Nat.{◌∣◌}
 use native.Mathlib.Nat.{pos_of_dvd_of_pos, le_of_dvd}
 use lib.IntN.{*ℤ_comm}
-use Rattle.std.specs.List.{AllByRecursion, IsDistinct}
+use Rattle.std.specs.List.{AllByRecursion}
 use Rattle.std.proofs.Math.Nat.{mul-dvd-mul_right, le-mul_of_pos_right}
 use Rattle.std.proofs.lemmas.Int.{ints, unsigned_abs-mul}
 use Rattle.definitions.proofs.Ring.{mul-zeroℤ, mul_assocℤ, mul_left_commℤ}
@@ -49,12 +47,11 @@ quotient_positive (negsuc c) (negsuc w) z p e h = absurd (omega (arith, ints))
 
 dot_multiplied : (n : ℕ) (c : ℤ) (w v s : ℕ → ℤ) → ((k : ℕ) → k < n → c *ℤ w k ≡ v k)
     → c *ℤ dot n w s ≡ dot n v s
-dot_multiplied n c w v s h =
-    sym (dot_scaled n c w s) ∙ dot_cong n (λ k. c *ℤ w k) v s s h (λ k lt. refl)
+dot_multiplied n c w v s h = sym (dot_scaled n c w s) ∙ dot_cong n (λ k. c *ℤ w k) v s s h (λ k lt. refl)
 
 factor_le : (c w z : ℤ) → pos 0 <ℤ c → c *ℤ w ≡ z → unsigned_abs w ≤ unsigned_abs z
 factor_le c w z p e =
-    subst (λ (t : ℕ). unsigned_abs w ≤ t) (sym (unsigned_abs-mul c w) ∙ ap unsigned_abs e)
+    rw (← (sym (unsigned_abs-mul c w) ∙ ap unsigned_abs e))
     (omega (arith, le-mul_of_pos_right (unsigned_abs w) (size_positive c p)))
 
 below_62 : (a b : ℕ) → a ≤ b → b ≤ 2 ^ 58 → a < 2 ^ 62
@@ -63,8 +60,7 @@ below_62 a b h k = omega arith
 times_both : (g c w z : ℤ) → c *ℤ w ≡ z → unsigned_abs g ∣ unsigned_abs w
     → (unsigned_abs g * unsigned_abs c) ∣ unsigned_abs z
 times_both g c w z e h =
-    subst (λ (t : ℕ). (unsigned_abs g * unsigned_abs c) ∣ t)
-    (mul_comm (unsigned_abs w) (unsigned_abs c) ∙ sym (unsigned_abs-mul c w) ∙ ap unsigned_abs e)
+    rw (mul_comm (unsigned_abs w) (unsigned_abs c) ∙ sym (unsigned_abs-mul c w) ∙ ap unsigned_abs e) at
     (mul-dvd-mul_right (unsigned_abs g) h (unsigned_abs c))
 
 one_of : (g c : ℕ) → 0 < c → 0 < g → g * c ≤ c → g ≡ 1
@@ -83,7 +79,7 @@ module _ (P : Program) (s : State) (num : List ℤ) (mden : ℤ) (ws : List (ℕ
     (st : IsImproving P Second s) (m : AreMultipliersOf s num mden) (b : Bounds P num mden)
     (r : AreReduced s ws den) (tame : IsTame P) where
   reduced_at : (k : ℕ) → k < P.rows → r.common *ℤ r.reduced k ≡ entry_at 32 s.tracked k 0
-  reduced_at k lt = r.reduced_are k (subst (λ (t : ℕ). k < t) (sym st.rows_is) lt)
+  reduced_at k lt = r.reduced_are k (rw st.rows_is lt)
 
   reduced_nonneg : (k : ℕ) → k < P.rows → pos 0 ≤ℤ r.reduced k
   reduced_nonneg k lt =
@@ -96,45 +92,43 @@ module _ (P : Program) (s : State) (num : List ℤ) (mden : ℤ) (ws : List (ℕ
   reduced_sum : (f : ℕ → ℤ)
       → r.common *ℤ weighted_sum f ws ≡ dot P.rows (λ k. entry_at 32 s.tracked k 0) (λ k. on_id f (id_at s.ids k))
   reduced_sum f =
-      ap (λ (l : List (ℕ × ℤ)). r.common *ℤ weighted_sum f l) list_is
-      ∙ ap (λ (z : ℤ). r.common *ℤ z) (listed_sum f s.ids r.reduced P.rows reduced_nonneg)
-      ∙ dot_multiplied P.rows r.common r.reduced (λ k. entry_at 32 s.tracked k 0) (λ k. on_id f (id_at s.ids k))
-      reduced_at
+      let one =
+      dot_multiplied P.rows r.common r.reduced (λ k. entry_at 32 s.tracked k 0) (λ k. on_id f (id_at s.ids k))
+      reduced_at in
+      cc (list_is, listed_sum f s.ids r.reduced P.rows reduced_nonneg)
 
   is_optimal : IsOptimal P ws den num mden
   is_optimal = (
     (
       (
-        subst (AllByRecursion (λ w. IsTrue (P.is_column w.0) × (pos 0 ≤ℤ w.1))) (sym list_is)
+        rw list_is
             (listed_all (λ w. IsTrue (P.is_column w.0) × (pos 0 ≤ℤ w.1)) s.ids r.reduced P.rows
             (λ j id u lt e f. (is_column_at P s st.table.inverse j id lt e, suc_nonneg u))),
-        subst (λ (l : List (ℕ × ℤ)). IsDistinct nat_eq (map (λ (w : ℕ × ℤ). w.0) l)) (sym list_is)
+        rw list_is
             (listed_distinct s.ids r.reduced P.rows (ids_apart P s st.table.inverse)),
       ),
       at_least_one den (quotient_positive r.common den s.den r.is_common.positive r.den_is st.table.positive),
       λ i lt. cancel r.common (weighted_sum (λ id. P.entry id i) ws) (den *ℤ P.right i)
-          (positive_apart r.common r.is_common.positive)
-          (reduced_sum (λ id. P.entry id i) ∙ right_rows P s st i lt
-          ∙ ap (λ (z : ℤ). z *ℤ P.right i) (sym r.den_is) ∙ mul_assocℤ r.common den (P.right i)),
+          (positive_apart r.common r.is_common.positive) (let one = mul_assocℤ r.common den (P.right i) in
+          cc (reduced_sum (λ id. P.entry id i), right_rows P s st i lt, r.den_is)),
     ),
     b,
-    *ℤ_comm (weighted_sum P.cost ws) mden ∙ ap (λ (z : ℤ). z *ℤ weighted_sum P.cost ws) (m.den_is ∙ sym r.den_is)
-        ∙ mul_assocℤ r.common den (weighted_sum P.cost ws) ∙ mul_left_commℤ r.common den (weighted_sum P.cost ws)
-        ∙ ap (λ (z : ℤ). den *ℤ z) (reduced_sum P.cost ∙ sym (value_right P s st num mden m))
-        ∙ *ℤ_comm den (value_of P num P.right),
+    let one = mul_left_commℤ r.common den (weighted_sum P.cost ws) in
+        let two = mul_assocℤ r.common den (weighted_sum P.cost ws) in
+        let three = *ℤ_comm (weighted_sum P.cost ws) mden in
+        let four = *ℤ_comm den (value_of P num P.right) in
+        cc (m.den_is, r.den_is, reduced_sum P.cost, value_right P s st num mden m),
   )
 
   -- its form
   weight_small : (k : ℕ) → k < P.rows → unsigned_abs (entry_at 32 s.tracked k 0) ≤ 2 ^ 58
   weight_small k lt =
-      subst (λ (z : ℤ). unsigned_abs z ≤ 2 ^ 58) (sym (st.table.tracked.tracked k 0 lt (omega arith)))
-      (right_small P s tame st.table.inverse k lt)
+      rw (st.table.tracked.tracked k 0 lt (omega arith)) (right_small P s tame st.table.inverse k lt)
 
   reduced_small : (k : ℕ) → k < P.rows → unsigned_abs (r.reduced k) < 2 ^ 62
   reduced_small k lt =
       below_62 (unsigned_abs (r.reduced k)) (unsigned_abs (entry_at 32 s.tracked k 0))
-      (factor_le r.common (r.reduced k) (entry_at 32 s.tracked k 0) r.is_common.positive
-      (reduced_at k lt))
+      (factor_le r.common (r.reduced k) (entry_at 32 s.tracked k 0) r.is_common.positive (reduced_at k lt))
       (weight_small k lt)
 
   -- what divides the denominator and all weights divides the numbers that they come from
@@ -143,34 +137,28 @@ module _ (P : Program) (s : State) (num : List ℤ) (mden : ℤ) (ws : List (ℕ
   reduced_divisible g h =
       listed_divisible g s.ids r.reduced P.rows reduced_nonneg
       (λ k lt none. zero_quotient r.common (r.reduced k) (entry_at 32 s.tracked k 0) r.is_common.positive
-      (reduced_at k lt)
-      (right_clear P s st k lt none))
-      (subst (AllByRecursion (λ w. g ∣ unsigned_abs w.1)) list_is h)
+      (reduced_at k lt) (right_clear P s st k lt none)) (rw list_is at h)
 
   lowest_terms : (g : ℕ) → g ∣ unsigned_abs den → AllByRecursion (λ w. g ∣ unsigned_abs w.1) ws → g ≡ 1
   lowest_terms g h k =
       let whole = r.is_common.greatest (g * unsigned_abs r.common) (times_both (pos g) r.common den s.den r.den_is h)
       (λ j jl.
-      let lt' = subst (λ (t : ℕ). j < t) st.rows_is jl in
-      times_both (pos g) r.common (r.reduced j) (entry_at 32 s.tracked j 0)
-      (reduced_at j lt')
+      let lt' = rw st.rows_is at jl in
+      times_both (pos g) r.common (r.reduced j) (entry_at 32 s.tracked j 0) (reduced_at j lt')
       (reduced_divisible g k j lt')) in
       let cp = size_positive r.common r.is_common.positive in
-      one_of g (unsigned_abs r.common) cp
-      (pos_of_dvd_of_pos h
+      one_of g (unsigned_abs r.common) cp (pos_of_dvd_of_pos h
       (size_positive den (quotient_positive r.common den s.den r.is_common.positive r.den_is st.table.positive)))
       (le_of_dvd cp whole)
 
   in_form : AreInForm P.rows ws den
   in_form = record {
-    count = subst (λ (l : List (ℕ × ℤ)). length l ≤ P.rows) (sym list_is) (listed_count s.ids r.reduced P.rows);
+    count = rw list_is (listed_count s.ids r.reduced P.rows);
     positive =
-        subst (AllByRecursion (λ w. pos 1 ≤ℤ w.1)) (sym list_is)
-        (listed_all (λ w. pos 1 ≤ℤ w.1) s.ids r.reduced P.rows (λ j id u lt e f. suc_positive u));
+        rw list_is (listed_all (λ w. pos 1 ≤ℤ w.1) s.ids r.reduced P.rows (λ j id u lt e f. suc_positive u));
     small =
-        subst (AllByRecursion (λ w. unsigned_abs w.1 < 2 ^ 62)) (sym list_is)
-        (listed_all (λ w. unsigned_abs w.1 < 2 ^ 62) s.ids r.reduced P.rows
-        (λ j id u lt e f. subst (λ (z : ℤ). unsigned_abs z < 2 ^ 62) f (reduced_small j lt)));
+        rw list_is (listed_all (λ w. unsigned_abs w.1 < 2 ^ 62) s.ids r.reduced P.rows
+        (λ j id u lt e f. rw f at (reduced_small j lt)));
     den_small =
         below_62 (unsigned_abs den) (unsigned_abs s.den) (factor_le r.common den s.den r.is_common.positive r.den_is)
         (den_small P s tame st.table.inverse);

@@ -1,9 +1,8 @@
 -- The common divisor of the denominator and the weights.
 use Rattle.std.proofs.Common.{length, set, get_or-set_same, get_or-set_other, ◌≡◌, ◌≢◌, inl, inr, ℕ, suc}
-use Rattle.std.proofs.Common.{◌+◌}
-use Rattle.std.proofs.Common.{◌*◌, ◌/◌, ◌^◌, ◌<◌, ◌≤◌, List, slice_index_or, arith, sym, ap}
-use Rattle.std.proofs.Common.{subst, ◌∙◌, ℤ, pos}
-use Rattle.std.proofs.Common.{negsuc, ◌*ℤ◌, neg_ℤ, ◌<ℤ◌, unsigned_abs, int_div, le_trans}
+use Rattle.std.proofs.Common.{◌+◌, ◌*◌, ◌/◌, ◌^◌, ◌<◌, ◌≤◌, List, slice_index_or, arith, sym}
+use Rattle.std.proofs.Common.{ap, subst, ◌∙◌, ℤ, pos, negsuc, ◌*ℤ◌, neg_ℤ, ◌<ℤ◌, unsigned_abs}
+use Rattle.std.proofs.Common.{int_div, le_trans}
 use Prim.Native.Nat.{◌∣◌}
 use Rattle.std.specs.Int.{IsGcd}
 use Rattle.std.proofs.lemmas.Int.{ints}
@@ -24,7 +23,7 @@ pub record CommonSoFar (d : ℕ) (ts : List ℤ) (k c : ℕ) : Type 0 where
   pub greatest : (g : ℕ) → g ∣ d → ((j : ℕ) → j < k → g ∣ unsigned_abs (entry_at 32 ts j 0)) → g ∣ c
 
 pub common_start : (d : ℕ) (ts : List ℤ) (c : ℕ) → c ≡ d → 0 < d → d ≤ 2 ^ 58 → CommonSoFar d ts 0 c
-common_start d ts c e p s = subst (CommonSoFar d ts 0) (sym e) (record {
+common_start d ts c e p s = rw e (record {
   positive = p;
   small = s;
   den = dvd_refl d;
@@ -42,12 +41,12 @@ common_next d ts k c z g e h s =
       small = le_trans (le_of_dvd s.positive h.0) s.small;
       den = dvd_trans g h.0 s.den;
       weights = λ j lt. elim (last_or_less_of j k lt) [
-        | inl same ↦ subst (λ (t : ℕ). g ∣ unsigned_abs (entry_at 32 ts t 0)) (sym same)
-            (subst (λ (t : ℕ). g ∣ t) here h.1)
+        | inl same ↦ rw same
+            (rw here at h.1)
         | inr less ↦ dvd_trans g h.0 (s.weights j less)
       ];
       greatest = λ t a b. h.2 t (s.greatest t a (λ j lt. b j (omega arith)))
-          (subst (λ (u : ℕ). t ∣ u) (sym here) (b k (omega arith)));
+          (rw here (b k (omega arith)));
     }
 
 positive_pos : (c : ℕ) → 0 < c → pos 0 <ℤ pos c
@@ -55,7 +54,7 @@ positive_pos c h = omega (arith, ints)
 
 pub common_end : (d : ℤ) (ts : List ℤ) (n k c : ℕ) (z : ℤ) → z ≡ pos c → k ≤ n → n ≤ k
     → CommonSoFar (unsigned_abs d) ts k c → IsCommon ts n d z
-common_end d ts n k c z e le ge s = subst (IsCommon ts n d) (sym e) (record {
+common_end d ts n k c z e le ge s = rw e (record {
   positive = positive_pos c s.positive;
   den = s.den;
   weights = λ j lt. s.weights j (omega arith);
@@ -74,7 +73,7 @@ pub quotient_is : (c z : ℤ) → pos 0 <ℤ c → unsigned_abs c ∣ unsigned_a
 quotient_is c z p h =
     let q = product_of (unsigned_abs c) z h in
     let e : z ≡ c *ℤ q.0 = q.1 ∙ ap (λ (t : ℤ). t *ℤ q.0) (sym (size_of_positive c p)) in
-    ap (λ (t : ℤ). c *ℤ t) (quot_exact z c q.0 e (positive_apart c p)) ∙ sym e
+    cc (quot_exact z c q.0 e (positive_apart c p))
 
 -- ---- the reduced weights, one by one
 pub is_multiple : (ts : List ℤ) (n : ℕ) (d c : ℤ) (k : ℕ) → IsCommon ts n d c → k < n

@@ -1,8 +1,6 @@
 -- Laws of sums of products, of cuts, and of columns read from the last row.
-use Rattle.std.proofs.Common.{◌≡◌, ◌⊎◌, inl, inr, ℕ, zero, suc, ◌+◌, ◌-◌, ◌*◌}
-use Rattle.std.proofs.Common.{◌<◌, ◌≤◌, cond, nat_lt, arith}
-use Rattle.std.proofs.Common.{refl, sym, ap, subst, ◌∙◌, ℤ, pos, ◌+ℤ◌, ◌-ℤ◌, ◌*ℤ◌}
-use Rattle.std.proofs.Common.{unsigned_abs}
+use Rattle.std.proofs.Common.{◌≡◌, inl, inr, ℕ, zero, suc, ◌-◌, ◌<◌, ◌≤◌, cond}
+use Rattle.std.proofs.Common.{nat_lt, arith, refl, sym, ap, ◌∙◌, ℤ, pos, ◌+ℤ◌, ◌*ℤ◌}
 use Rattle.std.proofs.lemmas.Bool.Decides.{nat_tests}
 use Rattle.definitions.proofs.Ring.{ring_laws, unit_laws, linear}
 use Rattle.determinants.proofs.DotProducts.{backwards, dot_backwards, dot_cong, zero_row, dot_times}
@@ -16,12 +14,10 @@ use lib.IntN.{*ℤ_comm}
 
 pub dot_comm : (n : ℕ) (a b : ℕ → ℤ) → dot n a b ≡ dot n b a
 dot_comm zero a b = refl
-dot_comm (suc n) a b =
-    ap (λ (z : ℤ). z +ℤ a n *ℤ b n) (dot_comm n a b) ∙ ap (λ (z : ℤ). dot n b a +ℤ z) (*ℤ_comm (a n) (b n))
+dot_comm (suc n) a b = cc (dot_comm n a b, *ℤ_comm (a n) (b n))
 
 pub dot_scaled : (n : ℕ) (s : ℤ) (a w : ℕ → ℤ) → dot n (λ i. s *ℤ a i) w ≡ s *ℤ dot n a w
-dot_scaled n s a w =
-    dot_comm n (λ i. s *ℤ a i) w ∙ sym (dot_times n w s a) ∙ ap (λ (z : ℤ). s *ℤ z) (dot_comm n w a)
+dot_scaled n s a w = cc (dot_comm n (λ i. s *ℤ a i) w, dot_times n w s a, dot_comm n w a)
 
 -- the sum of products, as the definitions write it
 pub sum_dot : (n : ℕ) (a f : ℕ → ℤ) → sum_below n (λ r. a r *ℤ f r) ≡ dot n a f
@@ -31,8 +27,7 @@ sum_dot (suc n) a f = ap (λ (z : ℤ). z +ℤ a n *ℤ f n) (sum_dot n a f)
 dot_add : (n : ℕ) (c a b : ℕ → ℤ) (t : ℤ) → dot n c (λ k. a k +ℤ b k *ℤ t) ≡ dot n c a +ℤ dot n c b *ℤ t
 dot_add zero c a b t = simp unit_laws
 dot_add (suc n) c a b t =
-    ap (λ (z : ℤ). z +ℤ c n *ℤ (a n +ℤ b n *ℤ t)) (dot_add n c a b t)
-    ∙ terms_by_factor (dot n c a) (dot n c b) (c n) (a n) (b n) t
+    cc (dot_add n c a b t, terms_by_factor (dot n c a) (dot n c b) (c n) (a n) (b n) t)
   where
     terms_by_factor : (p q c a b t : ℤ) → (p +ℤ q *ℤ t) +ℤ c *ℤ (a +ℤ b *ℤ t) ≡ (p +ℤ c *ℤ a) +ℤ (q +ℤ c *ℤ b) *ℤ t
     terms_by_factor p q c a b t = simp ring_laws (omega (arith, linear))
@@ -41,9 +36,7 @@ dot_add (suc n) c a b t =
 pub dot_swap : (n m : ℕ) (c : ℕ → ℤ) (x : ℕ → ℕ → ℤ) (s : Column)
     → dot n c (λ k. dot m (x k) s) ≡ dot m (λ i. dot n c (λ k. x k i)) s
 dot_swap n zero c x s = zero_row n c
-dot_swap n (suc m) c x s =
-    dot_add n c (λ k. dot m (x k) s) (λ k. x k m) (s m)
-    ∙ ap (λ (z : ℤ). z +ℤ dot n c (λ k. x k m) *ℤ s m) (dot_swap n m c x s)
+dot_swap n (suc m) c x s = cc (dot_add n c (λ k. dot m (x k) s) (λ k. x k m) (s m), dot_swap n m c x s)
 
 -- ---- columns read from the last row
 cond_in : (j n : ℕ) (u v : ℤ) → j < n → cond (nat_lt j n) u v ≡ u
@@ -78,8 +71,7 @@ cut_out m a j le = cond_out j m (a j) (pos 0) le
 pub nonneg_same : (m : ℕ) (a b : ℕ → ℤ) → ((j : ℕ) → j < m → a j ≡ b j) → IsLexNonnegative m a
     → IsLexNonnegative m b
 nonneg_same zero a b h p = tt
-nonneg_same (suc m) a b h (inl p) =
-    inl (subst (λ (z : ℤ). Rattle.std.proofs.Common.◌<ℤ◌ (pos 0) z) (h 0 (omega arith)) p)
+nonneg_same (suc m) a b h (inl p) = inl (rw (h 0 (omega arith)) at p)
 nonneg_same (suc m) a b h (inr p) =
     inr (
       sym (h 0 (omega arith)) ∙ p.0,
@@ -88,8 +80,7 @@ nonneg_same (suc m) a b h (inr p) =
 
 pub positive_same : (m : ℕ) (a b : ℕ → ℤ) → ((j : ℕ) → j < m → a j ≡ b j) → IsLexPositive m a → IsLexPositive m b
 positive_same zero a b h p = p
-positive_same (suc m) a b h (inl p) =
-    inl (subst (λ (z : ℤ). Rattle.std.proofs.Common.◌<ℤ◌ (pos 0) z) (h 0 (omega arith)) p)
+positive_same (suc m) a b h (inl p) = inl (rw (h 0 (omega arith)) at p)
 positive_same (suc m) a b h (inr p) =
     inr (
       sym (h 0 (omega arith)) ∙ p.0,

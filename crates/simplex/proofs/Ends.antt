@@ -1,8 +1,7 @@
 -- What the end of the first part means, and that no ray stands beside bounds.
 use Rattle.std.proofs.Common.{◌≡◌, ◌⊎◌, inl, inr, ℕ, zero, suc, ◌<◌, false, List}
-use Rattle.std.proofs.Common.{[], ◌∷◌}
-use Rattle.std.proofs.Common.{Option, Some, None, slice_index_or, arith, refl, sym, ap, subst, ◌∙◌}
-use Rattle.std.proofs.Common.{ℤ, pos, negsuc, ◌+ℤ◌, ◌*ℤ◌, neg_ℤ, ◌<ℤ◌, ◌≤ℤ◌}
+use Rattle.std.proofs.Common.{[], ◌∷◌, Option, Some, None, slice_index_or, arith, refl, sym, ap}
+use Rattle.std.proofs.Common.{subst, ◌∙◌, ℤ, pos, negsuc, ◌+ℤ◌, ◌*ℤ◌, neg_ℤ, ◌<ℤ◌, ◌≤ℤ◌}
 use Rattle.std.proofs.lemmas.Int.{ints}
 use Rattle.definitions.proofs.Members.{sum_below-zero}
 use Rattle.definitions.proofs.Ring.{ring_laws, unit_laws, linear, mul-nonnegativeℤ, mul-zeroℤ, one-mulℤ}
@@ -32,8 +31,7 @@ both_neg : (a b : ℤ) → neg_ℤ a *ℤ neg_ℤ b ≡ a *ℤ b
 both_neg a b = simp ring_laws
 
 times_neg : (a b : ℤ) → a ≤ℤ pos 0 → b ≤ℤ pos 0 → pos 0 ≤ℤ (a *ℤ b)
-times_neg a b h k =
-    subst (λ (z : ℤ). pos 0 ≤ℤ z) (both_neg a b) (mul-nonnegativeℤ (neg_ℤ a) (neg_ℤ b) (neg_le a h) (neg_le b k))
+times_neg a b h k = rw (both_neg a b) at (mul-nonnegativeℤ (neg_ℤ a) (neg_ℤ b) (neg_le a h) (neg_le b k))
 
 sum_nonneg : (a b : ℤ) → pos 0 ≤ℤ a → pos 0 ≤ℤ b → pos 0 ≤ℤ (a +ℤ b)
 sum_nonneg a b h k = omega (arith, linear)
@@ -63,7 +61,7 @@ dot_negative : (n : ℕ) (a b : ℕ → ℤ) (j : ℕ) → j < n → ((k : ℕ) 
 dot_negative zero a b j lt h p = absurd (omega arith)
 dot_negative (suc n) a b j lt h p = elim (last_or_less j n lt) [
   | inl e ↦ sum_negative_right (dot n a b) (a n *ℤ b n) (dot_nonpos n a b (λ k l. h k (omega arith)))
-      (subst (λ (t : ℕ). (a t *ℤ b t) <ℤ pos 0) e p)
+      (rw e at p)
   | inr l ↦ sum_negative_left (dot n a b) (a n *ℤ b n) (dot_negative n a b j l (λ k q. h k (omega arith)) p)
       (h n (omega arith))
 ]
@@ -100,8 +98,7 @@ pub contradicts : (P : Program) (num : List ℤ) (den : ℤ) → Bounds (priced 
     → value_of P num P.right <ℤ pos 0 → HasNoSolution P
 contradicts P num den b neg ws wden s =
     negative_times wden (value_of P num P.right) s.1
-    (subst (λ (z : ℤ). z ≤ℤ (wden *ℤ value_of P num P.right))
-    (ap (λ (z : ℤ). den *ℤ z) (weighted_free P ws) ∙ mul-zeroℤ den)
+    (rw (ap (λ (z : ℤ). den *ℤ z) (weighted_free P ws) ∙ mul-zeroℤ den) at
     (weak_duality (priced P false) num den ws wden b s)) neg
 
 -- ---- no ray beside multipliers that bound the program
@@ -132,7 +129,7 @@ no_ray P num den b r =
 
 pub first_nonneg : {A : Type 0} (z : ℤ) → (pos 0 <ℤ z) ⊎ ((z ≡ pos 0) × A) → pos 0 ≤ℤ z
 first_nonneg z (inl h) = omega (arith, linear)
-first_nonneg z (inr h) = subst (λ (t : ℤ). pos 0 ≤ℤ t) (sym h.0) (omega (arith, linear))
+first_nonneg z (inr h) = rw h.0 (omega (arith, linear))
 
 part_value_nonpos : (P : Program) (o : Option ℕ) (w : ℤ) → pos 0 ≤ℤ w → (part_cost P First o *ℤ w) ≤ℤ pos 0
 part_value_nonpos P None w h = omega (arith, ints)
@@ -141,7 +138,7 @@ part_value_nonpos P (Some id) w h = omega (arith, ints)
 part_value_negative : (P : Program) (o : Option ℕ) (w : ℤ) → o ≡ None → pos 0 <ℤ w
     → (part_cost P First o *ℤ w) <ℤ pos 0
 part_value_negative P o w e h =
-    subst (λ (t : Option ℕ). (part_cost P First t *ℤ w) <ℤ pos 0) (sym e) (unit_cost_negative w h)
+    rw e (unit_cost_negative w h)
   where
     unit_cost_negative : (w : ℤ) → pos 0 <ℤ w → (negsuc 0 *ℤ w) <ℤ pos 0
     unit_cost_negative w h = omega (arith, ints)
@@ -157,14 +154,10 @@ objective_right P part s st =
 pub no_solution : (P : Program) (s : State) (num : List ℤ) (den : ℤ) → IsImproving P First s
     → AreMultipliersOf s num den → Bounds (priced P false) num den → HasAddedWeight s → HasNoSolution P
 no_solution P s num den st m b a =
-    let place = subst (λ (t : ℕ). a.position < t) st.rows_is a.place in
-    contradicts P num den b
-    (subst (λ (z : ℤ). z <ℤ pos 0)
-    (sym
-    (value_is P s s.costs num den P.right st.rows_is m ∙ objective_right P First s st))
+    let place = rw st.rows_is at a.place in
+    contradicts P num den b (rw (value_is P s s.costs num den P.right st.rows_is m ∙ objective_right P First s st)
     (dot_negative P.rows (weight_at s.costs) (λ k. entry_at 32 s.tracked k 0) a.position place
-    (λ k lt. subst (λ (z : ℤ). (z *ℤ entry_at 32 s.tracked k 0) ≤ℤ pos 0) (sym (st.costs_are k lt))
+    (λ k lt. rw (st.costs_are k lt)
     (part_value_nonpos P (id_at s.ids k) (entry_at 32 s.tracked k 0)
-    (first_nonneg (entry_at 32 s.tracked k 0) (st.nonneg.rows k lt))))
-    (subst (λ (z : ℤ). (z *ℤ entry_at 32 s.tracked a.position 0) <ℤ pos 0) (sym (st.costs_are a.position place))
+    (first_nonneg (entry_at 32 s.tracked k 0) (st.nonneg.rows k lt)))) (rw (st.costs_are a.position place)
     (part_value_negative P (id_at s.ids a.position) (entry_at 32 s.tracked a.position 0) a.added a.positive))))

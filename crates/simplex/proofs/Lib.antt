@@ -18,7 +18,6 @@ pub mod Exchanged
 pub mod Minors
 pub mod ListedWeights
 pub mod DrivenOut
-pub mod Entered
 pub mod Ends
 pub mod Solutions
 pub mod CommonDivisors

@@ -1,9 +1,8 @@
 -- The list of the columns of a basis that have a positive weight.
 use Rattle.std.proofs.Common.{◌≡◌, ◌≢◌, inl, inr, ℕ, zero, suc, ◌+◌, ◌<◌, ◌≤◌}
-use Rattle.std.proofs.Common.{false, List, [], ◌∷◌, ◌++◌}
-use Rattle.std.proofs.Common.{length, length-append, map, nat_eq, Option, Some, None, arith, refl, sym}
-use Rattle.std.proofs.Common.{ap}
-use Rattle.std.proofs.Common.{subst, ◌∙◌, ℤ, pos, negsuc, ◌+ℤ◌, ◌*ℤ◌, ◌≤ℤ◌, unsigned_abs}
+use Rattle.std.proofs.Common.{false, List, [], ◌∷◌, ◌++◌, length, length-append, map, nat_eq, Option}
+use Rattle.std.proofs.Common.{Some, None, arith, refl, ap, ◌∙◌, ℤ, pos, negsuc, ◌+ℤ◌}
+use Rattle.std.proofs.Common.{◌*ℤ◌, ◌≤ℤ◌, unsigned_abs}
 use Prim.Native.Nat.{◌∣◌}
 use Rattle.std.specs.List.{AllByRecursion, IsDistinct}
 use Rattle.std.proofs.lemmas.Int.{ints}
@@ -59,8 +58,7 @@ weigh_append : (f : ℕ → ℤ) (ws : List (ℕ × ℤ)) (id : ℕ) (w : ℤ)
     → weighted_sum f (ws ++ (id, w) ∷ []) ≡ weighted_sum f ws +ℤ w *ℤ f id
 weigh_append f [] id w = omega (arith, linear)
 weigh_append f (v ∷ ws) id w =
-    ap (λ (z : ℤ). v.1 *ℤ f v.0 +ℤ z) (weigh_append f ws id w)
-    ∙ last_into_sum (v.1 *ℤ f v.0) (weighted_sum f ws) (w *ℤ f id)
+    cc (weigh_append f ws id w, last_into_sum (v.1 *ℤ f v.0) (weighted_sum f ws) (w *ℤ f id))
   where
     last_into_sum : (a b c : ℤ) → a +ℤ (b +ℤ c) ≡ (a +ℤ b) +ℤ c
     last_into_sum a b c = omega (arith, linear)
@@ -82,8 +80,8 @@ pub listed_sum : (f : ℕ → ℤ) (ids : List (Option ℕ)) (w : ℕ → ℤ) (
     → weighted_sum f (listed ids w k) ≡ dot k w (λ j. on_id f (id_at ids j))
 listed_sum f ids w zero h = refl
 listed_sum f ids w (suc k) h =
-    with_sum f (id_at ids k) (w k) (listed ids w k) (h k (omega arith))
-    ∙ ap (λ (z : ℤ). z +ℤ w k *ℤ on_id f (id_at ids k)) (listed_sum f ids w k (λ j lt. h j (omega arith)))
+    let one = with_sum f (id_at ids k) (w k) (listed ids w k) (h k (omega arith)) in
+    cc (listed_sum f ids w k (λ j lt. h j (omega arith)))
 
 -- ---- their columns are distinct
 abbrev numbers : List (ℕ × ℤ) → List ℕ
@@ -123,8 +121,7 @@ pub listed_distinct : (ids : List (Option ℕ)) (w : ℕ → ℤ) (k : ℕ)
 unfolding IsDistinct
 listed_distinct ids w zero h = tt
 listed_distinct ids w (suc k) h =
-    with_distinct (id_at ids k) (w k) (listed ids w k)
-    (λ id e. listed_all (λ v. nat_eq v.0 id ≡ false) ids w k
+    with_distinct (id_at ids k) (w k) (listed ids w k) (λ id e. listed_all (λ v. nat_eq v.0 id ≡ false) ids w k
     (λ j i u lt f g. nat_eq-other i id
     (λ same. h j k id (omega arith) (omega arith) (omega arith) (f ∙ ap Some same) e)))
     (listed_distinct ids w k (λ i j id il jl ne e f. h i j id (omega arith) (omega arith) ne e f))
@@ -150,7 +147,7 @@ divisible_with g (Some id) (negsuc w) ws h = h
 
 divisible_at : (g : ℕ) (o : Option ℕ) (w : ℤ) (ws : List (ℕ × ℤ)) → pos 0 ≤ℤ w → (o ≡ None → w ≡ pos 0)
     → AllByRecursion (λ w. g ∣ unsigned_abs w.1) (with_weight o w ws) → g ∣ unsigned_abs w
-divisible_at g None w ws p z h = subst (λ (t : ℤ). g ∣ unsigned_abs t) (sym (z refl)) (dvd-zero g)
+divisible_at g None w ws p z h = rw (z refl) (dvd-zero g)
 divisible_at g (Some id) (pos zero) ws p z h = dvd-zero g
 divisible_at g (Some id) (pos (suc w)) ws p z h = divisible_last g ws (id, pos (suc w)) h
 divisible_at g (Some id) (negsuc w) ws p z h = absurd (omega (arith, ints))
@@ -160,7 +157,7 @@ pub listed_divisible : (g : ℕ) (ids : List (Option ℕ)) (w : ℕ → ℤ) (n 
     → AllByRecursion (λ w. g ∣ unsigned_abs w.1) (listed ids w n) → (k : ℕ) → k < n → g ∣ unsigned_abs (w k)
 listed_divisible g ids w zero p z h k lt = absurd (omega arith)
 listed_divisible g ids w (suc n) p z h k lt = elim (last_or_less k n lt) [
-  | inl e ↦ subst (λ (t : ℕ). g ∣ unsigned_abs (w t)) (sym e)
+  | inl e ↦ rw e
       (divisible_at g (id_at ids n) (w n) (listed ids w n) (p n (omega arith)) (z n (omega arith)) h)
   | inr l ↦ listed_divisible g ids w n (λ k q. p k (omega arith)) (λ k q. z k (omega arith))
       (divisible_with g (id_at ids n) (w n) (listed ids w n) h) k l

@@ -1,7 +1,7 @@
 -- One step of the simplex: the rows stay, and what the objective can still go up is less.
 use Rattle.std.proofs.Common.{◌≡◌, ◌≢◌, inl, inr, ℕ, zero, suc, ◌*◌, ◌^◌, ◌<◌}
-use Rattle.std.proofs.Common.{◌≤◌, List, arith, refl, sym, ap}
-use Rattle.std.proofs.Common.{subst, ◌∙◌, ℤ, pos, ◌+ℤ◌, ◌-ℤ◌, ◌*ℤ◌, ◌<ℤ◌, unsigned_abs, mul-le-mul}
+use Rattle.std.proofs.Common.{◌≤◌, List, arith, refl, sym}
+use Rattle.std.proofs.Common.{◌∙◌, ℤ, pos, ◌+ℤ◌, ◌-ℤ◌, ◌*ℤ◌, ◌<ℤ◌, unsigned_abs, mul-le-mul}
 use Rattle.std.proofs.lemmas.Int.{ints, unsigned_abs-mul}
 use Rattle.definitions.proofs.Ring.{unit_laws}
 use Rattle.determinants.proofs.LexicographicSigns.{positive_or_zero}
@@ -10,7 +10,7 @@ use Rattle.std.specs.List.{AllByRecursion}
 use Rattle.determinants.proofs.PivotRows.{rows_stay, none_at_basis}
 use Rattle.determinants.proofs.Objective.{objective, objective_pivoted}
 use Rattle.determinants.specs.Determinant.{Column}
-use Rattle.determinants.specs.Basis.{dot, IsWithin, pivoted}
+use Rattle.determinants.specs.Basis.{dot, IsWithin}
 use Rattle.determinants.specs.Lexicographic.{IsLexPositive, IsLexNonnegative}
 use Rattle.determinants.specs.Matrix.{limit, entry_at, weight_at, IsPivoted}
 use Rattle.simplex.specs.Matrix.{AreSmall, IsSmall}
@@ -43,7 +43,7 @@ module _ (P : Program) (s : State) (ys : List ℤ) (t : IsTracked P s) (c : Colu
       (λ j lt. t.tracked k j kn lt) (rows.rows k kn)
 
   y_positive : pos 0 <ℤ dot P.rows (entry_at 32 s.inverse p) c
-  y_positive = subst (λ (z : ℤ). pos 0 <ℤ z) (ys_is p least.place) least.positive
+  y_positive = rw (ys_is p least.place) at least.positive
 
   -- the row of the pivot isn't 0
   pub row_positive : IsLexPositive (suc P.rows) (entry_at 32 s.tracked p)
@@ -80,16 +80,14 @@ module _ (P : Program) (s : State) (ys : List ℤ) (t : IsTracked P s) (c : Colu
             (entry_at 32 v.tracked k) (λ j lt. sym (tracked' k j kn lt))
             (rows_stay P.rows (suc P.rows) p du.0 yu.0 (entry_at 32 s.inverse) (entry_at 32 v.inverse) c
             (target P t.refs) du.2
-            yu.2 yu.1
-            (λ k i kn jn. ap (λ (z : ℤ). z *ℤ entry_at 32 v.inverse k i) (sym du.1) ∙ q.entries k i kn jn
-            ∙ pivoted_same s.den (entry_at 32 s.inverse) p (weight_at ys)
-            (λ k. dot P.rows (entry_at 32 s.inverse k) c) k i
-            (ys_is p least.place) (ys_is k kn)
-            ∙ ap (λ (z : ℤ). pivoted z (entry_at 32 s.inverse) p (λ k. dot P.rows (entry_at 32 s.inverse k) c) k i)
-            du.1)
+            yu.2 yu.1 (λ k i kn jn.
+            let one =
+            pivoted_same s.den (entry_at 32 s.inverse) p (weight_at ys)
+            (λ k. dot P.rows (entry_at 32 s.inverse k) c) k i (ys_is p least.place) (ys_is k kn) in
+            cc (du.1, q.entries k i kn jn))
             least.place tracked_row
             (λ k kn pk. nonneg_same (suc P.rows) (ratio_gap s.tracked ys k p) _ (λ j lt. gap_same k j kn lt)
-            (least.least k kn (subst (λ (z : ℤ). pos 0 <ℤ z) (sym (ys_is k kn)) pk)))
+            (least.least k kn (rw (ys_is k kn) pk)))
             k kn);
       }
 
@@ -99,8 +97,7 @@ sum_small : (n : ℕ) (a b : ℕ → ℤ) → ((k : ℕ) → k < n → unsigned_
 sum_small zero a b h k = omega arith
 sum_small (suc n) a b h k =
     one_term_more n (dot n a b) (a n *ℤ b n) (sum_small n a b (λ i lt. h i (omega arith)) (λ i lt. k i (omega arith)))
-    (subst (λ (t : ℕ). t ≤ 2 ^ 46 * limit) (sym (unsigned_abs-mul (a n) (b n)))
-    (mul-le-mul (h n (omega arith)) (k n (omega arith))))
+    (rw (unsigned_abs-mul (a n) (b n)) (mul-le-mul (h n (omega arith)) (k n (omega arith))))
   where
     one_term_more : (n : ℕ) (s z : ℤ) → unsigned_abs s ≤ n * 2 ^ 104 → unsigned_abs z ≤ 2 ^ 46 * 2 ^ 58
         → unsigned_abs (s +ℤ z) ≤ suc n * 2 ^ 104
@@ -109,10 +106,10 @@ sum_small (suc n) a b h k =
 pub objective_small : (n : ℕ) (costs ts : List ℤ) (j : ℕ) → n ≤ 31 → IsSmall costs n (2 ^ 46)
     → AreSmall ts n (suc n) → unsigned_abs (cut (suc n) (objective_at n costs ts) j) ≤ 2 ^ 110
 objective_small n costs ts j le h k = elim (below_or_above j (suc n)) [
-  | inl lt ↦ subst (λ (z : ℤ). unsigned_abs z ≤ 2 ^ 110) (sym (cut_in (suc n) (objective_at n costs ts) j lt))
+  | inl lt ↦ rw (cut_in (suc n) (objective_at n costs ts) j lt)
       (below_110 n _ le
       (sum_small n (weight_at costs) (λ k. entry_at 32 ts k j) h.entries (λ i il. k.entries i j il lt)))
-  | inr ge ↦ subst (λ (z : ℤ). unsigned_abs z ≤ 2 ^ 110) (sym (cut_out (suc n) (objective_at n costs ts) j ge))
+  | inr ge ↦ rw (cut_out (suc n) (objective_at n costs ts) j ge)
       (omega arith)
 ]
   where
@@ -125,14 +122,8 @@ zero_terms d e r = simp unit_laws
 cut_terms : (n : ℕ) (d e r : ℤ) (z z' a : ℕ → ℤ) → ((j : ℕ) → j < n → d *ℤ z' j ≡ e *ℤ z j +ℤ r *ℤ a j) → (j : ℕ)
     → d *ℤ cut n z' j ≡ e *ℤ cut n z j +ℤ r *ℤ cut n a j
 cut_terms n d e r z z' a h j = elim (below_or_above j n) [
-  | inl lt ↦ ap (λ (t : ℤ). d *ℤ t) (cut_in n z' j lt) ∙ h j lt
-      ∙ sym
-      (ap (λ (t : ℤ). e *ℤ t +ℤ r *ℤ cut n a j) (cut_in n z j lt)
-      ∙ ap (λ (t : ℤ). e *ℤ z j +ℤ r *ℤ t) (cut_in n a j lt))
-  | inr ge ↦ ap (λ (t : ℤ). d *ℤ t) (cut_out n z' j ge) ∙ zero_terms d e r
-      ∙ sym
-      (ap (λ (t : ℤ). e *ℤ t +ℤ r *ℤ cut n a j) (cut_out n z j ge)
-      ∙ ap (λ (t : ℤ). e *ℤ pos 0 +ℤ r *ℤ t) (cut_out n a j ge))
+  | inl lt ↦ cc (cut_in n z' j lt, h j lt, cut_in n z j lt, cut_in n a j lt)
+  | inr ge ↦ cc (cut_out n z' j ge, zero_terms d e r, cut_out n z j ge, cut_out n a j ge)
 ]
 
 -- what a step of the objective needs to be a fall of the measure
@@ -147,10 +138,9 @@ room_falls n costs costs' ts ts' d d' r a le hc hc' ht ht' dp d'p rp sd sd' h le
     room_left_falls (suc n) (unsigned_abs r) d d' (cut (suc n) (objective_at n costs ts))
     (cut (suc n) (objective_at n costs' ts')) (cut (suc n) a) dp d'p sd sd'
     (λ j. objective_small n costs ts j le hc ht) (λ j. objective_small n costs' ts' j le hc' ht')
-    (size_positive r rp)
-    (λ j. cut_terms (suc n) d d' r (objective_at n costs ts) (objective_at n costs' ts') a h j
-    ∙ ap (λ (z : ℤ). d' *ℤ cut (suc n) (objective_at n costs ts) j +ℤ z *ℤ cut (suc n) a j) (size_of_positive r rp))
-    (positive_same (suc n) a (cut (suc n) a) (λ j lt. sym (cut_in (suc n) a j lt)) lex)
+    (size_positive r rp) (λ j.
+    let one = cut_terms (suc n) d d' r (objective_at n costs ts) (objective_at n costs' ts') a h j in
+    cc (size_of_positive r rp)) (positive_same (suc n) a (cut (suc n) a) (λ j lt. sym (cut_in (suc n) a j lt)) lex)
 
 -- the objective after a pivot
 pub objective_step : (P : Program) (s v : State) (ys : List ℤ) (c : Column) (refs : ℕ → Column)
@@ -167,22 +157,18 @@ pub objective_step : (P : Program) (s v : State) (ys : List ℤ) (c : Column) (r
 objective_step P s v ys c refs p j pn ys_is q same tk tk' =
     let n = P.rows in
     let r = s.den *ℤ weight_at v.costs p -ℤ objective n (weight_at s.costs) (entry_at 32 s.inverse) c in
-    ap (λ (z : ℤ). s.den *ℤ z)
-    (dot_cong n (weight_at v.costs) (weight_at v.costs) (λ k. entry_at 32 v.tracked k j)
-    (λ k. dot n (entry_at 32 v.inverse k) (target P refs j)) (λ i lt. refl) tk')
-    ∙ objective_pivoted n p s.den (entry_at 32 s.inverse) (entry_at 32 v.inverse) (weight_at s.costs)
-    (weight_at v.costs) c
-    (target P refs j) pn
+    let one =
+    objective_pivoted n p s.den (entry_at 32 s.inverse) (entry_at 32 v.inverse) (weight_at s.costs)
+    (weight_at v.costs) c (target P refs j) pn
     (λ k i kn jn. q.entries k i kn jn ∙ pivot_term_cong _ _ _ _ _ _ _ (ys_is p pn) (ys_is k kn))
-    (λ k kn ne. same k ne)
-    ∙ sym (ap (λ (z : ℤ). z *ℤ objective_at n s.costs s.tracked j +ℤ r *ℤ entry_at 32 s.tracked p j) (ys_is p pn)
-    ∙ ap (λ (z : ℤ). dot n (entry_at 32 s.inverse p) c *ℤ z +ℤ r *ℤ entry_at 32 s.tracked p j)
-    (dot_cong n (weight_at s.costs) (weight_at s.costs) (λ k. entry_at 32 s.tracked k j)
-    (λ k. dot n (entry_at 32 s.inverse k) (target P refs j)) (λ i lt. refl) tk)
-    ∙ ap
-    (λ (z : ℤ). dot n (entry_at 32 s.inverse p) c
-    *ℤ objective n (weight_at s.costs) (entry_at 32 s.inverse) (target P refs j)
-    +ℤ r *ℤ z) (tk p pn))
+    (λ k kn ne. same k ne) in
+    let two =
+    dot_cong n (weight_at v.costs) (weight_at v.costs) (λ k. entry_at 32 v.tracked k j)
+    (λ k. dot n (entry_at 32 v.inverse k) (target P refs j)) (λ i lt. refl) tk' in
+    let three =
+    dot_cong n (weight_at s.costs) (weight_at s.costs) (λ k. entry_at 32 s.tracked k j)
+    (λ k. dot n (entry_at 32 s.inverse k) (target P refs j)) (λ i lt. refl) tk in
+    cc (ys_is p pn, tk p pn)
   where
     pivot_term_cong : (yp yk yp' yk' a b c : ℤ) → yp ≡ yp' → yk ≡ yk'
         → (yp *ℤ a -ℤ yk *ℤ b) +ℤ c ≡ (yp' *ℤ a -ℤ yk' *ℤ b) +ℤ c

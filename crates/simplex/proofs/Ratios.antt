@@ -1,8 +1,7 @@
 -- The lexicographic comparison of ratios, and the least of them.
 use Rattle.std.proofs.Common.{◌≡◌, inl, inr, ℕ, zero, suc, ◌+◌, ◌<◌, List, arith}
-use Rattle.std.proofs.Common.{refl, sym, ap, subst}
-use Rattle.std.proofs.Common.{◌∙◌, ℤ, pos, ◌+ℤ◌, ◌-ℤ◌, ◌*ℤ◌, ◌<ℤ◌, ◌≤ℤ◌, Option, Some}
-use Rattle.std.proofs.Common.{None}
+use Rattle.std.proofs.Common.{refl, ap, subst, ◌∙◌, ℤ, pos, ◌+ℤ◌, ◌-ℤ◌, ◌*ℤ◌, ◌<ℤ◌}
+use Rattle.std.proofs.Common.{◌≤ℤ◌, Option, Some, None}
 use Rattle.std.proofs.lemmas.Int.{ints}
 use Rattle.definitions.proofs.Ring.{ring_laws, linear}
 use Rattle.determinants.proofs.LexicographicSigns.{joined_nonnegative}
@@ -44,8 +43,7 @@ pub ratio_not_before : (ts ys : List ℤ) (n k p j : ℕ) → j < suc n → ((i 
     → (weight_at ys k *ℤ entry_at 32 ts p j) <ℤ (weight_at ys p *ℤ entry_at 32 ts k j)
     → IsLexNonnegative (suc n) (ratio_gap ts ys k p)
 ratio_not_before ts ys n k p j lt h l =
-    nonneg_of (suc n) (ratio_gap ts ys k p)
-    (positive_at (suc n) j (ratio_gap ts ys k p) lt h
+    nonneg_of (suc n) (ratio_gap ts ys k p) (positive_at (suc n) j (ratio_gap ts ys k p) lt h
     (gap_positive (weight_at ys k *ℤ entry_at 32 ts p j) (weight_at ys p *ℤ entry_at 32 ts k j) l))
 
 equal_both_ways : (a b : ℤ) → b ≤ℤ a → a ≤ℤ b → a ≡ b
@@ -74,17 +72,14 @@ ratios_transitive ts ys n j k p hj hk hp a b =
     let uk = positive_is (weight_at ys k) hk in
     let up = positive_is (weight_at ys p) hp in
     joined_nonnegative (suc n) up.0 uk.0 uj.0 (ratio_gap ts ys j k) (ratio_gap ts ys j p) (ratio_gap ts ys p k) up.2
-    uk.2 uj.2
-    (λ i. ratio_identity_at (weight_at ys j) (weight_at ys k) (weight_at ys p) (entry_at 32 ts j i)
-    (entry_at 32 ts k i)
-    (entry_at 32 ts p i) (pos uj.0) (pos uk.0) (pos up.0) uj.1 uk.1 up.1) a b
+    uk.2 uj.2 (λ i. ratio_identity_at (weight_at ys j) (weight_at ys k) (weight_at ys p) (entry_at 32 ts j i)
+    (entry_at 32 ts k i) (entry_at 32 ts p i) (pos uj.0) (pos uk.0) (pos up.0) uj.1 uk.1 up.1) a b
   where
     ratio_identity_at : (yj yk yp tj tk tp uj uk up : ℤ) → yj ≡ uj → yk ≡ uk → yp ≡ up
         → up *ℤ (yk *ℤ tj -ℤ yj *ℤ tk) ≡ uk *ℤ (yp *ℤ tj -ℤ yj *ℤ tp) +ℤ uj *ℤ (yk *ℤ tp -ℤ yp *ℤ tk)
     ratio_identity_at yj yk yp tj tk tp uj uk up e f g =
         subst (λ (z : ℤ). z *ℤ (yk *ℤ tj -ℤ yj *ℤ tk) ≡ uk *ℤ (yp *ℤ tj -ℤ yj *ℤ tp) +ℤ uj *ℤ (yk *ℤ tp -ℤ yp *ℤ tk))
-        g
-        (subst
+        g (subst
         (λ (z : ℤ). yp *ℤ (yk *ℤ tj -ℤ yj *ℤ tk) ≡ z *ℤ (yp *ℤ tj -ℤ yj *ℤ tp) +ℤ uj *ℤ (yk *ℤ tp -ℤ yp *ℤ tk)) f
         (subst
         (λ (z : ℤ). yp *ℤ (yk *ℤ tj -ℤ yj *ℤ tk) ≡ yk *ℤ (yp *ℤ tj -ℤ yj *ℤ tp) +ℤ z *ℤ (yk *ℤ tp -ℤ yp *ℤ tk)) e
@@ -98,7 +93,7 @@ ratio_itself ts ys n k =
 pub none_positive_next : (ys : List ℤ) (k : ℕ) → weight_at ys k ≤ℤ pos 0 → NonePositive ys k → NonePositive ys (k + 1)
 none_positive_next ys k z h = record {
   none = λ j lt p. elim (last_or_less_of j k lt) [
-    | inl e ↦ not_both (weight_at ys j) (subst (λ (t : ℕ). weight_at ys t ≤ℤ pos 0) (sym e) z) p
+    | inl e ↦ not_both (weight_at ys j) (rw e z) p
     | inr l ↦ h.none j l p
   ];
 }
@@ -110,8 +105,8 @@ least_more ts ys n k p z h = record {
   place = h.place;
   positive = h.positive;
   least = λ j lt pj. elim (last_or_less_of j k lt) [
-    | inl e ↦ subst (λ (t : ℕ). IsLexNonnegative (suc n) (ratio_gap ts ys t p)) (sym e)
-        (z (subst (λ (t : ℕ). pos 0 <ℤ weight_at ys t) e pj))
+    | inl e ↦ rw e
+        (z (rw e at pj))
     | inr l ↦ h.least j l pj
   ];
 }
@@ -122,7 +117,7 @@ least_first ts ys n k lt pk h = record {
   place = lt;
   positive = pk;
   least = λ j lj pj. elim (last_or_less_of j k lj) [
-    | inl e ↦ subst (λ (t : ℕ). IsLexNonnegative (suc n) (ratio_gap ts ys t k)) (sym e) (ratio_itself ts ys n k)
+    | inl e ↦ rw e (ratio_itself ts ys n k)
     | inr l ↦ absurd (h.none j l pj)
   ];
 }
@@ -133,7 +128,7 @@ least_next ts ys n k p lt pk less h = record {
   place = lt;
   positive = pk;
   least = λ j lj pj. elim (last_or_less_of j k lj) [
-    | inl e ↦ subst (λ (t : ℕ). IsLexNonnegative (suc n) (ratio_gap ts ys t k)) (sym e) (ratio_itself ts ys n k)
+    | inl e ↦ rw e (ratio_itself ts ys n k)
     | inr l ↦ ratios_transitive ts ys n j k p pj pk h.positive (h.least j l pj)
         (nonneg_of (suc n) (ratio_gap ts ys p k) less)
   ];

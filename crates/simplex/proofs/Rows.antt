@@ -1,12 +1,12 @@
 -- The rows of a lawful program are few, and their numbers fit.
-use Rattle.std.proofs.Common.{◌≡◌, ℕ, ◌+◌, ◌*◌, ◌<◌, ◌≤◌, arith, sym, subst}
+use Rattle.std.proofs.Common.{◌≡◌, ℕ, ◌+◌, ◌*◌, ◌<◌, ◌≤◌, arith}
 use mir.Syntax.{w64}
 use mir.Val.{Fits}
 use Rattle.definitions.specs.Programs.{Program}
 use Rattle.simplex.specs.Laws.{IsLawful}
 
 pub few_rows : {players : ℕ} (P : Program) (n : ℕ) → IsLawful players P → n ≡ P.rows → n ≤ 31
-few_rows P n l e = subst (λ (t : ℕ). t ≤ 31) (sym e) l.rows_few
+few_rows P n l e = rw e l.rows_few
 
 pub within_32 : (n : ℕ) → n ≤ 31 → n ≤ 32
 within_32 n h = omega arith

@@ -1,7 +1,6 @@
 -- Cases of numbers, and what a sign says.
 use Rattle.std.proofs.Common.{◌≡◌, ◌≢◌, ℕ, ◌-◌, ◌<◌, Some, None, arith, refl, ℤ}
-use Rattle.std.proofs.Common.{pos, negsuc, ◌<ℤ◌, ◌≤ℤ◌}
-use Rattle.std.proofs.Common.{unsigned_abs, ◌-ℤ◌}
+use Rattle.std.proofs.Common.{pos, negsuc, ◌<ℤ◌, ◌≤ℤ◌, unsigned_abs, ◌-ℤ◌}
 use Rattle.std.proofs.lemmas.Int.{ints}
 use Rattle.definitions.proofs.Ring.{linear}
 

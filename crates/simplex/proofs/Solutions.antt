@@ -1,9 +1,7 @@
 -- The weights of a basis solve the program, and a direction of its second part is a ray.
 use Rattle.std.proofs.Common.{◌≡◌, ◌≢◌, ℕ, zero, suc, ◌-◌, ◌<◌, false, IsTrue, List}
-use Rattle.std.proofs.Common.{◌∷◌}
-use Rattle.std.proofs.Common.{nat_eq, Option, Some, None, arith, refl, sym, ap, subst, ◌∙◌}
-use Rattle.std.proofs.Common.{ℤ}
-use Rattle.std.proofs.Common.{pos, ◌+ℤ◌, ◌-ℤ◌, ◌*ℤ◌, neg_ℤ, ◌<ℤ◌, ◌≤ℤ◌}
+use Rattle.std.proofs.Common.{◌∷◌, nat_eq, Option, Some, None, arith, refl, sym, ap, subst}
+use Rattle.std.proofs.Common.{◌∙◌, ℤ, pos, ◌+ℤ◌, ◌-ℤ◌, ◌*ℤ◌, neg_ℤ, ◌<ℤ◌, ◌≤ℤ◌}
 use Rattle.std.specs.List.{AllByRecursion, IsDistinct}
 use Rattle.std.proofs.lemmas.Int.{ints}
 use Rattle.definitions.proofs.Ring.{unit_laws, linear, mul-oneℤ, mul-zeroℤ}
@@ -21,7 +19,7 @@ use Rattle.simplex.specs.Improving.{part_cost, AreMultipliersOf, IsImproving, Ha
 use Rattle.simplex.specs.Laws.{first_columns}
 use Rattle.simplex.specs.Program.{column, right_side}
 use Rattle.simplex.specs.Reduced.{listed}
-use Rattle.simplex.specs.Tableau.{id_at, IsId, place, placed, IsInverse}
+use Rattle.simplex.specs.Tableau.{id_at, place, placed, IsInverse}
 use Rattle.simplex.proofs.DotProducts.{flipped_at, flipped_within, dot_comm}
 use Rattle.simplex.proofs.Ends.{first_nonneg, neg_le, objective_right}
 use Rattle.simplex.proofs.FreshRows.{dot_negated, own_at}
@@ -36,16 +34,12 @@ use Rattle.definitions.proofs.Cancel.{gap_of}
 
 dot_products : (n : ℕ) (a b s t : ℕ → ℤ) → ((k : ℕ) → k < n → a k *ℤ s k ≡ b k *ℤ t k) → dot n a s ≡ dot n b t
 dot_products zero a b s t h = refl
-dot_products (suc n) a b s t h =
-    ap (λ (z : ℤ). z +ℤ a n *ℤ s n) (dot_products n a b s t (λ k lt. h k (omega arith)))
-    ∙ ap (λ (z : ℤ). dot n b t +ℤ z) (h n (omega arith))
+dot_products (suc n) a b s t h = cc (dot_products n a b s t (λ k lt. h k (omega arith)), h n (omega arith))
 
 weigh_cols : (n : ℕ) (f : ℕ → Column) (w : ℕ → ℤ) (i : ℕ)
     → weigh (λ c. c i) w (first_columns n f) ≡ dot n w (λ k. f k i)
 weigh_cols zero f w i = refl
-weigh_cols (suc n) f w i =
-    ap (λ (z : ℤ). w 0 *ℤ f 0 i +ℤ z) (weigh_cols n (λ k. f (suc k)) (λ k. w (suc k)) i)
-    ∙ sym (dot_front n w (λ k. f k i))
+weigh_cols (suc n) f w i = cc (weigh_cols n (λ k. f (suc k)) (λ k. w (suc k)) i, dot_front n w (λ k. f k i))
 
 flipped_twice : (n i : ℕ) → i < n → n - 1 - (n - 1 - i) ≡ i
 flipped_twice n i lt = omega arith
@@ -57,8 +51,7 @@ on_place : (P : Program) (k : ℕ) (o : Option ℕ) (w : ℤ) (i : ℕ) → i < 
     → w *ℤ place P k o (P.rows - 1 - i) ≡ w *ℤ on_id (λ id. P.entry id i) o
 on_place P k None w i lt h = both_zero w _ _ (h refl)
 on_place P k (Some id) w i lt h =
-    ap (λ (z : ℤ). w *ℤ z)
-    (flipped_at P.rows (P.entry id) (P.rows - 1 - i) (flipped_below P.rows i lt)
+    ap (λ (z : ℤ). w *ℤ z) (flipped_at P.rows (P.entry id) (P.rows - 1 - i) (flipped_below P.rows i lt)
     ∙ ap (P.entry id) (flipped_twice P.rows i lt))
 
 -- d times an entry of a column is the sum of the basis's entries with the column's weights, if the added units have
@@ -82,29 +75,27 @@ spread P s c w h within w_is none i lt =
 -- ---- no column stands at two positions of a basis
 -- d times u and d times v, where u is 1 and v is 0
 both_ways : (d a u v : ℤ) → a ≡ d *ℤ u → a ≡ d *ℤ v → u ≡ pos 1 → v ≡ pos 0 → d ≡ pos 0
-both_ways d a u v e f p q =
-    sym (mul-oneℤ d) ∙ ap (λ (z : ℤ). d *ℤ z) (sym p) ∙ sym e ∙ f ∙ ap (λ (z : ℤ). d *ℤ z) q ∙ mul-zeroℤ d
+both_ways d a u v e f p q = cc (mul-oneℤ d, mul-zeroℤ d)
 
 -- the weight at position k of the column at position j
 own_weight : (P : Program) (s : State) (id j k : ℕ) → IsInverse P s
     → j < P.rows → k < P.rows → id_at s.ids j ≡ Some id
     → dot P.rows (entry_at 32 s.inverse k) (column P id) ≡ s.den *ℤ unit j k
 own_weight P s id j k h jn kn e =
-    sym (ap (λ (o : Option ℕ). dot P.rows (entry_at 32 s.inverse k) (place P j o)) e)
-    ∙ own_at P.rows h.sign (placed P s.ids) s.den (entry_at 32 s.inverse) k j h.basis
-    (of_within P (placed P s.ids j) (place_of P j (id_at s.ids j) (h.ids_of j jn) jn)) kn jn
+    let one =
+    own_at P.rows h.sign (placed P s.ids) s.den (entry_at 32 s.inverse) k j h.basis
+    (of_within P (placed P s.ids j) (place_of P j (id_at s.ids j) (h.ids_of j jn) jn)) kn jn in
+    cc
 
 pub ids_apart : (P : Program) (s : State) → IsInverse P s → (j k id : ℕ)
     → j < P.rows → k < P.rows → j ≢ k → id_at s.ids j ≡ Some id → id_at s.ids k ≡ Some id → ⊥
 ids_apart P s h j k id jn kn ne e f =
-    h.basis.apart
-    (both_ways s.den (dot P.rows (entry_at 32 s.inverse k) (column P id)) (unit k k) (unit j k)
-    (own_weight P s id k k h kn kn f) (own_weight P s id j k h jn kn e) (unit_same k)
-    (unit_other j k ne))
+    h.basis.apart (both_ways s.den (dot P.rows (entry_at 32 s.inverse k) (column P id)) (unit k k) (unit j k)
+    (own_weight P s id k k h kn kn f) (own_weight P s id j k h jn kn e) (unit_same k) (unit_other j k ne))
 
 pub is_column_at : (P : Program) (s : State) → IsInverse P s → (j id : ℕ)
     → j < P.rows → id_at s.ids j ≡ Some id → IsTrue (P.is_column id)
-is_column_at P s h j id lt e = subst (IsId P) e (h.ids_of j lt)
+is_column_at P s h j id lt e = rw e at (h.ids_of j lt)
 
 -- a column of the basis has a positive weight at its own position
 positive_weight : (d a u : ℤ) → a ≡ d *ℤ u → u ≡ pos 1 → pos 0 <ℤ d → a ≤ℤ pos 0 → ⊥
@@ -129,12 +120,10 @@ module _ (P : Program) (s : State) (st : IsImproving P Second s) where
       → dot P.rows (λ k. entry_at 32 s.tracked k 0) (λ k. on_id (λ id. P.entry id i) (id_at s.ids k))
       ≡ s.den *ℤ P.right i
   right_rows i lt =
-      spread P s (right_side P) (λ k. entry_at 32 s.tracked k 0) st.table.inverse
-      (flipped_within P.rows P.right)
-      (λ k l. st.table.tracked.tracked k 0 l (omega arith)) right_clear i lt
-      ∙ ap (λ (z : ℤ). s.den *ℤ z)
-      (flipped_at P.rows P.right (P.rows - 1 - i) (flipped_below P.rows i lt)
-      ∙ ap P.right (flipped_twice P.rows i lt))
+      let one =
+      spread P s (right_side P) (λ k. entry_at 32 s.tracked k 0) st.table.inverse (flipped_within P.rows P.right)
+      (λ k l. st.table.tracked.tracked k 0 l (omega arith)) right_clear i lt in
+      cc (flipped_at P.rows P.right (P.rows - 1 - i) (flipped_below P.rows i lt), flipped_twice P.rows i lt)
 
   pub right_nonneg : (k : ℕ) → k < P.rows → pos 0 ≤ℤ entry_at 32 s.tracked k 0
   right_nonneg k lt = first_nonneg (entry_at 32 s.tracked k 0) (st.nonneg.rows k lt)
@@ -173,9 +162,7 @@ module _ (P : Program) (s : State) (st : IsImproving P Second s) where
   direction_new : (r : HasDirection P Second s) (j id : ℕ) → j < P.rows → id_at s.ids j ≡ Some id → r.id ≢ id
   direction_new r j id lt e same =
       positive_weight s.den (dot P.rows (entry_at 32 s.inverse j) (column P r.id)) (unit j j)
-      (ap (λ (t : ℕ). dot P.rows (entry_at 32 s.inverse j) (column P t)) same
-      ∙ own_weight P s id j j st.table.inverse lt lt e) (unit_same j) st.table.positive
-      (r.lowers j lt)
+      (cc (own_weight P s id j j st.table.inverse lt lt e)) (unit_same j) st.table.positive (r.lowers j lt)
 
   pub has_ray : HasDirection P Second s → HasRay P
   unfolding IsDistinct
@@ -199,18 +186,14 @@ module _ (P : Program) (s : State) (st : IsImproving P Second s) where
             ∙ dot_negated P.rows y m (λ k. on_id (λ id. P.entry id i) (id_at s.ids k)) (λ k l. refl))
             ∙ gap_of (s.den *ℤ P.entry r.id i) (dot P.rows y (λ k. on_id (λ id. P.entry id i) (id_at s.ids k)))
             (sym
-            (spread P s entering y st.table.inverse (flipped_within P.rows (P.entry r.id))
-            (λ k l. refl)
-            (λ k l h. (st.silent refl k l h).columns r.id r.is_column) i lt
-            ∙ ap (λ (z : ℤ). s.den *ℤ z)
-            (flipped_at P.rows (P.entry r.id) (P.rows - 1 - i) (flipped_below P.rows i lt)
-            ∙ ap (P.entry r.id) (flipped_twice P.rows i lt)))),
-        subst (λ (z : ℤ). pos 1 ≤ℤ z)
-            (sym
-            (ap (λ (z : ℤ). s.den *ℤ P.cost r.id +ℤ z)
+            (let one = spread P s entering y st.table.inverse (flipped_within P.rows (P.entry r.id)) (λ k l. refl)
+            (λ k l h. (st.silent refl k l h).columns r.id r.is_column) i lt in
+            let three = flipped_at P.rows (P.entry r.id) (P.rows - 1 - i) (flipped_below P.rows i lt) in
+            cc (flipped_twice P.rows i lt))),
+        rw (ap (λ (z : ℤ). s.den *ℤ P.cost r.id +ℤ z)
             (listed_sum P.cost s.ids m P.rows lowered
             ∙ dot_negated P.rows y m (λ k. on_id P.cost (id_at s.ids k)) (λ k l. refl)
-            ∙ ap neg_ℤ (cost_sum y))))
+            ∙ ap neg_ℤ (cost_sum y)))
             (above_by_one (s.den *ℤ P.cost r.id) (dot P.rows (weight_at s.costs) y) r.above),
       )
 

@@ -9,7 +9,7 @@ use Rattle.nested_programs.proofs.level.earlier_numbers.Goals as goal
 pub put_level-requires-clause-small : goal.put_level-requires-clause-small
 put_level-requires-clause-small c =
     let few = earlier_few 0 c.args.front.now c.requires.small in
-    omega (arith, few, c.requires.few, c.loop-level.invariant.1)
+    omega arith
 
 pub overflow_add-id : goal.overflow_add-id
 overflow_add-id c =
@@ -22,7 +22,7 @@ overflow_add-id c =
     let next =
     earlier_next front k c.loop-level.id l (omega (arith, c.loop-level-test.true)) c.loop-level.invariant.1 in
     let few = earlier_few 0 front c.requires.small in
-    omega (arith, here, next, few, c.requires.few)
+    omega arith
 
 pub loop-level-preserved : goal.loop-level-preserved
 loop-level-preserved c =

@@ -1,11 +1,9 @@
 use Rattle.std.proofs.Common.{◌≡◌, ℕ, ◌+◌, ◌*◌, length, get_or, ℤ, pos, to_z, of_z}
-use Rattle.std.proofs.Common.{ap, subst, ◌∙◌, arith}
+use Rattle.std.proofs.Common.{ap, ◌∙◌, arith}
 use Rattle.std.proofs.lemmas.Int.{ints}
 use mir.Syntax.{w128}
 use Rattle.fractions.specs.Fraction.{Fraction, IsRatio}
-use Rattle.separation.specs.Stage.{earlier_of}
-use Rattle.kohlberg.specs.Pairs.{placed}
-use Rattle.nested_programs.specs.Numbers.{first_single, outer_pairs, net, earlier_pairs, bound_pairs}
+use Rattle.nested_programs.specs.Numbers.{first_single, net}
 use Rattle.separation.proofs.Counts.{earlier_few}
 use Rattle.nested_programs.proofs.level.level_of.Goals as goal
 use Rattle.definitions.proofs.Casts.{cast_kept}
@@ -13,25 +11,25 @@ use Rattle.definitions.proofs.Casts.{cast_kept}
 pub overflow_mul-first : goal.overflow_mul-first
 overflow_mul-first c =
     let few = earlier_few 0 c.args.front.now c.requires.small in
-    omega (arith, few, c.coalition_count.ensures.value, c.requires.few, c.requires.levels)
+    omega arith
 
 pub overflow_add-first : goal.overflow_add-first
 overflow_add-first c =
     let few = earlier_few 0 c.args.front.now c.requires.small in
-    omega (arith, few, c.coalition_count.ensures.value, c.requires.few, c.requires.levels)
+    omega arith
 
 pub overflow_add-first-2 : goal.overflow_add-first-2
 overflow_add-first-2 c =
     let few = earlier_few 0 c.args.front.now c.requires.small in
-    omega (arith, few, c.coalition_count.ensures.value, c.requires.few, c.requires.levels, c.from.ensures)
+    omega arith
 
 pub bound_numbers-requires-clause-small : goal.bound_numbers-requires-clause-small
 bound_numbers-requires-clause-small c =
     let few = earlier_few 0 c.args.front.now c.requires.small in
-    omega (arith, few, c.coalition_count.ensures.value, c.requires.few, c.requires.levels)
+    omega arith
 
 same_ratio : (f : Fraction) (a a' b b' : ℤ) → a ≡ a' → b ≡ b' → IsRatio f a b → IsRatio f a' b'
-same_ratio f a a' b b' e h r = subst (λ (z : ℤ). IsRatio f z b') e (subst (λ (z : ℤ). IsRatio f a z) h r)
+same_ratio f a a' b b' e h r = rw e at (rw h at r)
 
 pub returns-clause-level : goal.returns-clause-level
 returns-clause-level c =
@@ -41,7 +39,7 @@ returns-clause-level c =
     let first : 2 + 2 * c.coalition_count.result ≡ first_single front =
     ap (λ (k : ℕ). 2 + 2 * k) c.coalition_count.ensures.value in
     let past : 2 + 2 * c.coalition_count.result + 2 * c.from.result ≡ first_single front + (c.args.n + c.args.n) =
-    omega (arith, c.coalition_count.ensures.value, c.from.ensures) in
+    omega arith in
     let best = c.args.best.now.multipliers in
     let place = c.args.n + length front in
     let optimum =
@@ -52,15 +50,9 @@ returns-clause-level c =
     record {
       excess =
           same_ratio c.ratio.result _ _ _ _ (ap (λ z. to_z w128 (of_z w128 z)) read ∙ optimum) den c.ratio.ensures;
-      coalitions =
-          c.in_ok-outer_numbers.ensures {u = tt} ∙ ap (λ (k : ℕ). placed (outer_pairs k ws)) past
-          ∙ ap (λ us. placed (outer_pairs (first_single front + (c.args.n + c.args.n)) us)) same;
-      earlier =
-          c.in_ok-earlier_numbers.ensures {u = tt} ∙ ap (λ us. placed (earlier_pairs us 2 (earlier_of 0 front))) same;
-      bounds =
-          c.in_ok-bound_numbers.ensures {u = tt} ∙ ap (λ (k : ℕ). bound_pairs ws k c.args.n c.args.n) first
-          ∙ ap (λ us. bound_pairs us (first_single front) c.args.n c.args.n) same;
+      coalitions = cc (c.in_ok-outer_numbers.ensures {u = tt});
+      earlier = cc (c.in_ok-earlier_numbers.ensures {u = tt});
+      bounds = cc (c.in_ok-bound_numbers.ensures {u = tt});
       total =
-          cast_kept w128 c.net_of.result (omega (arith, ints, c.net_of.ensures.small)) ∙ c.net_of.ensures.value
-          ∙ ap (λ us. net us 1 0) same;
+          cc (cast_kept w128 c.net_of.result (omega (arith, ints, c.net_of.ensures.small)), c.net_of.ensures.value);
     }

@@ -27,12 +27,10 @@ loop-k-preserved c =
     same ∙ c.net_of-number.ensures.value in
     elim c.if-number-ne0.branch [
       | then-number-ne0+in_ok-put_pair w ↦
-          rw w.earlier-is
-          (rw w.in_ok-put_pair.ensures
+          rw w.earlier-is (rw w.in_ok-put_pair.ensures
           (level_put ws _ c.loop-k.earlier.items first pairs k w.index-pairs-k.result _ lt is
           (apart_kept _ same w.if-number-ne0.true) c.loop-k.invariant))
       | else-number-ne0 w ↦
-          rw w.earlier-is
-          (level_skip ws _ c.loop-k.earlier.items first pairs k (0, pos 0) _ lt is
+          rw w.earlier-is (level_skip ws _ c.loop-k.earlier.items first pairs k (0, pos 0) _ lt is
           (zero_kept _ same w.if-number-ne0.false) c.loop-k.invariant)
     ]

@@ -22,6 +22,4 @@ loop-other-preserved c =
 
 pub returns-clause-value : goal.returns-clause-value
 returns-clause-value c =
-    sym
-    (number_none c.args.weights.now (0, pos 0) c.args.id
-    (λ j lt. c.loop-other.invariant j (omega (arith, lt, c.loop-other-test.false))))
+    sym (number_none c.args.weights.now (0, pos 0) c.args.id (λ j lt. c.loop-other.invariant j (omega arith)))

@@ -22,7 +22,7 @@ cast_same : (r : ℤ) → mag r < 2 ^ 63 → to_z w64 (of_z w64 r) ≡ r
 cast_same r h = to_z-of_z w64 r (sfits_lit (yes_ltb h))
 
 not_above : (a b s w : ℤ) → int_lt b a ≡ false → a ≡ s → b ≡ w → s ≤ℤ w
-not_above a b s w h e f = omega (arith, linear, h, e, f)
+not_above a b s w h e f = omega (arith, linear)
 
 of_low : (family : Family) (g : Game) → 1 ≤ g.players → singles g ≤ℤ g.worth (grand_coalition g.players)
     → HasMember family g

@@ -1,5 +1,5 @@
 use Rattle.std.proofs.Common.{◌≡◌, ◌+◌, ◌*◌, ◌^◌, ◌<◌, ◌≤◌, ℕ, suc, ℤ, ◌+ℤ◌}
-use Rattle.std.proofs.Common.{unsigned_abs, FitsSigned, to_z, of_z, arith, ap, ◌∙◌}
+use Rattle.std.proofs.Common.{unsigned_abs, FitsSigned, to_z, of_z, arith}
 use Rattle.std.proofs.lemmas.Int.{ints, fits_signed_from_abs}
 use Rattle.std.proofs.Math.Pow.{pow-lt}
 use mir.Syntax.{w64}
@@ -24,13 +24,13 @@ kept_more a b i ha lt hb = rw (cast_kept w64 b (omega arith)) (cast_kept w64 (a 
 next_sum : (f : ℕ → ℤ) (i : ℕ) (a b c : ℤ) → c ≡ a +ℤ b → a ≡ sum_below i f → b ≡ f i → c ≡ sum_below (i + 1) f
 next_sum f i a b c e is here =
     let next : suc i ≡ i + 1 = omega arith in
-    e ∙ ap (λ (z : ℤ). z +ℤ b) is ∙ ap (λ (z : ℤ). sum_below i f +ℤ z) here ∙ ap (λ (n : ℕ). sum_below n f) next
+    cc
 
 pub worth-sum-requires : goal.worth-sum-requires
 worth-sum-requires g c =
     let game = g.W.Worth.game c.args.game.now in
     let count = c.players-i-end.ensures.count in
-    let below : c.loop-i.i < game.players = omega (arith, count, c.loop-i-test.true) in
+    let below : c.loop-i.i < game.players = omega arith in
     rw c.single.ensures (pow-lt below)
 
 pub overflow_add-sum : goal.overflow_add-sum
@@ -38,9 +38,9 @@ overflow_add-sum g c =
     let game = g.W.Worth.game c.args.game.now in
     let count = c.players-i-end.ensures.count in
     let few = c.requires in
-    let below : c.loop-i.i < game.players = omega (arith, count, c.loop-i-test.true) in
+    let below : c.loop-i.i < game.players = omega arith in
     let small = c.players-i-end.ensures.laws.small (singleton c.loop-i.i) (pow-lt below) in
-    more_fits _ c.worth-sum.result c.loop-i.i c.loop-i.invariant.small (omega (arith, below, few))
+    more_fits _ c.worth-sum.result c.loop-i.i c.loop-i.invariant.small (omega arith)
     (rw (c.worth-sum.ensures, c.single.ensures) small)
 
 pub loop-i-preserved : goal.loop-i-preserved
@@ -48,13 +48,13 @@ loop-i-preserved g c =
     let game = g.W.Worth.game c.args.game.now in
     let count = c.players-i-end.ensures.count in
     let few = c.requires in
-    let below : c.loop-i.i < game.players = omega (arith, count, c.loop-i-test.true) in
+    let below : c.loop-i.i < game.players = omega arith in
     let is : c.worth-sum.result ≡ game.worth (singleton c.loop-i.i) = rw c.single.ensures at c.worth-sum.ensures in
     let small : unsigned_abs c.worth-sum.result < 2 ^ 46 =
     rw is (c.players-i-end.ensures.laws.small (singleton c.loop-i.i) (pow-lt below)) in
     let e =
     kept_more (to_z w64 c.loop-i.sum-bits) c.worth-sum.result c.loop-i.i c.loop-i.invariant.small
-    (omega (arith, below, few)) small in
+    (omega arith) small in
     record {
       is =
           next_sum (λ i. game.worth (singleton i)) c.loop-i.i (to_z w64 c.loop-i.sum-bits) c.worth-sum.result _ e
@@ -67,5 +67,5 @@ pub returns : goal.returns
 returns g c =
     let game = g.W.Worth.game c.args.game.now in
     let count = c.players-i-end.ensures.count in
-    let full : c.loop-i.i ≡ game.players = omega (arith, count, c.loop-i-test.false, c.loop-i.auto.i-end) in
-    c.loop-i.invariant.is ∙ ap (λ (n : ℕ). sum_below n (λ i. game.worth (singleton i))) full
+    let full : c.loop-i.i ≡ game.players = omega arith in
+    cc (c.loop-i.invariant.is)

@@ -1,18 +1,14 @@
-use Rattle.std.proofs.Common.{◌≡◌, ℕ, ◌≤◌, List, [], ◌∷◌, ◌++◌, length, Some, sym}
+use Rattle.std.proofs.Common.{◌≡◌, ℕ, List, [], ◌∷◌, ◌++◌, sym}
 use Rattle.std.proofs.Common.{ap, subst, ◌∙◌, arith}
-use Rattle.std.specs.List.{AllByRecursion}
 use Rattle.definitions.specs.Coalitions.{grand_coalition}
-use Rattle.definitions.specs.Certificates.{Level, IsAllFixed}
-use Rattle.definitions.specs.declared.Mode.TheVariants.{Span}
+use Rattle.definitions.specs.Certificates.{Level}
 use Rattle.spans.specs.Span.{SpanData}
-use Rattle.kohlberg.specs.Extends.{SpansFixed}
-use Rattle.nested_programs.specs.Stage.{stage_of, with_front}
+use Rattle.nested_programs.specs.Stage.{stage_of}
 use Rattle.nested_programs.specs.Numbers.{IsLevelOf}
-use Rattle.nested_programs.specs.Stages.{IsBest, IsLeft, IsBounded, AreUnderway}
+use Rattle.nested_programs.specs.Stages.{IsBest, IsLeft, IsBounded}
 use Rattle.nested_programs.proofs.StageSteps.{next_formed, underway_more, kept_grown}
-use Rattle.nested_programs.proofs.StageLoop.{underway_at_start, left_of, room_of}
-use Rattle.nested_programs.proofs.StageLoop.{all_fixed_at_end, forms_few, new_only}
-use Rattle.nested_programs.proofs.StageLoop.{best_at, level_at, extends_at, within_at, done_where_fixed}
+use Rattle.nested_programs.proofs.StageLoop.{underway_at_start, left_of, room_of, all_fixed_at_end, forms_few}
+use Rattle.nested_programs.proofs.StageLoop.{new_only, best_at, level_at, extends_at, within_at, done_where_fixed}
 use Rattle.nested_programs.proofs.stages.all_stages.Goals as goal
 use Rattle.kohlberg.proofs.SpanScan.{level_within}
 
@@ -33,10 +29,8 @@ best_of-requires-clause-left g c =
     let n = c.loop-last.invariant.0 in
     let levels = c.loop-last.levels.items in
     let least =
-    c.first_unspanned.ensures.least levels
-    (subst (λ (k : ℕ). SpansFixed k c.loop-last.span.kept levels) (sym n) c.loop-last.invariant.2.spans) in
-    subst (λ (k : ℕ). IsLeft k c.deref.result.now) n
-    (subst (IsLeft c.players-n.result) (sym c.deref.ensures.value)
+    c.first_unspanned.ensures.least levels (rw n c.loop-last.invariant.2.spans) in
+    subst (λ (k : ℕ). IsLeft k c.deref.result.now) n (rw c.deref.ensures.value
     (left_of c.players-n.result levels c.first_unspanned.result c.is_some.result c.is_some.ensures
     c.loop-last-test.true least))
 
@@ -49,8 +43,7 @@ best_of-requires-clause-bounded g c =
 pub level_of-requires-clause-small : goal.level_of-requires-clause-small
 level_of-requires-clause-small g c =
     let game = g.W.Worth.game c.args.game.now in
-    subst (λ (ls : List Level). AllByRecursion (λ l. length l.coalitions ≤ 65536) ls)
-    (sym c.deref-in-loop-last.ensures.value)
+    rw c.deref-in-loop-last.ensures.value
     (forms_few game.players [] c.loop-last.levels.items c.loop-last.invariant.2.form)
 
 pub add_levels-requires-clause-within : goal.add_levels-requires-clause-within
@@ -74,8 +67,7 @@ add_levels-requires-clause-within g c =
     let slice =
     new_only levels c.deref-in-loop-last-2.result.now l c.len-k.result
     (c.deref-in-loop-last-2.ensures.value ∙ pushed) (c.len-k.ensures ∙ c.loop-last.levels.ok.0) in
-    let form =
-    next_formed q kept c.loop-last.last b l c.requires.few (rw n at room) under best is in
+    let form = next_formed q kept c.loop-last.last b l c.requires.few (rw n at room) under best is in
     within_at c.loop-last.span.players game.players _ l (c.loop-last.invariant.1 ∙ n) slice
     (level_within game.players levels l form)
 
@@ -103,9 +95,8 @@ loop-last-smaller g c =
     let extends =
     extends_at c.loop-last.span.players game.players kept c.add_levels.new.span.kept _ (l ∷ [])
     (c.loop-last.invariant.1 ∙ n) slice c.add_levels.ensures.extends in
-    let grow =
-    kept_grown q kept c.add_levels.new.span.kept b l best is under.spans extends in
-    omega (arith, room, grow)
+    let grow = kept_grown q kept c.add_levels.new.span.kept b l best is under.spans extends in
+    omega arith
 
 pub loop-last-preserved : goal.loop-last-preserved
 loop-last-preserved g c =
@@ -136,7 +127,7 @@ loop-last-preserved g c =
     c.in_ok-level_of.ensures.lowest extends in (
       n,
       c.add_levels.ensures.players ∙ c.loop-last.invariant.1,
-      subst (λ ls. AreUnderway (with_front q ls) c.add_levels.new.span.kept (Some b.multipliers)) (sym pushed) more,
+      rw pushed more,
     )
 
 pub returns : goal.returns
@@ -145,10 +136,8 @@ returns g c =
     let n = c.loop-last.invariant.0 in
     let levels = c.loop-last.levels.items in
     let least =
-    c.first_unspanned.ensures.least levels
-    (subst (λ (k : ℕ). SpansFixed k c.loop-last.span.kept levels) (sym n) c.loop-last.invariant.2.spans) in
+    c.first_unspanned.ensures.least levels (rw n c.loop-last.invariant.2.spans) in
     done_where_fixed (stage_of c.args.family c.args.measure game levels) c.loop-last.span.kept c.loop-last.last
-    c.loop-last.invariant.2
-    (subst (λ (k : ℕ). IsAllFixed Span k levels) n
+    c.loop-last.invariant.2 (rw n at
     (all_fixed_at_end c.players-n.result levels c.first_unspanned.result c.is_some.result c.is_some.ensures
     c.loop-last-test.false least))

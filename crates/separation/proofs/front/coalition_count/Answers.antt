@@ -14,7 +14,7 @@ overflow_add-count c =
     ∙ ap (λ (v : Level). length v.coalitions) (c.level.view_is ∙ c.level-item.is) in
     let step = one_level_more levels k c.loop-level.count l lt c.loop-level.invariant in
     let few = earlier_few 0 levels c.requires.small in
-    omega (arith, here, step, few, c.requires.few)
+    omega arith
 
 pub loop-level-preserved : goal.loop-level-preserved
 loop-level-preserved c =
@@ -30,4 +30,4 @@ loop-level-preserved c =
 pub returns-clause-small : goal.returns-clause-small
 returns-clause-small c =
     let few = earlier_few 0 c.args.levels.now c.requires.small in
-    omega (arith, few, c.loop-level.invariant, c.requires.few)
+    omega arith

@@ -1,7 +1,5 @@
-use Rattle.std.proofs.Common.{◌≡◌, ◌+◌, ◌-◌, ◌*◌, ◌<◌, ◌≤◌, ◌^◌, ℕ, ℤ, List}
-use Rattle.std.proofs.Common.{length, map}
-use Rattle.std.proofs.Common.{drop, get_or, ap, sym, subst, ◌∙◌, arith}
-use Rattle.std.specs.List.{AllByRecursion}
+use Rattle.std.proofs.Common.{◌≡◌, ◌+◌, ◌-◌, ◌*◌, ◌<◌, ◌≤◌, ℕ, length, drop, get_or}
+use Rattle.std.proofs.Common.{ap, sym, subst, ◌∙◌, arith}
 use Rattle.definitions.proofs.Alls.{all_at}
 use Rattle.definitions.specs.Certificates.{Level}
 use Rattle.separation.specs.Stage.{earlier_of}
@@ -21,14 +19,10 @@ returns-then-rest-twice g c =
     let here : c.len.result ≡ length (get_or levels k l).coalitions =
     c.len.ensures ∙ c.level.inside.coalitions.ok.0
     ∙ ap (λ (v : Level). length v.coalitions) (c.level.view_is ∙ c.index-levels-k.is) in
-    let less : c.loop-k.rest < 2 * length (get_or levels k l).coalitions =
-    omega (arith, here, c.if-rest-twice.true) in
+    let less : c.loop-k.rest < 2 * length (get_or levels k l).coalitions = omega arith in
     let pairs : c.deref.result.now ≡ (get_or levels k l).coalitions =
     c.deref.ensures.value ∙ ap (λ (v : Level). v.coalitions) (c.level.view_is ∙ c.index-levels-k.is) in
-    c.of_level.ensures
-    ∙ ap (λ (ps : List (ℕ × ℤ)). column_at (earlier_columns game (map (λ p. (p.0, k)) ps)) c.loop-k.rest) pairs
-    ∙ sym (level_here game levels k l lt c.loop-k.rest less)
-    ∙ sym c.loop-k.invariant
+    cc (c.of_level.ensures, level_here game levels k l lt c.loop-k.rest less, c.loop-k.invariant)
 
 pub loop-k-preserved : goal.loop-k-preserved
 loop-k-preserved g c =
@@ -40,8 +34,7 @@ loop-k-preserved g c =
     let here : c.len.result ≡ length (get_or levels k l).coalitions =
     c.len.ensures ∙ c.level.inside.coalitions.ok.0
     ∙ ap (λ (v : Level). length v.coalitions) (c.level.view_is ∙ c.index-levels-k.is) in
-    let past : 2 * length (get_or levels k l).coalitions ≤ c.loop-k.rest =
-    omega (arith, here, c.if-rest-twice.false) in
+    let past : 2 * length (get_or levels k l).coalitions ≤ c.loop-k.rest = omega arith in
     c.loop-k.invariant
     ∙ level_past game levels k l lt c.loop-k.rest past
     ∙ ap
@@ -56,8 +49,8 @@ overflow_mul-twice g c =
     subst (IsSmallLevel n) (sym c.index-levels-k.is)
     (all_at (IsSmallLevel n) c.args.levels.now c.loop-k.k l c.loop-k-test.true c.requires.within) in
     let here : c.len.result ≡ length l.coalitions =
-    c.len.ensures ∙ c.level.inside.coalitions.ok.0 ∙ ap (λ (v : Level). length v.coalitions) c.level.view_is in
-    omega (arith, here, small.0)
+    cc (c.len.ensures, c.level.inside.coalitions.ok.0, c.level.view_is) in
+    omega arith
 
 pub of_level-requires-clause-within : goal.of_level-requires-clause-within
 of_level-requires-clause-within g c =
@@ -66,19 +59,17 @@ of_level-requires-clause-within g c =
     let small =
     subst (IsSmallLevel n) (sym c.index-levels-k.is)
     (all_at (IsSmallLevel n) c.args.levels.now c.loop-k.k l c.loop-k-test.true c.requires.within) in
-    let pairs : c.deref.result.now ≡ l.coalitions =
-    c.deref.ensures.value ∙ ap (λ (v : Level). v.coalitions) c.level.view_is in
-    subst (AllByRecursion (λ (p : ℕ × ℤ). p.0 < 2 ^ n)) (sym pairs) small.1
+    let pairs : c.deref.result.now ≡ l.coalitions = cc (c.deref.ensures.value, c.level.view_is) in
+    rw pairs small.1
 
 pub of_level-requires-clause-place : goal.of_level-requires-clause-place
 of_level-requires-clause-place g c =
     let l = c.index-levels-k.result in
     let here : c.len.result ≡ length l.coalitions =
     c.len.ensures ∙ c.level.inside.coalitions.ok.0 ∙ ap (λ (v : Level). length v.coalitions) c.level.view_is in
-    let pairs : c.deref.result.now ≡ l.coalitions =
-    c.deref.ensures.value ∙ ap (λ (v : Level). v.coalitions) c.level.view_is in
-    let less : c.loop-k.rest < 2 * length l.coalitions = omega (arith, here, c.if-rest-twice.true) in
-    subst (λ (ps : List (ℕ × ℤ)). c.loop-k.rest < 2 * length ps) (sym pairs) less
+    let pairs : c.deref.result.now ≡ l.coalitions = cc (c.deref.ensures.value, c.level.view_is) in
+    let less : c.loop-k.rest < 2 * length l.coalitions = omega arith in
+    rw pairs less
 
 pub returns : goal.returns
 returns g c =

@@ -1,6 +1,5 @@
-use Rattle.std.proofs.Common.{◌≡◌, ◌<◌, ◌^◌, ℕ, Bool, true}
-use Rattle.std.proofs.Common.{false, Option, ℤ, ◌<ℤ◌, ◌*ℤ◌}
-use Rattle.std.proofs.Common.{unsigned_abs, to_z, of_z, ap, subst, ◌∙◌, arith}
+use Rattle.std.proofs.Common.{◌≡◌, ◌<◌, ◌^◌, ℕ, Bool, true, false, Option, ℤ, ◌<ℤ◌}
+use Rattle.std.proofs.Common.{◌*ℤ◌, unsigned_abs, to_z, of_z, ap, ◌∙◌, arith}
 use Rattle.std.proofs.lemmas.Int.{ints}
 use mir.Syntax.{w64, w128}
 use lib.Signed.{lt_z, mag}
@@ -16,23 +15,20 @@ use Rattle.separation.proofs.in_front.first_of_both.Goals as goal
 -- tests of two numbers of 128 bits
 less : (a b x y : ℤ) → mag a < 2 ^ 127 → mag b < 2 ^ 127 → a ≡ x → b ≡ y
     → lt_z (to_z w128 (of_z w128 a)) (to_z w128 (of_z w128 b)) ≡ true → x <ℤ y
-less a b x y ha hb e f t =
-    rw (← e, ← f) (let h = rw (kept a ha, kept b hb) at t in omega (arith, ints, h))
+less a b x y ha hb e f t = rw (← e, ← f) (let h = rw (kept a ha, kept b hb) at t in omega (arith, ints, h))
 
 not_less : (a b x y : ℤ) → mag a < 2 ^ 127 → mag b < 2 ^ 127 → a ≡ x → b ≡ y
     → lt_z (to_z w128 (of_z w128 a)) (to_z w128 (of_z w128 b)) ≡ false → ¬ (x <ℤ y)
 not_less a b x y ha hb e f t =
-    rw (← e, ← f)
-    (let h = rw (kept a ha, kept b hb) at t in λ lt. omega (arith, ints, h, lt))
+    rw (← e, ← f) (let h = rw (kept a ha, kept b hb) at t in λ lt. omega (arith, ints))
 
 -- what the worth of a coalition counts for, over the denominator
 cost_is : (g : Game) (n s : ℕ) (level : Option ℕ) (column : Column) (den : ℤ) (w : Bool) → IsGame g → n ≡ g.players
     → s < 2 ^ n → column ≡ plain g s level
     → den *ℤ counted w (to_z w64 (of_z w64 column.cost)) ≡ den *ℤ counted w (g.worth s)
 cost_is g n s level column den w game same within is =
-    let small : unsigned_abs (g.worth s) < 2 ^ 46 = game.small s (subst (λ (t : ℕ). s < 2 ^ t) same within) in
-    ap (λ (c : Column). den *ℤ counted w (to_z w64 (of_z w64 c.cost))) is
-    ∙ ap (λ (z : ℤ). den *ℤ counted w z) (cast_kept w64 (g.worth s) (omega arith))
+    let small : unsigned_abs (g.worth s) < 2 ^ 46 = game.small s (rw same at within) in
+    cc (cast_kept w64 (g.worth s) (omega arith))
 
 pub returns-then-cost-value : goal.returns-then-cost-value
 returns-then-cost-value g c =
@@ -45,7 +41,7 @@ returns-then-cost-value g c =
     c.bar-cost.ensures
     ∙ cost_is game p.players c.args.s c.args.level c.plain-column.result m.den scan.with_costs p.laws p.count
     c.requires.within c.plain-column.ensures in
-    second_up p.measure m.num.items m.den p.players scan.with_costs game c.args.s c.args.level
+    second_up c.args.scan.now c.args.s c.args.level
     (not_less _ _ _ _ c.value-value.type_inv c.bar-cost.type_inv value cost c.if-value-cost.false)
     (less _ _ _ _ c.bar-cost.type_inv c.value-value.type_inv cost value c.if-cost-value.true)
 
@@ -60,6 +56,6 @@ returns-else-cost-value g c =
     c.bar-cost.ensures
     ∙ cost_is game p.players c.args.s c.args.level c.plain-column.result m.den scan.with_costs p.laws p.count
     c.requires.within c.plain-column.ensures in
-    none_up p.measure m.num.items m.den p.players scan.with_costs game c.args.s c.args.level
+    none_up c.args.scan.now c.args.s c.args.level
     (not_less _ _ _ _ c.value-value.type_inv c.bar-cost.type_inv value cost c.if-value-cost.false)
     (not_less _ _ _ _ c.bar-cost.type_inv c.value-value.type_inv cost value c.if-cost-value.false)

@@ -6,6 +6,5 @@ use Rattle.separation.proofs.in_front.first_of_level.Given as goal
 
 abbrev pub invariant-loop-j : goal.invariant-loop-j
 invariant-loop-j g l =
-    Decide l.scan.program.now.measure l.scan.m.now.num.items l.scan.m.now.den l.scan.program.now.players
-    l.scan.with_costs (earlier_columns (game_of l.scan) (map (λ c. (c.0, l.k)) l.pairs)) (2 * l.j)
+    Decide l.scan (earlier_columns (game_of l.scan) (map (λ c. (c.0, l.k)) l.pairs)) (2 * l.j)
     (earlier_columns (game_of l.scan) (map (λ c. (c.0, l.k)) (drop l.j l.pairs)))

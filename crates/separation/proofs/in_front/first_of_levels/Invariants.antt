@@ -9,7 +9,6 @@ abbrev pub invariant-loop-k : goal.invariant-loop-k
 invariant-loop-k g l =
     record {
       few : l.passed ≤ 131072 * l.k;
-      rest : Decide l.scan.program.now.measure l.scan.m.now.num.items l.scan.m.now.den l.scan.program.now.players
-          l.scan.with_costs (earlier_columns (game_of l.scan) (earlier_of 0 l.levels)) l.passed
+      rest : Decide l.scan (earlier_columns (game_of l.scan) (earlier_of 0 l.levels)) l.passed
           (earlier_columns (game_of l.scan) (earlier_of l.k (drop l.k l.levels)));
     }

@@ -1,12 +1,11 @@
-use Rattle.std.proofs.Common.{◌≡◌, ℕ, ◌+◌, ◌*◌, ◌%◌, ◌^◌, arith, rules, sym, subst, ◌∙◌}
+use Rattle.std.proofs.Common.{◌≡◌, ℕ, ◌+◌, ◌*◌, ◌%◌, ◌^◌, arith, rules, subst, ◌∙◌}
 use Rattle.std.proofs.Common.{ℤ, pos, ◌<ℤ◌, ◌≤ℤ◌, slice_index_or, to_z, of_z, true, false}
 use Rattle.std.proofs.lemmas.Int.{ints}
 use lib.Signed.{lt_z}
 use Rattle.definitions.proofs.Ring.{linear}
 use mir.Syntax.{w64}
 use Rattle.definitions.proofs.Casts.{cast_kept}
-use Rattle.separation.specs.Peaks.{IsLeast}
-use Rattle.separation.specs.Scanned.{CoalitionRises, IsHighestIn, gap_in}
+use Rattle.separation.specs.Scanned.{CoalitionRises, gap_in}
 use Rattle.separation.proofs.Picked.{highest_is_most}
 use Rattle.separation.proofs.SmallPeaks.{least_small}
 use Rattle.separation.proofs.narrow.best_in_64.Goals as goal
@@ -18,9 +17,7 @@ loop-place-preserved g c =
     record {
       base = c.highest_of_word-best.ensures.base ∙ inv.base;
       highest =
-          subst
-          (λ (t : ℕ). IsHighestIn c.args.scan.now (256 * c.args.block) t c.highest_of_word-best.result) next
-          (c.highest_of_word-best.ensures.highest (256 * c.args.block) inv.highest);
+          rw next at (c.highest_of_word-best.ensures.highest (256 * c.args.block) inv.highest);
     }
 
 pub highest_of_word-best-requires-clause-least : goal.highest_of_word-best-requires-clause-least
@@ -28,8 +25,7 @@ highest_of_word-best-requires-clause-least g c =
     let q = c.loop-place.place % 4 in
     let is = c.args.sums.now.least_is q (omega arith) in
     let small = least_small _ q _ (2 ^ 60) (omega arith) is c.requires.low in
-    subst (IsLeast c.args.sums.now.low.now q)
-    (sym (cast_kept w64 (slice_index_or c.args.sums.now.least q (pos 0)) (omega (arith, small)))) is
+    rw (cast_kept w64 (slice_index_or c.args.sums.now.least q (pos 0)) (omega (arith, small))) is
 
 -- what the machine compares
 less_is : (a b : ℤ) → lt_z a b ≡ true → a <ℤ b
@@ -45,13 +41,13 @@ returns-then-best g c =
     let kept_base : to_z w64 (of_z w64 best.base) ≡ best.base = search rules in
     let kept_height : to_z w64 (of_z w64 best.height) ≡ best.height = search rules in
     let up : best.base <ℤ best.height =
-    subst (λ (z : ℤ). best.base <ℤ z) kept_height
+    rw kept_height at
     (subst (λ (z : ℤ). z <ℤ to_z w64 (of_z w64 best.height)) kept_base (less_is _ _ c.if-best.true)) in
     let last = c.loop-place.auto.place-end (omega arith) in
-    let end : 64 * c.loop-place.place ≡ 256 * (c.args.block + 1) = omega (arith, last, c.loop-place-test.false) in
+    let end : 64 * c.loop-place.place ≡ 256 * (c.args.block + 1) = omega arith in
     highest_is_most (λ (j : ℕ). CoalitionRises scan j) (gap_in scan) (256 * c.args.block) (256 * (c.args.block + 1))
     (2 ^ scan.program.now.players) best.base best.height best.coalition up
-    (subst (λ (t : ℕ). IsHighestIn scan (256 * c.args.block) t best) end c.loop-place.invariant.highest)
+    (rw end at c.loop-place.invariant.highest)
 
 pub returns-else-best : goal.returns-else-best
 returns-else-best g c = λ j lower upper within.
@@ -59,8 +55,8 @@ returns-else-best g c = λ j lower upper within.
     let kept_base : to_z w64 (of_z w64 best.base) ≡ best.base = search rules in
     let kept_height : to_z w64 (of_z w64 best.height) ≡ best.height = search rules in
     let down : best.height ≤ℤ best.base =
-    subst (λ (z : ℤ). best.height ≤ℤ z) kept_base
+    rw kept_base at
     (subst (λ (z : ℤ). z ≤ℤ to_z w64 (of_z w64 best.base)) kept_height (not_less_is _ _ c.if-best.false)) in
     let h = c.loop-place.invariant.highest in
     let low = h.low in
-    h.none (omega (arith, linear, low, down)) j lower (omega (arith, upper, c.loop-place-test.false)) within
+    h.none (omega (arith, linear)) j lower (omega arith) within

@@ -1,10 +1,6 @@
-use Rattle.std.proofs.Common.{◌≡◌, ◌<◌, ◌^◌, ℕ, Bool, ℤ, pos, ◌≤ℤ◌, sym, subst}
-use Rattle.std.proofs.Common.{unsigned_abs, slice_index_or}
-use Rattle.std.proofs.Common.{to_z, of_z, arith}
+use Rattle.std.proofs.Common.{◌≡◌, ◌<◌, ◌^◌, ℤ, pos, unsigned_abs, slice_index_or, to_z, of_z, arith}
 use mir.Syntax.{w64}
 use Rattle.definitions.proofs.Casts.{cast_kept}
-use Rattle.separation.specs.Values.{counted}
-use Rattle.separation.specs.Scanned.{worth_in}
 use Rattle.separation.proofs.SmallPeaks.{peak_small}
 use Rattle.separation.proofs.narrow.counted_peak.Goals as goal
 
@@ -16,13 +12,11 @@ pub returns-then-scan-clause-greatest : goal.returns-then-scan-clause-greatest
 returns-then-scan-clause-greatest g c = λ s lower upper within.
     let p = c.args.scan.now.program.now in
     let game = g.W.Worth.game p.game.now in
-    let below = subst (λ (n : ℕ). s < 2 ^ n) p.count within in
+    let below = rw p.count at within in
     let peak = slice_index_or p.peaks c.args.block (pos 0) in
     let is = p.peaks_are c.args.block c.requires in
     let small = peak_small game c.args.block peak p.laws is in
-    subst (λ (z : ℤ). worth_in c.args.scan.now s ≤ℤ z) (sym (peak_kept peak small))
-    (subst (λ (b : Bool). counted b (game.worth s) ≤ℤ peak) (sym c.if-scan.true)
-    (is.greatest s lower upper below))
+    rw (peak_kept peak small) (rw c.if-scan.true (is.greatest s lower upper below))
 
 pub returns-then-scan-clause-small : goal.returns-then-scan-clause-small
 returns-then-scan-clause-small g c =
@@ -30,9 +24,9 @@ returns-then-scan-clause-small g c =
     let game = g.W.Worth.game p.game.now in
     let peak = slice_index_or p.peaks c.args.block (pos 0) in
     let small = peak_small game c.args.block peak p.laws (p.peaks_are c.args.block c.requires) in
-    subst (λ (z : ℤ). unsigned_abs z < 2 ^ 46) (sym (peak_kept peak small)) small
+    rw (peak_kept peak small) small
 
 pub returns-else-scan-clause-greatest : goal.returns-else-scan-clause-greatest
 returns-else-scan-clause-greatest g c = λ s lower upper within.
     let game = g.W.Worth.game c.args.scan.now.program.now.game.now in
-    subst (λ (b : Bool). counted b (game.worth s) ≤ℤ pos 0) (sym c.if-scan.false) (omega arith)
+    rw c.if-scan.false (omega arith)

@@ -1,4 +1,4 @@
-use Rattle.std.proofs.Common.{ℤ, ◌-ℤ◌, ◌*ℤ◌, ◌≤ℤ◌, sym, subst, arith}
+use Rattle.std.proofs.Common.{◌*ℤ◌, arith}
 use Rattle.definitions.proofs.Ring.{linear, mul-leℤ}
 use Rattle.separation.specs.Scanned.{worth_in}
 use Rattle.separation.proofs.Products.{height_held, less_a_number}
@@ -24,6 +24,5 @@ returns g c = λ s lower upper within.
     let product =
     mul-leℤ m.den worth most (omega (arith, linear, some)) (c.counted_peak-most.ensures.greatest s lower upper within)
     in
-    subst (λ (z : ℤ). (m.den *ℤ worth -ℤ c.args.least) ≤ℤ z)
-    (sym (height_held m.den most c.args.least c.requires.den c.counted_peak-most.ensures.small c.requires.least).1.1)
+    rw (height_held m.den most c.args.least c.requires.den c.counted_peak-most.ensures.small c.requires.least).1.1
     (less_a_number (m.den *ℤ worth) (m.den *ℤ most) c.args.least product)

@@ -1,6 +1,5 @@
 use Rattle.std.proofs.Common.{◌%◌, ◌≤◌, ◌^◌, ℤ, pos, ◌-ℤ◌, ◌*ℤ◌, ℕ, unsigned_abs, slice_index_or}
-use Rattle.std.proofs.Common.{ap, sym, subst}
-use Rattle.std.proofs.Common.{◌∙◌}
+use Rattle.std.proofs.Common.{ap, sym, subst, ◌∙◌}
 use Rattle.separation.specs.Scanned.{worth_in}
 use Rattle.separation.proofs.Products.{height_held}
 use Rattle.separation.proofs.narrow.height_of.Goals as goal

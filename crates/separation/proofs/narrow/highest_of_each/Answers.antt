@@ -1,15 +1,13 @@
 use Rattle.std.proofs.Common.{◌≡◌, ◌⊎◌, ◌↔◌, ◌≤◌, ◌<◌, ℕ, ℤ, ◌+◌, ◌*◌, ◌%◌}
-use Rattle.std.proofs.Common.{◌^◌, pos}
-use Rattle.std.proofs.Common.{◌+ℤ◌, ◌*ℤ◌, ◌<ℤ◌, Bool, true, false}
-use Rattle.std.proofs.Common.{if◌then◌else◌, Some, None, slice_index_or, to_z, of_z, inl, inr, refl, arith}
-use Rattle.std.proofs.Common.{rules}
-use Rattle.std.proofs.Common.{ap, sym, subst, ◌∙◌}
+use Rattle.std.proofs.Common.{◌^◌, pos, ◌+ℤ◌, ◌*ℤ◌, ◌<ℤ◌, Bool, true, false, if◌then◌else◌, Some}
+use Rattle.std.proofs.Common.{None, slice_index_or, to_z, of_z, inl, inr, refl, arith, rules, ap}
+use Rattle.std.proofs.Common.{sym, subst, ◌∙◌}
 use mir.Syntax.{w64}
 use Rattle.definitions.proofs.Cases.{same_or_other, true_or_false}
 use Rattle.separation.specs.Making.{plain}
 use Rattle.separation.specs.Fronts.{front_level, has_mark}
 use Rattle.separation.specs.Values.{IsHighest}
-use Rattle.separation.specs.Scanned.{RisesIn, CoalitionRises, IsHighestIn, value_in, worth_in, gap_in}
+use Rattle.separation.specs.Scanned.{RisesIn, CoalitionRises, value_in, worth_in, gap_in}
 use Rattle.separation.specs.declared.narrow.Highest.{Highest}
 use Rattle.separation.proofs.Balance.{masks_of}
 use Rattle.separation.proofs.Picked.{highest_more, highest_passed, highest_kept, highest_past}
@@ -27,8 +25,7 @@ loop-j-init g c =
     record {
       base = refl;
       highest = λ a h.
-          highest_past
-          (λ (j : ℕ). CoalitionRises c.args.scan.now j) (gap_in c.args.scan.now)
+          highest_past (λ (j : ℕ). CoalitionRises c.args.scan.now j) (gap_in c.args.scan.now)
           a (64 * c.args.place) (2 ^ p.players) c.args.before.base c.args.before.height c.args.before.coalition
           (64 * c.args.place + 0) (inl start) h;
     }
@@ -43,9 +40,8 @@ loop-j-preserved g c =
     let best = c.loop-j.best in
     let inv = c.loop-j.invariant in
     let mask = masks_of p.players p.few in
-    let bit : c.loop-j.j < 64 = omega (arith, c.loop-j-test.true, c.min-end.ensures) in
-    let within : s < 2 ^ p.players =
-    omega (arith, mask, c.loop-j-test.true, c.min-end.ensures, c.saturating_sub.ensures) in
+    let bit : c.loop-j.j < 64 = omega arith in
+    let within : s < 2 ^ p.players = omega arith in
     let next : s + 1 ≡ 64 * c.args.place + (c.loop-j.j + 1) = omega arith in
     let column = plain (g.W.Worth.game p.game.now) s (front_level p.front) in
     let rises_with = λ (b : Bool). RisesIn x (if b then Some column else None) in
@@ -62,41 +58,35 @@ loop-j-preserved g c =
     (whole ∙ c.height_of-height.ensures) value in
     let up_where_marked : R s → best.base <ℤ z =
     λ r. elim (true_or_false (has_mark p.marks s)) [
-      | inl on ↦ up.1 (subst rises_with on r)
-      | inr off ↦ absurd (subst rises_with off r)
+      | inl on ↦ up.1 (rw on at r)
+      | inr off ↦ absurd (rw off at r)
     ] in
     elim c.if-is_below.branch [
       | then-is_below+then-contains w ↦
           let on : has_mark p.marks s ≡ true =
           sym (w.contains.ensures ∙ c.marked_word.ensures c.loop-j.j bit) ∙ w.if-contains.true in
           record {
-            base = ap (λ (y : Highest). y.base) (w.best-is ∙ w.raised-best.ensures) ∙ inv.base;
+            base = cc (w.best-is, w.raised-best.ensures, inv.base);
             highest = λ a h.
-                subst (λ (y : Highest). IsHighestIn x a (64 * c.args.place + (c.loop-j.j + 1)) y)
-                (sym (w.best-is ∙ w.raised-best.ensures))
-                (subst (λ (t : ℕ). IsHighest R (gap_in x) a t (2 ^ p.players) best.base z s) next
+                rw (w.best-is ∙ w.raised-best.ensures) (rw next at
                 (highest_more R (gap_in x) a s (2 ^ p.players) best.base best.height best.coalition z within
-                (subst (λ (b : Bool). (best.base <ℤ z) ↔ rises_with b) (sym on) up) has
-                (w.if-is_below.ensures {u = tt})
-                (inv.highest a h)));
+                (rw on up) has (w.if-is_below.ensures {u = tt}) (inv.highest a h)));
           }
       | else-is_below w ↦
           record {
             base = ap (λ (y : Highest). y.base) w.best-is ∙ inv.base;
             highest = λ a h.
-                subst (λ (y : Highest). IsHighestIn x a (64 * c.args.place + (c.loop-j.j + 1)) y) (sym w.best-is)
-                (subst
+                rw w.best-is (subst
                 (λ (t : ℕ). IsHighest R (gap_in x) a t (2 ^ p.players) best.base best.height best.coalition) next
                 (elim w.else-is_below.branch [
                   | else-is_below-via-then-is_below+else-contains v ↦
                       let off : has_mark p.marks s ≡ false =
                       sym (v.contains.ensures ∙ c.marked_word.ensures c.loop-j.j bit) ∙ v.if-contains.false in
                       highest_passed R (gap_in x) a s (2 ^ p.players) best.base best.height best.coalition
-                      (λ (r : R s). subst rises_with off r) (inv.highest a h)
+                      (λ (r : R s). rw off at r) (inv.highest a h)
                   | else-is_below-via-else-is_below v ↦
                       highest_kept R (gap_in x) a s (2 ^ p.players) best.base best.height best.coalition z
-                      up_where_marked has
-                      (v.if-is_below.ensures {u = tt}) (inv.highest a h)
+                      up_where_marked has (v.if-is_below.ensures {u = tt}) (inv.highest a h)
                 ]));
           }
     ]
@@ -112,17 +102,8 @@ returns-clause-highest g c = λ a h.
     elim (same_or_other c.loop-j.j 64) [
       | inl same ↦ inl (omega (arith, same))
       | inr other ↦ inr
-          (omega (
-            arith,
-            mask,
-            other,
-            c.loop-j-test.false,
-            c.loop-j.auto.j-end,
-            c.min-end.ensures,
-            c.saturating_sub.ensures,
-          ))
+          (omega arith)
     ] in
-    highest_past
-    (λ (j : ℕ). CoalitionRises c.args.scan.now j) (gap_in c.args.scan.now)
+    highest_past (λ (j : ℕ). CoalitionRises c.args.scan.now j) (gap_in c.args.scan.now)
     a s (2 ^ p.players) best.base best.height best.coalition (64 * c.args.place + 64) end
     (c.loop-j.invariant.highest a h)

@@ -1,7 +1,6 @@
-use Rattle.std.proofs.Common.{◌≡◌, ◌≤◌, ◌<◌, ◌+◌, ◌*◌, ◌%◌, ◌^◌, ℕ, Bool, true, false}
-use Rattle.std.proofs.Common.{ℤ, pos, ◌*ℤ◌, ◌<ℤ◌}
-use Rattle.std.proofs.Common.{if◌then◌else◌, Some, None, slice_index_or, arith, sym, subst}
-use Rattle.std.proofs.Common.{unsigned_abs, to_z, of_z, ◌-ℤ◌, ◌≤ℤ◌, rules}
+use Rattle.std.proofs.Common.{◌≡◌, ◌≤◌, ◌<◌, ◌+◌, ◌*◌, ◌%◌, ◌^◌, ℕ, Bool, true}
+use Rattle.std.proofs.Common.{false, ℤ, pos, ◌*ℤ◌, ◌<ℤ◌, if◌then◌else◌, Some, None, slice_index_or, arith}
+use Rattle.std.proofs.Common.{subst, unsigned_abs, to_z, of_z, ◌≤ℤ◌, rules}
 use mir.Syntax.{w64}
 use Rattle.definitions.proofs.Casts.{cast_kept}
 use Rattle.definitions.specs.declared.Measure.{Measure}
@@ -31,8 +30,9 @@ least_kept z small = cast_kept w64 z (omega (arith, small))
 pub height_bound-requires-clause-least : goal.height_bound-requires-clause-least
 height_bound-requires-clause-least g c =
     let small =
-    least_small c.args.low.now (c.args.place % 4) c.args.least (2 ^ 60) (omega arith) c.requires.least c.requires.low in
-    subst (λ (z : ℤ). unsigned_abs z ≤ 2 ^ 60) (sym (least_kept c.args.least small)) small
+    least_small c.args.low.now (c.args.place % 4) c.args.least (2 ^ 60) (omega arith) c.requires.least c.requires.low
+    in
+    rw (least_kept c.args.least small) small
 
 pub returns-then-height_bound-before-clause-highest : goal.returns-then-height_bound-before-clause-highest
 returns-then-height_bound-before-clause-highest g c = λ a h.
@@ -47,23 +47,19 @@ returns-then-height_bound-before-clause-highest g c = λ a h.
     let kept : to_z w64 (of_z w64 bound) ≡ bound = search rules in
     let kept_height : to_z w64 (of_z w64 before.height) ≡ before.height = search rules in
     let le : bound ≤ℤ before.height =
-    subst (λ (z : ℤ). bound ≤ℤ z) kept_height
-    (subst (λ (z : ℤ). z ≤ℤ to_z w64 (of_z w64 before.height)) kept
+    rw kept_height at (subst (λ (z : ℤ). z ≤ℤ to_z w64 (of_z w64 before.height)) kept
     (at_most_is _ _ c.if-height_bound-before.true)) in
     let least = λ (j : ℕ) (lower : 64 * place ≤ j) (upper : j < 64 * place + 64).
-    c.requires.least.least (j % 256) (omega (arith, lower, upper)) (omega (arith, lower, upper)) in
+    c.requires.least.least (j % 256) (omega arith) (omega arith) in
     let bounded = λ (j : ℕ) (lower : 64 * place ≤ j) (upper : j < 64 * place + 64) (within : j < 2 ^ p.players).
-    subst (λ (z : ℤ). ((m.den *ℤ worth_in scan j) -ℤ z) ≤ℤ bound) (least_kept c.args.least small)
-    (c.height_bound.ensures j (omega (arith, lower, upper)) (omega (arith, lower, upper)) within) in
+    rw (least_kept c.args.least small) at (c.height_bound.ensures j (omega arith) (omega arith) within) in
     highest_skipped (λ (j : ℕ). CoalitionRises scan j) (gap_in scan) a (64 * place) (2 ^ p.players) before.base
-    before.height before.coalition (64 * place + 64)
-    (λ j lower upper within r.
+    before.height before.coalition (64 * place + 64) (λ j lower upper within r.
     let column = plain (game_of scan) j (front_level p.front) in
     below_bound before.base (slice_index_or low (j % 256) (pos 0)) (value_in scan j) (m.den *ℤ worth_in scan j)
     c.args.least bound before.height (c.requires.values j lower upper)
     (rising_is_above p.measure m.num.items m.den p.players scan.with_costs column (has_mark p.marks j) r)
-    (least j lower upper) (bounded j lower upper within) le)
-    (λ j lower upper within.
+    (least j lower upper) (bounded j lower upper within) le) (λ j lower upper within.
     gap_bound before.base (slice_index_or low (j % 256) (pos 0)) (value_in scan j) (m.den *ℤ worth_in scan j)
     c.args.least bound before.height (c.requires.values j lower upper) (least j lower upper)
     (bounded j lower upper within) le)

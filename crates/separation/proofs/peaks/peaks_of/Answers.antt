@@ -1,5 +1,4 @@
-use Rattle.std.proofs.Common.{◌≡◌, ◌<◌, ℕ, length, length-set, sym, subst, ◌∙◌, to_z, of_z}
-use Rattle.std.proofs.Common.{rules}
+use Rattle.std.proofs.Common.{◌≡◌, ◌<◌, length, length-set, ◌∙◌, to_z, of_z, rules}
 use mir.Syntax.{w64}
 use Rattle.spans.proofs.EightSums.{filled_below}
 use Rattle.separation.specs.Peaks.{IsPeak}
@@ -11,7 +10,7 @@ loop-block-preserved g c =
     let peaks = c.loop-block.peaks in
     let block = c.loop-block.block in
     let inv = c.loop-block.invariant in
-    let len : block < length peaks = subst (λ (t : ℕ). block < t) (sym inv.len) c.loop-block-test.true in
+    let len : block < length peaks = rw inv.len c.loop-block-test.true in
     let kept : to_z w64 (of_z w64 c.peak.result) ≡ c.peak.result = search rules in
     rw kept (record {
       len = length-set peaks block c.peak.result ∙ inv.len;

@@ -15,11 +15,10 @@ returns c =
     let upper : s < 2 * 2 ^ last = c.ilog2-last.ensures.next_power_gt in
     let eight : last < 8 = last_below_eight last s lower c.requires.few in
     let mask : 1 * 2 ^ last % 2 ^ 64 ≡ 2 ^ last = masks_of last (omega (arith, eight)) in
-    let before : s - 1 * 2 ^ last % 2 ^ 64 < s = omega (arith, mask, lower, c.requires.some) in
+    let before : s - 1 * 2 ^ last % 2 ^ 64 < s = omega arith in
     let is = c.requires.before (s - 1 * 2 ^ last % 2 ^ 64) before in
     let is' =
-    subst
-    (λ (k : ℕ). IsEight num c.args.n c.args.first (s - k)
+    subst (λ (k : ℕ). IsEight num c.args.n c.args.first (s - k)
     (slice_index_or c.args.sums.now (s - 1 * 2 ^ last % 2 ^ 64) (pos 0))) mask is in
     IsEight-next num c.args.n c.args.first s last _ _ c.args.m.now.num_small c.requires.few lower upper is'
     c.player_multiplier.ensures.value c.player_multiplier.ensures.small

@@ -1,5 +1,4 @@
-use Rattle.std.proofs.Common.{◌≡◌, ◌<◌, ℕ, length, length-set, to_z, of_z, arith, sym, ◌∙◌}
-use Rattle.std.proofs.Common.{subst, refl}
+use Rattle.std.proofs.Common.{◌≡◌, ◌<◌, length, length-set, to_z, of_z, arith, ◌∙◌, refl}
 use mir.Syntax.{w128}
 use Rattle.separation.specs.Values.{IsEight}
 use Rattle.separation.proofs.Eights.{IsEight-empty}
@@ -20,8 +19,7 @@ loop-s-preserved c =
     let is = c.next_eight.ensures in
     let e : to_z w128 (of_z w128 c.next_eight.result) ≡ c.next_eight.result =
     cast_kept w128 c.next_eight.result (omega (arith, is.small)) in
-    let len : c.loop-s.s < length c.loop-s.sums =
-    subst (λ (t : ℕ). c.loop-s.s < t) (sym c.loop-s.invariant.len) c.loop-s-test.true in
+    let len : c.loop-s.s < length c.loop-s.sums = rw c.loop-s.invariant.len c.loop-s-test.true in
     rw e (record {
       len = length-set c.loop-s.sums c.loop-s.s c.next_eight.result ∙ c.loop-s.invariant.len;
       done =

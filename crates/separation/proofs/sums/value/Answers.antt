@@ -1,6 +1,5 @@
-use Rattle.std.proofs.Common.{◌≡◌, ◌^◌, ◌≤◌, Bool, true, false, ℤ, pos, ◌+ℤ◌, ◌-ℤ◌}
-use Rattle.std.proofs.Common.{◌*ℤ◌}
-use Rattle.std.proofs.Common.{unsigned_abs, to_z, of_z, arith, ap, ◌∙◌, refl, sym, le_trans}
+use Rattle.std.proofs.Common.{◌≡◌, ◌^◌, ◌≤◌, true, false, ℤ, pos, ◌+ℤ◌, ◌-ℤ◌, ◌*ℤ◌}
+use Rattle.std.proofs.Common.{unsigned_abs, to_z, of_z, arith, ◌∙◌, refl, le_trans}
 use Rattle.std.proofs.lemmas.Int.{ints}
 use mir.Syntax.{w128}
 use Rattle.definitions.specs.Coalitions.{sum_over}
@@ -31,10 +30,10 @@ returns-then-column-clause-value c =
     sum_over c.args.n (multiplier_at m) c.args.column.coalition
     +ℤ pos (divisor c.args.measure c.args.column.coalition)
     *ℤ level_multiplier m c.args.n c.args.column.level in
-    kept_minus _ _ _ _ c.of.ensures.small c.level_value.ensures.small
-    (c.of.ensures.value m c.args.n c.requires.sums) c.level_value.ensures.value
-    ∙ ap (λ (b : Bool). signed b z) (sym c.if-column.true)
-    ∙ sym (value_is c.args.measure m c.args.n c.args.column c.requires.players c.requires.within)
+    let one =
+    kept_minus _ _ _ _ c.of.ensures.small c.level_value.ensures.small (c.of.ensures.value m c.args.n c.requires.sums)
+    c.level_value.ensures.value in
+    cc (c.if-column.true, value_is c.args.measure m c.args.n c.args.column c.requires.players c.requires.within)
 
 pub returns-else-column-clause-value : goal.returns-else-column-clause-value
 returns-else-column-clause-value c =
@@ -43,10 +42,10 @@ returns-else-column-clause-value c =
     sum_over c.args.n (multiplier_at m) c.args.column.coalition
     +ℤ pos (divisor c.args.measure c.args.column.coalition)
     *ℤ level_multiplier m c.args.n c.args.column.level in
-    kept_plain _ _ _ _ c.of.ensures.small c.level_value.ensures.small
-    (c.of.ensures.value m c.args.n c.requires.sums) c.level_value.ensures.value
-    ∙ ap (λ (b : Bool). signed b z) (sym c.if-column.false)
-    ∙ sym (value_is c.args.measure m c.args.n c.args.column c.requires.players c.requires.within)
+    let one =
+    kept_plain _ _ _ _ c.of.ensures.small c.level_value.ensures.small (c.of.ensures.value m c.args.n c.requires.sums)
+    c.level_value.ensures.value in
+    cc (c.if-column.false, value_is c.args.measure m c.args.n c.args.column c.requires.players c.requires.within)
 
 pub overflow_add-plain : goal.overflow_add-plain
 overflow_add-plain c =
@@ -60,8 +59,7 @@ overflow_sub-result c =
 
 pub returns-then-column-clause-small : goal.returns-then-column-clause-small
 returns-then-column-clause-small c =
-    le_trans
-    (minus_sum_held c.of.result c.level_value.result (2 ^ 114) (2 ^ 116) c.of.ensures.small
+    le_trans (minus_sum_held c.of.result c.level_value.result (2 ^ 114) (2 ^ 116) c.of.ensures.small
     c.level_value.ensures.small (lit≤ tt)).1 (lit≤ tt)
 
 pub returns-else-column-clause-small : goal.returns-else-column-clause-small

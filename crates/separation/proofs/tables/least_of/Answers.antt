@@ -1,6 +1,4 @@
-use Rattle.std.proofs.Common.{◌≡◌, ◌⊎◌, ◌*◌, ℕ, ℤ, pos, ◌≤ℤ◌, inl}
-use Rattle.std.proofs.Common.{inr, sym, subst, arith}
-use Rattle.std.proofs.Common.{slice_index_or, to_z, of_z, rules}
+use Rattle.std.proofs.Common.{◌≡◌, ◌*◌, pos, inl, inr, arith, slice_index_or, to_z, of_z, rules}
 use mir.Syntax.{w64}
 use Rattle.definitions.proofs.Cases.{last_or_less_of}
 use Rattle.definitions.proofs.Ring.{linear}
@@ -11,9 +9,9 @@ loop-k-init c =
     let first = slice_index_or c.args.low.now (64 * c.args.quarter) (pos 0) in
     let whole : to_z w64 (of_z w64 first) ≡ first = search rules in
     record {
-      least = λ j lower upper. absurd (omega (arith, lower, upper));
+      least = λ j lower upper. absurd (omega arith);
       attained = λ y bounds.
-          subst (λ (z : ℤ). y ≤ℤ z) (sym whole) (bounds (64 * c.args.quarter) (omega arith) (omega arith));
+          rw whole (bounds (64 * c.args.quarter) (omega arith) (omega arith));
     }
 
 pub loop-k-preserved : goal.loop-k-preserved
@@ -25,20 +23,20 @@ loop-k-preserved c =
     let here = slice_index_or low c.loop-k.k (pos 0) in
     let whole : to_z w64 (of_z w64 here) ≡ here = search rules in
     let kept : to_z w64 (of_z w64 c.lesser-least.result) ≡ c.lesser-least.result = search rules in
-    let second = subst (λ (z : ℤ). c.lesser-least.result ≤ℤ z) whole less.second in
+    let second = rw whole at less.second in
     let either =
-    subst (λ (z : ℤ). (c.lesser-least.result ≡ to_z w64 c.loop-k.least-bits) ⊎ (c.lesser-least.result ≡ z)) whole
+    rw whole at
     less.either in
     rw kept (record {
       least = λ j lower lt. elim (last_or_less_of j c.loop-k.k lt) [
-        | inl same ↦ subst (λ (t : ℕ). c.lesser-least.result ≤ℤ slice_index_or low t (pos 0)) (sym same) second
+        | inl same ↦ rw same second
         | inr before ↦
             let older = inv.least j lower before in
-            omega (arith, linear, older, first)
+            omega (arith, linear)
       ];
       attained = λ y bounds. elim either [
-        | inl older ↦ subst (λ (z : ℤ). y ≤ℤ z) (sym older) (inv.attained y bounds)
-        | inr last ↦ subst (λ (z : ℤ). y ≤ℤ z) (sym last)
+        | inl older ↦ rw older (inv.attained y bounds)
+        | inr last ↦ rw last
             (bounds c.loop-k.k c.loop-k.auto.k (omega (arith, c.loop-k-test.true)))
       ];
     })
@@ -47,6 +45,6 @@ pub returns : goal.returns
 returns c =
     let inv = c.loop-k.invariant in
     record {
-      least = λ j lower upper. inv.least j lower (omega (arith, upper, c.loop-k-test.false));
+      least = λ j lower upper. inv.least j lower (omega arith);
       attained = inv.attained;
     }

@@ -1,5 +1,4 @@
-use Rattle.std.proofs.Common.{◌≡◌, ◌<◌, ℕ, length, length-set, sym, subst, ◌∙◌, to_z, of_z}
-use Rattle.std.proofs.Common.{rules}
+use Rattle.std.proofs.Common.{◌≡◌, ◌<◌, length, length-set, ◌∙◌, to_z, of_z, rules}
 use mir.Syntax.{w64}
 use Rattle.spans.proofs.EightSums.{filled_below}
 use Rattle.separation.specs.Peaks.{IsLeast}
@@ -10,7 +9,7 @@ loop-quarter-preserved c =
     let leasts = c.loop-quarter.leasts in
     let quarter = c.loop-quarter.quarter in
     let inv = c.loop-quarter.invariant in
-    let len : quarter < length leasts = subst (λ (t : ℕ). quarter < t) (sym inv.len) c.loop-quarter-test.true in
+    let len : quarter < length leasts = rw inv.len c.loop-quarter-test.true in
     let kept : to_z w64 (of_z w64 c.least_of.result) ≡ c.least_of.result = search rules in
     rw kept (record {
       len = length-set leasts quarter c.least_of.result ∙ inv.len;

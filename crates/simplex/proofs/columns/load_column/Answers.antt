@@ -1,5 +1,4 @@
-use Rattle.std.proofs.Common.{rules, arith, ◌<◌, ◌≤◌, ◌-◌, ℕ, length, length-set, sym, ap}
-use Rattle.std.proofs.Common.{subst, ◌∙◌, FitsSigned}
+use Rattle.std.proofs.Common.{rules, arith, ◌<◌, ◌≤◌, length, length-set, ◌∙◌, FitsSigned}
 use mir.Syntax.{w128, w32}
 use Rattle.std.proofs.lemmas.Int.{to_z-of_z}
 use Rattle.simplex.proofs.DotProducts.{flipped_at}
@@ -14,14 +13,13 @@ loop-i-preserved g c =
     let e = simp to_z-of_z at c.from.ensures in
     let P = g.C.Columns.program c.args.columns.now in
     let small : c.args.n ≤ 31 =
-    subst (λ (t : ℕ). t ≤ 31) (sym c.requires.rows)
+    rw c.requires.rows
     (tame_of (g.C.Columns.program c.args.columns.now) (g.met.C.Columns.lawful c.args.columns.now)).few in
-    let lt : c.loop-i.i < P.rows = subst (λ (t : ℕ). c.loop-i.i < t) c.requires.rows c.loop-i-test.true in
-    let len : c.loop-i.i < length c.loop-i.entries =
-    subst (λ (t : ℕ). c.loop-i.i < t) (sym c.loop-i.invariant.len) (omega arith) in
+    let lt : c.loop-i.i < P.rows = rw c.requires.rows at c.loop-i-test.true in
+    let len : c.loop-i.i < length c.loop-i.entries = rw c.loop-i.invariant.len (omega arith) in
     simp to_z-of_z (record {
       len = length-set c.loop-i.entries c.loop-i.i c.from.result ∙ c.loop-i.invariant.len;
       done = filled c.loop-i.entries c.loop-i.i c.from.result (Rattle.simplex.specs.Program.column P c.args.id) len
-          (e ∙ c.entry.ensures ∙ ap (λ (t : ℕ). P.entry c.args.id (t - 1 - c.loop-i.i)) c.requires.rows
-          ∙ sym (flipped_at P.rows (P.entry c.args.id) c.loop-i.i lt)) c.loop-i.invariant.done;
+          (let one = flipped_at P.rows (P.entry c.args.id) c.loop-i.i lt in
+          cc (c.entry.ensures, c.requires.rows)) c.loop-i.invariant.done;
     })

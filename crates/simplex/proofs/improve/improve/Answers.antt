@@ -1,54 +1,40 @@
-use Rattle.std.proofs.Common.{rules, refl, ◌∙◌, FitsSigned}
+use Rattle.std.proofs.Common.{rules, arith, refl, ◌∙◌, FitsSigned}
 use mir.Syntax.{w128}
 use Rattle.std.proofs.lemmas.Int.{to_z-of_z}
-use Rattle.simplex.specs.Improving.{AreMultipliersOf, IsImproving, HasDirection}
+use Rattle.simplex.specs.Improving.{IsImproving, HasDirection}
 use Rattle.simplex.proofs.Minors.{tame_of}
-use Rattle.simplex.proofs.Rows.{few_rows, within_32}
 use Rattle.simplex.specs.Replacing.{IsReplaced}
 use Rattle.simplex.proofs.Replaced.{can_replace}
 use Rattle.simplex.proofs.States.{holds_after_use}
 use Rattle.simplex.proofs.Steps
-use Rattle.simplex.proofs.Entered
 use Rattle.simplex.proofs.improve.improve.Given.{Over}
-use Rattle.simplex.proofs.improve.improve.Goals.{After-multipliers_of-m, In-Some-least_ratio, After-replace}
+use Rattle.simplex.proofs.improve.improve.Goals.{After-load_column-column, In-Some-least_ratio, After-replace}
 use Rattle.simplex.proofs.improve.improve.Goals as goal
 
 pub loop-id-init : goal.loop-id-init
 loop-id-init g c = record { same = refl; same_players = refl; state = c.requires }
 
 pub multipliers_of-m-requires-clause-rows : goal.multipliers_of-m-requires-clause-rows
-multipliers_of-m-requires-clause-rows g c =
-    few_rows (g.C.Columns.program c.loop-id.columns) c.loop-id.work.rows (g.met.C.Columns.lawful c.loop-id.columns)
-    c.loop-id.invariant.state.rows_is
+multipliers_of-m-requires-clause-rows g c = omega (arith, g.met.C.Columns.lawful c.loop-id.columns)
 
 pub multipliers_of-m-requires-clause-positive : goal.multipliers_of-m-requires-clause-positive
 multipliers_of-m-requires-clause-positive g c =
     let fd : FitsSigned w128 c.loop-id.work.den = search rules in
     simp to_z-of_z c.loop-id.invariant.state.table.positive
 
-pub invariant_of-work : goal.invariant_of-work
-invariant_of-work g c = record { ids_count = c.loop-id.work.ids_count; costs_count = c.loop-id.work.costs_count }
-
 pub multipliers_of-m-requires-clause-small : goal.multipliers_of-m-requires-clause-small
 multipliers_of-m-requires-clause-small g c =
-    Steps.inverse_small (g.C.Columns.program c.loop-id.columns) c.args.part c.loop-id.work
-    (tame_of (g.C.Columns.program c.loop-id.columns) (g.met.C.Columns.lawful c.loop-id.columns))
-    c.loop-id.invariant.state
+    Steps.inverse_small _ _ _ (tame_of _ (g.met.C.Columns.lawful c.loop-id.columns)) c.loop-id.invariant.state
 
 pub multipliers_of-m-requires-clause-costs_small : goal.multipliers_of-m-requires-clause-costs_small
 multipliers_of-m-requires-clause-costs_small g c =
-    Steps.costs_small (g.C.Columns.program c.loop-id.columns) c.args.part c.loop-id.work
-    (tame_of (g.C.Columns.program c.loop-id.columns) (g.met.C.Columns.lawful c.loop-id.columns))
-    c.loop-id.invariant.state
+    Steps.costs_small _ _ _ (tame_of _ (g.met.C.Columns.lawful c.loop-id.columns)) c.loop-id.invariant.state
 
 pub multipliers_of-m-requires-clause-den_small : goal.multipliers_of-m-requires-clause-den_small
 multipliers_of-m-requires-clause-den_small g c =
-    let w = c.loop-id.work in
-    let fd : FitsSigned w128 w.den = search rules in
+    let fd : FitsSigned w128 c.loop-id.work.den = search rules in
     simp to_z-of_z
-    (Steps.den_small (g.C.Columns.program c.loop-id.columns) c.args.part w
-    (tame_of (g.C.Columns.program c.loop-id.columns) (g.met.C.Columns.lawful c.loop-id.columns))
-    c.loop-id.invariant.state)
+    (Steps.den_small _ _ _ (tame_of _ (g.met.C.Columns.lawful c.loop-id.columns)) c.loop-id.invariant.state)
 
 pub rising_in-requires : goal.rising_in-requires
 rising_in-requires g c = c.multipliers_of-m.ensures.count ∙ c.loop-id.invariant.state.rows_is
@@ -61,106 +47,63 @@ returns-in_default-clause-same_players g c = c.rising_in.ensures.same_players �
 
 pub returns-in_default-clause-state : goal.returns-in_default-clause-state
 returns-in_default-clause-state g c =
-    let P = g.C.Columns.program c.loop-id.columns in
-    let Q = g.C.Columns.program c.rising_in.new.columns in
-    holds_after_use (IsImproving Q c.args.part) c.loop-id.work _ _
-    (Entered.state_of P Q c.args.part c.rising_in.ensures.same c.loop-id.work c.loop-id.invariant.state)
-
-pub load_column-column-requires-clause-column : goal.load_column-column-requires-clause-column
-load_column-column-requires-clause-column g c =
-    (Entered.rising_of (g.C.Columns.program c.loop-id.columns) (g.C.Columns.program c.rising_in.new.columns)
-    c.args.part (c.in-Some.ensures {u = tt}).same c.multipliers_of-m.result.num.items
-    c.multipliers_of-m.result.den c.in-Some.id (c.in-Some.ensures {u = tt}).answer).is_column
-
-pub load_column-column-requires-clause-rows : goal.load_column-column-requires-clause-rows
-load_column-column-requires-clause-rows g c =
-    Entered.rows_of (g.C.Columns.program c.loop-id.columns) (g.C.Columns.program c.rising_in.new.columns)
-    c.args.part
-    c.rising_in.ensures.same c.loop-id.work.rows c.loop-id.invariant.state.rows_is
-
-pub weights_of-weights-requires-clause-rows : goal.weights_of-weights-requires-clause-rows
-weights_of-weights-requires-clause-rows g c =
-    within_32 c.loop-id.work.rows
-    (few_rows (g.C.Columns.program c.loop-id.columns) c.loop-id.work.rows (g.met.C.Columns.lawful c.loop-id.columns)
-    c.loop-id.invariant.state.rows_is)
-
-pub invariant_of-work-in-loop-id : goal.invariant_of-work-in-loop-id
-invariant_of-work-in-loop-id g c =
-    record { ids_count = c.loop-id.work.ids_count; costs_count = c.loop-id.work.costs_count }
-
-pub weights_of-weights-requires-clause-small : goal.weights_of-weights-requires-clause-small
-weights_of-weights-requires-clause-small g c =
-    Steps.inverse_small (g.C.Columns.program c.loop-id.columns) c.args.part c.loop-id.work
-    (tame_of (g.C.Columns.program c.loop-id.columns) (g.met.C.Columns.lawful c.loop-id.columns))
-    c.loop-id.invariant.state
-
-pub least_ratio-requires-clause-rows : goal.least_ratio-requires-clause-rows
-least_ratio-requires-clause-rows g c =
-    few_rows (g.C.Columns.program c.loop-id.columns) c.loop-id.work.rows (g.met.C.Columns.lawful c.loop-id.columns)
-    c.loop-id.invariant.state.rows_is
-
-pub invariant_of-work-in-loop-id-2 : goal.invariant_of-work-in-loop-id-2
-invariant_of-work-in-loop-id-2 g c =
-    record { ids_count = c.loop-id.work.ids_count; costs_count = c.loop-id.work.costs_count }
-
-pub least_ratio-requires-clause-small : goal.least_ratio-requires-clause-small
-least_ratio-requires-clause-small g c =
-    Steps.tracked_small (g.C.Columns.program c.loop-id.columns) c.args.part c.loop-id.work
-    (tame_of (g.C.Columns.program c.loop-id.columns) (g.met.C.Columns.lawful c.loop-id.columns))
-    c.loop-id.invariant.state
-
-multipliers : (g : Over) (c : After-multipliers_of-m g)
-    → AreMultipliersOf c.loop-id.work c.multipliers_of-m.result.num.items c.multipliers_of-m.result.den
-multipliers g c =
-    let fd : FitsSigned w128 c.loop-id.work.den = search rules in
-    simp to_z-of_z at c.multipliers_of-m.ensures
+    rw c.rising_in.ensures.same
+    (holds_after_use (IsImproving _ c.args.part) c.loop-id.work _ _ c.loop-id.invariant.state)
 
 pub returns-in_default-clause-answer : goal.returns-in_default-clause-answer
 returns-in_default-clause-answer g c =
-    let m = c.multipliers_of-m.result in (
-      multipliers g (goal.at.returns-in_default-clause-answer g c).After-multipliers_of-m,
-      Entered.bounds_of (g.C.Columns.program c.loop-id.columns) (g.C.Columns.program c.rising_in.new.columns)
-          c.args.part c.rising_in.ensures.same m.num.items m.den (c.in_default.ensures {u = tt}).answer,
-    )
+    let fd : FitsSigned w128 c.loop-id.work.den = search rules in
+    (simp to_z-of_z at c.multipliers_of-m.ensures, rw c.rising_in.ensures.same (c.in_default.ensures {u = tt}).answer)
+
+-- the column that enters, as it was loaded
+entering : (g : Over) (c : After-load_column-column g)
+    → Steps.Enters (g.C.Columns.program c.rising_in.new.columns) c.args.part c.loop-id.work
+    c.multipliers_of-m.result.num.items c.multipliers_of-m.result.den c.in-Some.id c.load_column-column.result
+entering g c =
+    let fd : FitsSigned w128 c.loop-id.work.den = search rules in
+    let enter = c.in-Some.ensures {u = tt} in
+    record {
+      tame = tame_of _ (g.met.C.Columns.lawful c.rising_in.new.columns);
+      state = rw enter.same c.loop-id.invariant.state;
+      multipliers = simp to_z-of_z at c.multipliers_of-m.ensures;
+      rising = rw enter.same enter.answer;
+      loaded = c.load_column-column.ensures;
+    }
+
+pub load_column-column-requires-clause-column : goal.load_column-column-requires-clause-column
+load_column-column-requires-clause-column g c =
+    let enter = c.in-Some.ensures {u = tt} in rw enter.same enter.answer.is_column
+
+pub load_column-column-requires-clause-rows : goal.load_column-column-requires-clause-rows
+load_column-column-requires-clause-rows g c = rw c.rising_in.ensures.same c.loop-id.invariant.state.rows_is
+
+pub weights_of-weights-requires-clause-rows : goal.weights_of-weights-requires-clause-rows
+weights_of-weights-requires-clause-rows g c = omega (arith, g.met.C.Columns.lawful c.loop-id.columns)
+
+pub weights_of-weights-requires-clause-small : goal.weights_of-weights-requires-clause-small
+weights_of-weights-requires-clause-small g c =
+    Steps.inverse_small _ _ _ (tame_of _ (g.met.C.Columns.lawful c.loop-id.columns)) c.loop-id.invariant.state
 
 pub weights_of-weights-requires-clause-column_small : goal.weights_of-weights-requires-clause-column_small
 weights_of-weights-requires-clause-column_small g c =
-    let P = g.C.Columns.program c.loop-id.columns in
-    let Q = g.C.Columns.program c.rising_in.new.columns in
-    let w = c.loop-id.work in
-    let m = c.multipliers_of-m.result in
-    let enter = c.in-Some.ensures {u = tt} in
-    Steps.loaded_small Q c.args.part w (tame_of Q (g.met.C.Columns.lawful c.rising_in.new.columns))
-    (Entered.state_of P Q c.args.part enter.same w c.loop-id.invariant.state) m.num.items m.den
-    (multipliers g (goal.at.weights_of-weights-requires-clause-column_small g c).After-multipliers_of-m) c.in-Some.id
-    (Entered.rising_of P Q c.args.part enter.same m.num.items m.den c.in-Some.id enter.answer)
-    c.load_column-column.result c.load_column-column.ensures
+    Steps.loaded_small
+    (entering g (goal.at.weights_of-weights-requires-clause-column_small g c).After-load_column-column)
 
 pub weights_of-weights-requires-clause-weights_small : goal.weights_of-weights-requires-clause-weights_small
 weights_of-weights-requires-clause-weights_small g c =
-    let P = g.C.Columns.program c.loop-id.columns in
-    let Q = g.C.Columns.program c.rising_in.new.columns in
-    let w = c.loop-id.work in
-    let m = c.multipliers_of-m.result in
-    let enter = c.in-Some.ensures {u = tt} in
-    Steps.weights_small Q c.args.part w (tame_of Q (g.met.C.Columns.lawful c.rising_in.new.columns))
-    (Entered.state_of P Q c.args.part enter.same w c.loop-id.invariant.state) m.num.items m.den
-    (multipliers g (goal.at.weights_of-weights-requires-clause-weights_small g c).After-multipliers_of-m) c.in-Some.id
-    (Entered.rising_of P Q c.args.part enter.same m.num.items m.den c.in-Some.id enter.answer)
-    c.load_column-column.result c.load_column-column.ensures
+    Steps.weights_small
+    (entering g (goal.at.weights_of-weights-requires-clause-weights_small g c).After-load_column-column)
+
+pub least_ratio-requires-clause-rows : goal.least_ratio-requires-clause-rows
+least_ratio-requires-clause-rows g c = omega (arith, g.met.C.Columns.lawful c.loop-id.columns)
+
+pub least_ratio-requires-clause-small : goal.least_ratio-requires-clause-small
+least_ratio-requires-clause-small g c =
+    Steps.tracked_small _ _ _ (tame_of _ (g.met.C.Columns.lawful c.loop-id.columns)) c.loop-id.invariant.state
 
 pub least_ratio-requires-clause-weights_small : goal.least_ratio-requires-clause-weights_small
 least_ratio-requires-clause-weights_small g c =
-    let P = g.C.Columns.program c.loop-id.columns in
-    let Q = g.C.Columns.program c.rising_in.new.columns in
-    let w = c.loop-id.work in
-    let m = c.multipliers_of-m.result in
-    let enter = c.in-Some.ensures {u = tt} in
-    Steps.ratio_small Q c.args.part w (tame_of Q (g.met.C.Columns.lawful c.rising_in.new.columns))
-    (Entered.state_of P Q c.args.part enter.same w c.loop-id.invariant.state) m.num.items m.den
-    (multipliers g (goal.at.least_ratio-requires-clause-weights_small g c).After-multipliers_of-m) c.in-Some.id
-    (Entered.rising_of P Q c.args.part enter.same m.num.items m.den c.in-Some.id enter.answer)
-    c.load_column-column.result c.load_column-column.ensures
+    Steps.ratio_small (entering g (goal.at.least_ratio-requires-clause-weights_small g c).After-load_column-column)
     c.weights_of-weights.result c.weights_of-weights.ensures
 
 pub returns-in_default-least_ratio-clause-same : goal.returns-in_default-least_ratio-clause-same
@@ -172,56 +115,20 @@ returns-in_default-least_ratio-clause-same_players g c =
 
 pub returns-in_default-least_ratio-clause-state : goal.returns-in_default-least_ratio-clause-state
 returns-in_default-least_ratio-clause-state g c =
-    let P = g.C.Columns.program c.loop-id.columns in
-    let Q = g.C.Columns.program c.rising_in.new.columns in
-    holds_after_use (IsImproving Q c.args.part) c.loop-id.work _ _
-    (Entered.state_of P Q c.args.part c.rising_in.ensures.same c.loop-id.work c.loop-id.invariant.state)
+    rw c.rising_in.ensures.same
+    (holds_after_use (IsImproving _ c.args.part) c.loop-id.work _ _ c.loop-id.invariant.state)
 
 pub returns-in_default-least_ratio-clause-answer : goal.returns-in_default-least_ratio-clause-answer
 returns-in_default-least_ratio-clause-answer g c =
-    let P = g.C.Columns.program c.loop-id.columns in
-    let Q = g.C.Columns.program c.rising_in.new.columns in
-    let w = c.loop-id.work in
-    let m = c.multipliers_of-m.result in
-    let enter = c.in-Some.ensures {u = tt} in
-    holds_after_use (HasDirection Q c.args.part) w _ _
-    (Steps.endless Q c.args.part w (tame_of Q (g.met.C.Columns.lawful c.rising_in.new.columns))
-    (Entered.state_of P Q c.args.part enter.same w c.loop-id.invariant.state) m.num.items m.den
-    (multipliers g (goal.at.returns-in_default-least_ratio-clause-answer g c).After-multipliers_of-m) c.in-Some.id
-    (Entered.rising_of P Q c.args.part enter.same m.num.items m.den c.in-Some.id enter.answer)
-    c.load_column-column.result c.load_column-column.ensures
+    holds_after_use (HasDirection (g.C.Columns.program c.rising_in.new.columns) c.args.part) c.loop-id.work _ _
+    (Steps.endless (entering g (goal.at.returns-in_default-least_ratio-clause-answer g c).After-load_column-column)
     c.weights_of-weights.result c.weights_of-weights.ensures (c.in_default-least_ratio.ensures {u = tt}))
 
--- the facts of a step
-step_facts : (g : Over) (c : In-Some-least_ratio g)
-    → Steps.Step (g.C.Columns.program c.rising_in.new.columns) c.args.part c.loop-id.work c.weights_of-weights.result
-    c.in-Some-least_ratio.p c.in-Some.id
-step_facts g c =
-    let fd : FitsSigned w128 c.loop-id.work.den = search rules in
-    let are = simp to_z-of_z at c.multipliers_of-m.ensures in
-    let P = g.C.Columns.program c.loop-id.columns in
-    let Q = g.C.Columns.program c.rising_in.new.columns in
-    let w = c.loop-id.work in
-    let m = c.multipliers_of-m.result in
-    let enter = c.in-Some.ensures {u = tt} in
-    Steps.step_of Q c.args.part w (tame_of Q (g.met.C.Columns.lawful c.rising_in.new.columns))
-    (Entered.state_of P Q c.args.part enter.same w c.loop-id.invariant.state) m.num.items m.den
-    are c.in-Some.id
-    (Entered.rising_of P Q c.args.part enter.same m.num.items m.den c.in-Some.id enter.answer)
-    c.load_column-column.result c.load_column-column.ensures
-    c.weights_of-weights.result c.weights_of-weights.ensures c.in-Some-least_ratio.p
-    (c.in-Some-least_ratio.ensures {u = tt})
-
 pub price_of-cost-requires : goal.price_of-cost-requires
-price_of-cost-requires g c =
-    (Entered.rising_of (g.C.Columns.program c.loop-id.columns) (g.C.Columns.program c.rising_in.new.columns)
-    c.args.part (c.in-Some.ensures {u = tt}).same c.multipliers_of-m.result.num.items
-    c.multipliers_of-m.result.den c.in-Some.id (c.in-Some.ensures {u = tt}).answer).is_column
+price_of-cost-requires g c = let enter = c.in-Some.ensures {u = tt} in rw enter.same enter.answer.is_column
 
 pub replace-requires-clause-few : goal.replace-requires-clause-few
-replace-requires-clause-few g c =
-    few_rows (g.C.Columns.program c.loop-id.columns) c.loop-id.work.rows (g.met.C.Columns.lawful c.loop-id.columns)
-    c.loop-id.invariant.state.rows_is
+replace-requires-clause-few g c = omega (arith, g.met.C.Columns.lawful c.loop-id.columns)
 
 pub replace-requires-clause-place : goal.replace-requires-clause-place
 replace-requires-clause-place g c = (c.in-Some-least_ratio.ensures {u = tt}).place
@@ -229,10 +136,21 @@ replace-requires-clause-place g c = (c.in-Some-least_ratio.ensures {u = tt}).pla
 pub replace-requires-clause-apart : goal.replace-requires-clause-apart
 replace-requires-clause-apart g c = c.loop-id.invariant.state.table.inverse.basis.apart
 
+-- the facts of a step
+step_facts : (g : Over) (c : In-Some-least_ratio g)
+    → Steps.Enters (g.C.Columns.program c.rising_in.new.columns) c.args.part c.loop-id.work
+    c.multipliers_of-m.result.num.items c.multipliers_of-m.result.den c.in-Some.id c.load_column-column.result
+    → Steps.Step (g.C.Columns.program c.rising_in.new.columns) c.args.part c.loop-id.work c.weights_of-weights.result
+    c.in-Some-least_ratio.p c.in-Some.id
+step_facts g c f =
+    Steps.step_of f c.weights_of-weights.result c.weights_of-weights.ensures c.in-Some-least_ratio.p
+    (c.in-Some-least_ratio.ensures {u = tt})
+
 pub replace-requires-clause-can : goal.replace-requires-clause-can
 replace-requires-clause-can g c =
-    let can =
-    can_replace _ _ _ _ _ (step_facts g (goal.at.replace-requires-clause-can g c).In-Some-least_ratio).enters in
+    let at = goal.at.replace-requires-clause-can g c in
+    let facts = step_facts g at.In-Some-least_ratio (entering g at.After-load_column-column) in
+    let can = can_replace _ _ _ _ _ facts.enters in
     record { inverse = can.inverse; tracked = can.tracked }
 
 -- what `replace` made of the state
@@ -254,16 +172,15 @@ replaced g c =
 pub loop-id-smaller : goal.loop-id-smaller
 loop-id-smaller g c =
     let at = goal.at.loop-id-smaller g c in
-    Steps.smaller _ _ _ _ _ _ (step_facts g at.In-Some-least_ratio) _ _ c.price_of-cost.ensures
-    (replaced g at.After-replace)
+    Steps.smaller _ _ _ _ _ _ (step_facts g at.In-Some-least_ratio (entering g at.After-load_column-column)) _ _
+    c.price_of-cost.ensures (replaced g at.After-replace)
 
 pub loop-id-preserved : goal.loop-id-preserved
 loop-id-preserved g c =
     let at = goal.at.loop-id-preserved g c in
+    let facts = step_facts g at.In-Some-least_ratio (entering g at.After-load_column-column) in
     record {
       same = (c.in-Some.ensures {u = tt}).same ∙ c.loop-id.invariant.same;
       same_players = (c.in-Some.ensures {u = tt}).same_players ∙ c.loop-id.invariant.same_players;
-      state =
-          Steps.next_state _ _ _ _ _ _ (step_facts g at.In-Some-least_ratio) _ _ c.price_of-cost.ensures
-          (replaced g at.After-replace);
+      state = Steps.next_state _ _ _ _ _ _ facts _ _ c.price_of-cost.ensures (replaced g at.After-replace);
     }

@@ -1,9 +1,8 @@
-use Rattle.std.proofs.Common.{rules, FitsSigned, pos, slice_index_or, subst, MatchBool, suc}
+use Rattle.std.proofs.Common.{rules, FitsSigned, pos, slice_index_or}
 use mir.Syntax.{w128}
 use Rattle.std.proofs.lemmas.Int.{to_z-of_z}
-use Rattle.determinants.specs.Lexicographic.{IsLexPositive, IsLexNonnegative}
 use Rattle.determinants.specs.Matrix.{weight_at}
-use Rattle.simplex.specs.Ratio.{IsChoice, ratio_gap, IsLeast}
+use Rattle.simplex.specs.Ratio.{IsLeast}
 use Rattle.simplex.proofs.Sizes.{more_is, at_most_is}
 use Rattle.simplex.proofs.Ratios.{least_first, least_next, least_more, choice_more}
 use Rattle.simplex.proofs.ratio.chosen.Goals as goal
@@ -21,7 +20,7 @@ returns-in_default c =
     let positive =
     more_is (weight_at c.args.weights.now c.args.k) (pos 0) (simp to_z-of_z at c.if-weights-k-le0.false) in
     least_first c.args.tracked.now c.args.weights.now c.args.n c.args.k c.requires.place positive
-    (subst (IsChoice c.args.tracked.now c.args.weights.now c.args.n c.args.k) c.in_default.is c.requires.best)
+    (rw c.in_default.is at c.requires.best)
 
 pub returns-then-goes_before : goal.returns-then-goes_before
 returns-then-goes_before c =
@@ -29,21 +28,13 @@ returns-then-goes_before c =
     let positive =
     more_is (weight_at c.args.weights.now c.args.k) (pos 0) (simp to_z-of_z at c.if-weights-k-le0.false) in
     let least : IsLeast c.args.tracked.now c.args.weights.now c.args.n c.args.k c.in-Some.p =
-    subst (IsChoice c.args.tracked.now c.args.weights.now c.args.n c.args.k) c.in-Some.is c.requires.best in
+    rw c.in-Some.is at c.requires.best in
     least_next c.args.tracked.now c.args.weights.now c.args.n c.args.k c.in-Some.p c.requires.place positive
-    (subst
-    (λ b. MatchBool b
-    (IsLexPositive (suc c.args.n) (ratio_gap c.args.tracked.now c.args.weights.now c.in-Some.p c.args.k))
-    (IsLexNonnegative (suc c.args.n) (ratio_gap c.args.tracked.now c.args.weights.now c.args.k c.in-Some.p)))
-    c.if-goes_before.true c.goes_before.ensures) least
+    (rw c.if-goes_before.true at c.goes_before.ensures) least
 
 pub returns-else-goes_before : goal.returns-else-goes_before
 returns-else-goes_before c =
     let least : IsLeast c.args.tracked.now c.args.weights.now c.args.n c.args.k c.in-Some.p =
-    subst (IsChoice c.args.tracked.now c.args.weights.now c.args.n c.args.k) c.in-Some.is c.requires.best in
+    rw c.in-Some.is at c.requires.best in
     least_more c.args.tracked.now c.args.weights.now c.args.n c.args.k c.in-Some.p
-    (λ q. subst
-    (λ b. MatchBool b
-    (IsLexPositive (suc c.args.n) (ratio_gap c.args.tracked.now c.args.weights.now c.in-Some.p c.args.k))
-    (IsLexNonnegative (suc c.args.n) (ratio_gap c.args.tracked.now c.args.weights.now c.args.k c.in-Some.p)))
-    c.if-goes_before.false c.goes_before.ensures) least
+    (λ q. rw c.if-goes_before.false at c.goes_before.ensures) least

@@ -1,7 +1,4 @@
-use Rattle.std.proofs.Common.{sym, subst, ◌∙◌}
-use Rattle.definitions.specs.Programs.{Program, HasNoSolution, HasRay}
-use Rattle.simplex.specs.Answer.{HasSolution, IsAnswer}
-use Rattle.simplex.specs.declared.multipliers.Multipliers.{Multipliers}
+use Rattle.std.proofs.Common.{◌∙◌}
 use Rattle.simplex.proofs.AnswerForm.{is_answer}
 use Rattle.simplex.proofs.Minors.{tame_of}
 use Rattle.simplex.proofs.Tableaus
@@ -18,7 +15,7 @@ pub returns-then-has_added_weight-clause-answer : goal.returns-then-has_added_we
 returns-then-has_added_weight-clause-answer g c =
     let m = c.in-Some._bounds in
     let e = c.in-Some.ensures {u = tt} in
-    subst HasNoSolution e.same
+    rw e.same at
     (Ends.no_solution (g.C.Columns.program c.improve.new.columns) c.improve.new.work m.num.items m.den e.state
     e.answer.0 e.answer.1 (c.if-has_added_weight.ensures {u = tt}))
 
@@ -28,8 +25,8 @@ returns-in_default-improve-clause-answer g c =
     let w = c.improve-2.new.work in
     let e = c.in_default-improve.ensures {u = tt} in
     let same = e.same ∙ c.loop-k.invariant.same in (
-      subst HasSolution same (Solutions.has_solution P w e.state),
-      subst HasRay same (Solutions.has_ray P w e.state e.answer),
+      rw same at (Solutions.has_solution P w e.state),
+      rw same at (Solutions.has_ray P w e.state e.answer),
     )
 
 pub answer_of-requires-clause-small : goal.answer_of-requires-clause-small
@@ -48,10 +45,6 @@ returns-clause-answer g c =
     let m = c.in-Some-improve.multipliers in
     let o = c.answer_of.result in
     let same = e.same ∙ c.loop-k.invariant.same in
-    subst
-    (λ (m : Multipliers). IsAnswer (g.C.Columns.program c.args.columns.now) o.weights.items o.weight_den
-    m.num.items m.den) (sym c.answer_of.ensures.multipliers)
-    (subst (λ (Q : Program). IsAnswer Q o.weights.items o.weight_den m.num.items m.den) same
-    (is_answer P w m.num.items m.den o.weights.items o.weight_den
+    rw c.answer_of.ensures.multipliers (rw same at (is_answer P w m.num.items m.den o.weights.items o.weight_den
     e.state e.answer.0 e.answer.1 c.answer_of.ensures.weights
     (tame_of P (g.met.C.Columns.lawful c.improve-2.new.columns))))

@@ -10,8 +10,7 @@ returns-then-id-settled g c =
     let f = c.args.self.now in
     c.earlier.ensures
     ∙ sym
-    (earlier_at f.family game f.levels.now c.args.id (omega (arith, c.if-id-lt2.false))
-    (omega (arith, c.if-id-settled.true, c.coalition_count.ensures.value)))
+    (earlier_at f.family game f.levels.now c.args.id (omega (arith, c.if-id-lt2.false)) (omega arith))
 
 pub returns-then-id-settled-2 : goal.returns-then-id-settled-2
 returns-then-id-settled-2 g c =
@@ -22,41 +21,22 @@ returns-then-id-settled-2 g c =
     ap (λ (t : ℕ). c.args.id - (2 + 2 * t)) c.coalition_count.ensures.value in
     c.single.ensures ∙ ap (single f.family game) at
     ∙ sym
-    (single_at f.family game f.levels.now c.args.id
-    (omega (arith, c.if-id-settled.false, c.coalition_count.ensures.value))
-    (omega (
-      arith,
-      c.if-id-settled-2.true,
-      c.coalition_count.ensures.value,
-      c.from-n.ensures,
-      c.players.ensures.count,
-    )))
+    (single_at f.family game f.levels.now c.args.id (omega arith) (omega arith))
 
 pub returns-then-id-settled-3 : goal.returns-then-id-settled-3
 returns-then-id-settled-3 g c =
     let game = g.W.Worth.game c.args.game.now in
     let f = c.args.self.now in
-    let n : c.from-n.result ≡ game.players = omega (arith, c.from-n.ensures, c.players.ensures.count) in
+    let n : c.from-n.result ≡ game.players = omega arith in
     let at : c.args.id - (2 + 2 * c.coalition_count.result) - c.from-n.result
     ≡ c.args.id - (2 + 2 * length (earlier_of 0 f.levels.now)) - game.players =
-    ap (λ (t : ℕ). c.args.id - (2 + 2 * t) - c.from-n.result) c.coalition_count.ensures.value
-    ∙ ap (λ (t : ℕ). c.args.id - (2 + 2 * length (earlier_of 0 f.levels.now)) - t) n in
+    cc (c.coalition_count.ensures.value) in
     c.bound.ensures ∙ ap (bound f.family game f.levels.now) at
     ∙ sym
-    (bound_at f.family game f.levels.now c.args.id
-    (omega (arith, c.if-id-settled-2.false, c.coalition_count.ensures.value, n))
-    (omega (arith, c.if-id-settled-3.true, c.coalition_count.ensures.value, n)))
+    (bound_at f.family game f.levels.now c.args.id (omega arith) (omega arith))
 
 pub returns-else-id-settled-3 : goal.returns-else-id-settled-3
 returns-else-id-settled-3 g c =
     let game = g.W.Worth.game c.args.game.now in
     let f = c.args.self.now in
-    sym
-    (none_at f.family game f.levels.now c.args.id
-    (omega (
-      arith,
-      c.if-id-settled-3.false,
-      c.coalition_count.ensures.value,
-      c.from-n.ensures,
-      c.players.ensures.count,
-    )))
+    sym (none_at f.family game f.levels.now c.args.id (omega arith))

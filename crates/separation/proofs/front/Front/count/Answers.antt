@@ -9,5 +9,5 @@ returns-clause-value g c =
     let levels = c.args.self.now.levels.now in
     let e : 2 + 2 * c.coalition_count.result + 2 * c.from.result
     ≡ 2 + 2 * length (earlier_of 0 levels) + game.players + game.players =
-    omega (arith, c.coalition_count.ensures.value, c.from.ensures, c.players.ensures.count) in
+    omega arith in
     e ∙ sym (length-inner c.args.self.now.family game levels)

@@ -1,7 +1,6 @@
-use Rattle.std.proofs.Common.{ℕ, ◌+◌, length, [], Some, sym, subst}
+use Rattle.std.proofs.Common.{ℕ, [], Some, sym, subst}
 use Rattle.std.specs.List.{AllByRecursion}
-use Rattle.separation.specs.Fronts.{IsSmallLevel, lazy_columns}
-use Rattle.separation.specs.Kept.{AreShort}
+use Rattle.separation.specs.Fronts.{IsSmallLevel}
 use Rattle.separation.specs.declared.front.Front.{Front}
 use Rattle.separation.proofs.LazyColumns.{small_form, stage_columns_small, marking_of, stage_kept}
 use Rattle.separation.proofs.ProperColumns.{found_short}
@@ -31,10 +30,7 @@ invariant_of-result-clause-short g c =
     let marking =
     marking_of c.players-players.result game.players c.args.levels.now c.args.span.now.kept c.outside_of.result
     count c.requires.spans (c.outside_of.ensures c.args.levels.now) in
-    subst
-    (λ (n : ℕ). AreShort c.args.measure n (length c.args.levels.now + 1)
-    (lazy_columns game (Some front) (Some c.outside_of.result))) (sym count)
-    (found_short c.args.measure game front c.outside_of.result c.requires.heads c.requires.count
+    rw count (found_short c.args.measure game front c.outside_of.result c.requires.heads c.requires.count
     c.requires.form.each marking)
 
 pub returns-clause-program : goal.returns-clause-program

@@ -12,8 +12,7 @@ of-requires-clause-small g c =
     let game = g.W.Worth.game c.args.game.now in
     let levels = c.args.levels.now in
     let made = c.in-Ok.ensures {u = tt} in
-    rw made.longer_is
-    (stage_small c.args.family c.args.measure game levels c.players-players.ensures.laws
+    rw made.longer_is (stage_small c.args.family c.args.measure game levels c.players-players.ensures.laws
     (levels_within game.players [] levels c.requires.form.each) made.outers made.are)
 
 pub of-requires-clause-short : goal.of-requires-clause-short

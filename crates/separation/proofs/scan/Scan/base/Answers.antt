@@ -1,11 +1,8 @@
 use Rattle.std.proofs.Common.{◌≡◌, ◌≤◌, ◌%◌, ◌^◌, ℕ, ℤ, pos, ◌+ℤ◌, Option, length}
-use Rattle.std.proofs.Common.{slice_index_or, unsigned_abs, to_z, of_z, refl, sym, ap, subst, ◌∙◌, arith}
+use Rattle.std.proofs.Common.{slice_index_or, unsigned_abs, to_z, of_z, refl, ap, ◌∙◌, arith}
 use mir.Syntax.{w128}
 use Rattle.definitions.proofs.Casts.{cast_kept}
-use Rattle.definitions.specs.declared.Measure.{Measure}
-use Rattle.separation.specs.Making.{plain}
-use Rattle.separation.specs.Fronts.{front_level}
-use Rattle.separation.specs.Values.{low_of, high_of, level_multiplier, column_value}
+use Rattle.separation.specs.Values.{low_of, high_of, level_multiplier}
 use Rattle.separation.proofs.Blocks.{front_within, block_value}
 use Rattle.separation.proofs.scan.Scan.base.Goals as goal
 
@@ -26,8 +23,6 @@ returns-clause-values g c = λ s lower upper.
     let kept : to_z w128 (of_z w128 c.base.result) ≡ c.base.result =
     cast_kept w128 c.base.result (omega (arith, small)) in
     ap (λ (z : ℤ). z +ℤ slice_index_or (low_of scan.sums) (s % 256) (pos 0)) kept
-    ∙ subst
-    (λ (x : Measure). c.base.result +ℤ slice_index_or (low_of scan.sums) (s % 256) (pos 0)
-    ≡ column_value x num p.players (plain game s (front_level p.front))) (sym c.requires.plain)
+    ∙ rw c.requires.plain
     (block_value num p.players s c.args.block _ scan.sums (game.worth s) c.base.result _ le within scan.are_sums lower
     upper c.requires.block based refl)

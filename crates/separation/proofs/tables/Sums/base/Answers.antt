@@ -19,6 +19,5 @@ returns-clause-value c =
 
 pub returns-clause-small : goal.returns-clause-small
 returns-clause-small c =
-    le_trans
-    (sum_held c.high_at.result c.level_multiplier.result (2 ^ 113) (2 ^ 110) c.high_at.ensures.small
+    le_trans (sum_held c.high_at.result c.level_multiplier.result (2 ^ 113) (2 ^ 110) c.high_at.ensures.small
     (le_of_lt c.level_multiplier.ensures.small) (lit≤ tt)).1.1 (lit≤ tt)

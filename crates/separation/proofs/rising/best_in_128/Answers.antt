@@ -1,0 +1,56 @@
+use Rattle.std.proofs.Common.{◌≡◌, ◌≤◌, ◌<◌, ◌+◌, ◌*◌, ◌%◌, ◌^◌, ℕ, ℤ, pos}
+use Rattle.std.proofs.Common.{◌+ℤ◌, slice_index_or, unsigned_abs, to_z, of_z, ap, ◌∙◌, sym, arith, rules}
+use mir.Syntax.{w128}
+use Rattle.std.proofs.lemmas.Bool.{false≢true}
+use Rattle.definitions.proofs.Casts.{cast_kept}
+use Rattle.separation.specs.Values.{low_of}
+use Rattle.separation.specs.Scanned.{CoalitionRises, gap_in}
+use Rattle.separation.proofs.Balance.{masks_of}
+use Rattle.separation.proofs.Picked.{IsPicked, picked_more, passed_over}
+use Rattle.separation.proofs.rising.best_in_128.Goals.{then-marked_rises, else-marked_rises}
+use Rattle.separation.proofs.rising.best_in_128.Goals as goal
+
+pub marked_rises-requires-clause-value : goal.marked_rises-requires-clause-value
+marked_rises-requires-clause-value g c =
+    let sums = c.args.scan.now.sums in
+    let s = c.loop-s.s in
+    let base = c.base-base.result in
+    let small : unsigned_abs base ≤ 2 ^ 114 = c.base-base.ensures.small in
+    let kept : to_z w128 (of_z w128 base) ≡ base = cast_kept w128 base (omega (arith, small)) in
+    let valued =
+    c.behind-value.ensures.value ∙ ap (λ (z : ℤ). z +ℤ slice_index_or (low_of sums) (s % 256) (pos 0)) kept in
+    let upper : s < 256 * c.args.block + 256 = omega arith in
+    let whole : to_z w128 (of_z w128 c.behind-value.result) ≡ c.behind-value.result = search rules in
+    whole ∙ valued ∙ c.base-base.ensures.values s c.loop-s.auto.s upper
+
+pub loop-s-preserved : goal.loop-s-preserved
+loop-s-preserved g c =
+    let scan = c.args.scan.now in
+    let p = scan.program.now in
+    let s = c.loop-s.s in
+    let from = 256 * c.args.block in
+    let mask = masks_of p.players scan.are_sums.few in
+    let within : s < 2 ^ p.players = omega arith in
+    let base = c.base-base.result in
+    let small : unsigned_abs base ≤ 2 ^ 114 = c.base-base.ensures.small in
+    let kept : to_z w128 (of_z w128 base) ≡ base = cast_kept w128 base (omega (arith, small)) in
+    let upper : s < 256 * c.args.block + 256 = omega arith in
+    let whole : to_z w128 (of_z w128 c.behind-value.result) ≡ c.behind-value.result = search rules in
+    let valued =
+    whole ∙ c.behind-value.ensures.value
+    ∙ ap (λ (z : ℤ). z +ℤ slice_index_or (low_of scan.sums) (s % 256) (pos 0)) kept
+    ∙ c.base-base.ensures.values s c.loop-s.auto.s upper in
+    let R = λ (t : ℕ). CoalitionRises scan t in
+    let picked = λ (t : ℕ). IsPicked R (gap_in scan) from t (2 ^ p.players) in
+    elim c.if-marked_rises.branch [
+      | then-marked_rises w ↦ rw w.best-is
+          (let gap = w.gap-here.result in
+          let kept : to_z w128 (of_z w128 gap) ≡ gap = search rules in
+          picked_more R (gap_in scan) from s (2 ^ p.players) c.loop-s.best w.greater.result
+          (to_z w128 (of_z w128 gap)) within (c.marked_rises.ensures.0 w.if-marked_rises.true)
+          (cc (w.gap-here.ensures))
+          w.greater.ensures c.loop-s.invariant)
+      | else-marked_rises w ↦ rw w.best-is
+          (passed_over R (gap_in scan) from s (2 ^ p.players) c.loop-s.best
+          (λ r. false≢true (sym w.if-marked_rises.false ∙ c.marked_rises.ensures.1 r)) c.loop-s.invariant)
+    ]

@@ -1,5 +1,0 @@
-use Rattle.separation.specs.Scanned.{NoneBelow}
-use Rattle.separation.proofs.rising.first_of_block.Given as goal
-
-abbrev pub invariant-loop-s : goal.invariant-loop-s
-invariant-loop-s g l = NoneBelow l.scan l.s
